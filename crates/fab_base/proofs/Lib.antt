@@ -1,0 +1,2 @@
+pub mod Depots
+pub mod LayoutLemmas

@@ -1,0 +1,96 @@
+// Owned lists, which every contract sees as the list of their items.
+ghost use Rattle.std.specs.Prelude.{◌≡◌, List, ℕ, ◌++◌, ◌∷◌, [], length, IfOk, OnOk, OnErr, slice_get};
+ghost use Rattle.std.specs.Option.{option_copied};
+
+use crate::{FcId, NoMemory};
+use std::alloc::Global;
+use std::marker::Model;
+
+/// An owned list of bytes.
+#[derive(Debug, Drop)]
+pub struct Bytes {
+    items: Vec<u8>,
+}
+
+impl Model for Bytes {
+    ghost Value = { List ℕ };
+
+    ghost view = { λ b. b.items.items };
+}
+
+impl Bytes {
+    /// A copy of these bytes.
+    pub fn copy(alloc: Global, from: &[u8]) -> Result<Bytes, NoMemory>
+        ensures { IfOk result (λ b. b ≡ from.now) }
+    {
+        match from.to_vec(alloc) {
+            Ok(items) => Ok(Bytes { items }),
+            Err(_) => Err(NoMemory),
+        }
+    }
+
+    /// These bytes, without a copy.
+    pub fn from_vec(items: Vec<u8>) -> Bytes
+        ensures { result ≡ items.items }
+    {
+        Bytes { items }
+    }
+
+    /// The bytes.
+    pub fn view(&self) -> &[u8]
+        ensures { result.now ≡ self.now }
+    {
+        self.items.as_slice()
+    }
+}
+
+/// An owned list, the one form of every list type of the forwarder.
+#[derive(Debug, Drop)]
+pub struct OwnedList<T> {
+    items: Vec<T>,
+}
+
+impl<T> Model for OwnedList<T> {
+    ghost Value = { List T };
+
+    ghost view = { λ l. l.items.items };
+}
+
+impl<T: Drop> OwnedList<T> {
+    /// An empty list.
+    pub fn new(alloc: Global) -> Result<OwnedList<T>, NoMemory>
+        ensures { IfOk result (λ l. l ≡ []) }
+    {
+        Ok(OwnedList {
+            items: Vec::new(alloc),
+        })
+    }
+
+    /// Appends an item. Where memory is refused the item is dropped and the list stays.
+    pub fn push(&mut self, _alloc: Global, item: T) -> Result<(), NoMemory>
+        ensures ok { OnOk result (self.new ≡ self.old ++ item ∷ []) }
+        ensures err { OnErr result (self.new ≡ self.old) }
+    {
+        match self.items.push(item) {
+            Ok(()) => Ok(()),
+            Err(_) => Err(NoMemory),
+        }
+    }
+
+    /// How many items there are.
+    pub fn len(&self) -> usize
+        ensures { result ≡ length self.now }
+    {
+        self.items.len()
+    }
+
+    /// The item at a place, or none past the end.
+    pub fn at(&self, index: usize) -> Option<&T>
+        ensures { option_copied result ≡ slice_get self.now index }
+    {
+        self.items.get(index)
+    }
+}
+
+/// Addresses.
+pub type IdList = OwnedList<FcId>;
