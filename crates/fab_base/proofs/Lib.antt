@@ -1,2 +1,6 @@
 pub mod Depots
 pub mod LayoutLemmas
+pub mod PlaceLemmas
+pub mod MemLemmas
+pub mod KnowLemmas
+pub mod TextLemmas

@@ -1,3 +1,9 @@
 pub mod Layout
+pub mod Texts
 pub mod Seen
 pub mod Sunk
+pub mod Places
+pub mod Desk
+pub mod Contents
+pub mod MemDepot
+pub mod MemSink

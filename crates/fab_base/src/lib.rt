@@ -2,15 +2,26 @@
 #![tactic(auto)]
 
 mod depot;
+mod desk;
 mod gate;
 mod lists;
+mod mem_depot;
+mod mem_sink;
 mod sink;
+mod texts;
 mod values;
 mod whole;
 
 pub use depot::Depot;
+pub use desk::{Desk, DeskSlot, word_at};
 pub use gate::{Gate, OpenGate};
 pub use lists::{Bytes, IdList, OwnedList};
+pub use mem_depot::MemDepot;
+pub use mem_sink::MemSink;
 pub use sink::Sink;
+pub use texts::{address_text, mac_text, wwn_text};
 pub use values::{Caught, Enode, Failed, FcId, Mac, Moment, NoMemory, PortNo, Wwn};
 pub use whole::{fill, put_all, say_all};
+
+#[cfg(test)]
+mod tests;
