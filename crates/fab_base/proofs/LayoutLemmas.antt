@@ -1,10 +1,12 @@
 -- Numbers and the bytes that spell them, and fields of a list.
-use Rattle.std.proofs.Common.{◌≡◌, ℕ, zero, suc, ◌+◌, ◌-◌, ◌*◌, ◌/◌, ◌%◌, ◌^◌, ◌<◌, ◌≤◌, List, [], ◌∷◌, ◌++◌, length, length-append, append_assoc, take, drop, length-drop, refl, sym, ◌∙◌, ap, subst, arith, get_or, lit<}
+use Rattle.std.proofs.Common.{◌≡◌, ℕ, zero, suc, ◌+◌, ◌-◌, ◌*◌, ◌/◌, ◌%◌, ◌^◌, ◌<◌, ◌≤◌, List, [], ◌∷◌, ◌++◌, length, length-append, append_assoc, take, drop, length-drop, refl, sym, ◌∙◌, ap, subst, arith, get_or, ltb, lit<}
 use Rattle.std.proofs.lemmas.Nat.{div-mul-add, pow-add}
 use lib.Arith.{mod-mul}
 use Rattle.std.proofs.lemmas.List.{take_at, drop_at, length-take-le, take-append-drop, drop-drop}
 use Rattle.std.proofs.Math.Nat.{div-div-eq-div-mul, mul-le-mul_right, mul-add-div_right, mul-add-mod_self_right, mod-eq_of_lt, mul_assoc}
 use Rattle.std.proofs.lemmas.Grind.{pow_more}
+use Rattle.std.specs.List.{AllPass}
+use Rattle.std.proofs.lemmas.Bool.{lt-ltb}
 use Rattle.std.specs.Int.{bytes_high_first, bytes_low_first, byte_at}
 use Rattle.fab_base.specs.Layout.{field, big_endian, little_endian, number, spelled, spelled_low, zeros, padded}
 
@@ -117,3 +119,9 @@ take-field l from count = sym (take-append-drop count (drop from l)) ∙ ap (λ 
 
 pub length-field : (l : List ℕ) (from count : ℕ) → from + count ≤ length l → length (field l from count) ≡ count
 length-field l from count fits = length-take-le count (drop from l) (omega (arith, length-drop from l))
+
+-- the same as a test of each
+pub all_bytes : (l : List ℕ) → AreBytes l → AllPass (λ b. ltb b 256) l
+all_bytes [] bytes k d lt = absurd (omega arith)
+all_bytes (x ∷ l) bytes zero d lt = lt-ltb x 256 (bytes 0)
+all_bytes (x ∷ l) bytes (suc k) d lt = all_bytes l (λ i. bytes (suc i)) k d (omega arith)

@@ -1,5 +1,6 @@
 // Owned lists, which every contract sees as the list of their items.
-ghost use Rattle.std.specs.Prelude.{◌≡◌, List, ℕ, ◌++◌, ◌∷◌, [], length, IfOk, OnOk, OnErr, slice_get};
+ghost use Rattle.std.specs.Prelude.{◌≡◌, List, ℕ, ◌++◌, ◌∷◌, [], length, nat_lt, IfOk, OnOk, OnErr, slice_get};
+ghost use Rattle.std.specs.List.{AllPass};
 ghost use Rattle.std.specs.Option.{option_copied};
 
 use crate::{FcId, NoMemory};
@@ -38,10 +39,19 @@ impl Bytes {
 
     /// The bytes.
     pub fn view(&self) -> &[u8]
-        ensures { result.now ≡ self.now }
+        ensures value { result.now ≡ self.now }
+        ensures bytes { AllPass (λ b. nat_lt b 256) self.now }
     {
-        self.items.as_slice()
+        known_bytes(self.items.as_slice())
     }
+}
+
+// Bytes, of which a caller learns that each is below 256.
+fn known_bytes(bytes: &[u8]) -> &[u8]
+    ensures value { result.now ≡ bytes.now }
+    ensures bytes { AllPass (λ b. nat_lt b 256) bytes.now }
+{
+    bytes
 }
 
 /// An owned list, the one form of every list type of the forwarder.

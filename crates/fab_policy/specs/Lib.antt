@@ -1,0 +1,11 @@
+pub mod Settings
+pub mod Cause
+pub mod Journal
+pub mod Heard
+pub mod Verdicts
+pub mod Replies
+pub mod Outputs
+pub mod Legal
+pub mod Text
+pub mod Ranged
+pub mod Written

@@ -1,0 +1,70 @@
+// From a frame to bytes.
+ghost use Rattle.std.specs.Prelude.{◌≡◌, ◌≤◌, ◌+◌, ◌++◌, length, OnOk, OnErr, IfOk};
+ghost use Rattle.fc_frames.specs.Frame.{IsPayload, frame_bytes, header_bytes, view};
+
+use crate::{FcFrame, FcHeader};
+use fab_base::NoMemory;
+use std::alloc::{AllocError, Global};
+
+/// Appends the header and the payload. Where memory is refused, `out` is as it was.
+pub fn write_frame(alloc: Global, frame: &FcFrame<'_>, out: &mut Vec<u8>) -> Result<(), NoMemory>
+    requires { IsPayload frame.now.payload.now }
+    ensures ok { OnOk result (out.new.items ≡ out.old.items ++ frame_bytes (view frame.now)) }
+    ensures size { OnOk result (length (frame_bytes (view frame.now)) ≡ 24 + length frame.now.payload.now) }
+    ensures err { OnErr result (out.new.items ≡ out.old.items) }
+{
+    let Ok(bytes) = bytes_of(alloc, frame) else {
+        return Err(NoMemory);
+    };
+    match out.extend_from_slice(&bytes) {
+        Ok(()) => Ok(()),
+        Err(_) => Err(NoMemory),
+    }
+}
+
+fn bytes_of(alloc: Global, frame: &FcFrame<'_>) -> Result<Vec<u8>, AllocError>
+    ensures { IfOk result (λ v. v.items ≡ frame_bytes (view frame.now)) }
+{
+    let mut bytes = Vec::new(alloc);
+    bytes.extend_from_slice(&header(&frame.head))?;
+    bytes.extend_from_slice(frame.payload)?;
+    Ok(bytes)
+}
+
+fn header(head: &FcHeader) -> [u8; 24]
+    ensures { result ≡ header_bytes head.now }
+{
+    let [_, d0, d1, d2] = head.d_id.value().to_be_bytes();
+    let [_, s0, s1, s2] = head.s_id.value().to_be_bytes();
+    let [_, f0, f1, f2] = head.f_ctl.to_be_bytes();
+    let [cnt0, cnt1] = head.seq_cnt.to_be_bytes();
+    let [ox0, ox1] = head.ox_id.to_be_bytes();
+    let [rx0, rx1] = head.rx_id.to_be_bytes();
+    let [p0, p1, p2, p3] = head.parameter.to_be_bytes();
+    [
+        head.r_ctl,
+        d0,
+        d1,
+        d2,
+        head.cs_ctl,
+        s0,
+        s1,
+        s2,
+        head.kind,
+        f0,
+        f1,
+        f2,
+        head.seq_id,
+        head.df_ctl,
+        cnt0,
+        cnt1,
+        ox0,
+        ox1,
+        rx0,
+        rx1,
+        p0,
+        p1,
+        p2,
+        p3,
+    ]
+}

@@ -1,0 +1,53 @@
+//! The body of an FCoE frame (FC-BB-5): an FC frame between its delimiters, with its CRC.
+#![tactic(auto)]
+
+mod delimiters;
+mod laws;
+mod reading;
+#[cfg(test)]
+mod tests;
+mod writing;
+
+pub use delimiters::{EOF_A, EOF_N, EOF_NI, EOF_T, SOF_F, SOF_I2, SOF_I3, SOF_N2, SOF_N3};
+use fc_frames::FcFrame;
+pub use laws::{fcoe_is_written, fcoe_reads_back, fcoe_stands_once};
+pub use reading::read_fcoe;
+pub use writing::write_fcoe;
+
+/// A frame and the codes of its delimiters.
+#[derive(Clone, Copy, Debug)]
+pub struct FcoeFrame<'a> {
+    pub sof: u8,
+    pub eof: u8,
+    pub frame: FcFrame<'a>,
+}
+
+/// Why bytes are no body of an FCoE frame.
+#[derive(Clone, Copy, Debug, PartialEq, Eq)]
+pub enum FcoeFault {
+    /// Not 46 to 2158 bytes, or a payload that isn't a multiple of 4 bytes.
+    Length,
+    /// The version isn't 0.
+    Version,
+    /// An unknown code of the start.
+    Sof,
+    /// An unknown code of the end.
+    Eof,
+    /// The CRC that stands there isn't that of the frame.
+    Crc { found: u32, made: u32 },
+}
+
+/// The place of the code of the start, behind the version and reserved bytes.
+const SOF_AT: usize = 13;
+
+/// The place of the FC header.
+const HEADER_AT: usize = 14;
+
+/// The bytes behind the payload: CRC, code of the end, reserved bytes.
+const TAIL: usize = 8;
+
+/// The length of a body without payload.
+const LEAST: usize = 46;
+
+/// The length of a body with the longest payload.
+const MOST: usize = 2158;

@@ -1,0 +1,12 @@
+pub mod Listed
+pub mod Typed
+pub mod Sound
+pub mod Append
+pub mod Walks
+pub mod Present
+pub mod Items
+pub mod Appends
+pub mod Grammar
+pub mod Placed
+pub mod Unique
+pub mod Spelled

@@ -1,0 +1,105 @@
+-- FIP messages as values, and the one way in which the forwarder writes each (FC-BB-5, "FIP operations").
+use Rattle.std.specs.Prelude.{ℕ, ◌+◌, ◌/◌, Bool, if◌then◌else◌, List, [], ◌∷◌, ◌++◌, length, flat_map, Option, Some, None}
+use Rattle.fab_base.specs.Layout.{spelled, zeros}
+use Rattle.fip_codec.specs.declared.message.LoginKind.{LoginKind}
+use Rattle.fip_codec.specs.declared.message.LoginKind.TheVariants.{Flogi, Fdisc, Logo}
+use Rattle.fip_codec.specs.declared.message.VxPort.{VxPort}
+use Rattle.fip_codec.specs.declared.message.FipMessage.{FipMessage}
+use Rattle.fip_codec.specs.declared.message.FipMessage.TheVariants as read
+use Rattle.fip_codec.specs.declared.message.FipOut.{FipOut}
+use Rattle.fip_codec.specs.declared.message.FipOut.TheVariants as out
+
+-- A message: a MAC is a list of six bytes, a name and an address are numbers.
+pub data Fip : Type 0 where
+  Solicit : (from_fcf fp : Bool) (mac : List ℕ) (node size : ℕ) → Fip
+  Advertise : (solicited available from_fcf fp : Bool) (priority : ℕ) (mac : List ℕ) (switch fc_map fabric : ℕ) (quiet : Bool) (period : ℕ) → Fip
+  Login : (kind : LoginKind) (fp : Bool) (frame mac : List ℕ) → Fip
+  LoginReply : (kind : LoginKind) (fp : Bool) (frame : List ℕ) (mac : Option (List ℕ)) → Fip
+  Keep : (mac : List ℕ) (port : Option VxPort) → Fip
+  Clear : (mac : List ℕ) (switch : ℕ) (ports : List VxPort) → Fip
+  VlanAsk : (mac : List ℕ) (node : Option ℕ) → Fip
+  VlanTell : (mac : List ℕ) (vlans : List ℕ) → Fip
+
+-- what the code reads and writes, without where the bytes lie in memory
+abbrev pub view : FipMessage → Fip
+view (read.Solicit from_fcf fp mac node size) = Solicit from_fcf fp mac node size
+view (read.Advertise solicited available from_fcf fp priority mac switch fc_map fabric quiet period) = Advertise solicited available from_fcf fp priority mac switch fc_map fabric quiet period
+view (read.Login kind fp frame mac) = Login kind fp frame.now mac
+view (read.LoginReply kind fp frame mac) = LoginReply kind fp frame.now mac
+view (read.Keep mac port) = Keep mac port
+view (read.Clear mac switch ports) = Clear mac switch ports
+view (read.VlanAsk mac node) = VlanAsk mac node
+view (read.VlanTell mac vlans) = VlanTell mac vlans
+
+abbrev pub view_out : FipOut → Fip
+view_out (out.Solicit from_fcf fp mac node size) = Solicit from_fcf fp mac node size
+view_out (out.Advertise solicited available from_fcf fp priority mac switch fc_map fabric quiet period) = Advertise solicited available from_fcf fp priority mac switch fc_map fabric quiet period
+view_out (out.Login kind fp frame mac) = Login kind fp frame.now mac
+view_out (out.LoginReply kind fp frame mac) = LoginReply kind fp frame.now mac
+view_out (out.Keep mac port) = Keep mac port
+view_out (out.Clear mac switch ports) = Clear mac switch ports.now
+view_out (out.VlanAsk mac node) = VlanAsk mac node
+view_out (out.VlanTell mac vlans) = VlanTell mac vlans.now
+
+-- ---- written descriptors: type, length in words, and the rest
+
+abbrev pub priority_bytes : ℕ → List ℕ
+priority_bytes value = 1 ∷ 1 ∷ 0 ∷ value ∷ []
+
+abbrev pub mac_bytes : List ℕ → List ℕ
+mac_bytes mac = 2 ∷ 2 ∷ mac
+
+abbrev pub name_bytes : ℕ → List ℕ
+name_bytes name = 4 ∷ 3 ∷ zeros 2 ++ spelled 8 name
+
+abbrev pub fabric_bytes : ℕ → ℕ → List ℕ
+fabric_bytes fc_map fabric = 5 ∷ 4 ∷ zeros 3 ++ spelled 3 fc_map ++ spelled 8 fabric
+
+abbrev pub size_bytes : ℕ → List ℕ
+size_bytes size = 6 ∷ 1 ∷ spelled 2 size
+
+abbrev pub kind_code : LoginKind → ℕ
+kind_code Flogi = 7
+kind_code Fdisc = 8
+kind_code Logo = 9
+
+abbrev pub frame_bytes : LoginKind → List ℕ → List ℕ
+frame_bytes kind frame = kind_code kind ∷ (length frame / 4 + 1) ∷ zeros 2 ++ frame
+
+abbrev pub vx_port_bytes : VxPort → List ℕ
+vx_port_bytes p = 11 ∷ 5 ∷ p.mac ++ 0 ∷ spelled 3 p.address ++ spelled 8 p.name
+
+abbrev pub advertising_bytes : Bool → ℕ → List ℕ
+advertising_bytes quiet period = 12 ∷ 2 ∷ 0 ∷ (if quiet then 1 else 0) ∷ spelled 4 period
+
+abbrev pub vlan_bytes : ℕ → List ℕ
+vlan_bytes number = 14 ∷ 1 ∷ spelled 2 number
+
+abbrev pub if_there : {X : Type 0} → (X → List ℕ) → Option X → List ℕ
+if_there bytes None = []
+if_there bytes (Some x) = bytes x
+
+-- ---- written messages
+
+-- the value of a flag where it is set
+abbrev pub flag : ℕ → Bool → ℕ
+flag value set = if set then value else 0
+
+-- header and list
+abbrev pub message_bytes : ℕ → ℕ → ℕ → List ℕ → List ℕ
+message_bytes operation subcode flags list =
+    0x10 ∷ 0 ∷ spelled 2 operation ++ 0 ∷ subcode ∷ spelled 2 (length list / 4) ++ spelled 2 flags ++ list
+
+-- A written message: reserved bytes are 0, and the descriptors stand in the order of the table.
+unfoldable pub written : Fip → List ℕ
+written (Solicit from_fcf fp mac node size) =
+    message_bytes 1 1 (flag 0x8000 fp + flag 1 from_fcf) (mac_bytes mac ++ name_bytes node ++ size_bytes size)
+written (Advertise solicited available from_fcf fp priority mac switch fc_map fabric quiet period) =
+    message_bytes 1 2 (flag 0x8000 fp + flag 4 available + flag 2 solicited + flag 1 from_fcf)
+    (priority_bytes priority ++ mac_bytes mac ++ name_bytes switch ++ fabric_bytes fc_map fabric ++ advertising_bytes quiet period)
+written (Login kind fp frame mac) = message_bytes 2 1 (flag 0x8000 fp) (frame_bytes kind frame ++ mac_bytes mac)
+written (LoginReply kind fp frame mac) = message_bytes 2 2 (flag 0x8000 fp) (frame_bytes kind frame ++ if_there mac_bytes mac)
+written (Keep mac port) = message_bytes 3 1 0 (mac_bytes mac ++ if_there vx_port_bytes port)
+written (Clear mac switch ports) = message_bytes 3 2 0 (mac_bytes mac ++ name_bytes switch ++ flat_map vx_port_bytes ports)
+written (VlanAsk mac node) = message_bytes 4 1 0 (mac_bytes mac ++ if_there name_bytes node)
+written (VlanTell mac vlans) = message_bytes 4 2 0 (mac_bytes mac ++ flat_map vlan_bytes vlans)

@@ -1,0 +1,21 @@
+//! FIP, the FCoE Initialization Protocol: its messages read and written (FC-BB-5, "FIP frame format").
+#![tactic(auto)]
+
+mod descriptor;
+mod fault;
+mod kind;
+mod laws;
+mod lists;
+mod message;
+mod reading;
+mod writing;
+
+pub use fault::FipFault;
+pub use laws::{a_written_message_is_read_back, the_grammar_is_what_is_decoded};
+pub use lists::{VlanList, VxList};
+pub use message::{FipMessage, FipOut, LoginKind, VxPort};
+pub use reading::read_fip;
+pub use writing::write_fip;
+
+#[cfg(test)]
+mod tests;

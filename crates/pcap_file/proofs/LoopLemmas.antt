@@ -1,0 +1,218 @@
+-- A loop that takes the records of a capture from a reader.
+use Rattle.std.proofs.Common.{◌≡◌, ◌≢◌, ℕ, zero, suc, ◌+◌, ◌-◌, ◌^◌, ◌<◌, ◌≤◌, ◌⊎◌, inl, inr, min, List, [], ◌∷◌, ◌++◌, length, length-append, length-drop, drop, Some, None, Ok, Err, IsTrue, refl, sym, ap, ◌∙◌, subst, arith}
+use Rattle.fab_base.specs.Seen.{Seen, Keeps}
+use Rattle.fab_base.specs.declared.values.Caught.{Caught}
+use Rattle.pcap_file.specs.declared.Budget.{Budget}
+use Rattle.pcap_file.specs.declared.CaptureHead.{CaptureHead}
+use Rattle.pcap_file.specs.declared.CapError.TheVariants as errors
+use Rattle.pcap_file.specs.declared.Record.{Record}
+use Rattle.pcap_file.specs.Capture.{HEAD, Next, Found, End, CutHead, TooLong, CutBytes, next, records, records_from, IsCapture}
+use Rattle.pcap_file.specs.Reading.{Reading, Step, Gives, Ends, Stops, within, step_of, to_come, OpensReader, NextReads}
+use Rattle.pcap_file.specs.Records.{Chain, last_moment, size_of, IsFault, Taken}
+use Rattle.pcap_file.proofs.PullLemmas.{le_or_lt}
+use Rattle.pcap_file.proofs.StepLemmas.{within_bytes, within_frames, within_all}
+use Rattle.pcap_file.proofs.ChainLemmas.{found_stands, chain_push, last-push, size-push, ascends-push, chain_size, few, records_on, go_on, ends_as_capture, fault_is_no_capture, same_ok}
+
+-- ---- what a step says of what stands there
+
+-- the limits are passed, or what is behind them is the step
+pub within_is : (budget : Budget) (len : ℕ) (y z : Step) → within budget len y ≡ z → ((z ≡ Stops errors.Bytes) × (budget.bytes < 16 + len)) ⊎ (((z ≡ Stops errors.Frames) × (budget.frames ≡ 0)) ⊎ (y ≡ z))
+within_is budget len y z e = elim (le_or_lt (16 + len) budget.bytes) [
+  | inr lt ↦ inl (sym e ∙ within_bytes budget len y lt, lt)
+  | inl le ↦ elim (le_or_lt 1 budget.frames) [
+    | inl some ↦ inr (inr (sym (within_all budget len y le some) ∙ e))
+    | inr none ↦ let zero_is : budget.frames ≡ 0 = omega arith in inr (inl (sym e ∙ within_frames budget len y le zero_is, zero_is))
+  ]
+]
+
+pub gives_found : (budget : Budget) (at : ℕ) (x : Next) (moment : ℕ) (caught : Caught) (rest : List ℕ) → step_of budget at x ≡ Gives moment caught rest → x ≡ Found moment caught rest
+gives_found budget at (Found m c k) moment caught rest e = elim (within_is budget (length c.bytes) (Gives m c k) (Gives moment caught rest) e) [
+  | inl p ↦ let q = p.0 in absurd (cc)
+  | inr other ↦ elim other [ inl p ↦ let q = p.0 in absurd (cc) | inr same ↦ let is : Found m c k ≡ Found moment caught rest = cc in is ]
+]
+gives_found budget at End moment caught rest e = absurd (cc)
+gives_found budget at CutHead moment caught rest e = absurd (cc)
+gives_found budget at (TooLong len) moment caught rest e = absurd (cc)
+gives_found budget at (CutBytes len) moment caught rest e = elim (within_is budget len (Stops (errors.Cut at)) (Gives moment caught rest) e) [
+  | inl p ↦ let q = p.0 in absurd (cc)
+  | inr other ↦ elim other [ inl p ↦ let q = p.0 in absurd (cc) | inr same ↦ absurd (cc) ]
+]
+
+pub ends_end : (budget : Budget) (at : ℕ) (x : Next) → step_of budget at x ≡ Ends → x ≡ End
+ends_end budget at (Found m c k) e = elim (within_is budget (length c.bytes) (Gives m c k) Ends e) [
+  | inl p ↦ let q = p.0 in absurd (cc)
+  | inr other ↦ elim other [ inl p ↦ let q = p.0 in absurd (cc) | inr same ↦ absurd (cc) ]
+]
+ends_end budget at End e = refl
+ends_end budget at CutHead e = absurd (cc)
+ends_end budget at (TooLong len) e = absurd (cc)
+ends_end budget at (CutBytes len) e = elim (within_is budget len (Stops (errors.Cut at)) Ends e) [
+  | inl p ↦ let q = p.0 in absurd (cc)
+  | inr other ↦ elim other [ inl p ↦ let q = p.0 in absurd (cc) | inr same ↦ absurd (cc) ]
+]
+
+pub cut_fault : (budget : Budget) (at place : ℕ) (x : Next) → step_of budget at x ≡ Stops (errors.Cut place) → IsFault x
+cut_fault budget at place (Found m c k) e = elim (within_is budget (length c.bytes) (Gives m c k) (Stops (errors.Cut place)) e) [
+  | inl p ↦ let q = p.0 in absurd (cc)
+  | inr other ↦ elim other [ inl p ↦ let q = p.0 in absurd (cc) | inr same ↦ absurd (cc) ]
+]
+cut_fault budget at place End e = absurd (cc)
+cut_fault budget at place CutHead e = tt
+cut_fault budget at place (TooLong len) e = tt
+cut_fault budget at place (CutBytes len) e = tt
+
+pub long_fault : (budget : Budget) (at place count : ℕ) (x : Next) → step_of budget at x ≡ Stops (errors.TooLong place count) → IsFault x
+long_fault budget at place count (Found m c k) e = elim (within_is budget (length c.bytes) (Gives m c k) (Stops (errors.TooLong place count)) e) [
+  | inl p ↦ let q = p.0 in absurd (cc)
+  | inr other ↦ elim other [ inl p ↦ let q = p.0 in absurd (cc) | inr same ↦ absurd (cc) ]
+]
+long_fault budget at place count End e = absurd (cc)
+long_fault budget at place count CutHead e = tt
+long_fault budget at place count (TooLong len) e = tt
+long_fault budget at place count (CutBytes len) e = tt
+
+-- the place that an error tells, and the length
+pub cut_place : (budget : Budget) (at place : ℕ) (x : Next) → step_of budget at x ≡ Stops (errors.Cut place) → place ≡ at
+cut_place budget at place (Found m c k) e = absurd (cut_fault budget at place (Found m c k) e)
+cut_place budget at place End e = absurd (cc)
+cut_place budget at place CutHead e = cc
+cut_place budget at place (TooLong len) e = absurd (cc)
+cut_place budget at place (CutBytes len) e = elim (within_is budget len (Stops (errors.Cut at)) (Stops (errors.Cut place)) e) [
+  | inl p ↦ let q = p.0 in absurd (cc)
+  | inr other ↦ elim other [ inl p ↦ let q = p.0 in absurd (cc) | inr same ↦ let is : place ≡ at = cc in is ]
+]
+
+pub long_is : (budget : Budget) (at place count : ℕ) (x : Next) → step_of budget at x ≡ Stops (errors.TooLong place count) → (place ≡ at) × (x ≡ TooLong count)
+long_is budget at place count (Found m c k) e = absurd (long_fault budget at place count (Found m c k) e)
+long_is budget at place count End e = absurd (cc)
+long_is budget at place count CutHead e = absurd (cc)
+long_is budget at place count (TooLong len) e = let first : place ≡ at = cc in let second : len ≡ count = cc in (first, ap (λ (n : ℕ). TooLong n) second)
+long_is budget at place count (CutBytes len) e = elim (within_is budget len (Stops (errors.Cut at)) (Stops (errors.TooLong place count)) e) [
+  | inl p ↦ let q = p.0 in absurd (cc)
+  | inr other ↦ elim other [ inl p ↦ let q = p.0 in absurd (cc) | inr same ↦ absurd (cc) ]
+]
+
+-- a record that passes a limit, or a fault
+abbrev pub Passes : (ℕ → Type 0) → Next → Type 0
+Passes over x = ((moment : ℕ) × (caught : Caught) × (rest : List ℕ) × (x ≡ Found moment caught rest) × over (length caught.bytes)) ⊎ IsFault x
+
+pub bytes_passed : (budget : Budget) (at : ℕ) (x : Next) → step_of budget at x ≡ Stops errors.Bytes → Passes (λ len. budget.bytes < 16 + len) x
+bytes_passed budget at (Found m c k) e = elim (within_is budget (length c.bytes) (Gives m c k) (Stops errors.Bytes) e) [
+  | inl p ↦ inl (m, c, k, refl, p.1)
+  | inr other ↦ elim other [ inl p ↦ let q = p.0 in absurd (cc) | inr same ↦ absurd (cc) ]
+]
+bytes_passed budget at End e = absurd (cc)
+bytes_passed budget at CutHead e = absurd (cc)
+bytes_passed budget at (TooLong len) e = absurd (cc)
+bytes_passed budget at (CutBytes len) e = inr tt
+
+pub frames_passed : (budget : Budget) (at : ℕ) (x : Next) → step_of budget at x ≡ Stops errors.Frames → Passes (λ len. budget.frames ≡ 0) x
+frames_passed budget at (Found m c k) e = elim (within_is budget (length c.bytes) (Gives m c k) (Stops errors.Frames) e) [
+  | inl p ↦ let q = p.0 in absurd (cc)
+  | inr other ↦ elim other [ inl p ↦ inl (m, c, k, refl, p.1) | inr same ↦ absurd (cc) ]
+]
+frames_passed budget at End e = absurd (cc)
+frames_passed budget at CutHead e = absurd (cc)
+frames_passed budget at (TooLong len) e = absurd (cc)
+frames_passed budget at (CutBytes len) e = inr tt
+
+-- where a record stands, one is read
+records_some : (n : ℕ) (h : CaptureHead) (g : ℕ) (l : List ℕ) (moment : ℕ) (caught : Caught) (rest : List ℕ) → 1 ≤ n → next h g l ≡ Found moment caught rest → 1 ≤ length (records_from n h g l)
+records_some zero h g l moment caught rest le e = absurd (omega arith)
+records_some (suc n) h g l moment caught rest le e = let one : length (records_from (suc n) h g l) ≡ suc (length (records_from n h moment rest)) = ap (λ (x : Next). length (go_on n h x)) e in omega arith
+
+-- ---- the loop
+
+pub taken_none : (slot : ℕ) (a b : Seen) (had left : Budget) (r : Reading) → OpensReader slot a b had left (Ok r) → Taken slot (a.left slot) [] b r
+taken_none slot a b had left r o =
+    let place : r.at ≡ 24 = o.begins.0 in
+    record {
+      fresh = o.begins.2;
+      greatest = o.begins.1;
+      ascends = tt;
+      place = omega arith;
+      chain = λ told. let h = o.head (subst IsTrue o.reads.keeps.told told) in (h.0, sym h.1);
+    }
+
+-- calls on other names change nothing of it
+pub taken_stays : (slot : ℕ) (file : List ℕ) (rs : List Record) (name : List ℕ) (b c : Seen) (r : Reading) → Taken slot file rs b r → Keeps name b c → IsTrue (b.input slot) → b.name slot ≢ name → Taken slot file rs c r
+taken_stays slot file rs name b c r t k is_in other = record {
+  fresh = t.fresh;
+  greatest = t.greatest;
+  ascends = t.ascends;
+  place = t.place;
+  chain = λ told.
+      let h = t.chain (subst IsTrue k.told told) in
+      (h.0, subst (λ (l : List ℕ). Chain r.head 0 rs (drop HEAD file) (r.held ++ l)) (sym (k.left slot is_in other)) h.1);
+}
+
+module _ (slot : ℕ) (file : List ℕ) (rs : List Record) (b c : Seen) (r r' : Reading) (had left : Budget) (t : Taken slot file rs b r) where
+  pub taken_more : (x : Record) → NextReads slot b c r r' had left (Ok (Some x)) → Taken slot file (rs ++ x ∷ []) c r'
+  taken_more x n =
+      let k = n.taken in
+      let place : r'.at ≡ min (r.at + (16 + length x.caught.bytes)) (2 ^ 64 - 1) = ap (λ (q : Reading). q.at) k.moved in
+      let greatest : r'.greatest ≡ x.moment = ap (λ (q : Reading). q.greatest) k.moved in
+      let head : r'.head ≡ r.head = ap (λ (q : Reading). q.head) k.moved in
+      let was = t.place in
+      let sized = size-push rs x in
+      record {
+        fresh = ap (λ (q : Reading). q.kept) k.moved ∙ k.fresh;
+        greatest = greatest ∙ sym (last-push 0 rs x);
+        ascends = ascends-push 0 rs x t.ascends (subst (λ (m : ℕ). m ≤ x.moment) t.greatest k.onward);
+        place = omega arith;
+        chain = λ told.
+            let told' : IsTrue b.told = subst IsTrue n.reads.keeps.told told in
+            let h = t.chain told' in
+            let found : next r.head r.greatest (to_come r b slot) ≡ Found x.moment x.caught (to_come r' c slot) = gives_found had r.at (next r.head r.greatest (to_come r b slot)) x.moment x.caught (to_come r' c slot) (n.says told' k.fresh) in (
+              h.0 ∙ ap (λ (j : CaptureHead). Ok j) (sym head),
+              subst (λ (j : CaptureHead). Chain j 0 (rs ++ x ∷ []) (drop HEAD file) (to_come r' c slot)) (sym head)
+                  (chain_push r.head 0 rs x (drop HEAD file) (to_come r b slot) (to_come r' c slot) h.1 (ap (λ (g : ℕ). next r.head g (to_come r b slot)) (sym t.greatest) ∙ found)),
+            );
+      }
+
+  module _ (told : IsTrue b.told) where
+    at_last : (x : Next) → next r.head r.greatest (to_come r b slot) ≡ x → next r.head (last_moment 0 rs) (to_come r b slot) ≡ x
+    at_last x e = ap (λ (g : ℕ). next r.head g (to_come r b slot)) (sym t.greatest) ∙ e
+
+    pub taken_all : NextReads slot b c r r' had left (Ok None) → IsCapture r.head rs file
+    taken_all n =
+        let h = t.chain told in
+        ends_as_capture r.head rs file (to_come r b slot) h.0 h.1 (at_last End (ends_end had r.at (next r.head r.greatest (to_come r b slot)) (n.says told t.fresh).0))
+
+    no_capture : IsFault (next r.head r.greatest (to_come r b slot)) → (k : CaptureHead) (qs : List Record) → IsCapture k qs file → ⊥
+    no_capture f = let h = t.chain told in fault_is_no_capture r.head rs file (to_come r b slot) h.0 h.1 (subst IsFault (sym (at_last _ refl)) f)
+
+    pub taken_cut : (at : ℕ) → NextReads slot b c r r' had left (Err (errors.Cut at)) → (k : CaptureHead) (qs : List Record) → IsCapture k qs file → ⊥
+    taken_cut at n = no_capture (cut_fault had r.at at (next r.head r.greatest (to_come r b slot)) (n.says told t.fresh))
+
+    pub taken_too_long : (at len : ℕ) → NextReads slot b c r r' had left (Err (errors.TooLong at len)) → (k : CaptureHead) (qs : List Record) → IsCapture k qs file → ⊥
+    taken_too_long at len n = no_capture (long_fault had r.at at len (next r.head r.greatest (to_come r b slot)) (n.says told t.fresh))
+
+    -- a limit of bytes is met only where no capture stands, or one with more bytes than those that were taken and those that are left
+    pub taken_bytes : NextReads slot b c r r' had left (Err errors.Bytes) → (k : CaptureHead) (qs : List Record) → IsCapture k qs file → had.bytes + (HEAD + size_of rs) < length file
+    taken_bytes n k qs is = elim (bytes_passed had r.at (next r.head r.greatest (to_come r b slot)) (n.says told t.fresh)) [
+      | inr f ↦ absurd (no_capture f k qs is)
+      | inl p ↦
+          let stands = (found_stands r.head r.greatest (to_come r b slot) p.0 p.1 p.2 p.3).size in
+          let chain = chain_size r.head 0 rs (drop HEAD file) (to_come r b slot) (t.chain told).1 in
+          let over = p.4 in
+          omega (arith, length-drop HEAD file)
+    ]
+
+    -- a limit of frames only where no capture stands, or one with more records
+    pub taken_frames : NextReads slot b c r r' had left (Err errors.Frames) → (k : CaptureHead) (qs : List Record) → IsCapture k qs file → (had.frames ≡ 0) × (length rs < length qs)
+    taken_frames n k qs is = elim (frames_passed had r.at (next r.head r.greatest (to_come r b slot)) (n.says told t.fresh)) [
+      | inr f ↦ absurd (no_capture f k qs is)
+      | inl p ↦
+          let stands = (found_stands r.head r.greatest (to_come r b slot) p.0 p.1 p.2 p.3).size in
+          let h = t.chain told in
+          let chain = chain_size r.head 0 rs (drop HEAD file) (to_come r b slot) h.1 in
+          let behind = length-drop HEAD file in
+          let least = few rs in
+          let room : length file ≡ length rs + (length file - length rs) = omega arith in
+          let some : 1 ≤ length file - length rs = omega arith in
+          let same : k ≡ r.head = same_ok k r.head file is.head h.0 in
+          let all : qs ≡ rs ++ records_from (length file - length rs) r.head (last_moment 0 rs) (to_come r b slot) = sym is.says ∙ ap (λ (j : CaptureHead). records j file) same ∙ records_on (length file) (length file - length rs) r.head 0 rs (drop HEAD file) (to_come r b slot) room h.1 in
+          let more = records_some (length file - length rs) r.head (last_moment 0 rs) (to_come r b slot) p.0 p.1 p.2 some (at_last (Found p.0 p.1 p.2) p.3) in
+          (p.4, omega (arith, ap length all, length-append rs (records_from (length file - length rs) r.head (last_moment 0 rs) (to_come r b slot)), more))
+    ]

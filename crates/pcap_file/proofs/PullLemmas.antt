@@ -1,0 +1,81 @@
+-- Filling a buffer from what is held and from a slot, piece by piece.
+use Rattle.std.proofs.Common.{◌≡◌, ℕ, ◌+◌, ◌-◌, ◌≤◌, ◌<◌, ◌⊎◌, inl, inr, min, List, [], ◌∷◌, ◌++◌, length, append_assoc, take, drop, Ok, Err, IsTrue, refl, sym, ◌∙◌, ap, subst, arith}
+use Rattle.std.proofs.lemmas.Bool.Decides.{leb_tells}
+use Rattle.std.proofs.lemmas.List.{take-append-drop, drop-take, drop-drop, drop_all, length-take}
+use borrow.Rule.Slice.PartMut.{put_mid}
+use Rattle.fab_base.specs.Seen.{Seen, Reads, Rose}
+use Rattle.fab_base.specs.declared.values.Failed.{Failed}
+use Rattle.fab_base.proofs.Depots.{reads_trans, reads_refl, input_name, told_stays, rose_later, take-put_mid-more}
+use Rattle.pcap_file.specs.Reading.{Pulls, Refills}
+
+pub le_or_lt : (a b : ℕ) → (a ≤ b) ⊎ (b < a)
+le_or_lt a b = elim (leb_tells a b) [ inl p ↦ inl p.1 | inr p ↦ inr p.1 ]
+
+-- nothing left
+pub none_is : (l : List ℕ) → length l ≡ 0 → l ≡ []
+none_is [] e = refl
+none_is (x ∷ l) e = absurd (omega arith)
+
+-- what is held behind the first bytes of a window
+pub window_rest : (l : List ℕ) (from to count : ℕ) → take (to - (from + count)) (drop (from + count) l) ≡ drop count (take (to - from) (drop from l))
+window_rest l from to count = elim (le_or_lt count (to - from)) [
+  | inl le ↦
+      let split : to - from ≡ count + (to - (from + count)) = omega arith in
+      ap (take (to - (from + count))) (sym (drop-drop count from l)) ∙ sym (drop-take count (to - (from + count)) (drop from l)) ∙ ap (λ (m : ℕ). drop count (take m (drop from l))) (sym split)
+  | inr lt ↦
+      let none : to - (from + count) ≡ 0 = omega arith in
+      ap (λ (m : ℕ). take m (drop (from + count) l)) none ∙ sym (drop_all count (take (to - from) (drop from l)) (omega (arith, length-take (to - from) (drop from l))))
+]
+
+-- a buffer that is filled up to a place
+pub record Pulled (s got : ℕ) (a c : Seen) (into held rest : List ℕ) : Type 0 where
+  pub reads : Reads (a.name s) a c
+  pub taken : IsTrue a.told → take got into ++ (rest ++ c.left s) ≡ held ++ a.left s
+
+pub pulled_none : (s : ℕ) (a : Seen) (into held : List ℕ) → Pulled s 0 a a into held held
+pulled_none s a into held = record { reads = reads_refl (a.name s) a; taken = λ told. refl }
+
+module _ (s got : ℕ) (a b c : Seen) (into held mid more : List ℕ) (is_in : IsTrue (a.input s)) (f : Pulled s got a b into held mid) where
+  same : b.name s ≡ a.name s
+  same = input_name (a.name s) a b f.reads.keeps s is_in
+
+  told_b : IsTrue a.told → IsTrue b.told
+  told_b told = told_stays (a.name s) a b f.reads.keeps told
+
+  module _ (r : Refills {T = Unit {0}} s mid more b c (Ok tt)) where
+    both : Reads (a.name s) a c
+    both = reads_trans (a.name s) a b c f.reads (subst (λ m. Reads m b c) same r.reads)
+
+    -- a piece of what is held then
+    pub pull_step : (n k : ℕ) (piece rest : List ℕ) → got ≤ length into → n ≤ length piece → take n piece ≡ take n more → rest ≡ drop n more → Pulled s (got + n) a c (put_mid got k into piece) held rest
+    pull_step n k piece rest fits le front behind = record {
+      reads = both;
+      taken = λ told.
+          rw (take-put_mid-more got n k into piece fits le)
+          (append_assoc (take got into) (take n piece) (rest ++ c.left s)
+          ∙ ap (λ l. take got into ++ l) (sym (append_assoc (take n piece) rest (c.left s)) ∙ ap (λ l. l ++ c.left s) ((λ i. front i ++ behind i) ∙ take-append-drop n more) ∙ r.taken (told_b told))
+          ∙ f.taken told);
+    }
+
+    pub pull_ended : (n k : ℕ) (piece rest : List ℕ) → got ≤ length into → length (put_mid got k into piece) ≡ length into → n ≡ 0 → n ≡ min (length more) (length piece) → 0 < length piece → take n piece ≡ take n more → rest ≡ drop n more → Pulls s (put_mid got k into piece) held rest a c (Ok got)
+    pull_ended n k piece rest fits sized none is some front behind =
+        let none_held : more ≡ [] = none_is more (omega arith) in
+        let none_left : rest ≡ [] = behind ∙ (λ i. drop (none i) (none_held i)) in
+        let step : Pulled s (got + n) a c (put_mid got k into piece) held rest = pull_step n k piece rest fits (omega arith) front behind in
+        let same_place : got + n ≡ got = omega arith in
+        record {
+          reads = both;
+          bound = omega arith;
+          taken = λ told. subst (λ (m : ℕ). take m (put_mid got k into piece) ++ (rest ++ c.left s) ≡ held ++ a.left s) same_place (step.taken told);
+          ended = λ told lt. (λ i. none_left i ++ c.left s) ∙ r.ended (told_b told) none_held;
+          cause = tt;
+        }
+
+  pub pull_failed : (e : Failed) (into' : List ℕ) → Refills {T = Unit {0}} s mid more b c (Err e) → Pulls s into' held more a c (Err e)
+  pull_failed e into' r = record {
+    reads = reads_trans (a.name s) a b c f.reads (subst (λ m. Reads m b c) same r.reads);
+    bound = tt;
+    taken = λ told. tt;
+    ended = λ told. tt;
+    cause = rose_later _ _ _ f.reads.keeps.reads_rise (subst (λ m. Rose (b.read_faults m) (c.read_faults m)) same r.cause);
+  }

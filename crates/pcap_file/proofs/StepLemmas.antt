@@ -1,0 +1,152 @@
+-- The step of a reader, by what its buffers hold.
+use Rattle.std.proofs.Common.{◌≡◌, ◌≢◌, inl, inr, subst, ◌^◌, IsTrue, Some, None, Ok, Err, ℕ, ◌+◌, ◌<◌, ◌≤◌, max, true, false, leb, ltb, eqb, nat_lt, not, List, [], ◌++◌, length, take, drop, refl, sym, ap, ◌∙◌, arith}
+use Rattle.std.proofs.lemmas.Bool.{ne_eqb, le-ltb, lt-ltb, le-leb, lt-leb}
+use Rattle.std.proofs.lemmas.List.{length-take-le, take-append-drop, append-nil, take_all}
+use Rattle.fab_base.specs.Seen.{Seen, Reads}
+use Rattle.pcap_file.proofs.PullLemmas.{none_is, le_or_lt}
+use Rattle.fab_base.proofs.Depots.{reads_trans, input_name, told_stays}
+use Rattle.pcap_file.specs.declared.Record.{Record}
+use Rattle.pcap_file.specs.declared.Budget.{Budget}
+use Rattle.pcap_file.specs.declared.CaptureHead.{CaptureHead}
+use Rattle.pcap_file.specs.declared.CapError.TheVariants as errors
+use Rattle.pcap_file.specs.Capture.{at_place, milliseconds, stored, next}
+use Rattle.pcap_file.specs.Reading.{Pulls, RecordRead, Step, Gives, Stops, within, step_of}
+use Rattle.pcap_file.proofs.NextLemmas.{next_end, next_short, front_long, front_cut, front_whole}
+
+pub leb_not : (a b : ℕ) → leb a b ≡ not (ltb b a)
+leb_not a b = elim (le_or_lt a b) [
+  | inl le ↦ le-leb _ _ le ∙ ap not (sym (le-ltb _ _ le))
+  | inr lt ↦ lt-leb _ _ lt ∙ ap not (sym (lt-ltb _ _ lt))
+]
+
+pub within_bytes : (budget : Budget) (len : ℕ) (x : Step) → budget.bytes < 16 + len → within budget len x ≡ Stops errors.Bytes
+within_bytes budget len x lt = let e : ltb budget.bytes (16 + len) ≡ true = lt-ltb _ _ lt in rw e refl
+
+pub within_frames : (budget : Budget) (len : ℕ) (x : Step) → 16 + len ≤ budget.bytes → budget.frames ≡ 0 → within budget len x ≡ Stops errors.Frames
+within_frames budget len x le none =
+    let e : ltb budget.bytes (16 + len) ≡ false = le-ltb _ _ le in
+    let z : eqb budget.frames 0 ≡ true = ap (λ (n : ℕ). eqb n 0) none in
+    rw (e, z) refl
+
+pub within_all : (budget : Budget) (len : ℕ) (x : Step) → 16 + len ≤ budget.bytes → 1 ≤ budget.frames → within budget len x ≡ x
+within_all budget len x le some =
+    let e : ltb budget.bytes (16 + len) ≡ false = le-ltb _ _ le in
+    let z : eqb budget.frames 0 ≡ false = ne_eqb budget.frames 0 (λ e. omega arith) in
+    rw (e, z) refl
+
+-- a limit that is passed, whether the record is whole or not
+module _ (h : CaptureHead) (g at : ℕ) (budget : Budget) (front m : List ℕ) (sized : length front ≡ 16) (small : stored h front ≤ 65535) where
+  limits : (x : Step) → ((y : Step) → within budget (stored h front) y ≡ x) → step_of budget at (next h g (front ++ m)) ≡ x
+  limits x over = elim (le_or_lt (stored h front) (length m)) [
+    | inl le ↦
+        let whole : length (take (stored h front) m) ≡ stored h front = length-take-le (stored h front) m le in
+        ap (step_of budget at) (front_whole h g front m sized (take (stored h front) m) (drop (stored h front) m) (sym (take-append-drop (stored h front) m)) whole small)
+        ∙ (λ i. within budget (whole i) (Gives (max g (milliseconds h front)) (record { bytes = take (stored h front) m; whole = not (nat_lt (stored h front) (at_place h.big front 12 4)) }) (drop (stored h front) m)))
+        ∙ over (Gives (max g (milliseconds h front)) (record { bytes = take (stored h front) m; whole = not (nat_lt (stored h front) (at_place h.big front 12 4)) }) (drop (stored h front) m))
+    | inr lt ↦ ap (step_of budget at) (front_cut h g front m sized small lt) ∙ over (Stops (errors.Cut at))
+  ]
+
+  pub step_bytes : budget.bytes < 16 + stored h front → step_of budget at (next h g (front ++ m)) ≡ Stops errors.Bytes
+  step_bytes lt = limits (Stops errors.Bytes) (λ y. within_bytes budget (stored h front) y lt)
+
+  pub step_frames : 16 + stored h front ≤ budget.bytes → budget.frames ≡ 0 → step_of budget at (next h g (front ++ m)) ≡ Stops errors.Frames
+  step_frames le none = limits (Stops errors.Frames) (λ y. within_frames budget (stored h front) y le none)
+
+-- ---- buffers
+
+-- a whole buffer is the front of what was to come
+pub front_is : (buffer rest left : List ℕ) (n : ℕ) → length buffer ≡ n → take n buffer ++ rest ≡ left → left ≡ buffer ++ rest
+front_is buffer rest left n len e = sym e ∙ ap (λ l. l ++ rest) (take_all n buffer (omega arith))
+
+-- one that isn't whole is all of it
+pub short_is : (buffer rest left : List ℕ) (n : ℕ) → n ≤ length buffer → rest ≡ [] → take n buffer ++ rest ≡ left → length left ≡ n
+short_is buffer rest left n le none e = sym (ap length e) ∙ ap length (ap (λ r. take n buffer ++ r) none ∙ append-nil (take n buffer)) ∙ length-take-le n buffer le
+
+-- ---- one record, from a buffer for its head and a buffer for its bytes
+module _ (s : ℕ) (a b : Seen) (held rest front : List ℕ) (n : ℕ) (h : CaptureHead) (at g : ℕ) (budget : Budget) (sized : length front ≡ 16) (first : Pulls s front held rest a b (Ok n)) where
+  pub read_end : n ≡ 0 → RecordRead s a b held rest h at g budget (Ok None)
+  read_end none = record {
+    reads = first.reads;
+    says = λ told.
+        let empty : rest ++ b.left s ≡ [] = first.ended told (omega arith) in
+        let all : length (held ++ a.left s) ≡ n = short_is front (rest ++ b.left s) (held ++ a.left s) n first.bound empty (first.taken told) in
+        (ap (λ l. step_of budget at (next h g l)) (none_is (held ++ a.left s) (all ∙ none)) ∙ ap (step_of budget at) (next_end h g), empty);
+    fits = tt;
+    cause = λ f e. absurd (cc);
+  }
+
+  pub read_short : n ≢ 0 → n < 16 → RecordRead s a b held rest h at g budget (Err (errors.Cut at))
+  read_short ne lt = record {
+    reads = first.reads;
+    says = λ told.
+        let empty : rest ++ b.left s ≡ [] = first.ended told (omega arith) in
+        let all : length (held ++ a.left s) ≡ n = short_is front (rest ++ b.left s) (held ++ a.left s) n first.bound empty (first.taken told) in
+        ap (step_of budget at) (next_short h g (held ++ a.left s) (omega arith) (omega arith));
+    fits = tt;
+    cause = λ f e. absurd (cc);
+  }
+
+  whole_front : 16 ≤ n → IsTrue a.told → held ++ a.left s ≡ front ++ (rest ++ b.left s)
+  whole_front le told = let is : n ≡ 16 = omega (arith, first.bound) in front_is front (rest ++ b.left s) (held ++ a.left s) 16 sized (subst (λ (k : ℕ). take k front ++ (rest ++ b.left s) ≡ held ++ a.left s) is (first.taken told))
+
+  pub read_long : (len : ℕ) → len ≡ stored h front → 16 ≤ n → 65535 < len → RecordRead s a b held rest h at g budget (Err (errors.TooLong at len))
+  read_long len is le long = record {
+    reads = first.reads;
+    says = λ told.
+        ap (λ l. step_of budget at (next h g l)) (whole_front le told) ∙ ap (step_of budget at) (front_long h g front (rest ++ b.left s) sized (omega arith))
+        ∙ ap (λ (k : ℕ). Stops (errors.TooLong at k)) (sym is);
+    fits = tt;
+    cause = λ f e. absurd (cc);
+  }
+
+  module _ (len : ℕ) (is : len ≡ stored h front) (le : 16 ≤ n) (small : len ≤ 65535) where
+    pub read_bytes : budget.bytes < 16 + len → RecordRead s a b held rest h at g budget (Err errors.Bytes)
+    read_bytes lt = record {
+      reads = first.reads;
+      says = λ told. ap (λ l. step_of budget at (next h g l)) (whole_front le told) ∙ step_bytes h g at budget front (rest ++ b.left s) sized (omega arith) (omega arith);
+      fits = tt;
+      cause = λ f e. absurd (cc);
+    }
+
+    pub read_frames : 16 + len ≤ budget.bytes → budget.frames ≡ 0 → RecordRead s a b held rest h at g budget (Err errors.Frames)
+    read_frames room none = record {
+      reads = first.reads;
+      says = λ told. ap (λ l. step_of budget at (next h g l)) (whole_front le told) ∙ step_frames h g at budget front (rest ++ b.left s) sized (omega arith) (omega arith) none;
+      fits = tt;
+      cause = λ f e. absurd (cc);
+    }
+
+    module _ (c : Seen) (more body : List ℕ) (k : ℕ) (is_in : IsTrue (a.input s)) (second : Pulls s body rest more b c (Ok k)) (sized_body : length body ≡ len) (room : 16 + len ≤ budget.bytes) (frame : budget.frames ≢ 0) where
+      both : Reads (a.name s) a c
+      both = reads_trans (a.name s) a b c first.reads (subst (λ m. Reads m b c) (input_name (a.name s) a b first.reads.keeps s is_in) second.reads)
+
+      told_b : IsTrue a.told → IsTrue b.told
+      told_b told = told_stays (a.name s) a b first.reads.keeps told
+
+      pub read_cut : k < length body → RecordRead s a c held more h at g budget (Err (errors.Cut at))
+      read_cut lt = record {
+        reads = both;
+        says = λ told.
+            let empty : more ++ c.left s ≡ [] = second.ended (told_b told) lt in
+            let all : length (rest ++ b.left s) ≡ k = short_is body (more ++ c.left s) (rest ++ b.left s) k second.bound empty (second.taken (told_b told)) in
+            ap (λ l. step_of budget at (next h g l)) (whole_front le told) ∙ ap (step_of budget at) (front_cut h g front (rest ++ b.left s) sized (omega arith) (omega arith))
+            ∙ within_all budget (stored h front) (Stops (errors.Cut at)) (omega arith) (omega arith);
+        fits = tt;
+        cause = λ f e. absurd (cc);
+      }
+
+      pub read_given : (r : Record) → length body ≤ k → g < 2 ^ 43 → milliseconds h front < 2 ^ 43 → r.moment ≡ max (milliseconds h front) g → r.caught.bytes ≡ body → r.caught.whole ≡ not (nat_lt len (at_place h.big front 12 4)) → RecordRead s a c held more h at g budget (Ok (Some r))
+      read_given r full below range moment bytes whole = record {
+        reads = both;
+        says = λ told.
+            let all : rest ++ b.left s ≡ body ++ (more ++ c.left s) =
+            front_is body (more ++ c.left s) (rest ++ b.left s) k (omega (arith, second.bound)) (second.taken (told_b told)) in
+            let same : record { bytes = body; whole = not (nat_lt (stored h front) (at_place h.big front 12 4)) } ≡ r.caught = (λ i. record { bytes = sym bytes i; whole = (ap (λ (k : ℕ). not (nat_lt k (at_place h.big front 12 4))) (sym is) ∙ sym whole) i }) in
+            let time : max g (milliseconds h front) ≡ r.moment = omega arith in
+            ap (λ l. step_of budget at (next h g l)) (whole_front le told)
+            ∙ ap (step_of budget at) (front_whole h g front (rest ++ b.left s) sized body (more ++ c.left s) all (sized_body ∙ is) (omega arith))
+            ∙ within_all budget (length body) (Gives (max g (milliseconds h front)) (record { bytes = body; whole = not (nat_lt (stored h front) (at_place h.big front 12 4)) }) (more ++ c.left s)) (omega arith) (omega arith)
+            ∙ (λ i. Gives (time i) (same i) (more ++ c.left s));
+        fits = record { onward = omega arith; range = omega arith; stored = omega (arith, ap length bytes); bytes = omega (arith, ap length bytes); frames = omega arith };
+        cause = λ f e. absurd (cc);
+      }

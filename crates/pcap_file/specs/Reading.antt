@@ -1,0 +1,141 @@
+-- What a contract sees of a reader, and what its calls answer over a depot.
+use Rattle.std.specs.Prelude.{◌≡◌, ℕ, ◌+◌, ◌-◌, ◌^◌, ◌≤◌, ◌<◌, ◌↔◌, min, IsTrue, nat_lt, ◌==◌, if◌then◌else◌, List, [], ◌++◌, length, take, drop, Option, Some, None, Result, Ok, Err, IfOk, OnOk, OnErr, IsErrOf, MatchResult, MatchOption}
+use Rattle.fab_base.specs.Seen.{Seen, Reads, Rose}
+use Rattle.fab_base.specs.declared.values.Failed.{Failed}
+use Rattle.fab_base.specs.declared.values.Caught.{Caught}
+use Rattle.pcap_file.specs.declared.Budget.{Budget}
+use Rattle.pcap_file.specs.declared.CaptureHead.{CaptureHead}
+use Rattle.pcap_file.specs.declared.CapError.{CapError}
+use Rattle.pcap_file.specs.declared.CapError.TheVariants as errors
+use Rattle.pcap_file.specs.declared.CapOpen.{CapOpen}
+use Rattle.pcap_file.specs.declared.CapOpen.TheVariants as opens
+use Rattle.pcap_file.specs.declared.Record.{Record}
+use Rattle.pcap_file.specs.Capture.{HEAD, RECORD_HEAD, MOST_STORED, Next, Found, End, CutHead, TooLong, CutBytes, next, head_decoded}
+
+-- A reader: the head of its capture, the place of the next record in the file, the greatest moment so far or 0, the error
+-- that it keeps, and the bytes that it has fetched and not given.
+pub record Reading : Type 0 where
+  pub head : CaptureHead
+  pub at : ℕ
+  pub greatest : ℕ
+  pub kept : Option CapError
+  pub held : List ℕ
+
+-- what a reader of this slot has still to read
+abbrev pub to_come : Reading → Seen → ℕ → List ℕ
+to_come r d s = r.held ++ d.left s
+
+-- How a reader goes on where neither the depot fails nor memory is refused.
+pub data Step : Type 0 where
+  Gives : (moment : ℕ) (caught : Caught) (rest : List ℕ) → Step
+  Ends : Step
+  Stops : (error : CapError) → Step
+
+-- the tests of the limits, of a record with so many stored bytes, and what comes behind them
+abbrev pub within : Budget → ℕ → Step → Step
+within budget len behind =
+    if nat_lt budget.bytes (RECORD_HEAD + len) then Stops errors.Bytes
+    else if budget.frames == 0 then Stops errors.Frames
+    else behind
+
+-- how a reader at a place of the file goes on from what stands there
+abbrev pub step_of : Budget → ℕ → Next → Step
+step_of budget at (Found moment caught rest) = within budget (length caught.bytes) (Gives moment caught rest)
+step_of budget at End = Ends
+step_of budget at CutHead = Stops (errors.Cut at)
+step_of budget at (TooLong len) = Stops (errors.TooLong at len)
+step_of budget at (CutBytes len) = within budget len (Stops (errors.Cut at))
+
+-- what an answer says of that step, where this is still to come afterwards; a depot's fault and want of memory say nothing
+abbrev pub Says : Step → List ℕ → Result (Option Record) CapError → Type 0
+Says step rest (Ok (Some r)) = step ≡ Gives r.moment r.caught rest
+Says step rest (Ok None) = (step ≡ Ends) × (rest ≡ [])
+Says step rest (Err (errors.Cut at)) = step ≡ Stops (errors.Cut at)
+Says step rest (Err (errors.TooLong at len)) = step ≡ Stops (errors.TooLong at len)
+Says step rest (Err errors.Bytes) = step ≡ Stops errors.Bytes
+Says step rest (Err errors.Frames) = step ≡ Stops errors.Frames
+Says step rest (Err (errors.Read failed)) = Unit {0}
+Says step rest (Err errors.Memory) = Unit {0}
+
+-- a place behind so many bytes more; places stay at the last number of 64 bits
+abbrev pub place_after : ℕ → ℕ → ℕ
+place_after at count = min (at + count) (2 ^ 64 - 1)
+
+-- What holds of a record that a reader gives, told or not: limits of its parts, and what it takes from the budget.
+pub record Takes (before after : Reading) (had left : Budget) (r : Record) : Type 0 where
+  pub fresh : before.kept ≡ None
+  pub moved : after ≡ record before { at = place_after before.at (RECORD_HEAD + length r.caught.bytes); greatest = r.moment; held = after.held }
+  pub onward : before.greatest ≤ r.moment
+  pub range : r.moment < 2 ^ 43
+  pub stored : length r.caught.bytes ≤ MOST_STORED
+  pub bytes : left.bytes + (RECORD_HEAD + length r.caught.bytes) ≡ had.bytes
+  pub frames : left.frames + 1 ≡ had.frames
+
+-- the end changes nothing but what is held
+pub record Rests (before after : Reading) (had left : Budget) : Type 0 where
+  pub fresh : before.kept ≡ None
+  pub same : after ≡ record before { held = after.held }
+  pub budget : left ≡ had
+
+-- an error is kept
+pub record KeepsError (before after : Reading) (had left : Budget) (e : CapError) : Type 0 where
+  pub kept : after ≡ record before { kept = Some e; held = after.held }
+  pub budget : left ≡ had
+
+-- What a reader's next record is. Where the depot tells, and no error is kept, the answer is the step, except that the
+-- depot may fail, which its count shows, and memory may be refused. A kept error is answered again and nothing is fetched.
+pub record NextReads (slot : ℕ) (old new : Seen) (before after : Reading) (had left : Budget) (result : Result (Option Record) CapError) : Type 0 where
+  pub reads : Reads (old.name slot) old new
+  pub says : IsTrue old.told → before.kept ≡ None → Says (step_of had before.at (next before.head before.greatest (to_come before old slot))) (to_come after new slot) result
+  pub taken : IfOk result (λ o. MatchOption o (Rests before after had left) (λ r. Takes before after had left r))
+  pub kept : MatchResult result (λ o. Unit {0}) (λ e. KeepsError before after had left e)
+  pub cause : before.kept ≡ None → (f : Failed) → result ≡ Err (errors.Read f) → Rose (old.read_faults (old.name slot)) (new.read_faults (old.name slot))
+  pub again : (e : CapError) → before.kept ≡ Some e → (result ≡ Err e) × (new ≡ old) × (after ≡ before)
+
+-- what an error of opening says
+abbrev pub Refuses : ℕ → Seen → Seen → CapOpen → Type 0
+Refuses slot old new (opens.Head fault) = IsTrue old.told → head_decoded (old.left slot) ≡ Err fault
+Refuses slot old new (opens.Read failed) = Rose (old.read_faults (old.name slot)) (new.read_faults (old.name slot))
+Refuses slot old new opens.Bytes = new ≡ old
+
+-- What opening a capture does. Want of 24 bytes in the budget is told first.
+pub record OpensReader (slot : ℕ) (old new : Seen) (had left : Budget) (result : Result Reading CapOpen) : Type 0 where
+  pub reads : Reads (old.name slot) old new
+  pub begins : IfOk result (λ r. (r.at ≡ HEAD) × (r.greatest ≡ 0) × (r.kept ≡ None))
+  pub taken : IfOk result (λ r. (left.bytes + HEAD ≡ had.bytes) × (left.frames ≡ had.frames))
+  pub head : IsTrue old.told → IfOk result (λ r. (head_decoded (old.left slot) ≡ Ok r.head) × (to_come r new slot ≡ drop HEAD (old.left slot)))
+  pub refused : MatchResult result (λ r. Unit {0}) (λ e. Refuses slot old new e)
+  pub untouched : OnErr result (left ≡ had)
+  pub bytes : IsErrOf result opens.Bytes ↔ (had.bytes < HEAD)
+
+-- ---- inside the crate
+
+-- Filling a buffer from what is held and then from a slot.
+pub record Pulls (s : ℕ) (buffer held rest : List ℕ) (old new : Seen) (result : Result ℕ Failed) : Type 0 where
+  pub reads : Reads (old.name s) old new
+  pub bound : IfOk result (λ n. n ≤ length buffer)
+  pub taken : IsTrue old.told → IfOk result (λ n. take n buffer ++ (rest ++ new.left s) ≡ held ++ old.left s)
+  pub ended : IsTrue old.told → IfOk result (λ n. n < length buffer → rest ++ new.left s ≡ [])
+  pub cause : OnErr result (Rose (old.read_faults (old.name s)) (new.read_faults (old.name s)))
+
+-- One fetch where nothing is held; nothing is held then only where nothing is left.
+pub record Refills {T : Type 0} (s : ℕ) (held rest : List ℕ) (old new : Seen) (result : Result T Failed) : Type 0 where
+  pub reads : Reads (old.name s) old new
+  pub taken : IsTrue old.told → OnOk result (rest ++ new.left s ≡ held ++ old.left s)
+  pub ended : IsTrue old.told → OnOk result (rest ≡ [] → new.left s ≡ [])
+  pub cause : OnErr result (Rose (old.read_faults (old.name s)) (new.read_faults (old.name s)))
+
+-- limits of a record's parts
+pub record Fits (greatest : ℕ) (budget : Budget) (r : Record) : Type 0 where
+  pub onward : greatest ≤ r.moment
+  pub range : r.moment < 2 ^ 43
+  pub stored : length r.caught.bytes ≤ MOST_STORED
+  pub bytes : RECORD_HEAD + length r.caught.bytes ≤ budget.bytes
+  pub frames : 1 ≤ budget.frames
+
+-- one record from what is held and a slot
+pub record RecordRead (s : ℕ) (old new : Seen) (held rest : List ℕ) (h : CaptureHead) (at greatest : ℕ) (budget : Budget) (result : Result (Option Record) CapError) : Type 0 where
+  pub reads : Reads (old.name s) old new
+  pub says : IsTrue old.told → Says (step_of budget at (next h greatest (held ++ old.left s))) (rest ++ new.left s) result
+  pub fits : IfOk result (λ o. MatchOption o (Unit {0}) (λ r. Fits greatest budget r))
+  pub cause : (f : Failed) → result ≡ Err (errors.Read f) → Rose (old.read_faults (old.name s)) (new.read_faults (old.name s))

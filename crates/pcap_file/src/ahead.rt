@@ -1,0 +1,85 @@
+// Bytes that were fetched and not given yet.
+ghost use Rattle.std.specs.Prelude.{◌≡◌, ◌≤◌, ◌<◌, ◌-◌, List, ℕ, [], IsTrue, length, take, drop, min, IfOk, OnErr};
+ghost use Rattle.pcap_file.specs.Reading.{Pulls, Refills};
+
+use fab_base::{Depot, Failed};
+use std::marker::Model;
+
+const ROOM: usize = 4096;
+
+// The buffer of a reader: the bytes from `from` up to `to` are held.
+#[derive(Debug, Drop)]
+pub(crate) struct Ahead {
+    bytes: [u8; ROOM],
+    from: usize,
+    to: usize,
+}
+
+impl Model for Ahead {
+    ghost Value = { List ℕ };
+
+    ghost view = { λ a. take (a.to - a.from) (drop a.from a.bytes) };
+
+    ghost invariant = { λ a. (a.from ≤ a.to) × (a.to ≤ length a.bytes) };
+}
+
+impl Ahead {
+    pub(crate) fn new() -> Ahead
+        ensures { result ≡ [] }
+    {
+        Ahead {
+            bytes: [0; ROOM],
+            from: 0,
+            to: 0,
+        }
+    }
+
+    // Fills a buffer from what is held and then from the slot: less than all only at the end.
+    pub(crate) fn pull<D: Depot>(
+        &mut self,
+        depot: &mut D,
+        slot: u32,
+        into: &mut [u8],
+    ) -> Result<usize, Failed>
+        requires { IsTrue ((D.seen depot.old).input slot) }
+        ensures pulls { Pulls slot into.new self.old self.new (D.seen depot.old) (D.seen depot.new) result }
+    {
+        let mut got = 0;
+        while got < into.len() {
+            self.ready(depot, slot)?;
+            let count = self.give(&mut into[got..]);
+            if count == 0 {
+                break;
+            }
+            got += count;
+        }
+        Ok(got)
+    }
+
+    // Fetches once where nothing is held.
+    fn ready<D: Depot>(&mut self, depot: &mut D, slot: u32) -> Result<(), Failed>
+        requires { IsTrue ((D.seen depot.old).input slot) }
+        ensures refills { Refills slot self.old self.new (D.seen depot.old) (D.seen depot.new) result }
+    {
+        if self.from < self.to {
+            return Ok(());
+        }
+        let count = depot.fetch(slot, &mut self.bytes)?;
+        self.from = 0;
+        self.to = count;
+        Ok(())
+    }
+
+    // Moves the first bytes that are held, and answers how many.
+    fn give(&mut self, into: &mut [u8]) -> usize
+        ensures count { result ≡ min (length self.old) (length into.old) }
+        ensures front { take result into.new ≡ take result self.old }
+        ensures rest { self.new ≡ drop result self.old }
+    {
+        let held = self.to - self.from;
+        let count = if held < into.len() { held } else { into.len() };
+        into[..count].copy_from_slice(&self.bytes[self.from..self.from + count]);
+        self.from += count;
+        count
+    }
+}
