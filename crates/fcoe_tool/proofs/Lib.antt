@@ -1,0 +1,6 @@
+pub mod EdgeLemmas
+pub mod Stage
+pub mod OutcomeLemmas
+pub mod ReadLemmas
+pub mod RunLemmas
+pub mod ConfigLemmas

@@ -1,0 +1,47 @@
+-- What is printed of an outcome.
+use Rattle.std.proofs.Common.{◌≡◌, ◌≢◌, ℕ, List, [], ◌∷◌, ◌++◌, codes, decimal, refl, sym, ◌∙◌, ap, subst, inl, inr, append_assoc}
+use Rattle.fab_base.specs.Sunk.{Sunk}
+use Rattle.fcoe_tool.specs.Outcome.{status_of, line_of, run_text, capture_text}
+use Rattle.fcoe_tool.specs.Ends.{Puts, Prints, Reports}
+use Rattle.fcoe_tool.specs.declared.outcome.Outcome.{Outcome}
+use Rattle.fcoe_tool.specs.declared.outcome.Outcome.TheVariants as ends
+
+module _ (line : List ℕ) (before after : Sunk) (result : ℕ) where
+  -- a line and a status that are those of the outcome
+  pub prints : (o : Outcome) (status : ℕ) → line ≡ line_of o → status ≡ status_of o → Puts line status before after result → Prints o before after result
+  prints o status is_line is_status puts = subst (λ l. Puts l (status_of o) before after result) is_line (subst (λ (n : ℕ). Puts line n before after result) is_status puts)
+
+  pub reports : (o p : Outcome) (status : ℕ) → o ≡ p → line ≡ line_of p → status ≡ status_of p → Puts line status before after result → Reports o before after result
+  reports o p status is is_line is_status puts = subst (λ q. Reports q before after result) (sym is) (inl (prints p status is_line is_status puts))
+
+  -- want of memory in place of an outcome whose line takes memory
+  pub refused : (o : Outcome) (status : ℕ) → o ≢ ends.Words → line ≡ line_of ends.Memory → status ≡ 5 → Puts line status before after result → Reports o before after result
+  refused o status ne is_line is_status puts = inr (ne, prints ends.Memory status is_line is_status puts)
+
+pub line_config : codes "config 0 form\n" ≡ line_of ends.Config
+unfolding line_of
+line_config = refl
+
+pub line_words : codes "words\n" ≡ line_of ends.Words
+unfolding line_of
+line_words = refl
+
+pub line_read_fault : codes "read fault\n" ≡ line_of ends.ReadFault
+unfolding line_of
+line_read_fault = refl
+
+pub line_write_fault : codes "write fault\n" ≡ line_of ends.WriteFault
+unfolding line_of
+line_write_fault = refl
+
+pub line_memory : codes "no memory\n" ≡ line_of ends.Memory
+unfolding line_of
+line_memory = refl
+
+pub line_ran : (frames entries : ℕ) → run_text frames entries ≡ line_of (ends.Ran frames entries)
+unfolding line_of
+line_ran frames entries = refl
+
+pub line_capture : (port : ℕ) → capture_text port ≡ line_of (ends.Capture port)
+unfolding line_of
+line_capture port = refl

@@ -1,0 +1,76 @@
+-- What each ending of a command says of the files, before and after, and of what was printed.
+use Rattle.std.specs.Prelude.{◌≡◌, ◌≢◌, ℕ, ◌⊎◌, IsTrue, List, [], ◌∷◌, ◌++◌, length, map, take, Option, Some, None, String}
+use Rattle.std.specs.declared.alloc.Global.{Global}
+use Rattle.fab_base.specs.Seen.{Seen, Rose, SameFiles}
+use Rattle.fab_base.specs.Sunk.{Sunk}
+use Rattle.pcap_file.specs.declared.Record.{Record}
+use Rattle.fab_policy.specs.Settings.{Settings}
+use Rattle.fab_policy.specs.Journal.{Journal}
+use Rattle.fab_policy.specs.Written.{IsWritten, frame_count}
+use Rattle.fcoe_tool.specs.Command.{Command, command, ReadRose, WriteRose, KeepsOthers}
+use Rattle.fcoe_tool.specs.Gathered.{HasConfig, HaveCaptures}
+use Rattle.fcoe_tool.specs.Outcome.{status_of, line_of}
+use Rattle.fcoe_tool.specs.declared.outcome.Outcome.{Outcome}
+use Rattle.fcoe_tool.specs.declared.outcome.Outcome.TheVariants as ends
+
+-- The headline. Of the files as the call found them, the configuration has a value and each input is a capture; and one
+-- journal is a run over their records, each port's frames once and in order, whose text and captures stand in the outputs.
+pub record HasRun (k : Command) (frames entries : ℕ) (old new : Seen) : Type 0 where
+  pub settings : Settings
+  pub ins : List (List Record)
+  pub journal : Journal
+  pub lines : List ℕ
+  pub captures : List (List ℕ)
+  pub config : HasConfig old k.config settings
+  pub records : HaveCaptures settings old k.ins ins
+  pub written : IsWritten settings ins journal lines captures
+  pub journal_file : new.file k.journal ≡ Some lines
+  pub output_files : map (λ n. new.file n) k.outs ≡ map (λ l. Some l) captures
+  pub frames_are : frames ≡ frame_count journal
+  pub entries_are : entries ≡ length journal
+
+-- the configuration has a value, and the inputs are no captures within the limits
+abbrev pub NoCaptures : Command → Seen → Type 0
+NoCaptures k d = (c : Settings) × HasConfig d k.config c × ((ins : List (List Record)) → HaveCaptures c d k.ins ins → ⊥)
+
+-- What holds where a command ends so. What is said of bytes needs a depot that tells them.
+abbrev pub Holds : Command → Seen → Seen → Outcome → Type 0
+Holds k old new (ends.Ran frames entries) = KeepsOthers k old new × (IsTrue old.told → HasRun k frames entries old new)
+Holds k old new ends.Config = SameFiles old new × (IsTrue old.told → (c : Settings) → HasConfig old k.config c → ⊥)
+Holds k old new (ends.Capture port) = SameFiles old new × (port ≡ 1) × (IsTrue old.told → NoCaptures k old)
+Holds k old new ends.Words = ⊥
+Holds k old new ends.ReadFault = SameFiles old new × ReadRose k old new
+Holds k old new ends.WriteFault = KeepsOthers k old new × WriteRose k old new
+Holds k old new ends.Memory = KeepsOthers k old new
+
+-- The same of words, which may be no command.
+abbrev pub HoldsFor : Option Command → Seen → Seen → Outcome → Type 0
+HoldsFor None old new outcome = (outcome ≡ ends.Words) × SameFiles old new
+HoldsFor (Some k) old new outcome = Holds k old new outcome
+
+-- A line was put and its status answered; or a fault of the sink was counted, the status is 4, and a front of the line was
+-- put.
+abbrev pub Puts : List ℕ → ℕ → Sunk → Sunk → ℕ → Type 0
+Puts line wanted before after status =
+    ((status ≡ wanted) × (IsTrue before.told → after.written ≡ before.written ++ line))
+    ⊎ ((status ≡ 4) × Rose before.faults after.faults × (IsTrue before.told → (n : ℕ) × (after.written ≡ before.written ++ take n line)))
+
+-- the line and the status of an outcome
+abbrev pub Prints : Outcome → Sunk → Sunk → ℕ → Type 0
+Prints outcome = Puts (line_of outcome) (status_of outcome)
+
+-- an outcome was printed, or want of memory in place of one whose line takes memory
+abbrev pub Reports : Outcome → Sunk → Sunk → ℕ → Type 0
+Reports outcome before after status = Prints outcome before after status ⊎ ((outcome ≢ ends.Words) × Prints ends.Memory before after status)
+
+-- How a call ended: an outcome whose cause holds, and its line.
+pub record Ends (words : List (String Global)) (old new : Seen) (before after : Sunk) (status : ℕ) : Type 0 where
+  pub outcome : Outcome
+  pub holds : HoldsFor (command words) old new outcome
+  pub prints : Prints outcome before after status
+
+-- no count of an input's reads, an output's writes or the sink rose
+pub record IsQuiet (k : Command) (old new : Seen) (before after : Sunk) : Type 0 where
+  pub reads : ¬ ReadRose k old new
+  pub writes : ¬ WriteRose k old new
+  pub sink : ¬ Rose before.faults after.faults

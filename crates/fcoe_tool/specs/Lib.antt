@@ -1,0 +1,9 @@
+pub mod Edge
+pub mod ConfigText
+pub mod Command
+pub mod Gathered
+pub mod Read
+pub mod Write
+pub mod Machine
+pub mod Outcome
+pub mod Ends

@@ -1,0 +1,73 @@
+// How a command ends.
+ghost use Rattle.std.specs.Prelude.{◌≡◌, IfOk};
+ghost use Rattle.std.specs.String.{string_bytes};
+ghost use Rattle.fcoe_tool.specs.Outcome.{run_text, capture_text};
+ghost use Rattle.fcoe_tool.specs.Ends.{Puts, Reports};
+
+use fab_base::{PortNo, Sink, say_all};
+use std::alloc::{AllocError, Global};
+
+/// How a command ended. The status and the printed line are two tables over it.
+#[derive(Clone, Copy, Debug, PartialEq, Eq)]
+pub enum Outcome {
+    /// All was done.
+    Ran { frames: u64, entries: u64 },
+    /// The words are no command.
+    Words,
+    /// The configuration text has no value.
+    Config,
+    /// The capture of a port can't be taken.
+    Capture { port: PortNo },
+    /// An input couldn't be read.
+    ReadFault,
+    /// An output couldn't be written.
+    WriteFault,
+    /// Memory was refused.
+    Memory,
+}
+
+/// Prints the line of an outcome, and answers its status; 4 where the line can't be printed. Where
+/// memory for a line is refused, the outcome is want of memory.
+pub(crate) fn report<K: Sink>(alloc: Global, outcome: Outcome, say: &mut K) -> u8
+    ensures reports { Reports outcome (K.sunk say.old) (K.sunk say.new) result }
+{
+    match outcome {
+        Outcome::Ran { frames, entries } => match run_line(alloc, frames, entries) {
+            Ok(line) => put_line(say, line.as_bytes(), 0),
+            Err(_) => put_line(say, b"no memory\n", 5),
+        },
+        Outcome::Capture { port } => match capture_line(alloc, port) {
+            Ok(line) => put_line(say, line.as_bytes(), 1),
+            Err(_) => put_line(say, b"no memory\n", 5),
+        },
+        Outcome::Config => put_line(say, b"config 0 form\n", 1),
+        Outcome::Words => put_line(say, b"words\n", 2),
+        Outcome::ReadFault => put_line(say, b"read fault\n", 3),
+        Outcome::WriteFault => put_line(say, b"write fault\n", 4),
+        Outcome::Memory => put_line(say, b"no memory\n", 5),
+    }
+}
+
+fn run_line(alloc: Global, frames: u64, entries: u64) -> Result<String, AllocError>
+    ensures { IfOk result (λ s. string_bytes s ≡ run_text frames entries) }
+{
+    let line = format!(in alloc; "frames {frames} entries {entries}\n")?;
+    Ok(line)
+}
+
+fn capture_line(alloc: Global, port: PortNo) -> Result<String, AllocError>
+    ensures { IfOk result (λ s. string_bytes s ≡ capture_text port) }
+{
+    let port = port.value();
+    format!(in alloc; "capture {port} 0 form\n")
+}
+
+// Puts a line, and answers its status; 4 where it can't be put.
+fn put_line<K: Sink>(say: &mut K, line: &[u8], status: u8) -> u8
+    ensures { Puts line.now status (K.sunk say.old) (K.sunk say.new) result }
+{
+    match say_all(say, line) {
+        Ok(()) => status,
+        Err(_) => 4,
+    }
+}
