@@ -4,3 +4,4 @@ pub mod OutcomeLemmas
 pub mod ReadLemmas
 pub mod RunLemmas
 pub mod ConfigLemmas
+pub mod EndLemmas

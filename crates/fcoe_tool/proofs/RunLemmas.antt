@@ -154,19 +154,7 @@ module _ (config journal input output : List ℕ) (names : are_names (config ∷
       writes_c n nc ni = second.reads.keeps.writes n ni ∙ first.reads.keeps.writes n nc
 
       module _ (e : Seen) (lines : List ℕ) where
-        pub journal_failed : (o : Outcome) → FileWritten journal lines c e (Err o) → Holds (command_over config journal input output) a e o
-        journal_failed o w = subst (Holds k a e) (sym w.cause.0) (
-          (λ m h. w.keeps.files m (other_names journal output m h).0 ∙ no_machine m h),
-          inl (subst (λ n. Rose n (e.write_faults journal)) (writes_c journal (λ x. d.config_journal (sym x)) d.journal_input) w.cause.1),
-        )
-
         module _ (f : Seen) (out : List ℕ) (third : FileWritten journal lines c e (Ok tt)) where
-          pub output_failed : (o : Outcome) → FileWritten output out e f (Err o) → Holds (command_over config journal input output) a f o
-          output_failed o w = subst (Holds k a f) (sym w.cause.0) (
-            (λ m h. w.keeps.files m (other_names journal output m h).1 ∙ third.keeps.files m (other_names journal output m h).0 ∙ no_machine m h),
-            inr (inl (subst (λ n. Rose n (f.write_faults output)) (third.keeps.writes output (λ x. d.journal_output (sym x)) ∙ writes_c output (λ x. d.config_output (sym x)) (λ x. d.input_output (sym x))) w.cause.1)),
-          )
-
           pub ran : (m : Machine) (rs : List Record) → rs ≡ v.items → Made cf rs m → lines ≡ m.journal.items → out ≡ m.out.items → FileWritten output out e f (Ok tt) → Holds (command_over config journal input output) a f (ends.Ran m.index m.entries)
           ran m rs is_rs made_of is_lines is_out fourth = (
             (λ n h. fourth.keeps.files n (other_names journal output n h).1 ∙ third.keeps.files n (other_names journal output n h).0 ∙ no_machine n h),

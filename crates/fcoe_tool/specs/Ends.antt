@@ -74,3 +74,34 @@ pub record IsQuiet (k : Command) (old new : Seen) (before after : Sunk) : Type 0
   pub reads : ¬ ReadRose k old new
   pub writes : ¬ WriteRose k old new
   pub sink : ¬ Rose before.faults after.faults
+
+-- ---- the same, status by status
+
+-- status 0: the words are a command, and the files are those of a run
+pub record RunEnded (words : List (String Global)) (old new : Seen) : Type 0 where
+  pub k : Command
+  pub is : command words ≡ Some k
+  pub frames : ℕ
+  pub entries : ℕ
+  pub run : HasRun k frames entries old new
+
+-- words that are a command of which this holds
+pub record OfCommand (words : List (String Global)) (P : Command → Type 0) : Type 0 where
+  pub k : Command
+  pub is : command words ≡ Some k
+  pub holds : P k
+
+-- the configuration has no value, or the inputs are no captures
+abbrev pub IsRefused : Seen → Command → Type 0
+IsRefused d k = ((c : Settings) → HasConfig d k.config c → ⊥) ⊎ NoCaptures k d
+
+-- Words that are a command, whose files have their forms, where nothing failed.
+pub record IsComplete (words : List (String Global)) (old new : Seen) (before after : Sunk) : Type 0 where
+  pub k : Command
+  pub is : command words ≡ Some k
+  pub told : IsTrue old.told
+  pub settings : Settings
+  pub config : HasConfig old k.config settings
+  pub ins : List (List Record)
+  pub captures : HaveCaptures settings old k.ins ins
+  pub quiet : IsQuiet k old new before after

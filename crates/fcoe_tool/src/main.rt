@@ -7,6 +7,8 @@ mod edge;
 mod gathering;
 mod machine;
 mod outcome;
+#[cfg(test)]
+mod tests;
 mod tool;
 
 use edge::{FileDepot, StdSink};

@@ -2,7 +2,7 @@
 ghost use Rattle.std.specs.Prelude.{◌≡◌, ◌≤◌, ◌⊎◌, ◌↔◌, IsTrue, IfSome, IsSome, List, ℕ, Some, None};
 ghost use Rattle.fab_base.specs.Seen.{SameFiles, Rose};
 ghost use Rattle.fcoe_tool.specs.Command as spec;
-ghost use Rattle.fcoe_tool.specs.Ends.{Ends, Holds, HoldsFor};
+ghost use Rattle.fcoe_tool.specs.Ends.{Ends, Holds, HoldsFor, RunEnded, OfCommand, IsRefused, IsComplete};
 ghost use Rattle.fcoe_tool.specs.Write.{FileWritten};
 
 use crate::command::{Names, names_of};
@@ -26,7 +26,33 @@ pub fn fabric_tool<R: Threads + Wait + Sync, D: Depot, K: Sink, G: Gate + Sync>(
     gate: &G,
 ) -> u8
     requires { spec.AllKnown (D.seen depot.old) words.now }
-    // The call ended by an outcome whose cause holds, and its line was printed.
+    // The headline: one journal that is a run over the captures as they were found stands in the outputs.
+    ensures run { result ≡ 0 → IsTrue (D.seen depot.old).told → RunEnded words.now (D.seen depot.old) (D.seen depot.new) }
+    // The configuration has no value, or the inputs are no captures, and every file is as it was.
+    ensures refused { result ≡ 1 → SameFiles (D.seen depot.old) (D.seen depot.new) × OfCommand words.now (λ k. IsTrue (D.seen depot.old).told → IsRefused (D.seen depot.old) k) }
+    ensures words { result ≡ 2 → (spec.command words.now ≡ None) × SameFiles (D.seen depot.old) (D.seen depot.new) }
+    ensures read { result ≡ 3 → SameFiles (D.seen depot.old) (D.seen depot.new) × OfCommand words.now (λ k. spec.ReadRose k (D.seen depot.old) (D.seen depot.new)) }
+    ensures write { result ≡ 4 → Rose (K.sunk say.old).faults (K.sunk say.new).faults ⊎ OfCommand words.now (λ k. spec.WriteRose k (D.seen depot.old) (D.seen depot.new)) }
+    ensures statuses { result ≤ 5 }
+    // No file changes but the outputs.
+    ensures others { (k : spec.Command) → spec.command words.now ≡ Some k → spec.KeepsOthers k (D.seen depot.old) (D.seen depot.new) }
+    // Inputs of the right forms are run, where nothing fails and memory is there.
+    ensures complete { IsComplete words.now (D.seen depot.old) (D.seen depot.new) (K.sunk say.old) (K.sunk say.new) → (result ≡ 0) ⊎ (result ≡ 5) }
+    // The call ended by an outcome whose cause holds, and the line of that outcome was printed.
+    ensures ends { Ends words.now (D.seen depot.old) (D.seen depot.new) (K.sunk say.old) (K.sunk say.new) result }
+{
+    let status = ended(alloc, words, depot, say, gate);
+    status
+}
+
+fn ended<D: Depot, K: Sink, G: Gate>(
+    alloc: Global,
+    words: &[String],
+    depot: &mut D,
+    say: &mut K,
+    gate: &G,
+) -> u8
+    requires { spec.AllKnown (D.seen depot.old) words.now }
     ensures ends { Ends words.now (D.seen depot.old) (D.seen depot.new) (K.sunk say.old) (K.sunk say.new) result }
 {
     let outcome = outcome_of(alloc, words, depot, gate);

@@ -1,0 +1,8 @@
+use Rattle.fcoe_tool.proofs.EndLemmas.{refused, completed}
+use Rattle.fcoe_tool.proofs.tool.fabric_tool.Goals as goal
+
+pub returns-clause-refused : goal.returns-clause-refused
+returns-clause-refused g c = refused c.args.words.now _ _ _ _ c.ended-status.result c.ended-status.ensures.ends
+
+pub returns-clause-complete : goal.returns-clause-complete
+returns-clause-complete g c = completed c.args.words.now _ _ _ _ c.ended-status.result c.ended-status.ensures.ends
