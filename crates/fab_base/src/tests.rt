@@ -1,18 +1,54 @@
 // Happy paths of what takes memory, and the texts.
 use crate::{
-    Bytes, Depot, Failed, FcId, IdList, Mac, MemDepot, MemSink, Sink, Wwn, address_text, mac_text,
-    put_all, say_all, word_at, wwn_text,
+    Bytes, Depot, Failed, FcId, IdList, Mac, MemDepot, MemSink, PortNo, Sink, Wwn, address_text,
+    mac_text, put_all, say_all, word_at, wwn_text,
 };
 use std::test::Fail;
 
 #[test]
 fn names_are_spelled_in_lower_case(rt: HostRuntime) -> Result<(), Fail> {
-    let mac = Mac([0x00, 0x1b, 0x21, 0x00, 0x00, 0x0a]);
-    assert_eq!(rt; mac_text(&mac).as_slice(), b"001b2100000a".as_slice());
-    let name = Wwn(0x2000_001b_2100_000a);
-    assert_eq!(rt; wwn_text(&name).as_slice(), b"2000001b2100000a".as_slice());
-    let address = FcId::new(0x01_0100).ok_or("an address")?;
-    assert_eq!(rt; address_text(&address).as_slice(), b"010100".as_slice());
+    for (mac, want) in [
+        (Mac([0x00, 0x1b, 0x21, 0x00, 0x00, 0x0a]), b"001b2100000a"),
+        (Mac([0x01, 0x23, 0x45, 0x67, 0x89, 0xaf]), b"0123456789af"),
+        (Mac([0xff; 6]), b"ffffffffffff"),
+    ] {
+        assert_eq!(rt; mac_text(&mac).as_slice(), want.as_slice());
+    }
+    for (name, want) in [
+        (0x2000_001b_2100_000a, b"2000001b2100000a"),
+        (0, b"0000000000000000"),
+        (0xfedc_ba98_7654_3210, b"fedcba9876543210"),
+    ] {
+        assert_eq!(rt; wwn_text(&Wwn(name)).as_slice(), want.as_slice());
+    }
+    for (number, want) in [
+        (0x01_0100, b"010100"),
+        (0xff_fffe, b"fffffe"),
+        (0x0a_bcde, b"0abcde"),
+    ] {
+        let address = FcId::new(number).ok_or("an address")?;
+        assert_eq!(rt; address_text(&address).as_slice(), want.as_slice());
+    }
+    Ok(())
+}
+
+#[test]
+fn ports_are_1_to_64(rt: HostRuntime) -> Result<(), Fail> {
+    for (number, want) in [(0, None), (1, Some(1)), (64, Some(64)), (65, None)] {
+        assert_eq!(rt; PortNo::new(number).map(|port| port.value()), want);
+    }
+    Ok(())
+}
+
+#[test]
+fn addresses_have_24_bits(rt: HostRuntime) -> Result<(), Fail> {
+    for (number, want) in [
+        (0, Some(0)),
+        (0xff_ffff, Some(0xff_ffff)),
+        (0x100_0000, None),
+    ] {
+        assert_eq!(rt; FcId::new(number).map(|address| address.value()), want);
+    }
     Ok(())
 }
 
@@ -21,6 +57,8 @@ fn lists_keep_their_items(rt: HostRuntime) -> Result<(), Fail> {
     let alloc = rt.alloc();
     let bytes = Bytes::copy(alloc, b"abc")?;
     assert_eq!(rt; bytes.view(), b"abc".as_slice());
+    let bytes = Bytes::from_vec(b"de".to_vec(alloc)?);
+    assert_eq!(rt; bytes.view(), b"de".as_slice());
     let mut list = IdList::new(alloc)?;
     assert_eq!(rt; list.len(), 0);
     let address = FcId::new(0x01_0100).ok_or("an address")?;
@@ -71,10 +109,70 @@ fn whole_buffers_are_put(rt: HostRuntime) -> Result<(), Fail> {
 }
 
 #[test]
+fn a_name_that_was_not_told_is_unknown(rt: HostRuntime) -> Result<(), Fail> {
+    let alloc = rt.alloc();
+    let mut depot = MemDepot::new(alloc)?;
+    depot.store(alloc, "in", b"abc")?;
+    let mut words = Vec::new(alloc);
+    for word in ["in", "nobody"] {
+        words.push(String::from_str(alloc, word)?)?;
+    }
+    assert!(rt; !depot.knows_all(&words));
+    assert_eq!(rt; depot.content("in"), Some(b"abc".as_slice()));
+    assert_eq!(rt; depot.content("nobody"), None);
+    Ok(())
+}
+
+#[test]
 fn a_sink_in_memory_takes_what_fits(rt: HostRuntime) -> Result<(), Fail> {
-    let mut sink = MemSink::new(rt.alloc(), 4)?;
-    assert_eq!(rt; sink.put(b"abc"), Ok(3));
-    assert_eq!(rt; say_all(&mut sink, b"de"), Err(Failed));
-    assert_eq!(rt; sink.content(), b"abcd".as_slice());
+    for (room, first, second, want) in [
+        (0, Err(Failed), Err(Failed), b"".as_slice()),
+        (2, Ok(2), Err(Failed), b"ab".as_slice()),
+        (4, Ok(3), Err(Failed), b"abcd".as_slice()),
+        (5, Ok(3), Ok(()), b"abcde".as_slice()),
+    ] {
+        let mut sink = MemSink::new(rt.alloc(), room)?;
+        assert_eq!(rt; sink.put(b"abc"), first);
+        assert_eq!(rt; say_all(&mut sink, b"de"), second);
+        assert_eq!(rt; sink.content(), want);
+    }
+    Ok(())
+}
+
+#[test]
+fn a_file_is_fetched_in_pieces(rt: HostRuntime) -> Result<(), Fail> {
+    let alloc = rt.alloc();
+    let mut depot = MemDepot::new(alloc)?;
+    depot.store(alloc, "in", b"abcde")?;
+    let mut words = Vec::new(alloc);
+    words.push(String::from_str(alloc, "in")?)?;
+    assert!(rt; depot.knows_all(&words));
+    assert_eq!(rt; words.len(), 1);
+    let first = depot.open_in(word_at(&words, 0))?;
+    let second = depot.open_in(word_at(&words, 0))?;
+    let mut buffer = [0; 3];
+    assert_eq!(rt; depot.fetch(second, &mut buffer), Ok(3));
+    assert_eq!(rt; depot.fetch(second, &mut buffer), Ok(2));
+    assert_eq!(rt; buffer.as_slice(), b"dec".as_slice());
+    assert_eq!(rt; depot.fetch(first, &mut buffer), Ok(3));
+    assert_eq!(rt; buffer.as_slice(), b"abc".as_slice());
+    Ok(())
+}
+
+#[test]
+fn an_output_is_emptied_and_fails_where_it_is_told(rt: HostRuntime) -> Result<(), Fail> {
+    let alloc = rt.alloc();
+    let mut depot = MemDepot::new(alloc)?;
+    depot.store(alloc, "out", b"old")?;
+    depot.fail_call(alloc, 1)?;
+    let mut words = Vec::new(alloc);
+    words.push(String::from_str(alloc, "out")?)?;
+    assert!(rt; depot.knows_all(&words));
+    assert_eq!(rt; words.len(), 1);
+    let output = depot.open_out(word_at(&words, 0))?;
+    assert_eq!(rt; depot.put(output, b"new"), Err(Failed));
+    assert_eq!(rt; depot.content("out"), Some(b"".as_slice()));
+    assert_eq!(rt; depot.put(output, b"new"), Ok(3));
+    assert_eq!(rt; depot.content("out"), Some(b"new".as_slice()));
     Ok(())
 }

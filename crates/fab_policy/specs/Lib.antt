@@ -9,3 +9,4 @@ pub mod Legal
 pub mod Text
 pub mod Ranged
 pub mod Written
+pub mod Laws

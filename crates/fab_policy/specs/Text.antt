@@ -1,5 +1,5 @@
 -- The text of a journal, and the captures of what a journal sends.
-use Rattle.std.specs.Prelude.{ℕ, ◌+◌, ◌==◌, List, [], ◌∷◌, ◌++◌, filter, flat_map, Some, None, codes, decimal}
+use Rattle.std.specs.Prelude.{ℕ, ◌==◌, List, [], ◌∷◌, ◌++◌, filter, flat_map, Some, None, codes, decimal}
 use Rattle.fab_base.specs.Texts.{hex}
 use Rattle.pcap_file.specs.Capture.{head_bytes, record_bytes}
 use Rattle.fab_policy.specs.Settings.{Settings}

@@ -6,7 +6,6 @@ use Rattle.fab_policy.specs.Journal.{Journal}
 use Rattle.fab_policy.specs.Legal.{Run}
 use Rattle.fab_policy.specs.Text.{text1, egress}
 use Rattle.fab_policy.specs.Ranged.{IsRanged}
-use Rattle.fab_policy.specs.declared.event.Event.{Event}
 use Rattle.fab_policy.specs.declared.event.Event.TheVariants.{Tick, Frame}
 
 -- so many numbers, from one on

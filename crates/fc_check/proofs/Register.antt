@@ -169,7 +169,7 @@ turned_sum a b rs ss is_r is_s = by_cases a b
         ∙ ap (added POLYNOMIAL) (added_left POLYNOMIAL (rs ++ false ∷ []) (ss ++ false ∷ []))
         ∙ sym (added_assoc POLYNOMIAL (rs ++ false ∷ []) (added POLYNOMIAL (ss ++ false ∷ [])) (omega (arith, length-append rs (false ∷ []))))
 
-fed-sum : (count : ℕ) (r s : List Bool) → length r ≡ 32 → length s ≡ 32 → fed (added r s) (none count) ≡ added (fed r (none count)) (fed s (none count))
+pub fed-sum : (count : ℕ) (r s : List Bool) → length r ≡ 32 → length s ≡ 32 → fed (added r s) (none count) ≡ added (fed r (none count)) (fed s (none count))
 fed-sum zero r s is_r is_s = refl
 fed-sum (suc count) [] s is_r is_s = absurd (omega arith)
 fed-sum (suc count) (a ∷ rs) [] is_r is_s = absurd (omega arith)

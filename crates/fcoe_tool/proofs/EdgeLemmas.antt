@@ -1,17 +1,16 @@
 -- A depot that tells nothing keeps what its desk keeps.
-use Rattle.std.proofs.Common.{◌≡◌, ◌≢◌, ℕ, suc, zero, ◌+◌, ◌<◌, List, [], ◌∷◌, ◌++◌, length, Option, Some, None, slice_get, slice_index, Ok, Err, Bool, true, false, cond, IsTrue, is_some, refl, sym, ap, ◌∙◌, subst, arith, String, string_bytes, inl, inr}
+use Rattle.std.proofs.Common.{◌≡◌, ℕ, ◌+◌, ◌<◌, List, [], ◌∷◌, ◌++◌, length, Option, Some, None, slice_get, slice_index, Ok, Bool, true, false, cond, IsTrue, is_some, refl, sym, ap, ◌∙◌, String, string_bytes, inl, inr}
 use Rattle.std.proofs.lemmas.Bool.{cases_Bool}
 use borrow.Author.Count.{below_more}
 use Rattle.std.specs.Str.{bytes_eq}
 use Rattle.std.specs.declared.alloc.Global.{Global}
-use Rattle.fab_base.specs.Seen.{Seen, Keeps, Reads, Rose, OpensIn, OpensOut}
+use Rattle.fab_base.specs.Seen.{Keeps, Reads, Rose, OpensIn, OpensOut}
 use Rattle.fab_base.specs.Places.{place, name_at, after_one, is_input, is_output}
-use Rattle.fab_base.specs.Desk.{place_of, name, knows, one_more, Stays, Adds}
-use Rattle.fab_base.specs.MemDepot.{seen_of}
+use Rattle.fab_base.specs.Desk.{place_of, knows, one_more, Stays, Adds}
 use Rattle.fab_base.specs.declared.desk.Desk.{Desk}
 use Rattle.fab_base.proofs.MemLemmas.{mem_keeps, mem_reads, read_rose, write_rose, fresh_slot, opened_name}
 use Rattle.fab_base.proofs.KnowLemmas.{place-push_own}
-use Rattle.fcoe_tool.specs.Edge.{untold, KnowsAll}
+use Rattle.fcoe_tool.specs.Edge.{untold}
 
 pub no_telling : IsTrue false → ⊥
 no_telling h = absurd (cc)

@@ -1,13 +1,13 @@
 -- What each status says, of a call that ended.
-use Rattle.std.proofs.Common.{◌≡◌, ◌≢◌, ℕ, ◌≤◌, ◌⊎◌, inl, inr, IsTrue, List, [], ◌∷◌, Option, Some, None, refl, sym, ap, ◌∙◌, subst, arith, String}
+use Rattle.std.proofs.Common.{◌≡◌, ℕ, ◌⊎◌, inl, inr, IsTrue, List, Option, Some, None, refl, sym, ap, ◌∙◌, subst, arith, String}
 use Rattle.std.specs.declared.alloc.Global.{Global}
 use Rattle.fab_base.specs.Seen.{Seen, Rose, SameFiles}
 use Rattle.fab_base.specs.Sunk.{Sunk}
-use Rattle.fcoe_tool.specs.Command.{Command, command, ReadRose, WriteRose, KeepsOthers}
-use Rattle.fcoe_tool.specs.Ends.{Holds, HoldsFor, Prints, Ends, NoCaptures, RunEnded, OfCommand, IsRefused, IsComplete}
+use Rattle.fcoe_tool.specs.Command.{Command, command}
+use Rattle.fcoe_tool.specs.Ends.{Holds, HoldsFor, Prints, Ends, NoCaptures, OfCommand, IsRefused, IsComplete}
 use Rattle.fcoe_tool.specs.ConfigText.{config_in}
 use Rattle.fcoe_tool.specs.Gathered.{HaveCaptures}
-use Rattle.fcoe_tool.specs.Outcome.{status_of, line_of}
+use Rattle.fcoe_tool.specs.Outcome.{status_of}
 use Rattle.fcoe_tool.specs.declared.outcome.Outcome.{Outcome}
 use Rattle.fcoe_tool.specs.declared.outcome.Outcome.TheVariants as ends
 

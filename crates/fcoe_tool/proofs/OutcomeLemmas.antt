@@ -1,5 +1,5 @@
 -- What is printed of an outcome.
-use Rattle.std.proofs.Common.{◌≡◌, ◌≢◌, ℕ, List, [], ◌∷◌, ◌++◌, codes, decimal, refl, sym, ◌∙◌, ap, subst, inl, inr, append_assoc}
+use Rattle.std.proofs.Common.{◌≡◌, ◌≢◌, ℕ, List, codes, refl, sym, subst, inl, inr}
 use Rattle.fab_base.specs.Sunk.{Sunk}
 use Rattle.fcoe_tool.specs.Outcome.{status_of, line_of, run_text, capture_text}
 use Rattle.fcoe_tool.specs.Ends.{Puts, Prints, Reports}

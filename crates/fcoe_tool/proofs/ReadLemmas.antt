@@ -1,13 +1,13 @@
 -- What reading an input answers.
-use Rattle.std.proofs.Common.{◌≡◌, ◌≢◌, ℕ, zero, suc, ◌+◌, ◌-◌, ◌^◌, ◌<◌, ◌≤◌, ◌⊎◌, List, [], ◌∷◌, ◌++◌, length, length-append, length-drop, take, drop, get_or, Option, Some, None, Ok, Err, Bool, true, false, cond, leb, ◌&&◌, IsTrue, refl, sym, ◌∙◌, ap, subst, arith, inl, inr}
-use Rattle.std.specs.Prelude.{Result, Vec, IfOk, IfErr, IsErrOf}
+use Rattle.std.proofs.Common.{◌≡◌, ◌≢◌, ℕ, ◌+◌, ◌-◌, ◌^◌, ◌<◌, ◌≤◌, List, [], ◌∷◌, ◌++◌, length, length-append, length-drop, take, drop, get_or, Option, Some, None, Ok, Err, Bool, true, false, cond, leb, ◌&&◌, IsTrue, refl, sym, ◌∙◌, ap, subst, arith, inl, inr}
+use Rattle.std.specs.Prelude.{Result, Vec, IsErrOf}
 use Rattle.std.proofs.lemmas.Bool.{cases_Bool, leb-true}
 use Rattle.std.proofs.lemmas.List.{append-nil, length-take-le}
 use Rattle.std.specs.declared.alloc.Global.{Global}
 use Rattle.fab_base.specs.Layout.{field}
 use Rattle.fab_base.specs.Seen.{Seen, Reads, Rose, OpensIn, Fills}
 use Rattle.fab_base.specs.declared.values.Failed.{Failed}
-use Rattle.fab_base.proofs.Depots.{reads_trans, reads_refl, rose_later, told_stays}
+use Rattle.fab_base.proofs.Depots.{reads_trans, rose_later, told_stays}
 use Rattle.fab_policy.specs.Settings.{Settings}
 use Rattle.fcoe_tool.specs.ConfigText.{config_in, has_form, has_values, if_in_range, is_number, is_mac, vlan_digits, settings_in}
 use Rattle.pcap_file.specs.declared.Record.{Record}
@@ -21,10 +21,10 @@ use Rattle.pcap_file.specs.declared.CapError.{CapError}
 use Rattle.pcap_file.specs.declared.CapError.TheVariants as errors
 use Rattle.pcap_file.specs.Reading.{Reading, to_come, OpensReader, NextReads}
 use Rattle.pcap_file.specs.Capture.{next}
-use Rattle.pcap_file.specs.Records.{Taken, size_of, last_moment}
+use Rattle.pcap_file.specs.Records.{Taken, size_of}
 use Rattle.pcap_file.proofs.LoopLemmas.{taken_none, taken_more, taken_all, taken_cut, taken_too_long, taken_bytes, taken_frames, ends_end}
 use Rattle.pcap_file.proofs.ChainLemmas.{bad_head, size-push, chain_size, end_is, one_capture}
-use Rattle.fcoe_tool.specs.Read.{TextRead, ConfigRead, IsConfigEnd, AreEarly, AreRecords, IsSmallCapture, RestRead, CaptureRead, IsCaptureEnd, stopped_by}
+use Rattle.fcoe_tool.specs.Read.{TextRead, ConfigRead, AreEarly, AreRecords, IsSmallCapture, RestRead, CaptureRead, IsCaptureEnd, stopped_by}
 use Rattle.fcoe_tool.specs.declared.outcome.Outcome.{Outcome}
 use Rattle.fcoe_tool.specs.declared.outcome.Outcome.TheVariants as ends
 

@@ -1,18 +1,18 @@
 -- A command's files, call after call.
-use Rattle.std.proofs.Common.{◌≡◌, ◌≢◌, ℕ, ◌+◌, ◌<◌, ◌≤◌, List, [], ◌∷◌, length, map, Option, Some, None, Ok, Err, Bool, true, false, not, ◌&&◌, ◌||◌, leb, IsTrue, refl, sym, ap, ◌∙◌, subst, arith, inl, inr, ◌⊎◌}
+use Rattle.std.proofs.Common.{◌≡◌, ◌≢◌, ℕ, List, [], ◌∷◌, length, Option, Some, Ok, Err, Bool, true, false, not, ◌&&◌, ◌||◌, IsTrue, refl, sym, ap, ◌∙◌, subst, inl, inr}
 use Rattle.std.specs.Prelude.{Vec, Result, nat_lt, IfSome}
 use Rattle.std.specs.List.{list_any}
 use Rattle.std.specs.declared.alloc.Global.{Global}
 use Rattle.std.specs.Str.{bytes_eq}
 use Rattle.std.proofs.lemmas.Slice.Eq.{bytes_eq-Decides}
-use Rattle.fab_base.specs.Seen.{Seen, Keeps, Reads, Rose, SameFiles, OpensOut, PutsAll}
+use Rattle.fab_base.specs.Seen.{Seen, Keeps, Rose, OpensOut, PutsAll}
 use Rattle.fab_base.specs.declared.values.Failed.{Failed}
-use Rattle.fab_base.proofs.Depots.{rose_later, keeps_trans, told_stays}
+use Rattle.fab_base.proofs.Depots.{keeps_trans, told_stays}
 use Rattle.pcap_file.specs.declared.Record.{Record}
 use Rattle.fab_policy.specs.Settings.{Settings}
 use Rattle.fcoe_tool.specs.Command.{Command, are_names, KeepsOthers}
-use Rattle.fcoe_tool.specs.Ends.{Holds, HasRun, NoCaptures}
-use Rattle.fcoe_tool.specs.Gathered.{HasConfig, HasCapture, HaveCaptures}
+use Rattle.fcoe_tool.specs.Ends.{Holds, NoCaptures}
+use Rattle.fcoe_tool.specs.Gathered.{HasCapture, HaveCaptures}
 use Rattle.fcoe_tool.specs.Machine.{Made}
 use Rattle.fcoe_tool.specs.Read.{ConfigRead, CaptureRead}
 use Rattle.fcoe_tool.specs.Write.{FileWritten}

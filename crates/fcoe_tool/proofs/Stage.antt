@@ -1,22 +1,22 @@
 -- A machine stands for a journal over the records that it took.
-use Rattle.std.proofs.Common.{◌≡◌, ◌≢◌, ℕ, zero, suc, ◌+◌, ◌-◌, ◌*◌, ◌/◌, ◌%◌, ◌^◌, ◌<◌, ◌≤◌, List, [], ◌∷◌, ◌++◌, length, length-append, append_assoc, take, drop, slice_get, get_or, Option, Some, None, IfSome, Bool, true, false, cond, eqb, leb, ◌&&◌, ◌||◌, is_some, IsTrue, map, filter, flat_map, refl, sym, ◌∙◌, ap, subst, arith, inl, inr, unwrap_or}
+use Rattle.std.proofs.Common.{◌≡◌, ◌≢◌, ℕ, zero, suc, ◌+◌, ◌*◌, ◌/◌, ◌^◌, ◌<◌, ◌≤◌, List, [], ◌∷◌, ◌++◌, length, take, drop, slice_get, get_or, Option, Some, None, IfSome, Bool, true, false, cond, eqb, leb, ◌&&◌, ◌||◌, is_some, map, flat_map, refl, sym, ◌∙◌, ap, subst, arith, inl, inr, unwrap_or}
 use Rattle.std.proofs.lemmas.Bool.{cases_Bool, eqb-true, eq-eqb, le-leb}
-use Rattle.std.proofs.lemmas.List.{append-nil, length-take-le, take_all}
+use Rattle.std.proofs.lemmas.List.{append-nil, take_all}
 use Rattle.std.proofs.Math.Nat.{div-add-mod, div-mul-le_self, le-div_iff_mul-le, mul-le-mul_left}
-use Rattle.std.specs.List.{list_any, list_all, AllPass}
+use Rattle.std.specs.List.{list_any, list_all}
 use Rattle.fab_base.specs.declared.values.Caught.{Caught}
 use Rattle.pcap_file.specs.declared.Record.{Record}
-use Rattle.pcap_file.specs.Capture.{head_bytes, record_bytes}
+use Rattle.pcap_file.specs.Capture.{record_bytes}
 use Rattle.pcap_file.specs.Records.{Ascends}
 use Rattle.fab_policy.specs.Settings.{Settings}
 use Rattle.fab_policy.specs.Cause.{plain}
 use Rattle.fab_policy.specs.Heard.{asks_vlans}
-use Rattle.fab_policy.specs.Journal.{Journal, clock, now}
-use Rattle.fab_policy.specs.Legal.{Legal, of_port, numbered_from, window_start, left_of, windows_left, IsLeastOf, record_of, Timed, InTime, HasPorts, HoldsFrames, Run}
+use Rattle.fab_policy.specs.Journal.{Journal, clock}
+use Rattle.fab_policy.specs.Legal.{Legal, of_port, numbered_from, window_start, left_of, windows_left, IsLeastOf, Timed, HasPorts}
 use Rattle.fab_policy.specs.Outputs.{outputs}
 use Rattle.fab_policy.specs.Ranged.{IsRanged, IsRangedVerdict}
 use Rattle.fab_policy.specs.Replies.{vlan_notice}
-use Rattle.fab_policy.specs.Text.{line1, text1, egress, sent_bytes}
+use Rattle.fab_policy.specs.Text.{line1, text1, egress}
 use Rattle.fab_policy.specs.Verdicts.{judged}
 use Rattle.fab_policy.specs.Written.{frame_count}
 use Rattle.fab_policy.specs.declared.event.Event.{Event}

@@ -1,5 +1,5 @@
 -- The configuration text: two lines, `fcf-mac 00:05:1e:00:00:02` and `vlan 100`, each ended by one line feed.
-use Rattle.std.specs.Prelude.{ℕ, zero, suc, ◌+◌, ◌-◌, ◌*◌, Bool, true, false, not, ◌==◌, nat_le, ◌&&◌, List, [], ◌∷◌, ◌++◌, length, take, Option, Some, None, codes, unwrap_or, if◌then◌else◌}
+use Rattle.std.specs.Prelude.{ℕ, ◌+◌, ◌-◌, ◌*◌, Bool, not, ◌==◌, nat_le, ◌&&◌, List, [], ◌∷◌, length, Option, Some, None, codes, unwrap_or, if◌then◌else◌}
 use Rattle.std.specs.List.{list_all, fold}
 use Rattle.hex.specs.Hex.{hex_digit_value, is_hex_digit}
 use Rattle.fab_base.specs.Layout.{field, byte}

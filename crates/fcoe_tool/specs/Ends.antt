@@ -1,5 +1,5 @@
 -- What each ending of a command says of the files, before and after, and of what was printed.
-use Rattle.std.specs.Prelude.{◌≡◌, ◌≢◌, ℕ, ◌⊎◌, IsTrue, List, [], ◌∷◌, ◌++◌, length, map, take, Option, Some, None, String}
+use Rattle.std.specs.Prelude.{◌≡◌, ◌≢◌, ℕ, ◌⊎◌, IsTrue, List, ◌++◌, length, map, take, Option, Some, None, String}
 use Rattle.std.specs.declared.alloc.Global.{Global}
 use Rattle.fab_base.specs.Seen.{Seen, Rose, SameFiles}
 use Rattle.fab_base.specs.Sunk.{Sunk}

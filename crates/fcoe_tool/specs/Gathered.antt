@@ -1,5 +1,5 @@
 -- What a command finds in its inputs.
-use Rattle.std.specs.Prelude.{◌≡◌, ℕ, ◌+◌, ◌-◌, ◌≤◌, List, [], ◌∷◌, length, Option, Some, None, sum_by}
+use Rattle.std.specs.Prelude.{◌≡◌, ℕ, ◌-◌, ◌≤◌, List, [], ◌∷◌, length, Some}
 use Rattle.fab_base.specs.Seen.{Seen}
 use Rattle.pcap_file.specs.declared.CaptureHead.{CaptureHead}
 use Rattle.pcap_file.specs.declared.Record.{Record}

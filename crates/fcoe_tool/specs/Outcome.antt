@@ -1,5 +1,5 @@
 -- How a command ends, its status, and the line that it prints.
-use Rattle.std.specs.Prelude.{ℕ, List, [], ◌∷◌, ◌++◌, codes, decimal}
+use Rattle.std.specs.Prelude.{ℕ, List, ◌++◌, codes, decimal}
 use Rattle.fcoe_tool.specs.declared.outcome.Outcome.{Outcome}
 use Rattle.fcoe_tool.specs.declared.outcome.Outcome.TheVariants.{Ran, Words, Config, Capture, ReadFault, WriteFault, Memory}
 

@@ -1,6 +1,5 @@
 -- What reading an input answers.
-use Rattle.std.specs.Prelude.{◌≡◌, ℕ, ◌≤◌, ◌<◌, ◌^◌, ◌⊎◌, IsTrue, List, [], ◌∷◌, length, drop, Option, Some, None, Result, IfOk, IfErr, IsErrOf, Vec}
-use Rattle.std.specs.List.{All}
+use Rattle.std.specs.Prelude.{◌≡◌, ℕ, ◌≤◌, ◌<◌, ◌^◌, ◌⊎◌, IsTrue, List, [], ◌∷◌, length, Some, None, Result, IfOk, IfErr, IsErrOf, Vec}
 use Rattle.std.specs.declared.alloc.Global.{Global}
 use Rattle.fab_base.specs.Seen.{Seen, Reads, Rose}
 use Rattle.pcap_file.specs.declared.CaptureHead.{CaptureHead}

@@ -1,5 +1,5 @@
 -- What writing a whole file does.
-use Rattle.std.specs.Prelude.{◌≡◌, ℕ, IsTrue, List, Option, Some, Result, OnOk, IfErr}
+use Rattle.std.specs.Prelude.{◌≡◌, ℕ, IsTrue, List, Some, Result, OnOk, IfErr}
 use Rattle.fab_base.specs.Seen.{Seen, Keeps, Rose}
 use Rattle.fcoe_tool.specs.declared.outcome.Outcome.{Outcome}
 use Rattle.fcoe_tool.specs.declared.outcome.Outcome.TheVariants as ends

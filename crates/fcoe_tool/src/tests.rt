@@ -24,7 +24,8 @@ const NOTIFICATION: [u8; 100] = [
     0xd4, 0xc3, 0xb2, 0xa1, 2, 0, 4, 0, 0, 0, 0, 0, 0, 0, 0, 0, 255, 255, 0, 0, 1, 0, 0, 0, //
     1, 0, 0, 0, 0, 0, 0, 0, 60, 0, 0, 0, 60, 0, 0, 0, //
     0x00, 0x1b, 0x21, 0x00, 0x00, 0x0a, 0x00, 0x05, 0x1e, 0x00, 0x00, 0x02, 0x89, 0x14, //
-    0x10, 0, 0x00, 0x04, 0, 0x02, 0, 3, 0, 0, 2, 2, 0x00, 0x05, 0x1e, 0x00, 0x00, 0x02, 14, 1, 0, 100, //
+    0x10, 0, 0x00, 0x04, 0, 0x02, 0, 3, 0, 0, 2, 2, 0x00, 0x05, 0x1e, 0x00, 0x00, 0x02, 14, 1, 0,
+    100, //
     0, 0, 0, 0, 0, 0, 0, 0, 0, 0, 0, 0, 0, 0, 0, 0, 0, 0, 0, 0, 0, 0, 0, 0,
 ];
 
@@ -95,11 +96,39 @@ fn the_same_name_twice(rt: HostRuntime) -> Result<(), Fail> {
         ["run", "K", "J", "IN", "IN"],
         ["K", "K", "J", "IN", "OUT"],
     ] {
-        refused(&rt, alloc, &words, depot_of(alloc, &CONFIG, &REQUEST)?, b"words\n", 2)?;
+        refused(
+            &rt,
+            alloc,
+            &words,
+            depot_of(alloc, &CONFIG, &REQUEST)?,
+            b"words\n",
+            2,
+        )?;
     }
-    refused(&rt, alloc, &["run", "K", "J", "IN"], depot_of(alloc, &CONFIG, &REQUEST)?, b"words\n", 2)?;
-    refused(&rt, alloc, &["run"], depot_of(alloc, &CONFIG, &REQUEST)?, b"words\n", 2)?;
-    refused(&rt, alloc, &[], depot_of(alloc, &CONFIG, &REQUEST)?, b"words\n", 2)
+    refused(
+        &rt,
+        alloc,
+        &["run", "K", "J", "IN"],
+        depot_of(alloc, &CONFIG, &REQUEST)?,
+        b"words\n",
+        2,
+    )?;
+    refused(
+        &rt,
+        alloc,
+        &["run"],
+        depot_of(alloc, &CONFIG, &REQUEST)?,
+        b"words\n",
+        2,
+    )?;
+    refused(
+        &rt,
+        alloc,
+        &[],
+        depot_of(alloc, &CONFIG, &REQUEST)?,
+        b"words\n",
+        2,
+    )
 }
 
 #[test]
@@ -119,7 +148,14 @@ fn other_configurations(rt: HostRuntime) -> Result<(), Fail> {
         b"vlan 100\nfcf-mac 00:05:1e:00:00:02\n".as_slice(),
         b"fcf-mac 00:05:1e:00:00:02\nvlan 100\nwindow 100\nwindow 100\nwindow 100\n".as_slice(),
     ] {
-        refused(&rt, alloc, &words, depot_of(alloc, config, &REQUEST)?, b"config 0 form\n", 1)?;
+        refused(
+            &rt,
+            alloc,
+            &words,
+            depot_of(alloc, config, &REQUEST)?,
+            b"config 0 form\n",
+            1,
+        )?;
     }
     Ok(())
 }
@@ -129,7 +165,14 @@ fn other_captures(rt: HostRuntime) -> Result<(), Fail> {
     let alloc = rt.alloc();
     let words = ["run", "K", "J", "IN", "OUT"];
     for size in [0, 23, 25, 39, 40, 99] {
-        refused(&rt, alloc, &words, depot_of(alloc, &CONFIG, &REQUEST[..size])?, b"capture 1 0 form\n", 1)?;
+        refused(
+            &rt,
+            alloc,
+            &words,
+            depot_of(alloc, &CONFIG, &REQUEST[..size])?,
+            b"capture 1 0 form\n",
+            1,
+        )?;
     }
     Ok(())
 }
@@ -141,7 +184,14 @@ fn first_fetch_fails(rt: HostRuntime) -> Result<(), Fail> {
     for call in [0, 1, 2, 3, 4, 5] {
         let mut depot = depot_of(alloc, &CONFIG, &REQUEST)?;
         depot.fail_call(alloc, call)?;
-        refused(&rt, alloc, &["run", "K", "J", "IN", "OUT"], depot, b"read fault\n", 3)?;
+        refused(
+            &rt,
+            alloc,
+            &["run", "K", "J", "IN", "OUT"],
+            depot,
+            b"read fault\n",
+            3,
+        )?;
     }
     Ok(())
 }
@@ -186,7 +236,13 @@ fn real_files(rt: HostRuntime) -> Result<(), Fail> {
     let mut say = MemSink::new(alloc, 100)?;
     let status = fabric_tool(&rt, alloc, &words, &mut depot, &mut say, &OpenGate);
     assert_eq!(rt; status, 0);
-    assert_eq!(rt; std::fs::read(&rt, "J")?.as_slice(), b"tick 1000\n1 0 vlans\n".as_slice());
-    assert_eq!(rt; std::fs::read(&rt, "OUT")?.as_slice(), NOTIFICATION.as_slice());
+    assert_eq!(rt;
+        std::fs::read(&rt, "J")?.as_slice(),
+        b"tick 1000\n1 0 vlans\n".as_slice()
+    );
+    assert_eq!(rt;
+        std::fs::read(&rt, "OUT")?.as_slice(),
+        NOTIFICATION.as_slice()
+    );
     Ok(())
 }

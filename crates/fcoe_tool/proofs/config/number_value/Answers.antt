@@ -1,4 +1,4 @@
-use Rattle.std.proofs.Common.{◌≡◌, ◌∙◌, ◌+◌, ◌*◌, ℕ, ap, arith}
+use Rattle.std.proofs.Common.{◌∙◌, ◌+◌, ◌*◌, ℕ, ap, arith}
 use Rattle.std.proofs.lemmas.Grind.{pow_more}
 use Rattle.fcoe_tool.proofs.ConfigLemmas.{digit_at, number_value-take}
 use Rattle.fcoe_tool.proofs.config.number_value.Goals as goal

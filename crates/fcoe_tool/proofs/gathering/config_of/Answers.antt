@@ -1,4 +1,4 @@
-use Rattle.fcoe_tool.proofs.ReadLemmas.{config_opened, config_unopened}
+use Rattle.fcoe_tool.proofs.ReadLemmas.{config_opened}
 use Rattle.fcoe_tool.proofs.gathering.config_of.Goals as goal
 
 pub returns : goal.returns

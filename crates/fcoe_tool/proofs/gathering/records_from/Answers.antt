@@ -1,4 +1,4 @@
-use Rattle.std.proofs.Common.{[], ◌∷◌, ◌∙◌, refl, sym, subst, ap, length, length-append, arith}
+use Rattle.std.proofs.Common.{[], ◌∷◌, refl, sym, subst, ap, length, length-append, arith}
 use Rattle.fcoe_tool.proofs.ReadLemmas.{Taking, taking_none, taking_more, taking_all, stopped_as, next_as}
 use Rattle.fcoe_tool.proofs.gathering.records_from.Goals as goal
 

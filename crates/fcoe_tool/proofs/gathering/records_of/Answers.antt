@@ -1,4 +1,4 @@
-use Rattle.fcoe_tool.proofs.ReadLemmas.{capture_ok, capture_err, capture_long, capture_unopened}
+use Rattle.fcoe_tool.proofs.ReadLemmas.{capture_err}
 use Rattle.fcoe_tool.proofs.gathering.records_of.Goals as goal
 
 pub returns-in-Err : goal.returns-in-Err

@@ -1,4 +1,4 @@
-use Rattle.std.proofs.Common.{◌≡◌, ◌<◌, length, arith}
+use Rattle.std.proofs.Common.{arith}
 use Rattle.fcoe_tool.proofs.Stage.{stage_none, stage_more, stage_made, drop-item, early_item}
 use Rattle.fcoe_tool.proofs.machine.machine_of.Goals as goal
 

@@ -1,0 +1,16 @@
+pub mod Seats
+pub mod Pigeons
+pub mod Moves
+pub mod DrawKept
+pub mod LookKept
+pub mod Histories
+pub mod EndKept
+pub mod Ending
+pub mod Turning
+pub mod PortLists
+pub mod SplitKept
+pub mod JoinKept
+pub mod Opening
+pub mod Closing
+pub mod CompareKept
+pub mod Joining
