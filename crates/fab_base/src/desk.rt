@@ -106,7 +106,8 @@ impl Desk {
 
     /// Whether all words are known.
     pub fn knows_all(&self, words: &[String]) -> bool
-        ensures { IsTrue result → (k : ℕ) → k < length words.now → IsTrue (knows self.now (name_at words.now k)) }
+        ensures all { IsTrue result → (k : ℕ) → k < length words.now → IsTrue (knows self.now (name_at words.now k)) }
+        ensures missing { result ≡ false → (k : ℕ) × (k < length words.now) × (knows self.now (name_at words.now k) ≡ false) }
     {
         for i in 0..words.len() {
             if self.place(word_at(words, i)).is_none() {

@@ -33,7 +33,7 @@ fn is_refused(calls: &mut u64, failing: &[u64]) -> bool
 }
 
 impl MemDepot {
-    ghost use Rattle.std.specs.Prelude.{◌≡◌, ◌<◌, ◌++◌, ◌∷◌, [], IfSome, IfOk, OnOk, OnErr, IsTrue, length, MatchOption, None, Some, List, ℕ};
+    ghost use Rattle.std.specs.Prelude.{◌≡◌, ◌<◌, ◌++◌, ◌∷◌, [], IfSome, IfOk, OnOk, OnErr, IsTrue, length, MatchOption, None, Some, List, ℕ, false};
     ghost use Rattle.std.specs.Option.{option_map};
     ghost use Rattle.fab_base.specs.Places.{name_at};
     ghost use Rattle.fab_base.specs.MemDepot.{mem_seen, IsNew, Learns, Same, SameCalls, next_call, failing_calls};
@@ -64,7 +64,8 @@ impl MemDepot {
 
     /// Whether all words are known.
     pub fn knows_all(&self, words: &[String]) -> bool
-        ensures { IsTrue result → (k : ℕ) → k < length words.now → IsTrue ((mem_seen self.now).knows (name_at words.now k)) }
+        ensures all { IsTrue result → (k : ℕ) → k < length words.now → IsTrue ((mem_seen self.now).knows (name_at words.now k)) }
+        ensures missing { result ≡ false → (k : ℕ) × (k < length words.now) × ((mem_seen self.now).knows (name_at words.now k) ≡ false) }
     {
         self.desk.knows_all(words)
     }
