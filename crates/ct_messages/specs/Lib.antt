@@ -1,0 +1,5 @@
+pub mod Ask
+pub mod Table
+pub mod Ct
+pub mod CanWrite
+pub mod Answer
