@@ -1,0 +1,16 @@
+pub mod LineLemmas
+pub mod NumberLemmas
+pub mod HexLemmas
+pub mod IndexLemmas
+pub mod NamedLemmas
+pub mod FitLemmas
+pub mod ReadLemmas
+pub mod WriteLemmas
+pub mod RangeLemmas
+pub mod BackLemmas
+pub mod ValueLemmas
+pub mod FoldLemmas
+pub mod ListBack
+pub mod LengthLemmas
+pub mod RoundLemmas
+pub mod SoundLemmas

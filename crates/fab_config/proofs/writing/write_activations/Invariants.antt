@@ -1,0 +1,7 @@
+use Rattle.std.proofs.Common.{◌≡◌, ◌++◌, take}
+use Rattle.std.specs.List.{flat_map}
+use Rattle.fab_config.specs.Written.{activation_line}
+use Rattle.fab_config.proofs.writing.write_activations.Given as goal
+
+abbrev pub invariant-loop-index : goal.invariant-loop-index
+invariant-loop-index l = l.out.items ≡ l.initial.out.items ++ flat_map (activation_line l.sets) (take l.index l.activations)

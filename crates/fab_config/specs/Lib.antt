@@ -1,0 +1,11 @@
+pub mod Settings
+pub mod InRange
+pub mod Lines
+pub mod Names
+pub mod Values
+pub mod Written
+pub mod Text
+pub mod Kept
+pub mod Told
+pub mod Fitting
+pub mod Typed

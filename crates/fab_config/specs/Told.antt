@@ -1,0 +1,18 @@
+-- What an error tells of the reading of a line, and of a text.
+use Rattle.std.specs.Prelude.{◌≡◌, Result, Err}
+use Rattle.fab_config.specs.declared.ConfigWhy.{ConfigWhy}
+use Rattle.fab_config.specs.declared.ConfigFault.{ConfigFault}
+use Rattle.fab_config.specs.declared.reading.LineError.{LineError}
+use Rattle.fab_config.specs.declared.reading.LineError.TheVariants as line
+use Rattle.fab_config.specs.declared.reading.ConfigError.{ConfigError}
+use Rattle.fab_config.specs.declared.reading.ConfigError.TheVariants as text
+
+-- a fault is that of the line; want of memory tells nothing
+abbrev pub Tells : {X : Type 0} → LineError → Result X ConfigWhy → Type 0
+Tells (line.Fault why) r = r ≡ Err why
+Tells line.Memory r = Unit {0}
+
+-- the same of a whole text
+abbrev pub TellsText : {X : Type 0} → ConfigError → Result X ConfigFault → Type 0
+TellsText (text.Fault fault) r = r ≡ Err fault
+TellsText text.Memory r = Unit {0}

@@ -1,0 +1,251 @@
+// What the lines of a text say so far.
+ghost use Rattle.std.specs.Prelude.{◌≡◌, ◌<◌, ◌^◌, Ok, IfOk, MatchResult, unwrap_or};
+ghost use Rattle.fab_config.specs.Lines.{words};
+ghost use Rattle.fab_config.specs.Text as spec;
+ghost use Rattle.fab_config.specs.Told.{Tells};
+ghost use Rattle.fab_config.specs.Fitting.{Fits};
+
+use crate::hexes::{only_fc_map, only_name, only_station};
+use crate::keyword::{Keyword, keyword_of};
+use crate::named::{NamedSets, NamedZones, with_activation};
+use crate::numbers::only_number;
+use crate::reading::LineError;
+use crate::words::{is_ascii, is_skipped, next_word};
+use crate::{ActivationList, Config, ConfigWhy};
+use fab_base::{Mac, NoMemory, Wwn};
+use std::alloc::Global;
+
+/// The values of the keys so far, and the lists.
+#[derive(Drop)]
+pub(crate) struct Draft {
+    pub(crate) fcf_mac: Option<Mac>,
+    pub(crate) vlan: Option<u32>,
+    pub(crate) switch: Option<Wwn>,
+    pub(crate) map: Option<u32>,
+    pub(crate) domain: Option<u32>,
+    pub(crate) pool: Option<u32>,
+    pub(crate) priority: Option<u32>,
+    pub(crate) period: Option<u32>,
+    pub(crate) window: Option<u32>,
+    pub(crate) limit: Option<u32>,
+    pub(crate) zones: NamedZones,
+    pub(crate) sets: NamedSets,
+    pub(crate) activations: ActivationList,
+}
+
+impl Draft {
+    /// What no line says.
+    pub(crate) fn new(alloc: Global) -> Result<Draft, NoMemory>
+        ensures { IfOk result (λ d. d ≡ spec.NOTHING) }
+    {
+        Ok(Draft {
+            fcf_mac: None,
+            vlan: None,
+            switch: None,
+            map: None,
+            domain: None,
+            pool: None,
+            priority: None,
+            period: None,
+            window: None,
+            limit: None,
+            zones: NamedZones::new(alloc)?,
+            sets: NamedSets::new(alloc)?,
+            activations: ActivationList::new(alloc)?,
+        })
+    }
+
+    /// What is said with one more line.
+    #[tactic(auto, unfolding(crate::specs::Text::line_read))]
+    pub(crate) fn with_line(self, alloc: Global, line: &[u8]) -> Result<Draft, LineError>
+        ensures { MatchResult result (λ d. spec.line_read self line.now ≡ Ok d) (λ e. Tells e (spec.line_read self line.now)) }
+    {
+        if is_skipped(line) {
+            return Ok(self);
+        }
+        if !is_ascii(line) {
+            return Err(LineError::Fault(ConfigWhy::Ascii));
+        }
+        let Some((word, values)) = next_word(line) else {
+            return Err(LineError::Fault(ConfigWhy::Key));
+        };
+        match keyword_of(word) {
+            Some(keyword) => self.with(alloc, keyword, values),
+            None => Err(LineError::Fault(ConfigWhy::Key)),
+        }
+    }
+
+    // What is said with a line of this key and these values.
+    fn with(self, alloc: Global, keyword: Keyword, values: &[u8]) -> Result<Draft, LineError>
+        ensures { MatchResult result (λ d. spec.with_keyword self keyword (words values.now) ≡ Ok d) (λ e. Tells e (spec.with_keyword self keyword (words values.now))) }
+    {
+        match keyword {
+            Keyword::FcfMac => self.with_fcf_mac(values),
+            Keyword::Vlan => self.with_vlan(values),
+            Keyword::Switch => self.with_switch(values),
+            Keyword::FcMap => self.with_map(values),
+            Keyword::Domain => self.with_domain(values),
+            Keyword::Pool => self.with_pool(values),
+            Keyword::Priority => self.with_priority(values),
+            Keyword::Period => self.with_period(values),
+            Keyword::Window => self.with_window(values),
+            Keyword::Logins => self.with_limit(values),
+            Keyword::Zones => self.with_zone(alloc, values),
+            Keyword::Sets => self.with_set(alloc, values),
+            Keyword::Activations => self.with_activation(alloc, values),
+        }
+    }
+
+    fn with_fcf_mac(self, values: &[u8]) -> Result<Draft, LineError>
+        ensures { MatchResult result (λ d. spec.with_keyword self Keyword.FcfMac (words values.now) ≡ Ok d) (λ e. Tells e (spec.with_keyword self Keyword.FcfMac (words values.now))) }
+    {
+        let fcf_mac = set_once(self.fcf_mac, only_station(values))?;
+        Ok(Draft { fcf_mac, ..self })
+    }
+
+    fn with_vlan(self, values: &[u8]) -> Result<Draft, LineError>
+        ensures { MatchResult result (λ d. spec.with_keyword self Keyword.Vlan (words values.now) ≡ Ok d) (λ e. Tells e (spec.with_keyword self Keyword.Vlan (words values.now))) }
+    {
+        let vlan = set_once(self.vlan, only_number(values, 1, 4094))?;
+        Ok(Draft { vlan, ..self })
+    }
+
+    fn with_switch(self, values: &[u8]) -> Result<Draft, LineError>
+        ensures { MatchResult result (λ d. spec.with_keyword self Keyword.Switch (words values.now) ≡ Ok d) (λ e. Tells e (spec.with_keyword self Keyword.Switch (words values.now))) }
+    {
+        let switch = set_once(self.switch, only_name(values))?;
+        Ok(Draft { switch, ..self })
+    }
+
+    fn with_map(self, values: &[u8]) -> Result<Draft, LineError>
+        ensures { MatchResult result (λ d. spec.with_keyword self Keyword.FcMap (words values.now) ≡ Ok d) (λ e. Tells e (spec.with_keyword self Keyword.FcMap (words values.now))) }
+    {
+        let map = set_once(self.map, only_fc_map(values))?;
+        Ok(Draft { map, ..self })
+    }
+
+    fn with_domain(self, values: &[u8]) -> Result<Draft, LineError>
+        ensures { MatchResult result (λ d. spec.with_keyword self Keyword.Domain (words values.now) ≡ Ok d) (λ e. Tells e (spec.with_keyword self Keyword.Domain (words values.now))) }
+    {
+        let domain = set_once(self.domain, only_number(values, 1, 239))?;
+        Ok(Draft { domain, ..self })
+    }
+
+    fn with_pool(self, values: &[u8]) -> Result<Draft, LineError>
+        ensures { MatchResult result (λ d. spec.with_keyword self Keyword.Pool (words values.now) ≡ Ok d) (λ e. Tells e (spec.with_keyword self Keyword.Pool (words values.now))) }
+    {
+        let pool = set_once(self.pool, only_number(values, 1, 60000))?;
+        Ok(Draft { pool, ..self })
+    }
+
+    fn with_priority(self, values: &[u8]) -> Result<Draft, LineError>
+        ensures { MatchResult result (λ d. spec.with_keyword self Keyword.Priority (words values.now) ≡ Ok d) (λ e. Tells e (spec.with_keyword self Keyword.Priority (words values.now))) }
+    {
+        let priority = set_once(self.priority, only_number(values, 0, 255))?;
+        Ok(Draft { priority, ..self })
+    }
+
+    fn with_period(self, values: &[u8]) -> Result<Draft, LineError>
+        ensures { MatchResult result (λ d. spec.with_keyword self Keyword.Period (words values.now) ≡ Ok d) (λ e. Tells e (spec.with_keyword self Keyword.Period (words values.now))) }
+    {
+        let period = set_once(self.period, only_number(values, 250, 90000))?;
+        Ok(Draft { period, ..self })
+    }
+
+    fn with_window(self, values: &[u8]) -> Result<Draft, LineError>
+        ensures { MatchResult result (λ d. spec.with_keyword self Keyword.Window (words values.now) ≡ Ok d) (λ e. Tells e (spec.with_keyword self Keyword.Window (words values.now))) }
+    {
+        let window = set_once(self.window, only_number(values, 10, 1000))?;
+        Ok(Draft { window, ..self })
+    }
+
+    fn with_limit(self, values: &[u8]) -> Result<Draft, LineError>
+        ensures { MatchResult result (λ d. spec.with_keyword self Keyword.Logins (words values.now) ≡ Ok d) (λ e. Tells e (spec.with_keyword self Keyword.Logins (words values.now))) }
+    {
+        let limit = set_once(self.limit, only_number(values, 1, 1000))?;
+        Ok(Draft { limit, ..self })
+    }
+
+    fn with_zone(self, alloc: Global, values: &[u8]) -> Result<Draft, LineError>
+        ensures { MatchResult result (λ d. spec.with_keyword self Keyword.Zones (words values.now) ≡ Ok d) (λ e. Tells e (spec.with_keyword self Keyword.Zones (words values.now))) }
+    {
+        let zones = self.zones.with(alloc, values)?;
+        Ok(Draft { zones, ..self })
+    }
+
+    fn with_set(self, alloc: Global, values: &[u8]) -> Result<Draft, LineError>
+        ensures { MatchResult result (λ d. spec.with_keyword self Keyword.Sets (words values.now) ≡ Ok d) (λ e. Tells e (spec.with_keyword self Keyword.Sets (words values.now))) }
+    {
+        let sets = self.sets.with(alloc, &self.zones, values)?;
+        Ok(Draft { sets, ..self })
+    }
+
+    fn with_activation(self, alloc: Global, values: &[u8]) -> Result<Draft, LineError>
+        ensures { MatchResult result (λ d. spec.with_keyword self Keyword.Activations (words values.now) ≡ Ok d) (λ e. Tells e (spec.with_keyword self Keyword.Activations (words values.now))) }
+    {
+        let activations = with_activation(self.activations, alloc, &self.sets, values)?;
+        Ok(Draft {
+            activations,
+            ..self
+        })
+    }
+
+    /// The configuration, with the defaults for what no line says, or none where a required key is missing.
+    #[tactic(auto, unfolding(crate::specs::Text::finished))]
+    pub(crate) fn finish(self) -> Option<Config>
+        requires { Fits self }
+        ensures { result ≡ spec.finished self }
+    {
+        let fcf_mac = self.fcf_mac?;
+        let vlan = self.vlan?;
+        let switch = switch_or(self.switch, &fcf_mac);
+        Some(Config {
+            switch,
+            fcf_mac,
+            fc_map: self.map.unwrap_or(0x0efc00),
+            vlan: vlan as u16,
+            domain: self.domain.unwrap_or(1) as u8,
+            pool: self.pool.unwrap_or(256),
+            priority: self.priority.unwrap_or(128) as u8,
+            period: self.period.unwrap_or(8000),
+            window: self.window.unwrap_or(100),
+            limit: self.limit.unwrap_or(240),
+            zones: self.zones.into_list(),
+            sets: self.sets.into_list(),
+            activations: self.activations,
+        })
+    }
+}
+
+// The name of the switch.
+fn switch_or(name: Option<Wwn>, mac: &Mac) -> Wwn
+    ensures value { result ≡ unwrap_or name (spec.switch_of mac.now) }
+    ensures range { result < 2 ^ 64 }
+{
+    match name {
+        Some(name) => Wwn(name.0),
+        None => switch_of(mac),
+    }
+}
+
+// The name of the switch where no line says it: 10:00 and the MAC (FC-FS-3, "IEEE 48-bit address").
+fn switch_of(mac: &Mac) -> Wwn
+    ensures value { result ≡ spec.switch_of mac.now }
+    ensures range { result < 2 ^ 64 }
+{
+    let [a, b, c, d, e, f] = mac.0;
+    Wwn(u64::from_be_bytes([0x10, 0, a, b, c, d, e, f]))
+}
+
+// The value of a key that stands once.
+fn set_once<T: Copy + Drop>(old: Option<T>, value: Option<T>) -> Result<Option<T>, LineError>
+    ensures { MatchResult result (λ o. spec.set_once old value ≡ Ok o) (λ e. Tells e (spec.set_once old value)) }
+{
+    if old.is_some() {
+        return Err(LineError::Fault(ConfigWhy::Twice));
+    }
+    match value {
+        Some(value) => Ok(Some(value)),
+        None => Err(LineError::Fault(ConfigWhy::Value)),
+    }
+}

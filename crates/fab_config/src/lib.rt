@@ -1,0 +1,195 @@
+//! The configuration of a forwarder and its text.
+#![tactic(auto)]
+
+mod draft;
+mod hexes;
+mod index;
+mod keyword;
+mod laws;
+mod named;
+mod numbers;
+mod reading;
+mod words;
+mod writing;
+
+use fab_base::{Bytes, Mac, Moment, OwnedList, Wwn};
+pub use laws::a_written_configuration_is_read_back;
+pub use reading::{ConfigError, read_config};
+use std::marker::Model;
+pub use writing::write_config;
+
+/// Port names.
+pub type NameList = OwnedList<Wwn>;
+
+/// A zone (FC-GS-6, "Fabric Zone Server"): its name and the names of its members.
+#[derive(Debug, Drop)]
+pub struct Zone {
+    pub name: Bytes,
+    pub members: NameList,
+}
+
+pub type ZoneList = OwnedList<Zone>;
+
+/// Places in the list of zones.
+pub type PlaceList = OwnedList<u32>;
+
+/// A zone set: its name and the places of its zones.
+#[derive(Debug, Drop)]
+pub struct ZoneSet {
+    pub name: Bytes,
+    pub places: PlaceList,
+}
+
+pub type SetList = OwnedList<ZoneSet>;
+
+/// From a moment on the zone set at a place of the list of zone sets is active.
+#[derive(Clone, Copy, Debug, PartialEq, Eq)]
+pub struct Activation {
+    pub set: u32,
+    pub moment: Moment,
+}
+
+pub type ActivationList = OwnedList<Activation>;
+
+/// The configuration, each value in its range. Period and window are milliseconds; `limit` is the most logins at once.
+#[derive(Debug, Drop)]
+pub struct Config {
+    pub switch: Wwn,
+    pub fcf_mac: Mac,
+    pub fc_map: u32,
+    pub vlan: u16,
+    pub domain: u8,
+    pub pool: u32,
+    pub priority: u8,
+    pub period: u32,
+    pub window: u32,
+    pub limit: u32,
+    pub zones: ZoneList,
+    pub sets: SetList,
+    pub activations: ActivationList,
+}
+
+impl Model for Config {
+    ghost use Rattle.fab_config.specs.Settings.{Settings};
+
+    ghost Value = { Settings };
+
+    ghost view = { λ c. record {
+      switch = c.switch;
+      fcf_mac = c.fcf_mac;
+      fc_map = c.fc_map;
+      vlan = c.vlan;
+      domain = c.domain;
+      pool = c.pool;
+      priority = c.priority;
+      period = c.period;
+      window = c.window;
+      limit = c.limit;
+      zones = c.zones;
+      sets = c.sets;
+      activations = c.activations;
+    } };
+
+    ghost use Rattle.fab_config.specs.InRange.{inside_in_range};
+
+    ghost invariant = { inside_in_range };
+}
+
+impl Config {
+    ghost use Rattle.std.specs.Prelude.{◌≡◌, ◌≤◌, length, true};
+    ghost use Rattle.fab_config.specs.Settings.{is_station};
+
+    /// The MAC of the forwarder, six bytes that are a station's own.
+    pub fn fcf_mac(&self) -> Mac
+        ensures value { result ≡ self.now.fcf_mac }
+        ensures size { length result ≡ 6 }
+        ensures station { is_station result ≡ true }
+    {
+        self.fcf_mac
+    }
+
+    /// The FC-MAP, 0e:fc:00 to 0e:fc:ff (FC-BB-5, "FC-MAP").
+    pub fn fc_map(&self) -> u32
+        ensures value { result ≡ self.now.fc_map }
+        ensures range { (0x0efc00 ≤ result) × (result ≤ 0x0efcff) }
+    {
+        self.fc_map
+    }
+
+    /// The VLAN of the fabric, 1 to 4094.
+    pub fn vlan(&self) -> u16
+        ensures value { result ≡ self.now.vlan }
+        ensures range { (1 ≤ result) × (result ≤ 4094) }
+    {
+        self.vlan
+    }
+
+    /// The domain of the addresses, 1 to 239.
+    pub fn domain(&self) -> u8
+        ensures value { result ≡ self.now.domain }
+        ensures range { (1 ≤ result) × (result ≤ 239) }
+    {
+        self.domain
+    }
+
+    /// How many addresses there are, 1 to 60,000.
+    pub fn pool(&self) -> u32
+        ensures value { result ≡ self.now.pool }
+        ensures range { (1 ≤ result) × (result ≤ 60000) }
+    {
+        self.pool
+    }
+
+    /// The period of advertisements in milliseconds, 250 to 90,000.
+    pub fn period(&self) -> u32
+        ensures value { result ≡ self.now.period }
+        ensures range { (250 ≤ result) × (result ≤ 90000) }
+    {
+        self.period
+    }
+
+    /// The length of a window in milliseconds, 10 to 1000.
+    pub fn window(&self) -> u32
+        ensures value { result ≡ self.now.window }
+        ensures range { (10 ≤ result) × (result ≤ 1000) }
+    {
+        self.window
+    }
+
+    /// The most logins at once, 1 to 1000.
+    pub fn limit(&self) -> u32
+        ensures value { result ≡ self.now.limit }
+        ensures range { (1 ≤ result) × (result ≤ 1000) }
+    {
+        self.limit
+    }
+}
+
+/// Why a text is no configuration. The variants stand in the order of the tests.
+#[derive(Clone, Copy, Debug, PartialEq, Eq)]
+pub enum ConfigWhy {
+    /// The text has more than 1,048,576 bytes.
+    Long,
+    /// A byte of the line is above 7E, or below 20 and no tab.
+    Ascii,
+    /// The line's first word is no key.
+    Key,
+    /// A key that stands once, or the name of a zone or of a zone set, stands a second time.
+    Twice,
+    /// The words behind the key aren't what it takes.
+    Value,
+    /// One zone, member, zone set, zone of the sets or activation too many.
+    Limit,
+    /// A required key is in no line.
+    Missing,
+}
+
+/// The first fault of a text. Lines count from 1; `Long` is at line 0, `Missing` behind the last line.
+#[derive(Clone, Copy, Debug, PartialEq, Eq)]
+pub struct ConfigFault {
+    pub line: u32,
+    pub why: ConfigWhy,
+}
+
+#[cfg(test)]
+mod tests;

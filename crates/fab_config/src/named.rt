@@ -1,0 +1,449 @@
+// Zones and zone sets as they are read, with an index of their names.
+ghost use Rattle.std.specs.Prelude.{◌≡◌, ◌<◌, ◌≤◌, ◌∷◌, ◌++◌, [], None, Some, Ok, ℕ, List, IfOk, IfSome, OnOk, MatchResult, length, option_map};
+ghost use Rattle.std.specs.List.{list_all};
+ghost use Rattle.fab_config.specs.Lines.{words};
+ghost use Rattle.fab_config.specs.Names.{place, zone_names, set_names};
+ghost use Rattle.fab_config.specs.Values as spec;
+ghost use Rattle.fab_config.specs.Settings.{is_zone_name as is_zone_name_spec, is_letter as is_letter_spec, is_name_sign as is_name_sign_spec};
+ghost use Rattle.fab_config.specs.Text.{zones_with, zones_grown, sets_with, sets_grown, activations_with, activation, is_later as is_later_spec, listed, listed_or_fault, zone_place};
+ghost use Rattle.fab_config.specs.Told.{Tells};
+ghost use Rattle.fab_config.specs.declared.Zone.{Zone};
+ghost use Rattle.fab_config.specs.declared.ZoneSet.{ZoneSet};
+
+use crate::hexes::read_name;
+use crate::index::{NameIndex, NumberIndex};
+use crate::numbers::number_between;
+use crate::reading::LineError;
+use crate::words::{next_word, only_word};
+use crate::{
+    Activation, ActivationList, ConfigWhy, NameList, PlaceList, SetList, Zone, ZoneList, ZoneSet,
+};
+use fab_base::{Bytes, Moment, NoMemory, Wwn};
+use std::alloc::Global;
+use std::marker::Model;
+
+const MOST_ZONES: usize = 1000;
+
+const MOST_MEMBERS: usize = 20000;
+
+const MOST_SETS: usize = 64;
+
+const MOST_PLACES: usize = 4000;
+
+const MOST_ACTIVATIONS: usize = 64;
+
+const LAST_MOMENT: u64 = 4294967295999;
+
+/// The zones so far.
+#[derive(Drop)]
+pub(crate) struct NamedZones {
+    names: NameIndex,
+    zones: ZoneList,
+    members: usize,
+}
+
+impl Model for NamedZones {
+    ghost use Rattle.std.specs.Prelude.{List};
+    ghost use Rattle.fab_config.specs.declared.Zone.{Zone};
+    ghost use Rattle.fab_config.specs.Kept.{KeepsZones};
+
+    ghost Value = { List Zone };
+
+    ghost view = { λ z. z.zones };
+
+    ghost invariant = { λ z. KeepsZones z.names z.zones z.members };
+}
+
+impl NamedZones {
+    pub(crate) fn new(alloc: Global) -> Result<NamedZones, NoMemory>
+        ensures { IfOk result (λ z. z ≡ []) }
+    {
+        Ok(NamedZones {
+            names: NameIndex::new(alloc),
+            zones: ZoneList::new(alloc)?,
+            members: 0,
+        })
+    }
+
+    /// The place of the zone of this name.
+    pub(crate) fn place(&self, name: &[u8]) -> Option<u32>
+        ensures value { result ≡ place name.now (zone_names self.now) }
+        ensures range { IfSome result (λ p. p < length self.now) }
+    {
+        let place = self.names.place(name)?;
+        Some(place as u32)
+    }
+
+    /// The zones, in the order of the text.
+    pub(crate) fn into_list(self) -> ZoneList
+        ensures { result ≡ self }
+    {
+        let NamedZones {
+            names: _,
+            zones,
+            members: _,
+        } = self;
+        zones
+    }
+
+    /// The zones with the zone of a line with these values behind them.
+    #[tactic(auto, unfolding(crate::specs::Text::zones_with))]
+    pub(crate) fn with(self, alloc: Global, values: &[u8]) -> Result<NamedZones, LineError>
+        ensures { MatchResult result (λ z. zones_with self (words values.now) ≡ Ok z) (λ e. Tells e (zones_with self (words values.now))) }
+    {
+        let Some((name, rest)) = next_word(values) else {
+            return Err(LineError::Fault(ConfigWhy::Value));
+        };
+        if self.place(name).is_some() {
+            return Err(LineError::Fault(ConfigWhy::Twice));
+        }
+        if !is_zone_name(name) {
+            return Err(LineError::Fault(ConfigWhy::Value));
+        }
+        let members = read_members(alloc, rest)?;
+        self.grown(alloc, name, members)
+    }
+
+    // The zones with one more, within the limits.
+    fn grown(self, alloc: Global, name: &[u8], members: NameList) -> Result<NamedZones, LineError>
+        requires { place name.now (zone_names self) ≡ None }
+        ensures { let more = self ++ record { name = name.now; members = members } ∷ [] in MatchResult result (λ z. zones_grown more ≡ Ok z) (λ e. Tells e (zones_grown more)) }
+    {
+        let NamedZones {
+            mut names,
+            mut zones,
+            members: before,
+        } = self;
+        let count = members.len();
+        if zones.len() >= MOST_ZONES || count > MOST_MEMBERS - before {
+            return Err(LineError::Fault(ConfigWhy::Limit));
+        }
+        let Ok(copy) = Bytes::copy(alloc, name) else {
+            return Err(LineError::Memory);
+        };
+        let Ok(()) = names.push(alloc, name) else {
+            return Err(LineError::Memory);
+        };
+        let zone = Zone {
+            name: copy,
+            members,
+        };
+        match zones.push(alloc, zone) {
+            Ok(()) => Ok(NamedZones {
+                names,
+                zones,
+                members: before + count,
+            }),
+            Err(_) => Err(LineError::Memory),
+        }
+    }
+}
+
+// The names of a zone's line, one at least, each of which counts once.
+fn read_members(alloc: Global, values: &[u8]) -> Result<NameList, LineError>
+    ensures { MatchResult result (λ m. listed spec.name (words values.now) ≡ Some m) (λ e. Tells e (listed_or_fault spec.name (words values.now))) }
+{
+    let Ok(members) = read_names(alloc, values) else {
+        return Err(LineError::Memory);
+    };
+    match members {
+        Some(members) => {
+            if members.len() == 0 {
+                return Err(LineError::Fault(ConfigWhy::Value));
+            }
+            Ok(members)
+        }
+        None => Err(LineError::Fault(ConfigWhy::Value)),
+    }
+}
+
+// The names of words, if each is one.
+fn read_names(alloc: Global, values: &[u8]) -> Result<Option<NameList>, NoMemory>
+    ensures { IfOk result (λ o. o ≡ option_map spec.once (spec.all_of spec.name (words values.now))) }
+{
+    let mut members = NameList::new(alloc)?;
+    let mut seen = NumberIndex::new(alloc);
+    let mut rest = values;
+    while let Some((word, more)) = next_word(rest) {
+        let Some(name) = read_name(word) else {
+            return Ok(None);
+        };
+        add_name(alloc, &mut members, &mut seen, name)?;
+        rest = more;
+    }
+    Ok(Some(members))
+}
+
+// Appends a name unless it is there.
+fn add_name(
+    alloc: Global,
+    members: &mut NameList,
+    seen: &mut NumberIndex,
+    name: Wwn,
+) -> Result<(), NoMemory>
+    requires { seen.old ≡ members.old }
+    ensures members { OnOk result (members.new ≡ spec.once_more members.old name) }
+    ensures seen { OnOk result (seen.new ≡ members.new) }
+{
+    if seen.add(name.0)? {
+        members.push(alloc, name)
+    } else {
+        Ok(())
+    }
+}
+
+/// The zone sets so far.
+#[derive(Drop)]
+pub(crate) struct NamedSets {
+    names: NameIndex,
+    sets: SetList,
+    named: usize,
+}
+
+impl Model for NamedSets {
+    ghost use Rattle.std.specs.Prelude.{List};
+    ghost use Rattle.fab_config.specs.declared.ZoneSet.{ZoneSet};
+    ghost use Rattle.fab_config.specs.Kept.{KeepsSets};
+
+    ghost Value = { List ZoneSet };
+
+    ghost view = { λ s. s.sets };
+
+    ghost invariant = { λ s. KeepsSets s.names s.sets s.named };
+}
+
+impl NamedSets {
+    pub(crate) fn new(alloc: Global) -> Result<NamedSets, NoMemory>
+        ensures { IfOk result (λ s. s ≡ []) }
+    {
+        Ok(NamedSets {
+            names: NameIndex::new(alloc),
+            sets: SetList::new(alloc)?,
+            named: 0,
+        })
+    }
+
+    /// The place of the zone set of this name.
+    pub(crate) fn place(&self, name: &[u8]) -> Option<u32>
+        ensures { result ≡ place name.now (set_names self.now) }
+    {
+        let place = self.names.place(name)?;
+        Some(place as u32)
+    }
+
+    /// The zone sets, in the order of the text.
+    pub(crate) fn into_list(self) -> SetList
+        ensures { result ≡ self }
+    {
+        let NamedSets {
+            names: _,
+            sets,
+            named: _,
+        } = self;
+        sets
+    }
+
+    /// The zone sets with the one of a line with these values behind them.
+    #[tactic(auto, unfolding(crate::specs::Text::sets_with))]
+    pub(crate) fn with(
+        self,
+        alloc: Global,
+        zones: &NamedZones,
+        values: &[u8],
+    ) -> Result<NamedSets, LineError>
+        ensures { MatchResult result (λ s. sets_with zones.now self (words values.now) ≡ Ok s) (λ e. Tells e (sets_with zones.now self (words values.now))) }
+    {
+        let Some((name, rest)) = next_word(values) else {
+            return Err(LineError::Fault(ConfigWhy::Value));
+        };
+        if self.place(name).is_some() {
+            return Err(LineError::Fault(ConfigWhy::Twice));
+        }
+        if !is_zone_name(name) {
+            return Err(LineError::Fault(ConfigWhy::Value));
+        }
+        let places = read_zones(alloc, zones, rest)?;
+        self.grown(alloc, name, places)
+    }
+
+    // The zone sets with one more, within the limits.
+    fn grown(self, alloc: Global, name: &[u8], places: PlaceList) -> Result<NamedSets, LineError>
+        requires { place name.now (set_names self) ≡ None }
+        ensures { let more = self ++ record { name = name.now; places = places } ∷ [] in MatchResult result (λ s. sets_grown more ≡ Ok s) (λ e. Tells e (sets_grown more)) }
+    {
+        let NamedSets {
+            mut names,
+            mut sets,
+            named: before,
+        } = self;
+        let count = places.len();
+        if sets.len() >= MOST_SETS || count > MOST_PLACES - before {
+            return Err(LineError::Fault(ConfigWhy::Limit));
+        }
+        let Ok(copy) = Bytes::copy(alloc, name) else {
+            return Err(LineError::Memory);
+        };
+        let Ok(()) = names.push(alloc, name) else {
+            return Err(LineError::Memory);
+        };
+        let set = ZoneSet { name: copy, places };
+        match sets.push(alloc, set) {
+            Ok(()) => Ok(NamedSets {
+                names,
+                sets,
+                named: before + count,
+            }),
+            Err(_) => Err(LineError::Memory),
+        }
+    }
+}
+
+// The places of the zones of a zone set's line, one at least, each of which counts once.
+fn read_zones(alloc: Global, zones: &NamedZones, values: &[u8]) -> Result<PlaceList, LineError>
+    ensures { let says = zone_place zones.now in MatchResult result (λ m. listed says (words values.now) ≡ Some m) (λ e. Tells e (listed_or_fault says (words values.now))) }
+{
+    let Ok(places) = read_places(alloc, zones, values) else {
+        return Err(LineError::Memory);
+    };
+    match places {
+        Some(places) => {
+            if places.len() == 0 {
+                return Err(LineError::Fault(ConfigWhy::Value));
+            }
+            Ok(places)
+        }
+        None => Err(LineError::Fault(ConfigWhy::Value)),
+    }
+}
+
+// The places of the zones that words name, if each names one.
+fn read_places(
+    alloc: Global,
+    zones: &NamedZones,
+    values: &[u8],
+) -> Result<Option<PlaceList>, NoMemory>
+    ensures { IfOk result (λ o. o ≡ option_map spec.once (spec.all_of (zone_place zones.now) (words values.now))) }
+{
+    let mut places = PlaceList::new(alloc)?;
+    let mut seen = NumberIndex::new(alloc);
+    let mut rest = values;
+    while let Some((word, more)) = next_word(rest) {
+        let Some(place) = zones.place(word) else {
+            return Ok(None);
+        };
+        add_place(alloc, &mut places, &mut seen, place)?;
+        rest = more;
+    }
+    Ok(Some(places))
+}
+
+// Appends a place unless it is there.
+fn add_place(
+    alloc: Global,
+    places: &mut PlaceList,
+    seen: &mut NumberIndex,
+    place: u32,
+) -> Result<(), NoMemory>
+    requires { seen.old ≡ places.old }
+    ensures places { OnOk result (places.new ≡ spec.once_more places.old place) }
+    ensures seen { OnOk result (seen.new ≡ places.new) }
+{
+    if seen.add(u64::from(place))? {
+        places.push(alloc, place)
+    } else {
+        Ok(())
+    }
+}
+
+/// The activations with the one of a line with these values behind them.
+#[tactic(auto, unfolding(crate::specs::Text::activations_with))]
+pub(crate) fn with_activation(
+    mut activations: ActivationList,
+    alloc: Global,
+    sets: &NamedSets,
+    values: &[u8],
+) -> Result<ActivationList, LineError>
+    ensures { MatchResult result (λ a. activations_with sets.now activations (words values.now) ≡ Ok a) (λ e. Tells e (activations_with sets.now activations (words values.now))) }
+{
+    let Some(activation) = read_activation(&activations, sets, values) else {
+        return Err(LineError::Fault(ConfigWhy::Value));
+    };
+    if activations.len() >= MOST_ACTIVATIONS {
+        return Err(LineError::Fault(ConfigWhy::Limit));
+    }
+    match activations.push(alloc, activation) {
+        Ok(()) => Ok(activations),
+        Err(_) => Err(LineError::Memory),
+    }
+}
+
+// The activation of a line with these values.
+fn read_activation(
+    activations: &ActivationList,
+    sets: &NamedSets,
+    values: &[u8],
+) -> Option<Activation>
+    ensures { result ≡ activation sets.now activations.now (words values.now) }
+{
+    let (name, rest) = next_word(values)?;
+    let word = only_word(rest)?;
+    let set = sets.place(name)?;
+    let moment = Moment(number_between(word, 0, LAST_MOMENT)?);
+    if is_later(activations, moment) {
+        Some(Activation { set, moment })
+    } else {
+        None
+    }
+}
+
+// Above the moment of each activation.
+fn is_later(activations: &ActivationList, moment: Moment) -> bool
+    ensures { result ≡ is_later_spec activations.now moment }
+{
+    for index in 0..activations.len() {
+        if value(activations.at(index).unwrap().moment) >= value(moment) {
+            return false;
+        }
+    }
+    true
+}
+
+// The milliseconds of a moment.
+fn value(moment: Moment) -> u64
+    ensures { result ≡ moment }
+{
+    moment.0
+}
+
+// A name of a zone or of a zone set (FC-GS-6, "zone name").
+fn is_zone_name(name: &[u8]) -> bool
+    ensures { result ≡ is_zone_name_spec name.now }
+{
+    let Some((first, signs)) = name.split_first() else {
+        return false;
+    };
+    is_letter(*first) && are_signs(signs) && signs.len() < 64
+}
+
+fn are_signs(signs: &[u8]) -> bool
+    ensures { result ≡ list_all is_name_sign_spec signs.now }
+{
+    signs.iter().all(|sign| is_name_sign(*sign))
+}
+
+fn is_letter(byte: u8) -> bool
+    ensures { result ≡ is_letter_spec byte }
+{
+    byte >= b'A' && byte <= b'Z' || byte >= b'a' && byte <= b'z'
+}
+
+fn is_name_sign(byte: u8) -> bool
+    ensures { result ≡ is_name_sign_spec byte }
+{
+    is_letter(byte)
+        || byte >= b'0' && byte <= b'9'
+        || byte == b'$'
+        || byte == b'-'
+        || byte == b'^'
+        || byte == b'_'
+}

@@ -1,0 +1,72 @@
+// Reading a configuration text.
+ghost use Rattle.std.specs.Prelude.{◌≡◌, ◌≤◌, Ok, Err, MatchResult, length};
+ghost use Rattle.fab_config.specs.Lines.{lines_of};
+ghost use Rattle.fab_config.specs.Text.{decoded, lines_read, NOTHING};
+ghost use Rattle.fab_config.specs.Told.{TellsText};
+
+use crate::draft::Draft;
+use crate::words::cut_line;
+use crate::{Config, ConfigFault, ConfigWhy};
+use std::alloc::Global;
+
+/// Why no configuration was read.
+#[derive(Clone, Copy, Debug, PartialEq, Eq)]
+pub enum ConfigError {
+    /// The text is no configuration, and this is its first fault.
+    Fault(ConfigFault),
+    /// Memory was refused.
+    Memory,
+}
+
+/// Why a line was not read.
+#[derive(Clone, Copy)]
+pub(crate) enum LineError {
+    Fault(ConfigWhy),
+    Memory,
+}
+
+/// The most bytes of a text.
+const MOST_TEXT: usize = 1048576;
+
+/// The value of a configuration text, or its first fault.
+#[tactic(auto, unfolding(crate::specs::Text::decoded))]
+pub fn read_config(alloc: Global, text: &[u8]) -> Result<Config, ConfigError>
+    ensures { MatchResult result (λ c. decoded text.now ≡ Ok c) (λ e. TellsText e (decoded text.now)) }
+{
+    if text.len() > MOST_TEXT {
+        return Err(ConfigError::Fault(ConfigFault {
+            line: 0,
+            why: ConfigWhy::Long,
+        }));
+    }
+    read_lines(alloc, text)
+}
+
+// The value of the lines of a text.
+fn read_lines(alloc: Global, text: &[u8]) -> Result<Config, ConfigError>
+    requires { length text.now ≤ 1048576 }
+    ensures { let lines = lines_read 1 NOTHING (lines_of text.now) in MatchResult result (λ c. lines ≡ Ok c) (λ e. TellsText e lines) }
+{
+    let Ok(mut draft) = Draft::new(alloc) else {
+        return Err(ConfigError::Memory);
+    };
+    let mut rest = text;
+    let mut line = 1;
+    while !rest.is_empty() {
+        let (words, more) = cut_line(rest);
+        draft = match draft.with_line(alloc, words) {
+            Ok(draft) => draft,
+            Err(LineError::Fault(why)) => return Err(ConfigError::Fault(ConfigFault { line, why })),
+            Err(LineError::Memory) => return Err(ConfigError::Memory),
+        };
+        rest = more;
+        line += 1;
+    }
+    match draft.finish() {
+        Some(config) => Ok(config),
+        None => Err(ConfigError::Fault(ConfigFault {
+            line,
+            why: ConfigWhy::Missing,
+        })),
+    }
+}

@@ -1,0 +1,15 @@
+use Rattle.std.proofs.Common.{◌∙◌, ap}
+use Rattle.zone_rules.specs.Joined.{joined}
+use Rattle.zone_rules.specs.Rules.{ZoneRules}
+use Rattle.zone_rules.proofs.JoinLemmas.{joined_same, joined_is}
+use Rattle.zone_rules.proofs.zones.Zones.joined.Goals as goal
+
+pub returns-then-x-y : goal.returns-then-x-y
+returns-then-x-y c = joined_same c.args.self.now.zones c.args.self.now.sets c.args.self.now.activations c.args.at c.args.x c.args.y c.x.inside.0 c.y.inside.0 c.x.view_is c.y.view_is c.if-x-y.true
+
+pub returns : goal.returns
+returns c =
+    joined_is c.self.inside.zones c.self.inside.sets c.self.inside.activations c.args.at c.args.x c.args.y c.x.inside.0 c.y.inside.0 c.x.view_is c.y.view_is
+    c.self.inside.places c.places_of-of_x.result.now c.places_of-of_y.result.now c.active_set-set.result c.has_active_of_both.result
+    c.self.invariant c.if-x-y.false c.places_of-of_x.ensures c.places_of-of_y.ensures c.active_set-set.ensures c.has_active_of_both.ensures
+    ∙ ap (λ (z : ZoneRules). joined z.zones z.sets z.activations c.args.at c.args.x c.args.y) c.self.view_is

@@ -1,0 +1,142 @@
+// Zones, of which those of one zone set are active at a time.
+ghost use Rattle.std.specs.Prelude.{◌≡◌, ◌==◌, ◌&&◌, ℕ, Some, IfOk};
+ghost use Rattle.std.specs.List.{list_any};
+ghost use Rattle.zone_rules.specs.Joined as spec;
+ghost use Rattle.zone_rules.specs.Rules.{ZoneRules};
+
+use crate::copies::{copy_activations, copy_sets, copy_zones};
+use crate::index::{Places, index_of, places_of};
+use fab_base::{Moment, NoMemory, Wwn};
+use fab_config::{ActivationList, PlaceList, SetList, ZoneList};
+use std::alloc::Global;
+use std::marker::Model;
+
+/// The zones, zone sets and activations of a configuration, with an index of the names.
+#[derive(Drop)]
+pub struct Zones {
+    zones: ZoneList,
+    sets: SetList,
+    activations: ActivationList,
+    places: Places,
+}
+
+impl Model for Zones {
+    ghost use Rattle.zone_rules.specs.Rules.{ZoneRules};
+    ghost use Rattle.zone_rules.specs.Index.{IsIndex};
+
+    ghost Value = { ZoneRules };
+
+    ghost view = { λ z. record { zones = z.zones; sets = z.sets; activations = z.activations } };
+
+    ghost invariant = { λ z. IsIndex z.places z.zones };
+}
+
+impl Zones {
+    /// The zones of these lists, which are copied. The moments of a configuration rise, so that the last activation up to
+    /// a moment is the latest.
+    pub fn build(
+        alloc: Global,
+        list: &ZoneList,
+        sets: &SetList,
+        activations: &ActivationList,
+    ) -> Result<Zones, NoMemory>
+        ensures { IfOk result (λ z. z ≡ record { zones = list.now; sets = sets.now; activations = activations.now }) }
+    {
+        Ok(Zones {
+            zones: copy_zones(alloc, list)?,
+            sets: copy_sets(alloc, sets)?,
+            activations: copy_activations(alloc, activations)?,
+            places: index_of(alloc, list)?,
+        })
+    }
+
+    /// Whether two names differ and a zone that is active at this moment lists both.
+    #[tactic(auto, unfolding(crate::specs::Joined::joined))]
+    pub fn joined(&self, at: Moment, x: Wwn, y: Wwn) -> bool
+        ensures { result ≡ spec.joined self.now.zones self.now.sets self.now.activations at x y }
+    {
+        if x.0 == y.0 {
+            return false;
+        }
+        let set = active_set(&self.activations, at);
+        let of_x = places_of(&self.places, x.0);
+        let of_y = places_of(&self.places, y.0);
+        has_active_of_both(&self.sets, set, of_x, of_y)
+    }
+
+    /// The least moment of an activation above this one.
+    pub fn next_change(&self, after: Moment) -> Option<Moment>
+        ensures { result ≡ spec.next_change self.now.activations after }
+    {
+        for index in 0..self.activations.len() {
+            let activation = self.activations.at(index).unwrap();
+            if value(activation.moment) > value(after) {
+                return Some(activation.moment);
+            }
+        }
+        None
+    }
+}
+
+// The milliseconds of a moment.
+fn value(moment: Moment) -> u64
+    ensures { result ≡ moment }
+{
+    moment.0
+}
+
+// Whether an active place stands in both lists.
+fn has_active_of_both(sets: &SetList, set: Option<u32>, of_x: &[u64], of_y: &[u64]) -> bool
+    ensures { result ≡ list_any (λ p. list_any (λ q. p == q) of_y.now && spec.is_active sets.now set p) of_x.now }
+{
+    for place in of_x {
+        if of_y.contains(place) && is_active(sets, set, *place) {
+            return true;
+        }
+    }
+    false
+}
+
+// Whether the zone at a place is active while this set is.
+fn is_active(sets: &SetList, set: Option<u32>, place: u64) -> bool
+    ensures { result ≡ spec.is_active sets.now set place }
+{
+    match set {
+        None => true,
+        Some(set) => is_in_set(sets, set, place),
+    }
+}
+
+fn is_in_set(sets: &SetList, set: u32, place: u64) -> bool
+    ensures { result ≡ spec.is_active sets.now (Some set) place }
+{
+    match sets.at(set as usize) {
+        None => false,
+        Some(set) => has_place(&set.places, place),
+    }
+}
+
+fn has_place(places: &PlaceList, place: u64) -> bool
+    ensures { result ≡ spec.contains place places.now }
+{
+    for index in 0..places.len() {
+        if u64::from(*places.at(index).unwrap()) == place {
+            return true;
+        }
+    }
+    false
+}
+
+// The set that is active at a moment.
+fn active_set(activations: &ActivationList, at: Moment) -> Option<u32>
+    ensures { result ≡ spec.active_set activations.now at }
+{
+    let mut found = None;
+    for index in 0..activations.len() {
+        let activation = activations.at(index).unwrap();
+        if value(activation.moment) <= value(at) {
+            found = Some(activation.set);
+        }
+    }
+    found
+}
