@@ -1,0 +1,101 @@
+-- Where the past of an address stands among the places of a pool, and what a write there changes.
+use Rattle.std.proofs.Common.{◌≡◌, ℕ, zero, suc, ◌+◌, ◌-◌, ◌<◌, ◌≤◌, ◌==◌, Bool, true, false, List, [], ◌∷◌, length, get_or, set, map, if◌then◌else◌, Option, Some, None, is_some, IfSome, refl, sym, subst, ◌∙◌, ap, arith, slice_get, find, option_map, replicate, position, inl, inr}
+use mathlib.Core.Bool.{false≢true}
+use Rattle.std.specs.Option.{option_map_or}
+use Rattle.std.proofs.lemmas.Option.{slice_get_past, slice_get-get_or}
+use Rattle.std.proofs.lemmas.List.Quantifiers.{position-Some}
+use Rattle.std.proofs.lemmas.Bool.{cases_lt}
+use Rattle.std.proofs.lemmas.Bool.Decides.{nat_tests}
+use Rattle.std.specs.List.{list_any}
+use Rattle.fc_addresses.specs.Pool.{Past, past_at, is_open, is_free, has_free, unused}
+use Rattle.fc_addresses.specs.Holders.{past_of, pasts_from, may_follow}
+use Rattle.fc_addresses.specs.declared.pool.Holder.{Holder}
+
+-- places that nobody had are those of unused addresses
+pub pasts_from-replicate : (k n : ℕ) → pasts_from k (replicate n (record { name = None; ended = None })) ≡ unused k n
+pasts_from-replicate k zero = refl
+pasts_from-replicate k (suc n) = ap (λ l. record { address = k; name = None; ended = None } ∷ l) (pasts_from-replicate (k + 1) n)
+
+-- no address is below the first
+pub past_at-below : (a k : ℕ) (l : List Holder) → a < k → past_at a (pasts_from k l) ≡ None
+past_at-below a k [] below = refl
+past_at-below a k (h ∷ l) below = grind (arith, nat_tests, past_at-below a (k + 1) l (omega arith))
+
+-- the past of an address is what its place says
+pub past_at-place : (a k i : ℕ) (l : List Holder) → a ≡ k + i → past_at a (pasts_from k l) ≡ option_map (past_of a) (slice_get l i)
+past_at-place a k i [] same = refl
+past_at-place a k zero (h ∷ l) same = grind (arith, nat_tests)
+past_at-place a k (suc i) (h ∷ l) same = grind (arith, nat_tests, past_at-place a (k + 1) i l (omega arith))
+
+-- some address may be had where some place may be followed
+pub find-pasts_from : (name now k : ℕ) (l : List Holder) → is_some (find (is_open name now) (pasts_from k l)) ≡ list_any (may_follow name now) l
+find-pasts_from name now k [] = refl
+find-pasts_from name now k (h ∷ l) = grind (arith, nat_tests, find-pasts_from name now (k + 1) l)
+
+-- a change of an address below the first changes nothing
+changed-below : (F : Past → Past) (a k : ℕ) (l : List Holder) → a < k → map (λ p. if p.address == a then F p else p) (pasts_from k l) ≡ pasts_from k l
+changed-below F a k [] below = refl
+changed-below F a k (h ∷ l) below = grind (arith, nat_tests, changed-below F a (k + 1) l (omega arith))
+
+-- a change of one address is a write at its place
+pub changed-place : (F : Past → Past) (a k i : ℕ) (l : List Holder) (y d : Holder) → a ≡ k + i → i < length l →
+    past_of a y ≡ F (past_of a (get_or l i d)) → map (λ p. if p.address == a then F p else p) (pasts_from k l) ≡ pasts_from k (set l i y)
+changed-place F a k i [] y d same lt is = absurd (omega arith)
+changed-place F a k zero (h ∷ l) y d same lt is = grind (arith, nat_tests, changed-below F a (k + 1) l (omega arith))
+changed-place F a k (suc i) (h ∷ l) y d same lt is = grind (arith, nat_tests, changed-place F a (k + 1) i l y d (omega arith) (omega arith) is)
+
+-- some place may be followed where one is found
+pub is_some-position : (p : Holder → Bool) (l : List Holder) → is_some (position p l) ≡ list_any p l
+is_some-position p [] = refl
+is_some-position p (h ∷ l) = grind (arith, nat_tests, is_some-position p l)
+
+-- what holds of a number holds of an answer that is that number
+pub IfSome-same : (r : Option ℕ) (P : ℕ → Type 0) (x : ℕ) → IfSome r (λ a. a ≡ x) → P x → IfSome r P
+IfSome-same None P x same holds = tt
+IfSome-same (Some a) P x same holds = subst P (sym same) holds
+
+-- ---- a pool whose places are l, for the addresses from k on
+
+module _ (pool : List Past) (k : ℕ) (l : List Holder) (places : pasts_from k l ≡ pool) where
+  -- no address below the first is free
+  pub free-below : (name now a : ℕ) → a < k → is_free pool name now a ≡ false
+  free-below name now a below = rw (← places, past_at-below a k l below) refl
+
+  -- an address is free where its place may be followed
+  pub free-place : (name now a i : ℕ) (h : Holder) → a ≡ k + i → slice_get l i ≡ Some h → is_free pool name now a ≡ may_follow name now h
+  free-place name now a i h same at = rw (← places, past_at-place a k i l same, at) refl
+
+  -- no address past the last place is free
+  pub free-past_end : (name now a i : ℕ) → a ≡ k + i → length l ≤ i → is_free pool name now a ≡ false
+  free-past_end name now a i same past = rw (← places, past_at-place a k i l same, slice_get_past l i past) refl
+
+  -- an address of which something holds has a place
+  pub place_of_past : (q : Past → Bool) (a : ℕ) → option_map_or q (past_at a pool) false ≡ true → (k ≤ a) × (a - k < length l)
+  place_of_past q a holds =
+      let there = rw (← places) at holds in
+      elim (cases_lt a k) [
+        | inl below ↦ absurd (false≢true (rw (past_at-below a k l below) at there))
+        | inr from ↦ (
+          from,
+          elim (cases_lt (a - k) (length l)) [
+            | inl lt ↦ lt
+            | inr past ↦ absurd (false≢true (rw (past_at-place a k (a - k) l (omega arith), slice_get_past l (a - k) past) at there))
+          ],
+        )
+      ]
+
+  -- a place that is found has a free address
+  pub free-found : (name now i : ℕ) → position (may_follow name now) l ≡ Some i → is_free pool name now (k + i) ≡ true
+  free-found name now i found =
+      let nobody : Holder = record { name = None; ended = None } in
+      let here = position-Some (may_follow name now) l i nobody found in
+      free-place name now (k + i) i (get_or l i nobody) refl (slice_get-get_or l i nobody here.0) ∙ here.1
+
+  -- some address is free where some place is found
+  pub has_free-position : (name now : ℕ) → is_some (position (may_follow name now) l) ≡ has_free pool name now
+  has_free-position name now = rw (← places) (is_some-position (may_follow name now) l ∙ sym (find-pasts_from name now k l))
+
+  -- a change of one address is a write at its place
+  pub changed_pool : (F : Past → Past) (a : ℕ) (y d : Holder) → k ≤ a → a - k < length l → past_of a y ≡ F (past_of a (get_or l (a - k) d)) →
+      pasts_from k (set l (a - k) y) ≡ map (λ p. if p.address == a then F p else p) pool
+  changed_pool F a y d from lt is = rw (← places) (sym (changed-place F a k (a - k) l y d (omega arith) lt is))

@@ -1,0 +1,25 @@
+use Rattle.std.proofs.Common.{ap, arith, Some, is_some, is_none, ◌&&◌}
+use Rattle.fc_addresses.specs.Pool.{Past}
+use Rattle.fc_addresses.specs.Holders.{past_of}
+use Rattle.fc_addresses.specs.declared.pool.Holder.{Holder}
+use Rattle.fc_addresses.proofs.PoolLemmas.{place_of_past, changed_pool}
+use Rattle.fc_addresses.proofs.pool.Pool.release.Goals as goal
+
+pub overflow_sub-place : goal.overflow_sub-place
+overflow_sub-place c =
+    let place = place_of_past _ c.self.inside.first c.self.inside.holders.items c.self.view_is (λ p. is_some p.name && is_none p.ended) c.args.address c.requires.taken in
+    omega (arith, place.0)
+
+pub index_mut-requires : goal.index_mut-requires
+index_mut-requires c =
+    let place = place_of_past _ c.self.inside.first c.self.inside.holders.items c.self.view_is (λ p. is_some p.name && is_none p.ended) c.args.address c.requires.taken in
+    omega (arith, place.1, c.self.inside.holders.ok.0)
+
+pub returns : goal.returns
+returns c =
+    let place = place_of_past _ c.self.inside.first c.self.inside.holders.items c.self.view_is (λ p. is_some p.name && is_none p.ended) c.args.address c.requires.taken in
+    let F : Past → Past = λ p. record { address = p.address; name = p.name; ended = Some c.args.now } in
+    let was = rw c.value.ensures.value at c.index_mut.ensures.value in
+    rw c.value.ensures.value
+    (changed_pool _ c.self.inside.first c.self.inside.holders.items c.self.view_is F c.args.address _ c.index_mut.result.now place.0 place.1
+    (ap (λ (h : Holder). F (past_of c.args.address h)) was))

@@ -1,0 +1,20 @@
+use Rattle.std.proofs.Common.{arith, refl, Some, None}
+use Rattle.fc_addresses.specs.Pool.{is_open}
+use Rattle.fc_addresses.proofs.PoolLemmas.{place_of_past, changed_pool}
+use Rattle.fc_addresses.proofs.pool.Pool.take.Goals as goal
+
+pub overflow_sub-place : goal.overflow_sub-place
+overflow_sub-place c =
+    let place = place_of_past _ c.self.inside.first c.self.inside.holders.items c.self.view_is (is_open c.args.name c.args.now) c.args.address c.requires.free in
+    omega (arith, place.0)
+
+pub index_mut-requires : goal.index_mut-requires
+index_mut-requires c =
+    let place = place_of_past _ c.self.inside.first c.self.inside.holders.items c.self.view_is (is_open c.args.name c.args.now) c.args.address c.requires.free in
+    omega (arith, place.1, c.self.inside.holders.ok.0)
+
+pub returns : goal.returns
+returns c =
+    let place = place_of_past _ c.self.inside.first c.self.inside.holders.items c.self.view_is (is_open c.args.name c.args.now) c.args.address c.requires.free in
+    rw c.value.ensures.value
+    (changed_pool _ c.self.inside.first c.self.inside.holders.items c.self.view_is (λ p. record { address = p.address; name = Some c.args.name; ended = None }) c.args.address _ (record { name = None; ended = None }) place.0 place.1 refl)

@@ -1,0 +1,9 @@
+//! The pool of N_Port_IDs (FC-LS-2, "FLOGI"), with a quarantine after each login.
+#![tactic(auto)]
+
+mod pool;
+
+pub use pool::Pool;
+
+#[cfg(test)]
+mod tests;

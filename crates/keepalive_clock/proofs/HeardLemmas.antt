@@ -1,0 +1,177 @@
+-- What a change of a clock does to its voices, none of which comes twice.
+use Rattle.std.proofs.Common.{◌≡◌, ℕ, zero, suc, ◌+◌, ◌<◌, ◌≤◌, Bool, true, false, List, [], ◌∷◌, length, filter, find, position, cond, get_or, drop, slice_get, option_map, if◌then◌else◌, ◌⊎◌, inl, inr, Option, Some, None, is_some, nat_lt, refl, sym, ◌∙◌, ap, subst, arith}
+use mathlib.Core.Bool.{false≢true}
+use Rattle.std.specs.List.{position_or_len, insert, remove}
+use Rattle.std.proofs.lemmas.Bool.Decides.{nat_tests}
+use Rattle.std.proofs.lemmas.Option.{slice_get_past, slice_get-get_or}
+use Rattle.std.proofs.lemmas.List.Folds.{find_at}
+use Rattle.std.proofs.lemmas.List.Quantifiers.{position-Some}
+use Rattle.keepalive_clock.specs.Voices.{same_voice}
+use Rattle.keepalive_clock.specs.Clock.{heard_of, last_of, without, VoicesDiffer}
+use Rattle.keepalive_clock.specs.declared.voice.Voice.{Voice}
+use Rattle.keepalive_clock.specs.declared.voice.Heard.{Heard}
+use Rattle.keepalive_clock.proofs.VoiceLemmas.{same_voice-refl, same_voice-true, same_voice-false}
+
+-- ---- places
+
+-- the first that passes is here, or among the others
+pub position_or_len-here : (p : Heard → Bool) (x : Heard) (xs : List Heard) → p x ≡ true → position_or_len p (x ∷ xs) ≡ 0
+position_or_len-here p x xs this = grind (arith, nat_tests)
+
+pub position_or_len-later : (p : Heard → Bool) (x : Heard) (xs : List Heard) → p x ≡ false → position_or_len p (x ∷ xs) ≡ suc (position_or_len p xs)
+position_or_len-later p x xs other = grind (arith, nat_tests)
+
+pub position_or_len-le : (p : Heard → Bool) (xs : List Heard) → position_or_len p xs ≤ length xs
+position_or_len-le p [] = omega arith
+position_or_len-le p (x ∷ xs) = grind (arith, nat_tests, position_or_len-le p xs)
+
+pub position_or_len-Some : (p : Heard → Bool) (xs : List Heard) (i : ℕ) → position p xs ≡ Some i → position_or_len p xs ≡ i
+position_or_len-Some p xs i found = go (nat_lt (position_or_len p xs) (length xs)) found
+  where
+    go : (b : Bool) → cond b (Some (position_or_len p xs)) None ≡ Some i → position_or_len p xs ≡ i
+    go true e = cc
+    go false e = cc
+
+pub position_or_len-None : (p : Heard → Bool) (xs : List Heard) → position p xs ≡ None → position_or_len p xs ≡ length xs
+position_or_len-None p xs none = grind (arith, nat_tests, position_or_len-le p xs)
+
+-- ---- one voice less
+
+pub without-absent : (v : Voice) (xs : List Heard) → heard_of v xs ≡ None → without v xs ≡ xs
+without-absent v [] absent = refl
+without-absent v (x ∷ xs) absent = grind (arith, nat_tests, λ (later : heard_of v xs ≡ None). without-absent v xs later)
+
+-- a removal at the place of the voice
+pub remove-without : (v : Voice) (xs : List Heard) → VoicesDiffer xs → position_or_len (λ x. same_voice x.voice v) xs < length xs →
+    remove xs (position_or_len (λ x. same_voice x.voice v) xs) ≡ without v xs
+remove-without v [] differ within = absurd (omega arith)
+remove-without v (x ∷ xs) differ within = go (same_voice x.voice v) refl (λ fewer. remove-without v xs differ.1 fewer)
+  where
+    go : (b : Bool) → same_voice x.voice v ≡ b →
+        (position_or_len (λ y. same_voice y.voice v) xs < length xs → remove xs (position_or_len (λ y. same_voice y.voice v) xs) ≡ without v xs) →
+        remove (x ∷ xs) (position_or_len (λ y. same_voice y.voice v) (x ∷ xs)) ≡ without v (x ∷ xs)
+    go true this others =
+        let absent = subst (λ w. heard_of w xs ≡ None) (same_voice-true x.voice v this) differ.0 in
+        ap (λ n. remove (x ∷ xs) n) (position_or_len-here (λ y. same_voice y.voice v) x xs this) ∙ grind (arith, nat_tests, without-absent v xs absent)
+    go false other others =
+        let later = position_or_len-later (λ y. same_voice y.voice v) x xs other in
+        ap (λ n. remove (x ∷ xs) n) later ∙ ap (λ m. x ∷ m) (others (omega arith)) ∙ grind (arith, nat_tests)
+
+-- the voice isn't found any more, and every other is
+pub heard_of-without_this : (v : Voice) (xs : List Heard) → heard_of v (without v xs) ≡ None
+heard_of-without_this v [] = refl
+heard_of-without_this v (x ∷ xs) = grind (arith, nat_tests, heard_of-without_this v xs)
+
+pub heard_of-without_other : (v w : Voice) (xs : List Heard) → same_voice v w ≡ false → heard_of w (without v xs) ≡ heard_of w xs
+heard_of-without_other v w [] differ = refl
+heard_of-without_other v w (x ∷ xs) differ = go (same_voice x.voice v) refl (heard_of-without_other v w xs differ)
+  where
+    go : (b : Bool) → same_voice x.voice v ≡ b → heard_of w (without v xs) ≡ heard_of w xs → heard_of w (without v (x ∷ xs)) ≡ heard_of w (x ∷ xs)
+    go true this others = let not_w = subst (λ u. same_voice u w ≡ false) (sym (same_voice-true x.voice v this)) differ in grind (arith, nat_tests)
+    go false other others = grind (arith, nat_tests)
+
+find-filter_none : (p q : Heard → Bool) (xs : List Heard) → find q xs ≡ None → find q (filter p xs) ≡ None
+find-filter_none p q [] none = refl
+find-filter_none p q (x ∷ xs) none = grind (arith, nat_tests, λ (later : find q xs ≡ None). find-filter_none p q xs later)
+
+pub VoicesDiffer-filter : (p : Heard → Bool) (xs : List Heard) → VoicesDiffer xs → VoicesDiffer (filter p xs)
+VoicesDiffer-filter p [] differ = tt
+VoicesDiffer-filter p (x ∷ xs) differ = elim (p x) as (λ b. VoicesDiffer (cond b (x ∷ filter p xs) (filter p xs))) [
+  | true ↦ (find-filter_none p (λ y. same_voice y.voice x.voice) xs differ.0, VoicesDiffer-filter p xs differ.1)
+  | false ↦ VoicesDiffer-filter p xs differ.1
+]
+
+pub length-without : (v : Voice) (xs : List Heard) → length (without v xs) ≤ length xs
+length-without v [] = omega arith
+length-without v (x ∷ xs) = grind (arith, nat_tests, length-without v xs)
+
+-- fewer voices, if it was there
+pub length-without_found : (v : Voice) (xs : List Heard) → is_some (heard_of v xs) ≡ true → length (without v xs) < length xs
+length-without_found v [] found = absurd (false≢true found)
+length-without_found v (x ∷ xs) found =
+    grind (arith, nat_tests, length-without v xs, λ (later : is_some (heard_of v xs) ≡ true). length-without_found v xs later)
+
+-- ---- one voice more
+
+pub find-insert_other : (q : Heard → Bool) (y : Heard) (xs : List Heard) (i : ℕ) → q y ≡ false → find q (insert xs i y) ≡ find q xs
+find-insert_other q y [] zero other = grind (arith, nat_tests)
+find-insert_other q y (x ∷ xs) zero other = grind (arith, nat_tests)
+find-insert_other q y [] (suc i) other = grind (arith, nat_tests)
+find-insert_other q y (x ∷ xs) (suc i) other = grind (arith, nat_tests, find-insert_other q y xs i other)
+
+pub find-insert_this : (q : Heard → Bool) (y : Heard) (xs : List Heard) (i : ℕ) → q y ≡ true → find q xs ≡ None → find q (insert xs i y) ≡ Some y
+find-insert_this q y [] zero this none = grind (arith, nat_tests)
+find-insert_this q y (x ∷ xs) zero this none = grind (arith, nat_tests)
+find-insert_this q y [] (suc i) this none = grind (arith, nat_tests)
+find-insert_this q y (x ∷ xs) (suc i) this none = grind (arith, nat_tests, λ (later : find q xs ≡ None). find-insert_this q y xs i this later)
+
+pub VoicesDiffer-insert : (y : Heard) (xs : List Heard) (i : ℕ) → VoicesDiffer xs → heard_of y.voice xs ≡ None → VoicesDiffer (insert xs i y)
+VoicesDiffer-insert y xs zero differ absent = (absent, differ)
+VoicesDiffer-insert y [] (suc i) differ absent = (refl, tt)
+VoicesDiffer-insert y (x ∷ xs) (suc i) differ absent =
+    let other : same_voice x.voice y.voice ≡ false = grind (arith, nat_tests) in
+    (find-insert_other (λ z. same_voice z.voice x.voice) y xs i (same_voice-false x.voice y.voice other) ∙ differ.0, VoicesDiffer-insert y xs i differ.1 (grind (arith, nat_tests)))
+
+-- what is last of each voice, with one more that wasn't there
+pub last_of-insert : (v : Voice) (now : ℕ) (xs ls : List Heard) (i : ℕ) → ls ≡ without v xs → (w : Voice) →
+    last_of w (insert ls i (record { voice = v; last = now })) ≡ (if same_voice v w then Some now else last_of w xs)
+last_of-insert v now xs ls i rest w = go (same_voice v w) refl
+  where
+    last : Option Heard → Option ℕ
+    last o = option_map (λ x. x.last) o
+
+    go : (b : Bool) → same_voice v w ≡ b → last_of w (insert ls i (record { voice = v; last = now })) ≡ (if b then Some now else last_of w xs)
+    go true this =
+        let gone : heard_of w ls ≡ None = subst (λ u. heard_of u ls ≡ None) (same_voice-true v w this) (ap (λ l. heard_of v l) rest ∙ heard_of-without_this v xs) in
+        ap last (find-insert_this (λ x. same_voice x.voice w) (record { voice = v; last = now }) ls i this gone)
+    go false other =
+        ap last (find-insert_other (λ x. same_voice x.voice w) (record { voice = v; last = now }) ls i other ∙ ap (λ l. heard_of w l) rest ∙ heard_of-without_other v w xs other)
+
+-- ---- room
+
+pub is_some-last : (o : Option Heard) → is_some (option_map (λ x. x.last) o) ≡ is_some o
+is_some-last None = refl
+is_some-last (Some x) = refl
+
+-- with one voice added to the others, there is one more than before if it wasn't there
+pub count_without : (v : Voice) (xs : List Heard) → VoicesDiffer xs →
+    length (without v xs) + 1 ≡ (if is_some (last_of v xs) then length xs else length xs + 1)
+count_without v [] differ = refl
+count_without v (x ∷ xs) differ = go (same_voice x.voice v) refl (count_without v xs differ.1)
+  where
+    go : (b : Bool) → same_voice x.voice v ≡ b → length (without v xs) + 1 ≡ (if is_some (last_of v xs) then length xs else length xs + 1) →
+        length (without v (x ∷ xs)) + 1 ≡ (if is_some (last_of v (x ∷ xs)) then length (x ∷ xs) else length (x ∷ xs) + 1)
+    go true this others =
+        let absent = subst (λ w. heard_of w xs ≡ None) (same_voice-true x.voice v this) differ.0 in
+        grind (arith, nat_tests, ap (λ (l : List Heard). length l) (without-absent v xs absent))
+    go false other others = grind (arith, nat_tests)
+
+-- after a voice is gone that was there, or was to find room, there is room
+pub room_without : (v : Voice) (xs : List Heard) (room : ℕ) → (is_some (last_of v xs) ≡ true) ⊎ (length xs < room) → length xs ≤ room → length (without v xs) < room
+room_without v xs room (inl there) bound = omega (arith, length-without_found v xs (sym (is_some-last (heard_of v xs)) ∙ there))
+room_without v xs room (inr less) bound = omega (arith, length-without v xs)
+
+-- ---- a voice that is found
+
+pub heard_of-no_place : (v : Voice) (xs : List Heard) → position (λ x. same_voice x.voice v) xs ≡ None → heard_of v xs ≡ None
+heard_of-no_place v xs none = find_at (λ x. same_voice x.voice v) xs ∙ slice_get_past xs _ (omega (arith, position_or_len-None (λ x. same_voice x.voice v) xs none))
+
+module _ (v : Voice) (xs : List Heard) (differ : VoicesDiffer xs) (i : ℕ) (d : Heard) (found : position (λ x. same_voice x.voice v) xs ≡ Some i) where
+  place_is : position_or_len (λ x. same_voice x.voice v) xs ≡ i
+  place_is = position_or_len-Some (λ x. same_voice x.voice v) xs i found
+
+  within : i < length xs
+  within = (position-Some (λ x. same_voice x.voice v) xs i d found).0
+
+  pub heard_of-place : heard_of v xs ≡ Some (get_or xs i d)
+  heard_of-place = find_at (λ x. same_voice x.voice v) xs ∙ ap (λ n. slice_get xs n) place_is ∙ slice_get-get_or xs i d within
+
+  pub without_by_remove : remove xs i ≡ without v xs
+  without_by_remove = ap (λ n. remove xs n) (sym place_is) ∙ remove-without v xs differ (omega (arith, place_is, within))
+
+-- the voices behind the first
+pub without_first : (x : Heard) (xs : List Heard) → VoicesDiffer xs → slice_get xs 0 ≡ Some x → drop 1 xs ≡ without x.voice xs
+without_first x [] differ first = cc
+without_first x (y ∷ xs) differ first =
+    let same : y ≡ x = cc in
+    subst (λ (z : Heard). drop 1 (y ∷ xs) ≡ without z.voice (y ∷ xs)) same (grind (arith, nat_tests, same_voice-refl y.voice, without-absent y.voice xs differ.0))

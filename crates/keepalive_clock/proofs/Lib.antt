@@ -1,0 +1,3 @@
+pub mod VoiceLemmas
+pub mod HeardLemmas
+pub mod DueLemmas

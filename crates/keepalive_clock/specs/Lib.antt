@@ -1,0 +1,3 @@
+pub mod Voices
+pub mod Clock
+pub mod Order

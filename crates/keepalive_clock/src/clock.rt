@@ -1,0 +1,143 @@
+// The clock: voices with their last moments, in the order of their deadlines.
+ghost use Rattle.std.specs.Prelude.{◌≡◌, ℕ, ◌+◌, ◌<◌, ◌≤◌, ◌^◌, ◌⊎◌, if◌then◌else◌, length, IfOk, IfSome, MatchOption, IfNone, Some, None, [], ◌∷◌, IsTrue, is_some, IsPermutation};
+ghost use Rattle.keepalive_clock.specs.Voices.{same_voice};
+ghost use Rattle.keepalive_clock.specs.Clock.{Clock, last_of, is_silent_voice, has_silent, IsFirstSilence, without, KeepsLimits, IsSound};
+
+use crate::due::due;
+use crate::search::{of_voice, place_after, place_of};
+use crate::{Heard, Steps, Voice};
+use fab_base::{Moment, NoMemory};
+use std::alloc::Global;
+use std::marker::Model;
+use std::sync::ledger::Ledger;
+
+/// When each voice was last heard. No voice comes twice.
+#[derive(Debug, Drop)]
+pub struct KeepClock {
+    node_period: u32,
+    port_period: u32,
+    room: u32,
+    voices: Vec<Heard>,
+}
+
+impl Model for KeepClock {
+    ghost use Rattle.std.specs.Prelude.{vec_capacity};
+    ghost use Rattle.keepalive_clock.specs.Clock.{Clock};
+
+    ghost Value = { Clock };
+
+    ghost use Rattle.keepalive_clock.specs.Order.{IsKept};
+
+    ghost view = { λ c. record { node_period = c.node_period; port_period = c.port_period; room = c.room; voices = c.voices.items } };
+
+    ghost invariant = { λ c. IsKept (record { node_period = c.node_period; port_period = c.port_period; room = c.room; voices = c.voices.items }) (vec_capacity c.voices) };
+}
+
+impl KeepClock {
+    /// A clock without voices and with room for so many. Periods are in milliseconds.
+    pub fn new(
+        alloc: Global,
+        node_period: u32,
+        port_period: u32,
+        room: u32,
+    ) -> Result<KeepClock, NoMemory>
+        ensures { IfOk result (λ c. c ≡ record { node_period = node_period; port_period = port_period; room = room; voices = [] }) }
+    {
+        match Vec::with_capacity(alloc, room as usize) {
+            Ok(voices) => Ok(KeepClock {
+                node_period,
+                port_period,
+                room,
+                voices,
+            }),
+            Err(_) => Err(NoMemory),
+        }
+    }
+
+    /// The voice was heard at this moment.
+    pub fn heard(&mut self, voice: Voice, now: Moment)
+        requires range { now < 2 ^ 63 }
+        requires room { IsTrue (is_some (last_of voice self.old.voices)) ⊎ (length self.old.voices < self.old.room) }
+        ensures limits { KeepsLimits self.old self.new }
+        ensures voices { IsPermutation (record { voice = voice; last = now } ∷ without voice self.old.voices) self.new.voices }
+        ensures count { length self.new.voices ≡ (if is_some (last_of voice self.old.voices) then length self.old.voices else length self.old.voices + 1) }
+        ensures sound { IsSound self.new }
+        ensures last { (w : Voice) → last_of w self.new.voices ≡ (if same_voice voice w then Some now else last_of w self.old.voices) }
+    {
+        self.remove_voice(&voice);
+        let heard = Heard { voice, last: now };
+        let moment = due(self.node_period, self.port_period, &heard);
+        let place = place_after(self.node_period, self.port_period, &self.voices, moment);
+        let Ok(()) = self.voices.insert(place, heard) else {
+            unreachable!()
+        };
+    }
+
+    /// Forgets a voice. False where it isn't there.
+    pub fn forget(&mut self, voice: Voice) -> bool
+        ensures there { result ≡ is_some (last_of voice self.old.voices) }
+        ensures voices { self.new ≡ record self.old { voices = without voice self.old.voices } }
+        ensures sound { IsSound self.new }
+    {
+        self.remove_voice(&voice)
+    }
+
+    /// When the voice was last heard.
+    pub fn last(&self, voice: &Voice) -> Option<Moment>
+        ensures { result ≡ last_of voice.now self.now.voices }
+    {
+        match of_voice(&self.voices, voice) {
+            Some(heard) => Some(heard.last),
+            None => None,
+        }
+    }
+
+    /// The least moment at which some voice is silent too long.
+    pub fn due(&self) -> Option<Moment>
+        ensures { MatchOption result (self.now.voices ≡ []) (λ moment. IsFirstSilence self.now moment) }
+    {
+        match self.voices.first() {
+            Some(heard) => {
+                let moment = due(self.node_period, self.port_period, heard);
+                Some(Moment(moment as u64))
+            }
+            None => None,
+        }
+    }
+
+    /// Takes out a voice that is silent too long.
+    pub fn pop_due<L: Ledger>(&mut self, now: Moment, steps: &mut Steps<L>) -> Option<Voice>
+        ensures step { steps.new ≡ steps.old + 1 }
+        ensures some { is_some result ≡ has_silent self.old now }
+        ensures silent { IfSome result (λ voice. IsTrue (is_silent_voice self.old now voice)) }
+        ensures taken { IfSome result (λ voice. self.new ≡ record self.old { voices = without voice self.old.voices }) }
+        ensures none { IfNone result (self.new ≡ self.old) }
+        ensures sound { IsSound self.new }
+    {
+        steps.tick();
+        match self.voices.first() {
+            Some(heard) => {
+                if due(self.node_period, self.port_period, heard) > now.0 as u128 {
+                    return None;
+                }
+                Some(self.voices.remove(0).voice)
+            }
+            None => None,
+        }
+    }
+
+    fn remove_voice(&mut self, voice: &Voice) -> bool
+        ensures there { result ≡ is_some (last_of voice.now self.old.voices) }
+        ensures voices { self.new ≡ record self.old { voices = without voice.now self.old.voices } }
+        ensures sound { IsSound self.new }
+        ensures was_sound { IsSound self.old }
+    {
+        match place_of(&self.voices, voice) {
+            Some(place) => {
+                self.voices.remove(place);
+                true
+            }
+            None => false,
+        }
+    }
+}

@@ -1,0 +1,2 @@
+pub mod LoginLemmas
+pub mod TableLemmas

@@ -1,0 +1,123 @@
+// The table: its logins in ascending order of addresses.
+ghost use Rattle.std.specs.Prelude.{◌≡◌, ℕ, ◌<◌, if◌then◌else◌, ◌==◌, length, IfOk, Some, None, [], is_some, true, false, option_copied, option_map};
+ghost use Rattle.login_table.specs.Logins.{Logins, login_at, named, next_of, same_enode, added, sized, with_server, without, IsSound};
+
+use crate::Login;
+use crate::search::{next, next_of_enode, of_address, of_name, place_above, place_of};
+use fab_base::{Enode, FcId, NoMemory, Wwn};
+use std::alloc::Global;
+use std::marker::Model;
+
+/// The live logins, up to a limit. No address and no port name comes twice.
+#[derive(Debug, Drop)]
+pub struct LoginTable {
+    limit: u32,
+    logins: Vec<Login>,
+}
+
+impl Model for LoginTable {
+    ghost use Rattle.std.specs.Prelude.{vec_capacity};
+    ghost use Rattle.login_table.specs.Logins.{Logins};
+
+    ghost Value = { Logins };
+
+    ghost use Rattle.login_table.specs.Sound.{HasRoom};
+
+    ghost view = { λ t. record { limit = t.limit; logins = t.logins.items } };
+
+    ghost invariant = { λ t. HasRoom (record { limit = t.limit; logins = t.logins.items }) (vec_capacity t.logins) };
+}
+
+impl LoginTable {
+    /// An empty table with room for `limit` logins.
+    pub fn new(alloc: Global, limit: u32) -> Result<LoginTable, NoMemory>
+        ensures { IfOk result (λ t. t ≡ record { limit = limit; logins = [] }) }
+    {
+        match Vec::with_capacity(alloc, limit as usize) {
+            Ok(logins) => Ok(LoginTable { limit, logins }),
+            Err(_) => Err(NoMemory),
+        }
+    }
+
+    /// Adds a login.
+    pub fn add(&mut self, login: Login)
+        requires room { length self.old.logins < self.old.limit }
+        requires address { login_at login.address self.old.logins ≡ None }
+        requires name { named login.name self.old.logins ≡ None }
+        ensures logins { self.new ≡ record self.old { logins = added login self.old.logins } }
+        ensures sound { IsSound self.new }
+        ensures found { (a : ℕ) → login_at a self.new.logins ≡ (if login.address == a then Some login else login_at a self.old.logins) }
+        ensures named { (name : ℕ) → named name self.new.logins ≡ (if login.name == name then Some login else named name self.old.logins) }
+    {
+        let place = place_above(&self.logins, login.address);
+        let Ok(()) = self.logins.insert(place, login) else {
+            unreachable!()
+        };
+    }
+
+    /// The login of an address.
+    pub fn by_address(&self, address: FcId) -> Option<&Login>
+        ensures { option_copied result ≡ login_at address self.now.logins }
+    {
+        of_address(&self.logins, address)
+    }
+
+    /// The login of a port name.
+    pub fn by_name(&self, name: Wwn) -> Option<&Login>
+        ensures { option_copied result ≡ named name self.now.logins }
+    {
+        of_name(&self.logins, name)
+    }
+
+    /// Sets the receive size at the name server. False where the address has no login.
+    pub fn set_server(&mut self, address: FcId, size: Option<u16>) -> bool
+        ensures there { result ≡ is_some (login_at address self.old.logins) }
+        ensures logins { self.new ≡ record self.old { logins = with_server address size self.old.logins } }
+        ensures sound { IsSound self.new }
+        ensures absent { result ≡ false → self.new ≡ self.old }
+        ensures found { (a : ℕ) → login_at a self.new.logins ≡ option_map (sized address size) (login_at a self.old.logins) }
+    {
+        match place_of(&self.logins, address) {
+            Some(place) => {
+                self.logins[place].server_size = size;
+                true
+            }
+            None => false,
+        }
+    }
+
+    /// The least address of the ENode's logins that isn't below `from`.
+    pub fn first_of(&self, enode: &Enode, from: u32) -> Option<FcId>
+        ensures { result ≡ next_of (λ l. same_enode l.enode enode.now) from self.now.logins }
+    {
+        next_of_enode(&self.logins, enode, from)
+    }
+
+    /// Removes the login of an address, and hands it out.
+    pub fn remove(&mut self, address: FcId) -> Option<Login>
+        ensures login { result ≡ login_at address self.old.logins }
+        ensures logins { self.new ≡ record self.old { logins = without address self.old.logins } }
+        ensures sound { IsSound self.new }
+        ensures found { (a : ℕ) → login_at a self.new.logins ≡ (if address == a then None else login_at a self.old.logins) }
+    {
+        match place_of(&self.logins, address) {
+            Some(place) => Some(self.logins.remove(place)),
+            None => None,
+        }
+    }
+
+    /// The least live address that isn't below `from`.
+    pub fn after(&self, from: u32) -> Option<FcId>
+        ensures { result ≡ next_of (λ l. true) from self.now.logins }
+    {
+        next(&self.logins, from)
+    }
+
+    /// How many logins there are.
+    pub fn len(&self) -> u32
+        ensures count { result ≡ length self.now.logins }
+        ensures sound { IsSound self.now }
+    {
+        self.logins.len() as u32
+    }
+}
