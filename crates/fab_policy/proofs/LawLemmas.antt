@@ -1,28 +1,36 @@
 -- A verdict by the decoders against the same by the layout and the grammar.
-use Rattle.std.proofs.Common.{◌≡◌, ℕ, zero, suc, lit<, ◌⊎◌, inl, inr, ⊎_elim, nat_lt, ltb, ◌==◌, ◌&&◌, ◌||◌, if◌then◌else◌, Bool, true, false, List, [], ◌∷◌, length, Option, Some, None, Result, Ok, Err, refl, ap, subst, ◌∙◌, arith}
+use Rattle.std.proofs.Common.{◌≡◌, ℕ, zero, suc, lit<, ◌⊎◌, inl, inr, ⊎_elim, nat_lt, ltb, ◌==◌, ◌&&◌, ◌||◌, not, if◌then◌else◌, Bool, true, false, List, [], ◌∷◌, length, Option, Some, None, Result, Ok, Err, refl, sym, ap, subst, ◌∙◌, arith}
 use Rattle.std.specs.List.{AllPass}
-use Rattle.std.proofs.lemmas.Bool.{and_from, ltb-true, ltb-false, eqb-true, eqb-false, eq-eqb}
+use Rattle.std.proofs.lemmas.Bool.{ltb-true, ltb-false, eqb-true, eqb-false, eq-eqb}
 use Rattle.fab_base.specs.Layout.{number}
 use Rattle.fab_base.specs.declared.values.Caught.{Caught}
 use Rattle.fab_base.proofs.LayoutLemmas.{AreBytes}
-use Rattle.eth_frames.specs.Ethernet.{Eth, IsEth, decoded, has_tag, is_short, tagged_frame, plain_frame}
+use Rattle.fab_config.specs.Settings.{Settings, same_bytes}
+use Rattle.eth_frames.specs.Ethernet as eth
+use Rattle.eth_frames.specs.Ethernet.{Eth, IsEth, has_tag, is_short, tagged_frame, plain_frame, vlan_of_tag}
 use Rattle.eth_frames.specs.declared.EthFault.{EthFault}
 use Rattle.eth_frames.specs.declared.EthFault.TheVariants.{Short}
 use Rattle.eth_frames.proofs.EthernetLemmas.{decoded-is, layout-plain, layout-tagged}
-use Rattle.fip_codec.specs.Message.{Fip, Solicit, Advertise, Login, LoginReply, Keep, Clear, VlanAsk, VlanTell}
+use Rattle.fcoe_codec.specs.Fcoe as capsule
+use Rattle.fip_codec.specs.Message as fip
+use Rattle.fip_codec.specs.Message.{Solicit, Advertise, Login, LoginReply, Keep, Clear, VlanAsk, VlanTell}
 use Rattle.fip_codec.specs.Reading as reading
-use Rattle.fip_codec.specs.Reading.{IsFip}
 use Rattle.fip_codec.specs.declared.fault.FipFault.{FipFault}
 use Rattle.fip_codec.proofs.Grammar.{IsFip-from_decoded}
 use Rattle.fip_codec.proofs.Unique.{decoded-from_IsFip}
 use Rattle.fip_codec.proofs.Sound.{and-left, and-right}
-use Rattle.fab_policy.specs.Settings.{Settings, same_bytes}
-use Rattle.fab_policy.specs.Heard.{FIP, ALL_FCFS, vlan_of, is_on_vlan, is_to_forwarders, asks_for_vlans, is_vlan_request, asks_in, asks_vlans}
-use Rattle.fab_policy.specs.Verdicts.{judged}
-use Rattle.fab_policy.specs.Laws.{AsksVlans}
-use Rattle.fab_policy.specs.Cause.{Cause, plain}
-use Rattle.fab_policy.specs.declared.verdict.Verdict.TheVariants.{Vlans, Dropped}
+use Rattle.fab_policy.specs.Cause.{Cause}
+use Rattle.fab_policy.specs.Heard.{What, Bad, Fip, Fcoe, FIP, FCOE, plain, cause_of, decoded}
+use Rattle.fab_policy.specs.Judging.{by_rule, verdict_of}
+use Rattle.fab_policy.specs.Laws.{AsksVlans, Solicits}
+use Rattle.fab_policy.specs.Rules.{first_row, is_wrong_vlan, ALL_FCFS}
+use Rattle.fab_policy.specs.Stage.{verdict_so_far}
+use Rattle.fab_policy.specs.declared.verdict.Verdict.{Verdict}
+use Rattle.fab_policy.specs.declared.verdict.Verdict.TheVariants.{Vlans, Advertised, Dropped}
 use Rattle.fab_policy.specs.declared.verdict.Rule.TheVariants as rule
+use Rattle.fab_policy.proofs.JudgeLemmas.{so_far_is, heard_is}
+use Rattle.fab_policy.proofs.StageLemmas.{frame_rows}
+use Rattle.fab_policy.proofs.Steps.{same_bytes_self}
 
 -- ---- bytes
 
@@ -40,12 +48,8 @@ same_is (x ∷ l) (y ∷ m) e =
     let tail : l ≡ m = same_is l m (and-right (x == y) (same_bytes l m) e) in
     cc
 
-same_self : (l : List ℕ) → same_bytes l l ≡ true
-same_self [] = refl
-same_self (x ∷ l) = and_from (x == x) (same_bytes l l) (eq-eqb x x refl) (same_self l)
-
 is_same : (l m : List ℕ) → l ≡ m → same_bytes l m ≡ true
-is_same l m e = subst (λ n. same_bytes l n ≡ true) e (same_self l)
+is_same l m e = subst (λ n. same_bytes l n ≡ true) e (same_bytes_self l)
 
 -- ---- one test or another
 
@@ -61,6 +65,10 @@ or_right : (a b : Bool) → b ≡ true → (a || b) ≡ true
 or_right true b e = refl
 or_right false b e = e
 
+holds_from : (b : Bool) → not b ≡ false → b ≡ true
+holds_from true e = refl
+holds_from false e = absurd (cc)
+
 -- ---- Ethernet
 
 read_ok : (short : Bool) (x f : Eth) → (if short then Err Short else Ok x) ≡ Ok f → (short ≡ false) × (x ≡ f)
@@ -72,99 +80,239 @@ stands_by : (l : List ℕ) (tag : Bool) → AreBytes l → has_tag l ≡ tag →
 stands_by l true bytes is long = layout-tagged l _ _ _ _ _ bytes (ltb-false (length l) 18 long) refl refl (eqb-true (number l 12 2) 0x8100 is) refl refl refl
 stands_by l false bytes is long = layout-plain l _ _ _ _ bytes (ltb-false (length l) 14 long) refl refl refl (eqb-false (number l 12 2) 0x8100 is) refl
 
-stands : (l : List ℕ) (f : Eth) → AreBytes l → decoded l ≡ Ok f → IsEth f l
-unfolding decoded
+stands : (l : List ℕ) (f : Eth) → AreBytes l → eth.decoded l ≡ Ok f → IsEth f l
+unfolding eth.decoded
 stands l f bytes e =
     let parts = read_ok (is_short l) (if has_tag l then tagged_frame l else plain_frame l) f e in
     subst (λ g. IsEth g l) parts.1 (stands_by l (has_tag l) bytes refl parts.0)
 
--- ---- FIP
+-- ---- a frame of FIP
 
--- the same as the test of a body, of what was decoded
-abbrev named_in : Result Fip FipFault → Option (List ℕ)
-named_in read = elim read [ Ok (VlanAsk mac _) ↦ Some mac | _ ↦ None ]
+abbrev body_of : Eth → Result fip.Fip FipFault → What
+body_of f read = elim read as (λ _. What) [ Err fault ↦ Bad (cause_of fault) | Ok message ↦ Fip f message ]
 
-abbrev names : List ℕ → Result Fip FipFault → Bool
-names mac read = elim (named_in read) [ Some named ↦ same_bytes named mac | None ↦ false ]
+abbrev frame_of : Eth → Bool → Bool → What
+frame_of f is_fip is_fcoe =
+    elim is_fip as (λ _. What) [
+      | true ↦ body_of f (reading.decoded f.body)
+      | false ↦ elim is_fcoe as (λ _. What) [ true ↦ Fcoe f (capsule.decoded f.body) | false ↦ Bad (plain rule.Ethertype) ]
+    ]
 
-record Names (mac : List ℕ) (read : Result Fip FipFault) : Type 0 where
-  named : List ℕ
-  node : Option ℕ
-  is : read ≡ Ok (VlanAsk named node)
-  same : named ≡ mac
+abbrev read_of : Bool → Result Eth EthFault → What
+read_of whole read =
+    elim whole as (λ _. What) [
+      | false ↦ Bad (plain rule.Truncated)
+      | true ↦ elim read as (λ _. What) [ Err fault ↦ Bad (plain rule.EthShort) | Ok f ↦ frame_of f (f.kind == FIP) (f.kind == FCOE) ]
+    ]
 
-names_true : (mac : List ℕ) (read : Result Fip FipFault) → names mac read ≡ true → Names mac read
-names_true mac (Err fault) e = absurd (cc)
-names_true mac (Ok (Solicit from_fcf fp m node size)) e = absurd (cc)
-names_true mac (Ok (Advertise solicited available from_fcf fp priority m switch fc_map fabric quiet period)) e = absurd (cc)
-names_true mac (Ok (Login kind fp frame m)) e = absurd (cc)
-names_true mac (Ok (LoginReply kind fp frame m)) e = absurd (cc)
-names_true mac (Ok (Keep m port)) e = absurd (cc)
-names_true mac (Ok (Clear m switch ports)) e = absurd (cc)
-names_true mac (Ok (VlanAsk named node)) e = record { named = named; node = node; is = refl; same = same_is named mac e }
-names_true mac (Ok (VlanTell m vlans)) e = absurd (cc)
-
--- ---- frames
-
-record Reads (c : Settings) (whole : Bool) (read : Result Eth EthFault) : Type 0 where
-  frame : Eth
+-- a message in a frame that was read
+record HasMessage (whole : Bool) (read : Result Eth EthFault) (f : Eth) (m : fip.Fip) : Type 0 where
   is_whole : whole ≡ true
-  is : read ≡ Ok frame
-  request : is_vlan_request c frame ≡ true
+  is_read : read ≡ Ok f
+  kind : (f.kind == FIP) ≡ true
+  message : reading.decoded f.body ≡ Ok m
 
-reads_true : (c : Settings) (whole : Bool) (read : Result Eth EthFault) → asks_in c whole read ≡ true → Reads c whole read
-reads_true c false read e = absurd (cc)
-reads_true c true (Err fault) e = absurd (cc)
-reads_true c true (Ok f) e = record { frame = f; is_whole = refl; is = refl; request = e }
+same_fip : {f g : Eth} {m n : fip.Fip} → Fip f m ≡ Fip g n → (f ≡ g) × (m ≡ n)
+same_fip e = (cc, cc)
 
-reads_from : (c : Settings) (whole : Bool) (read : Result Eth EthFault) (f : Eth) → whole ≡ true → read ≡ Ok f → is_vlan_request c f ≡ true → asks_in c whole read ≡ true
-reads_from c whole read f w is request = ap (λ (b : Bool). asks_in c b read) w ∙ ap (asks_in c true) is ∙ request
+in_body : (g f : Eth) (m : fip.Fip) (read : Result fip.Fip FipFault) → body_of g read ≡ Fip f m → (g ≡ f) × (read ≡ Ok m)
+in_body g f m (Err fault) e = absurd (cc)
+in_body g f m (Ok n) e = let parts = same_fip e in (parts.0, ap (λ x. Ok x) parts.1)
 
-asked_means : (c : Settings) (caught : Caught) → AreBytes caught.bytes → asks_vlans c caught ≡ true → AsksVlans c caught
-unfolding asks_vlans
-asked_means c caught bytes e =
-    let r = reads_true c caught.whole (decoded caught.bytes) e in
-    let f = r.frame in
-    let kind = f.kind == FIP in
-    let vlan = is_on_vlan c f in
-    let dest = is_to_forwarders c f in
-    let body = asks_for_vlans f.src f.body in
-    let all : (kind && vlan && dest && body) ≡ true = r.request in
-    let three : (kind && vlan && dest) ≡ true = and-left (kind && vlan && dest) body all in
-    let two : (kind && vlan) ≡ true = and-left (kind && vlan) dest three in
-    let n = names_true f.src (reading.decoded f.body) (and-right (kind && vlan && dest) body all) in
+in_frame : (g f : Eth) (m : fip.Fip) (is_fip is_fcoe : Bool) → frame_of g is_fip is_fcoe ≡ Fip f m → (is_fip ≡ true) × (g ≡ f) × (reading.decoded g.body ≡ Ok m)
+in_frame g f m true is_fcoe e = let parts = in_body g f m (reading.decoded g.body) e in (refl, parts.0, parts.1)
+in_frame g f m false true e = absurd (cc)
+in_frame g f m false false e = absurd (cc)
+
+in_read : (whole : Bool) (read : Result Eth EthFault) (f : Eth) (m : fip.Fip) → read_of whole read ≡ Fip f m → HasMessage whole read f m
+in_read false read f m e = absurd (cc)
+in_read true (Err fault) f m e = absurd (cc)
+in_read true (Ok g) f m e =
+    let parts = in_frame g f m (g.kind == FIP) (g.kind == FCOE) e in
+    let same : g ≡ f = parts.1 in
     record {
-      frame = f;
-      named = n.named;
-      node = n.node;
-      whole = r.is_whole;
-      stands = stands caught.bytes f bytes r.is;
-      kind = eqb-true f.kind FIP (and-left kind vlan two);
-      request = IsFip-from_decoded (VlanAsk n.named n.node) f.body n.is;
-      vlan = ⊎_elim (λ t. inl (eqb-true (vlan_of f) 0 t)) (λ t. inr (eqb-true (vlan_of f) c.vlan t)) (or_true (vlan_of f == 0) (vlan_of f == c.vlan) (and-right kind vlan two));
-      dest = ⊎_elim (λ t. inl (same_is f.dst c.fcf_mac t)) (λ t. inr (same_is f.dst ALL_FCFS t)) (or_true (same_bytes f.dst c.fcf_mac) (same_bytes f.dst ALL_FCFS) (and-right (kind && vlan) dest three));
-      source = n.same;
+      is_whole = refl;
+      is_read = ap (λ x. Ok x) same;
+      kind = subst (λ x. (x.kind == FIP) ≡ true) same parts.0;
+      message = subst (λ x. reading.decoded x.body ≡ Ok m) same parts.2;
     }
 
-asked_from : (c : Settings) (caught : Caught) → AsksVlans c caught → asks_vlans c caught ≡ true
-unfolding asks_vlans
-asked_from c caught a =
+heard_message : (caught : Caught) (f : Eth) (m : fip.Fip) → decoded caught ≡ Fip f m → HasMessage caught.whole (eth.decoded caught.bytes) f m
+unfolding decoded
+heard_message caught f m e = in_read caught.whole (eth.decoded caught.bytes) f m e
+
+message_heard : (caught : Caught) (f : Eth) (m : fip.Fip) → caught.whole ≡ true → eth.decoded caught.bytes ≡ Ok f → (f.kind == FIP) ≡ true → reading.decoded f.body ≡ Ok m → decoded caught ≡ Fip f m
+unfolding decoded
+message_heard caught f m whole read kind message =
+    ap (λ b. read_of b (eth.decoded caught.bytes)) whole ∙ ap (λ r. read_of true r) read ∙ ap (λ b. frame_of f b (f.kind == FCOE)) kind ∙ ap (body_of f) message
+
+-- ---- the rows
+
+-- a verdict by which no frame is dropped
+abbrev Answers : Verdict → Type 0
+Answers v = (cause : Cause) → Dropped cause ≡ v → ⊥
+
+none_holds : (a b d e : Bool) (v : Verdict) → Answers v → by_rule (first_row (frame_rows a b d e [])) v ≡ v → (a ≡ false) × (b ≡ false) × (d ≡ false) × (e ≡ false)
+none_holds true b d e v h is = absurd (h _ is)
+none_holds false true d e v h is = absurd (h _ is)
+none_holds false false true e v h is = absurd (h _ is)
+none_holds false false false true v h is = absurd (h _ is)
+none_holds false false false false v h is = (refl, refl, refl, refl)
+
+passes : (a b d e : Bool) (v : Verdict) → a ≡ false → b ≡ false → d ≡ false → e ≡ false → by_rule (first_row (frame_rows a b d e [])) v ≡ v
+passes a b d e v p q r s =
+    ap (λ x. by_rule (first_row (frame_rows x b d e [])) v) p ∙ ap (λ x. by_rule (first_row (frame_rows false x d e [])) v) q
+    ∙ ap (λ x. by_rule (first_row (frame_rows false false x e [])) v) r ∙ ap (λ x. by_rule (first_row (frame_rows false false false x [])) v) s
+
+vlans_answer : Answers Vlans
+vlans_answer cause e = cc
+
+advertised_answers : Answers Advertised
+advertised_answers cause e = cc
+
+-- a frame of another verdict isn't answered so
+otherwise : (o : Option Cause) (w v : Verdict) → Answers v → (w ≡ v → ⊥) → by_rule o w ≡ v → ⊥
+otherwise None w v h other e = other e
+otherwise (Some cause) w v h other e = h cause e
+
+-- to the forwarder, or to all
+abbrev is_to : Settings → Eth → Bool
+is_to c f = same_bytes f.dst c.fcf_mac || same_bytes f.dst ALL_FCFS
+
+to_means : (c : Settings) (f : Eth) → not (is_to c f) ≡ false → (f.dst ≡ c.fcf_mac) ⊎ (f.dst ≡ ALL_FCFS)
+to_means c f e = ⊎_elim (λ t. inl (same_is f.dst c.fcf_mac t)) (λ t. inr (same_is f.dst ALL_FCFS t)) (or_true (same_bytes f.dst c.fcf_mac) (same_bytes f.dst ALL_FCFS) (holds_from (is_to c f) e))
+
+to_from : (c : Settings) (f : Eth) → (f.dst ≡ c.fcf_mac) ⊎ (f.dst ≡ ALL_FCFS) → not (is_to c f) ≡ false
+to_from c f h = ap not (⊎_elim (λ t. or_left (same_bytes f.dst c.fcf_mac) (same_bytes f.dst ALL_FCFS) (is_same f.dst c.fcf_mac t)) (λ t. or_right (same_bytes f.dst c.fcf_mac) (same_bytes f.dst ALL_FCFS) (is_same f.dst ALL_FCFS t)) h)
+
+names_means : (named src : List ℕ) → not (same_bytes named src) ≡ false → named ≡ src
+names_means named src e = same_is named src (holds_from (same_bytes named src) e)
+
+names_from : (named src : List ℕ) → named ≡ src → not (same_bytes named src) ≡ false
+names_from named src e = ap not (is_same named src e)
+
+-- ---- VLAN requests
+
+record HeardAsk (c : Settings) (what : What) : Type 0 where
+  frame : Eth
+  named : List ℕ
+  node : Option ℕ
+  is : what ≡ Fip frame (VlanAsk named node)
+  vlan : is_wrong_vlan c frame true ≡ false
+  dest : not (is_to c frame) ≡ false
+  source : not (same_bytes named frame.src) ≡ false
+
+heard_ask : (c : Settings) (what : What) → verdict_of c what ≡ Vlans → HeardAsk c what
+heard_ask c (Fip f (VlanAsk named node)) e =
+    let rows = none_holds (is_wrong_vlan c f true) (not (is_to c f)) false (not (same_bytes named f.src)) Vlans vlans_answer e in
+    record { frame = f; named = named; node = node; is = refl; vlan = rows.0; dest = rows.1; source = rows.3 }
+heard_ask c (Fip f (Solicit from_fcf fp mac node size)) e = absurd (otherwise _ Advertised Vlans vlans_answer (λ w. cc) e)
+heard_ask c (Fip f (Advertise solicited available from_fcf fp priority mac switch fc_map fabric quiet period)) e = absurd (otherwise _ (Dropped (plain rule.NotBuilt)) Vlans vlans_answer (λ w. cc) e)
+heard_ask c (Fip f (Login kind fp l mac)) e = absurd (otherwise _ (Dropped (plain rule.NotBuilt)) Vlans vlans_answer (λ w. cc) e)
+heard_ask c (Fip f (LoginReply kind fp l mac)) e = absurd (otherwise _ (Dropped (plain rule.NotBuilt)) Vlans vlans_answer (λ w. cc) e)
+heard_ask c (Fip f (Keep mac port)) e = absurd (otherwise _ (Dropped (plain rule.NotBuilt)) Vlans vlans_answer (λ w. cc) e)
+heard_ask c (Fip f (Clear mac switch ports)) e = absurd (otherwise _ (Dropped (plain rule.NotBuilt)) Vlans vlans_answer (λ w. cc) e)
+heard_ask c (Fip f (VlanTell mac vlans)) e = absurd (otherwise _ (Dropped (plain rule.NotBuilt)) Vlans vlans_answer (λ w. cc) e)
+heard_ask c (Fcoe f read) e = absurd (otherwise _ (Dropped (plain rule.NotBuilt)) Vlans vlans_answer (λ w. cc) e)
+heard_ask c (Bad cause) e = absurd (cc)
+
+pub request_means : (c : Settings) (caught : Caught) → AllPass (λ b. nat_lt b 256) caught.bytes → verdict_so_far c caught ≡ Vlans → AsksVlans c caught
+request_means c caught bytes e =
+    let a = heard_ask c (decoded caught) (sym (so_far_is c caught) ∙ e) in
     let f = a.frame in
-    let kind : (f.kind == FIP) ≡ true = eq-eqb f.kind FIP a.kind in
-    let vlan : is_on_vlan c f ≡ true = ⊎_elim (λ t. or_left (vlan_of f == 0) (vlan_of f == c.vlan) (eq-eqb (vlan_of f) 0 t)) (λ t. or_right (vlan_of f == 0) (vlan_of f == c.vlan) (eq-eqb (vlan_of f) c.vlan t)) a.vlan in
-    let dest : is_to_forwarders c f ≡ true = ⊎_elim (λ t. or_left (same_bytes f.dst c.fcf_mac) (same_bytes f.dst ALL_FCFS) (is_same f.dst c.fcf_mac t)) (λ t. or_right (same_bytes f.dst c.fcf_mac) (same_bytes f.dst ALL_FCFS) (is_same f.dst ALL_FCFS t)) a.dest in
-    let body : asks_for_vlans f.src f.body ≡ true = ap (names f.src) (decoded-from_IsFip (VlanAsk a.named a.node) f.body a.request) ∙ is_same a.named f.src a.source in
-    let all : is_vlan_request c f ≡ true = and_from _ _ (and_from _ _ (and_from _ _ kind vlan) dest) body in
-    reads_from c caught.whole (decoded caught.bytes) f a.whole (decoded-is f caught.bytes a.stands) all
+    let h = heard_message caught f (VlanAsk a.named a.node) a.is in
+    record {
+      frame = f;
+      named = a.named;
+      node = a.node;
+      whole = h.is_whole;
+      stands = stands caught.bytes f (are_bytes caught.bytes bytes) h.is_read;
+      kind = eqb-true f.kind FIP h.kind;
+      request = IsFip-from_decoded (VlanAsk a.named a.node) f.body h.message;
+      vlan = ⊎_elim (λ t. inl (eqb-true (vlan_of_tag f.tag) c.vlan t)) (λ t. inr (eqb-true (vlan_of_tag f.tag) 0 t)) (or_true (vlan_of_tag f.tag == c.vlan) (vlan_of_tag f.tag == 0) (holds_from _ a.vlan));
+      dest = to_means c f a.dest;
+      source = names_means a.named f.src a.source;
+    }
 
--- ---- verdicts
+pub request_from : (c : Settings) (caught : Caught) → AsksVlans c caught → verdict_so_far c caught ≡ Vlans
+request_from c caught a =
+    let f = a.frame in
+    let what = Fip f (VlanAsk a.named a.node) in
+    let heard = message_heard caught f (VlanAsk a.named a.node) a.whole (decoded-is f caught.bytes a.stands) (eq-eqb f.kind FIP a.kind) (decoded-from_IsFip (VlanAsk a.named a.node) f.body a.request) in
+    let vlan : is_wrong_vlan c f true ≡ false = ap not (⊎_elim (λ t. or_left (vlan_of_tag f.tag == c.vlan) (vlan_of_tag f.tag == 0) (eq-eqb (vlan_of_tag f.tag) c.vlan t)) (λ t. or_right (vlan_of_tag f.tag == c.vlan) (vlan_of_tag f.tag == 0) (eq-eqb (vlan_of_tag f.tag) 0 t)) a.vlan) in
+    sym (heard_is c caught what (sym heard)) ∙ passes (is_wrong_vlan c f true) (not (is_to c f)) false (not (same_bytes a.named f.src)) Vlans vlan (to_from c f a.dest) refl (names_from a.named f.src a.source)
 
-vlans_only : (asks : Bool) (cause : Cause) → (if asks then Vlans else Dropped cause) ≡ Vlans → asks ≡ true
-vlans_only true cause e = refl
-vlans_only false cause e = absurd (cc)
+-- ---- solicitations
 
-pub answered_means : (c : Settings) (caught : Caught) → AllPass (λ b. nat_lt b 256) caught.bytes → judged c caught ≡ Vlans → AsksVlans c caught
-answered_means c caught bytes e = asked_means c caught (are_bytes caught.bytes bytes) (vlans_only (asks_vlans c caught) _ e)
+record HeardSolicit (c : Settings) (what : What) : Type 0 where
+  frame : Eth
+  from_fcf : Bool
+  fp : Bool
+  named : List ℕ
+  node : ℕ
+  size : ℕ
+  is : what ≡ Fip frame (Solicit from_fcf fp named node size)
+  vlan : is_wrong_vlan c frame false ≡ false
+  dest : not (is_to c frame) ≡ false
+  role : from_fcf ≡ false
+  source : not (same_bytes named frame.src) ≡ false
 
-pub answered_from : (c : Settings) (caught : Caught) → AsksVlans c caught → judged c caught ≡ Vlans
-answered_from c caught a = ap (λ (b : Bool). if b then Vlans else Dropped (plain rule.NotBuilt)) (asked_from c caught a)
+heard_solicit : (c : Settings) (what : What) → verdict_of c what ≡ Advertised → HeardSolicit c what
+heard_solicit c (Fip f (Solicit from_fcf fp named node size)) e =
+    let rows = none_holds (is_wrong_vlan c f false) (not (is_to c f)) from_fcf (not (same_bytes named f.src)) Advertised advertised_answers e in
+    record {
+      frame = f;
+      from_fcf = from_fcf;
+      fp = fp;
+      named = named;
+      node = node;
+      size = size;
+      is = refl;
+      vlan = rows.0;
+      dest = rows.1;
+      role = rows.2;
+      source = rows.3;
+    }
+heard_solicit c (Fip f (VlanAsk named _)) e = absurd (otherwise _ Vlans Advertised advertised_answers (λ w. cc) e)
+heard_solicit c (Fip f (Advertise solicited available from_fcf fp priority mac switch fc_map fabric quiet period)) e = absurd (otherwise _ (Dropped (plain rule.NotBuilt)) Advertised advertised_answers (λ w. cc) e)
+heard_solicit c (Fip f (Login kind fp l mac)) e = absurd (otherwise _ (Dropped (plain rule.NotBuilt)) Advertised advertised_answers (λ w. cc) e)
+heard_solicit c (Fip f (LoginReply kind fp l mac)) e = absurd (otherwise _ (Dropped (plain rule.NotBuilt)) Advertised advertised_answers (λ w. cc) e)
+heard_solicit c (Fip f (Keep mac port)) e = absurd (otherwise _ (Dropped (plain rule.NotBuilt)) Advertised advertised_answers (λ w. cc) e)
+heard_solicit c (Fip f (Clear mac switch ports)) e = absurd (otherwise _ (Dropped (plain rule.NotBuilt)) Advertised advertised_answers (λ w. cc) e)
+heard_solicit c (Fip f (VlanTell mac vlans)) e = absurd (otherwise _ (Dropped (plain rule.NotBuilt)) Advertised advertised_answers (λ w. cc) e)
+heard_solicit c (Fcoe f read) e = absurd (otherwise _ (Dropped (plain rule.NotBuilt)) Advertised advertised_answers (λ w. cc) e)
+heard_solicit c (Bad cause) e = absurd (cc)
+
+-- either the VLAN is right, or nothing
+or_false : (a b : Bool) → (a || (false && b)) ≡ true → a ≡ true
+or_false true b e = refl
+or_false false b e = e
+
+pub solicitation_means : (c : Settings) (caught : Caught) → AllPass (λ b. nat_lt b 256) caught.bytes → verdict_so_far c caught ≡ Advertised → Solicits c caught
+solicitation_means c caught bytes e =
+    let a = heard_solicit c (decoded caught) (sym (so_far_is c caught) ∙ e) in
+    let f = a.frame in
+    let m = Solicit a.from_fcf a.fp a.named a.node a.size in
+    let h = heard_message caught f m a.is in
+    record {
+      frame = f;
+      fp = a.fp;
+      named = a.named;
+      node = a.node;
+      size = a.size;
+      whole = h.is_whole;
+      stands = stands caught.bytes f (are_bytes caught.bytes bytes) h.is_read;
+      kind = eqb-true f.kind FIP h.kind;
+      request = subst (λ b. reading.IsFip (Solicit b a.fp a.named a.node a.size) f.body) a.role (IsFip-from_decoded m f.body h.message);
+      vlan = eqb-true (vlan_of_tag f.tag) c.vlan (or_false (vlan_of_tag f.tag == c.vlan) (vlan_of_tag f.tag == 0) (holds_from _ a.vlan));
+      dest = to_means c f a.dest;
+      source = names_means a.named f.src a.source;
+    }
+
+pub solicitation_from : (c : Settings) (caught : Caught) → Solicits c caught → verdict_so_far c caught ≡ Advertised
+solicitation_from c caught a =
+    let f = a.frame in
+    let m = Solicit false a.fp a.named a.node a.size in
+    let heard = message_heard caught f m a.whole (decoded-is f caught.bytes a.stands) (eq-eqb f.kind FIP a.kind) (decoded-from_IsFip m f.body a.request) in
+    let vlan : is_wrong_vlan c f false ≡ false = ap not (or_left (vlan_of_tag f.tag == c.vlan) (false && vlan_of_tag f.tag == 0) (eq-eqb (vlan_of_tag f.tag) c.vlan a.vlan)) in
+    sym (heard_is c caught (Fip f m) (sym heard)) ∙ passes (is_wrong_vlan c f false) (not (is_to c f)) false (not (same_bytes a.named f.src)) Advertised vlan (to_from c f a.dest) refl (names_from a.named f.src a.source)

@@ -1,23 +1,119 @@
--- The answer to a VLAN request.
-use Rattle.std.proofs.Common.{◌≡◌, Bool, true, false, Result, Ok, Err, sym, ap}
+-- The answers to requests.
+use Rattle.std.proofs.Common.{◌≡◌, ℕ, ◌≤◌, nat_le, ◌==◌, IsTrue, Bool, true, false, List, [], None, Result, Ok, Err, refl, sym, ap, ◌∙◌, if◌then◌else◌, min, ◌∷◌}
+use Rattle.std.proofs.lemmas.Bool.{leb-true}
+use Rattle.fab_base.specs.Layout.{field, padded}
 use Rattle.fab_base.specs.declared.values.Caught.{Caught}
 use Rattle.eth_frames.specs.Ethernet as eth
 use Rattle.eth_frames.specs.declared.EthFault.{EthFault}
-use Rattle.fab_policy.specs.Settings.{Settings}
-use Rattle.fab_policy.specs.Heard.{asks_in, asks_vlans}
-use Rattle.fab_policy.specs.Replies.{vlan_notice, answer_to, answer_in}
+use Rattle.eth_frames.specs.declared.EthFault.TheVariants.{Short}
+use Rattle.fab_config.specs.Settings.{Settings, is_in_range, is_between}
+use Rattle.fab_config.specs.InRange.{inside_in_range}
+use Rattle.fab_config.specs.declared.Config.TheInside.{Inside}
+use Rattle.fip_codec.specs.Message as fip
+use Rattle.fip_codec.proofs.Sound.{and-left, and-right}
+use Rattle.fab_policy.specs.Heard.{What, Bad, plain, frame_in, decoded, source, FIP}
+use Rattle.fab_policy.specs.Judging.{notice_to, solicited_by, size_in, verdict_of}
+use Rattle.fab_policy.specs.Replies.{vlan_notice, advertised_to_one, made, own_tag, advertisement}
+use Rattle.fab_policy.specs.Stage.{verdict_so_far}
+use Rattle.fab_policy.specs.declared.verdict.Rule.TheVariants as rule
+use Rattle.fab_policy.specs.declared.verdict.Verdict.TheVariants.{Vlans, Advertised, Dropped}
+use Rattle.fab_policy.proofs.JudgeLemmas.{so_far_is}
 
--- a frame that can't be read asks for nothing
-asks_fault : (c : Settings) (w : Bool) (r : Result eth.Eth EthFault) (e : EthFault) → asks_in c w r ≡ true → r ≡ Err e → ⊥
-asks_fault c false r e asks is = absurd (cc)
-asks_fault c true (Err fault) e asks is = absurd (cc)
-asks_fault c true (Ok f) e asks is = absurd (cc)
+-- ---- ranges
 
-pub no_fault : (c : Settings) (caught : Caught) (e : EthFault) → asks_vlans c caught ≡ true → eth.decoded caught.bytes ≡ Err e → ⊥
-unfolding asks_vlans
-no_fault c caught e asks is = asks_fault c caught.whole (eth.decoded caught.bytes) e asks is
+at_most : (least most n : ℕ) → IsTrue (is_between least most n) → n ≤ most
+at_most least most n h = leb-true n most (and-right (nat_le least n) (nat_le n most) h)
 
--- the answer to a frame that was read
-pub notice_is : (c : Settings) (caught : Caught) (f : eth.Eth) → eth.decoded caught.bytes ≡ Ok f → answer_to c f ≡ vlan_notice c caught
-unfolding vlan_notice
-notice_is c caught f read = sym (ap (answer_in c) read)
+pub record Ranges (c : Settings) : Type 0 where
+  pub fc_map : c.fc_map ≤ 0x0efcff
+  pub vlan : c.vlan ≤ 4094
+
+-- what the range of a configuration says of the values that frames hold
+pub ranges : (c : Settings) → IsTrue (is_in_range c) → Ranges c
+ranges c h =
+    let to_vlan = and-left _ _ (and-left _ _ (and-left _ _ (and-left _ _ (and-left _ _ (and-left _ _ (and-left _ _ (and-left _ _ (and-left _ _ h)))))))) in
+    record {
+      fc_map = at_most 0x0efc00 0x0efcff c.fc_map (and-right _ _ (and-left _ _ to_vlan));
+      vlan = at_most 1 4094 c.vlan (and-right _ _ to_vlan);
+    }
+
+pub ranges_inside : (i : Inside) → inside_in_range i → (i.fc_map ≤ 0x0efcff) × (i.vlan ≤ 4094)
+ranges_inside i h =
+    let c : Settings = record {
+      switch = i.switch;
+      fcf_mac = i.fcf_mac;
+      fc_map = i.fc_map;
+      vlan = i.vlan;
+      domain = i.domain;
+      pool = i.pool;
+      priority = i.priority;
+      period = i.period;
+      window = i.window;
+      limit = i.limit;
+      zones = i.zones;
+      sets = i.sets;
+      activations = i.activations;
+    } in
+    let r = ranges c h in
+    (r.fc_map, r.vlan)
+
+-- ---- a frame that was read
+
+source_of : (l : List ℕ) (short tag : Bool) (f : eth.Eth) →
+    (if short then Err Short else Ok (if tag then eth.tagged_frame l else eth.plain_frame l)) ≡ Ok f → f.src ≡ field l 6 6
+source_of l true tag f e = absurd (cc)
+source_of l false true f e = ap (λ (r : Result eth.Eth EthFault). from r) (sym e)
+  where
+    from : Result eth.Eth EthFault → List ℕ
+    from (Ok g) = g.src
+    from (Err fault) = []
+source_of l false false f e = ap (λ (r : Result eth.Eth EthFault). from r) (sym e)
+  where
+    from : Result eth.Eth EthFault → List ℕ
+    from (Ok g) = g.src
+    from (Err fault) = []
+
+source_is : (caught : Caught) (f : eth.Eth) → eth.decoded caught.bytes ≡ Ok f → f.src ≡ source caught
+unfolding eth.decoded
+source_is caught f e = source_of caught.bytes (eth.is_short caught.bytes) (eth.has_tag caught.bytes) f e
+
+-- a frame that can't be read is dropped
+unread : (c : Settings) (whole : Bool) (read : Result eth.Eth EthFault) (fault : EthFault) → read ≡ Err fault →
+    (let what : What = elim whole as (λ _. What) [
+      | false ↦ Bad (plain rule.Truncated)
+      | true ↦ elim read as (λ _. What) [ Err fault ↦ Bad (plain rule.EthShort) | Ok f ↦ frame_in f ]
+    ] in
+    verdict_of c what ≡ Dropped (plain (if whole then rule.EthShort else rule.Truncated)))
+unread c false read fault e = refl
+unread c true (Err f) fault e = refl
+unread c true (Ok f) fault e = absurd (cc)
+
+dropped : (c : Settings) (caught : Caught) (fault : EthFault) → eth.decoded caught.bytes ≡ Err fault → verdict_so_far c caught ≡ Dropped (plain (if caught.whole then rule.EthShort else rule.Truncated))
+unfolding decoded
+dropped c caught fault e = so_far_is c caught ∙ unread c caught.whole (eth.decoded caught.bytes) fault e
+
+pub asks_readable : (c : Settings) (caught : Caught) (fault : EthFault) → verdict_so_far c caught ≡ Vlans → eth.decoded caught.bytes ≡ Err fault → ⊥
+asks_readable c caught fault asks e = let w : Vlans ≡ Dropped (plain (if caught.whole then rule.EthShort else rule.Truncated)) = sym asks ∙ dropped c caught fault e in cc
+
+pub solicits_readable : (c : Settings) (caught : Caught) (fault : EthFault) → verdict_so_far c caught ≡ Advertised → eth.decoded caught.bytes ≡ Err fault → ⊥
+solicits_readable c caught fault asks e = let w : Advertised ≡ Dropped (plain (if caught.whole then rule.EthShort else rule.Truncated)) = sym asks ∙ dropped c caught fault e in cc
+
+-- ---- the answers, by what was read
+
+abbrev is_untagged : Result eth.Eth EthFault → Bool
+is_untagged read = elim read [ Ok f ↦ eth.vlan_of_tag f.tag == 0 | Err e ↦ true ]
+
+abbrev notice_of : Settings → Result eth.Eth EthFault → List ℕ → List ℕ
+notice_of c read src = made c (if is_untagged read then None else own_tag c) src FIP (fip.written (fip.VlanTell c.fcf_mac (c.vlan ∷ [])))
+
+pub notice_is : (c : Settings) (caught : Caught) (f : eth.Eth) → eth.decoded caught.bytes ≡ Ok f → notice_to c f ≡ vlan_notice c caught
+notice_is c caught f e = ap (notice_of c (Ok f)) (source_is caught f e) ∙ ap (λ r. notice_of c r (source caught)) (sym e)
+
+abbrev size_read : Result eth.Eth EthFault → ℕ
+size_read read = elim read [ Err e ↦ 0 | Ok f ↦ size_in f.body ]
+
+abbrev solicited_of : Settings → Result eth.Eth EthFault → List ℕ → List ℕ
+solicited_of c read src = made c (own_tag c) src FIP (padded (min (size_read read) 2158) (fip.written (advertisement c true)))
+
+pub solicited_is : (c : Settings) (caught : Caught) (f : eth.Eth) → eth.decoded caught.bytes ≡ Ok f → solicited_by c f ≡ advertised_to_one c caught
+solicited_is c caught f e = ap (solicited_of c (Ok f)) (source_is caught f e) ∙ ap (λ r. solicited_of c r (source caught)) (sym e)

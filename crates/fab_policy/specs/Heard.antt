@@ -1,51 +1,131 @@
--- What a captured frame asks (IEEE 802.3, IEEE 802.1Q; FC-BB-5, "FIP operations").
-use Rattle.std.specs.Prelude.{ℕ, Bool, true, false, ◌==◌, ◌&&◌, ◌||◌, List, [], ◌∷◌, Option, Some, None, Result, Ok, Err}
+-- What a captured frame is, and what it asks.
+use Rattle.std.specs.Prelude.{ℕ, Bool, true, false, ◌==◌, List, [], Option, Some, None, Result, Ok, Err}
+use Rattle.fab_base.specs.Layout.{field}
 use Rattle.fab_base.specs.declared.values.Caught.{Caught}
+use Rattle.fab_base.specs.declared.values.Enode.{Enode}
 use Rattle.eth_frames.specs.Ethernet as eth
-use Rattle.eth_frames.specs.declared.EthFault.{EthFault}
+use Rattle.fc_frames.specs.Frame as fc
+use Rattle.fcoe_codec.specs.Fcoe as capsule
+use Rattle.fcoe_codec.specs.declared.FcoeFault.{FcoeFault}
 use Rattle.fip_codec.specs.Message as fip
 use Rattle.fip_codec.specs.Reading as reading
-use Rattle.fab_policy.specs.Settings.{Settings, same_bytes}
+use Rattle.fip_codec.specs.declared.fault.FipFault.{FipFault}
+use Rattle.fip_codec.specs.declared.fault.FipFault.TheVariants.{Short, Version, Operation, ListLength, DescLength, Critical, Double, Missing}
+use Rattle.fip_codec.specs.declared.message.LoginKind.{LoginKind}
+use Rattle.fip_codec.specs.declared.message.LoginKind.TheVariants.{Flogi, Fdisc, Logo}
+use Rattle.els_messages.specs.Els as els
+use Rattle.ct_messages.specs.Ct as ct
+use Rattle.els_messages.specs.declared.LoginParms.{LoginParms}
+use Rattle.fab_policy.specs.Cause.{Cause}
+use Rattle.fab_policy.specs.declared.verdict.Rule.{Rule}
+use Rattle.fab_policy.specs.declared.verdict.Rule.TheVariants as rule
 
--- the Ethertype of FIP
+-- ---- decoding
+
+-- A captured frame is unreadable by a rule, or a FIP message, or a body of FCoE that was read or has a fault.
+pub data What : Type 0 where
+  Bad : (cause : Cause) → What
+  Fip : (frame : eth.Eth) (message : fip.Fip) → What
+  Fcoe : (frame : eth.Eth) (read : Result capsule.Fcoe FcoeFault) → What
+
+abbrev pub FCOE : ℕ
+FCOE = 0x8906
+
 abbrev pub FIP : ℕ
 FIP = 0x8914
 
--- All-FCF-MACs, the group of all forwarders
-abbrev pub ALL_FCFS : List ℕ
-ALL_FCFS = 0x01 ∷ 0x10 ∷ 0x18 ∷ 0x01 ∷ 0x00 ∷ 0x02 ∷ []
+-- a rule without a number, and with one
+abbrev pub plain : Rule → Cause
+plain r = record { rule = r; number = None }
 
--- the VLAN number of a frame: that of its tag, and 0 without a tag
-abbrev pub vlan_of : eth.Eth → ℕ
-vlan_of f = eth.vlan_of_tag f.tag
+abbrev pub numbered : Rule → ℕ → Cause
+numbered r n = record { rule = r; number = Some n }
 
--- a frame on the forwarder's VLAN, or on none
-abbrev pub is_on_vlan : Settings → eth.Eth → Bool
-is_on_vlan c f = vlan_of f == 0 || vlan_of f == c.vlan
+-- the rule of a fault of a FIP body, with the place or the kind that it names
+abbrev pub cause_of : FipFault → Cause
+cause_of Short = plain rule.FipShort
+cause_of Version = plain rule.FipVersion
+cause_of Operation = plain rule.FipOperation
+cause_of ListLength = plain rule.FipList
+cause_of (DescLength at) = numbered rule.FipLength at
+cause_of (Critical at kind) = numbered rule.FipCritical at
+cause_of (Double at) = numbered rule.FipDouble at
+cause_of (Missing kind) = numbered rule.FipMissing kind
 
--- a frame to the forwarder, or to all forwarders
-abbrev pub is_to_forwarders : Settings → eth.Eth → Bool
-is_to_forwarders c f = same_bytes f.dst c.fcf_mac || same_bytes f.dst ALL_FCFS
+abbrev pub fip_in : eth.Eth → What
+fip_in f = elim (reading.decoded f.body) [ Err fault ↦ Bad (cause_of fault) | Ok message ↦ Fip f message ]
 
--- the MAC that a body of FIP names for its sender, where it is a VLAN request
-abbrev pub asker : List ℕ → Option (List ℕ)
-asker body = elim (reading.decoded body) [ Ok (fip.VlanAsk mac _) ↦ Some mac | _ ↦ None ]
+abbrev pub frame_in : eth.Eth → What
+frame_in f =
+    elim (f.kind == FIP) [
+      | true ↦ fip_in f
+      | false ↦ elim (f.kind == FCOE) [ true ↦ Fcoe f (capsule.decoded f.body) | false ↦ Bad (plain rule.Ethertype) ]
+    ]
 
--- a body of FIP that is a VLAN request which names this MAC
-abbrev pub asks_for_vlans : List ℕ → List ℕ → Bool
-asks_for_vlans mac body = elim (asker body) [ Some named ↦ same_bytes named mac | None ↦ false ]
+-- The decoding of a captured frame: the first rule that makes it unreadable, or its message or body.
+unfoldable pub decoded : Caught → What
+decoded caught =
+    elim caught.whole [
+      | false ↦ Bad (plain rule.Truncated)
+      | true ↦ elim (eth.decoded caught.bytes) [ Err fault ↦ Bad (plain rule.EthShort) | Ok f ↦ frame_in f ]
+    ]
 
--- A frame is a VLAN request that this forwarder answers: a FIP frame that carries one, on its VLAN or untagged, to it or
--- to all forwarders, from the MAC that the request names.
-abbrev pub is_vlan_request : Settings → eth.Eth → Bool
-is_vlan_request c f = f.kind == FIP && is_on_vlan c f && is_to_forwarders c f && asks_for_vlans f.src f.body
+-- ---- parts of a frame
 
--- the same of what was read of a frame, which must be whole
-abbrev pub asks_in : Settings → Bool → Result eth.Eth EthFault → Bool
-asks_in c false read = false
-asks_in c true (Err fault) = false
-asks_in c true (Ok f) = is_vlan_request c f
+abbrev pub destination : Caught → List ℕ
+destination caught = field caught.bytes 0 6
 
--- the same of a captured frame
-unfoldable pub asks_vlans : Settings → Caught → Bool
-asks_vlans c caught = asks_in c caught.whole (eth.decoded caught.bytes)
+abbrev pub source : Caught → List ℕ
+source caught = field caught.bytes 6 6
+
+-- the ENode that sent a frame of a port
+abbrev pub sender : ℕ → Caught → Enode
+sender port caught = record { port = port; mac = source caught }
+
+-- ---- the FC frame in it
+
+abbrev pub NO_FRAME : fc.Frame
+NO_FRAME = record { head = fc.header_of []; payload = [] }
+
+abbrev pub fc_of : List ℕ → fc.Frame
+fc_of l = elim (fc.decoded l) [ Ok f ↦ f | Err fault ↦ NO_FRAME ]
+
+-- the kind and the FC frame of a FIP login
+abbrev pub login_in : List ℕ → Option (LoginKind × List ℕ)
+login_in body = elim (reading.decoded body) [ Ok (fip.Login kind fp l mac) ↦ Some (kind, l) | _ ↦ None ]
+
+abbrev pub login_of : Caught → Option (LoginKind × List ℕ)
+login_of caught =
+    elim (eth.decoded caught.bytes) [ Err fault ↦ None | Ok f ↦ elim (f.kind == FIP) [ true ↦ login_in f.body | false ↦ None ] ]
+
+-- the FC frame that a captured frame carries, in a FIP login or in FCoE, whatever its check says
+unfoldable pub carried : Caught → fc.Frame
+carried caught =
+    elim (eth.decoded caught.bytes) [
+      | Err fault ↦ NO_FRAME
+      | Ok f ↦ elim (f.kind == FCOE) [
+        | true ↦ capsule.frame_in (capsule.covered f.body)
+        | false ↦ elim (login_of caught) [ None ↦ NO_FRAME | Some login ↦ fc_of login.1 ]
+      ]
+    ]
+
+-- the S_ID of that frame
+abbrev pub s_id : Caught → ℕ
+s_id caught = (carried caught).head.s_id
+
+-- the parameters that the frame's login asks for
+abbrev pub asked : Caught → LoginParms
+asked caught = els.parms_of (carried caught).payload
+
+-- the frame is a FLOGI
+unfoldable pub is_flogi : Caught → Bool
+is_flogi caught = elim (login_of caught) [ None ↦ false | Some login ↦ is_first login.0 ]
+  where
+    is_first : LoginKind → Bool
+    is_first Flogi = true
+    is_first Fdisc = false
+    is_first Logo = false
+
+-- the request to the name server that the frame carries
+abbrev pub ask_of : Caught → ct.Ask
+ask_of caught = elim (ct.decoded (carried caught).payload) [ Ok ask ↦ ask | Err fault ↦ ct.Unknown 0 ]

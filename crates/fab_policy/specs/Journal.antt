@@ -1,5 +1,5 @@
 -- The journal of a forwarder, and how it is scanned.
-use Rattle.std.specs.Prelude.{ℕ, Bool, true, false, List, [], ◌∷◌, Option, Some, None, unwrap_or}
+use Rattle.std.specs.Prelude.{ℕ, ◌+◌, Bool, true, false, List, [], ◌∷◌, Option, Some, None, unwrap_or}
 use Rattle.fab_policy.specs.declared.event.Event.{Event}
 use Rattle.fab_policy.specs.declared.event.Event.TheVariants.{Tick, Frame}
 
@@ -38,3 +38,9 @@ clock J = latest moment_of J
 -- the same as a number, 0 where there is no tick
 abbrev pub now : Journal → ℕ
 now J = unwrap_or (clock J) 0
+
+-- how many entries are frames
+abbrev pub frame_count : Journal → ℕ
+frame_count [] = 0
+frame_count (Tick m ended ∷ J) = frame_count J
+frame_count (Frame port index caught verdict ∷ J) = frame_count J + 1

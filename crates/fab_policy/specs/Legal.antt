@@ -1,21 +1,28 @@
 -- Which journals a forwarder may write: a relation between each entry and those before it.
-use Rattle.std.specs.Prelude.{◌≡◌, ℕ, ◌+◌, ◌-◌, ◌%◌, ◌<◌, ◌≤◌, ◌==◌, nat_le, if◌then◌else◌, IsTrue, IsSome, List, [], ◌∷◌, ◌++◌, length, drop, map, Option, Some, IfSome, slice_get, option_and_then}
+use Rattle.std.specs.Prelude.{◌≡◌, ℕ, ◌+◌, ◌-◌, ◌%◌, ◌<◌, ◌≤◌, Bool, false, not, ◌==◌, nat_lt, nat_le, ◌&&◌, ◌||◌, ◌⊎◌, if◌then◌else◌, IsTrue, IsSome, List, [], ◌∷◌, ◌++◌, length, drop, map, Option, Some, None, IfSome, slice_get, option_and_then}
 use Rattle.std.specs.List.{list_any, list_all}
 use Rattle.fab_base.specs.declared.values.Caught.{Caught}
+use Rattle.fab_config.specs.Settings.{Settings}
+use Rattle.fab_config.specs.declared.Activation.{Activation}
 use Rattle.pcap_file.specs.declared.Record.{Record}
-use Rattle.fab_policy.specs.Settings.{Settings}
 use Rattle.fab_policy.specs.Journal.{Journal, clock}
+use Rattle.fab_policy.specs.State.{tables_of, overdue, addresses, Tables, now_of}
 use Rattle.fab_policy.specs.Verdicts.{IsRight}
+use Rattle.fab_policy.specs.Outputs.{is_owed, advertised_at}
 use Rattle.fab_policy.specs.declared.event.Event.{Event}
 use Rattle.fab_policy.specs.declared.event.Event.TheVariants.{Tick, Frame}
 
 -- ---- legal
 
--- An entry is right after J: a tick ends nobody, since nobody logs in yet, and a frame comes after a tick and has the right
--- verdict.
+-- An entry is right where the tables stand so: a tick ends exactly the overdue, and a frame comes after a tick and has a
+-- right verdict.
+abbrev pub IsRightEntry : Settings → Tables → Event → Type 0
+IsRightEntry c T (Tick m ended) = ended ≡ addresses (overdue c T m)
+IsRightEntry c T (Frame port index caught verdict) = IsSome T.clock × IsRight c T port caught verdict
+
+-- An entry is right after J.
 abbrev pub Follows : Settings → Journal → Event → Type 0
-Follows c J (Tick m ended) = ended ≡ []
-Follows c J (Frame port index caught verdict) = IsSome (clock J) × IsRight c caught verdict
+Follows c J e = IsRightEntry c (tables_of c J) e
 
 -- Each entry is right after those before it.
 abbrev pub Legal : Settings → Journal → Type 0
@@ -41,6 +48,30 @@ numbered_from n (r ∷ records) = (n, r.caught) ∷ numbered_from (n + 1) record
 abbrev pub window_start : Settings → ℕ → ℕ
 window_start c m = m - m % c.window
 
+-- an activation's moment lies above one moment and not above another
+abbrev pub has_activation : List Activation → ℕ → ℕ → Bool
+has_activation activations after at = list_any (λ a. nat_lt after a.moment && nat_le a.moment at) activations
+
+-- A tick is owed at a moment: somebody is overdue then, or an advertisement is owed, or zones changed since the clock.
+unfoldable pub is_tick_owed : Settings → Tables → Option ℕ → ℕ → Bool
+is_tick_owed c T advertised m =
+    not (length (overdue c T m) == 0) || is_owed c advertised m || has_activation c.activations (now_of T) m
+
+-- the same over what a journal says
+abbrev pub is_owed_after : Settings → Journal → ℕ → Bool
+is_owed_after c J m = is_tick_owed c (tables_of c J) (advertised_at c J) m
+
+-- a moment at which a tick may be
+abbrev pub IsTickTime : Settings → Journal → ℕ → Type 0
+IsTickTime c J m = (m % c.window ≡ 0) × IfSome (clock J) (λ t. t < m)
+
+-- The moment is the least above the clock at which a tick is owed; none is before the first tick.
+pub record IsDue (c : Settings) (J : Journal) (m : ℕ) : Type 0 where
+  pub begun : IsSome (clock J)
+  pub time : IsTickTime c J m
+  pub owed : IsTrue (is_owed_after c J m)
+  pub least : (k : ℕ) → IsTickTime c J k → k < m → is_owed_after c J k ≡ false
+
 -- the records of a port that have no entry in J yet
 abbrev pub left_of : ℕ → List Record → Journal → List Record
 left_of p records J = drop (length (of_port p J)) records
@@ -53,9 +84,14 @@ windows_left c p (records ∷ ins) J = map (λ r. window_start c r.moment) (left
 abbrev pub IsLeastOf : List ℕ → ℕ → Type 0
 IsLeastOf ms w = IsTrue (list_any (λ m. m == w) ms) × IsTrue (list_all (λ m. nat_le w m) ms)
 
--- The next tick is the window of the next frames, which lies above the clock.
-abbrev pub IsNextTick : Journal → ℕ → ℕ → Type 0
-IsNextTick J w m = (m ≡ w) × IfSome (clock J) (λ t. t < m)
+-- The next tick: the window of the next frames, or an earlier moment at which a tick is owed; the first tick has no
+-- earlier one.
+abbrev pub IsNextTick : Settings → Journal → ℕ → ℕ → Type 0
+IsNextTick c J w m = elim (clock J) as (λ _. Type 0) [
+  | None ↦ m ≡ w
+  | Some t ↦ (t < m) × (m ≤ w) × ((m ≡ w) ⊎ IsTrue (is_owed_after c J m)) × (m % c.window ≡ 0)
+      × ((k : ℕ) → IsTickTime c J k → k < m → is_owed_after c J k ≡ false)
+]
 
 -- the record of an entry
 abbrev pub record_of : List (List Record) → ℕ → ℕ → Option Record
@@ -64,7 +100,7 @@ record_of ins port index = option_and_then (λ records. slice_get records index)
 -- An entry comes at its time: a frame in its window, and a tick at the next moment that wants one while frames are left.
 abbrev pub InTime : Settings → List (List Record) → Journal → Event → Type 0
 InTime c ins J (Frame port index caught verdict) = IfSome (record_of ins port index) (λ r. clock J ≡ Some (window_start c r.moment))
-InTime c ins J (Tick m ended) = (w : ℕ) × IsLeastOf (windows_left c 1 ins J) w × IsNextTick J w m
+InTime c ins J (Tick m ended) = (w : ℕ) × IsLeastOf (windows_left c 1 ins J) w × IsNextTick c J w m
 
 abbrev pub Timed : Settings → List (List Record) → Journal → Type 0
 Timed c ins [] = Unit {0}

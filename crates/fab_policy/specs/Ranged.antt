@@ -1,12 +1,14 @@
--- Journals whose numbers are in the ranges of their types.
+-- Journals whose numbers are in the ranges of their types, and what the text of one says of it.
 use Rattle.std.specs.Prelude.{◌≡◌, ℕ, ◌+◌, ◌<◌, ◌≤◌, ◌^◌, nat_lt, List, [], ◌∷◌, is_some, IfSome}
 use Rattle.std.specs.List.{AllPass}
 use Rattle.fab_policy.specs.Cause.{is_numbered}
 use Rattle.fab_policy.specs.Journal.{Journal}
+use Rattle.fab_policy.specs.Legal.{of_port}
+use Rattle.fab_policy.specs.Text.{text, text1}
 use Rattle.fab_policy.specs.declared.event.Event.{Event}
 use Rattle.fab_policy.specs.declared.event.Event.TheVariants.{Tick, Frame}
 use Rattle.fab_policy.specs.declared.verdict.Verdict.{Verdict}
-use Rattle.fab_policy.specs.declared.verdict.Verdict.TheVariants.{Vlans, Dropped}
+use Rattle.fab_policy.specs.declared.verdict.Verdict.TheVariants.{Granted, Rejected, Logout, AlivePort, Watching, Refused, Forwarded, Dropped}
 
 abbrev pub IsAddress : ℕ → Type 0
 IsAddress a = a < 2 ^ 24
@@ -17,8 +19,15 @@ AscendFrom from [] = Unit {0}
 AscendFrom from (a ∷ more) = (from ≤ a) × IsAddress a × AscendFrom (a + 1) more
 
 abbrev pub IsRangedVerdict : Verdict → Type 0
-IsRangedVerdict Vlans = Unit {0}
+IsRangedVerdict (Granted a) = IsAddress a
+IsRangedVerdict (Logout a) = IsAddress a
+IsRangedVerdict (AlivePort a) = IsAddress a
+IsRangedVerdict (Rejected reason explanation) = (reason < 256) × (explanation < 256)
+IsRangedVerdict (Refused reason explanation) = (reason < 256) × (explanation < 256)
+IsRangedVerdict (Watching function) = function < 256
+IsRangedVerdict (Forwarded port) = (1 ≤ port) × (port ≤ 64)
 IsRangedVerdict (Dropped cause) = (is_some cause.number ≡ is_numbered cause.rule) × IfSome cause.number (λ n. n < 2 ^ 32)
+IsRangedVerdict _ = Unit {0}
 
 abbrev pub IsRangedEvent : Event → Type 0
 IsRangedEvent (Tick m ended) = (m < 2 ^ 64) × AscendFrom 0 ended
@@ -27,3 +36,16 @@ IsRangedEvent (Frame port index caught verdict) = (1 ≤ port) × (port ≤ 64) 
 abbrev pub IsRanged : Journal → Type 0
 IsRanged [] = Unit {0}
 IsRanged (e ∷ J) = IsRanged J × IsRangedEvent e
+
+-- the first entry, if any, is a tick
+abbrev pub BeginsWithTick : Journal → Type 0
+BeginsWithTick [] = Unit {0}
+BeginsWithTick (Tick m ended ∷ []) = Unit {0}
+BeginsWithTick (Frame port index caught verdict ∷ []) = ⊥
+BeginsWithTick (e ∷ d ∷ J) = BeginsWithTick (d ∷ J)
+
+-- Text and captures name one journal: two that begin with a tick and have the same text in one format, and the same frames of
+-- each port, are equal.
+abbrev pub TextNamesJournal : Type 0
+TextNamesJournal = (I J : Journal) → IsRanged I → IsRanged J → BeginsWithTick I → BeginsWithTick J →
+    ((p : ℕ) → of_port p I ≡ of_port p J) → (text I ≡ text J → I ≡ J) × (text1 I ≡ text1 J → I ≡ J)

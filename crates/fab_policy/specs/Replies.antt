@@ -1,12 +1,28 @@
--- The frames that the forwarder makes (FC-BB-5, "FIP operations"). Choices that the standards leave open are this
--- project's profile.
-use Rattle.std.specs.Prelude.{ℕ, ◌+◌, ◌==◌, if◌then◌else◌, List, [], ◌∷◌, Option, Some, None, Result, Ok, Err}
+-- The frames that the forwarder makes (FC-BB-5, "FIP operations" and "FCoE frame format"; FC-LS-2; FC-GS-6). Choices
+-- that the standards leave open are this project's profile.
+use Rattle.std.specs.Prelude.{ℕ, zero, suc, ◌+◌, min, Bool, true, false, ◌==◌, nat_le, if◌then◌else◌, List, [], ◌∷◌, ◌++◌, length, take, drop, Option, Some, None, Ok, Err}
+use Rattle.fab_base.specs.Layout.{spelled, zeros, padded}
 use Rattle.fab_base.specs.declared.values.Caught.{Caught}
+use Rattle.fab_config.specs.Settings.{Settings}
 use Rattle.eth_frames.specs.Ethernet as eth
-use Rattle.eth_frames.specs.declared.EthFault.{EthFault}
+use Rattle.fc_frames.specs.Frame as fc
+use Rattle.fc_frames.specs.declared.FcHeader.{FcHeader}
+use Rattle.fcoe_codec.specs.Fcoe as capsule
 use Rattle.fip_codec.specs.Message as fip
-use Rattle.fab_policy.specs.Settings.{Settings}
-use Rattle.fab_policy.specs.Heard.{FIP, vlan_of}
+use Rattle.fip_codec.specs.Reading as reading
+use Rattle.fip_codec.specs.declared.message.LoginKind.{LoginKind}
+use Rattle.fip_codec.specs.declared.message.LoginKind.TheVariants.{Flogi}
+use Rattle.fip_codec.specs.declared.message.VxPort.{VxPort}
+use Rattle.els_messages.specs.Els as els
+use Rattle.els_messages.specs.declared.LoginParms.{LoginParms}
+use Rattle.ct_messages.specs.Answer as ct
+use Rattle.ct_messages.specs.declared.CtTell.{CtTell}
+use Rattle.fab_policy.specs.Heard.{FIP, FCOE, carried, asked, source, login_of}
+use Rattle.fab_policy.specs.Logins.{granted_mac}
+use Rattle.fab_policy.specs.Rules.{ALL_ENODES, CONTROLLER, NAME_SERVER}
+use Rattle.fab_policy.specs.Queries.{fport}
+
+-- ---- Ethernet
 
 -- the tag of a frame that the forwarder makes: priority 3 and the VLAN (IEEE 802.1Q)
 abbrev pub own_tag : Settings → Option ℕ
@@ -16,15 +32,154 @@ own_tag c = Some (0x6000 + c.vlan)
 abbrev pub made : Settings → Option ℕ → List ℕ → ℕ → List ℕ → List ℕ
 made c tag dst kind body = eth.written (record { dst = dst; src = c.fcf_mac; tag = tag; kind = kind; body = body })
 
--- the VLAN notification to the sender of a frame, without a tag where the frame has none
-abbrev pub answer_to : Settings → eth.Eth → List ℕ
-answer_to c f = made c (if vlan_of f == 0 then None else own_tag c) f.src FIP (fip.written (fip.VlanTell c.fcf_mac (c.vlan ∷ [])))
+abbrev pub made_fip : Settings → List ℕ → fip.Fip → List ℕ
+made_fip c dst m = made c (own_tag c) dst FIP (fip.written m)
 
--- the same of what was read of a frame, and nothing where it couldn't be read
-abbrev pub answer_in : Settings → Result eth.Eth EthFault → List ℕ
-answer_in c (Err fault) = []
-answer_in c (Ok f) = answer_to c f
+abbrev pub made_fcoe : Settings → List ℕ → ℕ → ℕ → fc.Frame → List ℕ
+made_fcoe c dst sof eof f = made c (own_tag c) dst FCOE (capsule.written (record { sof = sof; eof = eof; frame = f }))
 
--- the VLAN notification that answers a captured frame
-unfoldable pub vlan_notice : Settings → Caught → List ℕ
-vlan_notice c caught = answer_in c (eth.decoded caught.bytes)
+-- ---- FC headers
+
+-- a header with CS_CTL, SEQ_ID, DF_CTL and Parameter 0 and RX_ID FFFF
+abbrev pub header : ℕ → ℕ → ℕ → ℕ → ℕ → ℕ → ℕ → FcHeader
+header r_ctl d_id s_id kind f_ctl seq_cnt ox_id = record {
+  r_ctl = r_ctl;
+  d_id = d_id;
+  cs_ctl = 0;
+  s_id = s_id;
+  kind = kind;
+  f_ctl = f_ctl;
+  seq_id = 0;
+  df_ctl = 0;
+  seq_cnt = seq_cnt;
+  ox_id = ox_id;
+  rx_id = 0xffff;
+  parameter = 0;
+}
+
+-- the exchange originator's only frame; the responder's last frame, and an earlier one (FC-FS-3, "F_CTL")
+abbrev pub F_CTL_REQUEST : ℕ
+F_CTL_REQUEST = 0x290000
+
+abbrev pub F_CTL_LAST : ℕ
+F_CTL_LAST = 0x980000
+
+abbrev pub F_CTL_EARLIER : ℕ
+F_CTL_EARLIER = 0x900000
+
+-- a reply of an extended link service to the request that a frame carries, from the address that was asked
+abbrev pub els_reply : fc.Frame → ℕ → els.Els → fc.Frame
+els_reply asked d_id v = record { head = header 0x23 d_id asked.head.d_id 0x01 F_CTL_LAST 0 asked.head.ox_id; payload = els.written v }
+
+-- ---- accepts of logins
+
+-- what the accept of a FLOGI or FDISC says: a fabric port, and several addresses where they were asked for
+abbrev pub fabric_parms : Settings → ℕ → LoginParms → LoginParms
+fabric_parms c port p = record {
+  features = 0x1000 + (if els.has_feature 0x8000 p then 0x2000 else 0);
+  size = 0x840;
+  ra_tov = 0x2710;
+  ed_tov = 0x7d0;
+  port_name = fport c port;
+  node_name = c.switch;
+  class3 = 0x88 ∷ 0 ∷ zeros 14;
+}
+
+-- what the accept of a login to the name server says
+abbrev pub server_parms : Settings → LoginParms
+server_parms c = record {
+  features = 0;
+  size = 0x840;
+  ra_tov = 0xff0000;
+  ed_tov = 0x7d0;
+  port_name = fport c 0;
+  node_name = c.switch;
+  class3 = 0x80 ∷ 0 ∷ 0 ∷ 0 ∷ 0 ∷ 0 ∷ 0x08 ∷ 0x40 ∷ 0x00 ∷ 0xff ∷ 0 ∷ 0 ∷ 0 ∷ 1 ∷ 0 ∷ 0 ∷ [];
+}
+
+-- ---- replies in FIP, to the sender of a frame
+
+abbrev pub kind_asked : Caught → LoginKind
+kind_asked caught = elim (login_of caught) [ Some login ↦ login.0 | None ↦ Flogi ]
+
+abbrev pub reply_in_fip : Settings → Caught → ℕ → els.Els → Option (List ℕ) → List ℕ
+reply_in_fip c caught d_id v mac =
+    made_fip c (source caught) (fip.LoginReply (kind_asked caught) true (fc.frame_bytes (els_reply (carried caught) d_id v)) mac)
+
+-- the accept of a login goes to the granted address, with the granted MAC
+abbrev pub login_accept : Settings → ℕ → Caught → ℕ → List ℕ
+login_accept c port caught a = reply_in_fip c caught a (els.LoginAccept (fabric_parms c port (asked caught))) (Some (granted_mac c a))
+
+abbrev pub login_reply : Settings → Caught → els.Els → List ℕ
+login_reply c caught v = reply_in_fip c caught (carried caught).head.s_id v None
+
+-- the frame has no tag, or one with VLAN number 0
+abbrev pub is_untagged : Caught → Bool
+is_untagged caught = elim (eth.decoded caught.bytes) [ Ok f ↦ eth.vlan_of_tag f.tag == 0 | Err e ↦ true ]
+
+-- a VLAN notification, without a tag where the request has none
+abbrev pub vlan_notice : Settings → Caught → List ℕ
+vlan_notice c caught = made c (if is_untagged caught then None else own_tag c) (source caught) FIP (fip.written (fip.VlanTell c.fcf_mac (c.vlan ∷ [])))
+
+abbrev pub advertisement : Settings → Bool → fip.Fip
+advertisement c solicited = fip.Advertise solicited true true true c.priority c.fcf_mac c.switch c.fc_map c.switch false c.period
+
+-- an advertisement to all ENodes
+abbrev pub advertised_to_all : Settings → List ℕ
+advertised_to_all c = made_fip c ALL_ENODES (advertisement c false)
+
+-- the size that a solicitation asks for
+abbrev pub size_asked : Caught → ℕ
+size_asked caught = elim (eth.decoded caught.bytes) [
+  | Err e ↦ 0
+  | Ok f ↦ elim (reading.decoded f.body) [ Ok (fip.Solicit from_fcf fp mac name size) ↦ size | _ ↦ 0 ]
+]
+
+-- an advertisement to the sender of a solicitation, with zeros up to the size that it asks for
+abbrev pub advertised_to_one : Settings → Caught → List ℕ
+advertised_to_one c caught = made c (own_tag c) (source caught) FIP (padded (min (size_asked caught) 2158) (fip.written (advertisement c true)))
+
+-- ---- replies in FCoE, to the sender of a frame
+
+abbrev pub reply_in_fcoe : Settings → Caught → fc.Frame → List ℕ
+reply_in_fcoe c caught f = made_fcoe c (source caught) capsule.SOF_I3 capsule.EOF_T f
+
+abbrev pub service_reply : Settings → Caught → els.Els → List ℕ
+service_reply c caught v = reply_in_fcoe c caught (els_reply (carried caught) (carried caught).head.s_id v)
+
+-- a payload in pieces of a size, of which there are at most n
+abbrev pub pieces : ℕ → ℕ → List ℕ → List (List ℕ)
+pieces zero size l = []
+pieces (suc n) size l = elim (nat_le (length l) size) [ true ↦ l ∷ [] | false ↦ take size l ∷ pieces n size (drop size l) ]
+
+-- one frame of a reply of the common transport: the first begins the sequence, and the last ends it
+abbrev pub ct_frame : Settings → Caught → ℕ → Bool → List ℕ → List ℕ
+ct_frame c caught count last payload =
+    let asked = (carried caught).head in
+    made_fcoe c (source caught) (if count == 0 then capsule.SOF_I3 else capsule.SOF_N3) (if last then capsule.EOF_T else capsule.EOF_N)
+    (record { head = header 0x03 asked.s_id NAME_SERVER 0x20 (if last then F_CTL_LAST else F_CTL_EARLIER) count asked.ox_id; payload = payload })
+
+abbrev pub ct_frames : Settings → Caught → ℕ → List (List ℕ) → List (List ℕ)
+ct_frames c caught count [] = []
+ct_frames c caught count (l ∷ []) = ct_frame c caught count true l ∷ []
+ct_frames c caught count (l ∷ k ∷ more) = ct_frame c caught count false l ∷ ct_frames c caught (count + 1) (k ∷ more)
+
+-- an answer in frames of at most this size
+abbrev pub ct_reply : Settings → Caught → ℕ → CtTell → List (List ℕ)
+ct_reply c caught size answer = let l = ct.written answer in ct_frames c caught 0 (pieces (length l) size l)
+
+-- ---- other frames
+
+-- a frame goes on with the destination's granted MAC and the forwarder's as source, and every other byte unchanged
+abbrev pub forwarded : Settings → Caught → List ℕ
+forwarded c caught = granted_mac c (carried caught).head.d_id ++ c.fcf_mac ++ drop 12 caught.bytes
+
+-- a clear link message to an ENode
+abbrev pub clear_links : Settings → List ℕ → List VxPort → List ℕ
+clear_links c dst ports = made_fip c dst (fip.Clear c.fcf_mac c.switch ports)
+
+-- a state change of an address, to a watcher (FC-LS-2, "RSCN"): one page of one port
+abbrev pub rscn : Settings → ℕ → ℕ → ℕ → List ℕ
+rscn c watcher affected ox_id =
+    made_fcoe c (granted_mac c watcher) capsule.SOF_I3 capsule.EOF_T
+    (record { head = header 0x22 watcher CONTROLLER 0x01 F_CTL_REQUEST 0 ox_id; payload = els.written (els.Rscn (0 ∷ spelled 3 affected)) })

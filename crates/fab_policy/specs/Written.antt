@@ -1,31 +1,72 @@
--- What a run leaves in its files.
-use Rattle.std.specs.Prelude.{◌≡◌, ℕ, zero, suc, ◌+◌, List, [], ◌∷◌, length, map}
+-- What a run leaves in its files, and which journal the files name.
+use Rattle.std.specs.Prelude.{◌≡◌, ℕ, ◌⊎◌, List, [], ◌∷◌, ◌++◌, length, map, filter, nat_lt, Some, ◌+◌, ◌*◌, ◌≤◌}
+use Rattle.fab_config.specs.Settings.{Settings}
 use Rattle.pcap_file.specs.declared.Record.{Record}
-use Rattle.fab_policy.specs.Settings.{Settings}
 use Rattle.fab_policy.specs.Journal.{Journal}
-use Rattle.fab_policy.specs.Legal.{Run}
-use Rattle.fab_policy.specs.Text.{text1, egress}
+use Rattle.fab_policy.specs.Logins.{counting}
+use Rattle.fab_policy.specs.State.{Tables, LivePort, tables_of, overdue, now_of}
+use Rattle.fab_policy.specs.Legal.{Legal, Run, HasPorts, HoldsFrames, window_start}
+use Rattle.fab_policy.specs.Text.{text, text1, egress}
 use Rattle.fab_policy.specs.Ranged.{IsRanged}
-use Rattle.fab_policy.specs.declared.event.Event.TheVariants.{Tick, Frame}
-
--- so many numbers, from one on
-abbrev pub counting : ℕ → ℕ → List ℕ
-counting from zero = []
-counting from (suc n) = from ∷ counting (from + 1) n
+use Rattle.fab_policy.specs.Steps.{AreAscending}
+use Rattle.fab_policy.specs.Gathering.{Stop, kept}
 
 -- the captures that a journal sends, for ports 1 to n
 abbrev pub egresses : Settings → ℕ → Journal → List (List ℕ)
-egresses c n J = map (λ p. egress c p J) (counting 1 n)
-
--- how many entries are frames
-abbrev pub frame_count : Journal → ℕ
-frame_count [] = 0
-frame_count (Tick m ended ∷ J) = frame_count J
-frame_count (Frame port index caught verdict ∷ J) = frame_count J + 1
+egresses c n J = map (λ p. egress c n p J) (counting 1 n)
 
 -- A run over these records wrote the journal's text and a capture for each port.
 pub record IsWritten (c : Settings) (ins : List (List Record)) (J : Journal) (journal : List ℕ) (outs : List (List ℕ)) : Type 0 where
   pub ranged : IsRanged J
   pub run : Run c ins J
-  pub lines : journal ≡ text1 J
+  pub lines : journal ≡ text J
   pub captures : outs ≡ egresses c (length ins) J
+
+abbrev pub IsPrefixOf : List ℕ → List ℕ → Type 0
+IsPrefixOf front whole = (rest : List ℕ) × (front ++ rest ≡ whole)
+
+-- a file holds what it held, or a beginning of what it is to hold
+abbrev pub HoldsOldOrFront : List ℕ → List ℕ → List ℕ → Type 0
+HoldsOldOrFront before now whole = (now ≡ before) ⊎ IsPrefixOf now whole
+
+-- the records of each port in windows that start before a moment
+abbrev pub before : Settings → ℕ → List (List Record) → List (List Record)
+before c t ins = map (λ records. filter (λ r. nat_lt (window_start c r.moment) t) records) ins
+
+-- the records of each port that a stop keeps
+abbrev pub all_kept : Settings → Stop → List (List Record) → List (List Record)
+all_kept c s ins = map (kept c (Some s)) ins
+
+-- A journal file and captures name a journal: its text in one of the two formats, and the frames of each port.
+pub record IsNamed (ins : List (List Record)) (J : Journal) (journal : List ℕ) : Type 0 where
+  pub ranged : IsRanged J
+  pub ports : HasPorts (length ins) J
+  pub lines : (journal ≡ text J) ⊎ (journal ≡ text1 J)
+  pub frames : HoldsFrames J 1 ins
+
+-- What holds of the tables after each legal journal: addresses ascend in the pool and port names differ, there are at most
+-- as many logins as the limit, and nobody is overdue at the clock.
+abbrev pub IsNew : LivePort → List LivePort → Type 0
+IsNew p [] = Unit {0}
+IsNew p (q ∷ ports) = (p.name ≡ q.name → ⊥) × IsNew p ports
+
+abbrev pub HaveDifferentNames : List LivePort → Type 0
+HaveDifferentNames [] = Unit {0}
+HaveDifferentNames (p ∷ ports) = IsNew p ports × HaveDifferentNames ports
+
+pub record IsSound (c : Settings) (T : Tables) : Type 0 where
+  pub ascending : AreAscending (c.domain * 65536 + 256) (c.domain * 65536 + 256 + c.pool) T.ports
+  pub names : HaveDifferentNames T.ports
+  pub few : length T.ports ≤ c.limit
+  pub quiet : overdue c T (now_of T) ≡ []
+
+abbrev pub LegalIsSound : Type 0
+LegalIsSound = (c : Settings) (J : Journal) → Legal c J → IsSound c (tables_of c J)
+
+-- The tables of each journal ascend.
+abbrev pub TablesAscend : Type 0
+TablesAscend = (c : Settings) (J : Journal) → AreAscending (c.domain * 65536 + 256) (c.domain * 65536 + 256 + c.pool) (tables_of c J).ports
+
+-- After each legal journal nobody is overdue at the clock.
+abbrev pub LegalIsQuiet : Type 0
+LegalIsQuiet = (c : Settings) (J : Journal) → Legal c J → overdue c (tables_of c J) (now_of (tables_of c J)) ≡ []

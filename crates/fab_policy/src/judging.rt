@@ -1,92 +1,172 @@
-// The verdict of a captured frame.
-ghost use Rattle.std.specs.Prelude.{◌≡◌, nat_lt};
-ghost use Rattle.std.specs.List.{AllPass};
-ghost use Rattle.eth_frames.specs.Ethernet.{view as eth_view};
-ghost use Rattle.fab_policy.specs.Heard as heard;
-ghost use Rattle.fab_policy.specs.Verdicts.{judged};
+// The verdict of a frame, so far as the forwarder is built.
+ghost use Rattle.std.specs.Prelude.{◌≡◌, ◌||◌, not, false, option_map, IfSome, ◌&&◌, if◌then◌else◌};
+ghost use Rattle.eth_frames.specs.Ethernet.{Eth, view as eth_view};
+ghost use Rattle.fip_codec.specs.Message.{view as fip_view};
+ghost use Rattle.fab_config.specs.Settings.{same_bytes};
+ghost use Rattle.fab_policy.specs.Cause.{is_numbered};
+ghost use Rattle.fab_policy.specs.Heard.{Fip, plain, numbered};
+ghost use Rattle.fab_policy.specs.Judging.{verdict_of, fcoe_verdict, cause_at as cause_of_place, names_another as is_named_otherwise};
+ghost use Rattle.fab_policy.specs.Rules as rules;
+ghost use Rattle.fab_policy.specs.Stage.{verdict_so_far, message_verdict};
 
-use crate::{Config, Dropped, Rule, Verdict, is_same};
-use eth_frames::{EthFrame, read_eth};
-use fab_base::{Caught, Mac};
-use fip_codec::{FipMessage, read_fip};
-
-/// The Ethertype of FIP.
-pub(crate) const FIP: u16 = 0x8914;
+use crate::bytes::is_same;
+use crate::{Dropped, Heard, Rule, Verdict, What};
+use eth_frames::EthFrame;
+use fab_base::Mac;
+use fab_config::Config;
+use fip_codec::FipMessage;
 
 /// All-FCF-MACs, the group of all forwarders.
 const ALL_FCFS: Mac = Mac([0x01, 0x10, 0x18, 0x01, 0x00, 0x02]);
 
-/// The verdict of a captured frame: VLAN requests are answered, and all else is dropped.
-pub fn judge(config: &Config, caught: &Caught) -> Verdict
-    ensures value { result ≡ judged config.now caught.now }
-    ensures bytes { AllPass (λ b. nat_lt b 256) caught.now.bytes }
+/// The verdict of a frame: VLAN requests and solicitations are answered, frames that break a rule on
+/// the frame itself are dropped by the first such rule, and all else by the rule that says that its
+/// kind isn't built yet.
+pub fn judge(config: &Config, heard: &Heard<'_>) -> Verdict
+    ensures value { result ≡ verdict_so_far config.now heard.now.caught.now }
 {
-    if asks_vlans(config, caught) {
-        return Verdict::Vlans;
-    }
-    let dropped = Dropped::new(Rule::NotBuilt, None).unwrap();
-    Verdict::Dropped(dropped)
-}
-
-// Whether a captured frame is a VLAN request that this forwarder answers.
-#[tactic(auto, unfolding(crate::specs::Heard::asks_vlans))]
-fn asks_vlans(config: &Config, caught: &Caught) -> bool
-    ensures value { result ≡ heard.asks_vlans config.now caught.now }
-    ensures bytes { AllPass (λ b. nat_lt b 256) caught.now.bytes }
-{
-    let bytes = caught.bytes.view();
-    if !caught.whole {
-        return false;
-    }
-    match read_eth(bytes) {
-        Ok(frame) => is_vlan_request(config, &frame),
-        Err(_) => false,
+    match &heard.what {
+        What::Bad { rule, at } => Verdict::Dropped(cause_at(*rule, *at)),
+        What::Fip { eth, message } => judge_fip(config, eth, message),
+        What::Fcoe { eth, .. } => judge_fcoe(config, eth),
     }
 }
 
-fn is_vlan_request(config: &Config, frame: &EthFrame<'_>) -> bool
-    ensures { result ≡ heard.is_vlan_request config.now (eth_view frame.now) }
+// A rule with its number, if it has one.
+fn cause_at(rule: Rule, at: u32) -> Dropped
+    requires { is_numbered rule ≡ false → at ≡ 0 }
+    ensures { result ≡ cause_of_place rule at }
 {
-    if frame.kind != FIP || !is_on_vlan(config, frame) {
-        return false;
+    if rule.is_numbered() {
+        Dropped::new(rule, Some(at)).unwrap()
+    } else {
+        dropped(rule)
     }
-    is_to_forwarders(config, frame) && asks_for_vlans(&frame.src, frame.body)
 }
 
-// Whether a frame is on the forwarder's VLAN, or on none.
-fn is_on_vlan(config: &Config, frame: &EthFrame<'_>) -> bool
-    ensures { result ≡ heard.is_on_vlan config.now (eth_view frame.now) }
+// A rule without a number.
+fn dropped(rule: Rule) -> Dropped
+    requires { is_numbered rule ≡ false }
+    ensures { result ≡ plain rule }
 {
-    let vlan = frame.vlan();
-    vlan == 0 || vlan == config.vlan()
+    Dropped::new(rule, None).unwrap()
 }
 
-// Whether a frame is to this forwarder or to all forwarders.
-fn is_to_forwarders(config: &Config, frame: &EthFrame<'_>) -> bool
-    ensures { result ≡ heard.is_to_forwarders config.now (eth_view frame.now) }
+fn judge_fcoe(config: &Config, eth: &EthFrame<'_>) -> Verdict
+    ensures { result ≡ fcoe_verdict config.now (eth_view eth.now) }
 {
-    is_same(&frame.dst.0, &config.fcf_mac().0) || is_same(&frame.dst.0, &ALL_FCFS.0)
+    if is_wrong_vlan(config, eth, false) {
+        return Verdict::Dropped(dropped(Rule::Vlan));
+    }
+    Verdict::Dropped(dropped(Rule::NotBuilt))
 }
 
-// Whether a body of FIP is a VLAN request that names this MAC for its sender.
-fn asks_for_vlans(mac: &Mac, body: &[u8]) -> bool
-    ensures { result ≡ heard.asks_for_vlans mac.now body.now }
+fn judge_fip(config: &Config, eth: &EthFrame<'_>, message: &FipMessage<'_>) -> Verdict
+    ensures { result ≡ verdict_of config.now (Fip (eth_view eth.now) (fip_view message.now)) }
 {
-    match asker(body) {
-        Some(named) => is_same(&named.0, &mac.0),
+    match fip_rule(config, eth, message) {
+        Some(rule) => Verdict::Dropped(dropped(rule)),
+        None => verdict_of_message(message),
+    }
+}
+
+// The first rule on the frame itself that drops a message.
+fn fip_rule(config: &Config, eth: &EthFrame<'_>, message: &FipMessage<'_>) -> Option<Rule>
+    ensures value { option_map plain result ≡ rules.first_row (rules.fip_frame_rows config.now (eth_view eth.now) (fip_view message.now)) }
+    ensures number { IfSome result (λ rule. is_numbered rule ≡ false) }
+{
+    if is_wrong_vlan(config, eth, is_vlan_request(message)) {
+        return Some(Rule::Vlan);
+    }
+    if !is_to_forwarder(config, eth, message) {
+        return Some(Rule::FipDest);
+    }
+    if is_forwarders(message) {
+        return Some(Rule::FipRole);
+    }
+    if names_another(eth, message) {
+        return Some(Rule::FipMac);
+    }
+    None
+}
+
+// Whether a frame isn't on the forwarder's VLAN, nor untagged where it may be.
+fn is_wrong_vlan(config: &Config, eth: &EthFrame<'_>, may_be_untagged: bool) -> bool
+    ensures { result ≡ rules.is_wrong_vlan config.now (eth_view eth.now) may_be_untagged }
+{
+    let vlan = eth.vlan();
+    let right = vlan == config.vlan || (may_be_untagged && vlan == 0);
+    !right
+}
+
+// Whether a frame is to the forwarder, or to all forwarders and of a kind that may be.
+fn is_to_forwarder(config: &Config, eth: &EthFrame<'_>, message: &FipMessage<'_>) -> bool
+    ensures { result ≡ (same_bytes eth.now.dst config.now.fcf_mac || ((rules.is_solicitation (fip_view message.now) || rules.is_vlan_request (fip_view message.now)) && same_bytes eth.now.dst rules.ALL_FCFS)) }
+{
+    let may_be_to_all = is_solicitation(message) || is_vlan_request(message);
+    is_same(&eth.dst.0, &config.fcf_mac.0) || (may_be_to_all && is_same(&eth.dst.0, &ALL_FCFS.0))
+}
+
+fn is_vlan_request(message: &FipMessage<'_>) -> bool
+    ensures { result ≡ rules.is_vlan_request (fip_view message.now) }
+{
+    match message {
+        FipMessage::VlanAsk { .. } => true,
+        _ => false,
+    }
+}
+
+fn is_solicitation(message: &FipMessage<'_>) -> bool
+    ensures { result ≡ rules.is_solicitation (fip_view message.now) }
+{
+    match message {
+        FipMessage::Solicit { .. } => true,
+        _ => false,
+    }
+}
+
+// Whether only a forwarder sends this message.
+fn is_forwarders(message: &FipMessage<'_>) -> bool
+    ensures { result ≡ rules.is_forwarders (fip_view message.now) }
+{
+    match message {
+        FipMessage::Solicit { from_fcf, .. } => *from_fcf,
+        FipMessage::Advertise { .. }
+        | FipMessage::LoginReply { .. }
+        | FipMessage::Clear { .. }
+        | FipMessage::VlanTell { .. } => true,
+        _ => false,
+    }
+}
+
+// Whether a message names another MAC than the frame's source.
+fn names_another(eth: &EthFrame<'_>, message: &FipMessage<'_>) -> bool
+    ensures { result ≡ is_named_otherwise (eth_view eth.now) (fip_view message.now) }
+{
+    match named_mac(message) {
+        Some(mac) => !is_same(&mac.0, &eth.src.0),
         None => false,
     }
 }
 
-// The MAC that a VLAN request names for its sender.
-fn asker(body: &[u8]) -> Option<Mac>
-    ensures { result ≡ heard.asker body.now }
+// The MAC that a solicitation, a VLAN request or an ENode's keep alive names for its sender.
+fn named_mac(message: &FipMessage<'_>) -> Option<Mac>
+    ensures { result ≡ rules.named_mac (fip_view message.now) }
 {
-    let Ok(message) = read_fip(body) else {
-        return None;
-    };
     match message {
-        FipMessage::VlanAsk { mac, .. } => Some(mac),
+        FipMessage::Solicit { mac, .. } | FipMessage::VlanAsk { mac, .. } => Some(*mac),
+        FipMessage::Keep { mac, port: None } => Some(*mac),
         _ => None,
+    }
+}
+
+// The verdict of a message that no rule on the frame drops.
+fn verdict_of_message(message: &FipMessage<'_>) -> Verdict
+    ensures { (f : Eth) → result ≡ message_verdict (Fip f (fip_view message.now)) }
+{
+    match message {
+        FipMessage::VlanAsk { .. } => Verdict::Vlans,
+        FipMessage::Solicit { .. } => Verdict::Advertised,
+        _ => Verdict::Dropped(dropped(Rule::NotBuilt)),
     }
 }

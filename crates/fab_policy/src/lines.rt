@@ -1,13 +1,51 @@
-// The lines of a journal.
-ghost use Rattle.std.specs.Prelude.{◌≡◌, ◌++◌, IfOk, OnOk, OnErr};
-ghost use Rattle.fab_policy.specs.Text.{line1, frame_line, verdict_text, cause_text, then_word, address_word, address_words};
+// The lines of a journal, written.
+ghost use Rattle.std.specs.Prelude.{◌≡◌, ◌++◌, ◌∷◌, [], ◌<◌, decimal, IfOk, OnOk, OnErr};
+ghost use Rattle.fab_policy.specs.Spelling.{IsClockOf, EndsAscend};
+ghost use Rattle.fab_policy.specs.Text.{line, head_line, line1, frame_words, verdict_text, cause_text, then_word, address_word, address_words, code_word, hex_digit, LINE_FEED};
 
-use crate::{Dropped, Event, Rule, Verdict};
+use crate::words::rule_text;
+use crate::{Dropped, Event, Verdict};
 use fab_base::{FcId, IdList, Moment, NoMemory, PortNo, address_text};
 use std::alloc::{AllocError, Global};
 
-/// Appends the line of an entry, as `tick 1000` or `1 0 vlans`, with its line feed.
-pub fn write_line(alloc: Global, event: &Event, out: &mut Vec<u8>) -> Result<(), NoMemory>
+/// Appends the line that begins a journal of format 2.
+pub fn write_head_line(_alloc: Global, out: &mut Vec<u8>) -> Result<(), NoMemory>
+    ensures ok { OnOk result (out.new.items ≡ out.old.items ++ head_line) }
+    ensures err { OnErr result (out.new.items ≡ out.old.items) }
+{
+    append(b"journal 2\n", out)
+}
+
+/// Appends the line of an entry in format 2, as `1000 tick` or `1000 1 0 vlans`, with its line feed.
+/// The clock is the moment of the last tick, and of the entry itself where that is a tick.
+pub fn write_line(
+    alloc: Global,
+    clock: Moment,
+    event: &Event,
+    out: &mut Vec<u8>,
+) -> Result<(), NoMemory>
+    requires clock { IsClockOf clock event.now }
+    requires ascending { EndsAscend event.now }
+    ensures ok { OnOk result (out.new.items ≡ out.old.items ++ line clock event.now) }
+    ensures err { OnErr result (out.new.items ≡ out.old.items) }
+{
+    let made = match event {
+        Event::Tick { ended, .. } => clocked_line_of_tick(alloc, clock, ended),
+        Event::Frame {
+            port,
+            index,
+            verdict,
+            ..
+        } => clocked_line_of_frame(alloc, clock, *port, *index, verdict),
+    };
+    match made {
+        Ok(line) => append(&line, out),
+        Err(_) => Err(NoMemory),
+    }
+}
+
+/// Appends the line of an entry in format 1, as `tick 1000` or `1 0 vlans`, with its line feed.
+pub fn write_line1(alloc: Global, event: &Event, out: &mut Vec<u8>) -> Result<(), NoMemory>
     ensures ok { OnOk result (out.new.items ≡ out.old.items ++ line1 event.now) }
     ensures err { OnErr result (out.new.items ≡ out.old.items) }
 {
@@ -22,7 +60,7 @@ pub fn write_line(alloc: Global, event: &Event, out: &mut Vec<u8>) -> Result<(),
     }
 }
 
-/// Appends the line of a tick, as `tick 1000`.
+/// Appends the line of a tick in format 1, as `tick 1000`.
 pub fn write_tick_line(
     alloc: Global,
     moment: Moment,
@@ -35,13 +73,10 @@ pub fn write_tick_line(
     let Ok(line) = line_of_tick(alloc, moment, ended) else {
         return Err(NoMemory);
     };
-    match out.extend_from_slice(&line) {
-        Ok(()) => Ok(()),
-        Err(_) => Err(NoMemory),
-    }
+    append(&line, out)
 }
 
-/// Appends the line of a frame's entry, as `1 0 vlans`.
+/// Appends the line of a frame's entry in format 1, as `1 0 vlans`.
 pub fn write_frame_line(
     alloc: Global,
     port: PortNo,
@@ -49,16 +84,51 @@ pub fn write_frame_line(
     verdict: &Verdict,
     out: &mut Vec<u8>,
 ) -> Result<(), NoMemory>
-    ensures ok { OnOk result (out.new.items ≡ out.old.items ++ frame_line port index verdict.now) }
+    ensures ok { OnOk result (out.new.items ≡ out.old.items ++ (frame_words port index verdict.now ++ LINE_FEED ∷ [])) }
     ensures err { OnErr result (out.new.items ≡ out.old.items) }
 {
     let Ok(line) = line_of_frame(alloc, port, index, verdict) else {
         return Err(NoMemory);
     };
-    match out.extend_from_slice(&line) {
+    append(&line, out)
+}
+
+// All bytes, or none where memory is refused.
+fn append(bytes: &[u8], out: &mut Vec<u8>) -> Result<(), NoMemory>
+    ensures ok { OnOk result (out.new.items ≡ out.old.items ++ bytes.now) }
+    ensures err { OnErr result (out.new.items ≡ out.old.items) }
+{
+    match out.extend_from_slice(bytes) {
         Ok(()) => Ok(()),
         Err(_) => Err(NoMemory),
     }
+}
+
+fn clocked_line_of_tick(alloc: Global, clock: Moment, ended: &IdList) -> Result<Vec<u8>, AllocError>
+    ensures { IfOk result (λ v. v.items ≡ line clock (Event.Tick clock ended.now)) }
+{
+    let words = format!(in alloc; "{} tick", clock.0)?;
+    let mut line = words.into_bytes();
+    write_addresses(ended, &mut line)?;
+    line.extend_from_slice(b"\n")?;
+    Ok(line)
+}
+
+fn clocked_line_of_frame(
+    alloc: Global,
+    clock: Moment,
+    port: PortNo,
+    index: u64,
+    verdict: &Verdict,
+) -> Result<Vec<u8>, AllocError>
+    ensures { IfOk result (λ v. v.items ≡ decimal clock ++ then_word (frame_words port index verdict.now) ++ LINE_FEED ∷ []) }
+{
+    let port = port.value();
+    let words = format!(in alloc; "{} {port} {index} ", clock.0)?;
+    let mut line = words.into_bytes();
+    write_verdict(alloc, verdict, &mut line)?;
+    line.extend_from_slice(b"\n")?;
+    Ok(line)
 }
 
 fn line_of_tick(alloc: Global, moment: Moment, ended: &IdList) -> Result<Vec<u8>, AllocError>
@@ -77,7 +147,7 @@ fn line_of_frame(
     index: u64,
     verdict: &Verdict,
 ) -> Result<Vec<u8>, AllocError>
-    ensures { IfOk result (λ v. v.items ≡ frame_line port index verdict.now) }
+    ensures { IfOk result (λ v. v.items ≡ frame_words port index verdict.now ++ LINE_FEED ∷ []) }
 {
     let port = port.value();
     let words = format!(in alloc; "{port} {index} ")?;
@@ -104,13 +174,76 @@ fn write_address(address: &FcId, line: &mut Vec<u8>) -> Result<(), AllocError>
     line.extend_from_slice(&address_text(address))
 }
 
+fn write_code(code: u8, line: &mut Vec<u8>) -> Result<(), AllocError>
+    ensures { OnOk result (line.new.items ≡ line.old.items ++ then_word (code_word code)) }
+{
+    line.extend_from_slice(&[b' ', digit(code / 16 % 16), digit(code % 16)])
+}
+
+fn digit(value: u8) -> u8
+    requires { value < 16 }
+    ensures { result ≡ hex_digit value }
+{
+    if value < 10 { 48 + value } else { 87 + value }
+}
+
+fn write_number(alloc: Global, number: u32, line: &mut Vec<u8>) -> Result<(), AllocError>
+    ensures { OnOk result (line.new.items ≡ line.old.items ++ then_word (decimal number)) }
+{
+    let word = format!(in alloc; " {number}")?;
+    line.extend_from_slice(word.as_bytes())
+}
+
+// A reason and an explanation.
+fn write_codes(reason: u8, explanation: u8, line: &mut Vec<u8>) -> Result<(), AllocError>
+    ensures { OnOk result (line.new.items ≡ line.old.items ++ (then_word (code_word reason) ++ then_word (code_word explanation))) }
+{
+    write_code(reason, line)?;
+    write_code(explanation, line)
+}
+
 fn write_verdict(alloc: Global, verdict: &Verdict, line: &mut Vec<u8>) -> Result<(), AllocError>
     ensures { OnOk result (line.new.items ≡ line.old.items ++ verdict_text verdict.now) }
 {
     match verdict {
         Verdict::Vlans => line.extend_from_slice(b"vlans"),
+        Verdict::Advertised => line.extend_from_slice(b"advertised"),
+        Verdict::Granted(address) => {
+            line.extend_from_slice(b"granted")?;
+            write_address(address, line)
+        }
+        Verdict::Rejected(reason, explanation) => {
+            line.extend_from_slice(b"rejected")?;
+            write_codes(*reason, *explanation, line)
+        }
+        Verdict::Logout(address) => {
+            line.extend_from_slice(b"logout")?;
+            write_address(address, line)
+        }
+        Verdict::AliveNode => line.extend_from_slice(b"alive"),
+        Verdict::AlivePort(address) => {
+            line.extend_from_slice(b"alive")?;
+            write_address(address, line)
+        }
+        Verdict::NsLogin => line.extend_from_slice(b"ns-login"),
+        Verdict::NsLogout => line.extend_from_slice(b"ns-logout"),
+        Verdict::Watching(function) => {
+            line.extend_from_slice(b"watching")?;
+            write_number(alloc, u32::from(*function), line)
+        }
+        Verdict::Registered => line.extend_from_slice(b"registered"),
+        Verdict::Answered => line.extend_from_slice(b"answered"),
+        Verdict::Refused(reason, explanation) => {
+            line.extend_from_slice(b"refused")?;
+            write_codes(*reason, *explanation, line)
+        }
+        Verdict::Noted => line.extend_from_slice(b"noted"),
+        Verdict::Forwarded(port) => {
+            line.extend_from_slice(b"forwarded")?;
+            write_number(alloc, port.value(), line)
+        }
         Verdict::Dropped(dropped) => {
-            line.extend_from_slice(b"dropped ")?;
+            line.extend_from_slice(b"dropped")?;
             write_cause(alloc, dropped, line)
         }
     }
@@ -118,16 +251,12 @@ fn write_verdict(alloc: Global, verdict: &Verdict, line: &mut Vec<u8>) -> Result
 
 // A rule, and its number where it has one.
 fn write_cause(alloc: Global, dropped: &Dropped, line: &mut Vec<u8>) -> Result<(), AllocError>
-    ensures { OnOk result (line.new.items ≡ line.old.items ++ cause_text dropped.now) }
+    ensures { OnOk result (line.new.items ≡ line.old.items ++ then_word (cause_text dropped.now)) }
 {
-    match dropped.rule() {
-        Rule::NotBuilt => line.extend_from_slice(b"not-built")?,
-    }
+    line.extend_from_slice(b" ")?;
+    line.extend_from_slice(rule_text(dropped.rule()).as_bytes())?;
     match dropped.number() {
-        Some(number) => {
-            let word = format!(in alloc; " {number}")?;
-            line.extend_from_slice(word.as_bytes())
-        }
+        Some(number) => write_number(alloc, number, line),
         None => Ok(()),
     }
 }

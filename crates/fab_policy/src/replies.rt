@@ -1,16 +1,28 @@
-// The frames that the forwarder makes.
-ghost use Rattle.std.specs.Prelude.{◌≡◌, ◌==◌, if◌then◌else◌, None, ◌++◌, ◌≤◌, ◌<◌, ◌∷◌, [], length, true, IfOk, OnOk, OnErr, vec_len};
-ghost use Rattle.fip_codec.specs.Message.{written, VlanTell};
-ghost use Rattle.fab_policy.specs.Heard as heard;
-ghost use Rattle.fab_policy.specs.Replies.{vlan_notice, own_tag, answer_to};
+// The frames that the forwarder makes of itself and of a request, so far as it is built (FC-BB-5, "FIP operations").
+ghost use Rattle.std.specs.Prelude.{◌≡◌, ◌++◌, ◌≤◌, ◌+◌, ◌∷◌, [], true, length, OnOk, OnErr, IfOk, vec_len};
+ghost use Rattle.fab_base.specs.Layout.{padded};
 ghost use Rattle.eth_frames.specs.Ethernet.{view as eth_view};
+ghost use Rattle.fip_codec.specs.Message as fip;
+ghost use Rattle.fab_policy.specs.Heard.{FIP as FIP_KIND};
+ghost use Rattle.fab_policy.specs.Judging.{size_in, notice_to, solicited_by};
+ghost use Rattle.fip_codec.specs.CanWrite.{CanWrite};
+ghost use Rattle.fab_policy.specs.Replies as spec;
+ghost use Rattle.fab_policy.specs.Rules.{ALL_ENODES as ALL_NODES};
+ghost use Rattle.fab_policy.specs.Stage.{verdict_so_far};
+ghost use Rattle.fab_policy.specs.declared.verdict.Verdict.TheVariants.{Vlans, Advertised};
 
-use crate::Config;
-use crate::judging::FIP;
+use crate::heard::FIP;
 use eth_frames::{EthFrame, read_eth, write_eth};
 use fab_base::{Caught, Mac, NoMemory};
-use fip_codec::{FipOut, VxPort, write_fip};
+use fab_config::Config;
+use fip_codec::{FipMessage, FipOut, VxPort, read_fip, write_fip};
 use std::alloc::Global;
+
+/// All-ENode-MACs, the group of all nodes.
+const ALL_ENODES: Mac = Mac([0x01, 0x10, 0x18, 0x01, 0x00, 0x01]);
+
+/// The most bytes that a solicited advertisement has behind its Ethernet header.
+const MOST: u16 = 2158;
 
 /// Appends the VLAN notification that answers a VLAN request: at most 65,535 bytes.
 pub fn write_vlan_notice(
@@ -19,64 +31,192 @@ pub fn write_vlan_notice(
     caught: &Caught,
     out: &mut Vec<u8>,
 ) -> Result<(), NoMemory>
-    requires { heard.asks_vlans config.now caught.now ≡ true }
-    ensures ok { OnOk result (out.new.items ≡ out.old.items ++ vlan_notice config.now caught.now) }
-    ensures size { OnOk result (length (vlan_notice config.now caught.now) ≤ 65535) }
+    requires { verdict_so_far config.now caught.now ≡ Vlans }
+    ensures ok { OnOk result (out.new.items ≡ out.old.items ++ spec.vlan_notice config.now caught.now) }
+    ensures size { OnOk result (length (spec.vlan_notice config.now caught.now) ≤ 65535) }
     ensures err { OnErr result (out.new.items ≡ out.old.items) }
 {
     match read_eth(caught.bytes.view()) {
-        Ok(asked) => answer(alloc, config, &asked, out),
+        Ok(asked) => write_notice_to(alloc, config, &asked, out),
         Err(_) => unreachable!(),
     }
 }
 
-// Appends the notification to the sender of a frame.
-fn answer(
+// Appends the notification to the sender of a frame, without a tag where the frame counts as untagged.
+fn write_notice_to(
     alloc: Global,
     config: &Config,
     asked: &EthFrame<'_>,
     out: &mut Vec<u8>,
 ) -> Result<(), NoMemory>
-    ensures ok { OnOk result (out.new.items ≡ out.old.items ++ answer_to config.now (eth_view asked.now)) }
-    ensures size { OnOk result (length (answer_to config.now (eth_view asked.now)) ≤ 65535) }
+    ensures ok { OnOk result (out.new.items ≡ out.old.items ++ notice_to config.now (eth_view asked.now)) }
+    ensures size { OnOk result (length (notice_to config.now (eth_view asked.now)) ≤ 65535) }
     ensures err { OnErr result (out.new.items ≡ out.old.items) }
 {
-    let body = notification(alloc, config.fcf_mac(), config.vlan())?;
-    let frame = EthFrame {
-        dst: asked.src,
-        src: config.fcf_mac(),
-        tag: answer_tag(config, asked.vlan()),
-        kind: FIP,
-        body: &body,
+    let body = notification(alloc, config)?;
+    let tag = if asked.vlan() == 0 {
+        None
+    } else {
+        Some(own_tag(config))
     };
-    match write_eth(alloc, &frame, out) {
-        Ok(()) => Ok(()),
-        Err(NoMemory) => Err(NoMemory),
+    write_made(alloc, config, tag, asked.src, &body, out)
+}
+
+/// Appends the advertisement that answers a solicitation, with zeros up to the size that is asked
+/// for: at most 65,535 bytes.
+pub fn write_solicited(
+    alloc: Global,
+    config: &Config,
+    caught: &Caught,
+    out: &mut Vec<u8>,
+) -> Result<(), NoMemory>
+    requires { verdict_so_far config.now caught.now ≡ Advertised }
+    ensures ok { OnOk result (out.new.items ≡ out.old.items ++ spec.advertised_to_one config.now caught.now) }
+    ensures size { OnOk result (length (spec.advertised_to_one config.now caught.now) ≤ 65535) }
+    ensures err { OnErr result (out.new.items ≡ out.old.items) }
+{
+    match read_eth(caught.bytes.view()) {
+        Ok(asked) => write_solicited_to(alloc, config, &asked, out),
+        Err(_) => unreachable!(),
     }
 }
 
-// The tag of the answer to a frame of this VLAN: none where the frame counts as untagged.
-fn answer_tag(config: &Config, vlan: u16) -> Option<u16>
-    ensures { result ≡ (if vlan == 0 then None else own_tag config.now) }
+// Appends the advertisement to the sender of a frame.
+fn write_solicited_to(
+    alloc: Global,
+    config: &Config,
+    asked: &EthFrame<'_>,
+    out: &mut Vec<u8>,
+) -> Result<(), NoMemory>
+    ensures ok { OnOk result (out.new.items ≡ out.old.items ++ solicited_by config.now (eth_view asked.now)) }
+    ensures size { OnOk result (length (solicited_by config.now (eth_view asked.now)) ≤ 65535) }
+    ensures err { OnErr result (out.new.items ≡ out.old.items) }
 {
-    if vlan == 0 {
-        None
-    } else {
-        Some(0x6000 + config.vlan())
+    let size = size_asked(asked.body).min(MOST);
+    let body = padded_advertisement(alloc, config, size)?;
+    let tag = Some(own_tag(config));
+    write_made(alloc, config, tag, asked.src, &body, out)
+}
+
+/// Appends the advertisement to all nodes: at most 65,535 bytes.
+pub fn write_advertisement(
+    alloc: Global,
+    config: &Config,
+    out: &mut Vec<u8>,
+) -> Result<(), NoMemory>
+    ensures ok { OnOk result (out.new.items ≡ out.old.items ++ spec.advertised_to_all config.now) }
+    ensures size { OnOk result (length (spec.advertised_to_all config.now) ≤ 65535) }
+    ensures err { OnErr result (out.new.items ≡ out.old.items) }
+{
+    let body = advertisement(alloc, config, false)?;
+    let tag = Some(own_tag(config));
+    write_made(alloc, config, tag, ALL_ENODES, &body, out)
+}
+
+// Appends a FIP frame of the forwarder.
+fn write_made(
+    alloc: Global,
+    config: &Config,
+    tag: Option<u16>,
+    dst: Mac,
+    body: &[u8],
+    out: &mut Vec<u8>,
+) -> Result<(), NoMemory>
+    ensures ok { OnOk result (out.new.items ≡ out.old.items ++ spec.made config.now tag dst FIP_KIND body.now) }
+    ensures size { OnOk result (length (spec.made config.now tag dst FIP_KIND body.now) ≤ 60 + length body.now) }
+    ensures err { OnErr result (out.new.items ≡ out.old.items) }
+{
+    let frame = EthFrame {
+        dst,
+        src: config.fcf_mac,
+        tag,
+        kind: FIP,
+        body,
+    };
+    write_eth(alloc, &frame, out)
+}
+
+// The tag of the forwarder's frames.
+fn own_tag(config: &Config) -> u16
+    ensures { result ≡ 0x6000 + config.now.vlan }
+{
+    0x6000 + config.vlan
+}
+
+// The size that a solicitation asks for, and 0 where the body is none.
+fn size_asked(body: &[u8]) -> u16
+    ensures { result ≡ size_in body.now }
+{
+    let Ok(message) = read_fip(body) else {
+        return 0;
+    };
+    match message {
+        FipMessage::Solicit { size, .. } => size,
+        _ => 0,
     }
 }
 
 // The body of a VLAN notification.
-fn notification(alloc: Global, mac: Mac, vlan: u16) -> Result<Vec<u8>, NoMemory>
-    requires { vlan < 4096 }
-    ensures bytes { IfOk result (λ v. v.items ≡ written (VlanTell mac (vlan ∷ []))) }
+fn notification(alloc: Global, config: &Config) -> Result<Vec<u8>, NoMemory>
+    ensures bytes { IfOk result (λ v. v.items ≡ fip.written (fip.VlanTell config.now.fcf_mac (config.now.vlan ∷ []))) }
     ensures size { IfOk result (λ v. vec_len v ≤ 2030) }
 {
     // The check wants the type named whose lists a message may hold.
     let _ports: &[VxPort] = &[];
-    let vlans = [vlan];
-    let message = FipOut::VlanTell { mac, vlans: &vlans };
+    let vlans = [config.vlan];
+    let message = FipOut::VlanTell {
+        mac: config.fcf_mac,
+        vlans: &vlans,
+    };
+    written(alloc, &message)
+}
+
+// The body of an advertisement.
+fn advertisement(alloc: Global, config: &Config, solicited: bool) -> Result<Vec<u8>, NoMemory>
+    ensures bytes { IfOk result (λ v. v.items ≡ fip.written (spec.advertisement config.now solicited)) }
+    ensures size { IfOk result (λ v. vec_len v ≤ 2030) }
+{
+    let _ports: &[VxPort] = &[];
+    let message = FipOut::Advertise {
+        solicited,
+        available: true,
+        from_fcf: true,
+        fp: true,
+        priority: config.priority,
+        mac: config.fcf_mac,
+        switch: config.switch,
+        map: config.fc_map,
+        fabric: config.switch,
+        quiet: false,
+        period: config.period,
+    };
+    written(alloc, &message)
+}
+
+// The body of a solicited advertisement, with zeros up to this size.
+fn padded_advertisement(alloc: Global, config: &Config, size: u16) -> Result<Vec<u8>, NoMemory>
+    requires { size ≤ 2158 }
+    ensures bytes { IfOk result (λ v. v.items ≡ padded size (fip.written (spec.advertisement config.now true))) }
+    ensures size { IfOk result (λ v. vec_len v ≤ 2158) }
+{
+    let mut body = advertisement(alloc, config, true)?;
+    let size = usize::from(size);
+    if body.len() >= size {
+        return Ok(body);
+    }
+    match body.resize(size, 0) {
+        Ok(()) => Ok(body),
+        Err(_) => Err(NoMemory),
+    }
+}
+
+// The bytes of a message.
+fn written(alloc: Global, message: &FipOut<'_>) -> Result<Vec<u8>, NoMemory>
+    requires { CanWrite (fip.view_out message.now) }
+    ensures bytes { IfOk result (λ v. v.items ≡ fip.written (fip.view_out message.now)) }
+    ensures size { IfOk result (λ v. vec_len v ≤ 2030) }
+{
     let mut body = Vec::new(alloc);
-    write_fip(alloc, &message, &mut body)?;
+    write_fip(alloc, message, &mut body)?;
     Ok(body)
 }

@@ -1,15 +1,78 @@
 -- What each status says, of a call that ended.
-use Rattle.std.proofs.Common.{◌≡◌, ℕ, ◌⊎◌, inl, inr, IsTrue, List, Option, Some, None, refl, sym, ap, ◌∙◌, subst, arith, String}
+use Rattle.std.proofs.Common.{◌≡◌, ℕ, zero, suc, ◌≤◌, ◌⊎◌, inl, inr, IsTrue, List, [], ◌∷◌, ◌++◌, take, drop, Option, Some, None, Ok, Err, refl, sym, ap, ◌∙◌, subst, arith, append_assoc, String}
+use Rattle.std.specs.Prelude.{Result}
 use Rattle.std.specs.declared.alloc.Global.{Global}
 use Rattle.fab_base.specs.Seen.{Seen, Rose, SameFiles}
 use Rattle.fab_base.specs.Sunk.{Sunk}
+use Rattle.fab_config.specs.Settings.{Settings}
+use Rattle.fab_config.specs.Text.{decoded}
+use Rattle.fab_config.specs.declared.ConfigFault.{ConfigFault}
+use Rattle.pcap_file.specs.declared.Record.{Record}
 use Rattle.fcoe_tool.specs.Command.{Command, command}
-use Rattle.fcoe_tool.specs.Ends.{Holds, HoldsFor, Prints, Ends, NoCaptures, OfCommand, IsRefused, IsComplete}
-use Rattle.fcoe_tool.specs.ConfigText.{config_in}
-use Rattle.fcoe_tool.specs.Gathered.{HaveCaptures}
+use Rattle.fcoe_tool.specs.Ends.{Holds, HoldsFor, Prints, Ends, StopsAt, OfCommand, IsRefused, IsComplete}
+use Rattle.fcoe_tool.specs.Gathered.{HasConfig, HasFault, AreCaptures, HaveCaptures, bytes_in, frames_in, windows, windows_of, span_of}
 use Rattle.fcoe_tool.specs.Outcome.{status_of}
 use Rattle.fcoe_tool.specs.declared.outcome.Outcome.{Outcome}
 use Rattle.fcoe_tool.specs.declared.outcome.Outcome.TheVariants as ends
+use Rattle.fcoe_tool.proofs.SpanLemmas.{span-append}
+
+-- ---- the first captures of those within the limits
+
+are_front : (d : Seen) (names : List (List ℕ)) (ins : List (List Record)) (p : ℕ) → AreCaptures d names ins → AreCaptures d (take p names) (take p ins)
+are_front d names ins zero are = tt
+are_front d [] [] (suc p) are = tt
+are_front d [] (rs ∷ ins) (suc p) are = absurd are
+are_front d (n ∷ names) [] (suc p) are = absurd are
+are_front d (n ∷ names) (rs ∷ ins) (suc p) are = (are.0, are_front d names ins p are.1)
+
+bytes_front : (d : Seen) (names : List (List ℕ)) (p : ℕ) → bytes_in d (take p names) ≤ bytes_in d names
+bytes_front d names zero = omega arith
+bytes_front d [] (suc p) = omega arith
+bytes_front d (n ∷ names) (suc p) = let h = bytes_front d names p in omega arith
+
+frames_front : (ins : List (List Record)) (p : ℕ) → frames_in (take p ins) ≤ frames_in ins
+frames_front ins zero = omega arith
+frames_front [] (suc p) = omega arith
+frames_front (rs ∷ ins) (suc p) = let h = frames_front ins p in omega arith
+
+windows_split : (c : Settings) (ins : List (List Record)) (p : ℕ) → windows c ins ≡ windows c (take p ins) ++ windows c (drop p ins)
+windows_split c [] zero = refl
+windows_split c (rs ∷ ins) zero = refl
+windows_split c [] (suc p) = refl
+windows_split c (rs ∷ ins) (suc p) = ap (λ l. windows_of c rs ++ l) (windows_split c ins p) ∙ sym (append_assoc (windows_of c rs) (windows c (take p ins)) (windows c (drop p ins)))
+
+have_front : (c : Settings) (d : Seen) (names : List (List ℕ)) (ins : List (List Record)) (p : ℕ) → HaveCaptures c d names ins → HaveCaptures c d (take p names) (take p ins)
+have_front c d names ins p have = record {
+  each = are_front d names ins p have.each;
+  few_bytes = let h = bytes_front d names p in let few = have.few_bytes in omega arith;
+  few_frames = let h = frames_front ins p in let few = have.few_frames in omega arith;
+  short_span =
+      let h = span-append (windows c (take p ins)) (windows c (drop p ins)) in
+      let e = ap span_of (windows_split c ins p) in
+      let short = have.short_span in
+      omega arith;
+}
+
+-- a file has a value or a fault, and one of them
+one_value : (d : Seen) (name : List ℕ) (a b : Settings) → HasConfig d name a → HasConfig d name b → a ≡ b
+one_value d name a b one other =
+    let text : Some one.text ≡ Some other.text = sym one.file ∙ other.file in
+    let same : one.text ≡ other.text = cc in
+    let both : (let r : Result Settings ConfigFault = Ok a in r) ≡ Ok b = sym one.value ∙ ap decoded same ∙ other.value in
+    cc
+
+no_fault : (d : Seen) (name : List ℕ) (a : Settings) (fault : ConfigFault) → HasConfig d name a → HasFault d name fault → ⊥
+no_fault d name a fault one other =
+    let text : Some one.text ≡ Some other.text = sym one.file ∙ other.file in
+    let same : one.text ≡ other.text = cc in
+    let both : (let r : Result Settings ConfigFault = Ok a in r) ≡ Err fault = sym one.value ∙ ap decoded same ∙ other.value in
+    absurd (cc)
+
+-- captures within the limits have no first bad one
+none_stops : (k : Command) (d : Seen) (port : ℕ) (c : Settings) (ins : List (List Record)) → HasConfig d k.config c → HaveCaptures c d k.ins ins → StopsAt k d port → ⊥
+none_stops k d port c ins config have stops =
+    let same = one_value d k.config c stops.0 config stops.1 in
+    stops.2.none (take port ins) (subst (λ x. HaveCaptures x d (take port k.ins) (take port ins)) same (have_front c d k.ins ins port have))
 
 -- the status of an outcome, or 4 by a fault of the sink
 status_is : (o : Outcome) (before after : Sunk) (status : ℕ) → Prints o before after status → (status ≡ status_of o) ⊎ ((status ≡ 4) × Rose before.faults after.faults)
@@ -34,8 +97,8 @@ module _ (words : List (String Global)) (old new : Seen) (before after : Sunk) (
     where
       go : (k : Command) → command words ≡ Some k → (o : Outcome) → Holds k old new o → status ≡ status_of o → SameFiles old new × OfCommand words (λ k. IsTrue old.told → IsRefused old k)
       go k e (ends.Ran frames entries) holds is = absurd (omega arith)
-      go k e ends.Config holds is = (holds.0, record { k = k; is = e; holds = λ told. inl (holds.1 told) })
-      go k e (ends.Capture port) holds is = (holds.0, record { k = k; is = e; holds = λ told. inr (holds.2 told) })
+      go k e (ends.Config fault) holds is = (holds.0, record { k = k; is = e; holds = λ told. inl (fault, holds.1 told) })
+      go k e (ends.Capture port) holds is = (holds.0, record { k = k; is = e; holds = λ told. inr (port, holds.1 told) })
       go k e ends.Words holds is = absurd (omega arith)
       go k e ends.ReadFault holds is = absurd (omega arith)
       go k e ends.WriteFault holds is = absurd (omega arith)
@@ -49,16 +112,8 @@ module _ (words : List (String Global)) (old new : Seen) (before after : Sunk) (
     where
       go : (o : Outcome) → Holds x.k old new o → status ≡ status_of o → (status ≡ 0) ⊎ (status ≡ 5)
       go (ends.Ran frames entries) holds is = inl is
-      go ends.Config holds is = absurd (holds.1 x.told x.settings x.config)
-      go (ends.Capture port) holds is = absurd (unlike (holds.2 x.told))
-        where
-          unlike : NoCaptures x.k old → ⊥
-          unlike none =
-              let text : Some none.1.text ≡ Some x.config.text = sym none.1.file ∙ x.config.file in
-              let same : none.1.text ≡ x.config.text = cc in
-              let both : Some none.0 ≡ Some x.settings = sym none.1.value ∙ ap config_in same ∙ x.config.value in
-              let settings : x.settings ≡ none.0 = cc in
-              none.2 x.ins (subst (λ c. HaveCaptures c old x.k.ins x.ins) settings x.captures)
+      go (ends.Config fault) holds is = absurd (no_fault old x.k.config x.settings fault x.config (holds.1 x.told))
+      go (ends.Capture port) holds is = absurd (none_stops x.k old port x.settings x.ins x.config x.captures (holds.1 x.told))
       go ends.Words holds is = absurd holds
       go ends.ReadFault holds is = absurd (x.quiet.reads holds.1)
       go ends.WriteFault holds is = absurd (x.quiet.writes holds.1)

@@ -1,7 +1,8 @@
 -- What is printed of an outcome.
 use Rattle.std.proofs.Common.{◌≡◌, ◌≢◌, ℕ, List, codes, refl, sym, subst, inl, inr}
 use Rattle.fab_base.specs.Sunk.{Sunk}
-use Rattle.fcoe_tool.specs.Outcome.{status_of, line_of, run_text, capture_text}
+use Rattle.fab_config.specs.declared.ConfigFault.{ConfigFault}
+use Rattle.fcoe_tool.specs.Outcome.{status_of, line_of, run_text, capture_text, config_text}
 use Rattle.fcoe_tool.specs.Ends.{Puts, Prints, Reports}
 use Rattle.fcoe_tool.specs.declared.outcome.Outcome.{Outcome}
 use Rattle.fcoe_tool.specs.declared.outcome.Outcome.TheVariants as ends
@@ -18,9 +19,9 @@ module _ (line : List ℕ) (before after : Sunk) (result : ℕ) where
   pub refused : (o : Outcome) (status : ℕ) → o ≢ ends.Words → line ≡ line_of ends.Memory → status ≡ 5 → Puts line status before after result → Reports o before after result
   refused o status ne is_line is_status puts = inr (ne, prints ends.Memory status is_line is_status puts)
 
-pub line_config : codes "config 0 form\n" ≡ line_of ends.Config
+pub line_config : (fault : ConfigFault) → config_text fault ≡ line_of (ends.Config fault)
 unfolding line_of
-line_config = refl
+line_config fault = refl
 
 pub line_words : codes "words\n" ≡ line_of ends.Words
 unfolding line_of

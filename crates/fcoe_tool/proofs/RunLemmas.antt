@@ -1,179 +1,167 @@
 -- A command's files, call after call.
-use Rattle.std.proofs.Common.{◌≡◌, ◌≢◌, ℕ, List, [], ◌∷◌, length, Option, Some, Ok, Err, Bool, true, false, not, ◌&&◌, ◌||◌, IsTrue, refl, sym, ap, ◌∙◌, subst, inl, inr}
-use Rattle.std.specs.Prelude.{Vec, Result, nat_lt, IfSome}
+use Rattle.std.proofs.Common.{◌≡◌, ◌≢◌, ℕ, ◌+◌, ◌*◌, ◌≤◌, List, [], ◌∷◌, length, Ok, Err, true, false, IsTrue, refl, sym, ap, ◌∙◌, subst, arith, inl, inr}
+use Rattle.std.specs.Prelude.{Vec, Result, String}
 use Rattle.std.specs.List.{list_any}
-use Rattle.std.specs.declared.alloc.Global.{Global}
 use Rattle.std.specs.Str.{bytes_eq}
-use Rattle.std.proofs.lemmas.Slice.Eq.{bytes_eq-Decides}
-use Rattle.fab_base.specs.Seen.{Seen, Keeps, Rose, OpensOut, PutsAll}
-use Rattle.fab_base.specs.declared.values.Failed.{Failed}
-use Rattle.fab_base.proofs.Depots.{keeps_trans, told_stays}
+use Rattle.std.specs.declared.alloc.Global.{Global}
+use Rattle.fab_base.specs.Places.{name_at}
+use Rattle.fab_base.specs.Seen.{Seen, SameFiles, bytes_of}
+use Rattle.fab_base.proofs.Depots.{told_stays}
+use Rattle.fab_config.specs.Settings.{Settings}
 use Rattle.pcap_file.specs.declared.Record.{Record}
-use Rattle.fab_policy.specs.Settings.{Settings}
-use Rattle.fcoe_tool.specs.Command.{Command, are_names, KeepsOthers}
-use Rattle.fcoe_tool.specs.Ends.{Holds, NoCaptures}
-use Rattle.fcoe_tool.specs.Gathered.{HasCapture, HaveCaptures}
-use Rattle.fcoe_tool.specs.Machine.{Made}
-use Rattle.fcoe_tool.specs.Read.{ConfigRead, CaptureRead}
-use Rattle.fcoe_tool.specs.Write.{FileWritten}
+use Rattle.fab_policy.specs.Journal.{Journal}
+use Rattle.fab_policy.specs.Text.{egress}
+use Rattle.fab_policy.specs.Written.{egresses}
+use Rattle.fcoe_tool.specs.Command.{Command, AnyRose, is_run, port_count, output_at, command_of, KeepsOthers}
+use Rattle.fcoe_tool.specs.Ends.{Holds}
+use Rattle.fcoe_tool.specs.Gathered.{AreCaptures, HaveCaptures, IsFirstBad, bytes_in}
+use Rattle.fcoe_tool.specs.Machine.{Made, outs_in}
+use Rattle.fcoe_tool.specs.Read.{ConfigRead, InputsRead, Moves, lists_in}
+use Rattle.fcoe_tool.specs.Write.{FileWritten, OutputsWritten}
 use Rattle.fcoe_tool.specs.declared.machine.Machine.{Machine}
 use Rattle.fcoe_tool.specs.declared.outcome.Outcome.{Outcome}
 use Rattle.fcoe_tool.specs.declared.outcome.Outcome.TheVariants as ends
+use Rattle.fcoe_tool.proofs.GatherLemmas.{length-counted}
+use Rattle.fcoe_tool.proofs.QueueLemmas.{length-lists}
+use Rattle.fcoe_tool.proofs.WriteLemmas.{length-outs}
+use Rattle.fcoe_tool.proofs.MoveLemmas.{differs, keeps_moves, moves_trans, rose_between}
+use Rattle.fcoe_tool.proofs.NameLemmas.{names_differ, or_false, differs_from_all_0, pairs}
 
--- ---- a file that is written
+-- ---- the same files
 
-module _ (name bytes : List ℕ) (s : ℕ) (a b c : Seen) (opens : OpensOut {E = Failed} name a b (Ok s)) where
-  is_name : b.name s ≡ name
-  is_name = opens.opened.2
+-- the captures under the same files
+are_there : (a b : Seen) → SameFiles a b → (names : List (List ℕ)) (ins : List (List Record)) → AreCaptures b names ins → AreCaptures a names ins
+are_there a b same [] [] are = tt
+are_there a b same [] (rs ∷ ins) are = absurd are
+are_there a b same (n ∷ names) [] are = absurd are
+are_there a b same (n ∷ names) (rs ∷ ins) are = (record { bytes = are.0.bytes; file = sym (same n) ∙ are.0.file; head = are.0.head; capture = are.0.capture }, are_there a b same names ins are.1)
 
-  keeps_all : {T : Type 0} {r : Result T Failed} → PutsAll {T = T} {E = Failed} s bytes b c r → Keeps name a c
-  keeps_all puts = keeps_trans name a b c opens.keeps (subst (λ n. Keeps n b c) is_name puts.keeps)
+bytes_there : (a b : Seen) → SameFiles a b → (names : List (List ℕ)) → bytes_in b names ≡ bytes_in a names
+bytes_there a b same [] = refl
+bytes_there a b same (n ∷ names) = let rest = bytes_there a b same names in let own = ap (λ o. length (bytes_of o)) (same n) in omega arith
 
-  pub file_written : PutsAll {T = Unit {0}} {E = Failed} s bytes b c (Ok tt) → FileWritten name bytes a c (Ok tt)
-  file_written puts = record {
-    keeps = keeps_all puts;
-    ok = λ told. subst (λ n. c.file n ≡ Some bytes) is_name (puts.grown (told_stays name a b opens.keeps told) [] (ap b.file is_name ∙ opens.emptied told));
-    cause = tt;
-  }
+have_there : (c : Settings) (a b : Seen) → SameFiles a b → (names : List (List ℕ)) (ins : List (List Record)) → HaveCaptures c b names ins → HaveCaptures c a names ins
+have_there c a b same names ins have = record {
+  each = are_there a b same names ins have.each;
+  few_bytes = let e = bytes_there a b same names in let few = have.few_bytes in omega arith;
+  few_frames = have.few_frames;
+  short_span = have.short_span;
+}
 
--- ---- names that differ
+bad_there : (c : Settings) (a b : Seen) → SameFiles a b → (names : List (List ℕ)) (port : ℕ) → IsFirstBad c b names port → IsFirstBad c a names port
+bad_there c a b same names port bad = record {
+  some = bad.some;
+  within = bad.within;
+  ins = bad.ins;
+  before = have_there c a b same _ bad.ins bad.before;
+  none = λ more have. bad.none more (have_there c b a (λ m. sym (same m)) _ more have);
+}
 
-and_true : (a b : Bool) → (a && b) ≡ true → (a ≡ true) × (b ≡ true)
-and_true true b h = (refl, h)
-and_true false b h = absurd (cc)
+-- ---- counts that rose
 
-or_false : (a b : Bool) → (a || b) ≡ false → (a ≡ false) × (b ≡ false)
-or_false true b h = absurd (cc)
-or_false false b h = (refl, h)
-
-not_true : (b : Bool) → not b ≡ true → b ≡ false
-not_true true h = absurd (cc)
-not_true false h = refl
-
-differs : (m n : List ℕ) → bytes_eq m n ≡ false → m ≢ n
-differs m n other e = let same = (bytes_eq-Decides m n).1 e in absurd (cc)
-
-first_differs : (n : List ℕ) (names : List (List ℕ)) → are_names (n ∷ names) ≡ true → (list_any (λ m. bytes_eq n m) names ≡ false) × (are_names names ≡ true)
-first_differs n names h =
-    let parts = and_true (nat_lt 0 (length n) && not (list_any (λ m. bytes_eq n m) names)) (are_names names) h in
-    (not_true _ (and_true (nat_lt 0 (length n)) (not (list_any (λ m. bytes_eq n m) names)) parts.0).1, parts.1)
-
--- what the four names of a command are
-record Differ (config journal input output : List ℕ) : Type 0 where
-  config_journal : config ≢ journal
-  config_input : config ≢ input
-  config_output : config ≢ output
-  journal_input : journal ≢ input
-  journal_output : journal ≢ output
-  input_output : input ≢ output
-
-differ_all : (config journal input output : List ℕ) → are_names (config ∷ journal ∷ input ∷ output ∷ []) ≡ true → Differ config journal input output
-differ_all config journal input output h =
-    let one = first_differs config (journal ∷ input ∷ output ∷ []) h in
-    let two = first_differs journal (input ∷ output ∷ []) one.1 in
-    let cj = or_false (bytes_eq config journal) _ one.0 in
-    let ci = or_false (bytes_eq config input) _ cj.1 in
-    let co = or_false (bytes_eq config output) _ ci.1 in
-    let ji = or_false (bytes_eq journal input) _ two.0 in
-    let io = or_false (bytes_eq input output) _ (first_differs input (output ∷ []) two.1).0 in
-    let jo = or_false (bytes_eq journal output) _ ji.1 in
-    record {
-      config_journal = differs config journal cj.0;
-      config_input = differs config input ci.0;
-      config_output = differs config output co.0;
-      journal_input = differs journal input ji.0;
-      journal_output = differs journal output jo.0;
-      input_output = differs input output io.0;
-    }
-
-other_names : (journal output m : List ℕ) → list_any (λ n. bytes_eq n m) (journal ∷ output ∷ []) ≡ false → (m ≢ journal) × (m ≢ output)
-other_names journal output m h =
-    let j = or_false (bytes_eq journal m) _ h in
-    let o = or_false (bytes_eq output m) _ j.1 in
-    ((λ e. differs journal m j.0 (sym e)), (λ e. differs output m o.0 (sym e)))
+any_rose_later : (before mid now : List ℕ → ℕ) (names : List (List ℕ)) → ((m : List ℕ) → before m ≤ mid m) → AnyRose mid now names → AnyRose before now names
+any_rose_later before mid now [] le rose = rose
+any_rose_later before mid now (n ∷ names) le (inl own) = inl (rose_between (before n) (mid n) (now n) (now n) (le n) own (omega arith))
+any_rose_later before mid now (n ∷ names) le (inr more) = inr (any_rose_later before mid now names le more)
 
 -- ---- a command, call after call
 
-pub port_is : (o : Option ℕ) (p : ℕ) → o ≡ Some p → IfSome o (λ q. q ≡ 1) → p ≡ 1
-port_is o p is one = subst (λ (x : Option ℕ). IfSome x (λ q. q ≡ 1)) is one
-
-abbrev pub command_over : List ℕ → List ℕ → List ℕ → List ℕ → Command
-command_over config journal input output = record { config = config; journal = journal; ins = input ∷ []; outs = output ∷ [] }
-
--- a capture under the same files
-same_capture : (cf : Settings) (name : List ℕ) (rs : List Record) (a b : Seen) → b.file name ≡ a.file name → HasCapture cf b name rs → HasCapture cf a name rs
-same_capture cf name rs a b same has = record {
-  bytes = has.bytes;
-  file = sym same ∙ has.file;
-  head = has.head;
-  capture = has.capture;
-  few_bytes = has.few_bytes;
-  few_frames = has.few_frames;
-  short_span = has.short_span;
-}
-
-one_capture_each : (cf : Settings) (name : List ℕ) (a : Seen) (ins : List (List Record)) → ((rs : List Record) → HasCapture cf a name rs → ⊥) → HaveCaptures cf a (name ∷ []) ins → ⊥
-one_capture_each cf name a [] none have = have
-one_capture_each cf name a (rs ∷ []) none have = none rs have.0
-one_capture_each cf name a (rs ∷ qs ∷ ins) none have = have.1
-
-module _ (config journal input output : List ℕ) (names : are_names (config ∷ journal ∷ input ∷ output ∷ []) ≡ true) where
+module _ (words : List (String Global)) (run : is_run words ≡ true) where
   abbrev k : Command
-  k = command_over config journal input output
+  k = command_of words
 
-  d : Differ config journal input output
-  d = differ_all config journal input output names
+  -- a name that isn't that of an output
+  other_names : (m : List ℕ) → list_any (λ n. bytes_eq n m) (k.journal ∷ k.outs) ≡ false → (m ≢ k.journal) × (list_any (λ n. bytes_eq n m) k.outs ≡ false)
+  other_names m h =
+      let parts = or_false (bytes_eq k.journal m) _ h in
+      ((λ e. differs k.journal m parts.0 (sym e)), parts.1)
 
-  pub config_end : (a b : Seen) (o : Outcome) → ConfigRead config a b (Err o) → Holds (command_over config journal input output) a b o
+  journal_differs : list_any (λ n. bytes_eq n k.journal) k.outs ≡ false
+  journal_differs = differs_from_all_0 (output_at words) k.journal (port_count words) (λ q lt e. let fits = (pairs words run).fits in names_differ words 2 (2 * q + 4) run (omega arith) (omega arith) (omega arith) (sym e))
+
+  pub config_end : (a b : Seen) (o : Outcome) → ConfigRead (name_at words 1) a b (Err o) → Holds (command_of words) a b o
   config_end a b o r = elim r.only [
-    | inl is ↦ subst (Holds k a b) (sym is) (r.reads.files, λ told. r.none told (ap (λ (x : Outcome). Err x) is))
-    | inr is ↦ subst (Holds k a b) (sym is) (r.reads.files, inl (r.cause (ap (λ (x : Outcome). Err x) is)))
+    | inl is ↦ subst (Holds k a b) (sym is.1) (r.reads.files, λ told. r.fault told is.0 is.1)
+    | inr other ↦ elim other [
+      | inl is ↦ subst (Holds k a b) (sym is) (r.reads.files, inl (r.cause (ap (λ (x : Outcome). Err x) is)))
+      | inr is ↦ subst (Holds k a b) (sym is) (λ m h. r.reads.files m)
+    ]
   ]
 
-  module _ (cf : Settings) (a b c : Seen) (first : ConfigRead config a b (Ok cf)) (port : ℕ) (is_port : port ≡ 1) where
+  module _ (cf : Settings) (a b c : Seen) (first : ConfigRead (name_at words 1) a b (Ok cf)) where
     told_b : IsTrue a.told → IsTrue b.told
-    told_b = told_stays config a b first.reads.keeps
+    told_b = told_stays (name_at words 1) a b first.reads.keeps
 
-    no_captures : CaptureRead cf port input b c (Err (ends.Capture port)) → IsTrue a.told → NoCaptures k a
-    no_captures r told = (cf, first.ok told, λ ins. one_capture_each cf input a ins (λ rs has. r.none (told_b told) refl rs (same_capture cf input rs b a (sym (first.reads.files input)) has)))
+    moves_b : Moves a b
+    moves_b = keeps_moves (name_at words 1) a b first.reads.keeps
 
-    pub capture_end : (o : Outcome) → CaptureRead cf port input b c (Err o) → Holds (command_over config journal input output) a c o
-    capture_end o r = elim r.only [
-      | inl is ↦ subst (Holds k a c) (sym is) ((λ m. r.reads.files m ∙ first.reads.files m), is_port, no_captures (subst (λ (x : Outcome). CaptureRead cf port input b c (Err x)) is r))
+    pub inputs_end : (o : Outcome) → InputsRead cf (command_of words).ins b c (Err o) → Holds (command_of words) a c o
+    inputs_end o r = elim r.only [
+      | inl is ↦ subst (Holds k a c) (sym is.1) ((λ m. r.files m ∙ first.reads.files m), λ told. (cf, first.ok told, bad_there cf a b first.reads.files k.ins is.0 (r.none (told_b told) is.0 is.1)))
       | inr other ↦ elim other [
-        | inl is ↦ subst (Holds k a c) (sym is) ((λ m. r.reads.files m ∙ first.reads.files m), inr (inl (subst (λ n. Rose n (c.read_faults input)) (first.reads.keeps.reads input (λ e. d.config_input (sym e))) (r.cause (ap (λ (x : Outcome). Err x) is)))))
-        | inr is ↦ subst (Holds k a c) (sym is) (λ m h. r.reads.files m ∙ first.reads.files m)
+        | inl is ↦ subst (Holds k a c) (sym is) ((λ m. r.files m ∙ first.reads.files m), inr (any_rose_later a.read_faults b.read_faults c.read_faults k.ins moves_b.reads (r.cause (ap (λ (x : Outcome). Err x) is))))
+        | inr is ↦ subst (Holds k a c) (sym is) (λ m h. r.files m ∙ first.reads.files m)
       ]
     ]
 
-    module _ (v : Vec Record Global) (second : CaptureRead cf port input b c (Ok v)) where
-      pub no_machine : KeepsOthers (command_over config journal input output) a c
-      no_machine m h = second.reads.files m ∙ first.reads.files m
+    module _ (v : Vec (Vec Record Global) Global) (second : InputsRead cf (command_of words).ins b c (Ok v)) where
+      pub same_files : SameFiles a c
+      same_files m = second.files m ∙ first.reads.files m
 
-      writes_c : (n : List ℕ) → n ≢ config → n ≢ input → c.write_faults n ≡ a.write_faults n
-      writes_c n nc ni = second.reads.keeps.writes n ni ∙ first.reads.keeps.writes n nc
+      moves_c : Moves a c
+      moves_c = moves_trans a b c moves_b second.moves
+
+      told_c : IsTrue a.told → IsTrue c.told
+      told_c told = subst IsTrue (sym moves_c.told) told
+
+      pub no_machine : KeepsOthers (command_of words) a c
+      no_machine m h = same_files m
 
       module _ (e : Seen) (lines : List ℕ) where
-        module _ (f : Seen) (out : List ℕ) (third : FileWritten journal lines c e (Ok tt)) where
-          pub ran : (m : Machine) (rs : List Record) → rs ≡ v.items → Made cf rs m → lines ≡ m.journal.items → out ≡ m.out.items → FileWritten output out e f (Ok tt) → Holds (command_over config journal input output) a f (ends.Ran m.index m.entries)
-          ran m rs is_rs made_of is_lines is_out fourth = (
-            (λ n h. fourth.keeps.files n (other_names journal output n h).1 ∙ third.keeps.files n (other_names journal output n h).0 ∙ no_machine n h),
+        pub journal_failed : (o : Outcome) → FileWritten (name_at words 2) lines c e (Err o) → Holds (command_of words) a e o
+        journal_failed o third = subst (Holds k a e) (sym third.cause.0) (
+          (λ n h. third.keeps.files n (other_names n h).0 ∙ same_files n),
+          inl (rose_between (a.write_faults k.journal) (c.write_faults k.journal) (e.write_faults k.journal) (e.write_faults k.journal) (moves_c.writes k.journal) third.cause.1 (omega arith)),
+        )
+
+        module _ (f : Seen) (third : FileWritten (name_at words 2) lines c e (Ok tt)) (outs : List (List ℕ)) where
+          moves_e : Moves a e
+          moves_e = moves_trans a c e moves_c (keeps_moves k.journal c e third.keeps)
+
+          pub outputs_failed : (o : Outcome) → OutputsWritten (command_of words).outs outs e f (Err o) → Holds (command_of words) a f o
+          outputs_failed o fourth = subst (Holds k a f) (sym fourth.cause.0) (
+            (λ n h. fourth.others n (other_names n h).1 ∙ third.keeps.files n (other_names n h).0 ∙ same_files n),
+            inr (any_rose_later a.write_faults e.write_faults f.write_faults k.outs moves_e.writes fourth.cause.1),
+          )
+
+          pub ran : (m : Machine) (rs : List (Vec Record Global)) → rs ≡ v.items → Made cf (lists_in rs) m → lines ≡ m.journal.items → outs ≡ outs_in m.outs.items → OutputsWritten (command_of words).outs outs e f (Ok tt) → Holds (command_of words) a f (ends.Ran m.frames m.entries)
+          ran m rs is_rs made_of is_lines is_outs fourth = (
+            (λ n h. fourth.others n (other_names n h).1 ∙ third.keeps.files n (other_names n h).0 ∙ same_files n),
             (λ told.
-                let made = subst (λ l. Made cf l m) is_rs made_of in
-                let told_c = told_stays input b c second.reads.keeps (told_b told) in
-                let told_e = told_stays journal c e third.keeps told_c in
+                let made = subst (λ l. Made cf (lists_in l) m) is_rs made_of in
+                let told_e : IsTrue e.told = subst IsTrue (sym moves_e.told) told in
                 record {
                   settings = cf;
-                  ins = v.items ∷ [];
+                  ins = lists_in v.items;
                   journal = made.entry_list;
                   lines = lines;
-                  captures = out ∷ [];
+                  captures = outs;
                   config = first.ok told;
-                  records = (same_capture cf input v.items a b (first.reads.files input) (second.ok (told_b told)), tt);
-                  written = record { ranged = made.ranged; run = made.run; lines = is_lines ∙ made.lines; captures = ap (λ l. l ∷ []) (is_out ∙ made.out) };
-                  journal_file = fourth.keeps.files journal d.journal_output ∙ third.ok told_c;
-                  output_files = ap (λ x. x ∷ []) (fourth.ok told_e);
+                  records = have_there cf a b first.reads.files k.ins (lists_in v.items) (second.ok (told_b told));
+                  written = record { ranged = made.ranged; run = made.run; lines = is_lines ∙ made.lines; captures = is_outs ∙ made.outs };
+                  journal_file = fourth.others k.journal journal_differs ∙ third.ok (told_c told);
+                  output_files = fourth.ok told_e;
                   frames_are = made.frames;
                   entries_are = made.entries;
                 }),
           )
+
+pub config_as : {m n : List ℕ} {a b : Seen} {r : Result Settings Outcome} → m ≡ n → ConfigRead m a b r → ConfigRead n a b r
+config_as {m} {n} {a} {b} {r} e read = subst (λ l. ConfigRead l a b r) e read
+
+pub length-egresses : (c : Settings) (n : ℕ) (J : Journal) → length (egresses c n J) ≡ n
+length-egresses c n J = length-counted {B = List ℕ} (λ p. egress c n p J) 1 n
+
+-- a machine has an output for each port
+pub out_count : (cf : Settings) (rs : List (Vec Record Global)) (m : Machine) → Made cf (lists_in rs) m → length m.outs.items ≡ length rs
+out_count cf rs m made = sym (length-outs m.outs.items) ∙ ap length made.outs ∙ length-egresses cf (length (lists_in rs)) made.entry_list ∙ length-lists rs

@@ -1,30 +1,57 @@
 -- The command that words are.
-use Rattle.std.specs.Prelude.{◌≡◌, ℕ, ◌<◌, ◌⊎◌, Bool, true, false, not, ◌==◌, nat_lt, ◌&&◌, if◌then◌else◌, IsTrue, List, [], ◌∷◌, length, Option, Some, None, codes, String}
+use Rattle.std.specs.Prelude.{◌≡◌, ℕ, ◌+◌, ◌-◌, ◌*◌, ◌/◌, ◌%◌, ◌<◌, ◌⊎◌, Bool, true, false, not, ◌==◌, nat_lt, nat_le, ◌&&◌, if◌then◌else◌, IsTrue, List, [], ◌∷◌, length, map, drop, Option, Some, None, codes, String}
 use Rattle.std.specs.List.{list_any}
 use Rattle.std.specs.Str.{bytes_eq}
+use Rattle.std.specs.String.{string_bytes}
 use Rattle.std.specs.declared.alloc.Global.{Global}
 use Rattle.fab_base.specs.Places.{name_at}
 use Rattle.fab_base.specs.Seen.{Seen, Rose}
-use Rattle.fcoe_tool.specs.declared.command.Names.{Names}
+use Rattle.fab_policy.specs.Logins.{counting}
 
--- `run CONFIG JOURNAL IN OUT`: the names of the configuration, of the journal, and of the captures of each port
+-- `run CONFIG JOURNAL IN OUT [IN OUT ..]`: the names of the configuration, of the journal, and of the captures of each port
 pub record Command : Type 0 where
   pub config : List ℕ
   pub journal : List ℕ
   pub ins : List (List ℕ)
   pub outs : List (List ℕ)
 
+-- the words from a place on
+abbrev pub names_from : ℕ → List (String Global) → List (List ℕ)
+names_from place words = map (λ w. string_bytes w) (drop place words)
+
 -- no name is empty, and none is used twice
 abbrev pub are_names : List (List ℕ) → Bool
 are_names [] = true
 are_names (n ∷ names) = nat_lt 0 (length n) && not (list_any (λ m. bytes_eq n m) names) && are_names names
 
+-- 1 to 64 pairs behind the first three words, of which the first is `run`
+abbrev pub has_form : List (String Global) → Bool
+has_form words = nat_le 5 (length words) && nat_le (length words) 131 && length words % 2 == 1 && bytes_eq (name_at words 0) (codes "run")
+
+abbrev pub is_run : List (String Global) → Bool
+is_run words = has_form words && are_names (names_from 1 words)
+
+abbrev pub port_count : List (String Global) → ℕ
+port_count words = (length words - 3) / 2
+
+-- the input and the output of a port, which is counted from 0
+abbrev pub input_at : List (String Global) → ℕ → List ℕ
+input_at words port = name_at words (2 * port + 3)
+
+abbrev pub output_at : List (String Global) → ℕ → List ℕ
+output_at words port = name_at words (2 * port + 4)
+
+abbrev pub command_of : List (String Global) → Command
+command_of words = record {
+  config = name_at words 1;
+  journal = name_at words 2;
+  ins = map (input_at words) (counting 0 (port_count words));
+  outs = map (output_at words) (counting 0 (port_count words));
+}
+
 -- the command that words are, or none
 unfoldable pub command : List (String Global) → Option Command
-command words =
-    if length words == 5 && bytes_eq (name_at words 0) (codes "run") && are_names (name_at words 1 ∷ name_at words 2 ∷ name_at words 3 ∷ name_at words 4 ∷ [])
-    then Some (record { config = name_at words 1; journal = name_at words 2; ins = name_at words 3 ∷ []; outs = name_at words 4 ∷ [] })
-    else None
+command words = if is_run words then Some (command_of words) else None
 
 -- what a command reads, and what it writes
 abbrev pub inputs : Command → List (List ℕ)
@@ -52,20 +79,3 @@ WriteRose k old new = AnyRose old.write_faults new.write_faults (outputs k)
 -- no file changes but the outputs
 abbrev pub KeepsOthers : Command → Seen → Seen → Type 0
 KeepsOthers k old new = (m : List ℕ) → list_any (λ n. bytes_eq n m) (outputs k) ≡ false → new.file m ≡ old.file m
-
--- ---- the code's names
-
-abbrev pub names_in : Names → List (List ℕ)
-names_in n = n.config.now ∷ n.journal.now ∷ n.input.now ∷ n.output.now ∷ []
-
-abbrev pub command_of : Names → Command
-command_of n = record { config = n.config.now; journal = n.journal.now; ins = n.input.now ∷ []; outs = n.output.now ∷ [] }
-
--- the names are words, and differ
-pub record NamesAre (n : Names) (words : List (String Global)) : Type 0 where
-  pub count : length words ≡ 5
-  pub config : n.config.now ≡ name_at words 1
-  pub journal : n.journal.now ≡ name_at words 2
-  pub input : n.input.now ≡ name_at words 3
-  pub output : n.output.now ≡ name_at words 4
-  pub differ : IsTrue (are_names (names_in n))

@@ -4,11 +4,12 @@ use Rattle.std.specs.declared.alloc.Global.{Global}
 use Rattle.fab_base.specs.Seen.{Seen, Rose, SameFiles}
 use Rattle.fab_base.specs.Sunk.{Sunk}
 use Rattle.pcap_file.specs.declared.Record.{Record}
-use Rattle.fab_policy.specs.Settings.{Settings}
-use Rattle.fab_policy.specs.Journal.{Journal}
-use Rattle.fab_policy.specs.Written.{IsWritten, frame_count}
+use Rattle.fab_config.specs.Settings.{Settings}
+use Rattle.fab_config.specs.declared.ConfigFault.{ConfigFault}
+use Rattle.fab_policy.specs.Journal.{Journal, frame_count}
+use Rattle.fab_policy.specs.Stage.{IsWrittenSoFar}
 use Rattle.fcoe_tool.specs.Command.{Command, command, ReadRose, WriteRose, KeepsOthers}
-use Rattle.fcoe_tool.specs.Gathered.{HasConfig, HaveCaptures}
+use Rattle.fcoe_tool.specs.Gathered.{HasConfig, HasFault, HaveCaptures, IsFirstBad}
 use Rattle.fcoe_tool.specs.Outcome.{status_of, line_of}
 use Rattle.fcoe_tool.specs.declared.outcome.Outcome.{Outcome}
 use Rattle.fcoe_tool.specs.declared.outcome.Outcome.TheVariants as ends
@@ -23,21 +24,21 @@ pub record HasRun (k : Command) (frames entries : ℕ) (old new : Seen) : Type 0
   pub captures : List (List ℕ)
   pub config : HasConfig old k.config settings
   pub records : HaveCaptures settings old k.ins ins
-  pub written : IsWritten settings ins journal lines captures
+  pub written : IsWrittenSoFar settings ins journal lines captures
   pub journal_file : new.file k.journal ≡ Some lines
   pub output_files : map (λ n. new.file n) k.outs ≡ map (λ l. Some l) captures
   pub frames_are : frames ≡ frame_count journal
   pub entries_are : entries ≡ length journal
 
--- the configuration has a value, and the inputs are no captures within the limits
-abbrev pub NoCaptures : Command → Seen → Type 0
-NoCaptures k d = (c : Settings) × HasConfig d k.config c × ((ins : List (List Record)) → HaveCaptures c d k.ins ins → ⊥)
+-- the configuration has a value, and this port is the first whose capture can't be taken
+abbrev pub StopsAt : Command → Seen → ℕ → Type 0
+StopsAt k d port = (c : Settings) × HasConfig d k.config c × IsFirstBad c d k.ins port
 
 -- What holds where a command ends so. What is said of bytes needs a depot that tells them.
 abbrev pub Holds : Command → Seen → Seen → Outcome → Type 0
 Holds k old new (ends.Ran frames entries) = KeepsOthers k old new × (IsTrue old.told → HasRun k frames entries old new)
-Holds k old new ends.Config = SameFiles old new × (IsTrue old.told → (c : Settings) → HasConfig old k.config c → ⊥)
-Holds k old new (ends.Capture port) = SameFiles old new × (port ≡ 1) × (IsTrue old.told → NoCaptures k old)
+Holds k old new (ends.Config fault) = SameFiles old new × (IsTrue old.told → HasFault old k.config fault)
+Holds k old new (ends.Capture port) = SameFiles old new × (IsTrue old.told → StopsAt k old port)
 Holds k old new ends.Words = ⊥
 Holds k old new ends.ReadFault = SameFiles old new × ReadRose k old new
 Holds k old new ends.WriteFault = KeepsOthers k old new × WriteRose k old new
@@ -91,9 +92,9 @@ pub record OfCommand (words : List (String Global)) (P : Command → Type 0) : T
   pub is : command words ≡ Some k
   pub holds : P k
 
--- the configuration has no value, or the inputs are no captures
+-- the configuration has a fault, or a capture can't be taken
 abbrev pub IsRefused : Seen → Command → Type 0
-IsRefused d k = ((c : Settings) → HasConfig d k.config c → ⊥) ⊎ NoCaptures k d
+IsRefused d k = ((fault : ConfigFault) × HasFault d k.config fault) ⊎ ((port : ℕ) × StopsAt k d port)
 
 -- Words that are a command, whose files have their forms, where nothing failed.
 pub record IsComplete (words : List (String Global)) (old new : Seen) (before after : Sunk) : Type 0 where

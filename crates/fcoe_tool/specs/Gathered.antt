@@ -1,18 +1,24 @@
 -- What a command finds in its inputs.
-use Rattle.std.specs.Prelude.{◌≡◌, ℕ, ◌-◌, ◌≤◌, List, [], ◌∷◌, length, Some}
-use Rattle.fab_base.specs.Seen.{Seen}
+use Rattle.std.specs.Prelude.{◌≡◌, ℕ, ◌+◌, ◌-◌, ◌≤◌, min, max, List, [], ◌∷◌, length, map, flat_map, take, Some, Ok, Err}
+use Rattle.fab_base.specs.Seen.{Seen, bytes_of}
 use Rattle.pcap_file.specs.declared.CaptureHead.{CaptureHead}
 use Rattle.pcap_file.specs.declared.Record.{Record}
 use Rattle.pcap_file.specs.Capture.{IsCapture}
-use Rattle.fab_policy.specs.Settings.{Settings}
+use Rattle.fab_config.specs.Settings.{Settings}
+use Rattle.fab_config.specs.Text.{decoded}
+use Rattle.fab_config.specs.declared.ConfigFault.{ConfigFault}
 use Rattle.fab_policy.specs.Legal.{window_start}
-use Rattle.fcoe_tool.specs.ConfigText.{config_in}
 
--- a name's file is a configuration text of this value
+-- a name's file is a configuration text of this value, and one with this first fault
 pub record HasConfig (d : Seen) (name : List ℕ) (c : Settings) : Type 0 where
   pub text : List ℕ
   pub file : d.file name ≡ Some text
-  pub value : config_in text ≡ Some c
+  pub value : decoded text ≡ Ok c
+
+pub record HasFault (d : Seen) (name : List ℕ) (fault : ConfigFault) : Type 0 where
+  pub text : List ℕ
+  pub file : d.file name ≡ Some text
+  pub value : decoded text ≡ Err fault
 
 -- the limits on the bytes of all captures, on their frames, and on the milliseconds from the first window to the last
 abbrev pub MOST_BYTES : ℕ
@@ -24,29 +30,62 @@ MOST_FRAMES = 200000
 abbrev pub LONGEST_SPAN : ℕ
 LONGEST_SPAN = 21600000
 
--- the moment of the last of these records, or that before them
-abbrev pub moment_of_last : ℕ → List Record → ℕ
-moment_of_last before [] = before
-moment_of_last before (r ∷ rs) = moment_of_last r.moment rs
+-- the windows of these records, and of those of all ports
+abbrev pub windows_of : Settings → List Record → List ℕ
+windows_of c records = map (λ r. window_start c r.moment) records
 
--- the milliseconds from the window of the first record to that of the last
-abbrev pub span : Settings → List Record → ℕ
-span c [] = 0
-span c (r ∷ rs) = window_start c (moment_of_last r.moment rs) - window_start c r.moment
+abbrev pub windows : Settings → List (List Record) → List ℕ
+windows c ins = flat_map (windows_of c) ins
 
--- A name's file is a capture of these records, within the limits.
-pub record HasCapture (c : Settings) (d : Seen) (name : List ℕ) (records : List Record) : Type 0 where
+-- the least and the greatest of numbers
+abbrev pub least_of : ℕ → List ℕ → ℕ
+least_of m [] = m
+least_of m (w ∷ ws) = least_of (min m w) ws
+
+abbrev pub most_of : ℕ → List ℕ → ℕ
+most_of m [] = m
+most_of m (w ∷ ws) = most_of (max m w) ws
+
+-- how far the last of them lies behind the first
+abbrev pub span_of : List ℕ → ℕ
+span_of [] = 0
+span_of (w ∷ ws) = most_of w ws - least_of w ws
+
+-- a name's file is a capture of these records
+pub record HasCapture (d : Seen) (name : List ℕ) (records : List Record) : Type 0 where
   pub bytes : List ℕ
   pub file : d.file name ≡ Some bytes
   pub head : CaptureHead
   pub capture : IsCapture head records bytes
-  pub few_bytes : length bytes ≤ MOST_BYTES
-  pub few_frames : length records ≤ MOST_FRAMES
-  pub short_span : span c records ≤ LONGEST_SPAN
 
--- the captures of all ports, in their order
-abbrev pub HaveCaptures : Settings → Seen → List (List ℕ) → List (List Record) → Type 0
-HaveCaptures c d [] [] = Unit {0}
-HaveCaptures c d [] (records ∷ ins) = ⊥
-HaveCaptures c d (name ∷ names) [] = ⊥
-HaveCaptures c d (name ∷ names) (records ∷ ins) = HasCapture c d name records × HaveCaptures c d names ins
+-- the same of the names of all ports, in their order
+abbrev pub AreCaptures : Seen → List (List ℕ) → List (List Record) → Type 0
+AreCaptures d [] [] = Unit {0}
+AreCaptures d [] (records ∷ ins) = ⊥
+AreCaptures d (name ∷ names) [] = ⊥
+AreCaptures d (name ∷ names) (records ∷ ins) = HasCapture d name records × AreCaptures d names ins
+
+-- the bytes of all these files
+abbrev pub bytes_in : Seen → List (List ℕ) → ℕ
+bytes_in d [] = 0
+bytes_in d (name ∷ names) = length (bytes_of (d.file name)) + bytes_in d names
+
+-- the frames of all ports
+abbrev pub frames_in : List (List Record) → ℕ
+frames_in [] = 0
+frames_in (records ∷ ins) = length records + frames_in ins
+
+-- The files are captures of these records, and together within the limits.
+pub record HaveCaptures (c : Settings) (d : Seen) (names : List (List ℕ)) (ins : List (List Record)) : Type 0 where
+  pub each : AreCaptures d names ins
+  pub few_bytes : bytes_in d names ≤ MOST_BYTES
+  pub few_frames : frames_in ins ≤ MOST_FRAMES
+  pub short_span : span_of (windows c ins) ≤ LONGEST_SPAN
+
+-- A port, counted from 1, is the first whose file is no capture or passes a limit together with those before it.
+pub record IsFirstBad (c : Settings) (d : Seen) (names : List (List ℕ)) (port : ℕ) : Type 0 where
+  pub some : 1 ≤ port
+  pub within : port ≤ length names
+  pub ins : List (List Record)
+  pub before : HaveCaptures c d (take (port - 1) names) ins
+  pub none : (more : List (List Record)) → HaveCaptures c d (take port names) more → ⊥

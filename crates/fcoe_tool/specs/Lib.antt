@@ -1,9 +1,11 @@
 pub mod Edge
-pub mod ConfigText
 pub mod Command
 pub mod Gathered
 pub mod Read
 pub mod Write
-pub mod Machine
 pub mod Outcome
 pub mod Ends
+pub mod Reach
+pub mod Machine
+pub mod Clock
+pub mod Queue

@@ -1,68 +1,70 @@
--- What one record does to the machine, and what a machine stands for.
-use Rattle.std.specs.Prelude.{◌≡◌, ℕ, ◌+◌, ◌==◌, nat_lt, if◌then◌else◌, List, [], ◌∷◌, ◌++◌, length, flat_map, Option, Some, None}
-use Rattle.std.specs.List.{AllPass}
-use Rattle.fab_base.specs.declared.values.Caught.{Caught}
+-- What a machine has written after all records of all ports.
+use Rattle.std.specs.Prelude.{◌≡◌, ℕ, zero, suc, ◌+◌, ◌==◌, List, [], ◌∷◌, ◌++◌, length, map, flat_map, filter, replicate, None, Vec}
+use Rattle.std.specs.declared.alloc.Global.{Global}
+use Rattle.pcap_file.specs.Capture.{head_bytes}
 use Rattle.pcap_file.specs.declared.Record.{Record}
-use Rattle.pcap_file.specs.Capture.{head_bytes, record_bytes}
-use Rattle.fab_policy.specs.Settings.{Settings}
-use Rattle.fab_policy.specs.Heard.{asks_vlans}
-use Rattle.fab_policy.specs.Journal.{Journal}
-use Rattle.fab_policy.specs.Legal.{Run, window_start}
+use Rattle.fab_config.specs.Settings.{Settings}
+use Rattle.fab_policy.specs.Journal.{Journal, frame_count}
+use Rattle.fab_policy.specs.Outputs.{Sent, replies_of, advertisements_of, advertised_after}
 use Rattle.fab_policy.specs.Ranged.{IsRanged}
-use Rattle.fab_policy.specs.Replies.{vlan_notice}
-use Rattle.fab_policy.specs.Text.{line1, text1, egress}
-use Rattle.fab_policy.specs.Verdicts.{judged}
-use Rattle.fab_policy.specs.Written.{frame_count}
+use Rattle.fab_policy.specs.Stage.{RunSoFar}
+use Rattle.fab_policy.specs.State.{Tables}
+use Rattle.fab_policy.specs.Steps.{clock_after}
+use Rattle.fab_policy.specs.Text.{text1, line1, sent_bytes}
+use Rattle.fab_policy.specs.Written.{egresses}
 use Rattle.fab_policy.specs.declared.event.Event.{Event}
 use Rattle.fab_policy.specs.declared.event.Event.TheVariants.{Tick, Frame}
 use Rattle.fcoe_tool.specs.declared.machine.Machine.{Machine}
 
--- the tick before a frame of a window: none where the clock stands there
-abbrev pub ticks : Option ℕ → ℕ → List Event
-ticks None window = Tick window [] ∷ []
-ticks (Some clock) window = if clock == window then [] else Tick window [] ∷ []
+-- the bytes of the outputs of all ports
+abbrev pub outs_in : List (Vec ℕ Global) → List (List ℕ)
+outs_in outs = map (λ v. v.items) outs
 
--- the clock moves on to a window
-pub record Ticked (window : ℕ) (old new : Machine) : Type 0 where
-  pub clock : new.clock ≡ Some window
-  pub index : new.index ≡ old.index
-  pub entries : new.entries ≡ old.entries + length (ticks old.clock window)
-  pub journal : new.journal.items ≡ old.journal.items ++ flat_map line1 (ticks old.clock window)
-  pub out : new.out.items ≡ old.out.items
+-- the frames that are sent at a moment
+abbrev pub sent_at : ℕ → List (ℕ × List ℕ) → List Sent
+sent_at at frames = map (λ x. record { port = x.0; moment = at; bytes = x.1 }) frames
 
--- the record of the answer to a frame at a clock
-abbrev pub answer : Settings → ℕ → Caught → List ℕ
-answer c clock caught = if asks_vlans c caught then record_bytes clock (vlan_notice c caught) else []
+-- the captures of ports from p on, with what is sent on them
+abbrev pub added : List (List ℕ) → ℕ → List Sent → List (List ℕ)
+added [] p sents = []
+added (o ∷ outs) p sents = (o ++ flat_map sent_bytes (filter (λ s. s.port == p) sents)) ∷ added outs (p + 1) sents
 
--- a frame gets its verdict and its answer
-pub record Framed (c : Settings) (window : ℕ) (caught : Caught) (old new : Machine) : Type 0 where
-  pub bytes : AllPass (λ b. nat_lt b 256) caught.bytes
-  pub clock : new.clock ≡ old.clock
-  pub index : new.index ≡ old.index + 1
+-- one capture with a record more
+abbrev pub put_at : ℕ → List ℕ → List (List ℕ) → List (List ℕ)
+put_at k bytes [] = []
+put_at zero bytes (o ∷ outs) = (o ++ bytes) ∷ outs
+put_at (suc k) bytes (o ∷ outs) = o ∷ put_at k bytes outs
+
+-- how many frames an entry is
+abbrev pub frames_of : Event → ℕ
+frames_of (Tick m ended) = 0
+frames_of (Frame port index caught verdict) = 1
+
+-- A machine takes an entry at a moment: its line, and what is sent while nobody is logged in.
+pub record Takes (c : Settings) (e : Event) (at : ℕ) (old new : Machine) : Type 0 where
+  pub clock : new.clock ≡ clock_after e old.clock
+  pub advertised : new.advertised ≡ advertised_after c old.advertised e
+  pub lines : new.journal.items ≡ old.journal.items ++ line1 e
+  pub outs : (T : Tables) → outs_in new.outs.items ≡ added (outs_in old.outs.items) 1 (sent_at at (replies_of c T e ++ advertisements_of c (length old.outs.items) old.advertised e))
+  pub count : length new.outs.items ≡ length old.outs.items
   pub entries : new.entries ≡ old.entries + 1
-  pub journal : new.journal.items ≡ old.journal.items ++ line1 (Frame 1 old.index caught (judged c caught))
-  pub out : new.out.items ≡ old.out.items ++ answer c window caught
-
--- one record
-pub record Stepped (c : Settings) (r : Record) (old new : Machine) : Type 0 where
-  pub middle : Machine
-  pub ticked : Ticked (window_start c r.moment) old middle
-  pub framed : Framed c (window_start c r.moment) r.caught middle new
+  pub frames : new.frames ≡ old.frames + frames_of e
 
 -- a machine at the start
-pub record IsNew (m : Machine) : Type 0 where
+pub record IsNew (n : ℕ) (m : Machine) : Type 0 where
   pub clock : m.clock ≡ None
-  pub index : m.index ≡ 0
+  pub advertised : m.advertised ≡ None
+  pub lines : m.journal.items ≡ []
+  pub outs : outs_in m.outs.items ≡ replicate n head_bytes
   pub entries : m.entries ≡ 0
-  pub journal : m.journal.items ≡ []
-  pub out : m.out.items ≡ head_bytes
+  pub frames : m.frames ≡ 0
 
--- a machine that took all records of a port: it wrote a run over them
-pub record Made (c : Settings) (records : List Record) (m : Machine) : Type 0 where
+-- A machine that took all records of all ports: it wrote a run over them.
+pub record Made (c : Settings) (ins : List (List Record)) (m : Machine) : Type 0 where
   pub entry_list : Journal
   pub ranged : IsRanged entry_list
-  pub run : Run c (records ∷ []) entry_list
+  pub run : RunSoFar c ins entry_list
   pub lines : m.journal.items ≡ text1 entry_list
-  pub out : m.out.items ≡ egress c 1 entry_list
-  pub frames : m.index ≡ frame_count entry_list
+  pub outs : outs_in m.outs.items ≡ egresses c (length ins) entry_list
+  pub frames : m.frames ≡ frame_count entry_list
   pub entries : m.entries ≡ length entry_list

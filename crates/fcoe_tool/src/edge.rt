@@ -1,7 +1,8 @@
 // The real files and the real output, which tell no content.
 ghost use Rattle.std.specs.Prelude.{◌≡◌, ◌<◌, ◌≤◌, ℕ, List, IsTrue, length, IfSome, IfOk, OnOk};
 ghost use Rattle.fab_base.specs.Desk.{knows};
-ghost use Rattle.fcoe_tool.specs.Edge.{KnowsAll};
+ghost use Rattle.fcoe_tool.specs.Edge.{KnowsAll, ReadsAt, WritesAt};
+ghost use Rattle.std.specs.Io.KnownBytes.{ReadConsumes, WriteAppends};
 
 use fab_base::{Depot, Desk, Failed, NoMemory, Sink, word_at};
 use std::alloc::Global;
@@ -20,7 +21,7 @@ pub struct FileDepot<'a, R: Files> {
 impl<'a, R: Files> FileDepot<'a, R> {
     ghost use Rattle.std.specs.Prelude.{◌≡◌, ◌<◌, ℕ, List, Some, IfSome, IfOk, IfErr, length, slice_get, IsTrue, true, ◌≤◌};
     ghost use Rattle.fab_base.specs.Desk.{place_of, Stays, KeepsCounts};
-    ghost use Rattle.fcoe_tool.specs.Edge.{KnowsAll};
+    ghost use Rattle.fcoe_tool.specs.Edge.{KnowsAll, AddsFile};
 
     /// A depot that knows these words.
     pub fn new(rt: &'a R, alloc: Global, words: &[String]) -> Result<FileDepot<'a, R>, NoMemory>
@@ -39,7 +40,8 @@ impl<'a, R: Files> FileDepot<'a, R> {
         requires { place_of self.old.desk name.now ≡ Some place }
         ensures stays { Stays place self.old.desk self.new.desk }
         ensures counts { KeepsCounts self.old.desk self.new.desk }
-        ensures fresh { IfSome result (λ s. (s ≡ length self.old.desk.slots.items) × (n : ℕ) × (slice_get self.new.desk.slots.items s ≡ Some (record { file = place; at = n; input = input }))) }
+        ensures fresh { IfSome result (λ s. (s ≡ length self.old.desk.slots.items) × (slice_get self.new.desk.slots.items s ≡ Some (record { file = place; at = length self.old.files.items; input = input }))) }
+        ensures file { IfSome result (λ s. AddsFile s self.old.files.items self.new.files.items self.new.desk) }
     {
         let file = if input {
             fs::open(self.rt, name)
@@ -58,11 +60,18 @@ impl<'a, R: Files> FileDepot<'a, R> {
 }
 
 impl<R: Files> Depot for FileDepot<'_, R> {
-    ghost use Rattle.fcoe_tool.specs.Edge.{untold};
+    ghost use Rattle.std.specs.Prelude.{◌<◌, IsTrue, IfOk, length};
+    ghost use Rattle.fab_base.specs.Desk.{at_of};
+    ghost use Rattle.fab_base.specs.Seen.{OpensIn, OpensOut, Fetches, Puts};
+    ghost use Rattle.fcoe_tool.specs.Edge.{untold, AddsFile, ReadsAt, WritesAt};
 
     ghost seen = { λ d. untold d.desk };
 
-    fn open_in(&mut self, name: &str) -> Result<u32, Failed> {
+    fn open_in(&mut self, name: &str) -> Result<u32, Failed>
+        requires { IsTrue ((untold self.old.desk).knows name.now) }
+        ensures opens { OpensIn name.now (untold self.old.desk) (untold self.new.desk) result }
+        ensures file { IfOk result (λ s. AddsFile s self.old.files.items self.new.files.items self.new.desk) }
+    {
         let place = self.desk.place(name).unwrap();
         match self.try_open(name, place, true) {
             Some(slot) => Ok(slot),
@@ -73,7 +82,11 @@ impl<R: Files> Depot for FileDepot<'_, R> {
         }
     }
 
-    fn open_out(&mut self, name: &str) -> Result<u32, Failed> {
+    fn open_out(&mut self, name: &str) -> Result<u32, Failed>
+        requires { IsTrue ((untold self.old.desk).knows name.now) }
+        ensures opens { OpensOut name.now (untold self.old.desk) (untold self.new.desk) result }
+        ensures file { IfOk result (λ s. AddsFile s self.old.files.items self.new.files.items self.new.desk) }
+    {
         let place = self.desk.place(name).unwrap();
         match self.try_open(name, place, false) {
             Some(slot) => Ok(slot),
@@ -84,24 +97,34 @@ impl<R: Files> Depot for FileDepot<'_, R> {
         }
     }
 
-    fn fetch(&mut self, slot: u32, into: &mut [u8]) -> Result<usize, Failed> {
+    fn fetch(&mut self, slot: u32, into: &mut [u8]) -> Result<usize, Failed>
+        requires input { IsTrue ((untold self.old.desk).input slot) }
+        requires room { 0 < length into.old }
+        ensures fetches { Fetches slot into.new (untold self.old.desk) (untold self.new.desk) result }
+        ensures reads { ReadsAt R.File.remaining (at_of self.old.desk slot) self.old.files.items self.new.files.items into.new result }
+    {
         let place = self.desk.file(slot);
         let at = self.desk.at(slot);
         match read_at(&mut self.files, at, into) {
-            Some(count) => Ok(count),
-            None => {
+            Ok(count) => Ok(count),
+            Err(Failed) => {
                 self.desk.read_failed(place);
                 Err(Failed)
             }
         }
     }
 
-    fn put(&mut self, slot: u32, from: &[u8]) -> Result<usize, Failed> {
+    fn put(&mut self, slot: u32, from: &[u8]) -> Result<usize, Failed>
+        requires output { IsTrue ((untold self.old.desk).output slot) }
+        requires some { 0 < length from.now }
+        ensures puts { Puts slot from.now (untold self.old.desk) (untold self.new.desk) result }
+        ensures writes { WritesAt R.File.contents (at_of self.old.desk slot) self.old.files.items self.new.files.items from.now result }
+    {
         let place = self.desk.file(slot);
         let at = self.desk.at(slot);
         match write_at(&mut self.files, at, from) {
-            Some(count) => Ok(count),
-            None => {
+            Ok(count) => Ok(count),
+            Err(Failed) => {
                 self.desk.write_failed(place);
                 Err(Failed)
             }
@@ -132,60 +155,86 @@ fn learn(alloc: Global, desk: &mut Desk, name: &str) -> Result<(), NoMemory>
     Ok(())
 }
 
-fn read_at<F: Read>(files: &mut Vec<F>, at: usize, into: &mut [u8]) -> Option<usize>
-    ensures { IfSome result (λ n. n ≤ length into.new) }
+// Reads from the file at a place, and changes no other.
+fn read_at<F: Read>(files: &mut Vec<F>, at: usize, into: &mut [u8]) -> Result<usize, Failed>
+    ensures bound { IfOk result (λ n. n ≤ length into.new) }
+    ensures reads { ReadsAt F.remaining at files.old.items files.new.items into.new result }
 {
     if at >= files.len() {
-        return None;
+        return Err(Failed);
     }
-    files[at].read(into).ok()
+    read_some(&mut files[at], into)
 }
 
-fn write_at<F: Write>(files: &mut Vec<F>, at: usize, from: &[u8]) -> Option<usize>
-    ensures { IfSome result (λ n. (1 ≤ n) × (n ≤ length from.now)) }
+fn read_some<F: Read>(file: &mut F, into: &mut [u8]) -> Result<usize, Failed>
+    ensures bound { IfOk result (λ n. n ≤ length into.new) }
+    ensures takes { ReadConsumes (F.remaining file.old) (F.remaining file.new) result into.new }
+{
+    match file.read(into) {
+        Ok(count) => Ok(count),
+        Err(_) => Err(Failed),
+    }
+}
+
+// Writes to the file at a place, and changes no other.
+fn write_at<F: Write>(files: &mut Vec<F>, at: usize, from: &[u8]) -> Result<usize, Failed>
+    ensures bound { IfOk result (λ n. (1 ≤ n) × (n ≤ length from.now)) }
+    ensures writes { WritesAt F.contents at files.old.items files.new.items from.now result }
 {
     if at >= files.len() {
-        return None;
+        return Err(Failed);
     }
-    match files[at].write(from) {
-        Ok(0) => None,
-        Ok(count) => Some(count),
-        Err(_) => None,
+    write_some(&mut files[at], from)
+}
+
+// A write that takes nothing is a fault.
+fn write_some<W: Write>(to: &mut W, from: &[u8]) -> Result<usize, Failed>
+    ensures bound { IfOk result (λ n. (1 ≤ n) × (n ≤ length from.now)) }
+    ensures adds { WriteAppends (W.contents to.old) (W.contents to.new) result from.now }
+{
+    match to.write(from) {
+        Ok(0) => Err(Failed),
+        Ok(count) => Ok(count),
+        Err(_) => Err(Failed),
     }
 }
 
-/// Standard output, with a count of faults.
+/// Standard output or another writer, with a count of faults.
 #[derive(Drop)]
-pub struct StdSink<'a, R: Print> {
-    rt: &'a R,
+pub struct StdSink<W: Write + Drop> {
+    to: W,
     faults: u64,
 }
 
-impl<'a, R: Print> StdSink<'a, R> {
+impl<W: Write + Drop> StdSink<W> {
     /// A sink of which no fault was counted.
-    pub fn new(rt: &'a R) -> StdSink<'a, R>
-        ensures { result.faults ≡ 0 }
+    pub fn new(to: W) -> StdSink<W>
+        ensures to { result.to ≡ to }
+        ensures faults { result.faults ≡ 0 }
     {
-        StdSink { rt, faults: 0 }
+        StdSink { to, faults: 0 }
     }
 }
 
-impl<R: Print> Sink for StdSink<'_, R> {
-    ghost use Rattle.std.specs.Prelude.{false, []};
-    ghost use Rattle.fab_base.specs.Sunk.{Sunk};
+impl<W: Write + Drop> Sink for StdSink<W> {
+    ghost use Rattle.std.specs.Prelude.{◌<◌, length};
+    ghost use Rattle.std.specs.Io.KnownBytes.{WriteAppends};
+    ghost use Rattle.fab_base.specs.Sunk.{Sinks};
+    ghost use Rattle.fcoe_tool.specs.Edge.{untold_sink};
 
-    ghost sunk = { λ s. record { told = false; written = []; faults = s.faults } };
+    ghost sunk = { λ s. untold_sink s.faults };
 
-    fn put(&mut self, from: &[u8]) -> Result<usize, Failed> {
-        match io::writer(self.rt).write(from) {
-            Ok(count) => {
-                if count > 0 {
-                    return Ok(count);
-                }
+    fn put(&mut self, from: &[u8]) -> Result<usize, Failed>
+        requires { 0 < length from.now }
+        ensures sinks { Sinks from.now (untold_sink self.old.faults) (untold_sink self.new.faults) result }
+        ensures adds { WriteAppends (W.contents self.old.to) (W.contents self.new.to) result from.now }
+    {
+        match write_some(&mut self.to, from) {
+            Ok(count) => Ok(count),
+            Err(Failed) => {
+                self.faults = self.faults.saturating_add(1);
+                Err(Failed)
             }
-            Err(_) => {}
         }
-        self.faults = self.faults.saturating_add(1);
-        Err(Failed)
     }
 }

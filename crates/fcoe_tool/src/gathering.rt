@@ -1,15 +1,15 @@
 // What a command finds in its inputs.
-ghost use Rattle.std.specs.Prelude.{◌≡◌, ◌≤◌, ◌-◌, ◌%◌, ◌<◌, ◌==◌, IsTrue, length, nat_le};
-ghost use Rattle.fab_policy.specs.Legal.{window_start as window_of};
-ghost use Rattle.fcoe_tool.specs.Gathered.{span as span_of};
-ghost use Rattle.fcoe_tool.specs.Read.{ConfigRead, TextRead, CaptureRead, RestRead, stopped_by};
+ghost use Rattle.std.specs.Prelude.{◌≡◌, ◌+◌, ◌≤◌, ◌<◌, IsTrue, true, length, vec_len, Some, IfOk};
+ghost use Rattle.fcoe_tool.specs.Command as spec;
+ghost use Rattle.fcoe_tool.specs.Read.{ConfigRead, TextRead, CaptureRead, RestRead, InputsRead, stopped_by, unopened_by};
 
-use crate::config::read_config;
+use crate::command::{input_at, port_count};
 use crate::outcome::Outcome;
-use fab_base::{Depot, Moment, PortNo, fill};
-use fab_policy::Config;
+use crate::span::span;
+use fab_base::{Depot, PortNo, fill};
+use fab_config::{Config, ConfigError, read_config};
 use pcap_file::{Budget, CapError, CapOpen, Reader, Record};
-use std::alloc::Global;
+use std::alloc::{AllocError, Global};
 
 /// The bytes of all captures together.
 const MOST_BYTES: u64 = 1 << 30;
@@ -20,61 +20,120 @@ const MOST_FRAMES: u64 = 200_000;
 /// The milliseconds from the first window to the last.
 const LONGEST_SPAN: u64 = 21_600_000;
 
-/// The room for a configuration text of two lines, which has at most 36 bytes.
-const ROOM: usize = 64;
+/// One byte more than a configuration text may have.
+const ROOM: usize = 1_048_577;
 
 /// The configuration in a file.
-pub(crate) fn config_of<D: Depot>(depot: &mut D, name: &str) -> Result<Config, Outcome>
+pub(crate) fn config_of<D: Depot>(
+    alloc: Global,
+    depot: &mut D,
+    name: &str,
+) -> Result<Config, Outcome>
     requires { IsTrue ((D.seen depot.old).knows name.now) }
     ensures reads { ConfigRead name.now (D.seen depot.old) (D.seen depot.new) result }
 {
     let Ok(slot) = depot.open_in(name) else {
         return Err(Outcome::ReadFault);
     };
-    config_from(depot, slot)
+    config_from(alloc, depot, slot)
 }
 
-fn config_from<D: Depot>(depot: &mut D, slot: u32) -> Result<Config, Outcome>
+fn config_from<D: Depot>(alloc: Global, depot: &mut D, slot: u32) -> Result<Config, Outcome>
     requires { IsTrue ((D.seen depot.old).input slot) }
     ensures reads { TextRead slot (D.seen depot.old) (D.seen depot.new) result }
 {
-    let mut text = [0u8; ROOM];
-    let got = match fill(depot, slot, &mut text) {
-        Ok(got) => got,
-        Err(_) => return Err(Outcome::ReadFault),
-    };
-    if got >= ROOM {
-        return Err(Outcome::Config);
-    }
-    match read_config(&text[..got]) {
-        Some(config) => Ok(config),
-        None => Err(Outcome::Config),
+    match zeros(alloc, ROOM) {
+        Ok(mut room) => config_in(alloc, depot, slot, &mut room),
+        Err(_) => Err(Outcome::Memory),
     }
 }
 
-/// The records of the capture of a port, all of them.
-pub(crate) fn records_of<D: Depot>(
+// A text that fills the whole room is too long, whatever comes behind it.
+fn config_in<D: Depot>(
+    alloc: Global,
+    depot: &mut D,
+    slot: u32,
+    room: &mut [u8],
+) -> Result<Config, Outcome>
+    requires slot { IsTrue ((D.seen depot.old).input slot) }
+    requires room { length room.old ≡ 1048577 }
+    ensures reads { TextRead slot (D.seen depot.old) (D.seen depot.new) result }
+{
+    let got = match fill(depot, slot, room) {
+        Ok(got) => got,
+        Err(_) => return Err(Outcome::ReadFault),
+    };
+    match read_config(alloc, &room[..got]) {
+        Ok(config) => Ok(config),
+        Err(ConfigError::Fault(fault)) => Err(Outcome::Config { fault }),
+        Err(ConfigError::Memory) => Err(Outcome::Memory),
+    }
+}
+
+// So many bytes to read into.
+fn zeros(alloc: Global, count: usize) -> Result<Vec<u8>, AllocError>
+    ensures { IfOk result (λ v. vec_len v ≡ count) }
+{
+    Vec::from_elem(alloc, 0, count)
+}
+
+/// The records of the captures of all ports, in port order, within the limits.
+pub(crate) fn inputs_of<D: Depot>(
     alloc: Global,
     config: &Config,
     depot: &mut D,
+    words: &[String],
+) -> Result<Vec<Vec<Record>>, Outcome>
+    requires run { spec.is_run words.now ≡ true }
+    requires known { spec.AllKnown (D.seen depot.old) words.now }
+    ensures reads { InputsRead config.now (spec.command_of words.now).ins (D.seen depot.old) (D.seen depot.new) result }
+{
+    let mut budget = Budget {
+        bytes: MOST_BYTES,
+        frames: MOST_FRAMES,
+    };
+    let mut inputs = Vec::new(alloc);
+    for port in 0..port_count(words) {
+        let number = port_number(port);
+        let name = input_at(words, port);
+        let records = match records_of(alloc, depot, number, name, &mut budget) {
+            Ok(records) => records,
+            Err(outcome) => return Err(outcome),
+        };
+        match inputs.push(records) {
+            Ok(()) => {}
+            Err(_) => return Err(Outcome::Memory),
+        }
+        if span(config, &inputs) > LONGEST_SPAN {
+            return Err(Outcome::Capture { port: number });
+        }
+    }
+    Ok(inputs)
+}
+
+/// The number of a port that is counted from 0.
+pub(crate) fn port_number(port: usize) -> PortNo
+    requires { port < 64 }
+    ensures { result ≡ port + 1 }
+{
+    PortNo::new(port as u32 + 1).unwrap()
+}
+
+fn records_of<D: Depot>(
+    alloc: Global,
+    depot: &mut D,
     port: PortNo,
     name: &str,
+    budget: &mut Budget,
 ) -> Result<Vec<Record>, Outcome>
-    requires { IsTrue ((D.seen depot.old).knows name.now) }
-    ensures reads { CaptureRead config.now port name.now (D.seen depot.old) (D.seen depot.new) result }
+    requires known { IsTrue ((D.seen depot.old).knows name.now) }
+    requires frames { budget.old.frames ≤ 200000 }
+    ensures reads { CaptureRead port name.now (D.seen depot.old) (D.seen depot.new) budget.old budget.new result }
 {
     let Ok(slot) = depot.open_in(name) else {
         return Err(Outcome::ReadFault);
     };
-    match records_from(alloc, depot, slot, port) {
-        Ok(records) => {
-            if span(config, &records) > LONGEST_SPAN {
-                return Err(Outcome::Capture { port });
-            }
-            Ok(records)
-        }
-        Err(outcome) => Err(outcome),
-    }
+    records_from(alloc, depot, slot, port, budget)
 }
 
 fn records_from<D: Depot>(
@@ -82,22 +141,19 @@ fn records_from<D: Depot>(
     depot: &mut D,
     slot: u32,
     port: PortNo,
+    budget: &mut Budget,
 ) -> Result<Vec<Record>, Outcome>
-    requires { IsTrue ((D.seen depot.old).input slot) }
-    ensures reads { RestRead port slot (D.seen depot.old) (D.seen depot.new) result }
+    requires slot { IsTrue ((D.seen depot.old).input slot) }
+    requires frames { budget.old.frames ≤ 200000 }
+    ensures reads { RestRead port slot (D.seen depot.old) (D.seen depot.new) budget.old budget.new result }
 {
-    let mut budget = Budget {
-        bytes: MOST_BYTES,
-        frames: MOST_FRAMES,
-    };
-    let mut reader = match Reader::open(depot, slot, &mut budget) {
+    let mut reader = match Reader::open(depot, slot, budget) {
         Ok(reader) => reader,
-        Err(CapOpen::Read(_)) => return Err(Outcome::ReadFault),
-        Err(_) => return Err(Outcome::Capture { port }),
+        Err(error) => return Err(unopened(error, port)),
     };
     let mut records = Vec::new(alloc);
-    for _ in 0..MOST_FRAMES + 1 {
-        match reader.next(alloc, depot, slot, &mut budget) {
+    for _ in 0..budget.frames + 1 {
+        match reader.next(alloc, depot, slot, budget) {
             Ok(Some(record)) => match records.push(record) {
                 Ok(()) => {}
                 Err(_) => return Err(Outcome::Memory),
@@ -109,6 +165,15 @@ fn records_from<D: Depot>(
     Err(Outcome::Capture { port })
 }
 
+fn unopened(error: CapOpen, port: PortNo) -> Outcome
+    ensures { result ≡ unopened_by error port }
+{
+    match error {
+        CapOpen::Read(_) => Outcome::ReadFault,
+        CapOpen::Head(_) | CapOpen::Bytes => Outcome::Capture { port },
+    }
+}
+
 fn stopped(error: CapError, port: PortNo) -> Outcome
     ensures { result ≡ stopped_by error port }
 {
@@ -117,24 +182,4 @@ fn stopped(error: CapError, port: PortNo) -> Outcome
         CapError::Memory => Outcome::Memory,
         _ => Outcome::Capture { port },
     }
-}
-
-/// The start of the window of a moment.
-pub(crate) fn window_start(config: &Config, moment: Moment) -> u64
-    ensures value { result ≡ window_of config.now moment }
-    ensures bound { result ≤ moment }
-{
-    moment.0 - moment.0 % u64::from(config.window())
-}
-
-// The milliseconds from the window of the first record to that of the last.
-fn span(config: &Config, records: &[Record]) -> u64
-    ensures { result ≡ span_of config.now records.now }
-{
-    if records.is_empty() {
-        return 0;
-    }
-    let first = window_start(config, records[0].moment);
-    let last = window_start(config, records[records.len() - 1].moment);
-    last.saturating_sub(first)
 }

@@ -1,10 +1,11 @@
 // How a command ends.
 ghost use Rattle.std.specs.Prelude.{◌≡◌, IfOk};
 ghost use Rattle.std.specs.String.{string_bytes};
-ghost use Rattle.fcoe_tool.specs.Outcome.{run_text, capture_text};
+ghost use Rattle.fcoe_tool.specs.Outcome as spec;
 ghost use Rattle.fcoe_tool.specs.Ends.{Puts, Reports};
 
 use fab_base::{PortNo, Sink, say_all};
+use fab_config::{ConfigFault, ConfigWhy};
 use std::alloc::{AllocError, Global};
 
 /// How a command ended. The status and the printed line are two tables over it.
@@ -14,8 +15,8 @@ pub enum Outcome {
     Ran { frames: u64, entries: u64 },
     /// The words are no command.
     Words,
-    /// The configuration text has no value.
-    Config,
+    /// The configuration text has this first fault.
+    Config { fault: ConfigFault },
     /// The capture of a port can't be taken.
     Capture { port: PortNo },
     /// An input couldn't be read.
@@ -40,7 +41,10 @@ pub(crate) fn report<K: Sink>(alloc: Global, outcome: Outcome, say: &mut K) -> u
             Ok(line) => put_line(say, line.as_bytes(), 1),
             Err(_) => put_line(say, b"no memory\n", 5),
         },
-        Outcome::Config => put_line(say, b"config 0 form\n", 1),
+        Outcome::Config { fault } => match config_line(alloc, fault) {
+            Ok(line) => put_line(say, line.as_bytes(), 1),
+            Err(_) => put_line(say, b"no memory\n", 5),
+        },
         Outcome::Words => put_line(say, b"words\n", 2),
         Outcome::ReadFault => put_line(say, b"read fault\n", 3),
         Outcome::WriteFault => put_line(say, b"write fault\n", 4),
@@ -49,17 +53,40 @@ pub(crate) fn report<K: Sink>(alloc: Global, outcome: Outcome, say: &mut K) -> u
 }
 
 fn run_line(alloc: Global, frames: u64, entries: u64) -> Result<String, AllocError>
-    ensures { IfOk result (λ s. string_bytes s ≡ run_text frames entries) }
+    ensures { IfOk result (λ s. string_bytes s ≡ spec.run_text frames entries) }
 {
     let line = format!(in alloc; "frames {frames} entries {entries}\n")?;
     Ok(line)
 }
 
 fn capture_line(alloc: Global, port: PortNo) -> Result<String, AllocError>
-    ensures { IfOk result (λ s. string_bytes s ≡ capture_text port) }
+    ensures { IfOk result (λ s. string_bytes s ≡ spec.capture_text port) }
 {
     let port = port.value();
     format!(in alloc; "capture {port} 0 form\n")
+}
+
+fn config_line(alloc: Global, fault: ConfigFault) -> Result<String, AllocError>
+    ensures { IfOk result (λ s. string_bytes s ≡ spec.config_text fault) }
+{
+    let line = fault.line;
+    let why = why_word(fault.why);
+    format!(in alloc; "config {line} {why}\n")
+}
+
+// The word of a reason.
+fn why_word(why: ConfigWhy) -> &'static str
+    ensures { result.now ≡ spec.why_word why }
+{
+    match why {
+        ConfigWhy::Long => "long",
+        ConfigWhy::Ascii => "ascii",
+        ConfigWhy::Key => "key",
+        ConfigWhy::Twice => "twice",
+        ConfigWhy::Value => "value",
+        ConfigWhy::Limit => "limit",
+        ConfigWhy::Missing => "missing",
+    }
 }
 
 // Puts a line, and answers its status; 4 where it can't be put.

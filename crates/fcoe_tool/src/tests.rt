@@ -10,6 +10,11 @@ use std::thread::Threads;
 
 const CONFIG: [u8; 35] = *b"fcf-mac 00:05:1e:00:00:02\nvlan 100\n";
 
+// The head of a capture: least significant byte first, microseconds, Ethernet.
+const HEAD: [u8; 24] = [
+    0xd4, 0xc3, 0xb2, 0xa1, 2, 0, 4, 0, 0, 0, 0, 0, 0, 0, 0, 0, 255, 255, 0, 0, 1, 0, 0, 0,
+];
+
 // A VLAN request of 00:1b:21:00:00:0a to All-FCF-MACs at 1000 ms.
 const REQUEST: [u8; 100] = [
     0xd4, 0xc3, 0xb2, 0xa1, 2, 0, 4, 0, 0, 0, 0, 0, 0, 0, 0, 0, 255, 255, 0, 0, 1, 0, 0, 0, //
@@ -29,6 +34,34 @@ const NOTIFICATION: [u8; 100] = [
     0, 0, 0, 0, 0, 0, 0, 0, 0, 0, 0, 0, 0, 0, 0, 0, 0, 0, 0, 0, 0, 0, 0, 0,
 ];
 
+// A solicitation of 00:1b:21:00:00:0a on VLAN 100 that asks for 2158 bytes, at 1000 ms.
+const SOLICITATION: [u8; 80] = [
+    1, 0, 0, 0, 0, 0, 0, 0, 64, 0, 0, 0, 64, 0, 0, 0, //
+    0x01, 0x10, 0x18, 0x01, 0x00, 0x02, 0x00, 0x1b, 0x21, 0x00, 0x00, 0x0a, 0x81, 0x00, 0x00, 0x64,
+    0x89, 0x14, //
+    0x10, 0, 0x00, 0x01, 0, 0x01, 0, 6, 0x80, 0, //
+    2, 2, 0x00, 0x1b, 0x21, 0x00, 0x00, 0x0a, //
+    4, 3, 0, 0, 0x10, 0, 0, 0x1b, 0x21, 0x00, 0x00, 0x0a, //
+    6, 1, 0x08, 0x6e, //
+    0, 0, 0, 0, 0, 0, 0, 0, 0, 0, 0, 0,
+];
+
+// The advertisement of the forwarder behind the Ethertype, but for its flags.
+const ADVERTISEMENT: [u8; 58] = [
+    0x10, 0, 0x00, 0x01, 0, 0x02, 0, 12, 0x80, 0x05, //
+    1, 1, 0, 0x80, //
+    2, 2, 0x00, 0x05, 0x1e, 0x00, 0x00, 0x02, //
+    4, 3, 0, 0, 0x10, 0, 0x00, 0x05, 0x1e, 0x00, 0x00, 0x02, //
+    5, 4, 0, 0, 0, 0x0e, 0xfc, 0x00, 0x10, 0, 0x00, 0x05, 0x1e, 0x00, 0x00, 0x02, //
+    12, 2, 0, 0, 0, 0, 0x1f, 0x40,
+];
+
+// What stands before it: to All-ENode-MACs, with priority 3 and VLAN 100.
+const TO_ALL: [u8; 18] = [
+    0x01, 0x10, 0x18, 0x01, 0x00, 0x01, 0x00, 0x05, 0x1e, 0x00, 0x00, 0x02, 0x81, 0x00, 0x60, 0x64,
+    0x89, 0x14,
+];
+
 fn words_of(alloc: Global, words: &[&str]) -> Result<Vec<String>, AllocError> {
     let mut list = Vec::new(alloc);
     for word in words {
@@ -40,34 +73,56 @@ fn words_of(alloc: Global, words: &[&str]) -> Result<Vec<String>, AllocError> {
     Ok(list)
 }
 
-// A depot with these two inputs, which knows the words of a command.
-fn depot_of(alloc: Global, config: &[u8], input: &[u8]) -> Result<MemDepot, NoMemory> {
+// These pieces, one after another.
+fn joined(alloc: Global, pieces: &[&[u8]]) -> Result<Vec<u8>, AllocError> {
+    let mut bytes = Vec::new(alloc);
+    for piece in pieces {
+        bytes.extend_from_slice(piece)?;
+    }
+    Ok(bytes)
+}
+
+// A depot with these inputs, which knows the words of a command over one port and over two.
+fn depot_of(
+    alloc: Global,
+    config: &[u8],
+    input: &[u8],
+    second: &[u8],
+) -> Result<MemDepot, NoMemory> {
     let mut depot = MemDepot::new(alloc)?;
     depot.store(alloc, "K", config)?;
     depot.store(alloc, "IN", input)?;
+    depot.store(alloc, "IN2", second)?;
     depot.store(alloc, "J", b"before")?;
     depot.know(alloc, "OUT")?;
+    depot.know(alloc, "OUT2")?;
     depot.know(alloc, "run")?;
     Ok(depot)
 }
 
-#[test]
-fn one_vlan_request(rt: HostRuntime) -> Result<(), Fail> {
-    let alloc = rt.alloc();
-    let mut depot = depot_of(alloc, &CONFIG, &REQUEST)?;
+const ONE_PORT: [&str; 5] = ["run", "K", "J", "IN", "OUT"];
+
+const TWO_PORTS: [&str; 7] = ["run", "K", "J", "IN", "OUT", "IN2", "OUT2"];
+
+// Runs a command, which prints this line and answers this status.
+fn runs<R: Threads + Wait + Sync + Abort>(
+    rt: &R,
+    alloc: Global,
+    words: &[&str],
+    depot: &mut MemDepot,
+    line: &[u8],
+    wanted: u8,
+) -> Result<(), Fail> {
     let mut say = MemSink::new(alloc, 100)?;
-    let words = words_of(alloc, &["run", "K", "J", "IN", "OUT"])?;
+    let words = words_of(alloc, words)?;
     assert!(rt; depot.knows_all(&words));
-    let status = fabric_tool(&rt, alloc, &words, &mut depot, &mut say, &OpenGate);
-    assert_eq!(rt; status, 0);
-    assert_eq!(rt; say.content(), b"frames 1 entries 2\n".as_slice());
-    let (journal, capture) = (b"tick 1000\n1 0 vlans\n", NOTIFICATION);
-    assert_eq!(rt; depot.content("J"), Some(journal.as_slice()));
-    assert_eq!(rt; depot.content("OUT"), Some(capture.as_slice()));
+    let status = fabric_tool(rt, alloc, &words, depot, &mut say, &OpenGate);
+    assert_eq!(rt; say.content(), line);
+    assert_eq!(rt; status, wanted);
     Ok(())
 }
 
-// What a command of these words over these inputs prints and answers, after which every file is as it was.
+// The same, after which every file is as it was.
 fn refused<R: Threads + Wait + Sync + Abort>(
     rt: &R,
     alloc: Global,
@@ -76,105 +131,222 @@ fn refused<R: Threads + Wait + Sync + Abort>(
     line: &[u8],
     wanted: u8,
 ) -> Result<(), Fail> {
-    let mut say = MemSink::new(alloc, 100)?;
-    let words = words_of(alloc, words)?;
-    assert!(rt; depot.knows_all(&words));
-    let status = fabric_tool(rt, alloc, &words, &mut depot, &mut say, &OpenGate);
-    assert_eq!(rt; status, wanted);
-    assert_eq!(rt; say.content(), line);
+    runs(rt, alloc, words, &mut depot, line, wanted)?;
     assert_eq!(rt; depot.content("J"), Some(b"before".as_slice()));
     assert!(rt; depot.content("OUT").is_none());
     Ok(())
 }
 
 #[test]
+fn one_vlan_request(rt: HostRuntime) -> Result<(), Fail> {
+    let alloc = rt.alloc();
+    let mut depot = depot_of(alloc, &CONFIG, &REQUEST, &HEAD)?;
+    runs(
+        &rt,
+        alloc,
+        &ONE_PORT,
+        &mut depot,
+        b"frames 1 entries 2\n",
+        0,
+    )?;
+    let (journal, capture) = (b"tick 1000\n1 0 vlans\n", NOTIFICATION);
+    assert_eq!(rt; depot.content("J"), Some(journal.as_slice()));
+    assert_eq!(rt; depot.content("OUT"), Some(capture.as_slice()));
+    Ok(())
+}
+
+#[test]
+fn two_empty_captures(rt: HostRuntime) -> Result<(), Fail> {
+    let alloc = rt.alloc();
+    let mut depot = depot_of(alloc, &CONFIG, &HEAD, &HEAD)?;
+    runs(
+        &rt,
+        alloc,
+        &TWO_PORTS,
+        &mut depot,
+        b"frames 0 entries 0\n",
+        0,
+    )?;
+    let head = HEAD;
+    assert_eq!(rt; depot.content("J"), Some(b"".as_slice()));
+    assert_eq!(rt; depot.content("OUT"), Some(head.as_slice()));
+    assert_eq!(rt; depot.content("OUT2"), Some(head.as_slice()));
+    Ok(())
+}
+
+#[test]
+fn solicited_advertisement_is_padded(rt: HostRuntime) -> Result<(), Fail> {
+    let alloc = rt.alloc();
+    let input = joined(alloc, &[&HEAD, &SOLICITATION])?;
+    let mut depot = depot_of(alloc, &CONFIG, &HEAD, &input)?;
+    runs(
+        &rt,
+        alloc,
+        &TWO_PORTS,
+        &mut depot,
+        b"frames 1 entries 2\n",
+        0,
+    )?;
+    assert_eq!(rt;
+        depot.content("J"),
+        Some(b"tick 1000\n2 0 advertised\n".as_slice())
+    );
+    // 2176 bytes: 18 of Ethernet with a tag, the message, and zeros.
+    let zeros = Vec::from_elem(alloc, 0u8, 2100)?;
+    let record = [1, 0, 0, 0, 0, 0, 0, 0, 0x80, 8, 0, 0, 0x80, 8, 0, 0];
+    let (front, rest) = (&TO_ALL[6..], &ADVERTISEMENT[10..]);
+    let (host, flags) = ([0, 0x1b, 0x21, 0, 0, 0x0a], [0x80, 0x07]);
+    let want = joined(
+        alloc,
+        &[
+            &HEAD,
+            &record,
+            &host,
+            front,
+            &ADVERTISEMENT[..8],
+            &flags,
+            rest,
+            &zeros,
+        ],
+    )?;
+    assert_eq!(rt; depot.content("OUT2"), Some(want.as_slice()));
+    let head = HEAD;
+    assert_eq!(rt; depot.content("OUT"), Some(head.as_slice()));
+    Ok(())
+}
+
+#[test]
+fn advertisements_between_two_requests(rt: HostRuntime) -> Result<(), Fail> {
+    let alloc = rt.alloc();
+    let later = [20, 0, 0, 0];
+    let input = joined(alloc, &[&REQUEST, &later, &REQUEST[28..]])?;
+    let mut depot = depot_of(alloc, &CONFIG, &input, &HEAD)?;
+    runs(
+        &rt,
+        alloc,
+        &TWO_PORTS,
+        &mut depot,
+        b"frames 2 entries 6\n",
+        0,
+    )?;
+    let journal = b"tick 1000\n1 0 vlans\ntick 9000\ntick 17000\ntick 20000\n1 1 vlans\n";
+    assert_eq!(rt; depot.content("J"), Some(journal.as_slice()));
+    let at9 = [9, 0, 0, 0, 0, 0, 0, 0, 76, 0, 0, 0, 76, 0, 0, 0];
+    let at17 = [17, 0, 0, 0, 0, 0, 0, 0, 76, 0, 0, 0, 76, 0, 0, 0];
+    let first = joined(alloc, &[&at9, &TO_ALL, &ADVERTISEMENT])?;
+    let second = joined(alloc, &[&at17, &TO_ALL, &ADVERTISEMENT])?;
+    let own = joined(
+        alloc,
+        &[&NOTIFICATION, &first, &second, &later, &NOTIFICATION[28..]],
+    )?;
+    assert_eq!(rt; depot.content("OUT"), Some(own.as_slice()));
+    // The port without a frame gets the advertisements alone.
+    let other = joined(alloc, &[&HEAD, &first, &second])?;
+    assert_eq!(rt; depot.content("OUT2"), Some(other.as_slice()));
+    Ok(())
+}
+
+#[test]
+fn sixty_four_ports(rt: HostRuntime) -> Result<(), Fail> {
+    let alloc = rt.alloc();
+    let mut depot = depot_of(alloc, &CONFIG, &HEAD, &HEAD)?;
+    let mut words = words_of(alloc, &["run", "K", "J"])?;
+    for port in 1..66 {
+        let input = format!(in alloc; "I{port}")?;
+        let output = format!(in alloc; "O{port}")?;
+        depot.store(alloc, &input, if port == 64 { &REQUEST } else { &HEAD })?;
+        depot.know(alloc, &output)?;
+        if port < 65 {
+            words.push(input)?;
+            words.push(output)?;
+        }
+    }
+    assert!(rt; depot.knows_all(&words));
+    let mut say = MemSink::new(alloc, 100)?;
+    let status = fabric_tool(&rt, alloc, &words, &mut depot, &mut say, &OpenGate);
+    assert_eq!(rt; status, 0);
+    assert_eq!(rt; say.content(), b"frames 1 entries 2\n".as_slice());
+    assert_eq!(rt;
+        depot.content("J"),
+        Some(b"tick 1000\n64 0 vlans\n".as_slice())
+    );
+    let (capture, head) = (NOTIFICATION, HEAD);
+    assert_eq!(rt; depot.content("O64"), Some(capture.as_slice()));
+    assert_eq!(rt; depot.content("O63"), Some(head.as_slice()));
+    // One pair more is no command.
+    words.push(String::from_str(alloc, "I65")?)?;
+    words.push(String::from_str(alloc, "O65")?)?;
+    assert!(rt; depot.knows_all(&words));
+    let status = fabric_tool(&rt, alloc, &words, &mut depot, &mut say, &OpenGate);
+    assert_eq!(rt; status, 2);
+    assert!(rt; depot.content("O65").is_none());
+    Ok(())
+}
+
+#[test]
 fn the_same_name_twice(rt: HostRuntime) -> Result<(), Fail> {
     let alloc = rt.alloc();
-    for words in [
-        ["run", "K", "J", "IN", "J"],
-        ["run", "K", "K", "IN", "OUT"],
-        ["run", "K", "J", "IN", "IN"],
-        ["K", "K", "J", "IN", "OUT"],
-    ] {
-        refused(
-            &rt,
-            alloc,
-            &words,
-            depot_of(alloc, &CONFIG, &REQUEST)?,
-            b"words\n",
-            2,
-        )?;
-    }
-    refused(
-        &rt,
-        alloc,
-        &["run", "K", "J", "IN"],
-        depot_of(alloc, &CONFIG, &REQUEST)?,
-        b"words\n",
-        2,
-    )?;
-    refused(
-        &rt,
-        alloc,
-        &["run"],
-        depot_of(alloc, &CONFIG, &REQUEST)?,
-        b"words\n",
-        2,
-    )?;
-    refused(
-        &rt,
-        alloc,
+    let rows: [&[&str]; 11] = [
+        &["run", "K", "J", "IN", "J", "IN2", "OUT2"],
+        &["run", "K", "K", "IN", "OUT", "IN2", "OUT2"],
+        &["run", "K", "J", "IN", "IN", "IN2", "OUT2"],
+        &["run", "K", "J", "IN", "OUT", "IN", "OUT2"],
+        &["run", "K", "J", "IN", "OUT", "IN2", "OUT"],
+        &["K", "K", "J", "IN", "OUT", "IN2", "OUT2"],
         &[],
-        depot_of(alloc, &CONFIG, &REQUEST)?,
-        b"words\n",
-        2,
-    )
-}
-
-#[test]
-fn other_configurations(rt: HostRuntime) -> Result<(), Fail> {
-    let alloc = rt.alloc();
-    let words = ["run", "K", "J", "IN", "OUT"];
-    for config in [
-        b"".as_slice(),
-        b"fcf-mac 00:05:1e:00:00:02\nvlan 100".as_slice(),
-        b"fcf-mac 00:05:1e:00:00:02\nvlan 0100\n".as_slice(),
-        b"fcf-mac 00:05:1e:00:00:02\nvlan 0\n".as_slice(),
-        b"fcf-mac 00:05:1e:00:00:02\nvlan 4095\n".as_slice(),
-        b"fcf-mac 01:05:1e:00:00:02\nvlan 100\n".as_slice(),
-        b"fcf-mac 00:00:00:00:00:00\nvlan 100\n".as_slice(),
-        b"fcf-mac 00:05:1e:00:00:0g\nvlan 100\n".as_slice(),
-        b"fcf-mac  00:05:1e:00:00:02\nvlan 100\n".as_slice(),
-        b"vlan 100\nfcf-mac 00:05:1e:00:00:02\n".as_slice(),
-        b"fcf-mac 00:05:1e:00:00:02\nvlan 100\nwindow 100\nwindow 100\nwindow 100\n".as_slice(),
-    ] {
-        refused(
-            &rt,
-            alloc,
-            &words,
-            depot_of(alloc, config, &REQUEST)?,
-            b"config 0 form\n",
-            1,
-        )?;
+        &["run"],
+        &["run", "K", "J"],
+        &["run", "K", "J", "IN"],
+        &["run", "K", "J", "IN", "OUT", "IN2"],
+    ];
+    for words in rows {
+        let depot = depot_of(alloc, &CONFIG, &REQUEST, &HEAD)?;
+        refused(&rt, alloc, words, depot, b"words\n", 2)?;
     }
     Ok(())
 }
 
 #[test]
-fn other_captures(rt: HostRuntime) -> Result<(), Fail> {
+fn faults_of_the_configuration(rt: HostRuntime) -> Result<(), Fail> {
     let alloc = rt.alloc();
-    let words = ["run", "K", "J", "IN", "OUT"];
+    let rows = [
+        (b"".as_slice(), b"config 1 missing\n".as_slice()),
+        (b"fcf-mac 00:05:1e:00:00:02\n", b"config 2 missing\n"),
+        (
+            b"fcf-mac 00:05:1e:00:00:02\nvlan 5000\n",
+            b"config 2 value\n",
+        ),
+        (
+            b"fcf-mac 00:05:1e:00:00:02\nvlan 100\nvlan 100\n",
+            b"config 3 twice\n",
+        ),
+        (b"fcf-mac 00:05:1e:00:00:02\nvlans 100\n", b"config 2 key\n"),
+        (
+            b"fcf-mac 00:05:1e:00:00:02\nvlan 1\x7f\n",
+            b"config 2 ascii\n",
+        ),
+    ];
+    for (config, line) in rows {
+        let depot = depot_of(alloc, config, &REQUEST, &HEAD)?;
+        refused(&rt, alloc, &ONE_PORT, depot, line, 1)?;
+    }
+    Ok(())
+}
+
+#[test]
+fn first_bad_capture_is_told(rt: HostRuntime) -> Result<(), Fail> {
+    let alloc = rt.alloc();
     for size in [0, 23, 25, 39, 40, 99] {
-        refused(
-            &rt,
-            alloc,
-            &words,
-            depot_of(alloc, &CONFIG, &REQUEST[..size])?,
-            b"capture 1 0 form\n",
-            1,
-        )?;
+        let depot = depot_of(alloc, &CONFIG, &REQUEST[..size], b"")?;
+        refused(&rt, alloc, &TWO_PORTS, depot, b"capture 1 0 form\n", 1)?;
+        let depot = depot_of(alloc, &CONFIG, &HEAD, &REQUEST[..size])?;
+        refused(&rt, alloc, &TWO_PORTS, depot, b"capture 2 0 form\n", 1)?;
     }
-    Ok(())
+    // The second port's record lies a window further than six hours behind the first port's.
+    let late = [0x62, 0x54, 0, 0];
+    let far = joined(alloc, &[&HEAD, &late, &REQUEST[28..]])?;
+    let depot = depot_of(alloc, &CONFIG, &REQUEST, &far)?;
+    refused(&rt, alloc, &TWO_PORTS, depot, b"capture 2 0 form\n", 1)
 }
 
 // The calls are: open and fetch twice K, open and fetch twice IN, open and put J, open and put OUT.
@@ -182,16 +354,9 @@ fn other_captures(rt: HostRuntime) -> Result<(), Fail> {
 fn first_fetch_fails(rt: HostRuntime) -> Result<(), Fail> {
     let alloc = rt.alloc();
     for call in [0, 1, 2, 3, 4, 5] {
-        let mut depot = depot_of(alloc, &CONFIG, &REQUEST)?;
+        let mut depot = depot_of(alloc, &CONFIG, &REQUEST, &HEAD)?;
         depot.fail_call(alloc, call)?;
-        refused(
-            &rt,
-            alloc,
-            &["run", "K", "J", "IN", "OUT"],
-            depot,
-            b"read fault\n",
-            3,
-        )?;
+        refused(&rt, alloc, &ONE_PORT, depot, b"read fault\n", 3)?;
     }
     Ok(())
 }
@@ -200,14 +365,9 @@ fn first_fetch_fails(rt: HostRuntime) -> Result<(), Fail> {
 fn a_put_fails(rt: HostRuntime) -> Result<(), Fail> {
     let alloc = rt.alloc();
     for call in [6, 7, 8, 9] {
-        let mut depot = depot_of(alloc, &CONFIG, &REQUEST)?;
+        let mut depot = depot_of(alloc, &CONFIG, &REQUEST, &HEAD)?;
         depot.fail_call(alloc, call)?;
-        let mut say = MemSink::new(alloc, 100)?;
-        let words = words_of(alloc, &["run", "K", "J", "IN", "OUT"])?;
-        assert!(rt; depot.knows_all(&words));
-        let status = fabric_tool(&rt, alloc, &words, &mut depot, &mut say, &OpenGate);
-        assert_eq!(rt; status, 4);
-        assert_eq!(rt; say.content(), b"write fault\n".as_slice());
+        runs(&rt, alloc, &ONE_PORT, &mut depot, b"write fault\n", 4)?;
     }
     Ok(())
 }
@@ -215,9 +375,9 @@ fn a_put_fails(rt: HostRuntime) -> Result<(), Fail> {
 #[test]
 fn the_sink_fails(rt: HostRuntime) -> Result<(), Fail> {
     let alloc = rt.alloc();
-    let mut depot = depot_of(alloc, &CONFIG, &REQUEST)?;
+    let mut depot = depot_of(alloc, &CONFIG, &REQUEST, &HEAD)?;
     let mut say = MemSink::new(alloc, 7)?;
-    let words = words_of(alloc, &["run", "K", "J", "IN", "OUT"])?;
+    let words = words_of(alloc, &ONE_PORT)?;
     assert!(rt; depot.knows_all(&words));
     let status = fabric_tool(&rt, alloc, &words, &mut depot, &mut say, &OpenGate);
     assert_eq!(rt; status, 4);
@@ -231,7 +391,7 @@ fn real_files(rt: HostRuntime) -> Result<(), Fail> {
     let alloc = rt.alloc();
     std::fs::write(&rt, "K", &CONFIG)?;
     std::fs::write(&rt, "IN", &REQUEST)?;
-    let words = words_of(alloc, &["run", "K", "J", "IN", "OUT"])?;
+    let words = words_of(alloc, &ONE_PORT)?;
     let mut depot = FileDepot::new(&rt, alloc, &words)?;
     let mut say = MemSink::new(alloc, 100)?;
     let status = fabric_tool(&rt, alloc, &words, &mut depot, &mut say, &OpenGate);

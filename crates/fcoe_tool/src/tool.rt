@@ -1,15 +1,16 @@
 // The top call.
-ghost use Rattle.std.specs.Prelude.{◌≡◌, ◌≤◌, ◌⊎◌, ◌↔◌, IsTrue, IfSome, IsSome, List, ℕ, Some, None};
+ghost use Rattle.std.specs.Prelude.{◌≡◌, ◌≤◌, ◌+◌, ◌*◌, ◌⊎◌, ◌↔◌, IsTrue, IfSome, IsSome, List, ℕ, Some, None, true, length, vec_len};
 ghost use Rattle.fab_base.specs.Seen.{SameFiles, Rose};
 ghost use Rattle.fcoe_tool.specs.Command as spec;
 ghost use Rattle.fcoe_tool.specs.Ends.{Ends, Holds, HoldsFor, RunEnded, OfCommand, IsRefused, IsComplete};
-ghost use Rattle.fcoe_tool.specs.Write.{FileWritten};
+ghost use Rattle.fcoe_tool.specs.Machine.{outs_in};
+ghost use Rattle.fcoe_tool.specs.Write.{FileWritten, OutputsWritten};
 
-use crate::command::{Names, names_of};
-use crate::gathering::{config_of, records_of};
+use crate::command::{is_run, output_at, port_count};
+use crate::gathering::{config_of, inputs_of};
 use crate::machine::machine_of;
 use crate::outcome::{Outcome, report};
-use fab_base::{Depot, Gate, PortNo, Sink, put_all};
+use fab_base::{Depot, Gate, Sink, put_all, word_at};
 use std::alloc::Global;
 use std::sync::Wait;
 use std::thread::Threads;
@@ -28,7 +29,7 @@ pub fn fabric_tool<R: Threads + Wait + Sync, D: Depot, K: Sink, G: Gate + Sync>(
     requires { spec.AllKnown (D.seen depot.old) words.now }
     // The headline: one journal that is a run over the captures as they were found stands in the outputs.
     ensures run { result ≡ 0 → IsTrue (D.seen depot.old).told → RunEnded words.now (D.seen depot.old) (D.seen depot.new) }
-    // The configuration has no value, or the inputs are no captures, and every file is as it was.
+    // The configuration has a fault, or a capture can't be taken, and every file is as it was.
     ensures refused { result ≡ 1 → SameFiles (D.seen depot.old) (D.seen depot.new) × OfCommand words.now (λ k. IsTrue (D.seen depot.old).told → IsRefused (D.seen depot.old) k) }
     ensures words { result ≡ 2 → (spec.command words.now ≡ None) × SameFiles (D.seen depot.old) (D.seen depot.new) }
     ensures read { result ≡ 3 → SameFiles (D.seen depot.old) (D.seen depot.new) × OfCommand words.now (λ k. spec.ReadRose k (D.seen depot.old) (D.seen depot.new)) }
@@ -68,44 +69,57 @@ fn outcome_of<D: Depot, G: Gate>(
     requires { spec.AllKnown (D.seen depot.old) words.now }
     ensures holds { HoldsFor (spec.command words.now) (D.seen depot.old) (D.seen depot.new) result }
 {
-    match names_of(words) {
-        Some(names) => run(alloc, &names, depot, gate),
-        None => Outcome::Words,
+    if is_run(words) {
+        run(alloc, words, depot, gate)
+    } else {
+        Outcome::Words
     }
 }
 
 // The command `run` over names that are known and differ.
-fn run<D: Depot, G: Gate>(alloc: Global, names: &Names<'_>, depot: &mut D, gate: &G) -> Outcome
-    requires config { IsTrue ((D.seen depot.old).knows names.now.config.now) }
-    requires journal { IsTrue ((D.seen depot.old).knows names.now.journal.now) }
-    requires input { IsTrue ((D.seen depot.old).knows names.now.input.now) }
-    requires output { IsTrue ((D.seen depot.old).knows names.now.output.now) }
-    requires differ { IsTrue (spec.are_names (spec.names_in names.now)) }
-    ensures holds { Holds (spec.command_of names.now) (D.seen depot.old) (D.seen depot.new) result }
+fn run<D: Depot, G: Gate>(alloc: Global, words: &[String], depot: &mut D, gate: &G) -> Outcome
+    requires run { spec.is_run words.now ≡ true }
+    requires known { spec.AllKnown (D.seen depot.old) words.now }
+    ensures holds { Holds (spec.command_of words.now) (D.seen depot.old) (D.seen depot.new) result }
 {
-    let config = match config_of(depot, names.config) {
+    let config = match config_of(alloc, depot, word_at(words, 1)) {
         Ok(config) => config,
         Err(outcome) => return outcome,
     };
-    let port = PortNo::new(1).unwrap();
-    let records = match records_of(alloc, &config, depot, port, names.input) {
-        Ok(records) => records,
+    let inputs = match inputs_of(alloc, &config, depot, words) {
+        Ok(inputs) => inputs,
         Err(outcome) => return outcome,
     };
-    let Ok(machine) = machine_of(alloc, &config, &records, gate) else {
+    let Ok(machine) = machine_of(alloc, &config, &inputs, gate) else {
         return Outcome::Memory;
     };
-    match write_file(depot, names.journal, &machine.journal) {
+    match write_file(depot, word_at(words, 2), &machine.journal) {
         Ok(()) => {}
         Err(outcome) => return outcome,
     }
-    match write_file(depot, names.output, &machine.out) {
+    match write_outputs(depot, words, &machine.outs) {
         Ok(()) => Outcome::Ran {
-            frames: machine.index,
+            frames: machine.frames,
             entries: machine.entries,
         },
         Err(outcome) => outcome,
     }
+}
+
+// Makes the outputs of all ports.
+fn write_outputs<D: Depot>(depot: &mut D, words: &[String], outs: &[Vec<u8>]) -> Result<(), Outcome>
+    requires run { spec.is_run words.now ≡ true }
+    requires known { spec.AllKnown (D.seen depot.old) words.now }
+    requires count { length outs.now ≡ spec.port_count words.now }
+    ensures writes { OutputsWritten (spec.command_of words.now).outs (outs_in outs.now) (D.seen depot.old) (D.seen depot.new) result }
+{
+    for port in 0..port_count(words) {
+        match write_file(depot, output_at(words, port), &outs[port]) {
+            Ok(()) => {}
+            Err(outcome) => return Err(outcome),
+        }
+    }
+    Ok(())
 }
 
 // Makes a file of these bytes.

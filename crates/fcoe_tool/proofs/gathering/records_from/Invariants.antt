@@ -5,4 +5,4 @@ use Rattle.fcoe_tool.proofs.gathering.records_from.Given as goal
 abbrev pub invariant-loop : goal.invariant-loop
 invariant-loop g l =
     let seen = g.D.Depot.seen in
-    record { taking : Taking l.slot (seen l.fn.depot) l.records.items (seen l.depot) l.reader l.budget; count : length l.records.items ≡ l.counter }
+    record { taking : Taking l.slot (seen l.fn.depot) l.fn.budget l.records.items (seen l.depot) l.reader l.budget; count : length l.records.items ≡ l.counter }

@@ -9,9 +9,6 @@ returns-in-Err g c = record { reports = refused (codes "no memory\n") (g.K.Sink.
 pub returns-in-Err-capture_line : goal.returns-in-Err-capture_line
 returns-in-Err-capture_line g c = record { reports = refused (codes "no memory\n") (g.K.Sink.sunk c.args.say.now) (g.K.Sink.sunk c.put_line-in-Err-capture_line.new.say) c.put_line-in-Err-capture_line.result c.args.outcome 5 (λ e. let f = sym e ∙ c.in-Capture.is in absurd (cc)) line_memory refl c.put_line-in-Err-capture_line.ensures }
 
-pub returns-in-Config : goal.returns-in-Config
-returns-in-Config g c = record { reports = reports (codes "config 0 form\n") (g.K.Sink.sunk c.args.say.now) (g.K.Sink.sunk c.put_line-in-Config.new.say) c.put_line-in-Config.result c.args.outcome ends.Config 1 c.in-Config.is line_config refl c.put_line-in-Config.ensures }
-
 pub returns-in-Words : goal.returns-in-Words
 returns-in-Words g c = record { reports = reports (codes "words\n") (g.K.Sink.sunk c.args.say.now) (g.K.Sink.sunk c.put_line-in-Words.new.say) c.put_line-in-Words.result c.args.outcome ends.Words 2 c.in-Words.is line_words refl c.put_line-in-Words.ensures }
 
@@ -29,3 +26,9 @@ returns-in-Ok g c = record { reports = reports c.as_bytes.result.now (g.K.Sink.s
 
 pub returns-in-Ok-capture_line : goal.returns-in-Ok-capture_line
 returns-in-Ok-capture_line g c = record { reports = reports c.as_bytes-in-Ok-capture_line.result.now (g.K.Sink.sunk c.args.say.now) (g.K.Sink.sunk c.put_line-in-Ok-capture_line.new.say) c.put_line-in-Ok-capture_line.result c.args.outcome (ends.Capture c.in-Capture.port) 1 c.in-Capture.is (c.as_bytes-in-Ok-capture_line.ensures.value ∙ c.in-Ok-capture_line.ensures ∙ line_capture c.in-Capture.port) refl c.put_line-in-Ok-capture_line.ensures }
+
+pub returns-in-Err-config_line : goal.returns-in-Err-config_line
+returns-in-Err-config_line g c = record { reports = refused (codes "no memory\n") (g.K.Sink.sunk c.args.say.now) (g.K.Sink.sunk c.put_line-in-Err-config_line.new.say) c.put_line-in-Err-config_line.result c.args.outcome 5 (λ e. let f = sym e ∙ c.in-Config.is in absurd (cc)) line_memory refl c.put_line-in-Err-config_line.ensures }
+
+pub returns-in-Ok-config_line : goal.returns-in-Ok-config_line
+returns-in-Ok-config_line g c = record { reports = reports c.as_bytes-in-Ok-config_line.result.now (g.K.Sink.sunk c.args.say.now) (g.K.Sink.sunk c.put_line-in-Ok-config_line.new.say) c.put_line-in-Ok-config_line.result c.args.outcome (ends.Config c.in-Config.fault) 1 c.in-Config.is (c.as_bytes-in-Ok-config_line.ensures.value ∙ c.in-Ok-config_line.ensures ∙ line_config c.in-Config.fault) refl c.put_line-in-Ok-config_line.ensures }

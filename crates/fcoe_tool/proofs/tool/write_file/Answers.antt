@@ -1,4 +1,4 @@
-use Rattle.fcoe_tool.proofs.RunLemmas.{file_written}
+use Rattle.fcoe_tool.proofs.WriteLemmas.{file_written}
 use Rattle.fcoe_tool.proofs.tool.write_file.Goals as goal
 
 pub returns-in-Ok-put_all : goal.returns-in-Ok-put_all

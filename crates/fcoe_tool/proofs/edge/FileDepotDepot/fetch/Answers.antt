@@ -4,18 +4,16 @@ use Rattle.fab_base.proofs.MemLemmas.{input_within}
 use Rattle.fcoe_tool.proofs.EdgeLemmas.{untold_reads, untold_read_rose, no_telling}
 use Rattle.fcoe_tool.proofs.edge.FileDepotDepot.fetch.Goals as goal
 
-pub returns-in-None : goal.returns-in-None
-returns-in-None g c =
+pub returns-in-Err-clause-fetches : goal.returns-in-Err-clause-fetches
+returns-in-Err-clause-fetches g c =
     let lt = input_within c.args.self.now.desk.slots.items c.args.slot c.requires.input in
     let n = name c.args.self.now.desk c.args.slot in
     let at : place_of c.args.self.now.desk n ≡ Some c.file-place.result = c.args.self.now.desk.placed c.args.slot lt ∙ ap Some (sym c.file-place.ensures.value) in
     record {
-      fetches = record {
-        reads = untold_reads n c.file-place.result c.args.self.now.desk c.read_failed.new.self at c.read_failed.ensures.stays;
-        bound = tt;
-        taken = λ told. tt;
-        ended = λ told. tt;
-        nothing = λ told. absurd (no_telling told);
-        cause = untold_read_rose n c.file-place.result c.args.self.now.desk c.read_failed.new.self at c.read_failed.ensures.stays c.read_failed.ensures.counted;
-      };
+      reads = untold_reads n c.file-place.result c.args.self.now.desk c.read_failed.new.self at c.read_failed.ensures.stays;
+      bound = tt;
+      taken = λ told. tt;
+      ended = λ told. tt;
+      nothing = λ told. absurd (no_telling told);
+      cause = untold_read_rose n c.file-place.result c.args.self.now.desk c.read_failed.new.self at c.read_failed.ensures.stays c.read_failed.ensures.counted;
     }

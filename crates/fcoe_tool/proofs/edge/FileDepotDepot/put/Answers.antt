@@ -4,17 +4,15 @@ use Rattle.fab_base.proofs.MemLemmas.{output_within}
 use Rattle.fcoe_tool.proofs.EdgeLemmas.{untold_keeps, untold_reads, untold_write_rose}
 use Rattle.fcoe_tool.proofs.edge.FileDepotDepot.put.Goals as goal
 
-pub returns-in-None : goal.returns-in-None
-returns-in-None g c =
+pub returns-in-Err-clause-puts : goal.returns-in-Err-clause-puts
+returns-in-Err-clause-puts g c =
     let lt = output_within c.args.self.now.desk.slots.items c.args.slot c.requires.output in
     let n = name c.args.self.now.desk c.args.slot in
     let at : place_of c.args.self.now.desk n ≡ Some c.file-place.result = c.args.self.now.desk.placed c.args.slot lt ∙ ap Some (sym c.file-place.ensures.value) in
     record {
-      puts = record {
-        keeps = untold_keeps n c.file-place.result c.args.self.now.desk c.write_failed.new.self at c.write_failed.ensures.stays;
-        some = tt;
-        grown = λ told. tt;
-        same = (untold_reads n c.file-place.result c.args.self.now.desk c.write_failed.new.self at c.write_failed.ensures.stays).files _;
-        cause = untold_write_rose n c.file-place.result c.args.self.now.desk c.write_failed.new.self at c.write_failed.ensures.stays c.write_failed.ensures.counted;
-      };
+      keeps = untold_keeps n c.file-place.result c.args.self.now.desk c.write_failed.new.self at c.write_failed.ensures.stays;
+      some = tt;
+      grown = λ told. tt;
+      same = (untold_reads n c.file-place.result c.args.self.now.desk c.write_failed.new.self at c.write_failed.ensures.stays).files _;
+      cause = untold_write_rose n c.file-place.result c.args.self.now.desk c.write_failed.new.self at c.write_failed.ensures.stays c.write_failed.ensures.counted;
     }

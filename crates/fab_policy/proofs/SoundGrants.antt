@@ -1,0 +1,279 @@
+-- What a judgement says of a login request that may be granted: its kind, ENode and name are those that the journal reads from
+-- the same frame, no login that stays has its name, and there is room for it.
+use Rattle.std.proofs.Common.{◌≡◌, ℕ, Bool, true, false, not, ◌==◌, ◌&&◌, ◌||◌, ◌-◌, List, [], ◌∷◌, IsTrue, Option, Some, None, Result, Ok, Err, refl, sym, ap, subst, ◌∙◌, arith, nat_le, nat_lt, length, if◌then◌else◌}
+use Rattle.std.proofs.lemmas.Bool.Decides.{nat_tests}
+use Rattle.std.specs.List.{list_any}
+use Rattle.fab_base.specs.Layout.{field, byte, number}
+use Rattle.fab_base.specs.declared.values.Caught.{Caught}
+use Rattle.fab_config.specs.Settings.{Settings}
+use Rattle.eth_frames.specs.Ethernet as eth
+use Rattle.eth_frames.specs.declared.EthFault.{EthFault}
+use Rattle.fc_frames.specs.Frame as fc
+use Rattle.fcoe_codec.specs.Fcoe as capsule
+use Rattle.fip_codec.specs.Message as fip
+use Rattle.fip_codec.specs.Reading as reading
+use Rattle.fip_codec.specs.declared.fault.FipFault.{FipFault}
+use Rattle.fip_codec.specs.declared.message.LoginKind.{LoginKind}
+use Rattle.fip_codec.specs.declared.message.LoginKind.TheVariants.{Flogi, Fdisc, Logo}
+use Rattle.els_messages.specs.Els as els
+use Rattle.els_messages.specs.declared.LoginParms.{LoginParms}
+use Rattle.ct_messages.specs.Ct as ct
+use Rattle.ct_messages.specs.declared.CtFault.{CtFault}
+use Rattle.fab_policy.specs.Cause.{Cause}
+use Rattle.fab_policy.specs.Heard.{What, Bad, Fip, Fcoe, FIP, FCOE, plain, cause_of, decoded, frame_in, fip_in, sender, fc_of, login_of, carried, asked, is_flogi, NO_FRAME}
+use Rattle.fab_policy.specs.State.{Tables, LivePort, port_at}
+use Rattle.fab_policy.specs.Free.{Request, has_free, is_free}
+use Rattle.fab_policy.specs.Rules.{first_row, rule_for, holds, is_known, is_els_reply, is_els_request, NAME_SERVER, SERVICES}
+use Rattle.fab_policy.specs.Queries.{Refusal, refusal, is_registration}
+use Rattle.fab_policy.specs.Verdicts.{Judgement, Must, MayGrant, Meets, IsRight, judged, message_judged, fip_judged, frame_judged, login_judged, request_of, staying, unless_refused, is_own_logout, fcoe_judged, service_judged, els_judged, ct_judged, is_function}
+use Rattle.fab_policy.specs.declared.verdict.Verdict.{Verdict}
+use Rattle.fab_policy.specs.declared.verdict.Verdict.TheVariants.{Granted, Rejected, Logout, NsLogin, NsLogout, Watching, Refused, Registered, Answered, Noted, Forwarded, Dropped}
+use Rattle.fab_policy.specs.declared.verdict.Rule.TheVariants as rule
+use Rattle.fab_policy.proofs.SoundParms.{SaysParms, says_parms}
+
+abbrev is_grant : Verdict → Bool
+is_grant (Granted a) = true
+is_grant _ = false
+
+-- A request that may be granted over these tables, of a frame that came on a port.
+pub record IsAllowed (c : Settings) (T : Tables) (port : ℕ) (caught : Caught) (r : Request) : Type 0 where
+  pub kind : r.flogi ≡ is_flogi caught
+  pub enode : r.enode ≡ sender port caught
+  pub name : r.name ≡ (asked caught).port_name
+  pub other_names : list_any (λ q. q.name == r.name) (staying c T r) ≡ false
+  pub room : nat_le c.limit (length (staying c T r)) ≡ false
+
+-- A judgement grants nothing but to a request that is allowed.
+abbrev GrantsAllowed : Settings → Tables → ℕ → Caught → Judgement → Type 0
+GrantsAllowed c T port caught (Must v) = is_grant v ≡ false
+GrantsAllowed c T port caught (MayGrant r) = IsAllowed c T port caught r
+
+-- ---- which message it is
+
+-- the parts that a decoded FIP message comes from
+record IsFipOf (caught : Caught) (f : eth.Eth) (m : fip.Fip) : Type 0 where
+  frame : eth.decoded caught.bytes ≡ Ok f
+  kind : f.kind == FIP ≡ true
+  message : reading.decoded f.body ≡ Ok m
+
+frame_of : eth.Eth → What → eth.Eth
+frame_of d (Fip f m) = f
+frame_of d _ = d
+
+message_of : fip.Fip → What → fip.Fip
+message_of d (Fip f m) = m
+message_of d _ = d
+
+fip_of : (caught : Caught) (g : eth.Eth) (m : fip.Fip) → decoded caught ≡ Fip g m → IsFipOf caught g m
+unfolding decoded frame_of message_of
+fip_of caught g m e = by_whole caught.whole (eth.decoded caught.bytes) refl e
+  where
+    by_message : (f : eth.Eth) → eth.decoded caught.bytes ≡ Ok f → f.kind == FIP ≡ true → (r : Result fip.Fip FipFault) → reading.decoded f.body ≡ r →
+        (elim r as (λ _. What) [ Err fault ↦ Bad (cause_of fault) | Ok message ↦ Fip f message ]) ≡ Fip g m → IsFipOf caught g m
+    by_message f x k (Err fault) y is = cc
+    by_message f x k (Ok n) y is =
+        let same : f ≡ g = ap (frame_of f) is in
+        record { frame = x ∙ ap Ok same; kind = subst (λ h. h.kind == FIP ≡ true) same k; message = subst (λ h. reading.decoded h.body ≡ Ok m) same (y ∙ ap Ok (ap (message_of n) is)) }
+
+    by_kind : (f : eth.Eth) → eth.decoded caught.bytes ≡ Ok f → (b o : Bool) → f.kind == FIP ≡ b →
+        (elim b as (λ _. What) [ true ↦ fip_in f | false ↦ elim o as (λ _. What) [ true ↦ Fcoe f (capsule.decoded f.body) | false ↦ Bad (plain rule.Ethertype) ] ]) ≡ Fip g m → IsFipOf caught g m
+    by_kind f x true o k is = by_message f x k (reading.decoded f.body) refl is
+    by_kind f x false true k is = cc
+    by_kind f x false false k is = cc
+
+    by_whole : (b : Bool) (r : Result eth.Eth EthFault) → eth.decoded caught.bytes ≡ r →
+        (elim b as (λ _. What) [ false ↦ Bad (plain rule.Truncated) | true ↦ elim r as (λ _. What) [ Err fault ↦ Bad (plain rule.EthShort) | Ok f ↦ frame_in f ] ]) ≡ Fip g m → IsFipOf caught g m
+    by_whole false r x is = cc
+    by_whole true (Err fault) x is = cc
+    by_whole true (Ok f) x is = by_kind f x (f.kind == FIP) (f.kind == FCOE) refl is
+
+not_fcoe : (kind : ℕ) → kind == FIP ≡ true → kind == FCOE ≡ false
+not_fcoe kind e = grind (arith, nat_tests)
+
+-- the login that the journal reads from the frame of a FIP login
+login_there : (caught : Caught) (f : eth.Eth) (kind : LoginKind) (fp : Bool) (l mac : List ℕ) → IsFipOf caught f (fip.Login kind fp l mac) → login_of caught ≡ Some (kind, l)
+login_there caught f kind fp l mac h =
+    ap (λ (r : Result eth.Eth EthFault). elim r as (λ _. Option (LoginKind × List ℕ)) [ Err fault ↦ None | Ok g ↦ elim (g.kind == FIP) as (λ _. Option (LoginKind × List ℕ)) [ true ↦ in_body (reading.decoded g.body) | false ↦ None ] ]) h.frame
+    ∙ ap (λ b. elim b as (λ _. Option (LoginKind × List ℕ)) [ true ↦ in_body (reading.decoded f.body) | false ↦ None ]) h.kind
+    ∙ ap in_body h.message
+  where
+    in_body : Result fip.Fip FipFault → Option (LoginKind × List ℕ)
+    in_body r = elim r as (λ _. Option (LoginKind × List ℕ)) [ Ok (fip.Login kind fp l mac) ↦ Some (kind, l) | _ ↦ None ]
+
+carried_there : (caught : Caught) (f : eth.Eth) (kind : LoginKind) (fp : Bool) (l mac : List ℕ) → IsFipOf caught f (fip.Login kind fp l mac) → carried caught ≡ fc_of l
+unfolding carried
+carried_there caught f kind fp l mac h =
+    ap (λ (r : Result eth.Eth EthFault). elim r as (λ _. fc.Frame) [
+      | Err fault ↦ NO_FRAME
+      | Ok g ↦ elim (g.kind == FCOE) as (λ _. fc.Frame) [ true ↦ capsule.frame_in (capsule.covered g.body) | false ↦ in_login (login_of caught) ]
+    ]) h.frame
+    ∙ ap (λ b. elim b as (λ _. fc.Frame) [ true ↦ capsule.frame_in (capsule.covered f.body) | false ↦ in_login (login_of caught) ]) (not_fcoe f.kind h.kind)
+    ∙ ap in_login (login_there caught f kind fp l mac h)
+  where
+    in_login : Option (LoginKind × List ℕ) → fc.Frame
+    in_login o = elim o as (λ _. fc.Frame) [ None ↦ NO_FRAME | Some login ↦ fc_of login.1 ]
+
+-- a request is a FLOGI where its frame is one
+kind_there : (port : ℕ) (caught : Caught) (kind : LoginKind) (l : List ℕ) (p : LoginParms) → login_of caught ≡ Some (kind, l) → (request_of kind port caught p).flogi ≡ is_flogi caught
+unfolding is_flogi
+kind_there port caught kind l p e = by_kind kind ∙ sym (ap (λ o. of_login o) e)
+  where
+    of_kind : LoginKind → Bool
+    of_kind k = elim k as (λ _. Bool) [ Flogi ↦ true | Fdisc ↦ false | Logo ↦ false ]
+
+    of_login : Option (LoginKind × List ℕ) → Bool
+    of_login o = elim o as (λ _. Bool) [ None ↦ false | Some login ↦ of_kind login.0 ]
+
+    by_kind : (k : LoginKind) → (request_of k port caught p).flogi ≡ of_kind k
+    by_kind Flogi = refl
+    by_kind Fdisc = refl
+    by_kind Logo = refl
+
+-- ---- judgements that grant nothing
+
+abbrev NeverGrants : Judgement → Type 0
+NeverGrants (Must v) = is_grant v ≡ false
+NeverGrants (MayGrant r) = ⊥
+
+never : (c : Settings) (T : Tables) (port : ℕ) (caught : Caught) (j : Judgement) → NeverGrants j → GrantsAllowed c T port caught j
+never c T port caught (Must v) h = h
+never c T port caught (MayGrant r) h = absurd h
+
+refused_or : (rows : List (Bool × Refusal)) (v : Verdict) → is_grant v ≡ false → NeverGrants (unless_refused rows (Must v))
+refused_or rows v h = by_row (first_row rows)
+  where
+    by_row : (o : Option Refusal) → NeverGrants (elim o as (λ _. Judgement) [ Some r ↦ Must (Rejected r.0 r.1) | None ↦ Must v ])
+    by_row None = h
+    by_row (Some r) = refl
+
+els_never : (c : Settings) (T : Tables) (p : LivePort) (f : fc.Frame) → NeverGrants (els_judged c T p f)
+els_never c T p f = by_payload (els.payload_of f.payload) (f.head.d_id == NAME_SERVER)
+  where
+    by_payload : (v : els.Els) (to_names : Bool) → NeverGrants (elim v as (λ _. Judgement) [
+      | els.Plogi parms ↦ (if to_names
+          then unless_refused ((not (els.offers_class3 parms), (0x0b, 0)) ∷ (not (parms.port_name == p.name) || nat_lt parms.size 256, (3, 0)) ∷ []) (Must NsLogin)
+          else Must (Rejected 0x0b 0x2c))
+      | els.Logo address name ↦ (if to_names then Must NsLogout else Must (Rejected 0x0b 0x2c))
+      | els.Scr function ↦ (if to_names then Must (Rejected 0x0b 0x2c) else unless_refused ((not (is_function function), (3, 0)) ∷ []) (Must (Watching function)))
+      | _ ↦ Must (Rejected 0x0b 0x2c)
+    ])
+    by_payload (els.Plogi parms) true = refused_or ((not (els.offers_class3 parms), (0x0b, 0)) ∷ (not (parms.port_name == p.name) || nat_lt parms.size 256, (3, 0)) ∷ []) NsLogin refl
+    by_payload (els.Plogi parms) false = refl
+    by_payload (els.Logo address name) true = refl
+    by_payload (els.Logo address name) false = refl
+    by_payload (els.Scr function) true = refl
+    by_payload (els.Scr function) false = refused_or ((not (is_function function), (3, 0)) ∷ []) (Watching function) refl
+    by_payload _ to_names = refl
+
+ct_never : (c : Settings) (T : Tables) (p : LivePort) (payload : List ℕ) → NeverGrants (ct_judged c T p payload)
+ct_never c T p payload = by_refusal (refusal c T p (ct.decoded payload)) (ct.decoded payload)
+  where
+    by_kind : (b : Bool) → is_grant (if b then Registered else Answered) ≡ false
+    by_kind true = refl
+    by_kind false = refl
+
+    by_refusal : (o : Option Refusal) (read : Result ct.Ask CtFault) → NeverGrants (elim o as (λ _. Judgement) [
+      | Some r ↦ Must (Refused r.0 r.1)
+      | None ↦ elim read as (λ _. Judgement) [ Ok ask ↦ Must (if is_registration ask then Registered else Answered) | Err e ↦ Must (Refused 4 0) ]
+    ])
+    by_refusal (Some r) read = refl
+    by_refusal None (Ok ask) = by_kind (is_registration ask)
+    by_refusal None (Err e) = refl
+
+service_never : (c : Settings) (T : Tables) (f : fc.Frame) → NeverGrants (service_judged c T f)
+service_never c T f = by_port (port_at f.head.s_id T.ports) (is_els_reply f) (is_els_request f)
+  where
+    by_port : (o : Option LivePort) (reply request : Bool) → NeverGrants (elim o as (λ _. Judgement) [
+      | None ↦ Must (Dropped (plain rule.SourceLogin))
+      | Some p ↦ elim reply as (λ _. Judgement) [
+        | true ↦ Must Noted
+        | false ↦ elim request as (λ _. Judgement) [ true ↦ els_judged c T p f | false ↦ ct_judged c T p f.payload ]
+      ]
+    ])
+    by_port None reply request = refl
+    by_port (Some p) true request = refl
+    by_port (Some p) false true = els_never c T p f
+    by_port (Some p) false false = ct_never c T p f.payload
+
+fcoe_never : (c : Settings) (T : Tables) (f : fc.Frame) → NeverGrants (fcoe_judged c T f)
+fcoe_never c T f = by_address (nat_lt f.head.d_id SERVICES) (port_at f.head.d_id T.ports)
+  where
+    by_address : (to_port : Bool) (o : Option LivePort) → NeverGrants (elim to_port as (λ _. Judgement) [
+      | true ↦ elim o as (λ _. Judgement) [ Some q ↦ Must (Forwarded q.enode.port) | None ↦ Must (Dropped (plain rule.DestLogin)) ]
+      | false ↦ service_judged c T f
+    ])
+    by_address true (Some q) = refl
+    by_address true None = refl
+    by_address false o = service_never c T f
+
+-- ---- logins
+
+-- a request is allowed where none of the rows refuses it
+by_rows : (c : Settings) (T : Tables) (port : ℕ) (caught : Caught) (r : Request) (fp known offered zero held full none : Bool) (r1 r2 r3 r4 r5 : Refusal) →
+    (held ≡ false → full ≡ false → IsAllowed c T port caught r) →
+    GrantsAllowed c T port caught (unless_refused ((fp, r1) ∷ (known, r2) ∷ (offered, r3) ∷ (zero || held, r4) ∷ (full || none, r5) ∷ []) (MayGrant r))
+by_rows c T port caught r true known offered zero held full none r1 r2 r3 r4 r5 h = refl
+by_rows c T port caught r false true offered zero held full none r1 r2 r3 r4 r5 h = refl
+by_rows c T port caught r false false true zero held full none r1 r2 r3 r4 r5 h = refl
+by_rows c T port caught r false false false true held full none r1 r2 r3 r4 r5 h = refl
+by_rows c T port caught r false false false false true full none r1 r2 r3 r4 r5 h = refl
+by_rows c T port caught r false false false false false true none r1 r2 r3 r4 r5 h = refl
+by_rows c T port caught r false false false false false false true r1 r2 r3 r4 r5 h = refl
+by_rows c T port caught r false false false false false false false r1 r2 r3 r4 r5 h = h refl refl
+
+login_allowed : (c : Settings) (T : Tables) (port : ℕ) (caught : Caught) (fp : Bool) (kind : LoginKind) (l : List ℕ) (p : LoginParms) →
+    login_of caught ≡ Some (kind, l) → carried caught ≡ fc_of l → p ≡ els.parms_of (fc_of l).payload → GrantsAllowed c T port caught (login_judged c T port caught fp kind p)
+login_allowed c T port caught fp kind l p there is says =
+    by_rows c T port caught r (not fp) (not r.flogi && not (is_known c T port caught)) (not (els.offers_class3 p)) (r.name == 0) (list_any (λ q. q.name == r.name) (staying c T r))
+    (nat_le c.limit (length (staying c T r))) (not (has_free T r)) (0x0b, 0x2c) (9, 0) (0x0b, 0) (3, 0) (9, 0x29)
+    (λ held full. record { kind = kind_there port caught kind l p there; enode = refl; name = ap (λ q. q.port_name) (says ∙ ap (λ f. els.parms_of f.payload) (sym is)); other_names = held; room = full })
+  where
+    r : Request
+    r = request_of kind port caught p
+
+frame_allowed : (c : Settings) (T : Tables) (port : ℕ) (caught : Caught) (fp : Bool) (kind : LoginKind) (l mac : List ℕ) →
+    login_of caught ≡ Some (kind, l) → carried caught ≡ fc_of l → GrantsAllowed c T port caught (frame_judged c T port caught fp kind (fc_of l) mac)
+frame_allowed c T port caught fp kind l mac there is = by_payload (els.payload_of (fc_of l).payload) (says_parms (fc_of l).payload)
+  where
+    by_payload : (v : els.Els) → SaysParms (fc_of l).payload v → GrantsAllowed c T port caught (elim v as (λ _. Judgement) [
+      | els.Flogi p ↦ login_judged c T port caught fp kind p
+      | els.Fdisc p ↦ login_judged c T port caught fp kind p
+      | els.Logo address name ↦
+          unless_refused ((not (holds (is_own_logout c T port caught mac address name) (port_at (fc_of l).head.s_id T.ports)), (3, 0)) ∷ []) (Must (Logout (fc_of l).head.s_id))
+      | _ ↦ Must (Dropped (plain rule.ElsKind))
+    ])
+    by_payload (els.Flogi p) says = login_allowed c T port caught fp kind l p there is says
+    by_payload (els.Fdisc p) says = login_allowed c T port caught fp kind l p there is says
+    by_payload (els.Logo address name) says = never c T port caught _ (refused_or ((not (holds (is_own_logout c T port caught mac address name) (port_at (fc_of l).head.s_id T.ports)), (3, 0)) ∷ []) (Logout (fc_of l).head.s_id) refl)
+    by_payload _ says = refl
+
+fip_allowed : (c : Settings) (T : Tables) (port : ℕ) (caught : Caught) (f : eth.Eth) (m : fip.Fip) → IsFipOf caught f m → GrantsAllowed c T port caught (fip_judged c T port caught m)
+fip_allowed c T port caught f (fip.Login kind fp l mac) h = frame_allowed c T port caught fp kind l mac (login_there caught f kind fp l mac h) (carried_there caught f kind fp l mac h)
+fip_allowed c T port caught f (fip.Keep mac None) h = refl
+fip_allowed c T port caught f (fip.Keep mac (Some vx)) h = refl
+fip_allowed c T port caught f _ h = refl
+
+-- ---- any frame
+
+pub judged_allowed : (c : Settings) (T : Tables) (port : ℕ) (caught : Caught) → GrantsAllowed c T port caught (judged c T port caught)
+unfolding judged
+judged_allowed c T port caught = by_rule (rule_for c T port caught (decoded caught)) (by_message (decoded caught) refl)
+  where
+    by_message : (w : What) → decoded caught ≡ w → GrantsAllowed c T port caught (message_judged c T port caught w)
+    by_message (Bad cause) e = refl
+    by_message (Fip f m) e = fip_allowed c T port caught f m (fip_of caught f m e)
+    by_message (Fcoe f (Ok x)) e = never c T port caught _ (fcoe_never c T x.frame)
+    by_message (Fcoe f (Err fault)) e = refl
+
+    by_rule : (o : Option Cause) → GrantsAllowed c T port caught (message_judged c T port caught (decoded caught)) →
+        GrantsAllowed c T port caught (elim o as (λ _. Judgement) [ Some cause ↦ Must (Dropped cause) | None ↦ message_judged c T port caught (decoded caught) ])
+    by_rule None h = h
+    by_rule (Some cause) h = refl
+
+-- The request of a right grant is allowed, and the address is free for it.
+pub granted_allowed : (c : Settings) (T : Tables) (port a : ℕ) (caught : Caught) → IsRight c T port caught (Granted a) → (r : Request) × IsAllowed c T port caught r × IsTrue (is_free T r a)
+granted_allowed c T port a caught h = by_judgement (judged c T port caught) (judged_allowed c T port caught) h
+  where
+    by_judgement : (j : Judgement) → GrantsAllowed c T port caught j → Meets c T j (Granted a) → (r : Request) × IsAllowed c T port caught r × IsTrue (is_free T r a)
+    by_judgement (Must v) g h = absurd (subst (λ w. is_grant w ≡ false → ⊥) h (λ e. cc) g)
+    by_judgement (MayGrant r) g h = (r, g, h)

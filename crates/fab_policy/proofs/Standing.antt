@@ -1,0 +1,92 @@
+-- A fabric that takes an entry stands for the journal with that entry.
+use Rattle.std.proofs.Common.{◌≡◌, ℕ, ◌+◌, ◌%◌, List, [], ◌∷◌, ◌++◌, length, refl, sym, ap, subst, ◌∙◌, append_assoc, Option}
+use Rattle.std.proofs.lemmas.List.{append-nil}
+use Rattle.std.proofs.Math.Nat.{mod-add-mod}
+use Rattle.fab_config.specs.Settings.{Settings}
+use Rattle.fab_policy.specs.Journal.{Journal, followed}
+use Rattle.fab_policy.specs.State.{Tables, tables_of}
+use Rattle.fab_policy.specs.Outputs.{State, state_of, outputs, outputs_by, notices, rscn_count}
+use Rattle.fab_policy.specs.Steps.{after}
+use Rattle.fab_policy.specs.Legal.{Legal, IsRightEntry}
+use Rattle.fab_policy.specs.Standing.{Contents, Stands, Takes, StandsAfter, StandsDrained, LegalAfter, Grown, GrowsByFrames, AreFrames, state_after, sent_after}
+use Rattle.fab_base.specs.declared.values.Caught.{Caught}
+use Rattle.fab_policy.specs.declared.event.Event.{Event}
+use Rattle.fab_policy.specs.declared.event.Event.TheVariants.{Tick, Frame}
+use Rattle.fab_policy.specs.declared.verdict.Verdict.{Verdict}
+use Rattle.fab_policy.proofs.Steps.{steps}
+
+followed_last : (J : Journal) (es : List Event) (e : Event) → followed J (es ++ e ∷ []) ≡ e ∷ followed J es
+followed_last J [] e = refl
+followed_last J (d ∷ es) e = followed_last (d ∷ J) es e
+
+sent_last : (c : Settings) (n : ℕ) (J : Journal) (es : List Event) (e : Event) → sent_after c n J (es ++ e ∷ []) ≡ sent_after c n J es ++ outputs c n (followed J es) e
+sent_last c n J [] e = append-nil (outputs c n J e)
+sent_last c n J (d ∷ es) e = ap (λ xs. outputs c n J d ++ xs) (sent_last c n (d ∷ J) es e) ∙ sym (append_assoc (outputs c n J d) (sent_after c n (d ∷ J) es) (outputs c n (followed (d ∷ J) es) e))
+
+state_step : (c : Settings) (e : Event) (J : Journal) → state_of c (e ∷ J) ≡ state_after c (state_of c J) e
+state_step c e J = same_states (steps c e J)
+    (ap (λ U. (rscn_count c J + length (notices c (tables_of c J) U e)) % 65535) (steps c e J)
+    ∙ sym (mod-add-mod (rscn_count c J) 65535 (length (notices c (tables_of c J) (after c (tables_of c J) e) e))))
+  where
+    same_states : {t t' : Tables} {x : Option ℕ} {n n' : ℕ} → t ≡ t' → n ≡ n' →
+        (let s : State = record { tables = t; advertised = x; rscns = n } in s) ≡ record { tables = t'; advertised = x; rscns = n' }
+    same_states e1 e2 = cc
+
+-- what an entry sends after a journal follows from what the journal says
+outputs_step : (c : Settings) (n : ℕ) (J : Journal) (e : Event) → outputs c n J e ≡ outputs_by c n (state_of c J) (after c (tables_of c J) e) e
+outputs_step c n J e = ap (λ U. outputs_by c n (state_of c J) U e) (steps c e J)
+
+pub stands_after : StandsAfter
+stands_after F G e J s t = record {
+  state = t.state ∙ ap (λ S. state_after F.settings S e) s.state ∙ sym (state_step F.settings e J) ∙ ap (λ c. state_of c (e ∷ J)) (sym t.settings);
+  older = s.older;
+  events = sym (ap (λ es. followed s.older es) t.events ∙ followed_last s.older F.events e ∙ ap (λ I. e ∷ I) (sym s.events));
+  outs = t.outs
+      ∙ ap (λ xs. xs ++ outputs_by F.settings F.count F.state (after F.settings F.state.tables e) e) s.outs
+      ∙ ap (λ ys. sent_after F.settings F.count s.older F.events ++ ys) latest_sent
+      ∙ sym (sent_last F.settings F.count s.older F.events e)
+      ∙ ap (λ es. sent_after F.settings F.count s.older es) (sym t.events)
+      ∙ ap (λ c. sent_after c F.count s.older G.events) (sym t.settings)
+      ∙ ap (λ n. sent_after G.settings n s.older G.events) (sym t.count);
+}
+  where
+    latest_sent : outputs_by F.settings F.count F.state (after F.settings F.state.tables e) e ≡ outputs F.settings F.count (followed s.older F.events) e
+    latest_sent = ap (λ S. outputs_by F.settings F.count S (after F.settings S.tables e) e) s.state
+        ∙ sym (outputs_step F.settings F.count J e) ∙ ap (λ I. outputs F.settings F.count I e) s.events
+
+pub stands_drained : StandsDrained
+stands_drained F J s = record { state = s.state; older = J; events = refl; outs = refl }
+
+pub legal_after : LegalAfter
+legal_after F e J l s r = (l, subst (λ S. IsRightEntry F.settings S.tables e) s.state r)
+
+grown_self : (F : Contents) → Grown F F
+grown_self F = record { settings = refl; count = refl; clock = refl; later = []; frames = tt; events = sym (append-nil F.events); stands = λ J l s. (l, s) }
+
+frames_last : (es : List Event) (port index : ℕ) (caught : Caught) (v : Verdict) → AreFrames es → AreFrames (es ++ Frame port index caught v ∷ [])
+frames_last [] port index caught v h = tt
+frames_last (Frame p i c w ∷ es) port index caught v h = frames_last es port index caught v h
+frames_last (Tick m ended ∷ es) port index caught v h = h
+
+grown_step : (first F G : Contents) (port index : ℕ) (caught : Caught) (v : Verdict) → Grown first F →
+    IsRightEntry F.settings F.state.tables (Frame port index caught v) → Takes F (Frame port index caught v) G → Grown first G
+grown_step first F G port index caught v g r t =
+    let e : Event = Frame port index caught v in
+    record {
+      settings = t.settings ∙ g.settings;
+      count = t.count ∙ g.count;
+      clock = ap (λ S. S.tables.clock) t.state ∙ g.clock;
+      later = g.later ++ e ∷ [];
+      frames = frames_last g.later port index caught v g.frames;
+      events = t.events ∙ ap (λ es. es ++ e ∷ []) g.events ∙ append_assoc first.events g.later (e ∷ []);
+      stands = λ J l s.
+          let was = g.stands J l s in
+          let last : e ∷ followed J g.later ≡ followed J (g.later ++ e ∷ []) = sym (followed_last J g.later e) in
+          let right : Legal F.settings (e ∷ followed J g.later) = legal_after F e (followed J g.later) (subst (λ c. Legal c (followed J g.later)) (sym g.settings) was.0) was.1 r in (
+            subst (λ I. Legal first.settings I) last (subst (λ c. Legal c (e ∷ followed J g.later)) g.settings right),
+            subst (λ I. Stands G I) last (stands_after F G e (followed J g.later) was.1 t),
+          );
+    }
+
+pub grows_by_frames : GrowsByFrames
+grows_by_frames = (grown_self, grown_step)

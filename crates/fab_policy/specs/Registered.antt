@@ -1,0 +1,73 @@
+-- What is registered with the name server (FC-GS-6, "Name Server"): the last registration that sets a value counts,
+-- and one that erases puts back what the login gave.
+use Rattle.std.specs.Prelude.{ℕ, ◌==◌, if◌then◌else◌, List, [], ◌∷◌, Option, Some, None, unwrap_or, replicate, filter_map}
+use Rattle.ct_messages.specs.Ct.{Ask, SetNode, SetTypes, SetSymbol, SetFeature, SetNodeSymbol, Erase}
+use Rattle.ct_messages.specs.declared.TypeMap.{TypeMap}
+use Rattle.fab_policy.specs.Journal.{Journal}
+use Rattle.fab_policy.specs.Heard.{s_id, ask_of}
+use Rattle.fab_policy.specs.Logins.{since}
+use Rattle.fab_policy.specs.declared.event.Event.{Event}
+use Rattle.fab_policy.specs.declared.event.Event.TheVariants.{Frame}
+use Rattle.fab_policy.specs.declared.verdict.Verdict.TheVariants.{Registered}
+
+-- the registration that an entry is for the address
+abbrev pub registration : ℕ → Event → Option Ask
+registration a (Frame port index caught Registered) = if s_id caught == a then Some (ask_of caught) else None
+registration a _ = None
+
+-- the registrations of a live address, the newest first
+abbrev pub registrations : ℕ → Journal → List Ask
+registrations a J = filter_map (registration a) (since a J)
+
+-- what the newest of them that says anything of a value says
+abbrev pub newest : {X : Type 0} → (Ask → Option X) → List Ask → Option X
+newest says [] = None
+newest says (ask ∷ asks) = elim (says ask) [ Some x ↦ Some x | None ↦ newest says asks ]
+
+abbrev pub NO_TYPES : TypeMap
+NO_TYPES = record { 0 = replicate 8 0 }
+
+-- ---- what a registration says of each value
+
+abbrev pub says_node : ℕ → Ask → Option ℕ
+says_node first (SetNode _ name) = Some name
+says_node first (Erase _) = Some first
+says_node first _ = None
+
+abbrev pub says_types : Ask → Option TypeMap
+says_types (SetTypes _ types) = Some types
+says_types (Erase _) = Some NO_TYPES
+says_types _ = None
+
+abbrev pub says_feature : ℕ → Ask → Option ℕ
+says_feature t (SetFeature _ feature kind) = if kind == t then Some feature else None
+says_feature t (Erase _) = Some 0
+says_feature t _ = None
+
+abbrev pub says_symbol : Ask → Option (List ℕ)
+says_symbol (SetSymbol _ symbol) = Some symbol
+says_symbol (Erase _) = Some []
+says_symbol _ = None
+
+abbrev pub says_node_symbol : Ask → Option (List ℕ)
+says_node_symbol (SetNodeSymbol _ symbol) = Some symbol
+says_node_symbol (Erase _) = Some []
+says_node_symbol _ = None
+
+-- ---- the registered values of a live N_Port
+
+abbrev pub node_name : ℕ → List Ask → ℕ
+node_name first asks = unwrap_or (newest (says_node first) asks) first
+
+abbrev pub types : List Ask → TypeMap
+types asks = unwrap_or (newest says_types asks) NO_TYPES
+
+-- the feature of one type
+abbrev pub feature : ℕ → List Ask → ℕ
+feature t asks = unwrap_or (newest (says_feature t) asks) 0
+
+abbrev pub symbol : List Ask → List ℕ
+symbol asks = unwrap_or (newest says_symbol asks) []
+
+abbrev pub node_symbol : List Ask → List ℕ
+node_symbol asks = unwrap_or (newest says_node_symbol asks) []

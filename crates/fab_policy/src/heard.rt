@@ -1,0 +1,150 @@
+// A captured frame and what it is (IEEE 802.3, IEEE 802.1Q; FC-BB-5).
+ghost use Rattle.std.specs.Prelude.{◌≡◌, nat_lt, false};
+ghost use Rattle.std.specs.List.{AllPass};
+ghost use Rattle.eth_frames.specs.Ethernet.{view as eth_view};
+ghost use Rattle.fab_policy.specs.Cause.{is_numbered};
+ghost use Rattle.fab_policy.specs.View.{view};
+ghost use Rattle.fab_policy.specs.Heard as spec;
+ghost use Rattle.fab_policy.specs.Heard.{decoded, frame_in, cause_of, plain, Bad};
+
+use crate::Rule;
+use eth_frames::{EthFrame, read_eth};
+use fab_base::Caught;
+use fcoe_codec::{FcoeFault, FcoeFrame, read_fcoe};
+use fip_codec::{FipFault, FipMessage, read_fip};
+
+/// The Ethertype of FCoE.
+const FCOE: u16 = 0x8906;
+
+/// The Ethertype of FIP.
+pub(crate) const FIP: u16 = 0x8914;
+
+/// A frame as it was decoded.
+#[derive(Debug, Drop)]
+pub enum What<'a> {
+    /// It can't be read, by this rule; `at` is its number, and 0 for a rule without one.
+    Bad {
+        rule: Rule,
+        at: u32,
+    },
+    /// A message of FIP.
+    Fip {
+        eth: EthFrame<'a>,
+        message: FipMessage<'a>,
+    },
+    /// A body of FCoE, read or with the fault of it.
+    Fcoe {
+        eth: EthFrame<'a>,
+        read: Result<FcoeFrame<'a>, FcoeFault>,
+    },
+}
+
+/// A captured frame with its decoding.
+#[derive(Debug, Drop)]
+pub struct Heard<'a> {
+    pub caught: &'a Caught,
+    pub what: What<'a>,
+    ghost decoded: { view what ≡ decoded caught.now },
+}
+
+/// A captured frame is decoded: its Ethernet header, and then the body by its Ethertype.
+pub fn hear(caught: &Caught) -> Heard<'_>
+    ensures caught { result.caught.now ≡ caught.now }
+    ensures bytes { AllPass (λ b. nat_lt b 256) caught.now.bytes }
+{
+    let what = what_of(caught);
+    Heard { caught, what }
+}
+
+#[tactic(auto, unfolding(crate::specs::Heard::decoded))]
+fn what_of(caught: &Caught) -> What<'_>
+    ensures value { view result ≡ decoded caught.now }
+    ensures bytes { AllPass (λ b. nat_lt b 256) caught.now.bytes }
+{
+    let bytes = caught.bytes.view();
+    if !caught.whole {
+        return unreadable(Rule::Truncated);
+    }
+    match read_eth(bytes) {
+        Ok(eth) => what_in(&eth),
+        Err(_) => unreadable(Rule::EthShort),
+    }
+}
+
+// What a frame carries, by its Ethertype.
+fn what_in<'a>(eth: &EthFrame<'a>) -> What<'a>
+    ensures { view result ≡ frame_in (eth_view eth.now) }
+{
+    if eth.kind == FIP {
+        return fip_in(eth);
+    }
+    if eth.kind == FCOE {
+        let read = read_fcoe(eth.body);
+        return What::Fcoe {
+            eth: same_frame(eth),
+            read,
+        };
+    }
+    unreadable(Rule::Ethertype)
+}
+
+fn fip_in<'a>(eth: &EthFrame<'a>) -> What<'a>
+    ensures { view result ≡ spec.fip_in (eth_view eth.now) }
+{
+    match read_fip(eth.body) {
+        Ok(message) => What::Fip {
+            eth: same_frame(eth),
+            message,
+        },
+        Err(fault) => faulty(fault),
+    }
+}
+
+// A frame whose FIP body has this fault.
+fn faulty<'a>(fault: FipFault) -> What<'a>
+    ensures { view result ≡ Bad (cause_of fault) }
+{
+    match fault {
+        FipFault::Short => unreadable(Rule::FipShort),
+        FipFault::Version => unreadable(Rule::FipVersion),
+        FipFault::Operation => unreadable(Rule::FipOperation),
+        FipFault::ListLength => unreadable(Rule::FipList),
+        FipFault::DescLength { at } => What::Bad {
+            rule: Rule::FipLength,
+            at,
+        },
+        FipFault::Critical { at, .. } => What::Bad {
+            rule: Rule::FipCritical,
+            at,
+        },
+        FipFault::Double { at } => What::Bad {
+            rule: Rule::FipDouble,
+            at,
+        },
+        FipFault::Missing { kind } => What::Bad {
+            rule: Rule::FipMissing,
+            at: u32::from(kind),
+        },
+    }
+}
+
+// A frame that can't be read, by a rule without a number.
+fn unreadable<'a>(rule: Rule) -> What<'a>
+    requires { is_numbered rule ≡ false }
+    ensures { view result ≡ Bad (plain rule) }
+{
+    What::Bad { rule, at: 0 }
+}
+
+// The frame again, part by part.
+fn same_frame<'a>(eth: &EthFrame<'a>) -> EthFrame<'a>
+    ensures { eth_view result ≡ eth_view eth.now }
+{
+    EthFrame {
+        dst: eth.dst,
+        src: eth.src,
+        tag: eth.tag,
+        kind: eth.kind,
+        body: eth.body,
+    }
+}
