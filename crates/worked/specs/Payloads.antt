@@ -1,8 +1,10 @@
 -- Payloads and frames at the edges of their layouts, and numbers that are counted round.
 use Rattle.std.specs.Prelude.{◌≡◌, ℕ, ◌+◌, ◌*◌, true, false, List, [], ◌∷◌, ◌++◌, refl, None, Some, Result, Ok, Err, map, length, replicate, codes}
 use Rattle.fab_base.specs.Layout.{field, zeros, spelled}
-use Rattle.fab_config.specs.Settings.{Settings}
 use Rattle.fab_config.specs.Text as config
+use Rattle.fab_config.specs.declared.Zone.{Zone}
+use Rattle.fab_config.specs.declared.ZoneSet.{ZoneSet}
+use Rattle.fab_config.specs.declared.Activation.{Activation}
 use Rattle.fab_config.specs.declared.ConfigWhy.{ConfigWhy}
 use Rattle.fab_config.specs.declared.ConfigWhy.TheVariants.{Limit}
 use Rattle.fc_check.specs.Crc as crc
@@ -167,58 +169,56 @@ activations = refl
 pub longest : config.MOST_TEXT ≡ 1024 * 1024
 longest = refl
 
-abbrev pub zones_in : Result config.Draft ConfigWhy → ℕ
-zones_in (Ok d) = length d.zones
-zones_in (Err why) = 0
+abbrev pub count_of : {X : Type 0} → Result (List X) ConfigWhy → ℕ
+count_of (Ok l) = length l
+count_of (Err why) = 0
 
-abbrev pub sets_in : Result config.Draft ConfigWhy → ℕ
-sets_in (Ok d) = length d.sets
-sets_in (Err why) = 0
-
-abbrev pub activations_in : Result config.Draft ConfigWhy → ℕ
-activations_in (Ok d) = length d.activations
-activations_in (Err why) = 0
-
-abbrev pub some_zones : ℕ → ℕ → Settings
-some_zones count members = record K { zones = replicate count (record { name = codes "z"; members = counting 1 members }) }
-
-abbrev pub draft : ℕ → ℕ → config.Draft
-draft count members = record config.NOTHING { zones = (some_zones count members).zones }
+abbrev pub some_zones : ℕ → ℕ → List Zone
+some_zones count members = replicate count (record { name = codes "z"; members = counting 1 members })
 
 abbrev pub one_name : List ℕ
 one_name = codes "20:00:00:1b:21:00:00:0a"
 
-pub zone_too_many : config.zone_added (draft 1000 1) (codes "y" ∷ one_name ∷ []) ≡ Err Limit
+pub zone_too_many : config.zones_with (some_zones 1000 1) (codes "y" ∷ one_name ∷ []) ≡ Err Limit
+unfolding config.zones_with
 zone_too_many = refl
 
-pub last_zone : zones_in (config.zone_added (draft 999 1) (codes "y" ∷ one_name ∷ [])) ≡ 1000
+pub last_zone : count_of (config.zones_with (some_zones 999 1) (codes "y" ∷ one_name ∷ [])) ≡ 1000
+unfolding config.zones_with
 last_zone = refl
 
-pub member_too_many : config.zone_added (draft 10 2000) (codes "y" ∷ one_name ∷ one_name ∷ []) ≡ Err Limit
+pub member_too_many : config.zones_with (some_zones 10 2000) (codes "y" ∷ one_name ∷ one_name ∷ []) ≡ Err Limit
+unfolding config.zones_with
 member_too_many = refl
 
-pub last_member : zones_in (config.zone_added (draft 9 2222) (codes "y" ∷ one_name ∷ one_name ∷ codes "20:00:00:1b:21:00:00:0b" ∷ [])) ≡ 10
+pub last_member : count_of (config.zones_with (some_zones 9 2222) (codes "y" ∷ one_name ∷ one_name ∷ codes "20:00:00:1b:21:00:00:0b" ∷ [])) ≡ 10
+unfolding config.zones_with
 last_member = refl
 
-abbrev pub sets_before : ℕ → ℕ → config.Draft
-sets_before count places = record config.NOTHING { zones = record { name = codes "z"; members = 1 ∷ [] } ∷ []; sets = replicate count (record { name = codes "s"; places = zeros places }) }
+abbrev pub some_sets : ℕ → ℕ → List ZoneSet
+some_sets count places = replicate count (record { name = codes "s"; places = zeros places })
 
-pub set_too_many : config.set_added (sets_before 64 1) (codes "t" ∷ codes "z" ∷ []) ≡ Err Limit
+pub set_too_many : config.sets_with (some_zones 1 1) (some_sets 64 1) (codes "t" ∷ codes "z" ∷ []) ≡ Err Limit
+unfolding config.sets_with
 set_too_many = refl
 
-pub last_set : sets_in (config.set_added (sets_before 63 1) (codes "t" ∷ codes "z" ∷ codes "z" ∷ [])) ≡ 64
+pub last_set : count_of (config.sets_with (some_zones 1 1) (some_sets 63 1) (codes "t" ∷ codes "z" ∷ codes "z" ∷ [])) ≡ 64
+unfolding config.sets_with
 last_set = refl
 
-pub named_too_many : config.set_added (sets_before 40 100) (codes "t" ∷ codes "z" ∷ []) ≡ Err Limit
+pub named_too_many : config.sets_with (some_zones 1 1) (some_sets 40 100) (codes "t" ∷ codes "z" ∷ []) ≡ Err Limit
+unfolding config.sets_with
 named_too_many = refl
 
-abbrev pub activations_before : ℕ → config.Draft
-activations_before count = record config.NOTHING { sets = record { name = codes "s"; places = 0 ∷ [] } ∷ []; activations = map (λ m. record { set = 0; moment = m }) (counting 0 count) }
+abbrev pub some_activations : ℕ → List Activation
+some_activations count = map (λ m. record { set = 0; moment = m }) (counting 0 count)
 
-pub activation_too_many : config.activation_added (activations_before 64) (codes "s" ∷ codes "64" ∷ []) ≡ Err Limit
+pub activation_too_many : config.activations_with (some_sets 1 1) (some_activations 64) (codes "s" ∷ codes "64" ∷ []) ≡ Err Limit
+unfolding config.activations_with
 activation_too_many = refl
 
-pub last_activation : activations_in (config.activation_added (activations_before 63) (codes "s" ∷ codes "63" ∷ [])) ≡ 64
+pub last_activation : count_of (config.activations_with (some_sets 1 1) (some_activations 63) (codes "s" ∷ codes "63" ∷ [])) ≡ 64
+unfolding config.activations_with
 last_activation = refl
 
 -- ---- counting
