@@ -1,10 +1,10 @@
 -- Each line leaves every value of a draft in its range.
-use Rattle.std.proofs.Common.{◌≡◌, ℕ, suc, ◌+◌, ◌<◌, ◌≤◌, List, [], ◌∷◌, ◌++◌, length, Bool, true, false, cond, not, eqb, ltb, leb, ◌&&◌, ◌||◌, Option, Some, None, Result, Ok, Err, refl, sym, ◌∙◌, ap, subst, arith, map}
+use Rattle.std.proofs.Common.{◌≡◌, ℕ, suc, ◌+◌, ◌<◌, ◌≤◌, List, [], ◌∷◌, ◌++◌, length, Bool, true, false, cond, not, eqb, ltb, leb, ◌&&◌, ◌||◌, Option, Some, None, Result, Ok, Err, refl, sym, ◌∙◌, ap, subst, arith}
 use Rattle.std.specs.Option.{option_map, option_and_then, is_some}
 use Rattle.std.specs.List.{list_any, list_all, sum_by}
 use Rattle.std.proofs.lemmas.List.{append_assoc, length_push, map_push}
 use Rattle.std.proofs.lemmas.List.Folds.{list_all-append, list_any-append}
-use Rattle.std.proofs.lemmas.Bool.{ltb-true, lt-ltb, leb-true, le-leb}
+use Rattle.std.proofs.lemmas.Bool.{ltb-true, lt-ltb, le-leb, ltb-false, and_parts, and_from, or_parts}
 use Rattle.fab_base.specs.Layout.{big_endian}
 use Rattle.fab_config.specs.Settings.{is_between, is_station, is_zone_name, same_bytes, all_differ, are_zones, are_sets, are_activations, do_rise}
 use Rattle.fab_config.specs.Lines.{is_skipped, is_ascii, words}
@@ -20,15 +20,9 @@ use Rattle.fab_config.specs.declared.ConfigWhy.TheVariants as why
 use Rattle.fab_config.specs.declared.draft.Draft.{Draft}
 use Rattle.fab_config.specs.declared.keyword.Keyword.{Keyword}
 use Rattle.fab_config.specs.declared.keyword.Keyword.TheVariants.{FcfMac, Vlan, Switch, FcMap, Domain, Pool, Priority, Period, Window, Logins, Zones, Sets, Activations}
+use Rattle.fab_config.proofs.ListLemmas.{eqb_comm, same_bytes_comm, any_map, all_more}
 
 -- ---- tests
-
-pub and_both : (a b : Bool) → (a && b) ≡ true → (a ≡ true) × (b ≡ true)
-and_both true b h = (refl, h)
-and_both false b h = absurd (cc)
-
-pub and_of : (a b : Bool) → a ≡ true → b ≡ true → (a && b) ≡ true
-and_of a b e f = ap (λ c. c && b) e ∙ f
 
 -- what is chosen by a test
 pub chosen : {X : Type 0} (test : X → Bool) (x : X) (t : Bool) → test x ≡ t → passes test (cond t (Some x) None) ≡ true
@@ -49,7 +43,7 @@ priority_passes ws = by (only (number_between 0 255) ws) (number_passes 0 255 ws
   where
     by : (o : Option ℕ) → passes (is_between 0 255) o ≡ true → passes (λ n. leb n 255) o ≡ true
     by None h = refl
-    by (Some n) h = (and_both (leb 0 n) (leb n 255) h).1
+    by (Some n) h = (and_parts (leb 0 n) (leb n 255) h).1
 
 pub station_passes : (ws : List (List ℕ)) → passes is_station (only station ws) ≡ true
 station_passes [] = refl
@@ -71,33 +65,20 @@ fc_map_passes (w ∷ x ∷ ws) = refl
 
 -- ---- what differs
 
-eqb_comm : (m n : ℕ) → eqb m n ≡ eqb n m
-eqb_comm m n = grind arith
-
 any_same : {X : Type 0} (f g : X → Bool) → ((x : X) → f x ≡ g x) → (xs : List X) → list_any f xs ≡ list_any g xs
 any_same f g e [] = refl
 any_same f g e (x ∷ xs) = ap (λ b. b || list_any f xs) (e x) ∙ ap (λ b. g x || b) (any_same f g e xs)
-
-same_bytes_comm : (xs ys : List ℕ) → same_bytes xs ys ≡ same_bytes ys xs
-same_bytes_comm [] [] = refl
-same_bytes_comm [] (y ∷ ys) = refl
-same_bytes_comm (x ∷ xs) [] = refl
-same_bytes_comm (x ∷ xs) (y ∷ ys) = ap (λ b. b && same_bytes xs ys) (eqb_comm x y) ∙ ap (λ b. eqb y x && b) (same_bytes_comm xs ys)
 
 -- a new name differs from the others
 differ_push : {X : Type 0} (same : X → X → Bool) (xs : List X) (x : X) → all_differ same xs ≡ true → list_any (λ y. same y x) xs ≡ false → all_differ same (xs ++ x ∷ []) ≡ true
 differ_push same [] x all none = refl
 differ_push {X} same (y ∷ xs) x all none =
-    let parts = and_both (not (list_any (same y) xs)) (all_differ same xs) all in
-    let split = or_none (same y x) (list_any (λ z. same z x) xs) none in
-    and_of (not (list_any (same y) (xs ++ x ∷ []))) (all_differ same (xs ++ x ∷ []))
+    let parts = and_parts (not (list_any (same y) xs)) (all_differ same xs) all in
+    let split = or_parts (same y x) (list_any (λ z. same z x) xs) none in
+    and_from (not (list_any (same y) (xs ++ x ∷ []))) (all_differ same (xs ++ x ∷ []))
     (ap not (list_any-append (same y) xs (x ∷ [])) ∙ new (list_any (same y) xs) (same y x) parts.0 split.0)
     (differ_push same xs x parts.1 split.1)
   where
-    or_none : (a b : Bool) → (a || b) ≡ false → (a ≡ false) × (b ≡ false)
-    or_none false b h = (refl, h)
-    or_none true b h = absurd (cc)
-
     new : (a b : Bool) → not a ≡ true → b ≡ false → not (a || (b || false)) ≡ true
     new false false h e = refl
     new false true h e = absurd (cc)
@@ -122,10 +103,6 @@ none_differs n x (y ∷ names) e = by (same_bytes x y) refl (none_differs (n + 1
         → is_some (cond t (Some n) (place_from (n + 1) x names)) ≡ false → (same_bytes x y || list_any (λ z. same_bytes x z) names) ≡ false
     by true f ih h = absurd (cc)
     by false f ih h = ap (λ b. b || list_any (λ z. same_bytes x z) names) f ∙ ih h
-
-any_map : {X Y : Type 0} (f : Y → Bool) (v : X → Y) (xs : List X) → list_any f (map v xs) ≡ list_any (λ x. f (v x)) xs
-any_map f v [] = refl
-any_map f v (x ∷ xs) = ap (λ b. f (v x) || b) (any_map f v xs)
 
 -- ---- lines with a name
 
@@ -166,22 +143,11 @@ listed_some says (w ∷ ws) l e = by (says w) (all_of says ws) e
     by (Some x) None f = absurd (cc)
     by (Some x) (Some xs) f = one x xs (let is : once (x ∷ xs) ≡ l = cc in is)
 
-le_of_not : (m n : ℕ) → ltb m n ≡ false → n ≤ m
-le_of_not m n e = by (leb n m) refl
-  where
-    by : (t : Bool) → leb n m ≡ t → n ≤ m
-    by true f = leb-true n m f
-    by false f = grind arith
-
-or_false : (a b : Bool) → (a || b) ≡ false → (a ≡ false) × (b ≡ false)
-or_false false b h = (refl, h)
-or_false true b h = absurd (cc)
-
 zone_test : Zone → Bool
 zone_test z = is_zone_name z.name && ltb 0 (length z.members) && all_differ (λ x y. eqb x y) z.members
 
 pub all_push : {X : Type 0} (p : X → Bool) (xs : List X) (x : X) → list_all p xs ≡ true → p x ≡ true → list_all p (xs ++ x ∷ []) ≡ true
-all_push p xs x all e = list_all-append p xs (x ∷ []) ∙ and_of (list_all p xs) (p x && true) all (and_of (p x) true e refl)
+all_push p xs x all e = list_all-append p xs (x ∷ []) ∙ and_from (list_all p xs) (p x && true) all (and_from (p x) true e refl)
 
 zones_pushed : (zones : List Zone) (z : Zone) → zone_test z ≡ true → list_any (λ (y : Zone). same_bytes y.name z.name) zones ≡ false → ltb 1000 (length (zones ++ z ∷ [])) ≡ false
     → ltb 20000 (sum_by (λ (x : Zone). length x.members) (zones ++ z ∷ [])) ≡ false → are_zones zones ≡ true → are_zones (zones ++ z ∷ []) ≡ true
@@ -190,17 +156,17 @@ zones_pushed zones z test new few some fit =
     let tests = list_all (λ (y : Zone). is_zone_name y.name && ltb 0 (length y.members) && all_differ (λ x y. eqb x y) y.members) zones in
     let names = all_differ (λ (x : Zone) (y : Zone). same_bytes x.name y.name) zones in
     let few_was = leb (length zones) 1000 in
-    let one = and_both (tests && names && few_was) (leb (sum_by (λ (x : Zone). length x.members) zones) 20000) fit in
-    let two = and_both (tests && names) few_was one.0 in
-    let three = and_both tests names two.0 in
+    let one = and_parts (tests && names && few_was) (leb (sum_by (λ (x : Zone). length x.members) zones) 20000) fit in
+    let two = and_parts (tests && names) few_was one.0 in
+    let three = and_parts tests names two.0 in
     let more = zones ++ z ∷ [] in
     let tests' = list_all (λ (y : Zone). is_zone_name y.name && ltb 0 (length y.members) && all_differ (λ x y. eqb x y) y.members) more in
     let names' = all_differ (λ (x : Zone) (y : Zone). same_bytes x.name y.name) more in
-    and_of (tests' && names' && leb (length more) 1000) (leb (sum_by (λ (x : Zone). length x.members) more) 20000)
-    (and_of (tests' && names') (leb (length more) 1000)
-    (and_of tests' names' (all_push (λ (y : Zone). is_zone_name y.name && ltb 0 (length y.members) && all_differ (λ x y. eqb x y) y.members) zones z three.0 test) (differ_push (λ (x : Zone) (y : Zone). same_bytes x.name y.name) zones z three.1 new))
-    (le-leb (length more) 1000 (le_of_not 1000 (length more) few)))
-    (le-leb (sum_by (λ (x : Zone). length x.members) more) 20000 (le_of_not 20000 (sum_by (λ (x : Zone). length x.members) more) some))
+    and_from (tests' && names' && leb (length more) 1000) (leb (sum_by (λ (x : Zone). length x.members) more) 20000)
+    (and_from (tests' && names') (leb (length more) 1000)
+    (and_from tests' names' (all_push (λ (y : Zone). is_zone_name y.name && ltb 0 (length y.members) && all_differ (λ x y. eqb x y) y.members) zones z three.0 test) (differ_push (λ (x : Zone) (y : Zone). same_bytes x.name y.name) zones z three.1 new))
+    (le-leb (length more) 1000 (ltb-false 1000 (length more) few)))
+    (le-leb (sum_by (λ (x : Zone). length x.members) more) 20000 (ltb-false 20000 (sum_by (λ (x : Zone). length x.members) more) some))
 
 -- a name that has no place differs from each zone's
 zone_differs : (zones : List Zone) (n : List ℕ) → is_some (place n (zone_names zones)) ≡ false → list_any (λ (y : Zone). same_bytes y.name n) zones ≡ false
@@ -225,7 +191,7 @@ zones_fit_after zones more ws e fit =
     let z : Zone = record { name = p.n; members = p.list } in
     let l = listed_some name p.ws p.list p.says_list in
     zones_grown_fit zones more z (ltb 1000 (length (zones ++ z ∷ []))) (ltb 20000 (sum_by (λ (x : Zone). length x.members) (zones ++ z ∷ []))) refl refl
-    (and_of (is_zone_name p.n && ltb 0 (length p.list)) (all_differ (λ x y. eqb x y) p.list) (and_of (is_zone_name p.n) (ltb 0 (length p.list)) p.is_name (lt-ltb 0 (length p.list) l.0)) l.1)
+    (and_from (is_zone_name p.n && ltb 0 (length p.list)) (all_differ (λ x y. eqb x y) p.list) (and_from (is_zone_name p.n) (ltb 0 (length p.list)) p.is_name (lt-ltb 0 (length p.list) l.0)) l.1)
     (zone_differs zones p.n p.new) fit p.is
 
 -- ---- zone sets
@@ -250,15 +216,15 @@ all_below says n below (w ∷ ws) l e = by (says w) (all_of says ws) refl (all_b
         → option_and_then (λ (x : ℕ). option_map (λ (xs : List ℕ). x ∷ xs) p) o ≡ Some l → list_all (λ p. ltb p n) l ≡ true
     by None p f ih h = absurd (cc)
     by (Some x) None f ih h = absurd (cc)
-    by (Some x) (Some xs) f ih h = let is : x ∷ xs ≡ l = cc in ap (list_all (λ p. ltb p n)) (sym is) ∙ and_of (ltb x n) (list_all (λ p. ltb p n) xs) (lt-ltb x n (below w x f)) (ih xs refl)
+    by (Some x) (Some xs) f ih h = let is : x ∷ xs ≡ l = cc in ap (list_all (λ p. ltb p n)) (sym is) ∙ and_from (ltb x n) (list_all (λ p. ltb p n) xs) (lt-ltb x n (below w x f)) (ih xs refl)
 
 once_all : (test : ℕ → Bool) (acc xs : List ℕ) → list_all test xs ≡ true → list_all test (once_from acc xs) ≡ true
 once_all test acc [] h = refl
-once_all test acc (x ∷ xs) h = by (list_any (λ y. eqb x y) acc) (and_both (test x) (list_all test xs) h).0 (once_all test acc xs (and_both (test x) (list_all test xs) h).1) (once_all test (acc ++ x ∷ []) xs (and_both (test x) (list_all test xs) h).1)
+once_all test acc (x ∷ xs) h = by (list_any (λ y. eqb x y) acc) (and_parts (test x) (list_all test xs) h).0 (once_all test acc xs (and_parts (test x) (list_all test xs) h).1) (once_all test (acc ++ x ∷ []) xs (and_parts (test x) (list_all test xs) h).1)
   where
     by : (t : Bool) → test x ≡ true → list_all test (once_from acc xs) ≡ true → list_all test (once_from (acc ++ x ∷ []) xs) ≡ true → list_all test (cond t (once_from acc xs) (x ∷ once_from (acc ++ x ∷ []) xs)) ≡ true
     by true e old new = old
-    by false e old new = and_of (test x) (list_all test (once_from (acc ++ x ∷ []) xs)) e new
+    by false e old new = and_from (test x) (list_all test (once_from (acc ++ x ∷ []) xs)) e new
 
 pub listed_below : (says : List ℕ → Option ℕ) (n : ℕ) → ((w : List ℕ) (p : ℕ) → says w ≡ Some p → p < n) → (ws : List (List ℕ)) (l : List ℕ) → listed says ws ≡ Some l → list_all (λ p. ltb p n) l ≡ true
 listed_below says n below [] l e = absurd (cc)
@@ -275,15 +241,15 @@ sets_pushed n sets s test new few some fit =
     let check : ZoneSet → Bool = λ (y : ZoneSet). is_zone_name y.name && ltb 0 (length y.places) && list_all (λ p. ltb p n) y.places && all_differ (λ x y. eqb x y) y.places in
     let same : ZoneSet → ZoneSet → Bool = λ (x : ZoneSet) (y : ZoneSet). same_bytes x.name y.name in
     let total : List ZoneSet → ℕ = sum_by (λ (x : ZoneSet). length x.places) in
-    let one = and_both (list_all check sets && all_differ same sets && leb (length sets) 64) (leb (total sets) 4000) fit in
-    let two = and_both (list_all check sets && all_differ same sets) (leb (length sets) 64) one.0 in
-    let three = and_both (list_all check sets) (all_differ same sets) two.0 in
+    let one = and_parts (list_all check sets && all_differ same sets && leb (length sets) 64) (leb (total sets) 4000) fit in
+    let two = and_parts (list_all check sets && all_differ same sets) (leb (length sets) 64) one.0 in
+    let three = and_parts (list_all check sets) (all_differ same sets) two.0 in
     let more = sets ++ s ∷ [] in
-    and_of (list_all check more && all_differ same more && leb (length more) 64) (leb (total more) 4000)
-    (and_of (list_all check more && all_differ same more) (leb (length more) 64)
-    (and_of (list_all check more) (all_differ same more) (all_push check sets s three.0 test) (differ_push same sets s three.1 new))
-    (le-leb (length more) 64 (le_of_not 64 (length more) few)))
-    (le-leb (total more) 4000 (le_of_not 4000 (total more) some))
+    and_from (list_all check more && all_differ same more && leb (length more) 64) (leb (total more) 4000)
+    (and_from (list_all check more && all_differ same more) (leb (length more) 64)
+    (and_from (list_all check more) (all_differ same more) (all_push check sets s three.0 test) (differ_push same sets s three.1 new))
+    (le-leb (length more) 64 (ltb-false 64 (length more) few)))
+    (le-leb (total more) 4000 (ltb-false 4000 (total more) some))
 
 sets_grown_fit : (n : ℕ) (sets more : List ZoneSet) (z : ZoneSet) (s t : Bool) → ltb 64 (length (sets ++ z ∷ [])) ≡ s → ltb 4000 (sum_by (λ (x : ZoneSet). length x.places) (sets ++ z ∷ [])) ≡ t
     → set_test n z ≡ true → list_any (λ (y : ZoneSet). same_bytes y.name z.name) sets ≡ false → are_sets n sets ≡ true
@@ -303,15 +269,11 @@ sets_fit_after zones sets more ws e fit =
     let l = listed_some (zone_place zones) p.ws p.list p.says_list in
     let below = listed_below (zone_place zones) n (λ w q f. let g = place_below 0 w (zone_names zones) q f in let h = Rattle.std.proofs.lemmas.List.length-map zones (λ (y : Zone). y.name) in omega (arith, g, h)) p.ws p.list p.says_list in
     sets_grown_fit n sets more z (ltb 64 (length (sets ++ z ∷ []))) (ltb 4000 (sum_by (λ (x : ZoneSet). length x.places) (sets ++ z ∷ []))) refl refl
-    (and_of (is_zone_name p.n && ltb 0 (length p.list) && list_all (λ p. ltb p n) p.list) (all_differ (λ x y. eqb x y) p.list)
-    (and_of (is_zone_name p.n && ltb 0 (length p.list)) (list_all (λ p. ltb p n) p.list) (and_of (is_zone_name p.n) (ltb 0 (length p.list)) p.is_name (lt-ltb 0 (length p.list) l.0)) below) l.1)
+    (and_from (is_zone_name p.n && ltb 0 (length p.list) && list_all (λ p. ltb p n) p.list) (all_differ (λ x y. eqb x y) p.list)
+    (and_from (is_zone_name p.n && ltb 0 (length p.list)) (list_all (λ p. ltb p n) p.list) (and_from (is_zone_name p.n) (ltb 0 (length p.list)) p.is_name (lt-ltb 0 (length p.list) l.0)) below) l.1)
     (set_differs sets p.n p.new) fit p.is
 
 -- ---- more zones and more sets
-
-all_more : {X : Type 0} (p q : X → Bool) → ((x : X) → p x ≡ true → q x ≡ true) → (xs : List X) → list_all p xs ≡ true → list_all q xs ≡ true
-all_more p q more [] h = refl
-all_more p q more (x ∷ xs) h = let both = and_both (p x) (list_all p xs) h in and_of (q x) (list_all q xs) (more x both.0) (all_more p q more xs both.1)
 
 lt_more : (m n p : ℕ) → m ≤ n → ltb p m ≡ true → ltb p n ≡ true
 lt_more m n p le e = lt-ltb p n (let h : p < m = ltb-true p m e in omega (arith, h))
@@ -321,25 +283,25 @@ sets_more m n sets le fit =
     let check : ℕ → ZoneSet → Bool = λ (k : ℕ) (y : ZoneSet). is_zone_name y.name && ltb 0 (length y.places) && list_all (λ p. ltb p k) y.places && all_differ (λ x y. eqb x y) y.places in
     let same : ZoneSet → ZoneSet → Bool = λ (x : ZoneSet) (y : ZoneSet). same_bytes x.name y.name in
     let total : List ZoneSet → ℕ = sum_by (λ (x : ZoneSet). length x.places) in
-    let one = and_both (list_all (check m) sets && all_differ same sets && leb (length sets) 64) (leb (total sets) 4000) fit in
-    let two = and_both (list_all (check m) sets && all_differ same sets) (leb (length sets) 64) one.0 in
-    let three = and_both (list_all (check m) sets) (all_differ same sets) two.0 in
-    and_of (list_all (check n) sets && all_differ same sets && leb (length sets) 64) (leb (total sets) 4000)
-    (and_of (list_all (check n) sets && all_differ same sets) (leb (length sets) 64)
-    (and_of (list_all (check n) sets) (all_differ same sets) (all_more (check m) (check n) (λ s h.
-    let a = and_both (is_zone_name s.name && ltb 0 (length s.places) && list_all (λ p. ltb p m) s.places) (all_differ (λ x y. eqb x y) s.places) h in
-    let b = and_both (is_zone_name s.name && ltb 0 (length s.places)) (list_all (λ p. ltb p m) s.places) a.0 in
-    and_of (is_zone_name s.name && ltb 0 (length s.places) && list_all (λ p. ltb p n) s.places) (all_differ (λ x y. eqb x y) s.places)
-    (and_of (is_zone_name s.name && ltb 0 (length s.places)) (list_all (λ p. ltb p n) s.places) b.0 (all_more (λ p. ltb p m) (λ p. ltb p n) (λ p. lt_more m n p le) s.places b.1)) a.1) sets three.0) three.1)
+    let one = and_parts (list_all (check m) sets && all_differ same sets && leb (length sets) 64) (leb (total sets) 4000) fit in
+    let two = and_parts (list_all (check m) sets && all_differ same sets) (leb (length sets) 64) one.0 in
+    let three = and_parts (list_all (check m) sets) (all_differ same sets) two.0 in
+    and_from (list_all (check n) sets && all_differ same sets && leb (length sets) 64) (leb (total sets) 4000)
+    (and_from (list_all (check n) sets && all_differ same sets) (leb (length sets) 64)
+    (and_from (list_all (check n) sets) (all_differ same sets) (all_more (check m) (check n) (λ s h.
+    let a = and_parts (is_zone_name s.name && ltb 0 (length s.places) && list_all (λ p. ltb p m) s.places) (all_differ (λ x y. eqb x y) s.places) h in
+    let b = and_parts (is_zone_name s.name && ltb 0 (length s.places)) (list_all (λ p. ltb p m) s.places) a.0 in
+    and_from (is_zone_name s.name && ltb 0 (length s.places) && list_all (λ p. ltb p n) s.places) (all_differ (λ x y. eqb x y) s.places)
+    (and_from (is_zone_name s.name && ltb 0 (length s.places)) (list_all (λ p. ltb p n) s.places) b.0 (all_more (λ p. ltb p m) (λ p. ltb p n) (λ p. lt_more m n p le) s.places b.1)) a.1) sets three.0) three.1)
     two.1) one.1
 
 activations_more : (m n : ℕ) (l : List Activation) → m ≤ n → are_activations m l ≡ true → are_activations n l ≡ true
 activations_more m n l le fit =
     let check : ℕ → Activation → Bool = λ (k : ℕ) (a : Activation). ltb a.set k && leb a.moment 4294967295999 in
-    let one = and_both (list_all (check m) l && do_rise l) (leb (length l) 64) fit in
-    let two = and_both (list_all (check m) l) (do_rise l) one.0 in
-    and_of (list_all (check n) l && do_rise l) (leb (length l) 64)
-    (and_of (list_all (check n) l) (do_rise l) (all_more (check m) (check n) (λ a h. let both = and_both (ltb a.set m) (leb a.moment 4294967295999) h in and_of (ltb a.set n) (leb a.moment 4294967295999) (lt_more m n a.set le both.0) both.1) l two.0) two.1)
+    let one = and_parts (list_all (check m) l && do_rise l) (leb (length l) 64) fit in
+    let two = and_parts (list_all (check m) l) (do_rise l) one.0 in
+    and_from (list_all (check n) l && do_rise l) (leb (length l) 64)
+    (and_from (list_all (check n) l) (do_rise l) (all_more (check m) (check n) (λ a h. let both = and_parts (ltb a.set m) (leb a.moment 4294967295999) h in and_from (ltb a.set n) (leb a.moment 4294967295999) (lt_more m n a.set le both.0) both.1) l two.0) two.1)
     one.1
 
 -- ---- activations
@@ -348,8 +310,8 @@ rise_push : (l : List Activation) (a : Activation) → do_rise l ≡ true → is
 rise_push [] a rise later = refl
 rise_push (x ∷ []) a rise later = later
 rise_push (x ∷ y ∷ l) a rise later =
-    let both = and_both (ltb x.moment y.moment) (do_rise (y ∷ l)) rise in
-    and_of (ltb x.moment y.moment) (do_rise ((y ∷ l) ++ a ∷ [])) both.0 (rise_push (y ∷ l) a both.1 (and_both (ltb x.moment a.moment) (is_later (y ∷ l) a.moment) later).1)
+    let both = and_parts (ltb x.moment y.moment) (do_rise (y ∷ l)) rise in
+    and_from (ltb x.moment y.moment) (do_rise ((y ∷ l) ++ a ∷ [])) both.0 (rise_push (y ∷ l) a both.1 (and_parts (ltb x.moment a.moment) (is_later (y ∷ l) a.moment) later).1)
 
 pub record IsNext (n : ℕ) (l : List Activation) (a : Activation) : Type 0 where
   pub set : ltb a.set n ≡ true
@@ -375,7 +337,7 @@ next_of sets l (w ∷ v ∷ []) a e = by (place w (set_names sets)) (number v) r
 
     between : (p m : ℕ) (t : Bool) → ltb p (length sets) ≡ true → is_between 0 4294967295999 m ≡ t → activated l p (cond t (Some m) None) ≡ Some a → IsNext (length sets) l a
     between p m false b c h = absurd (cc)
-    between p m true b c h = last p m (is_later l m) b (and_both (leb 0 m) (leb m 4294967295999) c).1 refl h
+    between p m true b c h = last p m (is_later l m) b (and_parts (leb 0 m) (leb m 4294967295999) c).1 refl h
 
     by : (o : Option ℕ) (q : Option ℕ) → place w (set_names sets) ≡ o
         → option_and_then (λ (p : ℕ). activated l p (option_and_then (λ (n : ℕ). cond (is_between 0 4294967295999 n) (Some n) None) q)) o ≡ Some a → IsNext (length sets) l a
@@ -392,13 +354,13 @@ activations_fit_after sets l more ws e fit = by (activation sets l ws) refl e
     put a false next f h =
         let is : l ++ a ∷ [] ≡ more = cc in
         let check : Activation → Bool = λ (a : Activation). ltb a.set (length sets) && leb a.moment 4294967295999 in
-        let one = and_both (list_all check l && do_rise l) (leb (length l) 64) fit in
-        let two = and_both (list_all check l) (do_rise l) one.0 in
+        let one = and_parts (list_all check l && do_rise l) (leb (length l) 64) fit in
+        let two = and_parts (list_all check l) (do_rise l) one.0 in
         let long = l ++ a ∷ [] in
         ap (are_activations (length sets)) (sym is)
-        ∙ and_of (list_all check long && do_rise long) (leb (length long) 64)
-        (and_of (list_all check long) (do_rise long) (all_push check l a two.0 (and_of (ltb a.set (length sets)) (leb a.moment 4294967295999) next.set next.moment)) (rise_push l a two.1 next.later))
-        (le-leb (length long) 64 (let g = le_of_not 64 (length l + 1) f in let k = length_push l a in omega (arith, g, k)))
+        ∙ and_from (list_all check long && do_rise long) (leb (length long) 64)
+        (and_from (list_all check long) (do_rise long) (all_push check l a two.0 (and_from (ltb a.set (length sets)) (leb a.moment 4294967295999) next.set next.moment)) (rise_push l a two.1 next.later))
+        (le-leb (length long) 64 (let g = ltb-false 64 (length l + 1) f in let k = length_push l a in omega (arith, g, k)))
 
     by : (o : Option Activation) → activation sets l ws ≡ o → activation_put l o ≡ Ok more → are_activations (length sets) more ≡ true
     by None f h = absurd (cc)

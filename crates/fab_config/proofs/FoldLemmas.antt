@@ -15,6 +15,8 @@ use Rattle.fab_config.specs.declared.draft.Draft.{Draft}
 use Rattle.fab_config.specs.declared.keyword.Keyword.{Keyword}
 use Rattle.fab_config.proofs.BackLemmas.{is_word, are_words, words_back, line_ascii, lines_line}
 use Rattle.fab_config.proofs.ReadLemmas.{lines_ok}
+use Rattle.std.proofs.lemmas.Bool.{and_parts, and_from, or_parts}
+use Rattle.fab_config.proofs.ListLemmas.{eqb_comm}
 
 -- a line of a key with its words is read by its key
 pub key_line : (d next : Draft) (key : List ℕ) (values : List (List ℕ)) (k : Keyword) → is_word key ≡ true → 1 ≤ length key → is_skipped (key ++ flat_map spaced values) ≡ false
@@ -36,27 +38,12 @@ line_step n d next key values k rest word some open_line is w e =
 
 -- ---- names
 
-and_both : (a b : Bool) → (a && b) ≡ true → (a ≡ true) × (b ≡ true)
-and_both true b h = (refl, h)
-and_both false b h = absurd (cc)
-
-and_of : (a b : Bool) → a ≡ true → b ≡ true → (a && b) ≡ true
-and_of a b e f = ap (λ c. c && b) e ∙ f
-
-same_self : (x : List ℕ) → same_bytes x x ≡ true
-same_self [] = refl
-same_self (b ∷ x) = and_of (eqb b b) (same_bytes x x) (grind arith) (same_self x)
-
 -- a name that differs from those before has no place among them
 pub place_past : (k : ℕ) (x : List ℕ) (names more : List (List ℕ)) → list_any (λ y. same_bytes x y) names ≡ false → place_from k x (names ++ more) ≡ place_from (k + length names) x more
 place_past k x [] more h = ap (λ (n : ℕ). place_from n x more) (let e : k ≡ k + 0 = omega arith in e)
 place_past k x (y ∷ names) more h =
-    let both = or_none (same_bytes x y) (list_any (λ z. same_bytes x z) names) h in
+    let both = or_parts (same_bytes x y) (list_any (λ z. same_bytes x z) names) h in
     ap (λ t. cond t (Some k) (place_from (k + 1) x (names ++ more))) both.0 ∙ place_past (k + 1) x names more both.1 ∙ ap (λ (n : ℕ). place_from n x more) (let e : k + 1 + length names ≡ k + suc (length names) = omega arith in e)
-  where
-    or_none : (a b : Bool) → (a || b) ≡ false → (a ≡ false) × (b ≡ false)
-    or_none false b h = (refl, h)
-    or_none true b h = absurd (cc)
 
 -- what differs from each that stands behind it
 module _ {X : Type 0} (same : X → X → Bool) (comm : (x y : X) → same x y ≡ same y x) where
@@ -75,11 +62,8 @@ module _ {X : Type 0} (same : X → X → Bool) (comm : (x y : X) → same x y �
   pub differs_before : (x : X) (l xs : List X) → all_differ same (l ++ x ∷ xs) ≡ true → list_any (λ y. same x y) l ≡ false
   differs_before x [] xs h = refl
   differs_before x (y ∷ l) xs h =
-      let both = and_both (not (list_any (same y) (l ++ x ∷ xs))) (all_differ same (l ++ x ∷ xs)) h in
+      let both = and_parts (not (list_any (same y) (l ++ x ∷ xs))) (all_differ same (l ++ x ∷ xs)) h in
       ap (λ t. t || list_any (λ z. same x z) l) (comm x y ∙ apart (same y) x l xs both.0) ∙ differs_before x l xs both.1
-
-eqb_comm : (m n : ℕ) → eqb m n ≡ eqb n m
-eqb_comm m n = grind arith
 
 -- numbers that differ each count once
 once_same : (acc xs : List ℕ) → all_differ (λ x y. eqb x y) (acc ++ xs) ≡ true → once_from acc xs ≡ xs
@@ -96,10 +80,10 @@ listed_back says word (x ∷ l) some all differ = ap (λ (o : Option (List ℕ))
 pub all_of_back : (says : List ℕ → Option ℕ) (word : ℕ → List ℕ) (test : ℕ → Bool) → ((x : ℕ) → test x ≡ true → says (word x) ≡ Some x) → (l : List ℕ) → list_all test l ≡ true → all_of says (map word l) ≡ Some l
 all_of_back says word test back [] h = refl
 all_of_back says word test back (x ∷ l) h =
-    let both = and_both (test x) (list_all test l) h in
+    let both = and_parts (test x) (list_all test l) h in
     ap (λ (o : Option ℕ). option_and_then (λ (y : ℕ). option_map (λ (ys : List ℕ). y ∷ ys) (all_of says (map word l))) o) (back x both.0)
     ∙ ap (λ (o : Option (List ℕ)). option_map (λ (ys : List ℕ). x ∷ ys) o) (all_of_back says word test back l both.1)
 
 pub words_of : (word : ℕ → List ℕ) (test : ℕ → Bool) → ((x : ℕ) → test x ≡ true → (is_word (word x) && leb 1 (length (word x))) ≡ true) → (l : List ℕ) → list_all test l ≡ true → are_words (map word l) ≡ true
 words_of word test ok [] h = refl
-words_of word test ok (x ∷ l) h = let both = and_both (test x) (list_all test l) h in and_of (is_word (word x) && leb 1 (length (word x))) (are_words (map word l)) (ok x both.0) (words_of word test ok l both.1)
+words_of word test ok (x ∷ l) h = let both = and_parts (test x) (list_all test l) h in and_from (is_word (word x) && leb 1 (length (word x))) (are_words (map word l)) (ok x both.0) (words_of word test ok l both.1)

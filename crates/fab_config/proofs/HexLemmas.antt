@@ -3,7 +3,7 @@ use Rattle.std.proofs.Common.{◌≡◌, ℕ, suc, ◌+◌, ◌-◌, ◌*◌, �
 use Rattle.std.specs.Option.{option_map, option_and_then}
 use Rattle.std.specs.Result.{IsErr, MatchResult}
 use Rattle.std.proofs.lemmas.List.{drop_more, take_more_set, append_assoc}
-use Rattle.std.proofs.lemmas.Bool.{eqb-true}
+use Rattle.std.proofs.lemmas.Bool.{eqb-true, eq-eqb}
 use Rattle.hex.specs.Hex.{decode_sized, decode_pairs, digit_or_error, hex_digit_value, ◌>>=◌}
 use Rattle.hex.specs.declared.error.FromHexError.{FromHexError}
 use Rattle.std.specs.Int.{from_be_bytes}
@@ -144,13 +144,7 @@ pub none_of : (w : List ℕ) (count : ℕ) → octets w ≡ None → octets_of c
 none_of w count e = ap (λ (o : Option (List ℕ)). option_and_then (λ (l : List ℕ). cond (eqb (length l) count) (Some l) None) o) e
 
 pub some_of : (w l : List ℕ) (count : ℕ) → octets w ≡ Some l → length l ≡ count → octets_of count w ≡ Some l
-some_of w l count e is = ap (λ (o : Option (List ℕ)). option_and_then (λ (l : List ℕ). cond (eqb (length l) count) (Some l) None) o) e ∙ ap (λ t. cond t (Some l) None) (yes (length l) is)
-  where
-    same : (n : ℕ) → eqb n n ≡ true
-    same n = grind arith
-
-    yes : (n : ℕ) → n ≡ count → eqb n count ≡ true
-    yes n f = ap (λ (m : ℕ). eqb m count) f ∙ same count
+some_of w l count e is = ap (λ (o : Option (List ℕ)). option_and_then (λ (l : List ℕ). cond (eqb (length l) count) (Some l) None) o) e ∙ ap (λ t. cond t (Some l) None) (eq-eqb (length l) count is)
 
 -- ---- the numbers that bytes spell
 

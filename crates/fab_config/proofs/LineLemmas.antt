@@ -1,29 +1,15 @@
 -- Lines and words where a text is cut.
-use Rattle.std.proofs.Common.{◌≡◌, ◌≢◌, ℕ, zero, suc, ◌+◌, ◌-◌, ◌<◌, List, [], ◌∷◌, length, take, drop, get_or, Bool, true, false, cond, eqb, ltb, ◌&&◌, map, refl, sym, ◌∙◌, ap, arith, true≢false}
-use Rattle.std.proofs.lemmas.Bool.{eqb-true, ltb-true, lt-ltb}
+use Rattle.std.proofs.Common.{◌≡◌, ℕ, zero, suc, ◌+◌, ◌-◌, ◌<◌, List, [], ◌∷◌, length, take, drop, get_or, Bool, true, false, cond, eqb, ltb, map, refl, sym, ◌∙◌, ap, arith, true≢false}
+use Rattle.std.proofs.lemmas.Bool.{eqb-true, ltb-true, lt-ltb, and_parts, and_from, ne_eqb}
 use Rattle.fab_config.specs.Lines.{pieces, with_byte, without_empty_end, without_return, ends_in_return, lines_of}
 
-and_both : (a b : Bool) → (a && b) ≡ true → (a ≡ true) × (b ≡ true)
-and_both true b h = (refl, h)
-and_both false b h = absurd (cc)
-
-and_of : (a b : Bool) → a ≡ true → b ≡ true → (a && b) ≡ true
-and_of a b e f = ap (λ c. c && b) e ∙ f
-
 -- ---- lines
-
-eqb_no : (b c : ℕ) → b ≢ c → eqb b c ≡ false
-eqb_no b c ne = by (eqb b c) refl
-  where
-    by : (t : Bool) → eqb b c ≡ t → t ≡ false
-    by true e = absurd (ne (eqb-true b c e))
-    by false e = refl
 
 -- a text without line feeds is one piece
 pub pieces_whole : (l : List ℕ) → ((k : ℕ) → k < length l → get_or l k 0 ≡ 10 → ⊥) → pieces l ≡ l ∷ []
 pieces_whole [] none = refl
 pieces_whole (b ∷ l) none =
-    ap (λ t. elim t as (λ _. List (List ℕ)) [ true ↦ [] ∷ pieces l | false ↦ with_byte b (pieces l) ]) (eqb_no b 10 (none 0 (omega arith)))
+    ap (λ t. elim t as (λ _. List (List ℕ)) [ true ↦ [] ∷ pieces l | false ↦ with_byte b (pieces l) ]) (ne_eqb b 10 (none 0 (omega arith)))
     ∙ ap (with_byte b) (pieces_whole l (λ k lt. none (suc k) (omega arith)))
 
 -- a text is cut at its first line feed
@@ -31,12 +17,12 @@ pub pieces_cut : (l : List ℕ) (i : ℕ) → ((k : ℕ) → k < i → get_or l 
 pieces_cut [] i none lt is = absurd (omega arith)
 pieces_cut (b ∷ l) zero none lt is = ap (λ t. elim t as (λ _. List (List ℕ)) [ true ↦ [] ∷ pieces l | false ↦ with_byte b (pieces l) ]) (ap (λ (n : ℕ). eqb n 10) is)
 pieces_cut (b ∷ l) (suc i) none lt is =
-    ap (λ t. elim t as (λ _. List (List ℕ)) [ true ↦ [] ∷ pieces l | false ↦ with_byte b (pieces l) ]) (eqb_no b 10 (none 0 (omega arith)))
+    ap (λ t. elim t as (λ _. List (List ℕ)) [ true ↦ [] ∷ pieces l | false ↦ with_byte b (pieces l) ]) (ne_eqb b 10 (none 0 (omega arith)))
     ∙ ap (with_byte b) (pieces_cut l i (λ k lt. none (suc k) (omega arith)) (omega arith) is)
     ∙ ap (λ (n : ℕ). (b ∷ take i l) ∷ pieces (drop n (b ∷ l))) (let e : suc (i + 1) ≡ suc i + 1 = omega arith in e)
 
 -- there is a piece at least
-some_piece : (l : List ℕ) → 0 < length (pieces l)
+pub some_piece : (l : List ℕ) → 0 < length (pieces l)
 some_piece [] = omega arith
 some_piece (b ∷ l) = by (eqb b 10) refl
   where
@@ -48,7 +34,8 @@ some_piece (b ∷ l) = by (eqb b 10) refl
     by true e = omega arith
     by false e = longer (pieces l)
 
-end_kept : (p : List ℕ) (ps : List (List ℕ)) → 0 < length ps → without_empty_end (p ∷ ps) ≡ p ∷ without_empty_end ps
+-- a piece before others is kept
+pub end_kept : (p : List ℕ) (ps : List (List ℕ)) → 0 < length ps → without_empty_end (p ∷ ps) ≡ p ∷ without_empty_end ps
 end_kept [] [] some = absurd (omega arith)
 end_kept [] (q ∷ ps) some = refl
 end_kept (b ∷ p) ps some = refl
@@ -73,16 +60,16 @@ return_yes (b ∷ c ∷ l) (suc n) e is = ap (λ m. b ∷ m) (return_yes (c ∷ 
 
 return_no : (l : List ℕ) (n : ℕ) → length l ≡ suc n → (get_or l n 0 ≡ 13 → ⊥) → without_return l ≡ l
 return_no [] n e is = refl
-return_no (b ∷ []) zero e is = ap (λ t. cond t [] (b ∷ [])) (eqb_no b 13 is)
+return_no (b ∷ []) zero e is = ap (λ t. cond t [] (b ∷ [])) (ne_eqb b 13 is)
 return_no (b ∷ []) (suc n) e is = absurd (omega arith)
 return_no (b ∷ c ∷ l) zero e is = absurd (omega arith)
 return_no (b ∷ c ∷ l) (suc n) e is = ap (λ m. b ∷ m) (return_no (c ∷ l) n (omega arith) is)
 
 pub without_return_yes : (l : List ℕ) → ends_in_return l ≡ true → without_return l ≡ take (length l - 1) l
 without_return_yes l e =
-    let both = and_both (ltb 0 (length l)) (eqb (get_or l (length l - 1) 0) 13) e in
+    let both = and_parts (ltb 0 (length l)) (eqb (get_or l (length l - 1) 0) 13) e in
     return_yes l (length l - 1) (let h : 0 < length l = ltb-true 0 (length l) both.0 in omega (arith, h)) (eqb-true (get_or l (length l - 1) 0) 13 both.1)
 
 pub without_return_no : (l : List ℕ) → ends_in_return l ≡ false → without_return l ≡ l
 without_return_no [] e = refl
-without_return_no (b ∷ l) e = return_no (b ∷ l) (length l) refl (λ is. true≢false (sym (and_of (ltb 0 (length (b ∷ l))) (eqb (get_or (b ∷ l) (length (b ∷ l) - 1) 0) 13) (lt-ltb 0 (suc (length l)) (omega arith)) (ap (λ (n : ℕ). eqb (get_or (b ∷ l) n 0) 13) (let m : suc (length l) - 1 ≡ length l = omega arith in m) ∙ ap (λ (n : ℕ). eqb n 13) is)) ∙ e))
+without_return_no (b ∷ l) e = return_no (b ∷ l) (length l) refl (λ is. true≢false (sym (and_from (ltb 0 (length (b ∷ l))) (eqb (get_or (b ∷ l) (length (b ∷ l) - 1) 0) 13) (lt-ltb 0 (suc (length l)) (omega arith)) (ap (λ (n : ℕ). eqb (get_or (b ∷ l) n 0) 13) (let m : suc (length l) - 1 ≡ length l = omega arith in m) ∙ ap (λ (n : ℕ). eqb n 13) is)) ∙ e))

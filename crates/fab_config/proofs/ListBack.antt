@@ -6,7 +6,7 @@ use Rattle.std.specs.Fmt.{decimal}
 use Rattle.std.proofs.lemmas.List.{append_assoc, append-nil, length-append, length-map}
 use Rattle.std.proofs.lemmas.List.Sums.{sum_by-append}
 use Rattle.std.proofs.lemmas.List.Folds.{list_all-append}
-use Rattle.std.proofs.lemmas.Bool.{leb-true, le-leb, ltb-true, lt-ltb}
+use Rattle.std.proofs.lemmas.Bool.{leb-true, le-leb, ltb-true, lt-ltb, le-ltb, and_parts, and_from, or_from}
 use Rattle.fab_config.specs.Settings.{is_between, same_bytes, all_differ, is_zone_name, is_name_sign, is_letter, are_zones, are_sets, are_activations, do_rise}
 use Rattle.fab_config.specs.Lines.{lines_of}
 use Rattle.fab_config.specs.Names.{place, place_from, zone_names, set_names}
@@ -26,26 +26,7 @@ use Rattle.fab_config.proofs.FoldLemmas.{line_step, place_past, differs_before, 
 use Rattle.fab_config.proofs.NamedLemmas.{with_list}
 use Rattle.fab_base.specs.Layout.{spelled}
 use Rattle.fab_base.proofs.LayoutLemmas.{length-spelled}
-
-and_both : (a b : Bool) → (a && b) ≡ true → (a ≡ true) × (b ≡ true)
-and_both true b h = (refl, h)
-and_both false b h = absurd (cc)
-
-and_of : (a b : Bool) → a ≡ true → b ≡ true → (a && b) ≡ true
-and_of a b e f = ap (λ c. c && b) e ∙ f
-
-same_bytes_comm : (xs ys : List ℕ) → same_bytes xs ys ≡ same_bytes ys xs
-same_bytes_comm [] [] = refl
-same_bytes_comm [] (y ∷ ys) = refl
-same_bytes_comm (x ∷ xs) [] = refl
-same_bytes_comm (x ∷ xs) (y ∷ ys) = ap (λ b. b && same_bytes xs ys) (comm x y) ∙ ap (λ b. eqb y x && b) (same_bytes_comm xs ys)
-  where
-    comm : (m n : ℕ) → eqb m n ≡ eqb n m
-    comm m n = grind arith
-
-any_map : {X Y : Type 0} (f : Y → Bool) (v : X → Y) (xs : List X) → list_any f (map v xs) ≡ list_any (λ x. f (v x)) xs
-any_map f v [] = refl
-any_map f v (x ∷ xs) = ap (λ b. f (v x) || b) (any_map f v xs)
+use Rattle.fab_config.proofs.ListLemmas.{same_self, same_bytes_comm, any_map}
 
 -- ---- names
 
@@ -54,10 +35,10 @@ letter_sign b h = by (is_between 0x41 0x5a b) refl h
   where
     within : (least most : ℕ) → 33 ≤ least → most ≤ 126 → is_between least most b ≡ true → is_sign b ≡ true
     within least most low high k =
-        let both = and_both (leb least b) (leb b most) k in
+        let both = and_parts (leb least b) (leb b most) k in
         let a : least ≤ b = leb-true least b both.0 in
         let c : b ≤ most = leb-true b most both.1 in
-        and_of (leb 33 b) (leb b 126) (le-leb 33 b (omega (arith, a, low))) (le-leb b 126 (omega (arith, c, high)))
+        and_from (leb 33 b) (leb b 126) (le-leb 33 b (omega (arith, a, low))) (le-leb b 126 (omega (arith, c, high)))
 
     by : (t : Bool) → is_between 0x41 0x5a b ≡ t → (t || is_between 0x61 0x7a b) ≡ true → is_sign b ≡ true
     by true f k = within 0x41 0x5a (omega arith) (omega arith) f
@@ -67,14 +48,14 @@ name_sign : (b : ℕ) → is_name_sign b ≡ true → is_sign b ≡ true
 name_sign b h = by (is_letter b) (is_between 0x30 0x39 b) (eqb b 0x24) (eqb b 0x2d) (eqb b 0x5e) (eqb b 0x5f) refl refl refl refl refl refl h
   where
     at : (n : ℕ) → 33 ≤ n → n ≤ 126 → eqb b n ≡ true → is_sign b ≡ true
-    at n low high k = let e : b ≡ n = Rattle.std.proofs.lemmas.Bool.eqb-true b n k in and_of (leb 33 b) (leb b 126) (le-leb 33 b (omega (arith, e, low))) (le-leb b 126 (omega (arith, e, high)))
+    at n low high k = let e : b ≡ n = Rattle.std.proofs.lemmas.Bool.eqb-true b n k in and_from (leb 33 b) (leb b 126) (le-leb 33 b (omega (arith, e, low))) (le-leb b 126 (omega (arith, e, high)))
 
     digit : is_between 0x30 0x39 b ≡ true → is_sign b ≡ true
     digit k =
-        let both = and_both (leb 0x30 b) (leb b 0x39) k in
+        let both = and_parts (leb 0x30 b) (leb b 0x39) k in
         let a : 0x30 ≤ b = leb-true 0x30 b both.0 in
         let c : b ≤ 0x39 = leb-true b 0x39 both.1 in
-        and_of (leb 33 b) (leb b 126) (le-leb 33 b (omega (arith, a))) (le-leb b 126 (omega (arith, c)))
+        and_from (leb 33 b) (leb b 126) (le-leb 33 b (omega (arith, a))) (le-leb b 126 (omega (arith, c)))
 
     by : (s t u v w x : Bool) → is_letter b ≡ s → is_between 0x30 0x39 b ≡ t → eqb b 0x24 ≡ u → eqb b 0x2d ≡ v → eqb b 0x5e ≡ w → eqb b 0x5f ≡ x → (s || t || u || v || w || x) ≡ true → is_sign b ≡ true
     by true t u v w x a c d e f g k = letter_sign b a
@@ -87,14 +68,14 @@ name_sign b h = by (is_letter b) (is_between 0x30 0x39 b) (eqb b 0x24) (eqb b 0x
 
 signs_word : (l : List ℕ) → list_all is_name_sign l ≡ true → is_word l ≡ true
 signs_word [] h = refl
-signs_word (b ∷ l) h = let both = and_both (is_name_sign b) (list_all is_name_sign l) h in and_of (is_sign b) (is_word l) (name_sign b both.0) (signs_word l both.1)
+signs_word (b ∷ l) h = let both = and_parts (is_name_sign b) (list_all is_name_sign l) h in and_from (is_sign b) (is_word l) (name_sign b both.0) (signs_word l both.1)
 
 pub zone_name_word : (n : List ℕ) → is_zone_name n ≡ true → (is_word n && leb 1 (length n)) ≡ true
 zone_name_word [] h = absurd (cc)
 zone_name_word (b ∷ l) h =
-    let one = and_both (is_letter b && list_all is_name_sign l) (ltb (length l) 64) h in
-    let two = and_both (is_letter b) (list_all is_name_sign l) one.0 in
-    and_of (is_sign b && is_word l) (leb 1 (suc (length l))) (and_of (is_sign b) (is_word l) (letter_sign b two.0) (signs_word l two.1)) (le-leb 1 (suc (length l)) (omega arith))
+    let one = and_parts (is_letter b && list_all is_name_sign l) (ltb (length l) 64) h in
+    let two = and_parts (is_letter b) (list_all is_name_sign l) one.0 in
+    and_from (is_sign b && is_word l) (leb 1 (suc (length l))) (and_from (is_sign b) (is_word l) (letter_sign b two.0) (signs_word l two.1)) (le-leb 1 (suc (length l)) (omega arith))
 
 member_word : (m : ℕ) → ltb m (2 ^ 64) ≡ true → (is_word (name_text m) && leb 1 (length (name_text m))) ≡ true
 member_word m h = octets_word (spelled 8 m) (let l = length-spelled 8 m in omega (arith, l)) (spelled_bytes 8 m)
@@ -108,21 +89,8 @@ no_place x names h = ap (λ l. is_some (place x l)) (sym (append-nil names)) ∙
 abbrev pub is_typed : Zone → Bool
 is_typed z = list_all (λ m. ltb m (2 ^ 64)) z.members
 
-zone_same : Zone → Zone → Bool
-zone_same x y = same_bytes x.name y.name
-
-ltb_no : (m n : ℕ) → n ≤ m → ltb m n ≡ false
-ltb_no m n le = by (ltb m n) refl
-  where
-    by : (t : Bool) → ltb m n ≡ t → t ≡ false
-    by true e = absurd (let h : m < n = ltb-true m n e in omega (arith, h))
-    by false e = refl
-
-or_none : (a b : Bool) → a ≡ false → b ≡ false → (a || b) ≡ false
-or_none a b e f = ap (λ c. c || b) e ∙ f
-
 last_all : {X : Type 0} (p : X → Bool) (l xs : List X) (x : X) → list_all p (l ++ x ∷ xs) ≡ true → p x ≡ true
-last_all p l xs x h = (and_both (p x) (list_all p xs) (and_both (list_all p l) (list_all p (x ∷ xs)) (sym (list_all-append p l (x ∷ xs)) ∙ h)).1).0
+last_all p l xs x h = (and_parts (p x) (list_all p xs) (and_parts (list_all p l) (list_all p (x ∷ xs)) (sym (list_all-append p l (x ∷ xs)) ∙ h)).1).0
 
 zone_read : (done more : List Zone) (z : Zone) → are_zones (done ++ z ∷ more) ≡ true → is_typed z ≡ true → zones_with done (z.name ∷ map name_text z.members) ≡ Ok (done ++ z ∷ [])
 unfolding zones_with
@@ -131,12 +99,12 @@ zone_read done more z fit typed =
     let check : Zone → Bool = λ (y : Zone). is_zone_name y.name && ltb 0 (length y.members) && all_differ (λ x y. eqb x y) y.members in
     let same : Zone → Zone → Bool = λ (x : Zone) (y : Zone). same_bytes x.name y.name in
     let total : List Zone → ℕ = sum_by (λ (y : Zone). length y.members) in
-    let one = and_both (list_all check all && all_differ same all && leb (length all) 1000) (leb (total all) 20000) fit in
-    let two = and_both (list_all check all && all_differ same all) (leb (length all) 1000) one.0 in
-    let three = and_both (list_all check all) (all_differ same all) two.0 in
+    let one = and_parts (list_all check all && all_differ same all && leb (length all) 1000) (leb (total all) 20000) fit in
+    let two = and_parts (list_all check all && all_differ same all) (leb (length all) 1000) one.0 in
+    let three = and_parts (list_all check all) (all_differ same all) two.0 in
     let own = last_all check done more z three.0 in
-    let own_two = and_both (is_zone_name z.name && ltb 0 (length z.members)) (all_differ (λ x y. eqb x y) z.members) own in
-    let own_three = and_both (is_zone_name z.name) (ltb 0 (length z.members)) own_two.0 in
+    let own_two = and_parts (is_zone_name z.name && ltb 0 (length z.members)) (all_differ (λ x y. eqb x y) z.members) own in
+    let own_three = and_parts (is_zone_name z.name) (ltb 0 (length z.members)) own_two.0 in
     let some : 0 < length z.members = ltb-true 0 (length z.members) own_three.1 in
     let new = differs_before same (λ x y. same_bytes_comm x.name y.name) z done more three.1 in
     let few : length all ≤ 1000 = leb-true (length all) 1000 two.1 in
@@ -150,7 +118,7 @@ zone_read done more z fit typed =
     with_list name (zone_names done) (zone_put done) (z.name ∷ map name_text z.members) z.name (map name_text z.members) refl z.members
     (no_place z.name (zone_names done) (any_map (λ y. same_bytes z.name y) (λ (y : Zone). y.name) done ∙ new)) own_three.0
     (listed_back name name_text z.members (omega (arith, some)) (all_of_back name name_text (λ m. ltb m (2 ^ 64)) (λ m h. name_back m (ltb-true m (2 ^ 64) h)) z.members typed) own_two.1)
-    ∙ ap (λ t. cond t (Err why.Limit) (Ok here)) (or_none (ltb 1000 (length here)) (ltb 20000 (total here)) (ltb_no 1000 (length here) (omega (arith, few, l1, l2))) (ltb_no 20000 (total here) (omega (arith, sum, s1, s2, s3))))
+    ∙ ap (λ t. cond t (Err why.Limit) (Ok here)) (or_from (ltb 1000 (length here)) (ltb 20000 (total here)) (le-ltb 1000 (length here) (omega (arith, few, l1, l2))) (le-ltb 20000 (total here) (omega (arith, sum, s1, s2, s3))))
 
 pub zones_read : (n : ℕ) (d : Draft) (done zs : List Zone) (rest : List ℕ) → are_zones (done ++ zs) ≡ true → list_all is_typed zs ≡ true
     → lines_read n (record d { zones = done }) (lines_of (flat_map zone_line zs ++ rest)) ≡ lines_read (n + length zs) (record d { zones = done ++ zs }) (lines_of rest)
@@ -159,12 +127,12 @@ zones_read n d done [] rest fit typed =
     ap (λ (m : ℕ). lines_read m (record d { zones = done }) (lines_of rest)) (let e : n ≡ n + 0 = omega arith in e)
     ∙ ap (λ (l : List Zone). lines_read (n + 0) (record d { zones = l }) (lines_of rest)) (sym (append-nil done))
 zones_read n d done (z ∷ zs) rest fit typed =
-    let both = and_both (is_typed z) (list_all is_typed zs) typed in
+    let both = and_parts (is_typed z) (list_all is_typed zs) typed in
     let named = last_all (λ (y : Zone). is_zone_name y.name && ltb 0 (length y.members) && all_differ (λ x y. eqb x y) y.members) done zs z (zones_tests (done ++ z ∷ zs) fit) in
-    let is_name = (and_both (is_zone_name z.name) (ltb 0 (length z.members)) (and_both (is_zone_name z.name && ltb 0 (length z.members)) (all_differ (λ x y. eqb x y) z.members) named).0).0 in
+    let is_name = (and_parts (is_zone_name z.name) (ltb 0 (length z.members)) (and_parts (is_zone_name z.name && ltb 0 (length z.members)) (all_differ (λ x y. eqb x y) z.members) named).0).0 in
     ap (λ l. lines_read n (record d { zones = done }) (lines_of l)) (append_assoc (zone_line z) (flat_map zone_line zs) rest)
     ∙ line_step n (record d { zones = done }) (record d { zones = done ++ z ∷ [] }) (codes "zone") (z.name ∷ map name_text z.members) Zones (flat_map zone_line zs ++ rest) refl (omega arith) refl refl
-    (and_of (is_word z.name && leb 1 (length z.name)) (are_words (map name_text z.members)) (zone_name_word z.name is_name) (words_of name_text (λ m. ltb m (2 ^ 64)) member_word z.members both.0))
+    (and_from (is_word z.name && leb 1 (length z.name)) (are_words (map name_text z.members)) (zone_name_word z.name is_name) (words_of name_text (λ m. ltb m (2 ^ 64)) member_word z.members both.0))
     (ap (λ (r : Result (List Zone) ConfigWhy). changed r (λ x. record d { zones = x })) (zone_read done zs z fit both.0))
     ∙ zones_read (n + 1) d (done ++ z ∷ []) zs rest (ap are_zones (append_assoc done (z ∷ []) zs) ∙ fit) both.1
     ∙ ap (λ (m : ℕ). lines_read m (record d { zones = (done ++ z ∷ []) ++ zs }) (lines_of rest)) (let e : n + 1 + length zs ≡ n + suc (length zs) = omega arith in e)
@@ -174,7 +142,7 @@ zones_read n d done (z ∷ zs) rest fit typed =
     zones_tests l h =
         let check : Zone → Bool = λ (y : Zone). is_zone_name y.name && ltb 0 (length y.members) && all_differ (λ x y. eqb x y) y.members in
         let same : Zone → Zone → Bool = λ (x : Zone) (y : Zone). same_bytes x.name y.name in
-        (and_both (list_all check l) (all_differ same l) (and_both (list_all check l && all_differ same l) (leb (length l) 1000) (and_both (list_all check l && all_differ same l && leb (length l) 1000) (leb (sum_by (λ (y : Zone). length y.members) l) 20000) h).0).0).0
+        (and_parts (list_all check l) (all_differ same l) (and_parts (list_all check l && all_differ same l) (leb (length l) 1000) (and_parts (list_all check l && all_differ same l && leb (length l) 1000) (leb (sum_by (λ (y : Zone). length y.members) l) 20000) h).0).0).0
 
 -- ---- zone sets
 
@@ -182,12 +150,8 @@ zones_read n d done (z ∷ zs) rest fit typed =
 place_back : (k p : ℕ) (names : List (List ℕ)) → p < length names → all_differ same_bytes names ≡ true → place_from k (name_at names p) names ≡ Some (k + p)
 place_back k p [] lt differ = absurd (omega arith)
 place_back k zero (x ∷ names) lt differ = ap (λ t. cond t (Some k) (place_from (k + 1) x names)) (same_self x) ∙ ap (λ (n : ℕ). Some n) (let e : k ≡ k + 0 = omega arith in e)
-  where
-    same_self : (x : List ℕ) → same_bytes x x ≡ true
-    same_self [] = refl
-    same_self (b ∷ x) = and_of (eqb b b) (same_bytes x x) (grind arith) (same_self x)
 place_back k (suc p) (x ∷ names) lt differ =
-    let both = and_both (not (list_any (same_bytes x) names)) (all_differ same_bytes names) differ in
+    let both = and_parts (not (list_any (same_bytes x) names)) (all_differ same_bytes names) differ in
     ap (λ t. cond t (Some k) (place_from (k + 1) (name_at names p) names)) (same_bytes_comm (name_at names p) x ∙ other names p (omega arith) both.0)
     ∙ place_back (k + 1) p names (omega arith) both.1 ∙ ap (λ (n : ℕ). Some n) (let e : k + 1 + p ≡ k + suc p = omega arith in e)
   where
@@ -204,14 +168,14 @@ place_back k (suc p) (x ∷ names) lt differ =
 names_differ : {X : Type 0} (named : X → List ℕ) (l : List X) → all_differ (λ (x : X) (y : X). same_bytes (named x) (named y)) l ≡ true → all_differ same_bytes (map named l) ≡ true
 names_differ named [] h = refl
 names_differ named (x ∷ l) h =
-    let both = and_both (not (list_any (λ y. same_bytes (named x) (named y)) l)) (all_differ (λ x y. same_bytes (named x) (named y)) l) h in
-    and_of (not (list_any (same_bytes (named x)) (map named l))) (all_differ same_bytes (map named l)) (ap not (any_map (same_bytes (named x)) named l) ∙ both.0) (names_differ named l both.1)
+    let both = and_parts (not (list_any (λ y. same_bytes (named x) (named y)) l)) (all_differ (λ x y. same_bytes (named x) (named y)) l) h in
+    and_from (not (list_any (same_bytes (named x)) (map named l))) (all_differ same_bytes (map named l)) (ap not (any_map (same_bytes (named x)) named l) ∙ both.0) (names_differ named l both.1)
 
 -- the name at a place is that of an item
 pub name_at_ok : {X : Type 0} (named : X → List ℕ) (l : List X) (p : ℕ) → p < length l → list_all (λ x. is_zone_name (named x)) l ≡ true → is_zone_name (name_at (map named l) p) ≡ true
 name_at_ok named [] p lt h = absurd (omega arith)
-name_at_ok named (x ∷ l) zero lt h = (and_both (is_zone_name (named x)) (list_all (λ x. is_zone_name (named x)) l) h).0
-name_at_ok named (x ∷ l) (suc p) lt h = name_at_ok named l p (omega arith) (and_both (is_zone_name (named x)) (list_all (λ x. is_zone_name (named x)) l) h).1
+name_at_ok named (x ∷ l) zero lt h = (and_parts (is_zone_name (named x)) (list_all (λ x. is_zone_name (named x)) l) h).0
+name_at_ok named (x ∷ l) (suc p) lt h = name_at_ok named l p (omega arith) (and_parts (is_zone_name (named x)) (list_all (λ x. is_zone_name (named x)) l) h).1
 
 -- names that are read by their places
 pub record AreNames (names : List (List ℕ)) : Type 0 where
@@ -232,13 +196,13 @@ set_read zones done more s names fit =
     let check : ZoneSet → Bool = λ (y : ZoneSet). is_zone_name y.name && ltb 0 (length y.places) && list_all (λ p. ltb p k) y.places && all_differ (λ x y. eqb x y) y.places in
     let same : ZoneSet → ZoneSet → Bool = λ (x : ZoneSet) (y : ZoneSet). same_bytes x.name y.name in
     let total : List ZoneSet → ℕ = sum_by (λ (y : ZoneSet). length y.places) in
-    let one = and_both (list_all check all && all_differ same all && leb (length all) 64) (leb (total all) 4000) fit in
-    let two = and_both (list_all check all && all_differ same all) (leb (length all) 64) one.0 in
-    let three = and_both (list_all check all) (all_differ same all) two.0 in
+    let one = and_parts (list_all check all && all_differ same all && leb (length all) 64) (leb (total all) 4000) fit in
+    let two = and_parts (list_all check all && all_differ same all) (leb (length all) 64) one.0 in
+    let three = and_parts (list_all check all) (all_differ same all) two.0 in
     let own = last_all check done more s three.0 in
-    let own_two = and_both (is_zone_name s.name && ltb 0 (length s.places) && list_all (λ p. ltb p k) s.places) (all_differ (λ x y. eqb x y) s.places) own in
-    let own_three = and_both (is_zone_name s.name && ltb 0 (length s.places)) (list_all (λ p. ltb p k) s.places) own_two.0 in
-    let own_four = and_both (is_zone_name s.name) (ltb 0 (length s.places)) own_three.0 in
+    let own_two = and_parts (is_zone_name s.name && ltb 0 (length s.places) && list_all (λ p. ltb p k) s.places) (all_differ (λ x y. eqb x y) s.places) own in
+    let own_three = and_parts (is_zone_name s.name && ltb 0 (length s.places)) (list_all (λ p. ltb p k) s.places) own_two.0 in
+    let own_four = and_parts (is_zone_name s.name) (ltb 0 (length s.places)) own_three.0 in
     let some : 0 < length s.places = ltb-true 0 (length s.places) own_four.1 in
     let new = differs_before same (λ x y. same_bytes_comm x.name y.name) s done more three.1 in
     let few : length all ≤ 64 = leb-true (length all) 64 two.1 in
@@ -254,13 +218,13 @@ set_read zones done more s names fit =
     (no_place s.name (set_names done) (any_map (λ y. same_bytes s.name y) (λ (y : ZoneSet). y.name) done ∙ new)) own_four.0
     (listed_back (zone_place zones) (name_at (zone_names zones)) s.places (omega (arith, some))
     (all_of_back (zone_place zones) (name_at (zone_names zones)) (λ p. ltb p k) (λ p h. names.back p (let lt : p < k = ltb-true p k h in omega (arith, lt, size))) s.places own_three.1) own_two.1)
-    ∙ ap (λ t. cond t (Err why.Limit) (Ok here)) (or_none (ltb 64 (length here)) (ltb 4000 (total here)) (ltb_no 64 (length here) (omega (arith, few, l1, l2))) (ltb_no 4000 (total here) (omega (arith, sum, s1, s2, s3))))
+    ∙ ap (λ t. cond t (Err why.Limit) (Ok here)) (or_from (ltb 64 (length here)) (ltb 4000 (total here)) (le-ltb 64 (length here) (omega (arith, few, l1, l2))) (le-ltb 4000 (total here) (omega (arith, sum, s1, s2, s3))))
 
 pub sets_tests : (k : ℕ) (l : List ZoneSet) → are_sets k l ≡ true → list_all (λ (y : ZoneSet). is_zone_name y.name && ltb 0 (length y.places) && list_all (λ p. ltb p k) y.places && all_differ (λ x y. eqb x y) y.places) l ≡ true
 sets_tests k l h =
     let check : ZoneSet → Bool = λ (y : ZoneSet). is_zone_name y.name && ltb 0 (length y.places) && list_all (λ p. ltb p k) y.places && all_differ (λ x y. eqb x y) y.places in
     let same : ZoneSet → ZoneSet → Bool = λ (x : ZoneSet) (y : ZoneSet). same_bytes x.name y.name in
-    (and_both (list_all check l) (all_differ same l) (and_both (list_all check l && all_differ same l) (leb (length l) 64) (and_both (list_all check l && all_differ same l && leb (length l) 64) (leb (sum_by (λ (y : ZoneSet). length y.places) l) 4000) h).0).0).0
+    (and_parts (list_all check l) (all_differ same l) (and_parts (list_all check l && all_differ same l) (leb (length l) 64) (and_parts (list_all check l && all_differ same l && leb (length l) 64) (leb (sum_by (λ (y : ZoneSet). length y.places) l) 4000) h).0).0).0
 
 pub sets_read : (n : ℕ) (d : Draft) (done ss : List ZoneSet) (rest : List ℕ) → AreNames (zone_names d.zones) → are_sets (length d.zones) (done ++ ss) ≡ true
     → lines_read n (record d { sets = done }) (lines_of (flat_map (set_line d.zones) ss ++ rest)) ≡ lines_read (n + length ss) (record d { sets = done ++ ss }) (lines_of rest)
@@ -271,13 +235,13 @@ sets_read n d done [] rest names fit =
 sets_read n d done (s ∷ ss) rest names fit =
     let k = length d.zones in
     let own = last_all (λ (y : ZoneSet). is_zone_name y.name && ltb 0 (length y.places) && list_all (λ p. ltb p k) y.places && all_differ (λ x y. eqb x y) y.places) done ss s (sets_tests k (done ++ s ∷ ss) fit) in
-    let own_two = and_both (is_zone_name s.name && ltb 0 (length s.places) && list_all (λ p. ltb p k) s.places) (all_differ (λ x y. eqb x y) s.places) own in
-    let own_three = and_both (is_zone_name s.name && ltb 0 (length s.places)) (list_all (λ p. ltb p k) s.places) own_two.0 in
-    let own_four = and_both (is_zone_name s.name) (ltb 0 (length s.places)) own_three.0 in
+    let own_two = and_parts (is_zone_name s.name && ltb 0 (length s.places) && list_all (λ p. ltb p k) s.places) (all_differ (λ x y. eqb x y) s.places) own in
+    let own_three = and_parts (is_zone_name s.name && ltb 0 (length s.places)) (list_all (λ p. ltb p k) s.places) own_two.0 in
+    let own_four = and_parts (is_zone_name s.name) (ltb 0 (length s.places)) own_three.0 in
     let size = length-map d.zones (λ (y : Zone). y.name) in
     ap (λ l. lines_read n (record d { sets = done }) (lines_of l)) (append_assoc (set_line d.zones s) (flat_map (set_line d.zones) ss) rest)
     ∙ line_step n (record d { sets = done }) (record d { sets = done ++ s ∷ [] }) (codes "zoneset") (s.name ∷ map (name_at (zone_names d.zones)) s.places) Sets (flat_map (set_line d.zones) ss ++ rest) refl (omega arith) refl refl
-    (and_of (is_word s.name && leb 1 (length s.name)) (are_words (map (name_at (zone_names d.zones)) s.places)) (zone_name_word s.name own_four.0)
+    (and_from (is_word s.name && leb 1 (length s.name)) (are_words (map (name_at (zone_names d.zones)) s.places)) (zone_name_word s.name own_four.0)
     (words_of (name_at (zone_names d.zones)) (λ p. ltb p k) (λ p h. names.word p (let lt : p < k = ltb-true p k h in omega (arith, lt, size))) s.places own_three.1))
     (ap (λ (r : Result (List ZoneSet) ConfigWhy). changed r (λ x. record d { sets = x })) (set_read d.zones done ss s names fit))
     ∙ sets_read (n + 1) d (done ++ s ∷ []) ss rest names (ap (are_sets k) (append_assoc done (s ∷ []) ss) ∙ fit)
@@ -288,13 +252,13 @@ sets_read n d done (s ∷ ss) rest names fit =
 
 rise_later : (l more : List Activation) (a : Activation) → do_rise (l ++ a ∷ more) ≡ true → is_later l a.moment ≡ true
 rise_later [] more a h = refl
-rise_later (x ∷ []) more a h = and_of (ltb x.moment a.moment) true (and_both (ltb x.moment a.moment) (do_rise (a ∷ more)) h).0 refl
+rise_later (x ∷ []) more a h = and_from (ltb x.moment a.moment) true (and_parts (ltb x.moment a.moment) (do_rise (a ∷ more)) h).0 refl
 rise_later (x ∷ y ∷ l) more a h =
-    let both = and_both (ltb x.moment y.moment) (do_rise ((y ∷ l) ++ a ∷ more)) h in
+    let both = and_parts (ltb x.moment y.moment) (do_rise ((y ∷ l) ++ a ∷ more)) h in
     let rest = rise_later (y ∷ l) more a both.1 in
     let low : x.moment < y.moment = ltb-true x.moment y.moment both.0 in
-    let high : y.moment < a.moment = ltb-true y.moment a.moment (and_both (ltb y.moment a.moment) (is_later l a.moment) rest).0 in
-    and_of (ltb x.moment a.moment) (is_later (y ∷ l) a.moment) (lt-ltb x.moment a.moment (omega (arith, low, high))) rest
+    let high : y.moment < a.moment = ltb-true y.moment a.moment (and_parts (ltb y.moment a.moment) (is_later l a.moment) rest).0 in
+    and_from (ltb x.moment a.moment) (is_later (y ∷ l) a.moment) (lt-ltb x.moment a.moment (omega (arith, low, high))) rest
 
 activation_read : (sets : List ZoneSet) (done more : List Activation) (a : Activation) → AreNames (set_names sets) → are_activations (length sets) (done ++ a ∷ more) ≡ true
     → activations_with sets done (name_at (set_names sets) a.set ∷ decimal a.moment ∷ []) ≡ Ok (done ++ a ∷ [])
@@ -302,18 +266,18 @@ unfolding activations_with
 activation_read sets done more a names fit =
     let all = done ++ a ∷ more in
     let check : Activation → Bool = λ (z : Activation). ltb z.set (length sets) && leb z.moment 4294967295999 in
-    let one = and_both (list_all check all && do_rise all) (leb (length all) 64) fit in
-    let two = and_both (list_all check all) (do_rise all) one.0 in
-    let own = and_both (ltb a.set (length sets)) (leb a.moment 4294967295999) (last_all check done more a two.0) in
+    let one = and_parts (list_all check all && do_rise all) (leb (length all) 64) fit in
+    let two = and_parts (list_all check all) (do_rise all) one.0 in
+    let own = and_parts (ltb a.set (length sets)) (leb a.moment 4294967295999) (last_all check done more a two.0) in
     let low : a.set < length sets = ltb-true a.set (length sets) own.0 in
     let most : a.moment ≤ 4294967295999 = leb-true a.moment 4294967295999 own.1 in
     let size = length-map sets (λ (y : ZoneSet). y.name) in
     let few : length all ≤ 64 = leb-true (length all) 64 one.1 in
     let l1 = length-append done (a ∷ more) in
     ap (λ (o : Option ℕ). activation_put done (option_and_then (λ (p : ℕ). activated done p (number_between 0 4294967295999 (decimal a.moment))) o)) (names.back a.set (omega (arith, low, size)))
-    ∙ ap (λ (o : Option ℕ). activation_put done (activated done a.set o)) (between_back 0 4294967295999 a.moment (omega (arith, most)) (and_of (leb 0 a.moment) (leb a.moment 4294967295999) (le-leb 0 a.moment (omega arith)) own.1))
+    ∙ ap (λ (o : Option ℕ). activation_put done (activated done a.set o)) (between_back 0 4294967295999 a.moment (omega (arith, most)) (and_from (leb 0 a.moment) (leb a.moment 4294967295999) (le-leb 0 a.moment (omega arith)) own.1))
     ∙ ap (λ t. activation_put done (cond t (Some (record { set = a.set; moment = a.moment })) None)) (rise_later done more a two.1)
-    ∙ ap (λ t. cond t (Err why.Limit) (Ok (done ++ a ∷ []))) (ltb_no 64 (length done + 1) (omega (arith, few, l1)))
+    ∙ ap (λ t. cond t (Err why.Limit) (Ok (done ++ a ∷ []))) (le-ltb 64 (length done + 1) (omega (arith, few, l1)))
 
 pub activations_read : (n : ℕ) (d : Draft) (done l : List Activation) (rest : List ℕ) → AreNames (set_names d.sets) → are_activations (length d.sets) (done ++ l) ≡ true
     → lines_read n (record d { activations = done }) (lines_of (flat_map (activation_line d.sets) l ++ rest)) ≡ lines_read (n + length l) (record d { activations = done ++ l }) (lines_of rest)
@@ -324,16 +288,16 @@ activations_read n d done [] rest names fit =
 activations_read n d done (a ∷ l) rest names fit =
     let all = done ++ a ∷ l in
     let check : Activation → Bool = λ (z : Activation). ltb z.set (length d.sets) && leb z.moment 4294967295999 in
-    let one = and_both (list_all check all && do_rise all) (leb (length all) 64) fit in
-    let two = and_both (list_all check all) (do_rise all) one.0 in
-    let own = and_both (ltb a.set (length d.sets)) (leb a.moment 4294967295999) (last_all check done l a two.0) in
+    let one = and_parts (list_all check all && do_rise all) (leb (length all) 64) fit in
+    let two = and_parts (list_all check all) (do_rise all) one.0 in
+    let own = and_parts (ltb a.set (length d.sets)) (leb a.moment 4294967295999) (last_all check done l a two.0) in
     let low : a.set < length d.sets = ltb-true a.set (length d.sets) own.0 in
     let most : a.moment ≤ 4294967295999 = leb-true a.moment 4294967295999 own.1 in
     let size = length-map d.sets (λ (y : ZoneSet). y.name) in
     let n_at = name_at (set_names d.sets) a.set in
     ap (λ k. lines_read n (record d { activations = done }) (lines_of k)) (append_assoc (activation_line d.sets a) (flat_map (activation_line d.sets) l) rest)
     ∙ line_step n (record d { activations = done }) (record d { activations = done ++ a ∷ [] }) (codes "activate") (n_at ∷ decimal a.moment ∷ []) Activations (flat_map (activation_line d.sets) l ++ rest) refl (omega arith) refl refl
-    (and_of (is_word n_at && leb 1 (length n_at)) (are_words (decimal a.moment ∷ [])) (names.word a.set (omega (arith, low, size))) (and_of (is_word (decimal a.moment) && leb 1 (length (decimal a.moment))) true (decimal_word a.moment (omega (arith, most))) refl))
+    (and_from (is_word n_at && leb 1 (length n_at)) (are_words (decimal a.moment ∷ [])) (names.word a.set (omega (arith, low, size))) (and_from (is_word (decimal a.moment) && leb 1 (length (decimal a.moment))) true (decimal_word a.moment (omega (arith, most))) refl))
     (ap (λ (r : Result (List Activation) ConfigWhy). changed r (λ x. record d { activations = x })) (activation_read d.sets done l a names fit))
     ∙ activations_read (n + 1) d (done ++ a ∷ []) l rest names (ap (are_activations (length d.sets)) (append_assoc done (a ∷ []) l) ∙ fit)
     ∙ ap (λ (m : ℕ). lines_read m (record d { activations = (done ++ a ∷ []) ++ l }) (lines_of rest)) (let e : n + 1 + length l ≡ n + suc (length l) = omega arith in e)

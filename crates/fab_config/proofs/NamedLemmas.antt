@@ -1,10 +1,12 @@
 -- Zones and zone sets, line by line.
-use Rattle.std.proofs.Common.{◌≡◌, ℕ, zero, suc, ◌+◌, ◌-◌, ◌<◌, ◌≤◌, List, [], ◌∷◌, ◌++◌, length, Bool, true, false, cond, eqb, ltb, ◌&&◌, ◌||◌, Option, Some, None, Result, Ok, Err, take, slice_get, refl, sym, ◌∙◌, ap, arith}
+use Rattle.std.proofs.Common.{◌≡◌, ℕ, zero, suc, ◌+◌, ◌-◌, ◌<◌, ◌≤◌, List, [], ◌∷◌, ◌++◌, length, Bool, true, false, not, cond, eqb, ltb, ◌&&◌, Option, Some, None, Result, Ok, Err, take, slice_get, Ordering, Less, Equal, Greater, refl, sym, ◌∙◌, ap, arith}
 use Rattle.std.specs.Option.{option_map, option_and_then, is_some, ok_or}
 use Rattle.std.specs.List.{list_any, sum_by}
-use Rattle.std.proofs.lemmas.List.{append_assoc, append-nil, length_push, map_push, length-map}
+use Rattle.std.specs.Ordering.{MatchOrdering, is_ge, nat_cmp}
+use Rattle.std.proofs.lemmas.Cmp.{ranked}
+use Rattle.std.proofs.lemmas.List.{append_assoc, append-nil, length_push, map_push}
 use Rattle.std.proofs.lemmas.List.Folds.{list_all-append}
-use Rattle.std.proofs.lemmas.Bool.{ltb-true, lt-ltb}
+use Rattle.std.proofs.lemmas.Bool.{lt-ltb, le-ltb, and_from, and_right, or_left, or_right, or_from}
 use Rattle.fab_config.specs.Settings.{is_zone_name}
 use Rattle.fab_config.specs.Names.{place}
 use Rattle.fab_config.specs.Values.{all_of, once, once_from, once_more, zone_name}
@@ -18,6 +20,8 @@ use Rattle.fab_config.specs.declared.ConfigWhy.{ConfigWhy}
 use Rattle.fab_config.specs.declared.ConfigWhy.TheVariants as why
 use Rattle.fab_config.specs.declared.reading.LineError.{LineError}
 use Rattle.fab_config.specs.declared.reading.LineError.TheVariants as line
+use Rattle.std.proofs.lemmas.List.Sums.{sum_by_push}
+use Rattle.fab_config.proofs.ListLemmas.{take_slice}
 
 -- ---- words that each say a number, once
 
@@ -33,9 +37,6 @@ pub joined_all : (acc : List ℕ) → joined acc (Some []) ≡ Some acc
 joined_all acc = ap (λ (m : List ℕ). Some m) (append-nil acc)
 
 module _ (says : List ℕ → Option ℕ) where
-  cons : ℕ → Option (List ℕ) → Option (List ℕ)
-  cons x o = option_map (λ (xs : List ℕ). x ∷ xs) o
-
   pub joined_bad : (acc w : List ℕ) (ws : List (List ℕ)) → says w ≡ None → joined acc (all_of says (w ∷ ws)) ≡ None
   joined_bad acc w ws e = ap (λ (o : Option ℕ). joined acc (option_and_then (λ (x : ℕ). option_map (λ (xs : List ℕ). x ∷ xs) (all_of says ws)) o)) e
 
@@ -109,42 +110,22 @@ module _ (says : List ℕ → Option ℕ) where
 
 -- ---- limits
 
-or_left : (a b : Bool) → a ≡ true → (a || b) ≡ true
-or_left a b e = ap (λ c. c || b) e
-
-or_right : (a b : Bool) → b ≡ true → (a || b) ≡ true
-or_right true b e = refl
-or_right false b e = e
-
-or_none : (a b : Bool) → a ≡ false → b ≡ false → (a || b) ≡ false
-or_none a b e f = ap (λ c. c || b) e ∙ f
-
-ltb_no : (m n : ℕ) → n ≤ m → ltb m n ≡ false
-ltb_no m n le = by (ltb m n) refl
-  where
-    by : (t : Bool) → ltb m n ≡ t → t ≡ false
-    by true e = absurd (let h : m < n = ltb-true m n e in omega (arith, h))
-    by false e = refl
-
-sum_push : {X : Type 0} (f : X → ℕ) (xs : List X) (x : X) → sum_by f (xs ++ x ∷ []) ≡ sum_by f xs + f x
-sum_push f xs x = Rattle.std.proofs.lemmas.List.Sums.sum_by_push f xs x
-
 module _ (zones : List Zone) (z : Zone) (names : List (List ℕ)) (members : ℕ) (keeps : KeepsZones names zones members) where
   pub zones_full : 1000 ≤ length zones → zones_grown (zones ++ z ∷ []) ≡ Err why.Limit
   zones_full le = ap (λ b. cond b (Err why.Limit) (Ok (zones ++ z ∷ []))) (or_left (ltb 1000 (length (zones ++ z ∷ []))) (ltb 20000 (sum_by (λ (x : Zone). length x.members) (zones ++ z ∷ []))) (lt-ltb 1000 (length (zones ++ z ∷ [])) (let h = length_push zones z in omega (arith, h))))
 
   pub members_full : 20000 - members < length z.members → zones_grown (zones ++ z ∷ []) ≡ Err why.Limit
-  members_full lt = ap (λ b. cond b (Err why.Limit) (Ok (zones ++ z ∷ []))) (or_right (ltb 1000 (length (zones ++ z ∷ []))) (ltb 20000 (sum_by (λ (x : Zone). length x.members) (zones ++ z ∷ []))) (lt-ltb 20000 (sum_by (λ (x : Zone). length x.members) (zones ++ z ∷ [])) (let h = sum_push (λ (x : Zone). length x.members) zones z in let s = keeps.sum in omega (arith, h, s))))
+  members_full lt = ap (λ b. cond b (Err why.Limit) (Ok (zones ++ z ∷ []))) (or_right (ltb 1000 (length (zones ++ z ∷ []))) (ltb 20000 (sum_by (λ (x : Zone). length x.members) (zones ++ z ∷ []))) (lt-ltb 20000 (sum_by (λ (x : Zone). length x.members) (zones ++ z ∷ [])) (let h = sum_by_push (λ (x : Zone). length x.members) zones z in let s = keeps.sum in omega (arith, h, s))))
 
   pub zones_fit : length zones < 1000 → length z.members ≤ 20000 - members → zones_grown (zones ++ z ∷ []) ≡ Ok (zones ++ z ∷ [])
-  zones_fit few le = ap (λ b. cond b (Err why.Limit) (Ok (zones ++ z ∷ []))) (or_none (ltb 1000 (length (zones ++ z ∷ []))) (ltb 20000 (sum_by (λ (x : Zone). length x.members) (zones ++ z ∷ [])))
-      (ltb_no 1000 (length (zones ++ z ∷ [])) (let h = length_push zones z in omega (arith, h)))
-      (ltb_no 20000 (sum_by (λ (x : Zone). length x.members) (zones ++ z ∷ [])) (let h = sum_push (λ (x : Zone). length x.members) zones z in let s = keeps.sum in let m = keeps.few_members in omega (arith, h, s, m))))
+  zones_fit few le = ap (λ b. cond b (Err why.Limit) (Ok (zones ++ z ∷ []))) (or_from (ltb 1000 (length (zones ++ z ∷ []))) (ltb 20000 (sum_by (λ (x : Zone). length x.members) (zones ++ z ∷ [])))
+      (le-ltb 1000 (length (zones ++ z ∷ [])) (let h = length_push zones z in omega (arith, h)))
+      (le-ltb 20000 (sum_by (λ (x : Zone). length x.members) (zones ++ z ∷ [])) (let h = sum_by_push (λ (x : Zone). length x.members) zones z in let s = keeps.sum in let m = keeps.few_members in omega (arith, h, s, m))))
 
   pub zones_kept : length zones < 1000 → length z.members ≤ 20000 - members → KeepsZones (names ++ z.name ∷ []) (zones ++ z ∷ []) (members + length z.members)
   zones_kept few le = record {
     index = ap (λ (l : List (List ℕ)). l ++ z.name ∷ []) keeps.index ∙ sym (map_push (λ (x : Zone). x.name) zones z);
-    sum = ap (λ (n : ℕ). n + length z.members) keeps.sum ∙ sym (sum_push (λ (x : Zone). length x.members) zones z);
+    sum = ap (λ (n : ℕ). n + length z.members) keeps.sum ∙ sym (sum_by_push (λ (x : Zone). length x.members) zones z);
     few_zones = let h = length_push zones z in omega (arith, h);
     few_members = let m = keeps.few_members in omega (arith, m);
   }
@@ -154,46 +135,43 @@ module _ (sets : List ZoneSet) (s : ZoneSet) (names : List (List ℕ)) (count : 
   sets_full le = ap (λ b. cond b (Err why.Limit) (Ok (sets ++ s ∷ []))) (or_left (ltb 64 (length (sets ++ s ∷ []))) (ltb 4000 (sum_by (λ (x : ZoneSet). length x.places) (sets ++ s ∷ []))) (lt-ltb 64 (length (sets ++ s ∷ [])) (let h = length_push sets s in omega (arith, h))))
 
   pub places_full : 4000 - count < length s.places → sets_grown (sets ++ s ∷ []) ≡ Err why.Limit
-  places_full lt = ap (λ b. cond b (Err why.Limit) (Ok (sets ++ s ∷ []))) (or_right (ltb 64 (length (sets ++ s ∷ []))) (ltb 4000 (sum_by (λ (x : ZoneSet). length x.places) (sets ++ s ∷ []))) (lt-ltb 4000 (sum_by (λ (x : ZoneSet). length x.places) (sets ++ s ∷ [])) (let h = sum_push (λ (x : ZoneSet). length x.places) sets s in let k = keeps.sum in omega (arith, h, k))))
+  places_full lt = ap (λ b. cond b (Err why.Limit) (Ok (sets ++ s ∷ []))) (or_right (ltb 64 (length (sets ++ s ∷ []))) (ltb 4000 (sum_by (λ (x : ZoneSet). length x.places) (sets ++ s ∷ []))) (lt-ltb 4000 (sum_by (λ (x : ZoneSet). length x.places) (sets ++ s ∷ [])) (let h = sum_by_push (λ (x : ZoneSet). length x.places) sets s in let k = keeps.sum in omega (arith, h, k))))
 
   pub sets_fit : length sets < 64 → length s.places ≤ 4000 - count → sets_grown (sets ++ s ∷ []) ≡ Ok (sets ++ s ∷ [])
-  sets_fit few le = ap (λ b. cond b (Err why.Limit) (Ok (sets ++ s ∷ []))) (or_none (ltb 64 (length (sets ++ s ∷ []))) (ltb 4000 (sum_by (λ (x : ZoneSet). length x.places) (sets ++ s ∷ [])))
-      (ltb_no 64 (length (sets ++ s ∷ [])) (let h = length_push sets s in omega (arith, h)))
-      (ltb_no 4000 (sum_by (λ (x : ZoneSet). length x.places) (sets ++ s ∷ [])) (let h = sum_push (λ (x : ZoneSet). length x.places) sets s in let k = keeps.sum in let m = keeps.few_places in omega (arith, h, k, m))))
+  sets_fit few le = ap (λ b. cond b (Err why.Limit) (Ok (sets ++ s ∷ []))) (or_from (ltb 64 (length (sets ++ s ∷ []))) (ltb 4000 (sum_by (λ (x : ZoneSet). length x.places) (sets ++ s ∷ [])))
+      (le-ltb 64 (length (sets ++ s ∷ [])) (let h = length_push sets s in omega (arith, h)))
+      (le-ltb 4000 (sum_by (λ (x : ZoneSet). length x.places) (sets ++ s ∷ [])) (let h = sum_by_push (λ (x : ZoneSet). length x.places) sets s in let k = keeps.sum in let m = keeps.few_places in omega (arith, h, k, m))))
 
   pub sets_kept : length sets < 64 → length s.places ≤ 4000 - count → KeepsSets (names ++ s.name ∷ []) (sets ++ s ∷ []) (count + length s.places)
   sets_kept few le = record {
     index = ap (λ (l : List (List ℕ)). l ++ s.name ∷ []) keeps.index ∙ sym (map_push (λ (x : ZoneSet). x.name) sets s);
-    sum = ap (λ (n : ℕ). n + length s.places) keeps.sum ∙ sym (sum_push (λ (x : ZoneSet). length x.places) sets s);
+    sum = ap (λ (n : ℕ). n + length s.places) keeps.sum ∙ sym (sum_by_push (λ (x : ZoneSet). length x.places) sets s);
     few_sets = let h = length_push sets s in omega (arith, h);
     few_places = let m = keeps.few_places in omega (arith, m);
   }
 
 -- ---- activations
 
-and_no : (a b : Bool) → b ≡ false → (a && b) ≡ false
-and_no true b e = e
-and_no false b e = refl
-
-and_yes : (a b : Bool) → a ≡ true → b ≡ true → (a && b) ≡ true
-and_yes a b e f = ap (λ c. c && b) e ∙ f
-
-take_slice : {X : Type 0} (xs : List X) (i : ℕ) (x : X) → slice_get xs i ≡ Some x → take (i + 1) xs ≡ take i xs ++ x ∷ []
-take_slice [] i x e = absurd (cc)
-take_slice (y ∷ ys) zero x e = let is : y ≡ x = cc in ap (λ z. z ∷ []) is
-take_slice (y ∷ ys) (suc i) x e = ap (λ (n : ℕ). take n (y ∷ ys)) (let s : suc i + 1 ≡ suc (i + 1) = omega arith in s) ∙ ap (λ l. y ∷ l) (take_slice ys i x e)
+-- a number is below another where its order isn't above or the same
+below_is : (x y : ℕ) → ltb x y ≡ not (is_ge (nat_cmp x y))
+below_is x y = by (nat_cmp x y) (ranked x y (nat_cmp x y) refl)
+  where
+    by : (o : Ordering) → MatchOrdering o (x < y) (x ≡ y) (y < x) → ltb x y ≡ not (is_ge o)
+    by Less lt = lt-ltb x y lt
+    by Equal is = le-ltb x y (omega (arith, is))
+    by Greater gt = le-ltb x y (omega (arith, gt))
 
 module _ (m : ℕ) where
   not_later : (l : List Activation) (i : ℕ) (a : Activation) → slice_get l i ≡ Some a → ltb a.moment m ≡ false → is_later l m ≡ false
   not_later [] i a e fails = absurd (cc)
   not_later (b ∷ l) zero a e fails = let is : b ≡ a = cc in ap (λ c. c && is_later l m) (ap (λ (z : Activation). ltb z.moment m) is ∙ fails)
-  not_later (b ∷ l) (suc i) a e fails = and_no (ltb b.moment m) (is_later l m) (not_later l i a e fails)
+  not_later (b ∷ l) (suc i) a e fails = and_right (ltb b.moment m) (is_later l m) (not_later l i a e fails)
 
-  module _ (l : List Activation) (i : ℕ) (a : Activation) (there : slice_get l i ≡ Some a) (x y : ℕ) (y_is : y ≡ a.moment) (x_is : x ≡ m) where
-    pub later_no : x ≤ y → false ≡ is_later l m
-    later_no le = sym (not_later l i a there (ltb_no a.moment m (omega (arith, y_is, x_is))))
+  module _ (l : List Activation) (i : ℕ) (a : Activation) (there : slice_get l i ≡ Some a) where
+    pub later_no : is_ge (nat_cmp a.moment m) ≡ true → false ≡ is_later l m
+    later_no e = sym (not_later l i a there (below_is a.moment m ∙ ap not e))
 
-    pub later_more : y < x → is_later (take i l) m ≡ true → is_later (take (i + 1) l) m ≡ true
-    later_more lt was =
+    pub later_more : is_ge (nat_cmp a.moment m) ≡ false → is_later (take i l) m ≡ true → is_later (take (i + 1) l) m ≡ true
+    later_more e was =
         ap (λ k. is_later k m) (take_slice l i a there) ∙ list_all-append (λ (z : Activation). ltb z.moment m) (take i l) (a ∷ [])
-        ∙ and_yes (is_later (take i l) m) (ltb a.moment m && true) was (and_yes (ltb a.moment m) true (lt-ltb a.moment m (omega (arith, y_is, x_is))) refl)
+        ∙ and_from (is_later (take i l) m) (ltb a.moment m && true) was (and_from (ltb a.moment m) true (below_is a.moment m ∙ ap not e) refl)

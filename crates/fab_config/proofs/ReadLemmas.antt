@@ -1,8 +1,8 @@
 -- The lines of a text, one after another, and the value at their end.
-use Rattle.std.proofs.Common.{◌≡◌, ℕ, ◌+◌, ◌<◌, ◌^◌, List, [], ◌∷◌, length, Bool, true, ◌&&◌, Option, Some, None, Result, Ok, Err, refl, sym, ◌∙◌, ap, arith, leb}
+use Rattle.std.proofs.Common.{◌≡◌, ℕ, ◌+◌, ◌<◌, ◌^◌, List, [], ◌∷◌, length, Bool, true, Option, Some, None, Result, Ok, Err, refl, sym, ◌∙◌, ap, arith, leb}
 use Rattle.std.specs.Prelude.{IsTrue}
 use Rattle.std.specs.Option.{unwrap_or}
-use Rattle.std.proofs.lemmas.Bool.{lt-ltb}
+use Rattle.std.proofs.lemmas.Bool.{lt-ltb, and_from}
 use Rattle.fab_config.specs.Settings.{Settings, is_between, is_station, is_in_range}
 use Rattle.fab_config.specs.Lines.{lines_of}
 use Rattle.fab_config.specs.Fitting.{Fits, passes}
@@ -43,12 +43,6 @@ default_passes : (test : ℕ → Bool) (o : Option ℕ) (d : ℕ) → passes tes
 default_passes test None d p e = e
 default_passes test (Some x) d p e = p
 
-and_of : (a b : Bool) → a ≡ true → b ≡ true → (a && b) ≡ true
-and_of a b e f = ap (λ c. c && b) e ∙ f
-
-value_of : (x : Bool) → x ≡ true → IsTrue x
-value_of x e = e
-
 pub fits_in_range : (d : Draft) (mac : List ℕ) (vlan switch : ℕ) → Fits d → d.fcf_mac ≡ Some mac → d.vlan ≡ Some vlan → switch < 2 ^ 64
     → IsTrue (is_in_range (record {
       switch = switch;
@@ -76,7 +70,7 @@ fits_in_range d mac vlan switch fit is_mac is_vlan small =
     let a8 = default_passes (is_between 250 90000) d.period 8000 fit.period refl in
     let a9 = default_passes (is_between 10 1000) d.window 100 fit.window refl in
     let a10 = default_passes (is_between 1 1000) d.limit 240 fit.limit refl in
-    and_of _ _ (and_of _ _ (and_of _ _ (and_of _ _ (and_of _ _ (and_of _ _ (and_of _ _ (and_of _ _ (and_of _ _ (and_of _ _ (and_of _ _ (and_of _ _ a1 a2) a3) a4) a5) a6) a7) a8) a9) a10) fit.zones) fit.sets) fit.activations
+    and_from _ _ (and_from _ _ (and_from _ _ (and_from _ _ (and_from _ _ (and_from _ _ (and_from _ _ (and_from _ _ (and_from _ _ (and_from _ _ (and_from _ _ (and_from _ _ a1 a2) a3) a4) a5) a6) a7) a8) a9) a10) fit.zones) fit.sets) fit.activations
 
 module _ (d : Draft) (mac : List ℕ) (vlan switch map domain pool priority period window limit : ℕ) (zones : List Zone) (sets : List ZoneSet) (activations : List Activation) where
   pub finish_in_range : Fits d → d.fcf_mac ≡ Some mac → d.vlan ≡ Some vlan → switch < 2 ^ 64 → map ≡ unwrap_or d.map 0x0efc00 → domain ≡ unwrap_or d.domain 1 → pool ≡ unwrap_or d.pool 256 → priority ≡ unwrap_or d.priority 128

@@ -5,7 +5,7 @@ use Rattle.std.specs.List.{list_all, list_any, flat_map, sum_by}
 use Rattle.std.specs.Option.{option_and_then}
 use Rattle.std.specs.Fmt.{decimal}
 use Rattle.std.proofs.lemmas.List.{append_assoc, append-nil, length-append}
-use Rattle.std.proofs.lemmas.Bool.{leb-true, le-leb, ltb-true, eqb-true}
+use Rattle.std.proofs.lemmas.Bool.{leb-true, le-leb, ltb-true, eqb-true, and_parts, and_from}
 use Rattle.fab_base.specs.Layout.{spelled, big_endian}
 use Rattle.fab_base.proofs.LayoutLemmas.{length-spelled, big_endian-spelled}
 use Rattle.fab_config.specs.Settings.{Settings, is_between, is_station, is_zone_name, same_bytes, all_differ, are_zones, are_sets, are_activations, do_rise, is_in_range}
@@ -29,15 +29,13 @@ use Rattle.fab_config.specs.Text.{decoded}
 use Rattle.fab_config.proofs.LengthLemmas.{name_short, octets_length, zones_length, sets_length, activations_length, word_length, number_length}
 use Rattle.fab_config.proofs.RangeLemmas.{Parts, parts}
 use Rattle.fab_config.proofs.ListBack.{is_typed, AreNames, are_names, name_at_ok, sets_tests, zones_read, sets_read, activations_read}
-
-and_of : (a b : Bool) → a ≡ true → b ≡ true → (a && b) ≡ true
-and_of a b e f = ap (λ c. c && b) e ∙ f
+use Rattle.fab_config.proofs.ListLemmas.{all_more}
 
 regroup : (a b c d e f g h i j r : List ℕ) → (a ++ b ++ c ++ d) ++ ((e ++ f ++ g ++ h ++ i ++ j) ++ r) ≡ a ++ (b ++ (c ++ (d ++ (e ++ (f ++ (g ++ (h ++ (i ++ (j ++ r)))))))))
 regroup a b c d e f g h i j r = simp append_assoc
 
 one_word : (w : List ℕ) → (is_word w && leb 1 (length w)) ≡ true → are_words (w ∷ []) ≡ true
-one_word w h = and_of (is_word w && leb 1 (length w)) true h refl
+one_word w h = and_from (is_word w && leb 1 (length w)) true h refl
 
 -- the keys of a configuration
 pub record HasKeys (c : Settings) : Type 0 where
@@ -55,11 +53,7 @@ pub record HasKeys (c : Settings) : Type 0 where
   pub limit : is_between 1 1000 c.limit ≡ true
 
 small : (least most n : ℕ) → most < 2 ^ 64 → is_between least most n ≡ true → n < 2 ^ 64
-small least most n lt h = let m : n ≤ most = leb-true n most (both (leb least n) (leb n most) h) in omega (arith, m, lt)
-  where
-    both : (a b : Bool) → (a && b) ≡ true → b ≡ true
-    both true b h = h
-    both false b h = absurd (cc)
+small least most n lt h = let m : n ≤ most = leb-true n most (and_parts (leb least n) (leb n most) h).1 in omega (arith, m, lt)
 
 abbrev pub keys_draft : Settings → Draft
 keys_draft c = record {
@@ -89,12 +83,8 @@ map_back n h =
     ap (λ (o : Option (List ℕ)). option_and_then (λ (l : List ℕ). cond (is_between 0x0efc00 0x0efcff (big_endian l)) (Some (big_endian l)) None) o) (octets_of_back 3 (spelled 3 n) (omega arith) (length-spelled 3 n) (spelled_bytes 3 n))
     ∙ ap (λ (m : ℕ). cond (is_between 0x0efc00 0x0efcff m) (Some m) None) (big_endian-spelled 3 n fits) ∙ ap (λ t. cond t (Some n) None) h
   where
-    both : (a b : Bool) → (a && b) ≡ true → b ≡ true
-    both true b h = h
-    both false b h = absurd (cc)
-
     small_map : (n : ℕ) → is_between 0x0efc00 0x0efcff n ≡ true → n < 256 ^ 3
-    small_map n h = let m : n ≤ 0x0efcff = leb-true n 0x0efcff (both (leb 0x0efc00 n) (leb n 0x0efcff) h) in omega (arith, m)
+    small_map n h = let m : n ≤ 0x0efcff = leb-true n 0x0efcff (and_parts (leb 0x0efc00 n) (leb n 0x0efcff) h).1 in omega (arith, m)
 
 pub keys_read : (c : Settings) (rest : List ℕ) → HasKeys c → lines_read 1 NOTHING (lines_of (addresses_text c ++ (numbers_text c ++ rest))) ≡ lines_read 11 (keys_draft c) (lines_of rest)
 unfolding keyword_of
@@ -166,34 +156,26 @@ lines_back c keys zones typed sets activations zone_ok set_ok =
         flat : (k n z s a : List ℕ) → k ++ n ++ z ++ s ++ a ≡ k ++ (n ++ (z ++ (s ++ a)))
         flat k n z s a = simp append_assoc
 
-both : (a b : Bool) → (a && b) ≡ true → (a ≡ true) × (b ≡ true)
-both true b h = (refl, h)
-both false b h = absurd (cc)
-
-all_more : {X : Type 0} (p q : X → Bool) → ((x : X) → p x ≡ true → q x ≡ true) → (xs : List X) → list_all p xs ≡ true → list_all q xs ≡ true
-all_more p q more [] h = refl
-all_more p q more (x ∷ xs) h = let two = both (p x) (list_all p xs) h in and_of (q x) (list_all q xs) (more x two.0) (all_more p q more xs two.1)
-
 zone_names_ok : (l : List Zone) → are_zones l ≡ true → AreNames (zone_names l)
 zone_names_ok l h =
     let check : Zone → Bool = λ (y : Zone). is_zone_name y.name && ltb 0 (length y.members) && all_differ (λ x y. eqb x y) y.members in
     let same : Zone → Zone → Bool = λ (x : Zone) (y : Zone). same_bytes x.name y.name in
-    let one = both (list_all check l && all_differ same l && leb (length l) 1000) (leb (sum_by (λ (y : Zone). length y.members) l) 20000) h in
-    let two = both (list_all check l && all_differ same l) (leb (length l) 1000) one.0 in
-    let three = both (list_all check l) (all_differ same l) two.0 in
-    are_names (λ (z : Zone). z.name) l three.1 (all_more check (λ (z : Zone). is_zone_name z.name) (λ z k. (both (is_zone_name z.name) (ltb 0 (length z.members)) (both (is_zone_name z.name && ltb 0 (length z.members)) (all_differ (λ x y. eqb x y) z.members) k).0).0) l three.0)
+    let one = and_parts (list_all check l && all_differ same l && leb (length l) 1000) (leb (sum_by (λ (y : Zone). length y.members) l) 20000) h in
+    let two = and_parts (list_all check l && all_differ same l) (leb (length l) 1000) one.0 in
+    let three = and_parts (list_all check l) (all_differ same l) two.0 in
+    are_names (λ (z : Zone). z.name) l three.1 (all_more check (λ (z : Zone). is_zone_name z.name) (λ z k. (and_parts (is_zone_name z.name) (ltb 0 (length z.members)) (and_parts (is_zone_name z.name && ltb 0 (length z.members)) (all_differ (λ x y. eqb x y) z.members) k).0).0) l three.0)
 
 set_names_ok : (n : ℕ) (l : List ZoneSet) → are_sets n l ≡ true → AreNames (set_names l)
 set_names_ok n l h =
     let check : ZoneSet → Bool = λ (y : ZoneSet). is_zone_name y.name && ltb 0 (length y.places) && list_all (λ p. ltb p n) y.places && all_differ (λ x y. eqb x y) y.places in
     let same : ZoneSet → ZoneSet → Bool = λ (x : ZoneSet) (y : ZoneSet). same_bytes x.name y.name in
-    let one = both (list_all check l && all_differ same l && leb (length l) 64) (leb (sum_by (λ (y : ZoneSet). length y.places) l) 4000) h in
-    let two = both (list_all check l && all_differ same l) (leb (length l) 64) one.0 in
-    let three = both (list_all check l) (all_differ same l) two.0 in
+    let one = and_parts (list_all check l && all_differ same l && leb (length l) 64) (leb (sum_by (λ (y : ZoneSet). length y.places) l) 4000) h in
+    let two = and_parts (list_all check l && all_differ same l) (leb (length l) 64) one.0 in
+    let three = and_parts (list_all check l) (all_differ same l) two.0 in
     are_names (λ (z : ZoneSet). z.name) l three.1 (all_more check (λ (z : ZoneSet). is_zone_name z.name) (λ z k.
-    let a = both (is_zone_name z.name && ltb 0 (length z.places) && list_all (λ p. ltb p n) z.places) (all_differ (λ x y. eqb x y) z.places) k in
-    let b = both (is_zone_name z.name && ltb 0 (length z.places)) (list_all (λ p. ltb p n) z.places) a.0 in
-    (both (is_zone_name z.name) (ltb 0 (length z.places)) b.0).0) l three.0)
+    let a = and_parts (is_zone_name z.name && ltb 0 (length z.places) && list_all (λ p. ltb p n) z.places) (all_differ (λ x y. eqb x y) z.places) k in
+    let b = and_parts (is_zone_name z.name && ltb 0 (length z.places)) (list_all (λ p. ltb p n) z.places) a.0 in
+    (and_parts (is_zone_name z.name) (ltb 0 (length z.places)) b.0).0) l three.0)
 
 pub parts_of : (c : Settings) → IsTrue (is_in_range c) → Parts (ltb c.switch (2 ^ 64)) (is_station c.fcf_mac) (is_between 0x0efc00 0x0efcff c.fc_map) (is_between 1 4094 c.vlan) (is_between 1 239 c.domain) (is_between 1 60000 c.pool) (leb c.priority 255)
     (is_between 250 90000 c.period) (is_between 10 1000 c.window) (is_between 1 1000 c.limit) (are_zones c.zones) (are_sets (length c.zones) c.sets) (are_activations (length c.sets) c.activations)
@@ -204,7 +186,7 @@ parts_of c h =
 pub keys_of : (c : Settings) → IsTrue (is_in_range c) → IsTyped c → HasKeys c
 keys_of c h typed =
     let p = parts_of c h in
-    let len = both (eqb (length c.fcf_mac) 6) (eqb (get_or c.fcf_mac 0 0 % 2) 0) (both (eqb (length c.fcf_mac) 6 && eqb (get_or c.fcf_mac 0 0 % 2) 0) (list_any (λ b. ltb 0 b) c.fcf_mac) p.b_is).0 in
+    let len = and_parts (eqb (length c.fcf_mac) 6) (eqb (get_or c.fcf_mac 0 0 % 2) 0) (and_parts (eqb (length c.fcf_mac) 6 && eqb (get_or c.fcf_mac 0 0 % 2) 0) (list_any (λ b. ltb 0 b) c.fcf_mac) p.b_is).0 in
     record {
       mac = p.b_is;
       bytes = typed.bytes;
@@ -214,7 +196,7 @@ keys_of c h typed =
       vlan = p.d_is;
       domain = p.e_is;
       pool = p.f_is;
-      priority = and_of (leb 0 c.priority) (leb c.priority 255) (le-leb 0 c.priority (omega arith)) p.g_is;
+      priority = and_from (leb 0 c.priority) (leb c.priority 255) (le-leb 0 c.priority (omega arith)) p.g_is;
       period = p.h_is;
       window = p.i_is;
       limit = p.j_is;
@@ -226,15 +208,15 @@ written_back c h typed =
     lines_back c (keys_of c h typed) p.k_is typed.members p.l_is p.m_is (zone_names_ok c.zones p.k_is) (set_names_ok (length c.zones) c.sets p.l_is)
 
 top : (least most n : ℕ) → is_between least most n ≡ true → n ≤ most
-top least most n h = leb-true n most (both (leb least n) (leb n most) h).1
+top least most n h = leb-true n most (and_parts (leb least n) (leb n most) h).1
 
 zone_names_are : (l : List Zone) → are_zones l ≡ true → list_all (λ (z : Zone). is_zone_name z.name) l ≡ true
 zone_names_are l h =
     let check : Zone → Bool = λ (y : Zone). is_zone_name y.name && ltb 0 (length y.members) && all_differ (λ x y. eqb x y) y.members in
     let same : Zone → Zone → Bool = λ (x : Zone) (y : Zone). same_bytes x.name y.name in
-    let one = both (list_all check l && all_differ same l && leb (length l) 1000) (leb (sum_by (λ (y : Zone). length y.members) l) 20000) h in
-    let two = both (list_all check l && all_differ same l) (leb (length l) 1000) one.0 in
-    all_more check (λ (z : Zone). is_zone_name z.name) (λ z k. (both (is_zone_name z.name) (ltb 0 (length z.members)) (both (is_zone_name z.name && ltb 0 (length z.members)) (all_differ (λ x y. eqb x y) z.members) k).0).0) l (both (list_all check l) (all_differ same l) two.0).0
+    let one = and_parts (list_all check l && all_differ same l && leb (length l) 1000) (leb (sum_by (λ (y : Zone). length y.members) l) 20000) h in
+    let two = and_parts (list_all check l && all_differ same l) (leb (length l) 1000) one.0 in
+    all_more check (λ (z : Zone). is_zone_name z.name) (λ z k. (and_parts (is_zone_name z.name) (ltb 0 (length z.members)) (and_parts (is_zone_name z.name && ltb 0 (length z.members)) (all_differ (λ x y. eqb x y) z.members) k).0).0) l (and_parts (list_all check l) (all_differ same l) two.0).0
 
 keys_length : (c : Settings) → HasKeys c → length (addresses_text c) + length (numbers_text c) ≤ 300
 keys_length c h =
@@ -287,10 +269,10 @@ written_length c h typed =
     let set_ok : list_all (λ (y : ZoneSet). is_zone_name y.name) c.sets ≡ true = all_more check (λ (y : ZoneSet). is_zone_name y.name) (λ y k. (split y (length c.zones) k).0) c.sets tests in
     let lz = zones_length c.zones names in
     let ls = sets_length c.zones (length c.zones) (λ q lt. name_short (name_at (zone_names c.zones) q) (name_at_ok (λ (y : Zone). y.name) c.zones q lt names)) c.sets
-    (all_more check (λ (y : ZoneSet). is_zone_name y.name && list_all (λ p. ltb p (length c.zones)) y.places) (λ y k. let q = split y (length c.zones) k in and_of (is_zone_name y.name) (list_all (λ p. ltb p (length c.zones)) y.places) q.0 q.1) c.sets tests) in
-    let acts = both (list_all (λ (y : Activation). ltb y.set (length c.sets) && leb y.moment 4294967295999) c.activations && do_rise c.activations) (leb (length c.activations) 64) p.m_is in
+    (all_more check (λ (y : ZoneSet). is_zone_name y.name && list_all (λ p. ltb p (length c.zones)) y.places) (λ y k. let q = split y (length c.zones) k in and_from (is_zone_name y.name) (list_all (λ p. ltb p (length c.zones)) y.places) q.0 q.1) c.sets tests) in
+    let acts = and_parts (list_all (λ (y : Activation). ltb y.set (length c.sets) && leb y.moment 4294967295999) c.activations && do_rise c.activations) (leb (length c.activations) 64) p.m_is in
     let la = activations_length c.sets (length c.sets) (λ q lt. name_short (name_at (set_names c.sets) q) (name_at_ok (λ (y : ZoneSet). y.name) c.sets q lt set_ok)) c.activations
-    (both (list_all (λ (y : Activation). ltb y.set (length c.sets) && leb y.moment 4294967295999) c.activations) (do_rise c.activations) acts.0).0 in
+    (and_parts (list_all (λ (y : Activation). ltb y.set (length c.sets) && leb y.moment 4294967295999) c.activations) (do_rise c.activations) acts.0).0 in
     let few_a : length c.activations ≤ 64 = leb-true (length c.activations) 64 acts.1 in
     let zb = zone_bounds c.zones p.k_is in
     let sb = set_bounds (length c.zones) c.sets p.l_is in
@@ -306,23 +288,23 @@ written_length c h typed =
 
     split : (y : ZoneSet) (n : ℕ) → (is_zone_name y.name && ltb 0 (length y.places) && list_all (λ p. ltb p n) y.places && all_differ (λ x y. eqb x y) y.places) ≡ true → (is_zone_name y.name ≡ true) × (list_all (λ p. ltb p n) y.places ≡ true)
     split y n k =
-        let a = both (is_zone_name y.name && ltb 0 (length y.places) && list_all (λ p. ltb p n) y.places) (all_differ (λ x y. eqb x y) y.places) k in
-        let b = both (is_zone_name y.name && ltb 0 (length y.places)) (list_all (λ p. ltb p n) y.places) a.0 in
-        ((both (is_zone_name y.name) (ltb 0 (length y.places)) b.0).0, b.1)
+        let a = and_parts (is_zone_name y.name && ltb 0 (length y.places) && list_all (λ p. ltb p n) y.places) (all_differ (λ x y. eqb x y) y.places) k in
+        let b = and_parts (is_zone_name y.name && ltb 0 (length y.places)) (list_all (λ p. ltb p n) y.places) a.0 in
+        ((and_parts (is_zone_name y.name) (ltb 0 (length y.places)) b.0).0, b.1)
 
     zone_bounds : (l : List Zone) → are_zones l ≡ true → (length l ≤ 1000) × (sum_by (λ (y : Zone). length y.members) l ≤ 20000)
     zone_bounds l h =
         let check : Zone → Bool = λ (y : Zone). is_zone_name y.name && ltb 0 (length y.members) && all_differ (λ x y. eqb x y) y.members in
         let same : Zone → Zone → Bool = λ (x : Zone) (y : Zone). same_bytes x.name y.name in
-        let one = both (list_all check l && all_differ same l && leb (length l) 1000) (leb (sum_by (λ (y : Zone). length y.members) l) 20000) h in
-        (leb-true (length l) 1000 (both (list_all check l && all_differ same l) (leb (length l) 1000) one.0).1, leb-true (sum_by (λ (y : Zone). length y.members) l) 20000 one.1)
+        let one = and_parts (list_all check l && all_differ same l && leb (length l) 1000) (leb (sum_by (λ (y : Zone). length y.members) l) 20000) h in
+        (leb-true (length l) 1000 (and_parts (list_all check l && all_differ same l) (leb (length l) 1000) one.0).1, leb-true (sum_by (λ (y : Zone). length y.members) l) 20000 one.1)
 
     set_bounds : (n : ℕ) (l : List ZoneSet) → are_sets n l ≡ true → (length l ≤ 64) × (sum_by (λ (y : ZoneSet). length y.places) l ≤ 4000)
     set_bounds n l h =
         let check : ZoneSet → Bool = λ (y : ZoneSet). is_zone_name y.name && ltb 0 (length y.places) && list_all (λ p. ltb p n) y.places && all_differ (λ x y. eqb x y) y.places in
         let same : ZoneSet → ZoneSet → Bool = λ (x : ZoneSet) (y : ZoneSet). same_bytes x.name y.name in
-        let one = both (list_all check l && all_differ same l && leb (length l) 64) (leb (sum_by (λ (y : ZoneSet). length y.places) l) 4000) h in
-        (leb-true (length l) 64 (both (list_all check l && all_differ same l) (leb (length l) 64) one.0).1, leb-true (sum_by (λ (y : ZoneSet). length y.places) l) 4000 one.1)
+        let one = and_parts (list_all check l && all_differ same l && leb (length l) 64) (leb (sum_by (λ (y : ZoneSet). length y.places) l) 4000) h in
+        (leb-true (length l) 64 (and_parts (list_all check l && all_differ same l) (leb (length l) 64) one.0).1, leb-true (sum_by (λ (y : ZoneSet). length y.places) l) 4000 one.1)
 
     total : (k n z s a zs ms ss ps acts w : ℕ) → w ≡ k + n + z + s + a → k + n ≤ 300 → z ≤ 70 * zs + 24 * ms → s ≤ 73 * ss + 65 * ps → a ≤ 88 * acts → zs ≤ 1000 → ms ≤ 20000 → ss ≤ 64 → ps ≤ 4000 → acts ≤ 64 → w ≤ 1048576
     total k n z s a zs ms ss ps acts w e b1 b2 b3 b4 b5 b6 b7 b8 b9 = omega arith

@@ -3,7 +3,7 @@ use Rattle.std.proofs.Common.{◌≡◌, ℕ, zero, suc, ◌+◌, ◌-◌, ◌*�
 use Rattle.std.specs.Prelude.{IsTrue}
 use Rattle.std.specs.List.{list_all, list_any, sum_by}
 use Rattle.std.specs.Option.{option_map, option_and_then, unwrap_or}
-use Rattle.std.proofs.lemmas.Bool.{ltb-true, lt-ltb, eqb-true}
+use Rattle.std.proofs.lemmas.Bool.{ltb-true, lt-ltb, eqb-true, and_parts, and_from}
 use Rattle.fab_base.specs.Layout.{big_endian}
 use Rattle.fab_base.proofs.LayoutLemmas.{AreBytes, big_endian-fits}
 use Rattle.fab_config.specs.Settings.{Settings, is_between, is_station, is_in_range}
@@ -24,7 +24,7 @@ use Rattle.fab_config.specs.declared.keyword.Keyword.TheVariants.{FcfMac, Vlan, 
 use Rattle.fab_config.proofs.RangeLemmas.{between}
 use Rattle.fab_config.proofs.ValueLemmas.{are_bytes}
 use Rattle.fab_config.proofs.ListBack.{is_typed}
-use Rattle.fab_config.proofs.FitLemmas.{and_both, and_of, IsPut, put_of, all_push, listed_below, once_passes, changes_of, line_keeps, line_fits}
+use Rattle.fab_config.proofs.FitLemmas.{IsPut, put_of, all_push, listed_below, once_passes, changes_of, line_keeps, line_fits}
 use Rattle.fab_config.proofs.ReadLemmas.{fits_in_range}
 use Rattle.fab_config.proofs.RoundLemmas.{decoded_back}
 
@@ -54,14 +54,14 @@ octets_bytes (h ∷ k ∷ []) l e = by (octet h k) refl e
   where
     by : (o : Option ℕ) → octet h k ≡ o → with_octet o (Some []) ≡ Some l → are_bytes l ≡ true
     by None f g = absurd (cc)
-    by (Some b) f g = let is : b ∷ [] ≡ l = cc in ap are_bytes (sym is) ∙ and_of (ltb b 256) true (lt-ltb b 256 (octet_below h k b f)) refl
+    by (Some b) f g = let is : b ∷ [] ≡ l = cc in ap are_bytes (sym is) ∙ and_from (ltb b 256) true (lt-ltb b 256 (octet_below h k b f)) refl
 octets_bytes (h ∷ k ∷ c ∷ r) l e = by (eqb c 58) (octet h k) (octets r) refl (octets_bytes r) e
   where
     by : (t : Bool) (o : Option ℕ) (p : Option (List ℕ)) → octet h k ≡ o → ((m : List ℕ) → p ≡ Some m → are_bytes m ≡ true) → cond t (with_octet o p) None ≡ Some l → are_bytes l ≡ true
     by false o p f ih g = absurd (cc)
     by true None p f ih g = absurd (cc)
     by true (Some b) None f ih g = absurd (cc)
-    by true (Some b) (Some m) f ih g = let is : b ∷ m ≡ l = cc in ap are_bytes (sym is) ∙ and_of (ltb b 256) (are_bytes m) (lt-ltb b 256 (octet_below h k b f)) (ih m refl)
+    by true (Some b) (Some m) f ih g = let is : b ∷ m ≡ l = cc in ap are_bytes (sym is) ∙ and_from (ltb b 256) (are_bytes m) (lt-ltb b 256 (octet_below h k b f)) (ih m refl)
 
 octets_of_bytes : (count : ℕ) (w l : List ℕ) → octets_of count w ≡ Some l → (length l ≡ count) × (are_bytes l ≡ true)
 octets_of_bytes count w l e = by (octets w) refl e
@@ -76,8 +76,8 @@ octets_of_bytes count w l e = by (octets w) refl e
 
 bytes_of : (l : List ℕ) → are_bytes l ≡ true → AreBytes l
 bytes_of [] h i = omega arith
-bytes_of (b ∷ l) h zero = ltb-true b 256 (and_both (ltb b 256) (are_bytes l) h).0
-bytes_of (b ∷ l) h (suc i) = bytes_of l (and_both (ltb b 256) (are_bytes l) h).1 i
+bytes_of (b ∷ l) h zero = ltb-true b 256 (and_parts (ltb b 256) (are_bytes l) h).0
+bytes_of (b ∷ l) h (suc i) = bytes_of l (and_parts (ltb b 256) (are_bytes l) h).1 i
 
 name_below : (w : List ℕ) (n : ℕ) → name w ≡ Some n → n < 2 ^ 64
 name_below w n e = by (octets_of 8 w) refl e
@@ -178,7 +178,7 @@ switch_small : (o : Option ℕ) (mac : List ℕ) → passes (λ n. ltb n (2 ^ 64
 switch_small (Some n) mac h s b = ltb-true n (2 ^ 64) h
 switch_small None mac h s b =
     let even = eqb (get_or mac 0 0 % 2) 0 in
-    let six = eqb-true (length mac) 6 (and_both (eqb (length mac) 6) even (and_both (eqb (length mac) 6 && even) (list_any (λ x. ltb 0 x) mac) s).0).0 in
+    let six = eqb-true (length mac) 6 (and_parts (eqb (length mac) 6) even (and_parts (eqb (length mac) 6 && even) (list_any (λ x. ltb 0 x) mac) s).0).0 in
     let fits = big_endian-fits mac (bytes_of mac b) in
     let m : 256 ^ length mac ≡ 2 ^ 48 = ap (λ (k : ℕ). 256 ^ k) six in
     omega (arith, fits, m)

@@ -7,24 +7,18 @@ use Rattle.std.specs.Int.{byte_at}
 use Rattle.std.proofs.lemmas.Fmt.{decimal_by_steps, decimal_digit, first_decimal}
 use Rattle.std.proofs.lemmas.List.{length_push}
 use Rattle.std.proofs.lemmas.List.Folds.{list_all-append}
-use Rattle.std.proofs.lemmas.Bool.{leb-true, le-leb, ltb-true, lt-ltb, eqb-true}
+use Rattle.std.proofs.lemmas.Bool.{leb-true, le-leb, ltb-true, lt-ltb, eqb-true, and_parts, and_from}
 use Rattle.fab_base.specs.Layout.{spelled, big_endian}
+use Rattle.fab_base.specs.Texts.{hex_digit, hex}
 use Rattle.fab_base.proofs.LayoutLemmas.{length-spelled, big_endian-spelled}
 use Rattle.fab_config.specs.Settings.{is_between}
 use Rattle.fab_config.specs.Values.{is_digit, digits_value, number, number_between, hex_value, octet, with_octet, octets, octets_of, name}
-use Rattle.fab_config.specs.Written.{hex_digit, pair_text, octets_text, name_text}
+use Rattle.fab_config.specs.Written.{octets_text, name_text}
 use Rattle.fab_config.proofs.HexLemmas.{behind, octets_step, some_of}
 use Rattle.fab_config.proofs.BackLemmas.{is_sign, is_word}
 
-and_of : (a b : Bool) → a ≡ true → b ≡ true → (a && b) ≡ true
-and_of a b e f = ap (λ c. c && b) e ∙ f
-
-and_both : (a b : Bool) → (a && b) ≡ true → (a ≡ true) × (b ≡ true)
-and_both true b h = (refl, h)
-and_both false b h = absurd (cc)
-
 between_is : (least most n : ℕ) → least ≤ n → n ≤ most → is_between least most n ≡ true
-between_is least most n low high = and_of (leb least n) (leb n most) (le-leb least n low) (le-leb n most high)
+between_is least most n low high = and_from (leb least n) (leb n most) (le-leb least n low) (le-leb n most high)
 
 -- ---- decimal numbers
 
@@ -39,14 +33,14 @@ pub record IsDecimal (n : ℕ) (ds : List ℕ) : Type 0 where
 
 one_digit : (n : ℕ) → n < 10 → IsDecimal n ((48 + n) ∷ [])
 one_digit n lt = record {
-  digits = and_of (is_digit (48 + n)) true (between_is 48 57 (48 + n) (omega arith) (omega arith)) refl;
+  digits = and_from (is_digit (48 + n)) true (between_is 48 57 (48 + n) (omega arith) (omega arith)) refl;
   value = omega arith;
   some = omega arith;
 }
 
 more_digits : (n : ℕ) (ds : List ℕ) → 10 ≤ n → IsDecimal (n / 10) ds → IsDecimal n (ds ++ (48 + n % 10) ∷ [])
 more_digits n ds le h = record {
-  digits = list_all-append is_digit ds ((48 + n % 10) ∷ []) ∙ and_of (list_all is_digit ds) (is_digit (48 + n % 10) && true) h.digits (and_of (is_digit (48 + n % 10)) true (between_is 48 57 (48 + n % 10) (omega arith) (omega arith)) refl);
+  digits = list_all-append is_digit ds ((48 + n % 10) ∷ []) ∙ and_from (list_all is_digit ds) (is_digit (48 + n % 10) && true) h.digits (and_from (is_digit (48 + n % 10)) true (between_is 48 57 (48 + n % 10) (omega arith) (omega arith)) refl);
   value = value_push 0 (48 + n % 10) ds ∙ (let v = h.value in let e : 10 * digits_value 0 ds + (48 + n % 10 - 48) ≡ n = omega (arith, v) in e);
   some = let l = length_push ds (48 + n % 10) in omega (arith, l);
 }
@@ -56,8 +50,8 @@ decimal_is n fits = decimal_by_steps IsDecimal one_digit more_digits n fits
 
 number_of : (ds : List ℕ) → 1 ≤ length ds → list_all is_digit ds ≡ true → (get_or ds 0 0 ≡ 48 → ⊥) → number ds ≡ Some (digits_value 0 ds)
 number_of [] some all ne = absurd (omega arith)
-number_of (b ∷ []) some all ne = ap (λ t. cond t (Some (b - 48)) None) (and_both (is_digit b) true all).0 ∙ ap (λ (m : ℕ). Some m) (let e : b - 48 ≡ 10 * 0 + (b - 48) = omega arith in e)
-number_of (b ∷ c ∷ ds) some all ne = ap (λ t. cond t (Some (digits_value 0 (b ∷ c ∷ ds))) None) (and_of (not (eqb b 48)) (list_all is_digit (b ∷ c ∷ ds)) (by (eqb b 48) refl) all)
+number_of (b ∷ []) some all ne = ap (λ t. cond t (Some (b - 48)) None) (and_parts (is_digit b) true all).0 ∙ ap (λ (m : ℕ). Some m) (let e : b - 48 ≡ 10 * 0 + (b - 48) = omega arith in e)
+number_of (b ∷ c ∷ ds) some all ne = ap (λ t. cond t (Some (digits_value 0 (b ∷ c ∷ ds))) None) (and_from (not (eqb b 48)) (list_all is_digit (b ∷ c ∷ ds)) (by (eqb b 48) refl) all)
   where
     by : (t : Bool) → eqb b 48 ≡ t → not t ≡ true
     by true e = absurd (ne (eqb-true b 48 e))
@@ -82,14 +76,14 @@ between_back least most n fits h = ap (λ (o : Option ℕ). option_and_then (λ 
 digits_word : (ds : List ℕ) → list_all is_digit ds ≡ true → is_word ds ≡ true
 digits_word [] h = refl
 digits_word (b ∷ ds) h =
-    let both = and_both (is_digit b) (list_all is_digit ds) h in
-    let parts = and_both (leb 48 b) (leb b 57) both.0 in
+    let both = and_parts (is_digit b) (list_all is_digit ds) h in
+    let parts = and_parts (leb 48 b) (leb b 57) both.0 in
     let low : 48 ≤ b = leb-true 48 b parts.0 in
     let high : b ≤ 57 = leb-true b 57 parts.1 in
-    and_of (is_sign b) (is_word ds) (between_is 33 126 b (omega (arith, low)) (omega (arith, high))) (digits_word ds both.1)
+    and_from (is_sign b) (is_word ds) (between_is 33 126 b (omega (arith, low)) (omega (arith, high))) (digits_word ds both.1)
 
 pub decimal_word : (n : ℕ) → n < 2 ^ 64 → (is_word (decimal n) && leb 1 (length (decimal n))) ≡ true
-decimal_word n fits = let d = decimal_is n fits in and_of (is_word (decimal n)) (leb 1 (length (decimal n))) (digits_word (decimal n) d.digits) (le-leb 1 (length (decimal n)) d.some)
+decimal_word n fits = let d = decimal_is n fits in and_from (is_word (decimal n)) (leb 1 (length (decimal n))) (digits_word (decimal n) d.digits) (le-leb 1 (length (decimal n)) d.some)
 
 -- ---- pairs of digits
 
@@ -112,34 +106,34 @@ digit_back (suc (suc (suc (suc (suc (suc (suc (suc (suc (suc (suc (suc (suc (suc
 digit_back (suc (suc (suc (suc (suc (suc (suc (suc (suc (suc (suc (suc (suc (suc (suc zero))))))))))))))) h = refl
 digit_back (suc (suc (suc (suc (suc (suc (suc (suc (suc (suc (suc (suc (suc (suc (suc (suc d)))))))))))))))) h = absurd (omega arith)
 
-octet_back : (b : ℕ) → b < 256 → octet (hex_digit (b / 16)) (hex_digit (b % 16)) ≡ Some b
+octet_back : (b : ℕ) → b < 256 → octet (hex_digit (b / 16 % 16)) (hex_digit (b % 16)) ≡ Some b
 octet_back b lt =
-    ap (λ (o : Option ℕ). option_and_then (λ (x : ℕ). option_map (λ (y : ℕ). x * 16 + y) (hex_value (hex_digit (b % 16)))) o) (digit_back (b / 16) (omega arith))
-    ∙ ap (λ (o : Option ℕ). option_map (λ (y : ℕ). b / 16 * 16 + y) o) (digit_back (b % 16) (omega arith))
-    ∙ ap (λ (m : ℕ). Some m) (let e : b / 16 * 16 + b % 16 ≡ b = omega arith in e)
+    ap (λ (o : Option ℕ). option_and_then (λ (x : ℕ). option_map (λ (y : ℕ). x * 16 + y) (hex_value (hex_digit (b % 16)))) o) (digit_back (b / 16 % 16) (omega arith))
+    ∙ ap (λ (o : Option ℕ). option_map (λ (y : ℕ). b / 16 % 16 * 16 + y) o) (digit_back (b % 16) (omega arith))
+    ∙ ap (λ (m : ℕ). Some m) (let e : b / 16 % 16 * 16 + b % 16 ≡ b = omega arith in e)
 
 abbrev pub are_bytes : List ℕ → Bool
 are_bytes l = list_all (λ b. ltb b 256) l
 
-behind_back : (l : List ℕ) → are_bytes l ≡ true → behind (flat_map (λ c. 58 ∷ pair_text c) l) ≡ Some l
+behind_back : (l : List ℕ) → are_bytes l ≡ true → behind (flat_map (λ c. 58 ∷ hex 2 c) l) ≡ Some l
 behind_back [] h = refl
 behind_back (b ∷ l) h =
-    let both = and_both (ltb b 256) (are_bytes l) h in
-    octets_step (hex_digit (b / 16)) (hex_digit (b % 16)) (flat_map (λ c. 58 ∷ pair_text c) l)
-    ∙ ap (λ (o : Option ℕ). with_octet o (behind (flat_map (λ c. 58 ∷ pair_text c) l))) (octet_back b (ltb-true b 256 both.0))
+    let both = and_parts (ltb b 256) (are_bytes l) h in
+    octets_step (hex_digit (b / 16 % 16)) (hex_digit (b % 16)) (flat_map (λ c. 58 ∷ hex 2 c) l)
+    ∙ ap (λ (o : Option ℕ). with_octet o (behind (flat_map (λ c. 58 ∷ hex 2 c) l))) (octet_back b (ltb-true b 256 both.0))
     ∙ ap (λ (o : Option (List ℕ)). with_octet (Some b) o) (behind_back l both.1)
 
 pub octets_back : (l : List ℕ) → 1 ≤ length l → are_bytes l ≡ true → octets (octets_text l) ≡ Some l
 octets_back [] some h = absurd (omega arith)
 octets_back (b ∷ l) some h =
-    let both = and_both (ltb b 256) (are_bytes l) h in
-    octets_step (hex_digit (b / 16)) (hex_digit (b % 16)) (flat_map (λ c. 58 ∷ pair_text c) l)
-    ∙ ap (λ (o : Option ℕ). with_octet o (behind (flat_map (λ c. 58 ∷ pair_text c) l))) (octet_back b (ltb-true b 256 both.0))
+    let both = and_parts (ltb b 256) (are_bytes l) h in
+    octets_step (hex_digit (b / 16 % 16)) (hex_digit (b % 16)) (flat_map (λ c. 58 ∷ hex 2 c) l)
+    ∙ ap (λ (o : Option ℕ). with_octet o (behind (flat_map (λ c. 58 ∷ hex 2 c) l))) (octet_back b (ltb-true b 256 both.0))
     ∙ ap (λ (o : Option (List ℕ)). with_octet (Some b) o) (behind_back l both.1)
 
 pub spelled_bytes : (k n : ℕ) → are_bytes (spelled k n) ≡ true
 spelled_bytes zero n = refl
-spelled_bytes (suc k) n = and_of (ltb (byte_at k n) 256) (are_bytes (spelled k n)) (lt-ltb (byte_at k n) 256 (below k n)) (spelled_bytes k n)
+spelled_bytes (suc k) n = and_from (ltb (byte_at k n) 256) (are_bytes (spelled k n)) (lt-ltb (byte_at k n) 256 (below k n)) (spelled_bytes k n)
   where
     below : (k n : ℕ) → byte_at k n < 256
     below zero n = let e : n % 256 < 256 = omega arith in e
@@ -160,22 +154,20 @@ digit_sign d lt = by (ltb d 10)
     by true = between_is 33 126 (48 + d) (omega arith) (omega arith)
     by false = between_is 33 126 (87 + d) (omega arith) (omega arith)
 
-colons_word : (l : List ℕ) → are_bytes l ≡ true → is_word (flat_map (λ c. 58 ∷ pair_text c) l) ≡ true
+colons_word : (l : List ℕ) → are_bytes l ≡ true → is_word (flat_map (λ c. 58 ∷ hex 2 c) l) ≡ true
 colons_word [] h = refl
 colons_word (b ∷ l) h =
-    let both = and_both (ltb b 256) (are_bytes l) h in
-    let lt : b < 256 = ltb-true b 256 both.0 in
-    let rest = flat_map (λ c. 58 ∷ pair_text c) l in
-    and_of (is_sign (hex_digit (b / 16))) (is_sign (hex_digit (b % 16)) && is_word rest) (digit_sign (b / 16) (omega (arith, lt)))
-    (and_of (is_sign (hex_digit (b % 16))) (is_word rest) (digit_sign (b % 16) (omega arith)) (colons_word l both.1))
+    let both = and_parts (ltb b 256) (are_bytes l) h in
+    let rest = flat_map (λ c. 58 ∷ hex 2 c) l in
+    and_from (is_sign (hex_digit (b / 16 % 16))) (is_sign (hex_digit (b % 16)) && is_word rest) (digit_sign (b / 16 % 16) (omega arith))
+    (and_from (is_sign (hex_digit (b % 16))) (is_word rest) (digit_sign (b % 16) (omega arith)) (colons_word l both.1))
 
 pub octets_word : (l : List ℕ) → 1 ≤ length l → are_bytes l ≡ true → (is_word (octets_text l) && leb 1 (length (octets_text l))) ≡ true
 octets_word [] some h = absurd (omega arith)
 octets_word (b ∷ l) some h =
-    let both = and_both (ltb b 256) (are_bytes l) h in
-    let lt : b < 256 = ltb-true b 256 both.0 in
-    let rest = flat_map (λ c. 58 ∷ pair_text c) l in
-    and_of (is_sign (hex_digit (b / 16)) && (is_sign (hex_digit (b % 16)) && is_word rest)) (leb 1 (suc (suc (length rest))))
-    (and_of (is_sign (hex_digit (b / 16))) (is_sign (hex_digit (b % 16)) && is_word rest) (digit_sign (b / 16) (omega (arith, lt)))
-    (and_of (is_sign (hex_digit (b % 16))) (is_word rest) (digit_sign (b % 16) (omega arith)) (colons_word l both.1)))
+    let both = and_parts (ltb b 256) (are_bytes l) h in
+    let rest = flat_map (λ c. 58 ∷ hex 2 c) l in
+    and_from (is_sign (hex_digit (b / 16 % 16)) && (is_sign (hex_digit (b % 16)) && is_word rest)) (leb 1 (suc (suc (length rest))))
+    (and_from (is_sign (hex_digit (b / 16 % 16))) (is_sign (hex_digit (b % 16)) && is_word rest) (digit_sign (b / 16 % 16) (omega arith))
+    (and_from (is_sign (hex_digit (b % 16))) (is_word rest) (digit_sign (b % 16) (omega arith)) (colons_word l both.1)))
     (le-leb 1 (suc (suc (length rest))) (omega arith))

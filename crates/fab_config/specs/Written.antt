@@ -1,23 +1,17 @@
 -- The one text that is written for a configuration.
-use Rattle.std.specs.Prelude.{ℕ, ◌+◌, ◌/◌, ◌%◌, nat_lt, if◌then◌else◌, List, [], ◌∷◌, ◌++◌, map, flat_map, unwrap_or, codes, decimal, slice_get}
+use Rattle.std.specs.Prelude.{ℕ, List, [], ◌∷◌, ◌++◌, map, flat_map, unwrap_or, codes, decimal, slice_get}
 use Rattle.fab_base.specs.Layout.{spelled}
+use Rattle.fab_base.specs.Texts.{hex}
 use Rattle.fab_config.specs.Settings.{Settings}
 use Rattle.fab_config.specs.Names.{zone_names, set_names}
 use Rattle.fab_config.specs.declared.Zone.{Zone}
 use Rattle.fab_config.specs.declared.ZoneSet.{ZoneSet}
 use Rattle.fab_config.specs.declared.Activation.{Activation}
 
-abbrev pub hex_digit : ℕ → ℕ
-hex_digit d = if nat_lt d 10 then 48 + d else 87 + d
-
--- the two digits of a byte
-abbrev pub pair_text : ℕ → List ℕ
-pair_text b = hex_digit (b / 16) ∷ hex_digit (b % 16) ∷ []
-
 -- octets in lower case, with colons between them
 abbrev pub octets_text : List ℕ → List ℕ
 octets_text [] = []
-octets_text (b ∷ l) = pair_text b ++ flat_map (λ c. 58 ∷ pair_text c) l
+octets_text (b ∷ l) = hex 2 b ++ flat_map (λ c. 58 ∷ hex 2 c) l
 
 abbrev pub name_text : ℕ → List ℕ
 name_text n = octets_text (spelled 8 n)

@@ -401,18 +401,11 @@ fn is_later(activations: &ActivationList, moment: Moment) -> bool
     ensures { result ≡ is_later_spec activations.now moment }
 {
     for index in 0..activations.len() {
-        if value(activations.at(index).unwrap().moment) >= value(moment) {
+        if activations.at(index).unwrap().moment >= moment {
             return false;
         }
     }
     true
-}
-
-// The milliseconds of a moment.
-fn value(moment: Moment) -> u64
-    ensures { result ≡ moment }
-{
-    moment.0
 }
 
 // A name of a zone or of a zone set (FC-GS-6, "zone name").

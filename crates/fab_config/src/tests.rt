@@ -14,15 +14,17 @@ const FULL: &str =
 const WRITTEN: &str =
     "fcf-mac 0e:fc:00:00:00:0a\nvlan 100\nswitch 10:00:00:05:1e:00:00:02\nfc-map 0e:fc:ff\ndomain 239\npool 60000\npriority 0\nperiod 250\nwindow 10\nlimit 1000\nzone z 10:00:00:1b:21:00:00:0a 10:00:00:1b:21:00:00:0b\nzone y-$^_9 10:00:00:1b:21:00:00:0c\nzoneset s1 y-$^_9 z\nzoneset s2 z\nactivate s2 0\nactivate s1 4294967295999\n";
 
-fn fault(alloc: Global, text: &str) -> Option<ConfigFault> {
-    match read_config(alloc, text.as_bytes()) {
-        Err(ConfigError::Fault(fault)) => Some(fault),
-        _ => None,
+// What reading a text answers.
+fn answer(alloc: Global, text: &[u8]) -> Result<(), ConfigError> {
+    match read_config(alloc, text) {
+        Ok(_) => Ok(()),
+        Err(error) => Err(error),
     }
 }
 
-fn is_read(alloc: Global, text: &str) -> bool {
-    read_config(alloc, text.as_bytes()).is_ok()
+// The answer to a text with this first fault.
+fn refused(line: u32, why: ConfigWhy) -> Result<(), ConfigError> {
+    Err(ConfigError::Fault(ConfigFault { line, why }))
 }
 
 #[test]
@@ -98,76 +100,91 @@ static FAULTS: [(&str, u32, ConfigWhy); 23] = [
 #[test]
 fn the_first_fault_is_told(rt: HostRuntime) {
     for (text, line, why) in &FAULTS {
-        let expected = ConfigFault {
-            line: *line,
-            why: *why,
-        };
-        assert_eq!(rt; fault(rt.alloc(), text), Some(expected), "of {text:?}");
+        assert_eq!(rt;
+            answer(rt.alloc(), text.as_bytes()),
+            refused(*line, *why),
+            "of {text:?}"
+        );
     }
 }
 
 #[test]
 fn key_given_twice(rt: HostRuntime) {
-    let expected = ConfigFault {
-        line: 3,
-        why: ConfigWhy::Twice,
-    };
     let text = "fcf-mac 00:05:1e:00:00:02\nvlan 100\nvlan 100\n";
-    assert_eq!(rt; fault(rt.alloc(), text), Some(expected));
+    assert_eq!(rt;
+        answer(rt.alloc(), text.as_bytes()),
+        refused(3, ConfigWhy::Twice)
+    );
 }
 
 #[test]
 fn required_key_missing(rt: HostRuntime) {
-    let expected = ConfigFault {
-        line: 2,
-        why: ConfigWhy::Missing,
-    };
     let text = "fcf-mac 00:05:1e:00:00:02\n";
-    assert_eq!(rt; fault(rt.alloc(), text), Some(expected));
+    assert_eq!(rt;
+        answer(rt.alloc(), text.as_bytes()),
+        refused(2, ConfigWhy::Missing)
+    );
 }
 
 #[test]
 fn vlan_out_of_range(rt: HostRuntime) {
-    let expected = ConfigFault {
-        line: 2,
-        why: ConfigWhy::Value,
-    };
     let text = "fcf-mac 00:05:1e:00:00:02\nvlan 5000\n";
-    assert_eq!(rt; fault(rt.alloc(), text), Some(expected));
+    assert_eq!(rt;
+        answer(rt.alloc(), text.as_bytes()),
+        refused(2, ConfigWhy::Value)
+    );
 }
 
 #[test]
 fn activation_of_an_unknown_set(rt: HostRuntime) {
-    let expected = ConfigFault {
-        line: 3,
-        why: ConfigWhy::Value,
-    };
     let text = "fcf-mac 00:05:1e:00:00:02\nvlan 100\nactivate s9 0\n";
-    assert_eq!(rt; fault(rt.alloc(), text), Some(expected));
+    assert_eq!(rt;
+        answer(rt.alloc(), text.as_bytes()),
+        refused(3, ConfigWhy::Value)
+    );
 }
 
-// A line, and whether it may stand.
-static BOUNDS: [(&str, bool); 20] = [
+// A zone, a zone set and its activation at 7.
+const ACTIVE: &str = "zone z 10:00:00:00:00:00:00:01\nzoneset s z\nactivate s 7\n";
+
+// A line, and whether it may stand behind those.
+static BOUNDS: [(&str, bool); 36] = [
     ("vlan 1", true),
     ("vlan 4094", true),
+    ("fc-map 0e:fb:ff", false),
+    ("fc-map 0e:fc:00", true),
+    ("fc-map 0e:fc:ff", true),
+    ("fc-map 0e:fd:00", false),
     ("domain 0", false),
     ("domain 1", true),
     ("domain 239", true),
     ("domain 240", false),
+    ("pool 0", false),
     ("pool 1", true),
+    ("pool 60000", true),
     ("pool 60001", false),
+    ("priority 0", true),
     ("priority 255", true),
     ("priority 256", false),
     ("period 249", false),
+    ("period 250", true),
     ("period 90000", true),
     ("period 90001", false),
     ("window 9", false),
+    ("window 10", true),
     ("window 1000", true),
     ("window 1001", false),
     ("limit 0", false),
     ("limit 1", true),
+    ("limit 1000", true),
     ("limit 1001", false),
     ("limit 18446744073709551617", false),
+    ("activate s 6", false),
+    ("activate s 7", false),
+    ("activate s 8", true),
+    ("activate s 4294967295999", true),
+    ("activate s 4294967296000", false),
+    ("activate t 8", false),
 ];
 
 #[test]
@@ -175,55 +192,130 @@ fn each_number_has_its_range(rt: HostRuntime) -> Result<(), Fail> {
     for (line, may_stand) in &BOUNDS {
         let alloc = rt.alloc();
         let text = if line.starts_with("vlan") {
-            format!(in alloc; "fcf-mac 0e:fc:00:00:00:0a\n{line}\n")?
+            format!(in alloc; "fcf-mac 0e:fc:00:00:00:0a\n\n{ACTIVE}{line}\n")?
         } else {
-            format!(in alloc; "{FIRST}{line}\n")?
+            format!(in alloc; "{FIRST}{ACTIVE}{line}\n")?
         };
-        assert_eq!(rt; is_read(alloc, text.as_str()), *may_stand, "of {line:?}");
+        let expected = if *may_stand {
+            Ok(())
+        } else {
+            refused(6, ConfigWhy::Value)
+        };
+        assert_eq!(rt; answer(alloc, text.as_bytes()), expected, "of {line:?}");
     }
     Ok(())
 }
 
-// A text with so many zones of one member each.
-fn with_zones(alloc: Global, count: u32) -> Result<String, AllocError> {
+// A text with so many zones, each of which lists what these words name.
+fn with_zones(alloc: Global, count: u32, members: &str) -> Result<String, AllocError> {
     let mut text = String::from_str(alloc, FIRST)?;
     for number in 0..count {
-        let line = format!(in alloc; "zone z{number} 10:00:00:00:00:00:00:01\n")?;
+        let line = format!(in alloc; "zone z{number}{members}\n")?;
+        text.push_str(line.as_str())?;
+    }
+    Ok(text)
+}
+
+const MEMBER: &str = " 10:00:00:00:00:00:00:01";
+
+#[test]
+fn one_thousand_zones_may_stand(rt: HostRuntime) -> Result<(), Fail> {
+    let alloc = rt.alloc();
+    let mut text = with_zones(alloc, 1000, MEMBER)?;
+    assert_eq!(rt; answer(alloc, text.as_bytes()), Ok(()));
+    text.push_str("zone y 10:00:00:00:00:00:00:01\n")?;
+    assert_eq!(rt;
+        answer(alloc, text.as_bytes()),
+        refused(1003, ConfigWhy::Limit)
+    );
+    Ok(())
+}
+
+// A hundred port names.
+fn hundred_members(alloc: Global) -> Result<String, AllocError> {
+    let mut members = String::new(alloc);
+    for high in 0..10 {
+        for low in 0..10 {
+            let member = format!(in alloc; " 10:00:00:00:00:00:00:{high}{low}")?;
+            members.push_str(member.as_str())?;
+        }
+    }
+    Ok(members)
+}
+
+#[test]
+fn twenty_thousand_members_may_stand(rt: HostRuntime) -> Result<(), Fail> {
+    let alloc = rt.alloc();
+    let members = hundred_members(alloc)?;
+    let mut text = with_zones(alloc, 200, members.as_str())?;
+    assert_eq!(rt; answer(alloc, text.as_bytes()), Ok(()));
+    text.push_str("zone y 10:00:00:00:00:00:00:01\n")?;
+    assert_eq!(rt;
+        answer(alloc, text.as_bytes()),
+        refused(203, ConfigWhy::Limit)
+    );
+    Ok(())
+}
+
+// A text with so many zone sets, each of which lists what these words name.
+fn with_sets(
+    alloc: Global,
+    mut text: String,
+    count: u32,
+    zones: &str,
+) -> Result<String, AllocError> {
+    for number in 0..count {
+        let line = format!(in alloc; "zoneset s{number}{zones}\n")?;
         text.push_str(line.as_str())?;
     }
     Ok(text)
 }
 
 #[test]
-fn one_thousand_zones_may_stand(rt: HostRuntime) -> Result<(), Fail> {
+fn sixty_four_zone_sets_may_stand(rt: HostRuntime) -> Result<(), Fail> {
     let alloc = rt.alloc();
-    assert!(rt; is_read(alloc, with_zones(alloc, 1000)?.as_str()));
-    let expected = ConfigFault {
-        line: 1003,
-        why: ConfigWhy::Limit,
-    };
+    let mut text = with_sets(alloc, with_zones(alloc, 1, MEMBER)?, 64, " z0")?;
+    assert_eq!(rt; answer(alloc, text.as_bytes()), Ok(()));
+    text.push_str("zoneset t z0\n")?;
     assert_eq!(rt;
-        fault(alloc, with_zones(alloc, 1001)?.as_str()),
-        Some(expected)
+        answer(alloc, text.as_bytes()),
+        refused(68, ConfigWhy::Limit)
     );
     Ok(())
 }
 
 #[test]
-fn sixty_four_zone_sets_may_stand(rt: HostRuntime) -> Result<(), Fail> {
+fn zone_sets_may_list_four_thousand_zones(rt: HostRuntime) -> Result<(), Fail> {
     let alloc = rt.alloc();
-    let mut text = with_zones(alloc, 1)?;
-    for number in 0..64 {
-        let line = format!(in alloc; "zoneset s{number} z0\n")?;
+    let mut zones = String::new(alloc);
+    for number in 0..100 {
+        let zone = format!(in alloc; " z{number}")?;
+        zones.push_str(zone.as_str())?;
+    }
+    let mut text = with_sets(alloc, with_zones(alloc, 100, MEMBER)?, 40, zones.as_str())?;
+    assert_eq!(rt; answer(alloc, text.as_bytes()), Ok(()));
+    text.push_str("zoneset t z0\n")?;
+    assert_eq!(rt;
+        answer(alloc, text.as_bytes()),
+        refused(143, ConfigWhy::Limit)
+    );
+    Ok(())
+}
+
+#[test]
+fn sixty_four_activations_may_stand(rt: HostRuntime) -> Result<(), Fail> {
+    let alloc = rt.alloc();
+    let mut text = with_sets(alloc, with_zones(alloc, 1, MEMBER)?, 1, " z0")?;
+    for moment in 0..64 {
+        let line = format!(in alloc; "activate s0 {moment}\n")?;
         text.push_str(line.as_str())?;
     }
-    assert!(rt; is_read(alloc, text.as_str()));
-    text.push_str("zoneset t z0\n")?;
-    let expected = ConfigFault {
-        line: 68,
-        why: ConfigWhy::Limit,
-    };
-    assert_eq!(rt; fault(alloc, text.as_str()), Some(expected));
+    assert_eq!(rt; answer(alloc, text.as_bytes()), Ok(()));
+    text.push_str("activate s0 64\n")?;
+    assert_eq!(rt;
+        answer(alloc, text.as_bytes()),
+        refused(69, ConfigWhy::Limit)
+    );
     Ok(())
 }
 
@@ -234,10 +326,13 @@ fn a_name_has_64_signs_at_most(rt: HostRuntime) -> Result<(), Fail> {
     for _ in 0..63 {
         name.push_str("_")?;
     }
-    let text = format!(in alloc; "{FIRST}zone {name} 10:00:00:00:00:00:00:01\n")?;
-    assert!(rt; is_read(alloc, text.as_str()));
-    let text = format!(in alloc; "{FIRST}zone {name}_ 10:00:00:00:00:00:00:01\n")?;
-    assert!(rt; !is_read(alloc, text.as_str()));
+    let text = format!(in alloc; "{FIRST}zone {name}{MEMBER}\n")?;
+    assert_eq!(rt; answer(alloc, text.as_bytes()), Ok(()));
+    let text = format!(in alloc; "{FIRST}zone {name}_{MEMBER}\n")?;
+    assert_eq!(rt;
+        answer(alloc, text.as_bytes()),
+        refused(3, ConfigWhy::Value)
+    );
     Ok(())
 }
 
@@ -248,15 +343,8 @@ fn a_text_has_1048576_bytes_at_most(rt: HostRuntime) -> Result<(), Fail> {
     text.extend_from_slice(FIRST.as_bytes())?;
     text.push(b'#')?;
     text.resize(1_048_576, b'x')?;
-    assert!(rt; read_config(alloc, &text).is_ok());
+    assert_eq!(rt; answer(alloc, &text), Ok(()));
     text.push(b'x')?;
-    let expected = ConfigFault {
-        line: 0,
-        why: ConfigWhy::Long,
-    };
-    match read_config(alloc, &text) {
-        Err(ConfigError::Fault(fault)) => assert_eq!(rt; fault, expected),
-        _ => assert!(rt; false, "the text is too long"),
-    }
+    assert_eq!(rt; answer(alloc, &text), refused(0, ConfigWhy::Long));
     Ok(())
 }

@@ -1,6 +1,7 @@
 // Writing a configuration text.
 ghost use Rattle.std.specs.Prelude.{◌≡◌, ◌<◌, ◌++◌, ◌∷◌, [], IfOk, OnOk, OnErr, flat_map, codes};
 ghost use Rattle.fab_base.specs.Layout.{spelled};
+ghost use Rattle.fab_base.specs.Texts.{hex, hex_digit as hex_digit_spec};
 ghost use Rattle.fab_config.specs.Names.{zone_names, set_names};
 ghost use Rattle.fab_config.specs.Written as spec;
 
@@ -111,7 +112,7 @@ fn put_octets(bytes: &[u8], out: &mut Vec<u8>) -> Result<(), AllocError>
 
 // Each byte after a colon.
 fn put_colons(bytes: &[u8], out: &mut Vec<u8>) -> Result<(), AllocError>
-    ensures { OnOk result (out.new.items ≡ out.old.items ++ flat_map (λ c. 58 ∷ spec.pair_text c) bytes.now) }
+    ensures { OnOk result (out.new.items ≡ out.old.items ++ flat_map (λ c. 58 ∷ hex 2 c) bytes.now) }
 {
     for byte in bytes {
         let [high, low] = pair(*byte);
@@ -122,14 +123,14 @@ fn put_colons(bytes: &[u8], out: &mut Vec<u8>) -> Result<(), AllocError>
 
 // The two digits of a byte.
 fn pair(byte: u8) -> [u8; 2]
-    ensures { result ≡ spec.pair_text byte }
+    ensures { result ≡ hex 2 byte }
 {
     [hex_digit(byte / 16), hex_digit(byte % 16)]
 }
 
 fn hex_digit(digit: u8) -> u8
     requires { digit < 16 }
-    ensures { result ≡ spec.hex_digit digit }
+    ensures { result ≡ hex_digit_spec digit }
 {
     if digit < 10 { b'0' + digit } else { 87 + digit }
 }
