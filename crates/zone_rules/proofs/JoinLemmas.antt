@@ -59,7 +59,7 @@ abbrev pub IsFrom : ℕ → List ℕ → Type 0
 IsFrom n [] = Unit {0}
 IsFrom n (p ∷ ps) = (n ≤ p) × IsFrom n ps
 
-from_less : (m n : ℕ) (ps : List ℕ) → m ≤ n → IsFrom n ps → IsFrom m ps
+pub from_less : (m n : ℕ) (ps : List ℕ) → m ≤ n → IsFrom n ps → IsFrom m ps
 from_less m n [] le h = tt
 from_less m n (p ∷ ps) le h = (let a : n ≤ p = h.0 in omega (arith, a), from_less m n ps le h.1)
 
@@ -79,25 +79,25 @@ places_from : (x k : ℕ) (zones : List Zone) → IsFrom k (places_of x k zones)
 places_from x k [] = tt
 places_from x k (z ∷ zones) = from_append k (occurrences x k z.members) (places_of x (k + 1) zones) (occurrences_from x k z.members) (from_less k (k + 1) (places_of x (k + 1) zones) (omega arith) (places_from x (k + 1) zones))
 
-any_congr : (f g : ℕ → Bool) (n : ℕ) (ps : List ℕ) → IsFrom n ps → ((p : ℕ) → n ≤ p → f p ≡ g p) → list_any f ps ≡ list_any g ps
+pub any_congr : (f g : ℕ → Bool) (n : ℕ) (ps : List ℕ) → IsFrom n ps → ((p : ℕ) → n ≤ p → f p ≡ g p) → list_any f ps ≡ list_any g ps
 any_congr f g n [] h e = refl
 any_congr f g n (p ∷ ps) h e = ap (λ b. b || list_any f ps) (e p h.0) ∙ ap (λ b. g p || b) (any_congr f g n ps h.1 e)
 
-any_none : (f : ℕ → Bool) (n : ℕ) (ps : List ℕ) → IsFrom n ps → ((p : ℕ) → n ≤ p → f p ≡ false) → list_any f ps ≡ false
+pub any_none : (f : ℕ → Bool) (n : ℕ) (ps : List ℕ) → IsFrom n ps → ((p : ℕ) → n ≤ p → f p ≡ false) → list_any f ps ≡ false
 any_none f n [] h e = refl
 any_none f n (p ∷ ps) h e = ap (λ b. b || list_any f ps) (e p h.0) ∙ any_none f n ps h.1 e
 
-eqb_no : (m n : ℕ) → (m ≡ n → ⊥) → eqb m n ≡ false
+pub eqb_no : (m n : ℕ) → (m ≡ n → ⊥) → eqb m n ≡ false
 eqb_no m n ne = by (eqb m n) refl
   where
     by : (t : Bool) → eqb m n ≡ t → t ≡ false
     by true e = absurd (ne (eqb-true m n e))
     by false e = refl
 
-eqb_yes : (n : ℕ) → eqb n n ≡ true
+pub eqb_yes : (n : ℕ) → eqb n n ≡ true
 eqb_yes n = grind arith
 
-and_false : (b : Bool) → (b && false) ≡ false
+pub and_false : (b : Bool) → (b && false) ≡ false
 and_false true = refl
 and_false false = refl
 
@@ -116,6 +116,10 @@ occurrences_any f x k (m ∷ ms) = by (eqb m x) (f k) (contains x ms) refl (occu
 abbrev pub both : (ℕ → Bool) → List ℕ → List ℕ → Bool
 both active ys xs = list_any (λ p. list_any (λ q. eqb p q) ys && active p) xs
 
+both-congr : (f g : ℕ → Bool) (ys xs : List ℕ) → ((p : ℕ) → f p ≡ g p) → both f ys xs ≡ both g ys xs
+both-congr f g ys [] e = refl
+both-congr f g ys (x ∷ xs) e = ap (λ b. (list_any (λ q. eqb x q) ys && b) || both f ys xs) (e x) ∙ ap (λ b. (list_any (λ q. eqb x q) ys && g x) || b) (both-congr f g ys xs e)
+
 regroup : (cx cy a r : Bool) → ((cx && (cy && a)) || r) ≡ ((a && cx && cy) || r)
 regroup true true true r = refl
 regroup true true false r = refl
@@ -124,7 +128,7 @@ regroup true false false r = refl
 regroup false cy true r = refl
 regroup false cy false r = refl
 
-or_false : (b : Bool) → (b || false) ≡ b
+pub or_false : (b : Bool) → (b || false) ≡ b
 or_false true = refl
 or_false false = refl
 
@@ -166,11 +170,11 @@ module _ (zones : List Zone) (sets : List ZoneSet) (activations : List Activatio
   unfolding joined
   joined_same e = sym (ap (λ b. not b && has_zone_of (is_active sets (active_set activations at)) x y 0 zones) (ap (λ (n : ℕ). eqb n y) (sym x_is ∙ e ∙ y_is) ∙ eqb_yes y))
 
-  pub joined_is : (m : Places) (of_x of_y : List ℕ) (set : Option ℕ) (r : Bool) → IsIndex m zones → (xn ≡ yn → ⊥) → of_x ≡ listed m xn → of_y ≡ listed m yn → set ≡ active_set activations at
-      → r ≡ both (is_active sets set) of_y of_x → r ≡ joined zones sets activations at x y
+  pub joined_is : (m : Places) (active : ℕ → Bool) (of_x of_y : List ℕ) (set : Option ℕ) (r : Bool) → IsIndex m zones → ((p : ℕ) → active p ≡ is_active sets set p) → (xn ≡ yn → ⊥) → of_x ≡ listed m xn → of_y ≡ listed m yn
+      → set ≡ active_set activations at → r ≡ both active of_y of_x → r ≡ joined zones sets activations at x y
   unfolding joined
-  joined_is m of_x of_y set r index ne e f g is =
-      is ∙ ap (λ (s : Option ℕ). both (is_active sets s) of_y of_x) g
+  joined_is m active of_x of_y set r index by ne e f g is =
+      is ∙ both-congr active (is_active sets set) of_y of_x by ∙ ap (λ (s : Option ℕ). both (is_active sets s) of_y of_x) g
       ∙ ap (λ l. both (is_active sets (active_set activations at)) l of_x) (f ∙ ap (listed m) y_is ∙ index y)
       ∙ ap (λ l. both (is_active sets (active_set activations at)) (places_of y 0 zones) l) (e ∙ ap (listed m) x_is ∙ index x)
       ∙ both-is (is_active sets (active_set activations at)) x y 0 zones
@@ -214,18 +218,3 @@ module _ (activations : List Activation) (i : ℕ) (a : Activation) (there : sli
 
   pub active_before : x < y → active_set (take i activations) m ≡ active_set (take (i + 1) activations) m
   active_before lt = sym (ap (λ l. option_map (λ (z : Activation). z.set) (find (λ (z : Activation). leb z.moment m) l)) turned ∙ ap (λ b. option_map (λ (z : Activation). z.set) (cond b (Some a) (find (λ (z : Activation). leb z.moment m) (reverse (take i activations))))) (leb_no a.moment m (omega (arith, y_is, x_is))))
-
--- ---- places of a set
-
-pub contains_here : (x : ℕ) (ps : List ℕ) (i p : ℕ) → slice_get ps i ≡ Some p → p ≡ x → true ≡ contains x ps
-contains_here x [] i p e is = absurd (cc)
-contains_here x (q ∷ ps) zero p e is = let at : q ≡ p = cc in sym (ap (λ b. b || contains x ps) (ap (λ (n : ℕ). eqb n x) (at ∙ is) ∙ eqb_yes x))
-contains_here x (q ∷ ps) (suc i) p e is = by (eqb q x) (contains_here x ps i p e is)
-  where
-    by : (b : Bool) → true ≡ contains x ps → true ≡ (b || contains x ps)
-    by true h = refl
-    by false h = h
-
-pub contains_not : (x : ℕ) (ps : List ℕ) (i p : ℕ) → slice_get ps i ≡ Some p → (p ≡ x → ⊥) → contains x (take i ps) ≡ false → contains x (take (i + 1) ps) ≡ false
-contains_not x ps i p e ne was =
-    ap (contains x) (take_slice ps i p e) ∙ list_any-append (λ y. eqb y x) (take i ps) (p ∷ []) ∙ ap (λ b. b || (eqb p x || false)) was ∙ or_false (eqb p x) ∙ eqb_no p x ne

@@ -3,6 +3,7 @@
 
 mod copies;
 mod index;
+mod sets;
 mod zones;
 
 pub use zones::Zones;

@@ -2,33 +2,37 @@
 ghost use Rattle.std.specs.Prelude.{◌≡◌, ◌==◌, ◌&&◌, ℕ, Some, IfOk};
 ghost use Rattle.std.specs.List.{list_any};
 ghost use Rattle.zone_rules.specs.Joined as spec;
+ghost use Rattle.zone_rules.specs.Index.{Ascends, is_active_by};
 ghost use Rattle.zone_rules.specs.Rules.{ZoneRules};
 
 use crate::copies::{copy_activations, copy_sets, copy_zones};
 use crate::index::{Places, index_of, places_of};
+use crate::sets::{SetPlaces, places_of_sets};
 use fab_base::{Moment, NoMemory, Wwn};
-use fab_config::{ActivationList, PlaceList, SetList, ZoneList};
+use fab_config::{ActivationList, SetList, ZoneList};
 use std::alloc::Global;
+use std::cmp::Ordering;
 use std::marker::Model;
 
-/// The zones, zone sets and activations of a configuration, with an index of the names.
+/// The zones, zone sets and activations of a configuration, with an index of the names and one of the sets.
 #[derive(Drop)]
 pub struct Zones {
     zones: ZoneList,
     sets: SetList,
     activations: ActivationList,
     places: Places,
+    set_places: SetPlaces,
 }
 
 impl Model for Zones {
     ghost use Rattle.zone_rules.specs.Rules.{ZoneRules};
-    ghost use Rattle.zone_rules.specs.Index.{IsIndex};
+    ghost use Rattle.zone_rules.specs.Index.{KeepsIndex};
 
     ghost Value = { ZoneRules };
 
     ghost view = { λ z. record { zones = z.zones; sets = z.sets; activations = z.activations } };
 
-    ghost invariant = { λ z. IsIndex z.places z.zones };
+    ghost invariant = { λ z. KeepsIndex z.places z.set_places z.zones z.sets };
 }
 
 impl Zones {
@@ -47,6 +51,7 @@ impl Zones {
             sets: copy_sets(alloc, sets)?,
             activations: copy_activations(alloc, activations)?,
             places: index_of(alloc, list)?,
+            set_places: places_of_sets(alloc, sets)?,
         })
     }
 
@@ -61,10 +66,10 @@ impl Zones {
         let set = active_set(&self.activations, at);
         let of_x = places_of(&self.places, x.0);
         let of_y = places_of(&self.places, y.0);
-        has_active_of_both(&self.sets, set, of_x, of_y)
+        has_active_of_both(&self.set_places, set, of_x, of_y)
     }
 
-    /// The least moment of an activation above this one.
+    /// The moment of the first activation above this one, which is the least where the moments rise.
     pub fn next_change(&self, after: Moment) -> Option<Moment>
         ensures { result ≡ spec.next_change self.now.activations after }
     {
@@ -85,21 +90,30 @@ fn value(moment: Moment) -> u64
     moment.0
 }
 
-// Whether an active place stands in both lists.
-fn has_active_of_both(sets: &SetList, set: Option<u32>, of_x: &[u64], of_y: &[u64]) -> bool
-    ensures { result ≡ list_any (λ p. list_any (λ q. p == q) of_y.now && spec.is_active sets.now set p) of_x.now }
+// Whether an active place stands in both lists, which ascend: one walk over both.
+fn has_active_of_both(sets: &SetPlaces, set: Option<u32>, of_x: &[u64], of_y: &[u64]) -> bool
+    requires of_x { Ascends 0 of_x.now }
+    requires of_y { Ascends 0 of_y.now }
+    ensures { result ≡ list_any (λ p. list_any (λ q. p == q) of_y.now && is_active_by sets.now set p) of_x.now }
 {
-    for place in of_x {
-        if of_y.contains(place) && is_active(sets, set, *place) {
-            return true;
+    let mut xs = of_x;
+    let mut ys = of_y;
+    while let Some((x, behind_x)) = xs.split_first() {
+        let Some((y, behind_y)) = ys.split_first() else {
+            break;
+        };
+        match x.cmp(y) {
+            Ordering::Greater => ys = behind_y,
+            Ordering::Equal if is_active(sets, set, *x) => return true,
+            _ => xs = behind_x,
         }
     }
     false
 }
 
 // Whether the zone at a place is active while this set is.
-fn is_active(sets: &SetList, set: Option<u32>, place: u64) -> bool
-    ensures { result ≡ spec.is_active sets.now set place }
+fn is_active(sets: &SetPlaces, set: Option<u32>, place: u64) -> bool
+    ensures { result ≡ is_active_by sets.now set place }
 {
     match set {
         None => true,
@@ -107,24 +121,13 @@ fn is_active(sets: &SetList, set: Option<u32>, place: u64) -> bool
     }
 }
 
-fn is_in_set(sets: &SetList, set: u32, place: u64) -> bool
-    ensures { result ≡ spec.is_active sets.now (Some set) place }
+fn is_in_set(sets: &SetPlaces, set: u32, place: u64) -> bool
+    ensures { result ≡ is_active_by sets.now (Some set) place }
 {
     match sets.at(set as usize) {
         None => false,
-        Some(set) => has_place(&set.places, place),
+        Some(places) => places.contains(&place),
     }
-}
-
-fn has_place(places: &PlaceList, place: u64) -> bool
-    ensures { result ≡ spec.contains place places.now }
-{
-    for index in 0..places.len() {
-        if u64::from(*places.at(index).unwrap()) == place {
-            return true;
-        }
-    }
-    false
 }
 
 // The set that is active at a moment.

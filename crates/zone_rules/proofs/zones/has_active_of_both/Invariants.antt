@@ -1,7 +1,10 @@
-use Rattle.std.proofs.Common.{◌≡◌, eqb, ◌&&◌, false, take}
-use Rattle.std.specs.List.{list_any}
-use Rattle.zone_rules.specs.Joined.{is_active}
+use Rattle.std.proofs.Common.{◌+◌, length}
+use Rattle.zone_rules.specs.Index.{is_active_by}
+use Rattle.zone_rules.proofs.WalkLemmas.{Walked}
 use Rattle.zone_rules.proofs.zones.has_active_of_both.Given as goal
 
-abbrev pub invariant-loop-place : goal.invariant-loop-place
-invariant-loop-place l = list_any (λ p. list_any (λ q. eqb p q) l.of_y && is_active l.sets l.set p) (take l.place-index l.of_x) ≡ false
+abbrev pub invariant-loop-x : goal.invariant-loop-x
+invariant-loop-x l = Walked (is_active_by l.sets l.set) l.fn.of_x l.fn.of_y l.xs l.ys
+
+abbrev pub decreases-loop-x : goal.decreases-loop-x
+decreases-loop-x l = length l.xs + length l.ys

@@ -1,0 +1,3 @@
+pub mod WatcherLemmas
+pub mod TableLemmas
+pub mod ReachLemmas

@@ -1,0 +1,51 @@
+// One watcher, and what reaches it.
+ghost use Rattle.std.specs.Prelude.{◌≡◌};
+ghost use Rattle.state_change.specs.Watchers as spec;
+
+use fab_base::{FcId, Moment, Wwn};
+use zone_rules::Zones;
+
+/// The function that asks for nothing any more (FC-LS-2, "SCR", Clear registration).
+pub(crate) const CLEAR: u8 = 255;
+
+/// The function for changes that the fabric detects (FC-LS-2, "SCR", Fabric Detected registration).
+const FABRIC_DETECTED: u8 = 1;
+
+/// The function for changes that the fabric or an N_Port detects (FC-LS-2, "SCR", Full registration).
+const FULL: u8 = 3;
+
+/// An N_Port that asked for state changes: its N_Port_ID and N_Port_Name, and the function that it asked with, 1 to 3.
+#[derive(Clone, Copy, Debug, PartialEq, Eq)]
+pub struct Watcher {
+    pub address: FcId,
+    pub name: Wwn,
+    pub function: u8,
+}
+
+// Whether the fabric tells it of changes.
+fn is_told(watcher: &Watcher) -> bool
+    ensures { result ≡ spec.is_told watcher.now }
+{
+    watcher.function == FABRIC_DETECTED || watcher.function == FULL
+}
+
+/// Whether a change of the affected name reaches it.
+pub(crate) fn is_recipient(watcher: &Watcher, zones: &Zones, at: Moment, affected: Wwn) -> bool
+    ensures { result ≡ spec.is_recipient zones.now at affected watcher.now }
+{
+    is_told(watcher) && zones.joined(at, watcher.name, affected)
+}
+
+/// Whether a change of zones between two moments reaches it on account of the affected name.
+pub(crate) fn is_changed(
+    watcher: &Watcher,
+    zones: &Zones,
+    before: Moment,
+    at: Moment,
+    affected: Wwn,
+) -> bool
+    ensures { result ≡ spec.is_changed zones.now before at affected watcher.now }
+{
+    is_told(watcher)
+        && zones.joined(before, watcher.name, affected) != zones.joined(at, watcher.name, affected)
+}
