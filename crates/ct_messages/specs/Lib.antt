@@ -3,3 +3,4 @@ pub mod Table
 pub mod Ct
 pub mod CanWrite
 pub mod Answer
+pub mod Server

@@ -71,7 +71,6 @@ pub(crate) const NAME_BYTES: [u8; 8] = [0x20, 0x00, 0x00, 0x1b, 0x21, 0x00, 0x00
 fn queries_are_read_and_written(rt: HostRuntime) -> Result<(), Fail> {
     let alloc = rt.alloc();
     let a = address(&rt, 0x010203);
-    let _types: Option<TypeMap> = None;
     assert_row(&rt, alloc, 0x0100, &[0, 1, 2, 3], &CtAsk::NextOf(a))?;
     assert_row(&rt, alloc, 0x0112, &[0, 1, 2, 3], &CtAsk::PortNameOf(a))?;
     assert_row(&rt, alloc, 0x0113, &[0, 1, 2, 3], &CtAsk::NodeNameOf(a))?;
@@ -83,7 +82,6 @@ fn queries_are_read_and_written(rt: HostRuntime) -> Result<(), Fail> {
 #[test]
 fn queries_by_type_are_read_and_written(rt: HostRuntime) -> Result<(), Fail> {
     let alloc = rt.alloc();
-    let _types: Option<TypeMap> = None;
     assert_row(
         &rt,
         alloc,
@@ -139,7 +137,6 @@ fn registrations_are_read_and_written(rt: HostRuntime) -> Result<(), Fail> {
 fn symbols_are_read_and_written(rt: HostRuntime) -> Result<(), Fail> {
     let alloc = rt.alloc();
     let a = address(&rt, 0x010203);
-    let _types: Option<TypeMap> = None;
     let text = [b'a', b'b', b'c'];
     let symbol = [0, 1, 2, 3, 3, b'a', b'b', b'c'];
     assert_row(&rt, alloc, 0x0218, &symbol, &CtAsk::SetSymbol(a, &text))?;

@@ -1,0 +1,3 @@
+pub mod Registry
+pub mod Sound
+pub mod Views

@@ -1,0 +1,27 @@
+-- How the code holds a seen N_Port with its entry. No public clause cites this module.
+use Rattle.std.specs.Prelude.{ℕ, if◌then◌else◌, Option, Some, None}
+use Rattle.ct_messages.specs.Ask.{Ask, PortNamesOfType, NodeNamesOfType}
+use Rattle.ct_messages.specs.Answer.{has_type}
+use Rattle.ct_messages.specs.Server as server
+use Rattle.name_server.specs.Registry.{known_of}
+use Rattle.name_server.specs.declared.lists.NameOf.{NameOf}
+use Rattle.name_server.specs.declared.lists.NameOf.TheVariants.{Port, Node}
+use Rattle.name_server.specs.declared.ports.Known.{Known}
+
+abbrev pub as_known : Known → server.Known
+as_known k = known_of k.port.now k.entry.now
+
+-- the name that is listed
+abbrev pub name_of : NameOf → server.Known → ℕ
+name_of Port k = k.name
+name_of Node k = k.values.node_name
+
+-- an N_Port if it has a type
+abbrev pub typed_if : ℕ → Option server.Known → Option server.Known
+typed_if kind None = None
+typed_if kind (Some k) = if has_type k.values.types kind then Some k else None
+
+-- the request for the N_Ports of a type with that name
+abbrev pub by_name_of : NameOf → ℕ → Ask
+by_name_of Port kind = PortNamesOfType kind
+by_name_of Node kind = NodeNamesOfType kind

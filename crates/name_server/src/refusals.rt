@@ -1,0 +1,66 @@
+// Why a request is refused: reason and explanation codes (FC-GS-6, "Reject reason codes").
+ghost use Rattle.std.specs.Prelude.{◌≡◌, option_map};
+ghost use Rattle.ct_messages.specs.Ask.{view};
+ghost use Rattle.ct_messages.specs.Server.{refused_if, registration_refusal};
+ghost use Rattle.ct_messages.specs.declared.CtTell.TheVariants.{Reject};
+ghost use Rattle.name_server.specs.Registry.{codes};
+
+use ct_messages::{CtAsk, CtTell};
+use fab_base::{FcId, Wwn};
+
+/// Why a registration is not done.
+#[derive(Clone, Copy, Debug, PartialEq, Eq)]
+pub enum RegFault {
+    /// It is refused with these codes.
+    Refused { reason: u8, explanation: u8 },
+}
+
+/// The reason: the command can't be performed.
+pub(crate) const UNABLE: u8 = 0x09;
+
+/// The reason: the command isn't supported.
+pub(crate) const UNSUPPORTED: u8 = 0x0b;
+
+// Explanations.
+pub(crate) const NO_EXPLANATION: u8 = 0;
+
+pub(crate) const NO_ADDRESS: u8 = 1;
+
+pub(crate) const NO_PORT_NAME: u8 = 2;
+
+pub(crate) const NO_NODE_NAME: u8 = 3;
+
+pub(crate) const NO_TYPES: u8 = 7;
+
+pub(crate) fn reject(reason: u8, explanation: u8) -> CtTell
+    ensures { result ≡ Reject reason explanation }
+{
+    CtTell::Reject {
+        reason,
+        explanation,
+    }
+}
+
+fn unable_if(test: bool, explanation: u8) -> Option<RegFault>
+    ensures { option_map codes result ≡ refused_if test 9 explanation }
+{
+    test.then_some(RegFault::Refused {
+        reason: UNABLE,
+        explanation,
+    })
+}
+
+// Why a registration is refused, by the asker's address and its registered node name.
+pub(crate) fn refusal_of(address: FcId, node_name: Wwn, ask: &CtAsk<'_>) -> Option<RegFault>
+    ensures { option_map codes result ≡ registration_refusal address node_name (view ask.now) }
+{
+    match ask {
+        CtAsk::SetNode(asked, _)
+        | CtAsk::SetTypes(asked, _)
+        | CtAsk::SetSymbol(asked, _)
+        | CtAsk::SetFeature { address: asked, .. }
+        | CtAsk::Erase(asked) => unable_if(*asked != address, NO_ADDRESS),
+        CtAsk::SetNodeSymbol(name, _) => unable_if(*name != node_name, NO_NODE_NAME),
+        _ => None,
+    }
+}

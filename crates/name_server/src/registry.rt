@@ -1,0 +1,143 @@
+// The registry: its entries in ascending order of addresses.
+ghost use Rattle.std.specs.Prelude.{◌≡◌, ℕ, ◌<◌, if◌then◌else◌, ◌==◌, length, IfOk, IfErr, OnOk, OnErr, IsSome, Some, None, [], is_some, true, false, option_map};
+ghost use Rattle.std.specs.List.{All};
+ghost use Rattle.ct_messages.specs.Ask.{view};
+ghost use Rattle.ct_messages.specs.CanWrite.{CanWrite, CanTell};
+ghost use Rattle.ct_messages.specs.Server as server;
+ghost use Rattle.name_server.specs.Registry.{Registrations, entry_at, entered, added, without, registered, with_registration, refusal, is_noticed, codes, seen_at, known, IsSound};
+
+use crate::answers::answer_of;
+use crate::entry::Entry;
+use crate::refusals::refusal_of;
+use crate::search::{entry_of, place_above, place_of};
+use crate::{RegFault, Seen};
+use ct_messages::{CtAsk, CtTell, TypeMap};
+use fab_base::{FcId, NoMemory, Wwn};
+use std::alloc::Global;
+use std::marker::Model;
+
+/// What a registration did.
+#[derive(Clone, Copy, Debug, PartialEq, Eq)]
+pub struct Change {
+    /// The FC-4 types or a feature are others than before.
+    pub noticed: bool,
+}
+
+/// What is registered of the N_Ports that are logged in, up to a number of them. No address comes twice.
+#[derive(Debug, Drop)]
+pub struct Registry {
+    room: u32,
+    entries: Vec<Entry>,
+}
+
+impl Model for Registry {
+    ghost use Rattle.std.specs.Prelude.{vec_capacity};
+    ghost use Rattle.name_server.specs.Registry.{Registrations};
+
+    ghost Value = { Registrations };
+
+    ghost use Rattle.name_server.specs.Sound.{HasRoom};
+
+    ghost view = { λ r. record { room = r.room; entries = r.entries.items } };
+
+    ghost invariant = { λ r. HasRoom (record { room = r.room; entries = r.entries.items }) (vec_capacity r.entries) };
+}
+
+impl Registry {
+    /// An empty registry with room for `room` N_Ports.
+    pub fn new(alloc: Global, room: u32) -> Result<Registry, NoMemory>
+        ensures { IfOk result (λ r. r ≡ record { room = room; entries = [] }) }
+    {
+        match Vec::with_capacity(alloc, room as usize) {
+            Ok(entries) => Ok(Registry { room, entries }),
+            Err(_) => Err(NoMemory),
+        }
+    }
+
+    /// Enters an N_Port that logged in, with the node name of its login and nothing else.
+    pub fn enter(&mut self, address: FcId, node: Wwn)
+        requires room { length self.old.entries < self.old.room }
+        requires address { entry_at address self.old.entries ≡ None }
+        ensures entries { self.new ≡ record self.old { entries = added (entered address node) self.old.entries } }
+        ensures sound { IsSound self.new }
+        ensures found { (a : ℕ) → entry_at a self.new.entries ≡ (if address == a then Some (entered address node) else entry_at a self.old.entries) }
+    {
+        let place = place_above(&self.entries, address);
+        let Ok(()) = self.entries.insert(place, Entry::new(address, node)) else {
+            unreachable!()
+        };
+    }
+
+    /// Takes an N_Port out, with all that it registered. False where the address isn't there.
+    pub fn forget(&mut self, address: FcId) -> bool
+        ensures there { result ≡ is_some (entry_at address self.old.entries) }
+        ensures entries { self.new ≡ record self.old { entries = without address self.old.entries } }
+        ensures absent { result ≡ false → self.new ≡ self.old }
+        ensures sound { IsSound self.new }
+        ensures found { (a : ℕ) → entry_at a self.new.entries ≡ (if address == a then None else entry_at a self.old.entries) }
+    {
+        match place_of(&self.entries, address) {
+            Some(place) => {
+                self.entries.remove(place);
+                true
+            }
+            None => false,
+        }
+    }
+
+    /// The FC-4 types of an N_Port.
+    pub fn types(&self, address: FcId) -> Option<TypeMap>
+        ensures { result ≡ option_map (λ e. e.values.types) (entry_at address self.now.entries) }
+    {
+        entry_of(&self.entries, address).map(|entry| entry.types())
+    }
+
+    /// The registered node name of an N_Port.
+    pub fn node_name(&self, address: FcId) -> Option<Wwn>
+        ensures { result ≡ option_map (λ e. e.values.node_name) (entry_at address self.now.entries) }
+    {
+        entry_of(&self.entries, address).map(|entry| entry.node_name())
+    }
+
+    /// Does a registration of the asker. Refused, nothing changes.
+    pub fn register(&mut self, asker: FcId, ask: &CtAsk<'_>) -> Result<Change, RegFault>
+        requires asker { IsSome (entry_at asker self.old.entries) }
+        requires registration { server.is_registration (view ask.now) ≡ true }
+        requires size { CanWrite (view ask.now) }
+        ensures allowed { OnOk result (refusal (view ask.now) (entry_at asker self.old.entries) ≡ None) }
+        ensures entries { OnOk result (self.new ≡ record self.old { entries = with_registration asker (view ask.now) self.old.entries }) }
+        ensures found { OnOk result ((a : ℕ) → entry_at a self.new.entries ≡ option_map (registered asker (view ask.now)) (entry_at a self.old.entries)) }
+        ensures noticed { IfOk result (λ change. change.noticed ≡ is_noticed (view ask.now) (entry_at asker self.old.entries)) }
+        ensures refused { IfErr result (λ fault. refusal (view ask.now) (entry_at asker self.old.entries) ≡ Some (codes fault)) }
+        ensures stays { OnErr result (self.new ≡ self.old) }
+        ensures sound { IsSound self.new }
+    {
+        let Some(place) = place_of(&self.entries, asker) else {
+            unreachable!()
+        };
+        let entry = &mut self.entries[place];
+        if let Some(fault) = refusal_of(entry.address(), entry.node_name(), ask) {
+            return Err(fault);
+        }
+        let noticed = entry.register(ask);
+        Ok(Change { noticed })
+    }
+
+    /// The answer to a request that is no registration, over the N_Ports that the asker may see. All of them are entered,
+    /// and `_asker` is among them.
+    pub fn answer(
+        &self,
+        alloc: Global,
+        _asker: FcId,
+        ask: &CtAsk<'_>,
+        seen: &Seen,
+    ) -> Result<CtTell, NoMemory>
+        requires query { server.is_registration (view ask.now) ≡ false }
+        requires entered { All (λ s. IsSome (entry_at s.address self.now.entries)) seen.now }
+        requires asker { IsSome (seen_at _asker seen.now) }
+        ensures answer { IfOk result (λ tell. tell ≡ server.answer (known self.now.entries seen.now) (view ask.now)) }
+        ensures writable { IfOk result CanTell }
+    {
+        answer_of(alloc, &self.entries, seen.ports(), ask)
+    }
+}

@@ -1,0 +1,66 @@
+// The N_Ports that an asker may see.
+ghost use Rattle.std.specs.Prelude.{◌≡◌, ◌<◌, [], ◌∷◌, ◌++◌, IfOk, OnOk, OnErr};
+ghost use Rattle.std.specs.List.{All};
+ghost use Rattle.name_server.specs.Registry.{SeenAscend};
+
+use fab_base::{FcId, NoMemory, Wwn};
+use std::alloc::Global;
+use std::marker::Model;
+
+/// An N_Port that an asker may see.
+#[derive(Clone, Copy, Debug, PartialEq, Eq)]
+pub struct SeenPort {
+    pub address: FcId,
+    /// Its port name.
+    pub name: Wwn,
+    /// The name of the port of the forwarder that it is behind.
+    pub fabric_port: Wwn,
+}
+
+/// N_Ports in ascending order of their addresses.
+#[derive(Debug, Drop)]
+pub struct Seen {
+    ports: Vec<SeenPort>,
+}
+
+impl Model for Seen {
+    ghost use Rattle.std.specs.Prelude.{List};
+    ghost use Rattle.name_server.specs.declared.seen.SeenPort.{SeenPort as Port};
+    ghost use Rattle.name_server.specs.Registry.{SeenAscend};
+
+    ghost Value = { List Port };
+
+    ghost view = { λ s. s.ports.items };
+
+    ghost invariant = { λ s. SeenAscend 0 s.ports.items };
+}
+
+impl Seen {
+    /// No N_Port.
+    pub fn new(alloc: Global) -> Result<Seen, NoMemory>
+        ensures { IfOk result (λ s. s ≡ []) }
+    {
+        Ok(Seen {
+            ports: Vec::new(alloc),
+        })
+    }
+
+    /// Adds an N_Port above all others. Where memory is refused the list stays.
+    pub fn push(&mut self, _alloc: Global, port: SeenPort) -> Result<(), NoMemory>
+        requires above { All (λ s. s.address < port.address) self.old }
+        ensures ok { OnOk result (self.new ≡ self.old ++ port ∷ []) }
+        ensures err { OnErr result (self.new ≡ self.old) }
+        ensures ascending { SeenAscend 0 self.new }
+    {
+        match self.ports.push(port) {
+            Ok(()) => Ok(()),
+            Err(_) => Err(NoMemory),
+        }
+    }
+
+    pub(crate) fn ports(&self) -> &[SeenPort]
+        ensures { result.now ≡ self.now }
+    {
+        self.ports.as_slice()
+    }
+}
