@@ -13,9 +13,6 @@ join2 old a b s t e f = f ∙ ap (λ m. m ++ b) e ∙ append_assoc old a b
 pub join3 : {A : Type 0} (old a b c s t u : List A) → s ≡ old ++ a → t ≡ s ++ b → u ≡ t ++ c → u ≡ old ++ (a ++ b ++ c)
 join3 old a b c s t u e f g = join2 old (a ++ b) c t u (join2 old a b s t e f) g
 
-pub join5 : {A : Type 0} (old a b c d e r s t u v : List A) → r ≡ old ++ a → s ≡ r ++ b → t ≡ s ++ c → u ≡ t ++ d → v ≡ u ++ e → v ≡ old ++ (a ++ b ++ c ++ d ++ e)
-join5 old a b c d e r s t u v f g h i j = join3 old (a ++ b ++ c) d e t u v (join3 old a b c r s t f g h) i j
-
 -- the answer of `extend_from_slice`, where it is Ok
 pub appended : {E : Type 0} {A : Type 0} {Y : Type 0} (r : Result A E) (new old more : List Y) → new ≡ (if is_ok r then old ++ more else old) → OnOk r (new ≡ old ++ more)
 appended (Ok x) new old more e = e

@@ -1,7 +1,7 @@
 //! Writing a message, in the one way in which the forwarder writes it: reserved bytes are 0, and the descriptors
 //! stand in the order of the table of messages.
 ghost use Rattle.std.specs.Prelude.{◌≡◌, ◌<◌, ◌≤◌, ◌+◌, ◌*◌, ◌%◌, ◌^◌, ◌++◌, length, flat_map, vec_len, OnOk, OnErr, IfOk};
-ghost use Rattle.fip_codec.specs.Message.{view_out, written, message_bytes, flag, priority_bytes, mac_bytes, name_bytes, fabric_bytes, size_bytes, frame_bytes, vx_port_bytes, advertising_bytes, vlan_bytes, kind_code};
+ghost use Rattle.fip_codec.specs.Message.{view_out, written, message_bytes, flag, priority_bytes, mac_bytes, name_bytes, fabric_bytes, size_bytes, frame_bytes, vx_port_bytes, advertising_bytes, vlan_bytes, if_there, kind_code};
 ghost use Rattle.fip_codec.specs.Written.{code_out, flags_out, list_out};
 ghost use Rattle.fip_codec.specs.CanWrite.{CanWrite, IsFrame};
 
@@ -120,6 +120,88 @@ fn put_vlans(list: &mut Vec<u8>, vlans: &[u16]) -> Result<(), AllocError>
     Ok(())
 }
 
+fn put_solicit(list: &mut Vec<u8>, mac: Mac, node: Wwn, size: u16) -> Result<(), AllocError>
+    ensures bytes { OnOk result (list.new.items ≡ list.old.items ++ (mac_bytes mac ++ name_bytes node ++ size_bytes size)) }
+    ensures size { OnOk result (vec_len list.new ≡ vec_len list.old + 24) }
+{
+    put_mac(list, mac)?;
+    put_name(list, node)?;
+    put_size(list, size)
+}
+
+/// Who advertises: its MAC, its switch and its fabric.
+fn put_forwarder(
+    list: &mut Vec<u8>,
+    mac: Mac,
+    switch: Wwn,
+    map: u32,
+    fabric: Wwn,
+) -> Result<(), AllocError>
+    ensures bytes { OnOk result (list.new.items ≡ list.old.items ++ (mac_bytes mac ++ name_bytes switch ++ fabric_bytes map fabric)) }
+    ensures size { OnOk result (vec_len list.new ≡ vec_len list.old + 36) }
+{
+    put_mac(list, mac)?;
+    put_name(list, switch)?;
+    put_fabric(list, map, fabric)
+}
+
+fn put_login(
+    list: &mut Vec<u8>,
+    kind: LoginKind,
+    frame: &[u8],
+    mac: Option<Mac>,
+) -> Result<(), AllocError>
+    requires { length frame.now ≤ 1016 }
+    ensures bytes { OnOk result (list.new.items ≡ list.old.items ++ (frame_bytes kind frame.now ++ if_there mac_bytes mac)) }
+    ensures size { OnOk result (vec_len list.new ≤ vec_len list.old + 1028) }
+{
+    put_frame(list, kind, frame)?;
+    match mac {
+        Some(mac) => put_mac(list, mac),
+        None => Ok(()),
+    }
+}
+
+fn put_keep(list: &mut Vec<u8>, mac: Mac, port: Option<VxPort>) -> Result<(), AllocError>
+    ensures bytes { OnOk result (list.new.items ≡ list.old.items ++ (mac_bytes mac ++ if_there vx_port_bytes port)) }
+    ensures size { OnOk result (vec_len list.new ≤ vec_len list.old + 28) }
+{
+    put_mac(list, mac)?;
+    match port {
+        Some(port) => put_vx_port(list, &port),
+        None => Ok(()),
+    }
+}
+
+fn put_clear(list: &mut Vec<u8>, mac: Mac, switch: Wwn, ports: &[VxPort]) -> Result<(), AllocError>
+    ensures bytes { OnOk result (list.new.items ≡ list.old.items ++ (mac_bytes mac ++ name_bytes switch ++ flat_map vx_port_bytes ports.now)) }
+    ensures size { OnOk result (vec_len list.new ≡ vec_len list.old + (20 + 20 * length ports.now)) }
+{
+    put_mac(list, mac)?;
+    put_name(list, switch)?;
+    put_vx_ports(list, ports)
+}
+
+fn put_vlan_ask(list: &mut Vec<u8>, mac: Mac, node: Option<Wwn>) -> Result<(), AllocError>
+    ensures bytes { OnOk result (list.new.items ≡ list.old.items ++ (mac_bytes mac ++ if_there name_bytes node)) }
+    ensures size { OnOk result (vec_len list.new ≤ vec_len list.old + 20) }
+{
+    put_mac(list, mac)?;
+    match node {
+        Some(node) => put_name(list, node),
+        None => Ok(()),
+    }
+}
+
+fn put_vlan_tell(list: &mut Vec<u8>, mac: Mac, vlans: &[u16]) -> Result<(), AllocError>
+    ensures bytes { OnOk result (list.new.items ≡ list.old.items ++ (mac_bytes mac ++ flat_map vlan_bytes vlans.now)) }
+    ensures size { OnOk result (vec_len list.new ≡ vec_len list.old + (8 + 4 * length vlans.now)) }
+{
+    put_mac(list, mac)?;
+    put_vlans(list, vlans)
+}
+
+/// The descriptors in the order of the table.
 fn put_list(list: &mut Vec<u8>, message: &FipOut<'_>) -> Result<(), AllocError>
     requires { CanWrite (view_out message.now) }
     ensures bytes { OnOk result (list.new.items ≡ list.old.items ++ list_out (view_out message.now)) }
@@ -131,11 +213,7 @@ fn put_list(list: &mut Vec<u8>, message: &FipOut<'_>) -> Result<(), AllocError>
             node,
             size,
             ..
-        } => {
-            put_mac(list, mac)?;
-            put_name(list, node)?;
-            put_size(list, size)
-        }
+        } => put_solicit(list, mac, node, size),
         FipOut::Advertise {
             priority,
             mac,
@@ -147,9 +225,7 @@ fn put_list(list: &mut Vec<u8>, message: &FipOut<'_>) -> Result<(), AllocError>
             ..
         } => {
             put_priority(list, priority)?;
-            put_mac(list, mac)?;
-            put_name(list, switch)?;
-            put_fabric(list, map, fabric)?;
+            put_forwarder(list, mac, switch, map, fabric)?;
             put_advertising(list, quiet, period)
         }
         FipOut::Login {
@@ -157,45 +233,17 @@ fn put_list(list: &mut Vec<u8>, message: &FipOut<'_>) -> Result<(), AllocError>
             frame,
             mac,
             ..
-        } => {
-            put_frame(list, kind, frame)?;
-            put_mac(list, mac)
-        }
+        } => put_login(list, kind, frame, Some(mac)),
         FipOut::LoginReply {
             kind,
             frame,
             mac,
             ..
-        } => {
-            put_frame(list, kind, frame)?;
-            match mac {
-                Some(mac) => put_mac(list, mac),
-                None => Ok(()),
-            }
-        }
-        FipOut::Keep { mac, port } => {
-            put_mac(list, mac)?;
-            match port {
-                Some(port) => put_vx_port(list, &port),
-                None => Ok(()),
-            }
-        }
-        FipOut::Clear { mac, switch, ports } => {
-            put_mac(list, mac)?;
-            put_name(list, switch)?;
-            put_vx_ports(list, ports)
-        }
-        FipOut::VlanAsk { mac, node } => {
-            put_mac(list, mac)?;
-            match node {
-                Some(node) => put_name(list, node),
-                None => Ok(()),
-            }
-        }
-        FipOut::VlanTell { mac, vlans } => {
-            put_mac(list, mac)?;
-            put_vlans(list, vlans)
-        }
+        } => put_login(list, kind, frame, mac),
+        FipOut::Keep { mac, port } => put_keep(list, mac, port),
+        FipOut::Clear { mac, switch, ports } => put_clear(list, mac, switch, ports),
+        FipOut::VlanAsk { mac, node } => put_vlan_ask(list, mac, node),
+        FipOut::VlanTell { mac, vlans } => put_vlan_tell(list, mac, vlans),
     }
 }
 
