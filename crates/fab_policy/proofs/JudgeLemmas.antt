@@ -12,7 +12,8 @@ use Rattle.fip_codec.specs.declared.fault.FipFault.{FipFault}
 use Rattle.fip_codec.specs.declared.fault.FipFault.TheVariants.{Short, Version, Operation, ListLength, DescLength, Critical, Double, Missing}
 use Rattle.fab_policy.specs.Cause.{Cause, is_numbered}
 use Rattle.fab_policy.specs.Heard.{What, Bad, Fip, Fcoe, FIP, FCOE, plain, numbered, cause_of, fip_in, frame_in, decoded}
-use Rattle.fab_policy.specs.Judging.{cause_at, by_rule, verdict_of}
+use Rattle.fab_policy.specs.Judging.{by_rule, verdict_of}
+use Rattle.fab_policy.specs.View.{cause_at}
 use Rattle.fab_policy.specs.Stage.{verdict_so_far, frame_rule, message_verdict}
 use Rattle.fab_policy.specs.declared.verdict.Rule.{Rule}
 use Rattle.fab_policy.specs.declared.verdict.Verdict.{Verdict}

@@ -19,3 +19,4 @@ pub mod SoundGrants
 pub mod Sound
 pub mod SoundMacs
 pub mod SoundFree
+pub mod RegistryFits

@@ -1,5 +1,5 @@
 -- The words of addresses, one after another.
-use Rattle.std.proofs.Common.{◌≡◌, ℕ, suc, Result, Ok, Err, OnOk, ◌+◌, List, [], ◌∷◌, ◌++◌, take, slice_get, Some, sym, ◌∙◌, ap, append_assoc, arith, zero}
+use Rattle.std.proofs.Common.{◌≡◌, ℕ, suc, ◌+◌, List, [], ◌∷◌, ◌++◌, take, slice_get, Some, sym, ◌∙◌, ap, append_assoc, arith, zero}
 use Rattle.std.proofs.lemmas.List.{append-nil}
 use Rattle.std.proofs.lemmas.List.Concat.{flat_map-append}
 use Rattle.fab_policy.specs.Text.{address_words, then_word, address_word}
@@ -14,8 +14,3 @@ pub address_words-more : (l old line : List ℕ) (i a : ℕ) → slice_get l i �
 address_words-more l old line i a is e =
     e ∙ append_assoc old (address_words (take i l)) (then_word (address_word a))
     ∙ ap (λ m. old ++ m) (ap (λ m. address_words (take i l) ++ m) (sym (append-nil (then_word (address_word a)))) ∙ sym (flat_map-append (λ b. then_word (address_word b)) (take i l) (a ∷ [])) ∙ ap address_words (sym (take-one_more l i a is)))
-
--- a word, and what is written after it
-pub after_word : {X E : Type 0} (r : Result X E) (old mid new word tail : List ℕ) → mid ≡ old ++ word → OnOk r (new ≡ mid ++ tail) → OnOk r (new ≡ old ++ (word ++ tail))
-after_word (Ok x) old mid new word tail first then = then ∙ ap (λ l. l ++ tail) first ∙ append_assoc old word tail
-after_word (Err e) old mid new word tail first then = tt

@@ -12,8 +12,8 @@ use Rattle.fab_config.specs.declared.Config.TheInside.{Inside}
 use Rattle.fip_codec.specs.Message as fip
 use Rattle.fip_codec.proofs.Sound.{and-left, and-right}
 use Rattle.fab_policy.specs.Heard.{What, Bad, plain, frame_in, decoded, source, FIP}
-use Rattle.fab_policy.specs.Judging.{notice_to, solicited_by, size_in, verdict_of}
-use Rattle.fab_policy.specs.Replies.{vlan_notice, advertised_to_one, made, own_tag, advertisement}
+use Rattle.fab_policy.specs.Judging.{notice_to, solicited_by, verdict_of}
+use Rattle.fab_policy.specs.Replies.{vlan_notice, advertised_to_one, size_in, made, own_tag, advertisement}
 use Rattle.fab_policy.specs.Stage.{verdict_so_far}
 use Rattle.fab_policy.specs.declared.verdict.Rule.TheVariants as rule
 use Rattle.fab_policy.specs.declared.verdict.Verdict.TheVariants.{Vlans, Advertised, Dropped}

@@ -1,9 +1,8 @@
 -- What a judgement says of a login request that may be granted: its kind, ENode and name are those that the journal reads from
 -- the same frame, no login that stays has its name, and there is room for it.
-use Rattle.std.proofs.Common.{◌≡◌, ℕ, Bool, true, false, not, ◌==◌, ◌&&◌, ◌||◌, ◌-◌, List, [], ◌∷◌, IsTrue, Option, Some, None, Result, Ok, Err, refl, sym, ap, subst, ◌∙◌, arith, nat_le, nat_lt, length, if◌then◌else◌}
+use Rattle.std.proofs.Common.{◌≡◌, ℕ, Bool, true, false, not, ◌==◌, ◌&&◌, ◌||◌, List, [], ◌∷◌, IsTrue, Option, Some, None, Result, Ok, Err, refl, sym, ap, subst, ◌∙◌, arith, nat_le, nat_lt, length, if◌then◌else◌}
 use Rattle.std.proofs.lemmas.Bool.Decides.{nat_tests}
 use Rattle.std.specs.List.{list_any}
-use Rattle.fab_base.specs.Layout.{field, byte, number}
 use Rattle.fab_base.specs.declared.values.Caught.{Caught}
 use Rattle.fab_config.specs.Settings.{Settings}
 use Rattle.eth_frames.specs.Ethernet as eth
@@ -24,7 +23,8 @@ use Rattle.fab_policy.specs.Heard.{What, Bad, Fip, Fcoe, FIP, FCOE, plain, cause
 use Rattle.fab_policy.specs.State.{Tables, LivePort, port_at}
 use Rattle.fab_policy.specs.Free.{Request, has_free, is_free}
 use Rattle.fab_policy.specs.Rules.{first_row, rule_for, holds, is_known, is_els_reply, is_els_request, NAME_SERVER, SERVICES}
-use Rattle.fab_policy.specs.Queries.{Refusal, refusal, is_registration}
+use Rattle.ct_messages.specs.Server.{Refusal, is_registration}
+use Rattle.fab_policy.specs.Queries.{refusal}
 use Rattle.fab_policy.specs.Verdicts.{Judgement, Must, MayGrant, Meets, IsRight, judged, message_judged, fip_judged, frame_judged, login_judged, request_of, staying, unless_refused, is_own_logout, fcoe_judged, service_judged, els_judged, ct_judged, is_function}
 use Rattle.fab_policy.specs.declared.verdict.Verdict.{Verdict}
 use Rattle.fab_policy.specs.declared.verdict.Verdict.TheVariants.{Granted, Rejected, Logout, NsLogin, NsLogout, Watching, Refused, Registered, Answered, Noted, Forwarded, Dropped}

@@ -7,7 +7,8 @@ use Rattle.fab_base.specs.declared.values.Enode.{Enode}
 use Rattle.fab_policy.specs.Journal.{Journal, latest, now, clock}
 use Rattle.ct_messages.specs.Ct.{Ask}
 use Rattle.ct_messages.specs.declared.TypeMap.{TypeMap}
-use Rattle.fab_policy.specs.Registered.{newest, node_name, types, symbol, node_symbol, feature, registrations, registration, says_node, says_types, says_feature, says_symbol, says_node_symbol, NO_TYPES}
+use Rattle.fab_policy.specs.Registered.{newest, node_name, types, symbol, node_symbol, feature, registrations, registration, says_node, says_types, says_feature, says_symbol, says_node_symbol}
+use Rattle.ct_messages.specs.Server.{NO_TYPES}
 use Rattle.fab_policy.specs.State.{LivePort, Past, Tables, with_all, live_port, past_of, past_made, port_at, tables_of}
 use Rattle.fab_policy.specs.Logins.{NPort, login, is_live, end_clock, up_to_end, pool, grants, n_port, ends, last_grant, since, counting, server, watch, says_server, says_watch, node_heard, port_heard, hears_node, hears_port}
 use Rattle.fab_policy.specs.Steps.{login_after, StepsLogin, said, features_after, touched, fresh, port_after, past_after, clock_after, after, Steps}

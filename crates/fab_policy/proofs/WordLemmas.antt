@@ -4,7 +4,8 @@ use Rattle.std.specs.List.{list_all}
 use Rattle.std.specs.Str.Parse.{AllDigits, digits_value}
 use Rattle.std.proofs.lemmas.Str.Parse.{digit_from_value}
 use Rattle.std.proofs.lemmas.Fmt.{decimal_is_IsNumeral}
-use Rattle.fab_policy.specs.Text.{SPACE, LINE_FEED, hex, hex_digit}
+use Rattle.fab_policy.specs.Text.{SPACE, LINE_FEED}
+use Rattle.fab_base.specs.Texts.{hex, hex_digit}
 use Rattle.fab_policy.specs.LineWords.{is_inside, IsWord, Ends, rest_of}
 
 -- ---- where a word ends
@@ -14,11 +15,11 @@ abbrev pub text_of : List (List ℕ) → List ℕ
 text_of [] = []
 text_of (w ∷ more) = w ++ rest_of more
 
-and_left : (p q : Bool) → (p && q) ≡ true → p ≡ true
+pub and_left : (p q : Bool) → (p && q) ≡ true → p ≡ true
 and_left true q h = refl
 and_left false q h = h
 
-and_right : (p q : Bool) → (p && q) ≡ true → q ≡ true
+pub and_right : (p q : Bool) → (p && q) ≡ true → q ≡ true
 and_right true q h = h
 and_right false q h = absurd (cc)
 

@@ -3,10 +3,12 @@ use Rattle.std.specs.Prelude.{ℕ, Bool, true, false, Option}
 use Rattle.fab_policy.specs.declared.verdict.Rule.{Rule}
 use Rattle.fab_policy.specs.declared.verdict.Rule.TheVariants.{FipLength, FipCritical, FipDouble, FipMissing}
 
+-- a rule, and its number
 pub record Cause : Type 0 where
   pub rule : Rule
   pub number : Option ℕ
 
+-- the rules of FIP that name a place in the body, or the type of a descriptor
 abbrev pub is_numbered : Rule → Bool
 is_numbered FipLength = true
 is_numbered FipCritical = true

@@ -1,23 +1,17 @@
 -- The verdict so far of what was heard, and the answers to what was read.
-use Rattle.std.specs.Prelude.{ℕ, Bool, true, false, ◌==◌, ◌||◌, not, if◌then◌else◌, List, [], ◌∷◌, Option, Some, None, Ok, min}
+use Rattle.std.specs.Prelude.{ℕ, Bool, true, false, ◌==◌, not, if◌then◌else◌, List, [], ◌∷◌, Option, Some, None, min}
 use Rattle.fab_config.specs.Settings.{Settings, same_bytes}
 use Rattle.eth_frames.specs.Ethernet as eth
 use Rattle.fip_codec.specs.Message as fip
-use Rattle.fip_codec.specs.Reading as reading
 use Rattle.fab_base.specs.Layout.{padded}
-use Rattle.fab_policy.specs.Replies.{made, own_tag, advertisement}
-use Rattle.fab_policy.specs.Cause.{Cause, is_numbered}
-use Rattle.fab_policy.specs.Heard.{What, plain, numbered, FIP}
+use Rattle.fab_policy.specs.Replies.{made, own_tag, advertisement, size_in}
+use Rattle.fab_policy.specs.Cause.{Cause}
+use Rattle.fab_policy.specs.Heard.{What, plain, FIP}
 use Rattle.fab_policy.specs.Rules.{named_mac, is_wrong_vlan, first_row}
 use Rattle.fab_policy.specs.Stage.{frame_rule, message_verdict}
-use Rattle.fab_policy.specs.declared.verdict.Rule.{Rule}
 use Rattle.fab_policy.specs.declared.verdict.Verdict.{Verdict}
 use Rattle.fab_policy.specs.declared.verdict.Verdict.TheVariants.{Dropped}
 use Rattle.fab_policy.specs.declared.verdict.Rule.TheVariants as rule
-
--- the cause that a rule and a place of the code stand for
-abbrev pub cause_at : Rule → ℕ → Cause
-cause_at rule at = if is_numbered rule || not (at == 0) then numbered rule at else plain rule
 
 -- the message names another MAC than the frame's source
 abbrev pub names_another : eth.Eth → fip.Fip → Bool
@@ -36,10 +30,6 @@ abbrev pub fcoe_verdict : Settings → eth.Eth → Verdict
 fcoe_verdict c f = by_rule (first_row ((is_wrong_vlan c f false, plain rule.Vlan) ∷ [])) (Dropped (plain rule.NotBuilt))
 
 -- ---- answers to a frame that was read
-
--- the size that a body of FIP asks for
-abbrev pub size_in : List ℕ → ℕ
-size_in body = elim (reading.decoded body) [ Ok (fip.Solicit from_fcf fp mac name size) ↦ size | _ ↦ 0 ]
 
 abbrev pub notice_to : Settings → eth.Eth → List ℕ
 notice_to c f = made c (if eth.vlan_of_tag f.tag == 0 then None else own_tag c) f.src FIP (fip.written (fip.VlanTell c.fcf_mac (c.vlan ∷ [])))

@@ -16,6 +16,7 @@ pub mod Text
 pub mod Steps
 pub mod Forwarding
 pub mod Ranged
+pub mod Fits
 pub mod Standing
 pub mod Gathering
 pub mod Written

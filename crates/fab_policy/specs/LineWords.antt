@@ -15,6 +15,7 @@ use Rattle.fab_policy.specs.declared.verdict.Verdict.TheVariants.{Vlans, Adverti
 abbrev pub is_inside : ℕ → Bool
 is_inside b = not (b == SPACE) && not (b == LINE_FEED)
 
+-- bytes without a space and without a line feed
 abbrev pub IsWord : List ℕ → Type 0
 IsWord w = list_all is_inside w ≡ true
 
@@ -56,7 +57,7 @@ abbrev pub rest_of : List (List ℕ) → List ℕ
 rest_of [] = LINE_FEED ∷ []
 rest_of (w ∷ more) = then_word (w ++ rest_of more)
 
--- the words of a rule, with its number where it has one
+-- the word of the number of a rule, where it has one
 abbrev pub number_words : Option ℕ → List (List ℕ)
 number_words None = []
 number_words (Some n) = decimal n ∷ []

@@ -1,10 +1,11 @@
 -- The frames that an entry sends.
-use Rattle.std.specs.Prelude.{ℕ, zero, suc, ◌+◌, ◌-◌, ◌%◌, Bool, true, false, not, ◌==◌, nat_lt, nat_le, ◌&&◌, ◌||◌, if◌then◌else◌, List, [], ◌∷◌, ◌++◌, length, take, drop, map, filter, flat_map, Option, Some, None, is_some, unwrap_or, option_to_list}
+use Rattle.std.specs.Prelude.{ℕ, zero, suc, ◌+◌, ◌-◌, ◌%◌, Bool, true, false, ◌==◌, nat_lt, nat_le, ◌&&◌, ◌||◌, if◌then◌else◌, List, [], ◌∷◌, ◌++◌, length, take, drop, map, filter, flat_map, Option, Some, None, is_some, unwrap_or, option_to_list}
 use Rattle.fab_base.specs.declared.values.Caught.{Caught}
 use Rattle.fab_base.specs.declared.values.Enode.{Enode}
-use Rattle.fab_config.specs.Settings.{Settings, same_bytes}
+use Rattle.fab_config.specs.Settings.{Settings}
 use Rattle.zone_rules.specs.Joined as zones
 use Rattle.els_messages.specs.Els as els
+use Rattle.ct_messages.specs.Server as server
 use Rattle.ct_messages.specs.declared.CtTell.TheVariants as tell
 use Rattle.fip_codec.specs.declared.message.VxPort.{VxPort}
 use Rattle.fab_policy.specs.Journal.{Journal}
@@ -12,7 +13,7 @@ use Rattle.fab_policy.specs.Heard.{s_id, ask_of, login_of}
 use Rattle.fab_policy.specs.Logins.{ends, same_enode, granted_mac, counting}
 use Rattle.fab_policy.specs.State.{Tables, LivePort, tables_of, now_of, port_at}
 use Rattle.fab_policy.specs.Rules.{joined}
-use Rattle.fab_policy.specs.Queries.{query}
+use Rattle.fab_policy.specs.Queries.{query, values_of}
 use Rattle.fab_policy.specs.Replies.{login_accept, login_reply, vlan_notice, advertised_to_one, advertised_to_all, service_reply, ct_reply, forwarded, clear_links, rscn}
 use Rattle.fab_policy.specs.Replies.{server_parms}
 use Rattle.fab_policy.specs.declared.event.Event.{Event}
@@ -67,7 +68,7 @@ granted_by U _ = []
 -- the types or the features of an address differ
 abbrev pub has_changed : LivePort → Option LivePort → Bool
 has_changed p None = false
-has_changed p (Some q) = not (same_bytes p.types.0 q.types.0 && same_bytes p.features q.features)
+has_changed p (Some q) = server.has_changed (values_of p) (values_of q)
 
 -- the N_Port whose types or features an entry changes
 abbrev pub changed_by : Tables → Tables → Event → List LivePort
@@ -95,14 +96,9 @@ abbrev pub told_of : Settings → Tables → Tables → LivePort → List Notice
 told_of c T U affected =
     map (λ w. record { watcher = w; affected = affected.address }) (filter (λ w. joined c T w.name affected.name) (watchers U))
 
-abbrev pub is_other : Bool → Bool → Bool
-is_other true b = not b
-is_other false b = b
-
 -- two names are joined at one of two moments and not at the other
 abbrev pub differs : Settings → ℕ → ℕ → ℕ → ℕ → Bool
-differs c before at x y =
-    is_other (zones.joined c.zones c.sets c.activations before x y) (zones.joined c.zones c.sets c.activations at x y)
+differs c before at x y = zones.differs c.zones c.sets c.activations before at x y
 
 -- each watcher whose joining with a live N_Port changes at a tick is told of it; the first tick changes nothing
 abbrev pub told_of_zones : Settings → Tables → Tables → Event → List Notice

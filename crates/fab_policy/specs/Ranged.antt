@@ -10,6 +10,7 @@ use Rattle.fab_policy.specs.declared.event.Event.TheVariants.{Tick, Frame}
 use Rattle.fab_policy.specs.declared.verdict.Verdict.{Verdict}
 use Rattle.fab_policy.specs.declared.verdict.Verdict.TheVariants.{Granted, Rejected, Logout, AlivePort, Watching, Refused, Forwarded, Dropped}
 
+-- an N_Port_ID has 24 bits
 abbrev pub IsAddress : ℕ → Type 0
 IsAddress a = a < 2 ^ 24
 
@@ -18,6 +19,7 @@ abbrev pub AscendFrom : ℕ → List ℕ → Type 0
 AscendFrom from [] = Unit {0}
 AscendFrom from (a ∷ more) = (from ≤ a) × IsAddress a × AscendFrom (a + 1) more
 
+-- the numbers of a verdict: addresses of 24 bits, codes of 8, ports 1 to 64, and a number of 32 beside the rules that have one
 abbrev pub IsRangedVerdict : Verdict → Type 0
 IsRangedVerdict (Granted a) = IsAddress a
 IsRangedVerdict (Logout a) = IsAddress a
@@ -29,10 +31,12 @@ IsRangedVerdict (Forwarded port) = (1 ≤ port) × (port ≤ 64)
 IsRangedVerdict (Dropped cause) = (is_some cause.number ≡ is_numbered cause.rule) × IfSome cause.number (λ n. n < 2 ^ 32)
 IsRangedVerdict _ = Unit {0}
 
+-- the numbers of an entry: moments and indexes of 64 bits, addresses that ascend, and the bytes of a frame
 abbrev pub IsRangedEvent : Event → Type 0
 IsRangedEvent (Tick m ended) = (m < 2 ^ 64) × AscendFrom 0 ended
 IsRangedEvent (Frame port index caught verdict) = (1 ≤ port) × (port ≤ 64) × (index < 2 ^ 64) × AllPass (λ b. nat_lt b 256) caught.bytes × IsRangedVerdict verdict
 
+-- the numbers of all entries of a journal
 abbrev pub IsRanged : Journal → Type 0
 IsRanged [] = Unit {0}
 IsRanged (e ∷ J) = IsRanged J × IsRangedEvent e

@@ -1,7 +1,8 @@
 -- What is registered with the name server (FC-GS-6, "Name Server"): the last registration that sets a value counts,
 -- and one that erases puts back what the login gave.
-use Rattle.std.specs.Prelude.{ℕ, ◌==◌, if◌then◌else◌, List, [], ◌∷◌, Option, Some, None, unwrap_or, replicate, filter_map}
+use Rattle.std.specs.Prelude.{ℕ, ◌==◌, if◌then◌else◌, List, [], ◌∷◌, Option, Some, None, unwrap_or, filter_map}
 use Rattle.ct_messages.specs.Ct.{Ask, SetNode, SetTypes, SetSymbol, SetFeature, SetNodeSymbol, Erase}
+use Rattle.ct_messages.specs.Server.{NO_TYPES}
 use Rattle.ct_messages.specs.declared.TypeMap.{TypeMap}
 use Rattle.fab_policy.specs.Journal.{Journal}
 use Rattle.fab_policy.specs.Heard.{s_id, ask_of}
@@ -23,9 +24,6 @@ registrations a J = filter_map (registration a) (since a J)
 abbrev pub newest : {X : Type 0} → (Ask → Option X) → List Ask → Option X
 newest says [] = None
 newest says (ask ∷ asks) = elim (says ask) [ Some x ↦ Some x | None ↦ newest says asks ]
-
-abbrev pub NO_TYPES : TypeMap
-NO_TYPES = record { 0 = replicate 8 0 }
 
 -- ---- what a registration says of each value
 

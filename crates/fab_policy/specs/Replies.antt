@@ -129,11 +129,11 @@ abbrev pub advertised_to_all : Settings → List ℕ
 advertised_to_all c = made_fip c ALL_ENODES (advertisement c false)
 
 -- the size that a solicitation asks for
+abbrev pub size_in : List ℕ → ℕ
+size_in body = elim (reading.decoded body) [ Ok (fip.Solicit from_fcf fp mac name size) ↦ size | _ ↦ 0 ]
+
 abbrev pub size_asked : Caught → ℕ
-size_asked caught = elim (eth.decoded caught.bytes) [
-  | Err e ↦ 0
-  | Ok f ↦ elim (reading.decoded f.body) [ Ok (fip.Solicit from_fcf fp mac name size) ↦ size | _ ↦ 0 ]
-]
+size_asked caught = elim (eth.decoded caught.bytes) [ Err e ↦ 0 | Ok f ↦ size_in f.body ]
 
 -- an advertisement to the sender of a solicitation, with zeros up to the size that it asks for
 abbrev pub advertised_to_one : Settings → Caught → List ℕ

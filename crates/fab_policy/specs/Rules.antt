@@ -115,11 +115,12 @@ is_logo _ = false
 -- the frame isn't the request to the fabric port that its descriptor announces, or a FLOGI or FDISC has an S_ID
 abbrev pub is_misplaced : LoginKind → fc.Frame → Bool
 is_misplaced kind f =
-    not (is_els_request f && f.head.d_id == FABRIC_PORT && eth_byte f.payload == command_of kind && (is_logo kind || f.head.s_id == 0))
+    not (is_els_request f && f.head.d_id == FABRIC_PORT && command_in f.payload == command_of kind && (is_logo kind || f.head.s_id == 0))
   where
-    eth_byte : List ℕ → ℕ
-    eth_byte [] = 256
-    eth_byte (b ∷ _) = b
+    -- the command of a link service; an empty payload has none, and 256 is no byte
+    command_in : List ℕ → ℕ
+    command_in [] = 256
+    command_in (b ∷ _) = b
 
 abbrev pub is_wrong_login : fip.Fip → Bool
 is_wrong_login (fip.Login kind fp l mac) = is_misplaced kind (fc_of l)

@@ -19,6 +19,7 @@ abbrev pub IsNewMac : Settings → LivePort → List LivePort → Type 0
 IsNewMac c p [] = Unit {0}
 IsNewMac c p (q ∷ ports) = (granted_mac c p.address ≡ granted_mac c q.address → ⊥) × IsNewMac c p ports
 
+-- no two of these N_Ports have one granted MAC
 abbrev pub HaveDifferentMacs : Settings → List LivePort → Type 0
 HaveDifferentMacs c [] = Unit {0}
 HaveDifferentMacs c (p ∷ ports) = IsNewMac c p ports × HaveDifferentMacs c ports
@@ -42,5 +43,6 @@ pub record IsGrantable (c : Settings) (J : Journal) (port : ℕ) (caught : Caugh
   pub most : a < c.domain * 65536 + 256 + c.pool
   pub holder : (login a J ≡ None) ⊎ ((p : NPort) × (login a J ≡ Some p) × IsGivenBack port caught p)
 
+-- Each grant of a legal journal is of an address that may be granted there.
 abbrev pub GrantsAreFree : Type 0
 GrantsAreFree = (c : Settings) (J : Journal) (port index a : ℕ) (caught : Caught) → Legal c (Frame port index caught (Granted a) ∷ J) → IsGrantable c J port caught a

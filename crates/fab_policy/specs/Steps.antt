@@ -5,7 +5,8 @@ use Rattle.fab_config.specs.Settings.{Settings}
 use Rattle.ct_messages.specs.Ct.{Ask}
 use Rattle.fab_policy.specs.Journal.{Journal, moment_of}
 use Rattle.fab_policy.specs.Logins.{NPort, login, grants, n_port, ends, says_server, says_watch, hears_node, hears_port, pool}
-use Rattle.fab_policy.specs.Registered.{registration, says_node, says_types, says_feature, says_symbol, says_node_symbol, NO_TYPES}
+use Rattle.fab_policy.specs.Registered.{registration, says_node, says_types, says_feature, says_symbol, says_node_symbol}
+use Rattle.ct_messages.specs.Server.{NO_TYPES}
 use Rattle.fab_policy.specs.State.{LivePort, Past, Tables, tables_of, port_at}
 use Rattle.fab_policy.specs.declared.event.Event.{Event}
 

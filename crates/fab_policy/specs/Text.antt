@@ -1,7 +1,8 @@
 -- The text of a journal in its two formats, and the captures of what a journal sends.
-use Rattle.std.specs.Prelude.{ℕ, zero, suc, ◌+◌, ◌/◌, ◌%◌, ◌==◌, nat_lt, if◌then◌else◌, List, [], ◌∷◌, ◌++◌, filter, flat_map, Some, None, codes, decimal}
+use Rattle.std.specs.Prelude.{ℕ, ◌==◌, List, [], ◌∷◌, ◌++◌, filter, flat_map, Some, None, codes, decimal}
 use Rattle.fab_config.specs.Settings.{Settings}
 use Rattle.pcap_file.specs.Capture.{head_bytes, record_bytes}
+use Rattle.fab_base.specs.Texts.{hex}
 use Rattle.fab_policy.specs.Cause.{Cause}
 use Rattle.fab_policy.specs.Journal.{Journal, now}
 use Rattle.fab_policy.specs.Outputs.{Sent, outputs}
@@ -13,15 +14,6 @@ use Rattle.fab_policy.specs.declared.verdict.Rule.{Rule}
 use Rattle.fab_policy.specs.declared.verdict.Rule.TheVariants as rule
 
 -- ---- words
-
--- a digit below 16, in lower case
-abbrev pub hex_digit : ℕ → ℕ
-hex_digit d = if nat_lt d 10 then 48 + d else 87 + d
-
--- so many hexadecimal digits of a number
-abbrev pub hex : ℕ → ℕ → List ℕ
-hex zero n = []
-hex (suc count) n = hex count (n / 16) ++ hex_digit (n % 16) ∷ []
 
 abbrev pub SPACE : ℕ
 SPACE = 32

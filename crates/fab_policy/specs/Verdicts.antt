@@ -16,7 +16,8 @@ use Rattle.fab_policy.specs.Logins.{same_enode, granted_mac}
 use Rattle.fab_policy.specs.State.{Tables, LivePort, port_at}
 use Rattle.fab_policy.specs.Free.{Request, is_free, has_free}
 use Rattle.fab_policy.specs.Rules.{first_row, rule_for, is_known, holds, is_els_request, is_els_reply, NAME_SERVER, SERVICES}
-use Rattle.fab_policy.specs.Queries.{Refusal, refusal, is_registration}
+use Rattle.ct_messages.specs.Server.{Refusal, is_registration}
+use Rattle.fab_policy.specs.Queries.{refusal}
 use Rattle.fab_policy.specs.declared.verdict.Verdict.{Verdict}
 use Rattle.fab_policy.specs.declared.verdict.Verdict.TheVariants.{Vlans, Advertised, Granted, Rejected, Logout, AliveNode, AlivePort, NsLogin, NsLogout, Watching, Registered, Answered, Refused, Noted, Forwarded, Dropped}
 use Rattle.fab_policy.specs.declared.verdict.Rule.TheVariants as rule

@@ -22,6 +22,7 @@ pub record IsWritten (c : Settings) (ins : List (List Record)) (J : Journal) (jo
   pub lines : journal ≡ text J
   pub captures : outs ≡ egresses c (length ins) J
 
+-- bytes with which others begin
 abbrev pub IsPrefixOf : List ℕ → List ℕ → Type 0
 IsPrefixOf front whole = (rest : List ℕ) × (front ++ rest ≡ whole)
 
@@ -44,22 +45,25 @@ pub record IsNamed (ins : List (List Record)) (J : Journal) (journal : List ℕ)
   pub lines : (journal ≡ text J) ⊎ (journal ≡ text1 J)
   pub frames : HoldsFrames J 1 ins
 
--- What holds of the tables after each legal journal: addresses ascend in the pool and port names differ, there are at most
--- as many logins as the limit, and nobody is overdue at the clock.
+-- none of these N_Ports has the port name of p
 abbrev pub IsNew : LivePort → List LivePort → Type 0
 IsNew p [] = Unit {0}
 IsNew p (q ∷ ports) = (p.name ≡ q.name → ⊥) × IsNew p ports
 
+-- no two of these N_Ports have one port name
 abbrev pub HaveDifferentNames : List LivePort → Type 0
 HaveDifferentNames [] = Unit {0}
 HaveDifferentNames (p ∷ ports) = IsNew p ports × HaveDifferentNames ports
 
+-- What holds of the tables after each legal journal: addresses ascend in the pool and port names differ, there are at most
+-- as many logins as the limit, and nobody is overdue at the clock.
 pub record IsSound (c : Settings) (T : Tables) : Type 0 where
   pub ascending : AreAscending (c.domain * 65536 + 256) (c.domain * 65536 + 256 + c.pool) T.ports
   pub names : HaveDifferentNames T.ports
   pub few : length T.ports ≤ c.limit
   pub quiet : overdue c T (now_of T) ≡ []
 
+-- The tables of each legal journal are so.
 abbrev pub LegalIsSound : Type 0
 LegalIsSound = (c : Settings) (J : Journal) → Legal c J → IsSound c (tables_of c J)
 

@@ -5,7 +5,8 @@ ghost use Rattle.fip_codec.specs.Message.{view as fip_view};
 ghost use Rattle.fab_config.specs.Settings.{same_bytes};
 ghost use Rattle.fab_policy.specs.Cause.{is_numbered};
 ghost use Rattle.fab_policy.specs.Heard.{Fip, plain, numbered};
-ghost use Rattle.fab_policy.specs.Judging.{verdict_of, fcoe_verdict, cause_at as cause_of_place, names_another as is_named_otherwise};
+ghost use Rattle.fab_policy.specs.View.{cause_at as cause_of_place};
+ghost use Rattle.fab_policy.specs.Judging.{verdict_of, fcoe_verdict, names_another as is_named_otherwise};
 ghost use Rattle.fab_policy.specs.Rules as rules;
 ghost use Rattle.fab_policy.specs.Stage.{verdict_so_far, message_verdict};
 

@@ -3,6 +3,7 @@ ghost use Rattle.fab_policy.specs.Steps.{Steps, StepsLogin, FoundByAddress};
 ghost use Rattle.fab_policy.specs.Forwarding.{ForwardsExactly};
 ghost use Rattle.fab_policy.specs.Written.{TablesAscend, LegalIsQuiet, LegalIsSound};
 ghost use Rattle.fab_policy.specs.Sound.{MacsTellAddresses, LiveMacsDiffer, GrantsAreFree};
+ghost use Rattle.fab_policy.specs.Fits.{RegistrationsFit, LoginsFit};
 ghost use Rattle.fab_policy.specs.Standing.{StandsAfter, StandsDrained, LegalAfter, GrowsByFrames};
 
 /// What a journal with one more entry says follows from what the journal said, and tables that are
@@ -11,6 +12,13 @@ pub fn journal_steps()
     ensures login { StepsLogin }
     ensures tables { Steps }
     ensures found { FoundByAddress }
+{}
+
+/// A registration changes what a journal says of its N_Port as the name server's table says, and a new
+/// login has what the table gives one: so a registry can keep what a journal says.
+pub fn registrations_fit()
+    ensures after { RegistrationsFit }
+    ensures fresh { LoginsFit }
 {}
 
 /// A fabric that takes an entry which is right by its own tables stands for each journal that it stood
@@ -30,7 +38,7 @@ pub fn forwarding_rule()
 
 /// The live addresses of each journal ascend, and their granted MACs differ. After each legal journal
 /// the names of live N_Ports differ too, there are at most as many as the limit, and nobody is overdue
-/// at the clock. An address is granted where nobody holds it, or where it is given back to its ENode.
+/// at the clock. An address is granted only where nobody holds it, or where it is given back to its ENode.
 pub fn legal_journals()
     ensures ascend { TablesAscend }
     ensures quiet { LegalIsQuiet }

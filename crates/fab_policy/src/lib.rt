@@ -25,7 +25,7 @@ mod words;
 pub use event::Event;
 pub use heard::{Heard, What, hear};
 pub use judging::judge;
-pub use laws::{fabric_steps, forwarding_rule, journal_steps, legal_journals};
+pub use laws::{fabric_steps, forwarding_rule, journal_steps, legal_journals, registrations_fit};
 pub use line::{Format, Line};
 pub use lines::{write_frame_line, write_head_line, write_line, write_line1, write_tick_line};
 pub use named::journal_is_named;

@@ -1,7 +1,8 @@
 // The lines of a journal, written.
 ghost use Rattle.std.specs.Prelude.{◌≡◌, ◌++◌, ◌∷◌, [], ◌<◌, decimal, IfOk, OnOk, OnErr};
 ghost use Rattle.fab_policy.specs.Spelling.{IsClockOf, EndsAscend};
-ghost use Rattle.fab_policy.specs.Text.{line, head_line, line1, frame_words, verdict_text, cause_text, then_word, address_word, address_words, code_word, hex_digit, LINE_FEED};
+ghost use Rattle.fab_policy.specs.Text.{line, head_line, line1, frame_words, verdict_text, cause_text, then_word, address_word, address_words, code_word, LINE_FEED};
+ghost use Rattle.fab_base.specs.Texts.{hex_digit};
 
 use crate::words::rule_text;
 use crate::{Dropped, Event, Verdict};
@@ -194,10 +195,37 @@ fn write_number(alloc: Global, number: u32, line: &mut Vec<u8>) -> Result<(), Al
     line.extend_from_slice(word.as_bytes())
 }
 
-// A reason and an explanation.
-fn write_codes(reason: u8, explanation: u8, line: &mut Vec<u8>) -> Result<(), AllocError>
-    ensures { OnOk result (line.new.items ≡ line.old.items ++ (then_word (code_word reason) ++ then_word (code_word explanation))) }
+// A word and an address.
+fn write_addressed(word: &str, address: &FcId, line: &mut Vec<u8>) -> Result<(), AllocError>
+    ensures { OnOk result (line.new.items ≡ line.old.items ++ (word.now ++ then_word (address_word address.now))) }
 {
+    line.extend_from_slice(word.as_bytes())?;
+    write_address(address, line)
+}
+
+// A word and a number.
+fn write_numbered(
+    alloc: Global,
+    word: &str,
+    number: u32,
+    line: &mut Vec<u8>,
+) -> Result<(), AllocError>
+    ensures { OnOk result (line.new.items ≡ line.old.items ++ (word.now ++ then_word (decimal number))) }
+{
+    line.extend_from_slice(word.as_bytes())?;
+    write_number(alloc, number, line)
+}
+
+// A word, a reason and an explanation.
+fn write_coded(
+    word: &str,
+    reason: u8,
+    explanation: u8,
+    line: &mut Vec<u8>,
+) -> Result<(), AllocError>
+    ensures { OnOk result (line.new.items ≡ line.old.items ++ (word.now ++ then_word (code_word reason) ++ then_word (code_word explanation))) }
+{
+    line.extend_from_slice(word.as_bytes())?;
     write_code(reason, line)?;
     write_code(explanation, line)
 }
@@ -208,52 +236,34 @@ fn write_verdict(alloc: Global, verdict: &Verdict, line: &mut Vec<u8>) -> Result
     match verdict {
         Verdict::Vlans => line.extend_from_slice(b"vlans"),
         Verdict::Advertised => line.extend_from_slice(b"advertised"),
-        Verdict::Granted(address) => {
-            line.extend_from_slice(b"granted")?;
-            write_address(address, line)
-        }
+        Verdict::Granted(address) => write_addressed("granted", address, line),
         Verdict::Rejected(reason, explanation) => {
-            line.extend_from_slice(b"rejected")?;
-            write_codes(*reason, *explanation, line)
+            write_coded("rejected", *reason, *explanation, line)
         }
-        Verdict::Logout(address) => {
-            line.extend_from_slice(b"logout")?;
-            write_address(address, line)
-        }
+        Verdict::Logout(address) => write_addressed("logout", address, line),
         Verdict::AliveNode => line.extend_from_slice(b"alive"),
-        Verdict::AlivePort(address) => {
-            line.extend_from_slice(b"alive")?;
-            write_address(address, line)
-        }
+        Verdict::AlivePort(address) => write_addressed("alive", address, line),
         Verdict::NsLogin => line.extend_from_slice(b"ns-login"),
         Verdict::NsLogout => line.extend_from_slice(b"ns-logout"),
         Verdict::Watching(function) => {
-            line.extend_from_slice(b"watching")?;
-            write_number(alloc, u32::from(*function), line)
+            write_numbered(alloc, "watching", u32::from(*function), line)
         }
         Verdict::Registered => line.extend_from_slice(b"registered"),
         Verdict::Answered => line.extend_from_slice(b"answered"),
         Verdict::Refused(reason, explanation) => {
-            line.extend_from_slice(b"refused")?;
-            write_codes(*reason, *explanation, line)
+            write_coded("refused", *reason, *explanation, line)
         }
         Verdict::Noted => line.extend_from_slice(b"noted"),
-        Verdict::Forwarded(port) => {
-            line.extend_from_slice(b"forwarded")?;
-            write_number(alloc, port.value(), line)
-        }
-        Verdict::Dropped(dropped) => {
-            line.extend_from_slice(b"dropped")?;
-            write_cause(alloc, dropped, line)
-        }
+        Verdict::Forwarded(port) => write_numbered(alloc, "forwarded", port.value(), line),
+        Verdict::Dropped(dropped) => write_dropped(alloc, dropped, line),
     }
 }
 
 // A rule, and its number where it has one.
-fn write_cause(alloc: Global, dropped: &Dropped, line: &mut Vec<u8>) -> Result<(), AllocError>
-    ensures { OnOk result (line.new.items ≡ line.old.items ++ then_word (cause_text dropped.now)) }
+fn write_dropped(alloc: Global, dropped: &Dropped, line: &mut Vec<u8>) -> Result<(), AllocError>
+    ensures { OnOk result (line.new.items ≡ line.old.items ++ verdict_text (Verdict.Dropped dropped.now)) }
 {
-    line.extend_from_slice(b" ")?;
+    line.extend_from_slice(b"dropped ")?;
     line.extend_from_slice(rule_text(dropped.rule()).as_bytes())?;
     match dropped.number() {
         Some(number) => write_number(alloc, number, line),

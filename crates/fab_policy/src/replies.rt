@@ -4,7 +4,8 @@ ghost use Rattle.fab_base.specs.Layout.{padded};
 ghost use Rattle.eth_frames.specs.Ethernet.{view as eth_view};
 ghost use Rattle.fip_codec.specs.Message as fip;
 ghost use Rattle.fab_policy.specs.Heard.{FIP as FIP_KIND};
-ghost use Rattle.fab_policy.specs.Judging.{size_in, notice_to, solicited_by};
+ghost use Rattle.fab_policy.specs.Judging.{notice_to, solicited_by};
+ghost use Rattle.fab_policy.specs.Replies.{size_in};
 ghost use Rattle.fip_codec.specs.CanWrite.{CanWrite};
 ghost use Rattle.fab_policy.specs.Replies as spec;
 ghost use Rattle.fab_policy.specs.Rules.{ALL_ENODES as ALL_NODES};
@@ -59,7 +60,8 @@ fn write_notice_to(
     } else {
         Some(own_tag(config))
     };
-    write_made(alloc, config, tag, asked.src, &body, out)
+    let host = asked.src;
+    write_made(alloc, config, tag, host, &body, out)
 }
 
 /// Appends the advertisement that answers a solicitation, with zeros up to the size that is asked

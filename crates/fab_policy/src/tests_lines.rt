@@ -1,4 +1,6 @@
 //! Lines of journals, written and read.
+ghost use Rattle.std.specs.Prelude.{◌≡◌, ◌∷◌, [], IfOk};
+
 use super::*;
 use fab_base::{Bytes, Caught, FcId, IdList, Moment, PortNo};
 use std::alloc::Global;
@@ -11,7 +13,9 @@ fn port(number: u32) -> Result<PortNo, Fail> {
     }
 }
 
-fn address(number: u32) -> Result<FcId, Fail> {
+fn address(number: u32) -> Result<FcId, Fail>
+    ensures { IfOk result (λ a. a ≡ number) }
+{
     match FcId::new(number) {
         Some(address) => Ok(address),
         None => Err("an address has 24 bits".into()),
@@ -100,60 +104,73 @@ fn is_rule(alloc: Global, rule: Rule, text: &str) -> Result<bool, Fail> {
     Ok(is_line(alloc, &line, words.as_str())? && verdict_of(alloc, words.as_str())? == verdict)
 }
 
+// The words of all rules.
+const RULES: [(Rule, &str); 35] = [
+    (Rule::Truncated, "truncated"),
+    (Rule::EthShort, "eth-short"),
+    (Rule::Ethertype, "ethertype"),
+    (Rule::FipShort, "fip-short"),
+    (Rule::FipVersion, "fip-version"),
+    (Rule::FipOperation, "fip-operation"),
+    (Rule::FipList, "fip-list"),
+    (Rule::FipLength, "fip-length"),
+    (Rule::FipCritical, "fip-critical"),
+    (Rule::FipDouble, "fip-double"),
+    (Rule::FipMissing, "fip-missing"),
+    (Rule::Vlan, "vlan"),
+    (Rule::FipDest, "fip-dest"),
+    (Rule::FipRole, "fip-role"),
+    (Rule::FipMac, "fip-mac"),
+    (Rule::ElsShort, "els-short"),
+    (Rule::ElsKind, "els-kind"),
+    (Rule::KeepaliveUnknown, "keepalive-unknown"),
+    (Rule::FcoeLength, "fcoe-length"),
+    (Rule::FcoeVersion, "fcoe-version"),
+    (Rule::FcoeSof, "fcoe-sof"),
+    (Rule::FcoeEof, "fcoe-eof"),
+    (Rule::FcoeCrc, "fcoe-crc"),
+    (Rule::FcoeClass, "fcoe-class"),
+    (Rule::FcoeDest, "fcoe-dest"),
+    (Rule::SourceMac, "source-mac"),
+    (Rule::SourceLogin, "source-login"),
+    (Rule::SourcePort, "source-port"),
+    (Rule::ServiceAddress, "service-address"),
+    (Rule::ServiceFrame, "service-frame"),
+    (Rule::CtShort, "ct-short"),
+    (Rule::OwnAddress, "self"),
+    (Rule::DestLogin, "dest-login"),
+    (Rule::Zone, "zone"),
+    (Rule::NotBuilt, "not-built"),
+];
+
 #[test]
 fn rules_have_their_words(rt: HostRuntime) -> Result<(), Fail> {
-    let rows = [
-        (Rule::Truncated, "truncated"),
-        (Rule::EthShort, "eth-short"),
-        (Rule::Ethertype, "ethertype"),
-        (Rule::FipShort, "fip-short"),
-        (Rule::FipVersion, "fip-version"),
-        (Rule::FipOperation, "fip-operation"),
-        (Rule::FipList, "fip-list"),
-        (Rule::FipLength, "fip-length"),
-        (Rule::FipCritical, "fip-critical"),
-        (Rule::FipDouble, "fip-double"),
-        (Rule::FipMissing, "fip-missing"),
-        (Rule::Vlan, "vlan"),
-        (Rule::FipDest, "fip-dest"),
-        (Rule::FipRole, "fip-role"),
-        (Rule::FipMac, "fip-mac"),
-        (Rule::ElsShort, "els-short"),
-        (Rule::ElsKind, "els-kind"),
-        (Rule::KeepaliveUnknown, "keepalive-unknown"),
-        (Rule::FcoeLength, "fcoe-length"),
-        (Rule::FcoeVersion, "fcoe-version"),
-        (Rule::FcoeSof, "fcoe-sof"),
-        (Rule::FcoeEof, "fcoe-eof"),
-        (Rule::FcoeCrc, "fcoe-crc"),
-        (Rule::FcoeClass, "fcoe-class"),
-        (Rule::FcoeDest, "fcoe-dest"),
-        (Rule::SourceMac, "source-mac"),
-        (Rule::SourceLogin, "source-login"),
-        (Rule::SourcePort, "source-port"),
-        (Rule::ServiceAddress, "service-address"),
-        (Rule::ServiceFrame, "service-frame"),
-        (Rule::CtShort, "ct-short"),
-        (Rule::OwnAddress, "self"),
-        (Rule::DestLogin, "dest-login"),
-        (Rule::Zone, "zone"),
-        (Rule::NotBuilt, "not-built"),
-    ];
-    for (rule, text) in rows {
+    for (rule, text) in RULES {
         assert!(rt; is_rule(rt.alloc(), rule, text)?, "{text}");
     }
     Ok(())
 }
 
-#[test]
-fn lines_of_both_formats_are_written(rt: HostRuntime) -> Result<(), Fail> {
-    let alloc = rt.alloc();
+// A tick at 28,100 ms that ends two logins.
+fn tick_of_two(alloc: Global) -> Result<Event, Fail>
+    ensures { IfOk result (λ e. e ≡ Event.Tick 28100 (0x010100 ∷ 0x010101 ∷ [])) }
+{
     let mut ended = IdList::new(alloc)?;
     ended.push(alloc, address(0x010100)?)?;
     ended.push(alloc, address(0x010101)?)?;
-    let mut out = Vec::new(alloc);
-    write_tick_line(alloc, Moment(28100), &ended, &mut out)?;
-    assert_eq!(rt; out.as_slice(), b"tick 28100 010100 010101\n".as_slice());
+    Ok(Event::Tick {
+        moment: Moment(28100),
+        ended,
+    })
+}
+
+#[test]
+fn lines_of_both_formats_are_written(rt: HostRuntime) -> Result<(), Fail> {
+    let alloc = rt.alloc();
+    let tick = tick_of_two(alloc)?;
+    let mut line = Vec::new(alloc);
+    write_line1(alloc, &tick, &mut line)?;
+    assert_eq!(rt; line.as_slice(), b"tick 28100 010100 010101\n".as_slice());
     let frame = Event::Frame {
         port: port(3)?,
         index: 2,
@@ -183,9 +200,10 @@ fn a_journal_of_format_2_is_written(rt: HostRuntime) -> Result<(), Fail> {
     write_head_line(alloc, &mut out)?;
     write_line(alloc, Moment(1000), &tick, &mut out)?;
     write_line(alloc, Moment(1000), &frame, &mut out)?;
+    write_line(alloc, Moment(28100), &tick_of_two(alloc)?, &mut out)?;
     assert_eq!(rt;
         out.as_slice(),
-        b"journal 2\n1000 tick\n1000 1 0 vlans\n".as_slice()
+        b"journal 2\n1000 tick\n1000 1 0 vlans\n28100 tick 010100 010101\n".as_slice()
     );
     Ok(())
 }
@@ -266,70 +284,74 @@ fn is_fault(alloc: Global, format: Format, text: &str) -> bool {
     }
 }
 
+// Texts that are no line of format 1.
+const NO_LINES: [&str; 43] = [
+    "",
+    "\n",
+    "tick\n",
+    "tick \n",
+    "tick 1000",
+    "tick 1000\r\n",
+    "tick 1000\n\n",
+    "tick 01000\n",
+    "tick +1000\n",
+    "tick 18446744073709551616\n",
+    "tick  1000\n",
+    " tick 1000\n",
+    "tick 1000 \n",
+    "tick 1000 10100\n",
+    "tick 1000 01010A\n",
+    "tick 1000 0101000\n",
+    "tick 1000 010101 010100\n",
+    "tick 1000 010100 010100\n",
+    "0 0 vlans\n",
+    "65 0 vlans\n",
+    "01 0 vlans\n",
+    "1 0\n",
+    "1 0 vlan\n",
+    "1 0 Vlans\n",
+    "1 0 vlans 1\n",
+    "1 0  vlans\n",
+    "1 0 granted\n",
+    "1 0 granted 10100\n",
+    "1 0 granted 01010A\n",
+    "1 0 rejected 9 29\n",
+    "1 0 rejected 09\n",
+    "1 0 rejected 09 2F\n",
+    "1 0 watching 256\n",
+    "1 0 watching 03\n",
+    "1 0 forwarded 0\n",
+    "1 0 forwarded 65\n",
+    "1 0 dropped\n",
+    "1 0 dropped zones\n",
+    "1 0 dropped zone 1\n",
+    "1 0 dropped fip-length\n",
+    "1 0 dropped fip-length 010\n",
+    "1 0 dropped fip-length 4294967296\n",
+    "1000 1 0 vlans\n",
+];
+
+// Texts that are no line of format 2.
+const NO_CLOCKED_LINES: [&str; 10] = [
+    "tick 1000\n",
+    "1 0 vlans\n",
+    "journal 2\n",
+    "1000 tick 10100\n",
+    "1000 tick 010101 010100\n",
+    "01000 tick\n",
+    "01000 1 0 vlans\n",
+    "1000 0 0 vlans\n",
+    "18446744073709551616 1 0 vlans\n",
+    "1000\n",
+];
+
 #[test]
 fn all_other_texts_are_faults(rt: HostRuntime) {
     let alloc = rt.alloc();
-    let rows = [
-        "",
-        "\n",
-        "tick\n",
-        "tick \n",
-        "tick 1000",
-        "tick 1000\r\n",
-        "tick 1000\n\n",
-        "tick 01000\n",
-        "tick +1000\n",
-        "tick 18446744073709551616\n",
-        "tick  1000\n",
-        " tick 1000\n",
-        "tick 1000 \n",
-        "tick 1000 10100\n",
-        "tick 1000 01010A\n",
-        "tick 1000 0101000\n",
-        "tick 1000 010101 010100\n",
-        "tick 1000 010100 010100\n",
-        "0 0 vlans\n",
-        "65 0 vlans\n",
-        "01 0 vlans\n",
-        "1 0\n",
-        "1 0 vlan\n",
-        "1 0 Vlans\n",
-        "1 0 vlans 1\n",
-        "1 0  vlans\n",
-        "1 0 granted\n",
-        "1 0 granted 10100\n",
-        "1 0 granted 01010A\n",
-        "1 0 rejected 9 29\n",
-        "1 0 rejected 09\n",
-        "1 0 rejected 09 2F\n",
-        "1 0 watching 256\n",
-        "1 0 watching 03\n",
-        "1 0 forwarded 0\n",
-        "1 0 forwarded 65\n",
-        "1 0 dropped\n",
-        "1 0 dropped zones\n",
-        "1 0 dropped zone 1\n",
-        "1 0 dropped fip-length\n",
-        "1 0 dropped fip-length 010\n",
-        "1 0 dropped fip-length 4294967296\n",
-        "1000 1 0 vlans\n",
-    ];
-    for text in rows {
+    for text in NO_LINES {
         assert!(rt; is_fault(alloc, Format::One, text), "{text}");
     }
-    let clocked = [
-        "tick 1000\n",
-        "1 0 vlans\n",
-        "journal 2\n",
-        "1000 tick 10100\n",
-        "1000 tick 010101 010100\n",
-        "01000 tick\n",
-        "01000 1 0 vlans\n",
-        "1000 0 0 vlans\n",
-        "18446744073709551616 1 0 vlans\n",
-        "1000\n",
-    ];
-    for text in clocked {
+    for text in NO_CLOCKED_LINES {
         assert!(rt; is_fault(alloc, Format::Two, text), "{text}");
     }
 }

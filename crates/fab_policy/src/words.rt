@@ -1,7 +1,8 @@
 // The words of a line: cut off, and read.
 ghost use Rattle.std.specs.Prelude.{◌≡◌, ◌∷◌, ◌++◌, ◌≤◌, ◌<◌, ◌^◌, ℕ, List, Option, true, false, length, take, drop, decimal, IfSome, IfNone, MatchBool};
 ghost use Rattle.fab_policy.specs.LineWords.{Ends, Finds, IsCut, IsNext, IsShortest, IsWord, SpellNone, is_inside};
-ghost use Rattle.fab_policy.specs.Text.{SPACE, address_word, code_word, hex, hex_digit, rule_word};
+ghost use Rattle.fab_policy.specs.Text.{SPACE, address_word, code_word, rule_word};
+ghost use Rattle.fab_base.specs.Texts.{hex, hex_digit};
 
 use crate::Rule;
 use fab_base::{FcId, PortNo};

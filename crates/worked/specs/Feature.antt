@@ -4,7 +4,7 @@ use Rattle.fab_base.specs.declared.values.Caught.{Caught}
 use Rattle.fab_config.specs.Settings.{Settings}
 use Rattle.fab_policy.specs.State as state
 use Rattle.fab_policy.specs.Verdicts as verdicts
-use Rattle.fab_policy.specs.Queries as queries
+use Rattle.ct_messages.specs.Server as server
 use Rattle.fab_policy.specs.Rules as rules
 use Rattle.fab_policy.specs.Heard as heard
 use Rattle.fab_policy.specs.Outputs as outs
@@ -188,31 +188,31 @@ abbrev pub J13 : Journal
 J13 = entry12 ∷ J12
 
 pub sent_at_entry0_on_port1 : map (λ s. s.bytes) (filter (λ s. s.port == 1) (outs.outputs_by C 3 (record { tables = state.tables_of C J0; advertised = outs.advertised_at C J0; rscns = 0 }) (state.tables_of C J1) entry0 ++ outs.outputs_by C 3 (record { tables = state.tables_of C J1; advertised = outs.advertised_at C J1; rscns = 0 }) (state.tables_of C J2) entry1 ++ outs.outputs_by C 3 (record { tables = state.tables_of C J2; advertised = outs.advertised_at C J2; rscns = 0 }) (state.tables_of C J3) entry2 ++ outs.outputs_by C 3 (record { tables = state.tables_of C J3; advertised = outs.advertised_at C J3; rscns = 0 }) (state.tables_of C J4) entry3 ++ outs.outputs_by C 3 (record { tables = state.tables_of C J4; advertised = outs.advertised_at C J4; rscns = 0 }) (state.tables_of C J5) entry4 ++ outs.outputs_by C 3 (record { tables = state.tables_of C J5; advertised = outs.advertised_at C J5; rscns = 0 }) (state.tables_of C J6) entry5 ++ outs.outputs_by C 3 (record { tables = state.tables_of C J6; advertised = outs.advertised_at C J6; rscns = 1 }) (state.tables_of C J7) entry6)) ≡ (bytes (codes "001b2100000a00051e00000281006064891410000002000200268000072400002301010000fffffe01980000000000000001ffff0000000002000000202000003000084000002710000007d0200100051e000002100000051e000002") ++ zeros 32 ++ (136 ∷ []) ++ zeros 47 ++ bytes (codes "02020efc00010100")) ∷ (bytes (codes "0efc0001010000051e000002810060648906") ++ zeros 13 ++ bytes (codes "2e2301010000fffffc01980000000000000009ffff0000000002000000202000000000084000ff0000000007d0200000051e000002100000051e000002") ++ zeros 32 ++ bytes (codes "800000000000084000ff00000001") ++ zeros 34 ++ bytes (codes "2c7c6cd442000000")) ∷ []
-unfolding eth.decoded fc.decoded reading.decoded heard.carried heard.is_flogi capsule.written crc.crc crc.remainder fip.written els.written ct.decoded answer.written zones.joined queries.query outs.notices outs.outputs_by
+unfolding eth.decoded fc.decoded reading.decoded heard.carried heard.is_flogi capsule.written crc.crc crc.remainder fip.written els.written ct.decoded answer.written zones.joined server.query server.feature_word server.feature_words outs.notices outs.outputs_by
 sent_at_entry0_on_port1 = refl
 
 pub sent_at_entry0_on_port2 : map (λ s. s.bytes) (filter (λ s. s.port == 2) (outs.outputs_by C 3 (record { tables = state.tables_of C J0; advertised = outs.advertised_at C J0; rscns = 0 }) (state.tables_of C J1) entry0 ++ outs.outputs_by C 3 (record { tables = state.tables_of C J1; advertised = outs.advertised_at C J1; rscns = 0 }) (state.tables_of C J2) entry1 ++ outs.outputs_by C 3 (record { tables = state.tables_of C J2; advertised = outs.advertised_at C J2; rscns = 0 }) (state.tables_of C J3) entry2 ++ outs.outputs_by C 3 (record { tables = state.tables_of C J3; advertised = outs.advertised_at C J3; rscns = 0 }) (state.tables_of C J4) entry3 ++ outs.outputs_by C 3 (record { tables = state.tables_of C J4; advertised = outs.advertised_at C J4; rscns = 0 }) (state.tables_of C J5) entry4 ++ outs.outputs_by C 3 (record { tables = state.tables_of C J5; advertised = outs.advertised_at C J5; rscns = 0 }) (state.tables_of C J6) entry5 ++ outs.outputs_by C 3 (record { tables = state.tables_of C J6; advertised = outs.advertised_at C J6; rscns = 1 }) (state.tables_of C J7) entry6)) ≡ (bytes (codes "001b2100000b00051e00000281006064891410000002000200268000072400002301010100fffffe01980000000000000001ffff0000000002000000202000003000084000002710000007d0200200051e000002100000051e000002") ++ zeros 32 ++ (136 ∷ []) ++ zeros 47 ++ bytes (codes "02020efc00010101")) ∷ (bytes (codes "0efc0001010100051e000002810060648906") ++ zeros 13 ++ bytes (codes "2e2301010100fffffd01980000000000000009ffff00000000020000008da7e5b542000000")) ∷ (bytes (codes "0efc0001010100051e000002810060648906") ++ zeros 13 ++ bytes (codes "2e2201010100fffffd0129") ++ zeros 8 ++ bytes (codes "ffff000000006104000800010102c008160242000000")) ∷ []
-unfolding eth.decoded fc.decoded reading.decoded heard.carried heard.is_flogi capsule.written crc.crc crc.remainder fip.written els.written ct.decoded answer.written zones.joined queries.query outs.notices outs.outputs_by
+unfolding eth.decoded fc.decoded reading.decoded heard.carried heard.is_flogi capsule.written crc.crc crc.remainder fip.written els.written ct.decoded answer.written zones.joined server.query server.feature_word server.feature_words outs.notices outs.outputs_by
 sent_at_entry0_on_port2 = refl
 
 pub sent_at_entry0_on_port3 : map (λ s. s.bytes) (filter (λ s. s.port == 3) (outs.outputs_by C 3 (record { tables = state.tables_of C J0; advertised = outs.advertised_at C J0; rscns = 0 }) (state.tables_of C J1) entry0 ++ outs.outputs_by C 3 (record { tables = state.tables_of C J1; advertised = outs.advertised_at C J1; rscns = 0 }) (state.tables_of C J2) entry1 ++ outs.outputs_by C 3 (record { tables = state.tables_of C J2; advertised = outs.advertised_at C J2; rscns = 0 }) (state.tables_of C J3) entry2 ++ outs.outputs_by C 3 (record { tables = state.tables_of C J3; advertised = outs.advertised_at C J3; rscns = 0 }) (state.tables_of C J4) entry3 ++ outs.outputs_by C 3 (record { tables = state.tables_of C J4; advertised = outs.advertised_at C J4; rscns = 0 }) (state.tables_of C J5) entry4 ++ outs.outputs_by C 3 (record { tables = state.tables_of C J5; advertised = outs.advertised_at C J5; rscns = 0 }) (state.tables_of C J6) entry5 ++ outs.outputs_by C 3 (record { tables = state.tables_of C J6; advertised = outs.advertised_at C J6; rscns = 1 }) (state.tables_of C J7) entry6)) ≡ (bytes (codes "001b2100000c00051e00000281006064891410000002000200268000072400002301010200fffffe01980000000000000001ffff0000000002000000202000003000084000002710000007d0200300051e000002100000051e000002") ++ zeros 32 ++ (136 ∷ []) ++ zeros 47 ++ bytes (codes "02020efc00010102")) ∷ (bytes (codes "0efc0001010200051e000002810060648906") ++ zeros 13 ++ bytes (codes "2e2301010200fffffd01980000000000000009ffff0000000002000000de11088042000000")) ∷ []
-unfolding eth.decoded fc.decoded reading.decoded heard.carried heard.is_flogi capsule.written crc.crc crc.remainder fip.written els.written ct.decoded answer.written zones.joined queries.query outs.notices outs.outputs_by
+unfolding eth.decoded fc.decoded reading.decoded heard.carried heard.is_flogi capsule.written crc.crc crc.remainder fip.written els.written ct.decoded answer.written zones.joined server.query server.feature_word server.feature_words outs.notices outs.outputs_by
 sent_at_entry0_on_port3 = refl
 
 pub sent_at_entry7_on_port1 : map (λ s. s.bytes) (filter (λ s. s.port == 1) (outs.outputs_by C 3 (record { tables = state.tables_of C J7; advertised = outs.advertised_at C J7; rscns = 1 }) (state.tables_of C J8) entry7 ++ outs.outputs_by C 3 (record { tables = state.tables_of C J8; advertised = outs.advertised_at C J8; rscns = 1 }) (state.tables_of C J9) entry8)) ≡ (bytes (codes "0efc0001010000051e000002810060648906") ++ zeros 13 ++ bytes (codes "2e0301010000fffffc2098000000000000021fffff0000000001000000fc02000080020000000000000818120042000000")) ∷ []
-unfolding eth.decoded fc.decoded reading.decoded heard.carried heard.is_flogi capsule.written crc.crc crc.remainder fip.written els.written ct.decoded answer.written zones.joined queries.query outs.notices outs.outputs_by
+unfolding eth.decoded fc.decoded reading.decoded heard.carried heard.is_flogi capsule.written crc.crc crc.remainder fip.written els.written ct.decoded answer.written zones.joined server.query server.feature_word server.feature_words outs.notices outs.outputs_by
 sent_at_entry7_on_port1 = refl
 
 pub sent_at_entry7_on_port2 : map (λ s. s.bytes) (filter (λ s. s.port == 2) (outs.outputs_by C 3 (record { tables = state.tables_of C J7; advertised = outs.advertised_at C J7; rscns = 1 }) (state.tables_of C J8) entry7 ++ outs.outputs_by C 3 (record { tables = state.tables_of C J8; advertised = outs.advertised_at C J8; rscns = 1 }) (state.tables_of C J9) entry8)) ≡ (bytes (codes "0efc0001010100051e000002810060648906") ++ zeros 13 ++ bytes (codes "2e2201010100fffffd01290000000000000001ffff00000000610400080001010004b2e35542000000")) ∷ []
-unfolding eth.decoded fc.decoded reading.decoded heard.carried heard.is_flogi capsule.written crc.crc crc.remainder fip.written els.written ct.decoded answer.written zones.joined queries.query outs.notices outs.outputs_by
+unfolding eth.decoded fc.decoded reading.decoded heard.carried heard.is_flogi capsule.written crc.crc crc.remainder fip.written els.written ct.decoded answer.written zones.joined server.query server.feature_word server.feature_words outs.notices outs.outputs_by
 sent_at_entry7_on_port2 = refl
 
 pub sent_at_entry9_on_port1 : map (λ s. s.bytes) (filter (λ s. s.port == 1) (outs.outputs_by C 3 (record { tables = state.tables_of C J9; advertised = outs.advertised_at C J9; rscns = 2 }) (state.tables_of C J10) entry9 ++ outs.outputs_by C 3 (record { tables = state.tables_of C J10; advertised = outs.advertised_at C J10; rscns = 2 }) (state.tables_of C J11) entry10)) ≡ (bytes (codes "0efc0001010000051e000002810060648906") ++ zeros 13 ++ bytes (codes "2e0301010000fffffc2098000000000000021fffff0000000001000000fc02000080020000000000000818120042000000")) ∷ []
-unfolding eth.decoded fc.decoded reading.decoded heard.carried heard.is_flogi capsule.written crc.crc crc.remainder fip.written els.written ct.decoded answer.written zones.joined queries.query outs.notices outs.outputs_by
+unfolding eth.decoded fc.decoded reading.decoded heard.carried heard.is_flogi capsule.written crc.crc crc.remainder fip.written els.written ct.decoded answer.written zones.joined server.query server.feature_word server.feature_words outs.notices outs.outputs_by
 sent_at_entry9_on_port1 = refl
 
 pub sent_at_entry11_on_port1 : map (λ s. s.bytes) (filter (λ s. s.port == 1) (outs.outputs_by C 3 (record { tables = state.tables_of C J11; advertised = outs.advertised_at C J11; rscns = 2 }) (state.tables_of C J12) entry11 ++ outs.outputs_by C 3 (record { tables = state.tables_of C J12; advertised = outs.advertised_at C J12; rscns = 2 }) (state.tables_of C J13) entry12)) ≡ (bytes (codes "0efc0001010000051e000002810060648906") ++ zeros 13 ++ bytes (codes "2e0301010000fffffc20980000000000000213ffff0000000001000000fc0200008002000000000000bdfaf70042000000")) ∷ []
-unfolding eth.decoded fc.decoded reading.decoded heard.carried heard.is_flogi capsule.written crc.crc crc.remainder fip.written els.written ct.decoded answer.written zones.joined queries.query outs.notices outs.outputs_by
+unfolding eth.decoded fc.decoded reading.decoded heard.carried heard.is_flogi capsule.written crc.crc crc.remainder fip.written els.written ct.decoded answer.written zones.joined server.query server.feature_word server.feature_words outs.notices outs.outputs_by
 sent_at_entry11_on_port1 = refl
 
 pub logins_at_the_end : map {B = List ℕ} (λ p. p.address ∷ p.name ∷ p.node_name ∷ p.enode.port ∷ p.node_heard ∷ p.port_heard ∷ unwrap_or p.server 0 ∷ p.watch ∷ []) (state.tables_of C J13).ports ≡ (0x010100 ∷ 0x2000001b2100000a ∷ 0x0000000000000005 ∷ 1 ∷ 1000 ∷ 1000 ∷ 2112 ∷ 0 ∷ []) ∷ (0x010101 ∷ 0x2000001b2100000b ∷ 0x1000001b21000001 ∷ 2 ∷ 1000 ∷ 1000 ∷ 0 ∷ 1 ∷ []) ∷ (0x010102 ∷ 0x2000001b2100000c ∷ 0x1000001b21000001 ∷ 3 ∷ 1000 ∷ 1000 ∷ 0 ∷ 2 ∷ []) ∷ []

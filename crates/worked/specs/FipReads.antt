@@ -4,7 +4,7 @@ use Rattle.fab_base.specs.declared.values.Caught.{Caught}
 use Rattle.fab_config.specs.Settings.{Settings}
 use Rattle.fab_policy.specs.State as state
 use Rattle.fab_policy.specs.Verdicts as verdicts
-use Rattle.fab_policy.specs.Queries as queries
+use Rattle.ct_messages.specs.Server as server
 use Rattle.fab_policy.specs.Rules as rules
 use Rattle.fab_policy.specs.Heard as heard
 use Rattle.fab_policy.specs.Outputs as outs
@@ -329,19 +329,19 @@ abbrev pub J22 : Journal
 J22 = entry21 ∷ J21
 
 pub sent_at_entry0_on_port1 : map (λ s. s.bytes) (filter (λ s. s.port == 1) (outs.outputs_by C 2 (record { tables = state.tables_of C J0; advertised = outs.advertised_at C J0; rscns = 0 }) (state.tables_of C J1) entry0 ++ outs.outputs_by C 2 (record { tables = state.tables_of C J1; advertised = outs.advertised_at C J1; rscns = 0 }) (state.tables_of C J2) entry1 ++ outs.outputs_by C 2 (record { tables = state.tables_of C J2; advertised = outs.advertised_at C J2; rscns = 0 }) (state.tables_of C J3) entry2 ++ outs.outputs_by C 2 (record { tables = state.tables_of C J3; advertised = outs.advertised_at C J3; rscns = 0 }) (state.tables_of C J4) entry3 ++ outs.outputs_by C 2 (record { tables = state.tables_of C J4; advertised = outs.advertised_at C J4; rscns = 0 }) (state.tables_of C J5) entry4 ++ outs.outputs_by C 2 (record { tables = state.tables_of C J5; advertised = outs.advertised_at C J5; rscns = 0 }) (state.tables_of C J6) entry5 ++ outs.outputs_by C 2 (record { tables = state.tables_of C J6; advertised = outs.advertised_at C J6; rscns = 0 }) (state.tables_of C J7) entry6 ++ outs.outputs_by C 2 (record { tables = state.tables_of C J7; advertised = outs.advertised_at C J7; rscns = 0 }) (state.tables_of C J8) entry7 ++ outs.outputs_by C 2 (record { tables = state.tables_of C J8; advertised = outs.advertised_at C J8; rscns = 0 }) (state.tables_of C J9) entry8 ++ outs.outputs_by C 2 (record { tables = state.tables_of C J9; advertised = outs.advertised_at C J9; rscns = 0 }) (state.tables_of C J10) entry9 ++ outs.outputs_by C 2 (record { tables = state.tables_of C J10; advertised = outs.advertised_at C J10; rscns = 0 }) (state.tables_of C J11) entry10 ++ outs.outputs_by C 2 (record { tables = state.tables_of C J11; advertised = outs.advertised_at C J11; rscns = 0 }) (state.tables_of C J12) entry11 ++ outs.outputs_by C 2 (record { tables = state.tables_of C J12; advertised = outs.advertised_at C J12; rscns = 0 }) (state.tables_of C J13) entry12 ++ outs.outputs_by C 2 (record { tables = state.tables_of C J13; advertised = outs.advertised_at C J13; rscns = 0 }) (state.tables_of C J14) entry13 ++ outs.outputs_by C 2 (record { tables = state.tables_of C J14; advertised = outs.advertised_at C J14; rscns = 0 }) (state.tables_of C J15) entry14 ++ outs.outputs_by C 2 (record { tables = state.tables_of C J15; advertised = outs.advertised_at C J15; rscns = 0 }) (state.tables_of C J16) entry15 ++ outs.outputs_by C 2 (record { tables = state.tables_of C J16; advertised = outs.advertised_at C J16; rscns = 0 }) (state.tables_of C J17) entry16 ++ outs.outputs_by C 2 (record { tables = state.tables_of C J17; advertised = outs.advertised_at C J17; rscns = 0 }) (state.tables_of C J18) entry17 ++ outs.outputs_by C 2 (record { tables = state.tables_of C J18; advertised = outs.advertised_at C J18; rscns = 0 }) (state.tables_of C J19) entry18 ++ outs.outputs_by C 2 (record { tables = state.tables_of C J19; advertised = outs.advertised_at C J19; rscns = 0 }) (state.tables_of C J20) entry19)) ≡ (bytes (codes "001b2100000a00051e00000281006064891410000004000200030000020200051e0000020e010064") ++ zeros 20) ∷ (bytes (codes "001b2100000a00051e00000281006064891410000004000200030000020200051e0000020e010064") ++ zeros 20) ∷ []
-unfolding eth.decoded fc.decoded reading.decoded heard.carried heard.is_flogi capsule.written crc.crc crc.remainder fip.written els.written ct.decoded answer.written zones.joined queries.query outs.notices outs.outputs_by
+unfolding eth.decoded fc.decoded reading.decoded heard.carried heard.is_flogi capsule.written crc.crc crc.remainder fip.written els.written ct.decoded answer.written zones.joined server.query server.feature_word server.feature_words outs.notices outs.outputs_by
 sent_at_entry0_on_port1 = refl
 
 pub sent_at_entry0_on_port2 : map (λ s. s.bytes) (filter (λ s. s.port == 2) (outs.outputs_by C 2 (record { tables = state.tables_of C J0; advertised = outs.advertised_at C J0; rscns = 0 }) (state.tables_of C J1) entry0 ++ outs.outputs_by C 2 (record { tables = state.tables_of C J1; advertised = outs.advertised_at C J1; rscns = 0 }) (state.tables_of C J2) entry1 ++ outs.outputs_by C 2 (record { tables = state.tables_of C J2; advertised = outs.advertised_at C J2; rscns = 0 }) (state.tables_of C J3) entry2 ++ outs.outputs_by C 2 (record { tables = state.tables_of C J3; advertised = outs.advertised_at C J3; rscns = 0 }) (state.tables_of C J4) entry3 ++ outs.outputs_by C 2 (record { tables = state.tables_of C J4; advertised = outs.advertised_at C J4; rscns = 0 }) (state.tables_of C J5) entry4 ++ outs.outputs_by C 2 (record { tables = state.tables_of C J5; advertised = outs.advertised_at C J5; rscns = 0 }) (state.tables_of C J6) entry5 ++ outs.outputs_by C 2 (record { tables = state.tables_of C J6; advertised = outs.advertised_at C J6; rscns = 0 }) (state.tables_of C J7) entry6 ++ outs.outputs_by C 2 (record { tables = state.tables_of C J7; advertised = outs.advertised_at C J7; rscns = 0 }) (state.tables_of C J8) entry7 ++ outs.outputs_by C 2 (record { tables = state.tables_of C J8; advertised = outs.advertised_at C J8; rscns = 0 }) (state.tables_of C J9) entry8 ++ outs.outputs_by C 2 (record { tables = state.tables_of C J9; advertised = outs.advertised_at C J9; rscns = 0 }) (state.tables_of C J10) entry9 ++ outs.outputs_by C 2 (record { tables = state.tables_of C J10; advertised = outs.advertised_at C J10; rscns = 0 }) (state.tables_of C J11) entry10 ++ outs.outputs_by C 2 (record { tables = state.tables_of C J11; advertised = outs.advertised_at C J11; rscns = 0 }) (state.tables_of C J12) entry11 ++ outs.outputs_by C 2 (record { tables = state.tables_of C J12; advertised = outs.advertised_at C J12; rscns = 0 }) (state.tables_of C J13) entry12 ++ outs.outputs_by C 2 (record { tables = state.tables_of C J13; advertised = outs.advertised_at C J13; rscns = 0 }) (state.tables_of C J14) entry13 ++ outs.outputs_by C 2 (record { tables = state.tables_of C J14; advertised = outs.advertised_at C J14; rscns = 0 }) (state.tables_of C J15) entry14 ++ outs.outputs_by C 2 (record { tables = state.tables_of C J15; advertised = outs.advertised_at C J15; rscns = 0 }) (state.tables_of C J16) entry15 ++ outs.outputs_by C 2 (record { tables = state.tables_of C J16; advertised = outs.advertised_at C J16; rscns = 0 }) (state.tables_of C J17) entry16 ++ outs.outputs_by C 2 (record { tables = state.tables_of C J17; advertised = outs.advertised_at C J17; rscns = 0 }) (state.tables_of C J18) entry17 ++ outs.outputs_by C 2 (record { tables = state.tables_of C J18; advertised = outs.advertised_at C J18; rscns = 0 }) (state.tables_of C J19) entry18 ++ outs.outputs_by C 2 (record { tables = state.tables_of C J19; advertised = outs.advertised_at C J19; rscns = 0 }) (state.tables_of C J20) entry19)) ≡ (bytes (codes "001b2100000a00051e000002810060648914100000010002000c800701010080020200051e00000204030000100000051e00000205040000000efc00100000051e0000020c02000000001f40") ++ zeros 42) ∷ (bytes (codes "001b2100000a00051e00000281006064891410000004000200030000020200051e0000020e010064") ++ zeros 20) ∷ (bytes (codes "001b2100000a00051e000002891410000004000200030000020200051e0000020e010064") ++ zeros 24) ∷ bytes (codes "001b2100000a00051e000002810060648914100000010002000c800701010080020200051e00000204030000100000051e00000205040000000efc00100000051e0000020c02000000001f40") ∷ []
-unfolding eth.decoded fc.decoded reading.decoded heard.carried heard.is_flogi capsule.written crc.crc crc.remainder fip.written els.written ct.decoded answer.written zones.joined queries.query outs.notices outs.outputs_by
+unfolding eth.decoded fc.decoded reading.decoded heard.carried heard.is_flogi capsule.written crc.crc crc.remainder fip.written els.written ct.decoded answer.written zones.joined server.query server.feature_word server.feature_words outs.notices outs.outputs_by
 sent_at_entry0_on_port2 = refl
 
 pub sent_at_entry20_on_port1 : map (λ s. s.bytes) (filter (λ s. s.port == 1) (outs.outputs_by C 2 (record { tables = state.tables_of C J20; advertised = outs.advertised_at C J20; rscns = 0 }) (state.tables_of C J21) entry20 ++ outs.outputs_by C 2 (record { tables = state.tables_of C J21; advertised = outs.advertised_at C J21; rscns = 0 }) (state.tables_of C J22) entry21)) ≡ []
-unfolding eth.decoded fc.decoded reading.decoded heard.carried heard.is_flogi capsule.written crc.crc crc.remainder fip.written els.written ct.decoded answer.written zones.joined queries.query outs.notices outs.outputs_by
+unfolding eth.decoded fc.decoded reading.decoded heard.carried heard.is_flogi capsule.written crc.crc crc.remainder fip.written els.written ct.decoded answer.written zones.joined server.query server.feature_word server.feature_words outs.notices outs.outputs_by
 sent_at_entry20_on_port1 = refl
 
 pub sent_at_entry20_on_port2 : map (λ s. s.bytes) (filter (λ s. s.port == 2) (outs.outputs_by C 2 (record { tables = state.tables_of C J20; advertised = outs.advertised_at C J20; rscns = 0 }) (state.tables_of C J21) entry20 ++ outs.outputs_by C 2 (record { tables = state.tables_of C J21; advertised = outs.advertised_at C J21; rscns = 0 }) (state.tables_of C J22) entry21)) ≡ (bytes (codes "001b2100000a00051e000002810060648914100000010002000c800701010080020200051e00000204030000100000051e00000205040000000efc00100000051e0000020c02000000001f40") ++ zeros 2100) ∷ []
-unfolding eth.decoded fc.decoded reading.decoded heard.carried heard.is_flogi capsule.written crc.crc crc.remainder fip.written els.written ct.decoded answer.written zones.joined queries.query outs.notices outs.outputs_by
+unfolding eth.decoded fc.decoded reading.decoded heard.carried heard.is_flogi capsule.written crc.crc crc.remainder fip.written els.written ct.decoded answer.written zones.joined server.query server.feature_word server.feature_words outs.notices outs.outputs_by
 sent_at_entry20_on_port2 = refl
 
 pub logins_at_the_end : map {B = List ℕ} (λ p. p.address ∷ p.name ∷ p.node_name ∷ p.enode.port ∷ p.node_heard ∷ p.port_heard ∷ unwrap_or p.server 0 ∷ p.watch ∷ []) (state.tables_of C J22).ports ≡ []

@@ -20,6 +20,7 @@ use Rattle.fip_codec.specs.Reading as reading
 use Rattle.zone_rules.specs.Joined as zones
 use Rattle.fab_policy.specs.Logins.{counting}
 use Rattle.fab_policy.specs.State as state
+use Rattle.ct_messages.specs.Server as server
 use Rattle.fab_policy.specs.Queries as queries
 use Rattle.fab_policy.specs.Outputs as outs
 use Rattle.fab_policy.specs.Legal as legal
@@ -123,7 +124,8 @@ pub types : map (answer.has_type (record { 0 = 0 ∷ 2 ∷ 0 ∷ 0 ∷ 0 ∷ 0 �
 types = refl
 
 -- the feature 5 of type 9 is 5 in the second half byte of word 1
-pub features : queries.feature_words (zeros 9 ++ 5 ∷ zeros 246) ≡ record { 0 = 0 ∷ 0x50 ∷ zeros 30 }
+pub features : server.feature_words (zeros 9 ++ 5 ∷ zeros 246) ≡ record { 0 = 0 ∷ 0x50 ∷ zeros 30 }
+unfolding server.feature_word server.feature_words
 features = refl
 
 -- a port name of the forwarder

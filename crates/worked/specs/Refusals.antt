@@ -4,7 +4,7 @@ use Rattle.fab_base.specs.declared.values.Caught.{Caught}
 use Rattle.fab_config.specs.Settings.{Settings}
 use Rattle.fab_policy.specs.State as state
 use Rattle.fab_policy.specs.Verdicts as verdicts
-use Rattle.fab_policy.specs.Queries as queries
+use Rattle.ct_messages.specs.Server as server
 use Rattle.fab_policy.specs.Rules as rules
 use Rattle.fab_policy.specs.Heard as heard
 use Rattle.fab_policy.specs.Outputs as outs
@@ -282,63 +282,63 @@ abbrev pub J22 : Journal
 J22 = entry21 ∷ J21
 
 pub sent_at_entry0_on_port1 : map (λ s. s.bytes) (filter (λ s. s.port == 1) (outs.outputs_by C 3 (record { tables = state.tables_of C J0; advertised = outs.advertised_at C J0; rscns = 0 }) (state.tables_of C J1) entry0 ++ outs.outputs_by C 3 (record { tables = state.tables_of C J1; advertised = outs.advertised_at C J1; rscns = 0 }) (state.tables_of C J2) entry1)) ≡ bytes (codes "001b2100000a00051e00000281006064891410000002000200098000080900002300000000fffffe01980000000000000001ffff0000000001000000000b2c00") ∷ []
-unfolding eth.decoded fc.decoded reading.decoded heard.carried heard.is_flogi capsule.written crc.crc crc.remainder fip.written els.written ct.decoded answer.written zones.joined queries.query outs.notices outs.outputs_by
+unfolding eth.decoded fc.decoded reading.decoded heard.carried heard.is_flogi capsule.written crc.crc crc.remainder fip.written els.written ct.decoded answer.written zones.joined server.query server.feature_word server.feature_words outs.notices outs.outputs_by
 sent_at_entry0_on_port1 = refl
 
 pub sent_at_entry2_on_port1 : map (λ s. s.bytes) (filter (λ s. s.port == 1) (outs.outputs_by C 3 (record { tables = state.tables_of C J2; advertised = outs.advertised_at C J2; rscns = 0 }) (state.tables_of C J3) entry2 ++ outs.outputs_by C 3 (record { tables = state.tables_of C J3; advertised = outs.advertised_at C J3; rscns = 0 }) (state.tables_of C J4) entry3)) ≡ bytes (codes "001b2100000a00051e00000281006064891410000002000200098000070900002300000000fffffe01980000000000000001ffff0000000001000000000b2c00") ∷ []
-unfolding eth.decoded fc.decoded reading.decoded heard.carried heard.is_flogi capsule.written crc.crc crc.remainder fip.written els.written ct.decoded answer.written zones.joined queries.query outs.notices outs.outputs_by
+unfolding eth.decoded fc.decoded reading.decoded heard.carried heard.is_flogi capsule.written crc.crc crc.remainder fip.written els.written ct.decoded answer.written zones.joined server.query server.feature_word server.feature_words outs.notices outs.outputs_by
 sent_at_entry2_on_port1 = refl
 
 pub sent_at_entry4_on_port1 : map (λ s. s.bytes) (filter (λ s. s.port == 1) (outs.outputs_by C 3 (record { tables = state.tables_of C J4; advertised = outs.advertised_at C J4; rscns = 0 }) (state.tables_of C J5) entry4 ++ outs.outputs_by C 3 (record { tables = state.tables_of C J5; advertised = outs.advertised_at C J5; rscns = 0 }) (state.tables_of C J6) entry5)) ≡ bytes (codes "001b2100000a00051e00000281006064891410000002000200098000070900002300000000fffffe01980000000000000001ffff0000000001000000000b0000") ∷ []
-unfolding eth.decoded fc.decoded reading.decoded heard.carried heard.is_flogi capsule.written crc.crc crc.remainder fip.written els.written ct.decoded answer.written zones.joined queries.query outs.notices outs.outputs_by
+unfolding eth.decoded fc.decoded reading.decoded heard.carried heard.is_flogi capsule.written crc.crc crc.remainder fip.written els.written ct.decoded answer.written zones.joined server.query server.feature_word server.feature_words outs.notices outs.outputs_by
 sent_at_entry4_on_port1 = refl
 
 pub sent_at_entry6_on_port1 : map (λ s. s.bytes) (filter (λ s. s.port == 1) (outs.outputs_by C 3 (record { tables = state.tables_of C J6; advertised = outs.advertised_at C J6; rscns = 0 }) (state.tables_of C J7) entry6 ++ outs.outputs_by C 3 (record { tables = state.tables_of C J7; advertised = outs.advertised_at C J7; rscns = 0 }) (state.tables_of C J8) entry7)) ≡ bytes (codes "001b2100000a00051e00000281006064891410000002000200098000070900002300000000fffffe01980000000000000001ffff000000000100000000030000") ∷ []
-unfolding eth.decoded fc.decoded reading.decoded heard.carried heard.is_flogi capsule.written crc.crc crc.remainder fip.written els.written ct.decoded answer.written zones.joined queries.query outs.notices outs.outputs_by
+unfolding eth.decoded fc.decoded reading.decoded heard.carried heard.is_flogi capsule.written crc.crc crc.remainder fip.written els.written ct.decoded answer.written zones.joined server.query server.feature_word server.feature_words outs.notices outs.outputs_by
 sent_at_entry6_on_port1 = refl
 
 pub sent_at_entry8_on_port1 : map (λ s. s.bytes) (filter (λ s. s.port == 1) (outs.outputs_by C 3 (record { tables = state.tables_of C J8; advertised = outs.advertised_at C J8; rscns = 0 }) (state.tables_of C J9) entry8 ++ outs.outputs_by C 3 (record { tables = state.tables_of C J9; advertised = outs.advertised_at C J9; rscns = 0 }) (state.tables_of C J10) entry9)) ≡ (bytes (codes "001b2100000a00051e00000281006064891410000002000200268000072400002301010000fffffe01980000000000000001ffff0000000002000000202000001000084000002710000007d0200100051e000002100000051e000002") ++ zeros 32 ++ (136 ∷ []) ++ zeros 47 ++ bytes (codes "02020efc00010100")) ∷ []
-unfolding eth.decoded fc.decoded reading.decoded heard.carried heard.is_flogi capsule.written crc.crc crc.remainder fip.written els.written ct.decoded answer.written zones.joined queries.query outs.notices outs.outputs_by
+unfolding eth.decoded fc.decoded reading.decoded heard.carried heard.is_flogi capsule.written crc.crc crc.remainder fip.written els.written ct.decoded answer.written zones.joined server.query server.feature_word server.feature_words outs.notices outs.outputs_by
 sent_at_entry8_on_port1 = refl
 
 pub sent_at_entry10_on_port1 : map (λ s. s.bytes) (filter (λ s. s.port == 1) (outs.outputs_by C 3 (record { tables = state.tables_of C J10; advertised = outs.advertised_at C J10; rscns = 0 }) (state.tables_of C J11) entry10 ++ outs.outputs_by C 3 (record { tables = state.tables_of C J11; advertised = outs.advertised_at C J11; rscns = 0 }) (state.tables_of C J12) entry11)) ≡ bytes (codes "001b2100000a00051e00000281006064891410000002000200098000080900002300000000fffffe01980000000000000001ffff000000000100000000030000") ∷ []
-unfolding eth.decoded fc.decoded reading.decoded heard.carried heard.is_flogi capsule.written crc.crc crc.remainder fip.written els.written ct.decoded answer.written zones.joined queries.query outs.notices outs.outputs_by
+unfolding eth.decoded fc.decoded reading.decoded heard.carried heard.is_flogi capsule.written crc.crc crc.remainder fip.written els.written ct.decoded answer.written zones.joined server.query server.feature_word server.feature_words outs.notices outs.outputs_by
 sent_at_entry10_on_port1 = refl
 
 pub sent_at_entry12_on_port1 : map (λ s. s.bytes) (filter (λ s. s.port == 1) (outs.outputs_by C 3 (record { tables = state.tables_of C J12; advertised = outs.advertised_at C J12; rscns = 0 }) (state.tables_of C J13) entry12 ++ outs.outputs_by C 3 (record { tables = state.tables_of C J13; advertised = outs.advertised_at C J13; rscns = 0 }) (state.tables_of C J14) entry13)) ≡ (bytes (codes "001b2100000a00051e00000281006064891410000002000200268000082400002301010100fffffe01980000000000000001ffff0000000002000000202000003000084000002710000007d0200100051e000002100000051e000002") ++ zeros 32 ++ (136 ∷ []) ++ zeros 47 ++ bytes (codes "02020efc00010101")) ∷ []
-unfolding eth.decoded fc.decoded reading.decoded heard.carried heard.is_flogi capsule.written crc.crc crc.remainder fip.written els.written ct.decoded answer.written zones.joined queries.query outs.notices outs.outputs_by
+unfolding eth.decoded fc.decoded reading.decoded heard.carried heard.is_flogi capsule.written crc.crc crc.remainder fip.written els.written ct.decoded answer.written zones.joined server.query server.feature_word server.feature_words outs.notices outs.outputs_by
 sent_at_entry12_on_port1 = refl
 
 pub sent_at_entry14_on_port1 : map (λ s. s.bytes) (filter (λ s. s.port == 1) (outs.outputs_by C 3 (record { tables = state.tables_of C J14; advertised = outs.advertised_at C J14; rscns = 0 }) (state.tables_of C J15) entry14 ++ outs.outputs_by C 3 (record { tables = state.tables_of C J15; advertised = outs.advertised_at C J15; rscns = 0 }) (state.tables_of C J16) entry15)) ≡ []
-unfolding eth.decoded fc.decoded reading.decoded heard.carried heard.is_flogi capsule.written crc.crc crc.remainder fip.written els.written ct.decoded answer.written zones.joined queries.query outs.notices outs.outputs_by
+unfolding eth.decoded fc.decoded reading.decoded heard.carried heard.is_flogi capsule.written crc.crc crc.remainder fip.written els.written ct.decoded answer.written zones.joined server.query server.feature_word server.feature_words outs.notices outs.outputs_by
 sent_at_entry14_on_port1 = refl
 
 pub sent_at_entry14_on_port2 : map (λ s. s.bytes) (filter (λ s. s.port == 2) (outs.outputs_by C 3 (record { tables = state.tables_of C J14; advertised = outs.advertised_at C J14; rscns = 0 }) (state.tables_of C J15) entry14 ++ outs.outputs_by C 3 (record { tables = state.tables_of C J15; advertised = outs.advertised_at C J15; rscns = 0 }) (state.tables_of C J16) entry15)) ≡ bytes (codes "001b2100000a00051e00000281006064891410000002000200098000080900002300000000fffffe01980000000000000001ffff000000000100000000090000") ∷ []
-unfolding eth.decoded fc.decoded reading.decoded heard.carried heard.is_flogi capsule.written crc.crc crc.remainder fip.written els.written ct.decoded answer.written zones.joined queries.query outs.notices outs.outputs_by
+unfolding eth.decoded fc.decoded reading.decoded heard.carried heard.is_flogi capsule.written crc.crc crc.remainder fip.written els.written ct.decoded answer.written zones.joined server.query server.feature_word server.feature_words outs.notices outs.outputs_by
 sent_at_entry14_on_port2 = refl
 
 pub sent_at_entry16_on_port1 : map (λ s. s.bytes) (filter (λ s. s.port == 1) (outs.outputs_by C 3 (record { tables = state.tables_of C J16; advertised = outs.advertised_at C J16; rscns = 0 }) (state.tables_of C J17) entry16 ++ outs.outputs_by C 3 (record { tables = state.tables_of C J17; advertised = outs.advertised_at C J17; rscns = 0 }) (state.tables_of C J18) entry17)) ≡ []
-unfolding eth.decoded fc.decoded reading.decoded heard.carried heard.is_flogi capsule.written crc.crc crc.remainder fip.written els.written ct.decoded answer.written zones.joined queries.query outs.notices outs.outputs_by
+unfolding eth.decoded fc.decoded reading.decoded heard.carried heard.is_flogi capsule.written crc.crc crc.remainder fip.written els.written ct.decoded answer.written zones.joined server.query server.feature_word server.feature_words outs.notices outs.outputs_by
 sent_at_entry16_on_port1 = refl
 
 pub sent_at_entry16_on_port2 : map (λ s. s.bytes) (filter (λ s. s.port == 2) (outs.outputs_by C 3 (record { tables = state.tables_of C J16; advertised = outs.advertised_at C J16; rscns = 0 }) (state.tables_of C J17) entry16 ++ outs.outputs_by C 3 (record { tables = state.tables_of C J17; advertised = outs.advertised_at C J17; rscns = 0 }) (state.tables_of C J18) entry17)) ≡ bytes (codes "001b2100000b00051e00000281006064891410000002000200098000070900002300000000fffffe01980000000000000001ffff000000000100000000030000") ∷ []
-unfolding eth.decoded fc.decoded reading.decoded heard.carried heard.is_flogi capsule.written crc.crc crc.remainder fip.written els.written ct.decoded answer.written zones.joined queries.query outs.notices outs.outputs_by
+unfolding eth.decoded fc.decoded reading.decoded heard.carried heard.is_flogi capsule.written crc.crc crc.remainder fip.written els.written ct.decoded answer.written zones.joined server.query server.feature_word server.feature_words outs.notices outs.outputs_by
 sent_at_entry16_on_port2 = refl
 
 pub sent_at_entry18_on_port1 : map (λ s. s.bytes) (filter (λ s. s.port == 1) (outs.outputs_by C 3 (record { tables = state.tables_of C J18; advertised = outs.advertised_at C J18; rscns = 0 }) (state.tables_of C J19) entry18 ++ outs.outputs_by C 3 (record { tables = state.tables_of C J19; advertised = outs.advertised_at C J19; rscns = 0 }) (state.tables_of C J20) entry19)) ≡ []
-unfolding eth.decoded fc.decoded reading.decoded heard.carried heard.is_flogi capsule.written crc.crc crc.remainder fip.written els.written ct.decoded answer.written zones.joined queries.query outs.notices outs.outputs_by
+unfolding eth.decoded fc.decoded reading.decoded heard.carried heard.is_flogi capsule.written crc.crc crc.remainder fip.written els.written ct.decoded answer.written zones.joined server.query server.feature_word server.feature_words outs.notices outs.outputs_by
 sent_at_entry18_on_port1 = refl
 
 pub sent_at_entry18_on_port2 : map (λ s. s.bytes) (filter (λ s. s.port == 2) (outs.outputs_by C 3 (record { tables = state.tables_of C J18; advertised = outs.advertised_at C J18; rscns = 0 }) (state.tables_of C J19) entry18 ++ outs.outputs_by C 3 (record { tables = state.tables_of C J19; advertised = outs.advertised_at C J19; rscns = 0 }) (state.tables_of C J20) entry19)) ≡ (bytes (codes "001b2100000b00051e00000281006064891410000002000200268000072400002301010200fffffe01980000000000000001ffff0000000002000000202000003000084000002710000007d0200200051e000002100000051e000002") ++ zeros 32 ++ (136 ∷ []) ++ zeros 47 ++ bytes (codes "02020efc00010102")) ∷ []
-unfolding eth.decoded fc.decoded reading.decoded heard.carried heard.is_flogi capsule.written crc.crc crc.remainder fip.written els.written ct.decoded answer.written zones.joined queries.query outs.notices outs.outputs_by
+unfolding eth.decoded fc.decoded reading.decoded heard.carried heard.is_flogi capsule.written crc.crc crc.remainder fip.written els.written ct.decoded answer.written zones.joined server.query server.feature_word server.feature_words outs.notices outs.outputs_by
 sent_at_entry18_on_port2 = refl
 
 pub sent_at_entry20_on_port1 : map (λ s. s.bytes) (filter (λ s. s.port == 1) (outs.outputs_by C 3 (record { tables = state.tables_of C J20; advertised = outs.advertised_at C J20; rscns = 0 }) (state.tables_of C J21) entry20 ++ outs.outputs_by C 3 (record { tables = state.tables_of C J21; advertised = outs.advertised_at C J21; rscns = 0 }) (state.tables_of C J22) entry21)) ≡ []
-unfolding eth.decoded fc.decoded reading.decoded heard.carried heard.is_flogi capsule.written crc.crc crc.remainder fip.written els.written ct.decoded answer.written zones.joined queries.query outs.notices outs.outputs_by
+unfolding eth.decoded fc.decoded reading.decoded heard.carried heard.is_flogi capsule.written crc.crc crc.remainder fip.written els.written ct.decoded answer.written zones.joined server.query server.feature_word server.feature_words outs.notices outs.outputs_by
 sent_at_entry20_on_port1 = refl
 
 pub sent_at_entry20_on_port3 : map (λ s. s.bytes) (filter (λ s. s.port == 3) (outs.outputs_by C 3 (record { tables = state.tables_of C J20; advertised = outs.advertised_at C J20; rscns = 0 }) (state.tables_of C J21) entry20 ++ outs.outputs_by C 3 (record { tables = state.tables_of C J21; advertised = outs.advertised_at C J21; rscns = 0 }) (state.tables_of C J22) entry21)) ≡ bytes (codes "001b2100000c00051e00000281006064891410000002000200098000070900002300000000fffffe01980000000000000001ffff000000000100000000092900") ∷ []
-unfolding eth.decoded fc.decoded reading.decoded heard.carried heard.is_flogi capsule.written crc.crc crc.remainder fip.written els.written ct.decoded answer.written zones.joined queries.query outs.notices outs.outputs_by
+unfolding eth.decoded fc.decoded reading.decoded heard.carried heard.is_flogi capsule.written crc.crc crc.remainder fip.written els.written ct.decoded answer.written zones.joined server.query server.feature_word server.feature_words outs.notices outs.outputs_by
 sent_at_entry20_on_port3 = refl
 
 pub logins_at_the_end : map {B = List ℕ} (λ p. p.address ∷ p.name ∷ p.node_name ∷ p.enode.port ∷ p.node_heard ∷ p.port_heard ∷ unwrap_or p.server 0 ∷ p.watch ∷ []) (state.tables_of C J22).ports ≡ (0x010100 ∷ 0x2000001b2100000a ∷ 0x1000001b21000001 ∷ 1 ∷ 1600 ∷ 1400 ∷ 0 ∷ 0 ∷ []) ∷ (0x010101 ∷ 0x2000001b2100000b ∷ 0x1000001b21000001 ∷ 1 ∷ 1600 ∷ 1600 ∷ 0 ∷ 0 ∷ []) ∷ (0x010102 ∷ 0x2000001b2100000c ∷ 0x1000001b21000001 ∷ 2 ∷ 1900 ∷ 1900 ∷ 0 ∷ 0 ∷ []) ∷ []

@@ -4,7 +4,7 @@ use Rattle.fab_base.specs.declared.values.Caught.{Caught}
 use Rattle.fab_config.specs.Settings.{Settings}
 use Rattle.fab_policy.specs.State as state
 use Rattle.fab_policy.specs.Verdicts as verdicts
-use Rattle.fab_policy.specs.Queries as queries
+use Rattle.ct_messages.specs.Server as server
 use Rattle.fab_policy.specs.Rules as rules
 use Rattle.fab_policy.specs.Heard as heard
 use Rattle.fab_policy.specs.Outputs as outs
@@ -307,7 +307,7 @@ abbrev pub J20 : Journal
 J20 = entry19 ∷ J19
 
 pub sent_at_entry0_on_port1 : map (λ s. s.bytes) (filter (λ s. s.port == 1) (outs.outputs_by C 1 (record { tables = state.tables_of C J0; advertised = outs.advertised_at C J0; rscns = 0 }) (state.tables_of C J1) entry0 ++ outs.outputs_by C 1 (record { tables = state.tables_of C J1; advertised = outs.advertised_at C J1; rscns = 0 }) (state.tables_of C J2) entry1 ++ outs.outputs_by C 1 (record { tables = state.tables_of C J2; advertised = outs.advertised_at C J2; rscns = 0 }) (state.tables_of C J3) entry2 ++ outs.outputs_by C 1 (record { tables = state.tables_of C J3; advertised = outs.advertised_at C J3; rscns = 0 }) (state.tables_of C J4) entry3 ++ outs.outputs_by C 1 (record { tables = state.tables_of C J4; advertised = outs.advertised_at C J4; rscns = 0 }) (state.tables_of C J5) entry4 ++ outs.outputs_by C 1 (record { tables = state.tables_of C J5; advertised = outs.advertised_at C J5; rscns = 0 }) (state.tables_of C J6) entry5 ++ outs.outputs_by C 1 (record { tables = state.tables_of C J6; advertised = outs.advertised_at C J6; rscns = 0 }) (state.tables_of C J7) entry6 ++ outs.outputs_by C 1 (record { tables = state.tables_of C J7; advertised = outs.advertised_at C J7; rscns = 0 }) (state.tables_of C J8) entry7 ++ outs.outputs_by C 1 (record { tables = state.tables_of C J8; advertised = outs.advertised_at C J8; rscns = 0 }) (state.tables_of C J9) entry8 ++ outs.outputs_by C 1 (record { tables = state.tables_of C J9; advertised = outs.advertised_at C J9; rscns = 0 }) (state.tables_of C J10) entry9 ++ outs.outputs_by C 1 (record { tables = state.tables_of C J10; advertised = outs.advertised_at C J10; rscns = 0 }) (state.tables_of C J11) entry10 ++ outs.outputs_by C 1 (record { tables = state.tables_of C J11; advertised = outs.advertised_at C J11; rscns = 0 }) (state.tables_of C J12) entry11 ++ outs.outputs_by C 1 (record { tables = state.tables_of C J12; advertised = outs.advertised_at C J12; rscns = 0 }) (state.tables_of C J13) entry12 ++ outs.outputs_by C 1 (record { tables = state.tables_of C J13; advertised = outs.advertised_at C J13; rscns = 0 }) (state.tables_of C J14) entry13 ++ outs.outputs_by C 1 (record { tables = state.tables_of C J14; advertised = outs.advertised_at C J14; rscns = 0 }) (state.tables_of C J15) entry14 ++ outs.outputs_by C 1 (record { tables = state.tables_of C J15; advertised = outs.advertised_at C J15; rscns = 0 }) (state.tables_of C J16) entry15 ++ outs.outputs_by C 1 (record { tables = state.tables_of C J16; advertised = outs.advertised_at C J16; rscns = 0 }) (state.tables_of C J17) entry16 ++ outs.outputs_by C 1 (record { tables = state.tables_of C J17; advertised = outs.advertised_at C J17; rscns = 0 }) (state.tables_of C J18) entry17 ++ outs.outputs_by C 1 (record { tables = state.tables_of C J18; advertised = outs.advertised_at C J18; rscns = 0 }) (state.tables_of C J19) entry18 ++ outs.outputs_by C 1 (record { tables = state.tables_of C J19; advertised = outs.advertised_at C J19; rscns = 0 }) (state.tables_of C J20) entry19)) ≡ (bytes (codes "001b2100000a00051e00000281006064891410000002000200268000072400002301010000fffffe01980000000000000001ffff0000000002000000202000003000084000002710000007d0200100051e000002100000051e000002") ++ zeros 32 ++ (136 ∷ []) ++ zeros 47 ++ bytes (codes "02020efc00010100")) ∷ (bytes (codes "001b2100000d00051e00000281006064891410000002000200268000072400002301010100fffffe01980000000000000001ffff0000000002000000202000003000084000002710000007d0200100051e000002100000051e000002") ++ zeros 32 ++ (136 ∷ []) ++ zeros 47 ++ bytes (codes "02020efc00010101")) ∷ (bytes (codes "0efc0001010000051e000002810060648906") ++ zeros 13 ++ bytes (codes "2e2301010000fffffc01980000000000000009ffff0000000002000000202000000000084000ff0000000007d0200000051e000002100000051e000002") ++ zeros 32 ++ bytes (codes "800000000000084000ff00000001") ++ zeros 34 ++ bytes (codes "2c7c6cd442000000")) ∷ (bytes (codes "0efc0001010000051e000002810060648906") ++ zeros 13 ++ bytes (codes "2e0301010000fffffc20980000000000000171ffff0000000001000000fc02000080010000000b0000a860ed8f42000000")) ∷ (bytes (codes "0efc0001010000051e000002810060648906") ++ zeros 13 ++ bytes (codes "2e0301010000fffffc20980000000000000112ffff0000000001000000fc02000080010000000b00003d4c27fe42000000")) ∷ (bytes (codes "0efc0001010000051e000002810060648906") ++ zeros 13 ++ bytes (codes "2e0301010000fffffc20980000000000000172ffff0000000001000000fc0200008001000000040000a81e54f242000000")) ∷ (bytes (codes "0efc0001010000051e000002810060648906") ++ zeros 13 ++ bytes (codes "2e0301010000fffffc20980000000000000400ffff0000000001000000fc02000080010000000b0000e0e2e0fa42000000")) ∷ (bytes (codes "0efc0001010000051e000002810060648906") ++ zeros 13 ++ bytes (codes "2e0301010000fffffc20980000000000000217ffff0000000001000000fc02000080010000000400006fe94a3642000000")) ∷ (bytes (codes "0efc0001010000051e000002810060648906") ++ zeros 13 ++ bytes (codes "2e0301010000fffffc20980000000000000218ffff0000000001000000fc0200008001000000040000e7324a4042000000")) ∷ (bytes (codes "0efc0001010000051e000002810060648906") ++ zeros 13 ++ bytes (codes "2e0301010000fffffc20980000000000000239ffff0000000001000000fc0200008001000000040000abd4dcd942000000")) ∷ (bytes (codes "0efc0001010000051e000002810060648906") ++ zeros 13 ++ bytes (codes "2e0301010000fffffc20980000000000000213ffff0000000001000000fc0200008001000000090100eeead52742000000")) ∷ (bytes (codes "0efc0001010000051e000002810060648906") ++ zeros 13 ++ bytes (codes "2e0301010000fffffc20980000000000000300ffff0000000001000000fc0200008001000000090100b83067d142000000")) ∷ (bytes (codes "0efc0001010000051e000002810060648906") ++ zeros 13 ++ bytes (codes "2e0301010000fffffc20980000000000000112ffff0000000001000000fc020000800100000009010012a9b8e442000000")) ∷ (bytes (codes "0efc0001010000051e000002810060648906") ++ zeros 13 ++ bytes (codes "2e0301010000fffffc20980000000000000121ffff0000000001000000fc02000080010000000902003849e7ba42000000")) ∷ (bytes (codes "0efc0001010000051e000002810060648906") ++ zeros 13 ++ bytes (codes "2e0301010000fffffc20980000000000000172ffff0000000001000000fc02000080010000000907003c1bcdb542000000")) ∷ (bytes (codes "0efc0001010000051e000002810060648906") ++ zeros 13 ++ bytes (codes "2e0301010000fffffc209800000000000001a1ffff0000000001000000fc0200008001000000090000da19458342000000")) ∷ (bytes (codes "0efc0001010000051e000002810060648906") ++ zeros 13 ++ bytes (codes "2e0301010000fffffc2098000000000000011effff0000000001000000fc02000080010000000b000088aec2fe42000000")) ∷ (bytes (codes "0efc0001010000051e000002810060648906") ++ zeros 13 ++ bytes (codes "2e2301010000fffffc01980000000000000009ffff00000000020000001db4b48f42000000")) ∷ (bytes (codes "0efc0001010000051e000002810060648906") ++ zeros 13 ++ bytes (codes "2e0301010000fffffc20980000000000000112ffff0000000001000000fc0200008001000000091000028a61b742000000")) ∷ []
-unfolding eth.decoded fc.decoded reading.decoded heard.carried heard.is_flogi capsule.written crc.crc crc.remainder fip.written els.written ct.decoded answer.written zones.joined queries.query outs.notices outs.outputs_by
+unfolding eth.decoded fc.decoded reading.decoded heard.carried heard.is_flogi capsule.written crc.crc crc.remainder fip.written els.written ct.decoded answer.written zones.joined server.query server.feature_word server.feature_words outs.notices outs.outputs_by
 sent_at_entry0_on_port1 = refl
 
 pub logins_at_the_end : map {B = List ℕ} (λ p. p.address ∷ p.name ∷ p.node_name ∷ p.enode.port ∷ p.node_heard ∷ p.port_heard ∷ unwrap_or p.server 0 ∷ p.watch ∷ []) (state.tables_of C J20).ports ≡ (0x010100 ∷ 0x2000001b2100000a ∷ 0x1000001b21000001 ∷ 1 ∷ 1000 ∷ 1000 ∷ 0 ∷ 0 ∷ []) ∷ (0x010101 ∷ 0x2000001b2100000d ∷ 0x1000001b21000001 ∷ 1 ∷ 1000 ∷ 1000 ∷ 0 ∷ 0 ∷ []) ∷ []

@@ -2,7 +2,7 @@ use Rattle.std.proofs.Common.{ap, sym, ◌∙◌}
 use Rattle.eth_frames.specs.Ethernet.{view as eth_view}
 use Rattle.fip_codec.specs.Message.{view as fip_view}
 use Rattle.fab_policy.specs.Heard.{Bad, Fip, Fcoe}
-use Rattle.fab_policy.specs.Judging.{cause_at}
+use Rattle.fab_policy.specs.View.{cause_at}
 use Rattle.fab_policy.specs.View.{view, read_view}
 use Rattle.fab_policy.specs.declared.verdict.Verdict.TheVariants.{Dropped}
 use Rattle.fab_policy.proofs.JudgeLemmas.{heard_is, place_is}

@@ -1,5 +1,5 @@
 use Rattle.std.proofs.Common.{◌≡◌, ◌<◌, ◌^◌, take}
-use Rattle.fab_policy.specs.Text.{hex}
+use Rattle.fab_base.specs.Texts.{hex}
 use Rattle.fab_policy.proofs.words.read_hex.Given as goal
 
 abbrev pub invariant-loop-byte : goal.invariant-loop-byte
