@@ -9,9 +9,9 @@ use Rattle.fab_config.specs.Text.{decoded}
 use Rattle.fab_config.specs.declared.ConfigFault.{ConfigFault}
 use Rattle.pcap_file.specs.declared.Record.{Record}
 use Rattle.fcoe_tool.specs.Command.{Command, command}
-use Rattle.fcoe_tool.specs.Ends.{Holds, HoldsFor, Prints, Ends, StopsAt, OfCommand, IsRefused, IsComplete}
+use Rattle.fcoe_tool.specs.Ends.{Holds, HoldsFor, Prints, Ends, StopsAt, RunEnded, OfCommand, IsRefused, IsComplete}
 use Rattle.fcoe_tool.specs.Gathered.{HasConfig, HasFault, AreCaptures, HaveCaptures, bytes_in, frames_in, windows, windows_of, span_of}
-use Rattle.fcoe_tool.specs.Outcome.{status_of}
+use Rattle.fcoe_tool.specs.Outcome.{status_of, line_of}
 use Rattle.fcoe_tool.specs.declared.outcome.Outcome.{Outcome}
 use Rattle.fcoe_tool.specs.declared.outcome.Outcome.TheVariants as ends
 use Rattle.fcoe_tool.proofs.SpanLemmas.{span-append}
@@ -91,6 +91,21 @@ module _ (words : List (String Global)) (old new : Seen) (before after : Sunk) (
       go : (c : Option Command) → command words ≡ c → (o : Outcome) → HoldsFor c old new o → status ≡ status_of o → P
       go None e o holds is = w (is ∙ ap status_of holds.0)
       go (Some k) e o holds is = f k e o holds is
+
+  pub ran : status ≡ 0 → IsTrue old.told → RunEnded words old new before after
+  unfolding line_of
+  ran none told = go (command words) refl e.outcome e.holds e.prints
+    where
+      go : (c : Option Command) → command words ≡ c → (o : Outcome) → HoldsFor c old new o → Prints o before after status → RunEnded words old new before after
+      go c is o holds (inr p) = let four = p.0 in absurd (omega arith)
+      go None is o holds (inl p) = let two : status ≡ 2 = p.0 ∙ ap status_of holds.0 in absurd (omega arith)
+      go (Some k) is (ends.Ran frames entries) holds (inl p) = record { k = k; is = is; frames = frames; entries = entries; run = holds.1 told; printed = p.1 }
+      go (Some k) is (ends.Config fault) holds (inl p) = let one = p.0 in absurd (omega arith)
+      go (Some k) is (ends.Capture port) holds (inl p) = let one = p.0 in absurd (omega arith)
+      go (Some k) is ends.Words holds (inl p) = absurd holds
+      go (Some k) is ends.ReadFault holds (inl p) = let three = p.0 in absurd (omega arith)
+      go (Some k) is ends.WriteFault holds (inl p) = let four = p.0 in absurd (omega arith)
+      go (Some k) is ends.Memory holds (inl p) = let five = p.0 in absurd (omega arith)
 
   pub refused : status ≡ 1 → SameFiles old new × OfCommand words (λ k. IsTrue old.told → IsRefused old k)
   refused one = by_command (SameFiles old new × OfCommand words (λ k. IsTrue old.told → IsRefused old k)) go (λ two. absurd (omega arith)) (λ four rose. absurd (omega arith))

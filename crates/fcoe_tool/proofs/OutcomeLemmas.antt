@@ -1,5 +1,9 @@
 -- What is printed of an outcome.
-use Rattle.std.proofs.Common.{◌≡◌, ◌≢◌, ℕ, List, codes, refl, sym, subst, inl, inr}
+use Rattle.std.proofs.Common.{◌≡◌, ◌≢◌, ℕ, List, codes, refl, sym, ◌∙◌, subst, inl, inr, Result, Ok, Err, String}
+use Rattle.std.specs.Prelude.{IfOk, IfErr}
+use Rattle.std.specs.String.{string_bytes}
+use Rattle.std.specs.declared.alloc.Global.{Global}
+use Rattle.std.specs.declared.alloc.AllocError.{AllocError}
 use Rattle.fab_base.specs.Sunk.{Sunk}
 use Rattle.fab_config.specs.declared.ConfigFault.{ConfigFault}
 use Rattle.fcoe_tool.specs.Outcome.{status_of, line_of, run_text, capture_text, config_text}
@@ -46,3 +50,9 @@ line_ran frames entries = refl
 pub line_capture : (port : ℕ) → capture_text port ≡ line_of (ends.Capture port)
 unfolding line_of
 line_capture port = refl
+
+-- a line that was made, or want of memory in its place
+pub reports_made : (r : Result (String Global) AllocError) (line : List ℕ) (before after : Sunk) (result : ℕ) (o p : Outcome) (status : ℕ) → o ≡ p → line ≡ line_of p → status ≡ status_of p → p ≢ ends.Words →
+    IfOk r (λ s. string_bytes s ≡ line) → IfOk r (λ s. Puts (string_bytes s) status before after result) → IfErr r (λ e. Puts (codes "no memory\n") 5 before after result) → Reports o before after result
+reports_made (Ok s) line before after result o p status is is_line is_status ne made puts err = reports (string_bytes s) before after result o p status is (made ∙ is_line) is_status puts
+reports_made (Err e) line before after result o p status is is_line is_status ne made ok puts = refused (codes "no memory\n") before after result o 5 (λ w. ne (sym is ∙ w)) line_memory refl puts

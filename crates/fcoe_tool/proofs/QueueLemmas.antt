@@ -57,6 +57,7 @@ first_is_next c lefts n h is le = record {
   rest = is.0.1;
   is = is.0.2;
   first = λ q x xs e. let within = slice_get_within lefts q (x ∷ xs) e in subst (λ (w : ℕ). w ≤ window_start c x.moment) is.0.3 (is.1 q x xs (omega arith) e);
+  lowest = λ q x xs e below. subst (λ (w : ℕ). w < window_start c x.moment) is.0.3 (is.2 q x xs below e);
 }
 
 pub first_none : (c : Settings) (lefts : List (List Record)) (n : ℕ) → IsFirst c lefts n None → length lefts ≤ n → NoneIsLeft lefts
@@ -77,6 +78,8 @@ first-push c lefts p (Some h) None is sees = (
     | inl le ↦ let same : q ≡ p = omega arith in let f : Some [] ≡ Some (x ∷ xs) = sym sees ∙ ap (λ (i : ℕ). slice_get lefts i) (sym same) ∙ e in absurd (cc)
     | inr below ↦ is.1 q x xs below e
   ],
+  is.2,
+  let lt = is.3 in omega arith,
 )
 first-push c lefts p None (Some w) is sees = (
   sees,
@@ -84,6 +87,8 @@ first-push c lefts p None (Some w) is sees = (
     | inl le ↦ let same : q ≡ p = omega arith in let f = same_window c (slice_get lefts p) sees.0 x sees.1 xs w sees.2 sees.3 (ap (λ (i : ℕ). slice_get lefts i) (sym same) ∙ e) in omega arith
     | inr below ↦ absurd (is q x xs below e)
   ],
+  λ q x xs below e. absurd (is q x xs below e),
+  omega arith,
 )
 first-push c lefts p (Some h) (Some w) is sees = by_test (nat_lt w h.window) refl
   where
@@ -91,12 +96,14 @@ first-push c lefts p (Some h) (Some w) is sees = by_test (nat_lt w h.window) ref
     at_own q x xs le lt e = let same : q ≡ p = omega arith in same_window c (slice_get lefts p) sees.0 x sees.1 xs w sees.2 sees.3 (ap (λ (i : ℕ). slice_get lefts i) (sym same) ∙ e)
 
     by_test : (b : Bool) → nat_lt w h.window ≡ b → IsFirst c lefts (p + 1) (if b then Some (record { port = p; window = w }) else Some h)
-    by_test true t = (
+    by_test true t = let less = ltb-true w h.window t in (
       sees,
-      λ q x xs lt e. let less = ltb-true w h.window t in elim (le_or_lt p q) [
+      λ q x xs lt e. elim (le_or_lt p q) [
         | inl le ↦ let f = at_own q x xs le lt e in omega arith
         | inr below ↦ let f = is.1 q x xs below e in omega arith
       ],
+      λ q x xs below e. let f = is.1 q x xs below e in omega arith,
+      omega arith,
     )
     by_test false t = (
       is.0,
@@ -104,4 +111,6 @@ first-push c lefts p (Some h) (Some w) is sees = by_test (nat_lt w h.window) ref
         | inl le ↦ let f = at_own q x xs le lt e in omega arith
         | inr below ↦ is.1 q x xs below e
       ],
+      is.2,
+      let lt = is.3 in omega arith,
     )

@@ -23,6 +23,7 @@ use Rattle.fab_policy.specs.Written.{egresses}
 use Rattle.fab_policy.specs.declared.event.Event.{Event}
 use Rattle.fab_policy.specs.declared.event.Event.TheVariants.{Tick, Frame}
 use Rattle.fab_policy.specs.declared.verdict.Verdict.{Verdict}
+use Rattle.fab_policy.proofs.WordLemmas.{and_left, and_right}
 use Rattle.fab_policy.proofs.StageLemmas.{nobody_is_logged_in, sends_so_far, owed_so_far, has_one_verdict}
 use Rattle.fcoe_tool.specs.Clock.{NextTick, owes}
 use Rattle.fcoe_tool.specs.Gathered.{windows, windows_of, frames_in}
@@ -326,14 +327,6 @@ frames_step (rs ∷ ins) (j ∷ places) zero k r rest i e =
     let after : length (drop (k + 1) rs) ≡ length rest = ap length (ap (λ (n : ℕ). drop n rs) (let f : k + 1 ≡ j + 1 = omega arith in f) ∙ drop-push rs j r rest d) in
     omega arith
 frames_step (rs ∷ ins) (j ∷ places) (suc q) k r rest i e = let more = frames_step ins places q k r rest i e in omega arith
-
-and_left : (a b : Bool) → (a && b) ≡ true → a ≡ true
-and_left true b e = refl
-and_left false b e = e
-
-and_right : (a b : Bool) → (a && b) ≡ true → b ≡ true
-and_right true b e = e
-and_right false b e = absurd (cc)
 
 later_step : (c : Settings) (w : ℕ) (ins : List (List Record)) (places : List ℕ) (q k : ℕ) (r : Record) (rest : List Record) → k ≡ get_or places q 0 → slice_get (left ins places) q ≡ Some (r ∷ rest) →
     list_all (λ v. leb w v) (windows c (left ins places)) ≡ true → list_all (λ v. leb w v) (windows c (left ins (set places q (k + 1)))) ≡ true

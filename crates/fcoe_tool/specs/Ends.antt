@@ -10,7 +10,7 @@ use Rattle.fab_policy.specs.Journal.{Journal, frame_count}
 use Rattle.fab_policy.specs.Stage.{IsWrittenSoFar}
 use Rattle.fcoe_tool.specs.Command.{Command, command, ReadRose, WriteRose, KeepsOthers}
 use Rattle.fcoe_tool.specs.Gathered.{HasConfig, HasFault, HaveCaptures, IsFirstBad}
-use Rattle.fcoe_tool.specs.Outcome.{status_of, line_of}
+use Rattle.fcoe_tool.specs.Outcome.{status_of, line_of, run_text}
 use Rattle.fcoe_tool.specs.declared.outcome.Outcome.{Outcome}
 use Rattle.fcoe_tool.specs.declared.outcome.Outcome.TheVariants as ends
 
@@ -78,13 +78,14 @@ pub record IsQuiet (k : Command) (old new : Seen) (before after : Sunk) : Type 0
 
 -- ---- the same, status by status
 
--- status 0: the words are a command, and the files are those of a run
-pub record RunEnded (words : List (String Global)) (old new : Seen) : Type 0 where
+-- status 0: the words are a command, the files are those of a run, and the line with its numbers was printed
+pub record RunEnded (words : List (String Global)) (old new : Seen) (before after : Sunk) : Type 0 where
   pub k : Command
   pub is : command words ≡ Some k
   pub frames : ℕ
   pub entries : ℕ
   pub run : HasRun k frames entries old new
+  pub printed : IsTrue before.told → after.written ≡ before.written ++ run_text frames entries
 
 -- words that are a command of which this holds
 pub record OfCommand (words : List (String Global)) (P : Command → Type 0) : Type 0 where

@@ -15,12 +15,13 @@ left (records ∷ ins) (k ∷ places) = drop k records ∷ left ins places
 abbrev pub NoneIsLeft : List (List Record) → Type 0
 NoneIsLeft lefts = (q : ℕ) (x : Record) (xs : List Record) → slice_get lefts q ≡ Some (x ∷ xs) → ⊥
 
--- a port has a frame, and no port has one of an earlier window
+-- a port has a frame, no port has one of an earlier window, and no port with a lower number one of the same
 pub record IsNextPort (c : Settings) (lefts : List (List Record)) (p : ℕ) : Type 0 where
   pub frame : Record
   pub rest : List Record
   pub is : slice_get lefts p ≡ Some (frame ∷ rest)
   pub first : (q : ℕ) (x : Record) (xs : List Record) → slice_get lefts q ≡ Some (x ∷ xs) → window_start c frame.moment ≤ window_start c x.moment
+  pub lowest : (q : ℕ) (x : Record) (xs : List Record) → slice_get lefts q ≡ Some (x ∷ xs) → q < p → window_start c frame.moment < window_start c x.moment
 
 -- a port's next window, where a frame is left
 abbrev pub Sees : Settings → Option (List Record) → Option ℕ → Type 0
@@ -33,6 +34,8 @@ IsFirst c lefts port None = (q : ℕ) (x : Record) (xs : List Record) → q < po
 IsFirst c lefts port (Some h) =
     Sees c (slice_get lefts h.port) (Some h.window)
     × ((q : ℕ) (x : Record) (xs : List Record) → q < port → slice_get lefts q ≡ Some (x ∷ xs) → h.window ≤ window_start c x.moment)
+    × ((q : ℕ) (x : Record) (xs : List Record) → q < h.port → slice_get lefts q ≡ Some (x ∷ xs) → h.window < window_start c x.moment)
+    × (h.port < port)
 
 abbrev pub earlier_by : Option Head → ℕ → Option ℕ → Option Head
 earlier_by found port None = found

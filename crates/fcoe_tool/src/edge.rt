@@ -103,12 +103,12 @@ impl<R: Files> Depot for FileDepot<'_, R> {
         ensures fetches { Fetches slot into.new (untold self.old.desk) (untold self.new.desk) result }
         ensures reads { ReadsAt R.File.remaining (at_of self.old.desk slot) self.old.files.items self.new.files.items into.new result }
     {
-        let place = self.desk.file(slot);
+        let source = self.desk.file(slot);
         let at = self.desk.at(slot);
         match read_at(&mut self.files, at, into) {
             Ok(count) => Ok(count),
             Err(Failed) => {
-                self.desk.read_failed(place);
+                self.desk.read_failed(source);
                 Err(Failed)
             }
         }
@@ -120,12 +120,12 @@ impl<R: Files> Depot for FileDepot<'_, R> {
         ensures puts { Puts slot from.now (untold self.old.desk) (untold self.new.desk) result }
         ensures writes { WritesAt R.File.contents (at_of self.old.desk slot) self.old.files.items self.new.files.items from.now result }
     {
-        let place = self.desk.file(slot);
+        let target = self.desk.file(slot);
         let at = self.desk.at(slot);
         match write_at(&mut self.files, at, from) {
             Ok(count) => Ok(count),
             Err(Failed) => {
-                self.desk.write_failed(place);
+                self.desk.write_failed(target);
                 Err(Failed)
             }
         }

@@ -1,5 +1,5 @@
 // How a command ends.
-ghost use Rattle.std.specs.Prelude.{◌≡◌, IfOk};
+ghost use Rattle.std.specs.Prelude.{◌≡◌, IfOk, IfErr, codes};
 ghost use Rattle.std.specs.String.{string_bytes};
 ghost use Rattle.fcoe_tool.specs.Outcome as spec;
 ghost use Rattle.fcoe_tool.specs.Ends.{Puts, Reports};
@@ -33,22 +33,24 @@ pub(crate) fn report<K: Sink>(alloc: Global, outcome: Outcome, say: &mut K) -> u
     ensures reports { Reports outcome (K.sunk say.old) (K.sunk say.new) result }
 {
     match outcome {
-        Outcome::Ran { frames, entries } => match run_line(alloc, frames, entries) {
-            Ok(line) => put_line(say, line.as_bytes(), 0),
-            Err(_) => put_line(say, b"no memory\n", 5),
-        },
-        Outcome::Capture { port } => match capture_line(alloc, port) {
-            Ok(line) => put_line(say, line.as_bytes(), 1),
-            Err(_) => put_line(say, b"no memory\n", 5),
-        },
-        Outcome::Config { fault } => match config_line(alloc, fault) {
-            Ok(line) => put_line(say, line.as_bytes(), 1),
-            Err(_) => put_line(say, b"no memory\n", 5),
-        },
+        Outcome::Ran { frames, entries } => put_made(say, run_line(alloc, frames, entries), 0),
+        Outcome::Config { fault } => put_made(say, config_line(alloc, fault), 1),
+        Outcome::Capture { port } => put_made(say, capture_line(alloc, port), 1),
         Outcome::Words => put_line(say, b"words\n", 2),
         Outcome::ReadFault => put_line(say, b"read fault\n", 3),
         Outcome::WriteFault => put_line(say, b"write fault\n", 4),
         Outcome::Memory => put_line(say, b"no memory\n", 5),
+    }
+}
+
+// Puts a line that was made, or that memory for it was refused.
+fn put_made<K: Sink>(say: &mut K, made: Result<String, AllocError>, status: u8) -> u8
+    ensures ok { IfOk made (λ s. Puts (string_bytes s) status (K.sunk say.old) (K.sunk say.new) result) }
+    ensures err { IfErr made (λ e. Puts (codes "no memory\n") 5 (K.sunk say.old) (K.sunk say.new) result) }
+{
+    match made {
+        Ok(line) => put_line(say, line.as_bytes(), status),
+        Err(_) => put_line(say, b"no memory\n", 5),
     }
 }
 

@@ -156,6 +156,25 @@ fn one_vlan_request(rt: HostRuntime) -> Result<(), Fail> {
 }
 
 #[test]
+fn two_requests_in_one_window(rt: HostRuntime) -> Result<(), Fail> {
+    let alloc = rt.alloc();
+    let mut depot = depot_of(alloc, &CONFIG, &REQUEST, &REQUEST)?;
+    runs(
+        &rt,
+        alloc,
+        &TWO_PORTS,
+        &mut depot,
+        b"frames 2 entries 3\n",
+        0,
+    )?;
+    let (journal, capture) = (b"tick 1000\n1 0 vlans\n2 0 vlans\n", NOTIFICATION);
+    assert_eq!(rt; depot.content("J"), Some(journal.as_slice()));
+    assert_eq!(rt; depot.content("OUT"), Some(capture.as_slice()));
+    assert_eq!(rt; depot.content("OUT2"), Some(capture.as_slice()));
+    Ok(())
+}
+
+#[test]
 fn two_empty_captures(rt: HostRuntime) -> Result<(), Fail> {
     let alloc = rt.alloc();
     let mut depot = depot_of(alloc, &CONFIG, &HEAD, &HEAD)?;
@@ -391,6 +410,10 @@ fn real_files(rt: HostRuntime) -> Result<(), Fail> {
     let alloc = rt.alloc();
     std::fs::write(&rt, "K", &CONFIG)?;
     std::fs::write(&rt, "IN", &REQUEST)?;
+    // What stands in the outputs before is no part of them afterwards, though it is longer.
+    let before = Vec::from_elem(alloc, 0u8, 200)?;
+    std::fs::write(&rt, "J", &before)?;
+    std::fs::write(&rt, "OUT", &before)?;
     let words = words_of(alloc, &ONE_PORT)?;
     let mut depot = FileDepot::new(&rt, alloc, &words)?;
     let mut say = MemSink::new(alloc, 100)?;

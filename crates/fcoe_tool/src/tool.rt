@@ -27,8 +27,8 @@ pub fn fabric_tool<R: Threads + Wait + Sync, D: Depot, K: Sink, G: Gate + Sync>(
     gate: &G,
 ) -> u8
     requires { spec.AllKnown (D.seen depot.old) words.now }
-    // The headline: one journal that is a run over the captures as they were found stands in the outputs.
-    ensures run { result ≡ 0 → IsTrue (D.seen depot.old).told → RunEnded words.now (D.seen depot.old) (D.seen depot.new) }
+    // The headline: one journal that is a run over the captures as they were found stands in the outputs, and its line was printed.
+    ensures run { result ≡ 0 → IsTrue (D.seen depot.old).told → RunEnded words.now (D.seen depot.old) (D.seen depot.new) (K.sunk say.old) (K.sunk say.new) }
     // The configuration has a fault, or a capture can't be taken, and every file is as it was.
     ensures refused { result ≡ 1 → SameFiles (D.seen depot.old) (D.seen depot.new) × OfCommand words.now (λ k. IsTrue (D.seen depot.old).told → IsRefused (D.seen depot.old) k) }
     ensures words { result ≡ 2 → (spec.command words.now ≡ None) × SameFiles (D.seen depot.old) (D.seen depot.new) }

@@ -1,9 +1,15 @@
-use Rattle.std.proofs.Common.{◌≡◌, length, Option, arith, subst, ◌∙◌, sym}
+use Rattle.std.proofs.Common.{◌≡◌, ◌+◌, length, Option, arith, subst, ◌∙◌, sym}
 use Rattle.fcoe_tool.specs.Queue.{left, IsFirst}
 use Rattle.fcoe_tool.specs.Read.{lists_in}
 use Rattle.fcoe_tool.specs.declared.queue.Head.{Head}
-use Rattle.fcoe_tool.proofs.QueueLemmas.{first_is_next, first_none, length-left, length-lists}
+use Rattle.fcoe_tool.proofs.QueueLemmas.{first_is_next, first_none, first-push, length-left, length-lists}
 use Rattle.fcoe_tool.proofs.queue.next_port.Goals as goal
+
+pub loop-port-preserved : goal.loop-port-preserved
+loop-port-preserved c =
+    let lefts = left (lists_in c.args.inputs.now) c.args.places.now in
+    subst (λ (o : Option Head). IsFirst c.args.config.now lefts (c.loop-port.port + 1) o) (sym c.earlier-first.ensures)
+    (first-push c.args.config.now lefts c.loop-port.port c.loop-port.first c.head_window-window.result c.loop-port.invariant c.head_window-window.ensures)
 
 pub returns-in-Some-clause-some : goal.returns-in-Some-clause-some
 returns-in-Some-clause-some c =

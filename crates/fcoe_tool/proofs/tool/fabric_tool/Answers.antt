@@ -1,5 +1,8 @@
-use Rattle.fcoe_tool.proofs.EndLemmas.{refused, completed}
+use Rattle.fcoe_tool.proofs.EndLemmas.{ran, refused, completed}
 use Rattle.fcoe_tool.proofs.tool.fabric_tool.Goals as goal
+
+pub returns-clause-run : goal.returns-clause-run
+returns-clause-run g c = ran c.args.words.now _ _ _ _ c.ended-status.result c.ended-status.ensures.ends
 
 pub returns-clause-refused : goal.returns-clause-refused
 returns-clause-refused g c = refused c.args.words.now _ _ _ _ c.ended-status.result c.ended-status.ensures.ends

@@ -8,12 +8,12 @@ pub returns-in-Err-clause-fetches : goal.returns-in-Err-clause-fetches
 returns-in-Err-clause-fetches g c =
     let lt = input_within c.args.self.now.desk.slots.items c.args.slot c.requires.input in
     let n = name c.args.self.now.desk c.args.slot in
-    let at : place_of c.args.self.now.desk n ≡ Some c.file-place.result = c.args.self.now.desk.placed c.args.slot lt ∙ ap Some (sym c.file-place.ensures.value) in
+    let at : place_of c.args.self.now.desk n ≡ Some c.file-source.result = c.args.self.now.desk.placed c.args.slot lt ∙ ap Some (sym c.file-source.ensures.value) in
     record {
-      reads = untold_reads n c.file-place.result c.args.self.now.desk c.read_failed.new.self at c.read_failed.ensures.stays;
+      reads = untold_reads n c.file-source.result c.args.self.now.desk c.read_failed.new.self at c.read_failed.ensures.stays;
       bound = tt;
       taken = λ told. tt;
       ended = λ told. tt;
       nothing = λ told. absurd (no_telling told);
-      cause = untold_read_rose n c.file-place.result c.args.self.now.desk c.read_failed.new.self at c.read_failed.ensures.stays c.read_failed.ensures.counted;
+      cause = untold_read_rose n c.file-source.result c.args.self.now.desk c.read_failed.new.self at c.read_failed.ensures.stays c.read_failed.ensures.counted;
     }

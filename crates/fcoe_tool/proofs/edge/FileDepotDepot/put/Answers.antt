@@ -8,11 +8,11 @@ pub returns-in-Err-clause-puts : goal.returns-in-Err-clause-puts
 returns-in-Err-clause-puts g c =
     let lt = output_within c.args.self.now.desk.slots.items c.args.slot c.requires.output in
     let n = name c.args.self.now.desk c.args.slot in
-    let at : place_of c.args.self.now.desk n ≡ Some c.file-place.result = c.args.self.now.desk.placed c.args.slot lt ∙ ap Some (sym c.file-place.ensures.value) in
+    let at : place_of c.args.self.now.desk n ≡ Some c.file-target.result = c.args.self.now.desk.placed c.args.slot lt ∙ ap Some (sym c.file-target.ensures.value) in
     record {
-      keeps = untold_keeps n c.file-place.result c.args.self.now.desk c.write_failed.new.self at c.write_failed.ensures.stays;
+      keeps = untold_keeps n c.file-target.result c.args.self.now.desk c.write_failed.new.self at c.write_failed.ensures.stays;
       some = tt;
       grown = λ told. tt;
-      same = (untold_reads n c.file-place.result c.args.self.now.desk c.write_failed.new.self at c.write_failed.ensures.stays).files _;
-      cause = untold_write_rose n c.file-place.result c.args.self.now.desk c.write_failed.new.self at c.write_failed.ensures.stays c.write_failed.ensures.counted;
+      same = (untold_reads n c.file-target.result c.args.self.now.desk c.write_failed.new.self at c.write_failed.ensures.stays).files _;
+      cause = untold_write_rose n c.file-target.result c.args.self.now.desk c.write_failed.new.self at c.write_failed.ensures.stays c.write_failed.ensures.counted;
     }
