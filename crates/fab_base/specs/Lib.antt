@@ -1,4 +1,5 @@
 pub mod Layout
+pub mod Fabric
 pub mod Texts
 pub mod Seen
 pub mod Sunk
