@@ -1,4 +1,4 @@
-// Files under names, opened as inputs and outputs, and read and written in pieces.
+//! Files under names, opened as inputs and outputs, and read and written in pieces.
 ghost use Rattle.std.specs.Prelude.{◌<◌, IsTrue, length};
 ghost use Rattle.fab_base.specs.Seen.{Seen, OpensIn, OpensOut, Fetches, Puts};
 

@@ -1,4 +1,4 @@
-// The names that a depot knows, with their counts of faults, and its slots.
+//! The names that a depot knows, with their counts of faults, and its slots.
 ghost use Rattle.std.specs.Prelude.{◌≡◌, ◌<◌, ◌+◌, ◌-◌, ◌^◌, min, ℕ, Some, None, IfOk, OnErr, IsTrue, length, slice_get, slice_index, IfSome, IfNone, ◌++◌, ◌∷◌, []};
 ghost use Rattle.fab_base.specs.Places.{place, name_at, ArePlaced};
 

@@ -1,4 +1,4 @@
-// Where workers pass.
+//! Where workers pass.
 use crate::{FcId, PortNo};
 
 /// Called by a worker round each of its frames. It promises nothing, and may wait.

@@ -1,8 +1,10 @@
 //! Values that the whole forwarder speaks of, and the outside world as traits.
 #![tactic(auto)]
 
+mod append;
 mod depot;
 mod desk;
+pub mod fields;
 mod gate;
 mod lists;
 mod mem_depot;
@@ -12,6 +14,7 @@ mod texts;
 mod values;
 mod whole;
 
+pub use append::append_made;
 pub use depot::Depot;
 pub use desk::{Desk, DeskSlot, word_at};
 pub use gate::{Gate, OpenGate};

@@ -1,7 +1,7 @@
-// Owned lists, which every contract sees as the list of their items.
-ghost use Rattle.std.specs.Prelude.{◌≡◌, List, ℕ, ◌++◌, ◌∷◌, [], length, nat_lt, IfOk, OnOk, OnErr, slice_get};
+//! Owned lists, which every contract sees as the list of their items.
+ghost use Rattle.std.specs.Prelude.{◌≡◌, List, ℕ, ◌++◌, ◌∷◌, [], length, nat_lt, IfOk, OnOk, OnErr, IsNone, ◌↔◌, slice_get};
 ghost use Rattle.std.specs.List.{AllPass};
-ghost use Rattle.std.specs.Option.{option_copied};
+ghost use Rattle.std.specs.Option.{option_copied, option_to_list};
 
 use crate::{FcId, NoMemory};
 use std::alloc::Global;
@@ -24,10 +24,8 @@ impl Bytes {
     pub fn copy(alloc: Global, from: &[u8]) -> Result<Bytes, NoMemory>
         ensures { IfOk result (λ b. b ≡ from.now) }
     {
-        match from.to_vec(alloc) {
-            Ok(items) => Ok(Bytes { items }),
-            Err(_) => Err(NoMemory),
-        }
+        let items = from.to_vec(alloc)?;
+        Ok(Bytes { items })
     }
 
     /// These bytes, without a copy.
@@ -71,9 +69,23 @@ impl<T: Drop> OwnedList<T> {
     pub fn new(alloc: Global) -> Result<OwnedList<T>, NoMemory>
         ensures { IfOk result (λ l. l ≡ []) }
     {
-        Ok(OwnedList {
+        Ok(OwnedList::empty(alloc))
+    }
+
+    /// An empty list, which takes no memory.
+    pub fn empty(alloc: Global) -> OwnedList<T>
+        ensures { result ≡ [] }
+    {
+        OwnedList {
             items: Vec::new(alloc),
-        })
+        }
+    }
+
+    /// These items, without a copy.
+    pub fn from_vec(items: Vec<T>) -> OwnedList<T>
+        ensures { result ≡ items.items }
+    {
+        OwnedList { items }
     }
 
     /// Appends an item. Where memory is refused the item is dropped and the list stays.
@@ -81,10 +93,27 @@ impl<T: Drop> OwnedList<T> {
         ensures ok { OnOk result (self.new ≡ self.old ++ item ∷ []) }
         ensures err { OnErr result (self.new ≡ self.old) }
     {
-        match self.items.push(item) {
-            Ok(()) => Ok(()),
-            Err(_) => Err(NoMemory),
-        }
+        self.items.push(item)?;
+        Ok(())
+    }
+
+    /// Appends the items of another list. Where memory is refused they are dropped and the list
+    /// stays.
+    pub fn append(&mut self, other: OwnedList<T>) -> Result<(), NoMemory>
+        ensures ok { OnOk result (self.new ≡ self.old ++ other) }
+        ensures err { OnErr result (self.new ≡ self.old) }
+    {
+        let mut items = other.items;
+        self.items.append(&mut items)?;
+        Ok(())
+    }
+
+    /// Takes out the last item.
+    pub fn pop(&mut self) -> Option<T>
+        ensures items { self.old ≡ self.new ++ option_to_list result }
+        ensures none { IsNone result ↔ (self.old ≡ []) }
+    {
+        self.items.pop()
     }
 
     /// How many items there are.

@@ -1,4 +1,4 @@
-// A depot in memory, for tests and for callers that have their files in memory.
+//! A depot in memory, for tests and for callers that have their files in memory.
 ghost use Rattle.std.specs.Prelude.{◌≡◌, ◌<◌, ◌≤◌, ◌+◌, ◌-◌, ◌^◌, ◌++◌, ◌==◌, min, [], ℕ, Some, IfSome, IfOk, OnOk, OnErr, IfNone, None, IsTrue, length, take, drop};
 ghost use Rattle.std.specs.List.{list_any};
 ghost use Rattle.fab_base.specs.Desk.{one_more};

@@ -1,4 +1,4 @@
-// A sink in memory, for tests and for callers that want the text.
+//! A sink in memory, for tests and for callers that want the text.
 ghost use Rattle.std.specs.Prelude.{◌≤◌, vec_capacity};
 
 use crate::{Failed, NoMemory, Sink};

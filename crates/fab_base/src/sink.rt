@@ -1,4 +1,4 @@
-// Where text is printed.
+//! Where text is printed.
 ghost use Rattle.std.specs.Prelude.{◌<◌, length};
 ghost use Rattle.fab_base.specs.Sunk.{Sunk, Sinks};
 

@@ -1,7 +1,8 @@
-// Happy paths of what takes memory, and the texts.
+//! Happy paths of what takes memory, and the texts.
+use crate::fields::{address_at, mac_at, name_at, u16_at, u24_at, u32_at};
 use crate::{
-    Bytes, Depot, Failed, FcId, IdList, Mac, MemDepot, MemSink, PortNo, Sink, Wwn, address_text,
-    mac_text, put_all, say_all, word_at, wwn_text,
+    Bytes, Depot, Failed, FcId, IdList, Mac, MemDepot, MemSink, OwnedList, PortNo, Sink, Wwn,
+    address_text, append_made, mac_text, put_all, say_all, word_at, wwn_text,
 };
 use std::test::Fail;
 
@@ -37,6 +38,31 @@ fn ports_are_1_to_64(rt: HostRuntime) -> Result<(), Fail> {
     for (number, want) in [(0, None), (1, Some(1)), (64, Some(64)), (65, None)] {
         assert_eq!(rt; PortNo::new(number).map(|port| port.value()), want);
     }
+    for (place, number) in [(0, 1), (7, 8), (63, 64)] {
+        assert_eq!(rt; PortNo::at(place).value(), number);
+        assert_eq!(rt; PortNo::at(place).index(), place);
+    }
+    Ok(())
+}
+
+#[test]
+fn fields_are_read_high_byte_first(rt: HostRuntime) -> Result<(), Fail> {
+    let bytes = [0, 1, 0xab, 0xcd, 0xef, 0x23, 0x45, 0x67, 0x89, 0x10];
+    assert_eq!(rt; u16_at(&bytes, 1), 0x01ab);
+    assert_eq!(rt; u24_at(&bytes, 1), 0x01_abcd);
+    assert_eq!(rt; u32_at(&bytes, 1), 0x01ab_cdef);
+    assert_eq!(rt; address_at(&bytes, 2).value(), 0xab_cdef);
+    assert_eq!(rt; mac_at(&bytes, 1), Mac([1, 0xab, 0xcd, 0xef, 0x23, 0x45]));
+    assert_eq!(rt; name_at(&bytes, 2), Wwn(0xabcd_ef23_4567_8910));
+    Ok(())
+}
+
+#[test]
+fn bytes_are_appended_where_they_were_made(rt: HostRuntime) -> Result<(), Fail> {
+    let alloc = rt.alloc();
+    let mut out = b"ab".to_vec(alloc)?;
+    append_made(b"cd".to_vec(alloc), &mut out)?;
+    assert_eq!(rt; out.as_slice(), b"abcd".as_slice());
     Ok(())
 }
 
@@ -65,6 +91,21 @@ fn lists_keep_their_items(rt: HostRuntime) -> Result<(), Fail> {
     list.push(alloc, address)?;
     assert_eq!(rt; list.len(), 1);
     assert_eq!(rt; list.at(0).copied(), Some(address));
+    assert_eq!(rt; list.at(1).copied(), None);
+    Ok(())
+}
+
+#[test]
+fn lists_are_joined_and_shortened(rt: HostRuntime) -> Result<(), Fail> {
+    let alloc = rt.alloc();
+    let mut list = OwnedList::empty(alloc);
+    assert_eq!(rt; list.pop(), None);
+    list.push(alloc, 1u8)?;
+    list.append(OwnedList::from_vec([2, 3].to_vec(alloc)?))?;
+    assert_eq!(rt; list.len(), 3);
+    assert_eq!(rt; list.pop(), Some(3));
+    assert_eq!(rt; list.pop(), Some(2));
+    assert_eq!(rt; list.at(0).copied(), Some(1));
     assert_eq!(rt; list.at(1).copied(), None);
     Ok(())
 }

@@ -1,4 +1,4 @@
-// Names and addresses as hexadecimal text in lower case.
+//! Names and addresses as hexadecimal text in lower case.
 ghost use Rattle.std.specs.Prelude.{◌≡◌, ◌*◌, length};
 ghost use Rattle.fab_base.specs.Texts.{hex, hex_bytes};
 

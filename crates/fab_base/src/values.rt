@@ -1,7 +1,8 @@
-// Names and numbers of the field, and one captured frame.
-ghost use Rattle.std.specs.Prelude.{◌≡◌, ℕ, ◌<◌, ◌≤◌, ◌^◌, ◌↔◌, IsTrue, IfSome, IsSome, List};
+//! Names and numbers of the field, and one captured frame.
+ghost use Rattle.std.specs.Prelude.{◌≡◌, ℕ, ◌+◌, ◌<◌, ◌≤◌, ◌^◌, ◌↔◌, IsTrue, IfSome, IsSome, List};
 
 use crate::Bytes;
+use std::alloc::{AllocError, AllocFailed};
 use std::marker::Model;
 
 /// A call of the outside world failed.
@@ -11,6 +12,19 @@ pub struct Failed;
 /// Memory was refused.
 #[derive(Clone, Copy, Debug, PartialEq, Eq)]
 pub struct NoMemory;
+
+impl From<AllocError> for NoMemory {
+    fn from(_refused: AllocError) -> NoMemory {
+        NoMemory
+    }
+}
+
+/// The value that wasn't stored is dropped.
+impl<T: Drop> From<AllocFailed<T>> for NoMemory {
+    fn from(_refused: AllocFailed<T>) -> NoMemory {
+        NoMemory
+    }
+}
 
 /// A MAC address (IEEE 802), its six bytes in the order of the wire.
 #[derive(Clone, Copy, Debug, PartialEq, Eq, PartialOrd, Ord)]
@@ -121,6 +135,22 @@ impl PortNo {
         ensures range { (1 ≤ result) × (result ≤ 64) }
     {
         self.number
+    }
+
+    /// Its place among the ports, counted from 0.
+    pub fn index(&self) -> usize
+        ensures value { result + 1 ≡ self.now }
+        ensures range { result < 64 }
+    {
+        (self.value() - 1) as usize
+    }
+
+    /// The port at that place.
+    pub fn at(index: usize) -> PortNo
+        requires { index < 64 }
+        ensures { result ≡ index + 1 }
+    {
+        PortNo::new(index as u32 + 1).unwrap()
     }
 }
 

@@ -1,4 +1,4 @@
-// Whole buffers through a depot, and whole texts to a sink.
+//! Whole buffers through a depot, and whole texts to a sink.
 ghost use Rattle.std.specs.Prelude.{◌≡◌, ◌<◌, IsTrue, length};
 ghost use Rattle.fab_base.specs.Seen.{Fills, PutsAll};
 ghost use Rattle.fab_base.specs.Sunk.{SinksAll};
