@@ -4,3 +4,4 @@ pub mod PlaceLemmas
 pub mod MemLemmas
 pub mod KnowLemmas
 pub mod TextLemmas
+pub mod KeyedLemmas

@@ -1,5 +1,6 @@
 pub mod Layout
 pub mod Fabric
+pub mod Keyed
 pub mod Texts
 pub mod Seen
 pub mod Sunk
