@@ -4,4 +4,6 @@ pub mod Rows
 pub mod Decoding
 pub mod Spelled
 pub mod Words
+pub mod Queries
+pub mod Limits
 mod StandardFacts

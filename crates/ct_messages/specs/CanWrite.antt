@@ -17,6 +17,11 @@ CanWrite (SetNodeSymbol _ symbol) = IsSymbol symbol
 CanWrite (Unknown _) = ⊥
 CanWrite _ = Unit {0}
 
+-- a feature is registered for a type, which is a byte
+abbrev pub HasByte : Ask → Type 0
+HasByte (SetFeature a feature kind) = kind < 256
+HasByte _ = Unit {0}
+
 -- a list has an entry
 abbrev pub CanTell : CtTell → Type 0
 CanTell (Addresses list) = 0 < length list

@@ -15,7 +15,9 @@ mod tests_of_answers;
 mod writing;
 
 use fab_base::{Bytes, FcId, IdList, OwnedList, Wwn};
-pub use laws::{a_written_request_is_read_back, the_table_is_what_is_decoded};
+pub use laws::{
+    a_query_is_no_reject, a_written_request_is_read_back, the_table_is_what_is_decoded,
+};
 pub use reading::read_ask;
 pub use telling::write_tell;
 pub use writing::write_ask;
