@@ -1,3 +1,4 @@
 pub mod Fields
 pub mod FrameLemmas
 pub mod PieceLemmas
+pub mod PieceLaws

@@ -10,7 +10,7 @@ pub record Leads (length size from : ℕ) (before : List Piece) : Type 0 where
   pub whole : (after : List Piece) → Cuts length size from after → Cuts length size 0 (before ++ after)
 
 -- cut pieces begin before the end
-begins_within : (length size from : ℕ) (ps : List Piece) → Cuts length size from ps → from < length
+pub begins_within : (length size from : ℕ) (ps : List Piece) → Cuts length size from ps → from < length
 begins_within length size from [] cuts = absurd cuts
 begins_within length size from (p ∷ []) cuts = cuts.3
 begins_within length size from (p ∷ q ∷ ps) cuts = let more = begins_within length size (from + size) (q ∷ ps) cuts.3 in omega arith

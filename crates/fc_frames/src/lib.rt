@@ -10,7 +10,10 @@ mod writing;
 
 pub use cutting::pieces;
 use fab_base::FcId;
-pub use laws::{frame_is_written, frame_reads_back, frame_stands_once};
+pub use laws::{
+    frame_is_written, frame_reads_back, frame_stands_once, ranges_have_the_pieces,
+    the_last_range_is_marked,
+};
 pub use reading::read_frame;
 pub use writing::write_frame;
 
