@@ -24,19 +24,34 @@ SOF_I3 = 0x2e
 abbrev pub SOF_N3 : ℕ
 SOF_N3 = 0x36
 
+abbrev pub SOF_I2 : ℕ
+SOF_I2 = 0x2d
+
+abbrev pub SOF_N2 : ℕ
+SOF_N2 = 0x35
+
+abbrev pub SOF_F : ℕ
+SOF_F = 0x28
+
 abbrev pub EOF_N : ℕ
 EOF_N = 0x41
 
 abbrev pub EOF_T : ℕ
 EOF_T = 0x42
 
+abbrev pub EOF_NI : ℕ
+EOF_NI = 0x49
+
+abbrev pub EOF_A : ℕ
+EOF_A = 0x50
+
 -- SOFi3, SOFn3, SOFi2, SOFn2 and SOFf
 abbrev pub is_sof : ℕ → Bool
-is_sof code = list_any (λ c. c == code) (SOF_I3 ∷ SOF_N3 ∷ 0x2d ∷ 0x35 ∷ 0x28 ∷ [])
+is_sof code = list_any (λ c. c == code) (SOF_I3 ∷ SOF_N3 ∷ SOF_I2 ∷ SOF_N2 ∷ SOF_F ∷ [])
 
 -- EOFn, EOFt, EOFni and EOFa
 abbrev pub is_eof : ℕ → Bool
-is_eof code = list_any (λ c. c == code) (EOF_N ∷ EOF_T ∷ 0x49 ∷ 0x50 ∷ [])
+is_eof code = list_any (λ c. c == code) (EOF_N ∷ EOF_T ∷ EOF_NI ∷ EOF_A ∷ [])
 
 -- the places of the SOF and of the header; behind the payload stand the CRC, the EOF and three reserved bytes
 abbrev pub SOF_AT : ℕ

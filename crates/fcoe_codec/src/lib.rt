@@ -10,7 +10,7 @@ mod writing;
 
 pub use delimiters::{EOF_A, EOF_N, EOF_NI, EOF_T, SOF_F, SOF_I2, SOF_I3, SOF_N2, SOF_N3};
 use fc_frames::FcFrame;
-pub use laws::{fcoe_is_written, fcoe_reads_back, fcoe_stands_once};
+pub use laws::{delimiters_have_their_codes, fcoe_is_written, fcoe_reads_back, fcoe_stands_once};
 pub use reading::read_fcoe;
 pub use writing::write_fcoe;
 
