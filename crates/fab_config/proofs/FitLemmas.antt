@@ -20,7 +20,9 @@ use Rattle.fab_config.specs.declared.ConfigWhy.TheVariants as why
 use Rattle.fab_config.specs.declared.draft.Draft.{Draft}
 use Rattle.fab_config.specs.declared.keyword.Keyword.{Keyword}
 use Rattle.fab_config.specs.declared.keyword.Keyword.TheVariants.{FcfMac, Vlan, Switch, FcMap, Domain, Pool, Priority, Period, Window, Logins, Zones, Sets, Activations}
-use Rattle.fab_config.proofs.ListLemmas.{eqb_comm, same_bytes_comm, any_map, all_more}
+use Rattle.std.specs.Cmp.{nat_eq_equiv}
+use Rattle.std.specs.Cmp.Lexicographic.{nat_list_eq_equiv}
+use Rattle.fab_config.proofs.ListLemmas.{any_map, all_more}
 
 -- ---- tests
 
@@ -87,7 +89,7 @@ differ_push {X} same (y ∷ xs) x all none =
 -- numbers of which each counts once differ
 once_differ : (acc xs : List ℕ) → all_differ (λ x y. eqb x y) acc ≡ true → all_differ (λ x y. eqb x y) (acc ++ once_from acc xs) ≡ true
 once_differ acc [] h = ap (all_differ (λ x y. eqb x y)) (Rattle.std.proofs.lemmas.List.append-nil acc) ∙ h
-once_differ acc (x ∷ xs) h = by (list_any (λ y. eqb x y) acc) refl (once_differ acc xs h) (λ g. once_differ (acc ++ x ∷ []) xs (differ_push (λ x y. eqb x y) acc x h (sym (any_same (λ y. eqb x y) (λ y. eqb y x) (λ y. eqb_comm x y) acc) ∙ g)))
+once_differ acc (x ∷ xs) h = by (list_any (λ y. eqb x y) acc) refl (once_differ acc xs h) (λ g. once_differ (acc ++ x ∷ []) xs (differ_push (λ x y. eqb x y) acc x h (sym (any_same (λ y. eqb x y) (λ y. eqb y x) (nat_eq_equiv.symm x) acc) ∙ g)))
   where
     by : (t : Bool) → list_any (λ y. eqb x y) acc ≡ t → all_differ (λ x y. eqb x y) (acc ++ once_from acc xs) ≡ true → (list_any (λ y. eqb x y) acc ≡ false → all_differ (λ x y. eqb x y) ((acc ++ x ∷ []) ++ once_from (acc ++ x ∷ []) xs) ≡ true)
         → all_differ (λ x y. eqb x y) (acc ++ cond (list_any (λ y. eqb x y) acc) (once_from acc xs) (x ∷ once_from (acc ++ x ∷ []) xs)) ≡ true
@@ -170,10 +172,10 @@ zones_pushed zones z test new few some fit =
 
 -- a name that has no place differs from each zone's
 zone_differs : (zones : List Zone) (n : List ℕ) → is_some (place n (zone_names zones)) ≡ false → list_any (λ (y : Zone). same_bytes y.name n) zones ≡ false
-zone_differs zones n e = sym (any_same (λ (y : Zone). same_bytes n y.name) (λ (y : Zone). same_bytes y.name n) (λ y. same_bytes_comm n y.name) zones) ∙ sym (any_map (λ y. same_bytes n y) (λ (y : Zone). y.name) zones) ∙ none_differs 0 n (zone_names zones) e
+zone_differs zones n e = sym (any_same (λ (y : Zone). same_bytes n y.name) (λ (y : Zone). same_bytes y.name n) (λ y. nat_list_eq_equiv.symm n y.name) zones) ∙ sym (any_map (λ y. same_bytes n y) (λ (y : Zone). y.name) zones) ∙ none_differs 0 n (zone_names zones) e
 
 set_differs : (sets : List ZoneSet) (n : List ℕ) → is_some (place n (set_names sets)) ≡ false → list_any (λ (y : ZoneSet). same_bytes y.name n) sets ≡ false
-set_differs sets n e = sym (any_same (λ (y : ZoneSet). same_bytes n y.name) (λ (y : ZoneSet). same_bytes y.name n) (λ y. same_bytes_comm n y.name) sets) ∙ sym (any_map (λ y. same_bytes n y) (λ (y : ZoneSet). y.name) sets) ∙ none_differs 0 n (set_names sets) e
+set_differs sets n e = sym (any_same (λ (y : ZoneSet). same_bytes n y.name) (λ (y : ZoneSet). same_bytes y.name n) (λ y. nat_list_eq_equiv.symm n y.name) sets) ∙ sym (any_map (λ y. same_bytes n y) (λ (y : ZoneSet). y.name) sets) ∙ none_differs 0 n (set_names sets) e
 
 zones_grown_fit : (zones more : List Zone) (z : Zone) (s t : Bool) → ltb 1000 (length (zones ++ z ∷ [])) ≡ s → ltb 20000 (sum_by (λ (x : Zone). length x.members) (zones ++ z ∷ [])) ≡ t
     → zone_test z ≡ true → list_any (λ (y : Zone). same_bytes y.name z.name) zones ≡ false → are_zones zones ≡ true

@@ -16,7 +16,7 @@ use Rattle.fab_config.specs.declared.keyword.Keyword.{Keyword}
 use Rattle.fab_config.proofs.BackLemmas.{is_word, are_words, words_back, line_ascii, lines_line}
 use Rattle.fab_config.proofs.ReadLemmas.{lines_ok}
 use Rattle.std.proofs.lemmas.Bool.{and_parts, and_from, or_parts}
-use Rattle.fab_config.proofs.ListLemmas.{eqb_comm}
+use Rattle.std.specs.Cmp.{nat_eq_equiv}
 
 -- a line of a key with its words is read by its key
 pub key_line : (d next : Draft) (key : List ℕ) (values : List (List ℕ)) (k : Keyword) → is_word key ≡ true → 1 ≤ length key → is_skipped (key ++ flat_map spaced values) ≡ false
@@ -69,7 +69,7 @@ module _ {X : Type 0} (same : X → X → Bool) (comm : (x y : X) → same x y �
 once_same : (acc xs : List ℕ) → all_differ (λ x y. eqb x y) (acc ++ xs) ≡ true → once_from acc xs ≡ xs
 once_same acc [] h = refl
 once_same acc (x ∷ xs) h =
-    ap (λ t. cond t (once_from acc xs) (x ∷ once_from (acc ++ x ∷ []) xs)) (differs_before (λ x y. eqb x y) eqb_comm x acc xs h)
+    ap (λ t. cond t (once_from acc xs) (x ∷ once_from (acc ++ x ∷ []) xs)) (differs_before (λ x y. eqb x y) nat_eq_equiv.symm x acc xs h)
     ∙ ap (λ l. x ∷ l) (once_same (acc ++ x ∷ []) xs (ap (all_differ (λ x y. eqb x y)) (append_assoc acc (x ∷ []) xs) ∙ h))
 
 -- words that say these numbers

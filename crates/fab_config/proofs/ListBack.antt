@@ -26,7 +26,8 @@ use Rattle.fab_config.proofs.FoldLemmas.{line_step, place_past, differs_before, 
 use Rattle.fab_config.proofs.NamedLemmas.{with_list}
 use Rattle.fab_base.specs.Layout.{spelled}
 use Rattle.fab_base.proofs.LayoutLemmas.{length-spelled}
-use Rattle.fab_config.proofs.ListLemmas.{same_self, same_bytes_comm, any_map}
+use Rattle.std.specs.Cmp.Lexicographic.{nat_list_eq_equiv}
+use Rattle.fab_config.proofs.ListLemmas.{any_map}
 
 -- ---- names
 
@@ -106,7 +107,7 @@ zone_read done more z fit typed =
     let own_two = and_parts (is_zone_name z.name && ltb 0 (length z.members)) (all_differ (λ x y. eqb x y) z.members) own in
     let own_three = and_parts (is_zone_name z.name) (ltb 0 (length z.members)) own_two.0 in
     let some : 0 < length z.members = ltb-true 0 (length z.members) own_three.1 in
-    let new = differs_before same (λ x y. same_bytes_comm x.name y.name) z done more three.1 in
+    let new = differs_before same (λ x y. nat_list_eq_equiv.symm x.name y.name) z done more three.1 in
     let few : length all ≤ 1000 = leb-true (length all) 1000 two.1 in
     let sum : total all ≤ 20000 = leb-true (total all) 20000 one.1 in
     let l1 = length-append done (z ∷ more) in
@@ -149,10 +150,10 @@ zones_read n d done (z ∷ zs) rest fit typed =
 -- the place of the name at a place
 place_back : (k p : ℕ) (names : List (List ℕ)) → p < length names → all_differ same_bytes names ≡ true → place_from k (name_at names p) names ≡ Some (k + p)
 place_back k p [] lt differ = absurd (omega arith)
-place_back k zero (x ∷ names) lt differ = ap (λ t. cond t (Some k) (place_from (k + 1) x names)) (same_self x) ∙ ap (λ (n : ℕ). Some n) (let e : k ≡ k + 0 = omega arith in e)
+place_back k zero (x ∷ names) lt differ = ap (λ t. cond t (Some k) (place_from (k + 1) x names)) (nat_list_eq_equiv.refl x) ∙ ap (λ (n : ℕ). Some n) (let e : k ≡ k + 0 = omega arith in e)
 place_back k (suc p) (x ∷ names) lt differ =
     let both = and_parts (not (list_any (same_bytes x) names)) (all_differ same_bytes names) differ in
-    ap (λ t. cond t (Some k) (place_from (k + 1) (name_at names p) names)) (same_bytes_comm (name_at names p) x ∙ other names p (omega arith) both.0)
+    ap (λ t. cond t (Some k) (place_from (k + 1) (name_at names p) names)) (nat_list_eq_equiv.symm (name_at names p) x ∙ other names p (omega arith) both.0)
     ∙ place_back (k + 1) p names (omega arith) both.1 ∙ ap (λ (n : ℕ). Some n) (let e : k + 1 + p ≡ k + suc p = omega arith in e)
   where
     head : (a b : Bool) → not (a || b) ≡ true → (a ≡ false) × (not b ≡ true)
@@ -204,7 +205,7 @@ set_read zones done more s names fit =
     let own_three = and_parts (is_zone_name s.name && ltb 0 (length s.places)) (list_all (λ p. ltb p k) s.places) own_two.0 in
     let own_four = and_parts (is_zone_name s.name) (ltb 0 (length s.places)) own_three.0 in
     let some : 0 < length s.places = ltb-true 0 (length s.places) own_four.1 in
-    let new = differs_before same (λ x y. same_bytes_comm x.name y.name) s done more three.1 in
+    let new = differs_before same (λ x y. nat_list_eq_equiv.symm x.name y.name) s done more three.1 in
     let few : length all ≤ 64 = leb-true (length all) 64 two.1 in
     let sum : total all ≤ 4000 = leb-true (total all) 4000 one.1 in
     let l1 = length-append done (s ∷ more) in

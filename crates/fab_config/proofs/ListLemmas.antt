@@ -2,20 +2,6 @@
 use Rattle.std.proofs.Common.{◌≡◌, ℕ, zero, suc, ◌+◌, List, [], ◌∷◌, ◌++◌, Bool, true, eqb, ◌&&◌, ◌||◌, Some, take, slice_get, map, refl, ◌∙◌, ap, arith}
 use Rattle.std.specs.List.{list_any, list_all}
 use Rattle.std.proofs.lemmas.Bool.{and_parts, and_from, eq-eqb}
-use Rattle.fab_config.specs.Settings.{same_bytes}
-
-pub eqb_comm : (m n : ℕ) → eqb m n ≡ eqb n m
-eqb_comm m n = grind arith
-
-pub same_self : (x : List ℕ) → same_bytes x x ≡ true
-same_self [] = refl
-same_self (b ∷ x) = and_from (eqb b b) (same_bytes x x) (eq-eqb b b refl) (same_self x)
-
-pub same_bytes_comm : (xs ys : List ℕ) → same_bytes xs ys ≡ same_bytes ys xs
-same_bytes_comm [] [] = refl
-same_bytes_comm [] (y ∷ ys) = refl
-same_bytes_comm (x ∷ xs) [] = refl
-same_bytes_comm (x ∷ xs) (y ∷ ys) = ap (λ b. b && same_bytes xs ys) (eqb_comm x y) ∙ ap (λ b. eqb y x && b) (same_bytes_comm xs ys)
 
 -- a test of the values of items
 pub any_map : {X Y : Type 0} (f : Y → Bool) (v : X → Y) (xs : List X) → list_any f (map v xs) ≡ list_any (λ x. f (v x)) xs
