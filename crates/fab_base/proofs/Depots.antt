@@ -1,72 +1,10 @@
--- One call after another.
-use Rattle.std.proofs.Common.{◌≡◌, ◌≢◌, ℕ, zero, suc, ◌+◌, ◌-◌, ◌<◌, ◌≤◌, List, [], ◌∷◌, ◌++◌, length, length-append, take, drop, Ok, Err, Some, IsTrue, refl, sym, ◌∙◌, ap, subst, arith, inl, inr, zero-add, append_assoc, length-drop}
+-- A buffer that is filled and bytes that are put, one piece after another.
+use Rattle.std.proofs.Common.{◌≡◌, ℕ, zero, suc, ◌+◌, ◌-◌, ◌≤◌, List, [], ◌∷◌, ◌++◌, length, length-append, take, drop, Ok, Err, Some, IsTrue, sym, ◌∙◌, ap, subst, arith, zero-add, append_assoc, length-drop}
 use Rattle.std.proofs.lemmas.Grind.{common_steps}
 use Rattle.std.proofs.lemmas.List.{length-take-le, take-append-le, take_rest}
 use borrow.Rule.Slice.PartMut.{put_mid, post_of}
-use Rattle.fab_base.specs.Seen.{Seen, IsOpen, Keeps, SameSlot, Reads, Rose, Fetches, Fills, Puts, bytes_of}
-
--- a count that rose behind one that did not fall
-pub rose_later : (a b c : ℕ) → a ≤ b → Rose b c → Rose a c
-rose_later a b c le rose = omega (arith, rose)
-
-same_slot_refl : (s : ℕ) (d : Seen) → SameSlot s d d
-same_slot_refl s d = record { input = refl; output = refl; name = refl }
-
-pub keeps_refl : (name : List ℕ) (d : Seen) → Keeps name d d
-keeps_refl name d = record {
-  told = refl;
-  knows = λ m. refl;
-  slots = λ s h. same_slot_refl s d;
-  files = λ m ne. refl;
-  left = λ s h ne. refl;
-  reads = λ m ne. refl;
-  writes = λ m ne. refl;
-  reads_rise = omega arith;
-  writes_rise = omega arith;
-}
-
-same_slot_trans : (s : ℕ) (a b c : Seen) → SameSlot s a b → SameSlot s b c → SameSlot s a c
-same_slot_trans s a b c k l = record { input = l.input ∙ k.input; output = l.output ∙ k.output; name = l.name ∙ k.name }
-
--- an open slot stays open, and an input an input
-open_after : (s : ℕ) (a b : Seen) → SameSlot s a b → IsOpen a s → IsOpen b s
-open_after s a b k (inl h) = inl (subst IsTrue (sym k.input) h)
-open_after s a b k (inr h) = inr (subst IsTrue (sym k.output) h)
-
-module _ (name : List ℕ) (a b : Seen) (k : Keeps name a b) (s : ℕ) where
-  pub input_stays : IsTrue (a.input s) → IsTrue (b.input s)
-  input_stays h = subst IsTrue (sym (k.slots s (inl h)).input) h
-
-  pub output_stays : IsTrue (a.output s) → IsTrue (b.output s)
-  output_stays h = subst IsTrue (sym (k.slots s (inr h)).output) h
-
-  pub input_name : IsTrue (a.input s) → b.name s ≡ a.name s
-  input_name h = (k.slots s (inl h)).name
-
-  pub output_name : IsTrue (a.output s) → b.name s ≡ a.name s
-  output_name h = (k.slots s (inr h)).name
-
-pub told_stays : (name : List ℕ) (a b : Seen) → Keeps name a b → IsTrue a.told → IsTrue b.told
-told_stays name a b k told = subst IsTrue (sym k.told) told
-
-pub keeps_trans : (name : List ℕ) (a b c : Seen) → Keeps name a b → Keeps name b c → Keeps name a c
-keeps_trans name a b c k l = record {
-  told = l.told ∙ k.told;
-  knows = λ m. l.knows m ∙ k.knows m;
-  slots = λ s h. same_slot_trans s a b c (k.slots s h) (l.slots s (open_after s a b (k.slots s h) h));
-  files = λ m ne. l.files m ne ∙ k.files m ne;
-  left = λ s h ne. l.left s (input_stays name a b k s h) (λ e. ne (sym (input_name name a b k s h) ∙ e)) ∙ k.left s h ne;
-  reads = λ m ne. l.reads m ne ∙ k.reads m ne;
-  writes = λ m ne. l.writes m ne ∙ k.writes m ne;
-  reads_rise = omega (arith, k.reads_rise, l.reads_rise);
-  writes_rise = omega (arith, k.writes_rise, l.writes_rise);
-}
-
-pub reads_refl : (name : List ℕ) (d : Seen) → Reads name d d
-reads_refl name d = record { keeps = keeps_refl name d; files = λ m. refl }
-
-pub reads_trans : (name : List ℕ) (a b c : Seen) → Reads name a b → Reads name b c → Reads name a c
-reads_trans name a b c k l = record { keeps = keeps_trans name a b c k.keeps l.keeps; files = λ m. l.files m ∙ k.files m }
+use Rattle.fab_base.specs.Seen.{Seen, Keeps, Reads, Rose, Fetches, Fills, Puts, bytes_of}
+pub use Rattle.fab_base.proofs.SeenLemmas.{rose_later, keeps_refl, input_stays, output_stays, input_name, output_name, told_stays, keeps_trans, reads_refl, reads_trans}
 
 -- a front that goes on into the second list
 pub take-past : {A : Type 0} (xs ys : List A) (m n : ℕ) → m ≡ length xs + n → take m (xs ++ ys) ≡ xs ++ take n ys

@@ -1,14 +1,13 @@
 -- A name more in a depot in memory, and a file that is stored.
-use Rattle.std.proofs.Common.{◌≡◌, ◌≢◌, ℕ, zero, suc, ◌+◌, ◌<◌, ◌≤◌, List, [], ◌∷◌, ◌++◌, length, length-append, slice_get, slice_index, get_or, set, Option, Some, None, Bool, true, false, cond, IsTrue, is_some, refl, sym, ◌∙◌, ap, subst, arith, String, Vec, string_bytes, inl, inr, ◌⊎◌, drop}
+use Rattle.std.proofs.Common.{◌≡◌, ◌≢◌, ℕ, zero, suc, ◌+◌, ◌<◌, List, [], ◌∷◌, ◌++◌, length, slice_get, slice_index, set, Option, Some, None, Bool, true, false, cond, IsTrue, is_some, refl, sym, ◌∙◌, ap, subst, arith, String, Vec, string_bytes, inl, inr, drop}
 use Rattle.std.proofs.lemmas.Bool.{cases_Bool}
 use Rattle.std.proofs.lemmas.Slice.Eq.{bytes_eq-Decides}
 use Rattle.std.specs.Str.{bytes_eq}
 use Rattle.std.specs.declared.alloc.Global.{Global}
-use Rattle.fab_base.specs.declared.desk.DeskSlot.{DeskSlot}
 use Rattle.fab_base.specs.declared.desk.Desk.{Desk}
-use Rattle.fab_base.specs.Seen.{Seen, IsOpen, SameSlot, Keeps, bytes_of}
+use Rattle.fab_base.specs.Seen.{Seen, SameSlot, Keeps, bytes_of}
 use Rattle.fab_base.specs.Places.{place, name_at, after_one, slot_file, slot_at, is_input, is_output}
-use Rattle.fab_base.specs.Contents.{content_at, content_in, content_bytes}
+use Rattle.fab_base.specs.Contents.{content_at, content_in}
 use Rattle.fab_base.specs.Desk.{place_of, count_at, Adds, KeepsAll}
 use Rattle.fab_base.specs.MemDepot.{seen_of, seen_by, left_by, Learns}
 use Rattle.fab_base.proofs.PlaceLemmas.{name_at-append, placed_within}

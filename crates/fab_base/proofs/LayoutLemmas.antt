@@ -1,14 +1,14 @@
--- Numbers and the bytes that spell them, and fields of a list.
-use Rattle.std.proofs.Common.{◌≡◌, ℕ, zero, suc, ◌+◌, ◌-◌, ◌*◌, ◌/◌, ◌%◌, ◌^◌, ◌<◌, ◌≤◌, List, [], ◌∷◌, ◌++◌, length, length-append, append_assoc, take, drop, length-drop, refl, sym, ◌∙◌, ap, subst, arith, get_or, ltb, lit<}
+-- Numbers and the bytes that spell them, and fields of a list. Other crates cite this module.
+use Rattle.std.proofs.Common.{◌≡◌, ℕ, zero, suc, ◌+◌, ◌-◌, ◌*◌, ◌/◌, ◌%◌, ◌^◌, ◌<◌, ◌≤◌, List, [], ◌∷◌, ◌++◌, length, append_assoc, take, drop, length-drop, refl, sym, ◌∙◌, ap, subst, arith, get_or, ltb, lit<}
 use Rattle.std.proofs.lemmas.Nat.{div-mul-add, pow-add}
 use lib.Arith.{mod-mul}
-use Rattle.std.proofs.lemmas.List.{take_at, drop_at, length-take-le, take-append-drop, drop-drop}
+use Rattle.std.proofs.lemmas.List.{take_at, drop_at, length-take-le, take-append-drop, drop-drop, get_or-drop, drop_more}
 use Rattle.std.proofs.Math.Nat.{div-div-eq-div-mul, mul-le-mul_right, mul-add-div_right, mul-add-mod_self_right, mod-eq_of_lt, mul_assoc}
 use Rattle.std.proofs.lemmas.Grind.{pow_more}
 use Rattle.std.specs.List.{AllPass}
 use Rattle.std.proofs.lemmas.Bool.{lt-ltb}
-use Rattle.std.specs.Int.{bytes_high_first, bytes_low_first, byte_at}
-use Rattle.fab_base.specs.Layout.{field, big_endian, little_endian, number, spelled, spelled_low, zeros, padded}
+use Rattle.std.specs.Int.{bytes_low_first, byte_at}
+use Rattle.fab_base.specs.Layout.{field, byte, big_endian, little_endian, number, spelled, spelled_low}
 
 pub length-spelled : (k n : ℕ) → length (spelled k n) ≡ k
 length-spelled zero n = refl
@@ -119,6 +119,32 @@ take-field l from count = sym (take-append-drop count (drop from l)) ∙ ap (λ 
 
 pub length-field : (l : List ℕ) (from count : ℕ) → from + count ≤ length l → length (field l from count) ≡ count
 length-field l from count fits = length-take-le count (drop from l) (omega (arith, length-drop from l))
+
+bytes_of_front : (count : ℕ) (l : List ℕ) → AreBytes l → (i : ℕ) → get_or (take count l) i 0 < 256
+bytes_of_front zero l bytes i = lit< tt
+bytes_of_front (suc count) [] bytes i = lit< tt
+bytes_of_front (suc count) (b ∷ l) bytes zero = bytes 0
+bytes_of_front (suc count) (b ∷ l) bytes (suc i) = bytes_of_front count l (tail_bytes b l bytes) i
+
+-- a field of bytes
+pub bytes_of_field : (l : List ℕ) (from count : ℕ) → AreBytes l → AreBytes (field l from count)
+bytes_of_field l from count bytes = bytes_of_front count (drop from l) (λ i. omega (arith, get_or-drop from l i 0, bytes (from + i)))
+
+-- what is behind a place is a number of so many bytes and the rest
+pub cut_number : (l : List ℕ) (from count : ℕ) → AreBytes l → from + count ≤ length l → drop from l ≡ spelled count (number l from count) ++ drop (from + count) l
+cut_number l from count bytes long =
+    let spells : spelled count (number l from count) ≡ field l from count =
+    ap (λ (k : ℕ). spelled k (number l from count)) (sym (length-field l from count long)) ∙ spelled-big_endian (field l from count) (bytes_of_field l from count bytes) in
+    take-field l from count ∙ ap (λ m. m ++ drop (from + count) l) (sym spells)
+
+-- what is behind a place is a byte and the rest
+pub cut_byte : (l : List ℕ) (from : ℕ) → from + 1 ≤ length l → drop from l ≡ byte l from ∷ drop (from + 1) l
+cut_byte l from long = drop_more l from 0 (omega arith)
+
+-- a number of so many bytes fits them
+pub number_fits : (l : List ℕ) (from count : ℕ) → AreBytes l → from + count ≤ length l → number l from count < 256 ^ count
+number_fits l from count bytes long =
+    subst (λ (k : ℕ). number l from count < 256 ^ k) (length-field l from count long) (big_endian-fits (field l from count) (bytes_of_field l from count bytes))
 
 -- the same as a test of each
 pub all_bytes : (l : List ℕ) → AreBytes l → AllPass (λ b. ltb b 256) l

@@ -1,3 +1,4 @@
+pub mod SeenLemmas
 pub mod Depots
 pub mod LayoutLemmas
 pub mod PlaceLemmas

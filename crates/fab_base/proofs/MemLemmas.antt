@@ -1,15 +1,15 @@
 -- What a change at one name's place keeps of a depot in memory.
-use Rattle.std.proofs.Common.{◌≡◌, ◌≢◌, ℕ, zero, suc, ◌+◌, ◌<◌, ◌≤◌, List, [], ◌∷◌, ◌++◌, length, length-append, length-drop, OnSome, get_or, set, slice_get, slice_index, drop, take, Option, Some, None, Ok, Err, true, false, Bool, IsTrue, is_some, is_none, refl, sym, ◌∙◌, ap, subst, arith, String, Vec, string_bytes, inl, inr, ◌⊎◌}
+use Rattle.std.proofs.Common.{◌≡◌, ◌≢◌, ℕ, zero, suc, ◌+◌, ◌<◌, ◌≤◌, List, [], ◌∷◌, ◌++◌, length, length-drop, OnSome, get_or, set, slice_get, slice_index, drop, take, Option, Some, None, Ok, true, false, Bool, IsTrue, is_some, is_none, refl, sym, ◌∙◌, ap, subst, arith, String, Vec, inl, inr, ◌⊎◌}
 use Rattle.std.proofs.lemmas.Option.{slice_get_past}
 use Rattle.std.proofs.lemmas.List.{take_all, take_at, length-take-le, take-append-drop, drop-drop}
 use Rattle.std.specs.declared.alloc.Global.{Global}
 use Rattle.fab_base.specs.declared.desk.DeskSlot.{DeskSlot}
 use Rattle.fab_base.specs.declared.desk.Desk.{Desk}
-use Rattle.fab_base.specs.Seen.{Seen, Keeps, SameFiles, Reads, Rose, OpensIn, OpensOut, Fetches, Puts, bytes_of}
+use Rattle.fab_base.specs.Seen.{Keeps, Reads, Rose, OpensIn, OpensOut, Puts, bytes_of}
 use Rattle.fab_base.specs.Places.{place, name_at, slot_file, slot_at, is_input, is_output}
 use Rattle.fab_base.specs.Contents.{content_at, content_in, content_bytes}
-use Rattle.fab_base.specs.Desk.{place_of, input, output, file_of, at_of, name, count_at, one_more, Stays, KeepsCounts, Adds, KeepsAll}
-use Rattle.fab_base.specs.MemDepot.{seen_of, seen_by, left_by, CountsReads, CountsWrites, Learns}
+use Rattle.fab_base.specs.Desk.{place_of, input, output, file_of, at_of, name, count_at, one_more, Stays, KeepsCounts}
+use Rattle.fab_base.specs.MemDepot.{seen_of, left_by, CountsReads, CountsWrites}
 use Rattle.fab_base.proofs.PlaceLemmas.{place_at}
 
 -- a slot that is an input, or an output, is one of the slots

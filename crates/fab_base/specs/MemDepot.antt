@@ -1,5 +1,5 @@
 -- A depot in memory, as contracts see it.
-use Rattle.std.specs.Prelude.{◌≡◌, ◌≢◌, ℕ, ◌+◌, ◌-◌, ◌^◌, min, Bool, true, false, ◌==◌, IsTrue, if◌then◌else◌, List, [], length, Option, None, Some, Vec, drop, is_some, String}
+use Rattle.std.specs.Prelude.{◌≡◌, ◌≢◌, ℕ, Bool, true, false, ◌==◌, IsTrue, if◌then◌else◌, List, [], Option, None, Vec, drop, is_some, String}
 use Rattle.std.specs.List.{list_any}
 use Rattle.std.specs.declared.alloc.Global.{Global}
 use Rattle.fab_base.specs.declared.desk.Desk.{Desk}
@@ -8,7 +8,7 @@ use Rattle.fab_base.specs.declared.mem_depot.MemDepot.{MemDepot}
 use Rattle.fab_base.specs.Seen.{Seen, IsOpen, SameSlot, bytes_of}
 use Rattle.fab_base.specs.Contents.{content_in, content_at}
 use Rattle.fab_base.specs.Places.{place, name_at, slot_file, slot_at, is_input, is_output}
-use Rattle.fab_base.specs.Desk.{place_of, knows, input, output, name, file_of, at_of, count_at, one_more}
+use Rattle.fab_base.specs.Desk.{count_at, one_more}
 use Rattle.std.specs.Prelude.{slice_get}
 
 -- what is left of a slot over these contents

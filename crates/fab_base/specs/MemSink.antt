@@ -1,5 +1,5 @@
 -- A sink in memory, as contracts see it.
-use Rattle.std.specs.Prelude.{ℕ, true, List}
+use Rattle.std.specs.Prelude.{ℕ, true}
 use Rattle.fab_base.specs.declared.mem_sink.MemSink.{MemSink}
 use Rattle.fab_base.specs.Sunk.{Sunk}
 

@@ -1,5 +1,5 @@
 -- What contracts see of a depot: which names it knows, its slots, its files, and its counts of faults.
-use Rattle.std.specs.Prelude.{◌≡◌, ◌≢◌, ℕ, ◌+◌, ◌-◌, ◌^◌, ◌≤◌, ◌<◌, min, Bool, true, false, IsTrue, ◌⊎◌, List, [], ◌∷◌, ◌++◌, length, take, drop, Option, None, Some, Result, IfOk, OnOk, OnErr}
+use Rattle.std.specs.Prelude.{◌≡◌, ◌≢◌, ℕ, ◌+◌, ◌-◌, ◌^◌, ◌≤◌, ◌<◌, min, Bool, false, IsTrue, ◌⊎◌, List, [], ◌++◌, length, take, Option, None, Some, Result, IfOk, OnOk, OnErr}
 
 -- A depot at a moment. What `file` and `left` say means something only where it tells.
 pub record Seen : Type 0 where
@@ -54,6 +54,27 @@ SameFiles old new = (m : List ℕ) → new.file m ≡ old.file m
 pub record Reads (name : List ℕ) (old new : Seen) : Type 0 where
   pub keeps : Keeps name old new
   pub files : SameFiles old new
+
+-- What calls keep that may change files of some names, and count faults of some: what is told, the known names, all open
+-- slots; every other file, rest and count. No count falls.
+pub record Touches (may counted : List ℕ → Type 0) (old new : Seen) : Type 0 where
+  pub told : new.told ≡ old.told
+  pub knows : (m : List ℕ) → new.knows m ≡ old.knows m
+  pub slots : (s : ℕ) → IsOpen old s → SameSlot s old new
+  pub files : (m : List ℕ) → ¬ may m → new.file m ≡ old.file m
+  pub left : (s : ℕ) → IsTrue (old.input s) → ¬ counted (old.name s) → new.left s ≡ old.left s
+  pub reads : (m : List ℕ) → ¬ counted m → new.read_faults m ≡ old.read_faults m
+  pub writes : (m : List ℕ) → ¬ counted m → new.write_faults m ≡ old.write_faults m
+  pub reads_rise : (m : List ℕ) → old.read_faults m ≤ new.read_faults m
+  pub writes_rise : (m : List ℕ) → old.write_faults m ≤ new.write_faults m
+
+-- no name
+abbrev pub Nothing : List ℕ → Type 0
+Nothing m = ⊥
+
+-- this name alone
+abbrev pub Only : List ℕ → List ℕ → Type 0
+Only name m = m ≡ name
 
 -- Opening an input gives a new slot with that name, whose bytes to give are the file. It fails only where a fault of
 -- reading was counted.

@@ -1,5 +1,5 @@
 -- What contracts see of a sink.
-use Rattle.std.specs.Prelude.{◌≡◌, ℕ, ◌<◌, ◌≤◌, Bool, IsTrue, List, ◌++◌, length, take, Result, IfOk, OnOk, OnErr}
+use Rattle.std.specs.Prelude.{◌≡◌, ℕ, ◌≤◌, Bool, IsTrue, List, ◌++◌, length, take, Result, IfOk, OnOk, OnErr}
 use Rattle.fab_base.specs.Seen.{Rose}
 
 -- A sink at a moment. What was written means something only where it tells.

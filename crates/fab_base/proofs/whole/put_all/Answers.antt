@@ -1,4 +1,4 @@
-use Rattle.std.proofs.Common.{arith, length-drop, length}
+use Rattle.std.proofs.Common.{arith, length-drop}
 use Rattle.fab_base.proofs.Depots.{put_step}
 use Rattle.fab_base.proofs.whole.put_all.Goals as goal
 

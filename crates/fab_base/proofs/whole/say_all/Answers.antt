@@ -1,6 +1,5 @@
 use Rattle.std.proofs.Common.{◌∙◌, ◌++◌, ◌-◌, sym, ap, subst, arith, append_assoc, length, length-drop, take, drop, IsTrue}
 use Rattle.std.proofs.lemmas.List.{take_rest}
-use Rattle.fab_base.specs.Sunk.{Sinks}
 use Rattle.fab_base.proofs.Depots.{take-sum}
 use Rattle.fab_base.proofs.whole.say_all.Goals as goal
 

@@ -1,4 +1,4 @@
-use Rattle.std.proofs.Common.{◌≡◌, ◌∙◌, sym, ap, Some, arith}
+use Rattle.std.proofs.Common.{◌∙◌, sym, ap, Some, arith}
 use Rattle.fab_base.specs.Contents.{content_in, content_bytes}
 use Rattle.fab_base.proofs.MemLemmas.{content_read}
 use Rattle.fab_base.proofs.mem_depot.MemDepot.content.Goals as goal

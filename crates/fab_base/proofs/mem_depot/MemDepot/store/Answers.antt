@@ -1,4 +1,4 @@
-use Rattle.std.proofs.Common.{◌≡◌, ◌∙◌, sym, ap, Some}
+use Rattle.std.proofs.Common.{◌∙◌, ap, Some}
 use Rattle.fab_base.proofs.KnowLemmas.{stored_learns, stored_file}
 use Rattle.fab_base.proofs.mem_depot.MemDepot.store.Goals as goal
 

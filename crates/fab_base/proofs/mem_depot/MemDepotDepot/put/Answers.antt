@@ -1,4 +1,4 @@
-use Rattle.std.proofs.Common.{◌≡◌, ◌∙◌, Some, Ok, sym, ap, subst, refl, length}
+use Rattle.std.proofs.Common.{◌≡◌, ◌∙◌, Some, Ok, sym, ap, subst, refl}
 use Rattle.fab_base.specs.Seen.{Puts}
 use Rattle.fab_base.specs.Desk.{place_of, name}
 use Rattle.fab_base.specs.MemDepot.{mem_seen}
