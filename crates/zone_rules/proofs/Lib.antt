@@ -1,3 +1,4 @@
+pub mod ChangeLemmas
 pub mod JoinLemmas
 pub mod SetLemmas
 pub mod WalkLemmas

@@ -1,4 +1,4 @@
-// For each name the places of the zones that list it, in ascending order.
+//! For each name the places of the zones that list it, in ascending order.
 ghost use Rattle.std.specs.Prelude.{◌≡◌, ◌==◌, ◌++◌, ◌∷◌, [], ℕ, IfOk, OnOk, if◌then◌else◌};
 ghost use Rattle.zone_rules.specs.Index.{listed, occurrences, IsIndex};
 
@@ -32,7 +32,8 @@ fn add_zone(
     members: &NameList,
     place: u64,
 ) -> Result<(), NoMemory>
-    ensures { OnOk result ((x : ℕ) → listed places.new x ≡ listed places.old x ++ occurrences x place members.now) }
+    ensures { OnOk result ((x : ℕ) → listed places.new x
+        ≡ listed places.old x ++ occurrences x place members.now) }
 {
     for index in 0..members.len() {
         add(alloc, places, members.at(index).unwrap().0, place)?;
@@ -42,7 +43,8 @@ fn add_zone(
 
 // Adds a place for a name.
 fn add(alloc: Global, places: &mut Places, name: u64, place: u64) -> Result<(), NoMemory>
-    ensures { OnOk result ((x : ℕ) → listed places.new x ≡ (if name == x then listed places.old x ++ place ∷ [] else listed places.old x)) }
+    ensures { OnOk result ((x : ℕ) → listed places.new x
+        ≡ (if name == x then listed places.old x ++ place ∷ [] else listed places.old x)) }
 {
     let Ok(entry) = places.entry(name) else {
         return Err(NoMemory);

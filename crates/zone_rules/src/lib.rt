@@ -1,7 +1,6 @@
 //! Which names are joined by a zone, and when that changes.
 #![tactic(auto)]
 
-mod copies;
 mod index;
 mod sets;
 mod zones;

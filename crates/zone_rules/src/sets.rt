@@ -1,4 +1,4 @@
-// For each zone set the places that it names, which are looked up by their hashes.
+//! For each zone set the places that it names, which are looked up by their hashes.
 ghost use Rattle.std.specs.Prelude.{◌≡◌, ℕ, nat_eq, IfOk};
 ghost use Rattle.std.specs.HashSet.{contains};
 ghost use Rattle.zone_rules.specs.Joined as spec;
@@ -24,7 +24,8 @@ pub(crate) fn places_of_sets(alloc: Global, sets: &SetList) -> Result<SetPlaces,
 
 // These places as a set.
 fn hashed(alloc: Global, places: &PlaceList) -> Result<HashSet<u64>, NoMemory>
-    ensures { IfOk result (λ s. (place : ℕ) → contains nat_eq s place ≡ spec.contains place places.now) }
+    ensures { IfOk result (λ s. (place : ℕ) → contains nat_eq s place
+        ≡ spec.contains place places.now) }
 {
     let mut set = HashSet::new(alloc);
     for index in 0..places.len() {

@@ -1,11 +1,11 @@
-// Zones, of which those of one zone set are active at a time.
-ghost use Rattle.std.specs.Prelude.{◌≡◌, ◌==◌, ◌&&◌, ℕ, Some, IfOk};
+//! Zones, of which those of one zone set are active at a time.
+ghost use Rattle.std.specs.Prelude.{◌≡◌, ◌==◌, ◌&&◌, ℕ, Some, IfOk, IsTrue};
 ghost use Rattle.std.specs.List.{list_any};
 ghost use Rattle.zone_rules.specs.Joined as spec;
 ghost use Rattle.zone_rules.specs.Index.{Ascends, is_active_by};
+ghost use Rattle.fab_config.specs.Settings.{do_rise};
 ghost use Rattle.zone_rules.specs.Rules.{ZoneRules};
 
-use crate::copies::{copy_activations, copy_sets, copy_zones};
 use crate::index::{Places, index_of, places_of};
 use crate::sets::{SetPlaces, places_of_sets};
 use fab_base::{Moment, NoMemory, Wwn};
@@ -13,12 +13,14 @@ use fab_config::{ActivationList, SetList, ZoneList};
 use std::alloc::Global;
 use std::cmp::Ordering;
 use std::marker::Model;
+use std::snapshot::Snapshot;
 
-/// The zones, zone sets and activations of a configuration, with an index of the names and one of the sets.
+/// The activations of a configuration, with an index of the names that its zones list and one
+/// of its zone sets. The zones and the zone sets themselves are read by contracts alone.
 #[derive(Drop)]
 pub struct Zones {
-    zones: ZoneList,
-    sets: SetList,
+    zones: Snapshot<ZoneList>,
+    sets: Snapshot<SetList>,
     activations: ActivationList,
     places: Places,
     set_places: SetPlaces,
@@ -30,25 +32,33 @@ impl Model for Zones {
 
     ghost Value = { ZoneRules };
 
-    ghost view = { λ z. record { zones = z.zones; sets = z.sets; activations = z.activations } };
+    ghost view = { λ z. record {
+      zones = z.zones.value;
+      sets = z.sets.value;
+      activations = z.activations;
+    } };
 
-    ghost invariant = { λ z. KeepsIndex z.places z.set_places z.zones z.sets };
+    ghost invariant = { λ z. KeepsIndex z.places z.set_places z.zones.value z.sets.value };
 }
 
 impl Zones {
-    /// The zones of these lists, which are copied. The moments of a configuration rise, so that the last activation up to
-    /// a moment is the latest.
+    /// The zones of these lists, of which the activations alone are copied. The moments of a
+    /// configuration rise, so that the last activation up to a moment is the latest.
     pub fn build(
         alloc: Global,
         list: &ZoneList,
         sets: &SetList,
         activations: &ActivationList,
     ) -> Result<Zones, NoMemory>
-        ensures { IfOk result (λ z. z ≡ record { zones = list.now; sets = sets.now; activations = activations.now }) }
+        ensures { IfOk result (λ z. z ≡ record {
+          zones = list.now;
+          sets = sets.now;
+          activations = activations.now;
+        }) }
     {
         Ok(Zones {
-            zones: copy_zones(alloc, list)?,
-            sets: copy_sets(alloc, sets)?,
+            zones: Snapshot::of(list),
+            sets: Snapshot::of(sets),
             activations: copy_activations(alloc, activations)?,
             places: index_of(alloc, list)?,
             set_places: places_of_sets(alloc, sets)?,
@@ -69,18 +79,27 @@ impl Zones {
         has_active_of_both(&self.set_places, set, of_x, of_y)
     }
 
-    /// The moment of the first activation above this one, which is the least where the moments rise.
+    /// The moment of the first activation above this one.
     pub fn next_change(&self, after: Moment) -> Option<Moment>
-        ensures { result ≡ spec.next_change self.now.activations after }
+        ensures first { result ≡ spec.next_change self.now.activations after }
+        ensures least { IsTrue (do_rise self.now.activations)
+            → spec.IsNextChange self.now.activations after result }
     {
-        for index in 0..self.activations.len() {
-            let activation = self.activations.at(index).unwrap();
-            if value(activation.moment) > value(after) {
-                return Some(activation.moment);
-            }
-        }
-        None
+        first_change(&self.activations, after)
     }
+}
+
+// The moment of the first activation above this one.
+fn first_change(activations: &ActivationList, after: Moment) -> Option<Moment>
+    ensures { result ≡ spec.next_change activations.now after }
+{
+    for index in 0..activations.len() {
+        let activation = activations.at(index).unwrap();
+        if value(activation.moment) > value(after) {
+            return Some(activation.moment);
+        }
+    }
+    None
 }
 
 // The milliseconds of a moment.
@@ -94,7 +113,8 @@ fn value(moment: Moment) -> u64
 fn has_active_of_both(sets: &SetPlaces, set: Option<u32>, of_x: &[u64], of_y: &[u64]) -> bool
     requires of_x { Ascends 0 of_x.now }
     requires of_y { Ascends 0 of_y.now }
-    ensures { result ≡ list_any (λ p. list_any (λ q. p == q) of_y.now && is_active_by sets.now set p) of_x.now }
+    ensures { result
+        ≡ list_any (λ p. list_any (λ q. p == q) of_y.now && is_active_by sets.now set p) of_x.now }
 {
     let mut xs = of_x;
     let mut ys = of_y;
@@ -142,4 +162,14 @@ fn active_set(activations: &ActivationList, at: Moment) -> Option<u32>
         }
     }
     found
+}
+
+fn copy_activations(alloc: Global, activations: &ActivationList) -> Result<ActivationList, NoMemory>
+    ensures { IfOk result (λ l. l ≡ activations.now) }
+{
+    let mut copy = ActivationList::new(alloc)?;
+    for index in 0..activations.len() {
+        copy.push(alloc, *activations.at(index).unwrap())?;
+    }
+    Ok(copy)
 }

@@ -1,17 +1,8 @@
-use Rattle.std.proofs.Common.{◌∙◌, refl, sym, ap, arith}
-use Rattle.std.specs.Option.{option_copied}
+use Rattle.std.proofs.Common.{◌∙◌, ap}
 use Rattle.zone_rules.specs.Joined.{next_change}
 use Rattle.zone_rules.specs.Rules.{ZoneRules}
-use Rattle.zone_rules.proofs.JoinLemmas.{change_here, change_later}
+use Rattle.zone_rules.proofs.ChangeLemmas.{first_is_least}
 use Rattle.zone_rules.proofs.zones.Zones.next_change.Goals as goal
 
-pub returns-then-value : goal.returns-then-value
-returns-then-value c =
-    change_here c.self.inside.activations c.loop-index.index c.unwrap-activation.result.now (sym c.at.ensures ∙ ap option_copied c.unwrap-activation.ensures) c.args.after c.args.after c.unwrap-activation.result.now.moment
-    refl refl (omega arith) c.loop-index.invariant
-    ∙ ap (λ (z : ZoneRules). next_change z.activations c.args.after) c.self.view_is
-
-pub loop-index-preserved : goal.loop-index-preserved
-loop-index-preserved c =
-    change_later c.self.inside.activations c.loop-index.index c.unwrap-activation.result.now (sym c.at.ensures ∙ ap option_copied c.unwrap-activation.ensures) c.args.after c.args.after c.unwrap-activation.result.now.moment
-    refl refl (omega arith) c.loop-index.invariant
+pub returns-clause-least : goal.returns-clause-least
+returns-clause-least c = first_is_least c.args.self.now.activations c.args.after _ (c.first_change.ensures ∙ ap (λ (z : ZoneRules). next_change z.activations c.args.after) c.self.view_is)

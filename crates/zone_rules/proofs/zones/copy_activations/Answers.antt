@@ -1,7 +1,7 @@
 use Rattle.std.proofs.Common.{◌∙◌, ◌++◌, [], ◌∷◌, sym, ap}
 use Rattle.std.specs.Option.{option_copied}
 use Rattle.zone_rules.proofs.JoinLemmas.{take_slice}
-use Rattle.zone_rules.proofs.copies.copy_activations.Goals as goal
+use Rattle.zone_rules.proofs.zones.copy_activations.Goals as goal
 
 pub loop-index-preserved : goal.loop-index-preserved
 loop-index-preserved c =
