@@ -30,7 +30,6 @@ use Rattle.fab_policy.specs.declared.verdict.Verdict.TheVariants.{Vlans, Adverti
 use Rattle.fab_policy.specs.declared.verdict.Rule.TheVariants as rule
 use Rattle.fab_policy.proofs.JudgeLemmas.{so_far_is, heard_is}
 use Rattle.fab_policy.proofs.StageLemmas.{frame_rows}
-use Rattle.fab_policy.proofs.Steps.{same_bytes_self}
 
 -- ---- bytes
 
@@ -47,6 +46,10 @@ same_is (x ∷ l) (y ∷ m) e =
     let head : x ≡ y = eqb-true x y (and-left (x == y) (same_bytes l m) e) in
     let tail : l ≡ m = same_is l m (and-right (x == y) (same_bytes l m) e) in
     cc
+
+same_bytes_self : (xs : List ℕ) → same_bytes xs xs ≡ true
+same_bytes_self [] = refl
+same_bytes_self (x ∷ xs) = grind (arith, common_steps, nat_tests, same_bytes_self xs)
 
 is_same : (l m : List ℕ) → l ≡ m → same_bytes l m ≡ true
 is_same l m e = subst (λ n. same_bytes l n ≡ true) e (same_bytes_self l)

@@ -2,11 +2,12 @@
 use Rattle.std.proofs.Common.{◌≡◌, ℕ, zero, suc, ◌+◌, ◌*◌, ◌<◌, ◌≤◌, ◌⊎◌, inl, inr, Bool, true, false, ◌||◌, ◌==◌, cond, List, [], ◌∷◌, Option, Some, None, refl, sym, ap, subst, ◌∙◌, arith, filter, filter_map, option_and_then, unwrap_or, if◌then◌else◌}
 use Rattle.std.proofs.lemmas.Bool.Decides.{nat_tests}
 use Rattle.std.specs.List.{cons_option}
+use Rattle.fab_base.specs.Fabric.{is_silent, PORT_PERIOD}
 use Rattle.fab_config.specs.Settings.{Settings}
 use Rattle.zone_rules.specs.Joined.{contains}
 use Rattle.fab_policy.specs.Journal.{Journal, now}
 use Rattle.fab_policy.specs.Logins.{counting, grants, ends, n_port, hears_node, hears_port}
-use Rattle.fab_policy.specs.State.{LivePort, live_port, is_overdue, is_silent, PORT_PERIOD, addresses}
+use Rattle.fab_policy.specs.State.{LivePort, live_port, is_overdue, addresses}
 use Rattle.fab_policy.specs.Steps.{AreAscending, touched, fresh}
 use Rattle.fab_policy.specs.Legal.{Legal}
 use Rattle.fab_policy.specs.Written.{TablesAscend, LegalIsQuiet}

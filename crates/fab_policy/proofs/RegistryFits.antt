@@ -3,15 +3,11 @@
 use Rattle.std.proofs.Common.{◌≡◌, ℕ, zero, suc, ◌+◌, ◌<◌, true, List, [], ◌∷◌, length, set, replicate, Option, Some, None, refl, sym, ◌∙◌, ap, arith, zero-add}
 use Rattle.std.proofs.lemmas.Bool.Decides.{nat_tests}
 use Rattle.ct_messages.specs.Ct.{Ask, NextOf, PortNameOf, NodeNameOf, TypesOf, FeaturesOf, ByPortName, AddressesOfType, PortNamesOfType, NodeNamesOfType, AddressesOfPortType, SetNode, SetTypes, SetSymbol, SetFeature, SetNodeSymbol, Erase, Unknown}
-use Rattle.ct_messages.specs.Server.{Values, NO_FEATURES, first_values, is_registration}
+use Rattle.ct_messages.specs.Server.{Values, NO_FEATURES, is_registration}
 use Rattle.ct_messages.specs.Server as server
-use Rattle.fab_policy.specs.Fits.{HasByte}
-use Rattle.fab_policy.specs.Logins.{NPort}
-use Rattle.fab_policy.specs.Queries.{values_of}
-use Rattle.fab_policy.specs.Registered.{registration, says_node, says_types, says_feature, says_symbol, says_node_symbol}
-use Rattle.fab_policy.specs.State.{LivePort}
-use Rattle.fab_policy.specs.Steps.{fresh, said, features_after, touched}
-use Rattle.fab_policy.specs.declared.event.Event.{Event}
+use Rattle.fab_policy.specs.Fits.{HasByte, RegistrationsFit, LoginsFit}
+use Rattle.fab_policy.specs.Registered.{says_feature}
+use Rattle.fab_policy.specs.Steps.{features_after, values_after}
 
 -- ---- features
 
@@ -34,45 +30,33 @@ features_set a feature kind t (suc i) (f ∷ fs) place within = grind (arith, na
 
 -- ---- all values
 
--- the values after a registration that may be there
-abbrev said_values : Option Ask → LivePort → Values
-said_values asked p = record {
-  node_name = said asked (says_node p.node) p.node_name;
-  types = said asked says_types p.types;
-  features = features_after asked 0 p.features;
-  symbol = said asked says_symbol p.symbol;
-  node_symbol = said asked says_node_symbol p.node_symbol;
-}
-
 with_features : (v : Values) (fs : List ℕ) → v.features ≡ fs → v ≡ record v { features = fs }
 with_features v fs is = ap (λ l. record v { features = l }) is
 
-by_ask : (ask : Ask) (p : LivePort) → is_registration ask ≡ true → HasByte ask → length p.features ≡ 256 → said_values (Some ask) p ≡ server.after p.node ask (values_of p)
+by_ask : (first : ℕ) (ask : Ask) (v : Values) → is_registration ask ≡ true → HasByte ask → length v.features ≡ 256 → values_after first (Some ask) v ≡ server.after first ask v
 unfolding NO_FEATURES
-by_ask (SetNode a name) p kind_is byte long = with_features _ _ (features_same (SetNode a name) (λ t. refl) 0 p.features)
-by_ask (SetTypes a types) p kind_is byte long = with_features _ _ (features_same (SetTypes a types) (λ t. refl) 0 p.features)
-by_ask (SetSymbol a symbol) p kind_is byte long = with_features _ _ (features_same (SetSymbol a symbol) (λ t. refl) 0 p.features)
-by_ask (SetNodeSymbol name symbol) p kind_is byte long = with_features _ _ (features_same (SetNodeSymbol name symbol) (λ t. refl) 0 p.features)
-by_ask (SetFeature a feature kind) p kind_is byte long = with_features _ _ (features_set a feature kind 0 kind p.features (sym (zero-add kind)) (omega (arith, byte, long)))
-by_ask (Erase a) p kind_is byte long = with_features _ _ (features_erased a 0 p.features ∙ ap (λ n. replicate n 0) long)
-by_ask (NextOf a) p kind_is byte long = absurd cc
-by_ask (PortNameOf a) p kind_is byte long = absurd cc
-by_ask (NodeNameOf a) p kind_is byte long = absurd cc
-by_ask (TypesOf a) p kind_is byte long = absurd cc
-by_ask (FeaturesOf a) p kind_is byte long = absurd cc
-by_ask (ByPortName name) p kind_is byte long = absurd cc
-by_ask (AddressesOfType kind) p kind_is byte long = absurd cc
-by_ask (PortNamesOfType kind) p kind_is byte long = absurd cc
-by_ask (NodeNamesOfType kind) p kind_is byte long = absurd cc
-by_ask (AddressesOfPortType kind) p kind_is byte long = absurd cc
-by_ask (Unknown command) p kind_is byte long = absurd cc
+by_ask first (SetNode a name) v kind_is byte long = with_features _ _ (features_same (SetNode a name) (λ t. refl) 0 v.features)
+by_ask first (SetTypes a types) v kind_is byte long = with_features _ _ (features_same (SetTypes a types) (λ t. refl) 0 v.features)
+by_ask first (SetSymbol a symbol) v kind_is byte long = with_features _ _ (features_same (SetSymbol a symbol) (λ t. refl) 0 v.features)
+by_ask first (SetNodeSymbol name symbol) v kind_is byte long = with_features _ _ (features_same (SetNodeSymbol name symbol) (λ t. refl) 0 v.features)
+by_ask first (SetFeature a feature kind) v kind_is byte long = with_features _ _ (features_set a feature kind 0 kind v.features (sym (zero-add kind)) (omega (arith, byte, long)))
+by_ask first (Erase a) v kind_is byte long = with_features _ _ (features_erased a 0 v.features ∙ ap (λ n. replicate n 0) long)
+by_ask first (NextOf a) v kind_is byte long = absurd cc
+by_ask first (PortNameOf a) v kind_is byte long = absurd cc
+by_ask first (NodeNameOf a) v kind_is byte long = absurd cc
+by_ask first (TypesOf a) v kind_is byte long = absurd cc
+by_ask first (FeaturesOf a) v kind_is byte long = absurd cc
+by_ask first (ByPortName name) v kind_is byte long = absurd cc
+by_ask first (AddressesOfType kind) v kind_is byte long = absurd cc
+by_ask first (PortNamesOfType kind) v kind_is byte long = absurd cc
+by_ask first (NodeNamesOfType kind) v kind_is byte long = absurd cc
+by_ask first (AddressesOfPortType kind) v kind_is byte long = absurd cc
+by_ask first (Unknown command) v kind_is byte long = absurd cc
 
 -- an N_Port that registers has the values of the table
-pub values_after : (at a : ℕ) (e : Event) (p : LivePort) (ask : Ask) → registration a e ≡ Some ask → is_registration ask ≡ true → HasByte ask → length p.features ≡ 256 →
-    values_of (touched at a e p) ≡ server.after p.node ask (values_of p)
-values_after at a e p ask is kind_is byte long = ap (λ asked. said_values asked p) is ∙ by_ask ask p kind_is byte long
+pub registered_after : RegistrationsFit
+registered_after at a e p ask is kind_is byte long = ap (λ asked. values_after p.node asked p.values) is ∙ by_ask p.node ask p.values kind_is byte long
 
 -- an N_Port that has just logged in has those of its login
-pub values_fresh : (at a : ℕ) (p : NPort) → values_of (fresh at a p) ≡ first_values p.node
-unfolding NO_FEATURES
+pub values_fresh : LoginsFit
 values_fresh at a p = refl

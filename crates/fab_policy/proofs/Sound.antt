@@ -4,11 +4,11 @@ use Rattle.std.proofs.lemmas.Bool.{cases_eq, or_parts, ne_eqb, eq-eqb, eqb-false
 use Rattle.std.proofs.lemmas.Bool.Decides.{nat_tests}
 use Rattle.std.specs.List.{list_any, cons_option}
 use Rattle.fab_base.specs.declared.values.Caught.{Caught}
-use Rattle.fab_base.specs.declared.values.Enode.{Enode}
-use Rattle.fab_config.specs.Settings.{Settings, same_bytes}
+use Rattle.fab_base.specs.Fabric.{same_enode}
+use Rattle.fab_config.specs.Settings.{Settings}
 use Rattle.fab_policy.specs.Journal.{Journal, now}
 use Rattle.fab_policy.specs.Heard.{sender, is_flogi, asked}
-use Rattle.fab_policy.specs.Logins.{counting, grants, ends, n_port, same_enode}
+use Rattle.fab_policy.specs.Logins.{counting, grants, ends, n_port}
 use Rattle.fab_policy.specs.State.{LivePort, Tables, tables_of, live_port}
 use Rattle.fab_policy.specs.Steps.{touched, fresh}
 use Rattle.fab_policy.specs.Legal.{Legal}
@@ -173,25 +173,12 @@ apart_without c e J g h a b p q la ra lb rb ne x y same =
     let other = stays b e J q (g b) y in
     h a b before.before other.before la ra lb rb ne before.there other.there (before.name ∙ same ∙ sym other.name)
 
--- ENodes are the same in either order
-same_number : (x y : ℕ) → (x == y) ≡ (y == x)
-same_number x y = grind (arith, nat_tests)
-
-same_bytes-sym : (xs ys : List ℕ) → same_bytes xs ys ≡ same_bytes ys xs
-same_bytes-sym [] [] = refl
-same_bytes-sym [] (y ∷ ys) = refl
-same_bytes-sym (x ∷ xs) [] = refl
-same_bytes-sym (x ∷ xs) (y ∷ ys) = ap (λ b. b && same_bytes xs ys) (same_number x y) ∙ ap (λ b. y == x && b) (same_bytes-sym xs ys)
-
-same_enode-sym : (x y : Enode) → same_enode x y ≡ same_enode y x
-same_enode-sym x y = ap (λ b. b && same_bytes x.mac y.mac) (same_number x.port y.port) ∙ ap (λ b. y.port == x.port && b) (same_bytes-sym x.mac y.mac)
-
 -- a login that a granted request doesn't end is one that stays
 left : (c : Settings) (T : Tables) (port : ℕ) (caught : Caught) (r : Request) (q : LivePort) → IsAllowed c T port caught r →
-    same_enode (sender port caught) q.enode && is_flogi caught ≡ false → not (r.flogi && same_enode q.enode r.enode) ≡ true
+    same_enode q.enode (sender port caught) && is_flogi caught ≡ false → not (r.flogi && same_enode q.enode r.enode) ≡ true
 left c T port caught r q h e =
     ap (λ b. not (b && same_enode q.enode r.enode)) h.kind ∙ ap (λ x. not (is_flogi caught && same_enode q.enode x)) h.enode
-    ∙ ap (λ b. not (is_flogi caught && b)) (same_enode-sym q.enode (sender port caught)) ∙ by_tests (same_enode (sender port caught) q.enode) (is_flogi caught) e
+    ∙ by_tests (same_enode q.enode (sender port caught)) (is_flogi caught) e
   where
     by_tests : (x y : Bool) → x && y ≡ false → not (y && x) ≡ true
     by_tests true true e = cc
@@ -208,8 +195,8 @@ new_name c J port index g caught r h b q l r' x e same =
     eqb-false q.name r.name fails_name (sym (h.name ∙ same))
 
 -- the granted address is another
-no_grant : (g a : ℕ) → a ≢ g → g == a ≡ false
-no_grant g a ne = ne_eqb g a (λ e. ne (sym e))
+no_grant : (g a : ℕ) → a ≢ g → a == g ≡ false
+no_grant g a ne = ne_eqb a g ne
 
 -- a right grant keeps names apart
 apart_with : (c : Settings) (J : Journal) (port index g : ℕ) (caught : Caught) (r : Request) → IsAllowed c (tables_of c J) port caught r → AreNamedApart c J → AreNamedApart c (Frame port index caught (Granted g) ∷ J)
@@ -222,7 +209,7 @@ apart_with c J port index g caught r allowed h a b p q la ra lb rb ne x y = by_c
     first_granted : (a b : ℕ) (p q : LivePort) → c.domain * 65536 + 256 ≤ b → b < c.domain * 65536 + 256 + c.pool → a ≡ g → b ≢ g → live_port a (e ∷ J) ≡ Some p → live_port b (e ∷ J) ≡ Some q → p.name ≢ q.name
     first_granted a b p q lb rb is ne x y same =
         let other = stays b e J q (no_grant g b ne) y in
-        let name = begins a e J p (eq-eqb g a (sym is)) x in
+        let name = begins a e J p (eq-eqb a g is) x in
         new_name c J port index g caught r allowed b other.before lb rb other.there other.not_ended (name ∙ same ∙ sym other.name)
 
     by_cases : (a ≡ g) ⊎ (a ≢ g) → (b ≡ g) ⊎ (b ≢ g) → p.name ≢ q.name

@@ -1,12 +1,13 @@
 -- In a legal journal an address is granted where nobody holds it, or is given back.
-use Rattle.std.proofs.Common.{◌≡◌, ℕ, zero, suc, ◌+◌, ◌*◌, ◌<◌, ◌≤◌, ◌⊎◌, inl, inr, Bool, true, false, ◌&&◌, ◌||◌, ◌-◌, ◌==◌, nat_lt, cond, Option, Some, None, refl, sym, ap, subst, ◌∙◌, arith, IsTrue, map, option_map, unwrap_or}
+use Rattle.std.proofs.Common.{◌≡◌, ℕ, zero, suc, ◌+◌, ◌*◌, ◌<◌, ◌≤◌, ◌⊎◌, inl, inr, Bool, true, false, ◌&&◌, ◌==◌, cond, Option, Some, None, refl, sym, ap, subst, ◌∙◌, arith, IsTrue, map, option_map, unwrap_or}
 use Rattle.std.proofs.lemmas.Bool.{and_parts, eqb-true}
+use Rattle.fab_base.specs.Fabric.{Past, past_at, may_have, same_enode}
 use Rattle.fab_base.specs.declared.values.Caught.{Caught}
 use Rattle.fab_config.specs.Settings.{Settings}
 use Rattle.fab_policy.specs.Journal.{Journal}
-use Rattle.fab_policy.specs.Logins.{NPort, counting, login, same_enode, last_grant, is_live, end_clock}
-use Rattle.fab_policy.specs.State.{LivePort, Past, tables_of, live_port, with_all, past_of, past_at, port_at, now_of}
-use Rattle.fab_policy.specs.Free.{Request, QUARANTINE, is_free, is_open}
+use Rattle.fab_policy.specs.Logins.{NPort, counting, login, last_grant, is_live, end_clock}
+use Rattle.fab_policy.specs.State.{LivePort, tables_of, live_port, with_all, past_of, port_at, now_of}
+use Rattle.fab_policy.specs.Free.{Request, is_free, is_open}
 use Rattle.fab_policy.specs.Sound.{GrantsAreFree, IsGrantable, IsGivenBack}
 use Rattle.fab_policy.proofs.Steps.{live_addressed, past_address, present}
 use Rattle.fab_policy.proofs.SoundGrants.{IsAllowed, granted_allowed}
@@ -43,10 +44,7 @@ held c J port caught r a x h le lt is open_ = by_login (login a J) refl (subst (
     opens : Option LivePort → Bool
     opens o = elim o as (λ _. Bool) [
       | Some p ↦ r.flogi && same_enode p.enode r.enode && p.name == r.name
-      | None ↦ elim x.name as (λ _. Bool) [
-        | None ↦ true
-        | Some name ↦ name == r.name || elim x.ended as (λ _. Bool) [ None ↦ false | Some t ↦ nat_lt QUARANTINE (now_of (tables_of c J) - t) ]
-      ]
+      | None ↦ may_have r.name (now_of (tables_of c J)) x.name x.ended
     ]
 
     found : port_at x.address (tables_of c J).ports ≡ option_map (with_all a J) (login a J)

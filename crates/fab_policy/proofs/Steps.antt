@@ -3,20 +3,24 @@ use Rattle.std.proofs.Common.{◌≡◌, ℕ, Bool, true, false, List, [], ◌�
 use Rattle.std.proofs.lemmas.Grind.{common_steps}
 use Rattle.std.proofs.lemmas.Bool.Decides.{nat_tests}
 use Rattle.std.specs.List.{list_any, cons_option}
+use Rattle.std.proofs.lemmas.Bool.{and_from}
+use Rattle.std.proofs.lemmas.Bool.Decides.{Decides-eqb}
+use Rattle.std.proofs.lemmas.Slice.Eq.{bytes_eq-Decides}
+use Rattle.std.specs.Str.{bytes_eq}
+use Rattle.fab_base.specs.Fabric.{Past, same_enode}
 use Rattle.fab_base.specs.declared.values.Enode.{Enode}
 use Rattle.fab_policy.specs.Journal.{Journal, latest, now, clock}
 use Rattle.ct_messages.specs.Ct.{Ask}
 use Rattle.ct_messages.specs.declared.TypeMap.{TypeMap}
-use Rattle.fab_policy.specs.Registered.{newest, node_name, types, symbol, node_symbol, feature, registrations, registration, says_node, says_types, says_feature, says_symbol, says_node_symbol}
-use Rattle.ct_messages.specs.Server.{NO_TYPES}
-use Rattle.fab_policy.specs.State.{LivePort, Past, Tables, with_all, live_port, past_of, past_made, port_at, tables_of}
+use Rattle.ct_messages.specs.Server.{Values, NO_TYPES, NO_FEATURES, first_values}
+use Rattle.fab_policy.specs.Registered.{newest, feature, values, registrations, registration, says_node, says_types, says_feature, says_symbol, says_node_symbol}
+use Rattle.fab_policy.specs.State.{LivePort, Tables, with_all, live_port, past_of, past_made, port_at, tables_of}
 use Rattle.fab_policy.specs.Logins.{NPort, login, is_live, end_clock, up_to_end, pool, grants, n_port, ends, last_grant, since, counting, server, watch, says_server, says_watch, node_heard, port_heard, hears_node, hears_port}
-use Rattle.fab_policy.specs.Steps.{login_after, StepsLogin, said, features_after, touched, fresh, port_after, past_after, clock_after, after, Steps}
+use Rattle.fab_policy.specs.Steps.{login_after, StepsLogin, said, features_after, values_after, touched, fresh, port_after, past_after, clock_after, after, Steps}
 use Rattle.fab_policy.specs.declared.event.Event.{Event}
 use Rattle.fab_policy.specs.declared.event.Event.TheVariants.{Tick, Frame}
 use Rattle.fab_policy.specs.declared.verdict.Verdict.TheVariants.{Granted}
-use Rattle.fab_policy.specs.Heard.{source}
-use Rattle.fab_config.specs.Settings.{same_bytes}
+use Rattle.fab_policy.specs.Heard.{sender}
 
 -- a login that stood is left where neither an earlier entry nor this one ended it
 kept : (a : ℕ) (e : Event) (s : List Event) (g : Option NPort) →
@@ -53,6 +57,18 @@ features_step asked asks (suc n) k = cong2 (newest_step (says_feature k) asked a
     cong2 : {x y : ℕ} {xs ys : List ℕ} → x ≡ y → xs ≡ ys → x ∷ xs ≡ y ∷ ys
     cong2 e f = cc
 
+same_values : {n n' : ℕ} {t t' : TypeMap} {f f' s s' y y' : List ℕ} → n ≡ n' → t ≡ t' → f ≡ f' → s ≡ s' → y ≡ y' →
+    (let v : Values = record { node_name = n; types = t; features = f; symbol = s; node_symbol = y } in v) ≡ record { node_name = n'; types = t'; features = f'; symbol = s'; node_symbol = y' }
+same_values e1 e2 e3 e4 e5 = cc
+
+values_step : (first : ℕ) (asked : Option Ask) (asks : List Ask) → values first (cons_option asked asks) ≡ values_after first asked (values first asks)
+values_step first asked asks = same_values (newest_step (says_node first) asked asks first) (newest_step says_types asked asks NO_TYPES) (features_step asked asks 256 0)
+    (newest_step says_symbol asked asks []) (newest_step says_node_symbol asked asks [])
+
+no_values : (first : ℕ) → values first [] ≡ first_values first
+unfolding NO_FEATURES
+no_values first = refl
+
 since_more : (a : ℕ) (e : Event) (J : Journal) → grants a e ≡ false → since a (e ∷ J) ≡ e ∷ since a J
 since_more a e J g = subst (λ b. elim b as (λ _. List Event) [ true ↦ [] | false ↦ e ∷ since a J ] ≡ e ∷ since a J) (sym g) refl
 
@@ -74,46 +90,35 @@ registrations_step : (a : ℕ) (e : Event) (J : Journal) → grants a e ≡ fals
 registrations_step a e J g = rw (since_more a e J g) refl
 
 -- N_Ports with equal parts are equal
-made : ℕ → NPort → Option ℕ → ℕ → ℕ → ℕ → ℕ → TypeMap → List ℕ → List ℕ → List ℕ → LivePort
-made a p sv nh ph wa nn ty fe sy ns = record {
+made : ℕ → NPort → Option ℕ → ℕ → ℕ → ℕ → Values → LivePort
+made a p server node_heard port_heard watch v = record {
   address = a;
   name = p.name;
   node = p.node;
   enode = p.enode;
-  server = sv;
-  node_heard = nh;
-  port_heard = ph;
-  watch = wa;
-  node_name = nn;
-  types = ty;
-  features = fe;
-  symbol = sy;
-  node_symbol = ns;
+  server = server;
+  node_heard = node_heard;
+  port_heard = port_heard;
+  watch = watch;
+  values = v;
 }
 
-same_made : (a : ℕ) (p : NPort) (sv sv' : Option ℕ) (nh nh' ph ph' wa wa' nn nn' : ℕ) (ty ty' : TypeMap) (fe fe' sy sy' ns ns' : List ℕ) →
-    sv ≡ sv' → nh ≡ nh' → ph ≡ ph' → wa ≡ wa' → nn ≡ nn' → ty ≡ ty' → fe ≡ fe' → sy ≡ sy' → ns ≡ ns' →
-    made a p sv nh ph wa nn ty fe sy ns ≡ made a p sv' nh' ph' wa' nn' ty' fe' sy' ns'
-same_made a p sv sv' nh nh' ph ph' wa wa' nn nn' ty ty' fe fe' sy sy' ns ns' e1 e2 e3 e4 e5 e6 e7 e8 e9 = cc
+same_made : (a : ℕ) (p : NPort) (sv sv' : Option ℕ) (nh nh' ph ph' wa wa' : ℕ) (v v' : Values) → sv ≡ sv' → nh ≡ nh' → ph ≡ ph' → wa ≡ wa' → v ≡ v' →
+    made a p sv nh ph wa v ≡ made a p sv' nh' ph' wa' v'
+same_made a p sv sv' nh nh' ph ph' wa wa' v v' e1 e2 e3 e4 e5 = cc
 
 stays : (a : ℕ) (e : Event) (J : Journal) (p : NPort) → grants a e ≡ false → with_all a (e ∷ J) p ≡ touched (now (e ∷ J)) a e (with_all a J p)
 unfolding made
-stays a e J p g = same_made a p _ _ _ _ _ _ _ _ _ _ _ _ _ _ _ _ _ _ (server_step a e J g) (node_step p.enode e J) (port_step a e J) (watch_step a e J g)
-    (of_asks (says_node p.node) p.node) (of_asks says_types NO_TYPES)
-    (ap (λ asks. map (λ t. feature t asks) (counting 0 256)) (registrations_step a e J g) ∙ features_step (registration a e) (registrations a J) 256 0)
-    (of_asks says_symbol []) (of_asks says_node_symbol [])
-  where
-    of_asks : {X : Type 0} → (says : Ask → Option X) (d : X) → unwrap_or (newest says (registrations a (e ∷ J))) d ≡ said (registration a e) says (unwrap_or (newest says (registrations a J)) d)
-    of_asks says d = ap (λ asks. unwrap_or (newest says asks) d) (registrations_step a e J g) ∙ newest_step says (registration a e) (registrations a J) d
+stays a e J p g = same_made a p _ _ _ _ _ _ _ _ _ _ (server_step a e J g) (node_step p.enode e J) (port_step a e J) (watch_step a e J g)
+    (ap (values p.node) (registrations_step a e J g) ∙ values_step p.node (registration a e) (registrations a J))
 
-pub same_bytes_self : (xs : List ℕ) → same_bytes xs xs ≡ true
-same_bytes_self [] = refl
-same_bytes_self (x ∷ xs) = grind (arith, common_steps, nat_tests, same_bytes_self xs)
+same_self : (x : Enode) → same_enode x x ≡ true
+same_self x = and_from (x.port == x.port) (bytes_eq x.mac x.mac) ((Decides-eqb x.port x.port).1 refl) ((bytes_eq-Decides x.mac x.mac).1 refl)
 
 -- an entry that grants an address hears its ENode and itself
 granted_heard : (a : ℕ) (e : Event) → grants a e ≡ true → (hears_node (n_port e).enode e ≡ true) × (hears_port a e ≡ true)
 granted_heard a (Tick m ended) g = cc
-granted_heard a (Frame port index caught (Granted b)) g = (grind (arith, common_steps, nat_tests, same_bytes_self (source caught)), g)
+granted_heard a (Frame port index caught (Granted b)) g = (same_self (sender port caught), g)
 granted_heard a (Frame port index caught _) g = cc
 
 since_grant : (a : ℕ) (e : Event) (J : Journal) → grants a e ≡ true → since a (e ∷ J) ≡ []
@@ -121,16 +126,12 @@ since_grant a e J g = subst (λ b. elim b as (λ _. List Event) [ true ↦ [] | 
 
 begins : (a : ℕ) (e : Event) (J : Journal) → grants a e ≡ true → with_all a (e ∷ J) (n_port e) ≡ fresh (now (e ∷ J)) a (n_port e)
 unfolding made
-begins a e J g = same_made a (n_port e) _ _ _ _ _ _ _ _ _ _ _ _ _ _ _ _ _ _
+begins a e J g = same_made a (n_port e) _ _ _ _ _ _ _ _ _ _
     (ap (λ s. unwrap_or (latest (says_server a) s) None) none)
     (node_step (n_port e).enode e J ∙ ap (λ b. if b then now (e ∷ J) else node_heard (n_port e).enode J) (granted_heard a e g).0)
     (port_step a e J ∙ ap (λ b. if b then now (e ∷ J) else port_heard a J) (granted_heard a e g).1)
     (ap (λ s. unwrap_or (latest (says_watch a) s) 0) none)
-    (ap (λ s. node_name (n_port e).node (filter_map (registration a) s)) none)
-    (ap (λ s. types (filter_map (registration a) s)) none)
-    (ap (λ s. map (λ t. feature t (filter_map (registration a) s)) (counting 0 256)) none)
-    (ap (λ s. symbol (filter_map (registration a) s)) none)
-    (ap (λ s. node_symbol (filter_map (registration a) s)) none)
+    (ap (λ s. values (n_port e).node (filter_map (registration a) s)) none ∙ no_values (n_port e).node)
   where
     none : since a (e ∷ J) ≡ []
     none = since_grant a e J g

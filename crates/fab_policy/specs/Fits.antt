@@ -4,7 +4,6 @@ use Rattle.ct_messages.specs.Ct.{Ask, SetFeature}
 use Rattle.ct_messages.specs.Server.{first_values, is_registration}
 use Rattle.ct_messages.specs.Server as server
 use Rattle.fab_policy.specs.Logins.{NPort}
-use Rattle.fab_policy.specs.Queries.{values_of}
 use Rattle.fab_policy.specs.Registered.{registration}
 use Rattle.fab_policy.specs.State.{LivePort}
 use Rattle.fab_policy.specs.Steps.{fresh, touched}
@@ -18,8 +17,8 @@ HasByte _ = Unit {0}
 -- An entry that registers something for an address gives its N_Port the values that the table gives.
 abbrev pub RegistrationsFit : Type 0
 RegistrationsFit = (at a : ℕ) (e : Event) (p : LivePort) (ask : Ask) → registration a e ≡ Some ask → is_registration ask ≡ true → HasByte ask →
-    length p.features ≡ 256 → values_of (touched at a e p) ≡ server.after p.node ask (values_of p)
+    length p.values.features ≡ 256 → (touched at a e p).values ≡ server.after p.node ask p.values
 
 -- An N_Port that has just logged in has the values that the table gives a login.
 abbrev pub LoginsFit : Type 0
-LoginsFit = (at a : ℕ) (p : NPort) → values_of (fresh at a p) ≡ first_values p.node
+LoginsFit = (at a : ℕ) (p : NPort) → (fresh at a p).values ≡ first_values p.node

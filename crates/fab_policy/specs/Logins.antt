@@ -1,9 +1,10 @@
 -- Who is logged in, since when, and what it did since (FC-LS-2, "Login"; FC-BB-5, "FIP FLOGI" and "FIP keep alive").
 use Rattle.std.specs.Prelude.{ℕ, zero, suc, ◌+◌, ◌*◌, Bool, true, false, not, ◌==◌, ◌&&◌, if◌then◌else◌, List, [], ◌∷◌, ◌++◌, Option, Some, None, is_some, unwrap_or, option_and_then}
 use Rattle.std.specs.List.{list_any}
+use Rattle.fab_base.specs.Fabric.{same_enode}
 use Rattle.fab_base.specs.Layout.{spelled}
 use Rattle.fab_base.specs.declared.values.Enode.{Enode}
-use Rattle.fab_config.specs.Settings.{Settings, same_bytes}
+use Rattle.fab_config.specs.Settings.{Settings}
 use Rattle.zone_rules.specs.Joined.{contains}
 use Rattle.els_messages.specs.Els.{receive_size}
 use Rattle.fab_policy.specs.Journal.{Journal, latest, up_to_last, after_last, now}
@@ -18,9 +19,6 @@ pub record NPort : Type 0 where
   pub node : ℕ
   pub enode : Enode
 
-abbrev pub same_enode : Enode → Enode → Bool
-same_enode x y = x.port == y.port && same_bytes x.mac y.mac
-
 -- the MAC that comes with an address: the FC-MAP and the address (FC-BB-5, "fabric-provided MAC address")
 abbrev pub granted_mac : Settings → ℕ → List ℕ
 granted_mac c a = spelled 3 c.fc_map ++ spelled 3 a
@@ -29,7 +27,7 @@ granted_mac c a = spelled 3 c.fc_map ++ spelled 3 a
 
 -- the entry grants the address
 abbrev pub grants : ℕ → Event → Bool
-grants a (Frame port index caught (Granted b)) = b == a
+grants a (Frame port index caught (Granted b)) = a == b
 grants a _ = false
 
 -- the N_Port of an entry's login request
@@ -45,8 +43,8 @@ last_grant a J = latest (λ e. if grants a e then Some (n_port e) else None) J
 -- accepted FLOGI of that ENode.
 abbrev pub ends : ℕ → Enode → Event → Bool
 ends a enode (Tick moment ended) = contains a ended
-ends a enode (Frame port index caught (Logout b)) = b == a
-ends a enode (Frame port index caught (Granted b)) = same_enode (sender port caught) enode && is_flogi caught
+ends a enode (Frame port index caught (Logout b)) = a == b
+ends a enode (Frame port index caught (Granted b)) = same_enode enode (sender port caught) && is_flogi caught
 ends a enode _ = false
 
 -- the entries since the last grant of the address
@@ -84,8 +82,8 @@ pool c = counting (c.domain * 65536 + 256) c.pool
 
 -- what an entry says of the address's login to the name server: the receive size, or none after a logout
 abbrev pub says_server : ℕ → Event → Option (Option ℕ)
-says_server a (Frame port index caught NsLogin) = if s_id caught == a then Some (Some (receive_size (asked caught))) else None
-says_server a (Frame port index caught NsLogout) = if s_id caught == a then Some None else None
+says_server a (Frame port index caught NsLogin) = if a == s_id caught then Some (Some (receive_size (asked caught))) else None
+says_server a (Frame port index caught NsLogout) = if a == s_id caught then Some None else None
 says_server a _ = None
 
 -- the receive size of a live address's login to the name server, and none without such a login
@@ -94,7 +92,7 @@ server a J = unwrap_or (latest (says_server a) (since a J)) None
 
 -- what an entry says of the state changes that the address asks for (FC-LS-2, "State Change Registration")
 abbrev pub says_watch : ℕ → Event → Option ℕ
-says_watch a (Frame port index caught (Watching f)) = if s_id caught == a then Some (if f == 255 then 0 else f) else None
+says_watch a (Frame port index caught (Watching f)) = if a == s_id caught then Some (if f == 255 then 0 else f) else None
 says_watch a _ = None
 
 -- the function that a live address asked for, and 0 without one
@@ -105,8 +103,8 @@ watch a J = unwrap_or (latest (says_watch a) (since a J)) 0
 
 -- the entry is a granted login of the ENode, or its keep alive
 abbrev pub hears_node : Enode → Event → Bool
-hears_node enode (Frame port index caught (Granted b)) = same_enode (sender port caught) enode
-hears_node enode (Frame port index caught AliveNode) = same_enode (sender port caught) enode
+hears_node enode (Frame port index caught (Granted b)) = same_enode enode (sender port caught)
+hears_node enode (Frame port index caught AliveNode) = same_enode enode (sender port caught)
 hears_node enode _ = false
 
 -- the clock when a live ENode was last heard
@@ -115,8 +113,8 @@ node_heard enode J = now (up_to_last (hears_node enode) J)
 
 -- the entry is a grant of the address, or its keep alive
 abbrev pub hears_port : ℕ → Event → Bool
-hears_port a (Frame port index caught (Granted b)) = b == a
-hears_port a (Frame port index caught (AlivePort b)) = b == a
+hears_port a (Frame port index caught (Granted b)) = a == b
+hears_port a (Frame port index caught (AlivePort b)) = a == b
 hears_port a _ = false
 
 -- the clock when a live address was last heard

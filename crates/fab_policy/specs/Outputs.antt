@@ -1,5 +1,6 @@
 -- The frames that an entry sends.
 use Rattle.std.specs.Prelude.{ℕ, zero, suc, ◌+◌, ◌-◌, ◌%◌, Bool, true, false, ◌==◌, nat_lt, nat_le, ◌&&◌, ◌||◌, if◌then◌else◌, List, [], ◌∷◌, ◌++◌, length, take, drop, map, filter, flat_map, Option, Some, None, is_some, unwrap_or, option_to_list}
+use Rattle.fab_base.specs.Fabric.{same_enode, asks_fabric}
 use Rattle.fab_base.specs.declared.values.Caught.{Caught}
 use Rattle.fab_base.specs.declared.values.Enode.{Enode}
 use Rattle.fab_config.specs.Settings.{Settings}
@@ -10,10 +11,10 @@ use Rattle.ct_messages.specs.declared.CtTell.TheVariants as tell
 use Rattle.fip_codec.specs.declared.message.VxPort.{VxPort}
 use Rattle.fab_policy.specs.Journal.{Journal}
 use Rattle.fab_policy.specs.Heard.{s_id, ask_of, login_of}
-use Rattle.fab_policy.specs.Logins.{ends, same_enode, granted_mac, counting}
+use Rattle.fab_policy.specs.Logins.{ends, granted_mac, counting}
 use Rattle.fab_policy.specs.State.{Tables, LivePort, tables_of, now_of, port_at}
 use Rattle.fab_policy.specs.Rules.{joined}
-use Rattle.fab_policy.specs.Queries.{query, values_of}
+use Rattle.fab_policy.specs.Queries.{query}
 use Rattle.fab_policy.specs.Replies.{login_accept, login_reply, vlan_notice, advertised_to_one, advertised_to_all, service_reply, ct_reply, forwarded, clear_links, rscn}
 use Rattle.fab_policy.specs.Replies.{server_parms}
 use Rattle.fab_policy.specs.declared.event.Event.{Event}
@@ -68,7 +69,7 @@ granted_by U _ = []
 -- the types or the features of an address differ
 abbrev pub has_changed : LivePort → Option LivePort → Bool
 has_changed p None = false
-has_changed p (Some q) = server.has_changed (values_of p) (values_of q)
+has_changed p (Some q) = server.has_changed p.values q.values
 
 -- the N_Port whose types or features an entry changes
 abbrev pub changed_by : Tables → Tables → Event → List LivePort
@@ -78,9 +79,9 @@ changed_by T U _ = []
 
 -- ---- state changes
 
--- an N_Port that asked for state changes: function 1 for those that the fabric detects, 3 for these and others
+-- an N_Port that asked for the state changes that the fabric detects
 abbrev pub is_watcher : LivePort → Bool
-is_watcher p = p.watch == 1 || p.watch == 3
+is_watcher p = asks_fabric p.watch
 
 -- the watchers, by ascending address
 abbrev pub watchers : Tables → List LivePort

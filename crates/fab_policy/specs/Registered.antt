@@ -1,19 +1,19 @@
 -- What is registered with the name server (FC-GS-6, "Name Server"): the last registration that sets a value counts,
 -- and one that erases puts back what the login gave.
-use Rattle.std.specs.Prelude.{ℕ, ◌==◌, if◌then◌else◌, List, [], ◌∷◌, Option, Some, None, unwrap_or, filter_map}
+use Rattle.std.specs.Prelude.{ℕ, ◌==◌, if◌then◌else◌, List, [], ◌∷◌, map, Option, Some, None, unwrap_or, filter_map}
 use Rattle.ct_messages.specs.Ct.{Ask, SetNode, SetTypes, SetSymbol, SetFeature, SetNodeSymbol, Erase}
-use Rattle.ct_messages.specs.Server.{NO_TYPES}
+use Rattle.ct_messages.specs.Server.{Values, NO_TYPES}
 use Rattle.ct_messages.specs.declared.TypeMap.{TypeMap}
 use Rattle.fab_policy.specs.Journal.{Journal}
 use Rattle.fab_policy.specs.Heard.{s_id, ask_of}
-use Rattle.fab_policy.specs.Logins.{since}
+use Rattle.fab_policy.specs.Logins.{since, counting}
 use Rattle.fab_policy.specs.declared.event.Event.{Event}
 use Rattle.fab_policy.specs.declared.event.Event.TheVariants.{Frame}
 use Rattle.fab_policy.specs.declared.verdict.Verdict.TheVariants.{Registered}
 
 -- the registration that an entry is for the address
 abbrev pub registration : ℕ → Event → Option Ask
-registration a (Frame port index caught Registered) = if s_id caught == a then Some (ask_of caught) else None
+registration a (Frame port index caught Registered) = if a == s_id caught then Some (ask_of caught) else None
 registration a _ = None
 
 -- the registrations of a live address, the newest first
@@ -64,8 +64,22 @@ types asks = unwrap_or (newest says_types asks) NO_TYPES
 abbrev pub feature : ℕ → List Ask → ℕ
 feature t asks = unwrap_or (newest (says_feature t) asks) 0
 
+-- the features of the types 0 to 255 (FC-GS-6, "FC-4 Features")
+abbrev pub features : List Ask → List ℕ
+features asks = map (λ t. feature t asks) (counting 0 256)
+
 abbrev pub symbol : List Ask → List ℕ
 symbol asks = unwrap_or (newest says_symbol asks) []
 
 abbrev pub node_symbol : List Ask → List ℕ
 node_symbol asks = unwrap_or (newest says_node_symbol asks) []
+
+-- all of them, where the login gave this node name
+abbrev pub values : ℕ → List Ask → Values
+values first asks = record {
+  node_name = node_name first asks;
+  types = types asks;
+  features = features asks;
+  symbol = symbol asks;
+  node_symbol = node_symbol asks;
+}

@@ -2,6 +2,7 @@
 -- operations" and "FCoE forwarding"; the table is this project's profile).
 use Rattle.std.specs.Prelude.{ℕ, Bool, true, false, not, ◌==◌, nat_lt, ◌&&◌, ◌||◌, List, [], ◌∷◌, length, Option, Some, None, is_some, Ok, Err, ◌++◌}
 use Rattle.std.specs.List.{list_any}
+use Rattle.fab_base.specs.Fabric.{same_enode}
 use Rattle.fab_base.specs.declared.values.Caught.{Caught}
 use Rattle.fab_config.specs.Settings.{Settings, same_bytes}
 use Rattle.zone_rules.specs.Joined as zones
@@ -16,7 +17,7 @@ use Rattle.fip_codec.specs.declared.message.LoginKind.TheVariants.{Flogi, Fdisc,
 use Rattle.els_messages.specs.Els as els
 use Rattle.fab_policy.specs.Cause.{Cause}
 use Rattle.fab_policy.specs.Heard.{What, Bad, Fip, Fcoe, plain, sender, source, fc_of}
-use Rattle.fab_policy.specs.Logins.{same_enode, granted_mac}
+use Rattle.fab_policy.specs.Logins.{granted_mac}
 use Rattle.fab_policy.specs.State.{Tables, LivePort, now_of, port_at}
 use Rattle.fab_policy.specs.declared.verdict.Rule.TheVariants as rule
 

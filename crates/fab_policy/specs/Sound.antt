@@ -1,11 +1,12 @@
 -- The granted MACs of live N_Ports differ, and who may be granted an address (FC-BB-5, "fabric-provided MAC address").
 use Rattle.std.specs.Prelude.{◌≡◌, ℕ, ◌+◌, ◌*◌, ◌<◌, ◌≤◌, ◌^◌, ◌⊎◌, IsTrue, List, [], ◌∷◌, true, Some, None}
+use Rattle.fab_base.specs.Fabric.{same_enode}
 use Rattle.fab_base.specs.declared.values.Caught.{Caught}
 use Rattle.fab_config.specs.Settings.{Settings, is_in_range}
 use Rattle.fab_policy.specs.Journal.{Journal}
 use Rattle.fab_policy.specs.Heard.{sender, asked, is_flogi}
 use Rattle.fab_policy.specs.Legal.{Legal}
-use Rattle.fab_policy.specs.Logins.{NPort, granted_mac, login, same_enode}
+use Rattle.fab_policy.specs.Logins.{NPort, granted_mac, login}
 use Rattle.fab_policy.specs.State.{LivePort, tables_of}
 use Rattle.fab_policy.specs.declared.event.Event.TheVariants.{Frame}
 use Rattle.fab_policy.specs.declared.verdict.Verdict.TheVariants.{Granted}

@@ -1,13 +1,14 @@
 -- What one more entry changes: what a journal with one more entry says follows from what the journal said.
-use Rattle.std.specs.Prelude.{◌≡◌, ℕ, List, [], ◌∷◌, Option, Some, None, option_and_then, option_map, if◌then◌else◌, unwrap_or, map, filter_map, replicate, ◌+◌, ◌*◌, ◌<◌, ◌≤◌}
+use Rattle.std.specs.Prelude.{◌≡◌, ℕ, List, [], ◌∷◌, Option, Some, None, option_and_then, option_map, if◌then◌else◌, unwrap_or, map, filter_map, ◌+◌, ◌*◌, ◌<◌, ◌≤◌}
+use Rattle.fab_base.specs.Fabric.{Past}
 use Rattle.fab_base.specs.declared.values.Enode.{Enode}
 use Rattle.fab_config.specs.Settings.{Settings}
 use Rattle.ct_messages.specs.Ct.{Ask}
 use Rattle.fab_policy.specs.Journal.{Journal, moment_of}
 use Rattle.fab_policy.specs.Logins.{NPort, login, grants, n_port, ends, says_server, says_watch, hears_node, hears_port, pool}
 use Rattle.fab_policy.specs.Registered.{registration, says_node, says_types, says_feature, says_symbol, says_node_symbol}
-use Rattle.ct_messages.specs.Server.{NO_TYPES}
-use Rattle.fab_policy.specs.State.{LivePort, Past, Tables, tables_of, port_at}
+use Rattle.ct_messages.specs.Server.{Values, first_values}
+use Rattle.fab_policy.specs.State.{LivePort, Tables, tables_of, port_at}
 use Rattle.fab_policy.specs.declared.event.Event.{Event}
 
 -- ---- single questions
@@ -32,11 +33,7 @@ fresh at a p = record {
   node_heard = at;
   port_heard = at;
   watch = 0;
-  node_name = p.node;
-  types = NO_TYPES;
-  features = replicate 256 0;
-  symbol = [];
-  node_symbol = [];
+  values = first_values p.node;
 }
 
 -- what a registration that may be there says of a value, or else what it was
@@ -48,25 +45,29 @@ abbrev pub features_after : Option Ask → ℕ → List ℕ → List ℕ
 features_after asked t [] = []
 features_after asked t (f ∷ more) = said asked (says_feature t) f ∷ features_after asked (t + 1) more
 
+-- the values of an N_Port whose login gave this node name, after a registration that may be there
+abbrev pub values_after : ℕ → Option Ask → Values → Values
+values_after first asked v = record {
+  node_name = said asked (says_node first) v.node_name;
+  types = said asked says_types v.types;
+  features = features_after asked 0 v.features;
+  symbol = said asked says_symbol v.symbol;
+  node_symbol = said asked says_node_symbol v.node_symbol;
+}
+
 -- an N_Port that stays, after an entry at this clock
 abbrev pub touched : ℕ → ℕ → Event → LivePort → LivePort
-touched at a e p =
-    let asked = registration a e in
-    record {
-      address = a;
-      name = p.name;
-      node = p.node;
-      enode = p.enode;
-      server = unwrap_or (says_server a e) p.server;
-      node_heard = if hears_node p.enode e then at else p.node_heard;
-      port_heard = if hears_port a e then at else p.port_heard;
-      watch = unwrap_or (says_watch a e) p.watch;
-      node_name = said asked (says_node p.node) p.node_name;
-      types = said asked says_types p.types;
-      features = features_after asked 0 p.features;
-      symbol = said asked says_symbol p.symbol;
-      node_symbol = said asked says_node_symbol p.node_symbol;
-    }
+touched at a e p = record {
+  address = a;
+  name = p.name;
+  node = p.node;
+  enode = p.enode;
+  server = unwrap_or (says_server a e) p.server;
+  node_heard = if hears_node p.enode e then at else p.node_heard;
+  port_heard = if hears_port a e then at else p.port_heard;
+  watch = unwrap_or (says_watch a e) p.watch;
+  values = values_after p.node (registration a e) p.values;
+}
 
 -- the live N_Port of an address after an entry at this clock
 abbrev pub port_after : ℕ → ℕ → Event → Option LivePort → Option LivePort

@@ -2,6 +2,7 @@
 -- says; the pairs of reason and explanation are this project's profile).
 use Rattle.std.specs.Prelude.{◌≡◌, ℕ, Bool, true, false, not, ◌==◌, nat_lt, nat_le, ◌&&◌, ◌||◌, if◌then◌else◌, IsTrue, List, [], ◌∷◌, length, filter, Some, None, Ok, Err}
 use Rattle.std.specs.List.{list_any}
+use Rattle.fab_base.specs.Fabric.{same_enode}
 use Rattle.fab_base.specs.declared.values.Caught.{Caught}
 use Rattle.fab_config.specs.Settings.{Settings, same_bytes}
 use Rattle.fc_frames.specs.Frame as fc
@@ -12,7 +13,7 @@ use Rattle.els_messages.specs.Els as els
 use Rattle.els_messages.specs.declared.LoginParms.{LoginParms}
 use Rattle.ct_messages.specs.Ct as ct
 use Rattle.fab_policy.specs.Heard.{What, Bad, Fip, Fcoe, plain, decoded, sender, fc_of}
-use Rattle.fab_policy.specs.Logins.{same_enode, granted_mac}
+use Rattle.fab_policy.specs.Logins.{granted_mac}
 use Rattle.fab_policy.specs.State.{Tables, LivePort, port_at}
 use Rattle.fab_policy.specs.Free.{Request, is_free, has_free}
 use Rattle.fab_policy.specs.Rules.{first_row, rule_for, is_known, holds, is_els_request, is_els_reply, NAME_SERVER, SERVICES}

@@ -247,11 +247,11 @@ entry15_is_right = refl
 abbrev pub J16 : Journal
 J16 = entry15 ∷ J15
 
-pub logins_at_the_end : map {B = List ℕ} (λ p. p.address ∷ p.name ∷ p.node_name ∷ p.enode.port ∷ p.node_heard ∷ p.port_heard ∷ unwrap_or p.server 0 ∷ p.watch ∷ []) (state.tables_of C J16).ports ≡ []
+pub logins_at_the_end : map {B = List ℕ} (λ p. p.address ∷ p.name ∷ p.values.node_name ∷ p.enode.port ∷ p.node_heard ∷ p.port_heard ∷ unwrap_or p.server 0 ∷ p.watch ∷ []) (state.tables_of C J16).ports ≡ []
 unfolding eth.decoded fc.decoded reading.decoded heard.carried heard.is_flogi ct.decoded
 logins_at_the_end = refl
 
-pub type_maps : map {B = List ℕ} (λ p. p.types.0) (state.tables_of C J16).ports ≡ []
+pub type_maps : map {B = List ℕ} (λ p. p.values.types.0) (state.tables_of C J16).ports ≡ []
 unfolding eth.decoded fc.decoded reading.decoded heard.carried heard.is_flogi ct.decoded
 type_maps = refl
 

@@ -191,11 +191,11 @@ entry11_is_right = refl
 abbrev pub J12 : Journal
 J12 = entry11 ∷ J11
 
-pub logins_at_the_end : map {B = List ℕ} (λ p. p.address ∷ p.name ∷ p.node_name ∷ p.enode.port ∷ p.node_heard ∷ p.port_heard ∷ unwrap_or p.server 0 ∷ p.watch ∷ []) (state.tables_of C J12).ports ≡ []
+pub logins_at_the_end : map {B = List ℕ} (λ p. p.address ∷ p.name ∷ p.values.node_name ∷ p.enode.port ∷ p.node_heard ∷ p.port_heard ∷ unwrap_or p.server 0 ∷ p.watch ∷ []) (state.tables_of C J12).ports ≡ []
 unfolding eth.decoded fc.decoded reading.decoded heard.carried heard.is_flogi ct.decoded
 logins_at_the_end = refl
 
-pub type_maps : map {B = List ℕ} (λ p. p.types.0) (state.tables_of C J12).ports ≡ []
+pub type_maps : map {B = List ℕ} (λ p. p.values.types.0) (state.tables_of C J12).ports ≡ []
 unfolding eth.decoded fc.decoded reading.decoded heard.carried heard.is_flogi ct.decoded
 type_maps = refl
 

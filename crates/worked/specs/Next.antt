@@ -153,11 +153,11 @@ pub sent_at_entry5_on_port1 : map (λ s. s.bytes) (filter (λ s. s.port == 1) (o
 unfolding eth.decoded fc.decoded reading.decoded heard.carried heard.is_flogi capsule.written crc.crc crc.remainder fip.written els.written ct.decoded answer.written zones.joined server.query server.feature_word server.feature_words outs.notices outs.outputs_by
 sent_at_entry5_on_port1 = refl
 
-pub logins_at_the_end : map {B = List ℕ} (λ p. p.address ∷ p.name ∷ p.node_name ∷ p.enode.port ∷ p.node_heard ∷ p.port_heard ∷ unwrap_or p.server 0 ∷ p.watch ∷ []) (state.tables_of C J9).ports ≡ (0x010100 ∷ 0x2000001b2100000a ∷ 0x1000001b21000001 ∷ 1 ∷ 1000 ∷ 1000 ∷ 256 ∷ 0 ∷ []) ∷ (0x010101 ∷ 0x2000001b2100000b ∷ 0x1000001b21000001 ∷ 1 ∷ 1000 ∷ 1000 ∷ 2112 ∷ 0 ∷ []) ∷ []
+pub logins_at_the_end : map {B = List ℕ} (λ p. p.address ∷ p.name ∷ p.values.node_name ∷ p.enode.port ∷ p.node_heard ∷ p.port_heard ∷ unwrap_or p.server 0 ∷ p.watch ∷ []) (state.tables_of C J9).ports ≡ (0x010100 ∷ 0x2000001b2100000a ∷ 0x1000001b21000001 ∷ 1 ∷ 1000 ∷ 1000 ∷ 256 ∷ 0 ∷ []) ∷ (0x010101 ∷ 0x2000001b2100000b ∷ 0x1000001b21000001 ∷ 1 ∷ 1000 ∷ 1000 ∷ 2112 ∷ 0 ∷ []) ∷ []
 unfolding eth.decoded fc.decoded reading.decoded heard.carried heard.is_flogi ct.decoded
 logins_at_the_end = refl
 
-pub type_maps : map {B = List ℕ} (λ p. p.types.0) (state.tables_of C J9).ports ≡ (0x00000000 ∷ 0x00000000 ∷ 0x00000000 ∷ 0x00000000 ∷ 0x00000000 ∷ 0x00000000 ∷ 0x00000000 ∷ 0x00000000 ∷ []) ∷ (0x00000000 ∷ 0x00000000 ∷ 0x00000000 ∷ 0x00000000 ∷ 0x00000000 ∷ 0x00000000 ∷ 0x00000000 ∷ 0x00000000 ∷ []) ∷ []
+pub type_maps : map {B = List ℕ} (λ p. p.values.types.0) (state.tables_of C J9).ports ≡ (0x00000000 ∷ 0x00000000 ∷ 0x00000000 ∷ 0x00000000 ∷ 0x00000000 ∷ 0x00000000 ∷ 0x00000000 ∷ 0x00000000 ∷ []) ∷ (0x00000000 ∷ 0x00000000 ∷ 0x00000000 ∷ 0x00000000 ∷ 0x00000000 ∷ 0x00000000 ∷ 0x00000000 ∷ 0x00000000 ∷ []) ∷ []
 unfolding eth.decoded fc.decoded reading.decoded heard.carried heard.is_flogi ct.decoded
 type_maps = refl
 

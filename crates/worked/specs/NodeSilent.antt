@@ -227,11 +227,11 @@ pub sent_at_entry8_on_port2 : map (λ s. s.bytes) (filter (λ s. s.port == 2) (o
 unfolding eth.decoded fc.decoded reading.decoded heard.carried heard.is_flogi capsule.written crc.crc crc.remainder fip.written els.written ct.decoded answer.written zones.joined server.query server.feature_word server.feature_words outs.notices outs.outputs_by
 sent_at_entry8_on_port2 = refl
 
-pub logins_at_the_end : map {B = List ℕ} (λ p. p.address ∷ p.name ∷ p.node_name ∷ p.enode.port ∷ p.node_heard ∷ p.port_heard ∷ unwrap_or p.server 0 ∷ p.watch ∷ []) (state.tables_of C J10).ports ≡ []
+pub logins_at_the_end : map {B = List ℕ} (λ p. p.address ∷ p.name ∷ p.values.node_name ∷ p.enode.port ∷ p.node_heard ∷ p.port_heard ∷ unwrap_or p.server 0 ∷ p.watch ∷ []) (state.tables_of C J10).ports ≡ []
 unfolding eth.decoded fc.decoded reading.decoded heard.carried heard.is_flogi ct.decoded
 logins_at_the_end = refl
 
-pub type_maps : map {B = List ℕ} (λ p. p.types.0) (state.tables_of C J10).ports ≡ []
+pub type_maps : map {B = List ℕ} (λ p. p.values.types.0) (state.tables_of C J10).ports ≡ []
 unfolding eth.decoded fc.decoded reading.decoded heard.carried heard.is_flogi ct.decoded
 type_maps = refl
 

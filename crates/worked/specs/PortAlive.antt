@@ -212,11 +212,11 @@ entry16_is_right = refl
 abbrev pub J17 : Journal
 J17 = entry16 ∷ J16
 
-pub logins_at_the_end : map {B = List ℕ} (λ p. p.address ∷ p.name ∷ p.node_name ∷ p.enode.port ∷ p.node_heard ∷ p.port_heard ∷ unwrap_or p.server 0 ∷ p.watch ∷ []) (state.tables_of C J17).ports ≡ (0x010100 ∷ 0x2000001b2100000a ∷ 0x1000001b21000001 ∷ 1 ∷ 1000 ∷ 1700 ∷ 0 ∷ 0 ∷ []) ∷ []
+pub logins_at_the_end : map {B = List ℕ} (λ p. p.address ∷ p.name ∷ p.values.node_name ∷ p.enode.port ∷ p.node_heard ∷ p.port_heard ∷ unwrap_or p.server 0 ∷ p.watch ∷ []) (state.tables_of C J17).ports ≡ (0x010100 ∷ 0x2000001b2100000a ∷ 0x1000001b21000001 ∷ 1 ∷ 1000 ∷ 1700 ∷ 0 ∷ 0 ∷ []) ∷ []
 unfolding eth.decoded fc.decoded reading.decoded heard.carried heard.is_flogi ct.decoded
 logins_at_the_end = refl
 
-pub type_maps : map {B = List ℕ} (λ p. p.types.0) (state.tables_of C J17).ports ≡ (0x00000000 ∷ 0x00000000 ∷ 0x00000000 ∷ 0x00000000 ∷ 0x00000000 ∷ 0x00000000 ∷ 0x00000000 ∷ 0x00000000 ∷ []) ∷ []
+pub type_maps : map {B = List ℕ} (λ p. p.values.types.0) (state.tables_of C J17).ports ≡ (0x00000000 ∷ 0x00000000 ∷ 0x00000000 ∷ 0x00000000 ∷ 0x00000000 ∷ 0x00000000 ∷ 0x00000000 ∷ 0x00000000 ∷ []) ∷ []
 unfolding eth.decoded fc.decoded reading.decoded heard.carried heard.is_flogi ct.decoded
 type_maps = refl
 
