@@ -1,6 +1,7 @@
 -- What each status says, of a call that ended.
-use Rattle.std.proofs.Common.{◌≡◌, ℕ, zero, suc, ◌≤◌, ◌⊎◌, inl, inr, IsTrue, List, [], ◌∷◌, ◌++◌, take, drop, Option, Some, None, Ok, Err, refl, sym, ap, ◌∙◌, subst, arith, append_assoc, String}
+use Rattle.std.proofs.Common.{◌≡◌, ℕ, zero, suc, ◌≤◌, ◌⊎◌, inl, inr, IsTrue, List, [], ◌∷◌, ◌++◌, length, take, drop, Option, Some, None, Ok, Err, refl, sym, ap, ◌∙◌, subst, arith, append_assoc, String}
 use Rattle.std.specs.Prelude.{Result}
+use Rattle.std.proofs.lemmas.List.{take_all}
 use Rattle.std.specs.declared.alloc.Global.{Global}
 use Rattle.fab_base.specs.Seen.{Seen, Rose, SameFiles}
 use Rattle.fab_base.specs.Sunk.{Sunk}
@@ -9,7 +10,7 @@ use Rattle.fab_config.specs.Text.{decoded}
 use Rattle.fab_config.specs.declared.ConfigFault.{ConfigFault}
 use Rattle.pcap_file.specs.declared.Record.{Record}
 use Rattle.fcoe_tool.specs.Command.{Command, command}
-use Rattle.fcoe_tool.specs.Ends.{Holds, HoldsFor, Prints, Ends, StopsAt, RunEnded, OfCommand, IsRefused, IsComplete}
+use Rattle.fcoe_tool.specs.Ends.{Holds, HoldsFor, Prints, Ends, StopsAt, RunEnded, OfCommand, IsRefused, IsComplete, Printed}
 use Rattle.fcoe_tool.specs.Gathered.{HasConfig, HasFault, AreCaptures, HaveCaptures, bytes_in, frames_in, windows, windows_of, span_of}
 use Rattle.fcoe_tool.specs.Outcome.{status_of, line_of}
 use Rattle.fcoe_tool.specs.declared.outcome.Outcome.{Outcome}
@@ -133,3 +134,16 @@ module _ (words : List (String Global)) (old new : Seen) (before after : Sunk) (
       go ends.ReadFault holds is = absurd (x.quiet.reads holds.1)
       go ends.WriteFault holds is = absurd (x.quiet.writes holds.1)
       go ends.Memory holds is = inr is
+
+  -- what was printed is the line of an outcome, or a front of it
+  pub is_printed : IsTrue before.told → Printed before after
+  is_printed told = go e.outcome e.prints
+    where
+      go : (o : Outcome) → Prints o before after status → Printed before after
+      go o (inl p) = record {
+        outcome = o;
+        count = length (line_of o);
+        front = p.1 told ∙ ap (λ l. before.written ++ l) (sym (take_all (length (line_of o)) (line_of o) (omega arith)));
+        whole = λ quiet. omega arith;
+      }
+      go o (inr p) = record { outcome = o; count = (p.2 told).0; front = (p.2 told).1; whole = λ quiet. absurd (quiet p.1) }

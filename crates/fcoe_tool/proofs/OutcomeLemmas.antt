@@ -1,5 +1,5 @@
 -- What is printed of an outcome.
-use Rattle.std.proofs.Common.{◌≡◌, ◌≢◌, ℕ, List, codes, refl, sym, ◌∙◌, subst, inl, inr, Result, Ok, Err, String}
+use Rattle.std.proofs.Common.{◌≡◌, ℕ, List, codes, refl, sym, ◌∙◌, subst, inl, inr, Result, Ok, Err, String}
 use Rattle.std.specs.Prelude.{IfOk, IfErr}
 use Rattle.std.specs.String.{string_bytes}
 use Rattle.std.specs.declared.alloc.Global.{Global}
@@ -7,7 +7,7 @@ use Rattle.std.specs.declared.alloc.AllocError.{AllocError}
 use Rattle.fab_base.specs.Sunk.{Sunk}
 use Rattle.fab_config.specs.declared.ConfigFault.{ConfigFault}
 use Rattle.fcoe_tool.specs.Outcome.{status_of, line_of, run_text, capture_text, config_text}
-use Rattle.fcoe_tool.specs.Ends.{Puts, Prints, Reports}
+use Rattle.fcoe_tool.specs.Ends.{Puts, Prints, Reports, TakesMemory}
 use Rattle.fcoe_tool.specs.declared.outcome.Outcome.{Outcome}
 use Rattle.fcoe_tool.specs.declared.outcome.Outcome.TheVariants as ends
 
@@ -20,8 +20,8 @@ module _ (line : List ℕ) (before after : Sunk) (result : ℕ) where
   reports o p status is is_line is_status puts = subst (λ q. Reports q before after result) (sym is) (inl (prints p status is_line is_status puts))
 
   -- want of memory in place of an outcome whose line takes memory
-  pub refused : (o : Outcome) (status : ℕ) → o ≢ ends.Words → line ≡ line_of ends.Memory → status ≡ 5 → Puts line status before after result → Reports o before after result
-  refused o status ne is_line is_status puts = inr (ne, prints ends.Memory status is_line is_status puts)
+  pub refused : (o : Outcome) (status : ℕ) → TakesMemory o → line ≡ line_of ends.Memory → status ≡ 5 → Puts line status before after result → Reports o before after result
+  refused o status takes is_line is_status puts = inr (takes, prints ends.Memory status is_line is_status puts)
 
 pub line_config : (fault : ConfigFault) → config_text fault ≡ line_of (ends.Config fault)
 unfolding line_of
@@ -52,7 +52,7 @@ unfolding line_of
 line_capture port = refl
 
 -- a line that was made, or want of memory in its place
-pub reports_made : (r : Result (String Global) AllocError) (line : List ℕ) (before after : Sunk) (result : ℕ) (o p : Outcome) (status : ℕ) → o ≡ p → line ≡ line_of p → status ≡ status_of p → p ≢ ends.Words →
+pub reports_made : (r : Result (String Global) AllocError) (line : List ℕ) (before after : Sunk) (result : ℕ) (o p : Outcome) (status : ℕ) → o ≡ p → line ≡ line_of p → status ≡ status_of p → TakesMemory p →
     IfOk r (λ s. string_bytes s ≡ line) → IfOk r (λ s. Puts (string_bytes s) status before after result) → IfErr r (λ e. Puts (codes "no memory\n") 5 before after result) → Reports o before after result
-reports_made (Ok s) line before after result o p status is is_line is_status ne made puts err = reports (string_bytes s) before after result o p status is (made ∙ is_line) is_status puts
-reports_made (Err e) line before after result o p status is is_line is_status ne made ok puts = refused (codes "no memory\n") before after result o 5 (λ w. ne (sym is ∙ w)) line_memory refl puts
+reports_made (Ok s) line before after result o p status is is_line is_status takes made puts err = reports (string_bytes s) before after result o p status is (made ∙ is_line) is_status puts
+reports_made (Err e) line before after result o p status is is_line is_status takes made ok puts = refused (codes "no memory\n") before after result o 5 (subst TakesMemory (sym is) takes) line_memory refl puts

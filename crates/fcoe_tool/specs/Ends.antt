@@ -1,14 +1,16 @@
 -- What each ending of a command says of the files, before and after, and of what was printed.
-use Rattle.std.specs.Prelude.{◌≡◌, ◌≢◌, ℕ, ◌⊎◌, IsTrue, List, ◌++◌, length, map, take, Option, Some, None, String}
+use Rattle.std.specs.Prelude.{◌≡◌, ℕ, ◌≤◌, ◌⊎◌, IsTrue, List, ◌++◌, length, map, take, Option, Some, None, String}
 use Rattle.std.specs.declared.alloc.Global.{Global}
 use Rattle.fab_base.specs.Seen.{Seen, Rose, SameFiles}
 use Rattle.fab_base.specs.Sunk.{Sunk}
+use Rattle.fab_base.specs.declared.desk.Desk.{Desk}
 use Rattle.pcap_file.specs.declared.Record.{Record}
 use Rattle.fab_config.specs.Settings.{Settings}
 use Rattle.fab_config.specs.declared.ConfigFault.{ConfigFault}
 use Rattle.fab_policy.specs.Journal.{Journal, frame_count}
 use Rattle.fab_policy.specs.Stage.{IsWrittenSoFar}
 use Rattle.fcoe_tool.specs.Command.{Command, command, ReadRose, WriteRose, KeepsOthers}
+use Rattle.fcoe_tool.specs.Edge.{KnowsAll, untold}
 use Rattle.fcoe_tool.specs.Gathered.{HasConfig, HasFault, HaveCaptures, IsFirstBad}
 use Rattle.fcoe_tool.specs.Outcome.{status_of, line_of, run_text}
 use Rattle.fcoe_tool.specs.declared.outcome.Outcome.{Outcome}
@@ -60,15 +62,39 @@ Puts line wanted before after status =
 abbrev pub Prints : Outcome → Sunk → Sunk → ℕ → Type 0
 Prints outcome = Puts (line_of outcome) (status_of outcome)
 
+-- the outcomes whose line has numbers or a word of its own, so that it is made in memory
+abbrev pub TakesMemory : Outcome → Type 0
+TakesMemory (ends.Ran frames entries) = Unit {0}
+TakesMemory (ends.Config fault) = Unit {0}
+TakesMemory (ends.Capture port) = Unit {0}
+TakesMemory ends.Words = ⊥
+TakesMemory ends.ReadFault = ⊥
+TakesMemory ends.WriteFault = ⊥
+TakesMemory ends.Memory = ⊥
+
 -- an outcome was printed, or want of memory in place of one whose line takes memory
 abbrev pub Reports : Outcome → Sunk → Sunk → ℕ → Type 0
-Reports outcome before after status = Prints outcome before after status ⊎ ((outcome ≢ ends.Words) × Prints ends.Memory before after status)
+Reports outcome before after status = Prints outcome before after status ⊎ (TakesMemory outcome × Prints ends.Memory before after status)
 
 -- How a call ended: an outcome whose cause holds, and its line.
 pub record Ends (words : List (String Global)) (old new : Seen) (before after : Sunk) (status : ℕ) : Type 0 where
   pub outcome : Outcome
   pub holds : HoldsFor (command words) old new outcome
   pub prints : Prints outcome before after status
+
+-- What was printed is the line of some outcome, or a front of it where a fault of the sink was counted.
+pub record Printed (before after : Sunk) : Type 0 where
+  pub outcome : Outcome
+  pub count : ℕ
+  pub front : after.written ≡ before.written ++ take count (line_of outcome)
+  pub whole : ¬ Rose before.faults after.faults → length (line_of outcome) ≤ count
+
+-- How a command ended over real files, of which nothing is told but the names and the counts of faults; or memory was
+-- refused before it began.
+abbrev pub EndsOverFiles : List (String Global) → Sunk → Sunk → ℕ → Type 0
+EndsOverFiles words before after status =
+    ((old : Desk) × (new : Desk) × KnowsAll old words × Ends words (untold old) (untold new) before after status)
+    ⊎ Prints ends.Memory before after status
 
 -- no count of an input's reads, an output's writes or the sink rose
 pub record IsQuiet (k : Command) (old new : Seen) (before after : Sunk) : Type 0 where

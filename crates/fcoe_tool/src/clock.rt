@@ -1,4 +1,4 @@
-// When the next tick comes.
+//! When the next tick comes.
 ghost use Rattle.std.specs.Prelude.{◌≡◌, ◌<◌, ◌≤◌, ◌+◌, ◌%◌, ◌^◌, ◌⊎◌, ℕ, Some, None, IfSome};
 ghost use Rattle.fcoe_tool.specs.Clock.{NextTick, NextAfter, ByPeriod, ByZones, IsSoonest, sooner_by};
 

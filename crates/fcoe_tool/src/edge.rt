@@ -1,4 +1,4 @@
-// The real files and the real output, which tell no content.
+//! The real files and the real output, which tell no content.
 ghost use Rattle.std.specs.Prelude.{◌≡◌, ◌<◌, ◌≤◌, ℕ, List, IsTrue, length, IfSome, IfOk, OnOk};
 ghost use Rattle.fab_base.specs.Desk.{knows};
 ghost use Rattle.fcoe_tool.specs.Edge.{KnowsAll, ReadsAt, WritesAt};
@@ -35,7 +35,8 @@ impl<'a, R: Files> FileDepot<'a, R> {
         })
     }
 
-    // Opens a file; the number at its slot is its place among the files.
+    // Opens a file; the number at its slot is its place among the files. There is room for both
+    // before the file is touched, since an output is emptied where it is opened.
     fn try_open(&mut self, name: &str, place: usize, input: bool) -> Option<u32>
         requires { place_of self.old.desk name.now ≡ Some place }
         ensures stays { Stays place self.old.desk self.new.desk }
@@ -43,6 +44,9 @@ impl<'a, R: Files> FileDepot<'a, R> {
         ensures fresh { IfSome result (λ s. (s ≡ length self.old.desk.slots.items) × (slice_get self.new.desk.slots.items s ≡ Some (record { file = place; at = length self.old.files.items; input = input }))) }
         ensures file { IfSome result (λ s. AddsFile s self.old.files.items self.new.files.items self.new.desk) }
     {
+        if self.files.reserve(1).is_err() {
+            return None;
+        }
         let file = if input {
             fs::open(self.rt, name)
         } else {
@@ -52,10 +56,8 @@ impl<'a, R: Files> FileDepot<'a, R> {
             return None;
         };
         let at = self.files.len();
-        match self.files.push(file) {
-            Ok(()) => self.desk.open(name, place, at, input),
-            Err(_) => None,
-        }
+        self.files.push(file).unwrap();
+        self.desk.open(name, place, at, input)
     }
 }
 

@@ -1,4 +1,4 @@
-// What a command finds in its inputs.
+//! What a command finds in its inputs.
 ghost use Rattle.std.specs.Prelude.{◌≡◌, ◌+◌, ◌≤◌, ◌<◌, IsTrue, true, length, vec_len, Some, IfOk};
 ghost use Rattle.fcoe_tool.specs.Command as spec;
 ghost use Rattle.fcoe_tool.specs.Read.{ConfigRead, TextRead, CaptureRead, RestRead, InputsRead, stopped_by, unopened_by};

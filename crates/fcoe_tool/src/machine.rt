@@ -1,4 +1,4 @@
-// What each turn makes of the journal and of the outputs: a tick of the clock, or one frame of one port.
+//! What each turn makes of the journal and of the outputs: a tick of the clock, or a frame.
 ghost use Rattle.std.specs.Prelude.{◌≡◌, ◌≤◌, ◌<◌, ◌^◌, IfOk, length, replicate, nat_lt};
 ghost use Rattle.std.specs.List.{AllPass};
 ghost use Rattle.fab_policy.specs.Ranged.{IsRangedVerdict};

@@ -8,34 +8,21 @@ mod gathering;
 mod machine;
 mod outcome;
 mod outputs;
+mod process;
 mod queue;
 mod span;
 #[cfg(test)]
 mod tests;
+#[cfg(test)]
+mod tests_edge;
 mod tool;
 
-use edge::{FileDepot, StdSink};
-use fab_base::{NoMemory, OpenGate};
+use edge::StdSink;
+use process::{status_of_process, words_of};
+use std::io;
 use std::process::ExitCode;
-use std::{env, io};
-use tool::fabric_tool;
 
-/// A command line that isn't UTF-8 is faulty, and memory may be refused before any command begins.
 fn main(rt: HostRuntime) -> ExitCode {
-    let alloc = rt.alloc();
     let mut say = StdSink::new(io::writer(&rt));
-    let Ok(words) = env::args(&rt) else {
-        return ExitCode::from(outcome::report(alloc, outcome::Outcome::Words, &mut say));
-    };
-    let Ok(words) = words.skip(1).collect::<Vec<String>>(alloc) else {
-        return ExitCode::from(outcome::report(alloc, outcome::Outcome::Memory, &mut say));
-    };
-    match FileDepot::new(&rt, alloc, &words) {
-        Ok(mut depot) => ExitCode::from(fabric_tool(
-            &rt, alloc, &words, &mut depot, &mut say, &OpenGate,
-        )),
-        Err(NoMemory) => {
-            ExitCode::from(outcome::report(alloc, outcome::Outcome::Memory, &mut say))
-        }
-    }
+    ExitCode::from(status_of_process(&rt, rt.alloc(), words_of(&rt), &mut say))
 }

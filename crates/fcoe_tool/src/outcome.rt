@@ -1,4 +1,4 @@
-// How a command ends.
+//! How a command ends.
 ghost use Rattle.std.specs.Prelude.{◌≡◌, IfOk, IfErr, codes};
 ghost use Rattle.std.specs.String.{string_bytes};
 ghost use Rattle.fcoe_tool.specs.Outcome as spec;

@@ -1,4 +1,4 @@
-// The captures of what is sent, one a port.
+//! The captures of what is sent, one a port.
 ghost use Rattle.std.specs.Prelude.{◌≡◌, ◌<◌, ◌≤◌, ◌+◌, ◌^◌, ◌++◌, OnOk, IfOk, length, map, replicate, []};
 ghost use Rattle.pcap_file.specs.Capture.{record_bytes, head_bytes};
 ghost use Rattle.fab_policy.specs.Outputs as spec;

@@ -1,4 +1,4 @@
-// Which port has the next frame.
+//! Which port has the next frame.
 ghost use Rattle.std.specs.Prelude.{◌≡◌, ◌<◌, ℕ, Some, None, IfSome, MatchOption, length, slice_get, ◌∷◌, [], List};
 ghost use Rattle.std.specs.Option.{option_copied};
 ghost use Rattle.fab_policy.specs.Legal.{window_start as window_of};

@@ -1,4 +1,4 @@
-// The windows of records.
+//! The windows of records.
 ghost use Rattle.std.specs.Prelude.{◌≡◌, ◌≤◌, ◌%◌, IsTrue};
 ghost use Rattle.fab_config.specs.Settings.{is_in_range};
 ghost use Rattle.fab_policy.specs.Legal.{window_start as window_of};

@@ -1,5 +1,4 @@
-// `run` over stores in memory, and once over real files.
-use crate::edge::FileDepot;
+//! `run` over stores in memory.
 use crate::tool::fabric_tool;
 use fab_base::{MemDepot, MemSink, NoMemory, OpenGate};
 use std::alloc::{AllocError, Global};
@@ -8,15 +7,15 @@ use std::sync::Wait;
 use std::test::Fail;
 use std::thread::Threads;
 
-const CONFIG: [u8; 35] = *b"fcf-mac 00:05:1e:00:00:02\nvlan 100\n";
+pub(crate) const CONFIG: [u8; 35] = *b"fcf-mac 00:05:1e:00:00:02\nvlan 100\n";
 
 // The head of a capture: least significant byte first, microseconds, Ethernet.
-const HEAD: [u8; 24] = [
+pub(crate) const HEAD: [u8; 24] = [
     0xd4, 0xc3, 0xb2, 0xa1, 2, 0, 4, 0, 0, 0, 0, 0, 0, 0, 0, 0, 255, 255, 0, 0, 1, 0, 0, 0,
 ];
 
 // A VLAN request of 00:1b:21:00:00:0a to All-FCF-MACs at 1000 ms.
-const REQUEST: [u8; 100] = [
+pub(crate) const REQUEST: [u8; 100] = [
     0xd4, 0xc3, 0xb2, 0xa1, 2, 0, 4, 0, 0, 0, 0, 0, 0, 0, 0, 0, 255, 255, 0, 0, 1, 0, 0, 0, //
     1, 0, 0, 0, 0, 0, 0, 0, 60, 0, 0, 0, 60, 0, 0, 0, //
     0x01, 0x10, 0x18, 0x01, 0x00, 0x02, 0x00, 0x1b, 0x21, 0x00, 0x00, 0x0a, 0x89, 0x14, //
@@ -25,7 +24,7 @@ const REQUEST: [u8; 100] = [
 ];
 
 // Its answer: a VLAN notification of VLAN 100 from 00:05:1e:00:00:02.
-const NOTIFICATION: [u8; 100] = [
+pub(crate) const NOTIFICATION: [u8; 100] = [
     0xd4, 0xc3, 0xb2, 0xa1, 2, 0, 4, 0, 0, 0, 0, 0, 0, 0, 0, 0, 255, 255, 0, 0, 1, 0, 0, 0, //
     1, 0, 0, 0, 0, 0, 0, 0, 60, 0, 0, 0, 60, 0, 0, 0, //
     0x00, 0x1b, 0x21, 0x00, 0x00, 0x0a, 0x00, 0x05, 0x1e, 0x00, 0x00, 0x02, 0x89, 0x14, //
@@ -62,7 +61,7 @@ const TO_ALL: [u8; 18] = [
     0x89, 0x14,
 ];
 
-fn words_of(alloc: Global, words: &[&str]) -> Result<Vec<String>, AllocError> {
+pub(crate) fn words_in(alloc: Global, words: &[&str]) -> Result<Vec<String>, AllocError> {
     let mut list = Vec::new(alloc);
     for word in words {
         match list.push(String::from_str(alloc, word)?) {
@@ -74,7 +73,7 @@ fn words_of(alloc: Global, words: &[&str]) -> Result<Vec<String>, AllocError> {
 }
 
 // These pieces, one after another.
-fn joined(alloc: Global, pieces: &[&[u8]]) -> Result<Vec<u8>, AllocError> {
+pub(crate) fn joined(alloc: Global, pieces: &[&[u8]]) -> Result<Vec<u8>, AllocError> {
     let mut bytes = Vec::new(alloc);
     for piece in pieces {
         bytes.extend_from_slice(piece)?;
@@ -83,7 +82,7 @@ fn joined(alloc: Global, pieces: &[&[u8]]) -> Result<Vec<u8>, AllocError> {
 }
 
 // A depot with these inputs, which knows the words of a command over one port and over two.
-fn depot_of(
+pub(crate) fn depot_of(
     alloc: Global,
     config: &[u8],
     input: &[u8],
@@ -100,9 +99,9 @@ fn depot_of(
     Ok(depot)
 }
 
-const ONE_PORT: [&str; 5] = ["run", "K", "J", "IN", "OUT"];
+pub(crate) const ONE_PORT: [&str; 5] = ["run", "K", "J", "IN", "OUT"];
 
-const TWO_PORTS: [&str; 7] = ["run", "K", "J", "IN", "OUT", "IN2", "OUT2"];
+pub(crate) const TWO_PORTS: [&str; 7] = ["run", "K", "J", "IN", "OUT", "IN2", "OUT2"];
 
 // Runs a command, which prints this line and answers this status.
 fn runs<R: Threads + Wait + Sync + Abort>(
@@ -114,7 +113,7 @@ fn runs<R: Threads + Wait + Sync + Abort>(
     wanted: u8,
 ) -> Result<(), Fail> {
     let mut say = MemSink::new(alloc, 100)?;
-    let words = words_of(alloc, words)?;
+    let words = words_in(alloc, words)?;
     assert!(rt; depot.knows_all(&words));
     let status = fabric_tool(rt, alloc, &words, depot, &mut say, &OpenGate);
     assert_eq!(rt; say.content(), line);
@@ -265,11 +264,76 @@ fn advertisements_between_two_requests(rt: HostRuntime) -> Result<(), Fail> {
     Ok(())
 }
 
+// Runs over one frame of this record at 1000 ms, which is dropped by this line of the journal.
+fn drops<R: Threads + Wait + Sync + Abort>(
+    rt: &R,
+    alloc: Global,
+    record: &[&[u8]],
+    line: &[u8],
+) -> Result<(), Fail> {
+    let frame = joined(alloc, record)?;
+    let input = joined(alloc, &[&HEAD, &[1, 0, 0, 0, 0, 0, 0, 0], &frame])?;
+    let mut depot = depot_of(alloc, &CONFIG, &input, &HEAD)?;
+    runs(
+        rt,
+        alloc,
+        &ONE_PORT,
+        &mut depot,
+        b"frames 1 entries 2\n",
+        0,
+    )?;
+    let journal = joined(alloc, &[b"tick 1000\n", line])?;
+    assert_eq!(rt; depot.content("J"), Some(journal.as_slice()));
+    let head = HEAD;
+    assert_eq!(rt; depot.content("OUT"), Some(head.as_slice()));
+    Ok(())
+}
+
+// To the forwarder from 00:1b:21:00:00:0a, with VLAN 100.
+const TO_FORWARDER: [u8; 18] = [
+    0x00, 0x05, 0x1e, 0x00, 0x00, 0x02, 0x00, 0x1b, 0x21, 0x00, 0x00, 0x0a, 0x81, 0x00, 0x00, 0x64,
+    0x89, 0x14,
+];
+
+#[test]
+fn keep_alive_with_a_further_descriptor(rt: HostRuntime) -> Result<(), Fail> {
+    // An ENode's keep alive, and a descriptor of type 100 behind that of its MAC.
+    let lengths = [40, 0, 0, 0, 40, 0, 0, 0];
+    let message = [
+        0x10, 0, 0x00, 0x03, 0, 0x01, 0, 3, 0, 0, 2, 2, 0x00, 0x1b, 0x21, 0x00, 0x00, 0x0a, 100, 1,
+        0, 0,
+    ];
+    let record: [&[u8]; 3] = [&lengths, &TO_FORWARDER, &message];
+    drops(
+        &rt,
+        rt.alloc(),
+        &record,
+        b"1 0 dropped fip-critical 18\n",
+    )
+}
+
+#[test]
+fn descriptor_of_length_zero(rt: HostRuntime) -> Result<(), Fail> {
+    // A VLAN request whose descriptor has no words, and one whose list passes the frame's end.
+    let lengths = [60, 0, 0, 0, 60, 0, 0, 0];
+    let without: [&[u8]; 4] = [&lengths, &REQUEST[40..65], &[0], &REQUEST[66..]];
+    drops(&rt, rt.alloc(), &without, b"1 0 dropped fip-length 10\n")?;
+    let past: [&[u8]; 4] = [&lengths, &REQUEST[40..60], &[0, 10], &REQUEST[62..]];
+    drops(&rt, rt.alloc(), &past, b"1 0 dropped fip-list\n")
+}
+
+#[test]
+fn truncated_record(rt: HostRuntime) -> Result<(), Fail> {
+    let lengths = [40, 0, 0, 0, 100, 0, 0, 0];
+    let record: [&[u8]; 2] = [&lengths, &REQUEST[40..80]];
+    drops(&rt, rt.alloc(), &record, b"1 0 dropped truncated\n")
+}
+
 #[test]
 fn sixty_four_ports(rt: HostRuntime) -> Result<(), Fail> {
     let alloc = rt.alloc();
     let mut depot = depot_of(alloc, &CONFIG, &HEAD, &HEAD)?;
-    let mut words = words_of(alloc, &["run", "K", "J"])?;
+    let mut words = words_in(alloc, &["run", "K", "J"])?;
     for port in 1..66 {
         let input = format!(in alloc; "I{port}")?;
         let output = format!(in alloc; "O{port}")?;
@@ -396,36 +460,11 @@ fn the_sink_fails(rt: HostRuntime) -> Result<(), Fail> {
     let alloc = rt.alloc();
     let mut depot = depot_of(alloc, &CONFIG, &REQUEST, &HEAD)?;
     let mut say = MemSink::new(alloc, 7)?;
-    let words = words_of(alloc, &ONE_PORT)?;
+    let words = words_in(alloc, &ONE_PORT)?;
     assert!(rt; depot.knows_all(&words));
     let status = fabric_tool(&rt, alloc, &words, &mut depot, &mut say, &OpenGate);
     assert_eq!(rt; status, 4);
     assert_eq!(rt; say.content(), b"frames ".as_slice());
     assert_eq!(rt; depot.content("OUT"), Some(NOTIFICATION.as_slice()));
-    Ok(())
-}
-
-#[test]
-fn real_files(rt: HostRuntime) -> Result<(), Fail> {
-    let alloc = rt.alloc();
-    std::fs::write(&rt, "K", &CONFIG)?;
-    std::fs::write(&rt, "IN", &REQUEST)?;
-    // What stands in the outputs before is no part of them afterwards, though it is longer.
-    let before = Vec::from_elem(alloc, 0u8, 200)?;
-    std::fs::write(&rt, "J", &before)?;
-    std::fs::write(&rt, "OUT", &before)?;
-    let words = words_of(alloc, &ONE_PORT)?;
-    let mut depot = FileDepot::new(&rt, alloc, &words)?;
-    let mut say = MemSink::new(alloc, 100)?;
-    let status = fabric_tool(&rt, alloc, &words, &mut depot, &mut say, &OpenGate);
-    assert_eq!(rt; status, 0);
-    assert_eq!(rt;
-        std::fs::read(&rt, "J")?.as_slice(),
-        b"tick 1000\n1 0 vlans\n".as_slice()
-    );
-    assert_eq!(rt;
-        std::fs::read(&rt, "OUT")?.as_slice(),
-        NOTIFICATION.as_slice()
-    );
     Ok(())
 }

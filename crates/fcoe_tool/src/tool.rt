@@ -1,8 +1,8 @@
-// The top call.
+//! The command over the files of a depot.
 ghost use Rattle.std.specs.Prelude.{◌≡◌, ◌≤◌, ◌+◌, ◌*◌, ◌⊎◌, ◌↔◌, IsTrue, IfSome, IsSome, List, ℕ, Some, None, true, length, vec_len};
 ghost use Rattle.fab_base.specs.Seen.{SameFiles, Rose};
 ghost use Rattle.fcoe_tool.specs.Command as spec;
-ghost use Rattle.fcoe_tool.specs.Ends.{Ends, Holds, HoldsFor, RunEnded, OfCommand, IsRefused, IsComplete};
+ghost use Rattle.fcoe_tool.specs.Ends.{Ends, Holds, HoldsFor, RunEnded, OfCommand, IsRefused, IsComplete, Printed};
 ghost use Rattle.fcoe_tool.specs.Machine.{outs_in};
 ghost use Rattle.fcoe_tool.specs.Write.{FileWritten, OutputsWritten};
 
@@ -39,6 +39,8 @@ pub fn fabric_tool<R: Threads + Wait + Sync, D: Depot, K: Sink, G: Gate + Sync>(
     ensures others { (k : spec.Command) → spec.command words.now ≡ Some k → spec.KeepsOthers k (D.seen depot.old) (D.seen depot.new) }
     // Inputs of the right forms are run, where nothing fails and memory is there.
     ensures complete { IsComplete words.now (D.seen depot.old) (D.seen depot.new) (K.sunk say.old) (K.sunk say.new) → (result ≡ 0) ⊎ (result ≡ 5) }
+    // What was printed is the line of an outcome, or a front of it where the sink failed.
+    ensures printed { IsTrue (K.sunk say.old).told → Printed (K.sunk say.old) (K.sunk say.new) }
     // The call ended by an outcome whose cause holds, and the line of that outcome was printed.
     ensures ends { Ends words.now (D.seen depot.old) (D.seen depot.new) (K.sunk say.old) (K.sunk say.new) result }
 {
