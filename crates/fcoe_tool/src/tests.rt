@@ -274,14 +274,7 @@ fn drops<R: Threads + Wait + Sync + Abort>(
     let frame = joined(alloc, record)?;
     let input = joined(alloc, &[&HEAD, &[1, 0, 0, 0, 0, 0, 0, 0], &frame])?;
     let mut depot = depot_of(alloc, &CONFIG, &input, &HEAD)?;
-    runs(
-        rt,
-        alloc,
-        &ONE_PORT,
-        &mut depot,
-        b"frames 1 entries 2\n",
-        0,
-    )?;
+    runs(rt, alloc, &ONE_PORT, &mut depot, b"frames 1 entries 2\n", 0)?;
     let journal = joined(alloc, &[b"tick 1000\n", line])?;
     assert_eq!(rt; depot.content("J"), Some(journal.as_slice()));
     let head = HEAD;
@@ -304,12 +297,7 @@ fn keep_alive_with_a_further_descriptor(rt: HostRuntime) -> Result<(), Fail> {
         0, 0,
     ];
     let record: [&[u8]; 3] = [&lengths, &TO_FORWARDER, &message];
-    drops(
-        &rt,
-        rt.alloc(),
-        &record,
-        b"1 0 dropped fip-critical 18\n",
-    )
+    drops(&rt, rt.alloc(), &record, b"1 0 dropped fip-critical 18\n")
 }
 
 #[test]

@@ -2,7 +2,9 @@
 use crate::edge::FileDepot;
 use crate::outcome::Outcome;
 use crate::process::{status_of_process, words_of};
-use crate::tests::{CONFIG, HEAD, NOTIFICATION, ONE_PORT, REQUEST, TWO_PORTS, depot_of, joined, words_in};
+use crate::tests::{
+    CONFIG, HEAD, NOTIFICATION, ONE_PORT, REQUEST, TWO_PORTS, depot_of, joined, words_in,
+};
 use crate::tool::fabric_tool;
 use fab_base::{Depot, FcId, Gate, MemSink, PortNo, word_at};
 use std::fs;
