@@ -1,4 +1,4 @@
-// The lines of a journal, written.
+//! The lines of a journal, written.
 ghost use Rattle.std.specs.Prelude.{◌≡◌, ◌++◌, ◌∷◌, [], ◌<◌, decimal, IfOk, OnOk, OnErr};
 ghost use Rattle.fab_policy.specs.Spelling.{IsClockOf, EndsAscend};
 ghost use Rattle.fab_policy.specs.Text.{line, head_line, line1, frame_words, verdict_text, cause_text, then_word, address_word, address_words, code_word, LINE_FEED};
@@ -7,7 +7,11 @@ ghost use Rattle.fab_base.specs.Texts.{hex_digit};
 use crate::words::rule_text;
 use crate::{Dropped, Event, Verdict};
 use fab_base::{FcId, IdList, Moment, NoMemory, PortNo, address_text};
+use itoa::Buffer;
 use std::alloc::{AllocError, Global};
+
+/// Room for the line of a frame, so that its memory is asked for once.
+const LINE_ROOM: usize = 64;
 
 /// Appends the line that begins a journal of format 2.
 pub fn write_head_line(_alloc: Global, out: &mut Vec<u8>) -> Result<(), NoMemory>
@@ -108,8 +112,9 @@ fn append(bytes: &[u8], out: &mut Vec<u8>) -> Result<(), NoMemory>
 fn clocked_line_of_tick(alloc: Global, clock: Moment, ended: &IdList) -> Result<Vec<u8>, AllocError>
     ensures { IfOk result (λ v. v.items ≡ line clock (Event.Tick clock ended.now)) }
 {
-    let words = format!(in alloc; "{} tick", clock.0)?;
-    let mut line = words.into_bytes();
+    let mut line = Vec::with_capacity(alloc, LINE_ROOM)?;
+    write_digits(clock.0, &mut line)?;
+    line.extend_from_slice(b" tick")?;
     write_addresses(ended, &mut line)?;
     line.extend_from_slice(b"\n")?;
     Ok(line)
@@ -124,10 +129,10 @@ fn clocked_line_of_frame(
 ) -> Result<Vec<u8>, AllocError>
     ensures { IfOk result (λ v. v.items ≡ decimal clock ++ then_word (frame_words port index verdict.now) ++ LINE_FEED ∷ []) }
 {
-    let port = port.value();
-    let words = format!(in alloc; "{} {port} {index} ", clock.0)?;
-    let mut line = words.into_bytes();
-    write_verdict(alloc, verdict, &mut line)?;
+    let mut line = Vec::with_capacity(alloc, LINE_ROOM)?;
+    write_digits(clock.0, &mut line)?;
+    line.extend_from_slice(b" ")?;
+    write_frame_words(port, index, verdict, &mut line)?;
     line.extend_from_slice(b"\n")?;
     Ok(line)
 }
@@ -135,8 +140,9 @@ fn clocked_line_of_frame(
 fn line_of_tick(alloc: Global, moment: Moment, ended: &IdList) -> Result<Vec<u8>, AllocError>
     ensures { IfOk result (λ v. v.items ≡ line1 (Event.Tick moment ended.now)) }
 {
-    let words = format!(in alloc; "tick {}", moment.0)?;
-    let mut line = words.into_bytes();
+    let mut line = Vec::with_capacity(alloc, LINE_ROOM)?;
+    line.extend_from_slice(b"tick")?;
+    write_number(moment.0, &mut line)?;
     write_addresses(ended, &mut line)?;
     line.extend_from_slice(b"\n")?;
     Ok(line)
@@ -150,12 +156,25 @@ fn line_of_frame(
 ) -> Result<Vec<u8>, AllocError>
     ensures { IfOk result (λ v. v.items ≡ frame_words port index verdict.now ++ LINE_FEED ∷ []) }
 {
-    let port = port.value();
-    let words = format!(in alloc; "{port} {index} ")?;
-    let mut line = words.into_bytes();
-    write_verdict(alloc, verdict, &mut line)?;
+    let mut line = Vec::with_capacity(alloc, LINE_ROOM)?;
+    write_frame_words(port, index, verdict, &mut line)?;
     line.extend_from_slice(b"\n")?;
     Ok(line)
+}
+
+// The port, the index and the verdict of a frame.
+fn write_frame_words(
+    port: PortNo,
+    index: u64,
+    verdict: &Verdict,
+    line: &mut Vec<u8>,
+) -> Result<(), AllocError>
+    ensures { OnOk result (line.new.items ≡ line.old.items ++ frame_words port index verdict.now) }
+{
+    write_digits(u64::from(port.value()), line)?;
+    write_number(index, line)?;
+    line.extend_from_slice(b" ")?;
+    write_verdict(verdict, line)
 }
 
 // Each address after a space.
@@ -188,11 +207,17 @@ fn digit(value: u8) -> u8
     if value < 10 { 48 + value } else { 87 + value }
 }
 
-fn write_number(alloc: Global, number: u32, line: &mut Vec<u8>) -> Result<(), AllocError>
+fn write_digits(number: u64, line: &mut Vec<u8>) -> Result<(), AllocError>
+    ensures { OnOk result (line.new.items ≡ line.old.items ++ decimal number) }
+{
+    line.extend_from_slice(Buffer::new().format(number).as_bytes())
+}
+
+fn write_number(number: u64, line: &mut Vec<u8>) -> Result<(), AllocError>
     ensures { OnOk result (line.new.items ≡ line.old.items ++ then_word (decimal number)) }
 {
-    let word = format!(in alloc; " {number}")?;
-    line.extend_from_slice(word.as_bytes())
+    line.extend_from_slice(b" ")?;
+    write_digits(number, line)
 }
 
 // A word and an address.
@@ -204,16 +229,11 @@ fn write_addressed(word: &str, address: &FcId, line: &mut Vec<u8>) -> Result<(),
 }
 
 // A word and a number.
-fn write_numbered(
-    alloc: Global,
-    word: &str,
-    number: u32,
-    line: &mut Vec<u8>,
-) -> Result<(), AllocError>
+fn write_numbered(word: &str, number: u32, line: &mut Vec<u8>) -> Result<(), AllocError>
     ensures { OnOk result (line.new.items ≡ line.old.items ++ (word.now ++ then_word (decimal number))) }
 {
     line.extend_from_slice(word.as_bytes())?;
-    write_number(alloc, number, line)
+    write_number(u64::from(number), line)
 }
 
 // A word, a reason and an explanation.
@@ -230,7 +250,7 @@ fn write_coded(
     write_code(explanation, line)
 }
 
-fn write_verdict(alloc: Global, verdict: &Verdict, line: &mut Vec<u8>) -> Result<(), AllocError>
+fn write_verdict(verdict: &Verdict, line: &mut Vec<u8>) -> Result<(), AllocError>
     ensures { OnOk result (line.new.items ≡ line.old.items ++ verdict_text verdict.now) }
 {
     match verdict {
@@ -245,28 +265,26 @@ fn write_verdict(alloc: Global, verdict: &Verdict, line: &mut Vec<u8>) -> Result
         Verdict::AlivePort(address) => write_addressed("alive", address, line),
         Verdict::NsLogin => line.extend_from_slice(b"ns-login"),
         Verdict::NsLogout => line.extend_from_slice(b"ns-logout"),
-        Verdict::Watching(function) => {
-            write_numbered(alloc, "watching", u32::from(*function), line)
-        }
+        Verdict::Watching(function) => write_numbered("watching", u32::from(*function), line),
         Verdict::Registered => line.extend_from_slice(b"registered"),
         Verdict::Answered => line.extend_from_slice(b"answered"),
         Verdict::Refused(reason, explanation) => {
             write_coded("refused", *reason, *explanation, line)
         }
         Verdict::Noted => line.extend_from_slice(b"noted"),
-        Verdict::Forwarded(port) => write_numbered(alloc, "forwarded", port.value(), line),
-        Verdict::Dropped(dropped) => write_dropped(alloc, dropped, line),
+        Verdict::Forwarded(port) => write_numbered("forwarded", port.value(), line),
+        Verdict::Dropped(dropped) => write_dropped(dropped, line),
     }
 }
 
 // A rule, and its number where it has one.
-fn write_dropped(alloc: Global, dropped: &Dropped, line: &mut Vec<u8>) -> Result<(), AllocError>
+fn write_dropped(dropped: &Dropped, line: &mut Vec<u8>) -> Result<(), AllocError>
     ensures { OnOk result (line.new.items ≡ line.old.items ++ verdict_text (Verdict.Dropped dropped.now)) }
 {
     line.extend_from_slice(b"dropped ")?;
     line.extend_from_slice(rule_text(dropped.rule()).as_bytes())?;
     match dropped.number() {
-        Some(number) => write_number(alloc, number, line),
+        Some(number) => write_number(u64::from(number), line),
         None => Ok(()),
     }
 }
