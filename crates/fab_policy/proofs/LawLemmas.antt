@@ -1,8 +1,7 @@
 -- A verdict by the decoders against the same by the layout and the grammar.
 use Rattle.std.proofs.Common.{◌≡◌, ℕ, zero, suc, lit<, ◌⊎◌, inl, inr, ⊎_elim, nat_lt, ltb, ◌==◌, ◌&&◌, ◌||◌, not, if◌then◌else◌, Bool, true, false, List, [], ◌∷◌, length, Option, Some, None, Result, Ok, Err, refl, sym, ap, subst, ◌∙◌, arith}
 use Rattle.std.specs.List.{AllPass}
-use Rattle.std.proofs.lemmas.Grind.{common_steps}
-use Rattle.std.proofs.lemmas.Bool.Decides.{nat_tests}
+use Rattle.std.proofs.lemmas.Slice.Eq.{bytes_eq-Decides}
 use Rattle.std.proofs.lemmas.Bool.{ltb-true, ltb-false, eqb-true, eqb-false, eq-eqb}
 use Rattle.fab_base.specs.Layout.{number}
 use Rattle.fab_base.specs.declared.values.Caught.{Caught}
@@ -20,7 +19,6 @@ use Rattle.fip_codec.specs.Reading as reading
 use Rattle.fip_codec.specs.declared.fault.FipFault.{FipFault}
 use Rattle.fip_codec.proofs.Grammar.{IsFip-from_decoded}
 use Rattle.fip_codec.proofs.Unique.{decoded-from_IsFip}
-use Rattle.fip_codec.proofs.Sound.{and-left, and-right}
 use Rattle.fab_policy.specs.Cause.{Cause}
 use Rattle.fab_policy.specs.Heard.{What, Bad, Fip, Fcoe, FIP, FCOE, plain, cause_of, decoded}
 use Rattle.fab_policy.specs.Judging.{by_rule, verdict_of}
@@ -39,22 +37,6 @@ are_bytes : (l : List ℕ) → AllPass (λ b. nat_lt b 256) l → AreBytes l
 are_bytes [] h i = lit< tt
 are_bytes (x ∷ l) h zero = ltb-true x 256 (h 0 0 (omega arith))
 are_bytes (x ∷ l) h (suc i) = are_bytes l (λ k d lt. h (suc k) d (omega arith)) i
-
-same_is : (l m : List ℕ) → same_bytes l m ≡ true → l ≡ m
-same_is [] [] e = refl
-same_is [] (y ∷ m) e = absurd (cc)
-same_is (x ∷ l) [] e = absurd (cc)
-same_is (x ∷ l) (y ∷ m) e =
-    let head : x ≡ y = eqb-true x y (and-left (x == y) (same_bytes l m) e) in
-    let tail : l ≡ m = same_is l m (and-right (x == y) (same_bytes l m) e) in
-    cc
-
-same_bytes_self : (xs : List ℕ) → same_bytes xs xs ≡ true
-same_bytes_self [] = refl
-same_bytes_self (x ∷ xs) = grind (arith, common_steps, nat_tests, same_bytes_self xs)
-
-is_same : (l m : List ℕ) → l ≡ m → same_bytes l m ≡ true
-is_same l m e = subst (λ n. same_bytes l n ≡ true) e (same_bytes_self l)
 
 -- ---- one test or another
 
@@ -185,16 +167,16 @@ abbrev is_to : Settings → Eth → Bool
 is_to c f = same_bytes f.dst c.fcf_mac || same_bytes f.dst ALL_FCFS
 
 to_means : (c : Settings) (f : Eth) → not (is_to c f) ≡ false → (f.dst ≡ c.fcf_mac) ⊎ (f.dst ≡ ALL_FCFS)
-to_means c f e = ⊎_elim (λ t. inl (same_is f.dst c.fcf_mac t)) (λ t. inr (same_is f.dst ALL_FCFS t)) (or_true (same_bytes f.dst c.fcf_mac) (same_bytes f.dst ALL_FCFS) (holds_from (is_to c f) e))
+to_means c f e = ⊎_elim (λ t. inl ((bytes_eq-Decides f.dst c.fcf_mac).0 t)) (λ t. inr ((bytes_eq-Decides f.dst ALL_FCFS).0 t)) (or_true (same_bytes f.dst c.fcf_mac) (same_bytes f.dst ALL_FCFS) (holds_from (is_to c f) e))
 
 to_from : (c : Settings) (f : Eth) → (f.dst ≡ c.fcf_mac) ⊎ (f.dst ≡ ALL_FCFS) → not (is_to c f) ≡ false
-to_from c f h = ap not (⊎_elim (λ t. or_left (same_bytes f.dst c.fcf_mac) (same_bytes f.dst ALL_FCFS) (is_same f.dst c.fcf_mac t)) (λ t. or_right (same_bytes f.dst c.fcf_mac) (same_bytes f.dst ALL_FCFS) (is_same f.dst ALL_FCFS t)) h)
+to_from c f h = ap not (⊎_elim (λ t. or_left (same_bytes f.dst c.fcf_mac) (same_bytes f.dst ALL_FCFS) ((bytes_eq-Decides f.dst c.fcf_mac).1 t)) (λ t. or_right (same_bytes f.dst c.fcf_mac) (same_bytes f.dst ALL_FCFS) ((bytes_eq-Decides f.dst ALL_FCFS).1 t)) h)
 
 names_means : (named src : List ℕ) → not (same_bytes named src) ≡ false → named ≡ src
-names_means named src e = same_is named src (holds_from (same_bytes named src) e)
+names_means named src e = (bytes_eq-Decides named src).0 (holds_from (same_bytes named src) e)
 
 names_from : (named src : List ℕ) → named ≡ src → not (same_bytes named src) ≡ false
-names_from named src e = ap not (is_same named src e)
+names_from named src e = ap not ((bytes_eq-Decides named src).1 e)
 
 -- ---- VLAN requests
 

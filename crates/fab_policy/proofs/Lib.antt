@@ -11,6 +11,9 @@ pub mod Standing
 pub mod Forwarding
 pub mod Quiet
 pub mod SoundParms
+pub mod Carried
+pub mod Due
+pub mod Right
 pub mod JudgeLemmas
 pub mod ReplyLemmas
 pub mod StageLemmas

@@ -190,7 +190,7 @@ same_journal f (e ∷ I) (d ∷ J) same frames =
     same_entries e d I J (entry_once f (now (e ∷ I)) (now (d ∷ J)) e d cut.1) frames (same_journal f I J cut.0)
 
 pub text_names_journal : TextNamesJournal
-text_names_journal I J I_is J_is I_begins J_begins frames = (
+text_names_journal I J I_is J_is frames = (
   λ e. same_journal Two I J (joined_once Two (lines Two I) (lines Two J) (lines_ranged Two I I_is) (lines_ranged Two J J_is) (append_cancel_left head_line (joined Two (lines Two I)) (joined Two (lines Two J)) (sym (text_is I) ∙ e ∙ text_is J))) frames,
   λ e. same_journal One I J (joined_once One (lines One I) (lines One J) (lines_ranged One I I_is) (lines_ranged One J J_is) (sym (text1_is I) ∙ e ∙ text1_is J)) frames,
 )

@@ -5,7 +5,8 @@ use Rattle.std.proofs.lemmas.Bool.Decides.{nat_tests}
 use Rattle.ct_messages.specs.Ct.{Ask, NextOf, PortNameOf, NodeNameOf, TypesOf, FeaturesOf, ByPortName, AddressesOfType, PortNamesOfType, NodeNamesOfType, AddressesOfPortType, SetNode, SetTypes, SetSymbol, SetFeature, SetNodeSymbol, Erase, Unknown}
 use Rattle.ct_messages.specs.Server.{Values, NO_FEATURES, is_registration}
 use Rattle.ct_messages.specs.Server as server
-use Rattle.fab_policy.specs.Fits.{HasByte, RegistrationsFit, LoginsFit}
+use Rattle.ct_messages.specs.CanWrite.{HasByte}
+use Rattle.fab_policy.specs.Fits.{RegistrationsFit, LoginsFit}
 use Rattle.fab_policy.specs.Registered.{says_feature}
 use Rattle.fab_policy.specs.Steps.{features_after, values_after}
 

@@ -1,7 +1,6 @@
 -- The answers to requests.
 use Rattle.std.proofs.Common.{◌≡◌, ℕ, ◌≤◌, nat_le, ◌==◌, IsTrue, Bool, true, false, List, [], None, Result, Ok, Err, refl, sym, ap, ◌∙◌, if◌then◌else◌, min, ◌∷◌}
 use Rattle.std.proofs.lemmas.Bool.{leb-true}
-use Rattle.fab_base.specs.Layout.{field, padded}
 use Rattle.fab_base.specs.declared.values.Caught.{Caught}
 use Rattle.eth_frames.specs.Ethernet as eth
 use Rattle.eth_frames.specs.declared.EthFault.{EthFault}
@@ -11,12 +10,13 @@ use Rattle.fab_config.specs.InRange.{inside_in_range}
 use Rattle.fab_config.specs.declared.Config.TheInside.{Inside}
 use Rattle.fip_codec.specs.Message as fip
 use Rattle.fip_codec.proofs.Sound.{and-left, and-right}
-use Rattle.fab_policy.specs.Heard.{What, Bad, plain, frame_in, decoded, source, FIP}
-use Rattle.fab_policy.specs.Judging.{notice_to, solicited_by, verdict_of}
-use Rattle.fab_policy.specs.Replies.{vlan_notice, advertised_to_one, size_in, made, own_tag, advertisement}
+use Rattle.fab_policy.specs.Heard.{What, Bad, plain, frame_in, decoded, source}
+use Rattle.fab_policy.specs.Judging.{verdict_of}
+use Rattle.fab_policy.specs.Replies.{notice_to, advertised_to, vlan_notice, advertised_to_one, size_in}
 use Rattle.fab_policy.specs.Stage.{verdict_so_far}
 use Rattle.fab_policy.specs.declared.verdict.Rule.TheVariants as rule
 use Rattle.fab_policy.specs.declared.verdict.Verdict.TheVariants.{Vlans, Advertised, Dropped}
+use Rattle.fab_policy.proofs.Carried.{source_is}
 use Rattle.fab_policy.proofs.JudgeLemmas.{so_far_is}
 
 -- ---- ranges
@@ -59,24 +59,6 @@ ranges_inside i h =
 
 -- ---- a frame that was read
 
-source_of : (l : List ℕ) (short tag : Bool) (f : eth.Eth) →
-    (if short then Err Short else Ok (if tag then eth.tagged_frame l else eth.plain_frame l)) ≡ Ok f → f.src ≡ field l 6 6
-source_of l true tag f e = absurd (cc)
-source_of l false true f e = ap (λ (r : Result eth.Eth EthFault). from r) (sym e)
-  where
-    from : Result eth.Eth EthFault → List ℕ
-    from (Ok g) = g.src
-    from (Err fault) = []
-source_of l false false f e = ap (λ (r : Result eth.Eth EthFault). from r) (sym e)
-  where
-    from : Result eth.Eth EthFault → List ℕ
-    from (Ok g) = g.src
-    from (Err fault) = []
-
-source_is : (caught : Caught) (f : eth.Eth) → eth.decoded caught.bytes ≡ Ok f → f.src ≡ source caught
-unfolding eth.decoded
-source_is caught f e = source_of caught.bytes (eth.is_short caught.bytes) (eth.has_tag caught.bytes) f e
-
 -- a frame that can't be read is dropped
 unread : (c : Settings) (whole : Bool) (read : Result eth.Eth EthFault) (fault : EthFault) → read ≡ Err fault →
     (let what : What = elim whole as (λ _. What) [
@@ -100,20 +82,14 @@ solicits_readable c caught fault asks e = let w : Advertised ≡ Dropped (plain 
 
 -- ---- the answers, by what was read
 
-abbrev is_untagged : Result eth.Eth EthFault → Bool
-is_untagged read = elim read [ Ok f ↦ eth.vlan_of_tag f.tag == 0 | Err e ↦ true ]
-
 abbrev notice_of : Settings → Result eth.Eth EthFault → List ℕ → List ℕ
-notice_of c read src = made c (if is_untagged read then None else own_tag c) src FIP (fip.written (fip.VlanTell c.fcf_mac (c.vlan ∷ [])))
+notice_of c read src = notice_to c src (elim read [ Ok f ↦ eth.vlan_of_tag f.tag == 0 | Err e ↦ true ])
 
-pub notice_is : (c : Settings) (caught : Caught) (f : eth.Eth) → eth.decoded caught.bytes ≡ Ok f → notice_to c f ≡ vlan_notice c caught
-notice_is c caught f e = ap (notice_of c (Ok f)) (source_is caught f e) ∙ ap (λ r. notice_of c r (source caught)) (sym e)
-
-abbrev size_read : Result eth.Eth EthFault → ℕ
-size_read read = elim read [ Err e ↦ 0 | Ok f ↦ size_in f.body ]
+pub notice_is : (c : Settings) (caught : Caught) (f : eth.Eth) → eth.decoded caught.bytes ≡ Ok f → notice_to c f.src (eth.vlan_of_tag f.tag == 0) ≡ vlan_notice c caught
+notice_is c caught f e = ap (notice_of c (Ok f)) (sym (source_is caught f e)) ∙ ap (λ r. notice_of c r (source caught)) (sym e)
 
 abbrev solicited_of : Settings → Result eth.Eth EthFault → List ℕ → List ℕ
-solicited_of c read src = made c (own_tag c) src FIP (padded (min (size_read read) 2158) (fip.written (advertisement c true)))
+solicited_of c read src = advertised_to c src (elim read [ Err e ↦ 0 | Ok f ↦ size_in f.body ])
 
-pub solicited_is : (c : Settings) (caught : Caught) (f : eth.Eth) → eth.decoded caught.bytes ≡ Ok f → solicited_by c f ≡ advertised_to_one c caught
-solicited_is c caught f e = ap (solicited_of c (Ok f)) (source_is caught f e) ∙ ap (λ r. solicited_of c r (source caught)) (sym e)
+pub solicited_is : (c : Settings) (caught : Caught) (f : eth.Eth) → eth.decoded caught.bytes ≡ Ok f → advertised_to c f.src (size_in f.body) ≡ advertised_to_one c caught
+solicited_is c caught f e = ap (solicited_of c (Ok f)) (sym (source_is caught f e)) ∙ ap (λ r. solicited_of c r (source caught)) (sym e)

@@ -6,12 +6,8 @@ use Rattle.std.specs.List.{list_any}
 use Rattle.fab_base.specs.declared.values.Caught.{Caught}
 use Rattle.fab_config.specs.Settings.{Settings}
 use Rattle.eth_frames.specs.Ethernet as eth
-use Rattle.eth_frames.specs.declared.EthFault.{EthFault}
 use Rattle.fc_frames.specs.Frame as fc
-use Rattle.fcoe_codec.specs.Fcoe as capsule
 use Rattle.fip_codec.specs.Message as fip
-use Rattle.fip_codec.specs.Reading as reading
-use Rattle.fip_codec.specs.declared.fault.FipFault.{FipFault}
 use Rattle.fip_codec.specs.declared.message.LoginKind.{LoginKind}
 use Rattle.fip_codec.specs.declared.message.LoginKind.TheVariants.{Flogi, Fdisc, Logo}
 use Rattle.els_messages.specs.Els as els
@@ -19,7 +15,7 @@ use Rattle.els_messages.specs.declared.LoginParms.{LoginParms}
 use Rattle.ct_messages.specs.Ct as ct
 use Rattle.ct_messages.specs.declared.CtFault.{CtFault}
 use Rattle.fab_policy.specs.Cause.{Cause}
-use Rattle.fab_policy.specs.Heard.{What, Bad, Fip, Fcoe, FIP, FCOE, plain, cause_of, decoded, frame_in, fip_in, sender, fc_of, login_of, carried, asked, is_flogi, NO_FRAME}
+use Rattle.fab_policy.specs.Heard.{What, Bad, Fip, Fcoe, plain, decoded, sender, fc_of, login_of, carried, asked, is_flogi}
 use Rattle.fab_policy.specs.State.{Tables, LivePort, port_at}
 use Rattle.fab_policy.specs.Free.{Request, has_free, is_free}
 use Rattle.fab_policy.specs.Rules.{first_row, rule_for, holds, is_known, is_els_reply, is_els_request, NAME_SERVER, SERVICES}
@@ -29,6 +25,7 @@ use Rattle.fab_policy.specs.Verdicts.{Judgement, Must, MayGrant, Meets, IsRight,
 use Rattle.fab_policy.specs.declared.verdict.Verdict.{Verdict}
 use Rattle.fab_policy.specs.declared.verdict.Verdict.TheVariants.{Granted, Rejected, Logout, NsLogin, NsLogout, Watching, Refused, Registered, Answered, Noted, Forwarded, Dropped}
 use Rattle.fab_policy.specs.declared.verdict.Rule.TheVariants as rule
+use Rattle.fab_policy.proofs.Carried.{IsFipOf, fip_of, login_there, carried_there}
 use Rattle.fab_policy.proofs.SoundParms.{SaysParms, says_parms}
 
 abbrev is_grant : Verdict → Bool
@@ -48,70 +45,7 @@ abbrev GrantsAllowed : Settings → Tables → ℕ → Caught → Judgement → 
 GrantsAllowed c T port caught (Must v) = is_grant v ≡ false
 GrantsAllowed c T port caught (MayGrant r) = IsAllowed c T port caught r
 
--- ---- which message it is
-
--- the parts that a decoded FIP message comes from
-record IsFipOf (caught : Caught) (f : eth.Eth) (m : fip.Fip) : Type 0 where
-  frame : eth.decoded caught.bytes ≡ Ok f
-  kind : f.kind == FIP ≡ true
-  message : reading.decoded f.body ≡ Ok m
-
-frame_of : eth.Eth → What → eth.Eth
-frame_of d (Fip f m) = f
-frame_of d _ = d
-
-message_of : fip.Fip → What → fip.Fip
-message_of d (Fip f m) = m
-message_of d _ = d
-
-fip_of : (caught : Caught) (g : eth.Eth) (m : fip.Fip) → decoded caught ≡ Fip g m → IsFipOf caught g m
-unfolding decoded frame_of message_of
-fip_of caught g m e = by_whole caught.whole (eth.decoded caught.bytes) refl e
-  where
-    by_message : (f : eth.Eth) → eth.decoded caught.bytes ≡ Ok f → f.kind == FIP ≡ true → (r : Result fip.Fip FipFault) → reading.decoded f.body ≡ r →
-        (elim r as (λ _. What) [ Err fault ↦ Bad (cause_of fault) | Ok message ↦ Fip f message ]) ≡ Fip g m → IsFipOf caught g m
-    by_message f x k (Err fault) y is = cc
-    by_message f x k (Ok n) y is =
-        let same : f ≡ g = ap (frame_of f) is in
-        record { frame = x ∙ ap Ok same; kind = subst (λ h. h.kind == FIP ≡ true) same k; message = subst (λ h. reading.decoded h.body ≡ Ok m) same (y ∙ ap Ok (ap (message_of n) is)) }
-
-    by_kind : (f : eth.Eth) → eth.decoded caught.bytes ≡ Ok f → (b o : Bool) → f.kind == FIP ≡ b →
-        (elim b as (λ _. What) [ true ↦ fip_in f | false ↦ elim o as (λ _. What) [ true ↦ Fcoe f (capsule.decoded f.body) | false ↦ Bad (plain rule.Ethertype) ] ]) ≡ Fip g m → IsFipOf caught g m
-    by_kind f x true o k is = by_message f x k (reading.decoded f.body) refl is
-    by_kind f x false true k is = cc
-    by_kind f x false false k is = cc
-
-    by_whole : (b : Bool) (r : Result eth.Eth EthFault) → eth.decoded caught.bytes ≡ r →
-        (elim b as (λ _. What) [ false ↦ Bad (plain rule.Truncated) | true ↦ elim r as (λ _. What) [ Err fault ↦ Bad (plain rule.EthShort) | Ok f ↦ frame_in f ] ]) ≡ Fip g m → IsFipOf caught g m
-    by_whole false r x is = cc
-    by_whole true (Err fault) x is = cc
-    by_whole true (Ok f) x is = by_kind f x (f.kind == FIP) (f.kind == FCOE) refl is
-
-not_fcoe : (kind : ℕ) → kind == FIP ≡ true → kind == FCOE ≡ false
-not_fcoe kind e = grind (arith, nat_tests)
-
--- the login that the journal reads from the frame of a FIP login
-login_there : (caught : Caught) (f : eth.Eth) (kind : LoginKind) (fp : Bool) (l mac : List ℕ) → IsFipOf caught f (fip.Login kind fp l mac) → login_of caught ≡ Some (kind, l)
-login_there caught f kind fp l mac h =
-    ap (λ (r : Result eth.Eth EthFault). elim r as (λ _. Option (LoginKind × List ℕ)) [ Err fault ↦ None | Ok g ↦ elim (g.kind == FIP) as (λ _. Option (LoginKind × List ℕ)) [ true ↦ in_body (reading.decoded g.body) | false ↦ None ] ]) h.frame
-    ∙ ap (λ b. elim b as (λ _. Option (LoginKind × List ℕ)) [ true ↦ in_body (reading.decoded f.body) | false ↦ None ]) h.kind
-    ∙ ap in_body h.message
-  where
-    in_body : Result fip.Fip FipFault → Option (LoginKind × List ℕ)
-    in_body r = elim r as (λ _. Option (LoginKind × List ℕ)) [ Ok (fip.Login kind fp l mac) ↦ Some (kind, l) | _ ↦ None ]
-
-carried_there : (caught : Caught) (f : eth.Eth) (kind : LoginKind) (fp : Bool) (l mac : List ℕ) → IsFipOf caught f (fip.Login kind fp l mac) → carried caught ≡ fc_of l
-unfolding carried
-carried_there caught f kind fp l mac h =
-    ap (λ (r : Result eth.Eth EthFault). elim r as (λ _. fc.Frame) [
-      | Err fault ↦ NO_FRAME
-      | Ok g ↦ elim (g.kind == FCOE) as (λ _. fc.Frame) [ true ↦ capsule.frame_in (capsule.covered g.body) | false ↦ in_login (login_of caught) ]
-    ]) h.frame
-    ∙ ap (λ b. elim b as (λ _. fc.Frame) [ true ↦ capsule.frame_in (capsule.covered f.body) | false ↦ in_login (login_of caught) ]) (not_fcoe f.kind h.kind)
-    ∙ ap in_login (login_there caught f kind fp l mac h)
-  where
-    in_login : Option (LoginKind × List ℕ) → fc.Frame
-    in_login o = elim o as (λ _. fc.Frame) [ None ↦ NO_FRAME | Some login ↦ fc_of login.1 ]
+-- ---- which kind it is
 
 -- a request is a FLOGI where its frame is one
 kind_there : (port : ℕ) (caught : Caught) (kind : LoginKind) (l : List ℕ) (p : LoginParms) → login_of caught ≡ Some (kind, l) → (request_of kind port caught p).flogi ≡ is_flogi caught

@@ -7,8 +7,8 @@ use Rattle.fab_policy.specs.Journal.{Journal, followed}
 use Rattle.fab_policy.specs.State.{Tables, tables_of}
 use Rattle.fab_policy.specs.Outputs.{State, state_of, outputs, outputs_by, notices, rscn_count}
 use Rattle.fab_policy.specs.Steps.{after}
-use Rattle.fab_policy.specs.Legal.{Legal, IsRightEntry}
-use Rattle.fab_policy.specs.Standing.{Contents, Stands, Takes, StandsAfter, StandsDrained, LegalAfter, Grown, GrowsByFrames, AreFrames, state_after, sent_after}
+use Rattle.fab_policy.specs.Legal.{Legal, IsRightEntry, IsDueBy}
+use Rattle.fab_policy.specs.Standing.{Contents, Stands, Takes, StandsNew, StandsOlder, DueAfter, StandsAfter, StandsDrained, LegalAfter, Grown, GrowsByFrames, AreFrames, grown_of_itself, state_after, sent_after}
 use Rattle.fab_base.specs.declared.values.Caught.{Caught}
 use Rattle.fab_policy.specs.declared.event.Event.{Event}
 use Rattle.fab_policy.specs.declared.event.Event.TheVariants.{Tick, Frame}
@@ -18,6 +18,23 @@ use Rattle.fab_policy.proofs.Steps.{steps}
 followed_last : (J : Journal) (es : List Event) (e : Event) → followed J (es ++ e ∷ []) ≡ e ∷ followed J es
 followed_last J [] e = refl
 followed_last J (d ∷ es) e = followed_last (d ∷ J) es e
+
+-- a journal that entries follow is known by what they make of it
+followed_once : (es : List Event) (I J : Journal) → followed I es ≡ followed J es → I ≡ J
+followed_once [] I J same = same
+followed_once (e ∷ es) I J same = tail (followed_once es (e ∷ I) (e ∷ J) same)
+  where
+    tail : e ∷ I ≡ e ∷ J → I ≡ J
+    tail more = cc
+
+pub stands_new : StandsNew
+stands_new c n = record { state = refl; older = []; events = refl; outs = refl }
+
+pub stands_older : StandsOlder
+stands_older F I J s is = s.outs ∙ ap (λ K. sent_after F.settings F.count K F.events) (followed_once F.events s.older I (sym s.events ∙ is))
+
+pub due_after : DueAfter
+due_after F J m s due = subst (λ S. IsDueBy F.settings S m) s.state due
 
 sent_last : (c : Settings) (n : ℕ) (J : Journal) (es : List Event) (e : Event) → sent_after c n J (es ++ e ∷ []) ≡ sent_after c n J es ++ outputs c n (followed J es) e
 sent_last c n J [] e = append-nil (outputs c n J e)
@@ -60,9 +77,6 @@ stands_drained F J s = record { state = s.state; older = J; events = refl; outs 
 pub legal_after : LegalAfter
 legal_after F e J l s r = (l, subst (λ S. IsRightEntry F.settings S.tables e) s.state r)
 
-grown_self : (F : Contents) → Grown F F
-grown_self F = record { settings = refl; count = refl; clock = refl; later = []; frames = tt; events = sym (append-nil F.events); stands = λ J l s. (l, s) }
-
 frames_last : (es : List Event) (port index : ℕ) (caught : Caught) (v : Verdict) → AreFrames es → AreFrames (es ++ Frame port index caught v ∷ [])
 frames_last [] port index caught v h = tt
 frames_last (Frame p i c w ∷ es) port index caught v h = frames_last es port index caught v h
@@ -89,4 +103,4 @@ grown_step first F G port index caught v g r t =
     }
 
 pub grows_by_frames : GrowsByFrames
-grows_by_frames = (grown_self, grown_step)
+grows_by_frames = (grown_of_itself, grown_step)

@@ -232,9 +232,14 @@ skipped f h k a ne None e rest = refl
 skipped f h k a ne (Some p) e rest = ap (λ b. cond b (Some p) (port_at a rest)) (ap (λ x. x == a) (h k p e) ∙ differ k a ne)
 
 -- an address below those of a table stands for nobody there
-absent : (f : ℕ → Option LivePort) → AreAddressed f → (n k a : ℕ) → a < k → port_at a (filter_map f (counting k n)) ≡ None
+pub absent : (f : ℕ → Option LivePort) → AreAddressed f → (n k a : ℕ) → a < k → port_at a (filter_map f (counting k n)) ≡ None
 absent f h zero k a lt = refl
 absent f h (suc n) k a lt = skipped f h k a (omega arith) (f k) refl (filter_map f (counting (k + 1) n)) ∙ absent f h n (k + 1) a (omega arith)
+
+-- nor does one above them
+pub beyond : (f : ℕ → Option LivePort) → AreAddressed f → (n k a : ℕ) → k + n ≤ a → port_at a (filter_map f (counting k n)) ≡ None
+beyond f h zero k a le = refl
+beyond f h (suc n) k a le = skipped f h k a (omega arith) (f k) refl (filter_map f (counting (k + 1) n)) ∙ beyond f h n (k + 1) a (omega arith)
 
 -- the first of a table stands for its own address
 first_found : (f : ℕ → Option LivePort) → AreAddressed f → (k : ℕ) → (o : Option LivePort) → f k ≡ o → (rest : List LivePort) → port_at k rest ≡ None → port_at k (cons_option o rest) ≡ o

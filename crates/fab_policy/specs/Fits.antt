@@ -1,6 +1,7 @@
 -- What a journal says of registrations is what the name server keeps: its table says both.
-use Rattle.std.specs.Prelude.{◌≡◌, ℕ, ◌<◌, true, length, Some}
-use Rattle.ct_messages.specs.Ct.{Ask, SetFeature}
+use Rattle.std.specs.Prelude.{◌≡◌, ℕ, true, length, Some}
+use Rattle.ct_messages.specs.Ct.{Ask}
+use Rattle.ct_messages.specs.CanWrite.{HasByte}
 use Rattle.ct_messages.specs.Server.{first_values, is_registration}
 use Rattle.ct_messages.specs.Server as server
 use Rattle.fab_policy.specs.Logins.{NPort}
@@ -8,11 +9,6 @@ use Rattle.fab_policy.specs.Registered.{registration}
 use Rattle.fab_policy.specs.State.{LivePort}
 use Rattle.fab_policy.specs.Steps.{fresh, touched}
 use Rattle.fab_policy.specs.declared.event.Event.{Event}
-
--- a type has eight bits
-abbrev pub HasByte : Ask → Type 0
-HasByte (SetFeature a feature kind) = kind < 256
-HasByte _ = Unit {0}
 
 -- An entry that registers something for an address gives its N_Port the values that the table gives.
 abbrev pub RegistrationsFit : Type 0

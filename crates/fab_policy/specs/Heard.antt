@@ -113,6 +113,10 @@ carried caught =
 abbrev pub s_id : Caught → ℕ
 s_id caught = (carried caught).head.s_id
 
+-- its D_ID
+abbrev pub d_id : Caught → ℕ
+d_id caught = (carried caught).head.d_id
+
 -- the parameters that the frame's login asks for
 abbrev pub asked : Caught → LoginParms
 asked caught = els.parms_of (carried caught).payload

@@ -1,12 +1,10 @@
--- The verdict so far of what was heard, and the answers to what was read.
-use Rattle.std.specs.Prelude.{ℕ, Bool, true, false, ◌==◌, not, if◌then◌else◌, List, [], ◌∷◌, Option, Some, None, min}
+-- The verdict so far of what was heard.
+use Rattle.std.specs.Prelude.{Bool, false, not, List, [], ◌∷◌, Option, Some, None}
 use Rattle.fab_config.specs.Settings.{Settings, same_bytes}
 use Rattle.eth_frames.specs.Ethernet as eth
 use Rattle.fip_codec.specs.Message as fip
-use Rattle.fab_base.specs.Layout.{padded}
-use Rattle.fab_policy.specs.Replies.{made, own_tag, advertisement, size_in}
 use Rattle.fab_policy.specs.Cause.{Cause}
-use Rattle.fab_policy.specs.Heard.{What, plain, FIP}
+use Rattle.fab_policy.specs.Heard.{What, plain}
 use Rattle.fab_policy.specs.Rules.{named_mac, is_wrong_vlan, first_row}
 use Rattle.fab_policy.specs.Stage.{frame_rule, message_verdict}
 use Rattle.fab_policy.specs.declared.verdict.Verdict.{Verdict}
@@ -28,11 +26,3 @@ verdict_of c what = by_rule (frame_rule c what) (message_verdict what)
 -- the verdict of a frame of FCoE, whatever its body is
 abbrev pub fcoe_verdict : Settings → eth.Eth → Verdict
 fcoe_verdict c f = by_rule (first_row ((is_wrong_vlan c f false, plain rule.Vlan) ∷ [])) (Dropped (plain rule.NotBuilt))
-
--- ---- answers to a frame that was read
-
-abbrev pub notice_to : Settings → eth.Eth → List ℕ
-notice_to c f = made c (if eth.vlan_of_tag f.tag == 0 then None else own_tag c) f.src FIP (fip.written (fip.VlanTell c.fcf_mac (c.vlan ∷ [])))
-
-abbrev pub solicited_by : Settings → eth.Eth → List ℕ
-solicited_by c f = made c (own_tag c) f.src FIP (padded (min (size_in f.body) 2158) (fip.written (advertisement c true)))

@@ -8,7 +8,7 @@ use Rattle.pcap_file.specs.declared.Record.{Record}
 use Rattle.fab_policy.specs.Journal.{Journal, clock}
 use Rattle.fab_policy.specs.State.{tables_of, overdue, addresses, Tables, now_of}
 use Rattle.fab_policy.specs.Verdicts.{IsRight}
-use Rattle.fab_policy.specs.Outputs.{is_owed, advertised_at}
+use Rattle.fab_policy.specs.Outputs.{State, is_owed, advertised_at}
 use Rattle.fab_policy.specs.declared.event.Event.{Event}
 use Rattle.fab_policy.specs.declared.event.Event.TheVariants.{Tick, Frame}
 
@@ -61,16 +61,28 @@ is_tick_owed c T advertised m =
 abbrev pub is_owed_after : Settings → Journal → ℕ → Bool
 is_owed_after c J m = is_tick_owed c (tables_of c J) (advertised_at c J) m
 
--- a moment at which a tick may be
-abbrev pub IsTickTime : Settings → Journal → ℕ → Type 0
-IsTickTime c J m = (m % c.window ≡ 0) × IfSome (clock J) (λ t. t < m)
+-- a moment at which a tick may be, by the clock
+abbrev pub IsTickTimeAt : Settings → Option ℕ → ℕ → Type 0
+IsTickTimeAt c at m = (m % c.window ≡ 0) × IfSome at (λ t. t < m)
 
--- The moment is the least above the clock at which a tick is owed; none is before the first tick.
-pub record IsDue (c : Settings) (J : Journal) (m : ℕ) : Type 0 where
-  pub begun : IsSome (clock J)
-  pub time : IsTickTime c J m
-  pub owed : IsTrue (is_owed_after c J m)
-  pub least : (k : ℕ) → IsTickTime c J k → k < m → is_owed_after c J k ≡ false
+-- The moment is the least above the clock of the tables at which a tick is owed, the last advertisement having been then; none
+-- is before the first tick.
+pub record IsTickDue (c : Settings) (T : Tables) (advertised : Option ℕ) (m : ℕ) : Type 0 where
+  pub begun : IsSome T.clock
+  pub time : IsTickTimeAt c T.clock m
+  pub owed : IsTrue (is_tick_owed c T advertised m)
+  pub least : (k : ℕ) → IsTickTimeAt c T.clock k → k < m → is_tick_owed c T advertised k ≡ false
+
+-- the same by what a fabric keeps
+abbrev pub IsDueBy : Settings → State → ℕ → Type 0
+IsDueBy c S m = IsTickDue c S.tables S.advertised m
+
+-- the same by what a journal says
+abbrev pub IsTickTime : Settings → Journal → ℕ → Type 0
+IsTickTime c J m = IsTickTimeAt c (clock J) m
+
+abbrev pub IsDue : Settings → Journal → ℕ → Type 0
+IsDue c J m = IsTickDue c (tables_of c J) (advertised_at c J) m
 
 -- the records of a port that have no entry in J yet
 abbrev pub left_of : ℕ → List Record → Journal → List Record

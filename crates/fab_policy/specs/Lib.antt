@@ -11,7 +11,10 @@ pub mod Queries
 pub mod Verdicts
 pub mod Replies
 pub mod Outputs
+pub mod Carried
 pub mod Legal
+pub mod Due
+pub mod Right
 pub mod Text
 pub mod Steps
 pub mod Forwarding

@@ -41,15 +41,7 @@ abbrev pub IsRanged : Journal → Type 0
 IsRanged [] = Unit {0}
 IsRanged (e ∷ J) = IsRanged J × IsRangedEvent e
 
--- the first entry, if any, is a tick
-abbrev pub BeginsWithTick : Journal → Type 0
-BeginsWithTick [] = Unit {0}
-BeginsWithTick (Tick m ended ∷ []) = Unit {0}
-BeginsWithTick (Frame port index caught verdict ∷ []) = ⊥
-BeginsWithTick (e ∷ d ∷ J) = BeginsWithTick (d ∷ J)
-
--- Text and captures name one journal: two that begin with a tick and have the same text in one format, and the same frames of
--- each port, are equal.
+-- Text and captures name one journal: two that have the same text in one format, and the same frames of each port, are equal.
 abbrev pub TextNamesJournal : Type 0
-TextNamesJournal = (I J : Journal) → IsRanged I → IsRanged J → BeginsWithTick I → BeginsWithTick J →
+TextNamesJournal = (I J : Journal) → IsRanged I → IsRanged J →
     ((p : ℕ) → of_port p I ≡ of_port p J) → (text I ≡ text J → I ≡ J) × (text1 I ≡ text1 J → I ≡ J)

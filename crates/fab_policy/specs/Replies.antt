@@ -1,11 +1,12 @@
 -- The frames that the forwarder makes (FC-BB-5, "FIP operations" and "FCoE frame format"; FC-LS-2; FC-GS-6). Choices
 -- that the standards leave open are this project's profile.
-use Rattle.std.specs.Prelude.{ℕ, zero, suc, ◌+◌, min, Bool, true, false, ◌==◌, nat_le, if◌then◌else◌, List, [], ◌∷◌, ◌++◌, length, take, drop, Option, Some, None, Ok, Err}
+use Rattle.std.specs.Prelude.{ℕ, ◌+◌, min, Bool, true, false, ◌==◌, if◌then◌else◌, List, [], ◌∷◌, ◌++◌, length, drop, Option, Some, None, Ok, Err}
 use Rattle.fab_base.specs.Layout.{spelled, zeros, padded}
 use Rattle.fab_base.specs.declared.values.Caught.{Caught}
 use Rattle.fab_config.specs.Settings.{Settings}
 use Rattle.eth_frames.specs.Ethernet as eth
 use Rattle.fc_frames.specs.Frame as fc
+use Rattle.fc_frames.specs.Pieces.{pieces}
 use Rattle.fc_frames.specs.declared.FcHeader.{FcHeader}
 use Rattle.fcoe_codec.specs.Fcoe as capsule
 use Rattle.fip_codec.specs.Message as fip
@@ -117,9 +118,13 @@ login_reply c caught v = reply_in_fip c caught (carried caught).head.s_id v None
 abbrev pub is_untagged : Caught → Bool
 is_untagged caught = elim (eth.decoded caught.bytes) [ Ok f ↦ eth.vlan_of_tag f.tag == 0 | Err e ↦ true ]
 
--- a VLAN notification, without a tag where the request has none
+-- a VLAN notification to a MAC, with or without a tag
+abbrev pub notice_to : Settings → List ℕ → Bool → List ℕ
+notice_to c dst untagged = made c (if untagged then None else own_tag c) dst FIP (fip.written (fip.VlanTell c.fcf_mac (c.vlan ∷ [])))
+
+-- the answer to a VLAN request, without a tag where the request has none
 abbrev pub vlan_notice : Settings → Caught → List ℕ
-vlan_notice c caught = made c (if is_untagged caught then None else own_tag c) (source caught) FIP (fip.written (fip.VlanTell c.fcf_mac (c.vlan ∷ [])))
+vlan_notice c caught = notice_to c (source caught) (is_untagged caught)
 
 abbrev pub advertisement : Settings → Bool → fip.Fip
 advertisement c solicited = fip.Advertise solicited true true true c.priority c.fcf_mac c.switch c.fc_map c.switch false c.period
@@ -135,9 +140,13 @@ size_in body = elim (reading.decoded body) [ Ok (fip.Solicit from_fcf fp mac nam
 abbrev pub size_asked : Caught → ℕ
 size_asked caught = elim (eth.decoded caught.bytes) [ Err e ↦ 0 | Ok f ↦ size_in f.body ]
 
--- an advertisement to the sender of a solicitation, with zeros up to the size that it asks for
+-- a solicited advertisement to a MAC, with zeros up to a size
+abbrev pub advertised_to : Settings → List ℕ → ℕ → List ℕ
+advertised_to c dst size = made c (own_tag c) dst FIP (padded (min size 2158) (fip.written (advertisement c true)))
+
+-- the answer to a solicitation, of the size that it asks for
 abbrev pub advertised_to_one : Settings → Caught → List ℕ
-advertised_to_one c caught = made c (own_tag c) (source caught) FIP (padded (min (size_asked caught) 2158) (fip.written (advertisement c true)))
+advertised_to_one c caught = advertised_to c (source caught) (size_asked caught)
 
 -- ---- replies in FCoE, to the sender of a frame
 
@@ -146,11 +155,6 @@ reply_in_fcoe c caught f = made_fcoe c (source caught) capsule.SOF_I3 capsule.EO
 
 abbrev pub service_reply : Settings → Caught → els.Els → List ℕ
 service_reply c caught v = reply_in_fcoe c caught (els_reply (carried caught) (carried caught).head.s_id v)
-
--- a payload in pieces of a size, of which there are at most n
-abbrev pub pieces : ℕ → ℕ → List ℕ → List (List ℕ)
-pieces zero size l = []
-pieces (suc n) size l = elim (nat_le (length l) size) [ true ↦ l ∷ [] | false ↦ take size l ∷ pieces n size (drop size l) ]
 
 -- one frame of a reply of the common transport: the first begins the sequence, and the last ends it
 abbrev pub ct_frame : Settings → Caught → ℕ → Bool → List ℕ → List ℕ

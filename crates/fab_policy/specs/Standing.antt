@@ -1,10 +1,12 @@
 -- What a fabric stands for: the plain contents of its tables, and a journal that says the same.
-use Rattle.std.specs.Prelude.{◌≡◌, ℕ, ◌+◌, ◌%◌, List, [], ◌∷◌, ◌++◌, length}
+use Rattle.std.specs.Prelude.{◌≡◌, ℕ, ◌+◌, ◌%◌, List, [], ◌∷◌, ◌++◌, length, refl}
+use Rattle.std.proofs.Common.{sym}
+use Rattle.std.proofs.lemmas.List.{append-nil}
 use Rattle.fab_config.specs.Settings.{Settings}
 use Rattle.fab_policy.specs.Journal.{Journal, followed}
 use Rattle.fab_policy.specs.Outputs.{State, state_of, outputs, outputs_by, notices, advertised_after, Sent}
 use Rattle.fab_policy.specs.Steps.{after}
-use Rattle.fab_policy.specs.Legal.{Legal, IsRightEntry}
+use Rattle.fab_policy.specs.Legal.{Legal, IsRightEntry, IsDue, IsDueBy}
 use Rattle.fab_base.specs.declared.values.Caught.{Caught}
 use Rattle.fab_policy.specs.declared.event.Event.{Event}
 use Rattle.fab_policy.specs.declared.event.Event.TheVariants.{Tick, Frame}
@@ -31,6 +33,22 @@ pub record Stands (F : Contents) (J : Journal) : Type 0 where
   pub older : Journal
   pub events : J ≡ followed older F.events
   pub outs : F.outs ≡ sent_after F.settings F.count older F.events
+
+-- a fabric before anything happened
+abbrev pub new_fabric : Settings → ℕ → Contents
+new_fabric c n = record { settings = c; count = n; state = state_of c []; events = []; outs = [] }
+
+-- It stands for the empty journal.
+abbrev pub StandsNew : Type 0
+StandsNew = (c : Settings) (n : ℕ) → Stands (new_fabric c n) []
+
+-- The older journal is the one that the events since the last drain follow, and the outputs are those of these events after it.
+abbrev pub StandsOlder : Type 0
+StandsOlder = (F : Contents) (I J : Journal) → Stands F J → J ≡ followed I F.events → F.outs ≡ sent_after F.settings F.count I F.events
+
+-- What is due by a fabric's own tables is due by each journal that it stands for.
+abbrev pub DueAfter : Type 0
+DueAfter = (F : Contents) (J : Journal) (m : ℕ) → Stands F J → IsDueBy F.settings F.state m → IsDue F.settings J m
 
 -- ---- one more entry
 
@@ -82,6 +100,10 @@ pub record Grown (first F : Contents) : Type 0 where
   pub frames : AreFrames later
   pub events : F.events ≡ first.events ++ later
   pub stands : (J : Journal) → Legal first.settings J → Stands first J → Legal first.settings (followed J later) × Stands F (followed J later)
+
+-- A fabric grew out of itself.
+pub grown_of_itself : (F : Contents) → Grown F F
+grown_of_itself F = record { settings = refl; count = refl; clock = refl; later = []; frames = tt; events = sym (append-nil F.events); stands = λ J l s. (l, s) }
 
 -- A fabric grew out of itself, and one that grew grows by each frame that it takes with a right verdict.
 abbrev pub GrowsByFrames : Type 0

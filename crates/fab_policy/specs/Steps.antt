@@ -1,5 +1,5 @@
 -- What one more entry changes: what a journal with one more entry says follows from what the journal said.
-use Rattle.std.specs.Prelude.{◌≡◌, ℕ, List, [], ◌∷◌, Option, Some, None, option_and_then, option_map, if◌then◌else◌, unwrap_or, map, filter_map, ◌+◌, ◌*◌, ◌<◌, ◌≤◌}
+use Rattle.std.specs.Prelude.{◌≡◌, ℕ, List, [], ◌∷◌, Option, Some, None, option_and_then, option_map, if◌then◌else◌, unwrap_or, map, filter_map, ◌+◌, ◌*◌, ◌<◌, ◌≤◌, ◌⊎◌}
 use Rattle.fab_base.specs.Fabric.{Past}
 use Rattle.fab_base.specs.declared.values.Enode.{Enode}
 use Rattle.fab_config.specs.Settings.{Settings}
@@ -8,7 +8,7 @@ use Rattle.fab_policy.specs.Journal.{Journal, moment_of}
 use Rattle.fab_policy.specs.Logins.{NPort, login, grants, n_port, ends, says_server, says_watch, hears_node, hears_port, pool}
 use Rattle.fab_policy.specs.Registered.{registration, says_node, says_types, says_feature, says_symbol, says_node_symbol}
 use Rattle.ct_messages.specs.Server.{Values, first_values}
-use Rattle.fab_policy.specs.State.{LivePort, Tables, tables_of, port_at}
+use Rattle.fab_policy.specs.State.{LivePort, Tables, tables_of, live_port, port_at}
 use Rattle.fab_policy.specs.declared.event.Event.{Event}
 
 -- ---- single questions
@@ -105,6 +105,13 @@ Steps = (c : Settings) (e : Event) (J : Journal) → tables_of c (e ∷ J) ≡ a
 abbrev pub AreAscending : ℕ → ℕ → List LivePort → Type 0
 AreAscending from to [] = Unit {0}
 AreAscending from to (p ∷ ports) = (from ≤ p.address) × (p.address < to) × AreAscending (p.address + 1) to ports
+
+-- The N_Port that the tables of a journal have for an address is the live one that the journal has; outside the pool there is none.
+abbrev pub LivesAreFound : Type 0
+LivesAreFound = (c : Settings) (J : Journal) (a : ℕ) → c.domain * 65536 + 256 ≤ a → a < c.domain * 65536 + 256 + c.pool → port_at a (tables_of c J).ports ≡ live_port a J
+
+abbrev pub OthersAreNone : Type 0
+OthersAreNone = (c : Settings) (J : Journal) (a : ℕ) → (a < c.domain * 65536 + 256) ⊎ (c.domain * 65536 + 256 + c.pool ≤ a) → port_at a (tables_of c J).ports ≡ None
 
 -- Ascending N_Ports of the pool are the ones that are found address by address.
 abbrev pub FoundByAddress : Type 0

@@ -26,10 +26,6 @@ pub record IsWritten (c : Settings) (ins : List (List Record)) (J : Journal) (jo
 abbrev pub IsPrefixOf : List ℕ → List ℕ → Type 0
 IsPrefixOf front whole = (rest : List ℕ) × (front ++ rest ≡ whole)
 
--- a file holds what it held, or a beginning of what it is to hold
-abbrev pub HoldsOldOrFront : List ℕ → List ℕ → List ℕ → Type 0
-HoldsOldOrFront before now whole = (now ≡ before) ⊎ IsPrefixOf now whole
-
 -- the records of each port in windows that start before a moment
 abbrev pub before : Settings → ℕ → List (List Record) → List (List Record)
 before c t ins = map (λ records. filter (λ r. nat_lt (window_start c r.moment) t) records) ins

@@ -1,10 +1,13 @@
-// What the definitions imply. Each function does nothing: its contract is the law.
-ghost use Rattle.fab_policy.specs.Steps.{Steps, StepsLogin, FoundByAddress};
-ghost use Rattle.fab_policy.specs.Forwarding.{ForwardsExactly};
+//! What the definitions imply. Each function does nothing: its contract is the law.
+ghost use Rattle.fab_policy.specs.Steps.{Steps, StepsLogin, FoundByAddress, LivesAreFound, OthersAreNone};
+ghost use Rattle.fab_policy.specs.Carried.{SourcesAreRead, LoginsAreCarried, BodiesAreCarried, ParmsAreAsked, AnswersAreAsked};
+ghost use Rattle.fab_policy.specs.Due.{DueIsOne, NextTickIsLesser};
+ghost use Rattle.fab_policy.specs.Forwarding.{ForwardsExactly, LegalForwards};
+ghost use Rattle.fab_policy.specs.Right.{RightIsOne};
 ghost use Rattle.fab_policy.specs.Written.{TablesAscend, LegalIsQuiet, LegalIsSound};
 ghost use Rattle.fab_policy.specs.Sound.{MacsTellAddresses, LiveMacsDiffer, GrantsAreFree};
 ghost use Rattle.fab_policy.specs.Fits.{RegistrationsFit, LoginsFit};
-ghost use Rattle.fab_policy.specs.Standing.{StandsAfter, StandsDrained, LegalAfter, GrowsByFrames};
+ghost use Rattle.fab_policy.specs.Standing.{StandsNew, StandsOlder, DueAfter, StandsAfter, StandsDrained, LegalAfter, GrowsByFrames};
 
 /// What a journal with one more entry says follows from what the journal said, and tables that are
 /// found address by address are the whole tables.
@@ -14,6 +17,12 @@ pub fn journal_steps()
     ensures found { FoundByAddress }
 {}
 
+/// The tables of a journal have the live N_Port of each address of the pool, and of no other address.
+pub fn lookups()
+    ensures lives { LivesAreFound }
+    ensures others { OthersAreNone }
+{}
+
 /// A registration changes what a journal says of its N_Port as the name server's table says, and a new
 /// login has what the table gives one: so a registry can keep what a journal says.
 pub fn registrations_fit()
@@ -21,19 +30,48 @@ pub fn registrations_fit()
     ensures fresh { LoginsFit }
 {}
 
-/// A fabric that takes an entry which is right by its own tables stands for each journal that it stood
-/// for with that entry, and this journal is legal if the one before was.
+/// What a decoded frame says is what a journal reads from its bytes: who sent it, which login it is and
+/// which FC frame it carries, what that asks for, and how it wants to be answered.
+pub fn frames_are_carried()
+    ensures source { SourcesAreRead }
+    ensures login { LoginsAreCarried }
+    ensures body { BodiesAreCarried }
+    ensures parms { ParmsAreAsked }
+    ensures answer { AnswersAreAsked }
+{}
+
+/// A fabric before anything happened stands for the empty journal. One that takes an entry which is right
+/// by its own tables stands for each journal that it stood for with that entry, and this journal is legal
+/// if the one before was. What it has sent since the last drain is what its events send after the journal
+/// that they follow, and a tick that is due by its tables is due by the journal.
 pub fn fabric_steps()
+    ensures first { StandsNew }
     ensures after { StandsAfter }
+    ensures older { StandsOlder }
+    ensures due { DueAfter }
     ensures drained { StandsDrained }
     ensures legal { LegalAfter }
     ensures grows { GrowsByFrames }
 {}
 
-/// A data frame goes on exactly where its source MAC, its port, both logins and a zone allow it, and
-/// is dropped by a rule elsewhere.
+/// One moment at most is due, and after the first tick the next one is the lesser of it and of the window
+/// of the next frames.
+pub fn ticks_are_due()
+    ensures one { DueIsOne }
+    ensures next { NextTickIsLesser }
+{}
+
+/// A data frame goes on exactly where its source MAC, its port, both logins and a zone allow it, to the
+/// port of its destination's login, and is dropped by the first rule of the table elsewhere. So it is in
+/// each legal journal.
 pub fn forwarding_rule()
-    ensures { ForwardsExactly }
+    ensures judged { ForwardsExactly }
+    ensures journal { LegalForwards }
+{}
+
+/// A frame has one right verdict over the same tables, but for the address of a grant.
+pub fn verdicts_are_one()
+    ensures { RightIsOne }
 {}
 
 /// The live addresses of each journal ascend, and their granted MACs differ. After each legal journal

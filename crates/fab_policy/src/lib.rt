@@ -9,6 +9,7 @@ mod laws;
 mod line;
 mod lines;
 mod named;
+mod ranged;
 mod reading;
 mod replies;
 mod stage;
@@ -25,12 +26,19 @@ mod words;
 pub use event::Event;
 pub use heard::{Heard, What, hear};
 pub use judging::judge;
-pub use laws::{fabric_steps, forwarding_rule, journal_steps, legal_journals, registrations_fit};
+pub use laws::{
+    fabric_steps, forwarding_rule, frames_are_carried, journal_steps, legal_journals, lookups,
+    registrations_fit, ticks_are_due, verdicts_are_one,
+};
 pub use line::{Format, Line};
 pub use lines::{write_frame_line, write_head_line, write_line, write_line1, write_tick_line};
 pub use named::journal_is_named;
+pub use ranged::{known, known_verdict};
 pub use reading::{LineError, read_line};
-pub use replies::{write_advertisement, write_solicited, write_vlan_notice};
+pub use replies::{
+    write_advertisement, write_advertisement_to, write_made, write_notice_to, write_solicited,
+    write_vlan_notice,
+};
 pub use stage::{
     requests_are_answered, solicitations_are_answered, stage_journals, stage_verdicts,
 };

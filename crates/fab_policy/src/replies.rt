@@ -1,10 +1,8 @@
-// The frames that the forwarder makes of itself and of a request, so far as it is built (FC-BB-5, "FIP operations").
-ghost use Rattle.std.specs.Prelude.{◌≡◌, ◌++◌, ◌≤◌, ◌+◌, ◌∷◌, [], true, length, OnOk, OnErr, IfOk, vec_len};
+//! The frames that the forwarder makes of itself and for a request, so far as it is built (FC-BB-5, "FIP operations").
+ghost use Rattle.std.specs.Prelude.{◌≡◌, ◌==◌, ◌≢◌, ◌++◌, ◌≤◌, ◌+◌, ◌∷◌, [], true, length, OnOk, OnErr, IfOk, vec_len};
 ghost use Rattle.fab_base.specs.Layout.{padded};
-ghost use Rattle.eth_frames.specs.Ethernet.{view as eth_view};
+ghost use Rattle.eth_frames.specs.Ethernet.{vlan_of_tag};
 ghost use Rattle.fip_codec.specs.Message as fip;
-ghost use Rattle.fab_policy.specs.Heard.{FIP as FIP_KIND};
-ghost use Rattle.fab_policy.specs.Judging.{notice_to, solicited_by};
 ghost use Rattle.fab_policy.specs.Replies.{size_in};
 ghost use Rattle.fip_codec.specs.CanWrite.{CanWrite};
 ghost use Rattle.fab_policy.specs.Replies as spec;
@@ -38,30 +36,46 @@ pub fn write_vlan_notice(
     ensures err { OnErr result (out.new.items ≡ out.old.items) }
 {
     match read_eth(caught.bytes.view()) {
-        Ok(asked) => write_notice_to(alloc, config, &asked, out),
+        Ok(asked) => write_notice_for(alloc, config, &asked, out),
         Err(_) => unreachable!(),
     }
 }
 
-// Appends the notification to the sender of a frame, without a tag where the frame counts as untagged.
-fn write_notice_to(
+// Appends the notification to the sender of a frame.
+fn write_notice_for(
     alloc: Global,
     config: &Config,
     asked: &EthFrame<'_>,
     out: &mut Vec<u8>,
 ) -> Result<(), NoMemory>
-    ensures ok { OnOk result (out.new.items ≡ out.old.items ++ notice_to config.now (eth_view asked.now)) }
-    ensures size { OnOk result (length (notice_to config.now (eth_view asked.now)) ≤ 65535) }
+    ensures ok { OnOk result (out.new.items ≡ out.old.items ++ spec.notice_to config.now asked.now.src (vlan_of_tag asked.now.tag == 0)) }
+    ensures size { OnOk result (length (spec.notice_to config.now asked.now.src (vlan_of_tag asked.now.tag == 0)) ≤ 65535) }
+    ensures err { OnErr result (out.new.items ≡ out.old.items) }
+{
+    let untagged = asked.vlan() == 0;
+    write_notice_to(alloc, config, asked.src, untagged, out)
+}
+
+/// Appends a VLAN notification to a MAC, which has no tag where the request has none: at most 65,535
+/// bytes.
+pub fn write_notice_to(
+    alloc: Global,
+    config: &Config,
+    dst: Mac,
+    untagged: bool,
+    out: &mut Vec<u8>,
+) -> Result<(), NoMemory>
+    ensures ok { OnOk result (out.new.items ≡ out.old.items ++ spec.notice_to config.now dst untagged) }
+    ensures size { OnOk result (length (spec.notice_to config.now dst untagged) ≤ 65535) }
     ensures err { OnErr result (out.new.items ≡ out.old.items) }
 {
     let body = notification(alloc, config)?;
-    let tag = if asked.vlan() == 0 {
+    let tag = if untagged {
         None
     } else {
         Some(own_tag(config))
     };
-    let host = asked.src;
-    write_made(alloc, config, tag, host, &body, out)
+    write_made(alloc, config, tag, dst, FIP, &body, out)
 }
 
 /// Appends the advertisement that answers a solicitation, with zeros up to the size that is asked
@@ -78,26 +92,43 @@ pub fn write_solicited(
     ensures err { OnErr result (out.new.items ≡ out.old.items) }
 {
     match read_eth(caught.bytes.view()) {
-        Ok(asked) => write_solicited_to(alloc, config, &asked, out),
+        Ok(asked) => write_solicited_for(alloc, config, &asked, out),
         Err(_) => unreachable!(),
     }
 }
 
-// Appends the advertisement to the sender of a frame.
-fn write_solicited_to(
+// Appends the advertisement to the sender of a frame, of the size that its body asks for.
+fn write_solicited_for(
     alloc: Global,
     config: &Config,
     asked: &EthFrame<'_>,
     out: &mut Vec<u8>,
 ) -> Result<(), NoMemory>
-    ensures ok { OnOk result (out.new.items ≡ out.old.items ++ solicited_by config.now (eth_view asked.now)) }
-    ensures size { OnOk result (length (solicited_by config.now (eth_view asked.now)) ≤ 65535) }
+    ensures ok { OnOk result (out.new.items ≡ out.old.items ++ spec.advertised_to config.now asked.now.src (size_in asked.now.body.now)) }
+    ensures size { OnOk result (length (spec.advertised_to config.now asked.now.src (size_in asked.now.body.now)) ≤ 65535) }
     ensures err { OnErr result (out.new.items ≡ out.old.items) }
 {
-    let size = size_asked(asked.body).min(MOST);
+    let size = size_asked(asked.body);
+    write_advertisement_to(alloc, config, asked.src, size, out)
+}
+
+/// Appends a solicited advertisement to a MAC, with zeros up to a size of at most 2,158 bytes behind
+/// its Ethernet header: at most 65,535 bytes.
+pub fn write_advertisement_to(
+    alloc: Global,
+    config: &Config,
+    dst: Mac,
+    size: u16,
+    out: &mut Vec<u8>,
+) -> Result<(), NoMemory>
+    ensures ok { OnOk result (out.new.items ≡ out.old.items ++ spec.advertised_to config.now dst size) }
+    ensures size { OnOk result (length (spec.advertised_to config.now dst size) ≤ 65535) }
+    ensures err { OnErr result (out.new.items ≡ out.old.items) }
+{
+    let size = size.min(MOST);
     let body = padded_advertisement(alloc, config, size)?;
     let tag = Some(own_tag(config));
-    write_made(alloc, config, tag, asked.src, &body, out)
+    write_made(alloc, config, tag, dst, FIP, &body, out)
 }
 
 /// Appends the advertisement to all nodes: at most 65,535 bytes.
@@ -112,27 +143,30 @@ pub fn write_advertisement(
 {
     let body = advertisement(alloc, config, false)?;
     let tag = Some(own_tag(config));
-    write_made(alloc, config, tag, ALL_ENODES, &body, out)
+    write_made(alloc, config, tag, ALL_ENODES, FIP, &body, out)
 }
 
-// Appends a FIP frame of the forwarder.
-fn write_made(
+/// Appends a frame of the forwarder to a MAC, with a tag or none, of this Ethertype, which without a tag
+/// isn't that of a tag: at most 60 bytes more than its body.
+pub fn write_made(
     alloc: Global,
     config: &Config,
     tag: Option<u16>,
     dst: Mac,
+    kind: u16,
     body: &[u8],
     out: &mut Vec<u8>,
 ) -> Result<(), NoMemory>
-    ensures ok { OnOk result (out.new.items ≡ out.old.items ++ spec.made config.now tag dst FIP_KIND body.now) }
-    ensures size { OnOk result (length (spec.made config.now tag dst FIP_KIND body.now) ≤ 60 + length body.now) }
+    requires { tag ≡ None → kind ≢ 0x8100 }
+    ensures ok { OnOk result (out.new.items ≡ out.old.items ++ spec.made config.now tag dst kind body.now) }
+    ensures size { OnOk result (length (spec.made config.now tag dst kind body.now) ≤ 60 + length body.now) }
     ensures err { OnErr result (out.new.items ≡ out.old.items) }
 {
     let frame = EthFrame {
         dst,
         src: config.fcf_mac,
         tag,
-        kind: FIP,
+        kind,
         body,
     };
     write_eth(alloc, &frame, out)

@@ -116,7 +116,7 @@ impl Model for Dropped {
 }
 
 impl Dropped {
-    ghost use Rattle.std.specs.Prelude.{◌≡◌, ◌↔◌, IsSome, IfSome, is_some};
+    ghost use Rattle.std.specs.Prelude.{◌≡◌, ◌↔◌, ◌<◌, ◌^◌, IsSome, IfSome, is_some};
     ghost use Rattle.fab_policy.specs.Cause.{is_numbered};
 
     /// A rule with its number, or none where the rule has a number and none is given, or the other
@@ -141,9 +141,15 @@ impl Dropped {
 
     /// A place in bytes, or the type of a descriptor, where the rule has one.
     pub fn number(&self) -> Option<u32>
-        ensures { result ≡ self.now.number }
+        ensures value { result ≡ self.now.number }
+        ensures some { is_some result ≡ is_numbered self.now.rule }
+        ensures range { IfSome result (λ n. n < 2 ^ 32) }
     {
-        self.number
+        // Read at its place, so that its range is known.
+        match &self.number {
+            Some(number) => Some(*number),
+            None => None,
+        }
     }
 }
 

@@ -27,6 +27,7 @@ pub mod Misplaced
 pub mod Next
 pub mod NodeSilent
 pub mod Payloads
+pub mod Premises
 pub mod Pool
 pub mod PortAlive
 pub mod PortSilent

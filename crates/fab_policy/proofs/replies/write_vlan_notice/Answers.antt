@@ -9,9 +9,9 @@ unreachable-requires c = asks_readable c.args.config.now c.args.caught.now _ c.r
 pub returns-clause-ok : goal.returns-clause-ok
 returns-clause-ok c =
     let is = notice_is c.args.config.now c.args.caught.now (view c.in-Ok.asked) (ap decoded (sym c.view.ensures.value) ∙ c.in-Ok.ensures.exact) in
-    subst (λ l. OnOk c.write_notice_to.result (c.write_notice_to.new.out.items ≡ c.args.out.now.items ++ l)) is c.write_notice_to.ensures.ok
+    subst (λ l. OnOk c.write_notice_for.result (c.write_notice_for.new.out.items ≡ c.args.out.now.items ++ l)) is c.write_notice_for.ensures.ok
 
 pub returns-clause-size : goal.returns-clause-size
 returns-clause-size c =
     let is = notice_is c.args.config.now c.args.caught.now (view c.in-Ok.asked) (ap decoded (sym c.view.ensures.value) ∙ c.in-Ok.ensures.exact) in
-    subst (λ l. OnOk c.write_notice_to.result (length l ≤ 65535)) is c.write_notice_to.ensures.size
+    subst (λ l. OnOk c.write_notice_for.result (length l ≤ 65535)) is c.write_notice_for.ensures.size
