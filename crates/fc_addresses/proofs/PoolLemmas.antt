@@ -4,10 +4,13 @@ use mathlib.Core.Bool.{false≢true}
 use Rattle.std.specs.Option.{option_map_or}
 use Rattle.std.proofs.lemmas.Option.{slice_get_past, slice_get-get_or}
 use Rattle.std.proofs.lemmas.List.Quantifiers.{position-Some}
+use Rattle.std.proofs.lemmas.List.Elements.{All-nil, All-cons, All-map}
+use Rattle.std.specs.List.{All}
 use Rattle.std.proofs.lemmas.Bool.{cases_lt}
 use Rattle.std.proofs.lemmas.Bool.Decides.{nat_tests}
 use Rattle.std.specs.List.{list_any}
-use Rattle.fc_addresses.specs.Pool.{Past, past_at, is_open, is_free, has_free, unused}
+use Rattle.fab_base.specs.Fabric.{Past, past_at}
+use Rattle.fc_addresses.specs.Pool.{is_open, is_free, has_free, unused, taken, released, FollowFrom, IsSound, AreEndedBy}
 use Rattle.fc_addresses.specs.Holders.{past_of, pasts_from, may_follow}
 use Rattle.fc_addresses.specs.declared.pool.Holder.{Holder}
 
@@ -53,6 +56,65 @@ is_some-position p (h ∷ l) = grind (arith, nat_tests, is_some-position p l)
 pub IfSome-same : (r : Option ℕ) (P : ℕ → Type 0) (x : ℕ) → IfSome r (λ a. a ≡ x) → P x → IfSome r P
 IfSome-same None P x same holds = tt
 IfSome-same (Some a) P x same holds = subst P (sym same) holds
+
+-- ---- what holds of every pool
+
+follow-pasts_from : (k : ℕ) (l : List Holder) → FollowFrom k (pasts_from k l)
+follow-pasts_from k [] = tt
+follow-pasts_from k (h ∷ l) = (refl, follow-pasts_from (k + 1) l)
+
+range-pasts_from : (k : ℕ) (l : List Holder) → ((i : ℕ) → i < length l → k + i < 0xFF0000) → All (λ (p : Past). p.address < 0xFF0000) (pasts_from k l)
+range-pasts_from k [] below = All-nil (λ (p : Past). p.address < 0xFF0000)
+range-pasts_from k (h ∷ l) below = All-cons (λ (p : Past). p.address < 0xFF0000) (past_of k h) (pasts_from (k + 1) l) (omega (arith, below 0 (omega arith))) (range-pasts_from (k + 1) l (λ i lt. omega (arith, below (suc i) (omega arith))))
+
+pub sound_places : (k : ℕ) (l : List Holder) → ((i : ℕ) → i < length l → k + i < 0xFF0000) → IsSound (pasts_from k l)
+sound_places k l below = record { first = k; places = follow-pasts_from k l; range = range-pasts_from k l below }
+
+-- ---- a change of one address
+
+module _ (F : Past → Past) (keeps : (p : Past) → (F p).address ≡ p.address) (a : ℕ) where
+  abbrev changed : List Past → List Past
+  changed pool = map (λ p. if p.address == a then F p else p) pool
+
+  -- the address has the changed past, and every other its own
+  pub found-changed : (b : ℕ) (pool : List Past) → past_at b (changed pool) ≡ (if a == b then option_map F (past_at b pool) else past_at b pool)
+  found-changed b [] = grind (arith, nat_tests)
+  found-changed b (p ∷ pool) = grind (arith, nat_tests, keeps p, found-changed b pool)
+
+  pub places-changed : (pool : List Past) → map (λ p. p.address) (changed pool) ≡ map (λ p. p.address) pool
+  places-changed [] = refl
+  places-changed (p ∷ pool) = grind (arith, nat_tests, keeps p, places-changed pool)
+
+-- the past of an address is that of this address
+address_found : (a : ℕ) (pool : List Past) (q : Past → Bool) → option_map_or q (past_at a pool) false ≡ true → (F : ℕ → Past) → option_map (λ p. F p.address) (past_at a pool) ≡ Some (F a)
+address_found a [] q holds F = cc
+address_found a (p ∷ pool) q holds F = grind (arith, nat_tests, λ (later : option_map_or q (past_at a pool) false ≡ true). address_found a pool q later F)
+
+-- a login of the name has the address of this past
+abbrev had : ℕ → Past → Past
+had name p = record { address = p.address; name = Some name; ended = None }
+
+pub found-taken : (a name b : ℕ) (pool : List Past) (q : Past → Bool) → option_map_or q (past_at a pool) false ≡ true →
+    past_at b (taken pool a name) ≡ (if a == b then Some (record { address = a; name = Some name; ended = None }) else past_at b pool)
+found-taken a name b pool q holds = found-changed (had name) (λ p. refl) a b pool ∙ go (a == b) refl
+  where
+    go : (t : Bool) → (a == b) ≡ t →
+        (if t then option_map (had name) (past_at b pool) else past_at b pool) ≡ (if t then Some (record { address = a; name = Some name; ended = None }) else past_at b pool)
+    go true this =
+        let same : a ≡ b = grind (arith, nat_tests) in
+        subst (λ c. option_map (had name) (past_at c pool) ≡ Some (record { address = a; name = Some name; ended = None })) same
+        (address_found a pool q holds (λ c. record { address = c; name = Some name; ended = None }))
+    go false other = refl
+
+-- no login ended later than the one that ends now
+pub ended-released : (a now : ℕ) (pool : List Past) → AreEndedBy now pool → AreEndedBy now (released pool a now)
+ended-released a now pool before =
+    All-map (λ p. IfSome p.ended (λ end. end ≤ now)) (λ p. if p.address == a then record { address = p.address; name = p.name; ended = Some now } else p) pool
+    (λ i d lt. one (get_or pool i d) ((get_or pool i d).address == a) (before i d lt))
+  where
+    one : (p : Past) (b : Bool) → IfSome p.ended (λ end. end ≤ now) → IfSome (if b then record { address = p.address; name = p.name; ended = Some now } else p).ended (λ end. end ≤ now)
+    one p true h = omega arith
+    one p false h = h
 
 -- ---- a pool whose places are l, for the addresses from k on
 

@@ -1,6 +1,6 @@
 -- How a pool keeps its addresses: one place for each, in order. No public clause cites this module.
 use Rattle.std.specs.Prelude.{ℕ, ◌+◌, Bool, List, [], ◌∷◌}
-use Rattle.fc_addresses.specs.Pool.{Past, may_have}
+use Rattle.fab_base.specs.Fabric.{Past, may_have}
 use Rattle.fc_addresses.specs.declared.pool.Holder.{Holder}
 
 -- what a place says of its address

@@ -1,33 +1,13 @@
 -- What a contract sees of a pool: its addresses in ascending order, each with the name that had it last and when that login ended.
-use Rattle.std.specs.Prelude.{ℕ, zero, suc, ◌+◌, ◌-◌, ◌≤◌, nat_lt, Bool, true, false, ◌==◌, ◌&&◌, ◌||◌, if◌then◌else◌, List, [], ◌∷◌, map, find, Option, Some, None, is_some, is_none, IfSome}
+use Rattle.std.specs.Prelude.{ℕ, zero, suc, ◌+◌, ◌≤◌, Bool, false, ◌==◌, ◌&&◌, if◌then◌else◌, List, [], ◌∷◌, map, find, Some, None, is_some, is_none, IfSome, ◌≡◌, ◌<◌}
 use Rattle.std.specs.Option.{option_map_or}
 use Rattle.std.specs.List.{All}
-
--- An address, the port name of its last login, and the moment at which that login ended. An address that nobody had yet
--- has no name, and one that a login holds has a name and no end.
-pub record Past : Type 0 where
-  pub address : ℕ
-  pub name : Option ℕ
-  pub ended : Option ℕ
+use Rattle.fab_base.specs.Fabric.{Past, past_at, may_have}
 
 -- ---- questions
 
--- how many milliseconds an address is kept from other names after its login ended
-abbrev pub QUARANTINE : ℕ
-QUARANTINE = 10000
-
--- Nobody had the address yet; or no login holds it, and the name had it last or the quarantine is over.
-abbrev pub may_have : ℕ → ℕ → Option ℕ → Option ℕ → Bool
-may_have name now None ended = true
-may_have name now (Some last) None = false
-may_have name now (Some last) (Some end) = last == name || nat_lt QUARANTINE (now - end)
-
 abbrev pub is_open : ℕ → ℕ → Past → Bool
 is_open name now p = may_have name now p.name p.ended
-
--- the past of an address of the pool
-abbrev pub past_at : ℕ → List Past → Option Past
-past_at a pool = find (λ p. p.address == a) pool
 
 -- the address is one of the pool, and a login of the name may have it
 abbrev pub is_free : List Past → ℕ → ℕ → ℕ → Bool
@@ -44,6 +24,19 @@ is_held pool a = option_map_or (λ p. is_some p.name && is_none p.ended) (past_a
 -- no login of these addresses ended after this moment
 abbrev pub AreEndedBy : ℕ → List Past → Type 0
 AreEndedBy now pool = All (λ p. IfSome p.ended (λ end. end ≤ now)) pool
+
+-- ---- what holds of every pool
+
+-- the addresses follow one another from this one on
+abbrev pub FollowFrom : ℕ → List Past → Type 0
+FollowFrom first [] = Unit {0}
+FollowFrom first (p ∷ pool) = (p.address ≡ first) × FollowFrom (first + 1) pool
+
+-- The addresses follow one another, all below those that the fabric keeps for itself.
+pub record IsSound (pool : List Past) : Type 0 where
+  pub first : ℕ
+  pub places : FollowFrom first pool
+  pub range : All (λ p. p.address < 0xFF0000) pool
 
 -- ---- changes
 

@@ -1,6 +1,7 @@
-// The addresses of the pool, each with the name that had it last and the end of that login.
-ghost use Rattle.std.specs.Prelude.{◌≡◌, ℕ, ◌+◌, ◌<◌, ◌≤◌, IsTrue, IfOk, IfSome, is_some, position};
-ghost use Rattle.fc_addresses.specs.Pool.{unused, is_free, has_free, is_held, AreEndedBy, taken, released};
+//! The addresses of the pool, each with the name that had it last and the end of that login.
+ghost use Rattle.std.specs.Prelude.{◌≡◌, ℕ, ◌+◌, ◌<◌, ◌≤◌, IsTrue, IfOk, IfSome, is_some, position, ◌==◌, if◌then◌else◌, map, option_map, Some, None};
+ghost use Rattle.fab_base.specs.Fabric.{past_at};
+ghost use Rattle.fc_addresses.specs.Pool.{unused, is_free, has_free, is_held, AreEndedBy, IsSound, taken, released};
 ghost use Rattle.fc_addresses.specs.Holders.{may_follow};
 
 use fab_base::{FcId, Moment, NoMemory, Wwn};
@@ -48,7 +49,7 @@ pub struct Pool {
 
 impl Model for Pool {
     ghost use Rattle.std.specs.Prelude.{ℕ, ◌+◌, ◌<◌, List, length};
-    ghost use Rattle.fc_addresses.specs.Pool.{Past};
+    ghost use Rattle.fab_base.specs.Fabric.{Past};
 
     ghost Value = { List Past };
 
@@ -69,19 +70,18 @@ impl Pool {
             name: None,
             ended: None,
         };
-        match vec![in alloc; nobody; count as usize] {
-            Ok(holders) => Ok(Pool {
-                first: first.value(),
-                holders,
-            }),
-            Err(_) => Err(NoMemory),
-        }
+        let holders = vec![in alloc; nobody; count as usize]?;
+        Ok(Pool {
+            first: first.value(),
+            holders,
+        })
     }
 
     /// An address that a login of this name may have at this moment.
     pub fn find(&self, name: Wwn, now: Moment) -> Option<FcId>
         ensures free { IfSome result (λ a. IsTrue (is_free self.now name now a)) }
         ensures some { is_some result ≡ has_free self.now name now }
+        ensures sound { IsSound self.now }
     {
         match first_place(&self.holders, name, now) {
             Some(place) => FcId::new(self.first + place as u32),
@@ -91,7 +91,8 @@ impl Pool {
 
     /// Whether a login of this name may have the address at this moment.
     pub fn is_free(&self, address: FcId, name: Wwn, now: Moment) -> bool
-        ensures { result ≡ is_free self.now name now address }
+        ensures free { result ≡ is_free self.now name now address }
+        ensures sound { IsSound self.now }
     {
         let Some(place) = address.value().checked_sub(self.first) else {
             return false;
@@ -105,7 +106,9 @@ impl Pool {
     /// A login of this name holds the address from now on.
     pub fn take(&mut self, address: FcId, name: Wwn, now: Moment)
         requires free { IsTrue (is_free self.old name now address) }
-        ensures { self.new ≡ taken self.old address name }
+        ensures pool { self.new ≡ taken self.old address name }
+        ensures found { (b : ℕ) → past_at b self.new ≡ (if address == b then Some (record { address = address; name = Some name; ended = None }) else past_at b self.old) }
+        ensures places { map (λ p. p.address) self.new ≡ map (λ p. p.address) self.old }
     {
         let place = (address.value() - self.first) as usize;
         self.holders[place] = Holder {
@@ -118,7 +121,10 @@ impl Pool {
     pub fn release(&mut self, address: FcId, now: Moment)
         requires taken { IsTrue (is_held self.old address) }
         requires order { AreEndedBy now self.old }
-        ensures { self.new ≡ released self.old address now }
+        ensures pool { self.new ≡ released self.old address now }
+        ensures found { (b : ℕ) → past_at b self.new ≡ (if address == b then option_map (λ p. record { address = p.address; name = p.name; ended = Some now }) (past_at b self.old) else past_at b self.old) }
+        ensures places { map (λ p. p.address) self.new ≡ map (λ p. p.address) self.old }
+        ensures order { AreEndedBy now self.new }
     {
         let place = (address.value() - self.first) as usize;
         self.holders[place].ended = Some(now);

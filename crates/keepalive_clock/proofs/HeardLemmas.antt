@@ -1,7 +1,7 @@
 -- What a change of a clock does to its voices, none of which comes twice.
-use Rattle.std.proofs.Common.{◌≡◌, ℕ, zero, suc, ◌+◌, ◌<◌, ◌≤◌, Bool, true, false, List, [], ◌∷◌, length, filter, find, position, cond, get_or, drop, slice_get, option_map, if◌then◌else◌, ◌⊎◌, inl, inr, Option, Some, None, is_some, nat_lt, refl, sym, ◌∙◌, ap, subst, arith}
+use Rattle.std.proofs.Common.{◌||◌, ◌≡◌, ℕ, zero, suc, ◌+◌, ◌<◌, ◌≤◌, Bool, true, false, List, [], ◌∷◌, length, filter, find, position, cond, get_or, drop, slice_get, option_map, if◌then◌else◌, ◌⊎◌, inl, inr, Option, Some, None, is_some, nat_lt, refl, sym, ◌∙◌, ap, subst, arith}
 use mathlib.Core.Bool.{false≢true}
-use Rattle.std.specs.List.{position_or_len, insert, remove}
+use Rattle.std.specs.List.{list_any, position_or_len, insert, remove}
 use Rattle.std.proofs.lemmas.Bool.Decides.{nat_tests}
 use Rattle.std.proofs.lemmas.Option.{slice_get_past, slice_get-get_or}
 use Rattle.std.proofs.lemmas.List.Folds.{find_at}
@@ -9,40 +9,40 @@ use Rattle.std.proofs.lemmas.List.Quantifiers.{position-Some}
 use Rattle.keepalive_clock.specs.Voices.{same_voice}
 use Rattle.keepalive_clock.specs.Clock.{heard_of, last_of, without, VoicesDiffer}
 use Rattle.keepalive_clock.specs.declared.voice.Voice.{Voice}
-use Rattle.keepalive_clock.specs.declared.voice.Heard.{Heard}
+use Rattle.keepalive_clock.specs.declared.voice.LastHeard.{LastHeard}
 use Rattle.keepalive_clock.proofs.VoiceLemmas.{same_voice-refl, same_voice-true, same_voice-false}
 
 -- ---- places
 
 -- the first that passes is here, or among the others
-pub position_or_len-here : (p : Heard → Bool) (x : Heard) (xs : List Heard) → p x ≡ true → position_or_len p (x ∷ xs) ≡ 0
+pub position_or_len-here : (p : LastHeard → Bool) (x : LastHeard) (xs : List LastHeard) → p x ≡ true → position_or_len p (x ∷ xs) ≡ 0
 position_or_len-here p x xs this = grind (arith, nat_tests)
 
-pub position_or_len-later : (p : Heard → Bool) (x : Heard) (xs : List Heard) → p x ≡ false → position_or_len p (x ∷ xs) ≡ suc (position_or_len p xs)
+pub position_or_len-later : (p : LastHeard → Bool) (x : LastHeard) (xs : List LastHeard) → p x ≡ false → position_or_len p (x ∷ xs) ≡ suc (position_or_len p xs)
 position_or_len-later p x xs other = grind (arith, nat_tests)
 
-pub position_or_len-le : (p : Heard → Bool) (xs : List Heard) → position_or_len p xs ≤ length xs
+pub position_or_len-le : (p : LastHeard → Bool) (xs : List LastHeard) → position_or_len p xs ≤ length xs
 position_or_len-le p [] = omega arith
 position_or_len-le p (x ∷ xs) = grind (arith, nat_tests, position_or_len-le p xs)
 
-pub position_or_len-Some : (p : Heard → Bool) (xs : List Heard) (i : ℕ) → position p xs ≡ Some i → position_or_len p xs ≡ i
+pub position_or_len-Some : (p : LastHeard → Bool) (xs : List LastHeard) (i : ℕ) → position p xs ≡ Some i → position_or_len p xs ≡ i
 position_or_len-Some p xs i found = go (nat_lt (position_or_len p xs) (length xs)) found
   where
     go : (b : Bool) → cond b (Some (position_or_len p xs)) None ≡ Some i → position_or_len p xs ≡ i
     go true e = cc
     go false e = cc
 
-pub position_or_len-None : (p : Heard → Bool) (xs : List Heard) → position p xs ≡ None → position_or_len p xs ≡ length xs
+pub position_or_len-None : (p : LastHeard → Bool) (xs : List LastHeard) → position p xs ≡ None → position_or_len p xs ≡ length xs
 position_or_len-None p xs none = grind (arith, nat_tests, position_or_len-le p xs)
 
 -- ---- one voice less
 
-pub without-absent : (v : Voice) (xs : List Heard) → heard_of v xs ≡ None → without v xs ≡ xs
+pub without-absent : (v : Voice) (xs : List LastHeard) → heard_of v xs ≡ None → without v xs ≡ xs
 without-absent v [] absent = refl
 without-absent v (x ∷ xs) absent = grind (arith, nat_tests, λ (later : heard_of v xs ≡ None). without-absent v xs later)
 
 -- a removal at the place of the voice
-pub remove-without : (v : Voice) (xs : List Heard) → VoicesDiffer xs → position_or_len (λ x. same_voice x.voice v) xs < length xs →
+pub remove-without : (v : Voice) (xs : List LastHeard) → VoicesDiffer xs → position_or_len (λ x. same_voice x.voice v) xs < length xs →
     remove xs (position_or_len (λ x. same_voice x.voice v) xs) ≡ without v xs
 remove-without v [] differ within = absurd (omega arith)
 remove-without v (x ∷ xs) differ within = go (same_voice x.voice v) refl (λ fewer. remove-without v xs differ.1 fewer)
@@ -58,11 +58,11 @@ remove-without v (x ∷ xs) differ within = go (same_voice x.voice v) refl (λ f
         ap (λ n. remove (x ∷ xs) n) later ∙ ap (λ m. x ∷ m) (others (omega arith)) ∙ grind (arith, nat_tests)
 
 -- the voice isn't found any more, and every other is
-pub heard_of-without_this : (v : Voice) (xs : List Heard) → heard_of v (without v xs) ≡ None
+pub heard_of-without_this : (v : Voice) (xs : List LastHeard) → heard_of v (without v xs) ≡ None
 heard_of-without_this v [] = refl
 heard_of-without_this v (x ∷ xs) = grind (arith, nat_tests, heard_of-without_this v xs)
 
-pub heard_of-without_other : (v w : Voice) (xs : List Heard) → same_voice v w ≡ false → heard_of w (without v xs) ≡ heard_of w xs
+pub heard_of-without_other : (v w : Voice) (xs : List LastHeard) → same_voice v w ≡ false → heard_of w (without v xs) ≡ heard_of w xs
 heard_of-without_other v w [] differ = refl
 heard_of-without_other v w (x ∷ xs) differ = go (same_voice x.voice v) refl (heard_of-without_other v w xs differ)
   where
@@ -70,42 +70,42 @@ heard_of-without_other v w (x ∷ xs) differ = go (same_voice x.voice v) refl (h
     go true this others = let not_w = subst (λ u. same_voice u w ≡ false) (sym (same_voice-true x.voice v this)) differ in grind (arith, nat_tests)
     go false other others = grind (arith, nat_tests)
 
-find-filter_none : (p q : Heard → Bool) (xs : List Heard) → find q xs ≡ None → find q (filter p xs) ≡ None
+find-filter_none : (p q : LastHeard → Bool) (xs : List LastHeard) → find q xs ≡ None → find q (filter p xs) ≡ None
 find-filter_none p q [] none = refl
 find-filter_none p q (x ∷ xs) none = grind (arith, nat_tests, λ (later : find q xs ≡ None). find-filter_none p q xs later)
 
-pub VoicesDiffer-filter : (p : Heard → Bool) (xs : List Heard) → VoicesDiffer xs → VoicesDiffer (filter p xs)
+pub VoicesDiffer-filter : (p : LastHeard → Bool) (xs : List LastHeard) → VoicesDiffer xs → VoicesDiffer (filter p xs)
 VoicesDiffer-filter p [] differ = tt
 VoicesDiffer-filter p (x ∷ xs) differ = elim (p x) as (λ b. VoicesDiffer (cond b (x ∷ filter p xs) (filter p xs))) [
   | true ↦ (find-filter_none p (λ y. same_voice y.voice x.voice) xs differ.0, VoicesDiffer-filter p xs differ.1)
   | false ↦ VoicesDiffer-filter p xs differ.1
 ]
 
-pub length-without : (v : Voice) (xs : List Heard) → length (without v xs) ≤ length xs
+pub length-without : (v : Voice) (xs : List LastHeard) → length (without v xs) ≤ length xs
 length-without v [] = omega arith
 length-without v (x ∷ xs) = grind (arith, nat_tests, length-without v xs)
 
 -- fewer voices, if it was there
-pub length-without_found : (v : Voice) (xs : List Heard) → is_some (heard_of v xs) ≡ true → length (without v xs) < length xs
+pub length-without_found : (v : Voice) (xs : List LastHeard) → is_some (heard_of v xs) ≡ true → length (without v xs) < length xs
 length-without_found v [] found = absurd (false≢true found)
 length-without_found v (x ∷ xs) found =
     grind (arith, nat_tests, length-without v xs, λ (later : is_some (heard_of v xs) ≡ true). length-without_found v xs later)
 
 -- ---- one voice more
 
-pub find-insert_other : (q : Heard → Bool) (y : Heard) (xs : List Heard) (i : ℕ) → q y ≡ false → find q (insert xs i y) ≡ find q xs
+pub find-insert_other : (q : LastHeard → Bool) (y : LastHeard) (xs : List LastHeard) (i : ℕ) → q y ≡ false → find q (insert xs i y) ≡ find q xs
 find-insert_other q y [] zero other = grind (arith, nat_tests)
 find-insert_other q y (x ∷ xs) zero other = grind (arith, nat_tests)
 find-insert_other q y [] (suc i) other = grind (arith, nat_tests)
 find-insert_other q y (x ∷ xs) (suc i) other = grind (arith, nat_tests, find-insert_other q y xs i other)
 
-pub find-insert_this : (q : Heard → Bool) (y : Heard) (xs : List Heard) (i : ℕ) → q y ≡ true → find q xs ≡ None → find q (insert xs i y) ≡ Some y
+pub find-insert_this : (q : LastHeard → Bool) (y : LastHeard) (xs : List LastHeard) (i : ℕ) → q y ≡ true → find q xs ≡ None → find q (insert xs i y) ≡ Some y
 find-insert_this q y [] zero this none = grind (arith, nat_tests)
 find-insert_this q y (x ∷ xs) zero this none = grind (arith, nat_tests)
 find-insert_this q y [] (suc i) this none = grind (arith, nat_tests)
 find-insert_this q y (x ∷ xs) (suc i) this none = grind (arith, nat_tests, λ (later : find q xs ≡ None). find-insert_this q y xs i this later)
 
-pub VoicesDiffer-insert : (y : Heard) (xs : List Heard) (i : ℕ) → VoicesDiffer xs → heard_of y.voice xs ≡ None → VoicesDiffer (insert xs i y)
+pub VoicesDiffer-insert : (y : LastHeard) (xs : List LastHeard) (i : ℕ) → VoicesDiffer xs → heard_of y.voice xs ≡ None → VoicesDiffer (insert xs i y)
 VoicesDiffer-insert y xs zero differ absent = (absent, differ)
 VoicesDiffer-insert y [] (suc i) differ absent = (refl, tt)
 VoicesDiffer-insert y (x ∷ xs) (suc i) differ absent =
@@ -113,11 +113,11 @@ VoicesDiffer-insert y (x ∷ xs) (suc i) differ absent =
     (find-insert_other (λ z. same_voice z.voice x.voice) y xs i (same_voice-false x.voice y.voice other) ∙ differ.0, VoicesDiffer-insert y xs i differ.1 (grind (arith, nat_tests)))
 
 -- what is last of each voice, with one more that wasn't there
-pub last_of-insert : (v : Voice) (now : ℕ) (xs ls : List Heard) (i : ℕ) → ls ≡ without v xs → (w : Voice) →
+pub last_of-insert : (v : Voice) (now : ℕ) (xs ls : List LastHeard) (i : ℕ) → ls ≡ without v xs → (w : Voice) →
     last_of w (insert ls i (record { voice = v; last = now })) ≡ (if same_voice v w then Some now else last_of w xs)
 last_of-insert v now xs ls i rest w = go (same_voice v w) refl
   where
-    last : Option Heard → Option ℕ
+    last : Option LastHeard → Option ℕ
     last o = option_map (λ x. x.last) o
 
     go : (b : Bool) → same_voice v w ≡ b → last_of w (insert ls i (record { voice = v; last = now })) ≡ (if b then Some now else last_of w xs)
@@ -127,14 +127,66 @@ last_of-insert v now xs ls i rest w = go (same_voice v w) refl
     go false other =
         ap last (find-insert_other (λ x. same_voice x.voice w) (record { voice = v; last = now }) ls i other ∙ ap (λ l. heard_of w l) rest ∙ heard_of-without_other v w xs other)
 
+-- what is last of each voice without one
+pub last_of-without : (v : Voice) (xs : List LastHeard) (w : Voice) → last_of w (without v xs) ≡ (if same_voice v w then None else last_of w xs)
+last_of-without v xs w = go (same_voice v w) refl
+  where
+    last : Option LastHeard → Option ℕ
+    last o = option_map (λ x. x.last) o
+
+    go : (b : Bool) → same_voice v w ≡ b → last_of w (without v xs) ≡ (if b then None else last_of w xs)
+    go true this = ap last (subst (λ u. heard_of u (without v xs) ≡ None) (same_voice-true v w this) (heard_of-without_this v xs))
+    go false other = ap last (heard_of-without_other v w xs other)
+
+-- ---- look-ups
+
+-- some voice passes where the last moment of some voice does
+pub passes_found : (p : Voice → ℕ → Bool) (xs : List LastHeard) → VoicesDiffer xs → list_any (λ x. p x.voice x.last) xs ≡ true →
+    (v : Voice) × (h : ℕ) × (last_of v xs ≡ Some h) × (p v h ≡ true)
+passes_found p [] differ holds = absurd (false≢true holds)
+passes_found p (x ∷ xs) differ holds = go (p x.voice x.last) refl (λ rest. passes_found p xs differ.1 rest)
+  where
+    later : (v : Voice) × (h : ℕ) × (last_of v xs ≡ Some h) × (p v h ≡ true) → (v : Voice) × (h : ℕ) × (last_of v (x ∷ xs) ≡ Some h) × (p v h ≡ true)
+    later (v, h, found, passes) = (v, h, by_test (same_voice x.voice v) refl, passes)
+      where
+        by_test : (b : Bool) → same_voice x.voice v ≡ b → last_of v (x ∷ xs) ≡ Some h
+        by_test true this =
+            let gone : last_of v xs ≡ None = ap (λ o. option_map (λ y. y.last) o) (subst (λ u. heard_of u xs ≡ None) (same_voice-true x.voice v this) differ.0) in
+            cc
+        by_test false other = ap (λ b. option_map (λ y. y.last) (cond b (Some x) (heard_of v xs))) other ∙ found
+
+    go : (b : Bool) → p x.voice x.last ≡ b → (list_any (λ y. p y.voice y.last) xs ≡ true → (v : Voice) × (h : ℕ) × (last_of v xs ≡ Some h) × (p v h ≡ true)) →
+        (v : Voice) × (h : ℕ) × (last_of v (x ∷ xs) ≡ Some h) × (p v h ≡ true)
+    go true this others = (x.voice, x.last, ap (λ b. option_map (λ y. y.last) (cond b (Some x) (heard_of x.voice xs))) (same_voice-refl x.voice), this)
+    go false other others = later (others (ap (λ b. b || list_any (λ y. p y.voice y.last) xs) (sym other) ∙ holds))
+
+or_true : (b : Bool) → b || true ≡ true
+or_true true = refl
+or_true false = refl
+
+pub found_passes : (p : Voice → ℕ → Bool) (xs : List LastHeard) (v : Voice) (h : ℕ) → last_of v xs ≡ Some h → p v h ≡ true → list_any (λ x. p x.voice x.last) xs ≡ true
+found_passes p [] v h found passes = cc
+found_passes p (x ∷ xs) v h found passes = go (same_voice x.voice v) refl (λ rest. found_passes p xs v h rest passes)
+  where
+    go : (b : Bool) → same_voice x.voice v ≡ b → (last_of v xs ≡ Some h → list_any (λ y. p y.voice y.last) xs ≡ true) → p x.voice x.last || list_any (λ y. p y.voice y.last) xs ≡ true
+    go true this others =
+        let last : Some x.last ≡ Some h = ap (λ b. option_map (λ y. y.last) (cond b (Some x) (heard_of v xs))) (sym this) ∙ found in
+        let same : x.last ≡ h = cc in
+        ap (λ w. p w x.last || list_any (λ y. p y.voice y.last) xs) (same_voice-true x.voice v this)
+        ∙ ap (λ (m : ℕ). p v m || list_any (λ y. p y.voice y.last) xs) same
+        ∙ ap (λ b. b || list_any (λ y. p y.voice y.last) xs) passes
+    go false other others =
+        let later = others (ap (λ b. option_map (λ y. y.last) (cond b (Some x) (heard_of v xs))) (sym other) ∙ found) in
+        ap (λ b. p x.voice x.last || b) later ∙ or_true (p x.voice x.last)
+
 -- ---- room
 
-pub is_some-last : (o : Option Heard) → is_some (option_map (λ x. x.last) o) ≡ is_some o
+pub is_some-last : (o : Option LastHeard) → is_some (option_map (λ x. x.last) o) ≡ is_some o
 is_some-last None = refl
 is_some-last (Some x) = refl
 
 -- with one voice added to the others, there is one more than before if it wasn't there
-pub count_without : (v : Voice) (xs : List Heard) → VoicesDiffer xs →
+pub count_without : (v : Voice) (xs : List LastHeard) → VoicesDiffer xs →
     length (without v xs) + 1 ≡ (if is_some (last_of v xs) then length xs else length xs + 1)
 count_without v [] differ = refl
 count_without v (x ∷ xs) differ = go (same_voice x.voice v) refl (count_without v xs differ.1)
@@ -143,20 +195,29 @@ count_without v (x ∷ xs) differ = go (same_voice x.voice v) refl (count_withou
         length (without v (x ∷ xs)) + 1 ≡ (if is_some (last_of v (x ∷ xs)) then length (x ∷ xs) else length (x ∷ xs) + 1)
     go true this others =
         let absent = subst (λ w. heard_of w xs ≡ None) (same_voice-true x.voice v this) differ.0 in
-        grind (arith, nat_tests, ap (λ (l : List Heard). length l) (without-absent v xs absent))
+        grind (arith, nat_tests, ap (λ (l : List LastHeard). length l) (without-absent v xs absent))
     go false other others = grind (arith, nat_tests)
 
+-- one voice less than before, if it was there
+pub count_forgotten : (v : Voice) (xs : List LastHeard) → VoicesDiffer xs →
+    length xs ≡ (if is_some (last_of v xs) then length (without v xs) + 1 else length (without v xs))
+count_forgotten v xs differ = go (is_some (last_of v xs)) (count_without v xs differ)
+  where
+    go : (b : Bool) → length (without v xs) + 1 ≡ (if b then length xs else length xs + 1) → length xs ≡ (if b then length (without v xs) + 1 else length (without v xs))
+    go true e = sym e
+    go false e = omega arith
+
 -- after a voice is gone that was there, or was to find room, there is room
-pub room_without : (v : Voice) (xs : List Heard) (room : ℕ) → (is_some (last_of v xs) ≡ true) ⊎ (length xs < room) → length xs ≤ room → length (without v xs) < room
+pub room_without : (v : Voice) (xs : List LastHeard) (room : ℕ) → (is_some (last_of v xs) ≡ true) ⊎ (length xs < room) → length xs ≤ room → length (without v xs) < room
 room_without v xs room (inl there) bound = omega (arith, length-without_found v xs (sym (is_some-last (heard_of v xs)) ∙ there))
 room_without v xs room (inr less) bound = omega (arith, length-without v xs)
 
 -- ---- a voice that is found
 
-pub heard_of-no_place : (v : Voice) (xs : List Heard) → position (λ x. same_voice x.voice v) xs ≡ None → heard_of v xs ≡ None
+pub heard_of-no_place : (v : Voice) (xs : List LastHeard) → position (λ x. same_voice x.voice v) xs ≡ None → heard_of v xs ≡ None
 heard_of-no_place v xs none = find_at (λ x. same_voice x.voice v) xs ∙ slice_get_past xs _ (omega (arith, position_or_len-None (λ x. same_voice x.voice v) xs none))
 
-module _ (v : Voice) (xs : List Heard) (differ : VoicesDiffer xs) (i : ℕ) (d : Heard) (found : position (λ x. same_voice x.voice v) xs ≡ Some i) where
+module _ (v : Voice) (xs : List LastHeard) (differ : VoicesDiffer xs) (i : ℕ) (d : LastHeard) (found : position (λ x. same_voice x.voice v) xs ≡ Some i) where
   place_is : position_or_len (λ x. same_voice x.voice v) xs ≡ i
   place_is = position_or_len-Some (λ x. same_voice x.voice v) xs i found
 
@@ -170,8 +231,8 @@ module _ (v : Voice) (xs : List Heard) (differ : VoicesDiffer xs) (i : ℕ) (d :
   without_by_remove = ap (λ n. remove xs n) (sym place_is) ∙ remove-without v xs differ (omega (arith, place_is, within))
 
 -- the voices behind the first
-pub without_first : (x : Heard) (xs : List Heard) → VoicesDiffer xs → slice_get xs 0 ≡ Some x → drop 1 xs ≡ without x.voice xs
+pub without_first : (x : LastHeard) (xs : List LastHeard) → VoicesDiffer xs → slice_get xs 0 ≡ Some x → drop 1 xs ≡ without x.voice xs
 without_first x [] differ first = cc
 without_first x (y ∷ xs) differ first =
     let same : y ≡ x = cc in
-    subst (λ (z : Heard). drop 1 (y ∷ xs) ≡ without z.voice (y ∷ xs)) same (grind (arith, nat_tests, same_voice-refl y.voice, without-absent y.voice xs differ.0))
+    subst (λ (z : LastHeard). drop 1 (y ∷ xs) ≡ without z.voice (y ∷ xs)) same (grind (arith, nat_tests, same_voice-refl y.voice, without-absent y.voice xs differ.0))

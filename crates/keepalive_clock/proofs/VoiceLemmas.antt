@@ -6,7 +6,8 @@ use Rattle.std.proofs.lemmas.Bool.{and_parts}
 use Rattle.std.proofs.lemmas.Bool.Decides.{nat_tests}
 use Rattle.std.proofs.lemmas.Slice.Eq.{bytes_eq-Decides}
 use Rattle.fab_base.specs.declared.values.Enode.{Enode}
-use Rattle.keepalive_clock.specs.Voices.{same_enode, same_voice}
+use Rattle.fab_base.specs.Fabric.{same_enode}
+use Rattle.keepalive_clock.specs.Voices.{same_voice}
 use Rattle.keepalive_clock.specs.declared.voice.Voice.{Voice}
 use Rattle.keepalive_clock.specs.declared.voice.Voice.TheVariants.{Node, Port}
 

@@ -1,27 +1,28 @@
 -- What a contract sees of a clock: the two periods, how many voices it may hold, and each voice with its last moment. The
 -- order of the voices says nothing.
-use Rattle.std.specs.Prelude.{◌≡◌, ℕ, ◌-◌, ◌*◌, ◌<◌, ◌≤◌, nat_lt, Bool, true, false, not, List, [], ◌∷◌, length, filter, find, Option, None, option_map}
+use Rattle.std.specs.Prelude.{◌≡◌, ℕ, ◌<◌, ◌≤◌, Bool, true, false, not, List, [], ◌∷◌, length, filter, find, Option, None, Some, option_map, IsTrue}
 use Rattle.std.specs.List.{list_any}
 use Rattle.std.specs.Option.{option_map_or}
+use Rattle.fab_base.specs.Fabric.{is_silent}
 use Rattle.keepalive_clock.specs.Voices.{same_voice}
 use Rattle.keepalive_clock.specs.declared.voice.Voice.{Voice}
 use Rattle.keepalive_clock.specs.declared.voice.Voice.TheVariants.{Node, Port}
-use Rattle.keepalive_clock.specs.declared.voice.Heard.{Heard}
+use Rattle.keepalive_clock.specs.declared.voice.LastHeard.{LastHeard}
 
-pub record Clock : Type 0 where
+pub record VoiceClock : Type 0 where
   pub node_period : ℕ
   pub port_period : ℕ
   pub room : ℕ
-  pub voices : List Heard
+  pub voices : List LastHeard
 
 -- ---- questions
 
 -- a voice with its last moment, if it is there
-abbrev pub heard_of : Voice → List Heard → Option Heard
+abbrev pub heard_of : Voice → List LastHeard → Option LastHeard
 heard_of voice voices = find (λ x. same_voice x.voice voice) voices
 
 -- the last moment of a voice
-abbrev pub last_of : Voice → List Heard → Option ℕ
+abbrev pub last_of : Voice → List LastHeard → Option ℕ
 last_of voice voices = option_map (λ x. x.last) (heard_of voice voices)
 
 -- ENodes send their keep alives once in a period, N_Ports once in another
@@ -29,31 +30,39 @@ abbrev pub period_of : ℕ → ℕ → Voice → ℕ
 period_of node port (Node x) = node
 period_of node port (Port a) = port
 
--- More than two and a half periods passed since the voice was heard.
-abbrev pub is_silent : Clock → ℕ → Heard → Bool
-is_silent c now x = nat_lt (5 * period_of c.node_period c.port_period x.voice) (2 * (now - x.last))
+-- a voice is silent too long that was heard at this moment
+abbrev pub is_silent_since : VoiceClock → Voice → ℕ → ℕ → Bool
+is_silent_since c voice heard now = is_silent (period_of c.node_period c.port_period voice) heard now
+
+-- the same of a voice with its last moment
+abbrev pub is_overdue : VoiceClock → ℕ → LastHeard → Bool
+is_overdue c now x = is_silent_since c x.voice x.last now
 
 -- the voice is there, and silent too long
-abbrev pub is_silent_voice : Clock → ℕ → Voice → Bool
-is_silent_voice c now voice = option_map_or (is_silent c now) (heard_of voice c.voices) false
+abbrev pub is_silent_voice : VoiceClock → ℕ → Voice → Bool
+is_silent_voice c now voice = option_map_or (is_overdue c now) (heard_of voice c.voices) false
 
 -- some voice is silent too long
-abbrev pub has_silent : Clock → ℕ → Bool
-has_silent c now = list_any (is_silent c now) c.voices
+abbrev pub has_silent : VoiceClock → ℕ → Bool
+has_silent c now = list_any (is_overdue c now) c.voices
+
+-- The same by look-ups alone: the last moment of some voice is too long ago.
+abbrev pub HasSilent : VoiceClock → ℕ → Type 0
+HasSilent c now = (voice : Voice) × (heard : ℕ) × (last_of voice c.voices ≡ Some heard) × IsTrue (is_silent_since c voice heard now)
 
 -- The least moment at which some voice is silent too long.
-pub record IsFirstSilence (c : Clock) (moment : ℕ) : Type 0 where
+pub record IsFirstSilence (c : VoiceClock) (moment : ℕ) : Type 0 where
   pub silent : has_silent c moment ≡ true
   pub before : (m : ℕ) → m < moment → has_silent c m ≡ false
 
 -- ---- changes
 
 -- the voices without this one
-abbrev pub without : Voice → List Heard → List Heard
+abbrev pub without : Voice → List LastHeard → List LastHeard
 without voice voices = filter (λ x. not (same_voice x.voice voice)) voices
 
 -- periods and room stay
-pub record KeepsLimits (old new : Clock) : Type 0 where
+pub record KeepsLimits (old new : VoiceClock) : Type 0 where
   pub node_period : new.node_period ≡ old.node_period
   pub port_period : new.port_period ≡ old.port_period
   pub room : new.room ≡ old.room
@@ -61,11 +70,11 @@ pub record KeepsLimits (old new : Clock) : Type 0 where
 -- ---- what holds of every clock
 
 -- no voice comes twice
-abbrev pub VoicesDiffer : List Heard → Type 0
+abbrev pub VoicesDiffer : List LastHeard → Type 0
 VoicesDiffer [] = Unit {0}
 VoicesDiffer (x ∷ voices) = (heard_of x.voice voices ≡ None) × VoicesDiffer voices
 
 -- No voice comes twice, and there are at most `room`.
-pub record IsSound (c : Clock) : Type 0 where
+pub record IsSound (c : VoiceClock) : Type 0 where
   pub differ : VoicesDiffer c.voices
   pub bound : length c.voices ≤ c.room

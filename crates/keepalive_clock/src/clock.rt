@@ -1,11 +1,11 @@
-// The clock: voices with their last moments, in the order of their deadlines.
-ghost use Rattle.std.specs.Prelude.{◌≡◌, ℕ, ◌+◌, ◌<◌, ◌≤◌, ◌^◌, ◌⊎◌, if◌then◌else◌, length, IfOk, IfSome, MatchOption, IfNone, Some, None, [], ◌∷◌, IsTrue, is_some, IsPermutation};
+//! The clock: voices with their last moments, in the order of their deadlines.
+ghost use Rattle.std.specs.Prelude.{◌≡◌, ℕ, ◌+◌, ◌<◌, ◌≤◌, ◌^◌, ◌⊎◌, if◌then◌else◌, length, IfOk, IfSome, MatchOption, IfNone, Some, None, [], ◌∷◌, IsTrue, is_some, OnSome, ◌↔◌, IsPermutation};
 ghost use Rattle.keepalive_clock.specs.Voices.{same_voice};
-ghost use Rattle.keepalive_clock.specs.Clock.{Clock, last_of, is_silent_voice, has_silent, IsFirstSilence, without, KeepsLimits, IsSound};
+ghost use Rattle.keepalive_clock.specs.Clock.{last_of, is_silent_voice, has_silent, HasSilent, IsFirstSilence, without, KeepsLimits, IsSound};
 
 use crate::due::due;
 use crate::search::{of_voice, place_after, place_of};
-use crate::{Heard, Steps, Voice};
+use crate::{LastHeard, Steps, Voice};
 use fab_base::{Moment, NoMemory};
 use std::alloc::Global;
 use std::marker::Model;
@@ -17,14 +17,14 @@ pub struct KeepClock {
     node_period: u32,
     port_period: u32,
     room: u32,
-    voices: Vec<Heard>,
+    voices: Vec<LastHeard>,
 }
 
 impl Model for KeepClock {
     ghost use Rattle.std.specs.Prelude.{vec_capacity};
-    ghost use Rattle.keepalive_clock.specs.Clock.{Clock};
+    ghost use Rattle.keepalive_clock.specs.Clock.{VoiceClock};
 
-    ghost Value = { Clock };
+    ghost Value = { VoiceClock };
 
     ghost use Rattle.keepalive_clock.specs.Order.{IsKept};
 
@@ -43,15 +43,13 @@ impl KeepClock {
     ) -> Result<KeepClock, NoMemory>
         ensures { IfOk result (λ c. c ≡ record { node_period = node_period; port_period = port_period; room = room; voices = [] }) }
     {
-        match Vec::with_capacity(alloc, room as usize) {
-            Ok(voices) => Ok(KeepClock {
-                node_period,
-                port_period,
-                room,
-                voices,
-            }),
-            Err(_) => Err(NoMemory),
-        }
+        let voices = Vec::with_capacity(alloc, room as usize)?;
+        Ok(KeepClock {
+            node_period,
+            port_period,
+            room,
+            voices,
+        })
     }
 
     /// The voice was heard at this moment.
@@ -65,7 +63,7 @@ impl KeepClock {
         ensures last { (w : Voice) → last_of w self.new.voices ≡ (if same_voice voice w then Some now else last_of w self.old.voices) }
     {
         self.remove_voice(&voice);
-        let heard = Heard { voice, last: now };
+        let heard = LastHeard { voice, last: now };
         let moment = due(self.node_period, self.port_period, &heard);
         let place = place_after(self.node_period, self.port_period, &self.voices, moment);
         let Ok(()) = self.voices.insert(place, heard) else {
@@ -77,6 +75,8 @@ impl KeepClock {
     pub fn forget(&mut self, voice: Voice) -> bool
         ensures there { result ≡ is_some (last_of voice self.old.voices) }
         ensures voices { self.new ≡ record self.old { voices = without voice self.old.voices } }
+        ensures last { (w : Voice) → last_of w self.new.voices ≡ (if same_voice voice w then None else last_of w self.old.voices) }
+        ensures count { length self.old.voices ≡ (if is_some (last_of voice self.old.voices) then length self.new.voices + 1 else length self.new.voices) }
         ensures sound { IsSound self.new }
     {
         self.remove_voice(&voice)
@@ -84,7 +84,8 @@ impl KeepClock {
 
     /// When the voice was last heard.
     pub fn last(&self, voice: &Voice) -> Option<Moment>
-        ensures { result ≡ last_of voice.now self.now.voices }
+        ensures moment { result ≡ last_of voice.now self.now.voices }
+        ensures sound { IsSound self.now }
     {
         match of_voice(&self.voices, voice) {
             Some(heard) => Some(heard.last),
@@ -94,7 +95,9 @@ impl KeepClock {
 
     /// The least moment at which some voice is silent too long.
     pub fn due(&self) -> Option<Moment>
-        ensures { MatchOption result (self.now.voices ≡ []) (λ moment. IsFirstSilence self.now moment) }
+        ensures first { MatchOption result (self.now.voices ≡ []) (λ moment. IsFirstSilence self.now moment) }
+        ensures silent { (now : ℕ) → IsTrue (has_silent self.now now) ↔ HasSilent self.now now }
+        ensures sound { IsSound self.now }
     {
         match self.voices.first() {
             Some(heard) => {
@@ -111,6 +114,8 @@ impl KeepClock {
         ensures some { is_some result ≡ has_silent self.old now }
         ensures silent { IfSome result (λ voice. IsTrue (is_silent_voice self.old now voice)) }
         ensures taken { IfSome result (λ voice. self.new ≡ record self.old { voices = without voice self.old.voices }) }
+        ensures last { IfSome result (λ voice. (w : Voice) → last_of w self.new.voices ≡ (if same_voice voice w then None else last_of w self.old.voices)) }
+        ensures count { OnSome result (length self.old.voices ≡ length self.new.voices + 1) }
         ensures none { IfNone result (self.new ≡ self.old) }
         ensures sound { IsSound self.new }
     {

@@ -9,7 +9,7 @@ mod voice;
 
 pub use clock::KeepClock;
 pub use steps::Steps;
-pub use voice::{Heard, Voice};
+pub use voice::{LastHeard, Voice};
 
 #[cfg(test)]
 mod tests;

@@ -1,4 +1,4 @@
-// A count of steps that takes no bytes and does nothing at run time.
+//! A count of steps that takes no bytes and does nothing at run time.
 ghost use Rattle.std.specs.Prelude.{◌≡◌, ℕ, ◌+◌, ◌<◌};
 
 use std::marker::Model;

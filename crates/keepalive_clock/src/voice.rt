@@ -1,4 +1,4 @@
-// Whose keep alives are heard, and when each was heard last.
+//! Whose keep alives are heard, and when each was heard last.
 ghost use Rattle.std.specs.Prelude.{◌≡◌};
 
 use fab_base::{Enode, FcId, Moment};
@@ -27,7 +27,7 @@ impl Voice {
 
 /// A voice with the moment at which it was last heard.
 #[derive(Clone, Copy, Debug, PartialEq, Eq)]
-pub struct Heard {
+pub struct LastHeard {
     pub voice: Voice,
     pub last: Moment,
 }

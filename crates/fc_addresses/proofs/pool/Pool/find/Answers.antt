@@ -1,8 +1,8 @@
-use Rattle.std.proofs.Common.{sym, arith, ◌∙◌, IsTrue, None, ap, is_some, ℕ, Option}
+use Rattle.std.proofs.Common.{subst, sym, arith, ◌∙◌, IsTrue, None, ap, is_some, ℕ, Option}
 use Rattle.std.proofs.lemmas.List.Quantifiers.{position-Some}
-use Rattle.fc_addresses.specs.Pool.{is_free}
+use Rattle.fc_addresses.specs.Pool.{is_free, IsSound}
 use Rattle.fc_addresses.specs.Holders.{may_follow}
-use Rattle.fc_addresses.proofs.PoolLemmas.{free-found, has_free-position, IfSome-same}
+use Rattle.fc_addresses.proofs.PoolLemmas.{free-found, has_free-position, IfSome-same, sound_places}
 use Rattle.fc_addresses.proofs.pool.Pool.find.Goals as goal
 
 pub returns-in-Some-clause-free : goal.returns-in-Some-clause-free
@@ -25,3 +25,9 @@ returns-in-None-clause-some c =
     let found = rw c.deref.ensures.value at (sym c.first_place.ensures ∙ c.in-None.is) in
     sym (ap (λ (o : Option ℕ). is_some o) found)
     ∙ has_free-position _ c.self.inside.first c.self.inside.holders.items c.self.view_is c.args.name c.args.now
+
+pub returns-in-Some-clause-sound : goal.returns-in-Some-clause-sound
+returns-in-Some-clause-sound c = subst IsSound c.self.view_is (sound_places c.self.inside.first c.self.inside.holders.items c.self.invariant)
+
+pub returns-in-None-clause-sound : goal.returns-in-None-clause-sound
+returns-in-None-clause-sound c = subst IsSound c.self.view_is (sound_places c.self.inside.first c.self.inside.holders.items c.self.invariant)

@@ -1,6 +1,7 @@
-use Rattle.std.proofs.Common.{arith, refl, Some, None}
+use Rattle.std.proofs.Common.{◌∙◌, ap, arith, map, refl, Some, None}
+use Rattle.fab_base.specs.Fabric.{Past, past_at}
 use Rattle.fc_addresses.specs.Pool.{is_open}
-use Rattle.fc_addresses.proofs.PoolLemmas.{place_of_past, changed_pool}
+use Rattle.fc_addresses.proofs.PoolLemmas.{place_of_past, changed_pool, found-taken, places-changed}
 use Rattle.fc_addresses.proofs.pool.Pool.take.Goals as goal
 
 pub overflow_sub-place : goal.overflow_sub-place
@@ -13,8 +14,16 @@ index_mut-requires c =
     let place = place_of_past _ c.self.inside.first c.self.inside.holders.items c.self.view_is (is_open c.args.name c.args.now) c.args.address c.requires.free in
     omega (arith, place.1, c.self.inside.holders.ok.0)
 
-pub returns : goal.returns
-returns c =
+pub returns-clause-pool : goal.returns-clause-pool
+returns-clause-pool c =
     let place = place_of_past _ c.self.inside.first c.self.inside.holders.items c.self.view_is (is_open c.args.name c.args.now) c.args.address c.requires.free in
     rw c.value.ensures.value
     (changed_pool _ c.self.inside.first c.self.inside.holders.items c.self.view_is (λ p. record { address = p.address; name = Some c.args.name; ended = None }) c.args.address _ (record { name = None; ended = None }) place.0 place.1 refl)
+
+pub returns-clause-found : goal.returns-clause-found
+returns-clause-found c = λ b. ap (past_at b) (returns-clause-pool c) ∙ found-taken c.args.address c.args.name b c.args.self.now (is_open c.args.name c.args.now) c.requires.free
+
+pub returns-clause-places : goal.returns-clause-places
+returns-clause-places c =
+    ap (map (λ (p : Past). p.address)) (returns-clause-pool c)
+    ∙ places-changed (λ p. record { address = p.address; name = Some c.args.name; ended = None }) (λ p. refl) c.args.address c.args.self.now

@@ -2,9 +2,9 @@ use Rattle.std.proofs.Common.{◌≡◌, ◌∙◌, ◌<◌, ap, sym, subst, ari
 use Rattle.std.specs.List.{position_or_len, insert}
 use Rattle.std.proofs.lemmas.List.Edits.{length-insert}
 use Rattle.std.proofs.lemmas.List.Sorted.{IsPermutation-insert}
-use Rattle.keepalive_clock.specs.Clock.{Clock, IsSound, without, heard_of}
+use Rattle.keepalive_clock.specs.Clock.{VoiceClock, IsSound, without, heard_of}
 use Rattle.keepalive_clock.specs.Order.{due_of, ComeDue}
-use Rattle.keepalive_clock.specs.declared.voice.Heard.{Heard}
+use Rattle.keepalive_clock.specs.declared.voice.LastHeard.{LastHeard}
 use Rattle.keepalive_clock.proofs.HeardLemmas.{position_or_len-le, count_without, room_without, last_of-insert, heard_of-without_this, VoicesDiffer-insert}
 use Rattle.keepalive_clock.proofs.DueLemmas.{ComeDue-insert}
 use Rattle.keepalive_clock.proofs.clock.KeepClock.heard.Goals as goal
@@ -17,18 +17,18 @@ insert-requires c =
 pub unreachable-requires : goal.unreachable-requires
 unreachable-requires c =
     let same = c.self.view_is ∙ c.remove_voice.ensures.voices in
-    let rest = ap (λ (d : Clock). d.voices) same in
-    let room = ap (λ (d : Clock). d.room) same in
+    let rest = ap (λ (d : VoiceClock). d.voices) same in
+    let room = ap (λ (d : VoiceClock). d.room) same in
     let less = room_without c.args.voice c.args.self.now.voices c.args.self.now.room c.requires.room c.remove_voice.ensures.was_sound.bound in
-    omega (arith, c.in_default.ensures.full, c.self.invariant.room, less, room, ap (λ (l : List Heard). length l) rest, c.self.inside.voices.ok.0)
+    omega (arith, c.in_default.ensures.full, c.self.invariant.room, less, room, ap (λ (l : List LastHeard). length l) rest, c.self.inside.voices.ok.0)
 
 rest : (c : goal.In-Ok) → c.self.inside.voices.items ≡ without c.args.voice c.args.self.now.voices
-rest c = ap (λ (d : Clock). d.voices) (c.self.view_is ∙ c.remove_voice.ensures.voices)
+rest c = ap (λ (d : VoiceClock). d.voices) (c.self.view_is ∙ c.remove_voice.ensures.voices)
 
 less : (c : goal.In-Ok) → length c.self.inside.voices.items < c.self.inside.room
 less c =
-    let room = ap (λ (d : Clock). d.room) (c.self.view_is ∙ c.remove_voice.ensures.voices) in
-    omega (arith, room, room_without c.args.voice c.args.self.now.voices c.args.self.now.room c.requires.room c.remove_voice.ensures.was_sound.bound, ap (λ (l : List Heard). length l) (rest c))
+    let room = ap (λ (d : VoiceClock). d.room) (c.self.view_is ∙ c.remove_voice.ensures.voices) in
+    omega (arith, room, room_without c.args.voice c.args.self.now.voices c.args.self.now.room c.requires.room c.remove_voice.ensures.was_sound.bound, ap (λ (l : List LastHeard). length l) (rest c))
 
 absent : (c : goal.In-Ok) → heard_of c.args.voice c.self.inside.voices.items ≡ None
 absent c = ap (λ l. heard_of c.args.voice l) (rest c) ∙ heard_of-without_this c.args.voice c.args.self.now.voices
@@ -52,7 +52,7 @@ sound c = record {
 order : (c : goal.In-Ok) → ComeDue c.self.inside.node_period c.self.inside.port_period 0
     (insert c.self.inside.voices.items c.place_after-place.result (record { voice = c.args.voice; last = c.args.now }))
 order c =
-    let y : Heard = record { voice = c.args.voice; last = c.args.now } in
+    let y : LastHeard = record { voice = c.args.voice; last = c.args.now } in
     let place : c.place_after-place.result ≡ position_or_len (λ x. nat_lt c.due-moment.result (due_of c.self.inside.node_period c.self.inside.port_period x)) c.deref.result.now = c.place_after-place.ensures in
     let at = rw (c.due-moment.ensures, c.deref.ensures.value) at place in
     subst (λ n. ComeDue c.self.inside.node_period c.self.inside.port_period 0 (insert c.self.inside.voices.items n y)) (sym at)
@@ -74,7 +74,7 @@ pub returns-clause-count : goal.returns-clause-count
 returns-clause-count c =
     rw c.in-Ok.ensures.items
     (length-insert c.self.inside.voices.items c.place_after-place.result (record { voice = c.args.voice; last = c.args.now }) (within c)
-    ∙ ap (λ (l : List Heard). length l + 1) (rest c)
+    ∙ ap (λ (l : List LastHeard). length l + 1) (rest c)
     ∙ count_without c.args.voice c.args.self.now.voices c.remove_voice.ensures.was_sound.differ)
 
 pub returns-clause-sound : goal.returns-clause-sound
