@@ -9,7 +9,7 @@ use Rattle.std.proofs.lemmas.List.Folds.{list_any-append}
 use Rattle.std.proofs.Math.Nat.{div-add-mod, add-mod_right, mul-mod_right, mul-le-mul_left}
 use Rattle.fab_config.specs.Settings.{Settings}
 use Rattle.fab_config.specs.declared.Activation.{Activation}
-use Rattle.pcap_file.proofs.PullLemmas.{le_or_lt}
+use Rattle.pcap_file.proofs.lemmas.Numbers.{le_or_lt}
 use Rattle.fab_policy.specs.Legal.{window_start, has_activation}
 use Rattle.fab_policy.specs.Outputs.{is_owed}
 use Rattle.fcoe_tool.specs.Clock.{NextAfter, ByPeriod, ByZones, IsSoonest, sooner_by}

@@ -11,7 +11,7 @@ use Rattle.pcap_file.specs.declared.CaptureHead.{CaptureHead}
 use Rattle.pcap_file.specs.declared.Record.{Record}
 use Rattle.pcap_file.specs.Capture.{Next, Found, End, CutHead, TooLong, CutBytes, next, records_from, is_whole_from, IsCapture}
 use Rattle.pcap_file.specs.Records.{size_of}
-use Rattle.pcap_file.proofs.ChainLemmas.{found_stands, end_is, go_on, one_capture}
+use Rattle.pcap_file.proofs.lemmas.Chains.{found_stands, end_is, go_on, one_capture}
 use Rattle.fab_policy.specs.Logins.{counting}
 use Rattle.fcoe_tool.specs.Command.{input_at}
 use Rattle.fcoe_tool.specs.Gathered.{HasCapture, AreCaptures, HaveCaptures, IsFirstBad, bytes_in, frames_in, windows, span_of}

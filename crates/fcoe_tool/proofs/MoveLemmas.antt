@@ -5,7 +5,7 @@ use Rattle.std.specs.Str.{bytes_eq}
 use Rattle.std.proofs.lemmas.Bool.{cases_Bool}
 use Rattle.std.proofs.lemmas.Slice.Eq.{bytes_eq-Decides}
 use Rattle.fab_base.specs.Seen.{Seen, Keeps, Rose}
-use Rattle.pcap_file.proofs.PullLemmas.{le_or_lt}
+use Rattle.pcap_file.proofs.lemmas.Numbers.{le_or_lt}
 use Rattle.fab_policy.specs.Logins.{counting}
 use Rattle.fcoe_tool.specs.Command.{AnyRose}
 use Rattle.fcoe_tool.specs.Read.{Moves}

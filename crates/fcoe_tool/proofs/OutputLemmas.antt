@@ -5,7 +5,7 @@ use Rattle.std.specs.declared.alloc.Global.{Global}
 use Rattle.std.proofs.lemmas.Bool.{eq-eqb, ne_eqb}
 use Rattle.std.proofs.lemmas.List.{append-nil}
 use Rattle.pcap_file.specs.Capture.{record_bytes}
-use Rattle.pcap_file.proofs.PullLemmas.{le_or_lt}
+use Rattle.pcap_file.proofs.lemmas.Numbers.{le_or_lt}
 use Rattle.fab_config.specs.Settings.{Settings}
 use Rattle.fab_base.specs.declared.values.Caught.{Caught}
 use Rattle.fip_codec.specs.Message as fip

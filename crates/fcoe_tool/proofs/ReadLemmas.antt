@@ -21,9 +21,9 @@ use Rattle.pcap_file.specs.declared.CapError.TheVariants as errors
 use Rattle.pcap_file.specs.Reading.{Reading, OpensReader, NextReads}
 use Rattle.pcap_file.specs.Capture.{head_decoded}
 use Rattle.pcap_file.specs.Records.{Taken, size_of}
-use Rattle.pcap_file.proofs.LoopLemmas.{taken_none, taken_more, taken_all, taken_cut, taken_too_long, taken_bytes, taken_frames}
-use Rattle.pcap_file.proofs.PullLemmas.{le_or_lt}
-use Rattle.pcap_file.proofs.ChainLemmas.{bad_head, size-push}
+use Rattle.pcap_file.proofs.lemmas.Loop.{taken_none, taken_more, taken_all, taken_cut, taken_too_long, taken_bytes, taken_frames}
+use Rattle.pcap_file.proofs.lemmas.Numbers.{le_or_lt}
+use Rattle.pcap_file.proofs.lemmas.Chains.{bad_head, size-push}
 use Rattle.fcoe_tool.specs.Gathered.{HasCapture}
 use Rattle.fcoe_tool.specs.Read.{TextRead, ConfigRead, AreEarly, AreRecords, TakesAll, IsCaptureOf, RestRead, CaptureRead, IsCaptureEnd, stopped_by, unopened_by}
 use Rattle.fcoe_tool.specs.declared.outcome.Outcome.{Outcome}

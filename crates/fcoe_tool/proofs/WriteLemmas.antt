@@ -11,7 +11,7 @@ use Rattle.fcoe_tool.specs.Machine.{outs_in}
 use Rattle.fcoe_tool.specs.Read.{Moves}
 use Rattle.fcoe_tool.specs.Write.{FileWritten, OutputsWritten}
 use Rattle.fcoe_tool.specs.declared.outcome.Outcome.{Outcome}
-use Rattle.pcap_file.proofs.PullLemmas.{le_or_lt}
+use Rattle.pcap_file.proofs.lemmas.Numbers.{le_or_lt}
 use Rattle.fcoe_tool.proofs.MoveLemmas.{moves_refl, moves_trans, keeps_moves, rose_between, any_rose}
 use Rattle.fcoe_tool.proofs.NameLemmas.{names_differ, none_counted_0, map_counted_0}
 

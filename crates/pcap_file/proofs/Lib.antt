@@ -1,8 +1,7 @@
-pub mod ChainLemmas
-pub mod HeadLemmas
-pub mod LoopLemmas
-pub mod NextLemmas
-pub mod PullLemmas
-pub mod StepLemmas
-pub mod StopLemmas
-pub mod WrittenLemmas
+mod HeadLemmas
+mod NextLemmas
+mod PullLemmas
+mod StepLemmas
+mod StopLemmas
+mod WrittenLemmas
+pub mod lemmas

@@ -1,20 +1,12 @@
 -- Filling a buffer from what is held and from a slot, piece by piece.
-use Rattle.std.proofs.Common.{◌≡◌, ℕ, ◌+◌, ◌-◌, ◌≤◌, ◌<◌, ◌⊎◌, inl, inr, min, List, [], ◌∷◌, ◌++◌, length, append_assoc, take, drop, Ok, Err, IsTrue, refl, sym, ◌∙◌, ap, subst, arith}
-use Rattle.std.proofs.lemmas.Bool.Decides.{leb_tells}
+use Rattle.std.proofs.Common.{◌≡◌, ℕ, ◌+◌, ◌-◌, ◌≤◌, ◌<◌, inl, inr, min, List, [], ◌++◌, length, append_assoc, take, drop, Ok, Err, IsTrue, refl, sym, ◌∙◌, ap, subst, arith}
 use Rattle.std.proofs.lemmas.List.{take-append-drop, drop-take, drop-drop, drop_all, length-take}
 use borrow.Rule.Slice.PartMut.{put_mid}
 use Rattle.fab_base.specs.Seen.{Seen, Reads, Rose}
 use Rattle.fab_base.specs.declared.values.Failed.{Failed}
 use Rattle.fab_base.proofs.Depots.{reads_trans, reads_refl, input_name, told_stays, rose_later, take-put_mid-more}
 use Rattle.pcap_file.specs.Reading.{Pulls, Refills}
-
-pub le_or_lt : (a b : ℕ) → (a ≤ b) ⊎ (b < a)
-le_or_lt a b = elim (leb_tells a b) [ inl p ↦ inl p.1 | inr p ↦ inr p.1 ]
-
--- nothing left
-pub none_is : (l : List ℕ) → length l ≡ 0 → l ≡ []
-none_is [] e = refl
-none_is (x ∷ l) e = absurd (omega arith)
+use Rattle.pcap_file.proofs.lemmas.Numbers.{le_or_lt, none_is}
 
 -- what is held behind the first bytes of a window
 pub window_rest : (l : List ℕ) (from to count : ℕ) → take (to - (from + count)) (drop (from + count) l) ≡ drop count (take (to - from) (drop from l))

@@ -1,16 +1,18 @@
 -- The step of a reader, by what its buffers hold.
+use Rattle.std.specs.Prelude.{unwrap_or}
 use Rattle.std.proofs.Common.{◌≡◌, ◌≢◌, inl, inr, subst, ◌^◌, IsTrue, Some, None, Ok, Err, ℕ, ◌+◌, ◌<◌, ◌≤◌, max, true, false, leb, ltb, eqb, nat_lt, not, List, [], ◌++◌, length, take, drop, refl, sym, ap, ◌∙◌, arith}
 use Rattle.std.proofs.lemmas.Bool.{ne_eqb, le-ltb, lt-ltb, le-leb, lt-leb}
 use Rattle.std.proofs.lemmas.List.{length-take-le, take-append-drop, append-nil, take_all}
 use Rattle.fab_base.specs.Seen.{Seen, Reads}
-use Rattle.pcap_file.proofs.PullLemmas.{none_is, le_or_lt}
+use Rattle.pcap_file.proofs.lemmas.Numbers.{none_is, le_or_lt}
+use Rattle.pcap_file.proofs.lemmas.Steps.{no_bytes, no_frames, no_limit}
 use Rattle.fab_base.proofs.Depots.{reads_trans, input_name, told_stays}
 use Rattle.pcap_file.specs.declared.Record.{Record}
 use Rattle.pcap_file.specs.declared.Budget.{Budget}
 use Rattle.pcap_file.specs.declared.CaptureHead.{CaptureHead}
 use Rattle.pcap_file.specs.declared.CapError.TheVariants as errors
-use Rattle.pcap_file.specs.Capture.{at_place, milliseconds, stored, next}
-use Rattle.pcap_file.specs.Reading.{Pulls, RecordRead, Step, Gives, Stops, within, step_of}
+use Rattle.pcap_file.specs.Capture.{at_place, milliseconds, stored, Next, Found, next}
+use Rattle.pcap_file.specs.Reading.{Pulls, RecordRead, Why, Cut, NoBytes, NoFrames, limit_of, error_of, Step, Gives, Stops, step_by, step_of}
 use Rattle.pcap_file.proofs.NextLemmas.{next_end, next_short, front_long, front_cut, front_whole}
 
 pub leb_not : (a b : ℕ) → leb a b ≡ not (ltb b a)
@@ -19,38 +21,17 @@ leb_not a b = elim (le_or_lt a b) [
   | inr lt ↦ lt-leb _ _ lt ∙ ap not (sym (lt-ltb _ _ lt))
 ]
 
-pub within_bytes : (budget : Budget) (len : ℕ) (x : Step) → budget.bytes < 16 + len → within budget len x ≡ Stops errors.Bytes
-within_bytes budget len x lt = let e : ltb budget.bytes (16 + len) ≡ true = lt-ltb _ _ lt in rw e refl
-
-pub within_frames : (budget : Budget) (len : ℕ) (x : Step) → 16 + len ≤ budget.bytes → budget.frames ≡ 0 → within budget len x ≡ Stops errors.Frames
-within_frames budget len x le none =
-    let e : ltb budget.bytes (16 + len) ≡ false = le-ltb _ _ le in
-    let z : eqb budget.frames 0 ≡ true = ap (λ (n : ℕ). eqb n 0) none in
-    rw (e, z) refl
-
-pub within_all : (budget : Budget) (len : ℕ) (x : Step) → 16 + len ≤ budget.bytes → 1 ≤ budget.frames → within budget len x ≡ x
-within_all budget len x le some =
-    let e : ltb budget.bytes (16 + len) ≡ false = le-ltb _ _ le in
-    let z : eqb budget.frames 0 ≡ false = ne_eqb budget.frames 0 (λ e. omega arith) in
-    rw (e, z) refl
-
 -- a limit that is passed, whether the record is whole or not
 module _ (h : CaptureHead) (g at : ℕ) (budget : Budget) (front m : List ℕ) (sized : length front ≡ 16) (small : stored h front ≤ 65535) where
-  limits : (x : Step) → ((y : Step) → within budget (stored h front) y ≡ x) → step_of budget at (next h g (front ++ m)) ≡ x
-  limits x over = elim (le_or_lt (stored h front) (length m)) [
+  step_fails : (why : Why) → limit_of budget.bytes budget.frames (stored h front) ≡ Some why → step_of budget at (next h g (front ++ m)) ≡ Stops (error_of why at)
+  step_fails why over = elim (le_or_lt (stored h front) (length m)) [
     | inl le ↦
         let whole : length (take (stored h front) m) ≡ stored h front = length-take-le (stored h front) m le in
         ap (step_of budget at) (front_whole h g front m sized (take (stored h front) m) (drop (stored h front) m) (sym (take-append-drop (stored h front) m)) whole small)
-        ∙ (λ i. within budget (whole i) (Gives (max g (milliseconds h front)) (record { bytes = take (stored h front) m; whole = not (nat_lt (stored h front) (at_place h.big front 12 4)) }) (drop (stored h front) m)))
-        ∙ over (Gives (max g (milliseconds h front)) (record { bytes = take (stored h front) m; whole = not (nat_lt (stored h front) (at_place h.big front 12 4)) }) (drop (stored h front) m))
-    | inr lt ↦ ap (step_of budget at) (front_cut h g front m sized small lt) ∙ over (Stops (errors.Cut at))
+        ∙ ap (λ o. step_by o at (Found (max g (milliseconds h front)) (record { bytes = take (stored h front) m; whole = not (nat_lt (stored h front) (at_place h.big front 12 4)) }) (drop (stored h front) m)))
+        (ap (limit_of budget.bytes budget.frames) whole ∙ over)
+    | inr lt ↦ ap (step_of budget at) (front_cut h g front m sized small lt) ∙ ap (λ o. Stops (error_of (unwrap_or o Cut) at)) over
   ]
-
-  pub step_bytes : budget.bytes < 16 + stored h front → step_of budget at (next h g (front ++ m)) ≡ Stops errors.Bytes
-  step_bytes lt = limits (Stops errors.Bytes) (λ y. within_bytes budget (stored h front) y lt)
-
-  pub step_frames : 16 + stored h front ≤ budget.bytes → budget.frames ≡ 0 → step_of budget at (next h g (front ++ m)) ≡ Stops errors.Frames
-  step_frames le none = limits (Stops errors.Frames) (λ y. within_frames budget (stored h front) y le none)
 
 -- ---- buffers
 
@@ -103,7 +84,7 @@ module _ (s : ℕ) (a b : Seen) (held rest front : List ℕ) (n : ℕ) (h : Capt
     pub read_bytes : budget.bytes < 16 + len → RecordRead s a b held rest h at g budget (Err errors.Bytes)
     read_bytes lt = record {
       reads = first.reads;
-      says = λ told. ap (λ l. step_of budget at (next h g l)) (whole_front le told) ∙ step_bytes h g at budget front (rest ++ b.left s) sized (omega arith) (omega arith);
+      says = λ told. ap (λ l. step_of budget at (next h g l)) (whole_front le told) ∙ step_fails h g at budget front (rest ++ b.left s) sized (omega arith) NoBytes (no_bytes budget.bytes budget.frames (stored h front) (omega arith));
       fits = tt;
       cause = λ f e. absurd (cc);
     }
@@ -111,7 +92,7 @@ module _ (s : ℕ) (a b : Seen) (held rest front : List ℕ) (n : ℕ) (h : Capt
     pub read_frames : 16 + len ≤ budget.bytes → budget.frames ≡ 0 → RecordRead s a b held rest h at g budget (Err errors.Frames)
     read_frames room none = record {
       reads = first.reads;
-      says = λ told. ap (λ l. step_of budget at (next h g l)) (whole_front le told) ∙ step_frames h g at budget front (rest ++ b.left s) sized (omega arith) (omega arith) none;
+      says = λ told. ap (λ l. step_of budget at (next h g l)) (whole_front le told) ∙ step_fails h g at budget front (rest ++ b.left s) sized (omega arith) NoFrames (no_frames budget.bytes budget.frames (stored h front) (omega arith) none);
       fits = tt;
       cause = λ f e. absurd (cc);
     }
@@ -130,7 +111,7 @@ module _ (s : ℕ) (a b : Seen) (held rest front : List ℕ) (n : ℕ) (h : Capt
             let empty : more ++ c.left s ≡ [] = second.ended (told_b told) lt in
             let all : length (rest ++ b.left s) ≡ k = short_is body (more ++ c.left s) (rest ++ b.left s) k second.bound empty (second.taken (told_b told)) in
             ap (λ l. step_of budget at (next h g l)) (whole_front le told) ∙ ap (step_of budget at) (front_cut h g front (rest ++ b.left s) sized (omega arith) (omega arith))
-            ∙ within_all budget (stored h front) (Stops (errors.Cut at)) (omega arith) (omega arith);
+            ∙ ap (λ o. Stops (error_of (unwrap_or o Cut) at)) (no_limit budget.bytes budget.frames (stored h front) (omega arith) (omega arith));
         fits = tt;
         cause = λ f e. absurd (cc);
       }
@@ -145,7 +126,7 @@ module _ (s : ℕ) (a b : Seen) (held rest front : List ℕ) (n : ℕ) (h : Capt
             let time : max g (milliseconds h front) ≡ r.moment = omega arith in
             ap (λ l. step_of budget at (next h g l)) (whole_front le told)
             ∙ ap (step_of budget at) (front_whole h g front (rest ++ b.left s) sized body (more ++ c.left s) all (sized_body ∙ is) (omega arith))
-            ∙ within_all budget (length body) (Gives (max g (milliseconds h front)) (record { bytes = body; whole = not (nat_lt (stored h front) (at_place h.big front 12 4)) }) (more ++ c.left s)) (omega arith) (omega arith)
+            ∙ ap (λ o. step_by o at (Found (max g (milliseconds h front)) (record { bytes = body; whole = not (nat_lt (stored h front) (at_place h.big front 12 4)) }) (more ++ c.left s))) (no_limit budget.bytes budget.frames (length body) (omega arith) (omega arith))
             ∙ (λ i. Gives (time i) (same i) (more ++ c.left s));
         fits = record { onward = omega arith; range = omega arith; stored = omega (arith, ap length bytes); bytes = omega (arith, ap length bytes); frames = omega arith };
         cause = λ f e. absurd (cc);

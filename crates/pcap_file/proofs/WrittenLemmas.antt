@@ -4,7 +4,7 @@ use Rattle.std.proofs.lemmas.Bool.{le-ltb}
 use Rattle.fab_base.specs.Layout.{little_endian, spelled_low}
 use Rattle.fab_base.proofs.LayoutLemmas.{little_endian-spelled}
 use Rattle.pcap_file.specs.declared.CaptureHead.{CaptureHead}
-use Rattle.pcap_file.specs.Capture.{at_place, milliseconds, stored, Found, next, head_decoded, head_bytes, record_bytes}
+use Rattle.pcap_file.specs.Capture.{at_place, milliseconds, stored, Found, next, head_decoded, head_bytes, record_front, record_bytes}
 use Rattle.pcap_file.proofs.HeadLemmas.{head_front}
 use Rattle.pcap_file.proofs.NextLemmas.{front_whole}
 
@@ -12,23 +12,17 @@ pub head_read : (rest : List ℕ) → head_decoded (head_bytes ++ rest) ≡ Ok (
 unfolding head_decoded
 head_read rest = head_front head_bytes rest refl ∙ refl
 
--- the head of a record
-abbrev pub front_of : ℕ → List ℕ → List ℕ
-front_of moment bytes =
-    let seconds = min (moment / 1000) 4294967295 in
-    ((spelled_low 4 seconds ++ spelled_low 4 ((moment - seconds * 1000) * 1000)) ++ spelled_low 4 (length bytes)) ++ spelled_low 4 (length bytes)
-
 abbrev pub written : CaptureHead
 written = record { big = false; nano = false }
 
 module _ (greatest moment : ℕ) (bytes rest : List ℕ) (below : moment < 2 ^ 32 * 1000) (small : length bytes ≤ 65535) where
-  len_is : stored written (front_of moment bytes) ≡ length bytes
+  len_is : stored written (record_front moment (length bytes)) ≡ length bytes
   len_is = little_endian-spelled 4 (length bytes) (omega arith)
 
-  original_is : at_place false (front_of moment bytes) 12 4 ≡ length bytes
+  original_is : at_place false (record_front moment (length bytes)) 12 4 ≡ length bytes
   original_is = little_endian-spelled 4 (length bytes) (omega arith)
 
-  moment_is : milliseconds written (front_of moment bytes) ≡ moment
+  moment_is : milliseconds written (record_front moment (length bytes)) ≡ moment
   moment_is =
       let seconds = min (moment / 1000) 4294967295 in
       let first : little_endian (spelled_low 4 seconds) ≡ seconds = little_endian-spelled 4 seconds (omega arith) in
@@ -37,7 +31,7 @@ module _ (greatest moment : ℕ) (bytes rest : List ℕ) (below : moment < 2 ^ 3
 
   pub record_read : next written greatest (record_bytes moment bytes ++ rest) ≡ Found (max greatest moment) (record { bytes = bytes; whole = true }) rest
   record_read =
-      ap (next written greatest) (append_assoc (front_of moment bytes) bytes rest)
-      ∙ front_whole written greatest (front_of moment bytes) (bytes ++ rest) refl bytes rest refl (sym len_is) (omega (arith, len_is))
+      ap (next written greatest) (append_assoc (record_front moment (length bytes)) bytes rest)
+      ∙ front_whole written greatest (record_front moment (length bytes)) (bytes ++ rest) refl bytes rest refl (sym len_is) (omega (arith, len_is))
       ∙ (λ i. Found (max greatest (moment_is i)) (record { bytes = bytes; whole = not (nat_lt (len_is i) (original_is i)) }) rest)
       ∙ ap (λ (b : Bool). Found (max greatest moment) (record { bytes = bytes; whole = not b }) rest) (le-ltb (length bytes) (length bytes) (omega arith))

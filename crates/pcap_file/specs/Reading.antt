@@ -1,5 +1,5 @@
 -- What a contract sees of a reader, and what its calls answer over a depot.
-use Rattle.std.specs.Prelude.{◌≡◌, ℕ, ◌+◌, ◌-◌, ◌^◌, ◌≤◌, ◌<◌, ◌↔◌, min, IsTrue, nat_lt, ◌==◌, if◌then◌else◌, List, [], ◌++◌, length, take, drop, Option, Some, None, Result, Ok, Err, IfOk, OnOk, OnErr, IsErrOf, MatchResult, MatchOption}
+use Rattle.std.specs.Prelude.{◌≡◌, ℕ, ◌+◌, ◌-◌, ◌^◌, ◌≤◌, ◌<◌, ◌↔◌, min, IsTrue, nat_lt, ◌==◌, if◌then◌else◌, List, [], ◌++◌, length, take, drop, Option, Some, None, unwrap_or, Result, Ok, Err, IfOk, OnOk, OnErr, IsErrOf, MatchResult, MatchOption}
 use Rattle.fab_base.specs.Seen.{Seen, Reads, Rose}
 use Rattle.fab_base.specs.declared.values.Failed.{Failed}
 use Rattle.fab_base.specs.declared.values.Caught.{Caught}
@@ -25,26 +25,52 @@ pub record Reading : Type 0 where
 abbrev pub to_come : Reading → Seen → ℕ → List ℕ
 to_come r d s = r.held ++ d.left s
 
+-- ---- why a record isn't taken
+
+-- The bytes end inside the record, its stored length passes what a record stores, or a limit is passed.
+pub data Why : Type 0 where
+  Cut : Why
+  Long : (len : ℕ) → Why
+  NoBytes : Why
+  NoFrames : Why
+
+-- why a record of a stored length can't be taken, with what is left of the limits
+abbrev pub limit_of : ℕ → ℕ → ℕ → Option Why
+limit_of bytes frames len =
+    if nat_lt bytes (RECORD_HEAD + len) then Some NoBytes else if frames == 0 then Some NoFrames else None
+
+-- why what stands at a place can't be taken; the limits come before stored bytes that are missing
+abbrev pub failure : ℕ → ℕ → Next → Option Why
+failure bytes frames (Found moment caught rest) = limit_of bytes frames (length caught.bytes)
+failure bytes frames End = None
+failure bytes frames CutHead = Some Cut
+failure bytes frames (TooLong len) = Some (Long len)
+failure bytes frames (CutBytes len) = Some (unwrap_or (limit_of bytes frames len) Cut)
+
+-- the error that tells it of a record at a place of the file
+abbrev pub error_of : Why → ℕ → CapError
+error_of Cut at = errors.Cut at
+error_of (Long len) at = errors.TooLong at len
+error_of NoBytes at = errors.Bytes
+error_of NoFrames at = errors.Frames
+
+-- ---- one step of a reader
+
 -- How a reader goes on where neither the depot fails nor memory is refused.
 pub data Step : Type 0 where
   Gives : (moment : ℕ) (caught : Caught) (rest : List ℕ) → Step
   Ends : Step
   Stops : (error : CapError) → Step
 
--- the tests of the limits, of a record with so many stored bytes, and what comes behind them
-abbrev pub within : Budget → ℕ → Step → Step
-within budget len behind =
-    if nat_lt budget.bytes (RECORD_HEAD + len) then Stops errors.Bytes
-    else if budget.frames == 0 then Stops errors.Frames
-    else behind
+-- the step at a place of the file from what stands there, which fails or doesn't
+abbrev pub step_by : Option Why → ℕ → Next → Step
+step_by (Some why) at x = Stops (error_of why at)
+step_by None at (Found moment caught rest) = Gives moment caught rest
+step_by None at _ = Ends
 
--- how a reader at a place of the file goes on from what stands there
+-- how a reader goes on there with what is left of the limits
 abbrev pub step_of : Budget → ℕ → Next → Step
-step_of budget at (Found moment caught rest) = within budget (length caught.bytes) (Gives moment caught rest)
-step_of budget at End = Ends
-step_of budget at CutHead = Stops (errors.Cut at)
-step_of budget at (TooLong len) = Stops (errors.TooLong at len)
-step_of budget at (CutBytes len) = within budget len (Stops (errors.Cut at))
+step_of budget at x = step_by (failure budget.bytes budget.frames x) at x
 
 -- what an answer says of that step, where this is still to come afterwards; a depot's fault and want of memory say nothing
 abbrev pub Says : Step → List ℕ → Result (Option Record) CapError → Type 0

@@ -1,5 +1,5 @@
 -- The records of a capture, read one after another, and what follows from how the reading ends.
-use Rattle.std.specs.Prelude.{◌≡◌, ◌≢◌, ℕ, ◌+◌, ◌*◌, ◌^◌, ◌≤◌, ◌<◌, max, true, false, IsTrue, List, [], ◌∷◌, ◌++◌, length, drop, Option, Some, None, Result, Ok, Err, MatchResult}
+use Rattle.std.specs.Prelude.{◌≡◌, ◌≢◌, ℕ, ◌+◌, ◌*◌, ◌^◌, ◌≤◌, ◌<◌, ◌↔◌, max, true, false, IsTrue, List, [], ◌∷◌, ◌++◌, length, drop, Option, Some, None, Result, Ok, Err, MatchResult}
 use Rattle.fab_base.specs.Seen.{Seen, Rose}
 use Rattle.pcap_file.specs.declared.Budget.{Budget}
 use Rattle.pcap_file.specs.declared.CaptureHead.{CaptureHead}
@@ -10,7 +10,7 @@ use Rattle.pcap_file.specs.declared.Record.{Record}
 use Rattle.pcap_file.specs.declared.CapOpen.{CapOpen}
 use Rattle.pcap_file.specs.declared.CapOpen.TheVariants as opens
 use Rattle.pcap_file.specs.Capture.{HEAD, RECORD_HEAD, MOST_STORED, head_bytes, record_bytes, Next, Found, End, CutHead, TooLong, CutBytes, next, head_decoded, records, IsCapture}
-use Rattle.pcap_file.specs.Reading.{Reading, Step, Gives, Ends, Stops, step_of, to_come, place_after, NextReads, OpensReader}
+use Rattle.pcap_file.specs.Reading.{Reading, Why, failure, error_of, Step, Gives, Ends, Stops, step_of, to_come, place_after, NextReads, OpensReader}
 
 -- these records stand one after another, and then the rest
 abbrev pub Chain : CaptureHead → ℕ → List Record → List ℕ → List ℕ → Type 0
@@ -71,6 +71,16 @@ OneCapture = (file : List ℕ) (h k : CaptureHead) (rs qs : List Record) → IsC
 -- the moments of a capture don't go back
 abbrev pub MomentsAscend : Type 0
 MomentsAscend = (h : CaptureHead) (file : List ℕ) → Ascends 0 (records h file)
+
+-- what a step says of what stands there: a record within the limits, the end, or why it fails, told with its place
+abbrev pub Tells : Budget → ℕ → Next → Step → Type 0
+Tells budget at x (Gives moment caught rest) = (x ≡ Found moment caught rest) × (failure budget.bytes budget.frames x ≡ None)
+Tells budget at x Ends = x ≡ End
+Tells budget at x (Stops e) = (why : Why) × (failure budget.bytes budget.frames x ≡ Some why) × (e ≡ error_of why at)
+
+-- a step is exactly what stands there, with its failure
+abbrev pub StepTells : Type 0
+StepTells = (budget : Budget) (at : ℕ) (x : Next) (step : Step) → (step_of budget at x ≡ step) ↔ Tells budget at x step
 
 -- an answer that shows a step, where this is to come afterwards
 abbrev pub Shows : Step → List ℕ → Result (Option Record) CapError → Type 0

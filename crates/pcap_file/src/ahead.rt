@@ -1,5 +1,6 @@
-// Bytes that were fetched and not given yet.
-ghost use Rattle.std.specs.Prelude.{◌≡◌, ◌≤◌, ◌<◌, ◌-◌, List, ℕ, [], IsTrue, length, take, drop, min, IfOk, OnErr};
+//! Bytes that were fetched and not given yet.
+ghost use Rattle.std.specs.Prelude.{◌≡◌, ◌≤◌, ◌<◌, ◌-◌, List, ℕ, [], IsTrue, length, take, drop};
+ghost use Rattle.std.specs.Prelude.{min, IfOk, OnErr};
 ghost use Rattle.pcap_file.specs.Reading.{Pulls, Refills};
 
 use fab_base::{Depot, Failed};
@@ -42,7 +43,8 @@ impl Ahead {
         into: &mut [u8],
     ) -> Result<usize, Failed>
         requires { IsTrue ((D.seen depot.old).input slot) }
-        ensures pulls { Pulls slot into.new self.old self.new (D.seen depot.old) (D.seen depot.new) result }
+        ensures pulls { Pulls slot into.new self.old self.new
+            (D.seen depot.old) (D.seen depot.new) result }
     {
         let mut got = 0;
         while got < into.len() {
@@ -59,7 +61,8 @@ impl Ahead {
     // Fetches once where nothing is held.
     fn ready<D: Depot>(&mut self, depot: &mut D, slot: u32) -> Result<(), Failed>
         requires { IsTrue ((D.seen depot.old).input slot) }
-        ensures refills { Refills slot self.old self.new (D.seen depot.old) (D.seen depot.new) result }
+        ensures refills { Refills slot self.old self.new
+            (D.seen depot.old) (D.seen depot.new) result }
     {
         if self.from < self.to {
             return Ok(());

@@ -1,4 +1,4 @@
-// The head of a capture, and the numbers of its byte order.
+//! The head of a capture, and the numbers of its byte order.
 ghost use Rattle.std.specs.Prelude.{◌≡◌, ◌≤◌, ◌<◌, ◌+◌, ◌^◌, length};
 ghost use Rattle.pcap_file.specs.Capture.{at_place, magic_of, head_decoded, milliseconds};
 

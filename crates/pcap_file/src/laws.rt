@@ -1,5 +1,7 @@
-// What holds of every capture, and of every answer of a reader.
-ghost use Rattle.pcap_file.specs.Records.{EndsAsCapture, FaultIsNoCapture, BadHeadIsNoCapture, OneCapture, MomentsAscend, StepIsAnswered, HeadIsAnswered, WrittenIsRead};
+//! What holds of every capture, and of every answer of a reader.
+ghost use Rattle.pcap_file.specs.Records.{EndsAsCapture, FaultIsNoCapture, BadHeadIsNoCapture};
+ghost use Rattle.pcap_file.specs.Records.{OneCapture, MomentsAscend, WrittenIsRead};
+ghost use Rattle.pcap_file.specs.Records.{StepTells, StepIsAnswered, HeadIsAnswered};
 
 /// Records that end where the bytes end make the capture.
 pub fn the_end_makes_a_capture()
@@ -22,7 +24,14 @@ pub fn moments_do_not_go_back()
     ensures { MomentsAscend }
 {}
 
-/// A reader answers what stands in the capture, except where the depot failed or memory was refused.
+/// A step is a record that stands there within the limits, the end, or the failure of what stands
+/// there.
+pub fn a_step_tells_what_stands_there()
+    ensures { StepTells }
+{}
+
+/// A reader answers what stands in the capture, except where the depot failed or memory was
+/// refused.
 pub fn a_reader_answers_what_stands_there()
     ensures records { StepIsAnswered }
     ensures head { HeadIsAnswered }

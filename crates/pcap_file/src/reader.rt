@@ -1,4 +1,4 @@
-// Reading a capture from a slot, record by record.
+//! Reading a capture from a slot, record by record.
 ghost use Rattle.std.specs.Prelude.{◌≡◌, ◌<◌, ◌≤◌, ◌^◌, IsTrue};
 ghost use Rattle.pcap_file.specs.Reading.{Reading, OpensReader, NextReads, RecordRead};
 
@@ -36,7 +36,13 @@ pub struct Reader {
 impl Model for Reader {
     ghost Value = { Reading };
 
-    ghost view = { λ r. record { head = r.place.head; at = r.place.at; greatest = r.place.greatest; kept = r.kept; held = r.ahead } };
+    ghost view = { λ r. record {
+      head = r.place.head;
+      at = r.place.at;
+      greatest = r.place.greatest;
+      kept = r.kept;
+      held = r.ahead;
+    } };
 
     ghost invariant = { λ r. r.place.greatest < 2 ^ 43 };
 }
@@ -46,7 +52,8 @@ impl Reader {
     /// budget, which is tested before anything is fetched.
     pub fn open<D: Depot>(depot: &mut D, slot: u32, budget: &mut Budget) -> Result<Reader, CapOpen>
         requires input { IsTrue ((D.seen depot.old).input slot) }
-        ensures opens { OpensReader slot (D.seen depot.old) (D.seen depot.new) budget.old budget.new result }
+        ensures opens { OpensReader slot (D.seen depot.old) (D.seen depot.new)
+            budget.old budget.new result }
     {
         if budget.bytes < HEAD as u64 {
             return Err(CapOpen::Bytes);
@@ -85,7 +92,8 @@ impl Reader {
         budget: &mut Budget,
     ) -> Result<Option<Record>, CapError>
         requires input { IsTrue ((D.seen depot.old).input slot) }
-        ensures next { NextReads slot (D.seen depot.old) (D.seen depot.new) self.old self.new budget.old budget.new result }
+        ensures next { NextReads slot (D.seen depot.old) (D.seen depot.new) self.old self.new
+            budget.old budget.new result }
     {
         if let Some(error) = self.kept {
             return Err(error);
@@ -119,7 +127,8 @@ fn read_record<D: Depot>(
 ) -> Result<Option<Record>, CapError>
     requires input { IsTrue ((D.seen depot.old).input slot) }
     requires greatest { place.greatest < 2 ^ 43 }
-    ensures reads { RecordRead slot (D.seen depot.old) (D.seen depot.new) ahead.old ahead.new place.head place.at place.greatest budget result }
+    ensures reads { RecordRead slot (D.seen depot.old) (D.seen depot.new) ahead.old ahead.new
+        place.head place.at place.greatest budget result }
 {
     let Place { head, at, greatest } = place;
     let mut front = [0u8; RECORD_HEAD];

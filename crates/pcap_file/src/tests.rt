@@ -1,9 +1,10 @@
-// Captures as bytes in a depot of one input, whose fetches give a few bytes each.
-ghost use Rattle.std.specs.Prelude.{ℕ, List, [], false, true, None, ◌^◌, ◌-◌};
+//! Captures as bytes in a depot of one input, whose fetches give a few bytes each.
+ghost use Rattle.std.specs.Prelude.{ℕ, List, [], false, true, None, ◌^◌, ◌-◌, ◌≡◌, IfOk, vec_len};
 ghost use Rattle.fab_base.specs.Seen.{Seen};
 
 use super::*;
 use fab_base::Depot;
+use std::alloc::{AllocError, Global};
 use std::test::Fail;
 
 // A depot whose every slot is open, of which it tells nothing, and whose counts stand at their end.
@@ -145,6 +146,57 @@ fn big_endian_nanoseconds(rt: HostRuntime) -> Result<(), Fail> {
             }
         );
     }
+    Ok(())
+}
+
+// So many bytes of one value.
+fn filled(alloc: Global, count: usize) -> Result<Vec<u8>, AllocError>
+    ensures { IfOk result (λ v. vec_len v ≡ count) }
+{
+    Vec::from_elem(alloc, 7, count)
+}
+
+#[test]
+fn the_longest_record_is_read(rt: HostRuntime) -> Result<(), Fail> {
+    let alloc = rt.alloc();
+    let stored = filled(alloc, 65535)?;
+    let mut bytes = Vec::new(alloc);
+    bytes.extend_from_slice(&LITTLE)?;
+    bytes.extend_from_slice(&[1, 0, 0, 0, 0, 0, 0, 0, 255, 255, 0, 0, 255, 255, 0, 0])?;
+    bytes.extend_from_slice(&stored)?;
+    let mut depot = OneFile {
+        bytes: &bytes,
+        step: 5000,
+        fetches: 0,
+    };
+    let mut budget = AMPLE;
+    let mut reader = Reader::open(&mut depot, 0, &mut budget)?;
+    let record = reader
+        .next(alloc, &mut depot, 0, &mut budget)?
+        .ok_or("none")?;
+    assert_eq!(rt; record.moment, Moment(1000));
+    assert!(rt; record.caught.whole);
+    assert_eq!(rt; record.caught.bytes.view(), stored.as_slice());
+    assert!(rt; reader.next(alloc, &mut depot, 0, &mut budget)?.is_none());
+    assert_eq!(rt; budget.bytes, 1_073_741_824 - 24 - 65551);
+    Ok(())
+}
+
+#[test]
+fn errors_are_told_in_words(rt: HostRuntime) -> Result<(), Fail> {
+    let alloc = rt.alloc();
+    let head = format!(in alloc; "{}", CapOpen::Head(CapFault::BadMagic))?;
+    assert_eq!(rt;
+        head.as_str(),
+        "the first 4 bytes are no magic of a capture"
+    );
+    let cut = format!(in alloc; "{}", CapError::Cut { at: 176 })?;
+    assert_eq!(rt; cut.as_str(), "the record at 176 is cut");
+    let long = format!(in alloc; "{}", CapError::TooLong { at: 40, len: 65536 })?;
+    assert_eq!(rt;
+        long.as_str(),
+        "the record at 40 stores 65536 bytes, more than 65535"
+    );
     Ok(())
 }
 

@@ -1,9 +1,14 @@
-// Writing a capture to a buffer: little-endian, in microseconds, version 2.4.
-ghost use Rattle.std.specs.Prelude.{◌≡◌, ◌≤◌, ◌<◌, ◌+◌, ◌*◌, ◌^◌, ◌++◌, length, OnOk, OnErr, IfOk};
-ghost use Rattle.pcap_file.specs.Capture.{head_bytes, record_bytes};
+//! Writing a capture to a buffer: little-endian, in microseconds, version 2.4.
+ghost use Rattle.std.specs.Prelude.{◌≡◌, ◌≤◌, ◌<◌, ◌+◌, ◌^◌, ◌++◌, length, OnOk, OnErr};
+ghost use Rattle.arrayvec.specs.ArrayVec.{array_vec_len};
+ghost use Rattle.pcap_file.specs.Capture.{head_bytes, record_front, record_bytes};
 
+use arrayvec::ArrayVec;
 use fab_base::{Moment, NoMemory};
-use std::alloc::{AllocError, Global};
+use std::alloc::Global;
+
+/// What a record has before its bytes.
+const RECORD_HEAD: usize = 16;
 
 const HEAD_BYTES: [u8; 24] = [
     0xd4, 0xc3, 0xb2, 0xa1, 2, 0, 4, 0, 0, 0, 0, 0, 0, 0, 0, 0, 0xff, 0xff, 0, 0, 1, 0, 0, 0,
@@ -17,15 +22,13 @@ pub fn write_head(_alloc: Global, out: &mut Vec<u8>) -> Result<(), NoMemory>
     ensures ok { OnOk result (out.new.items ≡ out.old.items ++ head_bytes) }
     ensures err { OnErr result (out.new.items ≡ out.old.items) }
 {
-    match out.extend_from_slice(&HEAD_BYTES) {
-        Ok(()) => Ok(()),
-        Err(_) => Err(NoMemory),
-    }
+    out.extend_from_slice(&HEAD_BYTES)?;
+    Ok(())
 }
 
 /// Appends a record, 16 bytes and the frame. Where memory is refused nothing is appended.
 pub fn write_record(
-    alloc: Global,
+    _alloc: Global,
     moment: Moment,
     bytes: &[u8],
     out: &mut Vec<u8>,
@@ -35,28 +38,36 @@ pub fn write_record(
     ensures ok { OnOk result (out.new.items ≡ out.old.items ++ record_bytes moment bytes.now) }
     ensures err { OnErr result (out.new.items ≡ out.old.items) }
 {
-    match bytes_of(alloc, moment.0, bytes) {
-        Ok(made) => match out.extend_from_slice(&made) {
-            Ok(()) => Ok(()),
-            Err(_) => Err(NoMemory),
-        },
-        Err(_) => Err(NoMemory),
-    }
+    let head = record_head(moment, bytes.len() as u32);
+    out.reserve(RECORD_HEAD + bytes.len())?;
+    out.extend_from_slice(head.as_slice())?;
+    out.extend_from_slice(bytes)?;
+    Ok(())
 }
 
-fn bytes_of(alloc: Global, moment: u64, bytes: &[u8]) -> Result<Vec<u8>, AllocError>
-    requires moment { moment < 2 ^ 53 }
-    requires bytes { length bytes.now ≤ 65535 }
-    ensures { IfOk result (λ v. v.items ≡ record_bytes moment bytes.now) }
+// What stands before the bytes of a record: seconds, microseconds, and both lengths.
+fn record_head(moment: Moment, len: u32) -> ArrayVec<u8, RECORD_HEAD>
+    requires { moment < 2 ^ 53 }
+    ensures bytes { result.items ≡ record_front moment len }
+    ensures size { array_vec_len result ≡ 16 }
 {
-    let len = (bytes.len() as u32).to_le_bytes();
-    let seconds = (moment / 1000).min(LAST_SECOND);
-    let micros = (moment - seconds * 1000) * 1000;
-    let mut made = Vec::new(alloc);
-    made.extend_from_slice(&seconds.to_le_bytes()[..4])?;
-    made.extend_from_slice(&micros.to_le_bytes()[..4])?;
-    made.extend_from_slice(&len)?;
-    made.extend_from_slice(&len)?;
-    made.extend_from_slice(bytes)?;
-    Ok(made)
+    let seconds = (moment.0 / 1000).min(LAST_SECOND);
+    let micros = (moment.0 - seconds * 1000) * 1000;
+    let mut head = ArrayVec::new();
+    add(&mut head, &seconds.to_le_bytes()[..4]);
+    add(&mut head, &micros.to_le_bytes()[..4]);
+    add(&mut head, &len.to_le_bytes());
+    add(&mut head, &len.to_le_bytes());
+    head
+}
+
+fn add(head: &mut ArrayVec<u8, RECORD_HEAD>, part: &[u8])
+    requires { array_vec_len head.old + length part.now ≤ 16 }
+    ensures items { head.new.items ≡ head.old.items ++ part.now }
+    ensures len { array_vec_len head.new ≡ array_vec_len head.old + length part.now }
+{
+    match head.try_extend_from_slice(part) {
+        Ok(()) => {}
+        Err(_) => unreachable!(),
+    }
 }

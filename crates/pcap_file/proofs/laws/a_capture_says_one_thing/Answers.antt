@@ -1,4 +1,4 @@
-use Rattle.pcap_file.proofs.ChainLemmas.{one_capture}
+use Rattle.pcap_file.proofs.lemmas.Chains.{one_capture}
 use Rattle.pcap_file.proofs.laws.a_capture_says_one_thing.Goals as goal
 
 pub returns : goal.returns

@@ -1,4 +1,4 @@
-use Rattle.pcap_file.proofs.ChainLemmas.{fault_is_no_capture, bad_head}
+use Rattle.pcap_file.proofs.lemmas.Chains.{fault_is_no_capture, bad_head}
 use Rattle.pcap_file.proofs.laws.a_fault_makes_no_capture.Goals as goal
 
 pub returns : goal.returns

@@ -1,4 +1,4 @@
-use Rattle.pcap_file.proofs.ChainLemmas.{moments_ascend}
+use Rattle.pcap_file.proofs.lemmas.Chains.{moments_ascend}
 use Rattle.pcap_file.proofs.laws.moments_do_not_go_back.Goals as goal
 
 pub returns : goal.returns

@@ -1,4 +1,4 @@
-use Rattle.pcap_file.proofs.ChainLemmas.{ends_as_capture}
+use Rattle.pcap_file.proofs.lemmas.Chains.{ends_as_capture}
 use Rattle.pcap_file.proofs.laws.the_end_makes_a_capture.Goals as goal
 
 pub returns : goal.returns

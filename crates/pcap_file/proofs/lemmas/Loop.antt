@@ -7,114 +7,10 @@ use Rattle.pcap_file.specs.declared.CaptureHead.{CaptureHead}
 use Rattle.pcap_file.specs.declared.CapError.TheVariants as errors
 use Rattle.pcap_file.specs.declared.Record.{Record}
 use Rattle.pcap_file.specs.Capture.{HEAD, Next, Found, End, CutHead, TooLong, CutBytes, next, records, records_from, IsCapture}
-use Rattle.pcap_file.specs.Reading.{Reading, Step, Gives, Ends, Stops, within, step_of, to_come, OpensReader, NextReads}
+use Rattle.pcap_file.specs.Reading.{Reading, to_come, OpensReader, NextReads}
 use Rattle.pcap_file.specs.Records.{Chain, last_moment, size_of, IsFault, Taken}
-use Rattle.pcap_file.proofs.PullLemmas.{le_or_lt}
-use Rattle.pcap_file.proofs.StepLemmas.{within_bytes, within_frames, within_all}
-use Rattle.pcap_file.proofs.ChainLemmas.{found_stands, chain_push, last-push, size-push, ascends-push, chain_size, few, records_on, go_on, ends_as_capture, fault_is_no_capture, same_ok}
-
--- ---- what a step says of what stands there
-
--- the limits are passed, or what is behind them is the step
-pub within_is : (budget : Budget) (len : ℕ) (y z : Step) → within budget len y ≡ z → ((z ≡ Stops errors.Bytes) × (budget.bytes < 16 + len)) ⊎ (((z ≡ Stops errors.Frames) × (budget.frames ≡ 0)) ⊎ (y ≡ z))
-within_is budget len y z e = elim (le_or_lt (16 + len) budget.bytes) [
-  | inr lt ↦ inl (sym e ∙ within_bytes budget len y lt, lt)
-  | inl le ↦ elim (le_or_lt 1 budget.frames) [
-    | inl some ↦ inr (inr (sym (within_all budget len y le some) ∙ e))
-    | inr none ↦ let zero_is : budget.frames ≡ 0 = omega arith in inr (inl (sym e ∙ within_frames budget len y le zero_is, zero_is))
-  ]
-]
-
-pub gives_found : (budget : Budget) (at : ℕ) (x : Next) (moment : ℕ) (caught : Caught) (rest : List ℕ) → step_of budget at x ≡ Gives moment caught rest → x ≡ Found moment caught rest
-gives_found budget at (Found m c k) moment caught rest e = elim (within_is budget (length c.bytes) (Gives m c k) (Gives moment caught rest) e) [
-  | inl p ↦ let q = p.0 in absurd (cc)
-  | inr other ↦ elim other [ inl p ↦ let q = p.0 in absurd (cc) | inr same ↦ let is : Found m c k ≡ Found moment caught rest = cc in is ]
-]
-gives_found budget at End moment caught rest e = absurd (cc)
-gives_found budget at CutHead moment caught rest e = absurd (cc)
-gives_found budget at (TooLong len) moment caught rest e = absurd (cc)
-gives_found budget at (CutBytes len) moment caught rest e = elim (within_is budget len (Stops (errors.Cut at)) (Gives moment caught rest) e) [
-  | inl p ↦ let q = p.0 in absurd (cc)
-  | inr other ↦ elim other [ inl p ↦ let q = p.0 in absurd (cc) | inr same ↦ absurd (cc) ]
-]
-
-pub ends_end : (budget : Budget) (at : ℕ) (x : Next) → step_of budget at x ≡ Ends → x ≡ End
-ends_end budget at (Found m c k) e = elim (within_is budget (length c.bytes) (Gives m c k) Ends e) [
-  | inl p ↦ let q = p.0 in absurd (cc)
-  | inr other ↦ elim other [ inl p ↦ let q = p.0 in absurd (cc) | inr same ↦ absurd (cc) ]
-]
-ends_end budget at End e = refl
-ends_end budget at CutHead e = absurd (cc)
-ends_end budget at (TooLong len) e = absurd (cc)
-ends_end budget at (CutBytes len) e = elim (within_is budget len (Stops (errors.Cut at)) Ends e) [
-  | inl p ↦ let q = p.0 in absurd (cc)
-  | inr other ↦ elim other [ inl p ↦ let q = p.0 in absurd (cc) | inr same ↦ absurd (cc) ]
-]
-
-pub cut_fault : (budget : Budget) (at place : ℕ) (x : Next) → step_of budget at x ≡ Stops (errors.Cut place) → IsFault x
-cut_fault budget at place (Found m c k) e = elim (within_is budget (length c.bytes) (Gives m c k) (Stops (errors.Cut place)) e) [
-  | inl p ↦ let q = p.0 in absurd (cc)
-  | inr other ↦ elim other [ inl p ↦ let q = p.0 in absurd (cc) | inr same ↦ absurd (cc) ]
-]
-cut_fault budget at place End e = absurd (cc)
-cut_fault budget at place CutHead e = tt
-cut_fault budget at place (TooLong len) e = tt
-cut_fault budget at place (CutBytes len) e = tt
-
-pub long_fault : (budget : Budget) (at place count : ℕ) (x : Next) → step_of budget at x ≡ Stops (errors.TooLong place count) → IsFault x
-long_fault budget at place count (Found m c k) e = elim (within_is budget (length c.bytes) (Gives m c k) (Stops (errors.TooLong place count)) e) [
-  | inl p ↦ let q = p.0 in absurd (cc)
-  | inr other ↦ elim other [ inl p ↦ let q = p.0 in absurd (cc) | inr same ↦ absurd (cc) ]
-]
-long_fault budget at place count End e = absurd (cc)
-long_fault budget at place count CutHead e = tt
-long_fault budget at place count (TooLong len) e = tt
-long_fault budget at place count (CutBytes len) e = tt
-
--- the place that an error tells, and the length
-pub cut_place : (budget : Budget) (at place : ℕ) (x : Next) → step_of budget at x ≡ Stops (errors.Cut place) → place ≡ at
-cut_place budget at place (Found m c k) e = absurd (cut_fault budget at place (Found m c k) e)
-cut_place budget at place End e = absurd (cc)
-cut_place budget at place CutHead e = cc
-cut_place budget at place (TooLong len) e = absurd (cc)
-cut_place budget at place (CutBytes len) e = elim (within_is budget len (Stops (errors.Cut at)) (Stops (errors.Cut place)) e) [
-  | inl p ↦ let q = p.0 in absurd (cc)
-  | inr other ↦ elim other [ inl p ↦ let q = p.0 in absurd (cc) | inr same ↦ let is : place ≡ at = cc in is ]
-]
-
-pub long_is : (budget : Budget) (at place count : ℕ) (x : Next) → step_of budget at x ≡ Stops (errors.TooLong place count) → (place ≡ at) × (x ≡ TooLong count)
-long_is budget at place count (Found m c k) e = absurd (long_fault budget at place count (Found m c k) e)
-long_is budget at place count End e = absurd (cc)
-long_is budget at place count CutHead e = absurd (cc)
-long_is budget at place count (TooLong len) e = let first : place ≡ at = cc in let second : len ≡ count = cc in (first, ap (λ (n : ℕ). TooLong n) second)
-long_is budget at place count (CutBytes len) e = elim (within_is budget len (Stops (errors.Cut at)) (Stops (errors.TooLong place count)) e) [
-  | inl p ↦ let q = p.0 in absurd (cc)
-  | inr other ↦ elim other [ inl p ↦ let q = p.0 in absurd (cc) | inr same ↦ absurd (cc) ]
-]
-
--- a record that passes a limit, or a fault
-abbrev pub Passes : (ℕ → Type 0) → Next → Type 0
-Passes over x = ((moment : ℕ) × (caught : Caught) × (rest : List ℕ) × (x ≡ Found moment caught rest) × over (length caught.bytes)) ⊎ IsFault x
-
-pub bytes_passed : (budget : Budget) (at : ℕ) (x : Next) → step_of budget at x ≡ Stops errors.Bytes → Passes (λ len. budget.bytes < 16 + len) x
-bytes_passed budget at (Found m c k) e = elim (within_is budget (length c.bytes) (Gives m c k) (Stops errors.Bytes) e) [
-  | inl p ↦ inl (m, c, k, refl, p.1)
-  | inr other ↦ elim other [ inl p ↦ let q = p.0 in absurd (cc) | inr same ↦ absurd (cc) ]
-]
-bytes_passed budget at End e = absurd (cc)
-bytes_passed budget at CutHead e = absurd (cc)
-bytes_passed budget at (TooLong len) e = absurd (cc)
-bytes_passed budget at (CutBytes len) e = inr tt
-
-pub frames_passed : (budget : Budget) (at : ℕ) (x : Next) → step_of budget at x ≡ Stops errors.Frames → Passes (λ len. budget.frames ≡ 0) x
-frames_passed budget at (Found m c k) e = elim (within_is budget (length c.bytes) (Gives m c k) (Stops errors.Frames) e) [
-  | inl p ↦ let q = p.0 in absurd (cc)
-  | inr other ↦ elim other [ inl p ↦ inl (m, c, k, refl, p.1) | inr same ↦ absurd (cc) ]
-]
-frames_passed budget at End e = absurd (cc)
-frames_passed budget at CutHead e = absurd (cc)
-frames_passed budget at (TooLong len) e = absurd (cc)
-frames_passed budget at (CutBytes len) e = inr tt
+use Rattle.pcap_file.proofs.lemmas.Steps.{gives_found, ends_end, cut_fault, long_fault, bytes_passed, frames_passed}
+use Rattle.pcap_file.proofs.lemmas.Chains.{found_stands, chain_push, last-push, size-push, ascends-push, chain_size, few, records_on, go_on, ends_as_capture, fault_is_no_capture, same_ok}
 
 -- where a record stands, one is read
 records_some : (n : ℕ) (h : CaptureHead) (g : ℕ) (l : List ℕ) (moment : ℕ) (caught : Caught) (rest : List ℕ) → 1 ≤ n → next h g l ≡ Found moment caught rest → 1 ≤ length (records_from n h g l)
@@ -183,10 +79,10 @@ module _ (slot : ℕ) (file : List ℕ) (rs : List Record) (b c : Seen) (r r' : 
     no_capture f = let h = t.chain told in fault_is_no_capture r.head rs file (to_come r b slot) h.0 h.1 (subst IsFault (sym (at_last _ refl)) f)
 
     pub taken_cut : (at : ℕ) → NextReads slot b c r r' had left (Err (errors.Cut at)) → (k : CaptureHead) (qs : List Record) → IsCapture k qs file → ⊥
-    taken_cut at n = no_capture (cut_fault had r.at at (next r.head r.greatest (to_come r b slot)) (n.says told t.fresh))
+    taken_cut at n = no_capture (cut_fault had r.at (next r.head r.greatest (to_come r b slot)) at (n.says told t.fresh))
 
     pub taken_too_long : (at len : ℕ) → NextReads slot b c r r' had left (Err (errors.TooLong at len)) → (k : CaptureHead) (qs : List Record) → IsCapture k qs file → ⊥
-    taken_too_long at len n = no_capture (long_fault had r.at at len (next r.head r.greatest (to_come r b slot)) (n.says told t.fresh))
+    taken_too_long at len n = no_capture (long_fault had r.at (next r.head r.greatest (to_come r b slot)) at len (n.says told t.fresh))
 
     -- a limit of bytes is met only where no capture stands, or one with more bytes than those that were taken and those that are left
     pub taken_bytes : NextReads slot b c r r' had left (Err errors.Bytes) → (k : CaptureHead) (qs : List Record) → IsCapture k qs file → had.bytes + (HEAD + size_of rs) < length file

@@ -10,7 +10,7 @@ use Rattle.pcap_file.specs.declared.CapFault.{CapFault}
 use Rattle.pcap_file.specs.declared.Record.{Record}
 use Rattle.pcap_file.specs.Capture.{HEAD, milliseconds, stored, caught_in, Next, Found, End, CutHead, TooLong, CutBytes, next, head_decoded, records, records_from, is_whole_from, IsCapture}
 use Rattle.pcap_file.specs.Records.{Chain, last_moment, size_of, Ascends, IsFault}
-use Rattle.pcap_file.proofs.PullLemmas.{le_or_lt, none_is}
+use Rattle.pcap_file.proofs.lemmas.Numbers.{le_or_lt, none_is}
 use Rattle.pcap_file.proofs.NextLemmas.{next_end, next_short, next_long, next_cut, next_whole}
 
 -- what a record that stands there says of the bytes
@@ -19,44 +19,36 @@ pub record Stands (h : CaptureHead) (g : ℕ) (l : List ℕ) (moment : ℕ) (cau
   pub size : length l ≡ 16 + length caught.bytes + length rest
   pub behind : rest ≡ drop (16 + length caught.bytes) l
 
-pub found_stands : (h : CaptureHead) (g : ℕ) (l : List ℕ) (moment : ℕ) (caught : Caught) (rest : List ℕ) → next h g l ≡ Found moment caught rest → Stands h g l moment caught rest
-found_stands h g l moment caught rest e = elim (le_or_lt (length l) 0) [
-  | inl none ↦ let is : next h g l ≡ End = ap (next h g) (none_is l (omega arith)) ∙ next_end h g in absurd (cc)
+-- what is said of the bytes by what stands there
+abbrev pub Says : CaptureHead → ℕ → List ℕ → Next → Type 0
+Says h g l (Found moment caught rest) = Stands h g l moment caught rest
+Says h g l End = l ≡ []
+Says h g l _ = Unit {0}
+
+next_says : (h : CaptureHead) (g : ℕ) (l : List ℕ) → Says h g l (next h g l)
+next_says h g l = elim (le_or_lt (length l) 0) [
+  | inl none ↦ let empty : l ≡ [] = none_is l (omega arith) in subst (Says h g l) (sym (ap (next h g) empty ∙ next_end h g)) empty
   | inr some ↦ elim (le_or_lt 16 (length l)) [
-    | inr short ↦ let is : next h g l ≡ CutHead = next_short h g l some short in absurd (cc)
+    | inr short ↦ subst (Says h g l) (sym (next_short h g l some short)) tt
     | inl le ↦ elim (le_or_lt (stored h l) 65535) [
-      | inr long ↦ let is : next h g l ≡ TooLong (stored h l) = next_long h g l le long in absurd (cc)
+      | inr long ↦ subst (Says h g l) (sym (next_long h g l le long)) tt
       | inl small ↦ elim (le_or_lt (16 + stored h l) (length l)) [
-        | inr cut ↦ let is : next h g l ≡ CutBytes (stored h l) = next_cut h g l le small cut in absurd (cc)
+        | inr cut ↦ subst (Says h g l) (sym (next_cut h g l le small cut)) tt
         | inl fits ↦
-            let is = next_whole h g l le small fits in
-            let same : Found (max g (milliseconds h l)) (caught_in h l) (drop (16 + stored h l) l) ≡ Found moment caught rest = sym is ∙ e in
-            let moment_is : max g (milliseconds h l) ≡ moment = cc in
-            let caught_is : caught_in h l ≡ caught = cc in
-            let rest_is : drop (16 + stored h l) l ≡ rest = cc in
             let sized : length (field l 16 (stored h l)) ≡ stored h l = length-field l 16 (stored h l) fits in
-            let bytes_is : length (field l 16 (stored h l)) ≡ length caught.bytes = ap (λ (c : Caught). length c.bytes) caught_is in
-            record { onward = omega arith; size = omega (arith, sized, bytes_is, ap length rest_is, length-drop (16 + stored h l) l); behind = sym rest_is ∙ ap (λ (n : ℕ). drop (16 + n) l) (sym sized ∙ bytes_is) }
+            subst (Says h g l) (sym (next_whole h g l le small fits))
+            (record { onward = omega arith; size = omega (arith, sized, length-drop (16 + stored h l) l); behind = ap (λ (n : ℕ). drop (16 + n) l) (sym sized) })
       ]
     ]
   ]
 ]
 
+pub found_stands : (h : CaptureHead) (g : ℕ) (l : List ℕ) (moment : ℕ) (caught : Caught) (rest : List ℕ) → next h g l ≡ Found moment caught rest → Stands h g l moment caught rest
+found_stands h g l moment caught rest e = subst (Says h g l) e (next_says h g l)
+
 -- the end stands where no bytes are
 pub end_is : (h : CaptureHead) (g : ℕ) (l : List ℕ) → next h g l ≡ End → l ≡ []
-end_is h g l e = elim (le_or_lt (length l) 0) [
-  | inl none ↦ none_is l (omega arith)
-  | inr some ↦ elim (le_or_lt 16 (length l)) [
-    | inr short ↦ let is : next h g l ≡ CutHead = next_short h g l some short in absurd (cc)
-    | inl le ↦ elim (le_or_lt (stored h l) 65535) [
-      | inr long ↦ let is : next h g l ≡ TooLong (stored h l) = next_long h g l le long in absurd (cc)
-      | inl small ↦ elim (le_or_lt (16 + stored h l) (length l)) [
-        | inr cut ↦ let is : next h g l ≡ CutBytes (stored h l) = next_cut h g l le small cut in absurd (cc)
-        | inl fits ↦ let is = next_whole h g l le small fits in let same : Found (max g (milliseconds h l)) (caught_in h l) (drop (16 + stored h l) l) ≡ End = sym is ∙ e in absurd (cc)
-      ]
-    ]
-  ]
-]
+end_is h g l e = subst (Says h g l) e (next_says h g l)
 
 -- ---- chains
 

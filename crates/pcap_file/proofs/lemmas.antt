@@ -1,0 +1,5 @@
+-- Lemmas that proofs of other crates may cite.
+pub mod Numbers
+pub mod Steps
+pub mod Chains
+pub mod Loop
