@@ -23,3 +23,5 @@ pub mod Sound
 pub mod SoundMacs
 pub mod SoundFree
 pub mod RegistryFits
+mod LooksLemmas
+mod GrowLemmas

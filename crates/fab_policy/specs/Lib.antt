@@ -21,8 +21,9 @@ pub mod Forwarding
 pub mod Ranged
 pub mod Fits
 pub mod Standing
-pub mod Gathering
+pub mod Looks
 pub mod Written
+pub mod Growing
 pub mod Sound
 pub mod Stage
 pub mod Judging

@@ -9,7 +9,7 @@ use Rattle.fab_policy.specs.Legal.{Legal, Run, HasPorts, HoldsFrames, window_sta
 use Rattle.fab_policy.specs.Text.{text, text1, egress}
 use Rattle.fab_policy.specs.Ranged.{IsRanged}
 use Rattle.fab_policy.specs.Steps.{AreAscending}
-use Rattle.fab_policy.specs.Gathering.{Stop, kept}
+use Rattle.fab_policy.specs.Looks.{Stop, kept}
 
 -- the captures that a journal sends, for ports 1 to n
 abbrev pub egresses : Settings → ℕ → Journal → List (List ℕ)

@@ -3,11 +3,13 @@
 
 mod bytes;
 mod event;
+mod growing;
 mod heard;
 mod judging;
 mod laws;
 mod line;
 mod lines;
+mod looks;
 mod named;
 mod ranged;
 mod reading;
@@ -24,6 +26,7 @@ mod verdict_words;
 mod words;
 
 pub use event::Event;
+pub use growing::{entries_add_to_files, entries_come_in_parts, records_come_later};
 pub use heard::{Heard, What, hear};
 pub use judging::judge;
 pub use laws::{
@@ -32,6 +35,7 @@ pub use laws::{
 };
 pub use line::{Format, Line};
 pub use lines::{write_frame_line, write_head_line, write_line, write_line1, write_tick_line};
+pub use looks::{MOST_SPAN, looks_go_on};
 pub use named::journal_is_named;
 pub use ranged::{known, known_verdict};
 pub use reading::{LineError, read_line};

@@ -8,6 +8,7 @@ use Rattle.fab_config.specs.Settings.{Settings}
 use Rattle.fab_config.specs.Text.{decoded}
 use Rattle.fab_config.specs.declared.ConfigFault.{ConfigFault}
 use Rattle.fab_policy.specs.Legal.{window_start}
+use Rattle.fab_policy.specs.declared.looks.TheConstants.{MOST_SPAN}
 
 -- a name's file is a configuration text of this value, and one with this first fault
 pub record HasConfig (d : Seen) (name : List ℕ) (c : Settings) : Type 0 where
@@ -20,15 +21,12 @@ pub record HasFault (d : Seen) (name : List ℕ) (fault : ConfigFault) : Type 0 
   pub file : d.file name ≡ Some text
   pub value : decoded text ≡ Err fault
 
--- the limits on the bytes of all captures, on their frames, and on the milliseconds from the first window to the last
+-- the limits on the bytes of all captures and on their frames
 abbrev pub MOST_BYTES : ℕ
 MOST_BYTES = 1073741824
 
 abbrev pub MOST_FRAMES : ℕ
 MOST_FRAMES = 200000
-
-abbrev pub LONGEST_SPAN : ℕ
-LONGEST_SPAN = 21600000
 
 -- the windows of these records, and of those of all ports
 abbrev pub windows_of : Settings → List Record → List ℕ
@@ -80,7 +78,7 @@ pub record HaveCaptures (c : Settings) (d : Seen) (names : List (List ℕ)) (ins
   pub each : AreCaptures d names ins
   pub few_bytes : bytes_in d names ≤ MOST_BYTES
   pub few_frames : frames_in ins ≤ MOST_FRAMES
-  pub short_span : span_of (windows c ins) ≤ LONGEST_SPAN
+  pub short_span : span_of (windows c ins) ≤ MOST_SPAN
 
 -- A port, counted from 1, is the first whose file is no capture or passes a limit together with those before it.
 pub record IsFirstBad (c : Settings) (d : Seen) (names : List (List ℕ)) (port : ℕ) : Type 0 where

@@ -8,6 +8,7 @@ use crate::outcome::Outcome;
 use crate::span::span;
 use fab_base::{Depot, PortNo, fill};
 use fab_config::{Config, ConfigError, read_config};
+use fab_policy::MOST_SPAN;
 use pcap_file::{Budget, CapError, CapOpen, Reader, Record};
 use std::alloc::{AllocError, Global};
 
@@ -16,9 +17,6 @@ const MOST_BYTES: u64 = 1 << 30;
 
 /// The frames of all captures together.
 const MOST_FRAMES: u64 = 200_000;
-
-/// The milliseconds from the first window to the last.
-const LONGEST_SPAN: u64 = 21_600_000;
 
 /// One byte more than a configuration text may have.
 const ROOM: usize = 1_048_577;
@@ -104,7 +102,7 @@ pub(crate) fn inputs_of<D: Depot>(
             Ok(()) => {}
             Err(_) => return Err(Outcome::Memory),
         }
-        if span(config, &inputs) > LONGEST_SPAN {
+        if span(config, &inputs) > MOST_SPAN {
             return Err(Outcome::Capture { port: number });
         }
     }

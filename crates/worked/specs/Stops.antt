@@ -4,7 +4,9 @@ use Rattle.fab_base.specs.Layout.{spelled_low, zeros}
 use Rattle.pcap_file.specs.Capture as pcap
 use Rattle.pcap_file.specs.declared.CaptureHead.{CaptureHead}
 use Rattle.pcap_file.specs.declared.CapFault.TheVariants.{Short, BadMagic, BadVersion, NotEthernet}
-use Rattle.fab_policy.specs.Gathering as gathering
+use Rattle.pcap_file.specs.Reading as reader
+use Rattle.fab_policy.specs.Looks as looks
+use Rattle.fab_policy.specs.declared.looks.TheConstants.{MOST_SPAN}
 use Rattle.fab_policy.specs.Written as written
 use Rattle.worked.specs.Given.{K}
 
@@ -22,49 +24,50 @@ abbrev pub cut : List ℕ
 cut = zeros 10
 
 -- captures behind their heads
-abbrev pub files : List (List ℕ) → List gathering.Opened
-files records = map (λ l. record { head = head; file = pcap.head_bytes ++ l }) records
+abbrev pub captures : List (List ℕ) → List looks.Opened
+captures records = map (λ l. record { head = head; body = l }) records
 
-abbrev pub stop_of : List (List ℕ) → Option gathering.Stop
-stop_of records = gathering.stop K 1000000 (files records)
+-- where they stop, with limits of so many bytes and frames
+abbrev pub stop_of : List (List ℕ) → Option looks.Stop
+stop_of records = looks.stop K 1000000 1000 (captures records)
 
 -- of two faults in one window the one of the lower port comes first
-pub by_port : stop_of ((empty_at 1000 ++ empty_at 1010 ++ cut) ∷ (empty_at 1000 ++ cut) ∷ []) ≡ Some (record { why = gathering.Cut; port = 1; at = 56; window = Some 1000 })
-unfolding gathering.stop pcap.next
+pub by_port : stop_of ((empty_at 1000 ++ empty_at 1010 ++ cut) ∷ (empty_at 1000 ++ cut) ∷ []) ≡ Some (record { why = looks.Fails reader.Cut; port = 1; at = 56; window = Some 1000 })
+unfolding looks.stop looks.looks pcap.next
 by_port = refl
 
 -- and of two windows the earlier one
 pub by_window : stop_of ((empty_at 1000 ++ empty_at 1100 ++ empty_at 1200 ++ cut) ∷ (empty_at 1000 ++ storing 1010 70000) ∷ []) ≡
-    Some (record { why = gathering.Long 70000; port = 2; at = 40; window = Some 1000 })
-unfolding gathering.stop pcap.next
+    Some (record { why = looks.Fails (reader.Long 70000); port = 2; at = 40; window = Some 1000 })
+unfolding looks.stop looks.looks pcap.next
 by_window = refl
 
 -- a first look has no window, and nothing is kept
-pub first_look : stop_of ((empty_at 1000 ++ empty_at 1100) ∷ cut ∷ []) ≡ Some (record { why = gathering.Cut; port = 2; at = 24; window = None })
-unfolding gathering.stop pcap.next
+pub first_look : stop_of ((empty_at 1000 ++ empty_at 1100) ∷ cut ∷ []) ≡ Some (record { why = looks.Fails reader.Cut; port = 2; at = 24; window = None })
+unfolding looks.stop looks.looks pcap.next
 first_look = refl
 
-pub nothing_kept : map (λ r. r.moment) (gathering.kept K (stop_of ((empty_at 1000 ++ empty_at 1100) ∷ cut ∷ [])) (pcap.records head (pcap.head_bytes ++ empty_at 1000 ++ empty_at 1100))) ≡ []
-unfolding gathering.stop pcap.next
+pub nothing_kept : map (λ r. r.moment) (looks.kept K (stop_of ((empty_at 1000 ++ empty_at 1100) ∷ cut ∷ [])) (pcap.records head (pcap.head_bytes ++ empty_at 1000 ++ empty_at 1100))) ≡ []
+unfolding looks.stop looks.looks pcap.next
 nothing_kept = refl
 
 -- six hours after the first window is not too late, and a window later is
-pub six_hours : stop_of ((empty_at 1000 ++ empty_at 21601000 ++ cut) ∷ []) ≡ Some (record { why = gathering.Cut; port = 1; at = 56; window = Some 21601000 })
-unfolding gathering.stop pcap.next
+pub six_hours : stop_of ((empty_at 1000 ++ empty_at 21601000 ++ cut) ∷ []) ≡ Some (record { why = looks.Fails reader.Cut; port = 1; at = 56; window = Some 21601000 })
+unfolding looks.stop looks.looks pcap.next
 six_hours = refl
 
-pub too_late : map {A = gathering.Stop} {B = gathering.Why} (λ s. s.why) (option_to_list (stop_of ((empty_at 30000000 ++ empty_at 51600100 ++ cut) ∷ []))) ≡ gathering.Span ∷ []
-unfolding gathering.stop pcap.next
+pub too_late : map {A = looks.Stop} {B = looks.Reason} (λ s. s.why) (option_to_list (stop_of ((empty_at 30000000 ++ empty_at 51600100 ++ cut) ∷ []))) ≡ looks.Span ∷ []
+unfolding looks.stop looks.looks pcap.next
 too_late = refl
 
-pub late_kept : map (λ r. r.moment) (gathering.kept K (stop_of ((empty_at 1000 ++ empty_at 1001 ++ empty_at 30000000 ++ cut) ∷ [])) (pcap.records head (pcap.head_bytes ++ empty_at 1000 ++ empty_at 1001 ++ empty_at 30000000))) ≡
+pub late_kept : map (λ r. r.moment) (looks.kept K (stop_of ((empty_at 1000 ++ empty_at 1001 ++ empty_at 30000000 ++ cut) ∷ [])) (pcap.records head (pcap.head_bytes ++ empty_at 1000 ++ empty_at 1001 ++ empty_at 30000000))) ≡
     1000 ∷ 1001 ∷ []
-unfolding gathering.stop pcap.next
+unfolding looks.stop looks.looks pcap.next
 late_kept = refl
 
 -- a late first window is no limit on what lies close behind it
 pub close_behind : stop_of ((empty_at 30000000 ++ empty_at 30000100) ∷ []) ≡ None
-unfolding gathering.stop pcap.next
+unfolding looks.stop looks.looks pcap.next
 close_behind = refl
 
 -- moments that go back are those of the greatest record so far
@@ -72,46 +75,51 @@ pub back : map (λ r. r.moment) (pcap.records head (pcap.head_bytes ++ empty_at 
 unfolding pcap.next
 back = refl
 
-pub back_window : stop_of ((empty_at 2000 ++ empty_at 1500 ++ empty_at 1700 ++ cut) ∷ []) ≡ Some (record { why = gathering.Cut; port = 1; at = 72; window = Some 2000 })
-unfolding gathering.stop pcap.next
+pub back_window : stop_of ((empty_at 2000 ++ empty_at 1500 ++ empty_at 1700 ++ cut) ∷ []) ≡ Some (record { why = looks.Fails reader.Cut; port = 1; at = 72; window = Some 2000 })
+unfolding looks.stop looks.looks pcap.next
 back_window = refl
 
 -- the most that a record stores, of which nothing is there, and one more
-pub most_stored : stop_of (storing 1000 65535 ∷ []) ≡ Some (record { why = gathering.Cut; port = 1; at = 24; window = None })
-unfolding gathering.stop pcap.next
+pub most_stored : stop_of (storing 1000 65535 ∷ []) ≡ Some (record { why = looks.Fails reader.Cut; port = 1; at = 24; window = None })
+unfolding looks.stop looks.looks pcap.next
 most_stored = refl
 
-pub too_long : stop_of (storing 1000 65536 ∷ []) ≡ Some (record { why = gathering.Long 65536; port = 1; at = 24; window = None })
-unfolding gathering.stop pcap.next
+pub too_long : stop_of (storing 1000 65536 ∷ []) ≡ Some (record { why = looks.Fails (reader.Long 65536); port = 1; at = 24; window = None })
+unfolding looks.stop looks.looks pcap.next
 too_long = refl
 
 -- a record of 60 bytes takes 76 from what is left, also one of which bytes are missing
-pub enough : gathering.stop K 76 (files ((storing 1000 60 ++ zeros 60) ∷ [])) ≡ None
-unfolding gathering.stop pcap.next
+pub enough : looks.stop K 76 1 (captures ((storing 1000 60 ++ zeros 60) ∷ [])) ≡ None
+unfolding looks.stop looks.looks pcap.next
 enough = refl
 
-pub not_enough : gathering.stop K 75 (files ((storing 1000 60 ++ zeros 60) ∷ [])) ≡ Some (record { why = gathering.NoBytes; port = 1; at = 24; window = None })
-unfolding gathering.stop pcap.next
+pub not_enough : looks.stop K 75 1 (captures ((storing 1000 60 ++ zeros 60) ∷ [])) ≡ Some (record { why = looks.Fails reader.NoBytes; port = 1; at = 24; window = None })
+unfolding looks.stop looks.looks pcap.next
 not_enough = refl
 
-pub not_enough_cut : gathering.stop K 75 (files ((storing 1000 60 ++ zeros 59) ∷ [])) ≡ Some (record { why = gathering.NoBytes; port = 1; at = 24; window = None })
-unfolding gathering.stop pcap.next
+pub not_enough_cut : looks.stop K 75 1 (captures ((storing 1000 60 ++ zeros 59) ∷ [])) ≡ Some (record { why = looks.Fails reader.NoBytes; port = 1; at = 24; window = None })
+unfolding looks.stop looks.looks pcap.next
 not_enough_cut = refl
 
-pub second_record : gathering.stop K 91 (files ((storing 1000 60 ++ zeros 60 ++ empty_at 1001) ∷ [])) ≡ Some (record { why = gathering.NoBytes; port = 1; at = 100; window = Some 1000 })
-unfolding gathering.stop pcap.next
+pub second_record : looks.stop K 91 2 (captures ((storing 1000 60 ++ zeros 60 ++ empty_at 1001) ∷ [])) ≡ Some (record { why = looks.Fails reader.NoBytes; port = 1; at = 100; window = Some 1000 })
+unfolding looks.stop looks.looks pcap.next
 second_record = refl
 
+-- frames are counted over all ports
+pub second_frame : looks.stop K 1000000 1 (captures (empty_at 1000 ∷ empty_at 1000 ∷ [])) ≡ Some (record { why = looks.Fails reader.NoFrames; port = 2; at = 24; window = None })
+unfolding looks.stop looks.looks pcap.next
+second_frame = refl
+
 -- want of bytes comes before want of frames
-pub no_bytes : gathering.limit_of 15 0 0 ≡ Some gathering.NoBytes
+pub no_bytes : reader.limit_of 15 0 0 ≡ Some reader.NoBytes
 no_bytes = refl
 
-pub no_frames : gathering.limit_of 16 0 0 ≡ Some gathering.NoFrames
+pub no_frames : reader.limit_of 16 0 0 ≡ Some reader.NoFrames
 no_frames = refl
 
--- a gibibyte, four million frames, six hours
-pub limits : gathering.MOST_BYTES ∷ gathering.MOST_FRAMES ∷ gathering.MOST_SPAN ∷ [] ≡ 1024 * 1024 * 1024 ∷ 4000 * 1000 ∷ 6 * 60 * 60 * 1000 ∷ []
-limits = refl
+-- the longest span is six hours
+pub span : MOST_SPAN ≡ 6 * 60 * 60 * 1000
+span = refl
 
 -- heads that are refused
 pub short : pcap.head_decoded (zeros 23) ≡ Err Short
@@ -151,7 +159,7 @@ unfolding pcap.next
 before_a_moment = refl
 
 -- what a stop in the window 1100 keeps of two ports
-pub kept_of_all : map (map (λ r. r.moment)) (written.all_kept K (record { why = gathering.Cut; port = 1; at = 56; window = Some 1100 })
+pub kept_of_all : map (map (λ r. r.moment)) (written.all_kept K (record { why = looks.Fails reader.Cut; port = 1; at = 56; window = Some 1100 })
     (pcap.records head (pcap.head_bytes ++ empty_at 1000 ++ empty_at 1100) ∷ pcap.records head (pcap.head_bytes ++ empty_at 1150) ∷ [])) ≡ (1000 ∷ []) ∷ [] ∷ []
 unfolding pcap.next
 kept_of_all = refl

@@ -1,0 +1,11 @@
+//! How far captures may reach in time, and the laws of the looks at them.
+ghost use Rattle.fab_policy.specs.Looks.{LooksFound, LooksEnd};
+
+/// The most milliseconds from the first window of a run to its last, six hours.
+pub const MOST_SPAN: u64 = 21_600_000;
+
+/// Behind a record the looks at a capture go on, and elsewhere they end.
+pub fn looks_go_on()
+    ensures found { LooksFound }
+    ensures end { LooksEnd }
+{}
