@@ -8,7 +8,7 @@ use Rattle.ct_messages.specs.declared.CtFault.{CtFault}
 use Rattle.ct_messages.specs.declared.CtFault.TheVariants.{Short, NotNameServer, Size}
 pub use Rattle.ct_messages.specs.Ask.{Ask, NextOf, PortNameOf, NodeNameOf, TypesOf, FeaturesOf, ByPortName, AddressesOfType, PortNamesOfType, NodeNamesOfType, AddressesOfPortType, SetNode, SetTypes, SetSymbol, SetFeature, SetNodeSymbol, Erase, Unknown, view}
 pub use Rattle.ct_messages.specs.Table.{words_at}
-use Rattle.ct_messages.specs.Table.{address_at, row_of, command_with}
+use Rattle.ct_messages.specs.Table.{address_of, row_of, command_with}
 
 -- ---- the preamble of 16 bytes
 
@@ -81,22 +81,22 @@ code_of (Unknown command) = command
 
 -- the fields after the preamble are there and say so; a code without a row has none
 abbrev pub Stands : Ask → List ℕ → Type 0
-Stands (NextOf address) l = (20 ≤ length l) × (address_at 16 l ≡ address)
-Stands (PortNameOf address) l = (20 ≤ length l) × (address_at 16 l ≡ address)
-Stands (NodeNameOf address) l = (20 ≤ length l) × (address_at 16 l ≡ address)
-Stands (TypesOf address) l = (20 ≤ length l) × (address_at 16 l ≡ address)
-Stands (FeaturesOf address) l = (20 ≤ length l) × (address_at 16 l ≡ address)
+Stands (NextOf address) l = (20 ≤ length l) × (address_of l ≡ address)
+Stands (PortNameOf address) l = (20 ≤ length l) × (address_of l ≡ address)
+Stands (NodeNameOf address) l = (20 ≤ length l) × (address_of l ≡ address)
+Stands (TypesOf address) l = (20 ≤ length l) × (address_of l ≡ address)
+Stands (FeaturesOf address) l = (20 ≤ length l) × (address_of l ≡ address)
 Stands (ByPortName name) l = (24 ≤ length l) × (number l 16 8 ≡ name)
 Stands (AddressesOfType kind) l = (20 ≤ length l) × (byte l 19 ≡ kind)
 Stands (PortNamesOfType kind) l = (20 ≤ length l) × (byte l 19 ≡ kind)
 Stands (NodeNamesOfType kind) l = (20 ≤ length l) × (byte l 19 ≡ kind)
 Stands (AddressesOfPortType kind) l = (20 ≤ length l) × (byte l 16 ≡ kind)
-Stands (SetNode address name) l = (28 ≤ length l) × (address_at 16 l ≡ address) × (number l 20 8 ≡ name)
-Stands (SetTypes address types) l = (52 ≤ length l) × (address_at 16 l ≡ address) × (words_at 8 20 l ≡ types.0)
-Stands (SetSymbol address symbol) l = (21 + length symbol ≤ length l) × (address_at 16 l ≡ address) × (byte l 20 ≡ length symbol) × (field l 21 (length symbol) ≡ symbol)
-Stands (SetFeature address feature kind) l = (24 ≤ length l) × (address_at 16 l ≡ address) × (byte l 22 % 16 ≡ feature) × (byte l 23 ≡ kind)
+Stands (SetNode address name) l = (28 ≤ length l) × (address_of l ≡ address) × (number l 20 8 ≡ name)
+Stands (SetTypes address types) l = (52 ≤ length l) × (address_of l ≡ address) × (words_at 8 20 l ≡ types.0)
+Stands (SetSymbol address symbol) l = (21 + length symbol ≤ length l) × (address_of l ≡ address) × (byte l 20 ≡ length symbol) × (field l 21 (length symbol) ≡ symbol)
+Stands (SetFeature address feature kind) l = (24 ≤ length l) × (address_of l ≡ address) × (byte l 22 % 16 ≡ feature) × (byte l 23 ≡ kind)
 Stands (SetNodeSymbol name symbol) l = (25 + length symbol ≤ length l) × (number l 16 8 ≡ name) × (byte l 24 ≡ length symbol) × (field l 25 (length symbol) ≡ symbol)
-Stands (Erase address) l = (20 ≤ length l) × (address_at 16 l ≡ address)
+Stands (Erase address) l = (20 ≤ length l) × (address_of l ≡ address)
 Stands (Unknown command) l = command_with command ≡ None
 
 -- A request stands so in bytes; more bytes than it needs are free, and of the preamble only these fields count.

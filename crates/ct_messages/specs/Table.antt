@@ -6,9 +6,9 @@ use Rattle.ct_messages.specs.declared.command.Command.{Command}
 use Rattle.ct_messages.specs.declared.command.Command.TheVariants.{GaNxt, GpnId, GnnId, GftId, GffId, GidPn, GidFt, GpnFt, GnnFt, GidPt, RnnId, RftId, RspnId, RffId, RsnnNn, DaId}
 use Rattle.ct_messages.specs.Ask.{Ask, NextOf, PortNameOf, NodeNameOf, TypesOf, FeaturesOf, ByPortName, AddressesOfType, PortNamesOfType, NodeNamesOfType, AddressesOfPortType, SetNode, SetTypes, SetSymbol, SetFeature, SetNodeSymbol, Erase}
 
--- an address word is a reserved byte and an address
-abbrev pub address_at : ℕ → List ℕ → ℕ
-address_at at l = number l (at + 1) 3
+-- the address behind the preamble: an address word is a reserved byte and an address
+abbrev pub address_of : List ℕ → ℕ
+address_of l = number l 17 3
 
 -- so many 32-bit words from that place on
 abbrev pub words_at : ℕ → ℕ → List ℕ → List ℕ
@@ -27,15 +27,15 @@ pub record Row : Type 0 where
 
 abbrev pub row_of : Command → Row
 -- GA_NXT: address word
-row_of GaNxt = record { code = 0x0100; needs = λ l. 4; asks = λ l. NextOf (address_at 16 l) }
+row_of GaNxt = record { code = 0x0100; needs = λ l. 4; asks = λ l. NextOf (address_of l) }
 -- GPN_ID: address word
-row_of GpnId = record { code = 0x0112; needs = λ l. 4; asks = λ l. PortNameOf (address_at 16 l) }
+row_of GpnId = record { code = 0x0112; needs = λ l. 4; asks = λ l. PortNameOf (address_of l) }
 -- GNN_ID: address word
-row_of GnnId = record { code = 0x0113; needs = λ l. 4; asks = λ l. NodeNameOf (address_at 16 l) }
+row_of GnnId = record { code = 0x0113; needs = λ l. 4; asks = λ l. NodeNameOf (address_of l) }
 -- GFT_ID: address word
-row_of GftId = record { code = 0x0117; needs = λ l. 4; asks = λ l. TypesOf (address_at 16 l) }
+row_of GftId = record { code = 0x0117; needs = λ l. 4; asks = λ l. TypesOf (address_of l) }
 -- GFF_ID: address word
-row_of GffId = record { code = 0x011f; needs = λ l. 4; asks = λ l. FeaturesOf (address_at 16 l) }
+row_of GffId = record { code = 0x011f; needs = λ l. 4; asks = λ l. FeaturesOf (address_of l) }
 -- GID_PN: port name 8
 row_of GidPn = record { code = 0x0121; needs = λ l. 8; asks = λ l. ByPortName (number l 16 8) }
 -- GID_FT: reserved, domain, area, type
@@ -47,17 +47,17 @@ row_of GnnFt = record { code = 0x0173; needs = λ l. 4; asks = λ l. NodeNamesOf
 -- GID_PT: port type, domain, area, reserved
 row_of GidPt = record { code = 0x01a1; needs = λ l. 4; asks = λ l. AddressesOfPortType (byte l 16) }
 -- RNN_ID: address word, node name 8
-row_of RnnId = record { code = 0x0213; needs = λ l. 12; asks = λ l. SetNode (address_at 16 l) (number l 20 8) }
+row_of RnnId = record { code = 0x0213; needs = λ l. 12; asks = λ l. SetNode (address_of l) (number l 20 8) }
 -- RFT_ID: address word, type map 32
-row_of RftId = record { code = 0x0217; needs = λ l. 36; asks = λ l. SetTypes (address_at 16 l) (record { 0 = words_at 8 20 l }) }
+row_of RftId = record { code = 0x0217; needs = λ l. 36; asks = λ l. SetTypes (address_of l) (record { 0 = words_at 8 20 l }) }
 -- RSPN_ID: address word, length 1, symbolic port name
-row_of RspnId = record { code = 0x0218; needs = λ l. 5 + byte l 20; asks = λ l. SetSymbol (address_at 16 l) (text_at 20 l) }
+row_of RspnId = record { code = 0x0218; needs = λ l. 5 + byte l 20; asks = λ l. SetSymbol (address_of l) (text_at 20 l) }
 -- RFF_ID: address word, reserved 2, feature 1 (its low four bits), type 1
-row_of RffId = record { code = 0x021f; needs = λ l. 8; asks = λ l. SetFeature (address_at 16 l) (byte l 22 % 16) (byte l 23) }
+row_of RffId = record { code = 0x021f; needs = λ l. 8; asks = λ l. SetFeature (address_of l) (byte l 22 % 16) (byte l 23) }
 -- RSNN_NN: node name 8, length 1, symbolic node name
 row_of RsnnNn = record { code = 0x0239; needs = λ l. 9 + byte l 24; asks = λ l. SetNodeSymbol (number l 16 8) (text_at 24 l) }
 -- DA_ID: address word
-row_of DaId = record { code = 0x0300; needs = λ l. 4; asks = λ l. Erase (address_at 16 l) }
+row_of DaId = record { code = 0x0300; needs = λ l. 4; asks = λ l. Erase (address_of l) }
 
 -- the rows in their order
 abbrev pub commands : List Command

@@ -1,4 +1,4 @@
-// Fields that are appended to bytes. Of bytes to which a call couldn't append all nothing is said.
+//! Fields that are appended to bytes. Of bytes to which a call couldn't append all nothing is said.
 ghost use Rattle.std.specs.Prelude.{◌≡◌, ◌+◌, ◌*◌, ◌≤◌, ◌++◌, ◌∷◌, length, vec_len, OnOk};
 ghost use Rattle.fab_base.specs.Layout.{spelled, zeros};
 ghost use Rattle.ct_messages.specs.Ct as spec;

@@ -1,10 +1,11 @@
-// The commands of the name server (FC-GS-6, "Name Server").
+//! The commands of the name server (FC-GS-6, "Name Server").
 ghost use Rattle.std.specs.Prelude.{◌≡◌, ◌+◌, ◌≤◌, length};
 ghost use Rattle.ct_messages.specs.Ask.{view};
 ghost use Rattle.ct_messages.specs.Table.{row_of, command_with};
 
-use crate::fields::{address_at, byte_or_zero, name_at, text_at, types_at};
+use crate::fields::{address_of, byte_or_zero, text_at, types_at};
 use crate::{CtAsk, PREAMBLE};
+use fab_base::fields::name_at;
 
 /// A row of the table, by the standard's mnemonic, with its code.
 #[derive(Clone, Copy, Debug, PartialEq, Eq)]
@@ -95,26 +96,26 @@ impl Command {
         ensures { view result ≡ (row_of self).asks payload.now }
     {
         match self {
-            Command::GaNxt => CtAsk::NextOf(address_at(payload, 16)),
-            Command::GpnId => CtAsk::PortNameOf(address_at(payload, 16)),
-            Command::GnnId => CtAsk::NodeNameOf(address_at(payload, 16)),
-            Command::GftId => CtAsk::TypesOf(address_at(payload, 16)),
-            Command::GffId => CtAsk::FeaturesOf(address_at(payload, 16)),
+            Command::GaNxt => CtAsk::NextOf(address_of(payload)),
+            Command::GpnId => CtAsk::PortNameOf(address_of(payload)),
+            Command::GnnId => CtAsk::NodeNameOf(address_of(payload)),
+            Command::GftId => CtAsk::TypesOf(address_of(payload)),
+            Command::GffId => CtAsk::FeaturesOf(address_of(payload)),
             Command::GidPn => CtAsk::ByPortName(name_at(payload, 16)),
             Command::GidFt => CtAsk::AddressesOfType(payload[19]),
             Command::GpnFt => CtAsk::PortNamesOfType(payload[19]),
             Command::GnnFt => CtAsk::NodeNamesOfType(payload[19]),
             Command::GidPt => CtAsk::AddressesOfPortType(payload[16]),
-            Command::RnnId => CtAsk::SetNode(address_at(payload, 16), name_at(payload, 20)),
-            Command::RftId => CtAsk::SetTypes(address_at(payload, 16), types_at(payload)),
-            Command::RspnId => CtAsk::SetSymbol(address_at(payload, 16), text_at(payload, 20)),
+            Command::RnnId => CtAsk::SetNode(address_of(payload), name_at(payload, 20)),
+            Command::RftId => CtAsk::SetTypes(address_of(payload), types_at(payload)),
+            Command::RspnId => CtAsk::SetSymbol(address_of(payload), text_at(payload, 20)),
             Command::RffId => CtAsk::SetFeature {
-                address: address_at(payload, 16),
+                address: address_of(payload),
                 feature: payload[22] % 16,
                 kind: payload[23],
             },
             Command::RsnnNn => CtAsk::SetNodeSymbol(name_at(payload, 16), text_at(payload, 24)),
-            Command::DaId => CtAsk::Erase(address_at(payload, 16)),
+            Command::DaId => CtAsk::Erase(address_of(payload)),
         }
     }
 }

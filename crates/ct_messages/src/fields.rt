@@ -1,52 +1,17 @@
-// Fields of a payload.
-ghost use Rattle.std.specs.Prelude.{◌≡◌, ◌<◌, ◌≤◌, ◌+◌, ◌^◌, length, slice_index};
-ghost use Rattle.fab_base.specs.Layout.{number};
+//! Fields of a payload.
+ghost use Rattle.std.specs.Prelude.{◌≡◌, ◌≤◌, ◌+◌, length, slice_index};
 ghost use Rattle.ct_messages.specs.Table as table;
 
-use crate::TypeMap;
-use fab_base::{FcId, Wwn};
+use crate::{PREAMBLE, TypeMap};
+use fab_base::FcId;
+use fab_base::fields::{address_at, u32_at};
 
-pub(crate) fn u16_at(bytes: &[u8], at: usize) -> u16
-    requires { at + 2 ≤ length bytes.now }
-    ensures { result ≡ number bytes.now at 2 }
+/// The address behind the preamble, in the last three bytes of its word.
+pub(crate) fn address_of(payload: &[u8]) -> FcId
+    requires { 20 ≤ length payload.now }
+    ensures { result ≡ table.address_of payload.now }
 {
-    u16::from_be_bytes([bytes[at], bytes[at + 1]])
-}
-
-fn u24_at(bytes: &[u8], at: usize) -> u32
-    requires { at + 3 ≤ length bytes.now }
-    ensures value { result ≡ number bytes.now at 3 }
-    ensures range { result < 2 ^ 24 }
-{
-    u32::from_be_bytes([0, bytes[at], bytes[at + 1], bytes[at + 2]])
-}
-
-fn u32_at(bytes: &[u8], at: usize) -> u32
-    requires { at + 4 ≤ length bytes.now }
-    ensures { result ≡ number bytes.now at 4 }
-{
-    u32::from_be_bytes([bytes[at], bytes[at + 1], bytes[at + 2], bytes[at + 3]])
-}
-
-/// The address in an address word.
-pub(crate) fn address_at(bytes: &[u8], at: usize) -> FcId
-    requires { at + 4 ≤ length bytes.now }
-    ensures { result ≡ table.address_at at bytes.now }
-{
-    match FcId::new(u24_at(bytes, at + 1)) {
-        Some(address) => address,
-        None => unreachable!(),
-    }
-}
-
-pub(crate) fn name_at(bytes: &[u8], at: usize) -> Wwn
-    requires { at + 8 ≤ length bytes.now }
-    ensures { result ≡ number bytes.now at 8 }
-{
-    match bytes[at..].split_first_chunk::<8>() {
-        Some((front, _)) => Wwn(u64::from_be_bytes(*front)),
-        None => unreachable!(),
-    }
+    address_at(payload, PREAMBLE + 1)
 }
 
 /// The byte at a place, and 0 past the end.

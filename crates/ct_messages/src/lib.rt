@@ -1,4 +1,5 @@
-//! Payloads of FC-CT for the name server (FC-GS-6): requests are read and written, answers are written.
+//! Payloads of FC-CT for the name server (FC-GS-6): requests are read and written, answers are
+//! written.
 #![tactic(auto)]
 
 mod bytes;
@@ -20,13 +21,15 @@ pub use laws::{
 };
 pub use reading::read_ask;
 pub use telling::write_tell;
+use thiserror::Error;
 pub use writing::write_ask;
 
 /// The FC-4 types of a port, a bit each: type t is bit t mod 32 of word t / 32.
 #[derive(Clone, Copy, Debug, PartialEq, Eq)]
 pub struct TypeMap(pub [u32; 8]);
 
-/// The FC-4 features of a port, four bits a type: type t has the bits from 4 * (t mod 8) on of word t / 8.
+/// The FC-4 features of a port, four bits a type: type t has the bits from 4 * (t mod 8) on of word
+/// t / 8.
 #[derive(Clone, Copy, Debug, PartialEq, Eq)]
 pub struct FeatureMap(pub [u32; 32]);
 
@@ -84,13 +87,16 @@ pub enum CtAsk<'a> {
 }
 
 /// Why a payload is no request. The variants stand in the order of the tests.
-#[derive(Clone, Copy, Debug, PartialEq, Eq)]
+#[derive(Clone, Copy, Debug, PartialEq, Eq, Error)]
 pub enum CtFault {
     /// Fewer bytes than the preamble.
+    #[error("the payload is shorter than its preamble")]
     Short,
     /// Type and subtype aren't those of the name server.
+    #[error("the payload isn't for the name server")]
     NotNameServer,
     /// Fewer bytes than the command needs.
+    #[error("the request is shorter than its command needs")]
     Size,
 }
 

@@ -1,4 +1,4 @@
-// Looking into the maps of FC-4 types and features.
+//! Looking into the maps of FC-4 types and features.
 ghost use Rattle.std.specs.Prelude.{◌≡◌, ◌<◌};
 ghost use Rattle.ct_messages.specs.Answer as answer;
 

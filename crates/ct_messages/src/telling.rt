@@ -1,5 +1,6 @@
-// From an answer to bytes.
-ghost use Rattle.std.specs.Prelude.{◌≡◌, ◌+◌, ◌*◌, ◌%◌, ◌<◌, ◌≤◌, ◌++◌, ◌==◌, ◌∷◌, if◌then◌else◌, length, vec_len, IfOk, OnOk, OnErr};
+//! From an answer to bytes.
+ghost use Rattle.std.specs.Prelude.{◌≡◌, ◌+◌, ◌*◌, ◌%◌, ◌<◌, ◌≤◌, ◌++◌, ◌==◌, ◌∷◌, if◌then◌else◌};
+ghost use Rattle.std.specs.Prelude.{length, vec_len, IfOk, OnOk, OnErr};
 ghost use Rattle.fab_base.specs.Layout.{spelled, zeros};
 ghost use Rattle.ct_messages.specs.CanWrite.{CanTell, IsSymbol};
 ghost use Rattle.ct_messages.specs.Answer as answer;
@@ -31,13 +32,9 @@ pub fn write_tell(alloc: Global, tell: &CtTell, out: &mut Vec<u8>) -> Result<(),
     ensures words { OnOk result (answer.size_of tell.now % 4 ≡ 0) }
     ensures err { OnErr result (out.new.items ≡ out.old.items) }
 {
-    let Ok(bytes) = bytes_of(alloc, tell) else {
-        return Err(NoMemory);
-    };
-    match out.extend_from_slice(&bytes) {
-        Ok(()) => Ok(()),
-        Err(_) => Err(NoMemory),
-    }
+    let bytes = bytes_of(alloc, tell)?;
+    out.extend_from_slice(&bytes)?;
+    Ok(())
 }
 
 /// The bytes of an answer.
@@ -75,8 +72,10 @@ fn head(tell: &CtTell) -> [u8; 16]
 /// Appends what follows the preamble.
 fn put_answer(bytes: &mut Vec<u8>, tell: &CtTell) -> Result<(), AllocError>
     requires { CanTell tell.now }
-    ensures bytes { OnOk result (bytes.new.items ≡ bytes.old.items ++ answer.answer_bytes tell.now) }
-    ensures size { OnOk result (vec_len bytes.new + 16 ≡ vec_len bytes.old + answer.size_of tell.now) }
+    ensures bytes { OnOk result (bytes.new.items ≡ bytes.old.items
+        ++ answer.answer_bytes tell.now) }
+    ensures size { OnOk result (vec_len bytes.new + 16
+        ≡ vec_len bytes.old + answer.size_of tell.now) }
 {
     match tell {
         CtTell::Done | CtTell::Reject { .. } => Ok(()),
@@ -99,7 +98,8 @@ fn control(index: usize, len: usize) -> u8
 }
 
 fn put_addresses(bytes: &mut Vec<u8>, list: &IdList) -> Result<(), AllocError>
-    ensures bytes { OnOk result (bytes.new.items ≡ bytes.old.items ++ answer.addresses_bytes list.now) }
+    ensures bytes { OnOk result (bytes.new.items ≡ bytes.old.items
+        ++ answer.addresses_bytes list.now) }
     ensures size { OnOk result (vec_len bytes.new ≡ vec_len bytes.old + 4 * length list.now) }
 {
     for index in 0..list.len() {
@@ -113,7 +113,8 @@ fn put_addresses(bytes: &mut Vec<u8>, list: &IdList) -> Result<(), AllocError>
 
 /// An entry with its name.
 fn put_entry(bytes: &mut Vec<u8>, mark: u8, entry: &Named) -> Result<(), AllocError>
-    ensures bytes { OnOk result (bytes.new.items ≡ bytes.old.items ++ answer.named_entry mark entry.now) }
+    ensures bytes { OnOk result (bytes.new.items ≡ bytes.old.items
+        ++ answer.named_entry mark entry.now) }
     ensures size { OnOk result (vec_len bytes.new ≡ vec_len bytes.old + 16) }
 {
     put_marked(bytes, mark, entry.address)?;
@@ -137,7 +138,8 @@ fn put_named(bytes: &mut Vec<u8>, list: &NamedList) -> Result<(), AllocError>
 /// A symbol behind its length, filled up with zeros.
 fn put_symbol(bytes: &mut Vec<u8>, symbol: &Bytes) -> Result<(), AllocError>
     requires { IsSymbol symbol.now }
-    ensures bytes { OnOk result (bytes.new.items ≡ bytes.old.items ++ answer.symbol_bytes symbol.now) }
+    ensures bytes { OnOk result (bytes.new.items ≡ bytes.old.items
+        ++ answer.symbol_bytes symbol.now) }
     ensures size { OnOk result (vec_len bytes.new ≡ vec_len bytes.old + 256) }
 {
     let symbol = symbol.view();
@@ -161,7 +163,8 @@ fn put_port(bytes: &mut Vec<u8>, port: &NextPort) -> Result<(), AllocError>
 
 /// The other fields of the next port.
 fn put_services(bytes: &mut Vec<u8>, port: &NextPort) -> Result<(), AllocError>
-    ensures bytes { OnOk result (bytes.new.items ≡ bytes.old.items ++ answer.service_bytes port.now) }
+    ensures bytes { OnOk result (bytes.new.items ≡ bytes.old.items
+        ++ answer.service_bytes port.now) }
     ensures size { OnOk result (vec_len bytes.new ≡ vec_len bytes.old + 88) }
 {
     put_zeros(bytes, 24)?; // process associator, node IP

@@ -27,8 +27,8 @@ fn is_read_as(payload: &[u8], want: &CtAsk<'_>) -> bool {
     }
 }
 
-/// The bytes behind a preamble are read as a request, also with a byte more, and not with one less; the request is
-/// written so.
+/// The bytes behind a preamble are read as a request, also with a byte more, and not with one less;
+/// the request is written so.
 fn assert_row(
     rt: &impl Abort,
     alloc: Global,
@@ -225,4 +225,11 @@ fn maps_are_looked_into(rt: HostRuntime) {
     for (kind, want) in [(7, 0), (8, 2), (9, 3), (10, 0), (254, 0), (255, 15)] {
         assert_eq!(rt; features.feature_of(kind), want, "type {kind}");
     }
+}
+
+#[test]
+fn a_fault_has_a_text(rt: HostRuntime) -> Result<(), Fail> {
+    let text = format!(in rt.alloc(); "{}", CtFault::NotNameServer)?;
+    assert_eq!(rt; text.as_str(), "the payload isn't for the name server");
+    Ok(())
 }

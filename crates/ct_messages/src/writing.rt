@@ -1,5 +1,6 @@
-// From a request to bytes.
-ghost use Rattle.std.specs.Prelude.{◌≡◌, ◌+◌, ◌%◌, ◌<◌, ◌≤◌, ◌++◌, length, vec_len, IfOk, OnOk, OnErr};
+//! From a request to bytes.
+ghost use Rattle.std.specs.Prelude.{◌≡◌, ◌+◌, ◌%◌, ◌<◌, ◌≤◌, ◌++◌, length, vec_len, IfOk, OnOk};
+ghost use Rattle.std.specs.Prelude.{OnErr};
 ghost use Rattle.ct_messages.specs.CanWrite.{CanWrite, IsSymbol};
 ghost use Rattle.ct_messages.specs.Ct as spec;
 
@@ -9,7 +10,8 @@ use crate::{CtAsk, TypeMap};
 use fab_base::{FcId, NoMemory, Wwn};
 use std::alloc::{AllocError, Global};
 
-/// Appends the request; reserved bytes are 0, and zeros fill its last word. Where memory is refused, `out` is as it was.
+/// Appends the request; reserved bytes are 0, and zeros fill its last word. Where memory is
+/// refused, `out` is as it was.
 pub fn write_ask(alloc: Global, ask: &CtAsk<'_>, out: &mut Vec<u8>) -> Result<(), NoMemory>
     requires { CanWrite (spec.view ask.now) }
     ensures ok { OnOk result (out.new.items ≡ out.old.items ++ spec.written (spec.view ask.now)) }
@@ -17,13 +19,9 @@ pub fn write_ask(alloc: Global, ask: &CtAsk<'_>, out: &mut Vec<u8>) -> Result<()
     ensures words { OnOk result (length (spec.written (spec.view ask.now)) % 4 ≡ 0) }
     ensures err { OnErr result (out.new.items ≡ out.old.items) }
 {
-    let Ok(bytes) = request(alloc, ask) else {
-        return Err(NoMemory);
-    };
-    match out.extend_from_slice(&bytes) {
-        Ok(()) => Ok(()),
-        Err(_) => Err(NoMemory),
-    }
+    let bytes = request(alloc, ask)?;
+    out.extend_from_slice(&bytes)?;
+    Ok(())
 }
 
 /// The bytes of a request.
@@ -70,7 +68,8 @@ fn code_of(ask: &CtAsk<'_>) -> u16
 /// Appends what follows the preamble.
 fn put_body(bytes: &mut Vec<u8>, ask: &CtAsk<'_>) -> Result<(), AllocError>
     requires { CanWrite (spec.view ask.now) }
-    ensures bytes { OnOk result (bytes.new.items ≡ bytes.old.items ++ spec.body_bytes (spec.view ask.now)) }
+    ensures bytes { OnOk result (bytes.new.items ≡ bytes.old.items ++ spec.body_bytes
+        (spec.view ask.now)) }
     ensures size { OnOk result (vec_len bytes.new ≤ vec_len bytes.old + 264) }
 {
     match *ask {
@@ -99,7 +98,8 @@ fn put_body(bytes: &mut Vec<u8>, ask: &CtAsk<'_>) -> Result<(), AllocError>
 }
 
 fn put_node(bytes: &mut Vec<u8>, address: FcId, name: Wwn) -> Result<(), AllocError>
-    ensures bytes { OnOk result (bytes.new.items ≡ bytes.old.items ++ spec.body_bytes (spec.SetNode address name)) }
+    ensures bytes { OnOk result (bytes.new.items ≡ bytes.old.items ++ spec.body_bytes
+        (spec.SetNode address name)) }
     ensures size { OnOk result (vec_len bytes.new ≡ vec_len bytes.old + 12) }
 {
     put_address(bytes, address)?;
@@ -107,7 +107,8 @@ fn put_node(bytes: &mut Vec<u8>, address: FcId, name: Wwn) -> Result<(), AllocEr
 }
 
 fn put_types(bytes: &mut Vec<u8>, address: FcId, types: &TypeMap) -> Result<(), AllocError>
-    ensures bytes { OnOk result (bytes.new.items ≡ bytes.old.items ++ spec.body_bytes (spec.SetTypes address types.now)) }
+    ensures bytes { OnOk result (bytes.new.items ≡ bytes.old.items ++ spec.body_bytes
+        (spec.SetTypes address types.now)) }
     ensures size { OnOk result (vec_len bytes.new ≡ vec_len bytes.old + 36) }
 {
     put_address(bytes, address)?;
@@ -116,7 +117,8 @@ fn put_types(bytes: &mut Vec<u8>, address: FcId, types: &TypeMap) -> Result<(), 
 
 fn put_symbol(bytes: &mut Vec<u8>, address: FcId, symbol: &[u8]) -> Result<(), AllocError>
     requires { IsSymbol symbol.now }
-    ensures bytes { OnOk result (bytes.new.items ≡ bytes.old.items ++ spec.body_bytes (spec.SetSymbol address symbol.now)) }
+    ensures bytes { OnOk result (bytes.new.items ≡ bytes.old.items ++ spec.body_bytes
+        (spec.SetSymbol address symbol.now)) }
     ensures size { OnOk result (vec_len bytes.new ≤ vec_len bytes.old + 260) }
 {
     put_address(bytes, address)?;
@@ -124,7 +126,8 @@ fn put_symbol(bytes: &mut Vec<u8>, address: FcId, symbol: &[u8]) -> Result<(), A
 }
 
 fn put_feature(bytes: &mut Vec<u8>, address: FcId, feature: u8, kind: u8) -> Result<(), AllocError>
-    ensures bytes { OnOk result (bytes.new.items ≡ bytes.old.items ++ spec.body_bytes (spec.SetFeature address feature kind)) }
+    ensures bytes { OnOk result (bytes.new.items ≡ bytes.old.items ++ spec.body_bytes
+        (spec.SetFeature address feature kind)) }
     ensures size { OnOk result (vec_len bytes.new ≡ vec_len bytes.old + 8) }
 {
     put_address(bytes, address)?;
@@ -133,7 +136,8 @@ fn put_feature(bytes: &mut Vec<u8>, address: FcId, feature: u8, kind: u8) -> Res
 
 fn put_node_symbol(bytes: &mut Vec<u8>, name: Wwn, symbol: &[u8]) -> Result<(), AllocError>
     requires { IsSymbol symbol.now }
-    ensures bytes { OnOk result (bytes.new.items ≡ bytes.old.items ++ spec.body_bytes (spec.SetNodeSymbol name symbol.now)) }
+    ensures bytes { OnOk result (bytes.new.items ≡ bytes.old.items ++ spec.body_bytes
+        (spec.SetNodeSymbol name symbol.now)) }
     ensures size { OnOk result (vec_len bytes.new ≤ vec_len bytes.old + 264) }
 {
     put_name(bytes, name)?;

@@ -13,6 +13,7 @@ use fab_base::{FcId, Wwn};
 pub use laws::{els_is_written, els_reads_back, els_stands_once};
 pub use parms::Feature;
 pub use reading::read_els;
+use thiserror::Error;
 pub use writing::write_els;
 
 /// The parameters of a login or its accept. What they leave out is written as 0.
@@ -22,7 +23,8 @@ pub struct LoginParms {
     pub features: u16,
     /// The receive size in bytes, 12 bits: a greater one is never read and can't be written.
     pub size: u16,
-    /// R_A_TOV in milliseconds. In a PLOGI this word has the concurrent sequences and the relative offset.
+    /// R_A_TOV in milliseconds. In a PLOGI this word has the concurrent sequences and the relative
+    /// offset.
     pub ra_tov: u32,
     /// E_D_TOV in milliseconds.
     pub ed_tov: u32,
@@ -44,7 +46,8 @@ pub enum Els<'a> {
     Logo { address: FcId, name: Wwn },
     /// SCR, 62: which state changes are to be told.
     Scr { function: u8 },
-    /// RSCN, 61: what has changed, in pages of four bytes, the format of an address and the address.
+    /// RSCN, 61: what has changed, in pages of four bytes, the format of an address and the
+    /// address.
     Rscn { pages: &'a [u8] },
     /// LS_ACC, 02, of a login.
     LoginAccept(LoginParms),
@@ -57,10 +60,12 @@ pub enum Els<'a> {
 }
 
 /// Why bytes are no payload, in the order of the tests.
-#[derive(Clone, Copy, Debug, PartialEq, Eq)]
+#[derive(Clone, Copy, Debug, PartialEq, Eq, Error)]
 pub enum ElsFault {
     /// Fewer bytes than the command needs, or than the four of any payload.
+    #[error("the payload is shorter than its command needs")]
     Short,
     /// An RSCN whose pages aren't four bytes each, at least one, and all of them there.
+    #[error("the state change doesn't have its pages whole")]
     Page,
 }

@@ -1,18 +1,21 @@
 //! From bytes to a payload.
-ghost use Rattle.std.specs.Prelude.{◌≡◌, false, MatchResult, IfOk, IfSome, Ok, Err, ◌+◌, ◌<◌, ◌≤◌, ◌^◌, length};
-ghost use Rattle.fab_base.specs.Layout.{field, byte, number};
+ghost use Rattle.std.specs.Prelude.{◌≡◌, false, MatchResult, IfOk, IfSome, Ok, Err, ◌+◌, ◌<◌, ◌≤◌};
+ghost use Rattle.std.specs.Prelude.{length};
+ghost use Rattle.fab_base.specs.Layout.{field, byte};
 ghost use Rattle.els_messages.specs.Els as spec;
 
 use crate::table::{
     FDISC, FLOGI, LOGIN_BYTES, LOGO, LS_ACC, LS_RJT, PLOGI, RSCN, SCR, bytes_needed,
 };
 use crate::{Els, ElsFault, LoginParms};
-use fab_base::{FcId, Wwn};
+use fab_base::fields::{address_at, name_at, u16_at, u32_at};
 
-/// The payload that these bytes are. Reserved bytes, and bytes behind those that the command needs, are not looked at.
+/// The payload that these bytes are. Reserved bytes, and bytes behind those that the command needs,
+/// are not looked at.
 #[tactic(auto, unfolding(crate::specs::Els::decoded))]
 pub fn read_els(payload: &[u8]) -> Result<Els<'_>, ElsFault>
-    ensures exact { MatchResult result (λ v. spec.decoded payload.now ≡ Ok (spec.view v)) (λ e. spec.decoded payload.now ≡ Err e) }
+    ensures exact { MatchResult result (λ v. spec.decoded payload.now ≡ Ok (spec.view v))
+        (λ e. spec.decoded payload.now ≡ Err e) }
     ensures grammar { IfOk result (λ v. spec.IsEls (spec.view v) payload.now) }
     ensures value { IfOk result (λ v. spec.payload_of payload.now ≡ spec.view v) }
     ensures size { IfOk result (λ v. IfSome (spec.parms_in (spec.view v)) (λ p. p.size < 4096)) }
@@ -90,41 +93,6 @@ fn parms_at(payload: &[u8]) -> LoginParms
         port_name: name_at(payload, 20),
         node_name: name_at(payload, 28),
         class3: class_at(payload, 68),
-    }
-}
-
-fn u16_at(bytes: &[u8], at: usize) -> u16
-    requires { at + 2 ≤ length bytes.now }
-    ensures { result ≡ number bytes.now at 2 }
-{
-    u16::from_be_bytes([bytes[at], bytes[at + 1]])
-}
-
-fn u32_at(bytes: &[u8], at: usize) -> u32
-    requires { at + 4 ≤ length bytes.now }
-    ensures { result ≡ number bytes.now at 4 }
-{
-    u32::from_be_bytes([bytes[at], bytes[at + 1], bytes[at + 2], bytes[at + 3]])
-}
-
-fn address_at(bytes: &[u8], at: usize) -> FcId
-    requires { at + 3 ≤ length bytes.now }
-    ensures { result ≡ number bytes.now at 3 }
-{
-    let number = u32::from_be_bytes([0, bytes[at], bytes[at + 1], bytes[at + 2]]);
-    match FcId::new(number) {
-        Some(address) => address,
-        None => unreachable!(),
-    }
-}
-
-fn name_at(bytes: &[u8], at: usize) -> Wwn
-    requires { at + 8 ≤ length bytes.now }
-    ensures { result ≡ number bytes.now at 8 }
-{
-    match bytes[at..].first_chunk::<8>() {
-        Some(name) => Wwn(u64::from_be_bytes(*name)),
-        None => unreachable!(),
     }
 }
 

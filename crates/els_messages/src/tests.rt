@@ -26,7 +26,8 @@ const GRANTED: LoginParms = LoginParms {
     class3: [0x88, 0, 0, 0, 0, 0, 0, 0, 0, 0, 0, 0, 0, 0, 0, 0],
 };
 
-/// An accept, a reject, a logout of 010100, state changes wanted of fabric and ports, and a state change of 010100.
+/// An accept, a reject, a logout of 010100, state changes wanted of fabric and ports, and a state
+/// change of 010100.
 const ROWS: [u8; 44] = [
     0x02, 0x00, 0x00, 0x00, 0x01, 0x00, 0x00, 0x00, 0x00, 0x0b, 0x2c, 0x00, 0x05, 0x00, 0x00, 0x00,
     0x00, 0x01, 0x01, 0x00, 0x20, 0x00, 0x00, 0x1b, 0x21, 0x00, 0x00, 0x0a, 0x62, 0x00, 0x00, 0x00,
@@ -198,4 +199,14 @@ fn receive_sizes_are_whole_words(rt: HostRuntime) {
         let parms = LoginParms { size, ..GRANTED };
         assert_eq!(rt; parms.receive_size(), want);
     }
+}
+
+#[test]
+fn a_fault_has_a_text(rt: HostRuntime) -> Result<(), Fail> {
+    let text = format!(in rt.alloc(); "{}", ElsFault::Short)?;
+    assert_eq!(rt;
+        text.as_str(),
+        "the payload is shorter than its command needs"
+    );
+    Ok(())
 }

@@ -1,11 +1,11 @@
 -- The layout against reading and writing.
-use Rattle.std.proofs.Common.{◌≡◌, ◌≢◌, ℕ, zero, suc, ◌+◌, ◌-◌, ◌<◌, ◌≤◌, ◌^◌, Bool, cond, ltb, eqb, List, [], ◌∷◌, ◌++◌, length, get_or, lit<, take, drop, Option, Some, None, Result, Ok, Err, refl, sym, ap, subst, ◌∙◌, append_assoc, arith}
+use Rattle.std.proofs.Common.{◌≡◌, ◌≢◌, ℕ, zero, suc, ◌+◌, ◌-◌, ◌<◌, ◌≤◌, ◌^◌, Bool, cond, ltb, eqb, List, [], ◌∷◌, ◌++◌, length, length-append, get_or, lit<, take, drop, Option, Some, None, Result, Ok, Err, refl, sym, ap, subst, ◌∙◌, append_assoc, arith}
 use Rattle.std.proofs.lemmas.Bool.{le-ltb, ne_eqb}
-use Rattle.std.proofs.lemmas.List.{take_all, get_or-drop}
-use Rattle.fab_base.specs.Layout.{field, number, spelled, zeros, padded}
+use Rattle.std.proofs.lemmas.List.{take-replicate, get_or-drop}
+use Rattle.fab_base.specs.Layout.{field, number, spelled, zeros}
 use Rattle.fab_base.proofs.LayoutLemmas.{AreBytes, big_endian-spelled, spelled-big_endian, big_endian-fits, take-field, length-field}
 use Rattle.eth_frames.specs.declared.EthFault.{EthFault}
-use Rattle.eth_frames.specs.Ethernet.{Eth, Fits, IsEth, decoded, written, tag_bytes, pad_of, with_pad, TAGGED}
+use Rattle.eth_frames.specs.Ethernet.{Eth, Fits, IsEth, decoded, written, head_bytes, eth_bytes, tag_bytes, pad_of, with_pad, TAGGED}
 
 -- six bytes, one by one
 record Six (l : List ℕ) : Type 0 where
@@ -152,8 +152,11 @@ layout-tagged l dst src body tag kind bytes long is_dst is_src is_tagged is_tag 
       parts ∙ same ∙ ap (λ m. dst ++ (src ++ m)) (sym (append_assoc (spelled 2 TAGGED) (spelled 2 tag) (spelled 2 kind ++ body))) ∙ sym (regroup dst src (tag_bytes (Some tag)) (spelled 2 kind) body);
 }
 
--- a list of less than 60 bytes that was made 60 bytes long
-pub padded_is : (l own : List ℕ) (n : ℕ) → l ≡ own → n ≡ length l → n < 60 → take 60 l ++ zeros (60 - n) ≡ padded 60 own
-padded_is l own n e len lt =
-    let same : n ≡ length own = len ∙ ap length e in
-    ap (λ k. k ++ zeros (60 - n)) (take_all 60 l (omega arith) ∙ e) ∙ ap (λ k. own ++ zeros (60 - k)) same
+-- what the appends of a writer leave: head, body and the pad, which is cut from zeros
+pub written_put : (f : Eth) (old one two new head more : List ℕ) (len pad : ℕ) → head ≡ head_bytes f → len ≡ length head + length f.body → pad ≡ 60 - len → more ≡ take pad (zeros 60)
+    → one ≡ old ++ head → two ≡ one ++ f.body → new ≡ two ++ more → new ≡ old ++ written f
+written_put f old one two new head more len pad is_head is_len is_pad is_more first second third =
+    let size : len ≡ length (eth_bytes f) = omega (arith, length-append (head_bytes f) f.body, ap length is_head) in
+    let cut : more ≡ pad_of f = is_more ∙ take-replicate pad 60 0 (omega arith) ∙ ap zeros (is_pad ∙ ap (λ (n : ℕ). 60 - n) size) in
+    let body : two ≡ old ++ eth_bytes f = second ∙ ap (λ l. l ++ f.body) (first ∙ ap (λ l. old ++ l) is_head) ∙ append_assoc old (head_bytes f) f.body in
+    third ∙ ap (λ l. l ++ more) body ∙ append_assoc old (eth_bytes f) more ∙ ap (λ l. old ++ (eth_bytes f ++ l)) cut

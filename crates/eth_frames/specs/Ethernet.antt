@@ -31,9 +31,13 @@ abbrev pub tag_bytes : Option ℕ → List ℕ
 tag_bytes None = []
 tag_bytes (Some tag) = spelled 2 TAGGED ++ spelled 2 tag
 
--- destination, source, tag, Ethertype, body, and nothing else
+-- destination, source, tag, Ethertype
+abbrev pub head_bytes : Eth → List ℕ
+head_bytes f = f.dst ++ f.src ++ tag_bytes f.tag ++ spelled 2 f.kind
+
+-- these, then the body, and nothing else
 abbrev pub eth_bytes : Eth → List ℕ
-eth_bytes f = f.dst ++ f.src ++ tag_bytes f.tag ++ spelled 2 f.kind ++ f.body
+eth_bytes f = head_bytes f ++ f.body
 
 -- Each field fits its place, and without a tag the Ethertype isn't that of a tag.
 pub record Fits (f : Eth) : Type 0 where

@@ -1,4 +1,5 @@
-// What reading and writing have to do with each other. These functions do nothing: their contracts are the laws.
+//! What reading and writing have to do with each other. These functions do nothing: their contracts
+//! are the laws.
 ghost use Rattle.std.specs.Prelude.{◌≡◌, List, ℕ, Ok};
 ghost use Rattle.eth_frames.specs.Ethernet.{Eth, Fits, IsEth, decoded, written, with_pad};
 

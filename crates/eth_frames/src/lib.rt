@@ -13,10 +13,11 @@ mod writing;
 use fab_base::Mac;
 pub use laws::{eth_is_written, eth_reads_back, eth_stands_once};
 pub use reading::read_eth;
+use thiserror::Error;
 pub use writing::write_eth;
 
-/// A frame without its check sequence. `tag` is the 16 bits behind 8100, `kind` the Ethertype, and `body` all that
-/// follows it, with its pad.
+/// A frame without its check sequence. `tag` is the 16 bits behind 8100, `kind` the Ethertype, and
+/// `body` all that follows it, with its pad.
 #[derive(Clone, Copy, Debug)]
 pub struct EthFrame<'a> {
     pub dst: Mac,
@@ -27,7 +28,8 @@ pub struct EthFrame<'a> {
 }
 
 impl EthFrame<'_> {
-    /// The VLAN number, 0 to 4095. A frame without a tag has 0, as has a tag that is for its priority alone.
+    /// The VLAN number, 0 to 4095. A frame without a tag has 0, as has a tag that is for its
+    /// priority alone.
     pub fn vlan(&self) -> u16
         ensures vlan { result ≡ vlan_of_tag self.now.tag }
     {
@@ -39,9 +41,10 @@ impl EthFrame<'_> {
 }
 
 /// Why bytes are no frame.
-#[derive(Clone, Copy, Debug, PartialEq, Eq)]
+#[derive(Clone, Copy, Debug, PartialEq, Eq, Error)]
 pub enum EthFault {
     /// Fewer than 14 bytes, or fewer than 18 behind the Ethertype of a tag.
+    #[error("the frame is shorter than its Ethernet header")]
     Short,
 }
 

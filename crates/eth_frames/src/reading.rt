@@ -1,15 +1,16 @@
-// From bytes to a frame.
-ghost use Rattle.std.specs.Prelude.{◌≡◌, MatchResult, IfOk, Ok, Err, ◌+◌, ◌≤◌, length};
-ghost use Rattle.fab_base.specs.Layout.{field, number};
+//! From bytes to a frame.
+ghost use Rattle.std.specs.Prelude.{◌≡◌, MatchResult, IfOk, Ok, Err};
 ghost use Rattle.eth_frames.specs.Ethernet.{decoded, view, IsEth};
 
 use crate::{EthFault, EthFrame, TAGGED};
-use fab_base::Mac;
+use fab_base::fields::{mac_at, u16_at};
 
 /// The frame that these bytes are. One tag is read; the Ethertype of a second tag is the kind.
 #[tactic(auto, unfolding(crate::specs::Ethernet::decoded))]
 pub fn read_eth(bytes: &[u8]) -> Result<EthFrame<'_>, EthFault>
-    ensures exact { MatchResult result (λ f. decoded bytes.now ≡ Ok (view f)) (λ e. decoded bytes.now ≡ Err e) }
+    ensures exact { MatchResult result
+        (λ f. decoded bytes.now ≡ Ok (view f))
+        (λ e. decoded bytes.now ≡ Err e) }
     ensures layout { IfOk result (λ f. IsEth (view f) bytes.now) }
 {
     if bytes.len() < 14 {
@@ -37,25 +38,4 @@ pub fn read_eth(bytes: &[u8]) -> Result<EthFrame<'_>, EthFault>
         kind: u16_at(bytes, 16),
         body: &bytes[18..],
     })
-}
-
-fn mac_at(bytes: &[u8], at: usize) -> Mac
-    requires { at + 6 ≤ length bytes.now }
-    ensures { result ≡ field bytes.now at 6 }
-{
-    Mac([
-        bytes[at],
-        bytes[at + 1],
-        bytes[at + 2],
-        bytes[at + 3],
-        bytes[at + 4],
-        bytes[at + 5],
-    ])
-}
-
-fn u16_at(bytes: &[u8], at: usize) -> u16
-    requires { at + 2 ≤ length bytes.now }
-    ensures { result ≡ number bytes.now at 2 }
-{
-    u16::from_be_bytes([bytes[at], bytes[at + 1]])
 }

@@ -62,3 +62,13 @@ fn a_frame_is_written_with_its_pad(rt: HostRuntime) -> Result<(), Fail> {
     assert_eq!(rt; &out[20..], [0; 40].as_slice());
     Ok(())
 }
+
+#[test]
+fn a_fault_has_a_text(rt: HostRuntime) -> Result<(), Fail> {
+    let text = format!(in rt.alloc(); "{}", EthFault::Short)?;
+    assert_eq!(rt;
+        text.as_str(),
+        "the frame is shorter than its Ethernet header"
+    );
+    Ok(())
+}

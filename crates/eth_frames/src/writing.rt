@@ -1,51 +1,55 @@
-// From a frame to bytes.
-ghost use Rattle.std.specs.Prelude.{◌≡◌, ◌≢◌, ◌≤◌, ◌+◌, ◌++◌, None, length, OnOk, OnErr, IfOk, vec_len};
-ghost use Rattle.eth_frames.specs.Ethernet.{view, eth_bytes, written};
+//! From a frame to bytes.
+ghost use Rattle.std.specs.Prelude.{◌≡◌, ◌≢◌, ◌≤◌, ◌+◌, ◌++◌, None, length, vec_len, vec_capacity};
+ghost use Rattle.std.specs.Prelude.{OnOk, OnErr};
+ghost use Rattle.arrayvec.specs.ArrayVec.{array_vec_len};
+ghost use Rattle.eth_frames.specs.Ethernet.{view, head_bytes, written};
 
 use crate::{EthFrame, LEAST, TAGGED};
+use arrayvec::ArrayVec;
 use fab_base::NoMemory;
-use std::alloc::{AllocError, Global};
+use std::alloc::Global;
 
 /// Appends the frame, and zeros until it has 60 bytes. Where memory is refused, `out` is as it was.
-pub fn write_eth(alloc: Global, frame: &EthFrame<'_>, out: &mut Vec<u8>) -> Result<(), NoMemory>
+pub fn write_eth(_alloc: Global, frame: &EthFrame<'_>, out: &mut Vec<u8>) -> Result<(), NoMemory>
     requires { frame.now.tag ≡ None → frame.now.kind ≢ 0x8100 }
     ensures ok { OnOk result (out.new.items ≡ out.old.items ++ written (view frame.now)) }
-    ensures size { OnOk result (length (written (view frame.now)) ≤ 60 + length frame.now.body.now) }
+    ensures size { OnOk result (length (written (view frame.now))
+        ≤ 60 + length frame.now.body.now) }
     ensures err { OnErr result (out.new.items ≡ out.old.items) }
 {
-    let Ok(bytes) = padded_bytes(alloc, frame) else {
-        return Err(NoMemory);
-    };
-    match out.extend_from_slice(&bytes) {
-        Ok(()) => Ok(()),
-        Err(_) => Err(NoMemory),
-    }
+    let head = head_of(frame);
+    let len = head.len() + frame.body.len();
+    let pad = LEAST.saturating_sub(len);
+    out.reserve(len + pad)?;
+    put(out, &head);
+    put(out, frame.body);
+    put(out, &[0; LEAST][..pad]);
+    Ok(())
 }
 
-fn padded_bytes(alloc: Global, frame: &EthFrame<'_>) -> Result<Vec<u8>, AllocError>
-    ensures bytes { IfOk result (λ v. v.items ≡ written (view frame.now)) }
-    ensures size { IfOk result (λ v. vec_len v ≤ 60 + length frame.now.body.now) }
+/// Appends bytes for which there is room.
+fn put(out: &mut Vec<u8>, bytes: &[u8])
+    requires { vec_len out.old + length bytes.now ≤ vec_capacity out.old }
+    ensures bytes { out.new.items ≡ out.old.items ++ bytes.now }
+    ensures size { vec_len out.new ≡ vec_len out.old + length bytes.now }
+    ensures room { vec_capacity out.old ≤ vec_capacity out.new }
 {
-    let mut bytes = own_bytes(alloc, frame)?;
-    if bytes.len() >= LEAST {
-        return Ok(bytes);
-    }
-    bytes.resize(LEAST, 0)?;
-    Ok(bytes)
+    out.extend_from_slice(bytes).unwrap();
 }
 
-fn own_bytes(alloc: Global, frame: &EthFrame<'_>) -> Result<Vec<u8>, AllocError>
-    ensures bytes { IfOk result (λ v. v.items ≡ eth_bytes (view frame.now)) }
-    ensures size { IfOk result (λ v. vec_len v ≤ 18 + length frame.now.body.now) }
+/// What stands before the body: addresses, tag and Ethertype.
+fn head_of(frame: &EthFrame<'_>) -> ArrayVec<u8, 18>
+    ensures bytes { result.items ≡ head_bytes (view frame.now) }
+    ensures size { array_vec_len result ≤ 18 }
 {
-    let mut bytes = Vec::new(alloc);
-    bytes.extend_from_slice(&frame.dst.0)?;
-    bytes.extend_from_slice(&frame.src.0)?;
+    let mut head = ArrayVec::new();
+    head.try_extend_from_slice(&frame.dst.0).unwrap();
+    head.try_extend_from_slice(&frame.src.0).unwrap();
     if let Some(tag) = frame.tag {
-        bytes.extend_from_slice(&TAGGED.to_be_bytes())?;
-        bytes.extend_from_slice(&tag.to_be_bytes())?;
+        head.try_extend_from_slice(&TAGGED.to_be_bytes()).unwrap();
+        head.try_extend_from_slice(&tag.to_be_bytes()).unwrap();
     }
-    bytes.extend_from_slice(&frame.kind.to_be_bytes())?;
-    bytes.extend_from_slice(frame.body)?;
-    Ok(bytes)
+    head.try_extend_from_slice(&frame.kind.to_be_bytes())
+        .unwrap();
+    head
 }

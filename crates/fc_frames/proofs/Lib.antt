@@ -1,3 +1,4 @@
+pub mod Appends
 pub mod Fields
 pub mod FrameLemmas
 pub mod PieceLemmas

@@ -1,4 +1,4 @@
-// The pieces of a payload that is too long for one frame.
+//! The pieces of a payload that is too long for one frame.
 ghost use Rattle.std.specs.Prelude.{◌≡◌, ◌<◌, ◌≤◌, ◌%◌, ◌^◌, IfOk, All, vec_len};
 ghost use Rattle.fc_frames.specs.Pieces.{Cuts};
 
@@ -18,10 +18,8 @@ pub fn pieces(alloc: Global, length: usize, size: usize) -> Result<Vec<Piece>, N
     ensures within { IfOk result (λ v. All (λ p. (p.from < p.to) × (p.to ≤ length)) v.items) }
     ensures few { IfOk result (λ v. vec_len v ≤ 4096) }
 {
-    match ranges(alloc, length, size) {
-        Ok(ranges) => Ok(ranges),
-        Err(_) => Err(NoMemory),
-    }
+    let ranges = ranges(alloc, length, size)?;
+    Ok(ranges)
 }
 
 fn ranges(alloc: Global, length: usize, size: usize) -> Result<Vec<Piece>, AllocError>

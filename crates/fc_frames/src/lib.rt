@@ -15,6 +15,7 @@ pub use laws::{
     the_last_range_is_marked,
 };
 pub use reading::read_frame;
+use thiserror::Error;
 pub use writing::write_frame;
 
 /// The header of a frame. `kind` is TYPE; of `f_ctl` and of `parameter` every bit is kept as it is.
@@ -43,13 +44,16 @@ pub struct FcFrame<'a> {
 }
 
 /// Why bytes are no frame.
-#[derive(Clone, Copy, Debug, PartialEq, Eq)]
+#[derive(Clone, Copy, Debug, PartialEq, Eq, Error)]
 pub enum FcFault {
     /// Fewer than the 24 bytes of a header.
+    #[error("the frame is shorter than its header of 24 bytes")]
     Short,
     /// The payload isn't a multiple of 4 bytes.
+    #[error("the payload isn't a multiple of 4 bytes")]
     Odd,
     /// The payload has more than 2112 bytes.
+    #[error("the payload has more than 2112 bytes")]
     Long,
 }
 

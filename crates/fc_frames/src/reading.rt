@@ -1,15 +1,15 @@
-// From bytes to a frame.
-ghost use Rattle.std.specs.Prelude.{◌≡◌, MatchResult, IfOk, Ok, Err, ◌+◌, ◌<◌, ◌≤◌, ◌^◌, length};
-ghost use Rattle.fab_base.specs.Layout.{number};
+//! From bytes to a frame.
+ghost use Rattle.std.specs.Prelude.{◌≡◌, MatchResult, IfOk, Ok, Err, ◌≤◌, length};
 ghost use Rattle.fc_frames.specs.Frame.{IsFrame, decoded, header_of, view};
 
 use crate::{FcFault, FcFrame, FcHeader, HEADER, MOST_PAYLOAD};
-use fab_base::FcId;
+use fab_base::fields::{address_at, u16_at, u24_at, u32_at};
 
 /// The frame that these bytes are.
 #[tactic(auto, unfolding(crate::specs::Frame::decoded))]
 pub fn read_frame(bytes: &[u8]) -> Result<FcFrame<'_>, FcFault>
-    ensures exact { MatchResult result (λ f. decoded bytes.now ≡ Ok (view f)) (λ e. decoded bytes.now ≡ Err e) }
+    ensures exact { MatchResult result (λ f. decoded bytes.now ≡ Ok (view f))
+        (λ e. decoded bytes.now ≡ Err e) }
     ensures layout { IfOk result (λ f. IsFrame (view f) bytes.now) }
 {
     if bytes.len() < HEADER {
@@ -45,36 +45,4 @@ fn header_at(bytes: &[u8]) -> FcHeader
         rx_id: u16_at(bytes, 18),
         parameter: u32_at(bytes, 20),
     }
-}
-
-fn address_at(bytes: &[u8], at: usize) -> FcId
-    requires { at + 3 ≤ length bytes.now }
-    ensures { result ≡ number bytes.now at 3 }
-{
-    match FcId::new(u24_at(bytes, at)) {
-        Some(address) => address,
-        None => unreachable!(),
-    }
-}
-
-fn u16_at(bytes: &[u8], at: usize) -> u16
-    requires { at + 2 ≤ length bytes.now }
-    ensures { result ≡ number bytes.now at 2 }
-{
-    u16::from_be_bytes([bytes[at], bytes[at + 1]])
-}
-
-fn u24_at(bytes: &[u8], at: usize) -> u32
-    requires { at + 3 ≤ length bytes.now }
-    ensures value { result ≡ number bytes.now at 3 }
-    ensures range { result < 2 ^ 24 }
-{
-    u32::from_be_bytes([0, bytes[at], bytes[at + 1], bytes[at + 2]])
-}
-
-fn u32_at(bytes: &[u8], at: usize) -> u32
-    requires { at + 4 ≤ length bytes.now }
-    ensures { result ≡ number bytes.now at 4 }
-{
-    u32::from_be_bytes([bytes[at], bytes[at + 1], bytes[at + 2], bytes[at + 3]])
 }

@@ -90,3 +90,10 @@ fn a_long_payload_is_cut(rt: HostRuntime) -> Result<(), Fail> {
     );
     Ok(())
 }
+
+#[test]
+fn a_fault_has_a_text(rt: HostRuntime) -> Result<(), Fail> {
+    let text = format!(in rt.alloc(); "{}", FcFault::Long)?;
+    assert_eq!(rt; text.as_str(), "the payload has more than 2112 bytes");
+    Ok(())
+}

@@ -1,34 +1,30 @@
-// From a frame to bytes.
-ghost use Rattle.std.specs.Prelude.{◌≡◌, ◌≤◌, ◌+◌, ◌++◌, length, OnOk, OnErr, IfOk};
+//! From a frame to bytes.
+ghost use Rattle.std.specs.Prelude.{◌≡◌, ◌<◌, ◌≤◌, ◌+◌, ◌++◌, length, OnOk, OnErr, vec_len};
+ghost use Rattle.std.specs.Prelude.{vec_capacity};
 ghost use Rattle.fc_frames.specs.Frame.{IsPayload, frame_bytes, header_bytes, view};
 
-use crate::{FcFrame, FcHeader};
+use crate::{FcFrame, FcHeader, HEADER};
 use fab_base::NoMemory;
-use std::alloc::{AllocError, Global};
+use std::alloc::Global;
 
 /// Appends the header and the payload. Where memory is refused, `out` is as it was.
-pub fn write_frame(alloc: Global, frame: &FcFrame<'_>, out: &mut Vec<u8>) -> Result<(), NoMemory>
+pub fn write_frame(_alloc: Global, frame: &FcFrame<'_>, out: &mut Vec<u8>) -> Result<(), NoMemory>
     requires { IsPayload frame.now.payload.now }
     ensures ok { OnOk result (out.new.items ≡ out.old.items ++ frame_bytes (view frame.now)) }
-    ensures size { OnOk result (length (frame_bytes (view frame.now)) ≡ 24 + length frame.now.payload.now) }
+    ensures size { OnOk result (length (frame_bytes (view frame.now))
+        ≡ 24 + length frame.now.payload.now) }
     ensures err { OnErr result (out.new.items ≡ out.old.items) }
+    ensures grows { OnOk result (vec_len out.new ≡ vec_len out.old +
+        (24 + length frame.now.payload.now)) }
+    ensures room { vec_capacity out.old ≤ vec_capacity out.new }
+    ensures full { OnErr result (vec_capacity out.old < vec_len out.old +
+        (24 + length frame.now.payload.now)) }
 {
-    let Ok(bytes) = bytes_of(alloc, frame) else {
-        return Err(NoMemory);
-    };
-    match out.extend_from_slice(&bytes) {
-        Ok(()) => Ok(()),
-        Err(_) => Err(NoMemory),
-    }
-}
-
-fn bytes_of(alloc: Global, frame: &FcFrame<'_>) -> Result<Vec<u8>, AllocError>
-    ensures { IfOk result (λ v. v.items ≡ frame_bytes (view frame.now)) }
-{
-    let mut bytes = Vec::new(alloc);
-    bytes.extend_from_slice(&header(&frame.head))?;
-    bytes.extend_from_slice(frame.payload)?;
-    Ok(bytes)
+    let head = header(&frame.head);
+    out.reserve(HEADER + frame.payload.len())?;
+    out.extend_from_slice(&head).unwrap();
+    out.extend_from_slice(frame.payload).unwrap();
+    Ok(())
 }
 
 fn header(head: &FcHeader) -> [u8; 24]

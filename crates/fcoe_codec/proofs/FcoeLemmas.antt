@@ -1,6 +1,7 @@
 -- The layout against reading and writing.
-use Rattle.std.proofs.Common.{◌≡◌, ℕ, ◌+◌, ◌-◌, ◌*◌, ◌/◌, ◌%◌, ◌≤◌, Bool, true, false, cond, ◌&&◌, leb, eqb, List, [], ◌∷◌, ◌++◌, length, length-append, append_assoc, Result, Ok, Err, refl, sym, ap, subst, ◌∙◌, arith}
+use Rattle.std.proofs.Common.{◌≡◌, ℕ, ◌+◌, ◌-◌, ◌*◌, ◌/◌, ◌%◌, ◌≤◌, Bool, true, false, cond, ◌&&◌, leb, eqb, List, [], ◌∷◌, ◌++◌, length, length-append, append_assoc, drop, Result, Ok, Err, refl, sym, ap, subst, ◌∙◌, arith}
 use Rattle.std.proofs.Math.Seq.{get_or-append_seam}
+use Rattle.std.proofs.lemmas.List.{drop_at}
 use Rattle.std.proofs.lemmas.Bool.{le-leb, eq-eqb}
 use Rattle.std.specs.Int.{bytes_low_first}
 use Rattle.fab_base.specs.Layout.{field, byte, little_endian, zeros}
@@ -168,8 +169,17 @@ is_written f may =
       eof_known = may.eof;
     }
 
--- what is appended where the parts are as the writer makes them
-pub appended : (new old bytes inner : List ℕ) (f : Fcoe) → new ≡ old ++ bytes → bytes ≡ zeros 13 ++ f.sof ∷ inner ++ crc_bytes (crc inner) ++ f.eof ∷ zeros 3 → inner ≡ fc.frame_bytes f.frame → new ≡ old ++ written f
+regroup : (old start inner check tail : List ℕ) → (((old ++ start) ++ inner) ++ check) ++ tail ≡ old ++ (((start ++ inner) ++ check) ++ tail)
+regroup old start inner check tail = simp append_assoc
+
+-- what is appended part by part, the CRC being that of what stands from a place on
+pub appended : (f : Fcoe) (old one two three new check : List ℕ) (from : ℕ) → one ≡ old ++ (zeros 13 ++ f.sof ∷ []) → length one ≡ from → two ≡ one ++ fc.frame_bytes f.frame → check ≡ crc_bytes (crc (drop from two)) → three ≡ two ++ check → new ≡ three ++ f.eof ∷ zeros 3 → new ≡ old ++ written f
 unfolding written
-appended new old bytes inner f is_new is_bytes is_inner =
-    is_new ∙ ap (λ l. old ++ l) (is_bytes ∙ ap (λ l. zeros 13 ++ f.sof ∷ l ++ crc_bytes (crc l) ++ f.eof ∷ zeros 3) is_inner)
+appended f old one two three new check from is_one is_from is_two is_check is_three is_new =
+    let start : List ℕ = zeros 13 ++ f.sof ∷ [] in
+    let tail : List ℕ = f.eof ∷ zeros 3 in
+    let inner = fc.frame_bytes f.frame in
+    let covers : drop from two ≡ inner = ap (drop from) is_two ∙ drop_at one inner from is_from in
+    let made : check ≡ crc_bytes (crc inner) = is_check ∙ ap (λ l. crc_bytes (crc l)) covers in
+    let front : two ≡ (old ++ start) ++ inner = is_two ∙ ap (λ l. l ++ inner) is_one in
+    is_new ∙ ap (λ l. l ++ tail) (is_three ∙ ap (λ l. l ++ check) front ∙ ap (λ l. ((old ++ start) ++ inner) ++ l) made) ∙ regroup old start inner (crc_bytes (crc inner)) tail

@@ -1,4 +1,4 @@
-// The codes of the delimiters (FC-BB-5, by FC-FS-3).
+//! The codes of the delimiters (FC-BB-5, by FC-FS-3).
 ghost use Rattle.std.specs.Prelude.{◌≡◌};
 ghost use Rattle.fcoe_codec.specs.Fcoe as spec;
 

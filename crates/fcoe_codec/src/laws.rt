@@ -1,4 +1,5 @@
-// What reading and writing have to do with each other. These functions do nothing: their contracts are the laws.
+//! What reading and writing have to do with each other. These functions do nothing: their contracts
+//! are the laws.
 ghost use Rattle.std.specs.Prelude.{◌≡◌, List, ℕ, Ok};
 ghost use Rattle.fcoe_codec.specs.Fcoe as spec;
 ghost use Rattle.fcoe_codec.specs.Fcoe.{Fcoe, IsFcoe, MayBeWritten, decoded, written};

@@ -12,6 +12,7 @@ pub use delimiters::{EOF_A, EOF_N, EOF_NI, EOF_T, SOF_F, SOF_I2, SOF_I3, SOF_N2,
 use fc_frames::FcFrame;
 pub use laws::{delimiters_have_their_codes, fcoe_is_written, fcoe_reads_back, fcoe_stands_once};
 pub use reading::read_fcoe;
+use thiserror::Error;
 pub use writing::write_fcoe;
 
 /// A frame and the codes of its delimiters.
@@ -23,17 +24,22 @@ pub struct FcoeFrame<'a> {
 }
 
 /// Why bytes are no body of an FCoE frame.
-#[derive(Clone, Copy, Debug, PartialEq, Eq)]
+#[derive(Clone, Copy, Debug, PartialEq, Eq, Error)]
 pub enum FcoeFault {
     /// Not 46 to 2158 bytes, or a payload that isn't a multiple of 4 bytes.
+    #[error("no FCoE frame has a body of this length")]
     Length,
     /// The version isn't 0.
+    #[error("the FCoE version isn't 0")]
     Version,
     /// An unknown code of the start.
+    #[error("the start of frame is unknown")]
     Sof,
     /// An unknown code of the end.
+    #[error("the end of frame is unknown")]
     Eof,
     /// The CRC that stands there isn't that of the frame.
+    #[error("the CRC is {found:08x} and should be {made:08x}")]
     Crc { found: u32, made: u32 },
 }
 

@@ -1,5 +1,6 @@
-// From bytes to a frame.
-ghost use Rattle.std.specs.Prelude.{◌≡◌, ◌≢◌, MatchResult, IfOk, IfErr, OnOk, Ok, Err, ◌+◌, ◌-◌, ◌%◌, ◌≤◌, drop, length};
+//! From bytes to a frame.
+ghost use Rattle.std.specs.Prelude.{◌≡◌, ◌≢◌, MatchResult, IfOk, IfErr, OnOk, Ok, Err, ◌+◌, ◌-◌};
+ghost use Rattle.std.specs.Prelude.{◌%◌, ◌≤◌, drop, length};
 ghost use Rattle.fab_base.specs.Layout.{field, little_endian};
 ghost use Rattle.fc_check.specs.Crc.{crc};
 ghost use Rattle.fc_frames.specs.Frame as fc;
@@ -14,7 +15,8 @@ use fc_frames::{FcFrame, read_frame};
 /// The frame in this body. Reserved bytes are not looked at.
 #[tactic(auto, unfolding(crate::specs::Fcoe::decoded))]
 pub fn read_fcoe(body: &[u8]) -> Result<FcoeFrame<'_>, FcoeFault>
-    ensures exact { MatchResult result (λ f. spec.decoded body.now ≡ Ok (spec.view f)) (λ e. spec.decoded body.now ≡ Err e) }
+    ensures exact { MatchResult result (λ f. spec.decoded body.now ≡ Ok (spec.view f))
+        (λ e. spec.decoded body.now ≡ Err e) }
     ensures layout { IfOk result (λ f. spec.IsFcoe (spec.view f) body.now) }
 {
     if body.len() < LEAST || body.len() > MOST || body.len() % 4 != 2 {
@@ -57,7 +59,8 @@ fn check_at(body: &[u8], at: usize) -> u32
 
 fn test_crc(covered: &[u8], found: u32) -> Result<(), FcoeFault>
     ensures ok { OnOk result (found ≡ crc covered.now) }
-    ensures err { IfErr result (λ e. (e ≡ Crc found (crc covered.now)) × (found ≢ crc covered.now)) }
+    ensures err { IfErr result (λ e. (e ≡ Crc found (crc covered.now))
+        × (found ≢ crc covered.now)) }
 {
     let made = crc32(covered);
     if found != made {

@@ -98,3 +98,14 @@ fn the_delimiters_are_those_of_the_table(rt: HostRuntime) {
         );
     }
 }
+
+#[test]
+fn a_fault_has_a_text(rt: HostRuntime) -> Result<(), Fail> {
+    let fault = FcoeFault::Crc {
+        found: 0x0018_69ec,
+        made: 0xec18_69ec,
+    };
+    let text = format!(in rt.alloc(); "{fault}")?;
+    assert_eq!(rt; text.as_str(), "the CRC is 001869ec and should be ec1869ec");
+    Ok(())
+}

@@ -85,10 +85,14 @@ if_there bytes (Some x) = bytes x
 abbrev pub flag : ℕ → Bool → ℕ
 flag value set = if set then value else 0
 
+-- version 1, operation, subcode, length of the list in words, flags
+abbrev pub head_bytes : ℕ → ℕ → ℕ → ℕ → List ℕ
+head_bytes operation subcode flags words =
+    0x10 ∷ 0 ∷ spelled 2 operation ++ 0 ∷ subcode ∷ spelled 2 words ++ spelled 2 flags
+
 -- header and list
 abbrev pub message_bytes : ℕ → ℕ → ℕ → List ℕ → List ℕ
-message_bytes operation subcode flags list =
-    0x10 ∷ 0 ∷ spelled 2 operation ++ 0 ∷ subcode ∷ spelled 2 (length list / 4) ++ spelled 2 flags ++ list
+message_bytes operation subcode flags list = head_bytes operation subcode flags (length list / 4) ++ list
 
 -- A written message: reserved bytes are 0, and the descriptors stand in the order of the table.
 unfoldable pub written : Fip → List ℕ

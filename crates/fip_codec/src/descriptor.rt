@@ -1,13 +1,14 @@
-//! Descriptors: the table of their types, and the walk over a list of them (FC-BB-5, "FIP descriptors").
-ghost use Rattle.std.specs.Prelude.{◌≡◌, ◌<◌, ◌≤◌, ◌+◌, ◌*◌, ◌%◌, ◌^◌, ℕ, true, ◌∷◌, [], if◌then◌else◌, Some, None, length, take, drop, slice_get, IfSome, IsNone};
+//! Descriptors: the table of their types, and the walk over a list of them (FC-BB-5, "FIP
+//! descriptors").
+ghost use Rattle.std.specs.Prelude.{◌≡◌, ◌<◌, ◌≤◌, ◌+◌, ◌*◌, ◌%◌, ℕ, true, ◌∷◌, [], if◌then◌else◌};
+ghost use Rattle.std.specs.Prelude.{Some, None, length, take, drop, slice_get, IfSome, IsNone};
 ghost use Rattle.std.specs.Option.{option_map};
-ghost use Rattle.fab_base.specs.Layout.{field, number};
 ghost use Rattle.fip_codec.specs.Fip.{HEADER, in_table, words_fit, family, vx_port, vlan_number};
 ghost use Rattle.fip_codec.specs.Walk.{listed, broken, of_type, has_type, said, are_sound, room};
 ghost use Rattle.fip_codec.specs.Table.{seen, parts, code_parts};
 
 use crate::message::VxPort;
-use fab_base::{FcId, Mac, Wwn};
+use fab_base::fields::{address_at, mac_at, name_at, u16_at};
 
 pub(crate) const PRIORITY: u8 = 1;
 
@@ -82,11 +83,16 @@ pub(crate) fn family(kind: u8) -> u8
 
 /// Cuts the first descriptor off a list. There is none at the end, and where it isn't whole.
 pub(crate) fn cut(list: &[u8]) -> Option<(Descriptor<'_>, &[u8])>
-    ensures whole { IfSome result (λ x. (at : ℕ) → listed at list.now ≡ seen at x.0 ∷ listed (at + 4 * x.0.words) x.1.now) }
-    ensures front { IfSome result (λ x. (at : ℕ) → listed at (take (4 * x.0.words) list.now) ≡ seen at x.0 ∷ []) }
-    ensures rest { IfSome result (λ x. (x.1.now ≡ drop (4 * x.0.words) list.now) × (4 * x.0.words ≤ length list.now)) }
-    ensures size { IfSome result (λ x. (length x.0.content.now + 2 ≡ 4 * x.0.words) × (0 < x.0.words)) }
-    ensures broken { IsNone result → 0 < length list.now → (at : ℕ) → listed at list.now ≡ broken at list.now ∷ [] }
+    ensures whole { IfSome result (λ x. (at : ℕ)
+        → listed at list.now ≡ seen at x.0 ∷ listed (at + 4 * x.0.words) x.1.now) }
+    ensures front { IfSome result (λ x. (at : ℕ)
+        → listed at (take (4 * x.0.words) list.now) ≡ seen at x.0 ∷ []) }
+    ensures rest { IfSome result (λ x. (x.1.now ≡ drop (4 * x.0.words) list.now)
+        × (4 * x.0.words ≤ length list.now)) }
+    ensures size { IfSome result (λ x. (length x.0.content.now + 2 ≡ 4 * x.0.words)
+        × (0 < x.0.words)) }
+    ensures broken { IsNone result → 0 < length list.now → (at : ℕ)
+        → listed at list.now ≡ broken at list.now ∷ [] }
     ensures end { IsNone result → length list.now ≡ 0 → (at : ℕ) → listed at list.now ≡ [] }
 {
     let [kind, words, rest @ ..] = list else {
@@ -107,8 +113,10 @@ pub(crate) fn cut(list: &[u8]) -> Option<(Descriptor<'_>, &[u8])>
 
 /// A descriptor of a type, counted from 0.
 pub(crate) fn nth_of(list: &[u8], kind: u8, index: usize) -> Option<Descriptor<'_>>
-    ensures found { option_map code_parts result ≡ option_map parts (slice_get (of_type kind HEADER list.now) index) }
-    ensures room { are_sound list.now ≡ true → IfSome result (λ d. room kind ≤ length d.content.now) }
+    ensures found { option_map code_parts result ≡ option_map parts
+        (slice_get (of_type kind HEADER list.now) index) }
+    ensures room { are_sound list.now ≡ true → IfSome result
+        (λ d. room kind ≤ length d.content.now) }
 {
     let mut rest = list;
     let mut left = index;
@@ -142,7 +150,8 @@ pub(crate) fn count_of(list: &[u8], kind: u8) -> usize
 /// The content of the first descriptor of a type, where there is one.
 pub(crate) fn find(list: &[u8], kind: u8) -> Option<&[u8]>
     requires { are_sound list.now ≡ true }
-    ensures found { option_map (λ c. c.now) result ≡ (if has_type kind list.now then Some (said kind list.now) else None) }
+    ensures found { option_map (λ c. c.now) result
+        ≡ (if has_type kind list.now then Some (said kind list.now) else None) }
     ensures room { IfSome result (λ c. room kind ≤ length c.now) }
 {
     match nth_of(list, kind, 0) {
@@ -172,69 +181,15 @@ pub(crate) fn content_of(list: &[u8], kind: u8) -> &[u8]
     }
 }
 
-pub(crate) fn u16_at(bytes: &[u8], at: usize) -> u16
-    requires { at + 2 ≤ length bytes.now }
-    ensures { result ≡ number bytes.now at 2 }
-{
-    match bytes[at..].split_first_chunk::<2>() {
-        Some((front, _)) => u16::from_be_bytes(*front),
-        None => unreachable!(),
-    }
-}
-
-pub(crate) fn u24_at(bytes: &[u8], at: usize) -> u32
-    requires { at + 3 ≤ length bytes.now }
-    ensures value { result ≡ number bytes.now at 3 }
-    ensures small { result < 2 ^ 24 }
-{
-    match bytes[at..].split_first_chunk::<3>() {
-        Some(([high, mid, low], _)) => u32::from_be_bytes([0, *high, *mid, *low]),
-        None => unreachable!(),
-    }
-}
-
-pub(crate) fn u32_at(bytes: &[u8], at: usize) -> u32
-    requires { at + 4 ≤ length bytes.now }
-    ensures { result ≡ number bytes.now at 4 }
-{
-    match bytes[at..].split_first_chunk::<4>() {
-        Some((front, _)) => u32::from_be_bytes(*front),
-        None => unreachable!(),
-    }
-}
-
-pub(crate) fn wwn_at(bytes: &[u8], at: usize) -> Wwn
-    requires { at + 8 ≤ length bytes.now }
-    ensures { result ≡ number bytes.now at 8 }
-{
-    match bytes[at..].split_first_chunk::<8>() {
-        Some((front, _)) => Wwn(u64::from_be_bytes(*front)),
-        None => unreachable!(),
-    }
-}
-
-pub(crate) fn mac_at(bytes: &[u8], at: usize) -> Mac
-    requires { at + 6 ≤ length bytes.now }
-    ensures { result ≡ field bytes.now at 6 }
-{
-    match bytes[at..].split_first_chunk::<6>() {
-        Some((front, _)) => Mac(*front),
-        None => unreachable!(),
-    }
-}
-
 /// The Vx_Port of a descriptor's content.
 pub(crate) fn vx_port(content: &[u8]) -> VxPort
     requires { 18 ≤ length content.now }
     ensures { result ≡ vx_port content.now }
 {
-    match FcId::new(u24_at(content, 7)) {
-        Some(address) => VxPort {
-            mac: mac_at(content, 0),
-            address,
-            name: wwn_at(content, 10),
-        },
-        None => unreachable!(),
+    VxPort {
+        mac: mac_at(content, 0),
+        address: address_at(content, 7),
+        name: name_at(content, 10),
     }
 }
 

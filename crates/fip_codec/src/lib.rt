@@ -1,4 +1,5 @@
-//! FIP, the FCoE Initialization Protocol: its messages read and written (FC-BB-5, "FIP frame format").
+//! FIP, the FCoE Initialization Protocol: its messages read and written (FC-BB-5, "FIP frame
+//! format").
 #![tactic(auto)]
 
 mod descriptor;

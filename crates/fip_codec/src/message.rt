@@ -30,7 +30,8 @@ pub enum FipMessage<'a> {
         node: Wwn,
         size: u16,
     },
-    /// Discovery advertisement, 1 and 2. `period` is in milliseconds, and `quiet` asks for no keep alives.
+    /// Discovery advertisement, 1 and 2. `period` is in milliseconds, and `quiet` asks for no keep
+    /// alives.
     Advertise {
         solicited: bool,
         available: bool,
@@ -44,7 +45,8 @@ pub enum FipMessage<'a> {
         quiet: bool,
         period: u32,
     },
-    /// FLOGI, FDISC or LOGO request, 2 and 1. `frame` is the encapsulated FC frame, header and payload.
+    /// FLOGI, FDISC or LOGO request, 2 and 1. `frame` is the encapsulated FC frame, header and
+    /// payload.
     Login {
         kind: LoginKind,
         fp: bool,
@@ -92,7 +94,8 @@ pub enum FipOut<'a> {
         node: Wwn,
         size: u16,
     },
-    /// Discovery advertisement, 1 and 2. `period` is in milliseconds, and `quiet` asks for no keep alives.
+    /// Discovery advertisement, 1 and 2. `period` is in milliseconds, and `quiet` asks for no keep
+    /// alives.
     Advertise {
         solicited: bool,
         available: bool,
@@ -106,7 +109,8 @@ pub enum FipOut<'a> {
         quiet: bool,
         period: u32,
     },
-    /// FLOGI, FDISC or LOGO request, 2 and 1. `frame` is the encapsulated FC frame, header and payload.
+    /// FLOGI, FDISC or LOGO request, 2 and 1. `frame` is the encapsulated FC frame, header and
+    /// payload.
     Login {
         kind: LoginKind,
         fp: bool,

@@ -1,7 +1,11 @@
-//! Reading a body: the header, one walk over the descriptors for all messages, then the message's fields.
-ghost use Rattle.std.specs.Prelude.{◌≡◌, ◌<◌, ◌≤◌, ◌+◌, ◌*◌, ◌++◌, true, ◌∷◌, [], Some, None, Ok, Err, length, take, drop, MatchResult, IfOk, IfErr, OnOk};
+//! Reading a body: the header, one walk over the descriptors for all messages, then the message's
+//! fields.
+ghost use Rattle.std.specs.Prelude.{◌≡◌, ◌<◌, ◌≤◌, ◌+◌, ◌*◌, ◌++◌, true, ◌∷◌, [], Some, None, Ok};
+ghost use Rattle.std.specs.Prelude.{Err, length, take, drop, MatchResult, IfOk, IfErr, OnOk};
 ghost use Rattle.fab_base.specs.Layout.{field, number};
-ghost use Rattle.fip_codec.specs.Fip.{HEADER, Solicitation, Advertisement, Request, Reply, KeepAlive, ClearLinks, VlanRequest, VlanNotification, list_of, flags_of, has_flag};
+ghost use Rattle.fip_codec.specs.Fip.{HEADER, Solicitation, Advertisement, Request, Reply};
+ghost use Rattle.fip_codec.specs.Fip.{KeepAlive, ClearLinks, VlanRequest, VlanNotification};
+ghost use Rattle.fip_codec.specs.Fip.{list_of, flags_of, has_flag};
 ghost use Rattle.fip_codec.specs.Message.{view};
 ghost use Rattle.fip_codec.specs.Reading.{decoded, decoded_list, fault_of, kind_of, IsFip};
 ghost use Rattle.fip_codec.specs.Walk.{listed, are_sound, fault_at, lacks, told, has_type, said};
@@ -9,17 +13,17 @@ ghost use Rattle.fip_codec.specs.Table.{named, seen};
 
 use crate::descriptor::{
     ADVERTISING, Descriptor, FABRIC, FDISC, FIRST_SKIPPED, FLOGI, LOGO, MAC, NAME, PRIORITY, SIZE,
-    VX_PORT, content_of, cut, family, find, has, in_table, mac_at, nth_of, u16_at, u24_at, u32_at,
-    vx_port, words_fit, wwn_at,
+    VX_PORT, content_of, cut, family, find, has, in_table, nth_of, vx_port, words_fit,
 };
 use crate::fault::FipFault;
 use crate::kind::MessageKind;
 use crate::lists::{VlanList, VxList};
 use crate::message::{FipMessage, LoginKind};
+use fab_base::fields::{mac_at, name_at, u16_at, u24_at, u32_at};
 use fab_base::{Mac, Wwn};
 
 /// The bytes before the list of descriptors.
-const HEADER_LEN: usize = 10;
+pub(crate) const HEADER_LEN: usize = 10;
 
 pub(crate) const FP: u16 = 0x8000;
 
@@ -38,7 +42,8 @@ struct Header<'a> {
 
 #[tactic(auto, unfolding(crate::specs::Reading::decoded))]
 fn read_header(body: &[u8]) -> Result<Header<'_>, FipFault>
-    ensures cases { MatchResult result (λ h. decoded body.now ≡ decoded_list (named h.kind) body.now) (λ e. decoded body.now ≡ Err e) }
+    ensures cases { MatchResult result (λ h. decoded body.now ≡ decoded_list
+        (named h.kind) body.now) (λ e. decoded body.now ≡ Err e) }
     ensures list { IfOk result (λ h. h.list.now ≡ list_of body.now) }
     ensures flags { IfOk result (λ h. h.flags ≡ flags_of body.now) }
     ensures small { IfOk result (λ h. length h.list.now ≤ 262140) }
@@ -92,7 +97,8 @@ fn next(kind: MessageKind, list: &[u8], done: usize) -> Result<Descriptor<'_>, F
     requires small { length list.now ≤ 262140 }
     requires more { done < length list.now }
     requires sound { are_sound (take done list.now) ≡ true }
-    ensures on { IfOk result (λ d. fault_at (named kind) list.now done ≡ fault_at (named kind) list.now (done + 4 * d.words)) }
+    ensures on { IfOk result (λ d. fault_at (named kind) list.now done ≡ fault_at
+        (named kind) list.now (done + 4 * d.words)) }
     ensures sound { IfOk result (λ d. are_sound (take (done + 4 * d.words) list.now) ≡ true) }
     ensures size { IfOk result (λ d. (0 < d.words) × (done + 4 * d.words ≤ length list.now)) }
     ensures fault { IfErr result (λ e. fault_at (named kind) list.now done ≡ Some e) }
@@ -111,7 +117,8 @@ fn next(kind: MessageKind, list: &[u8], done: usize) -> Result<Descriptor<'_>, F
 /// The walk over a list, to the first fault.
 fn walk(kind: MessageKind, list: &[u8]) -> Result<(), FipFault>
     requires { length list.now ≤ 262140 }
-    ensures cases { MatchResult result (λ _. fault_at (named kind) list.now 0 ≡ None) (λ e. fault_at (named kind) list.now 0 ≡ Some e) }
+    ensures cases { MatchResult result (λ _. fault_at (named kind) list.now 0 ≡ None)
+        (λ e. fault_at (named kind) list.now 0 ≡ Some e) }
     ensures sound { OnOk result (are_sound list.now ≡ true) }
 {
     let mut done = 0;
@@ -154,7 +161,7 @@ fn name_of(list: &[u8]) -> Wwn
     requires there { has_type 4 list.now ≡ true }
     ensures { result ≡ number (said 4 list.now) 2 8 }
 {
-    wwn_at(content_of(list, NAME), 2)
+    name_at(content_of(list, NAME), 2)
 }
 
 #[tactic(auto, unfolding(crate::specs::Walk::told, crate::specs::Walk::has_type, crate::specs::Walk::said))]
@@ -189,7 +196,7 @@ fn advertise(flags: u16, list: &[u8]) -> FipMessage<'_>
         mac: mac_of(list),
         switch: name_of(list),
         map: u24_at(fabric, 3),
-        fabric: wwn_at(fabric, 6),
+        fabric: name_at(fabric, 6),
         quiet: advertising[1] % 2 == 1,
         period: u32_at(advertising, 2),
     }
@@ -286,7 +293,7 @@ fn vlan_ask(list: &[u8]) -> FipMessage<'_>
     ensures { view result ≡ told VlanRequest 0 list.now }
 {
     let node = match find(list, NAME) {
-        Some(content) => Some(wwn_at(content, 2)),
+        Some(content) => Some(name_at(content, 2)),
         None => None,
     };
     FipMessage::VlanAsk {
@@ -328,7 +335,8 @@ fn message(kind: MessageKind, flags: u16, list: &[u8]) -> FipMessage<'_>
 
 /// The message of a body, what stands after the Ethertype. Bytes behind the list are padding.
 pub fn read_fip(body: &[u8]) -> Result<FipMessage<'_>, FipFault>
-    ensures exact { MatchResult result (λ m. decoded body.now ≡ Ok (view m)) (λ e. decoded body.now ≡ Err e) }
+    ensures exact { MatchResult result (λ m. decoded body.now ≡ Ok (view m))
+        (λ e. decoded body.now ≡ Err e) }
     ensures grammar { IfOk result (λ m. IsFip (view m) body.now) }
 {
     let header = read_header(body)?;

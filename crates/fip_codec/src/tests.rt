@@ -384,3 +384,14 @@ fn a_clear_is_written_and_read(rt: HostRuntime) -> Result<(), Fail> {
     }
     Ok(())
 }
+
+#[test]
+fn a_fault_has_a_text(rt: HostRuntime) -> Result<(), Fail> {
+    let fault = FipFault::Critical { at: 18, kind: 100 };
+    let text = format!(in rt.alloc(); "{fault}")?;
+    assert_eq!(rt;
+        text.as_str(),
+        "the descriptor at byte 18 has the unknown type 100"
+    );
+    Ok(())
+}
