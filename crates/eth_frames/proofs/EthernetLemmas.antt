@@ -1,9 +1,9 @@
 -- The layout against reading and writing.
-use Rattle.std.proofs.Common.{◌≡◌, ◌≢◌, ℕ, zero, suc, ◌+◌, ◌-◌, ◌<◌, ◌≤◌, ◌^◌, Bool, cond, ltb, eqb, List, [], ◌∷◌, ◌++◌, length, length-append, get_or, lit<, take, drop, Option, Some, None, Result, Ok, Err, refl, sym, ap, subst, ◌∙◌, append_assoc, arith}
+use Rattle.std.proofs.Common.{◌≡◌, ◌≢◌, ℕ, ◌+◌, ◌-◌, ◌<◌, ◌≤◌, ◌^◌, Bool, cond, ltb, eqb, List, [], ◌∷◌, ◌++◌, length, length-append, take, drop, Option, Some, None, Result, Ok, Err, refl, sym, ap, subst, ◌∙◌, append_assoc, arith}
 use Rattle.std.proofs.lemmas.Bool.{le-ltb, ne_eqb}
-use Rattle.std.proofs.lemmas.List.{take-replicate, get_or-drop}
+use Rattle.std.proofs.lemmas.List.{take-replicate}
 use Rattle.fab_base.specs.Layout.{field, number, spelled, zeros}
-use Rattle.fab_base.proofs.LayoutLemmas.{AreBytes, big_endian-spelled, spelled-big_endian, big_endian-fits, take-field, length-field}
+use Rattle.fab_base.proofs.LayoutLemmas.{AreBytes, big_endian-spelled, take-field, length-field, cut_number, number_fits}
 use Rattle.eth_frames.specs.declared.EthFault.{EthFault}
 use Rattle.eth_frames.specs.Ethernet.{Eth, Fits, IsEth, decoded, written, head_bytes, eth_bytes, tag_bytes, pad_of, with_pad, TAGGED}
 
@@ -94,27 +94,6 @@ is_written f fits = record {
 
 -- ---- what reading finds is the frame of the layout
 
-bytes_of_front : (n : ℕ) (l : List ℕ) → AreBytes l → (i : ℕ) → get_or (take n l) i 0 < 256
-bytes_of_front zero l bytes i = lit< tt
-bytes_of_front (suc n) [] bytes i = lit< tt
-bytes_of_front (suc n) (b ∷ l) bytes zero = bytes 0
-bytes_of_front (suc n) (b ∷ l) bytes (suc i) = bytes_of_front n l (λ j. bytes (suc j)) i
-
-bytes_of_field : (l : List ℕ) (from count : ℕ) → AreBytes l → AreBytes (field l from count)
-bytes_of_field l from count bytes = bytes_of_front count (drop from l) (λ i. omega (arith, get_or-drop from l i 0, bytes (from + i)))
-
--- two bytes of a list are what their number spells
-cut_number : (l : List ℕ) (from : ℕ) → AreBytes l → from + 2 ≤ length l → drop from l ≡ spelled 2 (number l from 2) ++ drop (from + 2) l
-cut_number l from bytes long =
-    let two : length (field l from 2) ≡ 2 = length-field l from 2 long in
-    let spells : spelled 2 (number l from 2) ≡ field l from 2 = ap (λ (k : ℕ). spelled k (number l from 2)) (sym two) ∙ spelled-big_endian (field l from 2) (bytes_of_field l from 2 bytes) in
-    take-field l from 2 ∙ ap (λ m. m ++ drop (from + 2) l) (sym spells)
-
-number_fits : (l : List ℕ) (from : ℕ) → AreBytes l → from + 2 ≤ length l → number l from 2 < 2 ^ 16
-number_fits l from bytes long =
-    let fits = big_endian-fits (field l from 2) (bytes_of_field l from 2 bytes) in
-    subst (λ (k : ℕ). number l from 2 < 256 ^ k) (length-field l from 2 long) fits
-
 -- the two addresses and what is behind them
 cut_addresses : (l : List ℕ) → l ≡ field l 0 6 ++ (field l 6 6 ++ drop 12 l)
 cut_addresses l = take-field l 0 6 ∙ ap (λ m. field l 0 6 ++ m) (take-field l 6 6)
@@ -125,11 +104,11 @@ layout-plain l dst src body kind bytes long is_dst is_src is_kind ne is_body = r
     dst = ap length is_dst ∙ length-field l 0 6 (omega arith);
     src = ap length is_src ∙ length-field l 6 6 (omega arith);
     tag = tt;
-    kind = omega (arith, is_kind, number_fits l 12 bytes (omega arith));
+    kind = omega (arith, is_kind, number_fits l 12 2 bytes (omega arith));
     untagged = λ _. ne;
   };
   bytes =
-      let parts : l ≡ field l 0 6 ++ (field l 6 6 ++ (spelled 2 (number l 12 2) ++ drop 14 l)) = cut_addresses l ∙ ap (λ m. field l 0 6 ++ (field l 6 6 ++ m)) (cut_number l 12 bytes (omega arith)) in
+      let parts : l ≡ field l 0 6 ++ (field l 6 6 ++ (spelled 2 (number l 12 2) ++ drop 14 l)) = cut_addresses l ∙ ap (λ m. field l 0 6 ++ (field l 6 6 ++ m)) (cut_number l 12 2 bytes (omega arith)) in
       let same : field l 0 6 ++ (field l 6 6 ++ (spelled 2 (number l 12 2) ++ drop 14 l)) ≡ dst ++ (src ++ (spelled 2 kind ++ body)) = cc in
       parts ∙ same ∙ sym (regroup dst src [] (spelled 2 kind) body);
 }
@@ -139,14 +118,14 @@ layout-tagged l dst src body tag kind bytes long is_dst is_src is_tagged is_tag 
   fits = record {
     dst = ap length is_dst ∙ length-field l 0 6 (omega arith);
     src = ap length is_src ∙ length-field l 6 6 (omega arith);
-    tag = let fits : tag < 2 ^ 16 = omega (arith, is_tag, number_fits l 14 bytes (omega arith)) in fits;
-    kind = omega (arith, is_kind, number_fits l 16 bytes (omega arith));
+    tag = let fits : tag < 2 ^ 16 = omega (arith, is_tag, number_fits l 14 2 bytes (omega arith)) in fits;
+    kind = omega (arith, is_kind, number_fits l 16 2 bytes (omega arith));
     untagged = λ none. cc;
   };
   bytes =
-      let rest : drop 14 l ≡ spelled 2 (number l 14 2) ++ (spelled 2 (number l 16 2) ++ drop 18 l) = cut_number l 14 bytes (omega arith) ∙ ap (λ m. spelled 2 (number l 14 2) ++ m) (cut_number l 16 bytes (omega arith)) in
+      let rest : drop 14 l ≡ spelled 2 (number l 14 2) ++ (spelled 2 (number l 16 2) ++ drop 18 l) = cut_number l 14 2 bytes (omega arith) ∙ ap (λ m. spelled 2 (number l 14 2) ++ m) (cut_number l 16 2 bytes (omega arith)) in
       let parts : l ≡ field l 0 6 ++ (field l 6 6 ++ (spelled 2 (number l 12 2) ++ (spelled 2 (number l 14 2) ++ (spelled 2 (number l 16 2) ++ drop 18 l)))) =
-      cut_addresses l ∙ ap (λ m. field l 0 6 ++ (field l 6 6 ++ m)) (cut_number l 12 bytes (omega arith) ∙ ap (λ m. spelled 2 (number l 12 2) ++ m) rest) in
+      cut_addresses l ∙ ap (λ m. field l 0 6 ++ (field l 6 6 ++ m)) (cut_number l 12 2 bytes (omega arith) ∙ ap (λ m. spelled 2 (number l 12 2) ++ m) rest) in
       let announced : spelled 2 (number l 12 2) ≡ spelled 2 TAGGED = ap (spelled 2) is_tagged in
       let same : field l 0 6 ++ (field l 6 6 ++ (spelled 2 (number l 12 2) ++ (spelled 2 (number l 14 2) ++ (spelled 2 (number l 16 2) ++ drop 18 l)))) ≡ dst ++ (src ++ (spelled 2 TAGGED ++ (spelled 2 tag ++ (spelled 2 kind ++ body)))) = cc in
       parts ∙ same ∙ ap (λ m. dst ++ (src ++ m)) (sym (append_assoc (spelled 2 TAGGED) (spelled 2 tag) (spelled 2 kind ++ body))) ∙ sym (regroup dst src (tag_bytes (Some tag)) (spelled 2 kind) body);

@@ -2,11 +2,10 @@
 use Rattle.std.proofs.Common.{◌≡◌, ℕ, ◌+◌, ◌-◌, ◌%◌, ◌≤◌, Bool, not, cond, ltb, eqb, List, ◌∷◌, ◌++◌, length, length-drop, drop, Result, Ok, refl, sym, ap, subst, ◌∙◌, arith}
 use Rattle.std.proofs.lemmas.Bool.{le-ltb}
 use Rattle.fab_base.specs.Layout.{byte, number, spelled}
-use Rattle.fab_base.proofs.LayoutLemmas.{AreBytes, big_endian-spelled}
+use Rattle.fab_base.proofs.LayoutLemmas.{AreBytes, big_endian-spelled, cut_byte, cut_number, number_fits}
 use Rattle.fc_frames.specs.declared.FcHeader.{FcHeader}
 use Rattle.fc_frames.specs.declared.FcFault.{FcFault}
 use Rattle.fc_frames.specs.Frame.{Frame, Fits, IsFrame, IsPayload, decoded, frame_bytes, header_bytes, header_of}
-use Rattle.fc_frames.proofs.Fields.{cut_byte, cut_number, number_fits}
 
 -- the three tests of a frame that passes them
 tests : {A : Type 0} (m : ℕ) (e1 e2 e3 r : A) → 24 ≤ m → m % 4 ≡ 0 → m - 24 ≤ 2112 → cond (ltb m 24) e1 (cond (not (eqb (m % 4) 0)) e2 (cond (ltb 2112 (m - 24)) e3 r)) ≡ r

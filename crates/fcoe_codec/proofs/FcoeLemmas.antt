@@ -5,12 +5,11 @@ use Rattle.std.proofs.lemmas.List.{drop_at}
 use Rattle.std.proofs.lemmas.Bool.{le-leb, eq-eqb}
 use Rattle.std.specs.Int.{bytes_low_first}
 use Rattle.fab_base.specs.Layout.{field, byte, little_endian, zeros}
-use Rattle.fab_base.proofs.LayoutLemmas.{AreBytes, field-append, length-field, little_endian-spelled}
+use Rattle.fab_base.proofs.LayoutLemmas.{AreBytes, field-append, length-field, little_endian-spelled, bytes_of_field}
 use Rattle.fc_check.specs.Crc.{crc, crc_bytes}
 use Rattle.fc_check.proofs.Words.{crc-lt}
 use Rattle.fc_frames.specs.declared.FcFault.{FcFault}
 use Rattle.fc_frames.specs.Frame as fc
-use Rattle.fc_frames.proofs.Fields.{bytes_of_field}
 use Rattle.fc_frames.proofs.FrameLemmas as frames
 use Rattle.fcoe_codec.specs.declared.FcoeFault.{FcoeFault}
 use Rattle.fcoe_codec.specs.declared.FcoeFault.TheVariants.{Length, Version, Sof, Eof, Crc}
