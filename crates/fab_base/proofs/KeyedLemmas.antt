@@ -1,10 +1,10 @@
 -- What is found in lists of items with keys after a change, and what ascending lists have in common.
-use Rattle.std.proofs.Common.{◌≡◌, ◌⊎◌, ℕ, suc, ◌+◌, ◌<◌, ◌≤◌, ◌==◌, ◌||◌, Bool, true, false, not, cond, if◌then◌else◌, List, [], ◌∷◌, ◌++◌, length, get_or, set, filter, find, position, Option, Some, None, option_map, unwrap_or, is_some, IsSome, slice_get, nat_lt, refl, sym, ◌∙◌, ap, subst, inl, inr, arith}
+use Rattle.std.proofs.Common.{◌≡◌, ◌⊎◌, ℕ, suc, ◌+◌, ◌<◌, ◌≤◌, ◌==◌, ◌&&◌, ◌||◌, Bool, true, false, not, cond, if◌then◌else◌, List, [], ◌∷◌, ◌++◌, length, get_or, set, filter, find, position, Option, Some, None, option_map, unwrap_or, is_some, IsSome, slice_get, nat_lt, refl, sym, ◌∙◌, ap, subst, inl, inr, arith}
 use Rattle.std.specs.List.{All, list_any, position_or_len, insert, remove}
 use Rattle.std.specs.Option.{option_or, option_map_or}
 use Rattle.std.proofs.lemmas.Bool.{cases_order}
 use Rattle.std.proofs.lemmas.Bool.Decides.{nat_tests}
-use Rattle.std.proofs.lemmas.List.Elements.{All-append, All-cons, All-filter}
+use Rattle.std.proofs.lemmas.List.Elements.{All-append, All-cons, All-filter, All-head, All-tail}
 use Rattle.std.proofs.lemmas.List.Folds.{find-append, find_at}
 use Rattle.std.proofs.lemmas.Option.{slice_get_past, slice_get-get_or}
 use Rattle.std.proofs.lemmas.List.Sums.{prefix_len-le-length}
@@ -33,6 +33,18 @@ module _ {X : Type 0} (p q : X → Bool) where
       go true this true kept others = absurd (cc (fails x this))
       go false other true kept others = ap (λ b. cond b (Some x) (find p (filter q xs))) other ∙ others
       go _ this false gone others = others
+
+module _ {X : Type 0} (p q : X → Bool) where
+  -- the first that passes both
+  pub find-filter : (xs : List X) → find (λ x. p x && q x) xs ≡ find p (filter q xs)
+  find-filter [] = refl
+  find-filter (x ∷ xs) = go (p x) refl (q x) (find-filter xs)
+    where
+      go : (b : Bool) → p x ≡ b → (c : Bool) → find (λ y. p y && q y) xs ≡ find p (filter q xs) → cond (b && c) (Some x) (find (λ y. p y && q y) xs) ≡ find p (cond c (x ∷ filter q xs) (filter q xs))
+      go true passes true others = sym (ap (λ b. cond b (Some x) (find p (filter q xs))) passes)
+      go true passes false others = others
+      go false fails true others = others ∙ sym (ap (λ b. cond b (Some x) (find p (filter q xs))) fails)
+      go false fails false others = others
 
 -- ---- keys
 
@@ -131,6 +143,12 @@ module _ {X : Type 0} (key : X → ℕ) where
     | false ↦ AscendFrom-weaker k (key x + 1) (filter p xs) (omega (arith, ascend.0)) (AscendFrom-filter p (key x + 1) xs ascend.1)
   ]
 
+  -- one more above all others
+  pub AscendFrom-push : (x : X) (k : ℕ) (xs : List X) → AscendFrom key k xs → All (λ y. key y < key x) xs → k ≤ key x → AscendFrom key k (xs ++ x ∷ [])
+  AscendFrom-push x k [] ascend above from = (from, tt)
+  AscendFrom-push x k (y ∷ ys) ascend above from =
+      (ascend.0, AscendFrom-push x (key y + 1) ys ascend.1 (All-tail (λ z. key z < key x) y ys above) (omega (arith, All-head (λ z. key z < key x) y ys above)))
+
   filter-above_all : (a k : ℕ) (xs : List X) → AscendFrom key k xs → a < k → filter (λ x. nat_lt a (key x)) xs ≡ xs
   filter-above_all a k [] ascend below = refl
   filter-above_all a k (x ∷ xs) ascend below = grind (arith, nat_tests, ascend.0, filter-above_all a (key x + 1) xs ascend.1 (omega (arith, ascend.0)))
@@ -156,38 +174,40 @@ module _ {X : Type 0} (key : X → ℕ) where
     | inr (inr behind) ↦ rw behind.1 (ascend.0, AscendFrom-added x (key y + 1) ys ascend.1 (omega (arith, behind.0)))
   ]
 
-  -- the key of the new item, where it isn't found, isn't that of the first
-  not_first : (x y : X) (xs : List X) → item_at key (key x) (y ∷ xs) ≡ None → (key x ≡ key y → ⊥) × (item_at key (key x) xs ≡ None)
-  not_first x y xs absent = (λ same. grind (arith, nat_tests), grind (arith, nat_tests))
+  -- a new item comes first, or behind the first
+  pub added_new_cases : (x y : X) (k : ℕ) (xs : List X) → AscendFrom key k (y ∷ xs) → item_at key (key x) (y ∷ xs) ≡ None →
+      ((key x < key y) × (added key x (y ∷ xs) ≡ x ∷ y ∷ xs)) ⊎ ((key y < key x) × (item_at key (key x) xs ≡ None) × (added key x (y ∷ xs) ≡ y ∷ added key x xs))
+  added_new_cases x y k xs ascend absent = elim (added_cases x y k xs ascend) [
+    | inl same ↦ absurd (none_some y (sym absent ∙ (ap (λ a. item_at key a (y ∷ xs)) same.0 ∙ item_at-here y xs)))
+    | inr (inl first) ↦ inl first
+    | inr (inr behind) ↦ inr (behind.0, grind (arith, nat_tests), behind.1)
+  ]
 
   pub length-added : (x : X) (k : ℕ) (xs : List X) → AscendFrom key k xs → item_at key (key x) xs ≡ None → length (added key x xs) ≡ length xs + 1
   length-added x k [] ascend absent = refl
-  length-added x k (y ∷ ys) ascend absent = elim (added_cases x y k ys ascend) [
-    | inl same ↦ absurd ((not_first x y ys absent).0 same.0)
-    | inr (inl first) ↦ rw first.1 (grind arith)
-    | inr (inr behind) ↦ rw behind.1 (grind (arith, length-added x (key y + 1) ys ascend.1 (not_first x y ys absent).1))
+  length-added x k (y ∷ ys) ascend absent = elim (added_new_cases x y k ys ascend absent) [
+    | inl first ↦ rw first.1 (grind arith)
+    | inr behind ↦ rw behind.2 (grind (arith, length-added x (key y + 1) ys ascend.1 behind.1))
   ]
 
   -- an insert before the first item with a greater key
-  pub insert-added : (x : X) (k : ℕ) (xs : List X) → AscendFrom key k xs → item_at key (key x) xs ≡ None → insert xs (position_or_len (λ y. nat_lt (key x) (key y)) xs) x ≡ added key x xs
+  insert-added : (x : X) (k : ℕ) (xs : List X) → AscendFrom key k xs → item_at key (key x) xs ≡ None → insert xs (position_or_len (λ y. nat_lt (key x) (key y)) xs) x ≡ added key x xs
   insert-added x k [] ascend absent = refl
-  insert-added x k (y ∷ ys) ascend absent = elim (added_cases x y k ys ascend) [
-    | inl same ↦ absurd ((not_first x y ys absent).0 same.0)
-    | inr (inl first) ↦ ap (λ n. insert (y ∷ ys) n x) (position_or_len-here (λ z. nat_lt (key x) (key z)) y ys (grind (arith, nat_tests))) ∙ sym first.1
-    | inr (inr behind) ↦
+  insert-added x k (y ∷ ys) ascend absent = elim (added_new_cases x y k ys ascend absent) [
+    | inl first ↦ ap (λ n. insert (y ∷ ys) n x) (position_or_len-here (λ z. nat_lt (key x) (key z)) y ys (grind (arith, nat_tests))) ∙ sym first.1
+    | inr behind ↦
         ap (λ n. insert (y ∷ ys) n x) (position_or_len-later (λ z. nat_lt (key x) (key z)) y ys (grind (arith, nat_tests)))
-        ∙ ap (λ l. y ∷ l) (insert-added x (key y + 1) ys ascend.1 (not_first x y ys absent).1)
-        ∙ sym behind.1
+        ∙ ap (λ l. y ∷ l) (insert-added x (key y + 1) ys ascend.1 behind.1)
+        ∙ sym behind.2
   ]
 
   -- a test finds what it found, and the new item where that passes and none did
   pub find-added : (q : X → Bool) (x : X) (k : ℕ) (xs : List X) → AscendFrom key k xs → item_at key (key x) xs ≡ None → (q x ≡ true → find q xs ≡ None) →
       find q (added key x xs) ≡ (if q x then Some x else find q xs)
   find-added q x k [] ascend absent none = refl
-  find-added q x k (y ∷ ys) ascend absent none = elim (added_cases x y k ys ascend) [
-    | inl same ↦ absurd ((not_first x y ys absent).0 same.0)
-    | inr (inl first) ↦ rw first.1 refl
-    | inr (inr behind) ↦ rw behind.1 (go (q x) refl (q y) refl (λ later. find-added q x (key y + 1) ys ascend.1 (not_first x y ys absent).1 later))
+  find-added q x k (y ∷ ys) ascend absent none = elim (added_new_cases x y k ys ascend absent) [
+    | inl first ↦ rw first.1 refl
+    | inr behind ↦ rw behind.2 (go (q x) refl (q y) refl (λ later. find-added q x (key y + 1) ys ascend.1 behind.1 later))
   ]
     where
       go : (b : Bool) → q x ≡ b → (c : Bool) → q y ≡ c → ((q x ≡ true → find q ys ≡ None) → find q (added key x ys) ≡ (if q x then Some x else find q ys)) →

@@ -1,2 +1,1 @@
 pub mod LoginLemmas
-pub mod TableLemmas

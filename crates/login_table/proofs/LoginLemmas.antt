@@ -1,219 +1,74 @@
--- What the changes of a table do to its logins, which ascend.
-use Rattle.std.proofs.Common.{◌≡◌, ◌⊎◌, ℕ, suc, ◌+◌, ◌<◌, ◌≤◌, ◌==◌, Bool, true, false, List, [], ◌∷◌, length, get_or, set, filter, find, position, if◌then◌else◌, Option, Some, None, option_map, cond, refl, sym, ◌∙◌, ap, arith, inl, inr, nat_lt}
-use Rattle.std.specs.List.{position_or_len, insert, remove}
-use Rattle.std.proofs.lemmas.Bool.{cases_order}
+-- What the changes of a table do to its names, and to what holds of every table.
+use Rattle.std.proofs.Common.{◌≡◌, ℕ, ◌+◌, ◌<◌, ◌==◌, Bool, true, false, List, [], ◌∷◌, length, filter, if◌then◌else◌, Option, Some, None, cond, refl, subst, arith, inl, inr}
 use Rattle.std.proofs.lemmas.Bool.Decides.{nat_tests}
-use Rattle.login_table.specs.Logins.{login_at, named, added, sized, with_server, without, AscendFrom, NamesDiffer}
+use Rattle.std.proofs.lemmas.List.{length-map}
+use Rattle.fab_base.proofs.KeyedLemmas as keyed
+use Rattle.login_table.specs.Logins.{Logins, address_of, login_at, named, added, with_size, sized, with_server, without, AscendFrom, NamesDiffer, IsSound}
 use Rattle.login_table.specs.declared.login.Login.{Login}
-
--- ---- ascending logins
-
-pub AscendFrom-weaker : (j k : ℕ) (ls : List Login) → j ≤ k → AscendFrom k ls → AscendFrom j ls
-AscendFrom-weaker j k [] le ascend = tt
-AscendFrom-weaker j k (l ∷ ls) le ascend = (omega (arith, ascend.0), ascend.1)
-
--- no address below the bound is found
-pub login_at-below : (a k : ℕ) (ls : List Login) → AscendFrom k ls → a < k → login_at a ls ≡ None
-login_at-below a k [] ascend below = refl
-login_at-below a k (l ∷ ls) ascend below = grind (arith, nat_tests, ascend.0, login_at-below a (l.address + 1) ls ascend.1 (omega (arith, ascend.0)))
-
-filter-above_all : (a k : ℕ) (ls : List Login) → AscendFrom k ls → a < k → filter (λ l. nat_lt a l.address) ls ≡ ls
-filter-above_all a k [] ascend below = refl
-filter-above_all a k (l ∷ ls) ascend below = grind (arith, nat_tests, ascend.0, filter-above_all a (l.address + 1) ls ascend.1 (omega (arith, ascend.0)))
-
-filter-below_none : (a k : ℕ) (ls : List Login) → AscendFrom k ls → a < k → filter (λ l. nat_lt l.address a) ls ≡ []
-filter-below_none a k [] ascend below = refl
-filter-below_none a k (l ∷ ls) ascend below = grind (arith, nat_tests, ascend.0, filter-below_none a (l.address + 1) ls ascend.1 (omega (arith, ascend.0)))
-
--- ---- places
-
--- the first that passes is here, or among the others
-pub position_or_len-here : (p : Login → Bool) (l : Login) (ls : List Login) → p l ≡ true → position_or_len p (l ∷ ls) ≡ 0
-position_or_len-here p l ls this = grind (arith, nat_tests)
-
-pub position_or_len-later : (p : Login → Bool) (l : Login) (ls : List Login) → p l ≡ false → position_or_len p (l ∷ ls) ≡ suc (position_or_len p ls)
-position_or_len-later p l ls other = grind (arith, nat_tests)
-
-pub position_or_len-le : (p : Login → Bool) (ls : List Login) → position_or_len p ls ≤ length ls
-position_or_len-le p [] = omega arith
-position_or_len-le p (l ∷ ls) = grind (arith, nat_tests, position_or_len-le p ls)
-
-pub position_or_len-Some : (p : Login → Bool) (ls : List Login) (i : ℕ) → position p ls ≡ Some i → position_or_len p ls ≡ i
-position_or_len-Some p ls i found = go (nat_lt (position_or_len p ls) (length ls)) found
-  where
-    go : (b : Bool) → cond b (Some (position_or_len p ls)) None ≡ Some i → position_or_len p ls ≡ i
-    go true e = cc
-    go false e = cc
-
-pub position_or_len-None : (p : Login → Bool) (ls : List Login) → position p ls ≡ None → position_or_len p ls ≡ length ls
-position_or_len-None p ls none = grind (arith, nat_tests, position_or_len-le p ls)
 
 -- ---- one more login
 
--- it comes first, or behind the first
-added_cases : (x l : Login) (k : ℕ) (ls : List Login) → AscendFrom k (l ∷ ls) → login_at x.address (l ∷ ls) ≡ None →
-    ((x.address < l.address) × (added x (l ∷ ls) ≡ x ∷ l ∷ ls)) ⊎ ((l.address < x.address) × (login_at x.address ls ≡ None) × (added x (l ∷ ls) ≡ l ∷ added x ls))
-added_cases x l k ls ascend absent = elim (cases_order x.address l.address) [
-  | inl same ↦ absurd (grind (arith, nat_tests))
-  | inr (inl below) ↦ inl (below, grind (arith, nat_tests, filter-above_all x.address (l.address + 1) ls ascend.1 (omega arith), filter-below_none x.address (l.address + 1) ls ascend.1 (omega arith)))
-  | inr (inr above) ↦ inr (above, grind (arith, nat_tests), grind (arith, nat_tests))
-]
+-- each name finds what it found, and that of the new login finds it
+pub named-added : (x : Login) (k : ℕ) (ls : List Login) → AscendFrom k ls → login_at x.address ls ≡ None → named x.name ls ≡ None → (name : ℕ) →
+    named name (added x ls) ≡ (if x.name == name then Some x else named name ls)
+named-added x k ls ascend absent unnamed name = keyed.find-added address_of (λ l. l.name == name) x k ls ascend absent (λ this.
+    let same : x.name ≡ name = grind (arith, nat_tests) in
+    subst (λ n. named n ls ≡ None) same unnamed)
 
--- an insert before the first login above it
-pub insert-added : (x : Login) (k : ℕ) (ls : List Login) → AscendFrom k ls → login_at x.address ls ≡ None →
-    insert ls (position_or_len (λ l. nat_lt x.address l.address) ls) x ≡ added x ls
-insert-added x k [] ascend absent = refl
-insert-added x k (l ∷ ls) ascend absent = elim (added_cases x l k ls ascend absent) [
-  | inl first ↦ ap (λ n. insert (l ∷ ls) n x) (position_or_len-here (λ y. nat_lt x.address y.address) l ls (grind (arith, nat_tests))) ∙ sym first.1
-  | inr behind ↦
-      ap (λ n. insert (l ∷ ls) n x) (position_or_len-later (λ y. nat_lt x.address y.address) l ls (grind (arith, nat_tests)))
-      ∙ ap (λ m. l ∷ m) (insert-added x (l.address + 1) ls ascend.1 behind.1)
-      ∙ sym behind.2
-]
-
-pub AscendFrom-added : (x : Login) (k : ℕ) (ls : List Login) → AscendFrom k ls → login_at x.address ls ≡ None → k ≤ x.address → AscendFrom k (added x ls)
-AscendFrom-added x k [] ascend absent from = (from, tt)
-AscendFrom-added x k (l ∷ ls) ascend absent from = elim (added_cases x l k ls ascend absent) [
-  | inl first ↦ rw first.1 (from, (omega (arith, first.0), ascend.1))
-  | inr behind ↦ rw behind.2 (ascend.0, AscendFrom-added x (l.address + 1) ls ascend.1 behind.1 (omega (arith, behind.0)))
-]
-
-pub length-added : (x : Login) (k : ℕ) (ls : List Login) → AscendFrom k ls → login_at x.address ls ≡ None → length (added x ls) ≡ length ls + 1
-length-added x k [] ascend absent = refl
-length-added x k (l ∷ ls) ascend absent = elim (added_cases x l k ls ascend absent) [
-  | inl first ↦ rw first.1 (grind arith)
-  | inr behind ↦ rw behind.2 (grind (arith, length-added x (l.address + 1) ls ascend.1 behind.1))
-]
-
--- what does not find the new login finds what it found
-pub find-added_other : (q : Login → Bool) (x : Login) (k : ℕ) (ls : List Login) → AscendFrom k ls → login_at x.address ls ≡ None → q x ≡ false →
-    find q (added x ls) ≡ find q ls
-find-added_other q x k [] ascend absent other = grind (arith, nat_tests)
-find-added_other q x k (l ∷ ls) ascend absent other = elim (added_cases x l k ls ascend absent) [
-  | inl first ↦ rw first.1 (grind (arith, nat_tests))
-  | inr behind ↦ rw behind.2 (grind (arith, nat_tests, find-added_other q x (l.address + 1) ls ascend.1 behind.1 other))
-]
-
--- what found nothing finds the new login
-pub find-added_this : (q : Login → Bool) (x : Login) (k : ℕ) (ls : List Login) → AscendFrom k ls → login_at x.address ls ≡ None → q x ≡ true → find q ls ≡ None →
-    find q (added x ls) ≡ Some x
-find-added_this q x k [] ascend absent this none = grind (arith, nat_tests)
-find-added_this q x k (l ∷ ls) ascend absent this none = elim (added_cases x l k ls ascend absent) [
-  | inl first ↦ rw first.1 (grind (arith, nat_tests))
-  | inr behind ↦ rw behind.2 (grind (arith, nat_tests, λ (later : find q ls ≡ None). find-added_this q x (l.address + 1) ls ascend.1 behind.1 this later))
-]
-
-pub NamesDiffer-added : (x : Login) (k : ℕ) (ls : List Login) → AscendFrom k ls → login_at x.address ls ≡ None → named x.name ls ≡ None → NamesDiffer ls → NamesDiffer (added x ls)
+NamesDiffer-added : (x : Login) (k : ℕ) (ls : List Login) → AscendFrom k ls → login_at x.address ls ≡ None → named x.name ls ≡ None → NamesDiffer ls → NamesDiffer (added x ls)
 NamesDiffer-added x k [] ascend absent unnamed differ = (refl, tt)
-NamesDiffer-added x k (l ∷ ls) ascend absent unnamed differ = elim (added_cases x l k ls ascend absent) [
+NamesDiffer-added x k (l ∷ ls) ascend absent unnamed differ = elim (keyed.added_new_cases address_of x l k ls ascend absent) [
   | inl first ↦ rw first.1 (unnamed, differ)
   | inr behind ↦ rw behind.2 (
-    find-added_other (λ y. y.name == l.name) x (l.address + 1) ls ascend.1 behind.1 (grind (arith, nat_tests)) ∙ differ.0,
+    grind (arith, nat_tests, differ.0, named-added x (l.address + 1) ls ascend.1 behind.1 (grind (arith, nat_tests)) l.name),
     NamesDiffer-added x (l.address + 1) ls ascend.1 behind.1 (grind (arith, nat_tests)) differ.1,
   )
 ]
 
+pub IsSound-added : (x : Login) (t : Logins) → IsSound t → length t.logins < t.limit → login_at x.address t.logins ≡ None → named x.name t.logins ≡ None →
+    IsSound (record { limit = t.limit; logins = added x t.logins })
+IsSound-added x t sound room absent unnamed = record {
+  ascending = keyed.AscendFrom-added address_of x 0 t.logins sound.ascending (omega arith);
+  names = NamesDiffer-added x 0 t.logins sound.ascending absent unnamed sound.names;
+  bound = omega (arith, keyed.length-added address_of x 0 t.logins sound.ascending absent);
+}
+
 -- ---- one login less
-
-pub without-below : (a k : ℕ) (ls : List Login) → AscendFrom k ls → a < k → without a ls ≡ ls
-without-below a k [] ascend below = refl
-without-below a k (l ∷ ls) ascend below = grind (arith, nat_tests, ascend.0, without-below a (l.address + 1) ls ascend.1 (omega (arith, ascend.0)))
-
-pub without-absent : (a : ℕ) (ls : List Login) → login_at a ls ≡ None → without a ls ≡ ls
-without-absent a [] absent = refl
-without-absent a (l ∷ ls) absent = grind (arith, nat_tests, λ (later : login_at a ls ≡ None). without-absent a ls later)
-
--- a removal at the place of the address
-pub remove-without : (a k : ℕ) (ls : List Login) → AscendFrom k ls → position_or_len (λ l. l.address == a) ls < length ls →
-    remove ls (position_or_len (λ l. l.address == a) ls) ≡ without a ls
-remove-without a k [] ascend within = absurd (omega arith)
-remove-without a k (l ∷ ls) ascend within = go (l.address == a) refl (λ fewer. remove-without a (l.address + 1) ls ascend.1 fewer)
-  where
-    go : (b : Bool) → (l.address == a) ≡ b → (position_or_len (λ y. y.address == a) ls < length ls → remove ls (position_or_len (λ y. y.address == a) ls) ≡ without a ls) →
-        remove (l ∷ ls) (position_or_len (λ y. y.address == a) (l ∷ ls)) ≡ without a (l ∷ ls)
-    go true this others =
-        ap (λ n. remove (l ∷ ls) n) (position_or_len-here (λ y. y.address == a) l ls this)
-        ∙ grind (arith, nat_tests, without-below a (l.address + 1) ls ascend.1 (grind (arith, nat_tests)))
-    go false other others =
-        let later = position_or_len-later (λ y. y.address == a) l ls other in
-        ap (λ n. remove (l ∷ ls) n) later
-        ∙ ap (λ m. l ∷ m) (others (omega arith))
-        ∙ grind (arith, nat_tests)
-
-pub login_at-without : (a b : ℕ) (ls : List Login) → login_at b (without a ls) ≡ (if a == b then None else login_at b ls)
-login_at-without a b [] = grind (arith, nat_tests)
-login_at-without a b (l ∷ ls) = grind (arith, nat_tests, login_at-without a b ls)
-
-pub AscendFrom-filter : (p : Login → Bool) (k : ℕ) (ls : List Login) → AscendFrom k ls → AscendFrom k (filter p ls)
-AscendFrom-filter p k [] ascend = tt
-AscendFrom-filter p k (l ∷ ls) ascend = elim (p l) as (λ b. AscendFrom k (cond b (l ∷ filter p ls) (filter p ls))) [
-  | true ↦ (ascend.0, AscendFrom-filter p (l.address + 1) ls ascend.1)
-  | false ↦ AscendFrom-weaker k (l.address + 1) (filter p ls) (omega (arith, ascend.0)) (AscendFrom-filter p (l.address + 1) ls ascend.1)
-]
 
 named-filter : (p : Login → Bool) (name : ℕ) (ls : List Login) → named name ls ≡ None → named name (filter p ls) ≡ None
 named-filter p name [] none = refl
 named-filter p name (l ∷ ls) none = grind (arith, nat_tests, λ (later : named name ls ≡ None). named-filter p name ls later)
 
-pub NamesDiffer-filter : (p : Login → Bool) (ls : List Login) → NamesDiffer ls → NamesDiffer (filter p ls)
+NamesDiffer-filter : (p : Login → Bool) (ls : List Login) → NamesDiffer ls → NamesDiffer (filter p ls)
 NamesDiffer-filter p [] differ = tt
 NamesDiffer-filter p (l ∷ ls) differ = elim (p l) as (λ b. NamesDiffer (cond b (l ∷ filter p ls) (filter p ls))) [
   | true ↦ (named-filter p l.name ls differ.0, NamesDiffer-filter p ls differ.1)
   | false ↦ NamesDiffer-filter p ls differ.1
 ]
 
-pub length-without : (a : ℕ) (ls : List Login) → length (without a ls) ≤ length ls
-length-without a [] = omega arith
-length-without a (l ∷ ls) = grind (arith, nat_tests, length-without a ls)
+pub IsSound-without : (a : ℕ) (t : Logins) → IsSound t → IsSound (record { limit = t.limit; logins = without a t.logins })
+IsSound-without a t sound = record {
+  ascending = keyed.AscendFrom-filter address_of _ 0 t.logins sound.ascending;
+  names = NamesDiffer-filter _ t.logins sound.names;
+  bound = omega (arith, sound.bound, keyed.length-without address_of a t.logins);
+}
 
 -- ---- another receive size
 
-sized-address : (a : ℕ) (size : Option ℕ) (l : Login) → (sized a size l).address ≡ l.address
-sized-address a size l = grind (arith, nat_tests)
-
 sized-name : (a : ℕ) (size : Option ℕ) (l : Login) → (sized a size l).name ≡ l.name
 sized-name a size l = grind (arith, nat_tests)
-
-pub with_server-below : (a k : ℕ) (size : Option ℕ) (ls : List Login) → AscendFrom k ls → a < k → with_server a size ls ≡ ls
-with_server-below a k size [] ascend below = refl
-with_server-below a k size (l ∷ ls) ascend below = grind (arith, nat_tests, ascend.0, with_server-below a (l.address + 1) size ls ascend.1 (omega (arith, ascend.0)))
-
--- a write at the place of the address
-pub set-with_server : (a k : ℕ) (size : Option ℕ) (d : Login) (ls : List Login) → AscendFrom k ls → position_or_len (λ l. l.address == a) ls < length ls →
-    set ls (position_or_len (λ l. l.address == a) ls) (record (get_or ls (position_or_len (λ l. l.address == a) ls) d) { server_size = size }) ≡ with_server a size ls
-set-with_server a k size d [] ascend within = absurd (omega arith)
-set-with_server a k size d (l ∷ ls) ascend within = go (l.address == a) refl (λ fewer. set-with_server a (l.address + 1) size d ls ascend.1 fewer)
-  where
-    write : List Login → ℕ → List Login
-    write ys n = set ys n (record (get_or ys n d) { server_size = size })
-
-    go : (b : Bool) → (l.address == a) ≡ b → (position_or_len (λ y. y.address == a) ls < length ls → write ls (position_or_len (λ y. y.address == a) ls) ≡ with_server a size ls) →
-        write (l ∷ ls) (position_or_len (λ y. y.address == a) (l ∷ ls)) ≡ with_server a size (l ∷ ls)
-    go true this others =
-        ap (λ n. write (l ∷ ls) n) (position_or_len-here (λ y. y.address == a) l ls this)
-        ∙ grind (arith, nat_tests, with_server-below a (l.address + 1) size ls ascend.1 (grind (arith, nat_tests)))
-    go false other others =
-        let later = position_or_len-later (λ y. y.address == a) l ls other in
-        ap (λ n. write (l ∷ ls) n) later
-        ∙ ap (λ m. l ∷ m) (others (omega arith))
-        ∙ grind (arith, nat_tests)
-
-pub with_server-absent : (a : ℕ) (size : Option ℕ) (ls : List Login) → login_at a ls ≡ None → with_server a size ls ≡ ls
-with_server-absent a size [] absent = refl
-with_server-absent a size (l ∷ ls) absent = grind (arith, nat_tests, λ (later : login_at a ls ≡ None). with_server-absent a size ls later)
-
-pub login_at-with_server : (a b : ℕ) (size : Option ℕ) (ls : List Login) → login_at b (with_server a size ls) ≡ option_map (sized a size) (login_at b ls)
-login_at-with_server a b size [] = refl
-login_at-with_server a b size (l ∷ ls) = grind (arith, nat_tests, login_at-with_server a b size ls)
-
-pub AscendFrom-with_server : (a k : ℕ) (size : Option ℕ) (ls : List Login) → AscendFrom k ls → AscendFrom k (with_server a size ls)
-AscendFrom-with_server a k size [] ascend = tt
-AscendFrom-with_server a k size (l ∷ ls) ascend = rw sized-address (ascend.0, AscendFrom-with_server a (l.address + 1) size ls ascend.1)
 
 named-with_server : (a name : ℕ) (size : Option ℕ) (ls : List Login) → named name ls ≡ None → named name (with_server a size ls) ≡ None
 named-with_server a name size [] none = refl
 named-with_server a name size (l ∷ ls) none = grind (arith, nat_tests, λ (later : named name ls ≡ None). named-with_server a name size ls later)
 
-pub NamesDiffer-with_server : (a : ℕ) (size : Option ℕ) (ls : List Login) → NamesDiffer ls → NamesDiffer (with_server a size ls)
+NamesDiffer-with_server : (a : ℕ) (size : Option ℕ) (ls : List Login) → NamesDiffer ls → NamesDiffer (with_server a size ls)
 NamesDiffer-with_server a size [] differ = tt
 NamesDiffer-with_server a size (l ∷ ls) differ = rw sized-name (named-with_server a l.name size ls differ.0, NamesDiffer-with_server a size ls differ.1)
+
+pub IsSound-with_server : (a : ℕ) (size : Option ℕ) (t : Logins) → IsSound t → IsSound (record { limit = t.limit; logins = with_server a size t.logins })
+IsSound-with_server a size t sound = record {
+  ascending = keyed.AscendFrom-changed address_of (with_size size) (λ l. refl) a 0 t.logins sound.ascending;
+  names = NamesDiffer-with_server a size t.logins sound.names;
+  bound = omega (arith, sound.bound, length-map t.logins (sized a size));
+}

@@ -1,55 +1,57 @@
 -- What a contract sees of a login table: how many logins it may hold, and the logins in ascending order of their addresses.
-use Rattle.std.specs.Prelude.{◌≡◌, ℕ, ◌+◌, ◌≤◌, nat_lt, nat_le, Bool, not, ◌==◌, ◌&&◌, if◌then◌else◌, List, [], ◌∷◌, ◌++◌, length, map, filter, find, Option, None, option_map}
-use Rattle.std.specs.Str.{bytes_eq}
-use Rattle.fab_base.specs.declared.values.Enode.{Enode}
+use Rattle.std.specs.Prelude.{◌≡◌, ℕ, ◌≤◌, nat_le, Bool, ◌&&◌, List, [], ◌∷◌, length, find, Option, None, option_map}
+use Rattle.fab_base.specs.Keyed as keyed
 use Rattle.login_table.specs.declared.login.Login.{Login}
 
 pub record Logins : Type 0 where
   pub limit : ℕ
   pub logins : List Login
 
+-- the key of a login
+abbrev pub address_of : Login → ℕ
+address_of l = l.address
+
 -- ---- questions
 
 -- the login of an address
 abbrev pub login_at : ℕ → List Login → Option Login
-login_at a logins = find (λ l. l.address == a) logins
+login_at a logins = keyed.item_at address_of a logins
 
 -- the login of a port name
 abbrev pub named : ℕ → List Login → Option Login
-named name logins = find (λ l. l.name == name) logins
-
--- an ENode is a MAC behind a port
-abbrev pub same_enode : Enode → Enode → Bool
-same_enode x y = x.port == y.port && bytes_eq x.mac y.mac
+named name logins = keyed.item_at (λ (l : Login). l.name) name logins
 
 -- the least address from a bound on, of the logins that pass
 abbrev pub next_of : (Login → Bool) → ℕ → List Login → Option ℕ
-next_of passes from logins = option_map (λ l. l.address) (find (λ l. nat_le from l.address && passes l) logins)
+next_of passes from logins = option_map address_of (find (λ l. nat_le from l.address && passes l) logins)
 
 -- ---- changes
 
 -- the logins with one more, between those below it and those above it
 abbrev pub added : Login → List Login → List Login
-added login logins = filter (λ l. nat_lt l.address login.address) logins ++ login ∷ filter (λ l. nat_lt login.address l.address) logins
+added login logins = keyed.added address_of login logins
+
+-- a login with another receive size
+abbrev pub with_size : Option ℕ → Login → Login
+with_size size l = record l { server_size = size }
 
 -- a login with another receive size, if its address is this one
 abbrev pub sized : ℕ → Option ℕ → Login → Login
-sized a size l = if l.address == a then record l { server_size = size } else l
+sized a size l = keyed.changed_if address_of a (with_size size) l
 
 -- the login of this address has the receive size; the others stay
 abbrev pub with_server : ℕ → Option ℕ → List Login → List Login
-with_server a size logins = map (sized a size) logins
+with_server a size logins = keyed.changed address_of a (with_size size) logins
 
 -- the logins without that of this address
 abbrev pub without : ℕ → List Login → List Login
-without a logins = filter (λ l. not (l.address == a)) logins
+without a logins = keyed.without address_of a logins
 
 -- ---- what holds of every table
 
 -- strictly ascending addresses, none below the bound
 abbrev pub AscendFrom : ℕ → List Login → Type 0
-AscendFrom from [] = Unit {0}
-AscendFrom from (l ∷ logins) = (from ≤ l.address) × AscendFrom (l.address + 1) logins
+AscendFrom from logins = keyed.AscendFrom address_of from logins
 
 -- no two logins have one port name
 abbrev pub NamesDiffer : List Login → Type 0

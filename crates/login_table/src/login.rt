@@ -1,4 +1,4 @@
-// One login.
+//! One login.
 use fab_base::{Enode, FcId, Wwn};
 
 /// A live login: the N_Port_ID that was granted, the names of the N_Port and its node, and the ENode behind which it is.

@@ -1,7 +1,7 @@
-// Where a login stands, or would stand, among logins.
-ghost use Rattle.std.specs.Prelude.{◌≡◌, ◌==◌, nat_lt, true, position, option_copied};
-ghost use Rattle.std.specs.List.{position_or_len};
-ghost use Rattle.login_table.specs.Logins.{login_at, named, next_of, same_enode};
+//! Where a login stands, or would stand, among logins.
+ghost use Rattle.std.specs.Prelude.{◌≡◌, ◌==◌, ◌≤◌, nat_lt, true, length, position, option_copied, unwrap_or};
+ghost use Rattle.fab_base.specs.Fabric.{same_enode};
+ghost use Rattle.login_table.specs.Logins.{login_at, named, next_of};
 
 use crate::Login;
 use fab_base::{Enode, FcId, Wwn};
@@ -34,12 +34,10 @@ fn first_above(logins: &[Login], address: FcId) -> Option<usize>
 
 // The place of the first login above the address, or past the end.
 pub(crate) fn place_above(logins: &[Login], address: FcId) -> usize
-    ensures { result ≡ position_or_len (λ l. nat_lt address l.address) logins.now }
+    ensures place { result ≡ unwrap_or (position (λ l. nat_lt address l.address) logins.now) (length logins.now) }
+    ensures within { result ≤ length logins.now }
 {
-    match first_above(logins, address) {
-        Some(place) => place,
-        None => logins.len(),
-    }
+    first_above(logins, address).unwrap_or(logins.len())
 }
 
 // The first login from the bound on.

@@ -1,6 +1,7 @@
-// The table: its logins in ascending order of addresses.
+//! The table: its logins in ascending order of addresses.
 ghost use Rattle.std.specs.Prelude.{◌≡◌, ℕ, ◌<◌, if◌then◌else◌, ◌==◌, length, IfOk, Some, None, [], is_some, true, false, option_copied, option_map};
-ghost use Rattle.login_table.specs.Logins.{Logins, login_at, named, next_of, same_enode, added, sized, with_server, without, IsSound};
+ghost use Rattle.fab_base.specs.Fabric.{same_enode};
+ghost use Rattle.login_table.specs.Logins.{Logins, login_at, named, next_of, added, sized, with_server, without, IsSound};
 
 use crate::Login;
 use crate::search::{next, next_of_enode, of_address, of_name, place_above, place_of};
@@ -31,12 +32,11 @@ impl Model for LoginTable {
 impl LoginTable {
     /// An empty table with room for `limit` logins.
     pub fn new(alloc: Global, limit: u32) -> Result<LoginTable, NoMemory>
-        ensures { IfOk result (λ t. t ≡ record { limit = limit; logins = [] }) }
+        ensures empty { IfOk result (λ t. t ≡ record { limit = limit; logins = [] }) }
+        ensures sound { IfOk result IsSound }
     {
-        match Vec::with_capacity(alloc, limit as usize) {
-            Ok(logins) => Ok(LoginTable { limit, logins }),
-            Err(_) => Err(NoMemory),
-        }
+        let logins = Vec::with_capacity(alloc, limit as usize)?;
+        Ok(LoginTable { limit, logins })
     }
 
     /// Adds a login.
@@ -57,14 +57,16 @@ impl LoginTable {
 
     /// The login of an address.
     pub fn by_address(&self, address: FcId) -> Option<&Login>
-        ensures { option_copied result ≡ login_at address self.now.logins }
+        ensures login { option_copied result ≡ login_at address self.now.logins }
+        ensures sound { IsSound self.now }
     {
         of_address(&self.logins, address)
     }
 
     /// The login of a port name.
     pub fn by_name(&self, name: Wwn) -> Option<&Login>
-        ensures { option_copied result ≡ named name self.now.logins }
+        ensures login { option_copied result ≡ named name self.now.logins }
+        ensures sound { IsSound self.now }
     {
         of_name(&self.logins, name)
     }
@@ -88,7 +90,8 @@ impl LoginTable {
 
     /// The least address of the ENode's logins that isn't below `from`.
     pub fn first_of(&self, enode: &Enode, from: u32) -> Option<FcId>
-        ensures { result ≡ next_of (λ l. same_enode l.enode enode.now) from self.now.logins }
+        ensures first { result ≡ next_of (λ l. same_enode l.enode enode.now) from self.now.logins }
+        ensures sound { IsSound self.now }
     {
         next_of_enode(&self.logins, enode, from)
     }
@@ -108,7 +111,8 @@ impl LoginTable {
 
     /// The least live address that isn't below `from`.
     pub fn after(&self, from: u32) -> Option<FcId>
-        ensures { result ≡ next_of (λ l. true) from self.now.logins }
+        ensures first { result ≡ next_of (λ l. true) from self.now.logins }
+        ensures sound { IsSound self.now }
     {
         next(&self.logins, from)
     }

@@ -1,4 +1,3 @@
-pub mod EntryLemmas
 pub mod TableLemmas
 pub mod SeenLemmas
 pub mod FeatureLemmas

@@ -1,6 +1,5 @@
 -- What is known of seen N_Ports, all of which are entered.
-use Rattle.std.proofs.Common.{◌≡◌, ℕ, ◌+◌, ◌<◌, Bool, true, false, List, [], ◌∷◌, ◌++◌, length, find, Option, Some, None, cond, refl, sym, ◌∙◌, ap, arith, ◌≤◌, if◌then◌else◌, map, drop, get_or, nat_lt, append_assoc, subst, suc, drop-cons, add-one}
-use Rattle.std.specs.List.{All}
+use Rattle.std.proofs.Common.{◌≡◌, ℕ, ◌+◌, ◌<◌, Bool, true, false, List, [], ◌∷◌, ◌++◌, length, find, Option, Some, None, cond, refl, sym, ◌∙◌, ap, arith, if◌then◌else◌, map, drop, get_or, nat_lt, append_assoc, subst, suc, drop-cons, add-one}
 use Rattle.std.specs.Option.{IsSome}
 use Rattle.std.proofs.lemmas.Bool.Decides.{nat_tests}
 use Rattle.std.proofs.lemmas.List.Elements.{All-head, All-tail}
@@ -8,14 +7,11 @@ use Rattle.ct_messages.specs.Answer.{has_type}
 use Rattle.ct_messages.specs.Server.{Known, first_of, or_first, next_port, of_type}
 use Rattle.name_server.specs.Views.{typed_if}
 use Rattle.name_server.specs.declared.seen.SeenPort.{SeenPort}
-use Rattle.name_server.specs.Registry.{Entry, entry_at, known_of, known_port, known, seen_at, SeenAscend}
+use Rattle.name_server.specs.Registry.{Entry, entry_at, known_of, known_port, known, seen_at, AreEntered}
 
--- every seen N_Port is entered
+-- a seen N_Port is entered
 abbrev pub IsEntered : List Entry → SeenPort → Type 0
 IsEntered entries s = IsSome (entry_at s.address entries)
-
-abbrev pub AreEntered : List Entry → List SeenPort → Type 0
-AreEntered entries seen = All (IsEntered entries) seen
 
 -- what is known of a seen N_Port, if there is one
 abbrev pub known_if : List Entry → Option SeenPort → Option Known
@@ -78,12 +74,6 @@ known-some a entries (s ∷ seen) there some = go (entry_at s.address entries) r
     go : (o : Option Entry) → entry_at s.address entries ≡ o → IsSome (entry_at s.address entries) → 0 < length (known entries (s ∷ seen))
     go None is has = absurd (grind (arith, nat_tests))
     go (Some e) is has = rw is (omega arith)
-
--- one more above all others
-pub SeenAscend-more : (k : ℕ) (seen : List SeenPort) (s : SeenPort) → SeenAscend k seen → All (λ x. x.address < s.address) seen → k ≤ s.address → SeenAscend k (seen ++ s ∷ [])
-SeenAscend-more k [] s ascend above from = (from, tt)
-SeenAscend-more k (x ∷ seen) s ascend above from =
-    (ascend.0, SeenAscend-more (x.address + 1) seen s ascend.1 (All-tail (λ y. y.address < s.address) x seen above) (omega (arith, All-head (λ y. y.address < s.address) x seen above)))
 
 -- ---- lists of them
 

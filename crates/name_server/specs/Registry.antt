@@ -1,7 +1,8 @@
 -- What a contract sees of a registry: how many N_Ports it may hold, and what is registered of each, in ascending order of
 -- their addresses; and what the name server knows of the N_Ports that an asker may see.
-use Rattle.std.specs.Prelude.{◌≡◌, ℕ, ◌+◌, ◌<◌, ◌≤◌, nat_lt, Bool, false, not, ◌==◌, if◌then◌else◌, List, [], ◌∷◌, ◌++◌, length, map, filter, filter_map, find, Option, Some, None, option_map}
+use Rattle.std.specs.Prelude.{◌≡◌, ℕ, ◌<◌, ◌≤◌, Bool, false, List, length, filter_map, Option, Some, None, IsSome, option_map}
 use Rattle.std.specs.List.{All}
+use Rattle.fab_base.specs.Keyed as keyed
 use Rattle.ct_messages.specs.Ask.{Ask}
 use Rattle.ct_messages.specs.CanWrite.{IsSymbol}
 use Rattle.ct_messages.specs.Server.{Values, first_values, after, has_changed, Known, Refusal, registration_refusal}
@@ -19,11 +20,15 @@ pub record Registrations : Type 0 where
   pub room : ℕ
   pub entries : List Entry
 
+-- the key of an entry
+abbrev pub address_of : Entry → ℕ
+address_of e = e.address
+
 -- ---- questions
 
 -- the entry of an address
 abbrev pub entry_at : ℕ → List Entry → Option Entry
-entry_at a entries = find (λ e. e.address == a) entries
+entry_at a entries = keyed.item_at address_of a entries
 
 -- why a registration of this N_Port is refused
 abbrev pub refusal : Ask → Option Entry → Option Refusal
@@ -47,11 +52,11 @@ entered address node = record { address = address; node = node; values = first_v
 
 -- the entries with one more, between those below it and those above it
 abbrev pub added : Entry → List Entry → List Entry
-added entry entries = filter (λ e. nat_lt e.address entry.address) entries ++ entry ∷ filter (λ e. nat_lt entry.address e.address) entries
+added entry entries = keyed.added address_of entry entries
 
 -- the entries without that of this address
 abbrev pub without : ℕ → List Entry → List Entry
-without a entries = filter (λ e. not (e.address == a)) entries
+without a entries = keyed.without address_of a entries
 
 -- an entry after a registration
 abbrev pub updated : Ask → Entry → Entry
@@ -59,16 +64,24 @@ updated ask e = record e { values = after e.node ask e.values }
 
 -- an entry after a registration by this address
 abbrev pub registered : ℕ → Ask → Entry → Entry
-registered a ask e = if e.address == a then updated ask e else e
+registered a ask e = keyed.changed_if address_of a (updated ask) e
 
 -- the entry of this address has its values after the registration; the others stay
 abbrev pub with_registration : ℕ → Ask → List Entry → List Entry
-with_registration a ask entries = map (registered a ask) entries
+with_registration a ask entries = keyed.changed address_of a (updated ask) entries
 
 -- ---- the N_Ports that an asker may see
 
+-- the key of a seen N_Port
+abbrev pub seen_address : SeenPort → ℕ
+seen_address s = s.address
+
 abbrev pub seen_at : ℕ → List SeenPort → Option SeenPort
-seen_at a seen = find (λ s. s.address == a) seen
+seen_at a seen = keyed.item_at seen_address a seen
+
+-- every seen N_Port is entered
+abbrev pub AreEntered : List Entry → List SeenPort → Type 0
+AreEntered entries seen = All (λ (s : SeenPort). IsSome (entry_at s.address entries)) seen
 
 -- a seen N_Port with what is registered of it
 abbrev pub known_of : SeenPort → Entry → Known
@@ -85,8 +98,7 @@ known entries seen = filter_map (known_port entries) seen
 
 -- strictly ascending addresses, none below the bound
 abbrev pub AscendFrom : ℕ → List Entry → Type 0
-AscendFrom from [] = Unit {0}
-AscendFrom from (e ∷ entries) = (from ≤ e.address) × AscendFrom (e.address + 1) entries
+AscendFrom from entries = keyed.AscendFrom address_of from entries
 
 -- there is a feature of four bits for each of the 256 types, and symbols have at most 255 bytes
 pub record IsKept (v : Values) : Type 0 where
@@ -103,5 +115,4 @@ pub record IsSound (r : Registrations) : Type 0 where
 
 -- strictly ascending addresses of seen N_Ports, none below the bound
 abbrev pub SeenAscend : ℕ → List SeenPort → Type 0
-SeenAscend from [] = Unit {0}
-SeenAscend from (s ∷ seen) = (from ≤ s.address) × SeenAscend (s.address + 1) seen
+SeenAscend from seen = keyed.AscendFrom seen_address from seen

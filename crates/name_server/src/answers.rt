@@ -1,11 +1,10 @@
-// The answers to queries, one function a kind.
-ghost use Rattle.std.specs.Prelude.{◌≡◌, ◌<◌, length, IfOk, IsSome, false};
-ghost use Rattle.std.specs.List.{All};
+//! The answers to queries, one function a kind.
+ghost use Rattle.std.specs.Prelude.{◌≡◌, ◌<◌, length, IfOk, false};
 ghost use Rattle.ct_messages.specs.Ask as asks;
 ghost use Rattle.ct_messages.specs.CanWrite.{CanTell};
 ghost use Rattle.ct_messages.specs.Server as server;
 ghost use Rattle.ct_messages.specs.declared.CtTell.TheVariants as tell;
-ghost use Rattle.name_server.specs.Registry.{entry_at, known};
+ghost use Rattle.name_server.specs.Registry.{AreEntered, known};
 ghost use Rattle.name_server.specs.Views.{as_known, by_name_of};
 
 use crate::SeenPort;
@@ -46,7 +45,7 @@ fn next_of(
     seen: &[SeenPort],
     address: FcId,
 ) -> Result<CtTell, NoMemory>
-    requires { All (λ s. IsSome (entry_at s.address entries.now)) seen.now }
+    requires { AreEntered entries.now seen.now }
     ensures answer { IfOk result (λ t. t ≡ server.answer (known entries.now seen.now) (asks.NextOf address)) }
     ensures writable { IfOk result CanTell }
 {
@@ -58,7 +57,7 @@ fn next_of(
 
 #[tactic(auto, unfolding(ct_messages::specs::Server::query))]
 fn port_name_of(entries: &[Entry], seen: &[SeenPort], address: FcId) -> CtTell
-    requires { All (λ s. IsSome (entry_at s.address entries.now)) seen.now }
+    requires { AreEntered entries.now seen.now }
     ensures answer { result ≡ server.answer (known entries.now seen.now) (asks.PortNameOf address) }
     ensures writable { CanTell result }
 {
@@ -70,7 +69,7 @@ fn port_name_of(entries: &[Entry], seen: &[SeenPort], address: FcId) -> CtTell
 
 #[tactic(auto, unfolding(ct_messages::specs::Server::query))]
 fn node_name_of(entries: &[Entry], seen: &[SeenPort], address: FcId) -> CtTell
-    requires { All (λ s. IsSome (entry_at s.address entries.now)) seen.now }
+    requires { AreEntered entries.now seen.now }
     ensures answer { result ≡ server.answer (known entries.now seen.now) (asks.NodeNameOf address) }
     ensures writable { CanTell result }
 {
@@ -82,7 +81,7 @@ fn node_name_of(entries: &[Entry], seen: &[SeenPort], address: FcId) -> CtTell
 
 #[tactic(auto, unfolding(ct_messages::specs::Server::query))]
 fn types_of(entries: &[Entry], seen: &[SeenPort], address: FcId) -> CtTell
-    requires { All (λ s. IsSome (entry_at s.address entries.now)) seen.now }
+    requires { AreEntered entries.now seen.now }
     ensures answer { result ≡ server.answer (known entries.now seen.now) (asks.TypesOf address) }
     ensures writable { CanTell result }
 {
@@ -95,7 +94,7 @@ fn types_of(entries: &[Entry], seen: &[SeenPort], address: FcId) -> CtTell
 
 #[tactic(auto, unfolding(ct_messages::specs::Server::query))]
 fn features_of(entries: &[Entry], seen: &[SeenPort], address: FcId) -> CtTell
-    requires { All (λ s. IsSome (entry_at s.address entries.now)) seen.now }
+    requires { AreEntered entries.now seen.now }
     ensures answer { result ≡ server.answer (known entries.now seen.now) (asks.FeaturesOf address) }
     ensures writable { CanTell result }
 {
@@ -107,7 +106,7 @@ fn features_of(entries: &[Entry], seen: &[SeenPort], address: FcId) -> CtTell
 
 #[tactic(auto, unfolding(ct_messages::specs::Server::query))]
 fn address_of(entries: &[Entry], seen: &[SeenPort], name: Wwn) -> CtTell
-    requires { All (λ s. IsSome (entry_at s.address entries.now)) seen.now }
+    requires { AreEntered entries.now seen.now }
     ensures answer { result ≡ server.answer (known entries.now seen.now) (asks.ByPortName name) }
     ensures writable { CanTell result }
 {
@@ -176,7 +175,7 @@ pub(crate) fn answer_of(
     ask: &CtAsk<'_>,
 ) -> Result<CtTell, NoMemory>
     requires query { server.is_registration (asks.view ask.now) ≡ false }
-    requires entered { All (λ s. IsSome (entry_at s.address entries.now)) seen.now }
+    requires entered { AreEntered entries.now seen.now }
     requires some { 0 < length (known entries.now seen.now) }
     ensures answer { IfOk result (λ t. t ≡ server.answer (known entries.now seen.now) (asks.view ask.now)) }
     ensures writable { IfOk result CanTell }

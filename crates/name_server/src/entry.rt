@@ -1,4 +1,4 @@
-// What is registered of one N_Port.
+//! What is registered of one N_Port.
 ghost use Rattle.std.specs.Prelude.{◌≡◌, true};
 ghost use Rattle.ct_messages.specs.Ask.{view};
 ghost use Rattle.ct_messages.specs.CanWrite.{CanWrite, IsSymbol};

@@ -1,4 +1,4 @@
-// The features of the types in the words of GFF_ID.
+//! The features of the types in the words of GFF_ID.
 ghost use Rattle.std.specs.Prelude.{◌≡◌, ◌+◌, ◌*◌, ◌<◌, ◌≤◌, slice_index};
 ghost use Rattle.std.specs.List.{All};
 ghost use Rattle.ct_messages.specs.Server.{NO_FEATURES, feature_word, feature_words};

@@ -1,6 +1,5 @@
-// Lists of seen N_Ports.
+//! Lists of seen N_Ports.
 ghost use Rattle.std.specs.Prelude.{◌≡◌, IfOk, option_map};
-ghost use Rattle.std.specs.List.{All};
 ghost use Rattle.std.specs.Option.{option_map_or};
 ghost use Rattle.ct_messages.specs.Answer.{has_type};
 ghost use Rattle.ct_messages.specs.Server.{addresses, named, of_type};

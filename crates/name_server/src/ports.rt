@@ -1,8 +1,7 @@
-// A seen N_Port with what is registered of it.
-ghost use Rattle.std.specs.Prelude.{◌≡◌, IsSome, ◌==◌, find, nat_lt, option_copied, option_map};
-ghost use Rattle.std.specs.List.{All};
+//! A seen N_Port with what is registered of it.
+ghost use Rattle.std.specs.Prelude.{◌≡◌, ◌==◌, find, nat_lt, option_copied, option_map};
 ghost use Rattle.ct_messages.specs.Server.{first_of, known_at, known_by_name, next_port};
-ghost use Rattle.name_server.specs.Registry.{entry_at, known, known_port};
+ghost use Rattle.name_server.specs.Registry.{AreEntered, known, known_port};
 ghost use Rattle.name_server.specs.Views.{as_known};
 
 use crate::SeenPort;
@@ -51,7 +50,7 @@ pub(crate) fn by_address<'a>(
     seen: &'a [SeenPort],
     address: FcId,
 ) -> Option<Known<'a>>
-    requires { All (λ s. IsSome (entry_at s.address entries.now)) seen.now }
+    requires { AreEntered entries.now seen.now }
     ensures { option_map as_known result ≡ known_at address (known entries.now seen.now) }
 {
     match first_at(seen, address) {
@@ -65,7 +64,7 @@ pub(crate) fn by_name<'a>(
     seen: &'a [SeenPort],
     name: Wwn,
 ) -> Option<Known<'a>>
-    requires { All (λ s. IsSome (entry_at s.address entries.now)) seen.now }
+    requires { AreEntered entries.now seen.now }
     ensures { option_map as_known result ≡ known_by_name name (known entries.now seen.now) }
 {
     match first_named(seen, name) {
@@ -75,7 +74,7 @@ pub(crate) fn by_name<'a>(
 }
 
 fn least<'a>(entries: &'a [Entry], seen: &'a [SeenPort]) -> Option<Known<'a>>
-    requires { All (λ s. IsSome (entry_at s.address entries.now)) seen.now }
+    requires { AreEntered entries.now seen.now }
     ensures { option_map as_known result ≡ first_of (known entries.now seen.now) }
 {
     match seen.first() {
@@ -90,7 +89,7 @@ pub(crate) fn next_to<'a>(
     seen: &'a [SeenPort],
     address: FcId,
 ) -> Option<Known<'a>>
-    requires { All (λ s. IsSome (entry_at s.address entries.now)) seen.now }
+    requires { AreEntered entries.now seen.now }
     ensures { option_map as_known result ≡ next_port address (known entries.now seen.now) }
 {
     match first_above(seen, address) {

@@ -1,4 +1,4 @@
-// Why a request is refused: reason and explanation codes (FC-GS-6, "Reject reason codes").
+//! Why a request is refused: reason and explanation codes (FC-GS-6, "Reject reason codes").
 ghost use Rattle.std.specs.Prelude.{◌≡◌, option_map};
 ghost use Rattle.ct_messages.specs.Ask.{view};
 ghost use Rattle.ct_messages.specs.Server.{refused_if, registration_refusal};

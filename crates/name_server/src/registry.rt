@@ -1,10 +1,9 @@
-// The registry: its entries in ascending order of addresses.
+//! The registry: its entries in ascending order of addresses.
 ghost use Rattle.std.specs.Prelude.{◌≡◌, ℕ, ◌<◌, if◌then◌else◌, ◌==◌, length, IfOk, IfErr, OnOk, OnErr, IsSome, Some, None, [], is_some, true, false, option_map};
-ghost use Rattle.std.specs.List.{All};
 ghost use Rattle.ct_messages.specs.Ask.{view};
 ghost use Rattle.ct_messages.specs.CanWrite.{CanWrite, CanTell};
 ghost use Rattle.ct_messages.specs.Server as server;
-ghost use Rattle.name_server.specs.Registry.{Registrations, entry_at, entered, added, without, registered, with_registration, refusal, is_noticed, codes, seen_at, known, IsSound};
+ghost use Rattle.name_server.specs.Registry.{Registrations, entry_at, entered, added, without, registered, with_registration, refusal, is_noticed, codes, seen_at, AreEntered, known, IsSound};
 
 use crate::answers::answer_of;
 use crate::entry::Entry;
@@ -46,12 +45,11 @@ impl Model for Registry {
 impl Registry {
     /// An empty registry with room for `room` N_Ports.
     pub fn new(alloc: Global, room: u32) -> Result<Registry, NoMemory>
-        ensures { IfOk result (λ r. r ≡ record { room = room; entries = [] }) }
+        ensures empty { IfOk result (λ r. r ≡ record { room = room; entries = [] }) }
+        ensures sound { IfOk result IsSound }
     {
-        match Vec::with_capacity(alloc, room as usize) {
-            Ok(entries) => Ok(Registry { room, entries }),
-            Err(_) => Err(NoMemory),
-        }
+        let entries = Vec::with_capacity(alloc, room as usize)?;
+        Ok(Registry { room, entries })
     }
 
     /// Enters an N_Port that logged in, with the node name of its login and nothing else.
@@ -87,14 +85,16 @@ impl Registry {
 
     /// The FC-4 types of an N_Port.
     pub fn types(&self, address: FcId) -> Option<TypeMap>
-        ensures { result ≡ option_map (λ e. e.values.types) (entry_at address self.now.entries) }
+        ensures types { result ≡ option_map (λ e. e.values.types) (entry_at address self.now.entries) }
+        ensures sound { IsSound self.now }
     {
         entry_of(&self.entries, address).map(|entry| entry.types())
     }
 
     /// The registered node name of an N_Port.
     pub fn node_name(&self, address: FcId) -> Option<Wwn>
-        ensures { result ≡ option_map (λ e. e.values.node_name) (entry_at address self.now.entries) }
+        ensures name { result ≡ option_map (λ e. e.values.node_name) (entry_at address self.now.entries) }
+        ensures sound { IsSound self.now }
     {
         entry_of(&self.entries, address).map(|entry| entry.node_name())
     }
@@ -133,10 +133,11 @@ impl Registry {
         seen: &Seen,
     ) -> Result<CtTell, NoMemory>
         requires query { server.is_registration (view ask.now) ≡ false }
-        requires entered { All (λ s. IsSome (entry_at s.address self.now.entries)) seen.now }
+        requires entered { AreEntered self.now.entries seen.now }
         requires asker { IsSome (seen_at _asker seen.now) }
         ensures answer { IfOk result (λ tell. tell ≡ server.answer (known self.now.entries seen.now) (view ask.now)) }
         ensures writable { IfOk result CanTell }
+        ensures sound { IsSound self.now }
     {
         answer_of(alloc, &self.entries, seen.ports(), ask)
     }

@@ -1,6 +1,5 @@
-// Where an N_Port stands, or would stand, among entries.
-ghost use Rattle.std.specs.Prelude.{◌≡◌, ◌==◌, nat_lt, position, option_copied};
-ghost use Rattle.std.specs.List.{position_or_len};
+//! Where an N_Port stands, or would stand, among entries.
+ghost use Rattle.std.specs.Prelude.{◌≡◌, ◌==◌, ◌≤◌, nat_lt, length, position, option_copied, unwrap_or};
 ghost use Rattle.name_server.specs.Registry.{entry_at};
 
 use crate::entry::Entry;
@@ -28,10 +27,8 @@ fn first_above(entries: &[Entry], address: FcId) -> Option<usize>
 
 // The place of the first entry above the address, or past the end.
 pub(crate) fn place_above(entries: &[Entry], address: FcId) -> usize
-    ensures { result ≡ position_or_len (λ e. nat_lt address e.address) entries.now }
+    ensures place { result ≡ unwrap_or (position (λ e. nat_lt address e.address) entries.now) (length entries.now) }
+    ensures within { result ≤ length entries.now }
 {
-    match first_above(entries, address) {
-        Some(place) => place,
-        None => entries.len(),
-    }
+    first_above(entries, address).unwrap_or(entries.len())
 }

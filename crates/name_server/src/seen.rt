@@ -1,4 +1,4 @@
-// The N_Ports that an asker may see.
+//! The N_Ports that an asker may see.
 ghost use Rattle.std.specs.Prelude.{◌≡◌, ◌<◌, [], ◌∷◌, ◌++◌, IfOk, OnOk, OnErr};
 ghost use Rattle.std.specs.List.{All};
 ghost use Rattle.name_server.specs.Registry.{SeenAscend};
@@ -52,10 +52,8 @@ impl Seen {
         ensures err { OnErr result (self.new ≡ self.old) }
         ensures ascending { SeenAscend 0 self.new }
     {
-        match self.ports.push(port) {
-            Ok(()) => Ok(()),
-            Err(_) => Err(NoMemory),
-        }
+        self.ports.push(port)?;
+        Ok(())
     }
 
     pub(crate) fn ports(&self) -> &[SeenPort]

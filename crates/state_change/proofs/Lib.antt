@@ -1,3 +1,1 @@
 pub mod WatcherLemmas
-pub mod TableLemmas
-pub mod ReachLemmas

@@ -1,7 +1,10 @@
 -- What a contract sees of the watchers: how many there may be, and the watchers in ascending order of their addresses
 -- (FC-LS-2, "State Change Registration").
-use Rattle.std.specs.Prelude.{◌≡◌, ℕ, ◌+◌, ◌<◌, ◌≤◌, nat_lt, nat_le, Bool, false, not, ◌==◌, ◌&&◌, ◌||◌, if◌then◌else◌, List, [], ◌∷◌, ◌++◌, length, filter, find, Option, Some, None, IsTrue, option_map}
+use Rattle.std.specs.Prelude.{◌≡◌, ℕ, ◌<◌, ◌≤◌, nat_le, Bool, false, ◌==◌, ◌&&◌, ◌||◌, if◌then◌else◌, List, length, filter, find, Option, Some, None, IsTrue, option_map}
+use Rattle.std.specs.List.{All}
 use Rattle.std.specs.Option.{option_map_or}
+use Rattle.fab_base.specs.Fabric.{asks_fabric}
+use Rattle.fab_base.specs.Keyed as keyed
 use Rattle.zone_rules.specs.Joined as zones
 use Rattle.zone_rules.specs.Rules.{ZoneRules}
 use Rattle.state_change.specs.declared.watcher.Watcher.{Watcher}
@@ -9,6 +12,10 @@ use Rattle.state_change.specs.declared.watcher.Watcher.{Watcher}
 pub record Watching : Type 0 where
   pub room : ℕ
   pub watchers : List Watcher
+
+-- the key of a watcher
+abbrev pub address_of : Watcher → ℕ
+address_of w = w.address
 
 -- ---- functions (FC-LS-2, "SCR", Registration Function)
 
@@ -24,7 +31,7 @@ is_function f = is_asking f || f == 255
 
 -- the watcher of an address
 abbrev pub watcher_at : ℕ → List Watcher → Option Watcher
-watcher_at a watchers = find (λ w. w.address == a) watchers
+watcher_at a watchers = keyed.item_at address_of a watchers
 
 -- the function that an address asked with, or 0 where it is no watcher
 abbrev pub function_at : ℕ → List Watcher → ℕ
@@ -32,17 +39,17 @@ function_at a watchers = option_map_or (λ w. w.function) (watcher_at a watchers
 
 -- the least address from a bound on, of watchers that ascend
 abbrev pub first_from : ℕ → List Watcher → Option ℕ
-first_from from watchers = option_map (λ w. w.address) (find (λ w. nat_le from w.address) watchers)
+first_from from watchers = option_map address_of (find (λ w. nat_le from w.address) watchers)
 
 -- ---- changes
 
 -- the watchers with this one, in the place of the one that has its address, between those below it and those above it
 abbrev pub set_to : Watcher → List Watcher → List Watcher
-set_to w watchers = filter (λ x. nat_lt x.address w.address) watchers ++ w ∷ filter (λ x. nat_lt w.address x.address) watchers
+set_to w watchers = keyed.added address_of w watchers
 
 -- the watchers without that of this address
 abbrev pub without : ℕ → List Watcher → List Watcher
-without a watchers = filter (λ w. not (w.address == a)) watchers
+without a watchers = keyed.without address_of a watchers
 
 -- what an N_Port is once it asked with a function: a watcher, or none
 abbrev pub asked : ℕ → ℕ → ℕ → Option Watcher
@@ -61,7 +68,7 @@ HasPlace address function t = (function == 255) ≡ false → watcher_at address
 
 -- the fabric tells it of changes
 abbrev pub is_told : Watcher → Bool
-is_told w = w.function == 1 || w.function == 3
+is_told w = asks_fabric w.function
 
 -- two names are joined at a moment
 abbrev pub joined : ZoneRules → ℕ → ℕ → ℕ → Bool
@@ -87,13 +94,11 @@ changed z before at affected watchers = filter (is_changed z before at affected)
 
 -- strictly ascending addresses, none below the bound
 abbrev pub AscendFrom : ℕ → List Watcher → Type 0
-AscendFrom from [] = Unit {0}
-AscendFrom from (w ∷ watchers) = (from ≤ w.address) × AscendFrom (w.address + 1) watchers
+AscendFrom from watchers = keyed.AscendFrom address_of from watchers
 
 -- each asked for state changes
 abbrev pub AreAsking : List Watcher → Type 0
-AreAsking [] = Unit {0}
-AreAsking (w ∷ watchers) = IsTrue (is_asking w.function) × AreAsking watchers
+AreAsking watchers = All (λ (w : Watcher). IsTrue (is_asking w.function)) watchers
 
 -- The watchers ascend, so no address comes twice; each asked with a function of 1 to 3; and there is room for them.
 pub record IsSound (t : Watching) : Type 0 where

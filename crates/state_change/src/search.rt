@@ -1,6 +1,5 @@
-// Where a watcher stands, or would stand, among watchers, and the next that a change reaches.
-ghost use Rattle.std.specs.Prelude.{◌≡◌, ◌==◌, ◌&&◌, nat_lt, nat_le, find, position, option_copied, option_map};
-ghost use Rattle.std.specs.List.{position_or_len};
+//! Where a watcher stands, or would stand, among watchers, and the next that a change reaches.
+ghost use Rattle.std.specs.Prelude.{◌≡◌, ◌==◌, ◌&&◌, ◌≤◌, nat_lt, nat_le, length, find, position, option_copied, option_map, unwrap_or};
 ghost use Rattle.state_change.specs.Watchers as spec;
 
 use crate::Watcher;
@@ -32,12 +31,10 @@ fn first_above(watchers: &[Watcher], address: FcId) -> Option<usize>
 
 // The place of the first watcher above the address, or past the end.
 pub(crate) fn place_above(watchers: &[Watcher], address: FcId) -> usize
-    ensures { result ≡ position_or_len (λ w. nat_lt address w.address) watchers.now }
+    ensures place { result ≡ unwrap_or (position (λ w. nat_lt address w.address) watchers.now) (length watchers.now) }
+    ensures within { result ≤ length watchers.now }
 {
-    match first_above(watchers, address) {
-        Some(place) => place,
-        None => watchers.len(),
-    }
+    first_above(watchers, address).unwrap_or(watchers.len())
 }
 
 // The first watcher from the bound on that a change of the affected name reaches.

@@ -1,4 +1,4 @@
-// The watchers in ascending order of addresses.
+//! The watchers in ascending order of addresses.
 ghost use Rattle.std.specs.Prelude.{◌≡◌, ℕ, ◌+◌, ◌<◌, ◌≤◌, if◌then◌else◌, ◌==◌, length, IfOk, IsTrue, Some, None, [], is_some, true, false};
 ghost use Rattle.state_change.specs.Watchers.{Watching, watcher_at, function_at, set_to, without, asked, after_ask, is_function, is_asking, HasPlace, recipients, changed, first_from, IsSound};
 
@@ -32,12 +32,11 @@ impl Model for Watchers {
 impl Watchers {
     /// No watchers, and room for this many.
     pub fn new(alloc: Global, room: u32) -> Result<Watchers, NoMemory>
-        ensures { IfOk result (λ t. t ≡ record { room = room; watchers = [] }) }
+        ensures empty { IfOk result (λ t. t ≡ record { room = room; watchers = [] }) }
+        ensures sound { IfOk result IsSound }
     {
-        match Vec::with_capacity(alloc, room as usize) {
-            Ok(watchers) => Ok(Watchers { room, watchers }),
-            Err(_) => Err(NoMemory),
-        }
+        let watchers = Vec::with_capacity(alloc, room as usize)?;
+        Ok(Watchers { room, watchers })
     }
 
     /// An N_Port asks with a function: 1, 2 or 3 for state changes, in the place of what it asked before, or 255 for none.
@@ -96,7 +95,8 @@ impl Watchers {
 
     /// The function that an address asked with, or 0 where it is no watcher.
     pub fn function_of(&self, address: FcId) -> u8
-        ensures { result ≡ function_at address self.now.watchers }
+        ensures function { result ≡ function_at address self.now.watchers }
+        ensures sound { IsSound self.now }
     {
         match search::of_address(&self.watchers, address) {
             Some(watcher) => watcher.function,
@@ -113,7 +113,8 @@ impl Watchers {
         affected: Wwn,
         from: u32,
     ) -> Option<FcId>
-        ensures { result ≡ first_from from (recipients zones.now at affected self.now.watchers) }
+        ensures first { result ≡ first_from from (recipients zones.now at affected self.now.watchers) }
+        ensures sound { IsSound self.now }
     {
         search::next_recipient(&self.watchers, zones, at, affected, from)
     }
@@ -128,7 +129,8 @@ impl Watchers {
         affected: Wwn,
         from: u32,
     ) -> Option<FcId>
-        ensures { result ≡ first_from from (changed zones.now before at affected self.now.watchers) }
+        ensures first { result ≡ first_from from (changed zones.now before at affected self.now.watchers) }
+        ensures sound { IsSound self.now }
     {
         search::next_changed(&self.watchers, zones, before, at, affected, from)
     }

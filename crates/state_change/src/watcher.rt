@@ -1,4 +1,4 @@
-// One watcher, and what reaches it.
+//! One watcher, and what reaches it.
 ghost use Rattle.std.specs.Prelude.{◌≡◌};
 ghost use Rattle.state_change.specs.Watchers as spec;
 

@@ -1,43 +1,47 @@
-use Rattle.std.proofs.Common.{◌≡◌, ◌==◌, ◌∙◌, ap, sym, position, Some, None, option_map, slice_set, get_or, subst}
+use Rattle.std.proofs.Common.{◌≡◌, ◌∙◌, ap, sym, refl, Some, None, option_map, slice_set, get_or, subst}
+use Rattle.fab_base.proofs.KeyedLemmas as keyed
 use Rattle.ct_messages.specs.Ask.{view}
 use Rattle.ct_messages.specs.Server.{has_changed}
-use Rattle.name_server.specs.Registry.{Entry, IsKept, entry_at, updated, with_registration, is_noticed, codes}
-use Rattle.name_server.proofs.EntryLemmas.{entry_at-with_registration}
-use Rattle.name_server.proofs.TableLemmas.{entry-here, entry_at-no_place, refusal-here, with_registration_by_set, IsSound-with_registration}
+use Rattle.name_server.specs.Registry.{Entry, IsKept, IsSound, address_of, entry_at, updated, with_registration, is_noticed, codes}
+use Rattle.name_server.proofs.TableLemmas.{refusal-here, IsSound-with_registration}
 use Rattle.name_server.proofs.registry.Registry.register.Goals as goal
 
 absent : (c : goal.In_default) → entry_at c.args.asker c.self.inside.entries.items ≡ None
-absent c = entry_at-no_place c.args.asker _ (rw c.deref.ensures.value at (sym c.place_of.ensures ∙ c.in_default.is))
+absent c = keyed.item_at-not_found address_of c.args.asker _ _ _ c.place_of.ensures c.deref.ensures.value c.in_default.is
 
 pub unreachable-requires : goal.unreachable-requires
 unreachable-requires c = let there = rw (← c.self.view_is, absent c) at c.requires.asker in cc
 
 refused : (c : goal.In-Some-refusal_of) → entry_at c.args.asker c.self.inside.entries.items ≡ Some c.index_mut-entry.result.now
-refused c = entry-here c.args.asker _ _ _ _ _ c.place_of.ensures c.deref.ensures.value c.in-Some.is c.index_mut-entry.ensures.value
+refused c =
+    (keyed.IsPlace-found address_of c.args.asker 0 _ _ _ _ c.self.invariant.sound.ascending c.place_of.ensures c.deref.ensures.value c.in-Some.is).item c.index_mut-entry.result.now
+    ∙ ap Some (sym c.index_mut-entry.ensures.value)
 
 pub returns-in-Some-refusal_of-clause-refused : goal.returns-in-Some-refusal_of-clause-refused
 returns-in-Some-refusal_of-clause-refused c =
     rw (← c.self.view_is) (refusal-here c.args.asker (view c.args.ask.now) _ c.index_mut-entry.result.now _ _ _ (refused c) c.address.ensures c.node_name.ensures c.refusal_of.ensures
     ∙ ap (option_map codes) c.in-Some-refusal_of.is)
 
-here : (c : goal.After-self-2-1) → entry_at c.args.asker c.self.inside.entries.items ≡ Some c.index_mut-entry.result.now
-here c = entry-here c.args.asker _ _ _ _ _ c.place_of.ensures c.deref.ensures.value c.in-Some.is c.index_mut-entry.ensures.value
+place : (c : goal.After-self-2-1) → keyed.IsPlace address_of c.args.asker c.self.inside.entries.items c.in-Some.place
+place c = keyed.IsPlace-found address_of c.args.asker 0 _ _ _ _ c.self.invariant.sound.ascending c.place_of.ensures c.deref.ensures.value c.in-Some.is
 
-place : (c : goal.After-self-2-1) → position (λ l. l.address == c.args.asker) c.self.inside.entries.items ≡ Some c.in-Some.place
-place c = rw c.deref.ensures.value at (sym c.place_of.ensures ∙ c.in-Some.is)
+here : (c : goal.After-self-2-1) → entry_at c.args.asker c.self.inside.entries.items ≡ Some c.index_mut-entry.result.now
+here c = (place c).item c.index_mut-entry.result.now ∙ ap Some (sym c.index_mut-entry.ensures.value)
 
 new : (c : goal.After-self-2-1) → c.register-noticed.new.self ≡ updated (view c.args.ask.now) (get_or c.self.inside.entries.items c.in-Some.place c.index_mut-entry.result.now)
 new c = c.register-noticed.ensures.entry ∙ ap (updated (view c.args.ask.now)) c.index_mut-entry.ensures.value
 
 items : (c : goal.After-self-2-1) → slice_set c.self.inside.entries.items c.in-Some.place c.register-noticed.new.self ≡ with_registration c.args.asker (view c.args.ask.now) c.self.inside.entries.items
-items c = with_registration_by_set c.args.asker 0 _ c.self.invariant.sound.ascending _ c.index_mut-entry.result.now (place c) (view c.args.ask.now) _ (new c)
+items c = ap (λ e. slice_set c.self.inside.entries.items c.in-Some.place e) (new c) ∙ (place c).write (updated (view c.args.ask.now)) c.index_mut-entry.result.now
 
-kept : (c : goal.After-self-2-1) → IsKept (updated (view c.args.ask.now) (get_or c.self.inside.entries.items c.in-Some.place c.index_mut-entry.result.now)).values
-kept c = subst (λ (e : Entry). IsKept e.values) (new c) c.register-noticed.ensures.kept
+sound : (c : goal.After-self-2-1) → IsSound (record { room = c.self.inside.room; entries = with_registration c.args.asker (view c.args.ask.now) c.self.inside.entries.items })
+sound c =
+    IsSound-with_registration c.args.asker (view c.args.ask.now) _ _ c.index_mut-entry.result.now c.self.invariant.sound (place c)
+    (subst (λ (e : Entry). IsKept e.values) (new c) c.register-noticed.ensures.kept)
 
 pub invariant_of-self-2 : goal.invariant_of-self-2
 invariant_of-self-2 c = record {
-  sound = rw (items c) (IsSound-with_registration c.args.asker (view c.args.ask.now) _ _ _ c.self.invariant.sound (place c) (kept c));
+  sound = rw (items c) (sound c);
   room = c.self.invariant.room;
   range = c.self.invariant.range;
 }
@@ -51,7 +55,7 @@ pub returns-clause-entries : goal.returns-clause-entries
 returns-clause-entries c = rw (← c.self.view_is) (ap (λ l. record { room = c.self.inside.room; entries = l }) (items c))
 
 pub returns-clause-found : goal.returns-clause-found
-returns-clause-found c = rw (items c, ← c.self.view_is) (λ a. entry_at-with_registration c.args.asker a (view c.args.ask.now) c.self.inside.entries.items)
+returns-clause-found c = rw (items c, ← c.self.view_is) (λ a. keyed.item_at-changed address_of (updated (view c.args.ask.now)) (λ e. refl) c.args.asker a c.self.inside.entries.items)
 
 pub returns-clause-noticed : goal.returns-clause-noticed
 returns-clause-noticed c =
@@ -60,4 +64,4 @@ returns-clause-noticed c =
     ∙ sym (ap (is_noticed (view c.args.ask.now)) (here c)))
 
 pub returns-clause-sound : goal.returns-clause-sound
-returns-clause-sound c = rw (items c) (IsSound-with_registration c.args.asker (view c.args.ask.now) _ _ _ c.self.invariant.sound (place c) (kept c))
+returns-clause-sound c = rw (items c) (sound c)

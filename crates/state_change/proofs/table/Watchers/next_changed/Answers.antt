@@ -1,10 +1,10 @@
 use Rattle.std.proofs.Common.{◌∙◌, ap}
 use Rattle.state_change.specs.Watchers.{Watching, changed, is_changed, first_from}
-use Rattle.state_change.proofs.ReachLemmas.{first_from-filter}
+use Rattle.state_change.proofs.WatcherLemmas.{first_from-filter}
 use Rattle.state_change.proofs.table.Watchers.next_changed.Goals as goal
 
-pub returns : goal.returns
-returns c =
+pub returns-clause-first : goal.returns-clause-first
+returns-clause-first c =
     c.next_changed.ensures
     ∙ first_from-filter c.args.from (is_changed c.args.zones.now c.args.before c.args.at c.args.affected) c.deref.result.now
     ∙ ap (λ l. first_from c.args.from (changed c.args.zones.now c.args.before c.args.at c.args.affected l)) c.deref.ensures.value

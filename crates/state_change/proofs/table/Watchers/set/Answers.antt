@@ -1,8 +1,8 @@
 use Rattle.std.proofs.Common.{◌≡◌, ◌<◌, ◌==◌, ◌∙◌, Bool, true, false, if◌then◌else◌, Option, Some, None, is_some, length, refl, sym, ap}
 use Rattle.std.proofs.lemmas.Bool.{ne_eqb}
-use Rattle.state_change.specs.Watchers.{Watching, set_to, without}
+use Rattle.fab_base.proofs.KeyedLemmas as keyed
+use Rattle.state_change.specs.Watchers.{Watching, address_of, set_to, without}
 use Rattle.state_change.specs.declared.watcher.Watcher.{Watcher}
-use Rattle.state_change.proofs.WatcherLemmas.{set_to-without}
 use Rattle.state_change.proofs.table.Watchers.set.Goals as goal
 
 none_from : (o : Option Watcher) → is_some o ≡ false → o ≡ None
@@ -23,4 +23,4 @@ returns-then-function-ne-CLEAR-clause-watchers c =
     let asks : (c.args.function == 255) ≡ false = ne_eqb _ _ c.if-function-ne-CLEAR.true in
     c.add.ensures.watchers
     ∙ ap (λ (t : Watching). record t { watchers = set_to w t.watchers }) c.forget.ensures.watchers
-    ∙ ap (λ l. record { room = c.args.self.now.room; watchers = l }) (set_to-without w old ∙ sym (ap (λ b. if b then without c.args.address old else set_to w old) asks))
+    ∙ ap (λ l. record { room = c.args.self.now.room; watchers = l }) (keyed.added-without address_of w old ∙ sym (ap (λ b. if b then without c.args.address old else set_to w old) asks))
