@@ -50,15 +50,6 @@ lines_line l rest h =
     ap (λ ps. map without_return (without_empty_end ps)) (pieces_line l rest h) ∙ ap (map without_return) (end_kept l (pieces rest) (some_piece rest))
     ∙ ap (λ m. m ∷ lines_of rest) (without_return_line l h)
 
-abbrev pub closed : List ℕ → List ℕ
-closed l = l ++ 10 ∷ []
-
-pub lines_all : (ls : List (List ℕ)) → list_all is_ascii ls ≡ true → lines_of (flat_map closed ls) ≡ ls
-lines_all [] h = refl
-lines_all (l ∷ ls) h =
-    let both = and_parts (is_ascii l) (list_all is_ascii ls) h in
-    ap lines_of (append_assoc l (10 ∷ []) (flat_map closed ls)) ∙ lines_line l (flat_map closed ls) both.0 ∙ ap (λ m. l ∷ m) (lines_all ls both.1)
-
 -- ---- words
 
 sign_no_blank : (b : ℕ) → is_sign b ≡ true → is_blank b ≡ false

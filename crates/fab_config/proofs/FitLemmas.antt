@@ -10,7 +10,7 @@ use Rattle.fab_config.specs.Settings.{is_between, is_station, is_zone_name, same
 use Rattle.fab_config.specs.Lines.{is_skipped, is_ascii, words}
 use Rattle.fab_config.specs.Names.{place, place_from, zone_names, set_names}
 use Rattle.fab_config.specs.Values.{number, number_between, name, station, fc_map, all_of, only, once, once_from, octets_of}
-use Rattle.fab_config.specs.Text.{keyword_of, set_once, listed, with_name, named_put, with_named, zone_put, zones_with, set_put, sets_with, zone_place, is_later, activated, activation, activation_put, activations_with, changed, with_keyword, with_key, with_words, line_read}
+use Rattle.fab_config.specs.Text.{keyword_of, set_once, listed, with_name, named_put, with_named, zone_put, zones_with, set_put, sets_with, zone_place, is_later, activated, activation, activation_put, activations_with, changed, range_of, with_number, with_keyword, with_key, with_words, line_read}
 use Rattle.fab_config.specs.Fitting.{Fits, passes}
 use Rattle.fab_config.specs.declared.Zone.{Zone}
 use Rattle.fab_config.specs.declared.ZoneSet.{ZoneSet}
@@ -19,7 +19,9 @@ use Rattle.fab_config.specs.declared.ConfigWhy.{ConfigWhy}
 use Rattle.fab_config.specs.declared.ConfigWhy.TheVariants as why
 use Rattle.fab_config.specs.declared.draft.Draft.{Draft}
 use Rattle.fab_config.specs.declared.keyword.Keyword.{Keyword}
-use Rattle.fab_config.specs.declared.keyword.Keyword.TheVariants.{FcfMac, Vlan, Switch, FcMap, Domain, Pool, Priority, Period, Window, Logins, Zones, Sets, Activations}
+use Rattle.fab_config.specs.declared.keyword.Keyword.TheVariants.{FcfMac, Switch, FcMap, Number, Zones, Sets, Activations}
+use Rattle.fab_config.specs.declared.keyword.NumberKey.{NumberKey}
+use Rattle.fab_config.specs.declared.keyword.NumberKey.TheVariants.{Vlan, Domain, Pool, Priority, Period, Window, Logins}
 use Rattle.std.specs.Cmp.{nat_eq_equiv}
 use Rattle.std.specs.Cmp.Lexicographic.{nat_list_eq_equiv}
 use Rattle.fab_config.proofs.ListLemmas.{any_map, all_more}
@@ -27,43 +29,26 @@ use Rattle.fab_config.proofs.ListLemmas.{any_map, all_more}
 -- ---- tests
 
 -- what is chosen by a test
-pub chosen : {X : Type 0} (test : X → Bool) (x : X) (t : Bool) → test x ≡ t → passes test (cond t (Some x) None) ≡ true
-chosen test x true e = e
-chosen test x false e = refl
-
-pub number_passes : (least most : ℕ) (ws : List (List ℕ)) → passes (is_between least most) (only (number_between least most) ws) ≡ true
-number_passes least most [] = refl
-number_passes least most (w ∷ []) = by (number w)
+chosen : {X : Type 0} (test : X → Bool) (o : Option X) → passes test (option_and_then (λ (x : X). cond (test x) (Some x) None) o) ≡ true
+chosen test None = refl
+chosen {X} test (Some x) = by (test x) refl
   where
-    by : (o : Option ℕ) → passes (is_between least most) (option_and_then (λ (n : ℕ). cond (is_between least most n) (Some n) None) o) ≡ true
-    by None = refl
-    by (Some n) = chosen (is_between least most) n (is_between least most n) refl
-number_passes least most (w ∷ x ∷ ws) = refl
+    by : (t : Bool) → test x ≡ t → passes test (cond t (Some x) None) ≡ true
+    by true e = e
+    by false e = refl
 
-priority_passes : (ws : List (List ℕ)) → passes (λ n. leb n 255) (only (number_between 0 255) ws) ≡ true
-priority_passes ws = by (only (number_between 0 255) ws) (number_passes 0 255 ws)
-  where
-    by : (o : Option ℕ) → passes (is_between 0 255) o ≡ true → passes (λ n. leb n 255) o ≡ true
-    by None h = refl
-    by (Some n) h = (and_parts (leb 0 n) (leb n 255) h).1
+-- a line's only value passes what each value does
+pub only_passes : {X : Type 0} (says : List ℕ → Option X) (test : X → Bool) → ((w : List ℕ) → passes test (says w) ≡ true) → (ws : List (List ℕ)) → passes test (only says ws) ≡ true
+only_passes says test each [] = refl
+only_passes says test each (w ∷ []) = each w
+only_passes says test each (w ∷ x ∷ ws) = refl
 
-pub station_passes : (ws : List (List ℕ)) → passes is_station (only station ws) ≡ true
-station_passes [] = refl
-station_passes (w ∷ []) = by (octets_of 6 w)
-  where
-    by : (o : Option (List ℕ)) → passes is_station (option_and_then (λ (mac : List ℕ). cond (is_station mac) (Some mac) None) o) ≡ true
-    by None = refl
-    by (Some mac) = chosen is_station mac (is_station mac) refl
-station_passes (w ∷ x ∷ ws) = refl
-
-pub fc_map_passes : (ws : List (List ℕ)) → passes (is_between 0x0efc00 0x0efcff) (only fc_map ws) ≡ true
-fc_map_passes [] = refl
-fc_map_passes (w ∷ []) = by (octets_of 3 w)
+fc_map_passes : (w : List ℕ) → passes (is_between 0x0efc00 0x0efcff) (fc_map w) ≡ true
+fc_map_passes w = by (octets_of 3 w)
   where
     by : (o : Option (List ℕ)) → passes (is_between 0x0efc00 0x0efcff) (option_and_then (λ (l : List ℕ). cond (is_between 0x0efc00 0x0efcff (big_endian l)) (Some (big_endian l)) None) o) ≡ true
     by None = refl
-    by (Some l) = chosen (is_between 0x0efc00 0x0efcff) (big_endian l) (is_between 0x0efc00 0x0efcff (big_endian l)) refl
-fc_map_passes (w ∷ x ∷ ws) = refl
+    by (Some l) = chosen (is_between 0x0efc00 0x0efcff) (Some (big_endian l))
 
 -- ---- what differs
 
@@ -384,20 +369,42 @@ pub changes_of : {X : Type 0} (r : Result X ConfigWhy) (f : X → Draft) (e : Dr
 changes_of (Err w) f e h = absurd (cc)
 changes_of (Ok x) f e h = record { x = x; read = refl; is = (let g : f x ≡ e = cc in g) }
 
+abbrev in_range : NumberKey → ℕ → Bool
+in_range k = is_between (range_of k).0 (range_of k).1
+
+low : (o : Option ℕ) → passes (in_range Priority) o ≡ true → passes (λ n. leb n 255) o ≡ true
+low None h = refl
+low (Some n) h = (and_parts (leb 0 n) (leb n 255) h).1
+
+number_fits : (d e : Draft) (k : NumberKey) (n : Option ℕ) → with_number d k n ≡ Ok e → passes (in_range k) n ≡ true → Fits d → Fits e
+number_fits d e Vlan n h p fit = let c = changes_of (set_once d.vlan n) (λ x. record d { vlan = x }) e h in subst Fits c.is (record { fcf_mac = fit.fcf_mac; vlan = once_passes (in_range Vlan) d.vlan n c.x c.read p; map = fit.map; domain = fit.domain; pool = fit.pool; priority = fit.priority; period = fit.period; window = fit.window; limit = fit.limit; zones = fit.zones; sets = fit.sets; activations = fit.activations })
+number_fits d e Domain n h p fit = let c = changes_of (set_once d.domain n) (λ x. record d { domain = x }) e h in subst Fits c.is (record { fcf_mac = fit.fcf_mac; vlan = fit.vlan; map = fit.map; domain = once_passes (in_range Domain) d.domain n c.x c.read p; pool = fit.pool; priority = fit.priority; period = fit.period; window = fit.window; limit = fit.limit; zones = fit.zones; sets = fit.sets; activations = fit.activations })
+number_fits d e Pool n h p fit = let c = changes_of (set_once d.pool n) (λ x. record d { pool = x }) e h in subst Fits c.is (record { fcf_mac = fit.fcf_mac; vlan = fit.vlan; map = fit.map; domain = fit.domain; pool = once_passes (in_range Pool) d.pool n c.x c.read p; priority = fit.priority; period = fit.period; window = fit.window; limit = fit.limit; zones = fit.zones; sets = fit.sets; activations = fit.activations })
+number_fits d e Priority n h p fit = let c = changes_of (set_once d.priority n) (λ x. record d { priority = x }) e h in subst Fits c.is (record { fcf_mac = fit.fcf_mac; vlan = fit.vlan; map = fit.map; domain = fit.domain; pool = fit.pool; priority = once_passes (λ n. leb n 255) d.priority n c.x c.read (low n p); period = fit.period; window = fit.window; limit = fit.limit; zones = fit.zones; sets = fit.sets; activations = fit.activations })
+number_fits d e Period n h p fit = let c = changes_of (set_once d.period n) (λ x. record d { period = x }) e h in subst Fits c.is (record { fcf_mac = fit.fcf_mac; vlan = fit.vlan; map = fit.map; domain = fit.domain; pool = fit.pool; priority = fit.priority; period = once_passes (in_range Period) d.period n c.x c.read p; window = fit.window; limit = fit.limit; zones = fit.zones; sets = fit.sets; activations = fit.activations })
+number_fits d e Window n h p fit = let c = changes_of (set_once d.window n) (λ x. record d { window = x }) e h in subst Fits c.is (record { fcf_mac = fit.fcf_mac; vlan = fit.vlan; map = fit.map; domain = fit.domain; pool = fit.pool; priority = fit.priority; period = fit.period; window = once_passes (in_range Window) d.window n c.x c.read p; limit = fit.limit; zones = fit.zones; sets = fit.sets; activations = fit.activations })
+number_fits d e Logins n h p fit = let c = changes_of (set_once d.limit n) (λ x. record d { limit = x }) e h in subst Fits c.is (record { fcf_mac = fit.fcf_mac; vlan = fit.vlan; map = fit.map; domain = fit.domain; pool = fit.pool; priority = fit.priority; period = fit.period; window = fit.window; limit = once_passes (in_range Logins) d.limit n c.x c.read p; zones = fit.zones; sets = fit.sets; activations = fit.activations })
+
 keyword_fits : (d e : Draft) (k : Keyword) (ws : List (List ℕ)) → with_keyword d k ws ≡ Ok e → Fits d → Fits e
-keyword_fits d e FcfMac ws h fit = let p = changes_of (set_once d.fcf_mac (only station ws)) (λ x. record d { fcf_mac = x }) e h in subst Fits p.is (record { fcf_mac = once_passes is_station d.fcf_mac (only station ws) p.x p.read (station_passes ws); vlan = fit.vlan; map = fit.map; domain = fit.domain; pool = fit.pool; priority = fit.priority; period = fit.period; window = fit.window; limit = fit.limit; zones = fit.zones; sets = fit.sets; activations = fit.activations })
-keyword_fits d e Vlan ws h fit = let p = changes_of (set_once d.vlan (only (number_between 1 4094) ws)) (λ x. record d { vlan = x }) e h in subst Fits p.is (record { fcf_mac = fit.fcf_mac; vlan = once_passes (is_between 1 4094) d.vlan (only (number_between 1 4094) ws) p.x p.read (number_passes 1 4094 ws); map = fit.map; domain = fit.domain; pool = fit.pool; priority = fit.priority; period = fit.period; window = fit.window; limit = fit.limit; zones = fit.zones; sets = fit.sets; activations = fit.activations })
-keyword_fits d e Switch ws h fit = let p = changes_of (set_once d.switch (only name ws)) (λ x. record d { switch = x }) e h in subst Fits p.is (record { fcf_mac = fit.fcf_mac; vlan = fit.vlan; map = fit.map; domain = fit.domain; pool = fit.pool; priority = fit.priority; period = fit.period; window = fit.window; limit = fit.limit; zones = fit.zones; sets = fit.sets; activations = fit.activations })
-keyword_fits d e FcMap ws h fit = let p = changes_of (set_once d.map (only fc_map ws)) (λ x. record d { map = x }) e h in subst Fits p.is (record { fcf_mac = fit.fcf_mac; vlan = fit.vlan; map = once_passes (is_between 0x0efc00 0x0efcff) d.map (only fc_map ws) p.x p.read (fc_map_passes ws); domain = fit.domain; pool = fit.pool; priority = fit.priority; period = fit.period; window = fit.window; limit = fit.limit; zones = fit.zones; sets = fit.sets; activations = fit.activations })
-keyword_fits d e Domain ws h fit = let p = changes_of (set_once d.domain (only (number_between 1 239) ws)) (λ x. record d { domain = x }) e h in subst Fits p.is (record { fcf_mac = fit.fcf_mac; vlan = fit.vlan; map = fit.map; domain = once_passes (is_between 1 239) d.domain (only (number_between 1 239) ws) p.x p.read (number_passes 1 239 ws); pool = fit.pool; priority = fit.priority; period = fit.period; window = fit.window; limit = fit.limit; zones = fit.zones; sets = fit.sets; activations = fit.activations })
-keyword_fits d e Pool ws h fit = let p = changes_of (set_once d.pool (only (number_between 1 60000) ws)) (λ x. record d { pool = x }) e h in subst Fits p.is (record { fcf_mac = fit.fcf_mac; vlan = fit.vlan; map = fit.map; domain = fit.domain; pool = once_passes (is_between 1 60000) d.pool (only (number_between 1 60000) ws) p.x p.read (number_passes 1 60000 ws); priority = fit.priority; period = fit.period; window = fit.window; limit = fit.limit; zones = fit.zones; sets = fit.sets; activations = fit.activations })
-keyword_fits d e Priority ws h fit = let p = changes_of (set_once d.priority (only (number_between 0 255) ws)) (λ x. record d { priority = x }) e h in subst Fits p.is (record { fcf_mac = fit.fcf_mac; vlan = fit.vlan; map = fit.map; domain = fit.domain; pool = fit.pool; priority = once_passes (λ n. leb n 255) d.priority (only (number_between 0 255) ws) p.x p.read (priority_passes ws); period = fit.period; window = fit.window; limit = fit.limit; zones = fit.zones; sets = fit.sets; activations = fit.activations })
-keyword_fits d e Period ws h fit = let p = changes_of (set_once d.period (only (number_between 250 90000) ws)) (λ x. record d { period = x }) e h in subst Fits p.is (record { fcf_mac = fit.fcf_mac; vlan = fit.vlan; map = fit.map; domain = fit.domain; pool = fit.pool; priority = fit.priority; period = once_passes (is_between 250 90000) d.period (only (number_between 250 90000) ws) p.x p.read (number_passes 250 90000 ws); window = fit.window; limit = fit.limit; zones = fit.zones; sets = fit.sets; activations = fit.activations })
-keyword_fits d e Window ws h fit = let p = changes_of (set_once d.window (only (number_between 10 1000) ws)) (λ x. record d { window = x }) e h in subst Fits p.is (record { fcf_mac = fit.fcf_mac; vlan = fit.vlan; map = fit.map; domain = fit.domain; pool = fit.pool; priority = fit.priority; period = fit.period; window = once_passes (is_between 10 1000) d.window (only (number_between 10 1000) ws) p.x p.read (number_passes 10 1000 ws); limit = fit.limit; zones = fit.zones; sets = fit.sets; activations = fit.activations })
-keyword_fits d e Logins ws h fit = let p = changes_of (set_once d.limit (only (number_between 1 1000) ws)) (λ x. record d { limit = x }) e h in subst Fits p.is (record { fcf_mac = fit.fcf_mac; vlan = fit.vlan; map = fit.map; domain = fit.domain; pool = fit.pool; priority = fit.priority; period = fit.period; window = fit.window; limit = once_passes (is_between 1 1000) d.limit (only (number_between 1 1000) ws) p.x p.read (number_passes 1 1000 ws); zones = fit.zones; sets = fit.sets; activations = fit.activations })
-keyword_fits d e Zones ws h fit = let p = changes_of (zones_with d.zones ws) (λ x. record d { zones = x }) e h in let z = zones_fit_after d.zones p.x ws p.read fit.zones in subst Fits p.is (record { fcf_mac = fit.fcf_mac; vlan = fit.vlan; map = fit.map; domain = fit.domain; pool = fit.pool; priority = fit.priority; period = fit.period; window = fit.window; limit = fit.limit; zones = z.0; sets = sets_more (length d.zones) (length p.x) d.sets z.1 fit.sets; activations = fit.activations })
-keyword_fits d e Sets ws h fit = let p = changes_of (sets_with d.zones d.sets ws) (λ x. record d { sets = x }) e h in let z = sets_fit_after d.zones d.sets p.x ws p.read fit.sets in subst Fits p.is (record { fcf_mac = fit.fcf_mac; vlan = fit.vlan; map = fit.map; domain = fit.domain; pool = fit.pool; priority = fit.priority; period = fit.period; window = fit.window; limit = fit.limit; zones = fit.zones; sets = z.0; activations = activations_more (length d.sets) (length p.x) d.activations z.1 fit.activations })
-keyword_fits d e Activations ws h fit = let p = changes_of (activations_with d.sets d.activations ws) (λ x. record d { activations = x }) e h in subst Fits p.is (record { fcf_mac = fit.fcf_mac; vlan = fit.vlan; map = fit.map; domain = fit.domain; pool = fit.pool; priority = fit.priority; period = fit.period; window = fit.window; limit = fit.limit; zones = fit.zones; sets = fit.sets; activations = activations_fit_after d.sets d.activations p.x ws p.read fit.activations })
+keyword_fits d e FcfMac ws h fit =
+    let c = changes_of (set_once d.fcf_mac (only station ws)) (λ x. record d { fcf_mac = x }) e h in
+    subst Fits c.is (record { fcf_mac = once_passes is_station d.fcf_mac (only station ws) c.x c.read (only_passes station is_station (λ w. chosen is_station (octets_of 6 w)) ws); vlan = fit.vlan; map = fit.map; domain = fit.domain; pool = fit.pool; priority = fit.priority; period = fit.period; window = fit.window; limit = fit.limit; zones = fit.zones; sets = fit.sets; activations = fit.activations })
+keyword_fits d e Switch ws h fit = let c = changes_of (set_once d.switch (only name ws)) (λ x. record d { switch = x }) e h in subst Fits c.is (record { fcf_mac = fit.fcf_mac; vlan = fit.vlan; map = fit.map; domain = fit.domain; pool = fit.pool; priority = fit.priority; period = fit.period; window = fit.window; limit = fit.limit; zones = fit.zones; sets = fit.sets; activations = fit.activations })
+keyword_fits d e FcMap ws h fit =
+    let c = changes_of (set_once d.map (only fc_map ws)) (λ x. record d { map = x }) e h in
+    subst Fits c.is (record { fcf_mac = fit.fcf_mac; vlan = fit.vlan; map = once_passes (is_between 0x0efc00 0x0efcff) d.map (only fc_map ws) c.x c.read (only_passes fc_map (is_between 0x0efc00 0x0efcff) fc_map_passes ws); domain = fit.domain; pool = fit.pool; priority = fit.priority; period = fit.period; window = fit.window; limit = fit.limit; zones = fit.zones; sets = fit.sets; activations = fit.activations })
+keyword_fits d e (Number k) ws h fit = number_fits d e k _ h (only_passes (number_between (range_of k).0 (range_of k).1) (in_range k) (λ w. chosen (in_range k) (number w)) ws) fit
+keyword_fits d e Zones ws h fit =
+    let c = changes_of (zones_with d.zones ws) (λ x. record d { zones = x }) e h in
+    let z = zones_fit_after d.zones c.x ws c.read fit.zones in
+    subst Fits c.is (record { fcf_mac = fit.fcf_mac; vlan = fit.vlan; map = fit.map; domain = fit.domain; pool = fit.pool; priority = fit.priority; period = fit.period; window = fit.window; limit = fit.limit; zones = z.0; sets = sets_more (length d.zones) (length c.x) d.sets z.1 fit.sets; activations = fit.activations })
+keyword_fits d e Sets ws h fit =
+    let c = changes_of (sets_with d.zones d.sets ws) (λ x. record d { sets = x }) e h in
+    let z = sets_fit_after d.zones d.sets c.x ws c.read fit.sets in
+    subst Fits c.is (record { fcf_mac = fit.fcf_mac; vlan = fit.vlan; map = fit.map; domain = fit.domain; pool = fit.pool; priority = fit.priority; period = fit.period; window = fit.window; limit = fit.limit; zones = fit.zones; sets = z.0; activations = activations_more (length d.sets) (length c.x) d.activations z.1 fit.activations })
+keyword_fits d e Activations ws h fit =
+    let c = changes_of (activations_with d.sets d.activations ws) (λ x. record d { activations = x }) e h in
+    subst Fits c.is (record { fcf_mac = fit.fcf_mac; vlan = fit.vlan; map = fit.map; domain = fit.domain; pool = fit.pool; priority = fit.priority; period = fit.period; window = fit.window; limit = fit.limit; zones = fit.zones; sets = fit.sets; activations = activations_fit_after d.sets d.activations c.x ws c.read fit.activations })
 
 -- what each key keeps, a line keeps
 module _ (P : Draft → Type 0) (keeps : (d e : Draft) (k : Keyword) (ws : List (List ℕ)) → with_keyword d k ws ≡ Ok e → P d → P e) where

@@ -88,13 +88,6 @@ first_pair l o le e = ap octets (two l 0 le) ∙ octets_step (get_or l 0 0) (get
 behind_colon : (l : List ℕ) (i : ℕ) → i < length l → get_or l i 0 ≡ 58 → behind (drop i l) ≡ octets (drop (i + 1) l)
 behind_colon l i lt e = ap behind (drop_more l i 0 lt) ∙ ap (λ (n : ℕ). cond (eqb n 58) (octets (drop (i + 1) l)) None) e
 
-pub no_colon : (l : List ℕ) (i : ℕ) → i < length l → (get_or l i 0 ≡ 58 → ⊥) → behind (drop i l) ≡ None
-no_colon l i lt e = ap behind (drop_more l i 0 lt) ∙ by (eqb (get_or l i 0) 58) refl
-  where
-    by : (t : Bool) → eqb (get_or l i 0) 58 ≡ t → cond t (octets (drop (i + 1) l)) None ≡ None
-    by true f = absurd (e (eqb-true (get_or l i 0) 58 f))
-    by false f = refl
-
 pub next_pair : (l : List ℕ) (i j k : ℕ) (o : Option ℕ) → i + 1 ≡ j → j + 2 ≡ k → k ≤ length l → get_or l i 0 ≡ 58 → o ≡ octet (get_or l j 0) (get_or l (j + 1) 0) → behind (drop i l) ≡ with_octet o (behind (drop k l))
 next_pair l i j k o on after le colon e =
     behind_colon l i (omega arith) colon ∙ ap (λ (n : ℕ). octets (drop n l)) on ∙ ap octets (two l j (omega arith)) ∙ octets_step (get_or l j 0) (get_or l (j + 1) 0) (drop (j + 2) l)
@@ -139,9 +132,6 @@ other_length w count ne = by (octets w) refl
     by : (o : Option (List ℕ)) → octets w ≡ o → option_and_then (λ (l : List ℕ). cond (eqb (length l) count) (Some l) None) o ≡ None
     by None e = refl
     by (Some l) e = test l (eqb (length l) count) e refl
-
-pub none_of : (w : List ℕ) (count : ℕ) → octets w ≡ None → octets_of count w ≡ None
-none_of w count e = ap (λ (o : Option (List ℕ)). option_and_then (λ (l : List ℕ). cond (eqb (length l) count) (Some l) None) o) e
 
 pub some_of : (w l : List ℕ) (count : ℕ) → octets w ≡ Some l → length l ≡ count → octets_of count w ≡ Some l
 some_of w l count e is = ap (λ (o : Option (List ℕ)). option_and_then (λ (l : List ℕ). cond (eqb (length l) count) (Some l) None) o) e ∙ ap (λ t. cond t (Some l) None) (eq-eqb (length l) count is)

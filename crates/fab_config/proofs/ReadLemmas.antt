@@ -10,9 +10,6 @@ use Rattle.fab_config.specs.Text.{line_read, lines_read, finished}
 use Rattle.fab_config.specs.declared.ConfigWhy.{ConfigWhy}
 use Rattle.fab_config.specs.declared.ConfigWhy.TheVariants as why
 use Rattle.fab_config.specs.declared.ConfigFault.{ConfigFault}
-use Rattle.fab_config.specs.declared.Zone.{Zone}
-use Rattle.fab_config.specs.declared.ZoneSet.{ZoneSet}
-use Rattle.fab_config.specs.declared.Activation.{Activation}
 use Rattle.fab_config.specs.declared.draft.Draft.{Draft}
 
 abbrev after : ℕ → List (List ℕ) → Result Draft ConfigWhy → Result Settings ConfigFault
@@ -28,9 +25,6 @@ step n d line lines = by (line_read d line)
 
 pub lines_ok : (n : ℕ) (d next : Draft) (all lines : List (List ℕ)) (line : List ℕ) → all ≡ line ∷ lines → line_read d line ≡ Ok next → lines_read (n + 1) next lines ≡ lines_read n d all
 lines_ok n d next all lines line is e = sym (ap (lines_read n d) is ∙ step n d line lines ∙ ap (after n lines) e)
-
-pub lines_err : (n : ℕ) (d : Draft) (all lines : List (List ℕ)) (line : List ℕ) (w : ConfigWhy) → all ≡ line ∷ lines → line_read d line ≡ Err w → lines_read n d all ≡ Err (record { line = n; why = w })
-lines_err n d all lines line w is e = ap (lines_read n d) is ∙ step n d line lines ∙ ap (after n lines) e
 
 -- where no line is left
 pub at_end : (n : ℕ) (d : Draft) (rest : List ℕ) (c : Settings) → length rest ≡ 0 → Some c ≡ finished d → lines_read n d (lines_of rest) ≡ Ok c
@@ -71,38 +65,3 @@ fits_in_range d mac vlan switch fit is_mac is_vlan small =
     let a9 = default_passes (is_between 10 1000) d.window 100 fit.window refl in
     let a10 = default_passes (is_between 1 1000) d.limit 240 fit.limit refl in
     and_from _ _ (and_from _ _ (and_from _ _ (and_from _ _ (and_from _ _ (and_from _ _ (and_from _ _ (and_from _ _ (and_from _ _ (and_from _ _ (and_from _ _ (and_from _ _ a1 a2) a3) a4) a5) a6) a7) a8) a9) a10) fit.zones) fit.sets) fit.activations
-
-module _ (d : Draft) (mac : List ℕ) (vlan switch map domain pool priority period window limit : ℕ) (zones : List Zone) (sets : List ZoneSet) (activations : List Activation) where
-  pub finish_in_range : Fits d → d.fcf_mac ≡ Some mac → d.vlan ≡ Some vlan → switch < 2 ^ 64 → map ≡ unwrap_or d.map 0x0efc00 → domain ≡ unwrap_or d.domain 1 → pool ≡ unwrap_or d.pool 256 → priority ≡ unwrap_or d.priority 128
-      → period ≡ unwrap_or d.period 8000 → window ≡ unwrap_or d.window 100 → limit ≡ unwrap_or d.limit 240 → zones ≡ d.zones → sets ≡ d.sets → activations ≡ d.activations
-      → IsTrue (is_in_range (record {
-        switch = switch;
-        fcf_mac = mac;
-        fc_map = map;
-        vlan = vlan;
-        domain = domain;
-        pool = pool;
-        priority = priority;
-        period = period;
-        window = window;
-        limit = limit;
-        zones = zones;
-        sets = sets;
-        activations = activations;
-      }))
-  finish_in_range fit is_mac is_vlan small e1 e2 e3 e4 e5 e6 e7 z s a =
-      (λ i. is_in_range (record {
-        switch = switch;
-        fcf_mac = mac;
-        fc_map = e1 i;
-        vlan = vlan;
-        domain = e2 i;
-        pool = e3 i;
-        priority = e4 i;
-        period = e5 i;
-        window = e6 i;
-        limit = e7 i;
-        zones = z i;
-        sets = s i;
-        activations = a i;
-      })) ∙ fits_in_range d mac vlan switch fit is_mac is_vlan small

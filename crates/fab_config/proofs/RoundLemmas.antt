@@ -20,7 +20,8 @@ use Rattle.fab_config.specs.declared.Activation.{Activation}
 use Rattle.fab_config.specs.declared.ConfigWhy.TheVariants as why
 use Rattle.fab_config.specs.declared.ConfigFault.{ConfigFault}
 use Rattle.fab_config.specs.declared.draft.Draft.{Draft}
-use Rattle.fab_config.specs.declared.keyword.Keyword.TheVariants.{FcfMac, Vlan, Switch, FcMap, Domain, Pool, Priority, Period, Window, Logins}
+use Rattle.fab_config.specs.declared.keyword.Keyword.TheVariants.{FcfMac, Switch, FcMap, Number}
+use Rattle.fab_config.specs.declared.keyword.NumberKey.TheVariants.{Vlan, Domain, Pool, Priority, Period, Window, Logins}
 use Rattle.fab_config.proofs.BackLemmas.{is_word, are_words}
 use Rattle.fab_config.proofs.ValueLemmas.{are_bytes, name_back, octets_of_back, octets_word, spelled_bytes, between_back, decimal_word}
 use Rattle.fab_config.proofs.FoldLemmas.{line_step}
@@ -114,23 +115,23 @@ keys_read c rest h =
     ap (λ l. lines_read 1 NOTHING (lines_of l)) (regroup l1 l2 l3 l4 l5 l6 l7 l8 l9 l10 rest)
     ∙ line_step 1 NOTHING d1 (codes "fcf-mac") (octets_text c.fcf_mac ∷ []) FcfMac (l2 ++ (l3 ++ (l4 ++ (l5 ++ (l6 ++ (l7 ++ (l8 ++ (l9 ++ (l10 ++ rest))))))))) refl (omega arith) refl refl
     (one_word (octets_text c.fcf_mac) (octets_word c.fcf_mac (let s = h.six in omega (arith, s)) h.bytes)) (ap (λ (o : Option (List ℕ)). changed (set_once None o) (λ x. record NOTHING { fcf_mac = x })) (station_back c h))
-    ∙ line_step 2 d1 d2 (codes "vlan") (decimal c.vlan ∷ []) Vlan (l3 ++ (l4 ++ (l5 ++ (l6 ++ (l7 ++ (l8 ++ (l9 ++ (l10 ++ rest)))))))) refl (omega arith) refl refl
+    ∙ line_step 2 d1 d2 (codes "vlan") (decimal c.vlan ∷ []) (Number Vlan) (l3 ++ (l4 ++ (l5 ++ (l6 ++ (l7 ++ (l8 ++ (l9 ++ (l10 ++ rest)))))))) refl (omega arith) refl refl
     (w 1 4094 c.vlan (omega arith) h.vlan) (ap (λ (o : Option ℕ). changed (set_once None o) (λ x. record d1 { vlan = x })) (b 1 4094 c.vlan (omega arith) h.vlan))
     ∙ line_step 3 d2 d3 (codes "switch") (name_text c.switch ∷ []) Switch (l4 ++ (l5 ++ (l6 ++ (l7 ++ (l8 ++ (l9 ++ (l10 ++ rest))))))) refl (omega arith) refl refl
     (one_word (name_text c.switch) (octets_word (spelled 8 c.switch) (let s = length-spelled 8 c.switch in omega (arith, s)) (spelled_bytes 8 c.switch))) (ap (λ (o : Option ℕ). changed (set_once None o) (λ x. record d2 { switch = x })) (name_back c.switch h.switch))
     ∙ line_step 4 d3 d4 (codes "fc-map") (octets_text (spelled 3 c.fc_map) ∷ []) FcMap (l5 ++ (l6 ++ (l7 ++ (l8 ++ (l9 ++ (l10 ++ rest)))))) refl (omega arith) refl refl
     (one_word (octets_text (spelled 3 c.fc_map)) (octets_word (spelled 3 c.fc_map) (let s = length-spelled 3 c.fc_map in omega (arith, s)) (spelled_bytes 3 c.fc_map))) (ap (λ (o : Option ℕ). changed (set_once None o) (λ x. record d3 { map = x })) (map_back c.fc_map h.map))
-    ∙ line_step 5 d4 d5 (codes "domain") (decimal c.domain ∷ []) Domain (l6 ++ (l7 ++ (l8 ++ (l9 ++ (l10 ++ rest))))) refl (omega arith) refl refl
+    ∙ line_step 5 d4 d5 (codes "domain") (decimal c.domain ∷ []) (Number Domain) (l6 ++ (l7 ++ (l8 ++ (l9 ++ (l10 ++ rest))))) refl (omega arith) refl refl
     (w 1 239 c.domain (omega arith) h.domain) (ap (λ (o : Option ℕ). changed (set_once None o) (λ x. record d4 { domain = x })) (b 1 239 c.domain (omega arith) h.domain))
-    ∙ line_step 6 d5 d6 (codes "pool") (decimal c.pool ∷ []) Pool (l7 ++ (l8 ++ (l9 ++ (l10 ++ rest)))) refl (omega arith) refl refl
+    ∙ line_step 6 d5 d6 (codes "pool") (decimal c.pool ∷ []) (Number Pool) (l7 ++ (l8 ++ (l9 ++ (l10 ++ rest)))) refl (omega arith) refl refl
     (w 1 60000 c.pool (omega arith) h.pool) (ap (λ (o : Option ℕ). changed (set_once None o) (λ x. record d5 { pool = x })) (b 1 60000 c.pool (omega arith) h.pool))
-    ∙ line_step 7 d6 d7 (codes "priority") (decimal c.priority ∷ []) Priority (l8 ++ (l9 ++ (l10 ++ rest))) refl (omega arith) refl refl
+    ∙ line_step 7 d6 d7 (codes "priority") (decimal c.priority ∷ []) (Number Priority) (l8 ++ (l9 ++ (l10 ++ rest))) refl (omega arith) refl refl
     (w 0 255 c.priority (omega arith) h.priority) (ap (λ (o : Option ℕ). changed (set_once None o) (λ x. record d6 { priority = x })) (b 0 255 c.priority (omega arith) h.priority))
-    ∙ line_step 8 d7 d8 (codes "period") (decimal c.period ∷ []) Period (l9 ++ (l10 ++ rest)) refl (omega arith) refl refl
+    ∙ line_step 8 d7 d8 (codes "period") (decimal c.period ∷ []) (Number Period) (l9 ++ (l10 ++ rest)) refl (omega arith) refl refl
     (w 250 90000 c.period (omega arith) h.period) (ap (λ (o : Option ℕ). changed (set_once None o) (λ x. record d7 { period = x })) (b 250 90000 c.period (omega arith) h.period))
-    ∙ line_step 9 d8 d9 (codes "window") (decimal c.window ∷ []) Window (l10 ++ rest) refl (omega arith) refl refl
+    ∙ line_step 9 d8 d9 (codes "window") (decimal c.window ∷ []) (Number Window) (l10 ++ rest) refl (omega arith) refl refl
     (w 10 1000 c.window (omega arith) h.window) (ap (λ (o : Option ℕ). changed (set_once None o) (λ x. record d8 { window = x })) (b 10 1000 c.window (omega arith) h.window))
-    ∙ line_step 10 d9 d10 (codes "limit") (decimal c.limit ∷ []) Logins rest refl (omega arith) refl refl
+    ∙ line_step 10 d9 d10 (codes "limit") (decimal c.limit ∷ []) (Number Logins) rest refl (omega arith) refl refl
     (w 1 1000 c.limit (omega arith) h.limit) (ap (λ (o : Option ℕ). changed (set_once None o) (λ x. record d9 { limit = x })) (b 1 1000 c.limit (omega arith) h.limit))
 
 -- all lines of a written configuration

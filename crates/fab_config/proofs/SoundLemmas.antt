@@ -9,22 +9,24 @@ use Rattle.fab_base.proofs.LayoutLemmas.{AreBytes, big_endian-fits}
 use Rattle.fab_config.specs.Settings.{Settings, is_between, is_station, is_in_range}
 use Rattle.fab_config.specs.Lines.{lines_of}
 use Rattle.fab_config.specs.Names.{zone_names}
-use Rattle.fab_config.specs.Values.{is_digit, hex_value, octet, with_octet, octets, octets_of, name, station, fc_map, number_between, only}
+use Rattle.fab_config.specs.Values.{is_digit, hex_value, octet, with_octet, octets, octets_of, name, station, fc_map, only}
 use Rattle.fab_config.specs.Fitting.{Fits, passes}
 use Rattle.fab_config.specs.Typed.{IsTyped}
 use Rattle.fab_config.specs.Written.{written}
-use Rattle.fab_config.specs.Text.{NOTHING, zone_put, zones_with, sets_with, activations_with, set_once, with_keyword, line_read, switch_of, finished, lines_read, decoded}
+use Rattle.fab_config.specs.Text.{NOTHING, zone_put, zones_with, sets_with, activations_with, set_once, with_number, with_keyword, line_read, switch_of, finished, lines_read, decoded}
 use Rattle.fab_config.specs.declared.Zone.{Zone}
 use Rattle.fab_config.specs.declared.ConfigWhy.{ConfigWhy}
 use Rattle.fab_config.specs.declared.ConfigWhy.TheVariants as why
 use Rattle.fab_config.specs.declared.ConfigFault.{ConfigFault}
 use Rattle.fab_config.specs.declared.draft.Draft.{Draft}
 use Rattle.fab_config.specs.declared.keyword.Keyword.{Keyword}
-use Rattle.fab_config.specs.declared.keyword.Keyword.TheVariants.{FcfMac, Vlan, Switch, FcMap, Domain, Pool, Priority, Period, Window, Logins, Zones, Sets, Activations}
+use Rattle.fab_config.specs.declared.keyword.Keyword.TheVariants.{FcfMac, Switch, FcMap, Number, Zones, Sets, Activations}
+use Rattle.fab_config.specs.declared.keyword.NumberKey.{NumberKey}
+use Rattle.fab_config.specs.declared.keyword.NumberKey.TheVariants.{Vlan, Domain, Pool, Priority, Period, Window, Logins}
 use Rattle.fab_config.proofs.RangeLemmas.{between}
 use Rattle.fab_config.proofs.ValueLemmas.{are_bytes}
 use Rattle.fab_config.proofs.ListBack.{is_typed}
-use Rattle.fab_config.proofs.FitLemmas.{IsPut, put_of, all_push, listed_below, once_passes, changes_of, line_keeps, line_fits}
+use Rattle.fab_config.proofs.FitLemmas.{IsPut, put_of, all_push, listed_below, only_passes, once_passes, changes_of, line_keeps, line_fits}
 use Rattle.fab_config.proofs.ReadLemmas.{fits_in_range}
 use Rattle.fab_config.proofs.RoundLemmas.{decoded_back}
 
@@ -93,18 +95,15 @@ name_below w n e = by (octets_of 8 w) refl e
 
 -- ---- the values of keys
 
-name_small : (ws : List (List ℕ)) → passes (λ n. ltb n (2 ^ 64)) (only name ws) ≡ true
-name_small [] = refl
-name_small (w ∷ []) = by (name w) refl
+name_small : (w : List ℕ) → passes (λ n. ltb n (2 ^ 64)) (name w) ≡ true
+name_small w = by (name w) refl
   where
     by : (o : Option ℕ) → name w ≡ o → passes (λ n. ltb n (2 ^ 64)) o ≡ true
     by None e = refl
     by (Some n) e = lt-ltb n (2 ^ 64) (name_below w n e)
-name_small (w ∷ x ∷ ws) = refl
 
-station_bytes : (ws : List (List ℕ)) → passes are_bytes (only station ws) ≡ true
-station_bytes [] = refl
-station_bytes (w ∷ []) = by (octets_of 6 w) refl
+station_bytes : (w : List ℕ) → passes are_bytes (station w) ≡ true
+station_bytes w = by (octets_of 6 w) refl
   where
     test : (mac : List ℕ) (t : Bool) → are_bytes mac ≡ true → passes are_bytes (cond t (Some mac) None) ≡ true
     test mac true e = e
@@ -113,7 +112,6 @@ station_bytes (w ∷ []) = by (octets_of 6 w) refl
     by : (o : Option (List ℕ)) → octets_of 6 w ≡ o → passes are_bytes (option_and_then (λ (mac : List ℕ). cond (is_station mac) (Some mac) None) o) ≡ true
     by None e = refl
     by (Some mac) e = test mac (is_station mac) (octets_of_bytes 6 w mac e).1
-station_bytes (w ∷ x ∷ ws) = refl
 
 zones_typed : (zones more : List Zone) (ws : List (List ℕ)) → zones_with zones ws ≡ Ok more → list_all is_typed zones ≡ true → list_all is_typed more ≡ true
 unfolding zones_with
@@ -129,26 +127,31 @@ zones_typed zones more ws e typed =
 
 -- ---- a line
 
--- a draft of which the switch, the bytes and the members are typed
-pub record Typing (d : Draft) : Type 0 where
-  pub switch : passes (λ n. ltb n (2 ^ 64)) d.switch ≡ true
-  pub bytes : passes are_bytes d.fcf_mac ≡ true
-  pub members : list_all is_typed d.zones ≡ true
+-- the switch, the bytes and the members of a draft are typed
+abbrev pub Typing : Draft → Type 0
+Typing d = (passes (λ n. ltb n (2 ^ 64)) d.switch ≡ true) × (passes are_bytes d.fcf_mac ≡ true) × (list_all is_typed d.zones ≡ true)
+
+number_types : (d e : Draft) (k : NumberKey) (n : Option ℕ) → with_number d k n ≡ Ok e → Typing d → Typing e
+number_types d e Vlan n h t = let c = changes_of (set_once d.vlan n) (λ x. record d { vlan = x }) e h in subst Typing c.is t
+number_types d e Domain n h t = let c = changes_of (set_once d.domain n) (λ x. record d { domain = x }) e h in subst Typing c.is t
+number_types d e Pool n h t = let c = changes_of (set_once d.pool n) (λ x. record d { pool = x }) e h in subst Typing c.is t
+number_types d e Priority n h t = let c = changes_of (set_once d.priority n) (λ x. record d { priority = x }) e h in subst Typing c.is t
+number_types d e Period n h t = let c = changes_of (set_once d.period n) (λ x. record d { period = x }) e h in subst Typing c.is t
+number_types d e Window n h t = let c = changes_of (set_once d.window n) (λ x. record d { window = x }) e h in subst Typing c.is t
+number_types d e Logins n h t = let c = changes_of (set_once d.limit n) (λ x. record d { limit = x }) e h in subst Typing c.is t
 
 keyword_types : (d e : Draft) (k : Keyword) (ws : List (List ℕ)) → with_keyword d k ws ≡ Ok e → Typing d → Typing e
-keyword_types d e FcfMac ws h t = let p = changes_of (set_once d.fcf_mac (only station ws)) (λ x. record d { fcf_mac = x }) e h in subst Typing p.is (record { switch = t.switch; bytes = once_passes are_bytes d.fcf_mac (only station ws) p.x p.read (station_bytes ws); members = t.members })
-keyword_types d e Vlan ws h t = let p = changes_of (set_once d.vlan (only (number_between 1 4094) ws)) (λ x. record d { vlan = x }) e h in subst Typing p.is (record { switch = t.switch; bytes = t.bytes; members = t.members })
-keyword_types d e Switch ws h t = let p = changes_of (set_once d.switch (only name ws)) (λ x. record d { switch = x }) e h in subst Typing p.is (record { switch = once_passes (λ n. ltb n (2 ^ 64)) d.switch (only name ws) p.x p.read (name_small ws); bytes = t.bytes; members = t.members })
-keyword_types d e FcMap ws h t = let p = changes_of (set_once d.map (only fc_map ws)) (λ x. record d { map = x }) e h in subst Typing p.is (record { switch = t.switch; bytes = t.bytes; members = t.members })
-keyword_types d e Domain ws h t = let p = changes_of (set_once d.domain (only (number_between 1 239) ws)) (λ x. record d { domain = x }) e h in subst Typing p.is (record { switch = t.switch; bytes = t.bytes; members = t.members })
-keyword_types d e Pool ws h t = let p = changes_of (set_once d.pool (only (number_between 1 60000) ws)) (λ x. record d { pool = x }) e h in subst Typing p.is (record { switch = t.switch; bytes = t.bytes; members = t.members })
-keyword_types d e Priority ws h t = let p = changes_of (set_once d.priority (only (number_between 0 255) ws)) (λ x. record d { priority = x }) e h in subst Typing p.is (record { switch = t.switch; bytes = t.bytes; members = t.members })
-keyword_types d e Period ws h t = let p = changes_of (set_once d.period (only (number_between 250 90000) ws)) (λ x. record d { period = x }) e h in subst Typing p.is (record { switch = t.switch; bytes = t.bytes; members = t.members })
-keyword_types d e Window ws h t = let p = changes_of (set_once d.window (only (number_between 10 1000) ws)) (λ x. record d { window = x }) e h in subst Typing p.is (record { switch = t.switch; bytes = t.bytes; members = t.members })
-keyword_types d e Logins ws h t = let p = changes_of (set_once d.limit (only (number_between 1 1000) ws)) (λ x. record d { limit = x }) e h in subst Typing p.is (record { switch = t.switch; bytes = t.bytes; members = t.members })
-keyword_types d e Zones ws h t = let p = changes_of (zones_with d.zones ws) (λ x. record d { zones = x }) e h in subst Typing p.is (record { switch = t.switch; bytes = t.bytes; members = zones_typed d.zones p.x ws p.read t.members })
-keyword_types d e Sets ws h t = let p = changes_of (sets_with d.zones d.sets ws) (λ x. record d { sets = x }) e h in subst Typing p.is (record { switch = t.switch; bytes = t.bytes; members = t.members })
-keyword_types d e Activations ws h t = let p = changes_of (activations_with d.sets d.activations ws) (λ x. record d { activations = x }) e h in subst Typing p.is (record { switch = t.switch; bytes = t.bytes; members = t.members })
+keyword_types d e FcfMac ws h t =
+    let c = changes_of (set_once d.fcf_mac (only station ws)) (λ x. record d { fcf_mac = x }) e h in
+    subst Typing c.is (t.0, once_passes are_bytes d.fcf_mac (only station ws) c.x c.read (only_passes station are_bytes station_bytes ws), t.2)
+keyword_types d e Switch ws h t =
+    let c = changes_of (set_once d.switch (only name ws)) (λ x. record d { switch = x }) e h in
+    subst Typing c.is (once_passes (λ n. ltb n (2 ^ 64)) d.switch (only name ws) c.x c.read (only_passes name (λ n. ltb n (2 ^ 64)) name_small ws), t.1, t.2)
+keyword_types d e FcMap ws h t = let c = changes_of (set_once d.map (only fc_map ws)) (λ x. record d { map = x }) e h in subst Typing c.is t
+keyword_types d e (Number k) ws h t = number_types d e k _ h t
+keyword_types d e Zones ws h t = let c = changes_of (zones_with d.zones ws) (λ x. record d { zones = x }) e h in subst Typing c.is (t.0, t.1, zones_typed d.zones c.x ws c.read t.2)
+keyword_types d e Sets ws h t = let c = changes_of (sets_with d.zones d.sets ws) (λ x. record d { sets = x }) e h in subst Typing c.is t
+keyword_types d e Activations ws h t = let c = changes_of (activations_with d.sets d.activations ws) (λ x. record d { activations = x }) e h in subst Typing c.is t
 
 -- ---- the whole text
 
@@ -193,10 +196,10 @@ finished_sound d c e fit t = by d.fcf_mac d.vlan refl refl e
     by (Some mac) (Some vlan) f g h =
         let is : made d mac vlan ≡ c = cc in
         let station : is_station mac ≡ true = sym (ap (passes is_station) f) ∙ fit.fcf_mac in
-        let bytes : are_bytes mac ≡ true = sym (ap (passes are_bytes) f) ∙ t.bytes in
+        let bytes : are_bytes mac ≡ true = sym (ap (passes are_bytes) f) ∙ t.1 in
         subst Sound is (record {
-          range = fits_in_range d mac vlan (unwrap_or d.switch (switch_of mac)) fit f g (switch_small d.switch mac t.switch station bytes);
-          typed = record { bytes = bytes; members = t.members };
+          range = fits_in_range d mac vlan (unwrap_or d.switch (switch_of mac)) fit f g (switch_small d.switch mac t.0 station bytes);
+          typed = record { bytes = bytes; members = t.2 };
         })
 
 lines_sound : (n : ℕ) (d : Draft) (lines : List (List ℕ)) (c : Settings) → lines_read n d lines ≡ Ok c → Fits d → Typing d → Sound c
@@ -222,7 +225,7 @@ decoded_sound text c e = by (ltb 1048576 (length text)) e
   where
     by : (t : Bool) → elim t as (λ _. Result Settings ConfigFault) [ true ↦ Err (record { line = 0; why = why.Long }) | false ↦ lines_read 1 NOTHING (lines_of text) ] ≡ Ok c → Sound c
     by true h = absurd (cc)
-    by false h = lines_sound 1 NOTHING (lines_of text) c h nothing_fits (record { switch = refl; bytes = refl; members = refl })
+    by false h = lines_sound 1 NOTHING (lines_of text) c h nothing_fits (refl, refl, refl)
 
 pub decoded_again : (text : List ℕ) (c : Settings) → decoded text ≡ Ok c → decoded (written c) ≡ Ok c
 decoded_again text c e = let s = decoded_sound text c e in decoded_back c s.range s.typed

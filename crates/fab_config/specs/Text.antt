@@ -16,29 +16,46 @@ use Rattle.fab_config.specs.declared.ConfigWhy.TheVariants.{Long, Ascii, Key, Tw
 use Rattle.fab_config.specs.declared.ConfigFault.{ConfigFault}
 use Rattle.fab_config.specs.declared.draft.Draft.{Draft}
 use Rattle.fab_config.specs.declared.keyword.Keyword.{Keyword}
-use Rattle.fab_config.specs.declared.keyword.Keyword.TheVariants.{FcfMac, Vlan, Switch, FcMap, Domain, Pool, Priority, Period, Window, Logins, Zones, Sets, Activations}
+use Rattle.fab_config.specs.declared.keyword.Keyword.TheVariants.{FcfMac, Switch, FcMap, Number, Zones, Sets, Activations}
+use Rattle.fab_config.specs.declared.keyword.NumberKey.{NumberKey}
+use Rattle.fab_config.specs.declared.keyword.NumberKey.TheVariants.{Vlan, Domain, Pool, Priority, Period, Window, Logins}
 
 -- ---- the keys
 
 -- how each key is spelled, one a row
+abbrev pub number_text : NumberKey → List ℕ
+number_text Vlan = codes "vlan"
+number_text Domain = codes "domain"
+number_text Pool = codes "pool"
+number_text Priority = codes "priority"
+number_text Period = codes "period"
+number_text Window = codes "window"
+number_text Logins = codes "limit"
+
 abbrev pub keyword_text : Keyword → List ℕ
 keyword_text FcfMac = codes "fcf-mac"
-keyword_text Vlan = codes "vlan"
 keyword_text Switch = codes "switch"
 keyword_text FcMap = codes "fc-map"
-keyword_text Domain = codes "domain"
-keyword_text Pool = codes "pool"
-keyword_text Priority = codes "priority"
-keyword_text Period = codes "period"
-keyword_text Window = codes "window"
-keyword_text Logins = codes "limit"
+keyword_text (Number k) = number_text k
 keyword_text Zones = codes "zone"
 keyword_text Sets = codes "zoneset"
 keyword_text Activations = codes "activate"
 
+-- the least and the most value of each key that takes a number, one a row
+abbrev pub range_of : NumberKey → ℕ × ℕ
+range_of Vlan = (1, 4094)
+range_of Domain = (1, 239)
+range_of Pool = (1, 60000)
+range_of Priority = (0, 255)
+range_of Period = (250, 90000)
+range_of Window = (10, 1000)
+range_of Logins = (1, 1000)
+
 -- the keys in the order of the table
 abbrev pub KEYWORDS_LIST : List Keyword
-KEYWORDS_LIST = FcfMac ∷ Vlan ∷ Switch ∷ FcMap ∷ Domain ∷ Pool ∷ Priority ∷ Period ∷ Window ∷ Logins ∷ Zones ∷ Sets ∷ Activations ∷ []
+KEYWORDS_LIST =
+    FcfMac ∷ Number Vlan ∷ Switch ∷ FcMap ∷ Number Domain ∷ Number Pool ∷ Number Priority ∷ Number Period ∷ Number Window ∷ Number Logins ∷ Zones ∷ Sets
+    ∷ Activations ∷ []
 
 abbrev pub keyword_in : List Keyword → List ℕ → Option Keyword
 keyword_in keywords word = find (λ k. same_bytes word (keyword_text k)) keywords
@@ -152,18 +169,22 @@ abbrev pub changed : {X : Type 0} → Result X ConfigWhy → (X → Draft) → R
 changed (Ok x) with_value = Ok (with_value x)
 changed (Err why) with_value = Err why
 
+-- a draft with a number under its key, one a row
+abbrev pub with_number : Draft → NumberKey → Option ℕ → Result Draft ConfigWhy
+with_number d Vlan n = changed (set_once d.vlan n) (λ x. record d { vlan = x })
+with_number d Domain n = changed (set_once d.domain n) (λ x. record d { domain = x })
+with_number d Pool n = changed (set_once d.pool n) (λ x. record d { pool = x })
+with_number d Priority n = changed (set_once d.priority n) (λ x. record d { priority = x })
+with_number d Period n = changed (set_once d.period n) (λ x. record d { period = x })
+with_number d Window n = changed (set_once d.window n) (λ x. record d { window = x })
+with_number d Logins n = changed (set_once d.limit n) (λ x. record d { limit = x })
+
 -- what one more line says, by its key, one a row
 abbrev pub with_keyword : Draft → Keyword → List (List ℕ) → Result Draft ConfigWhy
 with_keyword d FcfMac values = changed (set_once d.fcf_mac (only station values)) (λ x. record d { fcf_mac = x })
-with_keyword d Vlan values = changed (set_once d.vlan (only (number_between 1 4094) values)) (λ x. record d { vlan = x })
 with_keyword d Switch values = changed (set_once d.switch (only name values)) (λ x. record d { switch = x })
 with_keyword d FcMap values = changed (set_once d.map (only fc_map values)) (λ x. record d { map = x })
-with_keyword d Domain values = changed (set_once d.domain (only (number_between 1 239) values)) (λ x. record d { domain = x })
-with_keyword d Pool values = changed (set_once d.pool (only (number_between 1 60000) values)) (λ x. record d { pool = x })
-with_keyword d Priority values = changed (set_once d.priority (only (number_between 0 255) values)) (λ x. record d { priority = x })
-with_keyword d Period values = changed (set_once d.period (only (number_between 250 90000) values)) (λ x. record d { period = x })
-with_keyword d Window values = changed (set_once d.window (only (number_between 10 1000) values)) (λ x. record d { window = x })
-with_keyword d Logins values = changed (set_once d.limit (only (number_between 1 1000) values)) (λ x. record d { limit = x })
+with_keyword d (Number k) values = with_number d k (only (number_between (range_of k).0 (range_of k).1) values)
 with_keyword d Zones values = changed (zones_with d.zones values) (λ x. record d { zones = x })
 with_keyword d Sets values = changed (sets_with d.zones d.sets values) (λ x. record d { sets = x })
 with_keyword d Activations values = changed (activations_with d.sets d.activations values) (λ x. record d { activations = x })

@@ -1,5 +1,5 @@
 -- What an error tells of the reading of a line, and of a text.
-use Rattle.std.specs.Prelude.{◌≡◌, Result, Err}
+use Rattle.std.specs.Prelude.{◌≡◌, Result, Ok, Err, MatchResult}
 use Rattle.fab_config.specs.declared.ConfigWhy.{ConfigWhy}
 use Rattle.fab_config.specs.declared.ConfigFault.{ConfigFault}
 use Rattle.fab_config.specs.declared.reading.LineError.{LineError}
@@ -12,7 +12,14 @@ abbrev pub Tells : {X : Type 0} → LineError → Result X ConfigWhy → Type 0
 Tells (line.Fault why) r = r ≡ Err why
 Tells line.Memory r = Unit {0}
 
+-- the answer is what a line says, or an error that tells of its fault
+abbrev pub Answers : {X : Type 0} → Result X LineError → Result X ConfigWhy → Type 0
+Answers result r = MatchResult result (λ x. r ≡ Ok x) (λ e. Tells e r)
+
 -- the same of a whole text
 abbrev pub TellsText : {X : Type 0} → ConfigError → Result X ConfigFault → Type 0
 TellsText (text.Fault fault) r = r ≡ Err fault
 TellsText text.Memory r = Unit {0}
+
+abbrev pub AnswersText : {X : Type 0} → Result X ConfigError → Result X ConfigFault → Type 0
+AnswersText result r = MatchResult result (λ x. r ≡ Ok x) (λ e. TellsText e r)

@@ -1,12 +1,12 @@
-// What the lines of a text say so far.
+//! What the lines of a text say so far.
 ghost use Rattle.std.specs.Prelude.{◌≡◌, ◌<◌, ◌^◌, Ok, IfOk, MatchResult, unwrap_or};
 ghost use Rattle.fab_config.specs.Lines.{words};
 ghost use Rattle.fab_config.specs.Text as spec;
-ghost use Rattle.fab_config.specs.Told.{Tells};
+ghost use Rattle.fab_config.specs.Told.{Answers};
 ghost use Rattle.fab_config.specs.Fitting.{Fits};
 
 use crate::hexes::{only_fc_map, only_name, only_station};
-use crate::keyword::{Keyword, keyword_of};
+use crate::keyword::{Keyword, NumberKey, keyword_of};
 use crate::named::{NamedSets, NamedZones, with_activation};
 use crate::numbers::only_number;
 use crate::reading::LineError;
@@ -58,7 +58,7 @@ impl Draft {
     /// What is said with one more line.
     #[tactic(auto, unfolding(crate::specs::Text::line_read))]
     pub(crate) fn with_line(self, alloc: Global, line: &[u8]) -> Result<Draft, LineError>
-        ensures { MatchResult result (λ d. spec.line_read self line.now ≡ Ok d) (λ e. Tells e (spec.line_read self line.now)) }
+        ensures { Answers result (spec.line_read self line.now) }
     {
         if is_skipped(line) {
             return Ok(self);
@@ -77,19 +77,13 @@ impl Draft {
 
     // What is said with a line of this key and these values.
     fn with(self, alloc: Global, keyword: Keyword, values: &[u8]) -> Result<Draft, LineError>
-        ensures { MatchResult result (λ d. spec.with_keyword self keyword (words values.now) ≡ Ok d) (λ e. Tells e (spec.with_keyword self keyword (words values.now))) }
+        ensures { Answers result (spec.with_keyword self keyword (words values.now)) }
     {
         match keyword {
             Keyword::FcfMac => self.with_fcf_mac(values),
-            Keyword::Vlan => self.with_vlan(values),
             Keyword::Switch => self.with_switch(values),
             Keyword::FcMap => self.with_map(values),
-            Keyword::Domain => self.with_domain(values),
-            Keyword::Pool => self.with_pool(values),
-            Keyword::Priority => self.with_priority(values),
-            Keyword::Period => self.with_period(values),
-            Keyword::Window => self.with_window(values),
-            Keyword::Logins => self.with_limit(values),
+            Keyword::Number(key) => self.with_number(key, values),
             Keyword::Zones => self.with_zone(alloc, values),
             Keyword::Sets => self.with_set(alloc, values),
             Keyword::Activations => self.with_activation(alloc, values),
@@ -97,91 +91,85 @@ impl Draft {
     }
 
     fn with_fcf_mac(self, values: &[u8]) -> Result<Draft, LineError>
-        ensures { MatchResult result (λ d. spec.with_keyword self Keyword.FcfMac (words values.now) ≡ Ok d) (λ e. Tells e (spec.with_keyword self Keyword.FcfMac (words values.now))) }
+        ensures { Answers result (spec.with_keyword self Keyword.FcfMac (words values.now)) }
     {
         let fcf_mac = set_once(self.fcf_mac, only_station(values))?;
         Ok(Draft { fcf_mac, ..self })
     }
 
-    fn with_vlan(self, values: &[u8]) -> Result<Draft, LineError>
-        ensures { MatchResult result (λ d. spec.with_keyword self Keyword.Vlan (words values.now) ≡ Ok d) (λ e. Tells e (spec.with_keyword self Keyword.Vlan (words values.now))) }
-    {
-        let vlan = set_once(self.vlan, only_number(values, 1, 4094))?;
-        Ok(Draft { vlan, ..self })
-    }
-
     fn with_switch(self, values: &[u8]) -> Result<Draft, LineError>
-        ensures { MatchResult result (λ d. spec.with_keyword self Keyword.Switch (words values.now) ≡ Ok d) (λ e. Tells e (spec.with_keyword self Keyword.Switch (words values.now))) }
+        ensures { Answers result (spec.with_keyword self Keyword.Switch (words values.now)) }
     {
         let switch = set_once(self.switch, only_name(values))?;
         Ok(Draft { switch, ..self })
     }
 
     fn with_map(self, values: &[u8]) -> Result<Draft, LineError>
-        ensures { MatchResult result (λ d. spec.with_keyword self Keyword.FcMap (words values.now) ≡ Ok d) (λ e. Tells e (spec.with_keyword self Keyword.FcMap (words values.now))) }
+        ensures { Answers result (spec.with_keyword self Keyword.FcMap (words values.now)) }
     {
         let map = set_once(self.map, only_fc_map(values))?;
         Ok(Draft { map, ..self })
     }
 
-    fn with_domain(self, values: &[u8]) -> Result<Draft, LineError>
-        ensures { MatchResult result (λ d. spec.with_keyword self Keyword.Domain (words values.now) ≡ Ok d) (λ e. Tells e (spec.with_keyword self Keyword.Domain (words values.now))) }
+    fn with_number(self, key: NumberKey, values: &[u8]) -> Result<Draft, LineError>
+        ensures { Answers result (spec.with_keyword self (Keyword.Number key) (words values.now)) }
     {
-        let domain = set_once(self.domain, only_number(values, 1, 239))?;
-        Ok(Draft { domain, ..self })
+        let (least, most) = key.range();
+        self.numbered(key, only_number(values, least, most))
     }
 
-    fn with_pool(self, values: &[u8]) -> Result<Draft, LineError>
-        ensures { MatchResult result (λ d. spec.with_keyword self Keyword.Pool (words values.now) ≡ Ok d) (λ e. Tells e (spec.with_keyword self Keyword.Pool (words values.now))) }
+    // With a number under its key.
+    fn numbered(self, key: NumberKey, number: Option<u32>) -> Result<Draft, LineError>
+        ensures { Answers result (spec.with_number self key number) }
     {
-        let pool = set_once(self.pool, only_number(values, 1, 60000))?;
-        Ok(Draft { pool, ..self })
-    }
-
-    fn with_priority(self, values: &[u8]) -> Result<Draft, LineError>
-        ensures { MatchResult result (λ d. spec.with_keyword self Keyword.Priority (words values.now) ≡ Ok d) (λ e. Tells e (spec.with_keyword self Keyword.Priority (words values.now))) }
-    {
-        let priority = set_once(self.priority, only_number(values, 0, 255))?;
-        Ok(Draft { priority, ..self })
-    }
-
-    fn with_period(self, values: &[u8]) -> Result<Draft, LineError>
-        ensures { MatchResult result (λ d. spec.with_keyword self Keyword.Period (words values.now) ≡ Ok d) (λ e. Tells e (spec.with_keyword self Keyword.Period (words values.now))) }
-    {
-        let period = set_once(self.period, only_number(values, 250, 90000))?;
-        Ok(Draft { period, ..self })
-    }
-
-    fn with_window(self, values: &[u8]) -> Result<Draft, LineError>
-        ensures { MatchResult result (λ d. spec.with_keyword self Keyword.Window (words values.now) ≡ Ok d) (λ e. Tells e (spec.with_keyword self Keyword.Window (words values.now))) }
-    {
-        let window = set_once(self.window, only_number(values, 10, 1000))?;
-        Ok(Draft { window, ..self })
-    }
-
-    fn with_limit(self, values: &[u8]) -> Result<Draft, LineError>
-        ensures { MatchResult result (λ d. spec.with_keyword self Keyword.Logins (words values.now) ≡ Ok d) (λ e. Tells e (spec.with_keyword self Keyword.Logins (words values.now))) }
-    {
-        let limit = set_once(self.limit, only_number(values, 1, 1000))?;
-        Ok(Draft { limit, ..self })
+        match key {
+            NumberKey::Vlan => {
+                let vlan = set_once(self.vlan, number)?;
+                Ok(Draft { vlan, ..self })
+            }
+            NumberKey::Domain => {
+                let domain = set_once(self.domain, number)?;
+                Ok(Draft { domain, ..self })
+            }
+            NumberKey::Pool => {
+                let pool = set_once(self.pool, number)?;
+                Ok(Draft { pool, ..self })
+            }
+            NumberKey::Priority => {
+                let priority = set_once(self.priority, number)?;
+                Ok(Draft { priority, ..self })
+            }
+            NumberKey::Period => {
+                let period = set_once(self.period, number)?;
+                Ok(Draft { period, ..self })
+            }
+            NumberKey::Window => {
+                let window = set_once(self.window, number)?;
+                Ok(Draft { window, ..self })
+            }
+            NumberKey::Logins => {
+                let limit = set_once(self.limit, number)?;
+                Ok(Draft { limit, ..self })
+            }
+        }
     }
 
     fn with_zone(self, alloc: Global, values: &[u8]) -> Result<Draft, LineError>
-        ensures { MatchResult result (λ d. spec.with_keyword self Keyword.Zones (words values.now) ≡ Ok d) (λ e. Tells e (spec.with_keyword self Keyword.Zones (words values.now))) }
+        ensures { Answers result (spec.with_keyword self Keyword.Zones (words values.now)) }
     {
         let zones = self.zones.with(alloc, values)?;
         Ok(Draft { zones, ..self })
     }
 
     fn with_set(self, alloc: Global, values: &[u8]) -> Result<Draft, LineError>
-        ensures { MatchResult result (λ d. spec.with_keyword self Keyword.Sets (words values.now) ≡ Ok d) (λ e. Tells e (spec.with_keyword self Keyword.Sets (words values.now))) }
+        ensures { Answers result (spec.with_keyword self Keyword.Sets (words values.now)) }
     {
         let sets = self.sets.with(alloc, &self.zones, values)?;
         Ok(Draft { sets, ..self })
     }
 
     fn with_activation(self, alloc: Global, values: &[u8]) -> Result<Draft, LineError>
-        ensures { MatchResult result (λ d. spec.with_keyword self Keyword.Activations (words values.now) ≡ Ok d) (λ e. Tells e (spec.with_keyword self Keyword.Activations (words values.now))) }
+        ensures { Answers result (spec.with_keyword self Keyword.Activations (words values.now)) }
     {
         let activations = with_activation(self.activations, alloc, &self.sets, values)?;
         Ok(Draft {
@@ -190,7 +178,8 @@ impl Draft {
         })
     }
 
-    /// The configuration, with the defaults for what no line says, or none where a required key is missing.
+    /// The configuration, with the defaults for what no line says, or none where a required key
+    /// is missing.
     #[tactic(auto, unfolding(crate::specs::Text::finished))]
     pub(crate) fn finish(self) -> Option<Config>
         requires { Fits self }
@@ -239,7 +228,7 @@ fn switch_of(mac: &Mac) -> Wwn
 
 // The value of a key that stands once.
 fn set_once<T: Copy + Drop>(old: Option<T>, value: Option<T>) -> Result<Option<T>, LineError>
-    ensures { MatchResult result (λ o. spec.set_once old value ≡ Ok o) (λ e. Tells e (spec.set_once old value)) }
+    ensures { Answers result (spec.set_once old value) }
 {
     if old.is_some() {
         return Err(LineError::Fault(ConfigWhy::Twice));

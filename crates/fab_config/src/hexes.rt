@@ -1,5 +1,6 @@
-// Names and addresses as pairs of hexadecimal digits with colons between them.
-ghost use Rattle.std.specs.Prelude.{◌≡◌, ◌≤◌, ◌<◌, ◌+◌, ◌^◌, None, Some, length, slice_index, MatchBool, nat_lt};
+//! Names and addresses as pairs of hexadecimal digits with colons between them.
+ghost use Rattle.std.specs.Prelude.{◌≡◌, ◌≤◌, ◌<◌, ◌+◌, ◌^◌, None, Some, length, slice_index};
+ghost use Rattle.std.specs.Prelude.{MatchBool, nat_lt};
 ghost use Rattle.std.specs.List.{list_any};
 ghost use Rattle.fab_config.specs.Values as spec;
 ghost use Rattle.fab_config.specs.Lines.{words};
@@ -11,7 +12,8 @@ use fab_base::{Mac, Wwn};
 fn read_octets(word: &[u8], bytes: &mut [u8]) -> bool
     requires some { 0 < length bytes.old }
     requires few { length bytes.old ≤ 8 }
-    ensures { MatchBool result (spec.octets_of (length bytes.old) word.now ≡ Some bytes.new) (spec.octets_of (length bytes.old) word.now ≡ None) }
+    ensures { MatchBool result (spec.octets_of (length bytes.old) word.now
+        ≡ Some bytes.new) (spec.octets_of (length bytes.old) word.now ≡ None) }
 {
     let count = bytes.len();
     if word.len() + 1 != 3 * count {

@@ -1,5 +1,6 @@
-// Names and numbers that are looked up by value, in the order in which they were added.
-ghost use Rattle.std.specs.Prelude.{◌≡◌, ◌<◌, ◌==◌, ◌++◌, ◌∷◌, [], None, ℕ, List, IfOk, IfSome, OnOk, OnErr, length, map, not, if◌then◌else◌};
+//! Names and numbers that are looked up by value, in the order in which they were added.
+ghost use Rattle.std.specs.Prelude.{◌≡◌, ◌<◌, ◌==◌, ◌++◌, ◌∷◌, [], None, ℕ, List, IfOk, IfSome};
+ghost use Rattle.std.specs.Prelude.{OnOk, OnErr, length, map, not, if◌then◌else◌};
 ghost use Rattle.std.specs.List.{list_any};
 ghost use Rattle.fab_config.specs.Names.{place};
 
@@ -43,12 +44,7 @@ impl NameIndex {
         ensures ok { OnOk result (self.new ≡ self.old ++ name.now ∷ []) }
         ensures err { OnErr result (self.new ≡ self.old) }
     {
-        let Ok(name) = name.to_vec(alloc) else {
-            return Err(NoMemory);
-        };
-        let Ok(_) = self.names.insert(name) else {
-            return Err(NoMemory);
-        };
+        self.names.insert(name.to_vec(alloc)?)?;
         Ok(())
     }
 }
@@ -77,11 +73,9 @@ impl NumberIndex {
     /// Appends a number unless it is there, and says whether it is new.
     pub(crate) fn add(&mut self, number: u64) -> Result<bool, NoMemory>
         ensures fresh { IfOk result (λ fresh. fresh ≡ not (list_any (λ y. number == y) self.old)) }
-        ensures added { IfOk result (λ fresh. self.new ≡ (if fresh then self.old ++ number ∷ [] else self.old)) }
+        ensures added { IfOk result (λ fresh. self.new
+            ≡ (if fresh then self.old ++ number ∷ [] else self.old)) }
     {
-        let Ok(fresh) = self.numbers.insert(number) else {
-            return Err(NoMemory);
-        };
-        Ok(fresh)
+        Ok(self.numbers.insert(number)?)
     }
 }

@@ -1,38 +1,44 @@
-// The keys of a configuration text.
+//! The keys of a configuration text.
 ghost use Rattle.std.specs.Prelude.{◌≡◌};
 ghost use Rattle.fab_config.specs.Text as spec;
 ghost use Rattle.fab_config.specs.Settings.{same_bytes};
 
-/// The key of a line; `Logins` is the key `limit`.
+/// The key of a line.
 #[derive(Clone, Copy)]
 pub(crate) enum Keyword {
     FcfMac,
-    Vlan,
     Switch,
     FcMap,
+    Number(NumberKey),
+    Zones,
+    Sets,
+    Activations,
+}
+
+/// A key that takes a decimal number; `Logins` is the key `limit`.
+#[derive(Clone, Copy)]
+pub(crate) enum NumberKey {
+    Vlan,
     Domain,
     Pool,
     Priority,
     Period,
     Window,
     Logins,
-    Zones,
-    Sets,
-    Activations,
 }
 
 /// The keys in the order in which they are written.
 static KEYWORDS: [Keyword; 13] = [
     Keyword::FcfMac,
-    Keyword::Vlan,
+    Keyword::Number(NumberKey::Vlan),
     Keyword::Switch,
     Keyword::FcMap,
-    Keyword::Domain,
-    Keyword::Pool,
-    Keyword::Priority,
-    Keyword::Period,
-    Keyword::Window,
-    Keyword::Logins,
+    Keyword::Number(NumberKey::Domain),
+    Keyword::Number(NumberKey::Pool),
+    Keyword::Number(NumberKey::Priority),
+    Keyword::Number(NumberKey::Period),
+    Keyword::Number(NumberKey::Window),
+    Keyword::Number(NumberKey::Logins),
     Keyword::Zones,
     Keyword::Sets,
     Keyword::Activations,
@@ -45,18 +51,45 @@ impl Keyword {
     {
         match self {
             Keyword::FcfMac => b"fcf-mac",
-            Keyword::Vlan => b"vlan",
             Keyword::Switch => b"switch",
             Keyword::FcMap => b"fc-map",
-            Keyword::Domain => b"domain",
-            Keyword::Pool => b"pool",
-            Keyword::Priority => b"priority",
-            Keyword::Period => b"period",
-            Keyword::Window => b"window",
-            Keyword::Logins => b"limit",
+            Keyword::Number(key) => key.text(),
             Keyword::Zones => b"zone",
             Keyword::Sets => b"zoneset",
             Keyword::Activations => b"activate",
+        }
+    }
+}
+
+impl NumberKey {
+    /// How it is spelled.
+    fn text(self) -> &'static [u8]
+        ensures { result.now ≡ spec.number_text self }
+    {
+        match self {
+            NumberKey::Vlan => b"vlan",
+            NumberKey::Domain => b"domain",
+            NumberKey::Pool => b"pool",
+            NumberKey::Priority => b"priority",
+            NumberKey::Period => b"period",
+            NumberKey::Window => b"window",
+            NumberKey::Logins => b"limit",
+        }
+    }
+
+    /// The least and the most value.
+    pub(crate) fn range(self) -> (u32, u32)
+        ensures least { result.0 ≡ (spec.range_of self).0 }
+        ensures most { result.1 ≡ (spec.range_of self).1 }
+    {
+        match self {
+            NumberKey::Vlan => (1, 4094),
+            NumberKey::Domain => (1, 239),
+            NumberKey::Pool => (1, 60000),
+            NumberKey::Priority => (0, 255),
+            NumberKey::Period => (250, 90000),
+            NumberKey::Window => (10, 1000),
+            NumberKey::Logins => (1, 1000),
         }
     }
 }

@@ -16,6 +16,7 @@ use fab_base::{Bytes, Mac, Moment, OwnedList, Wwn};
 pub use laws::a_written_configuration_is_read_back;
 pub use reading::{ConfigError, read_config};
 use std::marker::Model;
+use thiserror::Error;
 pub use writing::write_config;
 
 /// Port names.
@@ -51,7 +52,8 @@ pub struct Activation {
 
 pub type ActivationList = OwnedList<Activation>;
 
-/// The configuration, each value in its range. Period and window are milliseconds; `limit` is the most logins at once.
+/// The configuration, each value in its range. Period and window are milliseconds; `limit` is the
+/// most logins at once.
 #[derive(Debug, Drop)]
 pub struct Config {
     pub switch: Wwn,
@@ -96,26 +98,35 @@ impl Model for Config {
 }
 
 /// Why a text is no configuration. The variants stand in the order of the tests.
-#[derive(Clone, Copy, Debug, PartialEq, Eq)]
+#[derive(Clone, Copy, Debug, PartialEq, Eq, Error)]
 pub enum ConfigWhy {
     /// The text has more than 1,048,576 bytes.
+    #[error("the text has more than 1048576 bytes")]
     Long,
     /// A byte of the line is above 7E, or below 20 and no tab.
+    #[error("a byte is no printed sign, space or tab")]
     Ascii,
     /// The line's first word is no key.
+    #[error("the first word is no key")]
     Key,
     /// A key that stands once, or the name of a zone or of a zone set, stands a second time.
+    #[error("the key or the name stands a second time")]
     Twice,
     /// The words behind the key aren't what it takes.
+    #[error("the words behind the key are not what it takes")]
     Value,
     /// One zone, member, zone set, zone of the sets or activation too many.
+    #[error("there is one zone, member, zone set or activation too many")]
     Limit,
     /// A required key is in no line.
+    #[error("a required key is missing")]
     Missing,
 }
 
-/// The first fault of a text. Lines count from 1; `Long` is at line 0, `Missing` behind the last line.
-#[derive(Clone, Copy, Debug, PartialEq, Eq)]
+/// The first fault of a text. Lines count from 1; `Long` is at line 0, `Missing` behind the last
+/// line.
+#[derive(Clone, Copy, Debug, PartialEq, Eq, Error)]
+#[error("line {line}: {why}")]
 pub struct ConfigFault {
     pub line: u32,
     pub why: ConfigWhy,

@@ -1,4 +1,4 @@
-// Zones and zone sets as they are read, with an index of their names.
+//! Zones and zone sets as they are read, with an index of their names.
 ghost use Rattle.std.specs.Prelude.{◌≡◌, ◌<◌, ◌≤◌, ◌∷◌, ◌++◌, [], None, Some, Ok, ℕ, List, IfOk, IfSome, OnOk, MatchResult, length, option_map};
 ghost use Rattle.std.specs.List.{list_all};
 ghost use Rattle.fab_config.specs.Lines.{words};

@@ -1,4 +1,4 @@
-// Decimal numbers.
+//! Decimal numbers.
 ghost use Rattle.std.specs.Prelude.{◌≡◌, ◌≤◌, ◌<◌, ◌^◌, IfSome};
 ghost use Rattle.fab_config.specs.Values as spec;
 ghost use Rattle.fab_config.specs.Lines.{words};

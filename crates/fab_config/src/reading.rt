@@ -1,20 +1,23 @@
-// Reading a configuration text.
-ghost use Rattle.std.specs.Prelude.{◌≡◌, ◌≤◌, Ok, Err, MatchResult, length};
+//! Reading a configuration text.
+ghost use Rattle.std.specs.Prelude.{◌≤◌, length};
 ghost use Rattle.fab_config.specs.Lines.{lines_of};
 ghost use Rattle.fab_config.specs.Text.{decoded, lines_read, NOTHING};
-ghost use Rattle.fab_config.specs.Told.{TellsText};
+ghost use Rattle.fab_config.specs.Told.{AnswersText};
 
 use crate::draft::Draft;
 use crate::words::cut_line;
 use crate::{Config, ConfigFault, ConfigWhy};
 use std::alloc::Global;
+use thiserror::Error;
 
 /// Why no configuration was read.
-#[derive(Clone, Copy, Debug, PartialEq, Eq)]
+#[derive(Clone, Copy, Debug, PartialEq, Eq, Error)]
 pub enum ConfigError {
     /// The text is no configuration, and this is its first fault.
+    #[error(transparent)]
     Fault(ConfigFault),
     /// Memory was refused.
+    #[error("memory was refused")]
     Memory,
 }
 
@@ -31,7 +34,7 @@ const MOST_TEXT: usize = 1048576;
 /// The value of a configuration text, or its first fault.
 #[tactic(auto, unfolding(crate::specs::Text::decoded))]
 pub fn read_config(alloc: Global, text: &[u8]) -> Result<Config, ConfigError>
-    ensures { MatchResult result (λ c. decoded text.now ≡ Ok c) (λ e. TellsText e (decoded text.now)) }
+    ensures { AnswersText result (decoded text.now) }
 {
     if text.len() > MOST_TEXT {
         return Err(ConfigError::Fault(ConfigFault {
@@ -45,7 +48,7 @@ pub fn read_config(alloc: Global, text: &[u8]) -> Result<Config, ConfigError>
 // The value of the lines of a text.
 fn read_lines(alloc: Global, text: &[u8]) -> Result<Config, ConfigError>
     requires { length text.now ≤ 1048576 }
-    ensures { let lines = lines_read 1 NOTHING (lines_of text.now) in MatchResult result (λ c. lines ≡ Ok c) (λ e. TellsText e lines) }
+    ensures { AnswersText result (lines_read 1 NOTHING (lines_of text.now)) }
 {
     let Ok(mut draft) = Draft::new(alloc) else {
         return Err(ConfigError::Memory);

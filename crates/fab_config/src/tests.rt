@@ -8,11 +8,20 @@ const FIRST: &str = "fcf-mac 0e:fc:00:00:00:0a\nvlan 100\n";
 
 // Every key, with a remark, an empty line, tabs, carriage returns and digits in upper case.
 const FULL: &str =
-    "# \u{e9} anything\r\n\n vlan\t100\r\nfcf-mac 0E:fC:00:00:00:0a\nlimit 1000\nwindow 10\nperiod 250\npriority 0\npool 60000\ndomain 239\nfc-map 0e:FC:ff\nswitch 10:00:00:05:1E:00:00:02\nzone z 10:00:00:1b:21:00:00:0a 10:00:00:1b:21:00:00:0b 10:00:00:1b:21:00:00:0a\nzone y-$^_9 10:00:00:1b:21:00:00:0c\nzoneset s1 y-$^_9 z z\nzoneset s2 z\nactivate s2 0\nactivate s1 4294967295999";
+    "# \u{e9} anything\r\n\n vlan\t100\r\nfcf-mac 0E:fC:00:00:00:0a\nlimit 1000\nwindow 10\n\
+     period 250\npriority 0\npool 60000\ndomain 239\nfc-map 0e:FC:ff\n\
+     switch 10:00:00:05:1E:00:00:02\n\
+     zone z 10:00:00:1b:21:00:00:0a 10:00:00:1b:21:00:00:0b 10:00:00:1b:21:00:00:0a\n\
+     zone y-$^_9 10:00:00:1b:21:00:00:0c\nzoneset s1 y-$^_9 z z\nzoneset s2 z\nactivate s2 0\n\
+     activate s1 4294967295999";
 
 // The same as it is written.
 const WRITTEN: &str =
-    "fcf-mac 0e:fc:00:00:00:0a\nvlan 100\nswitch 10:00:00:05:1e:00:00:02\nfc-map 0e:fc:ff\ndomain 239\npool 60000\npriority 0\nperiod 250\nwindow 10\nlimit 1000\nzone z 10:00:00:1b:21:00:00:0a 10:00:00:1b:21:00:00:0b\nzone y-$^_9 10:00:00:1b:21:00:00:0c\nzoneset s1 y-$^_9 z\nzoneset s2 z\nactivate s2 0\nactivate s1 4294967295999\n";
+    "fcf-mac 0e:fc:00:00:00:0a\nvlan 100\nswitch 10:00:00:05:1e:00:00:02\nfc-map 0e:fc:ff\n\
+     domain 239\npool 60000\npriority 0\nperiod 250\nwindow 10\nlimit 1000\n\
+     zone z 10:00:00:1b:21:00:00:0a 10:00:00:1b:21:00:00:0b\n\
+     zone y-$^_9 10:00:00:1b:21:00:00:0c\nzoneset s1 y-$^_9 z\nzoneset s2 z\nactivate s2 0\n\
+     activate s1 4294967295999\n";
 
 // What reading a text answers.
 fn answer(alloc: Global, text: &[u8]) -> Result<(), ConfigError> {
@@ -346,5 +355,49 @@ fn a_text_has_1048576_bytes_at_most(rt: HostRuntime) -> Result<(), Fail> {
     assert_eq!(rt; answer(alloc, &text), Ok(()));
     text.push(b'x')?;
     assert_eq!(rt; answer(alloc, &text), refused(0, ConfigWhy::Long));
+    Ok(())
+}
+
+// The text of a fault of line 3.
+fn text_of(alloc: Global, why: ConfigWhy) -> Result<String, Fail> {
+    let fault = ConfigError::Fault(ConfigFault { line: 3, why });
+    Ok(format!(in alloc; "{fault}")?)
+}
+
+#[test]
+fn faults_have_texts(rt: HostRuntime) -> Result<(), Fail> {
+    let alloc = rt.alloc();
+    let texts = [
+        (
+            ConfigWhy::Long,
+            "line 3: the text has more than 1048576 bytes",
+        ),
+        (
+            ConfigWhy::Ascii,
+            "line 3: a byte is no printed sign, space or tab",
+        ),
+        (ConfigWhy::Key, "line 3: the first word is no key"),
+        (
+            ConfigWhy::Twice,
+            "line 3: the key or the name stands a second time",
+        ),
+        (
+            ConfigWhy::Value,
+            "line 3: the words behind the key are not what it takes",
+        ),
+        (
+            ConfigWhy::Limit,
+            "line 3: there is one zone, member, zone set or activation too many",
+        ),
+        (ConfigWhy::Missing, "line 3: a required key is missing"),
+    ];
+    for (why, text) in texts.iter() {
+        assert_eq!(rt; text_of(alloc, *why)?.as_str(), *text);
+    }
+    let memory = ConfigError::Memory;
+    assert_eq!(rt;
+        format!(in alloc; "{memory}")?.as_str(),
+        "memory was refused"
+    );
     Ok(())
 }

@@ -1,5 +1,6 @@
-// The lines of a text and the words of a line.
-ghost use Rattle.std.specs.Prelude.{◌≡◌, ◌≢◌, ◌≤◌, ◌<◌, ◌+◌, ℕ, [], ◌∷◌, false, true, MatchOption, length, slice_index, take, drop};
+//! The lines of a text and the words of a line.
+ghost use Rattle.std.specs.Prelude.{◌≡◌, ◌≢◌, ◌≤◌, ◌<◌, ◌+◌, ℕ, [], ◌∷◌, false, true, MatchOption};
+ghost use Rattle.std.specs.Prelude.{length, slice_index, take, drop};
 ghost use Rattle.fab_config.specs.Lines as spec;
 ghost use Rattle.fab_config.specs.Values.{IsNotOne};
 
@@ -52,7 +53,8 @@ fn ends_in_return(line: &[u8]) -> bool
 
 /// The first word of a line, and what is behind it.
 pub(crate) fn next_word(line: &[u8]) -> Option<(&[u8], &[u8])>
-    ensures words { MatchOption result (spec.words line.now ≡ []) (λ p. spec.words line.now ≡ p.0.now ∷ spec.words p.1.now) }
+    ensures words { MatchOption result (spec.words line.now ≡ []) (λ p. spec.words line.now
+        ≡ p.0.now ∷ spec.words p.1.now) }
     ensures less { MatchOption result (0 ≤ 0) (λ p. length p.1.now < length line.now) }
 {
     let start = word_start(line);
@@ -81,7 +83,8 @@ fn word_start(line: &[u8]) -> usize
 // The length of the word at the front.
 fn word_end(line: &[u8]) -> usize
     ensures bound { result ≤ length line.now }
-    ensures word { spec.words line.now ≡ spec.words_from (take result line.now) (drop result line.now) }
+    ensures word { spec.words line.now
+        ≡ spec.words_from (take result line.now) (drop result line.now) }
     ensures found { result < length line.now → spec.is_blank (slice_index line.now result) ≡ true }
 {
     for (i, byte) in line.iter().enumerate() {
@@ -100,7 +103,8 @@ fn is_blank(byte: u8) -> bool
 
 /// A line's only word, where it has one.
 pub(crate) fn only_word(line: &[u8]) -> Option<&[u8]>
-    ensures { MatchOption result (IsNotOne (spec.words line.now)) (λ w. spec.words line.now ≡ w.now ∷ []) }
+    ensures { MatchOption result (IsNotOne (spec.words line.now)) (λ w. spec.words line.now
+        ≡ w.now ∷ []) }
 {
     let (word, rest) = next_word(line)?;
     match next_word(rest) {

@@ -1,26 +1,21 @@
-// Writing a configuration text.
+//! Writing a configuration text.
 ghost use Rattle.std.specs.Prelude.{◌≡◌, ◌<◌, ◌++◌, ◌∷◌, [], IfOk, OnOk, OnErr, flat_map, codes};
 ghost use Rattle.fab_base.specs.Layout.{spelled};
-ghost use Rattle.fab_base.specs.Texts.{hex, hex_digit as hex_digit_spec};
+ghost use Rattle.fab_base.specs.Texts.{hex};
 ghost use Rattle.fab_config.specs.Names.{zone_names, set_names};
 ghost use Rattle.fab_config.specs.Written as spec;
 
 use crate::{Activation, ActivationList, Config, SetList, Zone, ZoneList, ZoneSet};
-use fab_base::{Bytes, Mac, NoMemory, Wwn};
+use fab_base::{Bytes, Mac, NoMemory, Wwn, append_made};
 use std::alloc::{AllocError, Global};
 
-/// Appends the text of a configuration: each key in the order of the table, then zones, zone sets and activations.
+/// Appends the text of a configuration: each key in the order of the table, then zones, zone sets
+/// and activations.
 pub fn write_config(alloc: Global, config: &Config, out: &mut Vec<u8>) -> Result<(), NoMemory>
     ensures ok { OnOk result (out.new.items ≡ out.old.items ++ spec.written config.now) }
     ensures err { OnErr result (out.new.items ≡ out.old.items) }
 {
-    let Ok(text) = text_of(alloc, config) else {
-        return Err(NoMemory);
-    };
-    match out.extend_from_slice(&text) {
-        Ok(()) => Ok(()),
-        Err(_) => Err(NoMemory),
-    }
+    append_made(text_of(alloc, config), out)
 }
 
 #[tactic(auto, unfolding(crate::specs::Written::written))]
@@ -47,19 +42,23 @@ fn write_addresses(alloc: Global, config: &Config, out: &mut Vec<u8>) -> Result<
 }
 
 fn write_mac(mac: &Mac, out: &mut Vec<u8>) -> Result<(), AllocError>
-    ensures { OnOk result (out.new.items ≡ out.old.items ++ spec.line_text (codes "fcf-mac") (spec.octets_text mac.now ∷ [])) }
+    ensures { OnOk result (out.new.items
+        ≡ out.old.items ++ spec.line_text (codes "fcf-mac") (spec.octets_text mac.now ∷ [])) }
 {
     write_octets(b"fcf-mac", &mac.0, out)
 }
 
 fn write_switch(name: &Wwn, out: &mut Vec<u8>) -> Result<(), AllocError>
-    ensures { OnOk result (out.new.items ≡ out.old.items ++ spec.line_text (codes "switch") (spec.name_text name.now ∷ [])) }
+    ensures { OnOk result (out.new.items
+        ≡ out.old.items ++ spec.line_text (codes "switch") (spec.name_text name.now ∷ [])) }
 {
     write_octets(b"switch", &name_bytes(name), out)
 }
 
 fn write_fc_map(map: u32, out: &mut Vec<u8>) -> Result<(), AllocError>
-    ensures { OnOk result (out.new.items ≡ out.old.items ++ spec.line_text (codes "fc-map") (spec.octets_text (spelled 3 map) ∷ [])) }
+    ensures { OnOk result (out.new.items
+        ≡ out.old.items
+        ++ spec.line_text (codes "fc-map") (spec.octets_text (spelled 3 map) ∷ [])) }
 {
     write_octets(b"fc-map", &map.to_be_bytes()[1..], out)
 }
@@ -92,7 +91,8 @@ fn write_number(alloc: Global, key: &[u8], number: u64, out: &mut Vec<u8>) -> Re
 }
 
 fn write_octets(key: &[u8], bytes: &[u8], out: &mut Vec<u8>) -> Result<(), AllocError>
-    ensures { OnOk result (out.new.items ≡ out.old.items ++ spec.line_text key.now (spec.octets_text bytes.now ∷ [])) }
+    ensures { OnOk result (out.new.items
+        ≡ out.old.items ++ spec.line_text key.now (spec.octets_text bytes.now ∷ [])) }
 {
     out.extend_from_slice(key)?;
     out.extend_from_slice(b" ")?;
@@ -112,7 +112,8 @@ fn put_octets(bytes: &[u8], out: &mut Vec<u8>) -> Result<(), AllocError>
 
 // Each byte after a colon.
 fn put_colons(bytes: &[u8], out: &mut Vec<u8>) -> Result<(), AllocError>
-    ensures { OnOk result (out.new.items ≡ out.old.items ++ flat_map (λ c. 58 ∷ hex 2 c) bytes.now) }
+    ensures { OnOk result (out.new.items
+        ≡ out.old.items ++ flat_map (λ c. 58 ∷ hex 2 c) bytes.now) }
 {
     for byte in bytes {
         let [high, low] = pair(*byte);
@@ -125,14 +126,9 @@ fn put_colons(bytes: &[u8], out: &mut Vec<u8>) -> Result<(), AllocError>
 fn pair(byte: u8) -> [u8; 2]
     ensures { result ≡ hex 2 byte }
 {
-    [hex_digit(byte / 16), hex_digit(byte % 16)]
-}
-
-fn hex_digit(digit: u8) -> u8
-    requires { digit < 16 }
-    ensures { result ≡ hex_digit_spec digit }
-{
-    if digit < 10 { b'0' + digit } else { 87 + digit }
+    let mut digits = [0; 2];
+    hex::encode_to_slice(&[byte], &mut digits).unwrap();
+    digits
 }
 
 fn write_zones(zones: &ZoneList, out: &mut Vec<u8>) -> Result<(), AllocError>
@@ -161,7 +157,8 @@ fn put_word(word: &Bytes, out: &mut Vec<u8>) -> Result<(), AllocError>
 }
 
 fn put_members(zone: &Zone, out: &mut Vec<u8>) -> Result<(), AllocError>
-    ensures { OnOk result (out.new.items ≡ out.old.items ++ flat_map (λ m. spec.spaced (spec.name_text m)) zone.now.members) }
+    ensures { OnOk result (out.new.items
+        ≡ out.old.items ++ flat_map (λ m. spec.spaced (spec.name_text m)) zone.now.members) }
 {
     for index in 0..zone.members.len() {
         put_name(zone.members.at(index).unwrap(), out)?;
@@ -177,7 +174,8 @@ fn put_name(name: &Wwn, out: &mut Vec<u8>) -> Result<(), AllocError>
 }
 
 fn write_sets(zones: &ZoneList, sets: &SetList, out: &mut Vec<u8>) -> Result<(), AllocError>
-    ensures { OnOk result (out.new.items ≡ out.old.items ++ flat_map (spec.set_line zones.now) sets.now) }
+    ensures { OnOk result (out.new.items
+        ≡ out.old.items ++ flat_map (spec.set_line zones.now) sets.now) }
 {
     for index in 0..sets.len() {
         write_set(zones, sets.at(index).unwrap(), out)?;
@@ -195,7 +193,9 @@ fn write_set(zones: &ZoneList, set: &ZoneSet, out: &mut Vec<u8>) -> Result<(), A
 }
 
 fn put_places(zones: &ZoneList, set: &ZoneSet, out: &mut Vec<u8>) -> Result<(), AllocError>
-    ensures { OnOk result (out.new.items ≡ out.old.items ++ flat_map (λ p. spec.spaced (spec.name_at (zone_names zones.now) p)) set.now.places) }
+    ensures { OnOk result (out.new.items
+        ≡ out.old.items ++ flat_map
+        (λ p. spec.spaced (spec.name_at (zone_names zones.now) p)) set.now.places) }
 {
     for index in 0..set.places.len() {
         put_zone_name(zones, *set.places.at(index).unwrap(), out)?;
@@ -205,7 +205,8 @@ fn put_places(zones: &ZoneList, set: &ZoneSet, out: &mut Vec<u8>) -> Result<(), 
 
 // The name of the zone at a place.
 fn put_zone_name(zones: &ZoneList, place: u32, out: &mut Vec<u8>) -> Result<(), AllocError>
-    ensures { OnOk result (out.new.items ≡ out.old.items ++ spec.spaced (spec.name_at (zone_names zones.now) place)) }
+    ensures { OnOk result (out.new.items
+        ≡ out.old.items ++ spec.spaced (spec.name_at (zone_names zones.now) place)) }
 {
     match zones.at(place as usize) {
         Some(zone) => put_word(&zone.name, out),
@@ -219,7 +220,8 @@ fn write_activations(
     activations: &ActivationList,
     out: &mut Vec<u8>,
 ) -> Result<(), AllocError>
-    ensures { OnOk result (out.new.items ≡ out.old.items ++ flat_map (spec.activation_line sets.now) activations.now) }
+    ensures { OnOk result (out.new.items
+        ≡ out.old.items ++ flat_map (spec.activation_line sets.now) activations.now) }
 {
     for index in 0..activations.len() {
         write_activation(alloc, sets, activations.at(index).unwrap(), out)?;
@@ -233,7 +235,8 @@ fn write_activation(
     activation: &Activation,
     out: &mut Vec<u8>,
 ) -> Result<(), AllocError>
-    ensures { OnOk result (out.new.items ≡ out.old.items ++ spec.activation_line sets.now activation.now) }
+    ensures { OnOk result (out.new.items
+        ≡ out.old.items ++ spec.activation_line sets.now activation.now) }
 {
     let moment = activation.moment.0;
     let words = format!(in alloc; " {moment}\n")?;
@@ -244,7 +247,8 @@ fn write_activation(
 
 // The name of the zone set at a place.
 fn put_set_name(sets: &SetList, place: u32, out: &mut Vec<u8>) -> Result<(), AllocError>
-    ensures { OnOk result (out.new.items ≡ out.old.items ++ spec.spaced (spec.name_at (set_names sets.now) place)) }
+    ensures { OnOk result (out.new.items
+        ≡ out.old.items ++ spec.spaced (spec.name_at (set_names sets.now) place)) }
 {
     match sets.at(place as usize) {
         Some(set) => put_word(&set.name, out),

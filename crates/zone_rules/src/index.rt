@@ -46,13 +46,8 @@ fn add(alloc: Global, places: &mut Places, name: u64, place: u64) -> Result<(), 
     ensures { OnOk result ((x : ℕ) → listed places.new x
         ≡ (if name == x then listed places.old x ++ place ∷ [] else listed places.old x)) }
 {
-    let Ok(entry) = places.entry(name) else {
-        return Err(NoMemory);
-    };
-    match entry.or_insert(Vec::new(alloc)).push(place) {
-        Ok(()) => Ok(()),
-        Err(_) => Err(NoMemory),
-    }
+    places.entry(name)?.or_insert(Vec::new(alloc)).push(place)?;
+    Ok(())
 }
 
 /// The places of a name.

@@ -29,9 +29,7 @@ fn hashed(alloc: Global, places: &PlaceList) -> Result<HashSet<u64>, NoMemory>
 {
     let mut set = HashSet::new(alloc);
     for index in 0..places.len() {
-        let Ok(_) = set.insert(u64::from(*places.at(index).unwrap())) else {
-            return Err(NoMemory);
-        };
+        set.insert(u64::from(*places.at(index).unwrap()))?;
     }
     Ok(set)
 }
