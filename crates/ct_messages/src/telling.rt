@@ -1,12 +1,12 @@
 //! From an answer to bytes.
-ghost use Rattle.std.specs.Prelude.{◌≡◌, ◌+◌, ◌*◌, ◌%◌, ◌<◌, ◌≤◌, ◌++◌, ◌==◌, ◌∷◌, if◌then◌else◌};
+ghost use Rattle.std.specs.Prelude.{◌≡◌, ◌+◌, ◌*◌, ◌%◌, ◌^◌, ◌<◌, ◌++◌, ◌==◌, if◌then◌else◌};
 ghost use Rattle.std.specs.Prelude.{length, vec_len, IfOk, OnOk, OnErr};
-ghost use Rattle.fab_base.specs.Layout.{spelled, zeros};
+ghost use Rattle.fab_base.specs.Layout.{zeros};
 ghost use Rattle.ct_messages.specs.CanWrite.{CanTell, IsSymbol};
 ghost use Rattle.ct_messages.specs.Answer as answer;
 
 use crate::bytes::{preamble, put_address, put_marked, put_name, put_text, put_words, put_zeros};
-use crate::{CtTell, Named, NamedList, NextPort};
+use crate::{CtTell, Named, NamedList, NextPort, PREAMBLE};
 use fab_base::{Bytes, IdList, NoMemory};
 use std::alloc::{AllocError, Global};
 
@@ -44,10 +44,26 @@ fn bytes_of(alloc: Global, tell: &CtTell) -> Result<Vec<u8>, AllocError>
     ensures bytes { IfOk result (λ v. v.items ≡ answer.written tell.now) }
     ensures size { IfOk result (λ v. vec_len v ≡ answer.size_of tell.now) }
 {
-    let mut bytes = Vec::new(alloc);
+    let mut bytes = Vec::with_capacity(alloc, size_of(tell))?;
     bytes.extend_from_slice(&head(tell))?;
     put_answer(&mut bytes, tell)?;
     Ok(bytes)
+}
+
+/// How many bytes an answer has, so that memory is asked for once.
+fn size_of(tell: &CtTell) -> usize
+    ensures { answer.size_of tell.now < 2 ^ 64 → result ≡ answer.size_of tell.now }
+{
+    match tell {
+        CtTell::Done | CtTell::Reject { .. } => PREAMBLE,
+        CtTell::Port(_) => PREAMBLE + 4,
+        CtTell::Name(_) => PREAMBLE + 8,
+        CtTell::Types(_) => PREAMBLE + 32,
+        CtTell::Features(_) => PREAMBLE + 128,
+        CtTell::Addresses(list) => list.len().saturating_mul(4).saturating_add(PREAMBLE),
+        CtTell::Names(list) => list.len().saturating_mul(16).saturating_add(PREAMBLE),
+        CtTell::Next(_) => PREAMBLE + 620,
+    }
 }
 
 fn head(tell: &CtTell) -> [u8; 16]

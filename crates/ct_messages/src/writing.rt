@@ -1,6 +1,5 @@
 //! From a request to bytes.
-ghost use Rattle.std.specs.Prelude.{◌≡◌, ◌+◌, ◌%◌, ◌<◌, ◌≤◌, ◌++◌, length, vec_len, IfOk, OnOk};
-ghost use Rattle.std.specs.Prelude.{OnErr};
+ghost use Rattle.std.specs.Prelude.{◌≡◌, ◌+◌, ◌%◌, ◌≤◌, ◌++◌, length, vec_len, IfOk, OnOk, OnErr};
 ghost use Rattle.ct_messages.specs.CanWrite.{CanWrite, IsSymbol};
 ghost use Rattle.ct_messages.specs.Ct as spec;
 
@@ -9,6 +8,9 @@ use crate::command::Command;
 use crate::{CtAsk, TypeMap};
 use fab_base::{FcId, NoMemory, Wwn};
 use std::alloc::{AllocError, Global};
+
+/// The bytes of the longest request.
+const MOST_ASK: usize = 280;
 
 /// Appends the request; reserved bytes are 0, and zeros fill its last word. Where memory is
 /// refused, `out` is as it was.
@@ -31,12 +33,11 @@ fn request(alloc: Global, ask: &CtAsk<'_>) -> Result<Vec<u8>, AllocError>
     ensures bytes { IfOk result (λ v. v.items ≡ spec.written (spec.view ask.now)) }
     ensures size { IfOk result (λ v. vec_len v ≤ 280) }
 {
-    let mut body = Vec::new(alloc);
-    put_body(&mut body, ask)?;
-    let mut bytes = Vec::new(alloc);
+    let mut bytes = Vec::with_capacity(alloc, MOST_ASK)?;
     bytes.extend_from_slice(&preamble(code_of(ask), 0, 0))?;
-    bytes.extend_from_slice(&body)?;
-    put_zeros(&mut bytes, (4 - body.len() % 4) % 4)?;
+    put_body(&mut bytes, ask)?;
+    let odd = bytes.len() % 4;
+    put_zeros(&mut bytes, (4 - odd) % 4)?;
     Ok(bytes)
 }
 

@@ -1,6 +1,6 @@
 //! From bytes to a payload.
-ghost use Rattle.std.specs.Prelude.{◌≡◌, false, MatchResult, IfOk, IfSome, Ok, Err, ◌+◌, ◌<◌, ◌≤◌};
-ghost use Rattle.std.specs.Prelude.{length};
+ghost use Rattle.std.specs.Prelude.{◌≡◌, ◌+◌, ◌<◌, ◌≤◌};
+ghost use Rattle.std.specs.Prelude.{false, MatchResult, IfOk, IfSome, Ok, Err, length};
 ghost use Rattle.fab_base.specs.Layout.{field, byte};
 ghost use Rattle.els_messages.specs.Els as spec;
 

@@ -1,3 +1,4 @@
+//! Heads of frames with a tag and without, read and written.
 use super::*;
 use std::test::Fail;
 

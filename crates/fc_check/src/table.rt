@@ -1,4 +1,4 @@
-// The words of the tables.
+//! The words of the tables.
 
 /// At each place the register that its eight bits leave behind, where the register was empty before
 /// them.

@@ -1,3 +1,4 @@
+//! Published values of the check.
 use super::*;
 
 #[test]

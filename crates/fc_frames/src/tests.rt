@@ -1,3 +1,4 @@
+//! A state change, read and written, and payloads that are cut.
 use super::*;
 use std::test::Fail;
 

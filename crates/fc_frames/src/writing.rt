@@ -1,6 +1,6 @@
 //! From a frame to bytes.
-ghost use Rattle.std.specs.Prelude.{◌≡◌, ◌<◌, ◌≤◌, ◌+◌, ◌++◌, length, OnOk, OnErr, vec_len};
-ghost use Rattle.std.specs.Prelude.{vec_capacity};
+ghost use Rattle.std.specs.Prelude.{◌≡◌, ◌<◌, ◌≤◌, ◌+◌, ◌++◌};
+ghost use Rattle.std.specs.Prelude.{length, OnOk, OnErr, vec_len, vec_capacity};
 ghost use Rattle.fc_frames.specs.Frame.{IsPayload, frame_bytes, header_bytes, view};
 
 use crate::{FcFrame, FcHeader, HEADER};

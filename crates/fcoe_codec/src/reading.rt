@@ -1,6 +1,6 @@
 //! From bytes to a frame.
-ghost use Rattle.std.specs.Prelude.{◌≡◌, ◌≢◌, MatchResult, IfOk, IfErr, OnOk, Ok, Err, ◌+◌, ◌-◌};
-ghost use Rattle.std.specs.Prelude.{◌%◌, ◌≤◌, drop, length};
+ghost use Rattle.std.specs.Prelude.{◌≡◌, ◌≢◌, ◌+◌, ◌-◌, ◌%◌, ◌≤◌};
+ghost use Rattle.std.specs.Prelude.{MatchResult, IfOk, IfErr, OnOk, Ok, Err, length};
 ghost use Rattle.fab_base.specs.Layout.{field, little_endian};
 ghost use Rattle.fc_check.specs.Crc.{crc};
 ghost use Rattle.fc_frames.specs.Frame as fc;

@@ -1,3 +1,4 @@
+//! A state change between its delimiters, and bodies with one fault each.
 use super::*;
 use std::test::Fail;
 

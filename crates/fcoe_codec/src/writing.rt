@@ -1,6 +1,6 @@
 //! From a frame to bytes.
-ghost use Rattle.std.specs.Prelude.{◌≡◌, ◌≤◌, ◌+◌, ◌++◌, [], ◌∷◌, IsTrue, length, drop, OnOk};
-ghost use Rattle.std.specs.Prelude.{OnErr};
+ghost use Rattle.std.specs.Prelude.{◌≡◌, ◌≤◌, ◌+◌, ◌++◌, [], ◌∷◌};
+ghost use Rattle.std.specs.Prelude.{IsTrue, length, drop, OnOk, OnErr};
 ghost use Rattle.fab_base.specs.Layout.{zeros};
 ghost use Rattle.fc_check.specs.Crc.{crc, crc_bytes as check_bytes};
 ghost use Rattle.fc_frames.specs.Frame as fc;

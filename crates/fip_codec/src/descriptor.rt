@@ -1,7 +1,8 @@
 //! Descriptors: the table of their types, and the walk over a list of them (FC-BB-5, "FIP
 //! descriptors").
-ghost use Rattle.std.specs.Prelude.{◌≡◌, ◌<◌, ◌≤◌, ◌+◌, ◌*◌, ◌%◌, ℕ, true, ◌∷◌, [], if◌then◌else◌};
-ghost use Rattle.std.specs.Prelude.{Some, None, length, take, drop, slice_get, IfSome, IsNone};
+ghost use Rattle.std.specs.Prelude.{◌≡◌, ◌<◌, ◌≤◌, ◌+◌, ◌*◌, ◌%◌, ◌∷◌, [], if◌then◌else◌};
+ghost use Rattle.std.specs.Prelude.{ℕ, true, Some, None, length, take, drop, slice_get, IfSome};
+ghost use Rattle.std.specs.Prelude.{IsNone};
 ghost use Rattle.std.specs.Option.{option_map};
 ghost use Rattle.fip_codec.specs.Fip.{HEADER, in_table, words_fit, family, vx_port, vlan_number};
 ghost use Rattle.fip_codec.specs.Walk.{listed, broken, of_type, has_type, said, are_sound, room};

@@ -1,7 +1,8 @@
 //! Reading a body: the header, one walk over the descriptors for all messages, then the message's
 //! fields.
-ghost use Rattle.std.specs.Prelude.{◌≡◌, ◌<◌, ◌≤◌, ◌+◌, ◌*◌, ◌++◌, true, ◌∷◌, [], Some, None, Ok};
-ghost use Rattle.std.specs.Prelude.{Err, length, take, drop, MatchResult, IfOk, IfErr, OnOk};
+ghost use Rattle.std.specs.Prelude.{◌≡◌, ◌<◌, ◌≤◌, ◌+◌, ◌*◌};
+ghost use Rattle.std.specs.Prelude.{true, Some, None, Ok, Err, length, take, drop, MatchResult};
+ghost use Rattle.std.specs.Prelude.{IfOk, IfErr, OnOk};
 ghost use Rattle.fab_base.specs.Layout.{field, number};
 ghost use Rattle.fip_codec.specs.Fip.{HEADER, Solicitation, Advertisement, Request, Reply};
 ghost use Rattle.fip_codec.specs.Fip.{KeepAlive, ClearLinks, VlanRequest, VlanNotification};

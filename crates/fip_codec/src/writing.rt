@@ -1,14 +1,14 @@
 //! Writing a message, in the one way in which the forwarder writes it: reserved bytes are 0, and
 //! the descriptors stand in the order of the table of messages.
-ghost use Rattle.std.specs.Prelude.{◌≡◌, ◌<◌, ◌≤◌, ◌+◌, ◌*◌, ◌/◌, ◌%◌, ◌^◌, ◌++◌, length, flat_map};
-ghost use Rattle.std.specs.Prelude.{vec_len, OnOk, OnErr};
+ghost use Rattle.std.specs.Prelude.{◌≡◌, ◌≤◌, ◌+◌, ◌*◌, ◌/◌, ◌++◌};
+ghost use Rattle.std.specs.Prelude.{length, flat_map, vec_len, OnOk, OnErr};
 ghost use Rattle.arrayvec.specs.ArrayVec.{array_vec_len};
 ghost use Rattle.fip_codec.specs.Message.{view_out, written, head_bytes, flag, priority_bytes};
 ghost use Rattle.fip_codec.specs.Message.{mac_bytes, name_bytes, fabric_bytes, size_bytes};
 ghost use Rattle.fip_codec.specs.Message.{frame_bytes, vx_port_bytes, advertising_bytes};
 ghost use Rattle.fip_codec.specs.Message.{vlan_bytes, if_there, kind_code};
 ghost use Rattle.fip_codec.specs.Written.{code_out, flags_out, list_out};
-ghost use Rattle.fip_codec.specs.CanWrite.{CanWrite, IsFrame};
+ghost use Rattle.fip_codec.specs.CanWrite.{CanWrite};
 
 use crate::descriptor::{
     ADVERTISING, FABRIC, FDISC, FLOGI, LOGO, MAC, NAME, PRIORITY, SIZE, VLAN, VX_PORT,
