@@ -1,5 +1,5 @@
 -- What a change at one name's place keeps of a depot in memory.
-use Rattle.std.proofs.Common.{◌≡◌, ◌≢◌, ℕ, zero, suc, ◌+◌, ◌<◌, ◌≤◌, List, [], ◌∷◌, ◌++◌, length, length-drop, OnSome, get_or, set, slice_get, slice_index, drop, take, Option, Some, None, Ok, true, false, Bool, IsTrue, is_some, is_none, refl, sym, ◌∙◌, ap, subst, arith, String, Vec, inl, inr, ◌⊎◌}
+use Rattle.std.proofs.Common.{◌≡◌, ◌≢◌, ℕ, zero, suc, ◌+◌, ◌-◌, ◌<◌, ◌≤◌, List, [], ◌∷◌, ◌++◌, length, length-drop, OnSome, get_or, set, slice_get, slice_index, drop, take, Option, Some, None, Ok, true, false, Bool, IsTrue, is_some, is_none, refl, sym, ◌∙◌, ap, subst, arith, String, Vec, inl, inr, ◌⊎◌}
 use Rattle.std.proofs.lemmas.Option.{slice_get_past}
 use Rattle.std.proofs.lemmas.List.{take_all, take_at, length-take-le, take-append-drop, drop-drop}
 use Rattle.std.specs.declared.alloc.Global.{Global}
@@ -7,9 +7,9 @@ use Rattle.fab_base.specs.declared.desk.DeskSlot.{DeskSlot}
 use Rattle.fab_base.specs.declared.desk.Desk.{Desk}
 use Rattle.fab_base.specs.Seen.{Keeps, Reads, Rose, OpensIn, OpensOut, Puts, bytes_of}
 use Rattle.fab_base.specs.Places.{place, name_at, slot_file, slot_at, is_input, is_output}
-use Rattle.fab_base.specs.Contents.{content_at, content_in, content_bytes}
-use Rattle.fab_base.specs.Desk.{place_of, input, output, file_of, at_of, name, count_at, one_more, Stays, KeepsCounts}
-use Rattle.fab_base.specs.MemDepot.{seen_of, left_by, CountsReads, CountsWrites}
+use Rattle.fab_base.specs.Contents.{capacity_of, capacity_at, content_at, content_in, content_bytes}
+use Rattle.fab_base.specs.Desk.{KeepsAll, place_of, file_of, at_of, name, count_at, one_more, Stays, KeepsCounts}
+use Rattle.fab_base.specs.MemDepot.{spare_at, seen_of, left_by, CountsReads, CountsWrites}
 use Rattle.fab_base.proofs.PlaceLemmas.{place_at}
 
 -- a slot that is an input, or an output, is one of the slots
@@ -89,6 +89,11 @@ content_at-get_or [] i d h = absurd (omega arith)
 content_at-get_or (x ∷ xs) zero d h = refl
 content_at-get_or (x ∷ xs) (suc i) d h = content_at-get_or xs i d (omega arith)
 
+capacity_at-get_or : (xs : List (Option (Vec ℕ Global))) (i : ℕ) (d : Option (Vec ℕ Global)) → i < length xs → capacity_at xs i ≡ capacity_of (get_or xs i d)
+capacity_at-get_or [] i d h = absurd (omega arith)
+capacity_at-get_or (x ∷ xs) zero d h = refl
+capacity_at-get_or (x ∷ xs) (suc i) d h = capacity_at-get_or xs i d (omega arith)
+
 pub content_at-set_same : (xs : List (Option (Vec ℕ Global))) (i : ℕ) (y : Option (Vec ℕ Global)) → i < length xs → content_at (set xs i y) i ≡ content_bytes y
 content_at-set_same [] i y h = absurd (omega arith)
 content_at-set_same (x ∷ xs) zero y h = refl
@@ -105,17 +110,33 @@ pub there_at : (xs : List (Option (Vec ℕ Global))) (i : ℕ) (x : Option (Vec 
 there_at xs i None lt is none = absurd (cc)
 there_at xs i (Some v) lt is none = (v.items, content_at-get_or xs i (Some v) lt ∙ ap content_bytes (sym is))
 
-pub stays_same : (f : ℕ) (old new : Desk) → new ≡ old → Stays f old new
-stays_same f old new e = record {
-  names = ap (λ d. d.names.items) e;
-  no_fewer = omega (arith, ap (λ d. length d.slots.items) e);
-  slots = λ s lt. record { file = ap (λ d. file_of d s) e; input = ap (λ d. input d s) e; output = ap (λ d. output d s) e };
-  ats = λ s lt ne. ap (λ d. at_of d s) e;
-  reads = λ i ne. ap (λ d. slice_index d.reads.items i) e;
-  writes = λ i ne. ap (λ d. slice_index d.writes.items i) e;
-  reads_rise = omega (arith, ap (λ d. slice_index d.reads.items f) e);
-  writes_rise = omega (arith, ap (λ d. slice_index d.writes.items f) e);
+pub none_at : (xs : List (Option (Vec ℕ Global))) (i : ℕ) (x : Option (Vec ℕ Global)) → i < length xs → x ≡ get_or xs i x → is_none x ≡ true → content_at xs i ≡ None
+none_at xs i None lt is none = content_at-get_or xs i None lt ∙ ap content_bytes (sym is)
+none_at xs i (Some v) lt is none = absurd (cc)
+
+-- the same names, counts and slots are kept at each place
+pub stays_all : (f : ℕ) (old new : Desk) → KeepsAll old new → Stays f old new
+stays_all f old new k = record {
+  names = k.names;
+  no_fewer = omega (arith, ap (λ (l : List DeskSlot). length l) k.slots);
+  slots = λ s lt. let same = ap (λ l. slice_get l s) k.slots in record { file = ap slot_file same; input = ap is_input same; output = ap is_output same };
+  ats = λ s lt ne. ap (λ l. slot_at (slice_get l s)) k.slots;
+  reads = λ i ne. ap (λ l. slice_index l i) k.reads;
+  writes = λ i ne. ap (λ l. slice_index l i) k.writes;
+  reads_rise = omega (arith, ap (λ l. slice_index l f) k.reads);
+  writes_rise = omega (arith, ap (λ l. slice_index l f) k.writes);
 }
+
+keeps_same : (old new : Desk) → new ≡ old → KeepsAll old new
+keeps_same old new e = record {
+  names = ap (λ d. d.names.items) e;
+  reads = ap (λ d. d.reads.items) e;
+  writes = ap (λ d. d.writes.items) e;
+  slots = ap (λ d. d.slots.items) e;
+}
+
+pub stays_same : (f : ℕ) (old new : Desk) → new ≡ old → Stays f old new
+stays_same f old new e = stays_all f old new (keeps_same old new e)
 
 -- a new slot was none before
 pub fresh_slot : (slots : List DeskSlot) (s : ℕ) → s ≡ length slots → (is_input (slice_get slots s) ≡ false) × (is_output (slice_get slots s) ≡ false)
@@ -219,6 +240,10 @@ on_some (Some x) p = p
 
 pub content_read : (xs : List (Option (Vec ℕ Global))) (i : ℕ) (x : Option (Vec ℕ Global)) → i < length xs → x ≡ get_or xs i x → content_at xs i ≡ content_bytes x
 content_read xs i x lt is = content_at-get_or xs i x lt ∙ ap content_bytes (sym is)
+
+-- how many bytes more a content takes that was read at a place
+pub spare_read : (xs : List (Option (Vec ℕ Global))) (i : ℕ) (x : Option (Vec ℕ Global)) → i < length xs → x ≡ get_or xs i x → spare_at xs i ≡ capacity_of x - length (bytes_of (content_bytes x))
+spare_read xs i x lt is = ap (λ (n : ℕ). n - length (bytes_of (content_at xs i))) (capacity_at-get_or xs i x lt ∙ ap capacity_of (sym is)) ∙ ap (λ o. capacity_of x - length (bytes_of o)) (content_read xs i x lt is)
 
 pub left_is : (d : Desk) (contents : List (Option (Vec ℕ Global))) (s a f : ℕ) (c : Option (List ℕ)) → at_of d s ≡ a → file_of d s ≡ f → content_at contents f ≡ c → left_by d.slots.items contents s ≡ drop a (bytes_of c)
 left_is d contents s a f c at file is =

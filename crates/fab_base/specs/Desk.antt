@@ -1,5 +1,5 @@
 -- What a desk tells of its names and slots.
-use Rattle.std.specs.Prelude.{◌≡◌, ◌≢◌, ℕ, ◌+◌, ◌-◌, ◌^◌, ◌<◌, ◌≤◌, min, Bool, List, [], ◌∷◌, ◌++◌, length, Option, None, Some, slice_get, slice_index, is_some, String}
+use Rattle.std.specs.Prelude.{◌≡◌, ◌≢◌, ℕ, ◌+◌, ◌-◌, ◌^◌, ◌<◌, ◌≤◌, min, Bool, List, [], ◌∷◌, ◌++◌, length, Option, None, Some, slice_get, slice_index, is_some, String, vec_capacity}
 use Rattle.std.specs.String.{string_bytes}
 use Rattle.std.specs.declared.alloc.Global.{Global}
 use Rattle.fab_base.specs.declared.desk.Desk.{Desk}
@@ -66,6 +66,14 @@ pub record Adds (added : List ℕ) (old new : Desk) : Type 0 where
   pub reads : new.reads.items ≡ old.reads.items ++ 0 ∷ []
   pub writes : new.writes.items ≡ old.writes.items ++ 0 ∷ []
   pub slots : new.slots.items ≡ old.slots.items
+
+-- one more slot needs no memory
+abbrev pub HasRoom : Desk → Type 0
+HasRoom d = length d.slots.items < vec_capacity d.slots
+
+-- how many more slots can be opened with the memory and the numbers that there are
+abbrev pub spare_slots : Desk → ℕ
+spare_slots d = min (2 ^ 32) (vec_capacity d.slots) - length d.slots.items
 
 -- nothing changes
 pub record KeepsAll (old new : Desk) : Type 0 where

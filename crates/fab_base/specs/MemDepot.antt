@@ -1,14 +1,14 @@
 -- A depot in memory, as contracts see it.
-use Rattle.std.specs.Prelude.{◌≡◌, ◌≢◌, ℕ, Bool, true, false, ◌==◌, IsTrue, if◌then◌else◌, List, [], Option, None, Vec, drop, is_some, String}
+use Rattle.std.specs.Prelude.{◌≡◌, ◌≢◌, ℕ, ◌-◌, Bool, true, false, ◌==◌, IsTrue, if◌then◌else◌, List, [], length, Option, None, Vec, drop, is_some, String}
 use Rattle.std.specs.List.{list_any}
 use Rattle.std.specs.declared.alloc.Global.{Global}
 use Rattle.fab_base.specs.declared.desk.Desk.{Desk}
 use Rattle.fab_base.specs.declared.desk.DeskSlot.{DeskSlot}
 use Rattle.fab_base.specs.declared.mem_depot.MemDepot.{MemDepot}
 use Rattle.fab_base.specs.Seen.{Seen, IsOpen, SameSlot, bytes_of}
-use Rattle.fab_base.specs.Contents.{content_in, content_at}
+use Rattle.fab_base.specs.Contents.{content_in, content_at, capacity_at}
 use Rattle.fab_base.specs.Places.{place, name_at, slot_file, slot_at, is_input, is_output}
-use Rattle.fab_base.specs.Desk.{count_at, one_more}
+use Rattle.fab_base.specs.Desk.{count_at, one_more, spare_slots, file_of}
 use Rattle.std.specs.Prelude.{slice_get}
 
 -- what is left of a slot over these contents
@@ -49,6 +49,23 @@ failing_calls d = d.failing.items
 -- whether the next call is to fail
 abbrev pub is_to_fail : MemDepot → Bool
 is_to_fail d = list_any (λ number. number == next_call d) (failing_calls d)
+
+-- how many more slots can be opened with the memory and the numbers that there are
+abbrev pub slots_left : MemDepot → ℕ
+slots_left d = spare_slots d.desk
+
+-- how many more bytes the file at a place takes in the memory that it has
+abbrev pub spare_at : List (Option (Vec ℕ Global)) → ℕ → ℕ
+spare_at contents i = capacity_at contents i - length (bytes_of (content_at contents i))
+
+-- the same of the file of a slot
+abbrev pub bytes_left : MemDepot → ℕ → ℕ
+bytes_left d s = spare_at d.contents.items (file_of d.desk s)
+
+-- why a call may fail: it was told to, or something is missing
+pub data MayFail (d : MemDepot) (lack : Type 0) : Type 0 where
+  Told : is_to_fail d ≡ true → MayFail d lack
+  Missing : lack → MayFail d lack
 
 -- one call was counted
 pub record Counted (old new : MemDepot) : Type 0 where

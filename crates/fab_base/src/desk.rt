@@ -1,5 +1,5 @@
 //! The names that a depot knows, with their counts of faults, and its slots.
-ghost use Rattle.std.specs.Prelude.{◌≡◌, ◌<◌, ◌+◌, ◌-◌, ◌^◌, min, ℕ, Some, None, IfOk, OnErr, IsTrue, length, slice_get, slice_index, IfSome, IfNone, ◌++◌, ◌∷◌, []};
+ghost use Rattle.std.specs.Prelude.{◌≡◌, ◌<◌, ◌+◌, ◌-◌, ◌^◌, min, ℕ, Some, None, IfOk, OnErr, IsTrue, length, slice_get, slice_index, IfSome, IfNone, IsNone, ◌↔◌, ◌≤◌, ◌++◌, ◌∷◌, [], vec_capacity};
 ghost use Rattle.fab_base.specs.Places.{place, name_at, ArePlaced};
 
 use crate::NoMemory;
@@ -38,19 +38,19 @@ pub fn place_in(names: &[String], name: &str) -> Option<usize>
     None
 }
 
-// A slot more, under the next number.
+// A slot more, under the next number, in room that was made for it; none where no number is left.
 fn push_slot(slots: &mut Vec<DeskSlot>, slot: DeskSlot) -> Option<u32>
+    requires { length slots.old.items < vec_capacity slots.old }
     ensures added { IfSome result (λ s. (s ≡ length slots.old.items) × (slots.new.items ≡ slots.old.items ++ slot ∷ [])) }
     ensures none { IfNone result (slots.new.items ≡ slots.old.items) }
+    ensures spent { IsNone result ↔ (2 ^ 32 ≤ length slots.old.items) }
 {
     let count = slots.len();
     if count > u32::MAX as usize {
         return None;
     }
-    match slots.push(slot) {
-        Ok(()) => Some(count as u32),
-        Err(_) => None,
-    }
+    slots.push(slot).unwrap();
+    Some(count as u32)
 }
 
 /// The word at a place.
@@ -62,9 +62,9 @@ pub fn word_at(words: &[String], index: usize) -> &str
 }
 
 impl Desk {
-    ghost use Rattle.std.specs.Prelude.{◌≡◌, ◌<◌, ◌+◌, ◌-◌, ◌^◌, min, ℕ, Some, None, IfOk, OnErr, OnOk, IsTrue, length, slice_get, slice_index, IfSome, List, [], true, false};
+    ghost use Rattle.std.specs.Prelude.{◌≡◌, ◌<◌, ◌+◌, ◌-◌, ◌^◌, ◌≤◌, ◌↔◌, min, ℕ, Some, None, IfOk, OnErr, OnOk, IsTrue, IsNone, length, slice_get, slice_index, IfSome, List, [], true, false};
     ghost use Rattle.fab_base.specs.Places.{name_at};
-    ghost use Rattle.fab_base.specs.Desk.{knows, place_of, file_of, at_of, Stays, KeepsCounts, KeepsAll, Adds, one_more};
+    ghost use Rattle.fab_base.specs.Desk.{knows, place_of, file_of, at_of, Stays, KeepsCounts, KeepsAll, Adds, HasRoom, one_more};
 
     /// A desk that knows no name.
     pub fn new(alloc: Global) -> Desk
@@ -84,12 +84,10 @@ impl Desk {
         ensures ok { OnOk result (Adds name.now self.old self.new) }
         ensures err { OnErr result (KeepsAll self.old self.new) }
     {
-        let Ok(text) = String::from_str(alloc, name) else {
-            return Err(NoMemory);
-        };
-        self.names.reserve(1).map_err(|_| NoMemory)?;
-        self.reads.reserve(1).map_err(|_| NoMemory)?;
-        self.writes.reserve(1).map_err(|_| NoMemory)?;
+        let text = String::from_str(alloc, name)?;
+        self.names.reserve(1)?;
+        self.reads.reserve(1)?;
+        self.writes.reserve(1)?;
         self.names.push(text).unwrap();
         self.reads.push(0).unwrap();
         self.writes.push(0).unwrap();
@@ -156,9 +154,22 @@ impl Desk {
         self.writes[file] = self.writes[file].saturating_add(1);
     }
 
-    /// A new slot of a name, or none where no number is left or its memory is refused.
+    /// Makes room for one more slot.
+    pub fn reserve_slot(&mut self, _alloc: Global) -> Result<(), NoMemory>
+        ensures same { KeepsAll self.old self.new }
+        ensures ok { OnOk result (HasRoom self.new) }
+        ensures err { OnErr result (HasRoom self.old → ⊥) }
+    {
+        self.slots.reserve(1)?;
+        Ok(())
+    }
+
+    /// A new slot of a name, in room that was made for it, or none where all 2^32 numbers are
+    /// taken.
     pub fn open(&mut self, name: &str, file: usize, at: usize, input: bool) -> Option<u32>
-        requires { place_of self.old name.now ≡ Some file }
+        requires place { place_of self.old name.now ≡ Some file }
+        requires room { HasRoom self.old }
+        ensures none { IsNone result ↔ (2 ^ 32 ≤ length self.old.slots.items) }
         ensures stays { Stays file self.old self.new }
         ensures counts { KeepsCounts self.old self.new }
         ensures fresh { IfSome result (λ s. (s ≡ length self.old.slots.items) × (slice_get self.new.slots.items s ≡ Some (record { file = file; at = at; input = input }))) }

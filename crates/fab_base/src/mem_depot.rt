@@ -1,9 +1,9 @@
 //! A depot in memory, for tests and for callers that have their files in memory.
-ghost use Rattle.std.specs.Prelude.{◌≡◌, ◌<◌, ◌≤◌, ◌+◌, ◌-◌, ◌^◌, ◌++◌, ◌==◌, min, [], ℕ, Some, IfSome, IfOk, OnOk, OnErr, IfNone, None, IsTrue, length, take, drop};
+ghost use Rattle.std.specs.Prelude.{◌≡◌, ◌<◌, ◌≤◌, ◌+◌, ◌-◌, ◌^◌, ◌++◌, ◌==◌, min, [], ℕ, Some, IfSome, IfOk, OnOk, OnErr, IfNone, None, IsTrue, length, take, drop, slice_get};
 ghost use Rattle.std.specs.List.{list_any};
-ghost use Rattle.fab_base.specs.Desk.{one_more};
+ghost use Rattle.fab_base.specs.Desk.{one_more, place_of, Stays, KeepsCounts, spare_slots};
 ghost use Rattle.fab_base.specs.Seen.{bytes_of};
-ghost use Rattle.fab_base.specs.Contents.{content_bytes};
+ghost use Rattle.fab_base.specs.Contents.{content_bytes, capacity_of};
 
 use crate::{Depot, Desk, Failed, NoMemory};
 use std::alloc::Global;
@@ -77,10 +77,8 @@ impl MemDepot {
         ensures calls { next_call self.new ≡ next_call self.old }
         ensures err { OnErr result (Same self.old self.new) }
     {
-        match self.failing.push(number) {
-            Ok(()) => Ok(()),
-            Err(_) => Err(NoMemory),
-        }
+        self.failing.push(number)?;
+        Ok(())
     }
 
     /// Makes a name known. A file that is stored under it stays.
@@ -101,9 +99,7 @@ impl MemDepot {
         ensures calls { SameCalls self.old self.new }
         ensures err { OnErr result (Same self.old self.new) }
     {
-        let Ok(bytes) = Vec::from_slice(alloc, bytes) else {
-            return Err(NoMemory);
-        };
+        let bytes = Vec::from_slice(alloc, bytes)?;
         let place = self.place_or_new(alloc, name)?;
         self.contents[place] = Some(bytes);
         Ok(())
@@ -126,7 +122,7 @@ impl MemDepot {
         if let Some(place) = self.desk.place(name) {
             return Ok(place);
         }
-        self.contents.reserve(1).map_err(|_| NoMemory)?;
+        self.contents.reserve(1)?;
         self.desk.know(alloc, name)?;
         self.contents.push(None).unwrap();
         Ok(self.contents.len() - 1)
@@ -134,11 +130,11 @@ impl MemDepot {
 }
 
 impl MemDepot {
-    ghost use Rattle.std.specs.Prelude.{◌≡◌, ◌≢◌, ◌<◌, ◌≤◌, ◌++◌, [], ℕ, min, List, IfSome, IfNone, OnSome, IsNone, IfOk, OnOk, OnErr, IsTrue, true, false, length, None, Some, slice_get, take, ◌↔◌, ◌==◌};
+    ghost use Rattle.std.specs.Prelude.{◌≡◌, ◌≢◌, ◌<◌, ◌≤◌, ◌++◌, [], ℕ, min, List, IfSome, IfNone, OnSome, IsNone, IfOk, OnOk, OnErr, IsTrue, true, false, length, None, Some, slice_get, take, ◌↔◌, ◌==◌, ◌⊎◌};
     ghost use Rattle.fab_base.specs.Seen.{bytes_of};
     ghost use Rattle.fab_base.specs.Desk.{place_of, file_of, Stays, KeepsCounts};
     ghost use Rattle.fab_base.specs.Contents.{content_at};
-    ghost use Rattle.fab_base.specs.MemDepot.{left_of, Counted, is_to_fail};
+    ghost use Rattle.fab_base.specs.MemDepot.{left_of, Counted, is_to_fail, slots_left, spare_at, MayFail};
 
     fn try_open_in(&mut self, name: &str, file: usize) -> Option<u32>
         requires place { place_of self.old.desk name.now ≡ Some file }
@@ -150,11 +146,15 @@ impl MemDepot {
         ensures fresh { IfSome result (λ s. (s ≡ length self.old.desk.slots.items) × (slice_get self.new.desk.slots.items s ≡ Some (record { file = file; at = 0; input = true }))) }
         ensures there { OnSome result ((bytes : List ℕ) × (content_at self.new.contents.items file ≡ Some bytes)) }
         ensures allowed { OnSome result (is_to_fail self.old ≡ false) }
+        ensures cause { IfNone result (MayFail self.old (content_at self.old.contents.items file ≡ None ⊎ slots_left self.old ≡ 0)) }
     {
-        if is_refused(&mut self.calls, &self.failing) || self.contents[file].is_none() {
+        if is_refused(&mut self.calls, &self.failing) {
             return None;
         }
-        self.desk.open(name, file, 0, true)
+        if self.contents[file].is_none() {
+            return None;
+        }
+        open_slot(self.alloc, &mut self.desk, name, file, true)
     }
 
     fn try_open_out(&mut self, name: &str, file: usize) -> Option<u32>
@@ -168,11 +168,12 @@ impl MemDepot {
         ensures emptied { OnSome result (content_at self.new.contents.items file ≡ Some []) }
         ensures none { IfNone result (content_at self.new.contents.items file ≡ content_at self.old.contents.items file) }
         ensures allowed { OnSome result (is_to_fail self.old ≡ false) }
+        ensures cause { IfNone result (MayFail self.old (slots_left self.old ≡ 0)) }
     {
         if is_refused(&mut self.calls, &self.failing) {
             return None;
         }
-        let slot = self.desk.open(name, file, 0, false)?;
+        let slot = open_slot(self.alloc, &mut self.desk, name, file, false)?;
         self.contents[file] = Some(Vec::new(self.alloc));
         Some(slot)
     }
@@ -201,7 +202,8 @@ impl MemDepot {
     }
 
     fn try_put(&mut self, file: usize, from: &[u8]) -> Option<usize>
-        requires { file < length self.old.contents.items }
+        requires within { file < length self.old.contents.items }
+        requires some { 0 < length from.now }
         ensures counted { Counted self.old self.new }
         ensures desk { self.new.desk ≡ self.old.desk }
         ensures others { (i : ℕ) → i ≢ file → content_at self.new.contents.items i ≡ content_at self.old.contents.items i }
@@ -209,6 +211,7 @@ impl MemDepot {
         ensures grown { OnSome result (content_at self.new.contents.items file ≡ Some (bytes_of (content_at self.old.contents.items file) ++ from.now)) }
         ensures none { IfNone result (content_at self.new.contents.items file ≡ content_at self.old.contents.items file) }
         ensures allowed { OnSome result (is_to_fail self.old ≡ false) }
+        ensures cause { IfNone result (MayFail self.old (spare_at self.old.contents.items file < length from.now)) }
     {
         if is_refused(&mut self.calls, &self.failing) {
             return None;
@@ -221,9 +224,9 @@ impl MemDepot {
 }
 
 impl Depot for MemDepot {
-    ghost use Rattle.std.specs.Prelude.{◌≡◌, ◌↔◌, ◌<◌, min, true, None, length, IsTrue, is_err, IsErr, IfOk};
+    ghost use Rattle.std.specs.Prelude.{◌≡◌, ◌↔◌, ◌<◌, ◌⊎◌, min, true, None, length, IsTrue, is_err, IsErr, IfOk, OnErr};
     ghost use Rattle.fab_base.specs.Seen.{OpensIn, OpensOut, Fetches, Puts};
-    ghost use Rattle.fab_base.specs.MemDepot.{mem_seen, is_to_fail, Counted, CountsReads, CountsWrites};
+    ghost use Rattle.fab_base.specs.MemDepot.{mem_seen, is_to_fail, slots_left, bytes_left, MayFail, Counted, CountsReads, CountsWrites};
 
     ghost seen = { mem_seen };
 
@@ -234,6 +237,7 @@ impl Depot for MemDepot {
         ensures counts { CountsReads name.now (is_err result) (mem_seen self.old) (mem_seen self.new) }
         ensures refused { is_to_fail self.old ≡ true → IsErr result }
         ensures missing { (mem_seen self.old).file name.now ≡ None → IsErr result }
+        ensures cause { OnErr result (MayFail self.old ((mem_seen self.old).file name.now ≡ None ⊎ slots_left self.old ≡ 0)) }
     {
         let file = self.desk.place(name).unwrap();
         match self.try_open_in(name, file) {
@@ -251,6 +255,7 @@ impl Depot for MemDepot {
         ensures counted { Counted self.old self.new }
         ensures counts { CountsWrites name.now (is_err result) (mem_seen self.old) (mem_seen self.new) }
         ensures refused { is_to_fail self.old ≡ true → IsErr result }
+        ensures cause { OnErr result (MayFail self.old (slots_left self.old ≡ 0)) }
     {
         let file = self.desk.place(name).unwrap();
         match self.try_open_out(name, file) {
@@ -288,6 +293,7 @@ impl Depot for MemDepot {
         ensures counted { Counted self.old self.new }
         ensures counts { CountsWrites ((mem_seen self.old).name slot) (is_err result) (mem_seen self.old) (mem_seen self.new) }
         ensures refused { is_to_fail self.old ≡ true → IsErr result }
+        ensures cause { OnErr result (MayFail self.old (bytes_left self.old slot < length from.now)) }
         ensures all { IfOk result (λ n. n ≡ length from.now) }
     {
         let file = self.desk.file(slot);
@@ -298,6 +304,20 @@ impl Depot for MemDepot {
                 Err(Failed)
             }
         }
+    }
+}
+
+// A new slot of a name, or none where its memory is refused or no number is left.
+fn open_slot(alloc: Global, desk: &mut Desk, name: &str, file: usize, input: bool) -> Option<u32>
+    requires { place_of desk.old name.now ≡ Some file }
+    ensures stays { Stays file desk.old desk.new }
+    ensures counts { KeepsCounts desk.old desk.new }
+    ensures fresh { IfSome result (λ s. (s ≡ length desk.old.slots.items) × (slice_get desk.new.slots.items s ≡ Some (record { file = file; at = 0; input = input }))) }
+    ensures cause { IfNone result (spare_slots desk.old ≡ 0) }
+{
+    match desk.reserve_slot(alloc) {
+        Ok(()) => desk.open(name, file, 0, input),
+        Err(NoMemory) => None,
     }
 }
 
@@ -329,14 +349,14 @@ fn copy_content(content: &Option<Vec<u8>>, at: usize, into: &mut [u8]) -> usize
 
 // Appends bytes to a content, which is made where it is not there.
 fn append_to(alloc: Global, content: &mut Option<Vec<u8>>, from: &[u8]) -> Result<(), NoMemory>
+    requires { 0 < length from.now }
     ensures ok { OnOk result (content_bytes content.new ≡ Some (bytes_of (content_bytes content.old) ++ from.now)) }
     ensures err { OnErr result (content_bytes content.new ≡ content_bytes content.old) }
+    ensures full { OnErr result (capacity_of content.old - length (bytes_of (content_bytes content.old)) < length from.now) }
 {
     match content {
-        Some(bytes) => bytes.extend_from_slice(from).map_err(|_| NoMemory),
-        None => {
-            *content = Some(from.to_vec(alloc).map_err(|_| NoMemory)?);
-            Ok(())
-        }
+        Some(bytes) => bytes.extend_from_slice(from)?,
+        None => *content = Some(from.to_vec(alloc)?),
     }
+    Ok(())
 }

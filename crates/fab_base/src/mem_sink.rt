@@ -23,14 +23,12 @@ impl MemSink {
         ensures room { IfOk result (λ s. room_of s ≡ room) }
         ensures faults { IfOk result (λ s. (mem_sunk s).faults ≡ 0) }
     {
-        match Vec::with_capacity(alloc, room) {
-            Ok(items) => Ok(MemSink {
-                items,
-                room,
-                faults: 0,
-            }),
-            Err(_) => Err(NoMemory),
-        }
+        let items = Vec::with_capacity(alloc, room)?;
+        Ok(MemSink {
+            items,
+            room,
+            faults: 0,
+        })
     }
 
     /// What was appended.

@@ -115,22 +115,34 @@ fn a_depot_in_memory_fails_where_it_is_told(rt: HostRuntime) -> Result<(), Fail>
     let alloc = rt.alloc();
     let mut depot = MemDepot::new(alloc)?;
     depot.store(alloc, "in", b"abcde")?;
-    depot.know(alloc, "out")?;
-    depot.know(alloc, "missing")?;
-    depot.fail_call(alloc, 2)?;
+    depot.fail_call(alloc, 1)?;
     let mut words = Vec::new(alloc);
-    for word in ["in", "out", "missing"] {
-        words.push(String::from_str(alloc, word)?)?;
-    }
+    words.push(String::from_str(alloc, "in")?)?;
     assert!(rt; depot.knows_all(&words));
-    assert_eq!(rt; words.len(), 3);
+    assert_eq!(rt; words.len(), 1);
     let input = depot.open_in(word_at(&words, 0))?;
-    assert!(rt; depot.open_in(word_at(&words, 2)).is_err());
     let mut buffer = [0; 3];
     assert_eq!(rt; depot.fetch(input, &mut buffer), Err(Failed));
     assert_eq!(rt; depot.fetch(input, &mut buffer), Ok(3));
     assert_eq!(rt; buffer.as_slice(), b"abc".as_slice());
-    assert_eq!(rt; depot.content("out"), None);
+    Ok(())
+}
+
+#[test]
+fn an_input_without_a_file_is_not_opened(rt: HostRuntime) -> Result<(), Fail> {
+    let alloc = rt.alloc();
+    let mut depot = MemDepot::new(alloc)?;
+    depot.store(alloc, "empty", b"")?;
+    depot.know(alloc, "missing")?;
+    let mut words = Vec::new(alloc);
+    for word in ["empty", "missing"] {
+        words.push(String::from_str(alloc, word)?)?;
+    }
+    assert!(rt; depot.knows_all(&words));
+    assert_eq!(rt; words.len(), 2);
+    assert!(rt; depot.open_in(word_at(&words, 1)).is_err());
+    assert!(rt; depot.open_in(word_at(&words, 0)).is_ok());
+    assert_eq!(rt; depot.content("missing"), None);
     Ok(())
 }
 
@@ -189,12 +201,27 @@ fn a_file_is_fetched_in_pieces(rt: HostRuntime) -> Result<(), Fail> {
     words.push(String::from_str(alloc, "in")?)?;
     assert!(rt; depot.knows_all(&words));
     assert_eq!(rt; words.len(), 1);
+    let input = depot.open_in(word_at(&words, 0))?;
+    let mut buffer = [0; 3];
+    assert_eq!(rt; depot.fetch(input, &mut buffer), Ok(3));
+    assert_eq!(rt; depot.fetch(input, &mut buffer), Ok(2));
+    assert_eq!(rt; buffer.as_slice(), b"dec".as_slice());
+    Ok(())
+}
+
+#[test]
+fn two_inputs_of_a_file_are_fetched_apart(rt: HostRuntime) -> Result<(), Fail> {
+    let alloc = rt.alloc();
+    let mut depot = MemDepot::new(alloc)?;
+    depot.store(alloc, "in", b"abcde")?;
+    let mut words = Vec::new(alloc);
+    words.push(String::from_str(alloc, "in")?)?;
+    assert!(rt; depot.knows_all(&words));
+    assert_eq!(rt; words.len(), 1);
     let first = depot.open_in(word_at(&words, 0))?;
     let second = depot.open_in(word_at(&words, 0))?;
     let mut buffer = [0; 3];
     assert_eq!(rt; depot.fetch(second, &mut buffer), Ok(3));
-    assert_eq!(rt; depot.fetch(second, &mut buffer), Ok(2));
-    assert_eq!(rt; buffer.as_slice(), b"dec".as_slice());
     assert_eq!(rt; depot.fetch(first, &mut buffer), Ok(3));
     assert_eq!(rt; buffer.as_slice(), b"abc".as_slice());
     Ok(())

@@ -14,6 +14,7 @@ use std::{fs, io};
 #[derive(Drop)]
 pub struct FileDepot<'a, R: Files> {
     rt: &'a R,
+    alloc: Global,
     desk: Desk,
     files: Vec<R::File>,
 }
@@ -30,6 +31,7 @@ impl<'a, R: Files> FileDepot<'a, R> {
         let desk = desk_of(alloc, words)?;
         Ok(FileDepot {
             rt,
+            alloc,
             desk,
             files: Vec::new(alloc),
         })
@@ -44,7 +46,7 @@ impl<'a, R: Files> FileDepot<'a, R> {
         ensures fresh { IfSome result (λ s. (s ≡ length self.old.desk.slots.items) × (slice_get self.new.desk.slots.items s ≡ Some (record { file = place; at = length self.old.files.items; input = input }))) }
         ensures file { IfSome result (λ s. AddsFile s self.old.files.items self.new.files.items self.new.desk) }
     {
-        if self.files.reserve(1).is_err() {
+        if self.files.reserve(1).is_err() || self.desk.reserve_slot(self.alloc).is_err() {
             return None;
         }
         let file = if input {

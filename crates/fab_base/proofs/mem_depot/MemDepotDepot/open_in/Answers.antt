@@ -1,6 +1,8 @@
-use Rattle.std.proofs.Common.{◌≡◌, ◌∙◌, Some, sym, ap}
+use Rattle.std.proofs.Common.{◌≡◌, ◌∙◌, Some, sym, ap, inl, inr}
 use Rattle.fab_base.specs.Desk.{place_of}
+use Rattle.fab_base.specs.Contents.{content_in}
 use Rattle.fab_base.proofs.MemLemmas.{mem_opens_in, mem_reads, read_rose, stays_trans, counts_read, counted_later}
+use Rattle.fab_base.specs.MemDepot.{Told, Missing}
 use Rattle.fab_base.proofs.mem_depot.MemDepotDepot.open_in.Goals as goal
 
 pub returns-in-Some-clause-opens : goal.returns-in-Some-clause-opens
@@ -28,3 +30,11 @@ returns-in-None-clause-counts c =
     let f = c.unwrap-file.result in
     counts_read c.args.name.now f _ _ c.args.self.now.contents.items c.try_open_in.new.self.contents.items (sym c.place.ensures.found ∙ c.unwrap-file.ensures) (stays_trans f _ _ _ e.stays c.read_failed.ensures.stays)
     (counted_later f _ _ _ e.counts.reads c.read_failed.ensures.counted) (ap (λ v. v.items) c.read_failed.ensures.writes ∙ e.counts.writes)
+
+pub returns-in-None-clause-cause : goal.returns-in-None-clause-cause
+returns-in-None-clause-cause c =
+    let at : place_of c.args.self.now.desk c.args.name.now ≡ Some c.unwrap-file.result = sym c.place.ensures.found ∙ c.unwrap-file.ensures in
+    elim c.in-None.ensures.cause [
+      | Told told ↦ Told told
+      | Missing lack ↦ Missing (elim lack [ inl none ↦ inl (ap (content_in c.args.self.now.contents.items) at ∙ none) | inr left ↦ inr left ])
+    ]

@@ -1,7 +1,7 @@
-use Rattle.std.proofs.Common.{◌≡◌, ◌∙◌, Some, Ok, sym, ap, subst, refl}
+use Rattle.std.proofs.Common.{◌≡◌, ◌<◌, ◌∙◌, Some, Ok, sym, ap, subst, refl, length}
 use Rattle.fab_base.specs.Seen.{Puts}
 use Rattle.fab_base.specs.Desk.{place_of, name}
-use Rattle.fab_base.specs.MemDepot.{mem_seen}
+use Rattle.fab_base.specs.MemDepot.{mem_seen, MayFail, spare_at}
 use Rattle.fab_base.proofs.MemLemmas.{mem_puts, mem_keeps, same_file, write_rose, stays_trans, stays_same, output_within, counts_write, counted_later, same_counts}
 use Rattle.fab_base.proofs.mem_depot.MemDepotDepot.put.Goals as goal
 
@@ -40,3 +40,6 @@ returns-in-None-clause-counts c =
     let same = same_counts _ _ e.desk in
     counts_write (name d c.args.slot) f _ _ c.args.self.now.contents.items c.try_put.new.self.contents.items (d.placed c.args.slot lt ∙ ap Some (sym c.file-file.ensures.value)) (stays_trans f _ _ _ (stays_same f _ _ e.desk) c.write_failed.ensures.stays)
     (counted_later f _ _ _ same.writes c.write_failed.ensures.counted) (ap (λ v. v.items) c.write_failed.ensures.reads ∙ same.reads)
+
+pub returns-in-None-clause-cause : goal.returns-in-None-clause-cause
+returns-in-None-clause-cause c = subst (λ f. MayFail c.args.self.now (spare_at c.args.self.now.contents.items f < length c.args.from.now)) c.file-file.ensures.value c.in-None.ensures.cause
