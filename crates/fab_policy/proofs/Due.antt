@@ -1,12 +1,11 @@
 -- One moment at most is due, and the next tick is the lesser of it and of the window of the next frames.
 use Rattle.std.proofs.Common.{◌≡◌, ℕ, zero, suc, ◌%◌, ◌<◌, ◌≤◌, ◌⊎◌, inl, inr, Bool, true, false, ◌&&◌, ◌==◌, nat_lt, IsTrue, IsSome, Option, Some, None, IfSome, refl, sym, ap, subst, ◌∙◌, arith, below_more}
-use Rattle.std.proofs.lemmas.Bool.{cases_order, and_from, and_parts}
+use Rattle.std.proofs.lemmas.Bool.{cases_order, and_parts}
 use Rattle.std.proofs.lemmas.Bool.Decides.{nat_tests}
 use Rattle.fab_config.specs.Settings.{Settings}
 use Rattle.fab_policy.specs.Due.{DueIsOne, NextTickIsLesser, IsLesser}
 use Rattle.fab_policy.specs.Journal.{Journal, clock}
-use Rattle.fab_policy.specs.Legal.{IsTickTime, IsTickTimeAt, IsTickDue, IsDue, IsNextTick, is_owed_after}
-use Rattle.fab_policy.specs.State.{Tables}
+use Rattle.fab_policy.specs.Legal.{IsTickTime, IsDue, is_owed_after}
 
 not_both : (b : Bool) → b ≡ true → b ≡ false → ⊥
 not_both true e f = cc

@@ -25,3 +25,5 @@ pub mod SoundFree
 pub mod RegistryFits
 mod LooksLemmas
 mod GrowLemmas
+pub mod Ticks
+pub mod Changes

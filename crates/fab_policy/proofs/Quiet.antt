@@ -2,6 +2,7 @@
 use Rattle.std.proofs.Common.{◌≡◌, ℕ, zero, suc, ◌+◌, ◌*◌, ◌<◌, ◌≤◌, ◌⊎◌, inl, inr, Bool, true, false, ◌||◌, ◌==◌, cond, List, [], ◌∷◌, Option, Some, None, refl, sym, ap, subst, ◌∙◌, arith, filter, filter_map, option_and_then, unwrap_or, if◌then◌else◌}
 use Rattle.std.proofs.lemmas.Bool.Decides.{nat_tests}
 use Rattle.std.specs.List.{cons_option}
+use Rattle.std.specs.Option.{option_map_or}
 use Rattle.fab_base.specs.Fabric.{is_silent, PORT_PERIOD}
 use Rattle.fab_config.specs.Settings.{Settings}
 use Rattle.zone_rules.specs.Joined.{contains}
@@ -13,7 +14,8 @@ use Rattle.fab_policy.specs.Legal.{Legal}
 use Rattle.fab_policy.specs.Written.{TablesAscend, LegalIsQuiet}
 use Rattle.fab_policy.specs.declared.event.Event.{Event}
 use Rattle.fab_policy.specs.declared.event.Event.TheVariants.{Tick, Frame}
-use Rattle.fab_policy.proofs.Steps.{live_step, live_addressed, AreAddressed}
+use Rattle.fab_policy.proofs.Found.{listed_at}
+use Rattle.fab_policy.proofs.Steps.{live_step, live_addressed, present, AreAddressed}
 
 -- ---- order
 
@@ -39,34 +41,9 @@ tables_ascend c J = ascends (λ a. live_port a J) (live_addressed J) c.pool (c.d
 -- an address whose N_Port passes is among those that pass
 listed : (f : ℕ → Option LivePort) → AreAddressed f → (q : LivePort → Bool) (a : ℕ) (p : LivePort) → f a ≡ Some p → q p ≡ true →
     (n k : ℕ) → k ≤ a → a < k + n → contains a (addresses (filter q (filter_map f (counting k n)))) ≡ true
-listed f h q a p e t zero k le lt = absurd (omega arith)
-listed f h q a p e t (suc n) k le lt =
-    by_order (ordered k a le) (λ l. listed f h q a p e t n (k + 1) l (omega arith))
-  where
-    rest : List LivePort
-    rest = filter q (filter_map f (counting (k + 1) n))
-
-    ordered : (x y : ℕ) → x ≤ y → (y ≡ x) ⊎ (x < y)
-    ordered x y l = elim (y == x) as (λ b. y == x ≡ b → (y ≡ x) ⊎ (x < y)) [ true ↦ λ t. inl (grind (arith, nat_tests)) | false ↦ λ t. inr (grind (arith, nat_tests)) ] refl
-
-    or_true : (b : Bool) → b || true ≡ true
-    or_true true = refl
-    or_true false = refl
-
-    same : (x : ℕ) → x == x ≡ true
-    same x = grind (arith, nat_tests)
-
-    at_first : (o : Option LivePort) → o ≡ Some p → contains a (addresses (filter q (cons_option o (filter_map f (counting (k + 1) n))))) ≡ true
-    at_first o is = subst (λ z. contains a (addresses (filter q (cons_option z (filter_map f (counting (k + 1) n))))) ≡ true) (sym is)
-        (ap (λ b. contains a (addresses (cond b (p ∷ rest) rest))) t ∙ (ap (λ x. x == a || contains a (addresses rest)) (h a p e) ∙ ap (λ b. b || contains a (addresses rest)) (same a)))
-
-    behind : (o : Option LivePort) → contains a (addresses rest) ≡ true → contains a (addresses (filter q (cons_option o (filter_map f (counting (k + 1) n))))) ≡ true
-    behind None l = l
-    behind (Some p') l = elim (q p') as (λ b. contains a (addresses (cond b (p' ∷ rest) rest)) ≡ true) [ true ↦ ap (λ b. p'.address == a || b) l ∙ or_true (p'.address == a) | false ↦ l ]
-
-    by_order : (a ≡ k) ⊎ (k < a) → (k + 1 ≤ a → contains a (addresses rest) ≡ true) → contains a (addresses (filter q (cons_option (f k) (filter_map f (counting (k + 1) n))))) ≡ true
-    by_order (inl e') later = at_first (f k) (ap f (sym e') ∙ e)
-    by_order (inr l) later = behind (f k) (later (omega arith))
+listed f h q a p e t n k le lt =
+    listed_at q k (k + n) a (filter_map f (counting k n)) (ascends f h n k (k + n) (omega arith))
+    ∙ ap (λ o. option_map_or q o false) (present f h n k a le lt ∙ e) ∙ t
 
 -- nobody passes where each N_Port doesn't
 nobody : (f : ℕ → Option LivePort) (q : LivePort → Bool) (n k : ℕ) → ((a : ℕ) (p : LivePort) → k ≤ a → a < k + n → f a ≡ Some p → q p ≡ false) → filter q (filter_map f (counting k n)) ≡ []

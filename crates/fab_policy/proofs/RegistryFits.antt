@@ -1,12 +1,15 @@
 -- What a journal says of registrations is what the name server keeps: one more registration changes an N_Port as the table of
 -- `ct_messages` says, and a grant gives it what the table gives a login.
-use Rattle.std.proofs.Common.{◌≡◌, ℕ, zero, suc, ◌+◌, ◌<◌, true, List, [], ◌∷◌, length, set, replicate, Option, Some, None, refl, sym, ◌∙◌, ap, arith, zero-add}
+use Rattle.std.proofs.Common.{◌≡◌, ℕ, zero, suc, ◌+◌, ◌<◌, true, List, [], ◌∷◌, length, set, replicate, Option, Some, None, option_map, refl, sym, ◌∙◌, ap, arith, zero-add}
 use Rattle.std.proofs.lemmas.Bool.Decides.{nat_tests}
 use Rattle.ct_messages.specs.Ct.{Ask, NextOf, PortNameOf, NodeNameOf, TypesOf, FeaturesOf, ByPortName, AddressesOfType, PortNamesOfType, NodeNamesOfType, AddressesOfPortType, SetNode, SetTypes, SetSymbol, SetFeature, SetNodeSymbol, Erase, Unknown}
 use Rattle.ct_messages.specs.Server.{Values, NO_FEATURES, is_registration}
 use Rattle.ct_messages.specs.Server as server
 use Rattle.ct_messages.specs.CanWrite.{HasByte}
-use Rattle.fab_policy.specs.Fits.{RegistrationsFit, LoginsFit}
+use Rattle.fab_policy.specs.Fits.{RegistrationsFit, LoginsFit, FeaturesAreAll}
+use Rattle.fab_policy.specs.Journal.{Journal}
+use Rattle.fab_policy.specs.Logins.{NPort, login}
+use Rattle.fab_policy.specs.State.{LivePort, with_all}
 use Rattle.fab_policy.specs.Registered.{says_feature}
 use Rattle.fab_policy.specs.Steps.{features_after, values_after}
 
@@ -34,7 +37,7 @@ features_set a feature kind t (suc i) (f ∷ fs) place within = grind (arith, na
 with_features : (v : Values) (fs : List ℕ) → v.features ≡ fs → v ≡ record v { features = fs }
 with_features v fs is = ap (λ l. record v { features = l }) is
 
-by_ask : (first : ℕ) (ask : Ask) (v : Values) → is_registration ask ≡ true → HasByte ask → length v.features ≡ 256 → values_after first (Some ask) v ≡ server.after first ask v
+pub by_ask : (first : ℕ) (ask : Ask) (v : Values) → is_registration ask ≡ true → HasByte ask → length v.features ≡ 256 → values_after first (Some ask) v ≡ server.after first ask v
 unfolding NO_FEATURES
 by_ask first (SetNode a name) v kind_is byte long = with_features _ _ (features_same (SetNode a name) (λ t. refl) 0 v.features)
 by_ask first (SetTypes a types) v kind_is byte long = with_features _ _ (features_same (SetTypes a types) (λ t. refl) 0 v.features)
@@ -61,3 +64,15 @@ registered_after at a e p ask is kind_is byte long = ap (λ asked. values_after 
 -- an N_Port that has just logged in has those of its login
 pub values_fresh : LoginsFit
 values_fresh at a p = refl
+
+-- a live N_Port has as many features as there are types
+features_are_all_of : (J : Journal) (a : ℕ) (p : LivePort) (l : Option NPort) → option_map (with_all a J) l ≡ Some p → length p.values.features ≡ 256
+features_are_all_of J a p None e = cc
+features_are_all_of J a p (Some q) e = ap count (sym e)
+  where
+    count : Option LivePort → ℕ
+    count (Some r) = length r.values.features
+    count None = 256
+
+pub features_are_all : FeaturesAreAll
+features_are_all J a p e = features_are_all_of J a p (login a J) e

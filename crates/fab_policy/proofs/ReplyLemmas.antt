@@ -1,14 +1,12 @@
 -- The answers to requests.
-use Rattle.std.proofs.Common.{◌≡◌, ℕ, ◌≤◌, nat_le, ◌==◌, IsTrue, Bool, true, false, List, [], None, Result, Ok, Err, refl, sym, ap, ◌∙◌, if◌then◌else◌, min, ◌∷◌}
+use Rattle.std.proofs.Common.{◌≡◌, ℕ, ◌≤◌, nat_le, ◌==◌, IsTrue, Bool, true, false, List, Result, Ok, Err, refl, sym, ap, ◌∙◌, if◌then◌else◌}
 use Rattle.std.proofs.lemmas.Bool.{leb-true}
 use Rattle.fab_base.specs.declared.values.Caught.{Caught}
 use Rattle.eth_frames.specs.Ethernet as eth
 use Rattle.eth_frames.specs.declared.EthFault.{EthFault}
-use Rattle.eth_frames.specs.declared.EthFault.TheVariants.{Short}
 use Rattle.fab_config.specs.Settings.{Settings, is_in_range, is_between}
 use Rattle.fab_config.specs.InRange.{inside_in_range}
 use Rattle.fab_config.specs.declared.Config.TheInside.{Inside}
-use Rattle.fip_codec.specs.Message as fip
 use Rattle.fip_codec.proofs.Sound.{and-left, and-right}
 use Rattle.fab_policy.specs.Heard.{What, Bad, plain, frame_in, decoded, source}
 use Rattle.fab_policy.specs.Judging.{verdict_of}

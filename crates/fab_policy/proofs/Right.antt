@@ -1,8 +1,6 @@
 -- Each frame has one right verdict, but for the address of a grant.
-use Rattle.std.proofs.Common.{◌≡◌, ◌⊎◌, inl, inr, ℕ, refl, sym, ◌∙◌}
-use Rattle.fab_config.specs.Settings.{Settings}
+use Rattle.std.proofs.Common.{◌≡◌, ◌⊎◌, inl, inr, refl, sym, ◌∙◌}
 use Rattle.fab_policy.specs.Right.{RightIsOne, IsGrant}
-use Rattle.fab_policy.specs.State.{Tables}
 use Rattle.fab_policy.specs.Verdicts.{Judgement, Must, MayGrant, Meets, judged}
 use Rattle.fab_policy.specs.declared.verdict.Verdict.{Verdict}
 use Rattle.fab_policy.specs.declared.verdict.Verdict.TheVariants.{Granted}

@@ -1,7 +1,6 @@
 -- After each legal journal the names of live N_Ports differ, and there are at most as many as the limit.
 use Rattle.std.proofs.Common.{◌≡◌, ℕ, zero, suc, ◌+◌, ◌*◌, ◌<◌, ◌≤◌, ◌⊎◌, inl, inr, Bool, true, false, not, ◌&&◌, ◌==◌, ◌≢◌, cond, List, [], ◌∷◌, Option, Some, None, refl, sym, ap, subst, ◌∙◌, arith, filter, filter_map, length, option_and_then, unwrap_or, if◌then◌else◌}
 use Rattle.std.proofs.lemmas.Bool.{cases_eq, or_parts, ne_eqb, eq-eqb, eqb-false, leb-false}
-use Rattle.std.proofs.lemmas.Bool.Decides.{nat_tests}
 use Rattle.std.specs.List.{list_any, cons_option}
 use Rattle.fab_base.specs.declared.values.Caught.{Caught}
 use Rattle.fab_base.specs.Fabric.{same_enode}

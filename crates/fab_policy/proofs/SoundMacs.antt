@@ -3,7 +3,7 @@ use Rattle.std.proofs.Common.{◌≡◌, ℕ, ◌+◌, ◌*◌, ◌^◌, ◌<◌
 use Rattle.std.proofs.lemmas.Bool.{and_parts, leb-true}
 use Rattle.fab_base.specs.Layout.{spelled, big_endian}
 use Rattle.fab_base.proofs.LayoutLemmas.{big_endian-spelled, length-spelled}
-use Rattle.fab_config.specs.Settings.{Settings, is_between, is_station, are_zones, are_sets, are_activations}
+use Rattle.fab_config.specs.Settings.{Settings, is_in_range, is_between, is_station, are_zones, are_sets, are_activations}
 use Rattle.fab_policy.specs.State.{LivePort, tables_of}
 use Rattle.fab_policy.specs.Steps.{AreAscending}
 use Rattle.fab_policy.specs.Sound.{MacsTellAddresses, LiveMacsDiffer, IsNewMac, HaveDifferentMacs}
@@ -53,10 +53,13 @@ in_range a b c d e f g h i j k l m t =
     let to_f = and_parts (a && b && c && d && e) f to_g.0 in
     ((and_parts (a && b && c && d) e to_f.0).1, to_f.1)
 
-pub live_macs_differ : LiveMacsDiffer
-live_macs_differ c J t =
+-- the pool's addresses have 24 bits
+pub pool_fits : (c : Settings) → IsTrue (is_in_range c) → c.domain * 65536 + 256 + c.pool ≤ 2 ^ 24
+pool_fits c t =
     let both = in_range (nat_lt c.switch (2 ^ 64)) (is_station c.fcf_mac) (is_between 0x0efc00 0x0efcff c.fc_map) (is_between 1 4094 c.vlan) (is_between 1 239 c.domain) (is_between 1 60000 c.pool)
     (nat_le c.priority 255) (is_between 250 90000 c.period) (is_between 10 1000 c.window) (is_between 1 1000 c.limit) (are_zones c.zones) (are_sets (length c.zones) c.sets)
     (are_activations (length c.sets) c.activations) t in
-    macs_differ c (c.domain * 65536 + 256) (c.domain * 65536 + 256 + c.pool) (tables_of c J).ports
-    (omega (arith, at_most 1 239 c.domain both.0, at_most 1 60000 c.pool both.1)) (tables_ascend c J)
+    omega (arith, at_most 1 239 c.domain both.0, at_most 1 60000 c.pool both.1)
+
+pub live_macs_differ : LiveMacsDiffer
+live_macs_differ c J t = macs_differ c (c.domain * 65536 + 256) (c.domain * 65536 + 256 + c.pool) (tables_of c J).ports (pool_fits c t) (tables_ascend c J)

@@ -1,5 +1,5 @@
 -- The verdict so far of what was heard.
-use Rattle.std.specs.Prelude.{Bool, false, not, List, [], ◌∷◌, Option, Some, None}
+use Rattle.std.specs.Prelude.{Bool, false, not, [], ◌∷◌, Option, Some, None}
 use Rattle.fab_config.specs.Settings.{Settings, same_bytes}
 use Rattle.eth_frames.specs.Ethernet as eth
 use Rattle.fip_codec.specs.Message as fip

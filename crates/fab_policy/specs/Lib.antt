@@ -20,6 +20,7 @@ pub mod Steps
 pub mod Forwarding
 pub mod Ranged
 pub mod Fits
+pub mod Changes
 pub mod Standing
 pub mod Looks
 pub mod Written

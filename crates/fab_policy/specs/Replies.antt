@@ -18,7 +18,7 @@ use Rattle.els_messages.specs.Els as els
 use Rattle.els_messages.specs.declared.LoginParms.{LoginParms}
 use Rattle.ct_messages.specs.Answer as ct
 use Rattle.ct_messages.specs.declared.CtTell.{CtTell}
-use Rattle.fab_policy.specs.Heard.{FIP, FCOE, carried, asked, source, login_of}
+use Rattle.fab_policy.specs.Heard.{FIP, FCOE, carried, asked, source, s_id, d_id, login_of}
 use Rattle.fab_policy.specs.Logins.{granted_mac}
 use Rattle.fab_policy.specs.Rules.{ALL_ENODES, CONTROLLER, NAME_SERVER}
 use Rattle.fab_policy.specs.Queries.{fport}
@@ -68,16 +68,26 @@ F_CTL_LAST = 0x980000
 abbrev pub F_CTL_EARLIER : ℕ
 F_CTL_EARLIER = 0x900000
 
--- a reply of an extended link service to the request that a frame carries, from the address that was asked
-abbrev pub els_reply : fc.Frame → ℕ → els.Els → fc.Frame
-els_reply asked d_id v = record { head = header 0x23 d_id asked.head.d_id 0x01 F_CTL_LAST 0 asked.head.ox_id; payload = els.written v }
+-- Whom a reply answers: the MAC that sent a frame, and what a reply takes over of the header that the frame carries.
+pub record Asker : Type 0 where
+  pub mac : List ℕ
+  pub d_id : ℕ
+  pub s_id : ℕ
+  pub ox_id : ℕ
+
+abbrev pub asker_of : Caught → Asker
+asker_of caught = record { mac = source caught; d_id = d_id caught; s_id = s_id caught; ox_id = (carried caught).head.ox_id }
+
+-- a reply of an extended link service to an address, from the address that was asked
+abbrev pub els_reply : Asker → ℕ → els.Els → fc.Frame
+els_reply to d_id v = record { head = header 0x23 d_id to.d_id 0x01 F_CTL_LAST 0 to.ox_id; payload = els.written v }
 
 -- ---- accepts of logins
 
 -- what the accept of a FLOGI or FDISC says: a fabric port, and several addresses where they were asked for
-abbrev pub fabric_parms : Settings → ℕ → LoginParms → LoginParms
-fabric_parms c port p = record {
-  features = 0x1000 + (if els.has_feature 0x8000 p then 0x2000 else 0);
+abbrev pub fabric_parms : Settings → ℕ → Bool → LoginParms
+fabric_parms c port several = record {
+  features = 0x1000 + (if several then 0x2000 else 0);
   size = 0x840;
   ra_tov = 0x2710;
   ed_tov = 0x7d0;
@@ -103,16 +113,22 @@ server_parms c = record {
 abbrev pub kind_asked : Caught → LoginKind
 kind_asked caught = elim (login_of caught) [ Some login ↦ login.0 | None ↦ Flogi ]
 
-abbrev pub reply_in_fip : Settings → Caught → ℕ → els.Els → Option (List ℕ) → List ℕ
-reply_in_fip c caught d_id v mac =
-    made_fip c (source caught) (fip.LoginReply (kind_asked caught) true (fc.frame_bytes (els_reply (carried caught) d_id v)) mac)
+abbrev pub reply_in_fip : Settings → Asker → LoginKind → ℕ → els.Els → Option (List ℕ) → List ℕ
+reply_in_fip c to kind d_id v mac = made_fip c to.mac (fip.LoginReply kind true (fc.frame_bytes (els_reply to d_id v)) mac)
 
 -- the accept of a login goes to the granted address, with the granted MAC
+abbrev pub accept_to : Settings → ℕ → Asker → LoginKind → Bool → ℕ → List ℕ
+accept_to c port to kind several a = reply_in_fip c to kind a (els.LoginAccept (fabric_parms c port several)) (Some (granted_mac c a))
+
 abbrev pub login_accept : Settings → ℕ → Caught → ℕ → List ℕ
-login_accept c port caught a = reply_in_fip c caught a (els.LoginAccept (fabric_parms c port (asked caught))) (Some (granted_mac c a))
+login_accept c port caught a = accept_to c port (asker_of caught) (kind_asked caught) (els.has_feature 0x8000 (asked caught)) a
+
+-- another reply to a login goes to its S_ID
+abbrev pub login_reply_to : Settings → Asker → LoginKind → els.Els → List ℕ
+login_reply_to c to kind v = reply_in_fip c to kind to.s_id v None
 
 abbrev pub login_reply : Settings → Caught → els.Els → List ℕ
-login_reply c caught v = reply_in_fip c caught (carried caught).head.s_id v None
+login_reply c caught v = login_reply_to c (asker_of caught) (kind_asked caught) v
 
 -- the frame has no tag, or one with VLAN number 0
 abbrev pub is_untagged : Caught → Bool
@@ -150,33 +166,32 @@ advertised_to_one c caught = advertised_to c (source caught) (size_asked caught)
 
 -- ---- replies in FCoE, to the sender of a frame
 
-abbrev pub reply_in_fcoe : Settings → Caught → fc.Frame → List ℕ
-reply_in_fcoe c caught f = made_fcoe c (source caught) capsule.SOF_I3 capsule.EOF_T f
+abbrev pub service_reply_to : Settings → Asker → els.Els → List ℕ
+service_reply_to c to v = made_fcoe c to.mac capsule.SOF_I3 capsule.EOF_T (els_reply to to.s_id v)
 
 abbrev pub service_reply : Settings → Caught → els.Els → List ℕ
-service_reply c caught v = reply_in_fcoe c caught (els_reply (carried caught) (carried caught).head.s_id v)
+service_reply c caught v = service_reply_to c (asker_of caught) v
 
 -- one frame of a reply of the common transport: the first begins the sequence, and the last ends it
-abbrev pub ct_frame : Settings → Caught → ℕ → Bool → List ℕ → List ℕ
-ct_frame c caught count last payload =
-    let asked = (carried caught).head in
-    made_fcoe c (source caught) (if count == 0 then capsule.SOF_I3 else capsule.SOF_N3) (if last then capsule.EOF_T else capsule.EOF_N)
-    (record { head = header 0x03 asked.s_id NAME_SERVER 0x20 (if last then F_CTL_LAST else F_CTL_EARLIER) count asked.ox_id; payload = payload })
+abbrev pub ct_frame : Settings → Asker → ℕ → Bool → List ℕ → List ℕ
+ct_frame c to count last payload =
+    made_fcoe c to.mac (if count == 0 then capsule.SOF_I3 else capsule.SOF_N3) (if last then capsule.EOF_T else capsule.EOF_N)
+    (record { head = header 0x03 to.s_id NAME_SERVER 0x20 (if last then F_CTL_LAST else F_CTL_EARLIER) count to.ox_id; payload = payload })
 
-abbrev pub ct_frames : Settings → Caught → ℕ → List (List ℕ) → List (List ℕ)
-ct_frames c caught count [] = []
-ct_frames c caught count (l ∷ []) = ct_frame c caught count true l ∷ []
-ct_frames c caught count (l ∷ k ∷ more) = ct_frame c caught count false l ∷ ct_frames c caught (count + 1) (k ∷ more)
+abbrev pub ct_frames : Settings → Asker → ℕ → List (List ℕ) → List (List ℕ)
+ct_frames c to count [] = []
+ct_frames c to count (l ∷ []) = ct_frame c to count true l ∷ []
+ct_frames c to count (l ∷ k ∷ more) = ct_frame c to count false l ∷ ct_frames c to (count + 1) (k ∷ more)
 
 -- an answer in frames of at most this size
 abbrev pub ct_reply : Settings → Caught → ℕ → CtTell → List (List ℕ)
-ct_reply c caught size answer = let l = ct.written answer in ct_frames c caught 0 (pieces (length l) size l)
+ct_reply c caught size answer = let l = ct.written answer in ct_frames c (asker_of caught) 0 (pieces (length l) size l)
 
 -- ---- other frames
 
 -- a frame goes on with the destination's granted MAC and the forwarder's as source, and every other byte unchanged
 abbrev pub forwarded : Settings → Caught → List ℕ
-forwarded c caught = granted_mac c (carried caught).head.d_id ++ c.fcf_mac ++ drop 12 caught.bytes
+forwarded c caught = granted_mac c (d_id caught) ++ c.fcf_mac ++ drop 12 caught.bytes
 
 -- a clear link message to an ENode
 abbrev pub clear_links : Settings → List ℕ → List VxPort → List ℕ

@@ -139,11 +139,15 @@ is_keepalive_unknown c T port caught _ = false
 abbrev pub is_wrong_vlan : Settings → eth.Eth → Bool → Bool
 is_wrong_vlan c f may_be_untagged = not (eth.vlan_of_tag f.tag == c.vlan || (may_be_untagged && eth.vlan_of_tag f.tag == 0))
 
+-- the frame is to the forwarder, or to all forwarders and of a kind that may be
+abbrev pub is_to_forwarder : Settings → eth.Eth → fip.Fip → Bool
+is_to_forwarder c f m = same_bytes f.dst c.fcf_mac || ((is_solicitation m || is_vlan_request m) && same_bytes f.dst ALL_FCFS)
+
 -- the rows on the frame itself: its VLAN, its destination, who may send it, and whom it names
 abbrev pub fip_frame_rows : Settings → eth.Eth → fip.Fip → List (Bool × Cause)
 fip_frame_rows c f m =
     (is_wrong_vlan c f (is_vlan_request m), plain rule.Vlan)
-    ∷ (not (same_bytes f.dst c.fcf_mac || ((is_solicitation m || is_vlan_request m) && same_bytes f.dst ALL_FCFS)), plain rule.FipDest)
+    ∷ (not (is_to_forwarder c f m), plain rule.FipDest)
     ∷ (is_forwarders m, plain rule.FipRole)
     ∷ (elim (named_mac m) [ None ↦ false | Some mac ↦ not (same_bytes mac f.src) ], plain rule.FipMac)
     ∷ []

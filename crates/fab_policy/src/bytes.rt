@@ -1,4 +1,4 @@
-// Bytes that are compared.
+//! Bytes that are compared.
 ghost use Rattle.std.specs.Prelude.{◌≡◌};
 ghost use Rattle.fab_config.specs.Settings.{same_bytes};
 

@@ -1,4 +1,4 @@
-// One turn of the forwarder.
+//! One turn of the forwarder.
 use crate::Verdict;
 use fab_base::{Caught, IdList, Moment, PortNo};
 

@@ -1,4 +1,4 @@
-// A captured frame and what it is (IEEE 802.3, IEEE 802.1Q; FC-BB-5).
+//! A captured frame and what it is (IEEE 802.3, IEEE 802.1Q; FC-BB-5).
 ghost use Rattle.std.specs.Prelude.{◌≡◌, nat_lt, false};
 ghost use Rattle.std.specs.List.{AllPass};
 ghost use Rattle.eth_frames.specs.Ethernet.{view as eth_view};

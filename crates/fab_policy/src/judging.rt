@@ -1,12 +1,12 @@
-// The verdict of a frame, so far as the forwarder is built.
+//! The verdict of a frame, so far as the forwarder is built.
 ghost use Rattle.std.specs.Prelude.{◌≡◌, ◌||◌, not, false, option_map, IfSome, ◌&&◌, if◌then◌else◌};
 ghost use Rattle.eth_frames.specs.Ethernet.{Eth, view as eth_view};
 ghost use Rattle.fip_codec.specs.Message.{view as fip_view};
-ghost use Rattle.fab_config.specs.Settings.{same_bytes};
 ghost use Rattle.fab_policy.specs.Cause.{is_numbered};
 ghost use Rattle.fab_policy.specs.Heard.{Fip, plain, numbered};
 ghost use Rattle.fab_policy.specs.View.{cause_at as cause_of_place};
-ghost use Rattle.fab_policy.specs.Judging.{verdict_of, fcoe_verdict, names_another as is_named_otherwise};
+ghost use Rattle.fab_policy.specs.Judging.{verdict_of, fcoe_verdict};
+ghost use Rattle.fab_policy.specs.Judging.{names_another as is_named_otherwise};
 ghost use Rattle.fab_policy.specs.Rules as rules;
 ghost use Rattle.fab_policy.specs.Stage.{verdict_so_far, message_verdict};
 
@@ -20,9 +20,9 @@ use fip_codec::FipMessage;
 /// All-FCF-MACs, the group of all forwarders.
 const ALL_FCFS: Mac = Mac([0x01, 0x10, 0x18, 0x01, 0x00, 0x02]);
 
-/// The verdict of a frame: VLAN requests and solicitations are answered, frames that break a rule on
-/// the frame itself are dropped by the first such rule, and all else by the rule that says that its
-/// kind isn't built yet.
+/// The verdict of a frame: VLAN requests and solicitations are answered, frames that break a rule
+/// on the frame itself are dropped by the first such rule, and all else by the rule that says that
+/// its kind isn't built yet.
 pub fn judge(config: &Config, heard: &Heard<'_>) -> Verdict
     ensures value { result ≡ verdict_so_far config.now heard.now.caught.now }
 {
@@ -73,7 +73,9 @@ fn judge_fip(config: &Config, eth: &EthFrame<'_>, message: &FipMessage<'_>) -> V
 
 // The first rule on the frame itself that drops a message.
 fn fip_rule(config: &Config, eth: &EthFrame<'_>, message: &FipMessage<'_>) -> Option<Rule>
-    ensures value { option_map plain result ≡ rules.first_row (rules.fip_frame_rows config.now (eth_view eth.now) (fip_view message.now)) }
+    ensures value { option_map plain result
+        ≡ rules.first_row (
+        rules.fip_frame_rows config.now (eth_view eth.now) (fip_view message.now)) }
     ensures number { IfSome result (λ rule. is_numbered rule ≡ false) }
 {
     if is_wrong_vlan(config, eth, is_vlan_request(message)) {
@@ -102,7 +104,7 @@ fn is_wrong_vlan(config: &Config, eth: &EthFrame<'_>, may_be_untagged: bool) -> 
 
 // Whether a frame is to the forwarder, or to all forwarders and of a kind that may be.
 fn is_to_forwarder(config: &Config, eth: &EthFrame<'_>, message: &FipMessage<'_>) -> bool
-    ensures { result ≡ (same_bytes eth.now.dst config.now.fcf_mac || ((rules.is_solicitation (fip_view message.now) || rules.is_vlan_request (fip_view message.now)) && same_bytes eth.now.dst rules.ALL_FCFS)) }
+    ensures { result ≡ rules.is_to_forwarder config.now (eth_view eth.now) (fip_view message.now) }
 {
     let may_be_to_all = is_solicitation(message) || is_vlan_request(message);
     is_same(&eth.dst.0, &config.fcf_mac.0) || (may_be_to_all && is_same(&eth.dst.0, &ALL_FCFS.0))

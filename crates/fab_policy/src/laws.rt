@@ -1,13 +1,19 @@
 //! What the definitions imply. Each function does nothing: its contract is the law.
-ghost use Rattle.fab_policy.specs.Steps.{Steps, StepsLogin, FoundByAddress, LivesAreFound, OthersAreNone};
-ghost use Rattle.fab_policy.specs.Carried.{SourcesAreRead, LoginsAreCarried, BodiesAreCarried, ParmsAreAsked, AnswersAreAsked};
+ghost use Rattle.fab_policy.specs.Steps.{Steps, StepsLogin, FoundByAddress, LivesAreFound};
+ghost use Rattle.fab_policy.specs.Steps.{OthersAreNone};
+ghost use Rattle.fab_policy.specs.Changes.{ChangesAreAfter, TickSteps, PortsStay, FrameSteps};
+ghost use Rattle.fab_policy.specs.Changes.{EndsOfTicks, LogoutSteps, GrantSteps, GrantPorts};
+ghost use Rattle.fab_policy.specs.Changes.{GrantPast};
+ghost use Rattle.fab_policy.specs.Carried.{SourcesAreRead, LoginsAreCarried, BodiesAreCarried};
+ghost use Rattle.fab_policy.specs.Carried.{ParmsAreAsked, AnswersAreAsked};
 ghost use Rattle.fab_policy.specs.Due.{DueIsOne, NextTickIsLesser};
 ghost use Rattle.fab_policy.specs.Forwarding.{ForwardsExactly, LegalForwards};
 ghost use Rattle.fab_policy.specs.Right.{RightIsOne};
 ghost use Rattle.fab_policy.specs.Written.{TablesAscend, LegalIsQuiet, LegalIsSound};
 ghost use Rattle.fab_policy.specs.Sound.{MacsTellAddresses, LiveMacsDiffer, GrantsAreFree};
-ghost use Rattle.fab_policy.specs.Fits.{RegistrationsFit, LoginsFit};
-ghost use Rattle.fab_policy.specs.Standing.{StandsNew, StandsOlder, DueAfter, StandsAfter, StandsDrained, LegalAfter, GrowsByFrames};
+ghost use Rattle.fab_policy.specs.Fits.{RegistrationsFit, LoginsFit, FeaturesAreAll};
+ghost use Rattle.fab_policy.specs.Standing.{StandsNew, StandsOlder, DueAfter, StandsAfter};
+ghost use Rattle.fab_policy.specs.Standing.{StandsDrained, LegalAfter, GrowsByFrames};
 
 /// What a journal with one more entry says follows from what the journal said, and tables that are
 /// found address by address are the whole tables.
@@ -17,21 +23,37 @@ pub fn journal_steps()
     ensures found { FoundByAddress }
 {}
 
-/// The tables of a journal have the live N_Port of each address of the pool, and of no other address.
+/// The tables of a journal have the live N_Port of each address of the pool, and of no other
+/// address.
 pub fn lookups()
     ensures lives { LivesAreFound }
     ensures others { OthersAreNone }
 {}
 
-/// A registration changes what a journal says of its N_Port as the name server's table says, and a new
-/// login has what the table gives one: so a registry can keep what a journal says.
+/// What each kind of entry does to the tables, address by address: tables that change so are the
+/// tables after it.
+pub fn tables_change()
+    ensures any { ChangesAreAfter }
+    ensures tick { TickSteps }
+    ensures ends { EndsOfTicks }
+    ensures port { PortsStay }
+    ensures frame { FrameSteps }
+    ensures logout { LogoutSteps }
+    ensures grant { GrantSteps }
+    ensures ports { GrantPorts }
+    ensures past { GrantPast }
+{}
+
+/// A registration changes what a journal says of its N_Port as the name server's table says, and a
+/// new login has what the table gives one: so a registry can keep what a journal says.
 pub fn registrations_fit()
     ensures after { RegistrationsFit }
     ensures fresh { LoginsFit }
+    ensures features { FeaturesAreAll }
 {}
 
-/// What a decoded frame says is what a journal reads from its bytes: who sent it, which login it is and
-/// which FC frame it carries, what that asks for, and how it wants to be answered.
+/// What a decoded frame says is what a journal reads from its bytes: who sent it, which login it is
+/// and which FC frame it carries, what that asks for, and how it wants to be answered.
 pub fn frames_are_carried()
     ensures source { SourcesAreRead }
     ensures login { LoginsAreCarried }
@@ -40,10 +62,11 @@ pub fn frames_are_carried()
     ensures answer { AnswersAreAsked }
 {}
 
-/// A fabric before anything happened stands for the empty journal. One that takes an entry which is right
-/// by its own tables stands for each journal that it stood for with that entry, and this journal is legal
-/// if the one before was. What it has sent since the last drain is what its events send after the journal
-/// that they follow, and a tick that is due by its tables is due by the journal.
+/// A fabric before anything happened stands for the empty journal. One that takes an entry which is
+/// right by its own tables stands for each journal that it stood for with that entry, and this
+/// journal is legal if the one before was. What it has sent since the last drain is what its events
+/// send after the journal that they follow, and a tick that is due by its tables is due by the
+/// journal.
 pub fn fabric_steps()
     ensures first { StandsNew }
     ensures after { StandsAfter }
@@ -54,16 +77,16 @@ pub fn fabric_steps()
     ensures grows { GrowsByFrames }
 {}
 
-/// One moment at most is due, and after the first tick the next one is the lesser of it and of the window
-/// of the next frames.
+/// One moment at most is due, and after the first tick the next one is the lesser of it and of the
+/// window of the next frames.
 pub fn ticks_are_due()
     ensures one { DueIsOne }
     ensures next { NextTickIsLesser }
 {}
 
-/// A data frame goes on exactly where its source MAC, its port, both logins and a zone allow it, to the
-/// port of its destination's login, and is dropped by the first rule of the table elsewhere. So it is in
-/// each legal journal.
+/// A data frame goes on exactly where its source MAC, its port, both logins and a zone allow it, to
+/// the port of its destination's login, and is dropped by the first rule of the table elsewhere. So
+/// it is in each legal journal.
 pub fn forwarding_rule()
     ensures judged { ForwardsExactly }
     ensures journal { LegalForwards }
@@ -74,9 +97,10 @@ pub fn verdicts_are_one()
     ensures { RightIsOne }
 {}
 
-/// The live addresses of each journal ascend, and their granted MACs differ. After each legal journal
-/// the names of live N_Ports differ too, there are at most as many as the limit, and nobody is overdue
-/// at the clock. An address is granted only where nobody holds it, or where it is given back to its ENode.
+/// The live addresses of each journal ascend, and their granted MACs differ. After each legal
+/// journal the names of live N_Ports differ too, there are at most as many as the limit, and nobody
+/// is overdue at the clock. An address is granted only where nobody holds it, or where it is given
+/// back to its ENode.
 pub fn legal_journals()
     ensures ascend { TablesAscend }
     ensures quiet { LegalIsQuiet }

@@ -31,7 +31,7 @@ pub use heard::{Heard, What, hear};
 pub use judging::judge;
 pub use laws::{
     fabric_steps, forwarding_rule, frames_are_carried, journal_steps, legal_journals, lookups,
-    registrations_fit, ticks_are_due, verdicts_are_one,
+    registrations_fit, tables_change, ticks_are_due, verdicts_are_one,
 };
 pub use line::{Format, Line};
 pub use lines::{write_frame_line, write_head_line, write_line, write_line1, write_tick_line};

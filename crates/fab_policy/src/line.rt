@@ -1,4 +1,4 @@
-// What one line of a journal says.
+//! What one line of a journal says.
 use crate::Verdict;
 use fab_base::{IdList, Moment, PortNo};
 
@@ -17,8 +17,8 @@ pub enum Line {
         moment: Moment,
         ended: IdList,
     },
-    /// The frame of that index of a port's capture, counted from 0, and its verdict; the clock at the
-    /// entry in the second format alone.
+    /// The frame of that index of a port's capture, counted from 0, and its verdict; the clock at
+    /// the entry in the second format alone.
     Frame {
         port: PortNo,
         index: u64,

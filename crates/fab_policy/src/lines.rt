@@ -1,7 +1,9 @@
 //! The lines of a journal, written.
 ghost use Rattle.std.specs.Prelude.{◌≡◌, ◌++◌, ◌∷◌, [], ◌<◌, decimal, IfOk, OnOk, OnErr};
 ghost use Rattle.fab_policy.specs.Spelling.{IsClockOf, EndsAscend};
-ghost use Rattle.fab_policy.specs.Text.{line, head_line, line1, frame_words, verdict_text, cause_text, then_word, address_word, address_words, code_word, LINE_FEED};
+ghost use Rattle.fab_policy.specs.Text.{line, head_line, line1, frame_words, verdict_text};
+ghost use Rattle.fab_policy.specs.Text.{cause_text, then_word, address_word, address_words};
+ghost use Rattle.fab_policy.specs.Text.{code_word, LINE_FEED};
 ghost use Rattle.fab_base.specs.Texts.{hex_digit};
 
 use crate::words::rule_text;
@@ -21,8 +23,8 @@ pub fn write_head_line(_alloc: Global, out: &mut Vec<u8>) -> Result<(), NoMemory
     append(b"journal 2\n", out)
 }
 
-/// Appends the line of an entry in format 2, as `1000 tick` or `1000 1 0 vlans`, with its line feed.
-/// The clock is the moment of the last tick, and of the entry itself where that is a tick.
+/// Appends the line of an entry in format 2, as `1000 tick` or `1000 1 0 vlans`, with its line
+/// feed. The clock is the moment of the last tick, and of the entry itself where that is a tick.
 pub fn write_line(
     alloc: Global,
     clock: Moment,
@@ -72,7 +74,8 @@ pub fn write_tick_line(
     ended: &IdList,
     out: &mut Vec<u8>,
 ) -> Result<(), NoMemory>
-    ensures ok { OnOk result (out.new.items ≡ out.old.items ++ line1 (Event.Tick moment ended.now)) }
+    ensures ok { OnOk result (
+        out.new.items ≡ out.old.items ++ line1 (Event.Tick moment ended.now)) }
     ensures err { OnErr result (out.new.items ≡ out.old.items) }
 {
     let Ok(line) = line_of_tick(alloc, moment, ended) else {
@@ -89,7 +92,8 @@ pub fn write_frame_line(
     verdict: &Verdict,
     out: &mut Vec<u8>,
 ) -> Result<(), NoMemory>
-    ensures ok { OnOk result (out.new.items ≡ out.old.items ++ (frame_words port index verdict.now ++ LINE_FEED ∷ [])) }
+    ensures ok { OnOk result (
+        out.new.items ≡ out.old.items ++ (frame_words port index verdict.now ++ LINE_FEED ∷ [])) }
     ensures err { OnErr result (out.new.items ≡ out.old.items) }
 {
     let Ok(line) = line_of_frame(alloc, port, index, verdict) else {
@@ -127,7 +131,9 @@ fn clocked_line_of_frame(
     index: u64,
     verdict: &Verdict,
 ) -> Result<Vec<u8>, AllocError>
-    ensures { IfOk result (λ v. v.items ≡ decimal clock ++ then_word (frame_words port index verdict.now) ++ LINE_FEED ∷ []) }
+    ensures { IfOk result (λ v.
+        v.items ≡ decimal clock ++ then_word (frame_words port index verdict.now)
+        ++ LINE_FEED ∷ []) }
 {
     let mut line = Vec::with_capacity(alloc, LINE_ROOM)?;
     write_digits(clock.0, &mut line)?;
@@ -188,7 +194,8 @@ fn write_addresses(ended: &IdList, line: &mut Vec<u8>) -> Result<(), AllocError>
 }
 
 fn write_address(address: &FcId, line: &mut Vec<u8>) -> Result<(), AllocError>
-    ensures { OnOk result (line.new.items ≡ line.old.items ++ then_word (address_word address.now)) }
+    ensures { OnOk result (
+        line.new.items ≡ line.old.items ++ then_word (address_word address.now)) }
 {
     line.extend_from_slice(b" ")?;
     line.extend_from_slice(&address_text(address))
@@ -222,7 +229,8 @@ fn write_number(number: u64, line: &mut Vec<u8>) -> Result<(), AllocError>
 
 // A word and an address.
 fn write_addressed(word: &str, address: &FcId, line: &mut Vec<u8>) -> Result<(), AllocError>
-    ensures { OnOk result (line.new.items ≡ line.old.items ++ (word.now ++ then_word (address_word address.now))) }
+    ensures { OnOk result (
+        line.new.items ≡ line.old.items ++ (word.now ++ then_word (address_word address.now))) }
 {
     line.extend_from_slice(word.as_bytes())?;
     write_address(address, line)
@@ -230,7 +238,8 @@ fn write_addressed(word: &str, address: &FcId, line: &mut Vec<u8>) -> Result<(),
 
 // A word and a number.
 fn write_numbered(word: &str, number: u32, line: &mut Vec<u8>) -> Result<(), AllocError>
-    ensures { OnOk result (line.new.items ≡ line.old.items ++ (word.now ++ then_word (decimal number))) }
+    ensures { OnOk result (
+        line.new.items ≡ line.old.items ++ (word.now ++ then_word (decimal number))) }
 {
     line.extend_from_slice(word.as_bytes())?;
     write_number(u64::from(number), line)
@@ -243,7 +252,9 @@ fn write_coded(
     explanation: u8,
     line: &mut Vec<u8>,
 ) -> Result<(), AllocError>
-    ensures { OnOk result (line.new.items ≡ line.old.items ++ (word.now ++ then_word (code_word reason) ++ then_word (code_word explanation))) }
+    ensures { OnOk result (
+        line.new.items ≡ line.old.items
+        ++ (word.now ++ then_word (code_word reason) ++ then_word (code_word explanation))) }
 {
     line.extend_from_slice(word.as_bytes())?;
     write_code(reason, line)?;
@@ -279,7 +290,8 @@ fn write_verdict(verdict: &Verdict, line: &mut Vec<u8>) -> Result<(), AllocError
 
 // A rule, and its number where it has one.
 fn write_dropped(dropped: &Dropped, line: &mut Vec<u8>) -> Result<(), AllocError>
-    ensures { OnOk result (line.new.items ≡ line.old.items ++ verdict_text (Verdict.Dropped dropped.now)) }
+    ensures { OnOk result (
+        line.new.items ≡ line.old.items ++ verdict_text (Verdict.Dropped dropped.now)) }
 {
     line.extend_from_slice(b"dropped ")?;
     line.extend_from_slice(rule_text(dropped.rule()).as_bytes())?;

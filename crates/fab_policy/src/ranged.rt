@@ -1,4 +1,5 @@
-//! The numbers of entries are in the ranges of their types. Each function does nothing: its contract says so.
+//! The numbers of entries are in the ranges of their types. Each function does nothing: its
+//! contract says so.
 ghost use Rattle.fab_policy.specs.Ranged.{IsRangedEvent, IsRangedVerdict};
 ghost use Rattle.fab_policy.specs.Spelling.{EndsAscend};
 

@@ -1,5 +1,6 @@
-// The lines of a journal, read.
-ghost use Rattle.std.specs.Prelude.{◌≡◌, ◌+◌, ◌≤◌, ◌<◌, ◌^◌, ℕ, List, Option, None, Some, map, IfOk, IfErr};
+//! The lines of a journal, read.
+ghost use Rattle.std.specs.Prelude.{◌≡◌, ◌+◌, ◌≤◌, ◌<◌, ◌^◌, ℕ, List, Option, None, Some, map};
+ghost use Rattle.std.specs.Prelude.{IfOk, IfErr};
 ghost use Rattle.fab_policy.specs.Ranged.{AscendFrom};
 ghost use Rattle.fab_policy.specs.Spelling.{Spells};
 ghost use Rattle.fab_policy.specs.LineWords.{Finds, IsFrameOf, IsTickOf, rest_of};
@@ -23,7 +24,8 @@ pub enum LineError {
 /// The line that a text spells in a format. Its line feed belongs to it.
 pub fn read_line(alloc: Global, format: Format, text: &[u8]) -> Result<Line, LineError>
     ensures ok { IfOk result (λ l. Spells format text.now l) }
-    ensures fault { IfErr result (λ e. e ≡ LineError.Fault → (l : Line) → Spells format text.now l → ⊥) }
+    ensures fault { IfErr result (λ e.
+        e ≡ LineError.Fault → (l : Line) → Spells format text.now l → ⊥) }
 {
     match format {
         Format::One => read_plain(alloc, text),
@@ -33,7 +35,8 @@ pub fn read_line(alloc: Global, format: Format, text: &[u8]) -> Result<Line, Lin
 
 fn read_plain(alloc: Global, text: &[u8]) -> Result<Line, LineError>
     ensures ok { IfOk result (λ l. Spells Format.One text.now l) }
-    ensures fault { IfErr result (λ e. e ≡ LineError.Fault → (l : Line) → Spells Format.One text.now l → ⊥) }
+    ensures fault { IfErr result (λ e.
+        e ≡ LineError.Fault → (l : Line) → Spells Format.One text.now l → ⊥) }
 {
     let (word, rest) = first_word(text);
     if is(word, "tick") {
@@ -50,7 +53,8 @@ fn read_plain(alloc: Global, text: &[u8]) -> Result<Line, LineError>
 
 fn read_clocked(alloc: Global, text: &[u8]) -> Result<Line, LineError>
     ensures ok { IfOk result (λ l. Spells Format.Two text.now l) }
-    ensures fault { IfErr result (λ e. e ≡ LineError.Fault → (l : Line) → Spells Format.Two text.now l → ⊥) }
+    ensures fault { IfErr result (λ e.
+        e ≡ LineError.Fault → (l : Line) → Spells Format.Two text.now l → ⊥) }
 {
     let (clock, rest) = first_word(text);
     let Some((word, rest)) = next_word(rest) else {
@@ -71,7 +75,8 @@ fn read_clocked(alloc: Global, text: &[u8]) -> Result<Line, LineError>
 // A tick of this moment, and its addresses.
 fn read_tick(alloc: Global, moment: &[u8], rest: &[u8]) -> Result<Line, LineError>
     ensures ok { IfOk result (λ l. IsTickOf moment.now rest.now l) }
-    ensures fault { IfErr result (λ e. e ≡ LineError.Fault → (l : Line) → IsTickOf moment.now rest.now l → ⊥) }
+    ensures fault { IfErr result (λ e.
+        e ≡ LineError.Fault → (l : Line) → IsTickOf moment.now rest.now l → ⊥) }
 {
     let Some(moment) = read_number(moment) else {
         return Err(LineError::Fault);
@@ -112,7 +117,9 @@ fn read_frame(word: &[u8], rest: &[u8], clock: Option<Moment>) -> Option<Line>
 // Addresses that ascend strictly, each after a space, up to the line feed.
 fn read_addresses(alloc: Global, text: &[u8]) -> Result<IdList, LineError>
     ensures ok { IfOk result (λ l. AscendFrom 0 l × (text.now ≡ rest_of (map address_word l))) }
-    ensures fault { IfErr result (λ e. e ≡ LineError.Fault → (l : List ℕ) → AscendFrom 0 l → text.now ≡ rest_of (map address_word l) → ⊥) }
+    ensures fault { IfErr result (λ e.
+        e ≡ LineError.Fault → (l : List ℕ) → AscendFrom 0 l →
+        text.now ≡ rest_of (map address_word l) → ⊥) }
 {
     let Ok(mut ended) = IdList::new(alloc) else {
         return Err(LineError::Memory);

@@ -1,5 +1,7 @@
-//! The frames that the forwarder makes of itself and for a request, so far as it is built (FC-BB-5, "FIP operations").
-ghost use Rattle.std.specs.Prelude.{◌≡◌, ◌==◌, ◌≢◌, ◌++◌, ◌≤◌, ◌+◌, ◌∷◌, [], true, length, OnOk, OnErr, IfOk, vec_len};
+//! The frames that the forwarder makes of itself and for a request, so far as it is built (FC-BB-5,
+//! "FIP operations").
+ghost use Rattle.std.specs.Prelude.{◌≡◌, ◌==◌, ◌≢◌, ◌++◌, ◌≤◌, ◌+◌, ◌∷◌, [], true, length, OnOk};
+ghost use Rattle.std.specs.Prelude.{OnErr, IfOk, vec_len};
 ghost use Rattle.fab_base.specs.Layout.{padded};
 ghost use Rattle.eth_frames.specs.Ethernet.{vlan_of_tag};
 ghost use Rattle.fip_codec.specs.Message as fip;
@@ -31,7 +33,8 @@ pub fn write_vlan_notice(
     out: &mut Vec<u8>,
 ) -> Result<(), NoMemory>
     requires { verdict_so_far config.now caught.now ≡ Vlans }
-    ensures ok { OnOk result (out.new.items ≡ out.old.items ++ spec.vlan_notice config.now caught.now) }
+    ensures ok { OnOk result (
+        out.new.items ≡ out.old.items ++ spec.vlan_notice config.now caught.now) }
     ensures size { OnOk result (length (spec.vlan_notice config.now caught.now) ≤ 65535) }
     ensures err { OnErr result (out.new.items ≡ out.old.items) }
 {
@@ -48,16 +51,20 @@ fn write_notice_for(
     asked: &EthFrame<'_>,
     out: &mut Vec<u8>,
 ) -> Result<(), NoMemory>
-    ensures ok { OnOk result (out.new.items ≡ out.old.items ++ spec.notice_to config.now asked.now.src (vlan_of_tag asked.now.tag == 0)) }
-    ensures size { OnOk result (length (spec.notice_to config.now asked.now.src (vlan_of_tag asked.now.tag == 0)) ≤ 65535) }
+    ensures ok { OnOk result (
+        out.new.items ≡ out.old.items
+        ++ spec.notice_to config.now asked.now.src (vlan_of_tag asked.now.tag == 0)) }
+    ensures size { OnOk result (
+        length (spec.notice_to config.now asked.now.src (vlan_of_tag asked.now.tag == 0))
+        ≤ 65535) }
     ensures err { OnErr result (out.new.items ≡ out.old.items) }
 {
     let untagged = asked.vlan() == 0;
     write_notice_to(alloc, config, asked.src, untagged, out)
 }
 
-/// Appends a VLAN notification to a MAC, which has no tag where the request has none: at most 65,535
-/// bytes.
+/// Appends a VLAN notification to a MAC, which has no tag where the request has none: at most
+/// 65,535 bytes.
 pub fn write_notice_to(
     alloc: Global,
     config: &Config,
@@ -65,7 +72,8 @@ pub fn write_notice_to(
     untagged: bool,
     out: &mut Vec<u8>,
 ) -> Result<(), NoMemory>
-    ensures ok { OnOk result (out.new.items ≡ out.old.items ++ spec.notice_to config.now dst untagged) }
+    ensures ok { OnOk result (
+        out.new.items ≡ out.old.items ++ spec.notice_to config.now dst untagged) }
     ensures size { OnOk result (length (spec.notice_to config.now dst untagged) ≤ 65535) }
     ensures err { OnErr result (out.new.items ≡ out.old.items) }
 {
@@ -87,7 +95,8 @@ pub fn write_solicited(
     out: &mut Vec<u8>,
 ) -> Result<(), NoMemory>
     requires { verdict_so_far config.now caught.now ≡ Advertised }
-    ensures ok { OnOk result (out.new.items ≡ out.old.items ++ spec.advertised_to_one config.now caught.now) }
+    ensures ok { OnOk result (
+        out.new.items ≡ out.old.items ++ spec.advertised_to_one config.now caught.now) }
     ensures size { OnOk result (length (spec.advertised_to_one config.now caught.now) ≤ 65535) }
     ensures err { OnErr result (out.new.items ≡ out.old.items) }
 {
@@ -104,16 +113,20 @@ fn write_solicited_for(
     asked: &EthFrame<'_>,
     out: &mut Vec<u8>,
 ) -> Result<(), NoMemory>
-    ensures ok { OnOk result (out.new.items ≡ out.old.items ++ spec.advertised_to config.now asked.now.src (size_in asked.now.body.now)) }
-    ensures size { OnOk result (length (spec.advertised_to config.now asked.now.src (size_in asked.now.body.now)) ≤ 65535) }
+    ensures ok { OnOk result (
+        out.new.items ≡ out.old.items
+        ++ spec.advertised_to config.now asked.now.src (size_in asked.now.body.now)) }
+    ensures size { OnOk result (
+        length (spec.advertised_to config.now asked.now.src (size_in asked.now.body.now))
+        ≤ 65535) }
     ensures err { OnErr result (out.new.items ≡ out.old.items) }
 {
     let size = size_asked(asked.body);
     write_advertisement_to(alloc, config, asked.src, size, out)
 }
 
-/// Appends a solicited advertisement to a MAC, with zeros up to a size of at most 2,158 bytes behind
-/// its Ethernet header: at most 65,535 bytes.
+/// Appends a solicited advertisement to a MAC, with zeros up to a size of at most 2,158 bytes
+/// behind its Ethernet header: at most 65,535 bytes.
 pub fn write_advertisement_to(
     alloc: Global,
     config: &Config,
@@ -121,7 +134,8 @@ pub fn write_advertisement_to(
     size: u16,
     out: &mut Vec<u8>,
 ) -> Result<(), NoMemory>
-    ensures ok { OnOk result (out.new.items ≡ out.old.items ++ spec.advertised_to config.now dst size) }
+    ensures ok { OnOk result (
+        out.new.items ≡ out.old.items ++ spec.advertised_to config.now dst size) }
     ensures size { OnOk result (length (spec.advertised_to config.now dst size) ≤ 65535) }
     ensures err { OnErr result (out.new.items ≡ out.old.items) }
 {
@@ -146,8 +160,8 @@ pub fn write_advertisement(
     write_made(alloc, config, tag, ALL_ENODES, FIP, &body, out)
 }
 
-/// Appends a frame of the forwarder to a MAC, with a tag or none, of this Ethertype, which without a tag
-/// isn't that of a tag: at most 60 bytes more than its body.
+/// Appends a frame of the forwarder to a MAC, with a tag or none, of this Ethertype, which without
+/// a tag isn't that of a tag: at most 60 bytes more than its body.
 pub fn write_made(
     alloc: Global,
     config: &Config,
@@ -158,8 +172,10 @@ pub fn write_made(
     out: &mut Vec<u8>,
 ) -> Result<(), NoMemory>
     requires { tag ≡ None → kind ≢ 0x8100 }
-    ensures ok { OnOk result (out.new.items ≡ out.old.items ++ spec.made config.now tag dst kind body.now) }
-    ensures size { OnOk result (length (spec.made config.now tag dst kind body.now) ≤ 60 + length body.now) }
+    ensures ok { OnOk result (
+        out.new.items ≡ out.old.items ++ spec.made config.now tag dst kind body.now) }
+    ensures size { OnOk result (
+        length (spec.made config.now tag dst kind body.now) ≤ 60 + length body.now) }
     ensures err { OnErr result (out.new.items ≡ out.old.items) }
 {
     let frame = EthFrame {
@@ -194,7 +210,8 @@ fn size_asked(body: &[u8]) -> u16
 
 // The body of a VLAN notification.
 fn notification(alloc: Global, config: &Config) -> Result<Vec<u8>, NoMemory>
-    ensures bytes { IfOk result (λ v. v.items ≡ fip.written (fip.VlanTell config.now.fcf_mac (config.now.vlan ∷ []))) }
+    ensures bytes { IfOk result (λ v.
+        v.items ≡ fip.written (fip.VlanTell config.now.fcf_mac (config.now.vlan ∷ []))) }
     ensures size { IfOk result (λ v. vec_len v ≤ 2030) }
 {
     // The check wants the type named whose lists a message may hold.
@@ -209,7 +226,8 @@ fn notification(alloc: Global, config: &Config) -> Result<Vec<u8>, NoMemory>
 
 // The body of an advertisement.
 fn advertisement(alloc: Global, config: &Config, solicited: bool) -> Result<Vec<u8>, NoMemory>
-    ensures bytes { IfOk result (λ v. v.items ≡ fip.written (spec.advertisement config.now solicited)) }
+    ensures bytes { IfOk result (λ v.
+        v.items ≡ fip.written (spec.advertisement config.now solicited)) }
     ensures size { IfOk result (λ v. vec_len v ≤ 2030) }
 {
     let _ports: &[VxPort] = &[];
@@ -232,7 +250,8 @@ fn advertisement(alloc: Global, config: &Config, solicited: bool) -> Result<Vec<
 // The body of a solicited advertisement, with zeros up to this size.
 fn padded_advertisement(alloc: Global, config: &Config, size: u16) -> Result<Vec<u8>, NoMemory>
     requires { size ≤ 2158 }
-    ensures bytes { IfOk result (λ v. v.items ≡ padded size (fip.written (spec.advertisement config.now true))) }
+    ensures bytes { IfOk result (λ v.
+        v.items ≡ padded size (fip.written (spec.advertisement config.now true))) }
     ensures size { IfOk result (λ v. vec_len v ≤ 2158) }
 {
     let mut body = advertisement(alloc, config, true)?;

@@ -1,4 +1,5 @@
-// What holds so far of verdicts, logins and outputs. Each function does nothing: its contract is the law.
+//! What holds so far of verdicts, logins and outputs. Each function does nothing: its contract is
+//! the law.
 ghost use Rattle.fab_policy.specs.Laws.{RequestsAreAnswered, SolicitationsAreAnswered};
 ghost use Rattle.fab_policy.specs.Stage.{HasOneVerdict, NobodyIsLoggedIn, SendsSoFar, OwedSoFar};
 
@@ -15,8 +16,8 @@ pub fn stage_journals()
     ensures owed { OwedSoFar }
 {}
 
-/// A captured frame of bytes is answered by a VLAN notification exactly where the layout of Ethernet and
-/// the grammar of FIP make it a VLAN request to this forwarder.
+/// A captured frame of bytes is answered by a VLAN notification exactly where the layout of
+/// Ethernet and the grammar of FIP make it a VLAN request to this forwarder.
 pub fn requests_are_answered()
     ensures { RequestsAreAnswered }
 {}

@@ -1,4 +1,4 @@
-// What the forwarder decides about a frame.
+//! What the forwarder decides about a frame.
 ghost use Rattle.std.specs.Prelude.{◌≡◌, ◌↔◌, IsSome, IfSome, is_some};
 ghost use Rattle.fab_policy.specs.Cause.{is_numbered};
 
@@ -8,75 +8,75 @@ use std::marker::Model;
 /// Why a frame is dropped, in the order of the tests.
 #[derive(Clone, Copy, Debug, PartialEq, Eq)]
 pub enum Rule {
-    /// The record isn't whole.
+    /// `truncated`: The record isn't whole.
     Truncated,
-    /// Too short for Ethernet.
+    /// `eth-short`: Too short for Ethernet.
     EthShort,
-    /// Neither FIP nor FCoE.
+    /// `ethertype`: Neither FIP nor FCoE.
     Ethertype,
-    /// Too short for the header of FIP.
+    /// `fip-short`: Too short for the header of FIP.
     FipShort,
-    /// Another version of FIP than 1.
+    /// `fip-version`: Another version of FIP than 1.
     FipVersion,
-    /// An unknown operation of FIP.
+    /// `fip-operation`: An unknown operation of FIP.
     FipOperation,
-    /// The list of descriptors passes the body.
+    /// `fip-list`: The list of descriptors passes the body.
     FipList,
-    /// A descriptor has a wrong length; the number is its place.
+    /// `fip-length`: A descriptor has a wrong length; the number is its place.
     FipLength,
-    /// A critical descriptor is unknown; the number is its place.
+    /// `fip-critical`: A critical descriptor is unknown; the number is its place.
     FipCritical,
-    /// A descriptor stands twice; the number is the place of the second.
+    /// `fip-double`: A descriptor stands twice; the number is the place of the second.
     FipDouble,
-    /// A descriptor is missing; the number is its type.
+    /// `fip-missing`: A descriptor is missing; the number is its type.
     FipMissing,
-    /// Another VLAN.
+    /// `vlan`: Another VLAN.
     Vlan,
-    /// A FIP frame to another destination.
+    /// `fip-dest`: A FIP frame to another destination.
     FipDest,
-    /// A message that only a forwarder sends.
+    /// `fip-role`: A message that only a forwarder sends.
     FipRole,
-    /// The message names another MAC than its source.
+    /// `fip-mac`: The message names another MAC than its source.
     FipMac,
-    /// A link service that can't be read.
+    /// `els-short`: A link service that can't be read.
     ElsShort,
-    /// A login whose frame isn't that of its descriptor.
+    /// `els-kind`: A login whose frame isn't that of its descriptor.
     ElsKind,
-    /// A keep alive of nobody who is logged in.
+    /// `keepalive-unknown`: A keep alive of nobody who is logged in.
     KeepaliveUnknown,
-    /// A body of FCoE of a wrong length.
+    /// `fcoe-length`: A body of FCoE of a wrong length.
     FcoeLength,
-    /// Another version of FCoE than 0.
+    /// `fcoe-version`: Another version of FCoE than 0.
     FcoeVersion,
-    /// An unknown start of frame.
+    /// `fcoe-sof`: An unknown start of frame.
     FcoeSof,
-    /// An unknown end of frame.
+    /// `fcoe-eof`: An unknown end of frame.
     FcoeEof,
-    /// A wrong check sequence.
+    /// `fcoe-crc`: A wrong check sequence.
     FcoeCrc,
-    /// A class other than 3.
+    /// `fcoe-class`: A class other than 3.
     FcoeClass,
-    /// A FCoE frame to another destination.
+    /// `fcoe-dest`: A FCoE frame to another destination.
     FcoeDest,
-    /// The source MAC isn't the one that was granted for the S_ID.
+    /// `source-mac`: The source MAC isn't the one that was granted for the S_ID.
     SourceMac,
-    /// Nobody holds the S_ID.
+    /// `source-login`: Nobody holds the S_ID.
     SourceLogin,
-    /// The S_ID is logged in on another port.
+    /// `source-port`: The S_ID is logged in on another port.
     SourcePort,
-    /// A service that isn't there.
+    /// `service-address`: A service that isn't there.
     ServiceAddress,
-    /// A frame that the service doesn't take.
+    /// `service-frame`: A frame that the service doesn't take.
     ServiceFrame,
-    /// A request of the common transport without its preamble.
+    /// `ct-short`: A request of the common transport without its preamble.
     CtShort,
-    /// The D_ID is the S_ID (`self`).
+    /// `self`: The D_ID is the S_ID.
     OwnAddress,
-    /// Nobody holds the D_ID.
+    /// `dest-login`: Nobody holds the D_ID.
     DestLogin,
-    /// No zone joins the two.
+    /// `zone`: No zone joins the two.
     Zone,
-    /// Its kind isn't built yet.
+    /// `not-built`: Its kind isn't built yet.
     NotBuilt,
 }
 
@@ -156,36 +156,37 @@ impl Dropped {
 /// What is decided about a frame.
 #[derive(Clone, Copy, Debug, PartialEq, Eq)]
 pub enum Verdict {
-    /// A VLAN request is answered.
+    /// `vlans`: A VLAN request is answered.
     Vlans,
-    /// A solicitation is answered by an advertisement.
+    /// `advertised`: A solicitation is answered by an advertisement.
     Advertised,
-    /// A FLOGI or FDISC gets this address.
+    /// `granted`: A FLOGI or FDISC gets this address.
     Granted(FcId),
-    /// A login, a LOGO in FIP or a link service to the fabric is rejected: reason and explanation.
+    /// `rejected`: A login, a LOGO in FIP or a link service to the fabric is rejected: reason and
+    /// explanation.
     Rejected(u8, u8),
-    /// A LOGO in FIP ends the login of this address.
+    /// `logout`: A LOGO in FIP ends the login of this address.
     Logout(FcId),
-    /// A keep alive of an ENode.
+    /// `alive`: A keep alive of an ENode.
     AliveNode,
-    /// A keep alive of this VN_Port.
+    /// `alive`: A keep alive of this VN_Port.
     AlivePort(FcId),
-    /// A login to the name server.
+    /// `ns-login`: A login to the name server.
     NsLogin,
-    /// A logout from the name server.
+    /// `ns-logout`: A logout from the name server.
     NsLogout,
-    /// State changes are asked for, with this function; 255 clears.
+    /// `watching`: State changes are asked for, with this function; 255 clears.
     Watching(u8),
-    /// A registration at the name server.
+    /// `registered`: A registration at the name server.
     Registered,
-    /// A query of the name server is answered.
+    /// `answered`: A query of the name server is answered.
     Answered,
-    /// A request to the name server is refused: reason and explanation.
+    /// `refused`: A request to the name server is refused: reason and explanation.
     Refused(u8, u8),
-    /// A reply to a state change.
+    /// `noted`: A reply to a state change.
     Noted,
-    /// A frame goes on to this port.
+    /// `forwarded`: A frame goes on to this port.
     Forwarded(PortNo),
-    /// The frame is dropped.
+    /// `dropped`: The frame is dropped.
     Dropped(Dropped),
 }

@@ -1,8 +1,10 @@
-// The verdict of a line's last words.
-ghost use Rattle.std.specs.Prelude.{◌≡◌, ◌∷◌, ◌≤◌, ◌<◌, ◌^◌, [], ℕ, List, Option, Some, None, MatchBool, is_some, codes};
+//! The verdict of a line's last words.
+ghost use Rattle.std.specs.Prelude.{◌≡◌, ◌∷◌, ◌≤◌, ◌<◌, ◌^◌, [], ℕ, List, Option, Some, None};
+ghost use Rattle.std.specs.Prelude.{MatchBool, is_some, codes};
 ghost use Rattle.fab_policy.specs.Cause.{is_numbered};
 ghost use Rattle.fab_policy.specs.Ranged.{IsRangedVerdict};
-ghost use Rattle.fab_policy.specs.LineWords.{Ends, Finds, IsSpelledAfter, IsWord, NamesAddress, NamesCodes, NamesNumber, verdict_words};
+ghost use Rattle.fab_policy.specs.LineWords.{Ends, Finds, IsSpelledAfter, IsWord, NamesAddress};
+ghost use Rattle.fab_policy.specs.LineWords.{NamesCodes, NamesNumber, verdict_words};
 ghost use Rattle.fab_policy.specs.Text.{LINE_FEED, rule_word};
 
 use crate::words::{is, next_word, number_up_to, read_address, read_code, read_port, read_rule};
@@ -31,7 +33,8 @@ fn verdict_of_one(word: &[u8], rest: &[u8]) -> Option<Verdict>
 }
 
 fn verdict_of_two(word: &[u8], second: &[u8], rest: &[u8]) -> Option<Verdict>
-    ensures { Finds (λ v. IsRangedVerdict v × IsSpelledAfter (word.now ∷ second.now ∷ []) rest.now v) result }
+    ensures { Finds (λ v.
+        IsRangedVerdict v × IsSpelledAfter (word.now ∷ second.now ∷ []) rest.now v) result }
 {
     if is_end(rest) {
         return read_two(word, second);
@@ -43,7 +46,9 @@ fn verdict_of_two(word: &[u8], second: &[u8], rest: &[u8]) -> Option<Verdict>
 }
 
 fn verdict_of_three(word: &[u8], second: &[u8], third: &[u8], rest: &[u8]) -> Option<Verdict>
-    ensures { Finds (λ v. IsRangedVerdict v × IsSpelledAfter (word.now ∷ second.now ∷ third.now ∷ []) rest.now v) result }
+    ensures { Finds (λ v.
+        IsRangedVerdict v
+        × IsSpelledAfter (word.now ∷ second.now ∷ third.now ∷ []) rest.now v) result }
 {
     if is_end(rest) {
         read_three(word, second, third)
@@ -84,7 +89,9 @@ fn read_one(word: &[u8]) -> Option<Verdict>
 }
 
 fn read_two(word: &[u8], second: &[u8]) -> Option<Verdict>
-    ensures { Finds (λ v. IsRangedVerdict v × (verdict_words v ≡ word.now ∷ second.now ∷ [])) result }
+    ensures {
+        Finds (λ v. IsRangedVerdict v × (verdict_words v ≡ word.now ∷ second.now ∷ [])) result
+    }
 {
     if is(word, "dropped") {
         return match read_dropped(second, None) {
@@ -99,7 +106,8 @@ fn read_two(word: &[u8], second: &[u8]) -> Option<Verdict>
 }
 
 fn read_three(word: &[u8], second: &[u8], third: &[u8]) -> Option<Verdict>
-    ensures { Finds (λ v. IsRangedVerdict v × (verdict_words v ≡ word.now ∷ second.now ∷ third.now ∷ [])) result }
+    ensures { Finds (λ v.
+        IsRangedVerdict v × (verdict_words v ≡ word.now ∷ second.now ∷ third.now ∷ [])) result }
 {
     if is(word, "dropped") {
         read_numbered(second, third)
@@ -109,7 +117,9 @@ fn read_three(word: &[u8], second: &[u8], third: &[u8]) -> Option<Verdict>
 }
 
 fn read_with_address(word: &[u8], second: &[u8]) -> Option<Verdict>
-    ensures { Finds (λ v. NamesAddress v × IsRangedVerdict v × (verdict_words v ≡ word.now ∷ second.now ∷ [])) result }
+    ensures { Finds (λ v.
+        NamesAddress v × IsRangedVerdict v
+        × (verdict_words v ≡ word.now ∷ second.now ∷ [])) result }
 {
     match read_address(second) {
         Some(address) => {
@@ -128,7 +138,9 @@ fn read_with_address(word: &[u8], second: &[u8]) -> Option<Verdict>
 }
 
 fn read_with_number(word: &[u8], second: &[u8]) -> Option<Verdict>
-    ensures { Finds (λ v. NamesNumber v × IsRangedVerdict v × (verdict_words v ≡ word.now ∷ second.now ∷ [])) result }
+    ensures { Finds (λ v.
+        NamesNumber v × IsRangedVerdict v
+        × (verdict_words v ≡ word.now ∷ second.now ∷ [])) result }
 {
     if is(word, "watching") {
         match number_up_to(second, 255) {
@@ -146,7 +158,9 @@ fn read_with_number(word: &[u8], second: &[u8]) -> Option<Verdict>
 }
 
 fn read_with_codes(word: &[u8], second: &[u8], third: &[u8]) -> Option<Verdict>
-    ensures { Finds (λ v. NamesCodes v × IsRangedVerdict v × (verdict_words v ≡ word.now ∷ second.now ∷ third.now ∷ [])) result }
+    ensures { Finds (λ v.
+        NamesCodes v × IsRangedVerdict v
+        × (verdict_words v ≡ word.now ∷ second.now ∷ third.now ∷ [])) result }
 {
     let Some(reason) = read_code(second) else {
         return None;
@@ -167,7 +181,9 @@ fn read_with_codes(word: &[u8], second: &[u8], third: &[u8]) -> Option<Verdict>
 
 // A rule that has a number.
 fn read_numbered(rule: &[u8], number: &[u8]) -> Option<Verdict>
-    ensures { Finds (λ v. IsRangedVerdict v × (verdict_words v ≡ codes "dropped" ∷ rule.now ∷ number.now ∷ [])) result }
+    ensures { Finds (λ v.
+        IsRangedVerdict v
+        × (verdict_words v ≡ codes "dropped" ∷ rule.now ∷ number.now ∷ [])) result }
 {
     match number_up_to(number, 0xffff_ffff) {
         Some(number) => match read_dropped(rule, Some(number as u32)) {
@@ -179,7 +195,9 @@ fn read_numbered(rule: &[u8], number: &[u8]) -> Option<Verdict>
 }
 
 fn read_dropped(rule: &[u8], number: Option<u32>) -> Option<Dropped>
-    ensures { Finds (λ c. (rule.now ≡ rule_word c.rule) × (c.number ≡ number) × (is_some c.number ≡ is_numbered c.rule)) result }
+    ensures { Finds (λ c.
+        (rule.now ≡ rule_word c.rule) × (c.number ≡ number)
+        × (is_some c.number ≡ is_numbered c.rule)) result }
 {
     match read_rule(rule) {
         Some(rule) => Dropped::new(rule, number),

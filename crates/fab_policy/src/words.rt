@@ -1,6 +1,8 @@
-// The words of a line: cut off, and read.
-ghost use Rattle.std.specs.Prelude.{◌≡◌, ◌∷◌, ◌++◌, ◌≤◌, ◌<◌, ◌^◌, ℕ, List, Option, true, false, length, take, drop, decimal, IfSome, IfNone, MatchBool};
-ghost use Rattle.fab_policy.specs.LineWords.{Ends, Finds, IsCut, IsNext, IsShortest, IsWord, SpellNone, is_inside};
+//! The words of a line: cut off, and read.
+ghost use Rattle.std.specs.Prelude.{◌≡◌, ◌∷◌, ◌++◌, ◌≤◌, ◌<◌, ◌^◌, ℕ, List, Option, true, false};
+ghost use Rattle.std.specs.Prelude.{length, take, drop, decimal, IfSome, IfNone, MatchBool};
+ghost use Rattle.fab_policy.specs.LineWords.{Ends, Finds, IsCut, IsNext, IsShortest, IsWord};
+ghost use Rattle.fab_policy.specs.LineWords.{SpellNone, is_inside};
 ghost use Rattle.fab_policy.specs.Text.{SPACE, address_word, code_word, rule_word};
 ghost use Rattle.fab_base.specs.Texts.{hex, hex_digit};
 
@@ -148,7 +150,9 @@ fn read_digits(word: &[u8], count: usize) -> Option<u32>
 // The number of hexadecimal digits in lower case.
 fn read_hex(word: &[u8]) -> Option<u32>
     requires { length word.now ≤ 6 }
-    ensures { Finds (λ n. (n < 16 ^ length word.now) × (word.now ≡ hex (length word.now) n)) result }
+    ensures {
+        Finds (λ n. (n < 16 ^ length word.now) × (word.now ≡ hex (length word.now) n)) result
+    }
 {
     let mut value = 0;
     for byte in word {

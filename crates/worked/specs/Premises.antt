@@ -1,10 +1,15 @@
 -- What premises and parts of laws say at single entries, and what they exclude.
-use Rattle.std.specs.Prelude.{◌≡◌, ℕ, ◌⊎◌, List, [], ◌∷◌, refl}
+use Rattle.std.specs.Prelude.{◌≡◌, ℕ, ◌==◌, ◌⊎◌, Bool, true, false, List, [], ◌∷◌, length, map, refl}
 use Rattle.std.proofs.Common.{ap, arith}
+use Rattle.fab_base.specs.declared.values.Caught.{Caught}
 use Rattle.fab_config.specs.Settings.{Settings}
 use Rattle.pcap_file.specs.declared.Record.{Record}
 use Rattle.ct_messages.specs.Ct.{SetNode, SetFeature, Erase}
 use Rattle.ct_messages.specs.CanWrite.{HasByte}
+use Rattle.ct_messages.specs.Server.{is_registration}
+use Rattle.fab_policy.specs.Changes.{CanStay, leaves_logins}
+use Rattle.fab_policy.specs.Heard.{ask_of}
+use Rattle.fab_policy.specs.State.{LivePort}
 use Rattle.fab_policy.specs.Journal.{Journal}
 use Rattle.fab_policy.specs.Legal.{HoldsFrames}
 use Rattle.fab_policy.specs.Spelling.{IsClockOf, EndsAscend}
@@ -12,7 +17,7 @@ use Rattle.fab_policy.specs.Standing.{AreFrames}
 use Rattle.fab_policy.specs.Text.{text, text1, egress}
 use Rattle.fab_policy.specs.Written.{IsWritten, IsNamed, IsPrefixOf}
 use Rattle.fab_policy.specs.declared.event.Event.TheVariants.{Tick, Frame}
-use Rattle.fab_policy.specs.declared.verdict.Verdict.TheVariants.{Vlans}
+use Rattle.fab_policy.specs.declared.verdict.Verdict.TheVariants.{Vlans, Granted, Logout, Registered, Noted}
 use Rattle.worked.specs.Given.{vlan_request}
 
 -- ---- entries
@@ -46,6 +51,16 @@ no_byte h = absurd (omega (arith, h))
 
 pub no_type : HasByte (SetNode 0x010100 1) × HasByte (Erase 0x010100)
 no_type = (tt, tt)
+
+-- an N_Port may register what the table knows, of the features of 256 types; it stays beside an address that is granted
+pub may_register : (caught : Caught) (p : LivePort) → is_registration (ask_of caught) ≡ true → HasByte (ask_of caught) → length p.values.features ≡ 256 → CanStay caught Registered p
+may_register caught p kind byte long = (kind, byte, long)
+
+pub beside : (p : LivePort) → p.address ≡ 0x010101 → CanStay vlan_request (Granted 0x010100) p
+beside p is = ap (λ a. a == 0x010100) is
+
+pub stays : (p : LivePort) → CanStay vlan_request Noted p × (map leaves_logins (Noted ∷ Registered ∷ Logout 0x010100 ∷ Granted 0x010100 ∷ []) ≡ true ∷ true ∷ false ∷ false ∷ [])
+stays p = (tt, refl)
 
 -- ---- files
 
