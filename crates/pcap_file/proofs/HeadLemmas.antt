@@ -13,7 +13,7 @@ use Rattle.pcap_file.specs.Capture.{at_place, MICRO, NANO, head_decoded}
 use Rattle.pcap_file.specs.Reading.{Pulls, OpensReader}
 use Rattle.pcap_file.proofs.NextLemmas.{at_front}
 use Rattle.pcap_file.proofs.lemmas.Numbers.{le_or_lt}
-use Rattle.pcap_file.proofs.StepLemmas.{front_is}
+use Rattle.pcap_file.proofs.lemmas.Buffers.{front_is}
 
 abbrev pub magic : ℕ → ℕ → Option CaptureHead
 magic low high =

@@ -5,6 +5,7 @@ use Rattle.std.proofs.lemmas.Bool.{ne_eqb, le-ltb, lt-ltb, le-leb, lt-leb}
 use Rattle.std.proofs.lemmas.List.{length-take-le, take-append-drop, append-nil, take_all}
 use Rattle.fab_base.specs.Seen.{Seen, Reads}
 use Rattle.pcap_file.proofs.lemmas.Numbers.{none_is, le_or_lt}
+use Rattle.pcap_file.proofs.lemmas.Buffers.{front_is, short_is}
 use Rattle.pcap_file.proofs.lemmas.Steps.{no_bytes, no_frames, no_limit}
 use Rattle.fab_base.proofs.Depots.{reads_trans, input_name, told_stays}
 use Rattle.pcap_file.specs.declared.Record.{Record}
@@ -32,16 +33,6 @@ module _ (h : CaptureHead) (g at : ℕ) (budget : Budget) (front m : List ℕ) (
         (ap (limit_of budget.bytes budget.frames) whole ∙ over)
     | inr lt ↦ ap (step_of budget at) (front_cut h g front m sized small lt) ∙ ap (λ o. Stops (error_of (unwrap_or o Cut) at)) over
   ]
-
--- ---- buffers
-
--- a whole buffer is the front of what was to come
-pub front_is : (buffer rest left : List ℕ) (n : ℕ) → length buffer ≡ n → take n buffer ++ rest ≡ left → left ≡ buffer ++ rest
-front_is buffer rest left n len e = sym e ∙ ap (λ l. l ++ rest) (take_all n buffer (omega arith))
-
--- one that isn't whole is all of it
-pub short_is : (buffer rest left : List ℕ) (n : ℕ) → n ≤ length buffer → rest ≡ [] → take n buffer ++ rest ≡ left → length left ≡ n
-short_is buffer rest left n le none e = sym (ap length e) ∙ ap length (ap (λ r. take n buffer ++ r) none ∙ append-nil (take n buffer)) ∙ length-take-le n buffer le
 
 -- ---- one record, from a buffer for its head and a buffer for its bytes
 module _ (s : ℕ) (a b : Seen) (held rest front : List ℕ) (n : ℕ) (h : CaptureHead) (at g : ℕ) (budget : Budget) (sized : length front ≡ 16) (first : Pulls s front held rest a b (Ok n)) where

@@ -8,9 +8,10 @@ use std::marker::Model;
 
 const ROOM: usize = 4096;
 
-// The buffer of a reader: the bytes from `from` up to `to` are held.
+/// The buffer of a reader, which a contract sees as the bytes that it holds: fetched, and not given.
+// The bytes from `from` up to `to` are held.
 #[derive(Debug, Drop)]
-pub(crate) struct Ahead {
+pub struct Ahead {
     bytes: [u8; ROOM],
     from: usize,
     to: usize,
@@ -25,7 +26,8 @@ impl Model for Ahead {
 }
 
 impl Ahead {
-    pub(crate) fn new() -> Ahead
+    /// A buffer that holds nothing.
+    pub fn new() -> Ahead
         ensures { result ≡ [] }
     {
         Ahead {
@@ -35,8 +37,8 @@ impl Ahead {
         }
     }
 
-    // Fills a buffer from what is held and then from the slot: less than all only at the end.
-    pub(crate) fn pull<D: Depot>(
+    /// Fills a buffer from what is held and then from the slot: less than all only at the end.
+    pub fn pull<D: Depot>(
         &mut self,
         depot: &mut D,
         slot: u32,

@@ -85,8 +85,8 @@ fn of_magic(bytes: &[u8]) -> Option<CaptureHead>
     None
 }
 
-// The number in four bytes from a place on.
-pub(crate) fn number_at(big: bool, bytes: &[u8], at: usize) -> u32
+/// The number in four bytes from a place on.
+pub fn number_at(big: bool, bytes: &[u8], at: usize) -> u32
     requires { at + 4 ≤ length bytes.now }
     ensures { result ≡ at_place big bytes.now at 4 }
 {
@@ -101,8 +101,8 @@ pub(crate) fn number_at(big: bool, bytes: &[u8], at: usize) -> u32
     }
 }
 
-// The number in two bytes from a place on.
-fn half_at(big: bool, bytes: &[u8], at: usize) -> u16
+/// The number in two bytes from a place on.
+pub fn half_at(big: bool, bytes: &[u8], at: usize) -> u16
     requires { at + 2 ≤ length bytes.now }
     ensures { result ≡ at_place big bytes.now at 2 }
 {

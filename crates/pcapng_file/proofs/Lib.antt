@@ -1,0 +1,5 @@
+pub mod OptionLemmas
+pub mod PacketLemmas
+pub mod StepLemmas
+pub mod GoingLemmas
+pub mod LawLemmas

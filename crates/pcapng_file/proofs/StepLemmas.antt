@@ -1,0 +1,213 @@
+-- The next block, by what its buffers hold.
+use Rattle.std.proofs.Common.{◌≡◌, ℕ, ◌+◌, ◌-◌, ◌<◌, ◌≤◌, Bool, true, false, IsTrue, ◌&&◌, if◌then◌else◌, eqb, ltb, List, [], ◌++◌, length, length-append, take, drop, append_assoc, Option, Some, None, Ok, Err, refl, sym, ap, ◌∙◌, subst, arith}
+use Rattle.std.specs.Prelude.{Result, is_some}
+use Rattle.std.proofs.lemmas.Bool.{lt-ltb, le-ltb, eqb-true, ne_eqb}
+use Rattle.std.proofs.lemmas.List.{take_at, drop_at}
+use Rattle.fab_base.specs.Seen.{Seen, Reads, Rose}
+use Rattle.fab_base.specs.declared.values.Failed.{Failed}
+use Rattle.fab_base.proofs.Depots.{reads_trans, input_name, told_stays}
+use Rattle.pcap_file.specs.declared.Budget.{Budget}
+use Rattle.pcap_file.specs.Reading.{Pulls}
+use Rattle.pcap_file.proofs.lemmas.Buffers.{front_is, short_is}
+use Rattle.pcapng_file.specs.declared.fault.NgWhy.{NgWhy}
+use Rattle.pcapng_file.specs.declared.fault.NgWhy.TheVariants as why
+use Rattle.pcapng_file.specs.declared.fault.NgLimit.TheVariants as limits
+use Rattle.pcapng_file.specs.declared.fault.NgError.{NgError}
+use Rattle.pcapng_file.specs.declared.fault.NgError.TheVariants as errors
+use Rattle.pcapng_file.specs.declared.block.Head.{Head}
+use Rattle.pcapng_file.specs.declared.packet.Content.{Content}
+use Rattle.pcapng_file.specs.declared.reading.Block.{Block}
+use Rattle.pcapng_file.specs.Block.{head_read, body_read}
+use Rattle.pcapng_file.specs.File.{Section, at_fault, and_then, frames_of, counted, step_in, step_of, Tells, NotRead, BlockRead}
+
+-- ---- the step by its tests
+
+abbrev pub ladder : Bool → Bool → ℕ → Result Head NgWhy → (Head → Result (Option Block) NgError) → Result (Option Block) NgError
+ladder ended short at head rest = if ended then Ok None else if short then Err (errors.Fault at why.Cut) else and_then (at_fault at head) rest
+
+pub step_is : (budget : Budget) (at : ℕ) (s : Section) (l : List ℕ) → step_of budget at s l ≡ ladder (eqb (length l) 0 && is_some s.order) (ltb (length l) 12) at (head_read s.order (take 12 l)) (step_in budget at s.faces l)
+unfolding step_of
+step_is budget at s l = refl
+
+abbrev pub inner : Bool → Bool → ℕ → Result Content NgWhy → (Content → Result (Option Block) NgError) → Result (Option Block) NgError
+inner over short at body rest = if over then Err (errors.Limit limits.Bytes) else if short then Err (errors.Fault at why.Cut) else and_then (at_fault at body) rest
+
+module _ (budget : Budget) (at : ℕ) (s : Section) (l : List ℕ) where
+  pub step_end : (eqb (length l) 0 && is_some s.order) ≡ true → step_of budget at s l ≡ Ok None
+  step_end ended = step_is budget at s l ∙ (λ i. ladder (ended i) (ltb (length l) 12) at (head_read s.order (take 12 l)) (step_in budget at s.faces l))
+
+  pub step_cut : length l < 12 → (eqb (length l) 0 && is_some s.order) ≡ false → step_of budget at s l ≡ Err (errors.Fault at why.Cut)
+  step_cut lt more = step_is budget at s l ∙ (λ i. ladder (more i) (lt-ltb (length l) 12 lt i) at (head_read s.order (take 12 l)) (step_in budget at s.faces l))
+
+  module _ (le : 12 ≤ length l) where
+    more_than_none : eqb (length l) 0 ≡ false
+    more_than_none = ne_eqb (length l) 0 (λ e. omega arith)
+
+    step_head : (head : Result Head NgWhy) → head_read s.order (take 12 l) ≡ head → step_of budget at s l ≡ and_then (at_fault at head) (step_in budget at s.faces l)
+    step_head head is = step_is budget at s l ∙ (λ i. ladder (more_than_none i && is_some s.order) (le-ltb (length l) 12 le i) at (is i) (step_in budget at s.faces l))
+
+    pub step_bad : (fault : NgWhy) → head_read s.order (take 12 l) ≡ Err fault → step_of budget at s l ≡ Err (errors.Fault at fault)
+    step_bad fault is = step_head (Err fault) is
+
+    module _ (h : Head) (is : head_read s.order (take 12 l) ≡ Ok h) where
+      pub step_bytes : budget.bytes < h.size → step_of budget at s l ≡ Err (errors.Limit limits.Bytes)
+      step_bytes lt = step_head (Ok h) is ∙ (λ i. inner (lt-ltb budget.bytes h.size lt i) (ltb (length l) h.size) at (body_read h s.faces (take h.size l)) (counted budget h.size))
+
+      module _ (room : h.size ≤ budget.bytes) where
+        pub step_short : length l < h.size → step_of budget at s l ≡ Err (errors.Fault at why.Cut)
+        step_short lt = step_head (Ok h) is ∙ (λ i. inner (le-ltb budget.bytes h.size room i) (lt-ltb (length l) h.size lt i) at (body_read h s.faces (take h.size l)) (counted budget h.size))
+
+        pub step_whole : h.size ≤ length l → step_of budget at s l ≡ and_then (at_fault at (body_read h s.faces (take h.size l))) (counted budget h.size)
+        step_whole fits = step_head (Ok h) is ∙ (λ i. inner (le-ltb budget.bytes h.size room i) (le-ltb (length l) h.size fits i) at (body_read h s.faces (take h.size l)) (counted budget h.size))
+
+-- an error goes through
+pub then_err : {A B : Type 0} → (x : Result A NgError) (f : A → Result B NgError) (e : NgError) → Tells {A = A} x (Err e) → Tells {A = B} (and_then x f) (Err e)
+then_err x f (errors.Fault at fault) is = ap (λ y. and_then y f) is
+then_err x f (errors.Limit limit) is = ap (λ y. and_then y f) is
+then_err x f (errors.Read failed) is = tt
+then_err x f errors.Memory is = tt
+
+-- ---- the buffers
+
+-- a read fault has its cause, and other errors need none
+no_cause : (n m : ℕ) (e : NgError) → NotRead e → (f : Failed) → (let r : Result (Option Block) NgError = Err e in r ≡ Err (errors.Read f)) → Rose n m
+no_cause n m e own f is = let same : e ≡ errors.Read f = cc in absurd (subst NotRead same own)
+
+pub both_left : (x y : Bool) → (x && y) ≡ true → x ≡ true
+both_left true y e = refl
+both_left false y e = e
+
+module _ (slot : ℕ) (a b : Seen) (held mid front : List ℕ) (n : ℕ) (budget : Budget) (at : ℕ) (s : Section) (sized : length front ≡ 12) (first : Pulls slot front held mid a b (Ok n)) where
+  pub block_end : (eqb n 0 && is_some s.order) ≡ true → BlockRead slot a b held mid budget at s (Ok None)
+  block_end ended =
+      let none : n ≡ 0 = eqb-true n 0 (both_left (eqb n 0) (is_some s.order) ended) in
+      let none_left : IsTrue a.told → mid ++ b.left slot ≡ [] = λ told. first.ended told (omega arith) in
+      let all : IsTrue a.told → held ++ a.left slot ≡ [] = λ told. sym (first.taken told) ∙ (λ i. take (none i) front ++ none_left told i) in
+      record {
+        reads = first.reads;
+        tells = λ told. step_end budget at s (held ++ a.left slot) ((λ i. eqb (length (all told i)) 0 && is_some s.order) ∙ (λ i. eqb (sym none i) 0 && is_some s.order) ∙ ended);
+        behind = all;
+        ended = none_left;
+        fits = tt;
+        cause = λ f e. absurd (cc);
+      }
+
+  pub block_short : n < 12 → (eqb n 0 && is_some s.order) ≡ false → BlockRead slot a b held mid budget at s (Err (errors.Fault at why.Cut))
+  block_short lt more = record {
+    reads = first.reads;
+    tells = λ told.
+        let none_left : mid ++ b.left slot ≡ [] = first.ended told (omega arith) in
+        let all : length (held ++ a.left slot) ≡ n = short_is front (mid ++ b.left slot) (held ++ a.left slot) n first.bound none_left (first.taken told) in
+        step_cut budget at s (held ++ a.left slot) (omega arith) ((λ i. eqb (all i) 0 && is_some s.order) ∙ more);
+    behind = λ told. tt;
+    ended = λ told. tt;
+    fits = tt;
+    cause = no_cause _ _ (errors.Fault at why.Cut) tt;
+  }
+
+  module _ (le : 12 ≤ n) where
+    whole : IsTrue a.told → held ++ a.left slot ≡ front ++ (mid ++ b.left slot)
+    whole told = front_is front (mid ++ b.left slot) (held ++ a.left slot) 12 sized (let is : n ≡ 12 = omega (arith, first.bound) in subst (λ (k : ℕ). take k front ++ (mid ++ b.left slot) ≡ held ++ a.left slot) is (first.taken told))
+
+    long : IsTrue a.told → length (held ++ a.left slot) ≡ 12 + length (mid ++ b.left slot)
+    long told = omega (arith, ap length (whole told), length-append front (mid ++ b.left slot))
+
+    at_front : IsTrue a.told → take 12 (held ++ a.left slot) ≡ front
+    at_front told = ap (take 12) (whole told) ∙ take_at front (mid ++ b.left slot) 12 sized
+
+    pub block_bad : (fault : NgWhy) → head_read s.order front ≡ Err fault → BlockRead slot a b held mid budget at s (Err (errors.Fault at fault))
+    block_bad fault is = record {
+      reads = first.reads;
+      tells = λ told. step_bad budget at s (held ++ a.left slot) (omega (arith, long told)) fault (ap (head_read s.order) (at_front told) ∙ is);
+      behind = λ told. tt;
+      ended = λ told. tt;
+      fits = tt;
+      cause = no_cause _ _ (errors.Fault at fault) tt;
+    }
+
+    module _ (h : Head) (is : head_read s.order front ≡ Ok h) where
+      head_is : IsTrue a.told → head_read s.order (take 12 (held ++ a.left slot)) ≡ Ok h
+      head_is told = ap (head_read s.order) (at_front told) ∙ is
+
+      pub block_bytes : budget.bytes < h.size → BlockRead slot a b held mid budget at s (Err (errors.Limit limits.Bytes))
+      block_bytes lt = record {
+        reads = first.reads;
+        tells = λ told. step_bytes budget at s (held ++ a.left slot) (omega (arith, long told)) h (head_is told) lt;
+        behind = λ told. tt;
+        ended = λ told. tt;
+        fits = tt;
+        cause = no_cause _ _ (errors.Limit limits.Bytes) tt;
+      }
+
+      module _ (c : Seen) (rest body : List ℕ) (is_in : IsTrue (a.input slot)) (room : h.size ≤ budget.bytes) (least : 12 ≤ h.size) (sized_body : length body ≡ h.size - 12) where
+        same : b.name slot ≡ a.name slot
+        same = input_name (a.name slot) a b first.reads.keeps slot is_in
+
+        told_b : IsTrue a.told → IsTrue b.told
+        told_b told = told_stays (a.name slot) a b first.reads.keeps told
+
+        module _ (k : ℕ) (second : Pulls slot body mid rest b c (Ok k)) where
+          both : Reads (a.name slot) a c
+          both = reads_trans (a.name slot) a b c first.reads (subst (λ m. Reads m b c) same second.reads)
+
+          pub block_cut : k < length body → BlockRead slot a c held rest budget at s (Err (errors.Fault at why.Cut))
+          block_cut lt = record {
+            reads = both;
+            tells = λ told.
+                let none_left : rest ++ c.left slot ≡ [] = second.ended (told_b told) lt in
+                let all : length (mid ++ b.left slot) ≡ k = short_is body (rest ++ c.left slot) (mid ++ b.left slot) k second.bound none_left (second.taken (told_b told)) in
+                step_short budget at s (held ++ a.left slot) (omega (arith, long told)) h (head_is told) room (omega (arith, long told));
+            behind = λ told. tt;
+            ended = λ told. tt;
+            fits = tt;
+            cause = no_cause _ _ (errors.Fault at why.Cut) tt;
+          }
+
+          module _ (full : length body ≤ k) (block : List ℕ) (made : block ≡ front ++ body) where
+            sized_block : length block ≡ h.size
+            sized_block = omega (arith, ap length made, length-append front body)
+
+            all : IsTrue a.told → held ++ a.left slot ≡ block ++ (rest ++ c.left slot)
+            all told = whole told ∙ ap (λ m. front ++ m) (front_is body (rest ++ c.left slot) (mid ++ b.left slot) k (omega (arith, second.bound)) (second.taken (told_b told))) ∙ sym (append_assoc front body (rest ++ c.left slot)) ∙ ap (λ m. m ++ (rest ++ c.left slot)) (sym made)
+
+            long_enough : IsTrue a.told → h.size ≤ length (held ++ a.left slot)
+            long_enough told = omega (arith, ap length (all told), length-append block (rest ++ c.left slot), sized_block)
+
+            step_block : IsTrue a.told → step_of budget at s (held ++ a.left slot) ≡ and_then (at_fault at (body_read h s.faces block)) (counted budget h.size)
+            step_block told =
+                step_whole budget at s (held ++ a.left slot) (omega (arith, long told)) h (head_is told) room (long_enough told)
+                ∙ ap (λ (l : List ℕ). and_then (at_fault at (body_read h s.faces l)) (counted budget h.size)) (ap (take h.size) (all told) ∙ take_at block (rest ++ c.left slot) h.size sized_block)
+
+            pub block_err : (e : NgError) → NotRead e → Tells {A = Content} (at_fault at (body_read h s.faces block)) (Err e) → BlockRead slot a c held rest budget at s (Err e)
+            block_err e own tells = record {
+              reads = both;
+              tells = λ told. subst (λ x. Tells {A = Option Block} x (Err e)) (sym (step_block told)) (then_err (at_fault at (body_read h s.faces block)) (counted budget h.size) e tells);
+              behind = λ told. tt;
+              ended = λ told. tt;
+              fits = tt;
+              cause = no_cause _ _ e own;
+            }
+
+            module _ (content : Content) (says : at_fault at (body_read h s.faces block) ≡ Ok content) where
+              counts : IsTrue a.told → step_of budget at s (held ++ a.left slot) ≡ counted budget h.size content
+              counts told = step_block told ∙ ap (λ x. and_then x (counted budget h.size)) says
+
+              pub block_frames : budget.frames < frames_of content → BlockRead slot a c held rest budget at s (Err (errors.Limit limits.Frames))
+              block_frames lt = record {
+                reads = both;
+                tells = λ told. counts told ∙ (λ i. if lt-ltb budget.frames (frames_of content) lt i then Err (errors.Limit limits.Frames) else Ok (Some (record { size = h.size; content = content })));
+                behind = λ told. tt;
+                ended = λ told. tt;
+                fits = tt;
+                cause = no_cause _ _ (errors.Limit limits.Frames) tt;
+              }
+
+              pub block_done : frames_of content ≤ budget.frames → BlockRead slot a c held rest budget at s (Ok (Some (record { size = h.size; content = content })))
+              block_done le_frames = record {
+                reads = both;
+                tells = λ told. counts told ∙ (λ i. if le-ltb budget.frames (frames_of content) le_frames i then Err (errors.Limit limits.Frames) else Ok (Some (record { size = h.size; content = content })));
+                behind = λ told. (long_enough told, sym (ap (drop h.size) (all told) ∙ drop_at block (rest ++ c.left slot) h.size sized_block));
+                ended = λ told. tt;
+                fits = (least, room, le_frames);
+                cause = λ f e. absurd (cc);
+              }

@@ -1,0 +1,162 @@
+-- A pcapng file, read block by block.
+use Rattle.std.specs.Prelude.{◌≡◌, ℕ, zero, suc, ◌+◌, ◌-◌, ◌≤◌, Bool, IsTrue, ◌==◌, nat_lt, ◌&&◌, if◌then◌else◌, List, [], ◌∷◌, ◌++◌, length, take, drop, Option, Some, None, is_some, Result, Ok, Err, IfOk, OnOk, OnErr, MatchOption}
+use Rattle.fab_base.specs.Seen.{Seen, Reads, Rose}
+use Rattle.fab_base.specs.declared.values.Failed.{Failed}
+use Rattle.pcap_file.specs.declared.Budget.{Budget}
+use Rattle.pcapng_file.specs.declared.fault.NgWhy.{NgWhy}
+use Rattle.pcapng_file.specs.declared.fault.NgWhy.TheVariants as why
+use Rattle.pcapng_file.specs.declared.fault.NgLimit.TheVariants as limits
+use Rattle.pcapng_file.specs.declared.fault.NgError.{NgError}
+use Rattle.pcapng_file.specs.declared.fault.NgError.TheVariants as errors
+use Rattle.pcapng_file.specs.declared.block.Head.{Head}
+use Rattle.pcapng_file.specs.declared.block.Interface.{Interface}
+use Rattle.pcapng_file.specs.declared.packet.Content.{Content}
+use Rattle.pcapng_file.specs.declared.packet.Content.TheVariants as says
+use Rattle.pcapng_file.specs.declared.reading.Block.{Block}
+use Rattle.pcapng_file.specs.declared.NgRecord.{NgRecord}
+use Rattle.pcapng_file.specs.Block.{Test, test, NoneHolds, HEAD, head_of, head_tests, head_read, body_tests, body_read, content_of}
+
+-- ---- what stands at a place
+
+-- the byte order and the interfaces of the section so far; before the first section there is none
+pub record Section : Type 0 where
+  pub order : Option Bool
+  pub faces : List Interface
+
+abbrev pub before_all : Section
+before_all = record { order = None; faces = [] }
+
+-- the first 12 bytes
+abbrev pub front_tests : Section → List ℕ → List Test
+front_tests s l = test (nat_lt (length l) HEAD) why.Cut ∷ head_tests s.order (take HEAD l)
+
+abbrev pub head_at : Section → List ℕ → Head
+head_at s l = head_of s.order (take HEAD l)
+
+-- the whole block
+abbrev pub whole_tests : Section → List ℕ → List Test
+whole_tests s l = let h = head_at s l in test (nat_lt (length l) h.size) why.Cut ∷ body_tests h s.faces (take h.size l)
+
+abbrev pub content_at : Section → List ℕ → Content
+content_at s l = let h = head_at s l in content_of h.kind h.big s.faces (take h.size l)
+
+-- ---- what a block changes
+
+abbrev pub after : Section → Content → Section
+after s (says.Section big) = record { order = Some big; faces = [] }
+after s (says.Interface face) = record { order = s.order; faces = s.faces ++ face ∷ [] }
+after s (says.Packet r) = s
+after s says.Nothing = s
+
+abbrev pub found : Content → List NgRecord
+found (says.Section big) = []
+found (says.Interface face) = []
+found (says.Packet r) = r ∷ []
+found says.Nothing = []
+
+-- ---- the file
+
+-- From a place on, where a section stands so, these bytes are n blocks, at none of which a test holds, and these are their
+-- packets.
+abbrev pub Blocks : ℕ → Section → List NgRecord → List ℕ → Type 0
+Blocks zero s v l = IsTrue (is_some s.order) × (v ≡ []) × (l ≡ [])
+Blocks (suc n) s v l =
+    NoneHolds (front_tests s l) × NoneHolds (whole_tests s l)
+    × (w : List NgRecord) × (v ≡ found (content_at s l) ++ w) × Blocks n (after s (content_at s l)) w (drop (head_at s l).size l)
+
+-- these bytes are a pcapng file with these packets
+abbrev pub IsNg : List NgRecord → List ℕ → Type 0
+IsNg v l = (n : ℕ) × Blocks n before_all v l
+
+-- ---- reading, with limits
+
+abbrev pub at_fault : {A : Type 0} → ℕ → Result A NgWhy → Result A NgError
+at_fault at (Ok a) = Ok a
+at_fault at (Err fault) = Err (errors.Fault at fault)
+
+-- what is read of what was read
+abbrev pub and_then : {A B : Type 0} → Result A NgError → (A → Result B NgError) → Result B NgError
+and_then (Ok a) f = f a
+and_then (Err e) f = Err e
+
+-- the frames that a block takes
+abbrev pub frames_of : Content → ℕ
+frames_of content = length (found content)
+
+abbrev pub counted : Budget → ℕ → Content → Result (Option Block) NgError
+counted budget size content = if nat_lt budget.frames (frames_of content) then Err (errors.Limit limits.Frames) else Ok (Some (record { size = size; content = content }))
+
+-- behind the tests of the first 12 bytes
+abbrev pub step_in : Budget → ℕ → List Interface → List ℕ → Head → Result (Option Block) NgError
+step_in budget at faces l h =
+    if nat_lt budget.bytes h.size then Err (errors.Limit limits.Bytes)
+    else if nat_lt (length l) h.size then Err (errors.Fault at why.Cut)
+    else and_then (at_fault at (body_read h faces (take h.size l))) (counted budget h.size)
+
+-- The next block, none at the end, or the first test or limit that holds. The limit of bytes stands behind the tests of
+-- the first 12 bytes, that of frames behind all others.
+unfoldable pub step_of : Budget → ℕ → Section → List ℕ → Result (Option Block) NgError
+step_of budget at s l =
+    if length l == 0 && is_some s.order then Ok None
+    else if nat_lt (length l) HEAD then Err (errors.Fault at why.Cut)
+    else and_then (at_fault at (head_read s.order (take HEAD l))) (step_in budget at s.faces l)
+
+abbrev pub less : Budget → Block → Budget
+less budget b = record { bytes = budget.bytes - b.size; frames = budget.frames - frames_of b.content }
+
+abbrev pub in_front : List NgRecord → Result (List NgRecord) NgError → Result (List NgRecord) NgError
+in_front v (Ok w) = Ok (v ++ w)
+in_front v (Err e) = Err e
+
+abbrev pub go_on : (Block → Result (List NgRecord) NgError) → Result (Option Block) NgError → Result (List NgRecord) NgError
+go_on rest (Ok (Some b)) = rest b
+go_on rest (Ok None) = Ok []
+go_on rest (Err e) = Err e
+
+-- the packets from a place on, of at most n blocks, or the first fault or limit
+abbrev pub read_from : ℕ → Budget → ℕ → Section → List ℕ → Result (List NgRecord) NgError
+read_from zero budget at s l = Err errors.Memory
+read_from (suc n) budget at s l = go_on (λ b. in_front (found b.content) (read_from n (less budget b) (at + b.size) (after s b.content) (drop b.size l))) (step_of budget at s l)
+
+unfoldable pub ng_read : Budget → List ℕ → Result (List NgRecord) NgError
+ng_read budget l = read_from (suc (length l)) budget 0 before_all l
+
+-- ---- answers
+
+-- an answer is what was to be read; a depot's fault and want of memory say nothing
+abbrev pub Tells : {A : Type 0} → Result A NgError → Result A NgError → Type 0
+Tells wanted (Ok a) = wanted ≡ Ok a
+Tells wanted (Err (errors.Fault at fault)) = wanted ≡ Err (errors.Fault at fault)
+Tells wanted (Err (errors.Limit limit)) = wanted ≡ Err (errors.Limit limit)
+Tells wanted (Err (errors.Read failed)) = Unit {0}
+Tells wanted (Err errors.Memory) = Unit {0}
+
+-- an error that isn't the depot's
+abbrev pub NotRead : NgError → Type 0
+NotRead (errors.Fault at fault) = Unit {0}
+NotRead (errors.Limit limit) = Unit {0}
+NotRead (errors.Read failed) = ⊥
+NotRead errors.Memory = Unit {0}
+
+-- What reading a file from a slot does. Where the depot tells, the answer is what the bytes say that the slot has left, all
+-- of which are taken then, except that the depot may fail, which its count shows, and memory may be refused. The budget
+-- is lowered on Ok alone.
+pub record NgReads (slot : ℕ) (old new : Seen) (had left : Budget) (result : Result (List NgRecord) NgError) : Type 0 where
+  pub reads : Reads (old.name slot) old new
+  pub exact : IsTrue old.told → Tells (ng_read had (old.left slot)) result
+  pub all : IsTrue old.told → OnOk result (new.left slot ≡ [])
+  pub bytes : IsTrue old.told → OnOk result (left.bytes + length (old.left slot) ≡ had.bytes)
+  pub frames : IfOk result (λ v. left.frames + length v ≡ had.frames)
+  pub untouched : OnErr result (left ≡ had)
+  pub cause : (f : Failed) → result ≡ Err (errors.Read f) → Rose (old.read_faults (old.name slot)) (new.read_faults (old.name slot))
+
+-- ---- inside the crate
+
+-- one block from what is held and a slot
+pub record BlockRead (slot : ℕ) (old new : Seen) (held rest : List ℕ) (budget : Budget) (at : ℕ) (s : Section) (result : Result (Option Block) NgError) : Type 0 where
+  pub reads : Reads (old.name slot) old new
+  pub tells : IsTrue old.told → Tells (step_of budget at s (held ++ old.left slot)) result
+  pub behind : IsTrue old.told → IfOk result (λ o. MatchOption o (held ++ old.left slot ≡ []) (λ b. (b.size ≤ length (held ++ old.left slot)) × (rest ++ new.left slot ≡ drop b.size (held ++ old.left slot))))
+  pub ended : IsTrue old.told → IfOk result (λ o. MatchOption o (rest ++ new.left slot ≡ []) (λ b. Unit {0}))
+  pub fits : IfOk result (λ o. MatchOption o (Unit {0}) (λ b. (HEAD ≤ b.size) × (b.size ≤ budget.bytes) × (frames_of b.content ≤ budget.frames)))
+  pub cause : (f : Failed) → result ≡ Err (errors.Read f) → Rose (old.read_faults (old.name slot)) (new.read_faults (old.name slot))

@@ -1,0 +1,28 @@
+//! Capture files in the pcapng form (draft-ietf-opsawg-pcapng), read from a slot of a depot.
+#![tactic(auto)]
+
+mod block;
+mod fault;
+mod laws;
+mod options;
+mod packet;
+mod reading;
+#[cfg(test)]
+mod tests;
+
+pub use block::Interface;
+use fab_base::{Caught, Moment, OwnedList};
+pub use fault::{NgError, NgLimit, NgWhy};
+pub use laws::{a_file_has_one_list_of_packets, a_reading_is_the_file};
+pub use reading::read_ng;
+
+/// One packet: its time, the frame that was captured, and the length that the frame had.
+#[derive(Debug, Drop)]
+pub struct NgRecord {
+    pub moment: Moment,
+    pub caught: Caught,
+    pub original: u32,
+}
+
+/// The packets of a file, in its order.
+pub type NgRecords = OwnedList<NgRecord>;

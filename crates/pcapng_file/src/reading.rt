@@ -1,0 +1,197 @@
+//! Reading a file block by block through one buffer.
+ghost use Rattle.std.specs.Prelude.{◌≡◌, ◌≤◌, ◌<◌, ◌+◌, ◌++◌, ◌∷◌, [], length, IsTrue, OnOk, IfOk, Some, ◌==◌, ◌&&◌, is_some};
+ghost use Rattle.pcapng_file.specs.File.{Section, NgReads, BlockRead, after, found, before_all};
+
+use crate::NgRecords;
+use crate::block::{HEAD, Interface, read_head};
+use crate::fault::{NgError, NgLimit, NgWhy};
+use crate::packet::{Content, read_block};
+use fab_base::{Depot, NoMemory, OwnedList};
+use pcap_file::{Ahead, Budget};
+use std::alloc::{AllocError, Global};
+use std::marker::Model;
+
+// A block: its total length, and what it says.
+#[derive(Debug, Drop)]
+pub(crate) struct Block {
+    pub(crate) size: u32,
+    pub(crate) content: Content,
+}
+
+// The byte order and the interfaces of a section so far; before the first section there is none.
+#[derive(Debug, Drop)]
+struct SoFar {
+    order: Option<bool>,
+    faces: Vec<Interface>,
+}
+
+impl Model for SoFar {
+    ghost Value = { Section };
+
+    ghost view = { λ s. record { order = s.order; faces = s.faces.items } };
+}
+
+impl SoFar {
+    fn new(alloc: Global) -> SoFar
+        ensures { result ≡ before_all }
+    {
+        SoFar {
+            order: None,
+            faces: Vec::new(alloc),
+        }
+    }
+
+    fn begin(&mut self, big: bool)
+        ensures { self.new ≡ record { order = Some big; faces = [] } }
+    {
+        self.order = Some(big);
+        self.faces.clear();
+    }
+
+    fn add(&mut self, face: Interface) -> Result<(), NoMemory>
+        ensures ok { OnOk result (self.new ≡ record { order = self.old.order; faces = self.old.faces ++ face ∷ [] }) }
+    {
+        match self.faces.push(face) {
+            Ok(()) => Ok(()),
+            Err(_) => Err(NoMemory),
+        }
+    }
+}
+
+/// The packets of a pcapng file, read from an open input to its end.
+pub fn read_ng<D: Depot>(
+    alloc: Global,
+    depot: &mut D,
+    slot: u32,
+    budget: &mut Budget,
+) -> Result<NgRecords, NgError>
+    requires input { IsTrue ((D.seen depot.old).input slot) }
+    ensures reads { NgReads slot (D.seen depot.old) (D.seen depot.new) budget.old budget.new result }
+{
+    let Ok(mut records) = OwnedList::new(alloc) else {
+        return Err(NgError::Memory);
+    };
+    let mut ahead = Ahead::new();
+    let mut section = SoFar::new(alloc);
+    let start = budget.bytes;
+    let mut left = *budget;
+    loop {
+        let at = start - left.bytes;
+        let next = match next_block(alloc, depot, slot, &mut ahead, &section, left, at) {
+            Ok(next) => next,
+            Err(error) => return Err(error),
+        };
+        let Some(block) = next else {
+            *budget = left;
+            return Ok(records);
+        };
+        left.bytes -= block.size as u64;
+        left.frames -= block.content.frames();
+        match take(alloc, block.content, &mut section, &mut records) {
+            Ok(()) => {}
+            Err(_) => return Err(NgError::Memory),
+        }
+    }
+}
+
+// What a block changes.
+fn take(
+    alloc: Global,
+    content: Content,
+    section: &mut SoFar,
+    records: &mut NgRecords,
+) -> Result<(), NoMemory>
+    ensures section { OnOk result (section.new ≡ after section.old content) }
+    ensures records { OnOk result (records.new ≡ records.old ++ found content) }
+{
+    match content {
+        Content::Section(big) => {
+            section.begin(big);
+            Ok(())
+        }
+        Content::Interface(face) => section.add(face),
+        Content::Packet(record) => records.push(alloc, record),
+        Content::Nothing => Ok(()),
+    }
+}
+
+// The next block, or none at the end, by the tests in their order.
+fn next_block<D: Depot>(
+    alloc: Global,
+    depot: &mut D,
+    slot: u32,
+    ahead: &mut Ahead,
+    section: &SoFar,
+    budget: Budget,
+    at: u64,
+) -> Result<Option<Block>, NgError>
+    requires input { IsTrue ((D.seen depot.old).input slot) }
+    ensures reads { BlockRead slot (D.seen depot.old) (D.seen depot.new) ahead.old ahead.new budget at section.now result }
+{
+    let mut front = [0u8; HEAD];
+    let got = match ahead.pull(depot, slot, &mut front) {
+        Ok(got) => got,
+        Err(failed) => return Err(NgError::Read(failed)),
+    };
+    let ended = is_end(got, section.order);
+    if ended {
+        return Ok(None);
+    }
+    if got < HEAD {
+        return Err(NgError::Fault {
+            at,
+            why: NgWhy::Cut,
+        });
+    }
+    let head = match read_head(section.order, &front) {
+        Ok(head) => head,
+        Err(why) => return Err(NgError::Fault { at, why }),
+    };
+    if budget.bytes < head.size as u64 {
+        return Err(NgError::Limit(NgLimit::Bytes));
+    }
+    let Ok(mut body) = vec![in alloc; 0u8; head.size as usize - HEAD] else {
+        return Err(NgError::Memory);
+    };
+    match ahead.pull(depot, slot, &mut body) {
+        Ok(got) => {
+            if got < body.len() {
+                return Err(NgError::Fault {
+                    at,
+                    why: NgWhy::Cut,
+                });
+            }
+        }
+        Err(failed) => return Err(NgError::Read(failed)),
+    }
+    let Ok(block) = joined(alloc, &front, &body) else {
+        return Err(NgError::Memory);
+    };
+    let content = match read_block(alloc, at, head, &section.faces, &block) {
+        Ok(content) => content,
+        Err(error) => return Err(error),
+    };
+    if budget.frames < content.frames() {
+        return Err(NgError::Limit(NgLimit::Frames));
+    }
+    Ok(Some(Block {
+        size: head.size,
+        content,
+    }))
+}
+
+// Whether a file ends where so many bytes of a block are left: between two blocks of a section.
+fn is_end(got: usize, order: Option<bool>) -> bool
+    ensures { result ≡ (got == 0 && is_some order) }
+{
+    got == 0 && order.is_some()
+}
+
+fn joined(alloc: Global, front: &[u8], body: &[u8]) -> Result<Vec<u8>, AllocError>
+    ensures { IfOk result (λ v. v.items ≡ front.now ++ body.now) }
+{
+    let mut block = Vec::new(alloc);
+    block.extend_from_slice(front)?;
+    block.extend_from_slice(body)?;
+    Ok(block)
+}
