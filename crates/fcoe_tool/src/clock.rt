@@ -1,6 +1,7 @@
 //! When the next tick comes.
 ghost use Rattle.std.specs.Prelude.{◌≡◌, ◌<◌, ◌≤◌, ◌+◌, ◌%◌, ◌^◌, ◌⊎◌, ℕ, Some, None, IfSome};
-ghost use Rattle.fcoe_tool.specs.Clock.{NextTick, NextAfter, ByPeriod, ByZones, IsSoonest, sooner_by};
+ghost use Rattle.fcoe_tool.specs.Clock.{NextTick, NextAfter, ByPeriod, ByZones, IsSoonest};
+ghost use Rattle.fcoe_tool.specs.Clock.{sooner_by};
 
 use crate::span::window_start;
 use fab_base::Moment;
@@ -16,7 +17,8 @@ pub(crate) fn next_tick(
     requires window { window % config.now.window ≡ 0 }
     requires range { window < 2 ^ 43 }
     requires clock { IfSome clock (λ t. (t ≤ window) × (t % config.now.window ≡ 0)) }
-    requires advertised { IfSome clock (λ t. IfSome advertised (λ l. (t < l + config.now.period) × (l ≤ t))) }
+    requires advertised { IfSome clock (λ t. IfSome advertised (λ l. (t < l + config.now.period)
+        × (l ≤ t))) }
     ensures next { IfSome result (λ m. NextTick config.now clock advertised window m) }
     ensures none { result ≡ None → clock ≡ Some window }
 {

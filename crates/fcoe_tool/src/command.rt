@@ -1,5 +1,6 @@
 //! The words of the command line.
-ghost use Rattle.std.specs.Prelude.{◌≡◌, ◌+◌, ◌*◌, ◌<◌, ◌≤◌, IsTrue, length, true, Some, None, if◌then◌else◌};
+ghost use Rattle.std.specs.Prelude.{◌≡◌, ◌+◌, ◌*◌, ◌<◌, ◌≤◌, IsTrue, length, true, Some, None};
+ghost use Rattle.std.specs.Prelude.{if◌then◌else◌};
 ghost use Rattle.std.specs.Str.{bytes_eq};
 ghost use Rattle.std.specs.List.{list_any};
 ghost use Rattle.fab_base.specs.Places.{name_at};
@@ -14,7 +15,8 @@ const MOST_PORTS: usize = 64;
 /// empty or used twice.
 #[tactic(auto, unfolding(crate::specs::Command::command))]
 pub(crate) fn is_run(words: &[String]) -> bool
-    ensures command { spec.command words.now ≡ (if result then Some (spec.command_of words.now) else None) }
+    ensures command { spec.command words.now ≡
+        (if result then Some (spec.command_of words.now) else None) }
     ensures is { IsTrue result → spec.is_run words.now ≡ true }
 {
     has_form(words) && are_names(words)
@@ -46,7 +48,8 @@ fn are_names(words: &[String]) -> bool
 #[tactic(auto, using(crate::proofs::CommandLemmas::names_step, crate::proofs::CommandLemmas::names_end))]
 fn is_used_after(words: &[String], place: usize) -> bool
     requires { place < length words.now }
-    ensures { result ≡ list_any (λ m. bytes_eq (name_at words.now place) m) (spec.names_from (place + 1) words.now) }
+    ensures { result ≡ list_any (λ m. bytes_eq (name_at words.now place) m)
+        (spec.names_from (place + 1) words.now) }
 {
     for index in place + 1..words.len() {
         if word_at(words, place) == word_at(words, index) {

@@ -20,7 +20,8 @@ pub struct FileDepot<'a, R: Files> {
 }
 
 impl<'a, R: Files> FileDepot<'a, R> {
-    ghost use Rattle.std.specs.Prelude.{◌≡◌, ◌<◌, ℕ, List, Some, IfSome, IfOk, IfErr, length, slice_get, IsTrue, true, ◌≤◌};
+    ghost use Rattle.std.specs.Prelude.{◌≡◌, ◌<◌, ℕ, List, Some, IfSome, IfOk, IfErr, length};
+    ghost use Rattle.std.specs.Prelude.{slice_get, IsTrue, true, ◌≤◌};
     ghost use Rattle.fab_base.specs.Desk.{place_of, Stays, KeepsCounts};
     ghost use Rattle.fcoe_tool.specs.Edge.{KnowsAll, AddsFile};
 
@@ -43,8 +44,11 @@ impl<'a, R: Files> FileDepot<'a, R> {
         requires { place_of self.old.desk name.now ≡ Some place }
         ensures stays { Stays place self.old.desk self.new.desk }
         ensures counts { KeepsCounts self.old.desk self.new.desk }
-        ensures fresh { IfSome result (λ s. (s ≡ length self.old.desk.slots.items) × (slice_get self.new.desk.slots.items s ≡ Some (record { file = place; at = length self.old.files.items; input = input }))) }
-        ensures file { IfSome result (λ s. AddsFile s self.old.files.items self.new.files.items self.new.desk) }
+        ensures fresh { IfSome result (λ s. (s ≡ length self.old.desk.slots.items)
+            × (slice_get self.new.desk.slots.items s
+            ≡ Some (record { file = place; at = length self.old.files.items; input = input }))) }
+        ensures file { IfSome result (λ s. AddsFile s self.old.files.items self.new.files.items
+            self.new.desk) }
     {
         if self.files.reserve(1).is_err() || self.desk.reserve_slot(self.alloc).is_err() {
             return None;
@@ -74,7 +78,8 @@ impl<R: Files> Depot for FileDepot<'_, R> {
     fn open_in(&mut self, name: &str) -> Result<u32, Failed>
         requires { IsTrue ((untold self.old.desk).knows name.now) }
         ensures opens { OpensIn name.now (untold self.old.desk) (untold self.new.desk) result }
-        ensures file { IfOk result (λ s. AddsFile s self.old.files.items self.new.files.items self.new.desk) }
+        ensures file { IfOk result (λ s. AddsFile s self.old.files.items self.new.files.items
+            self.new.desk) }
     {
         let place = self.desk.place(name).unwrap();
         match self.try_open(name, place, true) {
@@ -89,7 +94,8 @@ impl<R: Files> Depot for FileDepot<'_, R> {
     fn open_out(&mut self, name: &str) -> Result<u32, Failed>
         requires { IsTrue ((untold self.old.desk).knows name.now) }
         ensures opens { OpensOut name.now (untold self.old.desk) (untold self.new.desk) result }
-        ensures file { IfOk result (λ s. AddsFile s self.old.files.items self.new.files.items self.new.desk) }
+        ensures file { IfOk result (λ s. AddsFile s self.old.files.items self.new.files.items
+            self.new.desk) }
     {
         let place = self.desk.place(name).unwrap();
         match self.try_open(name, place, false) {
@@ -104,8 +110,10 @@ impl<R: Files> Depot for FileDepot<'_, R> {
     fn fetch(&mut self, slot: u32, into: &mut [u8]) -> Result<usize, Failed>
         requires input { IsTrue ((untold self.old.desk).input slot) }
         requires room { 0 < length into.old }
-        ensures fetches { Fetches slot into.new (untold self.old.desk) (untold self.new.desk) result }
-        ensures reads { ReadsAt R.File.remaining (at_of self.old.desk slot) self.old.files.items self.new.files.items into.new result }
+        ensures fetches { Fetches slot into.new (untold self.old.desk)
+            (untold self.new.desk) result }
+        ensures reads { ReadsAt R.File.remaining
+            (at_of self.old.desk slot) self.old.files.items self.new.files.items into.new result }
     {
         let source = self.desk.file(slot);
         let at = self.desk.at(slot);
@@ -122,7 +130,8 @@ impl<R: Files> Depot for FileDepot<'_, R> {
         requires output { IsTrue ((untold self.old.desk).output slot) }
         requires some { 0 < length from.now }
         ensures puts { Puts slot from.now (untold self.old.desk) (untold self.new.desk) result }
-        ensures writes { WritesAt R.File.contents (at_of self.old.desk slot) self.old.files.items self.new.files.items from.now result }
+        ensures writes { WritesAt R.File.contents
+            (at_of self.old.desk slot) self.old.files.items self.new.files.items from.now result }
     {
         let target = self.desk.file(slot);
         let at = self.desk.at(slot);
@@ -150,7 +159,8 @@ fn desk_of(alloc: Global, words: &[String]) -> Result<Desk, NoMemory>
 // Makes a name known where it isn't.
 fn learn(alloc: Global, desk: &mut Desk, name: &str) -> Result<(), NoMemory>
     ensures own { OnOk result (IsTrue (knows desk.new name.now)) }
-    ensures others { OnOk result ((m : List ℕ) → IsTrue (knows desk.old m) → IsTrue (knows desk.new m)) }
+    ensures others { OnOk result ((m : List ℕ) → IsTrue (knows desk.old m) →
+        IsTrue (knows desk.new m)) }
 {
     if desk.place(name).is_some() {
         return Ok(());
@@ -230,8 +240,10 @@ impl<W: Write + Drop> Sink for StdSink<W> {
 
     fn put(&mut self, from: &[u8]) -> Result<usize, Failed>
         requires { 0 < length from.now }
-        ensures sinks { Sinks from.now (untold_sink self.old.faults) (untold_sink self.new.faults) result }
-        ensures adds { WriteAppends (W.contents self.old.to) (W.contents self.new.to) result from.now }
+        ensures sinks { Sinks from.now (untold_sink self.old.faults)
+            (untold_sink self.new.faults) result }
+        ensures adds { WriteAppends (W.contents self.old.to)
+            (W.contents self.new.to) result from.now }
     {
         match write_some(&mut self.to, from) {
             Ok(count) => Ok(count),

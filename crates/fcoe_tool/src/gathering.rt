@@ -1,7 +1,8 @@
 //! What a command finds in its inputs.
 ghost use Rattle.std.specs.Prelude.{◌≡◌, ◌+◌, ◌≤◌, ◌<◌, IsTrue, true, length, vec_len, Some, IfOk};
 ghost use Rattle.fcoe_tool.specs.Command as spec;
-ghost use Rattle.fcoe_tool.specs.Read.{ConfigRead, TextRead, CaptureRead, RestRead, InputsRead, stopped_by, unopened_by};
+ghost use Rattle.fcoe_tool.specs.Read.{ConfigRead, TextRead, CaptureRead, RestRead, InputsRead};
+ghost use Rattle.fcoe_tool.specs.Read.{stopped_by, unopened_by};
 
 use crate::command::{input_at, port_count};
 use crate::outcome::Outcome;
@@ -84,7 +85,8 @@ pub(crate) fn inputs_of<D: Depot>(
 ) -> Result<Vec<Vec<Record>>, Outcome>
     requires run { spec.is_run words.now ≡ true }
     requires known { spec.AllKnown (D.seen depot.old) words.now }
-    ensures reads { InputsRead config.now (spec.command_of words.now).ins (D.seen depot.old) (D.seen depot.new) result }
+    ensures reads { InputsRead config.now (spec.command_of words.now).ins (D.seen depot.old)
+        (D.seen depot.new) result }
 {
     let mut budget = Budget {
         bytes: MOST_BYTES,
@@ -92,7 +94,7 @@ pub(crate) fn inputs_of<D: Depot>(
     };
     let mut inputs = Vec::new(alloc);
     for port in 0..port_count(words) {
-        let number = port_number(port);
+        let number = PortNo::at(port);
         let name = input_at(words, port);
         let records = match records_of(alloc, depot, number, name, &mut budget) {
             Ok(records) => records,
@@ -109,14 +111,6 @@ pub(crate) fn inputs_of<D: Depot>(
     Ok(inputs)
 }
 
-/// The number of a port that is counted from 0.
-pub(crate) fn port_number(port: usize) -> PortNo
-    requires { port < 64 }
-    ensures { result ≡ port + 1 }
-{
-    PortNo::new(port as u32 + 1).unwrap()
-}
-
 fn records_of<D: Depot>(
     alloc: Global,
     depot: &mut D,
@@ -126,7 +120,8 @@ fn records_of<D: Depot>(
 ) -> Result<Vec<Record>, Outcome>
     requires known { IsTrue ((D.seen depot.old).knows name.now) }
     requires frames { budget.old.frames ≤ 200000 }
-    ensures reads { CaptureRead port name.now (D.seen depot.old) (D.seen depot.new) budget.old budget.new result }
+    ensures reads { CaptureRead port name.now (D.seen depot.old)
+        (D.seen depot.new) budget.old budget.new result }
 {
     let Ok(slot) = depot.open_in(name) else {
         return Err(Outcome::ReadFault);
@@ -143,7 +138,8 @@ fn records_from<D: Depot>(
 ) -> Result<Vec<Record>, Outcome>
     requires slot { IsTrue ((D.seen depot.old).input slot) }
     requires frames { budget.old.frames ≤ 200000 }
-    ensures reads { RestRead port slot (D.seen depot.old) (D.seen depot.new) budget.old budget.new result }
+    ensures reads { RestRead port slot (D.seen depot.old)
+        (D.seen depot.new) budget.old budget.new result }
 {
     let mut reader = match Reader::open(depot, slot, budget) {
         Ok(reader) => reader,

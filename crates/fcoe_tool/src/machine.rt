@@ -8,11 +8,10 @@ ghost use Rattle.fcoe_tool.specs.Read.{AreInputs, lists_in};
 ghost use Rattle.fcoe_tool.specs.Gathered.{frames_in, MOST_FRAMES};
 
 use crate::clock::next_tick;
-use crate::gathering::port_number;
 use crate::outputs::{advertise, advertised_after, new_outputs, reply};
 use crate::queue::{next_port, record_at};
 use crate::span::window_start;
-use fab_base::{Caught, Gate, IdList, Moment, NoMemory};
+use fab_base::{Caught, Gate, IdList, Moment, NoMemory, PortNo};
 use fab_config::Config;
 use fab_policy::{Dropped, Verdict, hear, judge, write_frame_line, write_tick_line};
 use pcap_file::Record;
@@ -30,8 +29,8 @@ pub struct Machine {
     pub outs: Vec<Vec<u8>>,
 }
 
-/// Runs the forwarder over the records of all ports, under a gate. Each turn is the next tick, or the
-/// frame of the earliest window, of the lowest port where several have one.
+/// Runs the forwarder over the records of all ports, under a gate. Each turn is the next tick, or
+/// the frame of the earliest window, of the lowest port where several have one.
 pub(crate) fn machine_of<G: Gate>(
     alloc: Global,
     config: &Config,
@@ -53,7 +52,7 @@ pub(crate) fn machine_of<G: Gate>(
             Some(moment) => machine.tick(alloc, config, moment)?,
             None => {
                 let index = places[port];
-                gate.pass(port_number(port), index as u64);
+                gate.pass(PortNo::at(port), index as u64);
                 machine.frame(
                     alloc,
                     config,
@@ -62,7 +61,7 @@ pub(crate) fn machine_of<G: Gate>(
                     index as u64,
                     &found.caught,
                 )?;
-                gate.done(port_number(port), index as u64, None);
+                gate.done(PortNo::at(port), index as u64, None);
                 places[port] = index + 1;
             }
         }
@@ -157,12 +156,14 @@ impl Machine {
         requires clock { clock < 2 ^ 43 }
         requires frames { self.old.frames < 2 ^ 62 }
         requires entries { self.old.entries < 2 ^ 62 }
-        ensures takes { OnOk result (Takes config.now (Frame (port + 1) index caught.now (verdict_so_far config.now caught.now)) clock self.old self.new) }
+        ensures takes { OnOk result (Takes config.now
+            (Frame (port + 1) index caught.now (verdict_so_far config.now caught.now)) clock
+            self.old self.new) }
         ensures bytes { OnOk result (AllPass (λ b. nat_lt b 256) caught.now.bytes) }
         ensures ranged { OnOk result (IsRangedVerdict (verdict_so_far config.now caught.now)) }
     {
         let verdict = verdict_of(config, caught);
-        write_frame_line(alloc, port_number(port), index, &verdict, &mut self.journal)?;
+        write_frame_line(alloc, PortNo::at(port), index, &verdict, &mut self.journal)?;
         reply(alloc, config, port, clock, caught, &verdict, &mut self.outs)?;
         self.frames += 1;
         self.entries += 1;

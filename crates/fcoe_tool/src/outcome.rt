@@ -45,8 +45,10 @@ pub(crate) fn report<K: Sink>(alloc: Global, outcome: Outcome, say: &mut K) -> u
 
 // Puts a line that was made, or that memory for it was refused.
 fn put_made<K: Sink>(say: &mut K, made: Result<String, AllocError>, status: u8) -> u8
-    ensures ok { IfOk made (λ s. Puts (string_bytes s) status (K.sunk say.old) (K.sunk say.new) result) }
-    ensures err { IfErr made (λ e. Puts (codes "no memory\n") 5 (K.sunk say.old) (K.sunk say.new) result) }
+    ensures ok { IfOk made (λ s. Puts (string_bytes s) status (K.sunk say.old)
+        (K.sunk say.new) result) }
+    ensures err { IfErr made (λ e. Puts (codes "no memory\n") 5 (K.sunk say.old)
+        (K.sunk say.new) result) }
 {
     match made {
         Ok(line) => put_line(say, line.as_bytes(), status),

@@ -1,5 +1,6 @@
 //! The captures of what is sent, one a port.
-ghost use Rattle.std.specs.Prelude.{◌≡◌, ◌<◌, ◌≤◌, ◌+◌, ◌^◌, ◌++◌, OnOk, IfOk, length, map, replicate, []};
+ghost use Rattle.std.specs.Prelude.{◌≡◌, ◌<◌, ◌≤◌, ◌+◌, ◌^◌, ◌++◌, OnOk, IfOk, length, map};
+ghost use Rattle.std.specs.Prelude.{replicate, []};
 ghost use Rattle.pcap_file.specs.Capture.{record_bytes, head_bytes};
 ghost use Rattle.fab_policy.specs.Outputs as spec;
 ghost use Rattle.fab_policy.specs.Outputs.{replies, advertisements_of};
@@ -41,7 +42,8 @@ pub(crate) fn write_to(
     requires port { port < length outs.old.items }
     requires moment { moment < 2 ^ 43 }
     requires bytes { length bytes.now ≤ 65535 }
-    ensures records { OnOk result (outs_in outs.new.items ≡ put_at port (record_bytes moment bytes.now) (outs_in outs.old.items)) }
+    ensures records { OnOk result (outs_in outs.new.items
+        ≡ put_at port (record_bytes moment bytes.now) (outs_in outs.old.items)) }
     ensures count { OnOk result (length outs.new.items ≡ length outs.old.items) }
 {
     write_record(alloc, moment, bytes, &mut outs[port])?;
@@ -57,7 +59,8 @@ pub(crate) fn write_to_all(
 ) -> Result<(), NoMemory>
     requires moment { moment < 2 ^ 43 }
     requires bytes { length bytes.now ≤ 65535 }
-    ensures records { OnOk result (outs_in outs.new.items ≡ map (λ o. o ++ record_bytes moment bytes.now) (outs_in outs.old.items)) }
+    ensures records { OnOk result (outs_in outs.new.items
+        ≡ map (λ o. o ++ record_bytes moment bytes.now) (outs_in outs.old.items)) }
     ensures count { OnOk result (length outs.new.items ≡ length outs.old.items) }
 {
     for port in 0..outs.len() {
@@ -75,7 +78,9 @@ pub(crate) fn advertise(
     outs: &mut Vec<Vec<u8>>,
 ) -> Result<(), NoMemory>
     requires moment { moment < 2 ^ 43 }
-    ensures records { OnOk result (outs_in outs.new.items ≡ added (outs_in outs.old.items) 1 (sent_at moment (advertisements_of config.now (length outs.old.items) advertised (Tick moment [])))) }
+    ensures records { OnOk result (outs_in outs.new.items
+        ≡ added (outs_in outs.old.items) 1 (sent_at moment
+        (advertisements_of config.now (length outs.old.items) advertised (Tick moment [])))) }
     ensures count { OnOk result (length outs.new.items ≡ length outs.old.items) }
 {
     if !is_owed(config, advertised, moment) {
@@ -124,7 +129,9 @@ pub(crate) fn reply(
     requires port { port < length outs.old.items }
     requires clock { clock < 2 ^ 43 }
     requires verdict { verdict.now ≡ verdict_so_far config.now caught.now }
-    ensures records { OnOk result ((T : Tables) → outs_in outs.new.items ≡ added (outs_in outs.old.items) 1 (sent_at clock (replies config.now T (port + 1) caught.now verdict.now))) }
+    ensures records { OnOk result ((T : Tables) →
+        outs_in outs.new.items ≡ added (outs_in outs.old.items) 1
+        (sent_at clock (replies config.now T (port + 1) caught.now verdict.now))) }
     ensures count { OnOk result (length outs.new.items ≡ length outs.old.items) }
 {
     let mut bytes = Vec::new(alloc);

@@ -38,7 +38,8 @@ pub(crate) fn status_of_process<R: Threads + Wait + Sync + Files, K: Sink>(
     words: Result<Vec<String>, Outcome>,
     say: &mut K,
 ) -> u8
-    ensures ends { IfOk words (λ w. EndsOverFiles w.items (K.sunk say.old) (K.sunk say.new) result) }
+    ensures ends { IfOk words (λ w. EndsOverFiles w.items (K.sunk say.old)
+        (K.sunk say.new) result) }
     ensures reports { IfErr words (λ o. Reports o (K.sunk say.old) (K.sunk say.new) result) }
 {
     match words {

@@ -1,5 +1,6 @@
 //! Which port has the next frame.
-ghost use Rattle.std.specs.Prelude.{◌≡◌, ◌<◌, ℕ, Some, None, IfSome, MatchOption, length, slice_get, ◌∷◌, [], List};
+ghost use Rattle.std.specs.Prelude.{◌≡◌, ◌<◌, ℕ, Some, None, IfSome, MatchOption, length};
+ghost use Rattle.std.specs.Prelude.{slice_get, ◌∷◌, [], List};
 ghost use Rattle.std.specs.Option.{option_copied};
 ghost use Rattle.fab_policy.specs.Legal.{window_start as window_of};
 ghost use Rattle.pcap_file.specs.declared.Record.{Record};
@@ -21,7 +22,8 @@ pub(crate) struct Head {
 /// no frame is left. `places` has for each port how many of its frames were taken.
 pub(crate) fn next_port(config: &Config, inputs: &[Vec<Record>], places: &[usize]) -> Option<usize>
     requires { length places.now ≡ length inputs.now }
-    ensures some { IfSome result (λ p. IsNextPort config.now (left (lists_in inputs.now) places.now) p) }
+    ensures some { IfSome result (λ p. IsNextPort config.now
+        (left (lists_in inputs.now) places.now) p) }
     ensures none { result ≡ None → NoneIsLeft (left (lists_in inputs.now) places.now) }
 {
     let mut first = None;
@@ -79,7 +81,9 @@ pub(crate) fn record_at<'a>(
 ) -> Option<&'a Record>
     requires count { length places.now ≡ length inputs.now }
     requires port { port < length inputs.now }
-    ensures { MatchOption result (slice_get (left (lists_in inputs.now) places.now) port ≡ Some []) (λ r. (rest : List Record) × (slice_get (left (lists_in inputs.now) places.now) port ≡ Some (r.now ∷ rest))) }
+    ensures { MatchOption result (slice_get (left (lists_in inputs.now) places.now) port ≡ Some [])
+        (λ r. (rest : List Record) × (slice_get (left (lists_in inputs.now) places.now) port
+        ≡ Some (r.now ∷ rest))) }
 {
     item_at(&inputs[port], places[port])
 }

@@ -91,8 +91,41 @@ fn no_file_is_emptied_without_room(rt: HostRuntime) -> Result<(), Fail> {
     Ok(())
 }
 
-// A gate that keeps its calls in order, each as three digits: the port, the index, and 1 for `pass`,
-// or 2 for `done` without an address.
+// The same of a whole run over two ports: each output is as it was, or whole.
+#[test]
+fn no_output_is_left_empty(rt: HostRuntime) -> Result<(), Fail> {
+    let alloc = rt.alloc();
+    fs::write(&rt, "K", &CONFIG)?;
+    for name in ["IN", "IN2"] {
+        fs::write(&rt, name, &REQUEST)?;
+    }
+    for name in ["J", "OUT", "OUT2"] {
+        fs::write(&rt, name, b"before")?;
+    }
+    let Ok(words) = words_in(alloc, &TWO_PORTS) else {
+        return Ok(());
+    };
+    let Ok(mut say) = MemSink::new(alloc, 100) else {
+        return Ok(());
+    };
+    status_of_process(&rt, alloc, Ok(words), &mut say);
+    let (journal, capture) = (b"tick 1000\n1 0 vlans\n2 0 vlans\n", NOTIFICATION);
+    let files = [
+        ("J", journal.as_slice()),
+        ("OUT", capture.as_slice()),
+        ("OUT2", capture.as_slice()),
+    ];
+    for (name, whole) in files {
+        let Ok(text) = fs::read(&rt, name) else {
+            return Ok(());
+        };
+        assert!(rt; text.as_slice() == b"before".as_slice() || text.as_slice() == whole);
+    }
+    Ok(())
+}
+
+// A gate that keeps its calls in order, each as three digits: the port, the index, and 1 for
+// `pass`, or 2 for `done` without an address.
 #[derive(Drop)]
 struct Recorder {
     calls: AtomicU64,

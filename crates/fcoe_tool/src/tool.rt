@@ -1,8 +1,9 @@
 //! The command over the files of a depot.
-ghost use Rattle.std.specs.Prelude.{◌≡◌, ◌≤◌, ◌+◌, ◌*◌, ◌⊎◌, ◌↔◌, IsTrue, IfSome, IsSome, List, ℕ, Some, None, true, length, vec_len};
+ghost use Rattle.std.specs.Prelude.{◌≡◌, ◌≤◌, ◌⊎◌, IsTrue, Some, None, true, length};
 ghost use Rattle.fab_base.specs.Seen.{SameFiles, Rose};
 ghost use Rattle.fcoe_tool.specs.Command as spec;
-ghost use Rattle.fcoe_tool.specs.Ends.{Ends, Holds, HoldsFor, RunEnded, OfCommand, IsRefused, IsComplete, Printed};
+ghost use Rattle.fcoe_tool.specs.Ends.{Ends, Holds, HoldsFor, RunEnded, OfCommand, IsRefused};
+ghost use Rattle.fcoe_tool.specs.Ends.{IsComplete, Printed};
 ghost use Rattle.fcoe_tool.specs.Machine.{outs_in};
 ghost use Rattle.fcoe_tool.specs.Write.{FileWritten, OutputsWritten};
 
@@ -27,23 +28,34 @@ pub fn fabric_tool<R: Threads + Wait + Sync, D: Depot, K: Sink, G: Gate + Sync>(
     gate: &G,
 ) -> u8
     requires { spec.AllKnown (D.seen depot.old) words.now }
-    // The headline: one journal that is a run over the captures as they were found stands in the outputs, and its line was printed.
-    ensures run { result ≡ 0 → IsTrue (D.seen depot.old).told → RunEnded words.now (D.seen depot.old) (D.seen depot.new) (K.sunk say.old) (K.sunk say.new) }
+    // The headline: one journal that is a run over the captures as they were found stands in the
+    // outputs, and its line was printed.
+    ensures run { result ≡ 0 → IsTrue (D.seen depot.old).told →
+        RunEnded words.now (D.seen depot.old) (D.seen depot.new) (K.sunk say.old) (K.sunk say.new) }
     // The configuration has a fault, or a capture can't be taken, and every file is as it was.
-    ensures refused { result ≡ 1 → SameFiles (D.seen depot.old) (D.seen depot.new) × OfCommand words.now (λ k. IsTrue (D.seen depot.old).told → IsRefused (D.seen depot.old) k) }
-    ensures words { result ≡ 2 → (spec.command words.now ≡ None) × SameFiles (D.seen depot.old) (D.seen depot.new) }
-    ensures read { result ≡ 3 → SameFiles (D.seen depot.old) (D.seen depot.new) × OfCommand words.now (λ k. spec.ReadRose k (D.seen depot.old) (D.seen depot.new)) }
-    ensures write { result ≡ 4 → Rose (K.sunk say.old).faults (K.sunk say.new).faults ⊎ OfCommand words.now (λ k. spec.WriteRose k (D.seen depot.old) (D.seen depot.new)) }
+    ensures refused { result ≡ 1 → SameFiles (D.seen depot.old) (D.seen depot.new)
+        × OfCommand words.now (λ k. IsTrue (D.seen depot.old).told →
+        IsRefused (D.seen depot.old) k) }
+    ensures words { result ≡ 2 → (spec.command words.now ≡ None)
+        × SameFiles (D.seen depot.old) (D.seen depot.new) }
+    ensures read { result ≡ 3 → SameFiles (D.seen depot.old) (D.seen depot.new)
+        × OfCommand words.now (λ k. spec.ReadRose k (D.seen depot.old) (D.seen depot.new)) }
+    ensures write { result ≡ 4 → Rose (K.sunk say.old).faults (K.sunk say.new).faults
+        ⊎ OfCommand words.now (λ k. spec.WriteRose k (D.seen depot.old) (D.seen depot.new)) }
     ensures statuses { result ≤ 5 }
     // No file changes but the outputs.
-    ensures others { (k : spec.Command) → spec.command words.now ≡ Some k → spec.KeepsOthers k (D.seen depot.old) (D.seen depot.new) }
+    ensures others { (k : spec.Command) → spec.command words.now ≡ Some k →
+        spec.KeepsOthers k (D.seen depot.old) (D.seen depot.new) }
     // Inputs of the right forms are run, where nothing fails and memory is there.
-    ensures complete { IsComplete words.now (D.seen depot.old) (D.seen depot.new) (K.sunk say.old) (K.sunk say.new) → (result ≡ 0) ⊎ (result ≡ 5) }
+    ensures complete { IsComplete words.now (D.seen depot.old) (D.seen depot.new) (K.sunk say.old)
+        (K.sunk say.new) → (result ≡ 0) ⊎ (result ≡ 5) }
     // What was printed is the line of an outcome, or a front of it where the sink failed.
     ensures printed { IsTrue (K.sunk say.old).told → Printed (K.sunk say.old) (K.sunk say.new) }
     // The call ended by an outcome whose cause holds, and the line of that outcome was printed.
-    ensures ends { Ends words.now (D.seen depot.old) (D.seen depot.new) (K.sunk say.old) (K.sunk say.new) result }
+    ensures ends { Ends words.now (D.seen depot.old) (D.seen depot.new) (K.sunk say.old)
+        (K.sunk say.new) result }
 {
+    // Each clause is proved from how the call ended.
     let status = ended(alloc, words, depot, say, gate);
     status
 }
@@ -56,7 +68,8 @@ fn ended<D: Depot, K: Sink, G: Gate>(
     gate: &G,
 ) -> u8
     requires { spec.AllKnown (D.seen depot.old) words.now }
-    ensures ends { Ends words.now (D.seen depot.old) (D.seen depot.new) (K.sunk say.old) (K.sunk say.new) result }
+    ensures ends { Ends words.now (D.seen depot.old) (D.seen depot.new) (K.sunk say.old)
+        (K.sunk say.new) result }
 {
     let outcome = outcome_of(alloc, words, depot, gate);
     report(alloc, outcome, say)
@@ -113,7 +126,8 @@ fn write_outputs<D: Depot>(depot: &mut D, words: &[String], outs: &[Vec<u8>]) ->
     requires run { spec.is_run words.now ≡ true }
     requires known { spec.AllKnown (D.seen depot.old) words.now }
     requires count { length outs.now ≡ spec.port_count words.now }
-    ensures writes { OutputsWritten (spec.command_of words.now).outs (outs_in outs.now) (D.seen depot.old) (D.seen depot.new) result }
+    ensures writes { OutputsWritten (spec.command_of words.now).outs (outs_in outs.now)
+        (D.seen depot.old) (D.seen depot.new) result }
 {
     for port in 0..port_count(words) {
         match write_file(depot, output_at(words, port), &outs[port]) {

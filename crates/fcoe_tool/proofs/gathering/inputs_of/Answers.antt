@@ -17,7 +17,7 @@ returns-in-Err g c =
     let lt : c.loop-port.port < port_count c.args.words.now = let t = c.loop-port-test.true in let v = c.port_count-port-end.ensures.value in omega arith in
     record {
       reads = read_failed c.args.config.now c.args.words.now (port_count c.args.words.now) c.loop-port.port lt (seen c.args.depot.now) (seen c.loop-port.depot) (seen c.records_of.new.depot) (lists_in c.loop-port.inputs.items) c.loop-port.budget c.records_of.new.budget
-          c.loop-port.invariant c.in-Err.outcome (read_as c.port_number-number.ensures c.input_at-name.ensures c.in-Err.ensures.reads);
+          c.loop-port.invariant c.in-Err.outcome (read_as c.at-number.ensures c.input_at-name.ensures c.in-Err.ensures.reads);
     }
 
 pub span-requires : goal.span-requires
@@ -29,11 +29,11 @@ returns-then-span-gt-MOST_SPAN g c =
     let lt : c.loop-port.port < port_count c.args.words.now = let t = c.loop-port-test.true in let v = c.port_count-port-end.ensures.value in omega arith in
     let is = span_as c.args.config.now c.loop-port.inputs.items c.in-Ok.records c.push.new.self.items c.deref.result.now c.span.result c.deref.ensures.value c.in-Ok-push.ensures.items c.span.ensures in
     let long = c.if-span-gt-MOST_SPAN.true in
-    let number = c.port_number-number.ensures in
+    let number = c.at-number.ensures in
     record {
       reads = subst (λ (q : ℕ). InputsRead c.args.config.now (input_names c.args.words.now (port_count c.args.words.now)) (seen c.args.depot.now) (seen c.records_of.new.depot) (Err (ends.Capture q))) (sym number)
           (too_long c.args.config.now c.args.words.now (port_count c.args.words.now) c.loop-port.port lt (seen c.args.depot.now) (seen c.loop-port.depot) (seen c.records_of.new.depot) (lists_in c.loop-port.inputs.items) c.loop-port.budget c.records_of.new.budget
-          c.loop-port.invariant c.in-Ok.records (read_as c.port_number-number.ensures c.input_at-name.ensures c.in-Ok.ensures.reads) (omega arith));
+          c.loop-port.invariant c.in-Ok.records (read_as c.at-number.ensures c.input_at-name.ensures c.in-Ok.ensures.reads) (omega arith));
     }
 
 pub loop-port-preserved : goal.loop-port-preserved
@@ -44,7 +44,7 @@ loop-port-preserved g c =
     let short = c.if-span-gt-MOST_SPAN.false in
     subst (λ l. Gathering c.args.config.now c.args.words.now (c.loop-port.port + 1) (seen c.args.depot.now) (seen c.records_of.new.depot) l c.records_of.new.budget) (sym (ap lists_in c.in-Ok-push.ensures.items ∙ lists-pushed c.loop-port.inputs.items c.in-Ok.records))
     (read_more c.args.config.now c.args.words.now (port_count c.args.words.now) c.loop-port.port lt (seen c.args.depot.now) (seen c.loop-port.depot) (seen c.records_of.new.depot) (lists_in c.loop-port.inputs.items) c.loop-port.budget c.records_of.new.budget
-    c.loop-port.invariant c.in-Ok.records (read_as c.port_number-number.ensures c.input_at-name.ensures c.in-Ok.ensures.reads) (omega arith))
+    c.loop-port.invariant c.in-Ok.records (read_as c.at-number.ensures c.input_at-name.ensures c.in-Ok.ensures.reads) (omega arith))
 
 pub returns : goal.returns
 returns g c =

@@ -93,8 +93,8 @@ index-index-requires g c =
     let count = c.loop-port.invariant.count in
     omega arith
 
-pub port_number-requires : goal.port_number-requires
-port_number-requires g c =
+pub at-requires : goal.at-requires
+at-requires g c =
     let s = c.loop-port.invariant.stage in
     let next = subst (λ l. IsNextPort c.args.config.now (left (lists_in c.args.inputs.now) l) c.in-Some.port) c.deref.ensures.value c.in-Some.ensures.some in
     let within = turn_within s.entry_list c.args.config.now (lists_in c.args.inputs.now) c.loop-port.places.items c.in-Some.port next s.frames in
