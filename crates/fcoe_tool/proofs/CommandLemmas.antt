@@ -16,3 +16,6 @@ names_end [] zero le = refl
 names_end [] (suc i) le = refl
 names_end (w ∷ words) zero le = absurd (omega arith)
 names_end (w ∷ words) (suc i) le = names_end words i (omega arith)
+
+-- the names from a place on: one and the rest, or none
+pub ruleset names_from_there = (names_step, names_end)

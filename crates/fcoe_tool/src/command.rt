@@ -32,7 +32,7 @@ fn has_form(words: &[String]) -> bool
 }
 
 // Whether no name is empty and none is used twice.
-#[tactic(auto, using(crate::proofs::CommandLemmas::names_step, crate::proofs::CommandLemmas::names_end))]
+#[tactic(auto, using(crate::proofs::CommandLemmas::names_from_there))]
 fn are_names(words: &[String]) -> bool
     ensures { result ≡ spec.are_names (spec.names_from 1 words.now) }
 {
@@ -45,7 +45,7 @@ fn are_names(words: &[String]) -> bool
 }
 
 // Whether the name at a place is used once more behind it.
-#[tactic(auto, using(crate::proofs::CommandLemmas::names_step, crate::proofs::CommandLemmas::names_end))]
+#[tactic(auto, using(crate::proofs::CommandLemmas::names_from_there))]
 fn is_used_after(words: &[String], place: usize) -> bool
     requires { place < length words.now }
     ensures { result ≡ list_any (λ m. bytes_eq (name_at words.now place) m)
