@@ -1,14 +1,14 @@
 -- Further entries, and records of later windows.
-use Rattle.std.proofs.Common.{◌≡◌, ◌≢◌, ℕ, zero, suc, ◌+◌, ◌-◌, ◌<◌, ◌≤◌, ◌⊎◌, inl, inr, Bool, true, false, eqb, leb, cond, ◌||◌, ◌&&◌, List, [], ◌∷◌, ◌++◌, length, length-append, drop, slice_get, Option, Some, None, IfSome, IsTrue, refl, sym, ap, ◌∙◌, subst, arith, append_assoc, map, eq-eqb}
+use Rattle.std.proofs.Common.{◌≡◌, ℕ, zero, suc, ◌+◌, ◌-◌, ◌<◌, ◌≤◌, ◌⊎◌, inl, inr, Bool, true, false, eqb, leb, cond, ◌||◌, ◌&&◌, List, [], ◌∷◌, ◌++◌, length, length-append, drop, slice_get, Some, IfSome, IsTrue, refl, sym, ap, ◌∙◌, subst, arith, append_assoc, map, eq-eqb}
 use Rattle.std.specs.Prelude.{filter, flat_map, option_and_then, nat_lt, if◌then◌else◌}
-use Rattle.std.specs.List.{list_any, list_all, All}
+use Rattle.std.specs.List.{list_any, list_all}
 use Rattle.std.proofs.lemmas.Bool.{eqb-true, le-leb, le-ltb}
 use Rattle.std.proofs.lemmas.List.{append-nil, drop-append-le}
 use Rattle.fab_base.specs.declared.values.Caught.{Caught}
 use Rattle.fab_config.specs.Settings.{Settings}
 use Rattle.pcap_file.specs.declared.Record.{Record}
 use Rattle.fab_policy.specs.Journal.{Journal, clock, now, followed}
-use Rattle.fab_policy.specs.Legal.{window_start, of_port, numbered_from, left_of, windows_left, IsLeastOf, IsNextTick, InTime, Timed, HasPorts, HoldsFrames, record_of}
+use Rattle.fab_policy.specs.Legal.{window_start, of_port, numbered_from, left_of, windows_left, InTime, Timed, HasPorts, HoldsFrames}
 use Rattle.fab_policy.specs.Outputs.{Sent, outputs}
 use Rattle.fab_policy.specs.Standing.{sent_after}
 use Rattle.fab_policy.specs.Text.{text, line, egress, sent_bytes}

@@ -3,8 +3,9 @@ use Rattle.std.specs.Prelude.{◌≡◌, ℕ, zero, suc, ◌+◌, ◌-◌, Bool,
 use Rattle.fab_base.specs.declared.values.Caught.{Caught}
 use Rattle.fab_config.specs.Settings.{Settings}
 use Rattle.fab_policy.specs.Legal.{window_start}
-use Rattle.pcap_file.specs.Capture.{HEAD, RECORD_HEAD, Next, Found, End, CutHead, TooLong, CutBytes, next, records_from}
-use Rattle.pcap_file.specs.Reading.{Why, failure}
+use Rattle.pcap_file.specs.Capture.{HEAD, RECORD_HEAD, Next, Found, next, records_from}
+use Rattle.pcap_file.specs.Reading.{Why, failure, error_of, Step, Gives, Ends, Stops, step_of}
+use Rattle.pcap_file.specs.declared.Budget.{Budget}
 use Rattle.pcap_file.specs.declared.CaptureHead.{CaptureHead}
 use Rattle.pcap_file.specs.declared.Record.{Record}
 use Rattle.fab_policy.specs.declared.looks.TheConstants.{MOST_SPAN}
@@ -168,3 +169,23 @@ LooksFound =
 -- at the end of a capture there is one look, and at a fault
 abbrev pub LooksEnd : Type 0
 LooksEnd = (c : Settings) (port : ℕ) (s : Spot) → is_found (found_at s) ≡ false → looks c port s ≡ look_at port s ∷ []
+
+-- What a reader's step at a look says of the stop among it and later ones: a record is passed, and so is the end; an error
+-- tells the stop.
+abbrev pub FindsStop : ℕ → Budget → Look → List Look → Step → Type 0
+FindsStop first budget x more (Gives moment caught rest) =
+    stop_in first budget.bytes budget.frames (x ∷ more) ≡ stop_in first (budget.bytes - record_size caught) (budget.frames - 1) more
+FindsStop first budget x more Ends = stop_in first budget.bytes budget.frames (x ∷ more) ≡ stop_in first budget.bytes budget.frames more
+FindsStop first budget x more (Stops e) =
+    (why : Why) × (e ≡ error_of why x.at) × (stop_in first budget.bytes budget.frames (x ∷ more) ≡ Some (stop_at (Fails why) x))
+
+-- A reader's steps find the stop, at looks that aren't too late.
+abbrev pub StepsFindStop : Type 0
+StepsFindStop =
+    (first : ℕ) (budget : Budget) (x : Look) (more : List Look) (step : Step) → is_too_late first x.window ≡ false → step_of budget x.at x.found ≡ step
+    → FindsStop first budget x more step
+
+-- The first look that is too late is a stop, if none was before.
+abbrev pub LateIsStop : Type 0
+LateIsStop =
+    (first bytes frames : ℕ) (x : Look) (more : List Look) → is_too_late first x.window ≡ true → stop_in first bytes frames (x ∷ more) ≡ Some (stop_at Span x)

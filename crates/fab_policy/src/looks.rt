@@ -1,5 +1,5 @@
 //! How far captures may reach in time, and the laws of the looks at them.
-ghost use Rattle.fab_policy.specs.Looks.{LooksFound, LooksEnd};
+ghost use Rattle.fab_policy.specs.Looks.{LooksFound, LooksEnd, StepsFindStop, LateIsStop};
 
 /// The most milliseconds from the first window of a run to its last, six hours.
 pub const MOST_SPAN: u64 = 21_600_000;
@@ -8,4 +8,11 @@ pub const MOST_SPAN: u64 = 21_600_000;
 pub fn looks_go_on()
     ensures found { LooksFound }
     ensures end { LooksEnd }
+{}
+
+/// A reader's steps at looks in their order find where the reading of captures stops: an error tells
+/// the stop, and so does a look that is too late.
+pub fn steps_find_the_stop()
+    ensures steps { StepsFindStop }
+    ensures late { LateIsStop }
 {}

@@ -14,6 +14,7 @@ use Rattle.pcap_file.specs.Records.{size_of}
 use Rattle.pcap_file.proofs.lemmas.Chains.{found_stands, end_is, go_on, one_capture}
 use Rattle.fab_policy.specs.Logins.{counting}
 use Rattle.fcoe_tool.specs.Command.{input_at}
+use Rattle.fab_policy.specs.declared.looks.TheConstants.{MOST_SPAN}
 use Rattle.fcoe_tool.specs.Gathered.{HasCapture, AreCaptures, HaveCaptures, IsFirstBad, bytes_in, frames_in, windows, span_of}
 use Rattle.fcoe_tool.specs.Read.{Moves, AreInputs, AreRecords, CaptureRead, InputsRead, lists_in}
 use Rattle.fcoe_tool.specs.declared.outcome.Outcome.{Outcome}
@@ -289,7 +290,7 @@ module _ (c : Settings) (words : List (String Global)) (n p : ℕ) (lt : p < n) 
     more_bytes : IsTrue a.told → AreCaptures a (input_names words p ++ name ∷ []) (ins ++ v.items ∷ [])
     more_bytes told = are-push a (input_names words p) name ins v.items (g.have told).each (capture_at_a v.items (read.ok (at_b told)))
 
-    pub read_more : span_of (windows c (ins ++ v.items ∷ [])) ≤ 21600000 → Gathering c words (p + 1) a d (ins ++ v.items ∷ []) left
+    pub read_more : span_of (windows c (ins ++ v.items ∷ [])) ≤ MOST_SPAN → Gathering c words (p + 1) a d (ins ++ v.items ∷ []) left
     read_more short =
         let taken = read.taken in
         let sized = sizes-push ins v.items in
@@ -313,7 +314,7 @@ module _ (c : Settings) (words : List (String Global)) (n p : ℕ) (lt : p < n) 
           });
         }
 
-    pub too_long : 21600000 < span_of (windows c (ins ++ v.items ∷ [])) → InputsRead c (input_names words n) a d (Err (ends.Capture (p + 1)))
+    pub too_long : MOST_SPAN < span_of (windows c (ins ++ v.items ∷ [])) → InputsRead c (input_names words n) a d (Err (ends.Capture (p + 1)))
     too_long long = record {
       moves = moved (Ok v) read;
       files = same_files (Ok v) read;

@@ -1,7 +1,7 @@
 -- The step of a reader, by what its buffers hold.
 use Rattle.std.specs.Prelude.{unwrap_or}
-use Rattle.std.proofs.Common.{◌≡◌, ◌≢◌, inl, inr, subst, ◌^◌, IsTrue, Some, None, Ok, Err, ℕ, ◌+◌, ◌<◌, ◌≤◌, max, true, false, leb, ltb, eqb, nat_lt, not, List, [], ◌++◌, length, take, drop, refl, sym, ap, ◌∙◌, arith}
-use Rattle.std.proofs.lemmas.Bool.{ne_eqb, le-ltb, lt-ltb, le-leb, lt-leb}
+use Rattle.std.proofs.Common.{◌≡◌, ◌≢◌, inl, inr, subst, ◌^◌, IsTrue, Some, None, Ok, Err, ℕ, ◌+◌, ◌<◌, ◌≤◌, max, leb, ltb, nat_lt, not, List, [], ◌++◌, length, take, drop, sym, ap, ◌∙◌, arith}
+use Rattle.std.proofs.lemmas.Bool.{le-ltb, lt-ltb, le-leb, lt-leb}
 use Rattle.std.proofs.lemmas.List.{length-take-le, take-append-drop, append-nil, take_all}
 use Rattle.fab_base.specs.Seen.{Seen, Reads}
 use Rattle.pcap_file.proofs.lemmas.Numbers.{none_is, le_or_lt}
@@ -12,8 +12,8 @@ use Rattle.pcap_file.specs.declared.Record.{Record}
 use Rattle.pcap_file.specs.declared.Budget.{Budget}
 use Rattle.pcap_file.specs.declared.CaptureHead.{CaptureHead}
 use Rattle.pcap_file.specs.declared.CapError.TheVariants as errors
-use Rattle.pcap_file.specs.Capture.{at_place, milliseconds, stored, Next, Found, next}
-use Rattle.pcap_file.specs.Reading.{Pulls, RecordRead, Why, Cut, NoBytes, NoFrames, limit_of, error_of, Step, Gives, Stops, step_by, step_of}
+use Rattle.pcap_file.specs.Capture.{at_place, milliseconds, stored, Found, next}
+use Rattle.pcap_file.specs.Reading.{Pulls, RecordRead, Why, Cut, NoBytes, NoFrames, limit_of, error_of, Gives, Stops, step_by, step_of}
 use Rattle.pcap_file.proofs.NextLemmas.{next_end, next_short, front_long, front_cut, front_whole}
 
 pub leb_not : (a b : ℕ) → leb a b ≡ not (ltb b a)

@@ -1,5 +1,5 @@
 -- Records one after another.
-use Rattle.std.proofs.Common.{◌≡◌, ◌≢◌, ℕ, zero, suc, ◌+◌, ◌-◌, ◌≤◌, inl, inr, max, Bool, true, false, eqb, List, [], ◌∷◌, ◌++◌, length, length-drop, drop, Ok, Err, refl, sym, ap, ◌∙◌, subst, arith}
+use Rattle.std.proofs.Common.{◌≡◌, ◌≢◌, ℕ, zero, suc, ◌+◌, ◌-◌, ◌≤◌, inl, inr, Bool, true, false, eqb, List, [], ◌∷◌, ◌++◌, length, length-drop, drop, Ok, Err, refl, sym, ap, ◌∙◌, subst, arith}
 use Rattle.std.proofs.lemmas.List.{append-nil, drop-drop}
 use Rattle.std.proofs.lemmas.Bool.{ne_eqb}
 use Rattle.fab_base.specs.Layout.{field}
@@ -8,7 +8,7 @@ use Rattle.fab_base.proofs.LayoutLemmas.{length-field}
 use Rattle.pcap_file.specs.declared.CaptureHead.{CaptureHead}
 use Rattle.pcap_file.specs.declared.CapFault.{CapFault}
 use Rattle.pcap_file.specs.declared.Record.{Record}
-use Rattle.pcap_file.specs.Capture.{HEAD, milliseconds, stored, caught_in, Next, Found, End, CutHead, TooLong, CutBytes, next, head_decoded, records, records_from, is_whole_from, IsCapture}
+use Rattle.pcap_file.specs.Capture.{HEAD, stored, Next, Found, End, CutHead, TooLong, CutBytes, next, head_decoded, records, records_from, is_whole_from, IsCapture}
 use Rattle.pcap_file.specs.Records.{Chain, last_moment, size_of, Ascends, IsFault}
 use Rattle.pcap_file.proofs.lemmas.Numbers.{le_or_lt, none_is}
 use Rattle.pcap_file.proofs.NextLemmas.{next_end, next_short, next_long, next_cut, next_whole}

@@ -1,12 +1,12 @@
 -- A loop that takes the records of a capture from a reader.
-use Rattle.std.proofs.Common.{◌≡◌, ◌≢◌, ℕ, zero, suc, ◌+◌, ◌-◌, ◌^◌, ◌<◌, ◌≤◌, ◌⊎◌, inl, inr, min, List, [], ◌∷◌, ◌++◌, length, length-append, length-drop, drop, Some, None, Ok, Err, IsTrue, refl, sym, ap, ◌∙◌, subst, arith}
+use Rattle.std.proofs.Common.{◌≡◌, ◌≢◌, ℕ, zero, suc, ◌+◌, ◌-◌, ◌^◌, ◌<◌, ◌≤◌, inl, inr, min, List, [], ◌∷◌, ◌++◌, length, length-append, length-drop, drop, Some, None, Ok, Err, IsTrue, refl, sym, ap, ◌∙◌, subst, arith}
 use Rattle.fab_base.specs.Seen.{Seen, Keeps}
 use Rattle.fab_base.specs.declared.values.Caught.{Caught}
 use Rattle.pcap_file.specs.declared.Budget.{Budget}
 use Rattle.pcap_file.specs.declared.CaptureHead.{CaptureHead}
 use Rattle.pcap_file.specs.declared.CapError.TheVariants as errors
 use Rattle.pcap_file.specs.declared.Record.{Record}
-use Rattle.pcap_file.specs.Capture.{HEAD, Next, Found, End, CutHead, TooLong, CutBytes, next, records, records_from, IsCapture}
+use Rattle.pcap_file.specs.Capture.{HEAD, Next, Found, End, next, records, records_from, IsCapture}
 use Rattle.pcap_file.specs.Reading.{Reading, to_come, OpensReader, NextReads}
 use Rattle.pcap_file.specs.Records.{Chain, last_moment, size_of, IsFault, Taken}
 use Rattle.pcap_file.proofs.lemmas.Steps.{gives_found, ends_end, cut_fault, long_fault, bytes_passed, frames_passed}
