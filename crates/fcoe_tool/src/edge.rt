@@ -38,8 +38,8 @@ impl<'a, R: Files> FileDepot<'a, R> {
         })
     }
 
-    // Opens a file; the number at its slot is its place among the files. There is room for both
-    // before the file is touched, since an output is emptied where it is opened.
+    // Opens a file; the number at its slot is its place among the files. There is a number and room
+    // for both before the file is touched, since an output is emptied where it is opened.
     fn try_open(&mut self, name: &str, place: usize, input: bool) -> Option<u32>
         requires { place_of self.old.desk name.now ≡ Some place }
         ensures stays { Stays place self.old.desk self.new.desk }
@@ -50,6 +50,9 @@ impl<'a, R: Files> FileDepot<'a, R> {
         ensures file { IfSome result (λ s. AddsFile s self.old.files.items self.new.files.items
             self.new.desk) }
     {
+        if self.desk.slots.len() > u32::MAX as usize {
+            return None;
+        }
         if self.files.reserve(1).is_err() || self.desk.reserve_slot(self.alloc).is_err() {
             return None;
         }
