@@ -10,7 +10,7 @@ use Rattle.std.proofs.lemmas.Bool.{cases_lt}
 use Rattle.std.proofs.lemmas.Bool.Decides.{nat_tests}
 use Rattle.std.specs.List.{list_any}
 use Rattle.fab_base.specs.Fabric.{Past, past_at}
-use Rattle.fc_addresses.specs.Pool.{is_open, is_free, has_free, unused, taken, released, FollowFrom, IsSound, AreEndedBy}
+use Rattle.fc_addresses.specs.Pool.{is_open, is_free, has_free, unused, taken, released, held, ended_at, HoldsAddress, FollowFrom, IsSound, AreEndedBy}
 use Rattle.fc_addresses.specs.Holders.{past_of, pasts_from, may_follow}
 use Rattle.fc_addresses.specs.declared.pool.Holder.{Holder}
 
@@ -90,29 +90,22 @@ address_found : (a : ℕ) (pool : List Past) (q : Past → Bool) → option_map_
 address_found a [] q holds F = cc
 address_found a (p ∷ pool) q holds F = grind (arith, nat_tests, λ (later : option_map_or q (past_at a pool) false ≡ true). address_found a pool q later F)
 
--- a login of the name has the address of this past
-abbrev had : ℕ → Past → Past
-had name p = record { address = p.address; name = Some name; ended = None }
-
-pub found-taken : (a name b : ℕ) (pool : List Past) (q : Past → Bool) → option_map_or q (past_at a pool) false ≡ true →
-    past_at b (taken pool a name) ≡ (if a == b then Some (record { address = a; name = Some name; ended = None }) else past_at b pool)
-found-taken a name b pool q holds = found-changed (had name) (λ p. refl) a b pool ∙ go (a == b) refl
+pub found-taken : (a name : ℕ) (pool : List Past) (q : Past → Bool) → option_map_or q (past_at a pool) false ≡ true → HoldsAddress a name pool (taken pool a name)
+found-taken a name pool q holds b = found-changed (λ p. held p.address name) (λ p. refl) a b pool ∙ go (a == b) refl
   where
-    go : (t : Bool) → (a == b) ≡ t →
-        (if t then option_map (had name) (past_at b pool) else past_at b pool) ≡ (if t then Some (record { address = a; name = Some name; ended = None }) else past_at b pool)
+    go : (t : Bool) → (a == b) ≡ t → (if t then option_map (λ p. held p.address name) (past_at b pool) else past_at b pool) ≡ (if t then Some (held a name) else past_at b pool)
     go true this =
         let same : a ≡ b = grind (arith, nat_tests) in
-        subst (λ c. option_map (had name) (past_at c pool) ≡ Some (record { address = a; name = Some name; ended = None })) same
-        (address_found a pool q holds (λ c. record { address = c; name = Some name; ended = None }))
+        subst (λ c. option_map (λ p. held p.address name) (past_at c pool) ≡ Some (held a name)) same (address_found a pool q holds (λ c. held c name))
     go false other = refl
 
 -- no login ended later than the one that ends now
 pub ended-released : (a now : ℕ) (pool : List Past) → AreEndedBy now pool → AreEndedBy now (released pool a now)
 ended-released a now pool before =
-    All-map (λ p. IfSome p.ended (λ end. end ≤ now)) (λ p. if p.address == a then record { address = p.address; name = p.name; ended = Some now } else p) pool
+    All-map (λ p. IfSome p.ended (λ end. end ≤ now)) (λ p. if p.address == a then ended_at now p else p) pool
     (λ i d lt. one (get_or pool i d) ((get_or pool i d).address == a) (before i d lt))
   where
-    one : (p : Past) (b : Bool) → IfSome p.ended (λ end. end ≤ now) → IfSome (if b then record { address = p.address; name = p.name; ended = Some now } else p).ended (λ end. end ≤ now)
+    one : (p : Past) (b : Bool) → IfSome p.ended (λ end. end ≤ now) → IfSome (if b then ended_at now p else p).ended (λ end. end ≤ now)
     one p true h = omega arith
     one p false h = h
 

@@ -1,5 +1,5 @@
 -- What a contract sees of a pool: its addresses in ascending order, each with the name that had it last and when that login ended.
-use Rattle.std.specs.Prelude.{ℕ, zero, suc, ◌+◌, ◌≤◌, Bool, false, ◌==◌, ◌&&◌, if◌then◌else◌, List, [], ◌∷◌, map, find, Some, None, is_some, is_none, IfSome, ◌≡◌, ◌<◌}
+use Rattle.std.specs.Prelude.{ℕ, zero, suc, ◌+◌, ◌≤◌, Bool, false, ◌==◌, ◌&&◌, if◌then◌else◌, List, [], ◌∷◌, map, find, Some, None, is_some, is_none, IfSome, ◌≡◌, ◌<◌, option_map}
 use Rattle.std.specs.Option.{option_map_or}
 use Rattle.std.specs.List.{All}
 use Rattle.fab_base.specs.Fabric.{Past, past_at, may_have}
@@ -45,10 +45,30 @@ abbrev pub unused : ℕ → ℕ → List Past
 unused first zero = []
 unused first (suc count) = record { address = first; name = None; ended = None } ∷ unused (first + 1) count
 
+-- the past of an address that a login of the name holds
+abbrev pub held : ℕ → ℕ → Past
+held a name = record { address = a; name = Some name; ended = None }
+
+-- the past whose login ended now
+abbrev pub ended_at : ℕ → Past → Past
+ended_at now p = record { address = p.address; name = p.name; ended = Some now }
+
 -- a login of the name holds the address; the other addresses stay
 abbrev pub taken : List Past → ℕ → ℕ → List Past
-taken pool a name = map (λ p. if p.address == a then record { address = p.address; name = Some name; ended = None } else p) pool
+taken pool a name = map (λ p. if p.address == a then held p.address name else p) pool
 
 -- the login of the address ended now; the other addresses stay
 abbrev pub released : List Past → ℕ → ℕ → List Past
-released pool a now = map (λ p. if p.address == a then record { address = p.address; name = p.name; ended = Some now } else p) pool
+released pool a now = map (λ p. if p.address == a then ended_at now p else p) pool
+
+-- a login of the name holds the address, and every other has its past
+abbrev pub HoldsAddress : ℕ → ℕ → List Past → List Past → Type 0
+HoldsAddress a name old new = (b : ℕ) → past_at b new ≡ (if a == b then Some (held a name) else past_at b old)
+
+-- the login of the address ended now, and every other address has its past
+abbrev pub EndsLogin : ℕ → ℕ → List Past → List Past → Type 0
+EndsLogin a now old new = (b : ℕ) → past_at b new ≡ (if a == b then option_map (ended_at now) (past_at b old) else past_at b old)
+
+-- the addresses of a pool
+abbrev pub addresses : List Past → List ℕ
+addresses pool = map (λ p. p.address) pool

@@ -1,7 +1,7 @@
 //! The addresses of the pool, each with the name that had it last and the end of that login.
-ghost use Rattle.std.specs.Prelude.{◌≡◌, ℕ, ◌+◌, ◌<◌, ◌≤◌, IsTrue, IfOk, IfSome, is_some, position, ◌==◌, if◌then◌else◌, map, option_map, Some, None};
-ghost use Rattle.fab_base.specs.Fabric.{past_at};
-ghost use Rattle.fc_addresses.specs.Pool.{unused, is_free, has_free, is_held, AreEndedBy, IsSound, taken, released};
+ghost use Rattle.std.specs.Prelude.{◌≡◌, ℕ, ◌+◌, ◌<◌, ◌≤◌, IsTrue, IfOk, IfSome, is_some, position};
+ghost use Rattle.fc_addresses.specs.Pool.{unused, is_free, has_free, is_held, AreEndedBy, IsSound};
+ghost use Rattle.fc_addresses.specs.Pool.{addresses, taken, released, HoldsAddress, EndsLogin};
 ghost use Rattle.fc_addresses.specs.Holders.{may_follow};
 
 use fab_base::{FcId, Moment, NoMemory, Wwn};
@@ -107,8 +107,8 @@ impl Pool {
     pub fn take(&mut self, address: FcId, name: Wwn, now: Moment)
         requires free { IsTrue (is_free self.old name now address) }
         ensures pool { self.new ≡ taken self.old address name }
-        ensures found { (b : ℕ) → past_at b self.new ≡ (if address == b then Some (record { address = address; name = Some name; ended = None }) else past_at b self.old) }
-        ensures places { map (λ p. p.address) self.new ≡ map (λ p. p.address) self.old }
+        ensures found { HoldsAddress address name self.old self.new }
+        ensures places { addresses self.new ≡ addresses self.old }
     {
         let place = (address.value() - self.first) as usize;
         self.holders[place] = Holder {
@@ -122,8 +122,8 @@ impl Pool {
         requires taken { IsTrue (is_held self.old address) }
         requires order { AreEndedBy now self.old }
         ensures pool { self.new ≡ released self.old address now }
-        ensures found { (b : ℕ) → past_at b self.new ≡ (if address == b then option_map (λ p. record { address = p.address; name = p.name; ended = Some now }) (past_at b self.old) else past_at b self.old) }
-        ensures places { map (λ p. p.address) self.new ≡ map (λ p. p.address) self.old }
+        ensures found { EndsLogin address now self.old self.new }
+        ensures places { addresses self.new ≡ addresses self.old }
         ensures order { AreEndedBy now self.new }
     {
         let place = (address.value() - self.first) as usize;

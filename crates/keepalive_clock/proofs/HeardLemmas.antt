@@ -1,11 +1,12 @@
 -- What a change of a clock does to its voices, none of which comes twice.
-use Rattle.std.proofs.Common.{◌||◌, ◌≡◌, ℕ, zero, suc, ◌+◌, ◌<◌, ◌≤◌, Bool, true, false, List, [], ◌∷◌, length, filter, find, position, cond, get_or, drop, slice_get, option_map, if◌then◌else◌, ◌⊎◌, inl, inr, Option, Some, None, is_some, nat_lt, refl, sym, ◌∙◌, ap, subst, arith}
+use Rattle.std.proofs.Common.{not, ◌||◌, ◌≡◌, ℕ, zero, suc, ◌+◌, ◌<◌, ◌≤◌, Bool, true, false, List, [], ◌∷◌, length, filter, find, position, cond, get_or, drop, slice_get, option_map, if◌then◌else◌, ◌⊎◌, inl, inr, Option, Some, None, is_some, refl, sym, ◌∙◌, ap, subst, arith}
 use mathlib.Core.Bool.{false≢true}
 use Rattle.std.specs.List.{list_any, position_or_len, insert, remove}
 use Rattle.std.proofs.lemmas.Bool.Decides.{nat_tests}
 use Rattle.std.proofs.lemmas.Option.{slice_get_past, slice_get-get_or}
 use Rattle.std.proofs.lemmas.List.Folds.{find_at}
 use Rattle.std.proofs.lemmas.List.Quantifiers.{position-Some}
+use Rattle.fab_base.proofs.KeyedLemmas as keyed
 use Rattle.keepalive_clock.specs.Voices.{same_voice}
 use Rattle.keepalive_clock.specs.Clock.{heard_of, last_of, without, VoicesDiffer}
 use Rattle.keepalive_clock.specs.declared.voice.Voice.{Voice}
@@ -20,20 +21,6 @@ position_or_len-here p x xs this = grind (arith, nat_tests)
 
 pub position_or_len-later : (p : LastHeard → Bool) (x : LastHeard) (xs : List LastHeard) → p x ≡ false → position_or_len p (x ∷ xs) ≡ suc (position_or_len p xs)
 position_or_len-later p x xs other = grind (arith, nat_tests)
-
-pub position_or_len-le : (p : LastHeard → Bool) (xs : List LastHeard) → position_or_len p xs ≤ length xs
-position_or_len-le p [] = omega arith
-position_or_len-le p (x ∷ xs) = grind (arith, nat_tests, position_or_len-le p xs)
-
-pub position_or_len-Some : (p : LastHeard → Bool) (xs : List LastHeard) (i : ℕ) → position p xs ≡ Some i → position_or_len p xs ≡ i
-position_or_len-Some p xs i found = go (nat_lt (position_or_len p xs) (length xs)) found
-  where
-    go : (b : Bool) → cond b (Some (position_or_len p xs)) None ≡ Some i → position_or_len p xs ≡ i
-    go true e = cc
-    go false e = cc
-
-pub position_or_len-None : (p : LastHeard → Bool) (xs : List LastHeard) → position p xs ≡ None → position_or_len p xs ≡ length xs
-position_or_len-None p xs none = grind (arith, nat_tests, position_or_len-le p xs)
 
 -- ---- one voice less
 
@@ -59,16 +46,11 @@ remove-without v (x ∷ xs) differ within = go (same_voice x.voice v) refl (λ f
 
 -- the voice isn't found any more, and every other is
 pub heard_of-without_this : (v : Voice) (xs : List LastHeard) → heard_of v (without v xs) ≡ None
-heard_of-without_this v [] = refl
-heard_of-without_this v (x ∷ xs) = grind (arith, nat_tests, heard_of-without_this v xs)
+heard_of-without_this v xs = keyed.find-gone (λ x. same_voice x.voice v) (λ x. not (same_voice x.voice v)) xs (λ x this. ap not this)
 
-pub heard_of-without_other : (v w : Voice) (xs : List LastHeard) → same_voice v w ≡ false → heard_of w (without v xs) ≡ heard_of w xs
-heard_of-without_other v w [] differ = refl
-heard_of-without_other v w (x ∷ xs) differ = go (same_voice x.voice v) refl (heard_of-without_other v w xs differ)
-  where
-    go : (b : Bool) → same_voice x.voice v ≡ b → heard_of w (without v xs) ≡ heard_of w xs → heard_of w (without v (x ∷ xs)) ≡ heard_of w (x ∷ xs)
-    go true this others = let not_w = subst (λ u. same_voice u w ≡ false) (sym (same_voice-true x.voice v this)) differ in grind (arith, nat_tests)
-    go false other others = grind (arith, nat_tests)
+heard_of-without_other : (v w : Voice) (xs : List LastHeard) → same_voice v w ≡ false → heard_of w (without v xs) ≡ heard_of w xs
+heard_of-without_other v w xs differ = keyed.find-kept (λ x. same_voice x.voice w) (λ x. not (same_voice x.voice v)) xs
+    (λ x this. ap not (subst (λ u. same_voice u v ≡ false) (sym (same_voice-true x.voice w this)) (same_voice-false v w differ)))
 
 find-filter_none : (p q : LastHeard → Bool) (xs : List LastHeard) → find q xs ≡ None → find q (filter p xs) ≡ None
 find-filter_none p q [] none = refl
@@ -198,15 +180,6 @@ count_without v (x ∷ xs) differ = go (same_voice x.voice v) refl (count_withou
         grind (arith, nat_tests, ap (λ (l : List LastHeard). length l) (without-absent v xs absent))
     go false other others = grind (arith, nat_tests)
 
--- one voice less than before, if it was there
-pub count_forgotten : (v : Voice) (xs : List LastHeard) → VoicesDiffer xs →
-    length xs ≡ (if is_some (last_of v xs) then length (without v xs) + 1 else length (without v xs))
-count_forgotten v xs differ = go (is_some (last_of v xs)) (count_without v xs differ)
-  where
-    go : (b : Bool) → length (without v xs) + 1 ≡ (if b then length xs else length xs + 1) → length xs ≡ (if b then length (without v xs) + 1 else length (without v xs))
-    go true e = sym e
-    go false e = omega arith
-
 -- after a voice is gone that was there, or was to find room, there is room
 pub room_without : (v : Voice) (xs : List LastHeard) (room : ℕ) → (is_some (last_of v xs) ≡ true) ⊎ (length xs < room) → length xs ≤ room → length (without v xs) < room
 room_without v xs room (inl there) bound = omega (arith, length-without_found v xs (sym (is_some-last (heard_of v xs)) ∙ there))
@@ -215,11 +188,11 @@ room_without v xs room (inr less) bound = omega (arith, length-without v xs)
 -- ---- a voice that is found
 
 pub heard_of-no_place : (v : Voice) (xs : List LastHeard) → position (λ x. same_voice x.voice v) xs ≡ None → heard_of v xs ≡ None
-heard_of-no_place v xs none = find_at (λ x. same_voice x.voice v) xs ∙ slice_get_past xs _ (omega (arith, position_or_len-None (λ x. same_voice x.voice v) xs none))
+heard_of-no_place v xs none = find_at (λ x. same_voice x.voice v) xs ∙ slice_get_past xs _ (omega (arith, keyed.position_or_len-None (λ x. same_voice x.voice v) xs none))
 
 module _ (v : Voice) (xs : List LastHeard) (differ : VoicesDiffer xs) (i : ℕ) (d : LastHeard) (found : position (λ x. same_voice x.voice v) xs ≡ Some i) where
   place_is : position_or_len (λ x. same_voice x.voice v) xs ≡ i
-  place_is = position_or_len-Some (λ x. same_voice x.voice v) xs i found
+  place_is = keyed.position_or_len-Some (λ x. same_voice x.voice v) xs i found
 
   within : i < length xs
   within = (position-Some (λ x. same_voice x.voice v) xs i d found).0

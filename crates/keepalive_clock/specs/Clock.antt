@@ -1,6 +1,6 @@
 -- What a contract sees of a clock: the two periods, how many voices it may hold, and each voice with its last moment. The
 -- order of the voices says nothing.
-use Rattle.std.specs.Prelude.{◌≡◌, ℕ, ◌<◌, ◌≤◌, Bool, true, false, not, List, [], ◌∷◌, length, filter, find, Option, None, Some, option_map, IsTrue}
+use Rattle.std.specs.Prelude.{◌≡◌, ℕ, ◌<◌, ◌≤◌, Bool, true, false, not, List, [], ◌∷◌, length, filter, find, Option, None, Some, option_map, IsTrue, ◌+◌, is_some, if◌then◌else◌}
 use Rattle.std.specs.List.{list_any}
 use Rattle.std.specs.Option.{option_map_or}
 use Rattle.fab_base.specs.Fabric.{is_silent}
@@ -60,6 +60,18 @@ pub record IsFirstSilence (c : VoiceClock) (moment : ℕ) : Type 0 where
 -- the voices without this one
 abbrev pub without : Voice → List LastHeard → List LastHeard
 without voice voices = filter (λ x. not (same_voice x.voice voice)) voices
+
+-- how many voices there are with this one
+abbrev pub count_with : Voice → List LastHeard → ℕ
+count_with voice voices = if is_some (last_of voice voices) then length voices else length voices + 1
+
+-- the voice was heard at this moment, and every other when it was before
+abbrev pub HearsVoice : Voice → ℕ → List LastHeard → List LastHeard → Type 0
+HearsVoice voice now old new = (w : Voice) → last_of w new ≡ (if same_voice voice w then Some now else last_of w old)
+
+-- the voice is gone, and every other was heard when it was before
+abbrev pub ForgetsVoice : Voice → List LastHeard → List LastHeard → Type 0
+ForgetsVoice voice old new = (w : Voice) → last_of w new ≡ (if same_voice voice w then None else last_of w old)
 
 -- periods and room stay
 pub record KeepsLimits (old new : VoiceClock) : Type 0 where

@@ -1,7 +1,8 @@
 //! The clock: voices with their last moments, in the order of their deadlines.
 ghost use Rattle.std.specs.Prelude.{◌≡◌, ℕ, ◌+◌, ◌<◌, ◌≤◌, ◌^◌, ◌⊎◌, if◌then◌else◌, length, IfOk, IfSome, MatchOption, IfNone, Some, None, [], ◌∷◌, IsTrue, is_some, OnSome, ◌↔◌, IsPermutation};
 ghost use Rattle.keepalive_clock.specs.Voices.{same_voice};
-ghost use Rattle.keepalive_clock.specs.Clock.{last_of, is_silent_voice, has_silent, HasSilent, IsFirstSilence, without, KeepsLimits, IsSound};
+ghost use Rattle.keepalive_clock.specs.Clock.{last_of, count_with, without, HearsVoice, ForgetsVoice, KeepsLimits, IsSound};
+ghost use Rattle.keepalive_clock.specs.Clock.{is_silent_voice, has_silent, HasSilent, IsFirstSilence};
 
 use crate::due::due;
 use crate::search::{of_voice, place_after, place_of};
@@ -58,9 +59,9 @@ impl KeepClock {
         requires room { IsTrue (is_some (last_of voice self.old.voices)) ⊎ (length self.old.voices < self.old.room) }
         ensures limits { KeepsLimits self.old self.new }
         ensures voices { IsPermutation (record { voice = voice; last = now } ∷ without voice self.old.voices) self.new.voices }
-        ensures count { length self.new.voices ≡ (if is_some (last_of voice self.old.voices) then length self.old.voices else length self.old.voices + 1) }
+        ensures count { length self.new.voices ≡ count_with voice self.old.voices }
         ensures sound { IsSound self.new }
-        ensures last { (w : Voice) → last_of w self.new.voices ≡ (if same_voice voice w then Some now else last_of w self.old.voices) }
+        ensures last { HearsVoice voice now self.old.voices self.new.voices }
     {
         self.remove_voice(&voice);
         let heard = LastHeard { voice, last: now };
@@ -75,8 +76,8 @@ impl KeepClock {
     pub fn forget(&mut self, voice: Voice) -> bool
         ensures there { result ≡ is_some (last_of voice self.old.voices) }
         ensures voices { self.new ≡ record self.old { voices = without voice self.old.voices } }
-        ensures last { (w : Voice) → last_of w self.new.voices ≡ (if same_voice voice w then None else last_of w self.old.voices) }
-        ensures count { length self.old.voices ≡ (if is_some (last_of voice self.old.voices) then length self.new.voices + 1 else length self.new.voices) }
+        ensures last { ForgetsVoice voice self.old.voices self.new.voices }
+        ensures count { length self.new.voices + 1 ≡ count_with voice self.old.voices }
         ensures sound { IsSound self.new }
     {
         self.remove_voice(&voice)
@@ -114,7 +115,7 @@ impl KeepClock {
         ensures some { is_some result ≡ has_silent self.old now }
         ensures silent { IfSome result (λ voice. IsTrue (is_silent_voice self.old now voice)) }
         ensures taken { IfSome result (λ voice. self.new ≡ record self.old { voices = without voice self.old.voices }) }
-        ensures last { IfSome result (λ voice. (w : Voice) → last_of w self.new.voices ≡ (if same_voice voice w then None else last_of w self.old.voices)) }
+        ensures last { IfSome result (λ voice. ForgetsVoice voice self.old.voices self.new.voices) }
         ensures count { OnSome result (length self.old.voices ≡ length self.new.voices + 1) }
         ensures none { IfNone result (self.new ≡ self.old) }
         ensures sound { IsSound self.new }

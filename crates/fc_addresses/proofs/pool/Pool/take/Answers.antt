@@ -1,6 +1,5 @@
-use Rattle.std.proofs.Common.{◌∙◌, ap, arith, map, refl, Some, None}
-use Rattle.fab_base.specs.Fabric.{Past, past_at}
-use Rattle.fc_addresses.specs.Pool.{is_open}
+use Rattle.std.proofs.Common.{subst, sym, ◌∙◌, ap, arith, refl, Some, None}
+use Rattle.fc_addresses.specs.Pool.{is_open, held, addresses, HoldsAddress}
 use Rattle.fc_addresses.proofs.PoolLemmas.{place_of_past, changed_pool, found-taken, places-changed}
 use Rattle.fc_addresses.proofs.pool.Pool.take.Goals as goal
 
@@ -21,9 +20,7 @@ returns-clause-pool c =
     (changed_pool _ c.self.inside.first c.self.inside.holders.items c.self.view_is (λ p. record { address = p.address; name = Some c.args.name; ended = None }) c.args.address _ (record { name = None; ended = None }) place.0 place.1 refl)
 
 pub returns-clause-found : goal.returns-clause-found
-returns-clause-found c = λ b. ap (past_at b) (returns-clause-pool c) ∙ found-taken c.args.address c.args.name b c.args.self.now (is_open c.args.name c.args.now) c.requires.free
+returns-clause-found c = subst (HoldsAddress c.args.address c.args.name c.args.self.now) (sym (returns-clause-pool c)) (found-taken c.args.address c.args.name c.args.self.now (is_open c.args.name c.args.now) c.requires.free)
 
 pub returns-clause-places : goal.returns-clause-places
-returns-clause-places c =
-    ap (map (λ (p : Past). p.address)) (returns-clause-pool c)
-    ∙ places-changed (λ p. record { address = p.address; name = Some c.args.name; ended = None }) (λ p. refl) c.args.address c.args.self.now
+returns-clause-places c = ap addresses (returns-clause-pool c) ∙ places-changed (λ p. held p.address c.args.name) (λ p. refl) c.args.address c.args.self.now

@@ -1,18 +1,19 @@
-use Rattle.std.proofs.Common.{◌≡◌, ◌∙◌, ◌<◌, ap, sym, subst, arith, nat_lt, ◌+◌, length, List, None, ◌≤◌}
+use Rattle.std.proofs.Common.{not, ◌≡◌, ◌∙◌, ◌<◌, ap, sym, subst, arith, nat_lt, ◌+◌, length, List, None, ◌≤◌}
 use Rattle.std.specs.List.{position_or_len, insert}
 use Rattle.std.proofs.lemmas.List.Edits.{length-insert}
+use Rattle.std.proofs.lemmas.List.Sums.{prefix_len-le-length}
 use Rattle.std.proofs.lemmas.List.Sorted.{IsPermutation-insert}
 use Rattle.keepalive_clock.specs.Clock.{VoiceClock, IsSound, without, heard_of}
 use Rattle.keepalive_clock.specs.Order.{due_of, ComeDue}
 use Rattle.keepalive_clock.specs.declared.voice.LastHeard.{LastHeard}
-use Rattle.keepalive_clock.proofs.HeardLemmas.{position_or_len-le, count_without, room_without, last_of-insert, heard_of-without_this, VoicesDiffer-insert}
+use Rattle.keepalive_clock.proofs.HeardLemmas.{count_without, room_without, last_of-insert, heard_of-without_this, VoicesDiffer-insert}
 use Rattle.keepalive_clock.proofs.DueLemmas.{ComeDue-insert}
 use Rattle.keepalive_clock.proofs.clock.KeepClock.heard.Goals as goal
 
 pub insert-requires : goal.insert-requires
 insert-requires c =
     let place : c.place_after-place.result ≡ position_or_len (λ x. nat_lt c.due-moment.result (due_of c.self.inside.node_period c.self.inside.port_period x)) c.deref.result.now = c.place_after-place.ensures in
-    omega (arith, place, c.deref.ensures.len, position_or_len-le (λ x. nat_lt c.due-moment.result (due_of c.self.inside.node_period c.self.inside.port_period x)) c.deref.result.now)
+    omega (arith, place, c.deref.ensures.len, prefix_len-le-length (λ x. not (nat_lt c.due-moment.result (due_of c.self.inside.node_period c.self.inside.port_period x))) c.deref.result.now)
 
 pub unreachable-requires : goal.unreachable-requires
 unreachable-requires c =
@@ -36,7 +37,7 @@ absent c = ap (λ l. heard_of c.args.voice l) (rest c) ∙ heard_of-without_this
 within : (c : goal.In-Ok) → c.place_after-place.result ≤ length c.self.inside.voices.items
 within c =
     let place : c.place_after-place.result ≡ position_or_len (λ x. nat_lt c.due-moment.result (due_of c.self.inside.node_period c.self.inside.port_period x)) c.deref.result.now = c.place_after-place.ensures in
-    omega (arith, place, c.deref.ensures.len, c.self.inside.voices.ok.0, position_or_len-le (λ x. nat_lt c.due-moment.result (due_of c.self.inside.node_period c.self.inside.port_period x)) c.deref.result.now)
+    omega (arith, place, c.deref.ensures.len, c.self.inside.voices.ok.0, prefix_len-le-length (λ x. not (nat_lt c.due-moment.result (due_of c.self.inside.node_period c.self.inside.port_period x))) c.deref.result.now)
 
 sound : (c : goal.In-Ok) → IsSound (record {
   node_period = c.self.inside.node_period;
