@@ -16,13 +16,10 @@ use Rattle.fab_policy.specs.declared.event.Event.{Event}
 use Rattle.fab_policy.specs.declared.event.Event.TheVariants.{Frame}
 use Rattle.fab_policy.specs.declared.verdict.Verdict.{Verdict}
 use Rattle.fab_policy.specs.declared.verdict.Verdict.TheVariants.{Granted, Logout, AliveNode, AlivePort, NsLogin, NsLogout, Watching, Registered}
+use Rattle.fab_policy.proofs.Steps.{same_tables}
 use Rattle.fab_policy.proofs.Found.{found_by_address}
 use Rattle.fab_policy.proofs.RegistryFits.{by_ask}
 use Rattle.fab_policy.proofs.Ticks.{values_kept, found_address, map_same}
-
-same_tables : {t t' : Option ℕ} {p p' : List LivePort} {l l' : List Past} → t ≡ t' → p ≡ p' → l ≡ l' →
-    (let T : Tables = record { clock = t; ports = p; past = l } in T) ≡ record { clock = t'; ports = p'; past = l' }
-same_tables e1 e2 e3 = cc
 
 pub changes_are_after : ChangesAreAfter
 changes_are_after c e T U h = same_tables h.clock

@@ -1,5 +1,6 @@
 -- A data frame goes on exactly where it is allowed, and is dropped by a rule elsewhere.
 use Rattle.std.proofs.Common.{◌≡◌, ℕ, Bool, true, false, not, ◌&&◌, ◌||◌, ◌==◌, [], ◌∷◌, Option, Some, None, is_some, Ok, Err, refl, ap, subst, ◌∙◌, arith, nat_lt, length}
+use Rattle.std.proofs.lemmas.Bool.{and_parts}
 use Rattle.std.proofs.lemmas.Bool.Decides.{nat_tests}
 use Rattle.fab_base.specs.declared.values.Caught.{Caught}
 use Rattle.fab_config.specs.Settings.{Settings, same_bytes}
@@ -76,11 +77,6 @@ must (Some cause) to other = refl
 must None (Some q) other = refl
 must None None other = refl
 
-both : (a b : Bool) → a && b ≡ true → (a ≡ true) × (b ≡ true)
-both true true e = (refl, refl)
-both true false e = cc
-both false b e = cc
-
 not_true : (b : Bool) → not b ≡ true → b ≡ false
 not_true true e = cc
 not_true false e = refl
@@ -118,10 +114,10 @@ module _ (c : Settings) (T : Tables) (port : ℕ) (x : capsule.Fcoe) where
 -- the tests of a data frame
 data_tests : (v d3 c3 lt same : Bool) → v && d3 && c3 && lt && not same ≡ true → (v ≡ true) × (d3 ≡ true) × (c3 ≡ true) × (lt ≡ true) × (same ≡ false)
 data_tests v d3 c3 lt same e =
-    let first = both (v && d3 && c3 && lt) (not same) e in
-    let second = both (v && d3 && c3) lt first.0 in
-    let third = both (v && d3) c3 second.0 in
-    let fourth = both v d3 third.0 in
+    let first = and_parts (v && d3 && c3 && lt) (not same) e in
+    let second = and_parts (v && d3 && c3) lt first.0 in
+    let third = and_parts (v && d3) c3 second.0 in
+    let fourth = and_parts v d3 third.0 in
     (fourth.0, fourth.1, third.1, second.1, not_true same first.1)
 
 same_tests : (v v' c c' d d' t t' s s' o o' mac sent for_service els ct short : Bool) (from to : Option LivePort) (joins : Bool) →
@@ -172,7 +168,7 @@ forwards_exactly c T port caught h = by_what (decoded caught) refl h
         let all = read_exactly c T port caught f x e h in (
           all.0,
           all.1,
-          λ g. all.2 (both (is_data c (f, x)) (is_allowed c T port (f, x)) g).1,
+          λ g. all.2 (and_parts (is_data c (f, x)) (is_allowed c T port (f, x)) g).1,
           λ g. all.3 (second_false (is_data c (f, x)) (is_allowed c T port (f, x)) h g),
         )
 

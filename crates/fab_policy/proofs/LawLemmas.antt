@@ -2,7 +2,7 @@
 use Rattle.std.proofs.Common.{◌≡◌, ℕ, zero, suc, lit<, ◌⊎◌, inl, inr, ⊎_elim, nat_lt, ltb, ◌==◌, ◌&&◌, ◌||◌, not, if◌then◌else◌, Bool, true, false, List, [], ◌∷◌, length, Option, Some, None, Result, Ok, Err, refl, sym, ap, subst, ◌∙◌, arith}
 use Rattle.std.specs.List.{AllPass}
 use Rattle.std.proofs.lemmas.Slice.Eq.{bytes_eq-Decides}
-use Rattle.std.proofs.lemmas.Bool.{ltb-true, ltb-false, eqb-true, eqb-false, eq-eqb}
+use Rattle.std.proofs.lemmas.Bool.{or_cases, ltb-true, ltb-false, eqb-true, eqb-false, eq-eqb}
 use Rattle.fab_base.specs.Layout.{number}
 use Rattle.fab_base.specs.declared.values.Caught.{Caught}
 use Rattle.fab_base.proofs.LayoutLemmas.{AreBytes}
@@ -39,10 +39,6 @@ are_bytes (x ∷ l) h zero = ltb-true x 256 (h 0 0 (omega arith))
 are_bytes (x ∷ l) h (suc i) = are_bytes l (λ k d lt. h (suc k) d (omega arith)) i
 
 -- ---- one test or another
-
-or_true : (a b : Bool) → (a || b) ≡ true → (a ≡ true) ⊎ (b ≡ true)
-or_true true b e = inl refl
-or_true false b e = inr e
 
 or_left : (a b : Bool) → a ≡ true → (a || b) ≡ true
 or_left true b e = refl
@@ -167,7 +163,7 @@ abbrev is_to : Settings → Eth → Bool
 is_to c f = same_bytes f.dst c.fcf_mac || same_bytes f.dst ALL_FCFS
 
 to_means : (c : Settings) (f : Eth) → not (is_to c f) ≡ false → (f.dst ≡ c.fcf_mac) ⊎ (f.dst ≡ ALL_FCFS)
-to_means c f e = ⊎_elim (λ t. inl ((bytes_eq-Decides f.dst c.fcf_mac).0 t)) (λ t. inr ((bytes_eq-Decides f.dst ALL_FCFS).0 t)) (or_true (same_bytes f.dst c.fcf_mac) (same_bytes f.dst ALL_FCFS) (holds_from (is_to c f) e))
+to_means c f e = ⊎_elim (λ t. inl ((bytes_eq-Decides f.dst c.fcf_mac).0 t)) (λ t. inr ((bytes_eq-Decides f.dst ALL_FCFS).0 t)) (or_cases (same_bytes f.dst c.fcf_mac) (same_bytes f.dst ALL_FCFS) (holds_from (is_to c f) e))
 
 to_from : (c : Settings) (f : Eth) → (f.dst ≡ c.fcf_mac) ⊎ (f.dst ≡ ALL_FCFS) → not (is_to c f) ≡ false
 to_from c f h = ap not (⊎_elim (λ t. or_left (same_bytes f.dst c.fcf_mac) (same_bytes f.dst ALL_FCFS) ((bytes_eq-Decides f.dst c.fcf_mac).1 t)) (λ t. or_right (same_bytes f.dst c.fcf_mac) (same_bytes f.dst ALL_FCFS) ((bytes_eq-Decides f.dst ALL_FCFS).1 t)) h)
@@ -216,7 +212,7 @@ request_means c caught bytes e =
       stands = stands caught.bytes f (are_bytes caught.bytes bytes) h.is_read;
       kind = eqb-true f.kind FIP h.kind;
       request = IsFip-from_decoded (VlanAsk a.named a.node) f.body h.message;
-      vlan = ⊎_elim (λ t. inl (eqb-true (vlan_of_tag f.tag) c.vlan t)) (λ t. inr (eqb-true (vlan_of_tag f.tag) 0 t)) (or_true (vlan_of_tag f.tag == c.vlan) (vlan_of_tag f.tag == 0) (holds_from _ a.vlan));
+      vlan = ⊎_elim (λ t. inl (eqb-true (vlan_of_tag f.tag) c.vlan t)) (λ t. inr (eqb-true (vlan_of_tag f.tag) 0 t)) (or_cases (vlan_of_tag f.tag == c.vlan) (vlan_of_tag f.tag == 0) (holds_from _ a.vlan));
       dest = to_means c f a.dest;
       source = names_means a.named f.src a.source;
     }

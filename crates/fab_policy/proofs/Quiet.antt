@@ -1,5 +1,6 @@
 -- After each legal journal nobody is overdue at the clock, and tables ascend.
 use Rattle.std.proofs.Common.{◌≡◌, ℕ, zero, suc, ◌+◌, ◌*◌, ◌<◌, ◌≤◌, ◌⊎◌, inl, inr, Bool, true, false, ◌||◌, ◌==◌, cond, List, [], ◌∷◌, Option, Some, None, refl, sym, ap, subst, ◌∙◌, arith, filter, filter_map, option_and_then, unwrap_or, if◌then◌else◌}
+use Rattle.std.proofs.lemmas.Bool.{or_parts, or_from}
 use Rattle.std.proofs.lemmas.Bool.Decides.{nat_tests}
 use Rattle.std.specs.List.{cons_option}
 use Rattle.std.specs.Option.{option_map_or}
@@ -64,14 +65,6 @@ not_silent period t = grind (arith, nat_tests)
 abbrev IsQuiet : Settings → Journal → Type 0
 IsQuiet c J = (a : ℕ) (p : LivePort) → c.domain * 65536 + 256 ≤ a → a < c.domain * 65536 + 256 + c.pool → live_port a J ≡ Some p → is_overdue c (now J) p ≡ false
 
-both_false : (a b : Bool) → a || b ≡ false → (a ≡ false) × (b ≡ false)
-both_false true b e = cc
-both_false false b e = (refl, e)
-
-neither : (a b : Bool) → a ≡ false → b ≡ false → a || b ≡ false
-neither true b e f = cc
-neither false b e f = f
-
 heard_or_not : (b : Bool) (period old t : ℕ) → is_silent period old t ≡ false → is_silent period (if b then t else old) t ≡ false
 heard_or_not true period old t h = not_silent period t
 heard_or_not false period old t h = h
@@ -79,8 +72,8 @@ heard_or_not false period old t h = h
 -- an N_Port that an entry leaves isn't silent at its clock if it wasn't before
 touched_quiet : (c : Settings) (t a : ℕ) (e : Event) (p : LivePort) → is_overdue c t p ≡ false → is_overdue c t (touched t a e p) ≡ false
 touched_quiet c t a e p h =
-    let parts = both_false (is_silent c.period p.node_heard t) (is_silent PORT_PERIOD p.port_heard t) h in
-    neither (is_silent c.period (if hears_node p.enode e then t else p.node_heard) t) (is_silent PORT_PERIOD (if hears_port a e then t else p.port_heard) t)
+    let parts = or_parts (is_silent c.period p.node_heard t) (is_silent PORT_PERIOD p.port_heard t) h in
+    or_from (is_silent c.period (if hears_node p.enode e then t else p.node_heard) t) (is_silent PORT_PERIOD (if hears_port a e then t else p.port_heard) t)
     (heard_or_not (hears_node p.enode e) c.period p.node_heard t parts.0) (heard_or_not (hears_port a e) PORT_PERIOD p.port_heard t parts.1)
 
 the_same : (x p : LivePort) → Some x ≡ Some p → x ≡ p
@@ -92,7 +85,7 @@ after_quiet : (c : Settings) (t a : ℕ) (e : Event) (p : LivePort) (g : Bool) (
     (if g then Some (fresh t a (n_port e)) else option_and_then (λ q. if ends a q.enode e then None else Some (touched t a e q)) o) ≡ Some p → is_overdue c t p ≡ false
 after_quiet c t a e p true o h is =
     subst (λ q. is_overdue c t q ≡ false) (the_same (fresh t a (n_port e)) p is)
-    (neither (is_silent c.period t t) (is_silent PORT_PERIOD t t) (not_silent c.period t) (not_silent PORT_PERIOD t))
+    (or_from (is_silent c.period t t) (is_silent PORT_PERIOD t t) (not_silent c.period t) (not_silent PORT_PERIOD t))
 after_quiet c t a e p false None h is = cc
 after_quiet c t a e p false (Some q) h is = by_end (ends a q.enode e) refl is
   where

@@ -286,14 +286,15 @@ clock_step : (e : Event) (J : Journal) → clock (e ∷ J) ≡ clock_after e (cl
 clock_step (Tick m ended) J = refl
 clock_step (Frame port index caught verdict) J = refl
 
+-- tables with equal parts are equal
+pub same_tables : {t t' : Option ℕ} {ps ps' : List LivePort} {qs qs' : List Past} → t ≡ t' → ps ≡ ps' → qs ≡ qs' →
+    (let x : Tables = record { clock = t; ports = ps; past = qs } in x) ≡ record { clock = t'; ports = ps'; past = qs' }
+same_tables e1 e2 e3 = cc
+
 -- what a journal with one more entry says of each address of the pool
 pub steps : Steps
 steps c e J = same_tables (clock_step e J) ports past
   where
-    same_tables : {t t' : Option ℕ} {ps ps' : List LivePort} {qs qs' : List Past} → t ≡ t' → ps ≡ ps' → qs ≡ qs' →
-        (let x : Tables = record { clock = t; ports = ps; past = qs } in x) ≡ record { clock = t'; ports = ps'; past = qs' }
-    same_tables e1 e2 e3 = cc
-
     now_step : now (e ∷ J) ≡ unwrap_or (clock_after e (clock J)) 0
     now_step = ap (λ o. unwrap_or o 0) (clock_step e J)
 

@@ -11,6 +11,7 @@ use Rattle.fab_policy.specs.Ranged.{AscendFrom}
 use Rattle.fab_policy.specs.State.{LivePort, Tables, port_at, overdue, is_overdue, addresses}
 use Rattle.fab_policy.specs.Steps.{AreAscending, touched, features_after, values_after, port_after, past_after}
 use Rattle.fab_policy.specs.declared.event.Event.TheVariants.{Tick}
+use Rattle.fab_policy.proofs.Steps.{same_tables}
 use Rattle.fab_policy.proofs.Found.{below, listed_at, found_by_address}
 use Rattle.fab_policy.proofs.SoundMacs.{pool_fits}
 
@@ -58,10 +59,6 @@ staying_at q from to a (p ∷ ports) h = by_test (q p) refl (p.address == a) ref
         let none : port_at a ports ≡ None = below (p.address + 1) to a ports h.2 (omega (arith, eqb-true p.address a e)) in
         grind (arith, et, e, ih, none)
     by_test t et false e ih = grind (arith, et, e, ih)
-
-same_tables : {t t' : Option ℕ} {p p' : List LivePort} {l l' : List Past} → t ≡ t' → p ≡ p' → l ≡ l' →
-    (let T : Tables = record { clock = t; ports = p; past = l } in T) ≡ record { clock = t'; ports = p'; past = l' }
-same_tables e1 e2 e3 = cc
 
 pub map_same : {X Y : Type 0} (f g : X → Y) → ((x : X) → f x ≡ g x) → (xs : List X) → map f xs ≡ map g xs
 map_same f g h [] = refl
