@@ -12,7 +12,7 @@ use Rattle.fab_policy.specs.Heard.{What, Bad, Fcoe, plain, s_id, decoded}
 use Rattle.fab_policy.specs.Journal.{now}
 use Rattle.fab_policy.specs.Legal.{is_tick_owed, has_activation}
 use Rattle.fab_policy.specs.Logins.{counting, grants, ends, n_port}
-use Rattle.fab_policy.specs.Outputs.{Sent, Notice, outputs_by, state_of, replies_of, clears, clears_of, ended_by, granted_by, changed_by, has_changed, told_of, told_of_zones, differs, watchers, notices, rscn_frames, advertisements_of, advertised_at, is_owed}
+use Rattle.fab_policy.specs.Outputs.{Sent, Notice, told, outputs_by, state_of, replies_of, clears, clears_of, ended_by, granted_by, changed_by, has_changed, told_of, told_of_zones, differs, watchers, notices, rscn_frames, advertisements_of, advertised_at, is_owed}
 use Rattle.fab_policy.specs.Rules.{first_row, rule_for, is_wrong_vlan, is_vlan_request, is_solicitation, is_forwarders, fip_login_rows, ALL_FCFS}
 use Rattle.fab_policy.specs.Judging.{names_another}
 use Rattle.fab_policy.specs.Stage.{frame_rule, message_verdict, is_unbuilt, unbuilt_cause, verdict_so_far, judged_so_far, IsRightEntrySoFar, HasOneVerdict, NobodyIsLoggedIn, SendsSoFar, OwedSoFar}
@@ -175,7 +175,7 @@ none_told c T U (Frame port index caught v) none = refl
 none_told c T U (Tick m ended) none = by_clock T.clock
   where
     told_at : ℕ → List LivePort → List Notice
-    told_at t ps = flat_map (λ b. map (λ w. record { watcher = w; affected = b.address }) (filter (λ w. differs c t m w.name b.name) (watchers U))) ps
+    told_at t ps = flat_map (λ b. map (λ w. told w b.address) (filter (λ w. differs c t m w.name b.name) (watchers U))) ps
 
     by_clock : (o : Option ℕ) → (elim o as (λ _. List Notice) [ None ↦ [] | Some t ↦ told_at t U.ports ]) ≡ []
     by_clock None = refl

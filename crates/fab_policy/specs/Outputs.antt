@@ -87,15 +87,19 @@ is_watcher p = asks_fabric p.watch
 abbrev pub watchers : Tables → List LivePort
 watchers U = filter is_watcher U.ports
 
--- A watcher is told of an address.
+-- A watcher is told of an address: the port that the watcher is behind, its own address, and the affected one.
 pub record Notice : Type 0 where
-  pub watcher : LivePort
+  pub port : ℕ
+  pub watcher : ℕ
   pub affected : ℕ
+
+abbrev pub told : LivePort → ℕ → Notice
+told w affected = record { port = w.enode.port; watcher = w.address; affected = affected }
 
 -- each watcher that was joined with the name before the entry is told of the address
 abbrev pub told_of : Settings → Tables → Tables → LivePort → List Notice
 told_of c T U affected =
-    map (λ w. record { watcher = w; affected = affected.address }) (filter (λ w. joined c T w.name affected.name) (watchers U))
+    map (λ w. told w affected.address) (filter (λ w. joined c T w.name affected.name) (watchers U))
 
 -- two names are joined at one of two moments and not at the other
 abbrev pub differs : Settings → ℕ → ℕ → ℕ → ℕ → Bool
@@ -107,7 +111,7 @@ told_of_zones c T U (Frame port index caught verdict) = []
 told_of_zones c T U (Tick m ended) = elim T.clock [
   | None ↦ []
   | Some t ↦
-      flat_map (λ b. map (λ w. record { watcher = w; affected = b.address }) (filter (λ w. differs c t m w.name b.name) (watchers U))) U.ports
+      flat_map (λ b. map (λ w. told w b.address) (filter (λ w. differs c t m w.name b.name) (watchers U))) U.ports
 ]
 
 -- The state changes of an entry: first those of the logins that it ends, then of the one that it grants, then of the one
@@ -124,7 +128,7 @@ rscn_count c (e ∷ J) = rscn_count c J + length (notices c (tables_of c J) (tab
 abbrev pub rscn_frames : Settings → ℕ → List Notice → List (ℕ × List ℕ)
 rscn_frames c n [] = []
 rscn_frames c n (notice ∷ more) =
-    (notice.watcher.enode.port, rscn c notice.watcher.address notice.affected (n % 65535)) ∷ rscn_frames c (n + 1) more
+    (notice.port, rscn c notice.watcher notice.affected (n % 65535)) ∷ rscn_frames c (n + 1) more
 
 -- ---- clear link messages
 

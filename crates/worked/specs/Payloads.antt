@@ -229,7 +229,7 @@ last_activation = refl
 abbrev pub watcher : state.LivePort
 watcher = record { address = 0x010101; name = NAME_B; node = 1; enode = record { port = 2; mac = MAC_A }; server = None; node_heard = 0; port_heard = 0; watch = 3; values = record { node_name = 1; types = record { 0 = zeros 8 }; features = zeros 256; symbol = []; node_symbol = [] } }
 
-pub round : map {B = List ℕ} (λ x. field x.1 48 2) (outs.rscn_frames K 65533 (replicate 3 (record { watcher = watcher; affected = 0x010100 }))) ≡ (0xff ∷ 0xfd ∷ []) ∷ (0xff ∷ 0xfe ∷ []) ∷ (0 ∷ 0 ∷ []) ∷ []
+pub round : map {B = List ℕ} (λ x. field x.1 48 2) (outs.rscn_frames K 65533 (replicate 3 (outs.told watcher 0x010100))) ≡ (0xff ∷ 0xfd ∷ []) ∷ (0xff ∷ 0xfe ∷ []) ∷ (0 ∷ 0 ∷ []) ∷ []
 unfolding capsule.written crc.crc crc.remainder els.written
 round = refl
 

@@ -54,6 +54,6 @@ unfolding legal.is_tick_owed heard.carried heard.is_flogi eth.decoded reading.de
 not_owed = refl
 
 -- who is told of whom: B and C of A
-pub told : map {B = ℕ × ℕ} (λ n. (n.watcher.address, n.affected)) (outs.notices few (state.tables_of few watched) (state.tables_of few (Tick 5000 [] ∷ watched)) (Tick 5000 [])) ≡ (0x010101, 0x010100) ∷ (0x010102, 0x010100) ∷ []
+pub told : map {B = ℕ × ℕ} (λ n. (n.watcher, n.affected)) (outs.notices few (state.tables_of few watched) (state.tables_of few (Tick 5000 [] ∷ watched)) (Tick 5000 [])) ≡ (0x010101, 0x010100) ∷ (0x010102, 0x010100) ∷ []
 unfolding outs.notices heard.carried heard.is_flogi eth.decoded reading.decoded fc.decoded capsule.written crc.crc crc.remainder zones.joined
 told = refl
