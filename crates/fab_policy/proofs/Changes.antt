@@ -7,10 +7,10 @@ use Rattle.fab_base.specs.declared.values.Enode.{Enode}
 use Rattle.els_messages.specs.Els.{receive_size}
 use Rattle.ct_messages.specs.Server.{Values, is_registration}
 use Rattle.ct_messages.specs.Server as server
-use Rattle.fab_policy.specs.Changes.{ChangesBy, ChangesAreAfter, InPool, PortsStay, CanStay, FrameSteps, LogoutSteps, GrantPorts, GrantPast, GrantSteps, stays_as, leaves_logins, heard_node, holder_of, ended_at, granted_to, left_by, now_after}
+use Rattle.fab_policy.specs.Changes.{ChangesAreAfter, PortsStay, CanStay, FrameSteps, LogoutSteps, GrantPorts, GrantPast, GrantSteps, stays_as, leaves_logins, heard_node, holder_of, ended_at, granted_to, left_by, now_after}
 use Rattle.fab_policy.specs.Heard.{sender, is_flogi, s_id, ask_of, asked}
 use Rattle.fab_policy.specs.Logins.{grants, ends, n_port}
-use Rattle.fab_policy.specs.State.{LivePort, Tables, port_at, now_of}
+use Rattle.fab_policy.specs.State.{LivePort, port_at, now_of}
 use Rattle.fab_policy.specs.Steps.{fresh, touched, values_after, port_after, past_after}
 use Rattle.fab_policy.specs.declared.event.Event.{Event}
 use Rattle.fab_policy.specs.declared.event.Event.TheVariants.{Frame}

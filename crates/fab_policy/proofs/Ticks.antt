@@ -1,5 +1,5 @@
 -- The tables after a tick that ends the overdue.
-use Rattle.std.proofs.Common.{◌≡◌, ℕ, ◌+◌, ◌*◌, ◌^◌, ◌<◌, ◌≤◌, ◌==◌, Bool, true, false, not, cond, List, [], ◌∷◌, map, filter, filter_map, Option, Some, None, option_map, option_and_then, refl, sym, ap, subst, ◌∙◌, arith, if◌then◌else◌}
+use Rattle.std.proofs.Common.{◌≡◌, ℕ, ◌+◌, ◌*◌, ◌^◌, ◌≤◌, ◌==◌, Bool, true, false, not, cond, List, [], ◌∷◌, map, filter, filter_map, Option, Some, None, option_map, option_and_then, refl, sym, ap, subst, ◌∙◌, arith, if◌then◌else◌}
 use Rattle.std.proofs.lemmas.Bool.{eqb-true}
 use Rattle.std.specs.Option.{option_map_or}
 use Rattle.fab_base.specs.Fabric.{Past}
@@ -8,7 +8,7 @@ use Rattle.zone_rules.specs.Joined.{contains}
 use Rattle.fab_policy.specs.Changes.{TickSteps, EndsOfTicks, all_ended}
 use Rattle.fab_policy.specs.Logins.{pool}
 use Rattle.fab_policy.specs.Ranged.{AscendFrom}
-use Rattle.fab_policy.specs.State.{LivePort, Tables, port_at, overdue, is_overdue, addresses}
+use Rattle.fab_policy.specs.State.{LivePort, port_at, overdue, is_overdue, addresses}
 use Rattle.fab_policy.specs.Steps.{AreAscending, touched, features_after, values_after, port_after, past_after}
 use Rattle.fab_policy.specs.declared.event.Event.TheVariants.{Tick}
 use Rattle.fab_policy.proofs.Steps.{same_tables}

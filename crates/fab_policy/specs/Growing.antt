@@ -1,5 +1,5 @@
 -- What further entries add to what a journal says, and what further records change of a run.
-use Rattle.std.specs.Prelude.{◌≡◌, ℕ, ◌+◌, ◌<◌, ◌≤◌, ◌==◌, List, [], ◌∷◌, ◌++◌, length, map, filter, flat_map}
+use Rattle.std.specs.Prelude.{◌≡◌, ℕ, ◌<◌, ◌≤◌, ◌==◌, List, [], ◌∷◌, ◌++◌, length, map, filter, flat_map}
 use Rattle.fab_config.specs.Settings.{Settings}
 use Rattle.pcap_file.specs.Capture.{head_bytes}
 use Rattle.pcap_file.specs.declared.Record.{Record}

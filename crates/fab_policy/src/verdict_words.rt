@@ -89,9 +89,8 @@ fn read_one(word: &[u8]) -> Option<Verdict>
 }
 
 fn read_two(word: &[u8], second: &[u8]) -> Option<Verdict>
-    ensures {
-        Finds (λ v. IsRangedVerdict v × (verdict_words v ≡ word.now ∷ second.now ∷ [])) result
-    }
+    ensures { Finds (λ v.
+        IsRangedVerdict v × (verdict_words v ≡ word.now ∷ second.now ∷ [])) result }
 {
     if is(word, "dropped") {
         return match read_dropped(second, None) {

@@ -150,9 +150,8 @@ fn read_digits(word: &[u8], count: usize) -> Option<u32>
 // The number of hexadecimal digits in lower case.
 fn read_hex(word: &[u8]) -> Option<u32>
     requires { length word.now ≤ 6 }
-    ensures {
-        Finds (λ n. (n < 16 ^ length word.now) × (word.now ≡ hex (length word.now) n)) result
-    }
+    ensures { Finds (λ n.
+        (n < 16 ^ length word.now) × (word.now ≡ hex (length word.now) n)) result }
 {
     let mut value = 0;
     for byte in word {
