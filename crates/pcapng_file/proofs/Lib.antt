@@ -3,3 +3,4 @@ pub mod PacketLemmas
 pub mod StepLemmas
 pub mod GoingLemmas
 pub mod LawLemmas
+pub mod ConvertLemmas

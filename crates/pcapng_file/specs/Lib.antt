@@ -1,3 +1,4 @@
 pub mod Block
 pub mod File
 pub mod Laws
+pub mod Classic

@@ -1,6 +1,7 @@
 //! The head of a block, and what blocks other than packets say.
 ghost use Rattle.std.specs.Prelude.{◌≡◌, ◌≤◌, ◌<◌, ◌+◌, ◌^◌, length, IfOk};
-ghost use Rattle.pcapng_file.specs.Block.{kind_of, order_of, magic_of, named, least, head_read, is_header, interface_read, version_read};
+ghost use Rattle.pcapng_file.specs.Block.{kind_of, order_of, magic_of, named, least, head_read};
+ghost use Rattle.pcapng_file.specs.Block.{is_header, interface_read, version_read};
 
 use crate::fault::NgWhy;
 use crate::options::read_options;
@@ -29,13 +30,13 @@ pub(crate) struct Head {
     pub(crate) size: u32,
 }
 
-/// An interface of a section: its link type, the unit of its times as a power of 10 or with the top
-/// bit set of 2, and whether its times are offset.
+// An interface of a section: its link type, the unit of its times as a power of 10 or with the top
+// bit set of 2, and whether its times are offset.
 #[derive(Clone, Copy, Debug, PartialEq, Eq)]
-pub struct Interface {
-    pub link: u16,
-    pub resolution: u8,
-    pub offset: bool,
+pub(crate) struct Interface {
+    pub(crate) link: u16,
+    pub(crate) resolution: u8,
+    pub(crate) offset: bool,
 }
 
 // The head of a block, or the first fault in it.

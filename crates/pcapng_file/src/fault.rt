@@ -69,3 +69,14 @@ pub enum NgError {
     #[error("memory was refused")]
     Memory,
 }
+
+/// Why a file was not converted.
+#[derive(Clone, Copy, Debug, PartialEq, Eq, Error)]
+pub enum ConvertError {
+    /// The input is not read, and the output is as it was.
+    #[error("{0}")]
+    Input(NgError),
+    /// The output could not be written.
+    #[error("the output could not be written")]
+    Write(Failed),
+}

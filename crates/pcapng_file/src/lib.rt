@@ -2,6 +2,7 @@
 #![tactic(auto)]
 
 mod block;
+mod classic;
 mod fault;
 mod laws;
 mod options;
@@ -10,9 +11,9 @@ mod reading;
 #[cfg(test)]
 mod tests;
 
-pub use block::Interface;
+pub use classic::{classic_capture, convert};
 use fab_base::{Caught, Moment, OwnedList};
-pub use fault::{NgError, NgLimit, NgWhy};
+pub use fault::{ConvertError, NgError, NgLimit, NgWhy};
 pub use laws::{a_file_has_one_list_of_packets, a_reading_is_the_file};
 pub use reading::read_ng;
 

@@ -1,5 +1,6 @@
 //! A whole block, and the packet in it.
-ghost use Rattle.std.specs.Prelude.{◌≡◌, ◌≤◌, ◌<◌, ◌+◌, ◌*◌, ◌/◌, ◌%◌, ◌^◌, length, slice_get, IfErr};
+ghost use Rattle.std.specs.Prelude.{◌≡◌, ◌≤◌, ◌<◌, ◌+◌, ◌*◌};
+ghost use Rattle.std.specs.Prelude.{◌/◌, ◌%◌, ◌^◌, length, slice_get, IfErr};
 ghost use Rattle.pcapng_file.specs.Block.{least, body_read, packet_read, timed_read, stored};
 ghost use Rattle.pcapng_file.specs.File.{Tells, NotRead, at_fault, frames_of};
 

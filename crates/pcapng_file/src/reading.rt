@@ -1,5 +1,6 @@
 //! Reading a file block by block through one buffer.
-ghost use Rattle.std.specs.Prelude.{◌≡◌, ◌≤◌, ◌<◌, ◌+◌, ◌++◌, ◌∷◌, [], length, IsTrue, OnOk, IfOk, Some, ◌==◌, ◌&&◌, is_some};
+ghost use Rattle.std.specs.Prelude.{◌≡◌, ◌≤◌, ◌<◌, ◌+◌, ◌++◌, ◌∷◌, []};
+ghost use Rattle.std.specs.Prelude.{length, IsTrue, OnOk, IfOk, Some, ◌==◌, ◌&&◌, is_some};
 ghost use Rattle.pcapng_file.specs.File.{Section, NgReads, BlockRead, after, found, before_all};
 
 use crate::NgRecords;
@@ -49,7 +50,7 @@ impl SoFar {
     }
 
     fn add(&mut self, face: Interface) -> Result<(), NoMemory>
-        ensures ok { OnOk result (self.new ≡ record { order = self.old.order; faces = self.old.faces ++ face ∷ [] }) }
+        ensures ok { OnOk result (self.new ≡ record self.old { faces = self.old.faces ++ face ∷ [] }) }
     {
         match self.faces.push(face) {
             Ok(()) => Ok(()),
@@ -126,7 +127,8 @@ fn next_block<D: Depot>(
     at: u64,
 ) -> Result<Option<Block>, NgError>
     requires input { IsTrue ((D.seen depot.old).input slot) }
-    ensures reads { BlockRead slot (D.seen depot.old) (D.seen depot.new) ahead.old ahead.new budget at section.now result }
+    ensures reads { BlockRead slot (D.seen depot.old) (D.seen depot.new) ahead.old ahead.new
+        budget at section.now result }
 {
     let mut front = [0u8; HEAD];
     let got = match ahead.pull(depot, slot, &mut front) {

@@ -3,7 +3,7 @@ ghost use Rattle.std.specs.Prelude.{ℕ, List, [], false, true, None, ◌^◌, �
 ghost use Rattle.fab_base.specs.Seen.{Seen};
 
 use super::*;
-use fab_base::{Depot, Failed};
+use fab_base::{Depot, Failed, MemDepot, word_at};
 use pcap_file::Budget;
 use std::alloc::{AllocError, Global};
 use std::test::Fail;
@@ -75,7 +75,7 @@ const VLAN_REQUEST: [u8; 60] = [
     0, 0, 0, 0, 0,
 ];
 
-// One section, one interface in nanoseconds at 28, and one packet of 4 bytes at 56, 1 ms after 1970.
+// One section, an interface in nanoseconds at 28, and a packet of 4 bytes at 56, 1 ms after 1970.
 const SMALL: [u8; 92] = [
     0x0a, 0x0d, 0x0d, 0x0a, 28, 0, 0, 0, 0x4d, 0x3c, 0x2b, 0x1a, 1, 0, 0, 0, 255, 255, 255, 255,
     255, 255, 255, 255, 28, 0, 0, 0, 1, 0, 0, 0, 28, 0, 0, 0, 1, 0, 0, 0, 0, 0, 0, 0, 9, 0, 1, 0,
@@ -280,5 +280,33 @@ fn a_packet_of_65536_bytes_is_too_long(rt: HostRuntime) -> Result<(), Fail> {
         let mut budget = AMPLE;
         assert_eq!(rt; read(alloc, &bytes, 5000, &mut budget).err(), want);
     }
+    Ok(())
+}
+
+#[test]
+fn a_file_is_converted(rt: HostRuntime) -> Result<(), Fail> {
+    let alloc = rt.alloc();
+    let mut depot = MemDepot::new(alloc)?;
+    depot.store(alloc, "in", &SMALL)?;
+    depot.know(alloc, "out")?;
+    let mut words = Vec::new(alloc);
+    for word in ["in", "out"] {
+        words.push(String::from_str(alloc, word)?)?;
+    }
+    assert!(rt; depot.knows_all(&words));
+    assert_eq!(rt; words.len(), 2);
+    let count = convert(
+        alloc,
+        &mut depot,
+        word_at(&words, 0),
+        word_at(&words, 1),
+        AMPLE,
+    )?;
+    assert_eq!(rt; count, 1);
+    let capture = [
+        0xd4, 0xc3, 0xb2, 0xa1, 2, 0, 4, 0, 0, 0, 0, 0, 0, 0, 0, 0, 0xff, 0xff, 0, 0, 1, 0, 0, 0,
+        0, 0, 0, 0, 0xe8, 3, 0, 0, 4, 0, 0, 0, 5, 0, 0, 0, 1, 2, 3, 4,
+    ];
+    assert_eq!(rt; depot.content("out"), Some(capture.as_slice()));
     Ok(())
 }

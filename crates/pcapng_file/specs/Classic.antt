@@ -1,0 +1,61 @@
+-- The classic capture of the packets of a file, and what converting a file does.
+use Rattle.std.specs.Prelude.{◌≡◌, ◌≢◌, ℕ, ◌*◌, ◌/◌, ◌%◌, List, [], ◌∷◌, ◌++◌, length, IsTrue, Some, Result, Ok, Err}
+use Rattle.fab_base.specs.Layout.{spelled_low}
+use Rattle.fab_base.specs.Seen.{Seen, SameFiles, Rose}
+use Rattle.pcap_file.specs.declared.Budget.{Budget}
+use Rattle.pcap_file.specs.Capture.{head_bytes}
+use Rattle.pcapng_file.specs.declared.NgRecord.{NgRecord}
+use Rattle.pcapng_file.specs.declared.fault.NgError.{NgError}
+use Rattle.pcapng_file.specs.declared.fault.NgError.TheVariants as errors
+use Rattle.pcapng_file.specs.declared.fault.ConvertError.{ConvertError}
+use Rattle.pcapng_file.specs.declared.fault.ConvertError.TheVariants as ends
+use Rattle.pcapng_file.specs.File.{IsNg, ng_read}
+use Rattle.pcapng_file.specs.Laws.{Within}
+
+-- seconds, microseconds, stored length and original length of a record
+abbrev pub classic_front : NgRecord → List ℕ
+classic_front r = spelled_low 4 (r.moment / 1000) ++ spelled_low 4 (r.moment % 1000 * 1000) ++ spelled_low 4 (length r.caught.bytes) ++ spelled_low 4 r.original
+
+abbrev pub classic_record : NgRecord → List ℕ
+classic_record r = classic_front r ++ r.caught.bytes
+
+abbrev pub classic_records : List NgRecord → List ℕ
+classic_records [] = []
+classic_records (r ∷ v) = classic_record r ++ classic_records v
+
+-- the capture of these packets, little-endian in microseconds
+abbrev pub classic_bytes : List NgRecord → List ℕ
+classic_bytes v = head_bytes ++ classic_records v
+
+-- why an input isn't converted; a depot's fault and want of memory say nothing of its bytes
+abbrev pub SaysInput : List ℕ → Budget → Seen → NgError → Type 0
+SaysInput from budget old (errors.Fault at fault) = (l : List ℕ) × (old.file from ≡ Some l) × (ng_read budget l ≡ Err (errors.Fault at fault))
+SaysInput from budget old (errors.Limit limit) = (l : List ℕ) × (old.file from ≡ Some l) × (ng_read budget l ≡ Err (errors.Limit limit))
+SaysInput from budget old (errors.Read failed) = Unit {0}
+SaysInput from budget old errors.Memory = Unit {0}
+
+abbrev pub CauseInput : List ℕ → Seen → Seen → NgError → Type 0
+CauseInput from old new (errors.Fault at fault) = Unit {0}
+CauseInput from old new (errors.Limit limit) = Unit {0}
+CauseInput from old new (errors.Read failed) = Rose (old.read_faults from) (new.read_faults from)
+CauseInput from old new errors.Memory = Unit {0}
+
+-- the input that was found is a file of packets within the limits, and the output is their capture
+pub record Converted (from to : List ℕ) (budget : Budget) (old new : Seen) (count : ℕ) : Type 0 where
+  pub bytes : List ℕ
+  pub packets : List NgRecord
+  pub found : old.file from ≡ Some bytes
+  pub is : IsNg packets bytes
+  pub within : Within budget packets bytes
+  pub output : new.file to ≡ Some (classic_bytes packets)
+  pub counted : count ≡ length packets
+
+-- How a conversion ends. The output is opened only behind the whole input: an error of the input leaves every file.
+abbrev pub Converts : List ℕ → List ℕ → Budget → Seen → Seen → Result ℕ ConvertError → Type 0
+Converts from to budget old new (Ok count) = IsTrue old.told → Converted from to budget old new count
+Converts from to budget old new (Err (ends.Input e)) = SameFiles old new × CauseInput from old new e × (IsTrue old.told → SaysInput from budget old e)
+Converts from to budget old new (Err (ends.Write failed)) = Rose (old.write_faults to) (new.write_faults to)
+
+-- no file changes but the output
+abbrev pub KeepsBut : List ℕ → Seen → Seen → Type 0
+KeepsBut to old new = (m : List ℕ) → m ≢ to → new.file m ≡ old.file m
