@@ -1,6 +1,7 @@
 -- A written message is in the grammar, whatever bytes stand behind it.
 use Rattle.std.proofs.Common.{◌≡◌, ℕ, suc, ◌+◌, ◌*◌, ◌/◌, ◌%◌, ◌^◌, ◌<◌, ◌≤◌, Bool, true, false, nat_lt, nat_le, ◌&&◌, ◌||◌, ◌==◌, List, [], ◌∷◌, ◌++◌, length, map, take, Option, Some, None, Ok, refl, sym, ap, ◌∙◌, arith, lit<, length-append, append_assoc, take_all, IfSome, if◌then◌else◌}
 use Rattle.std.specs.List.{list_all, flat_map, All}
+use Rattle.std.proofs.lemmas.Bool.{and_from, or_right}
 use Rattle.std.proofs.lemmas.Bool.Decides.{nat_tests}
 use Rattle.std.proofs.lemmas.List.{append-nil}
 use Rattle.std.proofs.lemmas.List.Sums.{AllPass-from_list_all}
@@ -10,10 +11,11 @@ use Rattle.fip_codec.specs.declared.message.LoginKind.{LoginKind}
 use Rattle.fip_codec.specs.declared.message.LoginKind.TheVariants.{Flogi, Fdisc, Logo}
 use Rattle.fip_codec.specs.declared.message.VxPort.{VxPort}
 use Rattle.fip_codec.specs.Fip.{Descriptor, Name, Solicitation, Advertisement, Request, Reply, KeepAlive, ClearLinks, VlanRequest, VlanNotification, name_of, has_flag, may_be_skipped, words_fit, family, of_kind, required, optional, vx_port, vlan_number}
-use Rattle.fip_codec.specs.Message.{Fip, Solicit, Advertise, Login, LoginReply, Keep, Clear, VlanAsk, VlanTell, written, message_bytes, flag, mac_bytes, name_bytes, size_bytes, priority_bytes, fabric_bytes, advertising_bytes, frame_bytes, vx_port_bytes, vlan_bytes}
+use Rattle.fip_codec.specs.Message.{Fip, Solicit, Advertise, Login, LoginReply, Keep, Clear, VlanAsk, VlanTell, written, message_bytes, flag, mac_bytes, name_bytes, size_bytes, priority_bytes, fabric_bytes, advertising_bytes, frame_bytes, kind_code, vx_port_bytes, vlan_bytes}
 use Rattle.fip_codec.specs.Reading.{decoded, message_of, descriptor_bytes, IsFip}
 use Rattle.fip_codec.specs.CanWrite.{CanWrite, IsTyped, IsMac, IsPort, IsFrame}
 use Rattle.fip_codec.proofs.Grammar.{is_sized}
+use Rattle.fip_codec.proofs.Sound.{and-left, and-right}
 use Rattle.fip_codec.proofs.Typed.{of_kind-hit, of_kind-miss}
 use Rattle.fip_codec.proofs.Unique.{decoded-from_IsFip}
 
@@ -30,14 +32,6 @@ all_words (d ∷ ds) = d.words + all_words ds
 
 equal : (a b : ℕ) → (a == b) ≡ true → a ≡ b
 equal a b e = grind (arith, nat_tests)
-
-and-left : (a b : Bool) → (a && b) ≡ true → a ≡ true
-and-left true b e = refl
-and-left false b e = e
-
-and-right : (a b : Bool) → (a && b) ≡ true → b ≡ true
-and-right true b e = e
-and-right false b e = cc
 
 length-spelled_list : (ds : List Descriptor) → list_all is_sized ds ≡ true → length (flat_map descriptor_bytes ds) ≡ 4 * all_words ds
 unfolding all_words
@@ -224,14 +218,10 @@ advertise s a f fp priority mac switch fc_map fabric quiet period more six is_sw
 
 -- ---- encapsulated frames
 
-fits_7 : (w : ℕ) → 7 ≤ w → w ≤ 255 → words_fit 7 w ≡ true
-fits_7 w p q = grind (arith, nat_tests)
-
-fits_8 : (w : ℕ) → 7 ≤ w → w ≤ 255 → words_fit 8 w ≡ true
-fits_8 w p q = grind (arith, nat_tests)
-
-fits_9 : (w : ℕ) → 7 ≤ w → w ≤ 255 → words_fit 9 w ≡ true
-fits_9 w p q = grind (arith, nat_tests)
+fits : (kind : LoginKind) (w : ℕ) → 7 ≤ w → w ≤ 255 → words_fit (kind_code kind) w ≡ true
+fits Flogi w p q = grind (arith, nat_tests)
+fits Fdisc w p q = grind (arith, nat_tests)
+fits Logo w p q = grind (arith, nat_tests)
 
 frame_size : (frame : List ℕ) → IsFrame frame → (length (0 ∷ 0 ∷ frame) + 2 == 4 * (length frame / 4 + 1) && nat_lt 0 (length frame / 4 + 1)) ≡ true
 frame_size frame ok = sized_if (length (0 ∷ 0 ∷ frame) + 2) (length frame / 4 + 1) (let z = ok.0 in omega arith) (omega arith)
@@ -242,74 +232,74 @@ frame_size frame ok = sized_if (length (0 ∷ 0 ∷ frame) + 2) (length frame / 
 frame_words : (frame : List ℕ) → IsFrame frame → (7 ≤ length frame / 4 + 1) × (length frame / 4 + 1 ≤ 255)
 frame_words frame ok = (let z = ok.1 in omega arith, let z = ok.2 in omega arith)
 
+abbrev frame_desc : LoginKind → List ℕ → Descriptor
+frame_desc kind frame = made (kind_code kind) (length frame / 4 + 1) (0 ∷ 0 ∷ frame)
+
+abbrev IsOne : Name → List Descriptor → Type 0
+IsOne name ds = list_all (λ kind. length (of_kind kind ds) == 1) (required name) ≡ true
+
+abbrev AreFew : Name → List Descriptor → Type 0
+AreFew name ds = list_all (λ kind. nat_le (length (of_kind kind ds)) 1) (optional name) ≡ true
+
+-- a frame alone, and before a MAC, by what each kind of request computes
+module _ (kind : LoginKind) (fp : Bool) (frame : List ℕ) (ok : IsFrame frame) where
+  abbrev words : ℕ
+  words = length frame / 4 + 1
+
+  abbrev alone : List Descriptor
+  alone = frame_desc kind frame ∷ []
+
+  known_first : ((may_be_skipped (kind_code kind) || words_fit (kind_code kind) words) && true) ≡ true
+  known_first =
+      let w = frame_words frame ok in
+      and_from (may_be_skipped (kind_code kind) || words_fit (kind_code kind) words) true (or_right (may_be_skipped (kind_code kind)) (words_fit (kind_code kind) words) (fits kind words w.0 w.1)) refl
+
+  reply_alone : (more : List ℕ) → IsOne Reply alone → AreFew Reply alone → message_of Reply (flag 0x8000 fp) alone ≡ LoginReply kind (has_flag 0x8000 (flag 0x8000 fp)) frame None → IsFip (LoginReply kind fp frame None) (written (LoginReply kind fp frame None) ++ more)
+  unfolding written all_words
+  reply_alone more one most says =
+      let w = frame_words frame ok in
+      let flags = one_flag fp in
+      in_grammar _ Reply 2 2 _ _ alone more refl (lit< tt) flags.1 refl
+      (record { whole = refl; sized = ap (λ b. b && true) (frame_size frame ok); known = known_first; few = omega (arith, w.1); one = one; most = most })
+      (says ∙ same_reply kind frame flags.0 refl)
+
+  module _ (mac : List ℕ) (six : IsMac mac) where
+    abbrev both : List Descriptor
+    both = frame_desc kind frame ∷ mac_of mac ∷ []
+
+    with_both : (name : Name) → IsOne name both → AreFew name both → Is name both
+    unfolding all_words
+    with_both name one most =
+        let w = frame_words frame ok in
+        record { whole = refl; sized = ap (λ b. b && (is_sized (mac_of mac) && true)) (frame_size frame ok) ∙ with_mac mac true six refl; known = known_first; few = omega (arith, w.1); one = one; most = most }
+
+    bytes_of_both : frame_bytes kind frame ++ mac_bytes mac ≡ flat_map descriptor_bytes both
+    bytes_of_both = ap (λ m. frame_bytes kind frame ++ 2 ∷ 2 ∷ m) (sym (append-nil mac))
+
+    login_by : (more : List ℕ) → IsOne Request both → AreFew Request both → message_of Request (flag 0x8000 fp) both ≡ Login kind (has_flag 0x8000 (flag 0x8000 fp)) frame (take 6 mac) → IsFip (Login kind fp frame mac) (written (Login kind fp frame mac) ++ more)
+    unfolding written
+    login_by more one most says =
+        let flags = one_flag fp in
+        in_grammar _ Request 2 1 _ _ both more bytes_of_both (lit< tt) flags.1 refl (with_both Request one most) (says ∙ same_login kind frame flags.0 (mac_back mac six))
+
+    reply_by : (more : List ℕ) → IsOne Reply both → AreFew Reply both → message_of Reply (flag 0x8000 fp) both ≡ LoginReply kind (has_flag 0x8000 (flag 0x8000 fp)) frame (Some (take 6 mac)) → IsFip (LoginReply kind fp frame (Some mac)) (written (LoginReply kind fp frame (Some mac)) ++ more)
+    unfolding written
+    reply_by more one most says =
+        let flags = one_flag fp in
+        in_grammar _ Reply 2 2 _ _ both more bytes_of_both (lit< tt) flags.1 refl (with_both Reply one most) (says ∙ same_reply kind frame flags.0 (ap (λ m. Some m) (mac_back mac six)))
+
 login : (kind : LoginKind) (fp : Bool) (frame mac : List ℕ) (more : List ℕ) → IsFrame frame → IsMac mac → IsFip (Login kind fp frame mac) (written (Login kind fp frame mac) ++ more)
-unfolding written all_words
-login Flogi fp frame mac more ok six =
-    let w = length frame / 4 + 1 in
-    let b = frame_words frame ok in
-    let flags = one_flag fp in
-    in_grammar _ Request 2 1 _ _ (made 7 w (0 ∷ 0 ∷ frame) ∷ mac_of mac ∷ []) more (ap (λ m. frame_bytes Flogi frame ++ 2 ∷ 2 ∷ m) (sym (append-nil mac))) (lit< tt) flags.1 refl
-    (record { whole = refl; sized = ap (λ b. b && (is_sized (mac_of mac) && true)) (frame_size frame ok) ∙ with_mac mac true six refl; known = ap (λ b. b && true) (fits_7 w b.0 b.1); few = omega (arith, b.1); one = refl; most = refl })
-    (same_login Flogi frame flags.0 (mac_back mac six))
-login Fdisc fp frame mac more ok six =
-    let w = length frame / 4 + 1 in
-    let b = frame_words frame ok in
-    let flags = one_flag fp in
-    in_grammar _ Request 2 1 _ _ (made 8 w (0 ∷ 0 ∷ frame) ∷ mac_of mac ∷ []) more (ap (λ m. frame_bytes Fdisc frame ++ 2 ∷ 2 ∷ m) (sym (append-nil mac))) (lit< tt) flags.1 refl
-    (record { whole = refl; sized = ap (λ b. b && (is_sized (mac_of mac) && true)) (frame_size frame ok) ∙ with_mac mac true six refl; known = ap (λ b. b && true) (fits_8 w b.0 b.1); few = omega (arith, b.1); one = refl; most = refl })
-    (same_login Fdisc frame flags.0 (mac_back mac six))
-login Logo fp frame mac more ok six =
-    let w = length frame / 4 + 1 in
-    let b = frame_words frame ok in
-    let flags = one_flag fp in
-    in_grammar _ Request 2 1 _ _ (made 9 w (0 ∷ 0 ∷ frame) ∷ mac_of mac ∷ []) more (ap (λ m. frame_bytes Logo frame ++ 2 ∷ 2 ∷ m) (sym (append-nil mac))) (lit< tt) flags.1 refl
-    (record { whole = refl; sized = ap (λ b. b && (is_sized (mac_of mac) && true)) (frame_size frame ok) ∙ with_mac mac true six refl; known = ap (λ b. b && true) (fits_9 w b.0 b.1); few = omega (arith, b.1); one = refl; most = refl })
-    (same_login Logo frame flags.0 (mac_back mac six))
+login Flogi fp frame mac more ok six = login_by Flogi fp frame ok mac six more refl refl refl
+login Fdisc fp frame mac more ok six = login_by Fdisc fp frame ok mac six more refl refl refl
+login Logo fp frame mac more ok six = login_by Logo fp frame ok mac six more refl refl refl
 
 login_reply : (kind : LoginKind) (fp : Bool) (frame : List ℕ) (mac : Option (List ℕ)) (more : List ℕ) → IsFrame frame → IfSome mac IsMac → IsFip (LoginReply kind fp frame mac) (written (LoginReply kind fp frame mac) ++ more)
-unfolding written all_words
-login_reply Flogi fp frame None more ok six =
-    let w = length frame / 4 + 1 in
-    let b = frame_words frame ok in
-    let flags = one_flag fp in
-    in_grammar _ Reply 2 2 _ _ (made 7 w (0 ∷ 0 ∷ frame) ∷ []) more refl (lit< tt) flags.1 refl
-    (record { whole = refl; sized = ap (λ b. b && true) (frame_size frame ok); known = ap (λ b. b && true) (fits_7 w b.0 b.1); few = omega (arith, b.1); one = refl; most = refl })
-    (same_reply Flogi frame flags.0 refl)
-login_reply Flogi fp frame (Some mac) more ok six =
-    let w = length frame / 4 + 1 in
-    let b = frame_words frame ok in
-    let flags = one_flag fp in
-    in_grammar _ Reply 2 2 _ _ (made 7 w (0 ∷ 0 ∷ frame) ∷ mac_of mac ∷ []) more (ap (λ m. frame_bytes Flogi frame ++ 2 ∷ 2 ∷ m) (sym (append-nil mac))) (lit< tt) flags.1 refl
-    (record { whole = refl; sized = ap (λ b. b && (is_sized (mac_of mac) && true)) (frame_size frame ok) ∙ with_mac mac true six refl; known = ap (λ b. b && true) (fits_7 w b.0 b.1); few = omega (arith, b.1); one = refl; most = refl })
-    (same_reply Flogi frame flags.0 (ap (λ m. Some m) (mac_back mac six)))
-login_reply Fdisc fp frame None more ok six =
-    let w = length frame / 4 + 1 in
-    let b = frame_words frame ok in
-    let flags = one_flag fp in
-    in_grammar _ Reply 2 2 _ _ (made 8 w (0 ∷ 0 ∷ frame) ∷ []) more refl (lit< tt) flags.1 refl
-    (record { whole = refl; sized = ap (λ b. b && true) (frame_size frame ok); known = ap (λ b. b && true) (fits_8 w b.0 b.1); few = omega (arith, b.1); one = refl; most = refl })
-    (same_reply Fdisc frame flags.0 refl)
-login_reply Fdisc fp frame (Some mac) more ok six =
-    let w = length frame / 4 + 1 in
-    let b = frame_words frame ok in
-    let flags = one_flag fp in
-    in_grammar _ Reply 2 2 _ _ (made 8 w (0 ∷ 0 ∷ frame) ∷ mac_of mac ∷ []) more (ap (λ m. frame_bytes Fdisc frame ++ 2 ∷ 2 ∷ m) (sym (append-nil mac))) (lit< tt) flags.1 refl
-    (record { whole = refl; sized = ap (λ b. b && (is_sized (mac_of mac) && true)) (frame_size frame ok) ∙ with_mac mac true six refl; known = ap (λ b. b && true) (fits_8 w b.0 b.1); few = omega (arith, b.1); one = refl; most = refl })
-    (same_reply Fdisc frame flags.0 (ap (λ m. Some m) (mac_back mac six)))
-login_reply Logo fp frame None more ok six =
-    let w = length frame / 4 + 1 in
-    let b = frame_words frame ok in
-    let flags = one_flag fp in
-    in_grammar _ Reply 2 2 _ _ (made 9 w (0 ∷ 0 ∷ frame) ∷ []) more refl (lit< tt) flags.1 refl
-    (record { whole = refl; sized = ap (λ b. b && true) (frame_size frame ok); known = ap (λ b. b && true) (fits_9 w b.0 b.1); few = omega (arith, b.1); one = refl; most = refl })
-    (same_reply Logo frame flags.0 refl)
-login_reply Logo fp frame (Some mac) more ok six =
-    let w = length frame / 4 + 1 in
-    let b = frame_words frame ok in
-    let flags = one_flag fp in
-    in_grammar _ Reply 2 2 _ _ (made 9 w (0 ∷ 0 ∷ frame) ∷ mac_of mac ∷ []) more (ap (λ m. frame_bytes Logo frame ++ 2 ∷ 2 ∷ m) (sym (append-nil mac))) (lit< tt) flags.1 refl
-    (record { whole = refl; sized = ap (λ b. b && (is_sized (mac_of mac) && true)) (frame_size frame ok) ∙ with_mac mac true six refl; known = ap (λ b. b && true) (fits_9 w b.0 b.1); few = omega (arith, b.1); one = refl; most = refl })
-    (same_reply Logo frame flags.0 (ap (λ m. Some m) (mac_back mac six)))
+login_reply Flogi fp frame None more ok six = reply_alone Flogi fp frame ok more refl refl refl
+login_reply Fdisc fp frame None more ok six = reply_alone Fdisc fp frame ok more refl refl refl
+login_reply Logo fp frame None more ok six = reply_alone Logo fp frame ok more refl refl refl
+login_reply Flogi fp frame (Some mac) more ok six = reply_by Flogi fp frame ok mac six more refl refl refl
+login_reply Fdisc fp frame (Some mac) more ok six = reply_by Fdisc fp frame ok mac six more refl refl refl
+login_reply Logo fp frame (Some mac) more ok six = reply_by Logo fp frame ok mac six more refl refl refl
 
 -- ---- lists of descriptors of one type
 
