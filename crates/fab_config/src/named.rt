@@ -1,12 +1,17 @@
 //! Zones and zone sets as they are read, with an index of their names.
-ghost use Rattle.std.specs.Prelude.{◌≡◌, ◌<◌, ◌≤◌, ◌∷◌, ◌++◌, [], None, Some, Ok, ℕ, List, IfOk, IfSome, OnOk, MatchResult, length, option_map};
+ghost use Rattle.std.specs.Prelude.{◌≡◌, ◌<◌, ◌≤◌, ◌∷◌, ◌++◌, [], None, Some, ℕ, List, IfOk};
+ghost use Rattle.std.specs.Prelude.{IfSome, OnOk, MatchResult, length, option_map};
 ghost use Rattle.std.specs.List.{list_all};
 ghost use Rattle.fab_config.specs.Lines.{words};
 ghost use Rattle.fab_config.specs.Names.{place, zone_names, set_names};
 ghost use Rattle.fab_config.specs.Values as spec;
-ghost use Rattle.fab_config.specs.Settings.{is_zone_name as is_zone_name_spec, is_letter as is_letter_spec, is_name_sign as is_name_sign_spec};
-ghost use Rattle.fab_config.specs.Text.{zones_with, zones_grown, sets_with, sets_grown, activations_with, activation, is_later as is_later_spec, listed, listed_or_fault, zone_place};
-ghost use Rattle.fab_config.specs.Told.{Tells};
+ghost use Rattle.fab_config.specs.Settings.{is_zone_name as is_zone_name_spec};
+ghost use Rattle.fab_config.specs.Settings.{is_letter as is_letter_spec};
+ghost use Rattle.fab_config.specs.Settings.{is_name_sign as is_name_sign_spec};
+ghost use Rattle.fab_config.specs.Text.{zones_with, zones_grown, sets_with, sets_grown};
+ghost use Rattle.fab_config.specs.Text.{activations_with, activation, is_later as is_later_spec};
+ghost use Rattle.fab_config.specs.Text.{listed, listed_or_fault, zone_place};
+ghost use Rattle.fab_config.specs.Told.{Answers, Tells};
 ghost use Rattle.fab_config.specs.declared.Zone.{Zone};
 ghost use Rattle.fab_config.specs.declared.ZoneSet.{ZoneSet};
 
@@ -89,7 +94,7 @@ impl NamedZones {
     /// The zones with the zone of a line with these values behind them.
     #[tactic(auto, unfolding(crate::specs::Text::zones_with))]
     pub(crate) fn with(self, alloc: Global, values: &[u8]) -> Result<NamedZones, LineError>
-        ensures { MatchResult result (λ z. zones_with self (words values.now) ≡ Ok z) (λ e. Tells e (zones_with self (words values.now))) }
+        ensures { Answers result (zones_with self (words values.now)) }
     {
         let Some((name, rest)) = next_word(values) else {
             return Err(LineError::Fault(ConfigWhy::Value));
@@ -107,7 +112,8 @@ impl NamedZones {
     // The zones with one more, within the limits.
     fn grown(self, alloc: Global, name: &[u8], members: NameList) -> Result<NamedZones, LineError>
         requires { place name.now (zone_names self) ≡ None }
-        ensures { let more = self ++ record { name = name.now; members = members } ∷ [] in MatchResult result (λ z. zones_grown more ≡ Ok z) (λ e. Tells e (zones_grown more)) }
+        ensures { Answers result (zones_grown (self
+            ++ record { name = name.now; members = members } ∷ [])) }
     {
         let NamedZones {
             mut names,
@@ -141,7 +147,8 @@ impl NamedZones {
 
 // The names of a zone's line, one at least, each of which counts once.
 fn read_members(alloc: Global, values: &[u8]) -> Result<NameList, LineError>
-    ensures { MatchResult result (λ m. listed spec.name (words values.now) ≡ Some m) (λ e. Tells e (listed_or_fault spec.name (words values.now))) }
+    ensures { MatchResult result (λ m. listed spec.name (words values.now) ≡ Some m)
+        (λ e. Tells e (listed_or_fault spec.name (words values.now))) }
 {
     let Ok(members) = read_names(alloc, values) else {
         return Err(LineError::Memory);
@@ -159,7 +166,8 @@ fn read_members(alloc: Global, values: &[u8]) -> Result<NameList, LineError>
 
 // The names of words, if each is one.
 fn read_names(alloc: Global, values: &[u8]) -> Result<Option<NameList>, NoMemory>
-    ensures { IfOk result (λ o. o ≡ option_map spec.once (spec.all_of spec.name (words values.now))) }
+    ensures { IfOk result (λ o. o
+        ≡ option_map spec.once (spec.all_of spec.name (words values.now))) }
 {
     let mut members = NameList::new(alloc)?;
     let mut seen = NumberIndex::new(alloc);
@@ -251,7 +259,7 @@ impl NamedSets {
         zones: &NamedZones,
         values: &[u8],
     ) -> Result<NamedSets, LineError>
-        ensures { MatchResult result (λ s. sets_with zones.now self (words values.now) ≡ Ok s) (λ e. Tells e (sets_with zones.now self (words values.now))) }
+        ensures { Answers result (sets_with zones.now self (words values.now)) }
     {
         let Some((name, rest)) = next_word(values) else {
             return Err(LineError::Fault(ConfigWhy::Value));
@@ -269,7 +277,8 @@ impl NamedSets {
     // The zone sets with one more, within the limits.
     fn grown(self, alloc: Global, name: &[u8], places: PlaceList) -> Result<NamedSets, LineError>
         requires { place name.now (set_names self) ≡ None }
-        ensures { let more = self ++ record { name = name.now; places = places } ∷ [] in MatchResult result (λ s. sets_grown more ≡ Ok s) (λ e. Tells e (sets_grown more)) }
+        ensures { Answers result (sets_grown (self
+            ++ record { name = name.now; places = places } ∷ [])) }
     {
         let NamedSets {
             mut names,
@@ -300,7 +309,9 @@ impl NamedSets {
 
 // The places of the zones of a zone set's line, one at least, each of which counts once.
 fn read_zones(alloc: Global, zones: &NamedZones, values: &[u8]) -> Result<PlaceList, LineError>
-    ensures { let says = zone_place zones.now in MatchResult result (λ m. listed says (words values.now) ≡ Some m) (λ e. Tells e (listed_or_fault says (words values.now))) }
+    ensures { let says = zone_place zones.now in
+        MatchResult result (λ m. listed says (words values.now) ≡ Some m)
+        (λ e. Tells e (listed_or_fault says (words values.now))) }
 {
     let Ok(places) = read_places(alloc, zones, values) else {
         return Err(LineError::Memory);
@@ -322,7 +333,8 @@ fn read_places(
     zones: &NamedZones,
     values: &[u8],
 ) -> Result<Option<PlaceList>, NoMemory>
-    ensures { IfOk result (λ o. o ≡ option_map spec.once (spec.all_of (zone_place zones.now) (words values.now))) }
+    ensures { IfOk result (λ o. o
+        ≡ option_map spec.once (spec.all_of (zone_place zones.now) (words values.now))) }
 {
     let mut places = PlaceList::new(alloc)?;
     let mut seen = NumberIndex::new(alloc);
@@ -363,7 +375,7 @@ pub(crate) fn with_activation(
     sets: &NamedSets,
     values: &[u8],
 ) -> Result<ActivationList, LineError>
-    ensures { MatchResult result (λ a. activations_with sets.now activations (words values.now) ≡ Ok a) (λ e. Tells e (activations_with sets.now activations (words values.now))) }
+    ensures { Answers result (activations_with sets.now activations (words values.now)) }
 {
     let Some(activation) = read_activation(&activations, sets, values) else {
         return Err(LineError::Fault(ConfigWhy::Value));
