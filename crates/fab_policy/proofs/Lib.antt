@@ -25,5 +25,6 @@ pub mod SoundFree
 pub mod RegistryFits
 mod LooksLemmas
 mod GrowLemmas
+mod KeepLemmas
 pub mod Ticks
 pub mod Changes

@@ -25,6 +25,7 @@ pub mod Standing
 pub mod Looks
 pub mod Written
 pub mod Growing
+pub mod Keeping
 pub mod Sound
 pub mod Stage
 pub mod Judging

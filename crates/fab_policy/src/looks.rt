@@ -1,4 +1,5 @@
 //! How far captures may reach in time, and the laws of the looks at them.
+ghost use Rattle.fab_policy.specs.Keeping.{StopsAhead, KeepsBefore, KeepsJust, KeepsAll};
 ghost use Rattle.fab_policy.specs.Looks.{LooksFound, LooksEnd, StepsFindStop, LateIsStop};
 
 /// The most milliseconds from the first window of a run to its last, six hours.
@@ -15,4 +16,13 @@ pub fn looks_go_on()
 pub fn steps_find_the_stop()
     ensures steps { StepsFindStop }
     ensures late { LateIsStop }
+{}
+
+/// Looks in a window or later ones stop there or later, and a stop keeps the records of all windows
+/// before its own.
+pub fn stops_keep_what_is_before()
+    ensures ahead { StopsAhead }
+    ensures before { KeepsBefore }
+    ensures just { KeepsJust }
+    ensures all { KeepsAll }
 {}
