@@ -41,7 +41,8 @@ pub fn place_in(names: &[String], name: &str) -> Option<usize>
 // A slot more, under the next number, in room that was made for it; none where no number is left.
 fn push_slot(slots: &mut Vec<DeskSlot>, slot: DeskSlot) -> Option<u32>
     requires { length slots.old.items < vec_capacity slots.old }
-    ensures added { IfSome result (λ s. (s ≡ length slots.old.items) × (slots.new.items ≡ slots.old.items ++ slot ∷ [])) }
+    ensures added { IfSome result (λ s. (s ≡ length slots.old.items)
+        × (slots.new.items ≡ slots.old.items ++ slot ∷ [])) }
     ensures none { IfNone result (slots.new.items ≡ slots.old.items) }
     ensures spent { IsNone result ↔ (2 ^ 32 ≤ length slots.old.items) }
 {
@@ -104,8 +105,10 @@ impl Desk {
 
     /// Whether all words are known.
     pub fn knows_all(&self, words: &[String]) -> bool
-        ensures all { IsTrue result → (k : ℕ) → k < length words.now → IsTrue (knows self.now (name_at words.now k)) }
-        ensures missing { result ≡ false → (k : ℕ) × (k < length words.now) × (knows self.now (name_at words.now k) ≡ false) }
+        ensures all { IsTrue result → (k : ℕ) → k < length words.now →
+            IsTrue (knows self.now (name_at words.now k)) }
+        ensures missing { result ≡ false → (k : ℕ) × (k < length words.now)
+            × (knows self.now (name_at words.now k) ≡ false) }
     {
         for i in 0..words.len() {
             if self.place(word_at(words, i)).is_none() {
@@ -137,7 +140,8 @@ impl Desk {
         requires { file < length self.old.names.items }
         ensures stays { Stays file self.old self.new }
         ensures slots { self.new.slots ≡ self.old.slots }
-        ensures counted { slice_index self.new.reads.items file ≡ one_more (slice_index self.old.reads.items file) }
+        ensures counted { slice_index self.new.reads.items file
+            ≡ one_more (slice_index self.old.reads.items file) }
         ensures writes { self.new.writes ≡ self.old.writes }
     {
         self.reads[file] = self.reads[file].saturating_add(1);
@@ -148,7 +152,8 @@ impl Desk {
         requires { file < length self.old.names.items }
         ensures stays { Stays file self.old self.new }
         ensures slots { self.new.slots ≡ self.old.slots }
-        ensures counted { slice_index self.new.writes.items file ≡ one_more (slice_index self.old.writes.items file) }
+        ensures counted { slice_index self.new.writes.items file
+            ≡ one_more (slice_index self.old.writes.items file) }
         ensures reads { self.new.reads ≡ self.old.reads }
     {
         self.writes[file] = self.writes[file].saturating_add(1);
@@ -172,7 +177,12 @@ impl Desk {
         ensures none { IsNone result ↔ (2 ^ 32 ≤ length self.old.slots.items) }
         ensures stays { Stays file self.old self.new }
         ensures counts { KeepsCounts self.old self.new }
-        ensures fresh { IfSome result (λ s. (s ≡ length self.old.slots.items) × (slice_get self.new.slots.items s ≡ Some (record { file = file; at = at; input = input }))) }
+        ensures fresh { IfSome result (λ s. (s ≡ length self.old.slots.items)
+            × (slice_get self.new.slots.items s ≡ Some (record {
+              file = file;
+              at = at;
+              input = input;
+            }))) }
     {
         push_slot(&mut self.slots, DeskSlot { file, at, input })
     }
@@ -182,7 +192,8 @@ impl Desk {
         requires { slot < length self.old.slots.items }
         ensures stays { Stays (file_of self.old slot) self.old self.new }
         ensures at { at_of self.new slot ≡ at }
-        ensures same { (self.new.names ≡ self.old.names) × (self.new.reads ≡ self.old.reads) × (self.new.writes ≡ self.old.writes) }
+        ensures same { (self.new.names ≡ self.old.names) × (self.new.reads ≡ self.old.reads)
+            × (self.new.writes ≡ self.old.writes) }
     {
         self.slots[slot as usize].at = at;
     }

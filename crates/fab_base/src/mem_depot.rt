@@ -64,8 +64,10 @@ impl MemDepot {
 
     /// Whether all words are known.
     pub fn knows_all(&self, words: &[String]) -> bool
-        ensures all { IsTrue result → (k : ℕ) → k < length words.now → IsTrue ((mem_seen self.now).knows (name_at words.now k)) }
-        ensures missing { result ≡ false → (k : ℕ) × (k < length words.now) × ((mem_seen self.now).knows (name_at words.now k) ≡ false) }
+        ensures all { IsTrue result → (k : ℕ) → k < length words.now →
+            IsTrue ((mem_seen self.now).knows (name_at words.now k)) }
+        ensures missing { result ≡ false → (k : ℕ) × (k < length words.now)
+            × ((mem_seen self.now).knows (name_at words.now k) ≡ false) }
     {
         self.desk.knows_all(words)
     }
@@ -84,7 +86,8 @@ impl MemDepot {
     /// Makes a name known. A file that is stored under it stays.
     pub fn know(&mut self, alloc: Global, name: &str) -> Result<(), NoMemory>
         ensures ok { OnOk result (Learns name.now (mem_seen self.old) (mem_seen self.new)) }
-        ensures file { OnOk result ((mem_seen self.new).file name.now ≡ (mem_seen self.old).file name.now) }
+        ensures file { OnOk result ((mem_seen self.new).file name.now
+            ≡ (mem_seen self.old).file name.now) }
         ensures calls { SameCalls self.old self.new }
         ensures err { OnErr result (Same self.old self.new) }
     {
@@ -113,9 +116,12 @@ impl MemDepot {
 
     // The place of a name, which stands behind the others where it was not known.
     fn place_or_new(&mut self, alloc: Global, name: &str) -> Result<usize, NoMemory>
-        ensures place { IfOk result (λ i. (place_of self.new.desk name.now ≡ Some i) × (i < length self.new.contents.items)) }
-        ensures learns { IfOk result (λ i. Learns name.now (mem_seen self.old) (mem_seen self.new)) }
-        ensures file { IfOk result (λ i. (mem_seen self.new).file name.now ≡ (mem_seen self.old).file name.now) }
+        ensures place { IfOk result (λ i. (place_of self.new.desk name.now ≡ Some i)
+            × (i < length self.new.contents.items)) }
+        ensures learns { IfOk result (λ i. Learns name.now (mem_seen self.old)
+            (mem_seen self.new)) }
+        ensures file { IfOk result (λ i. (mem_seen self.new).file name.now
+            ≡ (mem_seen self.old).file name.now) }
         ensures calls { SameCalls self.old self.new }
         ensures err { OnErr result (Same self.old self.new) }
     {
@@ -143,10 +149,17 @@ impl MemDepot {
         ensures stays { Stays file self.old.desk self.new.desk }
         ensures counts { KeepsCounts self.old.desk self.new.desk }
         ensures contents { self.new.contents ≡ self.old.contents }
-        ensures fresh { IfSome result (λ s. (s ≡ length self.old.desk.slots.items) × (slice_get self.new.desk.slots.items s ≡ Some (record { file = file; at = 0; input = true }))) }
-        ensures there { OnSome result ((bytes : List ℕ) × (content_at self.new.contents.items file ≡ Some bytes)) }
+        ensures fresh { IfSome result (λ s. (s ≡ length self.old.desk.slots.items)
+            × (slice_get self.new.desk.slots.items s ≡ Some (record {
+              file = file;
+              at = 0;
+              input = true;
+            }))) }
+        ensures there { OnSome result ((bytes : List ℕ)
+            × (content_at self.new.contents.items file ≡ Some bytes)) }
         ensures allowed { OnSome result (is_to_fail self.old ≡ false) }
-        ensures cause { IfNone result (MayFail self.old (content_at self.old.contents.items file ≡ None ⊎ slots_left self.old ≡ 0)) }
+        ensures cause { IfNone result (MayFail self.old
+            (content_at self.old.contents.items file ≡ None ⊎ slots_left self.old ≡ 0)) }
     {
         if is_refused(&mut self.calls, &self.failing) {
             return None;
@@ -163,10 +176,17 @@ impl MemDepot {
         ensures counted { Counted self.old self.new }
         ensures stays { Stays file self.old.desk self.new.desk }
         ensures counts { KeepsCounts self.old.desk self.new.desk }
-        ensures others { (i : ℕ) → i ≢ file → content_at self.new.contents.items i ≡ content_at self.old.contents.items i }
-        ensures fresh { IfSome result (λ s. (s ≡ length self.old.desk.slots.items) × (slice_get self.new.desk.slots.items s ≡ Some (record { file = file; at = 0; input = false }))) }
+        ensures others { (i : ℕ) → i ≢ file → content_at self.new.contents.items i
+            ≡ content_at self.old.contents.items i }
+        ensures fresh { IfSome result (λ s. (s ≡ length self.old.desk.slots.items)
+            × (slice_get self.new.desk.slots.items s ≡ Some (record {
+              file = file;
+              at = 0;
+              input = false;
+            }))) }
         ensures emptied { OnSome result (content_at self.new.contents.items file ≡ Some []) }
-        ensures none { IfNone result (content_at self.new.contents.items file ≡ content_at self.old.contents.items file) }
+        ensures none { IfNone result (content_at self.new.contents.items file
+            ≡ content_at self.old.contents.items file) }
         ensures allowed { OnSome result (is_to_fail self.old ≡ false) }
         ensures cause { IfNone result (MayFail self.old (slots_left self.old ≡ 0)) }
     {
@@ -187,8 +207,10 @@ impl MemDepot {
         ensures counts { KeepsCounts self.old.desk self.new.desk }
         ensures contents { self.new.contents ≡ self.old.contents }
         ensures bound { IfSome result (λ n. n ≤ length into.new) }
-        ensures taken { IfSome result (λ n. take n into.new ++ left_of self.new slot ≡ left_of self.old slot) }
-        ensures all { IfSome result (λ n. n ≡ min (length into.old) (length (left_of self.old slot))) }
+        ensures taken { IfSome result (λ n. take n into.new ++ left_of self.new slot
+            ≡ left_of self.old slot) }
+        ensures all { IfSome result (λ n. n ≡ min (length into.old)
+            (length (left_of self.old slot))) }
         ensures none { IfNone result (left_of self.new slot ≡ left_of self.old slot) }
         ensures refused { IsNone result ↔ (is_to_fail self.old ≡ true) }
     {
@@ -206,12 +228,16 @@ impl MemDepot {
         requires some { 0 < length from.now }
         ensures counted { Counted self.old self.new }
         ensures desk { self.new.desk ≡ self.old.desk }
-        ensures others { (i : ℕ) → i ≢ file → content_at self.new.contents.items i ≡ content_at self.old.contents.items i }
+        ensures others { (i : ℕ) → i ≢ file → content_at self.new.contents.items i
+            ≡ content_at self.old.contents.items i }
         ensures all { IfSome result (λ n. n ≡ length from.now) }
-        ensures grown { OnSome result (content_at self.new.contents.items file ≡ Some (bytes_of (content_at self.old.contents.items file) ++ from.now)) }
-        ensures none { IfNone result (content_at self.new.contents.items file ≡ content_at self.old.contents.items file) }
+        ensures grown { OnSome result (content_at self.new.contents.items file
+            ≡ Some (bytes_of (content_at self.old.contents.items file) ++ from.now)) }
+        ensures none { IfNone result (content_at self.new.contents.items file
+            ≡ content_at self.old.contents.items file) }
         ensures allowed { OnSome result (is_to_fail self.old ≡ false) }
-        ensures cause { IfNone result (MayFail self.old (spare_at self.old.contents.items file < length from.now)) }
+        ensures cause { IfNone result (MayFail self.old
+            (spare_at self.old.contents.items file < length from.now)) }
     {
         if is_refused(&mut self.calls, &self.failing) {
             return None;
@@ -234,10 +260,12 @@ impl Depot for MemDepot {
         requires { IsTrue ((mem_seen self.old).knows name.now) }
         ensures opens { OpensIn name.now (mem_seen self.old) (mem_seen self.new) result }
         ensures counted { Counted self.old self.new }
-        ensures counts { CountsReads name.now (is_err result) (mem_seen self.old) (mem_seen self.new) }
+        ensures counts { CountsReads name.now (is_err result) (mem_seen self.old)
+            (mem_seen self.new) }
         ensures refused { is_to_fail self.old ≡ true → IsErr result }
         ensures missing { (mem_seen self.old).file name.now ≡ None → IsErr result }
-        ensures cause { OnErr result (MayFail self.old ((mem_seen self.old).file name.now ≡ None ⊎ slots_left self.old ≡ 0)) }
+        ensures cause { OnErr result (MayFail self.old
+            ((mem_seen self.old).file name.now ≡ None ⊎ slots_left self.old ≡ 0)) }
     {
         let file = self.desk.place(name).unwrap();
         match self.try_open_in(name, file) {
@@ -253,7 +281,8 @@ impl Depot for MemDepot {
         requires { IsTrue ((mem_seen self.old).knows name.now) }
         ensures opens { OpensOut name.now (mem_seen self.old) (mem_seen self.new) result }
         ensures counted { Counted self.old self.new }
-        ensures counts { CountsWrites name.now (is_err result) (mem_seen self.old) (mem_seen self.new) }
+        ensures counts { CountsWrites name.now (is_err result) (mem_seen self.old)
+            (mem_seen self.new) }
         ensures refused { is_to_fail self.old ≡ true → IsErr result }
         ensures cause { OnErr result (MayFail self.old (slots_left self.old ≡ 0)) }
     {
@@ -272,9 +301,11 @@ impl Depot for MemDepot {
         requires room { 0 < length into.old }
         ensures fetches { Fetches slot into.new (mem_seen self.old) (mem_seen self.new) result }
         ensures counted { Counted self.old self.new }
-        ensures counts { CountsReads ((mem_seen self.old).name slot) (is_err result) (mem_seen self.old) (mem_seen self.new) }
+        ensures counts { CountsReads ((mem_seen self.old).name slot) (is_err result)
+            (mem_seen self.old) (mem_seen self.new) }
         ensures refused { IsErr result ↔ (is_to_fail self.old ≡ true) }
-        ensures all { IfOk result (λ n. n ≡ min (length into.old) (length ((mem_seen self.old).left slot))) }
+        ensures all { IfOk result (λ n. n ≡ min (length into.old)
+            (length ((mem_seen self.old).left slot))) }
     {
         let file = self.desk.file(slot);
         match self.try_fetch(slot, file, into) {
@@ -291,9 +322,11 @@ impl Depot for MemDepot {
         requires some { 0 < length from.now }
         ensures puts { Puts slot from.now (mem_seen self.old) (mem_seen self.new) result }
         ensures counted { Counted self.old self.new }
-        ensures counts { CountsWrites ((mem_seen self.old).name slot) (is_err result) (mem_seen self.old) (mem_seen self.new) }
+        ensures counts { CountsWrites ((mem_seen self.old).name slot) (is_err result)
+            (mem_seen self.old) (mem_seen self.new) }
         ensures refused { is_to_fail self.old ≡ true → IsErr result }
-        ensures cause { OnErr result (MayFail self.old (bytes_left self.old slot < length from.now)) }
+        ensures cause { OnErr result (MayFail self.old
+            (bytes_left self.old slot < length from.now)) }
         ensures all { IfOk result (λ n. n ≡ length from.now) }
     {
         let file = self.desk.file(slot);
@@ -312,7 +345,12 @@ fn open_slot(alloc: Global, desk: &mut Desk, name: &str, file: usize, input: boo
     requires { place_of desk.old name.now ≡ Some file }
     ensures stays { Stays file desk.old desk.new }
     ensures counts { KeepsCounts desk.old desk.new }
-    ensures fresh { IfSome result (λ s. (s ≡ length desk.old.slots.items) × (slice_get desk.new.slots.items s ≡ Some (record { file = file; at = 0; input = input }))) }
+    ensures fresh { IfSome result (λ s. (s ≡ length desk.old.slots.items)
+        × (slice_get desk.new.slots.items s ≡ Some (record {
+          file = file;
+          at = 0;
+          input = input;
+        }))) }
     ensures cause { IfNone result (spare_slots desk.old ≡ 0) }
 {
     match desk.reserve_slot(alloc) {
@@ -337,8 +375,10 @@ fn copy_from(bytes: &[u8], at: usize, into: &mut [u8]) -> usize
 
 // The same from a content that may not be there.
 fn copy_content(content: &Option<Vec<u8>>, at: usize, into: &mut [u8]) -> usize
-    ensures taken { take result into.new ++ drop (at + result) (bytes_of (content_bytes content.now)) ≡ drop at (bytes_of (content_bytes content.now)) }
-    ensures all { result ≡ min (length into.old) (length (bytes_of (content_bytes content.now)) - at) }
+    ensures taken { take result into.new ++ drop (at + result)
+        (bytes_of (content_bytes content.now)) ≡ drop at (bytes_of (content_bytes content.now)) }
+    ensures all { result ≡ min (length into.old)
+        (length (bytes_of (content_bytes content.now)) - at) }
     ensures fits { at + result < 2 ^ 64 }
 {
     match content {
@@ -350,9 +390,11 @@ fn copy_content(content: &Option<Vec<u8>>, at: usize, into: &mut [u8]) -> usize
 // Appends bytes to a content, which is made where it is not there.
 fn append_to(alloc: Global, content: &mut Option<Vec<u8>>, from: &[u8]) -> Result<(), NoMemory>
     requires { 0 < length from.now }
-    ensures ok { OnOk result (content_bytes content.new ≡ Some (bytes_of (content_bytes content.old) ++ from.now)) }
+    ensures ok { OnOk result (content_bytes content.new
+        ≡ Some (bytes_of (content_bytes content.old) ++ from.now)) }
     ensures err { OnErr result (content_bytes content.new ≡ content_bytes content.old) }
-    ensures full { OnErr result (capacity_of content.old - length (bytes_of (content_bytes content.old)) < length from.now) }
+    ensures full { OnErr result (capacity_of content.old - length
+        (bytes_of (content_bytes content.old)) < length from.now) }
 {
     match content {
         Some(bytes) => bytes.extend_from_slice(from)?,

@@ -41,7 +41,9 @@ impl MemSink {
     // Appends what fits, or nothing where there is no room.
     fn try_put(&mut self, from: &[u8]) -> Option<usize>
         requires { 0 < length from.now }
-        ensures some { IfSome result (λ n. (1 ≤ n) × (n ≡ min (self.old.room - length self.old.items.items) (length from.now)) × (self.new.items.items ≡ self.old.items.items ++ take n from.now)) }
+        ensures some { IfSome result (λ n. (1 ≤ n)
+            × (n ≡ min (self.old.room - length self.old.items.items) (length from.now))
+            × (self.new.items.items ≡ self.old.items.items ++ take n from.now)) }
         ensures none { IsNone result ↔ (self.old.room ≤ length self.old.items.items) }
         ensures same { IfNone result (self.new.items.items ≡ self.old.items.items) }
         ensures kept { (self.new.room ≡ self.old.room) × (self.new.faults ≡ self.old.faults) }
@@ -66,7 +68,8 @@ impl Sink for MemSink {
         requires { 0 < length from.now }
         ensures sinks { Sinks from.now (mem_sunk self.old) (mem_sunk self.new) result }
         ensures failed { IsErr result ↔ (room_of self.old ≤ length (mem_sunk self.old).written) }
-        ensures count { IfOk result (λ n. n ≡ min (room_of self.old - length (mem_sunk self.old).written) (length from.now)) }
+        ensures count { IfOk result (λ n. n ≡ min
+            (room_of self.old - length (mem_sunk self.old).written) (length from.now)) }
         ensures room { room_of self.new ≡ room_of self.old }
     {
         match self.try_put(from) {

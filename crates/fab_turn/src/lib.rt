@@ -1,4 +1,5 @@
-//! One value for many threads, which take turns with it in the order of their tickets. All of them see one history.
+//! One value for many threads, which take turns with it in the order of their tickets. All of them
+//! see one history.
 #![tactic(auto)]
 
 mod board;

@@ -25,12 +25,13 @@ impl<V: Chronicle> Pass<V> {
 }
 
 impl<V: Chronicle> TurnLock<V> {
-    /// The lock over `value`, and its root pass. All memory of the lock is asked for here: where it is refused, the value
-    /// comes back.
+    /// The lock over `value`, and its root pass. All memory of the lock is asked for here: where it
+    /// is refused, the value comes back.
     pub fn open(alloc: Global, value: V) -> Result<(TurnLock<V>, Pass<V>), (V, NoMemory)>
         ensures root { IfOk result (λ r. IsRootOf r.0 r.1 × IsIdle r.1) }
         ensures first { IfOk result (λ r. first_of r.0 ≡ value) }
-        ensures lists { IfOk result (λ r. (seen r.1 ≡ V.entries value) × (given r.1 ≡ []) × (kept r.1 ≡ [])) }
+        ensures lists { IfOk result (λ r. (seen r.1 ≡ V.entries value) × (given r.1 ≡ [])
+            × (kept r.1 ≡ [])) }
         ensures err { IfErr result (λ e. e.0 ≡ value) }
     {
         let Ok(mut slots) = Vec::with_capacity(alloc, 1) else {
@@ -53,21 +54,23 @@ impl<V: Chronicle> TurnLock<V> {
         }
     }
 
-    /// A pass for a port, which takes no memory. A pass that is dropped can never be joined, and then the lock can never be
-    /// closed: ask for the memory of whoever works with the passes before the first split.
+    /// A pass for a port, which takes no memory. A pass that is dropped can never be joined, and
+    /// then the lock can never be closed: ask for the memory of whoever works with the passes
+    /// before the first split.
     pub fn split(&self, root: &mut Pass<V>, port: PortNo) -> Pass<V>
         requires root { IsRootOf self.now root.old × IsIdle root.old }
         requires new_port { has_port port (given root.old) ≡ false }
         ensures root { IsRootOf self.now root.new × IsIdle root.new }
-        ensures lists { (seen root.new ≡ seen root.old) × (given root.new ≡ port ∷ given root.old) × (kept root.new ≡ kept root.old) }
+        ensures lists { (seen root.new ≡ seen root.old) × (given root.new ≡ port ∷ given root.old)
+            × (kept root.new ≡ kept root.old) }
         ensures pass { IsPassOf self.now result × IsIdle result × (result.port ≡ Some port) }
         ensures new_lists { (seen result ≡ seen root.old) × (own result ≡ []) }
     {
         self.give::<Brand>(root, port)
     }
 
-    /// Draws a ticket, waits until those before it are over, and hands out the value. It yields the processor while it
-    /// waits, and nothing is said of how long that is.
+    /// Draws a ticket, waits until those before it are over, and hands out the value. It yields the
+    /// processor while it waits, and nothing is said of how long that is.
     pub fn turn(&self, rt: &impl Wait, pass: &mut Pass<V>) -> V
         requires { IsPassOf self.now pass.old × IsIdle pass.old }
         ensures pass { IsPassOf self.now pass.new × InTurn pass.new × IsSamePass pass.old pass.new }
@@ -90,10 +93,12 @@ impl<V: Chronicle> TurnLock<V> {
     pub fn finish(&self, pass: &mut Pass<V>, value: V)
         requires pass { IsPassOf self.now pass.old × InTurn pass.old }
         requires grown { V.grown (first_of self.now) value }
-        requires entry { (entry : V.Entry) × (V.entries value ≡ taken pass.old ++ entry ∷ []) × (pass.old.port ≡ Some (V.port_of entry)) }
+        requires entry { (entry : V.Entry) × (V.entries value ≡ taken pass.old ++ entry ∷ [])
+            × (pass.old.port ≡ Some (V.port_of entry)) }
         ensures pass { IsPassOf self.now pass.new × IsIdle pass.new × IsSamePass pass.old pass.new }
         ensures seen { seen pass.new ≡ V.entries value }
-        ensures own { (entry : V.Entry) → V.entries value ≡ taken pass.old ++ entry ∷ [] → own pass.new ≡ own pass.old ++ entry ∷ [] }
+        ensures own { (entry : V.Entry) → V.entries value ≡ taken pass.old ++ entry ∷ [] →
+            own pass.new ≡ own pass.old ++ entry ∷ [] }
     {
         self.put_back(pass, value);
         self.end(pass);
@@ -118,22 +123,26 @@ impl<V: Chronicle> TurnLock<V> {
         requires pass { IsPassOf self.now pass × IsIdle pass }
         ensures root { IsRootOf self.now root.new × IsInSameTurn root.old root.new }
         ensures seen { seen root.new ≡ longer (seen root.old) (seen pass) }
-        ensures begins { IsPrefix (seen root.old) (seen root.new) × IsPrefix (seen pass) (seen root.new) }
+        ensures begins { IsPrefix (seen root.old) (seen root.new)
+            × IsPrefix (seen pass) (seen root.new) }
         ensures given { given root.new ≡ given root.old }
-        ensures kept { (port : ℕ) → pass.port ≡ Some port → kept root.new ≡ (port, own pass) ∷ kept root.old }
+        ensures kept { (port : ℕ) → pass.port ≡ Some port →
+            kept root.new ≡ (port, own pass) ∷ kept root.old }
     {
         self.take_in(root, pass);
         self.compare(root);
     }
 
-    /// The value, once each pass was joined: its entries since the opening are those of the ports, each port's in the order
-    /// of its turns.
+    /// The value, once each pass was joined: its entries since the opening are those of the ports,
+    /// each port's in the order of its turns.
     pub fn close(self, root: Pass<V>) -> V
         requires root { IsRootOf self root × IsIdle root }
         requires joined { AllJoined root }
         ensures grown { V.grown (first_of self) result }
         ensures seen { IsPrefix (seen root) (V.entries result) }
-        ensures history { (since : List V.Entry) × (V.entries result ≡ V.entries (first_of self) ++ since) × ((port : ℕ) → of_port V.port_of port since ≡ kept_list port (kept root)) }
+        ensures history { (since : List V.Entry)
+            × (V.entries result ≡ V.entries (first_of self) ++ since)
+            × ((port : ℕ) → of_port V.port_of port since ≡ kept_list port (kept root)) }
     {
         let TurnLock { table } = self;
         let Pass { seat, port: _ } = root;

@@ -22,7 +22,8 @@ impl<V: Chronicle> Play<Option<V>, View<V, V::Entry>> for Look<V> {
     ghost then = { Looks V.entries V.grown };
 }
 
-/// fetch_add on word 1: the slot goes home, and the history goes on by what the value in it has more.
+/// fetch_add on word 1: the slot goes home, and the history goes on by what the value in it has
+/// more.
 pub(crate) struct Finish<V> {
     of: PhantomData<V>,
 }
@@ -62,7 +63,8 @@ impl<V, E> Join<View<V, E>> for TakeIn {
     ghost spent = { spent };
 }
 
-/// Load of word 0: the root learns that, of the two lists of its last join, the shorter begins the longer.
+/// Load of word 0: the root learns that, of the two lists of its last join, the shorter begins the
+/// longer.
 pub(crate) struct Compare;
 
 impl<V, E> Play<Option<V>, View<V, E>> for Compare {

@@ -1,4 +1,5 @@
-//! The rule of the lock. Word 0 counts the tickets, word 1 is the serving number, and the one slot keeps the value.
+//! The rule of the lock. Word 0 counts the tickets, word 1 is the serving number, and the one slot
+//! keeps the value.
 use crate::view::View;
 use atomic_table::TableRule;
 use std::marker::PhantomData;

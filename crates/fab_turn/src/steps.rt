@@ -21,7 +21,8 @@ impl<V: Chronicle> TurnLock<V> {
     // Draws a ticket.
     pub(crate) fn draw(&self, pass: &mut Pass<V>) -> u64
         requires { IsPassOf self.now pass.old × IsIdle pass.old }
-        ensures { (t : ℕ) × (result ≡ t % 2 ^ 64) × Moved pass.old pass.new (with_ticket (view pass.old) t, []) }
+        ensures { (t : ℕ) × (result ≡ t % 2 ^ 64)
+            × Moved pass.old pass.new (with_ticket (view pass.old) t, []) }
     {
         self.table
             .shared
@@ -30,17 +31,22 @@ impl<V: Chronicle> TurnLock<V> {
 
     // The serving number. Where it is the ticket, the slot came to the pass.
     pub(crate) fn look(&self, pass: &mut Pass<V>) -> u64
-        requires { IsPassOf self.now pass.old × ((view pass.old).served ≡ false) × (pass.old.seat.me.1 ≡ []) × ((t : ℕ) × ((view pass.old).ticket ≡ Some t)) }
-        ensures pass { (pass.new.port ≡ pass.old.port) × (pass.new.seat.table_id ≡ pass.old.seat.table_id) }
-        ensures served { (t : ℕ) → (view pass.old).ticket ≡ Some t → result ≡ t % 2 ^ 64 → Serves V.entries V.grown pass.old.seat.me pass.new.seat.me }
-        ensures waits { (t : ℕ) → (view pass.old).ticket ≡ Some t → result ≢ t % 2 ^ 64 → pass.new.seat.me ≡ pass.old.seat.me }
+        requires { IsPassOf self.now pass.old × ((view pass.old).served ≡ false)
+            × (pass.old.seat.me.1 ≡ []) × ((t : ℕ) × ((view pass.old).ticket ≡ Some t)) }
+        ensures pass { (pass.new.port ≡ pass.old.port)
+            × (pass.new.seat.table_id ≡ pass.old.seat.table_id) }
+        ensures served { (t : ℕ) → (view pass.old).ticket ≡ Some t → result ≡ t % 2 ^ 64 →
+            Serves V.entries V.grown pass.old.seat.me pass.new.seat.me }
+        ensures waits { (t : ℕ) → (view pass.old).ticket ≡ Some t → result ≢ t % 2 ^ 64 →
+            pass.new.seat.me ≡ pass.old.seat.me }
     {
         self.table.shared.load::<Look<V>>(&mut pass.seat, SERVING)
     }
 
     // Takes the value out of the slot.
     pub(crate) fn take(&self, pass: &mut Pass<V>) -> V
-        requires { (pass.old.seat.table_id ≡ self.now.table.shared.table_id) × ((value : V) × (pass.old.seat.me.1 ≡ (0, Some value) ∷ [])) }
+        requires { (pass.old.seat.table_id ≡ self.now.table.shared.table_id)
+            × ((value : V) × (pass.old.seat.me.1 ≡ (0, Some value) ∷ [])) }
         ensures value { pass.old.seat.me.1 ≡ (0, Some result) ∷ [] }
         ensures pass { Moved pass.old pass.new (view pass.old, (0, None) ∷ []) }
     {
@@ -49,7 +55,8 @@ impl<V: Chronicle> TurnLock<V> {
 
     // Puts the value into the slot.
     pub(crate) fn put_back(&self, pass: &mut Pass<V>, value: V)
-        requires { (pass.old.seat.table_id ≡ self.now.table.shared.table_id) × (pass.old.seat.me.1 ≡ (0, None) ∷ []) }
+        requires { (pass.old.seat.table_id ≡ self.now.table.shared.table_id)
+            × (pass.old.seat.me.1 ≡ (0, None) ∷ []) }
         ensures { Moved pass.old pass.new (view pass.old, (0, Some value) ∷ []) }
     {
         match self.table.shared.exchange(&mut pass.seat, 0, Some(value)) {
@@ -58,11 +65,16 @@ impl<V: Chronicle> TurnLock<V> {
         }
     }
 
-    // Gives the slot back, and raises the serving number. The value has some more entries, all of the pass's port.
+    // Gives the slot back, and raises the serving number. The value has some more entries, all of
+    // the pass's port.
     pub(crate) fn end(&self, pass: &mut Pass<V>)
         requires pass { IsPassOf self.now pass.old }
         requires turn { MayEnd V.entries V.port_of V.grown (first_of self.now) pass.old.seat.me }
-        ensures { Moved pass.old pass.new (after_turn (view pass.old) (entries_in V.entries pass.old.seat.me.1), []) }
+        ensures { Moved pass.old pass.new (
+          after_turn (view pass.old)
+              (entries_in V.entries pass.old.seat.me.1),
+          [],
+        ) }
     {
         self.table
             .shared
@@ -75,7 +87,8 @@ impl<V: Chronicle> TurnLock<V> {
         requires new_port { has_port port (given root.old) ≡ false }
         requires named { port ≡ N.port }
         ensures root { Moved root.old root.new (gave port (view root.old), []) }
-        ensures pass { IsPassOf self.now result × (result.port ≡ Some port) × (result.seat.me ≡ (worker port (view root.old), [])) }
+        ensures pass { IsPassOf self.now result × (result.port ≡ Some port)
+            × (result.seat.me ≡ (worker port (view root.old), [])) }
     {
         let _number = port.value();
         let seat = self.table.shared.split_seat::<Give<N>>(&mut root.seat);

@@ -9,7 +9,8 @@ pub enum Role {
     Spent,
 }
 
-/// What the pass of a role knows of a lock that was opened with the value `first`, a `V`. Its entries are `E`s.
+/// What the pass of a role knows of a lock that was opened with the value `first`, a `V`. Its
+/// entries are `E`s.
 pub struct View<V, E> {
     pub role: Role,
     /// The number of its ticket, counted from 0 and not modulo 2^64.
@@ -19,7 +20,8 @@ pub struct View<V, E> {
     pub taken: LinkedList<E>,
     pub seen: LinkedList<E>,
     pub own: LinkedList<E>,
-    /// The root's: of the two `seen` lists of its last join, the shorter. Empty once it took a turn.
+    /// The root's: of the two `seen` lists of its last join, the shorter. Empty once it took a
+    /// turn.
     pub met: LinkedList<E>,
     /// None in a spent view alone.
     pub first: Option<V>,

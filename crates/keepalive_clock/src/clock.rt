@@ -29,9 +29,20 @@ impl Model for KeepClock {
 
     ghost use Rattle.keepalive_clock.specs.Order.{IsKept};
 
-    ghost view = { λ c. record { node_period = c.node_period; port_period = c.port_period; room = c.room; voices = c.voices.items } };
+    ghost view = { λ c. record {
+      node_period = c.node_period;
+      port_period = c.port_period;
+      room = c.room;
+      voices = c.voices.items;
+    } };
 
-    ghost invariant = { λ c. IsKept (record { node_period = c.node_period; port_period = c.port_period; room = c.room; voices = c.voices.items }) (vec_capacity c.voices) };
+    ghost invariant = { λ c. IsKept (record {
+      node_period = c.node_period;
+      port_period = c.port_period;
+      room = c.room;
+      voices = c.voices.items;
+    })
+        (vec_capacity c.voices) };
 }
 
 impl KeepClock {
@@ -42,7 +53,12 @@ impl KeepClock {
         port_period: u32,
         room: u32,
     ) -> Result<KeepClock, NoMemory>
-        ensures { IfOk result (λ c. c ≡ record { node_period = node_period; port_period = port_period; room = room; voices = [] }) }
+        ensures { IfOk result (λ c. c ≡ record {
+          node_period = node_period;
+          port_period = port_period;
+          room = room;
+          voices = [];
+        }) }
     {
         let voices = Vec::with_capacity(alloc, room as usize)?;
         Ok(KeepClock {
@@ -56,9 +72,11 @@ impl KeepClock {
     /// The voice was heard at this moment.
     pub fn heard(&mut self, voice: Voice, now: Moment)
         requires range { now < 2 ^ 63 }
-        requires room { IsTrue (is_some (last_of voice self.old.voices)) ⊎ (length self.old.voices < self.old.room) }
+        requires room { IsTrue (is_some (last_of voice self.old.voices))
+            ⊎ (length self.old.voices < self.old.room) }
         ensures limits { KeepsLimits self.old self.new }
-        ensures voices { IsPermutation (record { voice = voice; last = now } ∷ without voice self.old.voices) self.new.voices }
+        ensures voices { IsPermutation (record { voice = voice; last = now }
+            ∷ without voice self.old.voices) self.new.voices }
         ensures count { length self.new.voices ≡ count_with voice self.old.voices }
         ensures sound { IsSound self.new }
         ensures last { HearsVoice voice now self.old.voices self.new.voices }
@@ -96,7 +114,8 @@ impl KeepClock {
 
     /// The least moment at which some voice is silent too long.
     pub fn due(&self) -> Option<Moment>
-        ensures first { MatchOption result (self.now.voices ≡ []) (λ moment. IsFirstSilence self.now moment) }
+        ensures first { MatchOption result (self.now.voices ≡ [])
+            (λ moment. IsFirstSilence self.now moment) }
         ensures silent { (now : ℕ) → IsTrue (has_silent self.now now) ↔ HasSilent self.now now }
         ensures sound { IsSound self.now }
     {
@@ -114,7 +133,8 @@ impl KeepClock {
         ensures step { steps.new ≡ steps.old + 1 }
         ensures some { is_some result ≡ has_silent self.old now }
         ensures silent { IfSome result (λ voice. IsTrue (is_silent_voice self.old now voice)) }
-        ensures taken { IfSome result (λ voice. self.new ≡ record self.old { voices = without voice self.old.voices }) }
+        ensures taken { IfSome result (λ voice. self.new
+            ≡ record self.old { voices = without voice self.old.voices }) }
         ensures last { IfSome result (λ voice. ForgetsVoice voice self.old.voices self.new.voices) }
         ensures count { OnSome result (length self.old.voices ≡ length self.new.voices + 1) }
         ensures none { IfNone result (self.new ≡ self.old) }

@@ -1,4 +1,5 @@
-//! When ENodes and N_Ports were last heard, and which of them is silent too long (FC-BB-5, "FIP keep alive").
+//! When ENodes and N_Ports were last heard, and which of them is silent too long (FC-BB-5, "FIP
+//! keep alive").
 #![tactic(auto)]
 
 mod clock;

@@ -40,7 +40,8 @@ pub(crate) fn place_after(
     voices: &[LastHeard],
     moment: u128,
 ) -> usize
-    ensures { result ≡ position_or_len (λ x. nat_lt moment (due_of node_period port_period x)) voices.now }
+    ensures { result ≡ position_or_len (λ x. nat_lt moment
+        (due_of node_period port_period x)) voices.now }
 {
     match first_after(node_period, port_period, voices, moment) {
         Some(place) => place,

@@ -1,4 +1,5 @@
-//! The live logins of a fabric (FC-LS-2, "FLOGI" and "FDISC"), found by address, by port name and by ENode.
+//! The live logins of a fabric (FC-LS-2, "FLOGI" and "FDISC"), found by address, by port name and
+//! by ENode.
 #![tactic(auto)]
 
 mod login;

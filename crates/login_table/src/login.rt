@@ -1,7 +1,8 @@
 //! One login.
 use fab_base::{Enode, FcId, Wwn};
 
-/// A live login: the N_Port_ID that was granted, the names of the N_Port and its node, and the ENode behind which it is.
+/// A live login: the N_Port_ID that was granted, the names of the N_Port and its node, and the
+/// ENode behind which it is.
 #[derive(Clone, Copy, Debug, PartialEq, Eq)]
 pub struct Login {
     pub address: FcId,

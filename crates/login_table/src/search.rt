@@ -34,7 +34,8 @@ fn first_above(logins: &[Login], address: FcId) -> Option<usize>
 
 // The place of the first login above the address, or past the end.
 pub(crate) fn place_above(logins: &[Login], address: FcId) -> usize
-    ensures place { result ≡ unwrap_or (position (λ l. nat_lt address l.address) logins.now) (length logins.now) }
+    ensures place { result ≡ unwrap_or (position (λ l. nat_lt address l.address) logins.now)
+        (length logins.now) }
     ensures within { result ≤ length logins.now }
 {
     first_above(logins, address).unwrap_or(logins.len())

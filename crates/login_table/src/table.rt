@@ -26,7 +26,8 @@ impl Model for LoginTable {
 
     ghost view = { λ t. record { limit = t.limit; logins = t.logins.items } };
 
-    ghost invariant = { λ t. HasRoom (record { limit = t.limit; logins = t.logins.items }) (vec_capacity t.logins) };
+    ghost invariant = { λ t. HasRoom (record { limit = t.limit; logins = t.logins.items })
+        (vec_capacity t.logins) };
 }
 
 impl LoginTable {
@@ -46,8 +47,10 @@ impl LoginTable {
         requires name { named login.name self.old.logins ≡ None }
         ensures logins { self.new ≡ record self.old { logins = added login self.old.logins } }
         ensures sound { IsSound self.new }
-        ensures found { (a : ℕ) → login_at a self.new.logins ≡ (if login.address == a then Some login else login_at a self.old.logins) }
-        ensures named { (name : ℕ) → named name self.new.logins ≡ (if login.name == name then Some login else named name self.old.logins) }
+        ensures found { (a : ℕ) → login_at a self.new.logins
+            ≡ (if login.address == a then Some login else login_at a self.old.logins) }
+        ensures named { (name : ℕ) → named name self.new.logins
+            ≡ (if login.name == name then Some login else named name self.old.logins) }
     {
         let place = place_above(&self.logins, login.address);
         let Ok(()) = self.logins.insert(place, login) else {
@@ -74,10 +77,12 @@ impl LoginTable {
     /// Sets the receive size at the name server. False where the address has no login.
     pub fn set_server(&mut self, address: FcId, size: Option<u16>) -> bool
         ensures there { result ≡ is_some (login_at address self.old.logins) }
-        ensures logins { self.new ≡ record self.old { logins = with_server address size self.old.logins } }
+        ensures logins { self.new
+            ≡ record self.old { logins = with_server address size self.old.logins } }
         ensures sound { IsSound self.new }
         ensures absent { result ≡ false → self.new ≡ self.old }
-        ensures found { (a : ℕ) → login_at a self.new.logins ≡ option_map (sized address size) (login_at a self.old.logins) }
+        ensures found { (a : ℕ) → login_at a self.new.logins
+            ≡ option_map (sized address size) (login_at a self.old.logins) }
     {
         match place_of(&self.logins, address) {
             Some(place) => {
@@ -101,7 +106,8 @@ impl LoginTable {
         ensures login { result ≡ login_at address self.old.logins }
         ensures logins { self.new ≡ record self.old { logins = without address self.old.logins } }
         ensures sound { IsSound self.new }
-        ensures found { (a : ℕ) → login_at a self.new.logins ≡ (if address == a then None else login_at a self.old.logins) }
+        ensures found { (a : ℕ) → login_at a self.new.logins
+            ≡ (if address == a then None else login_at a self.old.logins) }
     {
         match place_of(&self.logins, address) {
             Some(place) => Some(self.logins.remove(place)),

@@ -46,7 +46,8 @@ fn next_of(
     address: FcId,
 ) -> Result<CtTell, NoMemory>
     requires { AreEntered entries.now seen.now }
-    ensures answer { IfOk result (λ t. t ≡ server.answer (known entries.now seen.now) (asks.NextOf address)) }
+    ensures answer { IfOk result (λ t. t ≡ server.answer (known entries.now seen.now)
+        (asks.NextOf address)) }
     ensures writable { IfOk result CanTell }
 {
     match next_to(entries, seen, address) {
@@ -123,7 +124,8 @@ fn of_type(
     seen: &[SeenPort],
     kind: u8,
 ) -> Result<CtTell, NoMemory>
-    ensures answer { IfOk result (λ t. t ≡ server.answer (known entries.now seen.now) (asks.AddressesOfType kind)) }
+    ensures answer { IfOk result (λ t. t ≡ server.answer (known entries.now seen.now)
+        (asks.AddressesOfType kind)) }
     ensures writable { IfOk result CanTell }
 {
     let list = addresses_of_type(alloc, entries, seen, kind)?;
@@ -141,7 +143,8 @@ fn named_of_type(
     kind: u8,
     name: NameOf,
 ) -> Result<CtTell, NoMemory>
-    ensures answer { IfOk result (λ t. t ≡ server.answer (known entries.now seen.now) (by_name_of name kind)) }
+    ensures answer { IfOk result (λ t. t ≡ server.answer (known entries.now seen.now)
+        (by_name_of name kind)) }
     ensures writable { IfOk result CanTell }
 {
     let list = names_of_type(alloc, entries, seen, kind, name)?;
@@ -159,7 +162,8 @@ fn of_port_type(
     kind: u8,
 ) -> Result<CtTell, NoMemory>
     requires some { 0 < length (known entries.now seen.now) }
-    ensures answer { IfOk result (λ t. t ≡ server.answer (known entries.now seen.now) (asks.AddressesOfPortType kind)) }
+    ensures answer { IfOk result (λ t. t ≡ server.answer (known entries.now seen.now)
+        (asks.AddressesOfPortType kind)) }
     ensures writable { IfOk result CanTell }
 {
     if kind != N_PORT && kind != ALL_PORTS {
@@ -177,7 +181,8 @@ pub(crate) fn answer_of(
     requires query { server.is_registration (asks.view ask.now) ≡ false }
     requires entered { AreEntered entries.now seen.now }
     requires some { 0 < length (known entries.now seen.now) }
-    ensures answer { IfOk result (λ t. t ≡ server.answer (known entries.now seen.now) (asks.view ask.now)) }
+    ensures answer { IfOk result (λ t. t ≡ server.answer (known entries.now seen.now)
+        (asks.view ask.now)) }
     ensures writable { IfOk result CanTell }
 {
     match *ask {

@@ -113,7 +113,10 @@ impl Entry {
     pub(crate) fn register(&mut self, ask: &CtAsk<'_>) -> bool
         requires registration { is_registration (view ask.now) ≡ true }
         requires size { CanWrite (view ask.now) }
-        ensures entry { self.new ≡ record self.old { values = after self.old.node (view ask.now) self.old.values } }
+        ensures entry { self.new ≡ record self.old {
+          values = after self.old.node
+              (view ask.now) self.old.values;
+        } }
         ensures noticed { result ≡ has_changed self.old.values self.new.values }
         ensures kept { IsKept self.new.values }
     {
@@ -126,7 +129,10 @@ impl Entry {
     fn set(&mut self, ask: &CtAsk<'_>)
         requires registration { is_registration (view ask.now) ≡ true }
         requires size { CanWrite (view ask.now) }
-        ensures entry { self.new ≡ record self.old { values = after self.old.node (view ask.now) self.old.values } }
+        ensures entry { self.new ≡ record self.old {
+          values = after self.old.node
+              (view ask.now) self.old.values;
+        } }
         ensures kept { IsKept self.new.values }
     {
         match ask {

@@ -1,4 +1,5 @@
-//! What the N_Ports registered with the name server (FC-GS-6, "Name Server"), and what it answers of them.
+//! What the N_Ports registered with the name server (FC-GS-6, "Name Server"), and what it answers
+//! of them.
 #![tactic(auto)]
 
 mod answers;

@@ -32,7 +32,10 @@ impl NameOf {
 
     /// The N_Port with that name.
     fn entry(self, known: &Known<'_>) -> Named
-        ensures { result ≡ record { address = (as_known known.now).address; name = name_of self (as_known known.now) } }
+        ensures { result ≡ record {
+          address = (as_known known.now).address;
+          name = name_of self (as_known known.now);
+        } }
     {
         Named {
             address: known.port.address,
@@ -77,7 +80,8 @@ pub(crate) fn names_of_type(
     kind: u8,
     name: NameOf,
 ) -> Result<NamedList, NoMemory>
-    ensures { IfOk result (λ list. list ≡ named (name_of name) (of_type kind (known entries.now seen.now))) }
+    ensures { IfOk result (λ list. list ≡ named (name_of name)
+        (of_type kind (known entries.now seen.now))) }
 {
     let mut list = NamedList::new(alloc)?;
     for port in seen {

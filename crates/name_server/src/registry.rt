@@ -22,7 +22,8 @@ pub struct Change {
     pub noticed: bool,
 }
 
-/// What is registered of the N_Ports that are logged in, up to a number of them. No address comes twice.
+/// What is registered of the N_Ports that are logged in, up to a number of them. No address comes
+/// twice.
 #[derive(Debug, Drop)]
 pub struct Registry {
     room: u32,
@@ -39,7 +40,8 @@ impl Model for Registry {
 
     ghost view = { λ r. record { room = r.room; entries = r.entries.items } };
 
-    ghost invariant = { λ r. HasRoom (record { room = r.room; entries = r.entries.items }) (vec_capacity r.entries) };
+    ghost invariant = { λ r. HasRoom (record { room = r.room; entries = r.entries.items })
+        (vec_capacity r.entries) };
 }
 
 impl Registry {
@@ -56,9 +58,13 @@ impl Registry {
     pub fn enter(&mut self, address: FcId, node: Wwn)
         requires room { length self.old.entries < self.old.room }
         requires address { entry_at address self.old.entries ≡ None }
-        ensures entries { self.new ≡ record self.old { entries = added (entered address node) self.old.entries } }
+        ensures entries { self.new ≡ record self.old {
+          entries = added
+              (entered address node) self.old.entries;
+        } }
         ensures sound { IsSound self.new }
-        ensures found { (a : ℕ) → entry_at a self.new.entries ≡ (if address == a then Some (entered address node) else entry_at a self.old.entries) }
+        ensures found { (a : ℕ) → entry_at a self.new.entries
+            ≡ (if address == a then Some (entered address node) else entry_at a self.old.entries) }
     {
         let place = place_above(&self.entries, address);
         let Ok(()) = self.entries.insert(place, Entry::new(address, node)) else {
@@ -69,10 +75,12 @@ impl Registry {
     /// Takes an N_Port out, with all that it registered. False where the address isn't there.
     pub fn forget(&mut self, address: FcId) -> bool
         ensures there { result ≡ is_some (entry_at address self.old.entries) }
-        ensures entries { self.new ≡ record self.old { entries = without address self.old.entries } }
+        ensures entries { self.new
+            ≡ record self.old { entries = without address self.old.entries } }
         ensures absent { result ≡ false → self.new ≡ self.old }
         ensures sound { IsSound self.new }
-        ensures found { (a : ℕ) → entry_at a self.new.entries ≡ (if address == a then None else entry_at a self.old.entries) }
+        ensures found { (a : ℕ) → entry_at a self.new.entries
+            ≡ (if address == a then None else entry_at a self.old.entries) }
     {
         match place_of(&self.entries, address) {
             Some(place) => {
@@ -85,7 +93,8 @@ impl Registry {
 
     /// The FC-4 types of an N_Port.
     pub fn types(&self, address: FcId) -> Option<TypeMap>
-        ensures types { result ≡ option_map (λ e. e.values.types) (entry_at address self.now.entries) }
+        ensures types { result ≡ option_map (λ e. e.values.types)
+            (entry_at address self.now.entries) }
         ensures sound { IsSound self.now }
     {
         entry_of(&self.entries, address).map(|entry| entry.types())
@@ -93,7 +102,8 @@ impl Registry {
 
     /// The registered node name of an N_Port.
     pub fn node_name(&self, address: FcId) -> Option<Wwn>
-        ensures name { result ≡ option_map (λ e. e.values.node_name) (entry_at address self.now.entries) }
+        ensures name { result ≡ option_map (λ e. e.values.node_name)
+            (entry_at address self.now.entries) }
         ensures sound { IsSound self.now }
     {
         entry_of(&self.entries, address).map(|entry| entry.node_name())
@@ -104,11 +114,19 @@ impl Registry {
         requires asker { IsSome (entry_at asker self.old.entries) }
         requires registration { server.is_registration (view ask.now) ≡ true }
         requires size { CanWrite (view ask.now) }
-        ensures allowed { OnOk result (refusal (view ask.now) (entry_at asker self.old.entries) ≡ None) }
-        ensures entries { OnOk result (self.new ≡ record self.old { entries = with_registration asker (view ask.now) self.old.entries }) }
-        ensures found { OnOk result ((a : ℕ) → entry_at a self.new.entries ≡ option_map (registered asker (view ask.now)) (entry_at a self.old.entries)) }
-        ensures noticed { IfOk result (λ change. change.noticed ≡ is_noticed (view ask.now) (entry_at asker self.old.entries)) }
-        ensures refused { IfErr result (λ fault. refusal (view ask.now) (entry_at asker self.old.entries) ≡ Some (codes fault)) }
+        ensures allowed { OnOk result (refusal (view ask.now) (entry_at asker self.old.entries)
+            ≡ None) }
+        ensures entries { OnOk result (self.new
+            ≡ record self.old {
+              entries = with_registration asker
+                  (view ask.now) self.old.entries;
+            }) }
+        ensures found { OnOk result ((a : ℕ) → entry_at a self.new.entries
+            ≡ option_map (registered asker (view ask.now)) (entry_at a self.old.entries)) }
+        ensures noticed { IfOk result (λ change. change.noticed
+            ≡ is_noticed (view ask.now) (entry_at asker self.old.entries)) }
+        ensures refused { IfErr result (λ fault. refusal (view ask.now)
+            (entry_at asker self.old.entries) ≡ Some (codes fault)) }
         ensures stays { OnErr result (self.new ≡ self.old) }
         ensures sound { IsSound self.new }
     {
@@ -123,8 +141,8 @@ impl Registry {
         Ok(Change { noticed })
     }
 
-    /// The answer to a request that is no registration, over the N_Ports that the asker may see. All of them are entered,
-    /// and `_asker` is among them.
+    /// The answer to a request that is no registration, over the N_Ports that the asker may see.
+    /// All of them are entered, and `_asker` is among them.
     pub fn answer(
         &self,
         alloc: Global,
@@ -135,7 +153,8 @@ impl Registry {
         requires query { server.is_registration (view ask.now) ≡ false }
         requires entered { AreEntered self.now.entries seen.now }
         requires asker { IsSome (seen_at _asker seen.now) }
-        ensures answer { IfOk result (λ tell. tell ≡ server.answer (known self.now.entries seen.now) (view ask.now)) }
+        ensures answer { IfOk result (λ tell. tell
+            ≡ server.answer (known self.now.entries seen.now) (view ask.now)) }
         ensures writable { IfOk result CanTell }
         ensures sound { IsSound self.now }
     {

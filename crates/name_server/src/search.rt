@@ -27,7 +27,8 @@ fn first_above(entries: &[Entry], address: FcId) -> Option<usize>
 
 // The place of the first entry above the address, or past the end.
 pub(crate) fn place_above(entries: &[Entry], address: FcId) -> usize
-    ensures place { result ≡ unwrap_or (position (λ e. nat_lt address e.address) entries.now) (length entries.now) }
+    ensures place { result ≡ unwrap_or (position (λ e. nat_lt address e.address) entries.now)
+        (length entries.now) }
     ensures within { result ≤ length entries.now }
 {
     first_above(entries, address).unwrap_or(entries.len())

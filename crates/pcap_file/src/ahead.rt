@@ -8,7 +8,8 @@ use std::marker::Model;
 
 const ROOM: usize = 4096;
 
-/// The buffer of a reader, which a contract sees as the bytes that it holds: fetched, and not given.
+/// The buffer of a reader, which a contract sees as the bytes that it holds: fetched, and not
+/// given.
 // The bytes from `from` up to `to` are held.
 #[derive(Debug, Drop)]
 pub struct Ahead {

@@ -1,4 +1,5 @@
-//! The watchers of a fabric: the N_Ports that asked for state changes (FC-LS-2, "State Change Registration"), and whom a change reaches.
+//! The watchers of a fabric: the N_Ports that asked for state changes (FC-LS-2, "State Change
+//! Registration"), and whom a change reaches.
 #![tactic(auto)]
 
 mod search;

@@ -31,7 +31,8 @@ fn first_above(watchers: &[Watcher], address: FcId) -> Option<usize>
 
 // The place of the first watcher above the address, or past the end.
 pub(crate) fn place_above(watchers: &[Watcher], address: FcId) -> usize
-    ensures place { result ≡ unwrap_or (position (λ w. nat_lt address w.address) watchers.now) (length watchers.now) }
+    ensures place { result ≡ unwrap_or (position (λ w. nat_lt address w.address) watchers.now)
+        (length watchers.now) }
     ensures within { result ≤ length watchers.now }
 {
     first_above(watchers, address).unwrap_or(watchers.len())
@@ -45,7 +46,9 @@ pub(crate) fn next_recipient(
     affected: Wwn,
     from: u32,
 ) -> Option<FcId>
-    ensures { result ≡ option_map (λ w. w.address) (find (λ w. nat_le from w.address && spec.is_recipient zones.now at affected w) watchers.now) }
+    ensures { result ≡ option_map (λ w. w.address)
+        (find (λ w. nat_le from w.address
+        && spec.is_recipient zones.now at affected w) watchers.now) }
 {
     watchers
         .iter()
@@ -55,7 +58,8 @@ pub(crate) fn next_recipient(
         .map(|watcher| watcher.address)
 }
 
-// The first watcher from the bound on that a change of zones reaches on account of the affected name.
+// The first watcher from the bound on that a change of zones reaches on account of the affected
+// name.
 pub(crate) fn next_changed(
     watchers: &[Watcher],
     zones: &Zones,
@@ -64,7 +68,9 @@ pub(crate) fn next_changed(
     affected: Wwn,
     from: u32,
 ) -> Option<FcId>
-    ensures { result ≡ option_map (λ w. w.address) (find (λ w. nat_le from w.address && spec.is_changed zones.now before at affected w) watchers.now) }
+    ensures { result ≡ option_map (λ w. w.address)
+        (find (λ w. nat_le from w.address
+        && spec.is_changed zones.now before at affected w) watchers.now) }
 {
     watchers
         .iter()

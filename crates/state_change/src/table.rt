@@ -26,7 +26,8 @@ impl Model for Watchers {
 
     ghost view = { λ t. record { room = t.room; watchers = t.watchers.items } };
 
-    ghost invariant = { λ t. HasRoom (record { room = t.room; watchers = t.watchers.items }) (vec_capacity t.watchers) };
+    ghost invariant = { λ t. HasRoom (record { room = t.room; watchers = t.watchers.items })
+        (vec_capacity t.watchers) };
 }
 
 impl Watchers {
@@ -39,14 +40,17 @@ impl Watchers {
         Ok(Watchers { room, watchers })
     }
 
-    /// An N_Port asks with a function: 1, 2 or 3 for state changes, in the place of what it asked before, or 255 for none.
+    /// An N_Port asks with a function: 1, 2 or 3 for state changes, in the place of what it asked
+    /// before, or 255 for none.
     pub fn set(&mut self, address: FcId, name: Wwn, function: u8)
         requires function { IsTrue (is_function function) }
         requires room { HasPlace address function self.old }
-        ensures watchers { self.new ≡ record self.old { watchers = after_ask address name function self.old.watchers } }
+        ensures watchers { self.new
+            ≡ record self.old { watchers = after_ask address name function self.old.watchers } }
         ensures count { length self.new.watchers ≤ length self.old.watchers + 1 }
         ensures sound { IsSound self.new }
-        ensures found { (a : ℕ) → watcher_at a self.new.watchers ≡ (if address == a then asked address name function else watcher_at a self.old.watchers) }
+        ensures found { (a : ℕ) → watcher_at a self.new.watchers
+            ≡ (if address == a then asked address name function else watcher_at a self.old.watchers) }
     {
         self.forget(address);
         if function != CLEAR {
@@ -63,10 +67,12 @@ impl Watchers {
         requires room { length self.old.watchers < self.old.room }
         requires address { watcher_at watcher.address self.old.watchers ≡ None }
         requires function { IsTrue (is_asking watcher.function) }
-        ensures watchers { self.new ≡ record self.old { watchers = set_to watcher self.old.watchers } }
+        ensures watchers { self.new
+            ≡ record self.old { watchers = set_to watcher self.old.watchers } }
         ensures count { length self.new.watchers ≡ length self.old.watchers + 1 }
         ensures sound { IsSound self.new }
-        ensures found { (a : ℕ) → watcher_at a self.new.watchers ≡ (if watcher.address == a then Some watcher else watcher_at a self.old.watchers) }
+        ensures found { (a : ℕ) → watcher_at a self.new.watchers
+            ≡ (if watcher.address == a then Some watcher else watcher_at a self.old.watchers) }
     {
         let place = search::place_above(&self.watchers, watcher.address);
         let Ok(()) = self.watchers.insert(place, watcher) else {
@@ -77,12 +83,14 @@ impl Watchers {
     /// Removes the watcher of an address. False where there is none.
     pub fn forget(&mut self, address: FcId) -> bool
         ensures there { result ≡ is_some (watcher_at address self.old.watchers) }
-        ensures watchers { self.new ≡ record self.old { watchers = without address self.old.watchers } }
+        ensures watchers { self.new
+            ≡ record self.old { watchers = without address self.old.watchers } }
         ensures count { length self.new.watchers ≤ length self.old.watchers }
         ensures room { result ≡ true → length self.new.watchers < self.new.room }
         ensures sound { IsSound self.new }
         ensures absent { result ≡ false → self.new ≡ self.old }
-        ensures found { (a : ℕ) → watcher_at a self.new.watchers ≡ (if address == a then None else watcher_at a self.old.watchers) }
+        ensures found { (a : ℕ) → watcher_at a self.new.watchers
+            ≡ (if address == a then None else watcher_at a self.old.watchers) }
     {
         match search::place_of(&self.watchers, address) {
             Some(place) => {
@@ -104,8 +112,8 @@ impl Watchers {
         }
     }
 
-    /// The least watcher that isn't below `from`, and that a change of the affected name reaches at a moment: it asked with
-    /// function 1 or 3, and a zone joins it with that name.
+    /// The least watcher that isn't below `from`, and that a change of the affected name reaches at
+    /// a moment: it asked with function 1 or 3, and a zone joins it with that name.
     pub fn next_recipient(
         &self,
         zones: &Zones,
@@ -113,14 +121,15 @@ impl Watchers {
         affected: Wwn,
         from: u32,
     ) -> Option<FcId>
-        ensures first { result ≡ first_from from (recipients zones.now at affected self.now.watchers) }
+        ensures first { result ≡ first_from from
+            (recipients zones.now at affected self.now.watchers) }
         ensures sound { IsSound self.now }
     {
         search::next_recipient(&self.watchers, zones, at, affected, from)
     }
 
-    /// The least watcher that isn't below `from`, asked with function 1 or 3, and is joined with the affected name at one of
-    /// two moments but not at the other.
+    /// The least watcher that isn't below `from`, asked with function 1 or 3, and is joined with
+    /// the affected name at one of two moments but not at the other.
     pub fn next_changed(
         &self,
         zones: &Zones,
@@ -129,7 +138,8 @@ impl Watchers {
         affected: Wwn,
         from: u32,
     ) -> Option<FcId>
-        ensures first { result ≡ first_from from (changed zones.now before at affected self.now.watchers) }
+        ensures first { result ≡ first_from from
+            (changed zones.now before at affected self.now.watchers) }
         ensures sound { IsSound self.now }
     {
         search::next_changed(&self.watchers, zones, before, at, affected, from)

@@ -11,10 +11,12 @@ pub(crate) const CLEAR: u8 = 255;
 /// The function for changes that the fabric detects (FC-LS-2, "SCR", Fabric Detected registration).
 const FABRIC_DETECTED: u8 = 1;
 
-/// The function for changes that the fabric or an N_Port detects (FC-LS-2, "SCR", Full registration).
+/// The function for changes that the fabric or an N_Port detects (FC-LS-2, "SCR", Full
+/// registration).
 const FULL: u8 = 3;
 
-/// An N_Port that asked for state changes: its N_Port_ID and N_Port_Name, and the function that it asked with, 1 to 3.
+/// An N_Port that asked for state changes: its N_Port_ID and N_Port_Name, and the function that it
+/// asked with, 1 to 3.
 #[derive(Clone, Copy, Debug, PartialEq, Eq)]
 pub struct Watcher {
     pub address: FcId,

@@ -41,7 +41,8 @@ impl Log {
     }
 
     pub fn add(&mut self, note: Note) -> bool
-        ensures { self.new.notes.items ≡ (if result then self.old.notes.items ++ note ∷ [] else self.old.notes.items) }
+        ensures { self.new.notes.items ≡ (if result then self.old.notes.items
+            ++ note ∷ [] else self.old.notes.items) }
     {
         self.notes.push(note).is_ok()
     }
