@@ -125,22 +125,18 @@ named_put put (Some z) = put z.0 z.1
 abbrev pub with_named : {X : Type 0} → List (List ℕ) → (List ℕ → Option ℕ) → (List ℕ → List ℕ → Result X ConfigWhy) → List (List ℕ) → Result X ConfigWhy
 with_named names says put values = if is_again names values then Err Twice else named_put put (named_list says values)
 
--- one zone more, within the limits
-abbrev pub zones_grown : List Zone → Result (List Zone) ConfigWhy
-zones_grown zones = if nat_lt 1000 (length zones) || nat_lt 20000 (sum_by (λ x. length x.members) zones) then Err Limit else Ok zones
+-- a list that has grown by an item, within the most items and the most numbers under all of them
+abbrev pub grown : {X : Type 0} → (X → List ℕ) → ℕ → ℕ → List X → Result (List X) ConfigWhy
+grown numbers most most_numbers l = if nat_lt most (length l) || nat_lt most_numbers (sum_by (λ x. length (numbers x)) l) then Err Limit else Ok l
 
 abbrev pub zone_put : List Zone → List ℕ → List ℕ → Result (List Zone) ConfigWhy
-zone_put zones n members = zones_grown (zones ++ record { name = n; members = members } ∷ [])
+zone_put zones n members = grown (λ (z : Zone). z.members) 1000 20000 (zones ++ record { name = n; members = members } ∷ [])
 
 unfoldable pub zones_with : List Zone → List (List ℕ) → Result (List Zone) ConfigWhy
 zones_with zones values = with_named (zone_names zones) name (zone_put zones) values
 
--- one zone set more, within the limits
-abbrev pub sets_grown : List ZoneSet → Result (List ZoneSet) ConfigWhy
-sets_grown sets = if nat_lt 64 (length sets) || nat_lt 4000 (sum_by (λ x. length x.places) sets) then Err Limit else Ok sets
-
 abbrev pub set_put : List ZoneSet → List ℕ → List ℕ → Result (List ZoneSet) ConfigWhy
-set_put sets n places = sets_grown (sets ++ record { name = n; places = places } ∷ [])
+set_put sets n places = grown (λ (s : ZoneSet). s.places) 64 4000 (sets ++ record { name = n; places = places } ∷ [])
 
 unfoldable pub sets_with : List Zone → List ZoneSet → List (List ℕ) → Result (List ZoneSet) ConfigWhy
 sets_with zones sets values = with_named (set_names sets) (zone_place zones) (set_put sets) values

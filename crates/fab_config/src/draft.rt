@@ -7,7 +7,7 @@ ghost use Rattle.fab_config.specs.Fitting.{Fits};
 
 use crate::hexes::{only_fc_map, only_name, only_station};
 use crate::keyword::{Keyword, NumberKey, keyword_of};
-use crate::named::{NamedSets, NamedZones, with_activation};
+use crate::named::{NamedSets, NamedZones, with_activation, with_set, with_zone};
 use crate::numbers::only_number;
 use crate::reading::LineError;
 use crate::words::{is_ascii, is_skipped, next_word};
@@ -157,14 +157,14 @@ impl Draft {
     fn with_zone(self, alloc: Global, values: &[u8]) -> Result<Draft, LineError>
         ensures { Answers result (spec.with_keyword self Keyword.Zones (words values.now)) }
     {
-        let zones = self.zones.with(alloc, values)?;
+        let zones = with_zone(self.zones, alloc, values)?;
         Ok(Draft { zones, ..self })
     }
 
     fn with_set(self, alloc: Global, values: &[u8]) -> Result<Draft, LineError>
         ensures { Answers result (spec.with_keyword self Keyword.Sets (words values.now)) }
     {
-        let sets = self.sets.with(alloc, &self.zones, values)?;
+        let sets = with_set(self.sets, alloc, &self.zones, values)?;
         Ok(Draft { sets, ..self })
     }
 

@@ -1,148 +1,212 @@
 //! Zones and zone sets as they are read, with an index of their names.
 ghost use Rattle.std.specs.Prelude.{◌≡◌, ◌<◌, ◌≤◌, ◌∷◌, ◌++◌, [], None, Some, ℕ, List, IfOk};
-ghost use Rattle.std.specs.Prelude.{IfSome, OnOk, MatchResult, length, option_map};
+ghost use Rattle.std.specs.Prelude.{IfSome, OnOk, MatchResult, length, map, option_map};
 ghost use Rattle.std.specs.List.{list_all};
 ghost use Rattle.fab_config.specs.Lines.{words};
-ghost use Rattle.fab_config.specs.Names.{place, zone_names, set_names};
+ghost use Rattle.fab_config.specs.Names.{place};
 ghost use Rattle.fab_config.specs.Values as spec;
 ghost use Rattle.fab_config.specs.Settings.{is_zone_name as is_zone_name_spec};
 ghost use Rattle.fab_config.specs.Settings.{is_letter as is_letter_spec};
 ghost use Rattle.fab_config.specs.Settings.{is_name_sign as is_name_sign_spec};
-ghost use Rattle.fab_config.specs.Text.{zones_with, zones_grown, sets_with, sets_grown};
+ghost use Rattle.fab_config.specs.Text.{grown, zones_with, sets_with};
 ghost use Rattle.fab_config.specs.Text.{activations_with, activation, is_later as is_later_spec};
 ghost use Rattle.fab_config.specs.Text.{listed, listed_or_fault, zone_place};
 ghost use Rattle.fab_config.specs.Told.{Answers, Tells};
-ghost use Rattle.fab_config.specs.declared.Zone.{Zone};
-ghost use Rattle.fab_config.specs.declared.ZoneSet.{ZoneSet};
 
 use crate::hexes::read_name;
 use crate::index::{NameIndex, NumberIndex};
 use crate::numbers::number_between;
 use crate::reading::LineError;
 use crate::words::{next_word, only_word};
-use crate::{
-    Activation, ActivationList, ConfigWhy, NameList, PlaceList, SetList, Zone, ZoneList, ZoneSet,
-};
-use fab_base::{Bytes, Moment, NoMemory, Wwn};
+use crate::{Activation, ActivationList, ConfigWhy, NameList, PlaceList, Zone, ZoneSet};
+use fab_base::{Bytes, Moment, NoMemory, OwnedList, Wwn};
 use std::alloc::Global;
 use std::marker::Model;
 
-const MOST_ZONES: usize = 1000;
+const MOST_ZONES: u32 = 1000;
 
-const MOST_MEMBERS: usize = 20000;
+const MOST_MEMBERS: u32 = 20000;
 
-const MOST_SETS: usize = 64;
+const MOST_SETS: u32 = 64;
 
-const MOST_PLACES: usize = 4000;
+const MOST_PLACES: u32 = 4000;
 
 const MOST_ACTIVATIONS: usize = 64;
 
 const LAST_MOMENT: u64 = 4294967295999;
 
-/// The zones so far.
+/// A zone or a zone set: a name, and numbers under it.
+pub(crate) trait Listing: Drop {
+    ghost use Rattle.std.specs.Prelude.{ℕ, List};
+
+    ghost name: { Self → List ℕ };
+
+    ghost numbers: { Self → List ℕ };
+}
+
+impl Listing for Zone {
+    ghost name = { λ z. z.name };
+
+    ghost numbers = { λ z. z.members };
+}
+
+impl Listing for ZoneSet {
+    ghost name = { λ s. s.name };
+
+    ghost numbers = { λ s. s.places };
+}
+
+/// The zones or the zone sets so far.
 #[derive(Drop)]
-pub(crate) struct NamedZones {
+pub(crate) struct Named<T: Listing> {
     names: NameIndex,
-    zones: ZoneList,
-    members: usize,
+    list: OwnedList<T>,
+    numbers: usize,
 }
 
-impl Model for NamedZones {
+impl<T: Listing> Model for Named<T> {
     ghost use Rattle.std.specs.Prelude.{List};
-    ghost use Rattle.fab_config.specs.declared.Zone.{Zone};
-    ghost use Rattle.fab_config.specs.Kept.{KeepsZones};
+    ghost use Rattle.fab_config.specs.Kept.{Keeps};
 
-    ghost Value = { List Zone };
+    ghost Value = { List T };
 
-    ghost view = { λ z. z.zones };
+    ghost view = { λ n. n.list };
 
-    ghost invariant = { λ z. KeepsZones z.names z.zones z.members };
+    ghost invariant = { λ n. Keeps T.name T.numbers n.names n.list n.numbers };
 }
 
-impl NamedZones {
-    pub(crate) fn new(alloc: Global) -> Result<NamedZones, NoMemory>
-        ensures { IfOk result (λ z. z ≡ []) }
+pub(crate) type NamedZones = Named<Zone>;
+
+pub(crate) type NamedSets = Named<ZoneSet>;
+
+impl<T: Listing> Named<T> {
+    pub(crate) fn new(alloc: Global) -> Result<Named<T>, NoMemory>
+        ensures { IfOk result (λ n. n ≡ []) }
     {
-        Ok(NamedZones {
+        Ok(Named {
             names: NameIndex::new(alloc),
-            zones: ZoneList::new(alloc)?,
-            members: 0,
+            list: OwnedList::new(alloc)?,
+            numbers: 0,
         })
     }
 
-    /// The place of the zone of this name.
+    /// The place of the item of this name.
     pub(crate) fn place(&self, name: &[u8]) -> Option<u32>
-        ensures value { result ≡ place name.now (zone_names self.now) }
+        ensures value { result ≡ place name.now (map T.name self.now) }
         ensures range { IfSome result (λ p. p < length self.now) }
     {
         let place = self.names.place(name)?;
         Some(place as u32)
     }
 
-    /// The zones, in the order of the text.
-    pub(crate) fn into_list(self) -> ZoneList
+    /// The items, in the order of the text.
+    pub(crate) fn into_list(self) -> OwnedList<T>
         ensures { result ≡ self }
     {
-        let NamedZones {
+        let Named {
             names: _,
-            zones,
-            members: _,
+            list,
+            numbers: _,
         } = self;
-        zones
+        list
     }
 
-    /// The zones with the zone of a line with these values behind them.
-    #[tactic(auto, unfolding(crate::specs::Text::zones_with))]
-    pub(crate) fn with(self, alloc: Global, values: &[u8]) -> Result<NamedZones, LineError>
-        ensures { Answers result (zones_with self (words values.now)) }
+    // The list with one more item, which has so many numbers, within the limits.
+    fn grown(
+        self,
+        alloc: Global,
+        name: &[u8],
+        item: T,
+        count: usize,
+        most: u32,
+        most_numbers: u32,
+    ) -> Result<Named<T>, LineError>
+        requires new { place name.now (map T.name self) ≡ None }
+        requires named { T.name item ≡ name.now }
+        requires count { count ≡ length (T.numbers item) }
+        ensures { Answers result (grown T.numbers most most_numbers (self ++ item ∷ [])) }
     {
-        let Some((name, rest)) = next_word(values) else {
-            return Err(LineError::Fault(ConfigWhy::Value));
-        };
-        if self.place(name).is_some() {
-            return Err(LineError::Fault(ConfigWhy::Twice));
-        }
-        if !is_zone_name(name) {
-            return Err(LineError::Fault(ConfigWhy::Value));
-        }
-        let members = read_members(alloc, rest)?;
-        self.grown(alloc, name, members)
-    }
-
-    // The zones with one more, within the limits.
-    fn grown(self, alloc: Global, name: &[u8], members: NameList) -> Result<NamedZones, LineError>
-        requires { place name.now (zone_names self) ≡ None }
-        ensures { Answers result (zones_grown (self
-            ++ record { name = name.now; members = members } ∷ [])) }
-    {
-        let NamedZones {
+        let Named {
             mut names,
-            mut zones,
-            members: before,
+            mut list,
+            numbers,
         } = self;
-        let count = members.len();
-        if zones.len() >= MOST_ZONES || count > MOST_MEMBERS - before {
+        let Some(numbers) = numbers.checked_add(count) else {
+            return Err(LineError::Fault(ConfigWhy::Limit));
+        };
+        if list.len() >= most as usize || numbers > most_numbers as usize {
             return Err(LineError::Fault(ConfigWhy::Limit));
         }
-        let Ok(copy) = Bytes::copy(alloc, name) else {
-            return Err(LineError::Memory);
-        };
         let Ok(()) = names.push(alloc, name) else {
             return Err(LineError::Memory);
         };
-        let zone = Zone {
-            name: copy,
-            members,
-        };
-        match zones.push(alloc, zone) {
-            Ok(()) => Ok(NamedZones {
+        match list.push(alloc, item) {
+            Ok(()) => Ok(Named {
                 names,
-                zones,
-                members: before + count,
+                list,
+                numbers,
             }),
             Err(_) => Err(LineError::Memory),
         }
     }
+}
+
+/// The zones with the zone of a line with these values behind them.
+#[tactic(auto, unfolding(crate::specs::Text::zones_with))]
+pub(crate) fn with_zone(
+    zones: NamedZones,
+    alloc: Global,
+    values: &[u8],
+) -> Result<NamedZones, LineError>
+    ensures { Answers result (zones_with zones (words values.now)) }
+{
+    let Some((name, rest)) = next_word(values) else {
+        return Err(LineError::Fault(ConfigWhy::Value));
+    };
+    if zones.place(name).is_some() {
+        return Err(LineError::Fault(ConfigWhy::Twice));
+    }
+    if !is_zone_name(name) {
+        return Err(LineError::Fault(ConfigWhy::Value));
+    }
+    let members = read_members(alloc, rest)?;
+    let count = members.len();
+    let Ok(copy) = Bytes::copy(alloc, name) else {
+        return Err(LineError::Memory);
+    };
+    let zone = Zone {
+        name: copy,
+        members,
+    };
+    zones.grown(alloc, name, zone, count, MOST_ZONES, MOST_MEMBERS)
+}
+
+/// The zone sets with the one of a line with these values behind them.
+#[tactic(auto, unfolding(crate::specs::Text::sets_with))]
+pub(crate) fn with_set(
+    sets: NamedSets,
+    alloc: Global,
+    zones: &NamedZones,
+    values: &[u8],
+) -> Result<NamedSets, LineError>
+    ensures { Answers result (sets_with zones.now sets (words values.now)) }
+{
+    let Some((name, rest)) = next_word(values) else {
+        return Err(LineError::Fault(ConfigWhy::Value));
+    };
+    if sets.place(name).is_some() {
+        return Err(LineError::Fault(ConfigWhy::Twice));
+    }
+    if !is_zone_name(name) {
+        return Err(LineError::Fault(ConfigWhy::Value));
+    }
+    let places = read_zones(alloc, zones, rest)?;
+    let count = places.len();
+    let Ok(copy) = Bytes::copy(alloc, name) else {
+        return Err(LineError::Memory);
+    };
+    let set = ZoneSet { name: copy, places };
+    sets.grown(alloc, name, set, count, MOST_SETS, MOST_PLACES)
 }
 
 // The names of a zone's line, one at least, each of which counts once.
@@ -197,113 +261,6 @@ fn add_name(
         members.push(alloc, name)
     } else {
         Ok(())
-    }
-}
-
-/// The zone sets so far.
-#[derive(Drop)]
-pub(crate) struct NamedSets {
-    names: NameIndex,
-    sets: SetList,
-    named: usize,
-}
-
-impl Model for NamedSets {
-    ghost use Rattle.std.specs.Prelude.{List};
-    ghost use Rattle.fab_config.specs.declared.ZoneSet.{ZoneSet};
-    ghost use Rattle.fab_config.specs.Kept.{KeepsSets};
-
-    ghost Value = { List ZoneSet };
-
-    ghost view = { λ s. s.sets };
-
-    ghost invariant = { λ s. KeepsSets s.names s.sets s.named };
-}
-
-impl NamedSets {
-    pub(crate) fn new(alloc: Global) -> Result<NamedSets, NoMemory>
-        ensures { IfOk result (λ s. s ≡ []) }
-    {
-        Ok(NamedSets {
-            names: NameIndex::new(alloc),
-            sets: SetList::new(alloc)?,
-            named: 0,
-        })
-    }
-
-    /// The place of the zone set of this name.
-    pub(crate) fn place(&self, name: &[u8]) -> Option<u32>
-        ensures { result ≡ place name.now (set_names self.now) }
-    {
-        let place = self.names.place(name)?;
-        Some(place as u32)
-    }
-
-    /// The zone sets, in the order of the text.
-    pub(crate) fn into_list(self) -> SetList
-        ensures { result ≡ self }
-    {
-        let NamedSets {
-            names: _,
-            sets,
-            named: _,
-        } = self;
-        sets
-    }
-
-    /// The zone sets with the one of a line with these values behind them.
-    #[tactic(auto, unfolding(crate::specs::Text::sets_with))]
-    pub(crate) fn with(
-        self,
-        alloc: Global,
-        zones: &NamedZones,
-        values: &[u8],
-    ) -> Result<NamedSets, LineError>
-        ensures { Answers result (sets_with zones.now self (words values.now)) }
-    {
-        let Some((name, rest)) = next_word(values) else {
-            return Err(LineError::Fault(ConfigWhy::Value));
-        };
-        if self.place(name).is_some() {
-            return Err(LineError::Fault(ConfigWhy::Twice));
-        }
-        if !is_zone_name(name) {
-            return Err(LineError::Fault(ConfigWhy::Value));
-        }
-        let places = read_zones(alloc, zones, rest)?;
-        self.grown(alloc, name, places)
-    }
-
-    // The zone sets with one more, within the limits.
-    fn grown(self, alloc: Global, name: &[u8], places: PlaceList) -> Result<NamedSets, LineError>
-        requires { place name.now (set_names self) ≡ None }
-        ensures { Answers result (sets_grown (self
-            ++ record { name = name.now; places = places } ∷ [])) }
-    {
-        let NamedSets {
-            mut names,
-            mut sets,
-            named: before,
-        } = self;
-        let count = places.len();
-        if sets.len() >= MOST_SETS || count > MOST_PLACES - before {
-            return Err(LineError::Fault(ConfigWhy::Limit));
-        }
-        let Ok(copy) = Bytes::copy(alloc, name) else {
-            return Err(LineError::Memory);
-        };
-        let Ok(()) = names.push(alloc, name) else {
-            return Err(LineError::Memory);
-        };
-        let set = ZoneSet { name: copy, places };
-        match sets.push(alloc, set) {
-            Ok(()) => Ok(NamedSets {
-                names,
-                sets,
-                named: before + count,
-            }),
-            Err(_) => Err(LineError::Memory),
-        }
     }
 }
 
