@@ -1,10 +1,9 @@
 -- Each line leaves every value of a draft in its range.
-use Rattle.std.proofs.Common.{◌≡◌, ℕ, suc, ◌+◌, ◌<◌, ◌≤◌, List, [], ◌∷◌, ◌++◌, length, Bool, true, false, cond, not, eqb, ltb, leb, ◌&&◌, ◌||◌, Option, Some, None, Result, Ok, Err, refl, sym, ◌∙◌, ap, subst, arith}
+use Rattle.std.proofs.Common.{◌≡◌, ℕ, suc, ◌+◌, ◌<◌, ◌≤◌, List, [], ◌∷◌, ◌++◌, length, Bool, true, false, cond, eqb, ltb, leb, ◌&&◌, Option, Some, None, Result, Ok, Err, refl, sym, ◌∙◌, ap, subst, arith}
 use Rattle.std.specs.Option.{option_map, option_and_then, is_some}
-use Rattle.std.specs.List.{list_any, list_all, sum_by}
+use Rattle.std.specs.List.{list_any, list_all}
 use Rattle.std.proofs.lemmas.List.{append_assoc, length_push, map_push}
-use Rattle.std.proofs.lemmas.List.Folds.{list_all-append, list_any-append}
-use Rattle.std.proofs.lemmas.Bool.{ltb-true, lt-ltb, le-leb, ltb-false, and_parts, and_from, or_parts}
+use Rattle.std.proofs.lemmas.Bool.{ltb-true, lt-ltb, le-leb, ltb-false, and_parts, and_from}
 use Rattle.fab_base.specs.Layout.{big_endian}
 use Rattle.fab_config.specs.Settings.{is_between, is_station, is_zone_name, same_bytes, all_differ, are_zones, are_sets, are_activations, do_rise}
 use Rattle.fab_config.specs.Lines.{is_skipped, is_ascii, words}
@@ -23,8 +22,8 @@ use Rattle.fab_config.specs.declared.keyword.Keyword.TheVariants.{FcfMac, Switch
 use Rattle.fab_config.specs.declared.keyword.NumberKey.{NumberKey}
 use Rattle.fab_config.specs.declared.keyword.NumberKey.TheVariants.{Vlan, Domain, Pool, Priority, Period, Window, Logins}
 use Rattle.std.specs.Cmp.{nat_eq_equiv}
-use Rattle.std.specs.Cmp.Lexicographic.{nat_list_eq_equiv}
-use Rattle.fab_config.proofs.ListLemmas.{any_map, all_more}
+use Rattle.fab_config.proofs.ListLemmas.{all_more}
+use Rattle.fab_config.proofs.ListedLemmas.{any_same, all_push, differ_push, are_from, grown_fits, zone_check, zones_of, set_check, sets_of}
 
 -- ---- tests
 
@@ -52,25 +51,6 @@ fc_map_passes w = by (octets_of 3 w)
 
 -- ---- what differs
 
-any_same : {X : Type 0} (f g : X → Bool) → ((x : X) → f x ≡ g x) → (xs : List X) → list_any f xs ≡ list_any g xs
-any_same f g e [] = refl
-any_same f g e (x ∷ xs) = ap (λ b. b || list_any f xs) (e x) ∙ ap (λ b. g x || b) (any_same f g e xs)
-
--- a new name differs from the others
-differ_push : {X : Type 0} (same : X → X → Bool) (xs : List X) (x : X) → all_differ same xs ≡ true → list_any (λ y. same y x) xs ≡ false → all_differ same (xs ++ x ∷ []) ≡ true
-differ_push same [] x all none = refl
-differ_push {X} same (y ∷ xs) x all none =
-    let parts = and_parts (not (list_any (same y) xs)) (all_differ same xs) all in
-    let split = or_parts (same y x) (list_any (λ z. same z x) xs) none in
-    and_from (not (list_any (same y) (xs ++ x ∷ []))) (all_differ same (xs ++ x ∷ []))
-    (ap not (list_any-append (same y) xs (x ∷ [])) ∙ new (list_any (same y) xs) (same y x) parts.0 split.0)
-    (differ_push same xs x parts.1 split.1)
-  where
-    new : (a b : Bool) → not a ≡ true → b ≡ false → not (a || (b || false)) ≡ true
-    new false false h e = refl
-    new false true h e = absurd (cc)
-    new true b h e = absurd (cc)
-
 -- numbers of which each counts once differ
 once_differ : (acc xs : List ℕ) → all_differ (λ x y. eqb x y) acc ≡ true → all_differ (λ x y. eqb x y) (acc ++ once_from acc xs) ≡ true
 once_differ acc [] h = ap (all_differ (λ x y. eqb x y)) (Rattle.std.proofs.lemmas.List.append-nil acc) ∙ h
@@ -80,16 +60,6 @@ once_differ acc (x ∷ xs) h = by (list_any (λ y. eqb x y) acc) refl (once_diff
         → all_differ (λ x y. eqb x y) (acc ++ cond (list_any (λ y. eqb x y) acc) (once_from acc xs) (x ∷ once_from (acc ++ x ∷ []) xs)) ≡ true
     by true e old new = ap (λ b. all_differ (λ x y. eqb x y) (acc ++ cond b (once_from acc xs) (x ∷ once_from (acc ++ x ∷ []) xs))) e ∙ old
     by false e old new = ap (λ b. all_differ (λ x y. eqb x y) (acc ++ cond b (once_from acc xs) (x ∷ once_from (acc ++ x ∷ []) xs))) e ∙ ap (all_differ (λ x y. eqb x y)) (sym (append_assoc acc (x ∷ []) (once_from (acc ++ x ∷ []) xs))) ∙ new e
-
--- a name without a place differs from each
-none_differs : (n : ℕ) (x : List ℕ) (names : List (List ℕ)) → is_some (place_from n x names) ≡ false → list_any (λ y. same_bytes x y) names ≡ false
-none_differs n x [] e = refl
-none_differs n x (y ∷ names) e = by (same_bytes x y) refl (none_differs (n + 1) x names) e
-  where
-    by : (t : Bool) → same_bytes x y ≡ t → (is_some (place_from (n + 1) x names) ≡ false → list_any (λ z. same_bytes x z) names ≡ false)
-        → is_some (cond t (Some n) (place_from (n + 1) x names)) ≡ false → (same_bytes x y || list_any (λ z. same_bytes x z) names) ≡ false
-    by true f ih h = absurd (cc)
-    by false f ih h = ap (λ b. b || list_any (λ z. same_bytes x z) names) f ∙ ih h
 
 -- ---- lines with a name
 
@@ -130,61 +100,17 @@ listed_some says (w ∷ ws) l e = by (says w) (all_of says ws) e
     by (Some x) None f = absurd (cc)
     by (Some x) (Some xs) f = one x xs (let is : once (x ∷ xs) ≡ l = cc in is)
 
-zone_test : Zone → Bool
-zone_test z = is_zone_name z.name && ltb 0 (length z.members) && all_differ (λ x y. eqb x y) z.members
-
-pub all_push : {X : Type 0} (p : X → Bool) (xs : List X) (x : X) → list_all p xs ≡ true → p x ≡ true → list_all p (xs ++ x ∷ []) ≡ true
-all_push p xs x all e = list_all-append p xs (x ∷ []) ∙ and_from (list_all p xs) (p x && true) all (and_from (p x) true e refl)
-
-zones_pushed : (zones : List Zone) (z : Zone) → zone_test z ≡ true → list_any (λ (y : Zone). same_bytes y.name z.name) zones ≡ false → ltb 1000 (length (zones ++ z ∷ [])) ≡ false
-    → ltb 20000 (sum_by (λ (x : Zone). length x.members) (zones ++ z ∷ [])) ≡ false → are_zones zones ≡ true → are_zones (zones ++ z ∷ []) ≡ true
-unfolding zone_test
-zones_pushed zones z test new few some fit =
-    let tests = list_all (λ (y : Zone). is_zone_name y.name && ltb 0 (length y.members) && all_differ (λ x y. eqb x y) y.members) zones in
-    let names = all_differ (λ (x : Zone) (y : Zone). same_bytes x.name y.name) zones in
-    let few_was = leb (length zones) 1000 in
-    let one = and_parts (tests && names && few_was) (leb (sum_by (λ (x : Zone). length x.members) zones) 20000) fit in
-    let two = and_parts (tests && names) few_was one.0 in
-    let three = and_parts tests names two.0 in
-    let more = zones ++ z ∷ [] in
-    let tests' = list_all (λ (y : Zone). is_zone_name y.name && ltb 0 (length y.members) && all_differ (λ x y. eqb x y) y.members) more in
-    let names' = all_differ (λ (x : Zone) (y : Zone). same_bytes x.name y.name) more in
-    and_from (tests' && names' && leb (length more) 1000) (leb (sum_by (λ (x : Zone). length x.members) more) 20000)
-    (and_from (tests' && names') (leb (length more) 1000)
-    (and_from tests' names' (all_push (λ (y : Zone). is_zone_name y.name && ltb 0 (length y.members) && all_differ (λ x y. eqb x y) y.members) zones z three.0 test) (differ_push (λ (x : Zone) (y : Zone). same_bytes x.name y.name) zones z three.1 new))
-    (le-leb (length more) 1000 (ltb-false 1000 (length more) few)))
-    (le-leb (sum_by (λ (x : Zone). length x.members) more) 20000 (ltb-false 20000 (sum_by (λ (x : Zone). length x.members) more) some))
-
--- a name that has no place differs from each zone's
-zone_differs : (zones : List Zone) (n : List ℕ) → is_some (place n (zone_names zones)) ≡ false → list_any (λ (y : Zone). same_bytes y.name n) zones ≡ false
-zone_differs zones n e = sym (any_same (λ (y : Zone). same_bytes n y.name) (λ (y : Zone). same_bytes y.name n) (λ y. nat_list_eq_equiv.symm n y.name) zones) ∙ sym (any_map (λ y. same_bytes n y) (λ (y : Zone). y.name) zones) ∙ none_differs 0 n (zone_names zones) e
-
-set_differs : (sets : List ZoneSet) (n : List ℕ) → is_some (place n (set_names sets)) ≡ false → list_any (λ (y : ZoneSet). same_bytes y.name n) sets ≡ false
-set_differs sets n e = sym (any_same (λ (y : ZoneSet). same_bytes n y.name) (λ (y : ZoneSet). same_bytes y.name n) (λ y. nat_list_eq_equiv.symm n y.name) sets) ∙ sym (any_map (λ y. same_bytes n y) (λ (y : ZoneSet). y.name) sets) ∙ none_differs 0 n (set_names sets) e
-
-zones_grown_fit : (zones more : List Zone) (z : Zone) (s t : Bool) → ltb 1000 (length (zones ++ z ∷ [])) ≡ s → ltb 20000 (sum_by (λ (x : Zone). length x.members) (zones ++ z ∷ [])) ≡ t
-    → zone_test z ≡ true → list_any (λ (y : Zone). same_bytes y.name z.name) zones ≡ false → are_zones zones ≡ true
-    → cond (s || t) (Err why.Limit) (Ok (zones ++ z ∷ [])) ≡ Ok more → (are_zones more ≡ true) × (length zones ≤ length more)
-zones_grown_fit zones more z true t a b test new fit h = absurd (cc)
-zones_grown_fit zones more z false true a b test new fit h = absurd (cc)
-zones_grown_fit zones more z false false a b test new fit h =
-    let is : zones ++ z ∷ [] ≡ more = cc in
-    (ap are_zones (sym is) ∙ zones_pushed zones z test new a b fit, (let l = length_push zones z in let g = ap length is in omega (arith, l, g)))
-
 pub zones_fit_after : (zones more : List Zone) (ws : List (List ℕ)) → zones_with zones ws ≡ Ok more → are_zones zones ≡ true → (are_zones more ≡ true) × (length zones ≤ length more)
-unfolding zones_with zone_test
+unfolding zones_with
 zones_fit_after zones more ws e fit =
     let p : IsPut (zone_names zones) name (zone_put zones) more = put_of (zone_names zones) name (zone_put zones) more ws e in
     let z : Zone = record { name = p.n; members = p.list } in
     let l = listed_some name p.ws p.list p.says_list in
-    zones_grown_fit zones more z (ltb 1000 (length (zones ++ z ∷ []))) (ltb 20000 (sum_by (λ (x : Zone). length x.members) (zones ++ z ∷ []))) refl refl
-    (and_from (is_zone_name p.n && ltb 0 (length p.list)) (all_differ (λ x y. eqb x y) p.list) (and_from (is_zone_name p.n) (ltb 0 (length p.list)) p.is_name (lt-ltb 0 (length p.list) l.0)) l.1)
-    (zone_differs zones p.n p.new) fit p.is
+    let test : zone_check z ≡ true = and_from (is_zone_name p.n && ltb 0 (length p.list)) (all_differ (λ x y. eqb x y) p.list) (and_from (is_zone_name p.n) (ltb 0 (length p.list)) p.is_name (lt-ltb 0 (length p.list) l.0)) l.1 in
+    let g = grown_fits (λ (y : Zone). y.name) (λ (y : Zone). y.members) zone_check 1000 20000 zones more z test p.new (zones_of zones fit) p.is in
+    (are_from (λ (y : Zone). y.name) (λ (y : Zone). y.members) zone_check 1000 20000 more g.0, g.1)
 
 -- ---- zone sets
-
-set_test : ℕ → ZoneSet → Bool
-set_test n s = is_zone_name s.name && ltb 0 (length s.places) && list_all (λ p. ltb p n) s.places && all_differ (λ x y. eqb x y) s.places
 
 -- a place is one of the list
 place_below : (k : ℕ) (x : List ℕ) (names : List (List ℕ)) (p : ℕ) → place_from k x names ≡ Some p → p < k + length names
@@ -221,44 +147,18 @@ listed_below says n below (w ∷ ws) l e = by (all_of says (w ∷ ws)) refl e
     by None f h = absurd (cc)
     by (Some m) f h = let is : once m ≡ l = cc in ap (list_all (λ p. ltb p n)) (sym is) ∙ once_all (λ p. ltb p n) [] m (all_below says n below (w ∷ ws) m f)
 
-sets_pushed : (n : ℕ) (sets : List ZoneSet) (s : ZoneSet) → set_test n s ≡ true → list_any (λ (y : ZoneSet). same_bytes y.name s.name) sets ≡ false → ltb 64 (length (sets ++ s ∷ [])) ≡ false
-    → ltb 4000 (sum_by (λ (x : ZoneSet). length x.places) (sets ++ s ∷ [])) ≡ false → are_sets n sets ≡ true → are_sets n (sets ++ s ∷ []) ≡ true
-unfolding set_test
-sets_pushed n sets s test new few some fit =
-    let check : ZoneSet → Bool = λ (y : ZoneSet). is_zone_name y.name && ltb 0 (length y.places) && list_all (λ p. ltb p n) y.places && all_differ (λ x y. eqb x y) y.places in
-    let same : ZoneSet → ZoneSet → Bool = λ (x : ZoneSet) (y : ZoneSet). same_bytes x.name y.name in
-    let total : List ZoneSet → ℕ = sum_by (λ (x : ZoneSet). length x.places) in
-    let one = and_parts (list_all check sets && all_differ same sets && leb (length sets) 64) (leb (total sets) 4000) fit in
-    let two = and_parts (list_all check sets && all_differ same sets) (leb (length sets) 64) one.0 in
-    let three = and_parts (list_all check sets) (all_differ same sets) two.0 in
-    let more = sets ++ s ∷ [] in
-    and_from (list_all check more && all_differ same more && leb (length more) 64) (leb (total more) 4000)
-    (and_from (list_all check more && all_differ same more) (leb (length more) 64)
-    (and_from (list_all check more) (all_differ same more) (all_push check sets s three.0 test) (differ_push same sets s three.1 new))
-    (le-leb (length more) 64 (ltb-false 64 (length more) few)))
-    (le-leb (total more) 4000 (ltb-false 4000 (total more) some))
-
-sets_grown_fit : (n : ℕ) (sets more : List ZoneSet) (z : ZoneSet) (s t : Bool) → ltb 64 (length (sets ++ z ∷ [])) ≡ s → ltb 4000 (sum_by (λ (x : ZoneSet). length x.places) (sets ++ z ∷ [])) ≡ t
-    → set_test n z ≡ true → list_any (λ (y : ZoneSet). same_bytes y.name z.name) sets ≡ false → are_sets n sets ≡ true
-    → cond (s || t) (Err why.Limit) (Ok (sets ++ z ∷ [])) ≡ Ok more → (are_sets n more ≡ true) × (length sets ≤ length more)
-sets_grown_fit n sets more z true t a b test new fit h = absurd (cc)
-sets_grown_fit n sets more z false true a b test new fit h = absurd (cc)
-sets_grown_fit n sets more z false false a b test new fit h =
-    let is : sets ++ z ∷ [] ≡ more = cc in
-    (ap (are_sets n) (sym is) ∙ sets_pushed n sets z test new a b fit, (let l = length_push sets z in let g = ap length is in omega (arith, l, g)))
-
 pub sets_fit_after : (zones : List Zone) (sets more : List ZoneSet) (ws : List (List ℕ)) → sets_with zones sets ws ≡ Ok more → are_sets (length zones) sets ≡ true → (are_sets (length zones) more ≡ true) × (length sets ≤ length more)
-unfolding sets_with set_test
+unfolding sets_with
 sets_fit_after zones sets more ws e fit =
     let n = length zones in
     let p : IsPut (set_names sets) (zone_place zones) (set_put sets) more = put_of (set_names sets) (zone_place zones) (set_put sets) more ws e in
-    let z : ZoneSet = record { name = p.n; places = p.list } in
+    let s : ZoneSet = record { name = p.n; places = p.list } in
     let l = listed_some (zone_place zones) p.ws p.list p.says_list in
     let below = listed_below (zone_place zones) n (λ w q f. let g = place_below 0 w (zone_names zones) q f in let h = Rattle.std.proofs.lemmas.List.length-map zones (λ (y : Zone). y.name) in omega (arith, g, h)) p.ws p.list p.says_list in
-    sets_grown_fit n sets more z (ltb 64 (length (sets ++ z ∷ []))) (ltb 4000 (sum_by (λ (x : ZoneSet). length x.places) (sets ++ z ∷ []))) refl refl
-    (and_from (is_zone_name p.n && ltb 0 (length p.list) && list_all (λ p. ltb p n) p.list) (all_differ (λ x y. eqb x y) p.list)
-    (and_from (is_zone_name p.n && ltb 0 (length p.list)) (list_all (λ p. ltb p n) p.list) (and_from (is_zone_name p.n) (ltb 0 (length p.list)) p.is_name (lt-ltb 0 (length p.list) l.0)) below) l.1)
-    (set_differs sets p.n p.new) fit p.is
+    let test : set_check n s ≡ true = and_from (is_zone_name p.n && ltb 0 (length p.list) && list_all (λ p. ltb p n) p.list) (all_differ (λ x y. eqb x y) p.list)
+    (and_from (is_zone_name p.n && ltb 0 (length p.list)) (list_all (λ p. ltb p n) p.list) (and_from (is_zone_name p.n) (ltb 0 (length p.list)) p.is_name (lt-ltb 0 (length p.list) l.0)) below) l.1 in
+    let g = grown_fits (λ (y : ZoneSet). y.name) (λ (y : ZoneSet). y.places) (set_check n) 64 4000 sets more s test p.new (sets_of n sets fit) p.is in
+    (are_from (λ (y : ZoneSet). y.name) (λ (y : ZoneSet). y.places) (set_check n) 64 4000 more g.0, g.1)
 
 -- ---- more zones and more sets
 
@@ -267,20 +167,17 @@ lt_more m n p le e = lt-ltb p n (let h : p < m = ltb-true p m e in omega (arith,
 
 sets_more : (m n : ℕ) (sets : List ZoneSet) → m ≤ n → are_sets m sets ≡ true → are_sets n sets ≡ true
 sets_more m n sets le fit =
-    let check : ℕ → ZoneSet → Bool = λ (k : ℕ) (y : ZoneSet). is_zone_name y.name && ltb 0 (length y.places) && list_all (λ p. ltb p k) y.places && all_differ (λ x y. eqb x y) y.places in
-    let same : ZoneSet → ZoneSet → Bool = λ (x : ZoneSet) (y : ZoneSet). same_bytes x.name y.name in
-    let total : List ZoneSet → ℕ = sum_by (λ (x : ZoneSet). length x.places) in
-    let one = and_parts (list_all (check m) sets && all_differ same sets && leb (length sets) 64) (leb (total sets) 4000) fit in
-    let two = and_parts (list_all (check m) sets && all_differ same sets) (leb (length sets) 64) one.0 in
-    let three = and_parts (list_all (check m) sets) (all_differ same sets) two.0 in
-    and_from (list_all (check n) sets && all_differ same sets && leb (length sets) 64) (leb (total sets) 4000)
-    (and_from (list_all (check n) sets && all_differ same sets) (leb (length sets) 64)
-    (and_from (list_all (check n) sets) (all_differ same sets) (all_more (check m) (check n) (λ s h.
-    let a = and_parts (is_zone_name s.name && ltb 0 (length s.places) && list_all (λ p. ltb p m) s.places) (all_differ (λ x y. eqb x y) s.places) h in
-    let b = and_parts (is_zone_name s.name && ltb 0 (length s.places)) (list_all (λ p. ltb p m) s.places) a.0 in
-    and_from (is_zone_name s.name && ltb 0 (length s.places) && list_all (λ p. ltb p n) s.places) (all_differ (λ x y. eqb x y) s.places)
-    (and_from (is_zone_name s.name && ltb 0 (length s.places)) (list_all (λ p. ltb p n) s.places) b.0 (all_more (λ p. ltb p m) (λ p. ltb p n) (λ p. lt_more m n p le) s.places b.1)) a.1) sets three.0) three.1)
-    two.1) one.1
+    let are = sets_of m sets fit in
+    are_from (λ (y : ZoneSet). y.name) (λ (y : ZoneSet). y.places) (set_check n) 64 4000 sets (record {
+      checked = all_more (set_check m) (set_check n) (λ s h.
+          let a = and_parts (is_zone_name s.name && ltb 0 (length s.places) && list_all (λ p. ltb p m) s.places) (all_differ (λ x y. eqb x y) s.places) h in
+          let b = and_parts (is_zone_name s.name && ltb 0 (length s.places)) (list_all (λ p. ltb p m) s.places) a.0 in
+          and_from (is_zone_name s.name && ltb 0 (length s.places) && list_all (λ p. ltb p n) s.places) (all_differ (λ x y. eqb x y) s.places)
+          (and_from (is_zone_name s.name && ltb 0 (length s.places)) (list_all (λ p. ltb p n) s.places) b.0 (all_more (λ p. ltb p m) (λ p. ltb p n) (λ p. lt_more m n p le) s.places b.1)) a.1) sets are.checked;
+      differ = are.differ;
+      few = are.few;
+      few_numbers = are.few_numbers;
+    })
 
 activations_more : (m n : ℕ) (l : List Activation) → m ≤ n → are_activations m l ≡ true → are_activations n l ≡ true
 activations_more m n l le fit =

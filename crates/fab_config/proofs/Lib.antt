@@ -4,6 +4,7 @@ pub mod NumberLemmas
 pub mod HexLemmas
 pub mod IndexLemmas
 pub mod NamedLemmas
+pub mod ListedLemmas
 pub mod FitLemmas
 pub mod ReadLemmas
 pub mod WriteLemmas

@@ -1,10 +1,9 @@
 -- Written zones, zone sets and activations are read again.
 use Rattle.std.proofs.Common.{◌≡◌, ℕ, zero, suc, ◌+◌, ◌^◌, ◌<◌, ◌≤◌, List, [], ◌∷◌, ◌++◌, length, map, Bool, true, false, cond, not, eqb, ltb, leb, ◌&&◌, ◌||◌, Option, Some, None, Result, Ok, Err, codes, refl, sym, ◌∙◌, ap, arith}
-use Rattle.std.specs.List.{list_all, list_any, flat_map, sum_by}
-use Rattle.std.specs.Option.{option_and_then, is_some}
+use Rattle.std.specs.List.{list_all, list_any, flat_map}
+use Rattle.std.specs.Option.{option_and_then}
 use Rattle.std.specs.Fmt.{decimal}
 use Rattle.std.proofs.lemmas.List.{append_assoc, append-nil, length-append, length-map}
-use Rattle.std.proofs.lemmas.List.Sums.{sum_by-append}
 use Rattle.std.proofs.lemmas.List.Folds.{list_all-append}
 use Rattle.std.proofs.lemmas.Bool.{leb-true, le-leb, ltb-true, lt-ltb, le-ltb, and_parts, and_from, or_from}
 use Rattle.fab_config.specs.Settings.{is_between, same_bytes, all_differ, is_zone_name, is_name_sign, is_letter, are_zones, are_sets, are_activations, do_rise}
@@ -22,8 +21,9 @@ use Rattle.fab_config.specs.declared.draft.Draft.{Draft}
 use Rattle.fab_config.specs.declared.keyword.Keyword.TheVariants.{Zones, Sets, Activations}
 use Rattle.fab_config.proofs.BackLemmas.{is_sign, is_word, are_words}
 use Rattle.fab_config.proofs.ValueLemmas.{name_back, octets_word, spelled_bytes, between_back, decimal_word}
-use Rattle.fab_config.proofs.FoldLemmas.{line_step, place_past, differs_before, listed_back, all_of_back, words_of}
+use Rattle.fab_config.proofs.FoldLemmas.{line_step, listed_back, all_of_back, words_of}
 use Rattle.fab_config.proofs.NamedLemmas.{with_list}
+use Rattle.fab_config.proofs.ListedLemmas.{no_place, grown_back, zone_check, zone_of, zones_of, set_check, set_of, sets_of}
 use Rattle.fab_base.specs.Layout.{spelled}
 use Rattle.fab_base.proofs.LayoutLemmas.{length-spelled}
 use Rattle.std.specs.Cmp.Lexicographic.{nat_list_eq_equiv}
@@ -81,10 +81,6 @@ zone_name_word (b ∷ l) h =
 member_word : (m : ℕ) → ltb m (2 ^ 64) ≡ true → (is_word (name_text m) && leb 1 (length (name_text m))) ≡ true
 member_word m h = octets_word (spelled 8 m) (let l = length-spelled 8 m in omega (arith, l)) (spelled_bytes 8 m)
 
--- a new name has no place
-no_place : (x : List ℕ) (names : List (List ℕ)) → list_any (λ y. same_bytes x y) names ≡ false → is_some (place x names) ≡ false
-no_place x names h = ap (λ l. is_some (place x l)) (sym (append-nil names)) ∙ ap is_some (place_past 0 x names [] h)
-
 -- ---- zones
 
 abbrev pub is_typed : Zone → Bool
@@ -96,30 +92,13 @@ last_all p l xs x h = (and_parts (p x) (list_all p xs) (and_parts (list_all p l)
 zone_read : (done more : List Zone) (z : Zone) → are_zones (done ++ z ∷ more) ≡ true → is_typed z ≡ true → zones_with done (z.name ∷ map name_text z.members) ≡ Ok (done ++ z ∷ [])
 unfolding zones_with
 zone_read done more z fit typed =
-    let all = done ++ z ∷ more in
-    let check : Zone → Bool = λ (y : Zone). is_zone_name y.name && ltb 0 (length y.members) && all_differ (λ x y. eqb x y) y.members in
-    let same : Zone → Zone → Bool = λ (x : Zone) (y : Zone). same_bytes x.name y.name in
-    let total : List Zone → ℕ = sum_by (λ (y : Zone). length y.members) in
-    let one = and_parts (list_all check all && all_differ same all && leb (length all) 1000) (leb (total all) 20000) fit in
-    let two = and_parts (list_all check all && all_differ same all) (leb (length all) 1000) one.0 in
-    let three = and_parts (list_all check all) (all_differ same all) two.0 in
-    let own = last_all check done more z three.0 in
-    let own_two = and_parts (is_zone_name z.name && ltb 0 (length z.members)) (all_differ (λ x y. eqb x y) z.members) own in
-    let own_three = and_parts (is_zone_name z.name) (ltb 0 (length z.members)) own_two.0 in
-    let some : 0 < length z.members = ltb-true 0 (length z.members) own_three.1 in
-    let new = differs_before same (λ x y. nat_list_eq_equiv.symm x.name y.name) z done more three.1 in
-    let few : length all ≤ 1000 = leb-true (length all) 1000 two.1 in
-    let sum : total all ≤ 20000 = leb-true (total all) 20000 one.1 in
-    let l1 = length-append done (z ∷ more) in
-    let l2 = length-append done (z ∷ []) in
-    let s1 = sum_by-append (λ (y : Zone). length y.members) done (z ∷ more) in
-    let s2 = sum_by-append (λ (y : Zone). length y.members) done (z ∷ []) in
-    let s3 = sum_by-append (λ (y : Zone). length y.members) (z ∷ []) more in
-    let here = done ++ z ∷ [] in
+    let are = zones_of (done ++ z ∷ more) fit in
+    let own = zone_of z (last_all zone_check done more z are.checked) in
+    let some : 0 < length z.members = ltb-true 0 (length z.members) own.some in
     with_list name (zone_names done) (zone_put done) (z.name ∷ map name_text z.members) z.name (map name_text z.members) refl z.members
-    (no_place z.name (zone_names done) (any_map (λ y. same_bytes z.name y) (λ (y : Zone). y.name) done ∙ new)) own_three.0
-    (listed_back name name_text z.members (omega (arith, some)) (all_of_back name name_text (λ m. ltb m (2 ^ 64)) (λ m h. name_back m (ltb-true m (2 ^ 64) h)) z.members typed) own_two.1)
-    ∙ ap (λ t. cond t (Err why.Limit) (Ok here)) (or_from (ltb 1000 (length here)) (ltb 20000 (total here)) (le-ltb 1000 (length here) (omega (arith, few, l1, l2))) (le-ltb 20000 (total here) (omega (arith, sum, s1, s2, s3))))
+    (no_place (λ (y : Zone). y.name) done more z are.differ) own.is_name
+    (listed_back name name_text z.members (omega (arith, some)) (all_of_back name name_text (λ m. ltb m (2 ^ 64)) (λ m h. name_back m (ltb-true m (2 ^ 64) h)) z.members typed) own.differ)
+    ∙ grown_back (λ (y : Zone). y.name) (λ (y : Zone). y.members) zone_check 1000 20000 done more z are
 
 pub zones_read : (n : ℕ) (d : Draft) (done zs : List Zone) (rest : List ℕ) → are_zones (done ++ zs) ≡ true → list_all is_typed zs ≡ true
     → lines_read n (record d { zones = done }) (lines_of (flat_map zone_line zs ++ rest)) ≡ lines_read (n + length zs) (record d { zones = done ++ zs }) (lines_of rest)
@@ -129,21 +108,14 @@ zones_read n d done [] rest fit typed =
     ∙ ap (λ (l : List Zone). lines_read (n + 0) (record d { zones = l }) (lines_of rest)) (sym (append-nil done))
 zones_read n d done (z ∷ zs) rest fit typed =
     let both = and_parts (is_typed z) (list_all is_typed zs) typed in
-    let named = last_all (λ (y : Zone). is_zone_name y.name && ltb 0 (length y.members) && all_differ (λ x y. eqb x y) y.members) done zs z (zones_tests (done ++ z ∷ zs) fit) in
-    let is_name = (and_parts (is_zone_name z.name) (ltb 0 (length z.members)) (and_parts (is_zone_name z.name && ltb 0 (length z.members)) (all_differ (λ x y. eqb x y) z.members) named).0).0 in
+    let own = zone_of z (last_all zone_check done zs z (zones_of (done ++ z ∷ zs) fit).checked) in
     ap (λ l. lines_read n (record d { zones = done }) (lines_of l)) (append_assoc (zone_line z) (flat_map zone_line zs) rest)
     ∙ line_step n (record d { zones = done }) (record d { zones = done ++ z ∷ [] }) (codes "zone") (z.name ∷ map name_text z.members) Zones (flat_map zone_line zs ++ rest) refl (omega arith) refl refl
-    (and_from (is_word z.name && leb 1 (length z.name)) (are_words (map name_text z.members)) (zone_name_word z.name is_name) (words_of name_text (λ m. ltb m (2 ^ 64)) member_word z.members both.0))
+    (and_from (is_word z.name && leb 1 (length z.name)) (are_words (map name_text z.members)) (zone_name_word z.name own.is_name) (words_of name_text (λ m. ltb m (2 ^ 64)) member_word z.members both.0))
     (ap (λ (r : Result (List Zone) ConfigWhy). changed r (λ x. record d { zones = x })) (zone_read done zs z fit both.0))
     ∙ zones_read (n + 1) d (done ++ z ∷ []) zs rest (ap are_zones (append_assoc done (z ∷ []) zs) ∙ fit) both.1
     ∙ ap (λ (m : ℕ). lines_read m (record d { zones = (done ++ z ∷ []) ++ zs }) (lines_of rest)) (let e : n + 1 + length zs ≡ n + suc (length zs) = omega arith in e)
     ∙ ap (λ (l : List Zone). lines_read (n + suc (length zs)) (record d { zones = l }) (lines_of rest)) (append_assoc done (z ∷ []) zs)
-  where
-    zones_tests : (l : List Zone) → are_zones l ≡ true → list_all (λ (y : Zone). is_zone_name y.name && ltb 0 (length y.members) && all_differ (λ x y. eqb x y) y.members) l ≡ true
-    zones_tests l h =
-        let check : Zone → Bool = λ (y : Zone). is_zone_name y.name && ltb 0 (length y.members) && all_differ (λ x y. eqb x y) y.members in
-        let same : Zone → Zone → Bool = λ (x : Zone) (y : Zone). same_bytes x.name y.name in
-        (and_parts (list_all check l) (all_differ same l) (and_parts (list_all check l && all_differ same l) (leb (length l) 1000) (and_parts (list_all check l && all_differ same l && leb (length l) 1000) (leb (sum_by (λ (y : Zone). length y.members) l) 20000) h).0).0).0
 
 -- ---- zone sets
 
@@ -192,40 +164,16 @@ are_names named l differ ok = record {
 set_read : (zones : List Zone) (done more : List ZoneSet) (s : ZoneSet) → AreNames (zone_names zones) → are_sets (length zones) (done ++ s ∷ more) ≡ true → sets_with zones done (s.name ∷ map (name_at (zone_names zones)) s.places) ≡ Ok (done ++ s ∷ [])
 unfolding sets_with
 set_read zones done more s names fit =
-    let all = done ++ s ∷ more in
     let k = length zones in
-    let check : ZoneSet → Bool = λ (y : ZoneSet). is_zone_name y.name && ltb 0 (length y.places) && list_all (λ p. ltb p k) y.places && all_differ (λ x y. eqb x y) y.places in
-    let same : ZoneSet → ZoneSet → Bool = λ (x : ZoneSet) (y : ZoneSet). same_bytes x.name y.name in
-    let total : List ZoneSet → ℕ = sum_by (λ (y : ZoneSet). length y.places) in
-    let one = and_parts (list_all check all && all_differ same all && leb (length all) 64) (leb (total all) 4000) fit in
-    let two = and_parts (list_all check all && all_differ same all) (leb (length all) 64) one.0 in
-    let three = and_parts (list_all check all) (all_differ same all) two.0 in
-    let own = last_all check done more s three.0 in
-    let own_two = and_parts (is_zone_name s.name && ltb 0 (length s.places) && list_all (λ p. ltb p k) s.places) (all_differ (λ x y. eqb x y) s.places) own in
-    let own_three = and_parts (is_zone_name s.name && ltb 0 (length s.places)) (list_all (λ p. ltb p k) s.places) own_two.0 in
-    let own_four = and_parts (is_zone_name s.name) (ltb 0 (length s.places)) own_three.0 in
-    let some : 0 < length s.places = ltb-true 0 (length s.places) own_four.1 in
-    let new = differs_before same (λ x y. nat_list_eq_equiv.symm x.name y.name) s done more three.1 in
-    let few : length all ≤ 64 = leb-true (length all) 64 two.1 in
-    let sum : total all ≤ 4000 = leb-true (total all) 4000 one.1 in
-    let l1 = length-append done (s ∷ more) in
-    let l2 = length-append done (s ∷ []) in
-    let s1 = sum_by-append (λ (y : ZoneSet). length y.places) done (s ∷ more) in
-    let s2 = sum_by-append (λ (y : ZoneSet). length y.places) done (s ∷ []) in
-    let s3 = sum_by-append (λ (y : ZoneSet). length y.places) (s ∷ []) more in
-    let here = done ++ s ∷ [] in
+    let are = sets_of k (done ++ s ∷ more) fit in
+    let own = set_of k s (last_all (set_check k) done more s are.checked) in
+    let some : 0 < length s.places = ltb-true 0 (length s.places) own.some in
     let size = length-map zones (λ (y : Zone). y.name) in
     with_list (zone_place zones) (set_names done) (set_put done) (s.name ∷ map (name_at (zone_names zones)) s.places) s.name (map (name_at (zone_names zones)) s.places) refl s.places
-    (no_place s.name (set_names done) (any_map (λ y. same_bytes s.name y) (λ (y : ZoneSet). y.name) done ∙ new)) own_four.0
+    (no_place (λ (y : ZoneSet). y.name) done more s are.differ) own.is_name
     (listed_back (zone_place zones) (name_at (zone_names zones)) s.places (omega (arith, some))
-    (all_of_back (zone_place zones) (name_at (zone_names zones)) (λ p. ltb p k) (λ p h. names.back p (let lt : p < k = ltb-true p k h in omega (arith, lt, size))) s.places own_three.1) own_two.1)
-    ∙ ap (λ t. cond t (Err why.Limit) (Ok here)) (or_from (ltb 64 (length here)) (ltb 4000 (total here)) (le-ltb 64 (length here) (omega (arith, few, l1, l2))) (le-ltb 4000 (total here) (omega (arith, sum, s1, s2, s3))))
-
-pub sets_tests : (k : ℕ) (l : List ZoneSet) → are_sets k l ≡ true → list_all (λ (y : ZoneSet). is_zone_name y.name && ltb 0 (length y.places) && list_all (λ p. ltb p k) y.places && all_differ (λ x y. eqb x y) y.places) l ≡ true
-sets_tests k l h =
-    let check : ZoneSet → Bool = λ (y : ZoneSet). is_zone_name y.name && ltb 0 (length y.places) && list_all (λ p. ltb p k) y.places && all_differ (λ x y. eqb x y) y.places in
-    let same : ZoneSet → ZoneSet → Bool = λ (x : ZoneSet) (y : ZoneSet). same_bytes x.name y.name in
-    (and_parts (list_all check l) (all_differ same l) (and_parts (list_all check l && all_differ same l) (leb (length l) 64) (and_parts (list_all check l && all_differ same l && leb (length l) 64) (leb (sum_by (λ (y : ZoneSet). length y.places) l) 4000) h).0).0).0
+    (all_of_back (zone_place zones) (name_at (zone_names zones)) (λ p. ltb p k) (λ p h. names.back p (let lt : p < k = ltb-true p k h in omega (arith, lt, size))) s.places own.below) own.differ)
+    ∙ grown_back (λ (y : ZoneSet). y.name) (λ (y : ZoneSet). y.places) (set_check k) 64 4000 done more s are
 
 pub sets_read : (n : ℕ) (d : Draft) (done ss : List ZoneSet) (rest : List ℕ) → AreNames (zone_names d.zones) → are_sets (length d.zones) (done ++ ss) ≡ true
     → lines_read n (record d { sets = done }) (lines_of (flat_map (set_line d.zones) ss ++ rest)) ≡ lines_read (n + length ss) (record d { sets = done ++ ss }) (lines_of rest)
@@ -235,15 +183,12 @@ sets_read n d done [] rest names fit =
     ∙ ap (λ (l : List ZoneSet). lines_read (n + 0) (record d { sets = l }) (lines_of rest)) (sym (append-nil done))
 sets_read n d done (s ∷ ss) rest names fit =
     let k = length d.zones in
-    let own = last_all (λ (y : ZoneSet). is_zone_name y.name && ltb 0 (length y.places) && list_all (λ p. ltb p k) y.places && all_differ (λ x y. eqb x y) y.places) done ss s (sets_tests k (done ++ s ∷ ss) fit) in
-    let own_two = and_parts (is_zone_name s.name && ltb 0 (length s.places) && list_all (λ p. ltb p k) s.places) (all_differ (λ x y. eqb x y) s.places) own in
-    let own_three = and_parts (is_zone_name s.name && ltb 0 (length s.places)) (list_all (λ p. ltb p k) s.places) own_two.0 in
-    let own_four = and_parts (is_zone_name s.name) (ltb 0 (length s.places)) own_three.0 in
+    let own = set_of k s (last_all (set_check k) done ss s (sets_of k (done ++ s ∷ ss) fit).checked) in
     let size = length-map d.zones (λ (y : Zone). y.name) in
     ap (λ l. lines_read n (record d { sets = done }) (lines_of l)) (append_assoc (set_line d.zones s) (flat_map (set_line d.zones) ss) rest)
     ∙ line_step n (record d { sets = done }) (record d { sets = done ++ s ∷ [] }) (codes "zoneset") (s.name ∷ map (name_at (zone_names d.zones)) s.places) Sets (flat_map (set_line d.zones) ss ++ rest) refl (omega arith) refl refl
-    (and_from (is_word s.name && leb 1 (length s.name)) (are_words (map (name_at (zone_names d.zones)) s.places)) (zone_name_word s.name own_four.0)
-    (words_of (name_at (zone_names d.zones)) (λ p. ltb p k) (λ p h. names.word p (let lt : p < k = ltb-true p k h in omega (arith, lt, size))) s.places own_three.1))
+    (and_from (is_word s.name && leb 1 (length s.name)) (are_words (map (name_at (zone_names d.zones)) s.places)) (zone_name_word s.name own.is_name)
+    (words_of (name_at (zone_names d.zones)) (λ p. ltb p k) (λ p h. names.word p (let lt : p < k = ltb-true p k h in omega (arith, lt, size))) s.places own.below))
     (ap (λ (r : Result (List ZoneSet) ConfigWhy). changed r (λ x. record d { sets = x })) (set_read d.zones done ss s names fit))
     ∙ sets_read (n + 1) d (done ++ s ∷ []) ss rest names (ap (are_sets k) (append_assoc done (s ∷ []) ss) ∙ fit)
     ∙ ap (λ (m : ℕ). lines_read m (record d { sets = (done ++ s ∷ []) ++ ss }) (lines_of rest)) (let e : n + 1 + length ss ≡ n + suc (length ss) = omega arith in e)

@@ -8,7 +8,7 @@ use Rattle.std.proofs.lemmas.List.{append_assoc, append-nil, length-append}
 use Rattle.std.proofs.lemmas.Bool.{leb-true, le-leb, ltb-true, eqb-true, and_parts, and_from}
 use Rattle.fab_base.specs.Layout.{spelled, big_endian}
 use Rattle.fab_base.proofs.LayoutLemmas.{length-spelled, big_endian-spelled}
-use Rattle.fab_config.specs.Settings.{Settings, is_between, is_station, is_zone_name, same_bytes, all_differ, are_zones, are_sets, are_activations, do_rise, is_in_range}
+use Rattle.fab_config.specs.Settings.{Settings, is_between, is_station, is_zone_name, are_zones, are_sets, are_activations, do_rise, is_in_range}
 use Rattle.fab_config.specs.Lines.{lines_of}
 use Rattle.fab_config.specs.Names.{zone_names, set_names}
 use Rattle.fab_config.specs.Values.{station, fc_map, number_between}
@@ -29,8 +29,9 @@ use Rattle.fab_config.specs.Typed.{IsTyped}
 use Rattle.fab_config.specs.Text.{decoded}
 use Rattle.fab_config.proofs.LengthLemmas.{name_short, octets_length, zones_length, sets_length, activations_length, word_length, number_length}
 use Rattle.fab_config.proofs.RangeLemmas.{Parts, parts}
-use Rattle.fab_config.proofs.ListBack.{is_typed, AreNames, are_names, name_at_ok, sets_tests, zones_read, sets_read, activations_read}
+use Rattle.fab_config.proofs.ListBack.{is_typed, AreNames, are_names, name_at_ok, zones_read, sets_read, activations_read}
 use Rattle.fab_config.proofs.ListLemmas.{all_more}
+use Rattle.fab_config.proofs.ListedLemmas.{zone_check, zone_of, zones_of, set_check, set_of, sets_of}
 
 regroup : (a b c d e f g h i j r : List ℕ) → (a ++ b ++ c ++ d) ++ ((e ++ f ++ g ++ h ++ i ++ j) ++ r) ≡ a ++ (b ++ (c ++ (d ++ (e ++ (f ++ (g ++ (h ++ (i ++ (j ++ r)))))))))
 regroup a b c d e f g h i j r = simp append_assoc
@@ -157,26 +158,16 @@ lines_back c keys zones typed sets activations zone_ok set_ok =
         flat : (k n z s a : List ℕ) → k ++ n ++ z ++ s ++ a ≡ k ++ (n ++ (z ++ (s ++ a)))
         flat k n z s a = simp append_assoc
 
+zone_names_are : (l : List Zone) → are_zones l ≡ true → list_all (λ (z : Zone). is_zone_name z.name) l ≡ true
+zone_names_are l h = all_more zone_check (λ (z : Zone). is_zone_name z.name) (λ z k. (zone_of z k).is_name) l (zones_of l h).checked
+
 zone_names_ok : (l : List Zone) → are_zones l ≡ true → AreNames (zone_names l)
-zone_names_ok l h =
-    let check : Zone → Bool = λ (y : Zone). is_zone_name y.name && ltb 0 (length y.members) && all_differ (λ x y. eqb x y) y.members in
-    let same : Zone → Zone → Bool = λ (x : Zone) (y : Zone). same_bytes x.name y.name in
-    let one = and_parts (list_all check l && all_differ same l && leb (length l) 1000) (leb (sum_by (λ (y : Zone). length y.members) l) 20000) h in
-    let two = and_parts (list_all check l && all_differ same l) (leb (length l) 1000) one.0 in
-    let three = and_parts (list_all check l) (all_differ same l) two.0 in
-    are_names (λ (z : Zone). z.name) l three.1 (all_more check (λ (z : Zone). is_zone_name z.name) (λ z k. (and_parts (is_zone_name z.name) (ltb 0 (length z.members)) (and_parts (is_zone_name z.name && ltb 0 (length z.members)) (all_differ (λ x y. eqb x y) z.members) k).0).0) l three.0)
+zone_names_ok l h = are_names (λ (z : Zone). z.name) l (zones_of l h).differ (zone_names_are l h)
 
 set_names_ok : (n : ℕ) (l : List ZoneSet) → are_sets n l ≡ true → AreNames (set_names l)
 set_names_ok n l h =
-    let check : ZoneSet → Bool = λ (y : ZoneSet). is_zone_name y.name && ltb 0 (length y.places) && list_all (λ p. ltb p n) y.places && all_differ (λ x y. eqb x y) y.places in
-    let same : ZoneSet → ZoneSet → Bool = λ (x : ZoneSet) (y : ZoneSet). same_bytes x.name y.name in
-    let one = and_parts (list_all check l && all_differ same l && leb (length l) 64) (leb (sum_by (λ (y : ZoneSet). length y.places) l) 4000) h in
-    let two = and_parts (list_all check l && all_differ same l) (leb (length l) 64) one.0 in
-    let three = and_parts (list_all check l) (all_differ same l) two.0 in
-    are_names (λ (z : ZoneSet). z.name) l three.1 (all_more check (λ (z : ZoneSet). is_zone_name z.name) (λ z k.
-    let a = and_parts (is_zone_name z.name && ltb 0 (length z.places) && list_all (λ p. ltb p n) z.places) (all_differ (λ x y. eqb x y) z.places) k in
-    let b = and_parts (is_zone_name z.name && ltb 0 (length z.places)) (list_all (λ p. ltb p n) z.places) a.0 in
-    (and_parts (is_zone_name z.name) (ltb 0 (length z.places)) b.0).0) l three.0)
+    let are = sets_of n l h in
+    are_names (λ (s : ZoneSet). s.name) l are.differ (all_more (set_check n) (λ (s : ZoneSet). is_zone_name s.name) (λ s k. (set_of n s k).is_name) l are.checked)
 
 pub parts_of : (c : Settings) → IsTrue (is_in_range c) → Parts (ltb c.switch (2 ^ 64)) (is_station c.fcf_mac) (is_between 0x0efc00 0x0efcff c.fc_map) (is_between 1 4094 c.vlan) (is_between 1 239 c.domain) (is_between 1 60000 c.pool) (leb c.priority 255)
     (is_between 250 90000 c.period) (is_between 10 1000 c.window) (is_between 1 1000 c.limit) (are_zones c.zones) (are_sets (length c.zones) c.sets) (are_activations (length c.sets) c.activations)
@@ -210,14 +201,6 @@ written_back c h typed =
 
 top : (least most n : ℕ) → is_between least most n ≡ true → n ≤ most
 top least most n h = leb-true n most (and_parts (leb least n) (leb n most) h).1
-
-zone_names_are : (l : List Zone) → are_zones l ≡ true → list_all (λ (z : Zone). is_zone_name z.name) l ≡ true
-zone_names_are l h =
-    let check : Zone → Bool = λ (y : Zone). is_zone_name y.name && ltb 0 (length y.members) && all_differ (λ x y. eqb x y) y.members in
-    let same : Zone → Zone → Bool = λ (x : Zone) (y : Zone). same_bytes x.name y.name in
-    let one = and_parts (list_all check l && all_differ same l && leb (length l) 1000) (leb (sum_by (λ (y : Zone). length y.members) l) 20000) h in
-    let two = and_parts (list_all check l && all_differ same l) (leb (length l) 1000) one.0 in
-    all_more check (λ (z : Zone). is_zone_name z.name) (λ z k. (and_parts (is_zone_name z.name) (ltb 0 (length z.members)) (and_parts (is_zone_name z.name && ltb 0 (length z.members)) (all_differ (λ x y. eqb x y) z.members) k).0).0) l (and_parts (list_all check l) (all_differ same l) two.0).0
 
 keys_length : (c : Settings) → HasKeys c → length (addresses_text c) + length (numbers_text c) ≤ 300
 keys_length c h =
@@ -264,48 +247,28 @@ written_length c h typed =
     let z = flat_map zone_line c.zones in
     let s = flat_map (set_line c.zones) c.sets in
     let a = flat_map (activation_line c.sets) c.activations in
-    let check : ZoneSet → Bool = λ (y : ZoneSet). is_zone_name y.name && ltb 0 (length y.places) && list_all (λ p. ltb p (length c.zones)) y.places && all_differ (λ x y. eqb x y) y.places in
+    let n = length c.zones in
+    let zones = zones_of c.zones p.k_is in
+    let sets = sets_of n c.sets p.l_is in
     let names = zone_names_are c.zones p.k_is in
-    let tests = sets_tests (length c.zones) c.sets p.l_is in
-    let set_ok : list_all (λ (y : ZoneSet). is_zone_name y.name) c.sets ≡ true = all_more check (λ (y : ZoneSet). is_zone_name y.name) (λ y k. (split y (length c.zones) k).0) c.sets tests in
+    let set_ok : list_all (λ (y : ZoneSet). is_zone_name y.name) c.sets ≡ true = all_more (set_check n) (λ (y : ZoneSet). is_zone_name y.name) (λ y k. (set_of n y k).is_name) c.sets sets.checked in
     let lz = zones_length c.zones names in
     let ls = sets_length c.zones (length c.zones) (λ q lt. name_short (name_at (zone_names c.zones) q) (name_at_ok (λ (y : Zone). y.name) c.zones q lt names)) c.sets
-    (all_more check (λ (y : ZoneSet). is_zone_name y.name && list_all (λ p. ltb p (length c.zones)) y.places) (λ y k. let q = split y (length c.zones) k in and_from (is_zone_name y.name) (list_all (λ p. ltb p (length c.zones)) y.places) q.0 q.1) c.sets tests) in
+    (all_more (set_check n) (λ (y : ZoneSet). is_zone_name y.name && list_all (λ p. ltb p n) y.places) (λ y k. let q = set_of n y k in and_from (is_zone_name y.name) (list_all (λ p. ltb p n) y.places) q.is_name q.below) c.sets sets.checked) in
     let acts = and_parts (list_all (λ (y : Activation). ltb y.set (length c.sets) && leb y.moment 4294967295999) c.activations && do_rise c.activations) (leb (length c.activations) 64) p.m_is in
     let la = activations_length c.sets (length c.sets) (λ q lt. name_short (name_at (set_names c.sets) q) (name_at_ok (λ (y : ZoneSet). y.name) c.sets q lt set_ok)) c.activations
     (and_parts (list_all (λ (y : Activation). ltb y.set (length c.sets) && leb y.moment 4294967295999) c.activations) (do_rise c.activations) acts.0).0 in
     let few_a : length c.activations ≤ 64 = leb-true (length c.activations) 64 acts.1 in
-    let zb = zone_bounds c.zones p.k_is in
-    let sb = set_bounds (length c.zones) c.sets p.l_is in
     let f4 = length-append (addresses_text c ++ numbers_text c ++ z ++ s) a in
     let f3 = length-append (addresses_text c ++ numbers_text c ++ z) s in
     let f2 = length-append (addresses_text c ++ numbers_text c) z in
     let f1 = length-append (addresses_text c) (numbers_text c) in
     total (length (addresses_text c)) (length (numbers_text c)) (length z) (length s) (length a) (length c.zones) (sum_by (λ (y : Zone). length y.members) c.zones) (length c.sets) (sum_by (λ (y : ZoneSet). length y.places) c.sets) (length c.activations)
-    (length (written_parts c)) (f4 ∙ ap (λ (n : ℕ). n + length a) (f3 ∙ ap (λ (n : ℕ). n + length s) (f2 ∙ ap (λ (n : ℕ). n + length z) f1))) keys lz ls la zb.0 zb.1 sb.0 sb.1 few_a
+    (length (written_parts c)) (f4 ∙ ap (λ (n : ℕ). n + length a) (f3 ∙ ap (λ (n : ℕ). n + length s) (f2 ∙ ap (λ (n : ℕ). n + length z) f1))) keys lz ls la (leb-true (length c.zones) 1000 zones.few)
+    (leb-true (sum_by (λ (y : Zone). length y.members) c.zones) 20000 zones.few_numbers) (leb-true (length c.sets) 64 sets.few) (leb-true (sum_by (λ (y : ZoneSet). length y.places) c.sets) 4000 sets.few_numbers) few_a
   where
     written_parts : Settings → List ℕ
     written_parts c = addresses_text c ++ numbers_text c ++ flat_map zone_line c.zones ++ flat_map (set_line c.zones) c.sets ++ flat_map (activation_line c.sets) c.activations
-
-    split : (y : ZoneSet) (n : ℕ) → (is_zone_name y.name && ltb 0 (length y.places) && list_all (λ p. ltb p n) y.places && all_differ (λ x y. eqb x y) y.places) ≡ true → (is_zone_name y.name ≡ true) × (list_all (λ p. ltb p n) y.places ≡ true)
-    split y n k =
-        let a = and_parts (is_zone_name y.name && ltb 0 (length y.places) && list_all (λ p. ltb p n) y.places) (all_differ (λ x y. eqb x y) y.places) k in
-        let b = and_parts (is_zone_name y.name && ltb 0 (length y.places)) (list_all (λ p. ltb p n) y.places) a.0 in
-        ((and_parts (is_zone_name y.name) (ltb 0 (length y.places)) b.0).0, b.1)
-
-    zone_bounds : (l : List Zone) → are_zones l ≡ true → (length l ≤ 1000) × (sum_by (λ (y : Zone). length y.members) l ≤ 20000)
-    zone_bounds l h =
-        let check : Zone → Bool = λ (y : Zone). is_zone_name y.name && ltb 0 (length y.members) && all_differ (λ x y. eqb x y) y.members in
-        let same : Zone → Zone → Bool = λ (x : Zone) (y : Zone). same_bytes x.name y.name in
-        let one = and_parts (list_all check l && all_differ same l && leb (length l) 1000) (leb (sum_by (λ (y : Zone). length y.members) l) 20000) h in
-        (leb-true (length l) 1000 (and_parts (list_all check l && all_differ same l) (leb (length l) 1000) one.0).1, leb-true (sum_by (λ (y : Zone). length y.members) l) 20000 one.1)
-
-    set_bounds : (n : ℕ) (l : List ZoneSet) → are_sets n l ≡ true → (length l ≤ 64) × (sum_by (λ (y : ZoneSet). length y.places) l ≤ 4000)
-    set_bounds n l h =
-        let check : ZoneSet → Bool = λ (y : ZoneSet). is_zone_name y.name && ltb 0 (length y.places) && list_all (λ p. ltb p n) y.places && all_differ (λ x y. eqb x y) y.places in
-        let same : ZoneSet → ZoneSet → Bool = λ (x : ZoneSet) (y : ZoneSet). same_bytes x.name y.name in
-        let one = and_parts (list_all check l && all_differ same l && leb (length l) 64) (leb (sum_by (λ (y : ZoneSet). length y.places) l) 4000) h in
-        (leb-true (length l) 64 (and_parts (list_all check l && all_differ same l) (leb (length l) 64) one.0).1, leb-true (sum_by (λ (y : ZoneSet). length y.places) l) 4000 one.1)
 
     total : (k n z s a zs ms ss ps acts w : ℕ) → w ≡ k + n + z + s + a → k + n ≤ 300 → z ≤ 70 * zs + 24 * ms → s ≤ 73 * ss + 65 * ps → a ≤ 88 * acts → zs ≤ 1000 → ms ≤ 20000 → ss ≤ 64 → ps ≤ 4000 → acts ≤ 64 → w ≤ 1048576
     total k n z s a zs ms ss ps acts w e b1 b2 b3 b4 b5 b6 b7 b8 b9 = omega arith

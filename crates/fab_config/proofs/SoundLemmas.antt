@@ -26,7 +26,8 @@ use Rattle.fab_config.specs.declared.keyword.NumberKey.TheVariants.{Vlan, Domain
 use Rattle.fab_config.proofs.RangeLemmas.{between}
 use Rattle.fab_config.proofs.ValueLemmas.{are_bytes}
 use Rattle.fab_config.proofs.ListBack.{is_typed}
-use Rattle.fab_config.proofs.FitLemmas.{IsPut, put_of, all_push, listed_below, only_passes, once_passes, changes_of, line_keeps, line_fits}
+use Rattle.fab_config.proofs.ListedLemmas.{all_push}
+use Rattle.fab_config.proofs.FitLemmas.{IsPut, put_of, listed_below, only_passes, once_passes, changes_of, line_keeps, line_fits}
 use Rattle.fab_config.proofs.ReadLemmas.{fits_in_range}
 use Rattle.fab_config.proofs.RoundLemmas.{decoded_back}
 
