@@ -21,14 +21,13 @@ use Rattle.fip_codec.proofs.Grammar.{IsFip-from_decoded}
 use Rattle.fip_codec.proofs.Unique.{decoded-from_IsFip}
 use Rattle.fab_policy.specs.Cause.{Cause}
 use Rattle.fab_policy.specs.Heard.{What, Bad, Fip, Fcoe, FIP, FCOE, plain, cause_of, decoded}
-use Rattle.fab_policy.specs.Judging.{by_rule, verdict_of}
 use Rattle.fab_policy.specs.Laws.{AsksVlans, Solicits}
 use Rattle.fab_policy.specs.Rules.{first_row, is_wrong_vlan, ALL_FCFS}
-use Rattle.fab_policy.specs.Stage.{verdict_so_far}
+use Rattle.fab_policy.specs.SoFar.Stage.{verdict_so_far}
 use Rattle.fab_policy.specs.declared.verdict.Verdict.{Verdict}
 use Rattle.fab_policy.specs.declared.verdict.Verdict.TheVariants.{Vlans, Advertised, Dropped}
 use Rattle.fab_policy.specs.declared.verdict.Rule.TheVariants as rule
-use Rattle.fab_policy.proofs.JudgeLemmas.{so_far_is, heard_is}
+use Rattle.fab_policy.proofs.JudgeLemmas.{by_rule, verdict_of, so_far_is, heard_is}
 use Rattle.fab_policy.proofs.StageLemmas.{frame_rows}
 
 -- ---- bytes

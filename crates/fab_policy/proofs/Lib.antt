@@ -14,6 +14,7 @@ pub mod SoundParms
 pub mod Carried
 pub mod Due
 pub mod Right
+pub mod FrameRuleLemmas
 pub mod JudgeLemmas
 pub mod ReplyLemmas
 pub mod StageLemmas

@@ -6,7 +6,7 @@ use Rattle.std.proofs.lemmas.List.{take_more}
 use Rattle.std.proofs.lemmas.Str.{IsUtf8-from_ascii}
 use Rattle.std.proofs.lemmas.Str.Parse.{digit_at, numerals_by_value, tells_digits, without_leading_plus_none}
 use Rattle.std.specs.Str.{IsUtf8}
-use Rattle.fab_policy.specs.LineWords.{Finds, is_inside, IsShortest, IsWord, SpellNone}
+use Rattle.fab_policy.specs.Private.LineWords.{Finds, is_inside, IsShortest, IsWord, SpellNone}
 use Rattle.fab_policy.specs.Text.{rule_word}
 use Rattle.fab_base.specs.Texts.{hex, hex_digit}
 use Rattle.fab_policy.specs.declared.verdict.Rule.{Rule}

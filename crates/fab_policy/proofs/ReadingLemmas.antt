@@ -3,7 +3,7 @@ use Rattle.std.proofs.Common.{◌≡◌, ℕ, ◌+◌, ◌<◌, ◌≤◌, ◌^�
 use Rattle.std.proofs.lemmas.List.{append-nil}
 use Rattle.fab_policy.specs.Ranged.{AscendFrom, IsRangedVerdict}
 use Rattle.fab_policy.specs.Spelling.{IsRangedLine, Spells}
-use Rattle.fab_policy.specs.LineWords.{IsCut, IsFrameOf, IsNext, IsSpelledAfter, IsTickOf, IsWord, rest_of, verdict_words}
+use Rattle.fab_policy.specs.Private.LineWords.{IsCut, IsFrameOf, IsNext, IsSpelledAfter, IsTickOf, IsWord, rest_of, verdict_words}
 use Rattle.fab_policy.proofs.SpellingLemmas.{line_words}
 use Rattle.fab_policy.proofs.WordLemmas.{text_of}
 use Rattle.fab_policy.specs.Text.{SPACE, LINE_FEED, then_word, address_word}

@@ -9,13 +9,12 @@ use Rattle.fab_config.specs.InRange.{inside_in_range}
 use Rattle.fab_config.specs.declared.Config.TheInside.{Inside}
 use Rattle.fip_codec.proofs.Sound.{and-left, and-right}
 use Rattle.fab_policy.specs.Heard.{What, Bad, plain, frame_in, decoded, source}
-use Rattle.fab_policy.specs.Judging.{verdict_of}
 use Rattle.fab_policy.specs.Replies.{notice_to, advertised_to, vlan_notice, advertised_to_one, size_in}
-use Rattle.fab_policy.specs.Stage.{verdict_so_far}
+use Rattle.fab_policy.specs.SoFar.Stage.{verdict_so_far}
 use Rattle.fab_policy.specs.declared.verdict.Rule.TheVariants as rule
 use Rattle.fab_policy.specs.declared.verdict.Verdict.TheVariants.{Vlans, Advertised, Dropped}
 use Rattle.fab_policy.proofs.Carried.{source_is}
-use Rattle.fab_policy.proofs.JudgeLemmas.{so_far_is}
+use Rattle.fab_policy.proofs.JudgeLemmas.{verdict_of, so_far_is}
 
 -- ---- ranges
 

@@ -6,7 +6,7 @@ use Rattle.std.proofs.lemmas.Fmt.{decimal_is_IsNumeral}
 use Rattle.fab_config.specs.Settings.{same_bytes}
 use Rattle.fab_policy.specs.Ranged.{AscendFrom, IsRangedVerdict}
 use Rattle.fab_policy.specs.Spelling.{line_text, IsRangedLine, HasClockOf, LinesAreUnique}
-use Rattle.fab_policy.specs.LineWords.{IsWord, rest_of, number_words, verdict_words}
+use Rattle.fab_policy.specs.Private.LineWords.{IsWord, rest_of, number_words, verdict_words}
 use Rattle.fab_policy.proofs.WordLemmas.{text_of}
 use Rattle.fab_policy.specs.Text.{LINE_FEED, then_word, address_word, address_words, code_word, rule_word, cause_text, verdict_text, frame_words}
 use Rattle.fab_policy.specs.declared.line.Format.{Format}

@@ -13,9 +13,8 @@ use Rattle.fab_policy.specs.Journal.{now}
 use Rattle.fab_policy.specs.Legal.{is_tick_owed, has_activation}
 use Rattle.fab_policy.specs.Logins.{counting, grants, ends, n_port}
 use Rattle.fab_policy.specs.Outputs.{Sent, Notice, told, outputs_by, state_of, replies_of, clears, clears_of, ended_by, granted_by, changed_by, has_changed, told_of, told_of_zones, differs, watchers, notices, rscn_frames, advertisements_of, advertised_at, is_owed}
-use Rattle.fab_policy.specs.Rules.{first_row, rule_for, is_wrong_vlan, is_vlan_request, is_solicitation, is_forwarders, fip_login_rows, ALL_FCFS}
-use Rattle.fab_policy.specs.Judging.{names_another}
-use Rattle.fab_policy.specs.Stage.{frame_rule, message_verdict, is_unbuilt, unbuilt_cause, verdict_so_far, judged_so_far, IsRightEntrySoFar, HasOneVerdict, NobodyIsLoggedIn, SendsSoFar, OwedSoFar}
+use Rattle.fab_policy.specs.Rules.{first_row, frame_rule, names_another, rule_for, is_wrong_vlan, is_vlan_request, is_solicitation, is_forwarders, fip_login_rows, ALL_FCFS}
+use Rattle.fab_policy.specs.SoFar.Stage.{message_verdict, is_unbuilt, unbuilt_cause, verdict_so_far, judged_so_far, IsRightEntrySoFar, HasOneVerdict, NobodyIsLoggedIn, SendsSoFar, OwedSoFar}
 use Rattle.fab_policy.specs.State.{Tables, LivePort, live_port, port_at, tables_of, is_overdue}
 use Rattle.fab_policy.specs.Steps.{after, port_after, clock_after, fresh}
 use Rattle.fab_policy.specs.Verdicts.{Judgement, Must, Meets, judged, message_judged}

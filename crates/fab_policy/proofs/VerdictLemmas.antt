@@ -3,7 +3,7 @@ use Rattle.std.proofs.Common.{◌≡◌, ℕ, ◌<◌, ◌^◌, true, false, is_
 use Rattle.fab_config.specs.Settings.{same_bytes}
 use Rattle.fab_policy.specs.Cause.{Cause, is_numbered}
 use Rattle.fab_policy.specs.Ranged.{IsRangedVerdict}
-use Rattle.fab_policy.specs.LineWords.{Finds, IsNext, IsSpelledAfter, number_words, rest_of, verdict_words}
+use Rattle.fab_policy.specs.Private.LineWords.{Finds, IsNext, IsSpelledAfter, number_words, rest_of, verdict_words}
 use Rattle.fab_policy.specs.Text.{SPACE, LINE_FEED, then_word, rule_word}
 use Rattle.fab_policy.specs.declared.verdict.Rule.{Rule}
 use Rattle.fab_policy.specs.declared.verdict.Verdict.{Verdict}

@@ -6,7 +6,7 @@ use Rattle.std.proofs.lemmas.Str.Parse.{digit_from_value}
 use Rattle.std.proofs.lemmas.Fmt.{decimal_is_IsNumeral}
 use Rattle.fab_policy.specs.Text.{SPACE, LINE_FEED}
 use Rattle.fab_base.specs.Texts.{hex, hex_digit}
-use Rattle.fab_policy.specs.LineWords.{is_inside, IsWord, Ends, rest_of}
+use Rattle.fab_policy.specs.Private.LineWords.{is_inside, IsWord, Ends, rest_of}
 
 -- ---- where a word ends
 

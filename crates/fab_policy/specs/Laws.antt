@@ -1,7 +1,6 @@
 -- What a VLAN request and a solicitation to this forwarder are, by the layout of Ethernet and the grammar of FIP alone (IEEE
 -- 802.3, IEEE 802.1Q; FC-BB-5, "FIP operations").
-use Rattle.std.specs.Prelude.{◌≡◌, ℕ, nat_lt, ◌⊎◌, ◌↔◌, Bool, true, false, List, Option}
-use Rattle.std.specs.List.{AllPass}
+use Rattle.std.specs.Prelude.{◌≡◌, ℕ, ◌⊎◌, Bool, true, false, List, Option}
 use Rattle.fab_base.specs.declared.values.Caught.{Caught}
 use Rattle.fab_config.specs.Settings.{Settings}
 use Rattle.eth_frames.specs.Ethernet.{Eth, IsEth, vlan_of_tag}
@@ -9,8 +8,6 @@ use Rattle.fip_codec.specs.Message.{VlanAsk, Solicit}
 use Rattle.fip_codec.specs.Reading.{IsFip}
 use Rattle.fab_policy.specs.Heard.{FIP}
 use Rattle.fab_policy.specs.Rules.{ALL_FCFS}
-use Rattle.fab_policy.specs.Stage.{verdict_so_far}
-use Rattle.fab_policy.specs.declared.verdict.Verdict.TheVariants.{Vlans, Advertised}
 
 -- A captured frame is a VLAN request to this forwarder: it is whole, its bytes are some frame of the Ethertype of FIP, that
 -- frame's body is a VLAN request which names the frame's source, and the frame is on the forwarder's VLAN or on none, to the
@@ -42,10 +39,3 @@ pub record Solicits (c : Settings) (caught : Caught) : Type 0 where
   pub vlan : vlan_of_tag frame.tag ≡ c.vlan
   pub dest : (frame.dst ≡ c.fcf_mac) ⊎ (frame.dst ≡ ALL_FCFS)
   pub source : named ≡ frame.src
-
--- such frames, and no others, are answered
-abbrev pub RequestsAreAnswered : Type 0
-RequestsAreAnswered = (c : Settings) (caught : Caught) → AllPass (λ b. nat_lt b 256) caught.bytes → (verdict_so_far c caught ≡ Vlans) ↔ AsksVlans c caught
-
-abbrev pub SolicitationsAreAnswered : Type 0
-SolicitationsAreAnswered = (c : Settings) (caught : Caught) → AllPass (λ b. nat_lt b 256) caught.bytes → (verdict_so_far c caught ≡ Advertised) ↔ Solicits c caught

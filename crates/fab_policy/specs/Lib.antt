@@ -27,8 +27,7 @@ pub mod Written
 pub mod Growing
 pub mod Keeping
 pub mod Sound
-pub mod Stage
-pub mod Judging
+pub mod SoFar
 pub mod Laws
 pub mod Spelling
-pub mod LineWords
+pub mod Private

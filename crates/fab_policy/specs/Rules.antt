@@ -143,14 +143,24 @@ is_wrong_vlan c f may_be_untagged = not (eth.vlan_of_tag f.tag == c.vlan || (may
 abbrev pub is_to_forwarder : Settings → eth.Eth → fip.Fip → Bool
 is_to_forwarder c f m = same_bytes f.dst c.fcf_mac || ((is_solicitation m || is_vlan_request m) && same_bytes f.dst ALL_FCFS)
 
+-- the message names another MAC than the frame's source
+abbrev pub names_another : eth.Eth → fip.Fip → Bool
+names_another f m = elim (named_mac m) [ None ↦ false | Some mac ↦ not (same_bytes mac f.src) ]
+
 -- the rows on the frame itself: its VLAN, its destination, who may send it, and whom it names
 abbrev pub fip_frame_rows : Settings → eth.Eth → fip.Fip → List (Bool × Cause)
 fip_frame_rows c f m =
     (is_wrong_vlan c f (is_vlan_request m), plain rule.Vlan)
     ∷ (not (is_to_forwarder c f m), plain rule.FipDest)
     ∷ (is_forwarders m, plain rule.FipRole)
-    ∷ (elim (named_mac m) [ None ↦ false | Some mac ↦ not (same_bytes mac f.src) ], plain rule.FipMac)
+    ∷ (names_another f m, plain rule.FipMac)
     ∷ []
+
+-- the first rule on the frame itself that drops it, or none
+abbrev pub frame_rule : Settings → What → Option Cause
+frame_rule c (Bad cause) = Some cause
+frame_rule c (Fip f m) = first_row (fip_frame_rows c f m)
+frame_rule c (Fcoe f read) = first_row ((is_wrong_vlan c f false, plain rule.Vlan) ∷ [])
 
 -- the rows on what it carries and on who is logged in
 abbrev pub fip_login_rows : Settings → Tables → ℕ → Caught → fip.Fip → List (Bool × Cause)

@@ -3,9 +3,9 @@
 
 mod bytes;
 mod event;
+mod frame_rules;
 mod growing;
 mod heard;
-mod judging;
 mod laws;
 mod line;
 mod lines;
@@ -14,7 +14,7 @@ mod named;
 mod ranged;
 mod reading;
 mod replies;
-mod stage;
+mod so_far;
 #[cfg(test)]
 mod tests_heard;
 #[cfg(test)]
@@ -26,9 +26,9 @@ mod verdict_words;
 mod words;
 
 pub use event::Event;
+pub use frame_rules::frame_rule;
 pub use growing::{entries_add_to_files, entries_come_in_parts, records_come_later};
 pub use heard::{Heard, What, hear};
-pub use judging::judge;
 pub use laws::{
     fabric_steps, forwarding_rule, frames_are_carried, journal_steps, legal_journals, lookups,
     registrations_fit, tables_change, ticks_are_due, verdicts_are_one,
@@ -43,7 +43,7 @@ pub use replies::{
     write_advertisement, write_advertisement_to, write_made, write_notice_to, write_solicited,
     write_vlan_notice,
 };
-pub use stage::{
-    requests_are_answered, solicitations_are_answered, stage_journals, stage_verdicts,
+pub use so_far::{
+    judge, requests_are_answered, solicitations_are_answered, stage_journals, stage_verdicts,
 };
 pub use verdict::{Dropped, Rule, Verdict};

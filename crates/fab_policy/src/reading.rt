@@ -3,7 +3,7 @@ ghost use Rattle.std.specs.Prelude.{◌≡◌, ◌+◌, ◌≤◌, ◌<◌, ◌^
 ghost use Rattle.std.specs.Prelude.{IfOk, IfErr};
 ghost use Rattle.fab_policy.specs.Ranged.{AscendFrom};
 ghost use Rattle.fab_policy.specs.Spelling.{Spells};
-ghost use Rattle.fab_policy.specs.LineWords.{Finds, IsFrameOf, IsTickOf, rest_of};
+ghost use Rattle.fab_policy.specs.Private.LineWords.{Finds, IsFrameOf, IsTickOf, rest_of};
 ghost use Rattle.fab_policy.specs.Text.{address_word};
 
 use crate::verdict_words::{is_end, read_verdict};

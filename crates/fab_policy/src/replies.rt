@@ -9,7 +9,7 @@ ghost use Rattle.fab_policy.specs.Replies.{size_in};
 ghost use Rattle.fip_codec.specs.CanWrite.{CanWrite};
 ghost use Rattle.fab_policy.specs.Replies as spec;
 ghost use Rattle.fab_policy.specs.Rules.{ALL_ENODES as ALL_NODES};
-ghost use Rattle.fab_policy.specs.Stage.{verdict_so_far};
+ghost use Rattle.fab_policy.specs.SoFar.Stage.{verdict_so_far};
 ghost use Rattle.fab_policy.specs.declared.verdict.Verdict.TheVariants.{Vlans, Advertised};
 
 use crate::heard::FIP;

@@ -3,8 +3,8 @@ ghost use Rattle.std.specs.Prelude.{◌≡◌, ◌∷◌, ◌≤◌, ◌<◌, �
 ghost use Rattle.std.specs.Prelude.{MatchBool, is_some, codes};
 ghost use Rattle.fab_policy.specs.Cause.{is_numbered};
 ghost use Rattle.fab_policy.specs.Ranged.{IsRangedVerdict};
-ghost use Rattle.fab_policy.specs.LineWords.{Ends, Finds, IsSpelledAfter, IsWord, NamesAddress};
-ghost use Rattle.fab_policy.specs.LineWords.{NamesCodes, NamesNumber, verdict_words};
+ghost use Rattle.fab_policy.specs.Private.LineWords.{Ends, Finds, IsSpelledAfter, IsWord, NamesAddress};
+ghost use Rattle.fab_policy.specs.Private.LineWords.{NamesCodes, NamesNumber, verdict_words};
 ghost use Rattle.fab_policy.specs.Text.{LINE_FEED, rule_word};
 
 use crate::words::{is, next_word, number_up_to, read_address, read_code, read_port, read_rule};

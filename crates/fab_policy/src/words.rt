@@ -1,8 +1,8 @@
 //! The words of a line: cut off, and read.
 ghost use Rattle.std.specs.Prelude.{◌≡◌, ◌∷◌, ◌++◌, ◌≤◌, ◌<◌, ◌^◌, ℕ, List, Option, true, false};
 ghost use Rattle.std.specs.Prelude.{length, take, drop, decimal, IfSome, IfNone, MatchBool};
-ghost use Rattle.fab_policy.specs.LineWords.{Ends, Finds, IsCut, IsNext, IsShortest, IsWord};
-ghost use Rattle.fab_policy.specs.LineWords.{SpellNone, is_inside};
+ghost use Rattle.fab_policy.specs.Private.LineWords.{Ends, Finds, IsCut, IsNext, IsShortest, IsWord};
+ghost use Rattle.fab_policy.specs.Private.LineWords.{SpellNone, is_inside};
 ghost use Rattle.fab_policy.specs.Text.{SPACE, address_word, code_word, rule_word};
 ghost use Rattle.fab_base.specs.Texts.{hex, hex_digit};
 

@@ -12,7 +12,8 @@ use Rattle.fip_codec.specs.Message as fip
 use Rattle.fab_policy.specs.Cause.{Cause}
 use Rattle.fab_policy.specs.Heard.{What, Bad, Fip, Fcoe, decoded}
 use Rattle.fab_policy.specs.Logins.{counting}
-use Rattle.fab_policy.specs.Stage.{verdict_so_far, message_verdict, frame_rule}
+use Rattle.fab_policy.specs.Rules.{frame_rule}
+use Rattle.fab_policy.specs.SoFar.Stage.{verdict_so_far, message_verdict}
 use Rattle.fab_policy.specs.State.{Tables}
 use Rattle.fab_policy.specs.Outputs.{Sent, is_owed, advertisements_of, replies}
 use Rattle.fab_policy.specs.Replies.{advertised_to_all, vlan_notice, advertised_to_one}

@@ -14,7 +14,7 @@ use Rattle.fab_policy.specs.Journal.{Journal, clock, now, frame_count}
 use Rattle.fab_policy.specs.Legal.{window_start, windows_left, IsLeastOf, IsNextTick, IsTickTime, is_owed_after, has_activation, record_of, Timed, HasPorts}
 use Rattle.fab_policy.specs.Outputs.{advertised_at, advertised_after, is_owed, outputs, replies_of, advertisements_of}
 use Rattle.fab_policy.specs.Ranged.{IsRanged, IsRangedVerdict}
-use Rattle.fab_policy.specs.Stage.{LegalSoFar, verdict_so_far}
+use Rattle.fab_policy.specs.SoFar.Stage.{LegalSoFar, verdict_so_far}
 use Rattle.fab_policy.specs.State.{LivePort, tables_of, is_overdue}
 use Rattle.fab_policy.specs.Logins.{counting}
 use Rattle.fab_policy.specs.Text.{line1, text1, egress, sent_bytes}

@@ -8,7 +8,7 @@ use Rattle.pcap_file.specs.declared.Record.{Record}
 use Rattle.fab_config.specs.Settings.{Settings}
 use Rattle.fab_config.specs.declared.ConfigFault.{ConfigFault}
 use Rattle.fab_policy.specs.Journal.{Journal, frame_count}
-use Rattle.fab_policy.specs.Stage.{IsWrittenSoFar}
+use Rattle.fab_policy.specs.SoFar.Stage.{IsWrittenSoFar}
 use Rattle.fcoe_tool.specs.Command.{Command, command, ReadRose, WriteRose, KeepsOthers}
 use Rattle.fcoe_tool.specs.Edge.{KnowsAll, untold}
 use Rattle.fcoe_tool.specs.Gathered.{HasConfig, HasFault, HaveCaptures, IsFirstBad}

@@ -7,7 +7,7 @@ use Rattle.fab_config.specs.Settings.{Settings}
 use Rattle.fab_policy.specs.Journal.{Journal, frame_count}
 use Rattle.fab_policy.specs.Outputs.{Sent, replies_of, advertisements_of, advertised_after}
 use Rattle.fab_policy.specs.Ranged.{IsRanged}
-use Rattle.fab_policy.specs.Stage.{RunSoFar}
+use Rattle.fab_policy.specs.SoFar.Stage.{RunSoFar}
 use Rattle.fab_policy.specs.State.{Tables}
 use Rattle.fab_policy.specs.Steps.{clock_after}
 use Rattle.fab_policy.specs.Text.{text1, line1, sent_bytes}

@@ -2,7 +2,7 @@
 ghost use Rattle.std.specs.Prelude.{◌≡◌, ◌≤◌, ◌<◌, ◌^◌, IfOk, length, replicate, nat_lt};
 ghost use Rattle.std.specs.List.{AllPass};
 ghost use Rattle.fab_policy.specs.Ranged.{IsRangedVerdict};
-ghost use Rattle.fab_policy.specs.Stage.{verdict_so_far};
+ghost use Rattle.fab_policy.specs.SoFar.Stage.{verdict_so_far};
 ghost use Rattle.fcoe_tool.specs.Machine.{Made};
 ghost use Rattle.fcoe_tool.specs.Read.{AreInputs, lists_in};
 ghost use Rattle.fcoe_tool.specs.Gathered.{frames_in, MOST_FRAMES};
@@ -108,7 +108,7 @@ impl Machine {
     ghost use Rattle.std.specs.Prelude.{◌≡◌, ◌+◌, ◌<◌, ◌≤◌, ◌^◌, OnOk, IfOk, [], nat_lt, length};
     ghost use Rattle.std.specs.List.{AllPass};
     ghost use Rattle.fab_policy.specs.Ranged.{IsRangedVerdict};
-    ghost use Rattle.fab_policy.specs.Stage.{verdict_so_far};
+    ghost use Rattle.fab_policy.specs.SoFar.Stage.{verdict_so_far};
     ghost use Rattle.fab_policy.specs.declared.event.Event.TheVariants.{Tick, Frame};
     ghost use Rattle.fcoe_tool.specs.Machine.{Takes, IsNew};
 

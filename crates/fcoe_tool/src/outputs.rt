@@ -5,7 +5,7 @@ ghost use Rattle.pcap_file.specs.Capture.{record_bytes, head_bytes};
 ghost use Rattle.fab_policy.specs.Outputs as spec;
 ghost use Rattle.fab_policy.specs.Outputs.{replies, advertisements_of};
 ghost use Rattle.fab_policy.specs.declared.event.Event.TheVariants.{Tick};
-ghost use Rattle.fab_policy.specs.Stage.{verdict_so_far};
+ghost use Rattle.fab_policy.specs.SoFar.Stage.{verdict_so_far};
 ghost use Rattle.fab_policy.specs.State.{Tables};
 ghost use Rattle.fcoe_tool.specs.Machine.{outs_in, put_at, added, sent_at};
 

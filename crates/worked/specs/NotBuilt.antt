@@ -4,7 +4,7 @@ use Rattle.fab_base.specs.Layout.{zeros}
 use Rattle.fab_base.specs.declared.values.Caught.{Caught}
 use Rattle.fab_policy.specs.Heard as heard
 use Rattle.fab_policy.specs.Rules as rules
-use Rattle.fab_policy.specs.Stage as stage
+use Rattle.fab_policy.specs.SoFar.Stage as stage
 use Rattle.fab_policy.specs.State as state
 use Rattle.fab_policy.specs.Verdicts as verdicts
 use Rattle.fab_policy.specs.declared.event.Event.TheVariants.{Tick}

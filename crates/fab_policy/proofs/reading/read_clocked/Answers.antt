@@ -1,5 +1,5 @@
 use Rattle.fab_policy.specs.Spelling.{Spells}
-use Rattle.fab_policy.specs.LineWords.{IsTickOf}
+use Rattle.fab_policy.specs.Private.LineWords.{IsTickOf}
 use Rattle.fab_policy.specs.declared.line.Format.TheVariants.{Two}
 use Rattle.fab_policy.proofs.ReadingLemmas.{clock_alone, clocked_tick_spells, clocked_tick_spelled, no_clock, clocked_frame_spells, clocked_frame_spelled, ok_if, fault_if}
 use Rattle.fab_policy.proofs.reading.read_clocked.Goals as goal

@@ -1,5 +1,5 @@
 use Rattle.fab_policy.specs.Spelling.{Spells}
-use Rattle.fab_policy.specs.LineWords.{IsTickOf}
+use Rattle.fab_policy.specs.Private.LineWords.{IsTickOf}
 use Rattle.fab_policy.specs.declared.line.Format.TheVariants.{One}
 use Rattle.fab_policy.proofs.ReadingLemmas.{tick_spells, tick_spelled, tick_alone, frame_spells, frame_spelled, ok_if, fault_if}
 use Rattle.fab_policy.proofs.reading.read_plain.Goals as goal

@@ -6,7 +6,7 @@ use Rattle.fab_base.specs.declared.values.Caught.{Caught}
 use Rattle.pcap_file.specs.declared.Record.{Record}
 use Rattle.fab_policy.specs.Legal.{window_start}
 use Rattle.fab_policy.specs.Ranged.{IsRangedVerdict}
-use Rattle.fab_policy.specs.Stage.{verdict_so_far}
+use Rattle.fab_policy.specs.SoFar.Stage.{verdict_so_far}
 use Rattle.fab_policy.specs.declared.event.Event.TheVariants.{Frame}
 use Rattle.fcoe_tool.specs.Clock.{NextTick}
 use Rattle.fcoe_tool.specs.Machine.{Takes, IsNew}

@@ -1,6 +1,6 @@
 -- The laws are lemmas.
 use Rattle.fab_policy.proofs.StageLemmas.{nobody_is_logged_in, sends_so_far, owed_so_far}
-use Rattle.fab_policy.proofs.stage.stage_journals.Goals as goal
+use Rattle.fab_policy.proofs.so_far.stage_journals.Goals as goal
 
 pub returns-clause-nobody : goal.returns-clause-nobody
 returns-clause-nobody c = nobody_is_logged_in

@@ -1,17 +1,14 @@
-//! The verdict of a frame, so far as the forwarder is built.
-ghost use Rattle.std.specs.Prelude.{◌≡◌, ◌||◌, not, false, option_map, IfSome, ◌&&◌, if◌then◌else◌};
-ghost use Rattle.eth_frames.specs.Ethernet.{Eth, view as eth_view};
+//! The first rule on a frame itself that drops it.
+ghost use Rattle.std.specs.Prelude.{◌≡◌, ◌∷◌, [], ◌||◌, not, false, ◌&&◌, if◌then◌else◌};
+ghost use Rattle.eth_frames.specs.Ethernet.{view as eth_view};
 ghost use Rattle.fip_codec.specs.Message.{view as fip_view};
 ghost use Rattle.fab_policy.specs.Cause.{is_numbered};
-ghost use Rattle.fab_policy.specs.Heard.{Fip, plain, numbered};
+ghost use Rattle.fab_policy.specs.Heard.{decoded, plain, numbered};
 ghost use Rattle.fab_policy.specs.View.{cause_at as cause_of_place};
-ghost use Rattle.fab_policy.specs.Judging.{verdict_of, fcoe_verdict};
-ghost use Rattle.fab_policy.specs.Judging.{names_another as is_named_otherwise};
 ghost use Rattle.fab_policy.specs.Rules as rules;
-ghost use Rattle.fab_policy.specs.Stage.{verdict_so_far, message_verdict};
 
 use crate::bytes::is_same;
-use crate::{Dropped, Heard, Rule, Verdict, What};
+use crate::{Dropped, Heard, Rule, What};
 use eth_frames::EthFrame;
 use fab_base::Mac;
 use fab_config::Config;
@@ -20,16 +17,15 @@ use fip_codec::FipMessage;
 /// All-FCF-MACs, the group of all forwarders.
 const ALL_FCFS: Mac = Mac([0x01, 0x10, 0x18, 0x01, 0x00, 0x02]);
 
-/// The verdict of a frame: VLAN requests and solicitations are answered, frames that break a rule
-/// on the frame itself are dropped by the first such rule, and all else by the rule that says that
-/// its kind isn't built yet.
-pub fn judge(config: &Config, heard: &Heard<'_>) -> Verdict
-    ensures value { result ≡ verdict_so_far config.now heard.now.caught.now }
+/// The first rule on the frame itself that drops it: it can't be read, or its VLAN, its
+/// destination, its kind or the MAC that it names is wrong. It doesn't go by who is logged in.
+pub fn frame_rule(config: &Config, heard: &Heard<'_>) -> Option<Dropped>
+    ensures { result ≡ rules.frame_rule config.now (decoded heard.now.caught.now) }
 {
     match &heard.what {
-        What::Bad { rule, at } => Verdict::Dropped(cause_at(*rule, *at)),
-        What::Fip { eth, message } => judge_fip(config, eth, message),
-        What::Fcoe { eth, .. } => judge_fcoe(config, eth),
+        What::Bad { rule, at } => Some(cause_at(*rule, *at)),
+        What::Fip { eth, message } => fip_rule(config, eth, message),
+        What::Fcoe { eth, .. } => fcoe_rule(config, eth),
     }
 }
 
@@ -45,50 +41,39 @@ fn cause_at(rule: Rule, at: u32) -> Dropped
     }
 }
 
-// A rule without a number.
-fn dropped(rule: Rule) -> Dropped
+/// A rule without a number.
+pub(crate) fn dropped(rule: Rule) -> Dropped
     requires { is_numbered rule ≡ false }
     ensures { result ≡ plain rule }
 {
     Dropped::new(rule, None).unwrap()
 }
 
-fn judge_fcoe(config: &Config, eth: &EthFrame<'_>) -> Verdict
-    ensures { result ≡ fcoe_verdict config.now (eth_view eth.now) }
+fn fcoe_rule(config: &Config, eth: &EthFrame<'_>) -> Option<Dropped>
+    ensures { result ≡ rules.first_row (
+        (rules.is_wrong_vlan config.now (eth_view eth.now) false, plain Rule.Vlan) ∷ []) }
 {
     if is_wrong_vlan(config, eth, false) {
-        return Verdict::Dropped(dropped(Rule::Vlan));
+        return Some(dropped(Rule::Vlan));
     }
-    Verdict::Dropped(dropped(Rule::NotBuilt))
+    None
 }
 
-fn judge_fip(config: &Config, eth: &EthFrame<'_>, message: &FipMessage<'_>) -> Verdict
-    ensures { result ≡ verdict_of config.now (Fip (eth_view eth.now) (fip_view message.now)) }
-{
-    match fip_rule(config, eth, message) {
-        Some(rule) => Verdict::Dropped(dropped(rule)),
-        None => verdict_of_message(message),
-    }
-}
-
-// The first rule on the frame itself that drops a message.
-fn fip_rule(config: &Config, eth: &EthFrame<'_>, message: &FipMessage<'_>) -> Option<Rule>
-    ensures value { option_map plain result
-        ≡ rules.first_row (
+fn fip_rule(config: &Config, eth: &EthFrame<'_>, message: &FipMessage<'_>) -> Option<Dropped>
+    ensures { result ≡ rules.first_row (
         rules.fip_frame_rows config.now (eth_view eth.now) (fip_view message.now)) }
-    ensures number { IfSome result (λ rule. is_numbered rule ≡ false) }
 {
     if is_wrong_vlan(config, eth, is_vlan_request(message)) {
-        return Some(Rule::Vlan);
+        return Some(dropped(Rule::Vlan));
     }
     if !is_to_forwarder(config, eth, message) {
-        return Some(Rule::FipDest);
+        return Some(dropped(Rule::FipDest));
     }
     if is_forwarders(message) {
-        return Some(Rule::FipRole);
+        return Some(dropped(Rule::FipRole));
     }
     if names_another(eth, message) {
-        return Some(Rule::FipMac);
+        return Some(dropped(Rule::FipMac));
     }
     None
 }
@@ -144,7 +129,7 @@ fn is_forwarders(message: &FipMessage<'_>) -> bool
 
 // Whether a message names another MAC than the frame's source.
 fn names_another(eth: &EthFrame<'_>, message: &FipMessage<'_>) -> bool
-    ensures { result ≡ is_named_otherwise (eth_view eth.now) (fip_view message.now) }
+    ensures { result ≡ rules.names_another (eth_view eth.now) (fip_view message.now) }
 {
     match named_mac(message) {
         Some(mac) => !is_same(&mac.0, &eth.src.0),
@@ -160,16 +145,5 @@ fn named_mac(message: &FipMessage<'_>) -> Option<Mac>
         FipMessage::Solicit { mac, .. } | FipMessage::VlanAsk { mac, .. } => Some(*mac),
         FipMessage::Keep { mac, port: None } => Some(*mac),
         _ => None,
-    }
-}
-
-// The verdict of a message that no rule on the frame drops.
-fn verdict_of_message(message: &FipMessage<'_>) -> Verdict
-    ensures { (f : Eth) → result ≡ message_verdict (Fip f (fip_view message.now)) }
-{
-    match message {
-        FipMessage::VlanAsk { .. } => Verdict::Vlans,
-        FipMessage::Solicit { .. } => Verdict::Advertised,
-        _ => Verdict::Dropped(dropped(Rule::NotBuilt)),
     }
 }

@@ -1,5 +1,6 @@
 -- What is built so far. A frame of another kind is dropped by the rules on the frame itself, and else by `not-built`.
-use Rattle.std.specs.Prelude.{◌≡◌, ℕ, Bool, true, false, ◌||◌, IsSome, List, [], ◌∷◌, ◌++◌, length, map, Option, Some, None, unwrap_or}
+use Rattle.std.specs.Prelude.{◌≡◌, ◌↔◌, ℕ, Bool, true, false, ◌||◌, IsSome, List, [], ◌∷◌, ◌++◌, length, map, nat_lt, Some, None, unwrap_or}
+use Rattle.std.specs.List.{AllPass}
 use Rattle.fab_base.specs.declared.values.Caught.{Caught}
 use Rattle.fab_config.specs.Settings.{Settings}
 use Rattle.fip_codec.specs.Message as fip
@@ -7,10 +8,11 @@ use Rattle.pcap_file.specs.declared.Record.{Record}
 use Rattle.fab_policy.specs.Cause.{Cause}
 use Rattle.fab_policy.specs.Heard.{What, Bad, Fip, Fcoe, plain, decoded}
 use Rattle.fab_policy.specs.Journal.{Journal, now}
+use Rattle.fab_policy.specs.Laws.{AsksVlans, Solicits}
 use Rattle.fab_policy.specs.Legal.{HasPorts, HoldsFrames, Timed, is_owed_after, has_activation}
 use Rattle.fab_policy.specs.Outputs.{outputs, replies_of, advertisements_of, advertised_at, is_owed}
 use Rattle.fab_policy.specs.Ranged.{IsRanged}
-use Rattle.fab_policy.specs.Rules.{first_row, fip_frame_rows, is_wrong_vlan}
+use Rattle.fab_policy.specs.Rules.{frame_rule}
 use Rattle.fab_policy.specs.State.{Tables, tables_of, overdue, addresses}
 use Rattle.fab_policy.specs.Text.{text1}
 use Rattle.fab_policy.specs.Verdicts.{Judgement, Must, Meets, judged}
@@ -28,12 +30,6 @@ is_unbuilt (Fip f (fip.Login _ _ _ _)) = true
 is_unbuilt (Fip f (fip.Keep _ _)) = true
 is_unbuilt (Fip f _) = false
 is_unbuilt (Fcoe f read) = true
-
--- the rule on the frame itself by which it is dropped, or none
-abbrev pub frame_rule : Settings → What → Option Cause
-frame_rule c (Bad cause) = Some cause
-frame_rule c (Fip f m) = first_row (fip_frame_rows c f m)
-frame_rule c (Fcoe f read) = first_row ((is_wrong_vlan c f false, plain rule.Vlan) ∷ [])
 
 -- the verdict of a message that no rule on the frame drops
 abbrev pub message_verdict : What → Verdict
@@ -104,3 +100,11 @@ SendsSoFar = (c : Settings) (n : ℕ) (J : Journal) (e : Event) → (tables_of c
 abbrev pub OwedSoFar : Type 0
 OwedSoFar = (c : Settings) (J : Journal) (m : ℕ) → (tables_of c J).ports ≡ [] →
     is_owed_after c J m ≡ is_owed c (advertised_at c J) m || has_activation c.activations (now J) m
+
+-- VLAN requests to this forwarder, and no other frames, are answered by a notification, and so are solicitations by an
+-- advertisement.
+abbrev pub RequestsAreAnswered : Type 0
+RequestsAreAnswered = (c : Settings) (caught : Caught) → AllPass (λ b. nat_lt b 256) caught.bytes → (verdict_so_far c caught ≡ Vlans) ↔ AsksVlans c caught
+
+abbrev pub SolicitationsAreAnswered : Type 0
+SolicitationsAreAnswered = (c : Settings) (caught : Caught) → AllPass (λ b. nat_lt b 256) caught.bytes → (verdict_so_far c caught ≡ Advertised) ↔ Solicits c caught
