@@ -1,8 +1,8 @@
 -- The lines of a written configuration, read one after another.
-use Rattle.std.proofs.Common.{◌≡◌, ℕ, suc, ◌+◌, ◌≤◌, List, [], ◌∷◌, ◌++◌, length, map, Bool, true, false, cond, not, eqb, leb, ◌&&◌, ◌||◌, Option, Some, Result, Ok, Err, refl, sym, ◌∙◌, ap, arith}
+use Rattle.std.proofs.Common.{◌≡◌, ℕ, suc, ◌+◌, ◌≤◌, List, [], ◌∷◌, ◌++◌, length, map, Bool, true, false, cond, not, eqb, leb, ◌&&◌, ◌||◌, Option, Some, Result, Ok, Err, refl, sym, ◌∙◌, ap, subst, arith}
 use Rattle.std.specs.List.{list_all, list_any, flat_map}
 use Rattle.std.specs.Option.{option_map, option_and_then}
-use Rattle.std.proofs.lemmas.List.{append_assoc}
+use Rattle.std.proofs.lemmas.List.{append_assoc, append-nil}
 use Rattle.fab_config.specs.Settings.{same_bytes, all_differ}
 use Rattle.fab_config.specs.Lines.{lines_of, words, is_skipped, is_ascii}
 use Rattle.fab_config.specs.Names.{place_from}
@@ -35,6 +35,20 @@ line_step n d next key values k rest word some open_line is w e =
     sym (lines_ok n d next (lines_of (line_text key values ++ rest)) (lines_of rest) l
     (ap lines_of (append_assoc l (10 ∷ []) rest) ∙ lines_line l rest (line_ascii key values word w))
     (key_line d next key values k word some open_line is w e))
+
+-- a list, of which each item stands on a line of its own
+pub items_read : {X : Type 0} (with_items : List X → Draft) (line : X → List ℕ) (Fine : List X → Type 0)
+    → ((n : ℕ) (done more : List X) (x : X) (rest : List ℕ) → Fine (done ++ x ∷ more) → lines_read n (with_items done) (lines_of (line x ++ rest)) ≡ lines_read (n + 1) (with_items (done ++ x ∷ [])) (lines_of rest))
+    → (n : ℕ) (done l : List X) (rest : List ℕ) → Fine (done ++ l) → lines_read n (with_items done) (lines_of (flat_map line l ++ rest)) ≡ lines_read (n + length l) (with_items (done ++ l)) (lines_of rest)
+items_read {X} with_items line Fine step n done [] rest fine =
+    ap (λ (m : ℕ). lines_read m (with_items done) (lines_of rest)) (let e : n ≡ n + 0 = omega arith in e)
+    ∙ ap (λ (k : List X). lines_read (n + 0) (with_items k) (lines_of rest)) (sym (append-nil done))
+items_read {X} with_items line Fine step n done (x ∷ l) rest fine =
+    ap (λ k. lines_read n (with_items done) (lines_of k)) (append_assoc (line x) (flat_map line l) rest)
+    ∙ step n done l x (flat_map line l ++ rest) fine
+    ∙ items_read with_items line Fine step (n + 1) (done ++ x ∷ []) l rest (subst Fine (sym (append_assoc done (x ∷ []) l)) fine)
+    ∙ ap (λ (m : ℕ). lines_read m (with_items ((done ++ x ∷ []) ++ l)) (lines_of rest)) (let e : n + 1 + length l ≡ n + suc (length l) = omega arith in e)
+    ∙ ap (λ (k : List X). lines_read (n + suc (length l)) (with_items k) (lines_of rest)) (append_assoc done (x ∷ []) l)
 
 -- ---- names
 

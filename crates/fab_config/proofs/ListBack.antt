@@ -3,7 +3,7 @@ use Rattle.std.proofs.Common.{◌≡◌, ℕ, zero, suc, ◌+◌, ◌^◌, ◌<�
 use Rattle.std.specs.List.{list_all, list_any, flat_map}
 use Rattle.std.specs.Option.{option_and_then}
 use Rattle.std.specs.Fmt.{decimal}
-use Rattle.std.proofs.lemmas.List.{append_assoc, append-nil, length-append, length-map}
+use Rattle.std.proofs.lemmas.List.{length-append, length-map}
 use Rattle.std.proofs.lemmas.List.Folds.{list_all-append}
 use Rattle.std.proofs.lemmas.Bool.{leb-true, le-leb, ltb-true, lt-ltb, le-ltb, and_parts, and_from, or_from}
 use Rattle.fab_config.specs.Settings.{is_between, same_bytes, all_differ, is_zone_name, is_name_sign, is_letter, are_zones, are_sets, are_activations, do_rise}
@@ -21,7 +21,7 @@ use Rattle.fab_config.specs.declared.draft.Draft.{Draft}
 use Rattle.fab_config.specs.declared.keyword.Keyword.TheVariants.{Zones, Sets, Activations}
 use Rattle.fab_config.proofs.BackLemmas.{is_sign, is_word, are_words}
 use Rattle.fab_config.proofs.ValueLemmas.{name_back, octets_word, spelled_bytes, between_back, decimal_word}
-use Rattle.fab_config.proofs.FoldLemmas.{line_step, listed_back, all_of_back, words_of}
+use Rattle.fab_config.proofs.FoldLemmas.{line_step, items_read, listed_back, all_of_back, words_of}
 use Rattle.fab_config.proofs.NamedLemmas.{with_list}
 use Rattle.fab_config.proofs.ListedLemmas.{no_place, grown_back, zone_check, zone_of, zones_of, set_check, set_of, sets_of}
 use Rattle.fab_base.specs.Layout.{spelled}
@@ -89,33 +89,28 @@ is_typed z = list_all (λ m. ltb m (2 ^ 64)) z.members
 last_all : {X : Type 0} (p : X → Bool) (l xs : List X) (x : X) → list_all p (l ++ x ∷ xs) ≡ true → p x ≡ true
 last_all p l xs x h = (and_parts (p x) (list_all p xs) (and_parts (list_all p l) (list_all p (x ∷ xs)) (sym (list_all-append p l (x ∷ xs)) ∙ h)).1).0
 
-zone_read : (done more : List Zone) (z : Zone) → are_zones (done ++ z ∷ more) ≡ true → is_typed z ≡ true → zones_with done (z.name ∷ map name_text z.members) ≡ Ok (done ++ z ∷ [])
-unfolding zones_with
-zone_read done more z fit typed =
-    let are = zones_of (done ++ z ∷ more) fit in
+abbrev pub ZonesFit : List Zone → Type 0
+ZonesFit l = (are_zones l ≡ true) × (list_all is_typed l ≡ true)
+
+zone_read : (d : Draft) (n : ℕ) (done more : List Zone) (z : Zone) (rest : List ℕ) → ZonesFit (done ++ z ∷ more)
+    → lines_read n (record d { zones = done }) (lines_of (zone_line z ++ rest)) ≡ lines_read (n + 1) (record d { zones = done ++ z ∷ [] }) (lines_of rest)
+unfolding keyword_of zones_with
+zone_read d n done more z rest fit =
+    let are = zones_of (done ++ z ∷ more) fit.0 in
     let own = zone_of z (last_all zone_check done more z are.checked) in
+    let typed = last_all is_typed done more z fit.1 in
     let some : 0 < length z.members = ltb-true 0 (length z.members) own.some in
-    with_list name (zone_names done) (zone_put done) (z.name ∷ map name_text z.members) z.name (map name_text z.members) refl z.members
+    line_step n (record d { zones = done }) (record d { zones = done ++ z ∷ [] }) (codes "zone") (z.name ∷ map name_text z.members) Zones rest refl (omega arith) refl refl
+    (and_from (is_word z.name && leb 1 (length z.name)) (are_words (map name_text z.members)) (zone_name_word z.name own.is_name) (words_of name_text (λ m. ltb m (2 ^ 64)) member_word z.members typed))
+    (ap (λ (r : Result (List Zone) ConfigWhy). changed r (λ x. record d { zones = x }))
+    (with_list name (zone_names done) (zone_put done) (z.name ∷ map name_text z.members) z.name (map name_text z.members) refl z.members
     (no_place (λ (y : Zone). y.name) done more z are.differ) own.is_name
     (listed_back name name_text z.members (omega (arith, some)) (all_of_back name name_text (λ m. ltb m (2 ^ 64)) (λ m h. name_back m (ltb-true m (2 ^ 64) h)) z.members typed) own.differ)
-    ∙ grown_back (λ (y : Zone). y.name) (λ (y : Zone). y.members) zone_check 1000 20000 done more z are
+    ∙ grown_back (λ (y : Zone). y.name) (λ (y : Zone). y.members) zone_check 1000 20000 done more z are))
 
-pub zones_read : (n : ℕ) (d : Draft) (done zs : List Zone) (rest : List ℕ) → are_zones (done ++ zs) ≡ true → list_all is_typed zs ≡ true
-    → lines_read n (record d { zones = done }) (lines_of (flat_map zone_line zs ++ rest)) ≡ lines_read (n + length zs) (record d { zones = done ++ zs }) (lines_of rest)
-unfolding keyword_of
-zones_read n d done [] rest fit typed =
-    ap (λ (m : ℕ). lines_read m (record d { zones = done }) (lines_of rest)) (let e : n ≡ n + 0 = omega arith in e)
-    ∙ ap (λ (l : List Zone). lines_read (n + 0) (record d { zones = l }) (lines_of rest)) (sym (append-nil done))
-zones_read n d done (z ∷ zs) rest fit typed =
-    let both = and_parts (is_typed z) (list_all is_typed zs) typed in
-    let own = zone_of z (last_all zone_check done zs z (zones_of (done ++ z ∷ zs) fit).checked) in
-    ap (λ l. lines_read n (record d { zones = done }) (lines_of l)) (append_assoc (zone_line z) (flat_map zone_line zs) rest)
-    ∙ line_step n (record d { zones = done }) (record d { zones = done ++ z ∷ [] }) (codes "zone") (z.name ∷ map name_text z.members) Zones (flat_map zone_line zs ++ rest) refl (omega arith) refl refl
-    (and_from (is_word z.name && leb 1 (length z.name)) (are_words (map name_text z.members)) (zone_name_word z.name own.is_name) (words_of name_text (λ m. ltb m (2 ^ 64)) member_word z.members both.0))
-    (ap (λ (r : Result (List Zone) ConfigWhy). changed r (λ x. record d { zones = x })) (zone_read done zs z fit both.0))
-    ∙ zones_read (n + 1) d (done ++ z ∷ []) zs rest (ap are_zones (append_assoc done (z ∷ []) zs) ∙ fit) both.1
-    ∙ ap (λ (m : ℕ). lines_read m (record d { zones = (done ++ z ∷ []) ++ zs }) (lines_of rest)) (let e : n + 1 + length zs ≡ n + suc (length zs) = omega arith in e)
-    ∙ ap (λ (l : List Zone). lines_read (n + suc (length zs)) (record d { zones = l }) (lines_of rest)) (append_assoc done (z ∷ []) zs)
+pub zones_read : (n : ℕ) (d : Draft) (zs : List Zone) (rest : List ℕ) → ZonesFit zs
+    → lines_read n (record d { zones = [] }) (lines_of (flat_map zone_line zs ++ rest)) ≡ lines_read (n + length zs) (record d { zones = zs }) (lines_of rest)
+zones_read n d zs rest fit = items_read (λ (l : List Zone). record d { zones = l }) zone_line ZonesFit (zone_read d) n [] zs rest fit
 
 -- ---- zone sets
 
@@ -161,38 +156,29 @@ are_names named l differ ok = record {
   word = λ p lt. zone_name_word (name_at (map named l) p) (name_at_ok named l p (let n = length-map l named in omega (arith, n)) ok);
 }
 
-set_read : (zones : List Zone) (done more : List ZoneSet) (s : ZoneSet) → AreNames (zone_names zones) → are_sets (length zones) (done ++ s ∷ more) ≡ true → sets_with zones done (s.name ∷ map (name_at (zone_names zones)) s.places) ≡ Ok (done ++ s ∷ [])
-unfolding sets_with
-set_read zones done more s names fit =
-    let k = length zones in
+set_read : (d : Draft) → AreNames (zone_names d.zones) → (n : ℕ) (done more : List ZoneSet) (s : ZoneSet) (rest : List ℕ) → are_sets (length d.zones) (done ++ s ∷ more) ≡ true
+    → lines_read n (record d { sets = done }) (lines_of (set_line d.zones s ++ rest)) ≡ lines_read (n + 1) (record d { sets = done ++ s ∷ [] }) (lines_of rest)
+unfolding keyword_of sets_with
+set_read d names n done more s rest fit =
+    let k = length d.zones in
     let are = sets_of k (done ++ s ∷ more) fit in
     let own = set_of k s (last_all (set_check k) done more s are.checked) in
     let some : 0 < length s.places = ltb-true 0 (length s.places) own.some in
-    let size = length-map zones (λ (y : Zone). y.name) in
-    with_list (zone_place zones) (set_names done) (set_put done) (s.name ∷ map (name_at (zone_names zones)) s.places) s.name (map (name_at (zone_names zones)) s.places) refl s.places
-    (no_place (λ (y : ZoneSet). y.name) done more s are.differ) own.is_name
-    (listed_back (zone_place zones) (name_at (zone_names zones)) s.places (omega (arith, some))
-    (all_of_back (zone_place zones) (name_at (zone_names zones)) (λ p. ltb p k) (λ p h. names.back p (let lt : p < k = ltb-true p k h in omega (arith, lt, size))) s.places own.below) own.differ)
-    ∙ grown_back (λ (y : ZoneSet). y.name) (λ (y : ZoneSet). y.places) (set_check k) 64 4000 done more s are
-
-pub sets_read : (n : ℕ) (d : Draft) (done ss : List ZoneSet) (rest : List ℕ) → AreNames (zone_names d.zones) → are_sets (length d.zones) (done ++ ss) ≡ true
-    → lines_read n (record d { sets = done }) (lines_of (flat_map (set_line d.zones) ss ++ rest)) ≡ lines_read (n + length ss) (record d { sets = done ++ ss }) (lines_of rest)
-unfolding keyword_of
-sets_read n d done [] rest names fit =
-    ap (λ (m : ℕ). lines_read m (record d { sets = done }) (lines_of rest)) (let e : n ≡ n + 0 = omega arith in e)
-    ∙ ap (λ (l : List ZoneSet). lines_read (n + 0) (record d { sets = l }) (lines_of rest)) (sym (append-nil done))
-sets_read n d done (s ∷ ss) rest names fit =
-    let k = length d.zones in
-    let own = set_of k s (last_all (set_check k) done ss s (sets_of k (done ++ s ∷ ss) fit).checked) in
     let size = length-map d.zones (λ (y : Zone). y.name) in
-    ap (λ l. lines_read n (record d { sets = done }) (lines_of l)) (append_assoc (set_line d.zones s) (flat_map (set_line d.zones) ss) rest)
-    ∙ line_step n (record d { sets = done }) (record d { sets = done ++ s ∷ [] }) (codes "zoneset") (s.name ∷ map (name_at (zone_names d.zones)) s.places) Sets (flat_map (set_line d.zones) ss ++ rest) refl (omega arith) refl refl
-    (and_from (is_word s.name && leb 1 (length s.name)) (are_words (map (name_at (zone_names d.zones)) s.places)) (zone_name_word s.name own.is_name)
-    (words_of (name_at (zone_names d.zones)) (λ p. ltb p k) (λ p h. names.word p (let lt : p < k = ltb-true p k h in omega (arith, lt, size))) s.places own.below))
-    (ap (λ (r : Result (List ZoneSet) ConfigWhy). changed r (λ x. record d { sets = x })) (set_read d.zones done ss s names fit))
-    ∙ sets_read (n + 1) d (done ++ s ∷ []) ss rest names (ap (are_sets k) (append_assoc done (s ∷ []) ss) ∙ fit)
-    ∙ ap (λ (m : ℕ). lines_read m (record d { sets = (done ++ s ∷ []) ++ ss }) (lines_of rest)) (let e : n + 1 + length ss ≡ n + suc (length ss) = omega arith in e)
-    ∙ ap (λ (l : List ZoneSet). lines_read (n + suc (length ss)) (record d { sets = l }) (lines_of rest)) (append_assoc done (s ∷ []) ss)
+    let word = name_at (zone_names d.zones) in
+    line_step n (record d { sets = done }) (record d { sets = done ++ s ∷ [] }) (codes "zoneset") (s.name ∷ map word s.places) Sets rest refl (omega arith) refl refl
+    (and_from (is_word s.name && leb 1 (length s.name)) (are_words (map word s.places)) (zone_name_word s.name own.is_name)
+    (words_of word (λ p. ltb p k) (λ p h. names.word p (let lt : p < k = ltb-true p k h in omega (arith, lt, size))) s.places own.below))
+    (ap (λ (r : Result (List ZoneSet) ConfigWhy). changed r (λ x. record d { sets = x }))
+    (with_list (zone_place d.zones) (set_names done) (set_put done) (s.name ∷ map word s.places) s.name (map word s.places) refl s.places
+    (no_place (λ (y : ZoneSet). y.name) done more s are.differ) own.is_name
+    (listed_back (zone_place d.zones) word s.places (omega (arith, some))
+    (all_of_back (zone_place d.zones) word (λ p. ltb p k) (λ p h. names.back p (let lt : p < k = ltb-true p k h in omega (arith, lt, size))) s.places own.below) own.differ)
+    ∙ grown_back (λ (y : ZoneSet). y.name) (λ (y : ZoneSet). y.places) (set_check k) 64 4000 done more s are))
+
+pub sets_read : (n : ℕ) (d : Draft) (ss : List ZoneSet) (rest : List ℕ) → AreNames (zone_names d.zones) → are_sets (length d.zones) ss ≡ true
+    → lines_read n (record d { sets = [] }) (lines_of (flat_map (set_line d.zones) ss ++ rest)) ≡ lines_read (n + length ss) (record d { sets = ss }) (lines_of rest)
+sets_read n d ss rest names fit = items_read (λ (l : List ZoneSet). record d { sets = l }) (set_line d.zones) (λ l. are_sets (length d.zones) l ≡ true) (set_read d names) n [] ss rest fit
 
 -- ---- activations
 
@@ -206,45 +192,29 @@ rise_later (x ∷ y ∷ l) more a h =
     let high : y.moment < a.moment = ltb-true y.moment a.moment (and_parts (ltb y.moment a.moment) (is_later l a.moment) rest).0 in
     and_from (ltb x.moment a.moment) (is_later (y ∷ l) a.moment) (lt-ltb x.moment a.moment (omega (arith, low, high))) rest
 
-activation_read : (sets : List ZoneSet) (done more : List Activation) (a : Activation) → AreNames (set_names sets) → are_activations (length sets) (done ++ a ∷ more) ≡ true
-    → activations_with sets done (name_at (set_names sets) a.set ∷ decimal a.moment ∷ []) ≡ Ok (done ++ a ∷ [])
-unfolding activations_with
-activation_read sets done more a names fit =
+activation_read : (d : Draft) → AreNames (set_names d.sets) → (n : ℕ) (done more : List Activation) (a : Activation) (rest : List ℕ) → are_activations (length d.sets) (done ++ a ∷ more) ≡ true
+    → lines_read n (record d { activations = done }) (lines_of (activation_line d.sets a ++ rest)) ≡ lines_read (n + 1) (record d { activations = done ++ a ∷ [] }) (lines_of rest)
+unfolding keyword_of activations_with
+activation_read d names n done more a rest fit =
     let all = done ++ a ∷ more in
-    let check : Activation → Bool = λ (z : Activation). ltb z.set (length sets) && leb z.moment 4294967295999 in
-    let one = and_parts (list_all check all && do_rise all) (leb (length all) 64) fit in
-    let two = and_parts (list_all check all) (do_rise all) one.0 in
-    let own = and_parts (ltb a.set (length sets)) (leb a.moment 4294967295999) (last_all check done more a two.0) in
-    let low : a.set < length sets = ltb-true a.set (length sets) own.0 in
-    let most : a.moment ≤ 4294967295999 = leb-true a.moment 4294967295999 own.1 in
-    let size = length-map sets (λ (y : ZoneSet). y.name) in
-    let few : length all ≤ 64 = leb-true (length all) 64 one.1 in
-    let l1 = length-append done (a ∷ more) in
-    ap (λ (o : Option ℕ). activation_put done (option_and_then (λ (p : ℕ). activated done p (number_between 0 4294967295999 (decimal a.moment))) o)) (names.back a.set (omega (arith, low, size)))
-    ∙ ap (λ (o : Option ℕ). activation_put done (activated done a.set o)) (between_back 0 4294967295999 a.moment (omega (arith, most)) (and_from (leb 0 a.moment) (leb a.moment 4294967295999) (le-leb 0 a.moment (omega arith)) own.1))
-    ∙ ap (λ t. activation_put done (cond t (Some (record { set = a.set; moment = a.moment })) None)) (rise_later done more a two.1)
-    ∙ ap (λ t. cond t (Err why.Limit) (Ok (done ++ a ∷ []))) (le-ltb 64 (length done + 1) (omega (arith, few, l1)))
-
-pub activations_read : (n : ℕ) (d : Draft) (done l : List Activation) (rest : List ℕ) → AreNames (set_names d.sets) → are_activations (length d.sets) (done ++ l) ≡ true
-    → lines_read n (record d { activations = done }) (lines_of (flat_map (activation_line d.sets) l ++ rest)) ≡ lines_read (n + length l) (record d { activations = done ++ l }) (lines_of rest)
-unfolding keyword_of
-activations_read n d done [] rest names fit =
-    ap (λ (m : ℕ). lines_read m (record d { activations = done }) (lines_of rest)) (let e : n ≡ n + 0 = omega arith in e)
-    ∙ ap (λ (k : List Activation). lines_read (n + 0) (record d { activations = k }) (lines_of rest)) (sym (append-nil done))
-activations_read n d done (a ∷ l) rest names fit =
-    let all = done ++ a ∷ l in
     let check : Activation → Bool = λ (z : Activation). ltb z.set (length d.sets) && leb z.moment 4294967295999 in
     let one = and_parts (list_all check all && do_rise all) (leb (length all) 64) fit in
     let two = and_parts (list_all check all) (do_rise all) one.0 in
-    let own = and_parts (ltb a.set (length d.sets)) (leb a.moment 4294967295999) (last_all check done l a two.0) in
+    let own = and_parts (ltb a.set (length d.sets)) (leb a.moment 4294967295999) (last_all check done more a two.0) in
     let low : a.set < length d.sets = ltb-true a.set (length d.sets) own.0 in
     let most : a.moment ≤ 4294967295999 = leb-true a.moment 4294967295999 own.1 in
     let size = length-map d.sets (λ (y : ZoneSet). y.name) in
+    let few : length all ≤ 64 = leb-true (length all) 64 one.1 in
+    let l1 = length-append done (a ∷ more) in
     let n_at = name_at (set_names d.sets) a.set in
-    ap (λ k. lines_read n (record d { activations = done }) (lines_of k)) (append_assoc (activation_line d.sets a) (flat_map (activation_line d.sets) l) rest)
-    ∙ line_step n (record d { activations = done }) (record d { activations = done ++ a ∷ [] }) (codes "activate") (n_at ∷ decimal a.moment ∷ []) Activations (flat_map (activation_line d.sets) l ++ rest) refl (omega arith) refl refl
+    line_step n (record d { activations = done }) (record d { activations = done ++ a ∷ [] }) (codes "activate") (n_at ∷ decimal a.moment ∷ []) Activations rest refl (omega arith) refl refl
     (and_from (is_word n_at && leb 1 (length n_at)) (are_words (decimal a.moment ∷ [])) (names.word a.set (omega (arith, low, size))) (and_from (is_word (decimal a.moment) && leb 1 (length (decimal a.moment))) true (decimal_word a.moment (omega (arith, most))) refl))
-    (ap (λ (r : Result (List Activation) ConfigWhy). changed r (λ x. record d { activations = x })) (activation_read d.sets done l a names fit))
-    ∙ activations_read (n + 1) d (done ++ a ∷ []) l rest names (ap (are_activations (length d.sets)) (append_assoc done (a ∷ []) l) ∙ fit)
-    ∙ ap (λ (m : ℕ). lines_read m (record d { activations = (done ++ a ∷ []) ++ l }) (lines_of rest)) (let e : n + 1 + length l ≡ n + suc (length l) = omega arith in e)
-    ∙ ap (λ (k : List Activation). lines_read (n + suc (length l)) (record d { activations = k }) (lines_of rest)) (append_assoc done (a ∷ []) l)
+    (ap (λ (r : Result (List Activation) ConfigWhy). changed r (λ x. record d { activations = x }))
+    (ap (λ (o : Option ℕ). activation_put done (option_and_then (λ (p : ℕ). activated done p (number_between 0 4294967295999 (decimal a.moment))) o)) (names.back a.set (omega (arith, low, size)))
+    ∙ ap (λ (o : Option ℕ). activation_put done (activated done a.set o)) (between_back 0 4294967295999 a.moment (omega (arith, most)) (and_from (leb 0 a.moment) (leb a.moment 4294967295999) (le-leb 0 a.moment (omega arith)) own.1))
+    ∙ ap (λ t. activation_put done (cond t (Some (record { set = a.set; moment = a.moment })) None)) (rise_later done more a two.1)
+    ∙ ap (λ t. cond t (Err why.Limit) (Ok (done ++ a ∷ []))) (le-ltb 64 (length done + 1) (omega (arith, few, l1)))))
+
+pub activations_read : (n : ℕ) (d : Draft) (l : List Activation) (rest : List ℕ) → AreNames (set_names d.sets) → are_activations (length d.sets) l ≡ true
+    → lines_read n (record d { activations = [] }) (lines_of (flat_map (activation_line d.sets) l ++ rest)) ≡ lines_read (n + length l) (record d { activations = l }) (lines_of rest)
+activations_read n d l rest names fit = items_read (λ (k : List Activation). record d { activations = k }) (activation_line d.sets) (λ k. are_activations (length d.sets) k ≡ true) (activation_read d names) n [] l rest fit

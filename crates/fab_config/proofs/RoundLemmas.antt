@@ -148,9 +148,9 @@ lines_back c keys zones typed sets activations zone_ok set_ok =
     let d3 : Draft = record d2 { activations = c.activations } in
     ap (λ l. lines_read 1 NOTHING (lines_of l)) (order (addresses_text c) (numbers_text c) z s a)
     ∙ keys_read c (z ++ (s ++ (a ++ []))) keys
-    ∙ zones_read 11 (keys_draft c) [] c.zones (s ++ (a ++ [])) zones typed
-    ∙ sets_read (11 + length c.zones) d1 [] c.sets (a ++ []) zone_ok sets
-    ∙ activations_read (11 + length c.zones + length c.sets) d2 [] c.activations [] set_ok activations
+    ∙ zones_read 11 (keys_draft c) c.zones (s ++ (a ++ [])) (zones, typed)
+    ∙ sets_read (11 + length c.zones) d1 c.sets (a ++ []) zone_ok sets
+    ∙ activations_read (11 + length c.zones + length c.sets) d2 c.activations [] set_ok activations
   where
     order : (k n z s a : List ℕ) → k ++ n ++ z ++ s ++ a ≡ k ++ (n ++ (z ++ (s ++ (a ++ []))))
     order k n z s a = flat k n z s a ∙ ap (λ l. k ++ (n ++ (z ++ (s ++ l)))) (sym (append-nil a))
