@@ -137,17 +137,13 @@ impl<T: Listing> Named<T> {
         if list.len() >= most as usize || numbers > most_numbers as usize {
             return Err(LineError::Fault(ConfigWhy::Limit));
         }
-        let Ok(()) = names.push(alloc, name) else {
-            return Err(LineError::Memory);
-        };
-        match list.push(alloc, item) {
-            Ok(()) => Ok(Named {
-                names,
-                list,
-                numbers,
-            }),
-            Err(_) => Err(LineError::Memory),
-        }
+        names.push(alloc, name)?;
+        list.push(alloc, item)?;
+        Ok(Named {
+            names,
+            list,
+            numbers,
+        })
     }
 }
 
@@ -171,11 +167,8 @@ pub(crate) fn with_zone(
     }
     let members = read_members(alloc, rest)?;
     let count = members.len();
-    let Ok(copy) = Bytes::copy(alloc, name) else {
-        return Err(LineError::Memory);
-    };
     let zone = Zone {
-        name: copy,
+        name: Bytes::copy(alloc, name)?,
         members,
     };
     zones.grown(alloc, name, zone, count, MOST_ZONES, MOST_MEMBERS)
@@ -202,10 +195,10 @@ pub(crate) fn with_set(
     }
     let places = read_zones(alloc, zones, rest)?;
     let count = places.len();
-    let Ok(copy) = Bytes::copy(alloc, name) else {
-        return Err(LineError::Memory);
+    let set = ZoneSet {
+        name: Bytes::copy(alloc, name)?,
+        places,
     };
-    let set = ZoneSet { name: copy, places };
     sets.grown(alloc, name, set, count, MOST_SETS, MOST_PLACES)
 }
 
@@ -214,17 +207,9 @@ fn read_members(alloc: Global, values: &[u8]) -> Result<NameList, LineError>
     ensures { MatchResult result (λ m. listed spec.name (words values.now) ≡ Some m)
         (λ e. Tells e (listed_or_fault spec.name (words values.now))) }
 {
-    let Ok(members) = read_names(alloc, values) else {
-        return Err(LineError::Memory);
-    };
-    match members {
-        Some(members) => {
-            if members.len() == 0 {
-                return Err(LineError::Fault(ConfigWhy::Value));
-            }
-            Ok(members)
-        }
-        None => Err(LineError::Fault(ConfigWhy::Value)),
+    match read_names(alloc, values)? {
+        Some(members) if members.len() > 0 => Ok(members),
+        _ => Err(LineError::Fault(ConfigWhy::Value)),
     }
 }
 
@@ -270,17 +255,9 @@ fn read_zones(alloc: Global, zones: &NamedZones, values: &[u8]) -> Result<PlaceL
         MatchResult result (λ m. listed says (words values.now) ≡ Some m)
         (λ e. Tells e (listed_or_fault says (words values.now))) }
 {
-    let Ok(places) = read_places(alloc, zones, values) else {
-        return Err(LineError::Memory);
-    };
-    match places {
-        Some(places) => {
-            if places.len() == 0 {
-                return Err(LineError::Fault(ConfigWhy::Value));
-            }
-            Ok(places)
-        }
-        None => Err(LineError::Fault(ConfigWhy::Value)),
+    match read_places(alloc, zones, values)? {
+        Some(places) if places.len() > 0 => Ok(places),
+        _ => Err(LineError::Fault(ConfigWhy::Value)),
     }
 }
 
@@ -340,10 +317,8 @@ pub(crate) fn with_activation(
     if activations.len() >= MOST_ACTIVATIONS {
         return Err(LineError::Fault(ConfigWhy::Limit));
     }
-    match activations.push(alloc, activation) {
-        Ok(()) => Ok(activations),
-        Err(_) => Err(LineError::Memory),
-    }
+    activations.push(alloc, activation)?;
+    Ok(activations)
 }
 
 // The activation of a line with these values.

@@ -7,6 +7,7 @@ ghost use Rattle.fab_config.specs.Told.{AnswersText};
 use crate::draft::Draft;
 use crate::words::cut_line;
 use crate::{Config, ConfigFault, ConfigWhy};
+use fab_base::NoMemory;
 use std::alloc::Global;
 use thiserror::Error;
 
@@ -26,6 +27,17 @@ pub enum ConfigError {
 pub(crate) enum LineError {
     Fault(ConfigWhy),
     Memory,
+}
+
+impl From<NoMemory> for LineError {
+    ghost use Rattle.std.specs.Prelude.{◌≡◌};
+    ghost use Rattle.fab_config.specs.declared.reading.LineError.TheVariants.{Memory};
+
+    ghost from_gives = { λ _ e. e ≡ Memory };
+
+    fn from(_refused: NoMemory) -> LineError {
+        LineError::Memory
+    }
 }
 
 /// The most bytes of a text.
