@@ -1,5 +1,5 @@
 //! Zones and zone sets as they are read, with an index of their names.
-ghost use Rattle.std.specs.Prelude.{◌≡◌, ◌<◌, ◌≤◌, ◌∷◌, ◌++◌, [], None, Some, ℕ, List, IfOk};
+ghost use Rattle.std.specs.Prelude.{◌≡◌, ◌<◌, ◌∷◌, ◌++◌, [], None, Some, IfOk};
 ghost use Rattle.std.specs.Prelude.{IfSome, OnOk, MatchResult, length, map, option_map};
 ghost use Rattle.std.specs.List.{list_all};
 ghost use Rattle.fab_config.specs.Lines.{words};
