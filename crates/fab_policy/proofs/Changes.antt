@@ -17,9 +17,9 @@ use Rattle.fab_policy.specs.declared.event.Event.TheVariants.{Frame}
 use Rattle.fab_policy.specs.declared.verdict.Verdict.{Verdict}
 use Rattle.fab_policy.specs.declared.verdict.Verdict.TheVariants.{Granted, Logout, AliveNode, AlivePort, NsLogin, NsLogout, Watching, Registered}
 use Rattle.fab_policy.proofs.Steps.{same_tables}
-use Rattle.fab_policy.proofs.Found.{found_by_address}
+use Rattle.fab_policy.proofs.Found.{found_address, found_by_address}
 use Rattle.fab_policy.proofs.RegistryFits.{by_ask}
-use Rattle.fab_policy.proofs.Ticks.{values_kept, found_address, map_same}
+use Rattle.fab_policy.proofs.Ticks.{values_kept, map_same}
 
 pub changes_are_after : ChangesAreAfter
 changes_are_after c e T U h = same_tables h.clock

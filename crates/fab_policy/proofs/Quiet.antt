@@ -1,5 +1,5 @@
 -- After each legal journal nobody is overdue at the clock, and tables ascend.
-use Rattle.std.proofs.Common.{◌≡◌, ℕ, zero, suc, ◌+◌, ◌*◌, ◌<◌, ◌≤◌, Bool, true, false, cond, List, [], ◌∷◌, Option, Some, None, refl, sym, ap, subst, ◌∙◌, arith, filter, filter_map, option_and_then, unwrap_or, if◌then◌else◌}
+use Rattle.std.proofs.Common.{◌≡◌, ℕ, zero, suc, ◌+◌, ◌*◌, ◌<◌, ◌≤◌, Bool, true, false, cond, [], ◌∷◌, Option, Some, None, refl, sym, ap, subst, ◌∙◌, arith, filter, filter_map, option_and_then, unwrap_or, if◌then◌else◌}
 use Rattle.std.proofs.lemmas.Bool.{or_parts, or_from}
 use Rattle.std.proofs.lemmas.Bool.Decides.{nat_tests}
 use Rattle.std.specs.List.{cons_option}
@@ -10,29 +10,15 @@ use Rattle.zone_rules.specs.Joined.{contains}
 use Rattle.fab_policy.specs.Journal.{Journal, now}
 use Rattle.fab_policy.specs.Logins.{counting, grants, ends, n_port, hears_node, hears_port}
 use Rattle.fab_policy.specs.State.{LivePort, live_port, is_overdue, addresses}
-use Rattle.fab_policy.specs.Steps.{AreAscending, touched, fresh}
+use Rattle.fab_policy.specs.Steps.{touched, fresh}
 use Rattle.fab_policy.specs.Legal.{Legal}
 use Rattle.fab_policy.specs.Written.{TablesAscend, LegalIsQuiet}
 use Rattle.fab_policy.specs.declared.event.Event.{Event}
 use Rattle.fab_policy.specs.declared.event.Event.TheVariants.{Tick, Frame}
-use Rattle.fab_policy.proofs.Found.{listed_at}
+use Rattle.fab_policy.proofs.Found.{ascends, listed_at}
 use Rattle.fab_policy.proofs.Steps.{live_step, live_addressed, present, AreAddressed}
 
 -- ---- order
-
-lowered : (k to : ℕ) (ports : List LivePort) → AreAscending (k + 1) to ports → AreAscending k to ports
-lowered k to [] h = tt
-lowered k to (p ∷ ports) h = (omega (arith, h.0), h.1, h.2)
-
-ascends : (f : ℕ → Option LivePort) → AreAddressed f → (n k to : ℕ) → k + n ≤ to → AreAscending k to (filter_map f (counting k n))
-ascends f h zero k to le = tt
-ascends f h (suc n) k to le = by_first (f k) refl (ascends f h n (k + 1) to (omega arith))
-  where
-    by_first : (o : Option LivePort) → f k ≡ o → AreAscending (k + 1) to (filter_map f (counting (k + 1) n)) → AreAscending k to (cons_option o (filter_map f (counting (k + 1) n)))
-    by_first None e rest = lowered k to (filter_map f (counting (k + 1) n)) rest
-    by_first (Some p) e rest =
-        let is : p.address ≡ k = h k p e in
-        (omega (arith, is), omega (arith, is), subst (λ x. AreAscending (x + 1) to (filter_map f (counting (k + 1) n))) (sym is) rest)
 
 pub tables_ascend : TablesAscend
 tables_ascend c J = ascends (λ a. live_port a J) (live_addressed J) c.pool (c.domain * 65536 + 256) (c.domain * 65536 + 256 + c.pool) (omega arith)

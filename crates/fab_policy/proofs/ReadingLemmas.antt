@@ -1,7 +1,8 @@
 -- Reading the words of a line.
 use Rattle.std.proofs.Common.{◌≡◌, ℕ, ◌+◌, ◌<◌, ◌≤◌, ◌^◌, true, false, List, [], ◌∷◌, ◌++◌, map, Option, Some, None, Result, Ok, Err, IfOk, IfErr, refl, sym, ◌∙◌, ap, subst, append_assoc, codes, decimal, arith}
+use Rattle.std.proofs.lemmas.List.Elements.{All-nil, All-cons, All-head, All-tail}
 use Rattle.std.proofs.lemmas.List.{append-nil}
-use Rattle.fab_policy.specs.Ranged.{AscendFrom, IsRangedVerdict}
+use Rattle.fab_policy.specs.Ranged.{AscendFrom, IsAddress, IsRangedVerdict}
 use Rattle.fab_policy.specs.Spelling.{IsRangedLine, Spells}
 use Rattle.fab_policy.specs.Private.LineWords.{IsCut, IsFrameOf, IsNext, IsSpelledAfter, IsTickOf, IsWord, rest_of, verdict_words}
 use Rattle.fab_policy.proofs.SpellingLemmas.{line_words}
@@ -59,16 +60,16 @@ forth_more : (text ended rest word behind : List ℕ) (least a : ℕ) → AreRea
 forth_more text ended rest word behind least a read next address m ascend is =
     let P : List ℕ → Type 0 = λ l. AscendFrom 0 l × (text ≡ rest_of (map address_word l)) in
     subst P (sym (append_assoc ended (a ∷ []) m))
-    (read.forth (a ∷ m) (address.0, address.1, ascend) (next.parts ∙ ap (λ w. then_word (w ++ behind)) address.2 ∙ ap (λ t. then_word (address_word a ++ t)) is))
+    (read.forth (a ∷ m) ((address.0, ascend.0), All-cons IsAddress a m address.1 ascend.1) (next.parts ∙ ap (λ w. then_word (w ++ behind)) address.2 ∙ ap (λ t. then_word (address_word a ++ t)) is))
 
 back_more : (ended rest word behind : List ℕ) (least a : ℕ) (l m : List ℕ) → IsNext rest word behind → (least ≤ a) × (a < 2 ^ 24) × (word ≡ address_word a) → l ≡ ended ++ m → AscendFrom least m → rest ≡ rest_of (map address_word m) →
     (n : List ℕ) × (l ≡ (ended ++ a ∷ []) ++ n) × AscendFrom (a + 1) n × (behind ≡ rest_of (map address_word n))
 back_more ended rest word behind least a l [] next address same ascend is = absurd (let both = sym is ∙ next.parts in let differ : LINE_FEED ≡ SPACE = cc in cc)
 back_more ended rest word behind least a l (b ∷ n) next address same ascend is =
     let cut = next_is rest word behind (address_word b) (map address_word n) next (hex_inside 6 b) is in
-    let twin : b ≡ a = other_address word a b address.1 address.2 ascend.1 (sym cut.0) in
+    let twin : b ≡ a = other_address word a b address.1 address.2 (All-head IsAddress b n ascend.1) (sym cut.0) in
     let P : ℕ → Type 0 = λ k. AscendFrom (k + 1) n in
-    (n, same ∙ ap (λ (k : ℕ). ended ++ k ∷ n) twin ∙ sym (append_assoc ended (a ∷ []) n), subst P twin ascend.2, cut.1)
+    (n, same ∙ ap (λ (k : ℕ). ended ++ k ∷ n) twin ∙ sym (append_assoc ended (a ∷ []) n), subst P twin (ascend.0.1, All-tail IsAddress b n ascend.1), cut.1)
 
 one_read : (text ended rest word behind : List ℕ) (least a : ℕ) → AreRead text ended rest least → IsNext rest word behind → (least ≤ a) × (a < 2 ^ 24) × (word ≡ address_word a) → AreRead text (ended ++ a ∷ []) behind (a + 1)
 one_read text ended rest word behind least a read next address = record {
@@ -86,7 +87,7 @@ push_read text ended pushed rest word behind least a value read next address lis
 
 -- the line feed comes
 pub all_read : (text ended rest : List ℕ) (least : ℕ) → AreRead text ended rest least → rest ≡ LINE_FEED ∷ [] → AscendFrom 0 ended × (text ≡ rest_of (map address_word ended))
-all_read text ended rest least read is = let P : List ℕ → Type 0 = λ l. AscendFrom 0 l × (text ≡ rest_of (map address_word l)) in subst P (append-nil ended) (read.forth [] tt is)
+all_read text ended rest least read is = let P : List ℕ → Type 0 = λ l. AscendFrom 0 l × (text ≡ rest_of (map address_word l)) in subst P (append-nil ended) (read.forth [] (tt, All-nil IsAddress) is)
 
 no_word_there : (rest : List ℕ) (m : List ℕ) → ((more : List ℕ) → rest ≡ SPACE ∷ more → ⊥) → (rest ≡ LINE_FEED ∷ [] → ⊥) → rest ≡ rest_of (map address_word m) → ⊥
 no_word_there rest [] none end is = end is
@@ -98,7 +99,7 @@ none_left text ended rest least read none end l ascend is = let before = read.ba
 
 no_address_there : (rest word behind : List ℕ) (least : ℕ) (m : List ℕ) → IsNext rest word behind → ((a : ℕ) → (least ≤ a) × (a < 2 ^ 24) × (word ≡ address_word a) → ⊥) → AscendFrom least m → rest ≡ rest_of (map address_word m) → ⊥
 no_address_there rest word behind least [] next none ascend is = let both = sym is ∙ next.parts in let differ : LINE_FEED ≡ SPACE = cc in cc
-no_address_there rest word behind least (a ∷ m) next none ascend is = none a (ascend.0, ascend.1, sym (next_is rest word behind (address_word a) (map address_word m) next (hex_inside 6 a) is).0)
+no_address_there rest word behind least (a ∷ m) next none ascend is = none a (ascend.0.0, All-head IsAddress a m ascend.1, sym (next_is rest word behind (address_word a) (map address_word m) next (hex_inside 6 a) is).0)
 
 -- a word comes that is no address from the least one on
 pub no_address_left : (text ended rest word behind : List ℕ) (least : ℕ) → AreRead text ended rest least → IsNext rest word behind → ((a : ℕ) → (least ≤ a) × (a < 2 ^ 24) × (word ≡ address_word a) → ⊥) →

@@ -1,12 +1,14 @@
 -- Distinct addresses have distinct granted MACs, and those of live N_Ports differ.
 use Rattle.std.proofs.Common.{◌≡◌, ℕ, ◌+◌, ◌*◌, ◌^◌, ◌<◌, ◌≤◌, Bool, ◌&&◌, List, [], ◌∷◌, ◌++◌, refl, sym, ap, ◌∙◌, arith, IsTrue, nat_le, nat_lt, length, drop}
 use Rattle.std.proofs.lemmas.Bool.{and_parts, leb-true}
+use Rattle.std.proofs.lemmas.List.Elements.{All-head, All-tail}
 use Rattle.fab_base.specs.Layout.{spelled, big_endian}
 use Rattle.fab_base.proofs.LayoutLemmas.{big_endian-spelled, length-spelled}
 use Rattle.fab_config.specs.Settings.{Settings, is_in_range, is_between, is_station, are_zones, are_sets, are_activations}
 use Rattle.fab_policy.specs.State.{LivePort, tables_of}
 use Rattle.fab_policy.specs.Steps.{AreAscending}
 use Rattle.fab_policy.specs.Sound.{MacsTellAddresses, LiveMacsDiffer, IsNewMac, HaveDifferentMacs}
+use Rattle.fab_policy.proofs.Found.{IsBelow}
 use Rattle.fab_policy.proofs.Quiet.{tables_ascend}
 
 -- what stands behind three bytes
@@ -28,14 +30,17 @@ macs_tell_addresses c a b la lb e =
 new_mac : (c : Settings) (from to : ℕ) (p : LivePort) (ports : List LivePort) → p.address < from → to ≤ 2 ^ 24 → AreAscending from to ports → IsNewMac c p ports
 new_mac c from to p [] lt le h = tt
 new_mac c from to p (q ∷ ports) lt le h =
-    (λ e. differ p.address q.address (omega (arith, h.0)) (macs_tell_addresses c p.address q.address (omega (arith, h.0, h.1)) (omega (arith, h.1)) e), new_mac c (q.address + 1) to p ports (omega (arith, h.0)) le h.2)
+    let fits : q.address < to = All-head (IsBelow to) q ports h.1 in
+    (λ e. differ p.address q.address (omega (arith, h.0.0)) (macs_tell_addresses c p.address q.address (omega (arith, h.0.0, fits)) (omega (arith, fits)) e), new_mac c (q.address + 1) to p ports (omega (arith, h.0.0)) le (h.0.1, All-tail (IsBelow to) q ports h.1))
   where
     differ : (x y : ℕ) → x < y → x ≡ y → ⊥
     differ x y l e = omega (arith, e)
 
 macs_differ : (c : Settings) (from to : ℕ) (ports : List LivePort) → to ≤ 2 ^ 24 → AreAscending from to ports → HaveDifferentMacs c ports
 macs_differ c from to [] le h = tt
-macs_differ c from to (p ∷ ports) le h = (new_mac c (p.address + 1) to p ports (omega arith) le h.2, macs_differ c (p.address + 1) to ports le h.2)
+macs_differ c from to (p ∷ ports) le h =
+    let later = All-tail (IsBelow to) p ports h.1 in
+    (new_mac c (p.address + 1) to p ports (omega arith) le (h.0.1, later), macs_differ c (p.address + 1) to ports le (h.0.1, later))
 
 at_most : (least most n : ℕ) → IsTrue (is_between least most n) → n ≤ most
 at_most least most n e = leb-true n most (and_parts (nat_le least n) (nat_le n most) e).1

@@ -1,10 +1,12 @@
 -- The words of a line, and that they name it.
-use Rattle.std.proofs.Common.{◌≡◌, ℕ, ◌+◌, ◌^◌, ◌<◌, ◌≤◌, Bool, false, cond, eqb, ◌&&◌, IfSome, List, [], ◌∷◌, ◌++◌, map, Option, Some, None, unwrap_or, refl, sym, ◌∙◌, ap, append_assoc, codes, decimal, arith}
+use Rattle.std.proofs.Common.{◌≡◌, ℕ, ◌^◌, ◌<◌, ◌≤◌, Bool, false, cond, eqb, ◌&&◌, IfSome, List, [], ◌∷◌, ◌++◌, map, Option, Some, None, unwrap_or, refl, sym, ◌∙◌, ap, append_assoc, codes, decimal, arith}
+use Rattle.std.proofs.lemmas.List.Elements.{All-head, All-tail}
+use Rattle.std.specs.List.{All}
 use Rattle.std.specs.Str.Parse.{AllDigits, digits_value}
 use Rattle.std.proofs.lemmas.Str.Parse.{digit_from_value}
 use Rattle.std.proofs.lemmas.Fmt.{decimal_is_IsNumeral}
 use Rattle.fab_config.specs.Settings.{same_bytes}
-use Rattle.fab_policy.specs.Ranged.{AscendFrom, IsRangedVerdict}
+use Rattle.fab_policy.specs.Ranged.{IsAddress, IsRangedVerdict}
 use Rattle.fab_policy.specs.Spelling.{line_text, IsRangedLine, HasClockOf, LinesAreUnique}
 use Rattle.fab_policy.specs.Private.LineWords.{IsWord, rest_of, number_words, verdict_words}
 use Rattle.fab_policy.proofs.WordLemmas.{text_of}
@@ -286,10 +288,10 @@ verdict_named-words Noted ranged = refl
 verdict_named-words (Forwarded port) ranged = ap Forwarded (digits_value-decimal port (omega arith))
 verdict_named-words (Dropped cause) ranged = cause_named cause.rule cause.number ranged.1
 
-addresses_named : (from : ℕ) (ended : List ℕ) → AscendFrom from ended → map (hex_after 0) (map address_word ended) ≡ ended
-addresses_named from [] ascend = refl
-addresses_named from (a ∷ ended) ascend =
-    ap (λ (b : ℕ). b ∷ map (hex_after 0) (map address_word ended)) (hex_after-hex 6 a ascend.1) ∙ ap (λ l. a ∷ l) (addresses_named (a + 1) ended ascend.2)
+addresses_named : (ended : List ℕ) → All IsAddress ended → map (hex_after 0) (map address_word ended) ≡ ended
+addresses_named [] fit = refl
+addresses_named (a ∷ ended) fit =
+    ap (λ (b : ℕ). b ∷ map (hex_after 0) (map address_word ended)) (hex_after-hex 6 a (All-head IsAddress a ended fit)) ∙ ap (λ l. a ∷ l) (addresses_named ended (All-tail IsAddress a ended fit))
 
 -- whether the word is `tick`
 abbrev pub is_tick : List ℕ → Bool
@@ -322,8 +324,8 @@ frame_same : (p q i j : ℕ) (v w : Verdict) (c d : Option ℕ) → p ≡ q → 
 frame_same p q i j v w c d e1 e2 e3 e4 = cc
 
 line_named-words : (f : Format) (l : Line) → IsRangedLine f l → line_named f (line_words f l) ≡ l
-line_named-words One (Tick m ended) ranged = tick_same _ m _ ended (digits_value-decimal m ranged.0) (addresses_named 0 ended ranged.1)
-line_named-words Two (Tick m ended) ranged = tick_same _ m _ ended (digits_value-decimal m ranged.0) (addresses_named 0 ended ranged.1)
+line_named-words One (Tick m ended) ranged = tick_same _ m _ ended (digits_value-decimal m ranged.0) (addresses_named ended ranged.1.1)
+line_named-words Two (Tick m ended) ranged = tick_same _ m _ ended (digits_value-decimal m ranged.0) (addresses_named ended ranged.1.1)
 line_named-words One (Frame port index v None) ranged =
     ap (λ b. cond b (Tick (digits_value 10 (decimal index)) (map (hex_after 0) (verdict_words v))) (Frame (digits_value 10 (decimal port)) (digits_value 10 (decimal index)) (verdict_named (verdict_words v)) None)) (number_no_tick port (omega arith))
     ∙ frame_same _ port _ index _ v None None (digits_value-decimal port (omega arith)) (digits_value-decimal index ranged.2) (verdict_named-words v ranged.3) refl

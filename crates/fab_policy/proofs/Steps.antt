@@ -261,7 +261,7 @@ present f h (suc n) k a le lt = by_order (compared k a) (λ l. present f h n (k 
     by_order (inr ne) later = skipped f h k a ne (f k) refl (filter_map f (counting (k + 1) n)) ∙ later (omega arith)
 
 -- tables whose entries are equal at each address
-same_over : (f g : ℕ → Option LivePort) (n k : ℕ) → ((a : ℕ) → k ≤ a → a < k + n → f a ≡ g a) → filter_map f (counting k n) ≡ filter_map g (counting k n)
+pub same_over : (f g : ℕ → Option LivePort) (n k : ℕ) → ((a : ℕ) → k ≤ a → a < k + n → f a ≡ g a) → filter_map f (counting k n) ≡ filter_map g (counting k n)
 same_over f g zero k h = refl
 same_over f g (suc n) k h =
     ap (λ o. cons_option o (filter_map f (counting (k + 1) n))) (h k (omega arith) (omega arith))

@@ -1,18 +1,21 @@
 -- The tables after a tick that ends the overdue.
 use Rattle.std.proofs.Common.{◌≡◌, ℕ, ◌+◌, ◌*◌, ◌^◌, ◌≤◌, ◌==◌, Bool, true, false, not, cond, List, [], ◌∷◌, map, filter, filter_map, Option, Some, None, option_map, option_and_then, refl, sym, ap, subst, ◌∙◌, arith, if◌then◌else◌}
 use Rattle.std.proofs.lemmas.Bool.{eqb-true}
+use Rattle.std.proofs.lemmas.List.Elements.{All-filter, All-map, All-weaker}
 use Rattle.std.specs.Option.{option_map_or}
 use Rattle.fab_base.specs.Fabric.{Past}
+use Rattle.fab_base.specs.Keyed as keyed
+use Rattle.fab_base.proofs.KeyedLemmas.{AscendFrom-filter, AscendFrom-keys, AscendFrom-weaker}
 use Rattle.ct_messages.specs.Server.{Values}
 use Rattle.zone_rules.specs.Joined.{contains}
 use Rattle.fab_policy.specs.Changes.{TickSteps, EndsOfTicks, all_ended}
 use Rattle.fab_policy.specs.Logins.{pool}
-use Rattle.fab_policy.specs.Ranged.{AscendFrom}
+use Rattle.fab_policy.specs.Ranged.{AscendFrom, IsAddress}
 use Rattle.fab_policy.specs.State.{LivePort, port_at, overdue, is_overdue, addresses}
 use Rattle.fab_policy.specs.Steps.{AreAscending, touched, features_after, values_after, port_after, past_after}
 use Rattle.fab_policy.specs.declared.event.Event.TheVariants.{Tick}
 use Rattle.fab_policy.proofs.Steps.{same_tables}
-use Rattle.fab_policy.proofs.Found.{below, listed_at, found_by_address}
+use Rattle.fab_policy.proofs.Found.{IsBelow, below, listed_at, found_address, found_by_address}
 use Rattle.fab_policy.proofs.SoundMacs.{pool_fits}
 
 -- ---- an N_Port that stays
@@ -32,49 +35,28 @@ touched_tick at m ends p = ap (λ v. record p { values = v }) (values_kept p.nod
 
 -- those that pass ascend too
 filter_ascends : (q : LivePort → Bool) (from to : ℕ) (ports : List LivePort) → AreAscending from to ports → AreAscending from to (filter q ports)
-filter_ascends q from to [] h = tt
-filter_ascends q from to (p ∷ ports) h = by_test (q p) (filter_ascends q (p.address + 1) to ports h.2)
-  where
-    weaker : (j k : ℕ) (ps : List LivePort) → j ≤ k → AreAscending k to ps → AreAscending j to ps
-    weaker j k [] le g = tt
-    weaker j k (x ∷ ps) le g = (omega (arith, g.0), g.1, g.2)
-
-    by_test : (b : Bool) → AreAscending (p.address + 1) to (filter q ports) → AreAscending from to (cond b (p ∷ filter q ports) (filter q ports))
-    by_test true ih = (h.0, h.1, ih)
-    by_test false ih = weaker from (p.address + 1) (filter q ports) (omega (arith, h.0)) ih
+filter_ascends q from to ports h = (AscendFrom-filter (λ (p : LivePort). p.address) q from ports h.0, All-filter q (IsBelow to) ports h.1)
 
 -- ---- a look-up among those that stay
 
 abbrev kept_if : Bool → LivePort → Option LivePort
 kept_if b p = if b then None else Some p
 
-staying_at : (q : LivePort → Bool) (from to a : ℕ) (ports : List LivePort) → AreAscending from to ports →
+staying_at : (q : LivePort → Bool) (from a : ℕ) (ports : List LivePort) → keyed.AscendFrom (λ p. p.address) from ports →
     port_at a (filter (λ p. not (q p)) ports) ≡ option_and_then (λ p. kept_if (q p) p) (port_at a ports)
-staying_at q from to a [] h = refl
-staying_at q from to a (p ∷ ports) h = by_test (q p) refl (p.address == a) refl (staying_at q (p.address + 1) to a ports h.2)
+staying_at q from a [] h = refl
+staying_at q from a (p ∷ ports) h = by_test (q p) refl (p.address == a) refl (staying_at q (p.address + 1) a ports h.1)
   where
     by_test : (t : Bool) → q p ≡ t → (x : Bool) → p.address == a ≡ x → port_at a (filter (λ y. not (q y)) ports) ≡ option_and_then (λ y. kept_if (q y) y) (port_at a ports) →
         port_at a (cond (not (q p)) (p ∷ filter (λ y. not (q y)) ports) (filter (λ y. not (q y)) ports)) ≡ option_and_then (λ y. kept_if (q y) y) (cond (p.address == a) (Some p) (port_at a ports))
     by_test t et true e ih =
-        let none : port_at a ports ≡ None = below (p.address + 1) to a ports h.2 (omega (arith, eqb-true p.address a e)) in
+        let none : port_at a ports ≡ None = below (p.address + 1) a ports h.1 (omega (arith, eqb-true p.address a e)) in
         grind (arith, et, e, ih, none)
     by_test t et false e ih = grind (arith, et, e, ih)
 
 pub map_same : {X Y : Type 0} (f g : X → Y) → ((x : X) → f x ≡ g x) → (xs : List X) → map f xs ≡ map g xs
 map_same f g h [] = refl
 map_same f g h (x ∷ xs) = grind (arith, h x, map_same f g h xs)
-
--- the address of the N_Port that is found
-pub found_address : (a : ℕ) (ports : List LivePort) (p : LivePort) → port_at a ports ≡ Some p → p.address ≡ a
-found_address a [] p e = cc
-found_address a (x ∷ ports) p e = go (x.address == a) refl e (found_address a ports p)
-  where
-    same : Some x ≡ Some p → x ≡ p
-    same i = cc
-
-    go : (b : Bool) → x.address == a ≡ b → cond b (Some x) (port_at a ports) ≡ Some p → (port_at a ports ≡ Some p → p.address ≡ a) → p.address ≡ a
-    go true t i ih = ap (λ y. y.address) (sym (same i)) ∙ eqb-true x.address a t
-    go false t i ih = ih i
 
 -- the N_Port of an address after a tick that lists those that pass
 tick_port : (q : LivePort → Bool) (m a : ℕ) (ends : List ℕ) (o : Option LivePort) → ((p : LivePort) → o ≡ Some p → p.address ≡ a) → contains a ends ≡ option_map_or q o false →
@@ -106,19 +88,18 @@ tick_steps c T m asc =
         filter (λ p. not (q p)) T.ports ≡ filter_map (λ a. port_after m a (Tick m ends) (port_at a T.ports)) (pool c)
     ports from q ends from_is q_is ends_are h = found_by_address c (filter (λ p. not (q p)) T.ports) (λ a. port_after m a (Tick m ends) (port_at a T.ports))
         (subst (λ x. AreAscending x (x + c.pool) (filter (λ p. not (q p)) T.ports)) from_is (filter_ascends (λ p. not (q p)) from (from + c.pool) T.ports h))
-        (λ a l r. staying_at q from (from + c.pool) a T.ports h
+        (λ a l r. staying_at q from a T.ports h.0
         ∙ tick_port q m a ends (port_at a T.ports) (λ p e. found_address a T.ports p e)
         (ap (λ xs. contains a xs) ends_are ∙ listed_at q from (from + c.pool) a T.ports h))
 
 -- ---- the addresses that a tick ends
 
 ends_from : (q : LivePort → Bool) (low from to : ℕ) (ports : List LivePort) → low ≤ from → to ≤ 2 ^ 24 → AreAscending from to ports → AscendFrom low (addresses (filter q ports))
-ends_from q low from to [] le fits h = tt
-ends_from q low from to (p ∷ ports) le fits h = by_test (q p) (λ k e. ends_from q k (p.address + 1) to ports e fits h.2)
-  where
-    by_test : (b : Bool) → ((k : ℕ) → k ≤ p.address + 1 → AscendFrom k (addresses (filter q ports))) → AscendFrom low (addresses (cond b (p ∷ filter q ports) (filter q ports)))
-    by_test true rest = (omega (arith, le, h.0), omega (arith, h.1, fits), rest (p.address + 1) (omega arith))
-    by_test false rest = rest low (omega (arith, le, h.0))
+ends_from q low from to ports le fits h =
+    let kept : AreAscending from to (filter q ports) = filter_ascends q from to ports h in (
+      AscendFrom-weaker (λ (a : ℕ). a) low from (addresses (filter q ports)) le (AscendFrom-keys (λ (p : LivePort). p.address) from (filter q ports) kept.0),
+      All-map IsAddress (λ (p : LivePort). p.address) (filter q ports) (All-weaker (IsBelow to) (λ (p : LivePort). IsAddress p.address) (λ p l. omega (arith, l)) (filter q ports) kept.1),
+    )
 
 pub ends_of_ticks : EndsOfTicks
 ends_of_ticks c T m range asc = ends_from (is_overdue c m) 0 (c.domain * 65536 + 256) (c.domain * 65536 + 256 + c.pool) T.ports (omega arith) (pool_fits c range) asc

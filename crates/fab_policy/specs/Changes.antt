@@ -1,5 +1,5 @@
 -- What entries do to the tables, address by address: what a table of its own must do for each entry.
-use Rattle.std.specs.Prelude.{◌≡◌, ℕ, ◌+◌, ◌*◌, Bool, true, false, not, ◌==◌, ◌&&◌, if◌then◌else◌, List, map, filter, length, Option, Some, None, option_map, option_and_then, unwrap_or, is_none, is_some, IsSome, IsTrue}
+use Rattle.std.specs.Prelude.{◌≡◌, ℕ, Bool, true, false, not, ◌==◌, ◌&&◌, if◌then◌else◌, List, map, filter, length, Option, Some, None, option_map, option_and_then, unwrap_or, is_none, is_some, IsSome, IsTrue}
 use Rattle.fab_base.specs.Fabric.{Past, same_enode}
 use Rattle.fab_base.specs.declared.values.Caught.{Caught}
 use Rattle.fab_base.specs.declared.values.Enode.{Enode}
@@ -13,15 +13,12 @@ use Rattle.ct_messages.specs.Server as server
 use Rattle.fab_policy.specs.Heard.{sender, is_flogi, s_id, ask_of, asked}
 use Rattle.fab_policy.specs.Logins.{n_port}
 use Rattle.fab_policy.specs.State.{LivePort, Tables, port_at, overdue, is_overdue, addresses, now_of}
-use Rattle.fab_policy.specs.Steps.{after, AreAscending, fresh, touched, clock_after, port_after, past_after}
+use Rattle.fab_policy.specs.Steps.{after, InPool, fresh, touched, clock_after, port_after, past_after}
 use Rattle.fab_policy.specs.Spelling.{EndsAscend}
 use Rattle.fab_policy.specs.declared.event.Event.{Event}
 use Rattle.fab_policy.specs.declared.event.Event.TheVariants.{Tick, Frame}
 use Rattle.fab_policy.specs.declared.verdict.Verdict.{Verdict}
 use Rattle.fab_policy.specs.declared.verdict.Verdict.TheVariants.{Granted, Logout, AliveNode, AlivePort, NsLogin, NsLogout, Watching, Registered}
-
-abbrev pub InPool : Settings → List LivePort → Type 0
-InPool c ports = AreAscending (c.domain * 65536 + 256) (c.domain * 65536 + 256 + c.pool) ports
 
 -- ---- any entry
 

@@ -1,6 +1,7 @@
 -- Journals whose numbers are in the ranges of their types, and what the text of one says of it.
-use Rattle.std.specs.Prelude.{◌≡◌, ℕ, ◌+◌, ◌<◌, ◌≤◌, ◌^◌, nat_lt, List, [], ◌∷◌, is_some, IfSome}
-use Rattle.std.specs.List.{AllPass}
+use Rattle.std.specs.Prelude.{◌≡◌, ℕ, ◌<◌, ◌≤◌, ◌^◌, nat_lt, List, [], ◌∷◌, is_some, IfSome}
+use Rattle.std.specs.List.{All, AllPass}
+use Rattle.fab_base.specs.Keyed as keyed
 use Rattle.fab_policy.specs.Cause.{is_numbered}
 use Rattle.fab_policy.specs.Journal.{Journal}
 use Rattle.fab_policy.specs.Legal.{of_port}
@@ -16,8 +17,7 @@ IsAddress a = a < 2 ^ 24
 
 -- addresses that ascend strictly, the first of them not below a bound
 abbrev pub AscendFrom : ℕ → List ℕ → Type 0
-AscendFrom from [] = Unit {0}
-AscendFrom from (a ∷ more) = (from ≤ a) × IsAddress a × AscendFrom (a + 1) more
+AscendFrom from ended = keyed.AscendFrom (λ a. a) from ended × All IsAddress ended
 
 -- the numbers of a verdict: addresses of 24 bits, codes of 8, ports 1 to 64, and a number of 32 beside the rules that have one
 abbrev pub IsRangedVerdict : Verdict → Type 0

@@ -1,6 +1,8 @@
 -- What one more entry changes: what a journal with one more entry says follows from what the journal said.
 use Rattle.std.specs.Prelude.{◌≡◌, ℕ, List, [], ◌∷◌, Option, Some, None, option_and_then, option_map, if◌then◌else◌, unwrap_or, map, filter_map, ◌+◌, ◌*◌, ◌<◌, ◌≤◌, ◌⊎◌}
+use Rattle.std.specs.List.{All}
 use Rattle.fab_base.specs.Fabric.{Past}
+use Rattle.fab_base.specs.Keyed.{AscendFrom}
 use Rattle.fab_base.specs.declared.values.Enode.{Enode}
 use Rattle.fab_config.specs.Settings.{Settings}
 use Rattle.ct_messages.specs.Ct.{Ask}
@@ -103,8 +105,11 @@ Steps = (c : Settings) (e : Event) (J : Journal) → tables_of c (e ∷ J) ≡ a
 
 -- N_Ports in strictly ascending order of addresses that aren't below the first bound and are below the second
 abbrev pub AreAscending : ℕ → ℕ → List LivePort → Type 0
-AreAscending from to [] = Unit {0}
-AreAscending from to (p ∷ ports) = (from ≤ p.address) × (p.address < to) × AreAscending (p.address + 1) to ports
+AreAscending from to ports = AscendFrom (λ p. p.address) from ports × All (λ p. p.address < to) ports
+
+-- N_Ports of the pool, in that order
+abbrev pub InPool : Settings → List LivePort → Type 0
+InPool c ports = AreAscending (c.domain * 65536 + 256) (c.domain * 65536 + 256 + c.pool) ports
 
 -- The N_Port that the tables of a journal have for an address is the live one that the journal has; outside the pool there is none.
 abbrev pub LivesAreFound : Type 0
@@ -116,6 +121,6 @@ OthersAreNone = (c : Settings) (J : Journal) (a : ℕ) → (a < c.domain * 65536
 -- Ascending N_Ports of the pool are the ones that are found address by address.
 abbrev pub FoundByAddress : Type 0
 FoundByAddress = (c : Settings) (ports : List LivePort) (find : ℕ → Option LivePort) →
-    AreAscending (c.domain * 65536 + 256) (c.domain * 65536 + 256 + c.pool) ports →
+    InPool c ports →
     ((a : ℕ) → c.domain * 65536 + 256 ≤ a → a < c.domain * 65536 + 256 + c.pool → port_at a ports ≡ find a) →
     ports ≡ filter_map find (pool c)

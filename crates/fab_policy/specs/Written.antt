@@ -1,5 +1,5 @@
 -- What a run leaves in its files, and which journal the files name.
-use Rattle.std.specs.Prelude.{◌≡◌, ℕ, ◌⊎◌, List, [], ◌∷◌, ◌++◌, length, map, filter, nat_lt, Some, ◌+◌, ◌*◌, ◌≤◌}
+use Rattle.std.specs.Prelude.{◌≡◌, ℕ, ◌⊎◌, List, [], ◌∷◌, ◌++◌, length, map, filter, nat_lt, Some, ◌≤◌}
 use Rattle.fab_config.specs.Settings.{Settings}
 use Rattle.pcap_file.specs.declared.Record.{Record}
 use Rattle.fab_policy.specs.Journal.{Journal}
@@ -8,7 +8,7 @@ use Rattle.fab_policy.specs.State.{Tables, LivePort, tables_of, overdue, now_of}
 use Rattle.fab_policy.specs.Legal.{Legal, Run, HasPorts, HoldsFrames, window_start}
 use Rattle.fab_policy.specs.Text.{text, text1, egress}
 use Rattle.fab_policy.specs.Ranged.{IsRanged}
-use Rattle.fab_policy.specs.Steps.{AreAscending}
+use Rattle.fab_policy.specs.Steps.{InPool}
 use Rattle.fab_policy.specs.Looks.{Stop, kept}
 
 -- the captures that a journal sends, for ports 1 to n
@@ -54,7 +54,7 @@ HaveDifferentNames (p ∷ ports) = IsNew p ports × HaveDifferentNames ports
 -- What holds of the tables after each legal journal: addresses ascend in the pool and port names differ, there are at most
 -- as many logins as the limit, and nobody is overdue at the clock.
 pub record IsSound (c : Settings) (T : Tables) : Type 0 where
-  pub ascending : AreAscending (c.domain * 65536 + 256) (c.domain * 65536 + 256 + c.pool) T.ports
+  pub ascending : InPool c T.ports
   pub names : HaveDifferentNames T.ports
   pub few : length T.ports ≤ c.limit
   pub quiet : overdue c T (now_of T) ≡ []
@@ -65,7 +65,7 @@ LegalIsSound = (c : Settings) (J : Journal) → Legal c J → IsSound c (tables_
 
 -- The tables of each journal ascend.
 abbrev pub TablesAscend : Type 0
-TablesAscend = (c : Settings) (J : Journal) → AreAscending (c.domain * 65536 + 256) (c.domain * 65536 + 256 + c.pool) (tables_of c J).ports
+TablesAscend = (c : Settings) (J : Journal) → InPool c (tables_of c J).ports
 
 -- After each legal journal nobody is overdue at the clock.
 abbrev pub LegalIsQuiet : Type 0

@@ -3,6 +3,7 @@ use Rattle.std.proofs.Common.{◌≡◌, ℕ, zero, suc, ◌+◌, ◌-◌, ◌%�
 use Rattle.std.specs.Prelude.{flat_map, filter, replicate, nat_lt, if◌then◌else◌, option_and_then, MatchOption}
 use denote.Bor.{Bor}
 use Rattle.std.specs.List.{list_any, list_all, AllPass, slice_get}
+use Rattle.std.proofs.lemmas.List.Elements.{All-nil}
 use Rattle.std.proofs.lemmas.Bool.{eqb-true, le-leb, leb-true}
 use Rattle.std.proofs.lemmas.Option.{slice_get_within}
 use Rattle.std.proofs.lemmas.Bool.Decides.{nat_tests}
@@ -13,7 +14,7 @@ use Rattle.pcap_file.specs.Capture.{head_bytes}
 use Rattle.fab_policy.specs.Journal.{Journal, clock, now, frame_count}
 use Rattle.fab_policy.specs.Legal.{window_start, windows_left, IsLeastOf, IsNextTick, IsTickTime, is_owed_after, has_activation, record_of, Timed, HasPorts}
 use Rattle.fab_policy.specs.Outputs.{advertised_at, advertised_after, is_owed, outputs, replies_of, advertisements_of}
-use Rattle.fab_policy.specs.Ranged.{IsRanged, IsRangedVerdict}
+use Rattle.fab_policy.specs.Ranged.{IsAddress, IsRanged, IsRangedVerdict}
 use Rattle.fab_policy.specs.SoFar.Stage.{LegalSoFar, verdict_so_far}
 use Rattle.fab_policy.specs.State.{LivePort, tables_of, is_overdue}
 use Rattle.fab_policy.specs.Logins.{counting}
@@ -273,7 +274,7 @@ module _ (c : Settings) (ins : List (List Record)) (places : List ℕ) (m m' : M
     pub ticked : Stage c ins places m'
     ticked = record {
       entry_list = e ∷ J;
-      ranged = (s.ranged, (let b = w_early in let l = t_within in omega arith, tt));
+      ranged = (s.ranged, (let b = w_early in let l = t_within in omega arith, (tt, All-nil IsAddress)));
       ports = s.ports;
       frames = hold_tick J t 1 ins places s.frames;
       legal = legal_tick;

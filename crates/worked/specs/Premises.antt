@@ -38,7 +38,7 @@ any_clock = tt
 
 -- a tick lists each address once, and a frame lists none
 pub listed_twice : EndsAscend (Tick 1000 (5 ∷ 5 ∷ [])) → ⊥
-listed_twice h = absurd (omega (arith, h.2.0))
+listed_twice h = absurd (omega (arith, h.0.1.0))
 
 pub none_listed : EndsAscend (Frame 1 0 vlan_request Vlans)
 none_listed = tt

@@ -1,7 +1,7 @@
 -- The ranges of a configuration and of a journal's numbers, at their edges.
 use Rattle.std.specs.Prelude.{◌≡◌, ℕ, zero, suc, nat_lt, true, false, List, [], ◌∷◌, refl, map, replicate, None, Some}
 use Rattle.std.proofs.Common.{lit≤, lit<, arith}
-use Rattle.std.specs.List.{AllPass}
+use Rattle.std.specs.List.{All, AllPass}
 use Rattle.fab_base.specs.declared.values.Caught.{Caught}
 use Rattle.fab_config.specs.Settings.{Settings, is_in_range}
 use Rattle.fab_config.specs.declared.Zone.{Zone}
@@ -87,6 +87,12 @@ are_bytes zero d lt = refl
 are_bytes (suc zero) d lt = refl
 are_bytes (suc (suc k)) d lt = absurd (omega arith)
 
+are_addresses : All ranged.IsAddress (0 ∷ 1 ∷ 0xffffff ∷ [])
+are_addresses zero d lt = lit< tt
+are_addresses (suc zero) d lt = lit< tt
+are_addresses (suc (suc zero)) d lt = lit< tt
+are_addresses (suc (suc (suc k))) d lt = absurd (omega arith)
+
 -- numbers at the ends of their ranges
 pub greatest : ranged.IsRanged (Frame 64 0xffffffffffffffff some_frame (Granted 0xffffff) ∷ Frame 1 0 some_frame (Forwarded 64) ∷ Frame 1 0 some_frame (Watching 255)
     ∷ Frame 1 0 some_frame (Rejected 255 255) ∷ Frame 1 0 some_frame (Dropped (record { rule = rule.FipLength; number = Some 0xffffffff }))
@@ -96,7 +102,7 @@ greatest = (
     (
       (
         (
-          ((tt, (lit< tt, (lit≤ tt, lit< tt, (lit≤ tt, lit< tt, (lit≤ tt, lit< tt, tt))))), (lit≤ tt, lit≤ tt, lit< tt, are_bytes, (refl, tt))),
+          ((tt, (lit< tt, ((lit≤ tt, (lit≤ tt, (lit≤ tt, tt))), are_addresses))), (lit≤ tt, lit≤ tt, lit< tt, are_bytes, (refl, tt))),
           (lit≤ tt, lit≤ tt, lit< tt, are_bytes, (refl, lit< tt)),
         ),
         (lit≤ tt, lit≤ tt, lit< tt, are_bytes, (lit< tt, lit< tt)),
@@ -130,4 +136,4 @@ number_too_much h = cc
 
 -- an address that stands twice doesn't ascend
 pub twice : (h : ranged.IsRangedEvent (Tick 0 (5 ∷ 5 ∷ []))) → ⊥
-twice h = omega (arith, h.1.2.0)
+twice h = omega (arith, h.1.0.1.0)
