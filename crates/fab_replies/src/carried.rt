@@ -1,0 +1,51 @@
+//! FC frames in FCoE, of the forwarder's making.
+ghost use Rattle.std.specs.Prelude.{◌≡◌, ◌++◌, ◌≤◌, ◌+◌, IsTrue, length, OnOk, OnErr, IfOk, vec_len};
+ghost use Rattle.fc_frames.specs.Frame as fc;
+ghost use Rattle.fcoe_codec.specs.Fcoe as capsule;
+ghost use Rattle.fab_policy.specs.Replies as spec;
+
+use crate::parts::own_tag;
+use fab_base::{Mac, NoMemory};
+use fab_config::Config;
+use fab_policy::write_made;
+use fcoe_codec::{FcoeFrame, write_fcoe};
+use std::alloc::Global;
+
+/// The Ethertype of FCoE.
+const FCOE: u16 = 0x8906;
+
+// Appends a frame to a MAC.
+pub(crate) fn write_carried(
+    alloc: Global,
+    config: &Config,
+    dst: Mac,
+    frame: &FcoeFrame<'_>,
+    into: &mut Vec<u8>,
+) -> Result<(), NoMemory>
+    requires sof { IsTrue (capsule.is_sof frame.now.sof) }
+    requires eof { IsTrue (capsule.is_eof frame.now.eof) }
+    requires payload { fc.IsPayload frame.now.frame.payload.now }
+    ensures ok { OnOk result (into.new.items ≡ into.old.items
+        ++ spec.made_fcoe config.now dst frame.now.sof frame.now.eof (fc.view frame.now.frame)) }
+    ensures size { OnOk result (length
+        (spec.made_fcoe config.now dst frame.now.sof frame.now.eof (fc.view frame.now.frame))
+        ≤ 65535) }
+    ensures err { OnErr result (into.new.items ≡ into.old.items) }
+{
+    let body = body_of(alloc, frame)?;
+    let tag = Some(own_tag(config));
+    write_made(alloc, config, tag, dst, FCOE, &body, into)
+}
+
+// The body of a frame.
+fn body_of(alloc: Global, frame: &FcoeFrame<'_>) -> Result<Vec<u8>, NoMemory>
+    requires sof { IsTrue (capsule.is_sof frame.now.sof) }
+    requires eof { IsTrue (capsule.is_eof frame.now.eof) }
+    requires payload { fc.IsPayload frame.now.frame.payload.now }
+    ensures bytes { IfOk result (λ v. v.items ≡ capsule.written (capsule.view frame.now)) }
+    ensures size { IfOk result (λ v. vec_len v ≤ 2158) }
+{
+    let mut body = Vec::new(alloc);
+    write_fcoe(alloc, frame, &mut body)?;
+    Ok(body)
+}

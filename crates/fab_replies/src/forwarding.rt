@@ -1,0 +1,35 @@
+//! A frame that goes on.
+ghost use Rattle.std.specs.Prelude.{◌≡◌, ◌++◌, ◌≤◌, drop, length, OnOk, OnErr};
+ghost use Rattle.fab_policy.specs.Logins.{granted_mac as mac_granted};
+
+use crate::parts::granted_mac;
+use fab_base::{FcId, NoMemory};
+use fab_config::Config;
+use std::alloc::Global;
+
+/// The two MACs of a frame.
+const MACS: usize = 12;
+
+// Appends a frame with the MACs of its next way.
+pub(crate) fn write_forwarded(
+    _alloc: Global,
+    config: &Config,
+    to: FcId,
+    frame: &[u8],
+    into: &mut Vec<u8>,
+) -> Result<(), NoMemory>
+    requires least { 14 ≤ length frame.now }
+    requires most { length frame.now ≤ 65535 }
+    ensures ok { OnOk result (into.new.items ≡ into.old.items
+        ++ mac_granted config.now to ++ config.now.fcf_mac ++ drop 12 frame.now) }
+    ensures size { OnOk result (length
+        (mac_granted config.now to ++ config.now.fcf_mac ++ drop 12 frame.now) ≤ 65535) }
+    ensures err { OnErr result (into.new.items ≡ into.old.items) }
+{
+    let dst = granted_mac(config, to);
+    into.reserve(frame.len())?;
+    into.extend_from_slice(&dst.0).unwrap();
+    into.extend_from_slice(&config.fcf_mac.0).unwrap();
+    into.extend_from_slice(&frame[MACS..]).unwrap();
+    Ok(())
+}

@@ -1,0 +1,139 @@
+//! The parts of what is sent: tags, MACs, names, headers and link services.
+ghost use Rattle.std.specs.Prelude.{◌≡◌, ◌+◌, ◌<◌, ◌≤◌, IfOk, vec_len};
+ghost use Rattle.els_messages.specs.Els as els;
+ghost use Rattle.fab_policy.specs.Logins.{granted_mac as mac_granted};
+ghost use Rattle.fab_policy.specs.Queries.{fport};
+ghost use Rattle.fab_policy.specs.Replies as spec;
+ghost use Rattle.fc_frames.specs.Frame.{IsPayload};
+ghost use Rattle.fab_replies.specs.Message.{els_of};
+
+use crate::Answer;
+use els_messages::{Els, LoginParms, write_els};
+use fab_base::{FcId, Mac, NoMemory, PortNo, Wwn};
+use fab_config::Config;
+use fc_frames::FcHeader;
+use std::alloc::Global;
+
+/// The responder's last frame, and an earlier one.
+pub(crate) const F_CTL_LAST: u32 = 0x98_0000;
+
+pub(crate) const F_CTL_EARLIER: u32 = 0x90_0000;
+
+// The tag of the forwarder's frames.
+pub(crate) fn own_tag(config: &Config) -> u16
+    ensures { result ≡ 0x6000 + config.now.vlan }
+{
+    0x6000 + config.vlan
+}
+
+// The MAC that comes with an address.
+pub(crate) fn granted_mac(config: &Config, address: FcId) -> Mac
+    ensures { result ≡ mac_granted config.now address }
+{
+    let [_, m0, m1, m2] = config.fc_map.to_be_bytes();
+    let [_, a0, a1, a2] = address.value().to_be_bytes();
+    Mac([m0, m1, m2, a0, a1, a2])
+}
+
+// The name of a port of the forwarder; 0 is its name server.
+fn port_name(config: &Config, port: u32) -> Wwn
+    requires { port ≤ 64 }
+    ensures { result ≡ fport config.now port }
+{
+    let space = 1 << 48;
+    Wwn((0x2000 + u64::from(port)) * space + config.switch.0 % space)
+}
+
+// A header with what an answer and a state change have in common.
+pub(crate) fn header(
+    r_ctl: u8,
+    d_id: FcId,
+    s_id: FcId,
+    kind: u8,
+    f_ctl: u32,
+    seq_cnt: u16,
+    ox_id: u16,
+) -> FcHeader
+    ensures { result ≡ spec.header r_ctl d_id s_id kind f_ctl seq_cnt ox_id }
+{
+    FcHeader {
+        r_ctl,
+        d_id,
+        cs_ctl: 0,
+        s_id,
+        kind,
+        f_ctl,
+        seq_id: 0,
+        df_ctl: 0,
+        seq_cnt,
+        ox_id,
+        rx_id: 0xffff,
+        parameter: 0,
+    }
+}
+
+// What the accept of a FLOGI or FDISC says.
+pub(crate) fn fabric_parms(config: &Config, port: PortNo, several: bool) -> LoginParms
+    ensures { result ≡ spec.fabric_parms config.now port several }
+{
+    let granted = if several { 0x2000 } else { 0 };
+    LoginParms {
+        features: 0x1000 + granted,
+        size: 0x840,
+        ra_tov: 0x2710,
+        ed_tov: 0x7d0,
+        port_name: port_name(config, port.value()),
+        node_name: config.switch,
+        class3: [0x88, 0, 0, 0, 0, 0, 0, 0, 0, 0, 0, 0, 0, 0, 0, 0],
+    }
+}
+
+// What the accept of a login to the name server says.
+fn server_parms(config: &Config) -> LoginParms
+    ensures { result ≡ spec.server_parms config.now }
+{
+    LoginParms {
+        features: 0,
+        size: 0x840,
+        ra_tov: 0xff_0000,
+        ed_tov: 0x7d0,
+        port_name: port_name(config, 0),
+        node_name: config.switch,
+        class3: [0x80, 0, 0, 0, 0, 0, 0x08, 0x40, 0, 0xff, 0, 0, 0, 1, 0, 0],
+    }
+}
+
+// The payload of an answer.
+pub(crate) fn answer_bytes(
+    alloc: Global,
+    config: &Config,
+    answer: Answer,
+) -> Result<Vec<u8>, NoMemory>
+    ensures bytes { IfOk result (λ v. v.items ≡ els.written (els_of config.now answer)) }
+    ensures payload { IfOk result (λ v. IsPayload v.items) }
+    ensures size { IfOk result (λ v. vec_len v ≤ 116) }
+{
+    match answer {
+        Answer::Accept => els_bytes(alloc, &Els::Accept),
+        Answer::Reject(reason, explanation) => els_bytes(
+            alloc,
+            &Els::Reject {
+                reason,
+                explanation,
+            },
+        ),
+        Answer::ServerLogin => els_bytes(alloc, &Els::LoginAccept(server_parms(config))),
+    }
+}
+
+// The payload of a link service.
+pub(crate) fn els_bytes(alloc: Global, message: &Els<'_>) -> Result<Vec<u8>, NoMemory>
+    requires { els.CanWrite (els.view message.now) }
+    ensures bytes { IfOk result (λ v. v.items ≡ els.written (els.view message.now)) }
+    ensures payload { IfOk result (λ v. IsPayload v.items) }
+    ensures size { IfOk result (λ v. vec_len v ≡ els.written_length (els.view message.now)) }
+{
+    let mut payload = Vec::new(alloc);
+    write_els(alloc, message, &mut payload)?;
+    Ok(payload)
+}
