@@ -20,7 +20,8 @@ pub fn convert<D: Depot>(
 ) -> Result<u64, ConvertError>
     requires from { IsTrue ((D.seen depot.old).knows from.now) }
     requires to { IsTrue ((D.seen depot.old).knows to.now) }
-    ensures converts { Converts from.now to.now budget (D.seen depot.old) (D.seen depot.new) result }
+    ensures converts { Converts from.now to.now budget (D.seen depot.old)
+        (D.seen depot.new) result }
     ensures others { KeepsBut to.now (D.seen depot.old) (D.seen depot.new) }
 {
     let slot = match depot.open_in(from) {

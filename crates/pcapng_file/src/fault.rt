@@ -1,4 +1,6 @@
 //! Why a file is not read.
+ghost use Rattle.std.specs.Prelude.{◌≡◌};
+
 use fab_base::Failed;
 use thiserror::Error;
 
@@ -68,6 +70,13 @@ pub enum NgError {
     Read(Failed),
     #[error("memory was refused")]
     Memory,
+}
+
+// The fault of the block at a place.
+pub(crate) fn fault(at: u64, why: NgWhy) -> NgError
+    ensures { result ≡ NgError.Fault at why }
+{
+    NgError::Fault { at, why }
 }
 
 /// Why a file was not converted.

@@ -6,7 +6,7 @@ ghost use Rattle.pcapng_file.specs.File.{Tells, NotRead, at_fault, frames_of};
 
 use crate::NgRecord;
 use crate::block::{Head, Interface, Kind, is_version, read_interface};
-use crate::fault::{NgError, NgWhy};
+use crate::fault::{NgError, NgWhy, fault};
 use crate::options::padded;
 use fab_base::{Bytes, Caught, Moment};
 use pcap_file::number_at;
@@ -59,18 +59,12 @@ pub(crate) fn read_block(
 {
     let Head { kind, big, size } = head;
     if number_at(big, block, block.len() - 4) != size {
-        return Err(NgError::Fault {
-            at,
-            why: NgWhy::Length,
-        });
+        return Err(fault(at, NgWhy::Length));
     }
     match kind {
         Kind::Section => {
             if !is_version(big, block) {
-                return Err(NgError::Fault {
-                    at,
-                    why: NgWhy::Version,
-                });
+                return Err(fault(at, NgWhy::Version));
             }
             Ok(Content::Section(big))
         }
@@ -106,10 +100,7 @@ fn read_packet(
     ensures own { IfErr result NotRead }
 {
     if block.len() - 32 < padded(number_at(big, block, 20) as usize) {
-        return Err(NgError::Fault {
-            at,
-            why: NgWhy::Length,
-        });
+        return Err(fault(at, NgWhy::Length));
     }
     match interface_at(faces, number_at(big, block, 8)) {
         Some(face) => read_of(alloc, at, face, big, block),
@@ -141,37 +132,22 @@ fn read_of(
     ensures own { IfErr result NotRead }
 {
     if face.link != ETHERNET {
-        return Err(NgError::Fault {
-            at,
-            why: NgWhy::Link,
-        });
+        return Err(fault(at, NgWhy::Link));
     }
     if face.resolution > FINEST {
-        return Err(NgError::Fault {
-            at,
-            why: NgWhy::Resolution,
-        });
+        return Err(fault(at, NgWhy::Resolution));
     }
     if face.offset {
-        return Err(NgError::Fault {
-            at,
-            why: NgWhy::Offset,
-        });
+        return Err(fault(at, NgWhy::Offset));
     }
     let units = (number_at(big, block, 12) as u64) * (1 << 32) + number_at(big, block, 16) as u64;
     let second = power(face.resolution);
     if units / second > LAST_SECOND {
-        return Err(NgError::Fault {
-            at,
-            why: NgWhy::Time,
-        });
+        return Err(fault(at, NgWhy::Time));
     }
     let stored = number_at(big, block, 20);
     if stored > MOST_STORED {
-        return Err(NgError::Fault {
-            at,
-            why: NgWhy::Long,
-        });
+        return Err(fault(at, NgWhy::Long));
     }
     let original = number_at(big, block, 24);
     let Ok(bytes) = Bytes::copy(alloc, &block[28..28 + stored as usize]) else {

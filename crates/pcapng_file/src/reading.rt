@@ -5,7 +5,7 @@ ghost use Rattle.pcapng_file.specs.File.{Section, NgReads, BlockRead, after, fou
 
 use crate::NgRecords;
 use crate::block::{HEAD, Interface, read_head};
-use crate::fault::{NgError, NgLimit, NgWhy};
+use crate::fault::{NgError, NgLimit, NgWhy, fault};
 use crate::packet::{Content, read_block};
 use fab_base::{Depot, NoMemory, OwnedList};
 use pcap_file::{Ahead, Budget};
@@ -50,7 +50,10 @@ impl SoFar {
     }
 
     fn add(&mut self, face: Interface) -> Result<(), NoMemory>
-        ensures ok { OnOk result (self.new ≡ record self.old { faces = self.old.faces ++ face ∷ [] }) }
+        ensures ok { OnOk result (self.new ≡ record self.old {
+          faces = self.old.faces
+              ++ face ∷ [];
+        }) }
     {
         match self.faces.push(face) {
             Ok(()) => Ok(()),
@@ -67,7 +70,8 @@ pub fn read_ng<D: Depot>(
     budget: &mut Budget,
 ) -> Result<NgRecords, NgError>
     requires input { IsTrue ((D.seen depot.old).input slot) }
-    ensures reads { NgReads slot (D.seen depot.old) (D.seen depot.new) budget.old budget.new result }
+    ensures reads { NgReads slot (D.seen depot.old)
+        (D.seen depot.new) budget.old budget.new result }
 {
     let Ok(mut records) = OwnedList::new(alloc) else {
         return Err(NgError::Memory);
@@ -140,14 +144,11 @@ fn next_block<D: Depot>(
         return Ok(None);
     }
     if got < HEAD {
-        return Err(NgError::Fault {
-            at,
-            why: NgWhy::Cut,
-        });
+        return Err(fault(at, NgWhy::Cut));
     }
     let head = match read_head(section.order, &front) {
         Ok(head) => head,
-        Err(why) => return Err(NgError::Fault { at, why }),
+        Err(why) => return Err(fault(at, why)),
     };
     if budget.bytes < head.size as u64 {
         return Err(NgError::Limit(NgLimit::Bytes));
@@ -158,10 +159,7 @@ fn next_block<D: Depot>(
     match ahead.pull(depot, slot, &mut body) {
         Ok(got) => {
             if got < body.len() {
-                return Err(NgError::Fault {
-                    at,
-                    why: NgWhy::Cut,
-                });
+                return Err(fault(at, NgWhy::Cut));
             }
         }
         Err(failed) => return Err(NgError::Read(failed)),

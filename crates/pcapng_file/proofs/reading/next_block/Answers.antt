@@ -14,14 +14,14 @@ returns-then-ended g c = record {
 }
 
 pub returns-then-got-lt-HEAD : goal.returns-then-got-lt-HEAD
-returns-then-got-lt-HEAD g c = record {
+returns-then-got-lt-HEAD g c = rw c.fault.ensures (record {
   reads = block_short c.args.slot _ _ _ _ c.pull.new.into c.in-Ok.got c.args.budget c.args.at c.args.section.now c.pull.auto.into c.in-Ok.ensures.pulls (omega arith) (ap (λ (s : Section). eqb c.in-Ok.got 0 && is_some s.order) (sym c.section.view_is) ∙ sym c.is_end-ended.ensures ∙ c.if-ended.false);
-}
+})
 
 pub returns-in-Err-read_head : goal.returns-in-Err-read_head
-returns-in-Err-read_head g c = record {
+returns-in-Err-read_head g c = rw c.fault-in-Err-read_head.ensures (record {
   reads = block_bad c.args.slot _ _ _ _ c.pull.new.into c.in-Ok.got c.args.budget c.args.at c.args.section.now c.pull.auto.into c.in-Ok.ensures.pulls (omega arith) c.in-Err-read_head.why (ap (λ (s : Section). head_read s.order c.pull.new.into) (sym c.section.view_is) ∙ sym c.in-Err-read_head.ensures.exact);
-}
+})
 
 pub returns-then-budget-head : goal.returns-then-budget-head
 returns-then-budget-head g c = record {
@@ -31,9 +31,9 @@ returns-then-budget-head g c = record {
 pub returns-then-got-len : goal.returns-then-got-len
 returns-then-got-len g c =
     let sized = c.pull-2.auto.into ∙ c.deref_mut.ensures.len ∙ c.in-Ok-vec.ensures.len in
-    record {
+    rw c.fault-then-got-len.ensures (record {
       reads = block_cut c.args.slot _ _ _ _ c.pull.new.into c.in-Ok.got c.args.budget c.args.at c.args.section.now c.pull.auto.into c.in-Ok.ensures.pulls (omega arith) c.in-Ok-read_head.head (ap (λ (s : Section). head_read s.order c.pull.new.into) (sym c.section.view_is) ∙ sym c.in-Ok-read_head.ensures.exact) _ c.pull-2.new.self c.pull-2.new.into c.requires.input c.if-budget-head.false (omega (arith, c.in-Ok-read_head.ensures.least)) sized c.in-Ok-pull.got c.in-Ok-pull.ensures.pulls (omega (arith, sized, c.len.ensures, c.in-Ok-vec.ensures.len));
-    }
+    })
 
 pub returns-in-Err-read_block : goal.returns-in-Err-read_block
 returns-in-Err-read_block g c =
