@@ -1,3 +1,4 @@
 pub mod Keeping
 pub mod Replying
 pub mod FipLemmas
+pub mod Going

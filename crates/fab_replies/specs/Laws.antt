@@ -1,13 +1,15 @@
 -- Which messages answer a frame, and what stays of messages when entries are added.
-use Rattle.std.specs.Prelude.{◌≡◌, ℕ, ◌+◌, true, false, if◌then◌else◌, List, [], ◌∷◌, ◌++◌, length, map, Some, None, is_some, unwrap_or}
+use Rattle.std.specs.Prelude.{◌≡◌, ℕ, ◌+◌, true, false, if◌then◌else◌, List, [], ◌∷◌, ◌++◌, length, map, Some, None, Ok, is_some, unwrap_or}
 use Rattle.fab_base.specs.declared.values.Caught.{Caught}
 use Rattle.fab_config.specs.Settings.{Settings}
+use Rattle.eth_frames.specs.Ethernet.{Eth}
 use Rattle.fc_frames.specs.Pieces.{pieces}
+use Rattle.fcoe_codec.specs.Fcoe as capsule
 use Rattle.els_messages.specs.Els as els
 use Rattle.ct_messages.specs.Answer as ct
 use Rattle.ct_messages.specs.declared.CtTell.{CtTell}
 use Rattle.ct_messages.specs.declared.CtTell.TheVariants as tell
-use Rattle.fab_policy.specs.Heard.{ask_of, asked, d_id, login_of, s_id, source}
+use Rattle.fab_policy.specs.Heard.{Fcoe, ask_of, decoded, asked, d_id, login_of, s_id, source}
 use Rattle.fab_policy.specs.Outputs.{replies}
 use Rattle.fab_policy.specs.Queries.{query}
 use Rattle.fab_policy.specs.Replies.{Asker, asker_of, kind_asked, is_untagged, size_asked}
@@ -15,7 +17,7 @@ use Rattle.fab_policy.specs.State.{Tables, port_at}
 use Rattle.fab_policy.specs.declared.event.Event.{Event}
 use Rattle.fab_policy.specs.declared.verdict.Verdict.{Verdict}
 use Rattle.fab_policy.specs.declared.verdict.Verdict.TheVariants.{Vlans, Advertised, Granted, Rejected, Logout, NsLogin, NsLogout, Watching, Registered, Answered, Refused, Forwarded}
-use Rattle.fab_replies.specs.Message.{bytes_of, can_send, frame_at}
+use Rattle.fab_replies.specs.Message.{bytes_of, can_go_on, can_send, frame_at}
 use Rattle.fab_replies.specs.declared.message.Answer.TheVariants.{Accept, Reject, ServerLogin}
 use Rattle.fab_replies.specs.declared.message.OutMessage.{OutMessage}
 use Rattle.fab_replies.specs.declared.message.OutMessage.TheVariants as out
@@ -70,3 +72,7 @@ RepliesFit = (c : Settings) (T : Tables) (events : List Event) (port entry : ℕ
 abbrev pub MessagesAreKept : Type 0
 MessagesAreKept = (c : Settings) (es more : List Event) (m : OutMessage)
     → can_send es m ≡ true → (bytes_of c (es ++ more) m ≡ bytes_of c es m) × (can_send (es ++ more) m ≡ true)
+
+-- A frame that was captured whole, with a body of FCoE that can be read, can go on.
+abbrev pub DataFramesGoOn : Type 0
+DataFramesGoOn = (caught : Caught) (f : Eth) (x : capsule.Fcoe) → decoded caught ≡ Fcoe f (Ok x) → can_go_on (Some caught) ≡ true

@@ -12,6 +12,6 @@ mod parts;
 mod tests;
 mod writing;
 
-pub use laws::{messages_are_kept, replies_fit};
+pub use laws::{data_frames_go_on, messages_are_kept, replies_fit};
 pub use message::{Answer, Asker, EventList, Out, OutList, OutMessage, VxPorts};
 pub use writing::write_out;
