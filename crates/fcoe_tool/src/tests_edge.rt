@@ -34,11 +34,16 @@ fn real_files(rt: HostRuntime) -> Result<(), Fail> {
 #[test]
 fn statuses_of_a_process(rt: HostRuntime) -> Result<(), Fail> {
     let alloc = rt.alloc();
-    fs::write(&rt, "K", b"fcf-mac 00:05:1e:00:00:02\nvlan 5000\n")?;
+    // Names of its own, since all tests write into one folder.
+    fs::write(&rt, "FAULTY", b"fcf-mac 00:05:1e:00:00:02\nvlan 5000\n")?;
     let rows: [(&[&str], &[u8], u8); 3] = [
-        (&ONE_PORT, b"config 2 value\n", 1),
+        (
+            &["run", "FAULTY", "NONE", "IN", "OUT"],
+            b"config 2 value\n",
+            1,
+        ),
         (&["run", "K", "J", "IN", "IN"], b"words\n", 2),
-        (&["run", "missing", "J", "IN", "OUT"], b"read fault\n", 3),
+        (&["run", "MISSING", "NONE", "IN", "OUT"], b"read fault\n", 3),
     ];
     for (words, line, wanted) in rows {
         let words = words_in(alloc, words)?;
@@ -47,7 +52,7 @@ fn statuses_of_a_process(rt: HostRuntime) -> Result<(), Fail> {
         assert_eq!(rt; say.content(), line);
         assert_eq!(rt; status, wanted);
     }
-    assert!(rt; !fs::exists(&rt, "J")?);
+    assert!(rt; !fs::exists(&rt, "NONE")?);
     Ok(())
 }
 
