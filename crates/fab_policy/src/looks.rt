@@ -11,8 +11,8 @@ pub fn looks_go_on()
     ensures end { LooksEnd }
 {}
 
-/// A reader's steps at looks in their order find where the reading of captures stops: an error tells
-/// the stop, and so does a look that is too late.
+/// A reader's steps at looks in their order find where the reading of captures stops: an error
+/// tells the stop, and so does a look that is too late.
 pub fn steps_find_the_stop()
     ensures steps { StepsFindStop }
     ensures late { LateIsStop }

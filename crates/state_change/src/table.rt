@@ -50,7 +50,8 @@ impl Watchers {
         ensures count { length self.new.watchers ≤ length self.old.watchers + 1 }
         ensures sound { IsSound self.new }
         ensures found { (a : ℕ) → watcher_at a self.new.watchers
-            ≡ (if address == a then asked address name function else watcher_at a self.old.watchers) }
+            ≡ (if address == a then asked address name function
+            else watcher_at a self.old.watchers) }
     {
         self.forget(address);
         if function != CLEAR {
