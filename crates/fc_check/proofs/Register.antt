@@ -201,3 +201,36 @@ fed-apart front back is_front is_back =
     ap (λ q. fed q (none 8)) (sym apart)
     ∙ fed-sum 8 (front ++ none 24) (none 8 ++ back) (omega (arith, length-append front (none 24))) (omega (arith, length-append (none 8) back))
     ∙ ap (added (fed (front ++ none 24) (none 8))) (fed-shift 8 back)
+
+-- ---- bytes of zeros
+
+-- the register after so many bytes of zeros
+abbrev pub past : ℕ → List Bool → List Bool
+past zero r = r
+past (suc k) r = past k (fed r (none 8))
+
+pub length-past : (k : ℕ) (r : List Bool) → length r ≡ 32 → length (past k r) ≡ 32
+length-past zero r is = is
+length-past (suc k) r is = length-past k (fed r (none 8)) (length-fed 32 r (none 8) is)
+
+pub past-sum : (k : ℕ) (r s : List Bool) → length r ≡ 32 → length s ≡ 32 → past k (added r s) ≡ added (past k r) (past k s)
+past-sum zero r s is_r is_s = refl
+past-sum (suc k) r s is_r is_s =
+    ap (past k) (fed-sum 8 r s is_r is_s)
+    ∙ past-sum k (fed r (none 8)) (fed s (none 8)) (length-fed 32 r (none 8) is_r) (length-fed 32 s (none 8) is_s)
+
+fed-byte : (r s : List Bool) (b : ℕ) → length r ≡ 32 → length s ≡ 32 → fed (added r s) (bits_of b) ≡ added (fed r (none 8)) (fed s (bits_of b))
+fed-byte r s b is_r is_s =
+    fed-before (bits_of b) (added r s) (omega (arith, length-added r s))
+    ∙ ap (λ q. fed q (none 8)) (added_left (bits_of b) r s)
+    ∙ fed-sum 8 r (added (bits_of b) s) is_r (length-added (bits_of b) s ∙ is_s)
+    ∙ ap (added (fed r (none 8))) (sym (fed-before (bits_of b) s (omega arith)))
+
+-- of a sum of registers one may be fed the bytes, and the other as many of zeros
+pub fed-past : (r s : List Bool) (l : List ℕ) → length r ≡ 32 → length s ≡ 32 → fed (added r s) (flat_map bits_of l) ≡ added (past (length l) r) (fed s (flat_map bits_of l))
+fed-past r s [] is_r is_s = refl
+fed-past r s (b ∷ l) is_r is_s =
+    fed-append (added r s) (bits_of b) (flat_map bits_of l)
+    ∙ ap (λ q. fed q (flat_map bits_of l)) (fed-byte r s b is_r is_s)
+    ∙ fed-past (fed r (none 8)) (fed s (bits_of b)) l (length-fed 32 r (none 8) is_r) (length-fed 32 s (bits_of b) is_s)
+    ∙ ap (added (past (length l) (fed r (none 8)))) (sym (fed-append s (bits_of b) (flat_map bits_of l)))

@@ -1,45 +1,21 @@
--- The words of the table, and a byte at once.
-use Rattle.std.proofs.Common.{◌≡◌, ℕ, ◌+◌, ◌*◌, ◌/◌, ◌%◌, ◌^◌, ◌<◌, ◌≤◌, Bool, List, [], ◌∷◌, ◌++◌, length, take, drop, map, get_or, bit_xor, bit_and, not, flat_map, refl, sym, ap, subst, ◌∙◌, arith, length-drop, length-append, append_assoc, ◌-◌}
+-- The words of the tables, a byte and sixteen bytes at once.
+use Rattle.std.proofs.Common.{◌≡◌, ℕ, zero, suc, ◌+◌, ◌*◌, ◌/◌, ◌%◌, ◌^◌, ◌<◌, ◌≤◌, Bool, List, [], ◌∷◌, ◌++◌, length, take, drop, map, get_or, bit_xor, bit_and, not, flat_map, refl, sym, ap, subst, ◌∙◌, arith, length-drop, length-append, append_assoc, drop-cons, ◌-◌}
 use Rattle.std.specs.List.{range_with_len}
-use Rattle.std.proofs.lemmas.List.{length-take-le, take-append-drop, take_more}
+use Rattle.std.proofs.Math.Seq.{take-add}
+use Rattle.std.specs.Int.Bits.{xor_assoc, xor_zero_r}
+use Rattle.std.proofs.lemmas.List.{length-take-le, take-append-drop, take_more, length-map, get_or-map}
 use Rattle.std.proofs.lemmas.List.FromFn.{get_or-map-range_with_len}
 use Rattle.std.proofs.lemmas.Grind.{flat_map-append}
 use Rattle.std.proofs.lemmas.Nat.{xor_shr, xor_comm, and_mask}
 use Rattle.fc_check.specs.Crc.{bits_of, added, number_of, crc}
-use Rattle.fc_check.specs.declared.table.TheConstants.{TABLE, ONE_AFTER, TWO_AFTER, THREE_AFTER}
-use Rattle.fc_check.proofs.Register.{fed, none, ones, fed-append, crc-is, length-added, length-fed, fed-before, fed-apart, fed-sum}
+use Rattle.fc_check.specs.Tables.{four_of, four_at, entry, words_of}
+use Rattle.fc_check.specs.declared.table.TheConstants.{AFTER}
+use Rattle.fc_check.proofs.Register.{fed, past, none, ones, fed-append, crc-is, length-added, length-fed, fed-before, fed-apart, fed-past, past-sum, length-past, added_none}
 use Rattle.fc_check.proofs.Numbers.{low, low-number_of, number_of-lt, number_of-append, number_of-not, number_of-added, number_of-bits_of}
 
--- the register that eight bits and then so many of 0 leave behind in an empty one
-abbrev pub word_before : ℕ → ℕ → ℕ
-word_before n i = number_of (fed (low 8 i ++ none 24) (none 8 ++ none n))
-
+-- the register that eight bits leave behind in an empty one
 abbrev pub word : ℕ → ℕ
 word i = number_of (fed (low 8 i ++ none 24) (none 8))
-
-words : TABLE ≡ map word (range_with_len 0 256)
-words = refl
-
-words_before_one : ONE_AFTER ≡ map (word_before 8) (range_with_len 0 256)
-words_before_one = refl
-
-words_before_two : TWO_AFTER ≡ map (word_before 16) (range_with_len 0 256)
-words_before_two = refl
-
-words_before_three : THREE_AFTER ≡ map (word_before 24) (range_with_len 0 256)
-words_before_three = refl
-
-pub table-word : (i : ℕ) → i < 256 → get_or TABLE i 0 ≡ word i
-table-word i lt = ap (λ l. get_or l i 0) words ∙ get_or-map-range_with_len word 0 256 i i 0 lt (omega arith)
-
-one-word : (i : ℕ) → i < 256 → get_or ONE_AFTER i 0 ≡ word_before 8 i
-one-word i lt = ap (λ l. get_or l i 0) words_before_one ∙ get_or-map-range_with_len (word_before 8) 0 256 i i 0 lt (omega arith)
-
-two-word : (i : ℕ) → i < 256 → get_or TWO_AFTER i 0 ≡ word_before 16 i
-two-word i lt = ap (λ l. get_or l i 0) words_before_two ∙ get_or-map-range_with_len (word_before 16) 0 256 i i 0 lt (omega arith)
-
-three-word : (i : ℕ) → i < 256 → get_or THREE_AFTER i 0 ≡ word_before 24 i
-three-word i lt = ap (λ l. get_or l i 0) words_before_three ∙ get_or-map-range_with_len (word_before 24) 0 256 i i 0 lt (omega arith)
 
 -- a register as its front of eight bits and its back
 record Parts (n : ℕ) (r : List Bool) : Type 0 where
@@ -61,73 +37,6 @@ parts_of n r len =
     let small : number_of front < 2 ^ 8 = subst (λ (n : ℕ). number_of front < 2 ^ n) front_len (number_of-lt front) in
     record { front = front; back = back; is = sym is; front_len = front_len; back_len = omega (arith, length-drop 8 r); front_is = omega arith; back_is = omega arith }
 
--- ---- four bytes at once
-
-bits_back : (front : List Bool) → length front ≡ 8 → low 8 (number_of front) ≡ front
-bits_back front is_front = subst (λ (k : ℕ). low k (number_of front) ≡ front) is_front (low-number_of front)
-
-fed-part : (n : ℕ) (front back : List Bool) → length front ≡ 8 → length back ≡ 24 → fed (front ++ back) (none 8 ++ none n) ≡ added (fed (front ++ none 24) (none 8 ++ none n)) (fed (back ++ none 8) (none n))
-fed-part n front back is_front is_back =
-    fed-append (front ++ back) (none 8) (none n)
-    ∙ ap (λ q. fed q (none n)) (fed-apart front back is_front is_back)
-    ∙ fed-sum n (fed (front ++ none 24) (none 8)) (back ++ none 8) (length-fed 32 (front ++ none 24) (none 8) (omega (arith, length-append front (none 24)))) (omega (arith, length-append back (none 8)))
-    ∙ ap (λ q. added q (fed (back ++ none 8) (none n))) (sym (fed-append (front ++ none 24) (none 8) (none n)))
-
-fed-front : (n : ℕ) (front back : List Bool) → length front ≡ 8 → length back ≡ 24 → number_of (fed (front ++ back) (none 8 ++ none n)) ≡ bit_xor (word_before n (number_of front)) (number_of (fed (back ++ none 8) (none n)))
-fed-front n front back is_front is_back =
-    let left : length (fed (front ++ none 24) (none 8 ++ none n)) ≡ 32 = length-fed 32 (front ++ none 24) (none 8 ++ none n) (omega (arith, length-append front (none 24))) in
-    let right : length (fed (back ++ none 8) (none n)) ≡ 32 = length-fed 32 (back ++ none 8) (none n) (omega (arith, length-append back (none 8))) in
-    ap number_of (fed-part n front back is_front is_back)
-    ∙ number_of-added (fed (front ++ none 24) (none 8 ++ none n)) (fed (back ++ none 8) (none n)) (omega arith)
-    ∙ ap (λ q. bit_xor (number_of (fed (q ++ none 24) (none 8 ++ none n))) (number_of (fed (back ++ none 8) (none n)))) (sym (bits_back front is_front))
-
--- a register that is all shifted out is the sum of four words
-fed-four : (p q s t : List Bool) → length p ≡ 8 → length q ≡ 8 → length s ≡ 8 → length t ≡ 8 → number_of (fed (p ++ (q ++ (s ++ t))) (none 32)) ≡ bit_xor (word_before 24 (number_of p)) (bit_xor (word_before 16 (number_of q)) (bit_xor (word_before 8 (number_of s)) (word (number_of t))))
-fed-four p q s t is_p is_q is_s is_t =
-    fed-front 24 p (q ++ (s ++ t)) is_p (omega (arith, length-append q (s ++ t), length-append s t))
-    ∙ ap (bit_xor (word_before 24 (number_of p)))
-    (ap (λ l. number_of (fed l (none 24))) (append_assoc q (s ++ t) (none 8))
-    ∙ fed-front 16 q ((s ++ t) ++ none 8) is_q (omega (arith, length-append (s ++ t) (none 8), length-append s t))
-    ∙ ap (bit_xor (word_before 16 (number_of q)))
-    (ap (λ l. number_of (fed l (none 16))) (ap (λ l. l ++ none 8) (append_assoc s t (none 8)) ∙ append_assoc s (t ++ none 8) (none 8))
-    ∙ fed-front 8 s ((t ++ none 8) ++ none 8) is_s (omega (arith, length-append (t ++ none 8) (none 8), length-append t (none 8)))
-    ∙ ap (bit_xor (word_before 8 (number_of s)))
-    (ap (λ l. number_of (fed l (none 8))) (append_assoc (t ++ none 8) (none 8) (none 8) ∙ append_assoc t (none 8) (none 16))
-    ∙ ap (λ l. number_of (fed (l ++ none 24) (none 8))) (sym (bits_back t is_t)))))
-
--- four bytes as a number, the first the least significant
-abbrev pub four_of : ℕ → ℕ → ℕ → ℕ → ℕ
-four_of a b c d = a + 256 * (b + 256 * (c + 256 * d))
-
-number_of-four : (a b c d : ℕ) → a < 256 → b < 256 → c < 256 → d < 256 → number_of (bits_of a ++ (bits_of b ++ (bits_of c ++ bits_of d))) ≡ four_of a b c d
-number_of-four a b c d fa fb fc fd =
-    omega (arith, number_of-append (bits_of a) (bits_of b ++ (bits_of c ++ bits_of d)), number_of-append (bits_of b) (bits_of c ++ bits_of d), number_of-append (bits_of c) (bits_of d), number_of-bits_of a fa, number_of-bits_of b fb, number_of-bits_of c fc, number_of-bits_of d fd)
-
--- four bytes turn the register by four words of the tables
-four-fed : (r : List Bool) (a b c d m : ℕ) → length r ≡ 32 → a < 256 → b < 256 → c < 256 → d < 256 → m ≡ bit_xor (number_of r) (four_of a b c d) → number_of (fed r (bits_of a ++ (bits_of b ++ (bits_of c ++ bits_of d)))) ≡ bit_xor (word_before 24 (m % 256)) (bit_xor (word_before 16 (m / 256 % 256)) (bit_xor (word_before 8 (m / 65536 % 256)) (word (m / 16777216 % 256))))
-four-fed r a b c d m len fa fb fc fd is_m =
-    let bits : List Bool = bits_of a ++ (bits_of b ++ (bits_of c ++ bits_of d)) in
-    let sum : List Bool = added bits r in
-    let is_sum : number_of sum ≡ m = number_of-added bits r (omega arith) ∙ ap (λ (n : ℕ). bit_xor n (number_of r)) (number_of-four a b c d fa fb fc fd) ∙ xor_comm (four_of a b c d) (number_of r) ∙ sym is_m in
-    let x = parts_of 24 sum (length-added bits r ∙ len) in
-    let y = parts_of 16 x.back x.back_len in
-    let z = parts_of 8 y.back y.back_len in
-    let whole : sum ≡ x.front ++ (y.front ++ (z.front ++ z.back)) = x.is ∙ ap (λ l. x.front ++ l) (y.is ∙ ap (λ l. y.front ++ l) z.is) in
-    let first : number_of x.front ≡ m % 256 = x.front_is ∙ ap (λ (n : ℕ). n % 256) is_sum in
-    let after_first : number_of x.back ≡ m / 256 = x.back_is ∙ ap (λ (n : ℕ). n / 256) is_sum in
-    let second : number_of y.front ≡ m / 256 % 256 = y.front_is ∙ ap (λ (n : ℕ). n % 256) after_first in
-    let after_second : number_of y.back ≡ m / 65536 = omega (arith, y.back_is, after_first) in
-    let third : number_of z.front ≡ m / 65536 % 256 = z.front_is ∙ ap (λ (n : ℕ). n % 256) after_second in
-    let small : number_of z.back < 2 ^ 8 = subst (λ (n : ℕ). number_of z.back < 2 ^ n) z.back_len (number_of-lt z.back) in
-    let fourth : number_of z.back ≡ m / 16777216 % 256 = omega (arith, z.back_is, after_second, small) in
-    ap number_of (fed-before bits r (omega arith) ∙ ap (λ q. fed q (none 32)) whole)
-    ∙ fed-four x.front y.front z.front z.back x.front_len y.front_len z.front_len z.back_len
-    ∙ ap (λ (n : ℕ). bit_xor (word_before 24 n) (bit_xor (word_before 16 (number_of y.front)) (bit_xor (word_before 8 (number_of z.front)) (word (number_of z.back))))) first
-    ∙ ap (bit_xor (word_before 24 (m % 256)))
-    (ap (λ (n : ℕ). bit_xor (word_before 16 n) (bit_xor (word_before 8 (number_of z.front)) (word (number_of z.back)))) second
-    ∙ ap (bit_xor (word_before 16 (m / 256 % 256)))
-    (ap (λ (n : ℕ). bit_xor (word_before 8 n) (word (number_of z.back))) third ∙ ap (λ (n : ℕ). bit_xor (word_before 8 (m / 65536 % 256)) (word n)) fourth))
-
 -- a byte turns the register by one word of the table
 byte-fed : (r : List Bool) (b : ℕ) → length r ≡ 32 → b < 256 → number_of (fed r (bits_of b)) ≡ bit_xor (word (bit_xor (number_of r) b % 256)) (number_of r / 256)
 byte-fed r b len fits =
@@ -146,19 +55,172 @@ byte-fed r b len fits =
     ap number_of turned ∙ number_of-added (fed (p.front ++ none 24) (none 8)) (p.back ++ none 8) (omega (arith, front_len, length-append p.back (none 8), p.back_len))
     ∙ ap (λ (n : ℕ). bit_xor n (number_of (p.back ++ none 8))) front ∙ ap (λ (n : ℕ). bit_xor (word (bit_xor (number_of r) b % 256)) n) back
 
+-- ---- the tables
+
+-- the register after one byte of zeros
+abbrev next : ℕ → ℕ
+next w = bit_xor (word (w % 256)) (w / 256)
+
+next-is : (r : List Bool) → length r ≡ 32 → next (number_of r) ≡ number_of (fed r (none 8))
+next-is r len = ap (λ (n : ℕ). bit_xor (word (n % 256)) (number_of r / 256)) (sym (xor_zero_r (number_of r))) ∙ sym (byte-fed r 0 len (omega arith))
+
+abbrev after : ℕ → ℕ → ℕ
+after zero w = w
+after (suc k) w = after k (next w)
+
+after-is : (k : ℕ) (r : List Bool) → length r ≡ 32 → after k (number_of r) ≡ number_of (past k r)
+after-is zero r len = refl
+after-is (suc k) r len = ap (after k) (next-is r len) ∙ after-is k (fed r (none 8)) (length-fed 32 r (none 8) len)
+
+-- each table has the words of the one before it after one byte more
+abbrev tables : ℕ → List ℕ → List (List ℕ)
+tables zero t = []
+tables (suc n) t = t ∷ tables n (map next t)
+
+words : AFTER ≡ tables 16 (map word (range_with_len 0 256))
+words = refl
+
+in-tables : (n k i : ℕ) (t : List ℕ) (w : ℕ) → length t ≡ 256 → i < 256 → get_or t i 0 ≡ w → k < n → get_or (get_or (tables n t) k []) i 0 ≡ after k w
+in-tables zero k i t w len lt is in_n = absurd (omega arith)
+in-tables (suc n) zero i t w len lt is in_n = is
+in-tables (suc n) (suc k) i t w len lt is in_n =
+    in-tables n k i (map next t) (next w) (length-map t next ∙ len) lt (get_or-map next t i 0 0 (omega arith) ∙ ap next is) (omega arith)
+
+-- each word is what eight bits leave behind after the bytes of zeros of its table
+entry-is : (k i : ℕ) → k < 16 → i < 256 → entry k i ≡ number_of (past (suc k) (low 8 i ++ none 24))
+unfolding entry
+entry-is k i in_k in_i =
+    ap (λ l. get_or (get_or l k []) i 0) words
+    ∙ in-tables 16 k i (map word (range_with_len 0 256)) (word i) (length-map (range_with_len 0 256) word) in_i (get_or-map-range_with_len word 0 256 i i 0 in_i (omega arith)) in_k
+    ∙ after-is k (fed (low 8 i ++ none 24) (none 8)) (length-fed 32 (low 8 i ++ none 24) (none 8) refl)
+
+-- ---- four bytes at once
+
+bits_back : (front : List Bool) → length front ≡ 8 → low 8 (number_of front) ≡ front
+bits_back front is_front = subst (λ (k : ℕ). low k (number_of front) ≡ front) is_front (low-number_of front)
+
+byte_lt : (front : List Bool) → length front ≡ 8 → number_of front < 256
+byte_lt front is_front = subst (λ (n : ℕ). number_of front < 2 ^ n) is_front (number_of-lt front)
+
+entry-front : (k : ℕ) (front : List Bool) → k < 16 → length front ≡ 8 → number_of (past (suc k) (front ++ none 24)) ≡ entry k (number_of front)
+entry-front k front in_k is_front =
+    ap (λ q. number_of (past (suc k) (q ++ none 24))) (sym (bits_back front is_front))
+    ∙ sym (entry-is k (number_of front) in_k (byte_lt front is_front))
+
+past-front : (k : ℕ) (front back : List Bool) → k < 16 → length front ≡ 8 → length back ≡ 24 → number_of (past (suc k) (front ++ back)) ≡ bit_xor (entry k (number_of front)) (number_of (past k (back ++ none 8)))
+past-front k front back in_k is_front is_back =
+    let left : List Bool = fed (front ++ none 24) (none 8) in
+    let left_len : length left ≡ 32 = length-fed 32 (front ++ none 24) (none 8) (omega (arith, length-append front (none 24))) in
+    let right_len : length (back ++ none 8) ≡ 32 = omega (arith, length-append back (none 8)) in
+    ap (λ q. number_of (past k q)) (fed-apart front back is_front is_back)
+    ∙ ap number_of (past-sum k left (back ++ none 8) left_len right_len)
+    ∙ number_of-added (past k left) (past k (back ++ none 8)) (omega (arith, length-past k left left_len, length-past k (back ++ none 8) right_len))
+    ∙ ap (λ (n : ℕ). bit_xor n (number_of (past k (back ++ none 8)))) (entry-front k front in_k is_front)
+
+-- a register that is all shifted out is the sum of four words
+past-four : (k : ℕ) (p q s t : List Bool) → k < 13 → length p ≡ 8 → length q ≡ 8 → length s ≡ 8 → length t ≡ 8 → number_of (past (suc (suc (suc (suc k)))) (p ++ (q ++ (s ++ t)))) ≡ bit_xor (entry (suc (suc (suc k))) (number_of p)) (bit_xor (entry (suc (suc k)) (number_of q)) (bit_xor (entry (suc k) (number_of s)) (entry k (number_of t))))
+past-four k p q s t in_k is_p is_q is_s is_t =
+    past-front (suc (suc (suc k))) p (q ++ (s ++ t)) (omega arith) is_p (omega (arith, length-append q (s ++ t), length-append s t))
+    ∙ ap (bit_xor (entry (suc (suc (suc k))) (number_of p)))
+    (ap (λ l. number_of (past (suc (suc (suc k))) l)) (append_assoc q (s ++ t) (none 8))
+    ∙ past-front (suc (suc k)) q ((s ++ t) ++ none 8) (omega arith) is_q (omega (arith, length-append (s ++ t) (none 8), length-append s t))
+    ∙ ap (bit_xor (entry (suc (suc k)) (number_of q)))
+    (ap (λ l. number_of (past (suc (suc k)) l)) (ap (λ l. l ++ none 8) (append_assoc s t (none 8)) ∙ append_assoc s (t ++ none 8) (none 8))
+    ∙ past-front (suc k) s ((t ++ none 8) ++ none 8) (omega arith) is_s (omega (arith, length-append (t ++ none 8) (none 8), length-append t (none 8)))
+    ∙ ap (bit_xor (entry (suc k) (number_of s)))
+    (ap (λ l. number_of (past (suc k) l)) (append_assoc (t ++ none 8) (none 8) (none 8) ∙ append_assoc t (none 8) (none 16))
+    ∙ entry-front k t (omega arith) is_t)))
+
+words_of-is : (k m : ℕ) (r : List Bool) → k < 13 → length r ≡ 32 → number_of r ≡ m → number_of (past (suc (suc (suc (suc k)))) r) ≡ words_of k m
+unfolding words_of
+words_of-is k m r in_k len is_m =
+    let x = parts_of 24 r len in
+    let y = parts_of 16 x.back x.back_len in
+    let z = parts_of 8 y.back y.back_len in
+    let whole : r ≡ x.front ++ (y.front ++ (z.front ++ z.back)) = x.is ∙ ap (λ l. x.front ++ l) (y.is ∙ ap (λ l. y.front ++ l) z.is) in
+    let first : number_of x.front ≡ m % 256 = x.front_is ∙ ap (λ (n : ℕ). n % 256) is_m in
+    let after_first : number_of x.back ≡ m / 256 = x.back_is ∙ ap (λ (n : ℕ). n / 256) is_m in
+    let second : number_of y.front ≡ m / 256 % 256 = y.front_is ∙ ap (λ (n : ℕ). n % 256) after_first in
+    let after_second : number_of y.back ≡ m / 65536 = omega (arith, y.back_is, after_first) in
+    let third : number_of z.front ≡ m / 65536 % 256 = z.front_is ∙ ap (λ (n : ℕ). n % 256) after_second in
+    let small : number_of z.back < 256 = byte_lt z.back z.back_len in
+    let fourth : number_of z.back ≡ m / 16777216 % 256 = omega (arith, z.back_is, after_second, small) in
+    let e0 : ℕ = entry k (m / 16777216 % 256) in
+    let e1 : ℕ = entry (suc k) (m / 65536 % 256) in
+    let e2 : ℕ = entry (suc (suc k)) (m / 256 % 256) in
+    let e3 : ℕ = entry (suc (suc (suc k))) (m % 256) in
+    ap (λ q. number_of (past (suc (suc (suc (suc k)))) q)) whole
+    ∙ past-four k x.front y.front z.front z.back in_k x.front_len y.front_len z.front_len z.back_len
+    ∙ ap (λ (n : ℕ). bit_xor (entry (suc (suc (suc k))) n) (bit_xor (entry (suc (suc k)) (number_of y.front)) (bit_xor (entry (suc k) (number_of z.front)) (entry k (number_of z.back))))) first
+    ∙ ap (bit_xor e3)
+    (ap (λ (n : ℕ). bit_xor (entry (suc (suc k)) n) (bit_xor (entry (suc k) (number_of z.front)) (entry k (number_of z.back)))) second
+    ∙ ap (bit_xor e2)
+    (ap (λ (n : ℕ). bit_xor (entry (suc k) n) (entry k (number_of z.back))) third ∙ ap (λ (n : ℕ). bit_xor e1 (entry k n)) fourth))
+    ∙ sym (xor_assoc (bit_xor e3 e2) e1 e0 ∙ xor_assoc e3 e2 (bit_xor e1 e0))
+
+-- the same by indices that the code masks
+pub words_of-masked : (k m : ℕ) → bit_xor (bit_xor (bit_xor (get_or (get_or AFTER (k + 3) []) (bit_and m 255) 0) (get_or (get_or AFTER (k + 2) []) (bit_and (m / 256) 255) 0)) (get_or (get_or AFTER (k + 1) []) (bit_and (m / 65536) 255) 0)) (get_or (get_or AFTER k []) (bit_and (m / 16777216) 255) 0) ≡ words_of k m
+unfolding words_of entry
+words_of-masked k m = masked (λ (j i : ℕ). get_or (get_or AFTER j []) i 0) (suc (suc (suc k))) (suc (suc k)) (suc k) (k + 3) (k + 2) (k + 1) (omega arith) (omega arith) (omega arith) (and_mask m 8) (and_mask (m / 256) 8) (and_mask (m / 65536) 8) (and_mask (m / 16777216) 8)
+  where
+    masked : (f : ℕ → ℕ → ℕ) (j3 j2 j1 k3 k2 k1 : ℕ) {i3 i2 i1 i0 m3 m2 m1 m0 : ℕ} → k3 ≡ j3 → k2 ≡ j2 → k1 ≡ j1 → i3 ≡ m3 → i2 ≡ m2 → i1 ≡ m1 → i0 ≡ m0 → bit_xor (bit_xor (bit_xor (f k3 i3) (f k2 i2)) (f k1 i1)) (f k i0) ≡ bit_xor (bit_xor (bit_xor (f j3 m3) (f j2 m2)) (f j1 m1)) (f k m0)
+    masked f j3 j2 j1 k3 k2 k1 a b c d e g h = cc
+
+number_of-four : (a b c d : ℕ) → a < 256 → b < 256 → c < 256 → d < 256 → number_of (bits_of a ++ (bits_of b ++ (bits_of c ++ bits_of d))) ≡ four_of a b c d
+number_of-four a b c d fa fb fc fd =
+    omega (arith, number_of-append (bits_of a) (bits_of b ++ (bits_of c ++ bits_of d)), number_of-append (bits_of b) (bits_of c ++ bits_of d), number_of-append (bits_of c) (bits_of d), number_of-bits_of a fa, number_of-bits_of b fb, number_of-bits_of c fc, number_of-bits_of d fd)
+
+-- four bytes of a list and those behind them
+take_four : (k : ℕ) (l : List ℕ) (i : ℕ) → i + 4 ≤ length l → take (suc (suc (suc (suc k)))) (drop i l) ≡ get_or l i 0 ∷ get_or l (i + 1) 0 ∷ get_or l (i + 2) 0 ∷ get_or l (i + 3) 0 ∷ take k (drop (i + 4) l)
+take_four k l i le =
+    let two : suc i ≡ i + 1 = omega arith in
+    let three : suc (i + 1) ≡ i + 2 = omega arith in
+    let four : suc (i + 2) ≡ i + 3 = omega arith in
+    let five : suc (i + 3) ≡ i + 4 = omega arith in
+    ap (take (suc (suc (suc (suc k))))) (drop-cons l i 0 (omega arith))
+    ∙ ap (λ (n : ℕ). get_or l i 0 ∷ take (suc (suc (suc k))) (drop n l)) two
+    ∙ ap (λ q. get_or l i 0 ∷ take (suc (suc (suc k))) q) (drop-cons l (i + 1) 0 (omega arith))
+    ∙ ap (λ (n : ℕ). get_or l i 0 ∷ get_or l (i + 1) 0 ∷ take (suc (suc k)) (drop n l)) three
+    ∙ ap (λ q. get_or l i 0 ∷ get_or l (i + 1) 0 ∷ take (suc (suc k)) q) (drop-cons l (i + 2) 0 (omega arith))
+    ∙ ap (λ (n : ℕ). get_or l i 0 ∷ get_or l (i + 1) 0 ∷ get_or l (i + 2) 0 ∷ take (suc k) (drop n l)) four
+    ∙ ap (λ q. get_or l i 0 ∷ get_or l (i + 1) 0 ∷ get_or l (i + 2) 0 ∷ take (suc k) q) (drop-cons l (i + 3) 0 (omega arith))
+    ∙ ap (λ (n : ℕ). get_or l i 0 ∷ get_or l (i + 1) 0 ∷ get_or l (i + 2) 0 ∷ get_or l (i + 3) 0 ∷ take k (drop n l)) five
+
+-- four bytes turn the register by four words, and those behind them an empty one
+four-fed : (r : List Bool) (a b c d m : ℕ) (rest : List ℕ) → length rest < 13 → length r ≡ 32 → a < 256 → b < 256 → c < 256 → d < 256 → m ≡ bit_xor (number_of r) (four_of a b c d) → number_of (fed r (flat_map bits_of (a ∷ b ∷ c ∷ d ∷ rest))) ≡ bit_xor (words_of (length rest) m) (number_of (fed (none 32) (flat_map bits_of rest)))
+four-fed r a b c d m rest few len fa fb fc fd is_m =
+    let bits : List Bool = bits_of a ++ (bits_of b ++ (bits_of c ++ bits_of d)) in
+    let behind : List Bool = flat_map bits_of rest in
+    let sum : List Bool = added bits r in
+    let sum_len : length sum ≡ 32 = length-added bits r ∙ len in
+    let is_sum : number_of sum ≡ m = number_of-added bits r (omega arith) ∙ ap (λ (n : ℕ). bit_xor n (number_of r)) (number_of-four a b c d fa fb fc fd) ∙ xor_comm (four_of a b c d) (number_of r) ∙ sym is_m in
+    let turned : List Bool = fed sum (none 32) in
+    let turned_len : length turned ≡ 32 = length-fed 32 sum (none 32) sum_len in
+    let whole : turned ≡ added turned (none 32) = sym (ap (λ (n : ℕ). added turned (none n)) (sym turned_len) ∙ added_none turned) in
+    ap number_of (fed-append r bits behind)
+    ∙ ap (λ q. number_of (fed q behind)) (fed-before bits r (omega arith) ∙ whole)
+    ∙ ap number_of (fed-past turned (none 32) rest turned_len refl)
+    ∙ number_of-added (past (length rest) turned) (fed (none 32) behind) (omega (arith, length-past (length rest) turned turned_len, length-fed 32 (none 32) behind refl))
+    ∙ ap (λ (n : ℕ). bit_xor n (number_of (fed (none 32) behind))) (words_of-is (length rest) m sum few sum_len is_sum)
+
+-- ---- the register as a number
+
 -- the register as a number after these bytes
 abbrev pub register_of : List ℕ → ℕ
 register_of l = number_of (fed ones (flat_map bits_of l))
 
+table-word : (i : ℕ) → i < 256 → get_or (get_or AFTER 0 []) i 0 ≡ word i
+table-word i lt = ap (λ l. get_or (get_or l 0 []) i 0) words ∙ get_or-map-range_with_len word 0 256 i i 0 lt (omega arith)
+
 -- one more byte
-pub register_of-more : (l : List ℕ) (b : ℕ) → b < 256 → register_of (l ++ b ∷ []) ≡ bit_xor (get_or TABLE (bit_and (bit_xor (register_of l) b) 255) 0) (register_of l / 256)
+pub register_of-more : (l : List ℕ) (b : ℕ) → b < 256 → register_of (l ++ b ∷ []) ≡ bit_xor (get_or (get_or AFTER 0 []) (bit_and (bit_xor (register_of l) b) 255) 0) (register_of l / 256)
 register_of-more l b fits =
     let before : List Bool = fed ones (flat_map bits_of l) in
     let index : bit_and (bit_xor (register_of l) b) 255 ≡ bit_xor (register_of l) b % 256 = and_mask (bit_xor (register_of l) b) 8 in
     let more : fed ones (flat_map bits_of (l ++ b ∷ [])) ≡ fed before (bits_of b) = ap (fed ones) (flat_map-append bits_of l (b ∷ [])) ∙ fed-append ones (flat_map bits_of l) (bits_of b) in
     ap number_of more ∙ byte-fed before b (length-fed 32 ones (flat_map bits_of l) refl) fits
     ∙ ap (λ (n : ℕ). bit_xor n (register_of l / 256)) (sym (table-word (bit_xor (register_of l) b % 256) (omega arith)))
-    ∙ ap (λ (i : ℕ). bit_xor (get_or TABLE i 0) (register_of l / 256)) (sym index)
+    ∙ ap (λ (i : ℕ). bit_xor (get_or (get_or AFTER 0 []) i 0) (register_of l / 256)) (sym index)
 
 -- the CRC of bytes is the complement of the register behind them
 pub crc-register_of : (l : List ℕ) → crc l ≡ 2 ^ 32 - 1 - register_of l
@@ -173,56 +235,48 @@ pub crc-lt : (l : List ℕ) → crc l < 2 ^ 32
 crc-lt l = omega (arith, crc-register_of l)
 
 -- a turn of the loop over the bytes
-pub register_of-take : (l : List ℕ) (i register b : ℕ) → i < length l → b ≡ get_or l i 0 → get_or l i 0 < 256 → register ≡ register_of (take i l) → bit_xor (get_or TABLE (bit_and (bit_xor register b) 255) 0) (register / 256) ≡ register_of (take (i + 1) l)
+pub register_of-take : (l : List ℕ) (i register b : ℕ) → i < length l → b ≡ get_or l i 0 → get_or l i 0 < 256 → register ≡ register_of (take i l) → bit_xor (get_or (get_or AFTER 0 []) (bit_and (bit_xor register b) 255) 0) (register / 256) ≡ register_of (take (i + 1) l)
 register_of-take l i register b lt is_byte fits is_register =
-    let turn : ℕ → ℕ → ℕ = λ (r : ℕ) (x : ℕ). bit_xor (get_or TABLE (bit_and (bit_xor r x) 255) 0) (r / 256) in
+    let turn : ℕ → ℕ → ℕ = λ (r : ℕ) (x : ℕ). bit_xor (get_or (get_or AFTER 0 []) (bit_and (bit_xor r x) 255) 0) (r / 256) in
     ap (λ (r : ℕ). turn r b) is_register ∙ ap (turn (register_of (take i l))) is_byte
     ∙ sym (register_of-more (take i l) (get_or l i 0) fits) ∙ ap register_of (sym (take_more l i 0 lt))
 
--- ---- four turns at once
+-- ---- sixteen turns at once
 
--- four more bytes
-register_of-more_four : (l : List ℕ) (a b c d m : ℕ) → a < 256 → b < 256 → c < 256 → d < 256 → m ≡ bit_xor (register_of l) (four_of a b c d) → register_of (l ++ a ∷ b ∷ c ∷ d ∷ []) ≡ bit_xor (word_before 24 (m % 256)) (bit_xor (word_before 16 (m / 256 % 256)) (bit_xor (word_before 8 (m / 65536 % 256)) (word (m / 16777216 % 256))))
-register_of-more_four l a b c d m fa fb fc fd is_m =
-    let before : List Bool = fed ones (flat_map bits_of l) in
-    let more : fed ones (flat_map bits_of (l ++ a ∷ b ∷ c ∷ d ∷ [])) ≡ fed before (bits_of a ++ (bits_of b ++ (bits_of c ++ bits_of d))) =
-    ap (fed ones) (flat_map-append bits_of l (a ∷ b ∷ c ∷ d ∷ [])) ∙ fed-append ones (flat_map bits_of l) (flat_map bits_of (a ∷ b ∷ c ∷ d ∷ [])) in
-    ap number_of more ∙ four-fed before a b c d m (length-fed 32 ones (flat_map bits_of l) refl) fa fb fc fd is_m
+block : (k : ℕ) (r : List Bool) (l : List ℕ) (i : ℕ) → k < 13 → length r ≡ 32 → ((j : ℕ) → get_or l j 0 < 256) → i + 4 + k ≤ length l → number_of (fed r (flat_map bits_of (take (suc (suc (suc (suc k)))) (drop i l)))) ≡ bit_xor (words_of k (bit_xor (number_of r) (four_at l i))) (number_of (fed (none 32) (flat_map bits_of (take k (drop (i + 4) l)))))
+unfolding four_at
+block k r l i few len fits le =
+    let rest : List ℕ = take k (drop (i + 4) l) in
+    let rest_len : length rest ≡ k = length-take-le k (drop (i + 4) l) (omega (arith, length-drop (i + 4) l)) in
+    ap (λ q. number_of (fed r (flat_map bits_of q))) (take_four k l i (omega arith))
+    ∙ four-fed r (get_or l i 0) (get_or l (i + 1) 0) (get_or l (i + 2) 0) (get_or l (i + 3) 0) (bit_xor (number_of r) (four_at l i)) rest (omega arith) len (fits i) (fits (i + 1)) (fits (i + 2)) (fits (i + 3)) refl
+    ∙ ap (λ (n : ℕ). bit_xor (words_of n (bit_xor (number_of r) (four_at l i))) (number_of (fed (none 32) (flat_map bits_of rest)))) rest_len
 
-four_more : (l : List ℕ) (i : ℕ) → i + 4 ≤ length l → take (i + 4) l ≡ take i l ++ get_or l i 0 ∷ get_or l (i + 1) 0 ∷ get_or l (i + 2) 0 ∷ get_or l (i + 3) 0 ∷ []
-four_more l i le =
-    let on_two : i + 2 ≡ i + 1 + 1 = omega arith in
-    let on_three : i + 3 ≡ i + 2 + 1 = omega arith in
-    let on_four : i + 4 ≡ i + 3 + 1 = omega arith in
-    let two : take (i + 2) l ≡ take i l ++ get_or l i 0 ∷ get_or l (i + 1) 0 ∷ [] =
-    ap (λ (n : ℕ). take n l) on_two ∙ take_more l (i + 1) 0 (omega arith) ∙ ap (λ k. k ++ get_or l (i + 1) 0 ∷ []) (take_more l i 0 (omega arith)) ∙ append_assoc (take i l) (get_or l i 0 ∷ []) (get_or l (i + 1) 0 ∷ []) in
-    let three : take (i + 3) l ≡ take i l ++ get_or l i 0 ∷ get_or l (i + 1) 0 ∷ get_or l (i + 2) 0 ∷ [] =
-    ap (λ (n : ℕ). take n l) on_three ∙ take_more l (i + 2) 0 (omega arith) ∙ ap (λ k. k ++ get_or l (i + 2) 0 ∷ []) two ∙ append_assoc (take i l) (get_or l i 0 ∷ get_or l (i + 1) 0 ∷ []) (get_or l (i + 2) 0 ∷ []) in
-    ap (λ (n : ℕ). take n l) on_four ∙ take_more l (i + 3) 0 (omega arith) ∙ ap (λ k. k ++ get_or l (i + 3) 0 ∷ []) three ∙ append_assoc (take i l) (get_or l i 0 ∷ get_or l (i + 1) 0 ∷ get_or l (i + 2) 0 ∷ []) (get_or l (i + 3) 0 ∷ [])
+-- the last of them, behind which there is nothing
+last_block : (l : List ℕ) (i : ℕ) → ((j : ℕ) → get_or l j 0 < 256) → i + 4 ≤ length l → number_of (fed (none 32) (flat_map bits_of (take 4 (drop i l)))) ≡ words_of 0 (four_at l i)
+last_block l i fits le = block 0 (none 32) l i (omega arith) refl fits (omega arith) ∙ xor_zero_r (words_of 0 (four_at l i))
 
--- the bytes of a list at a place, as a number
-abbrev pub four_at : List ℕ → ℕ → ℕ
-four_at l i = four_of (get_or l i 0) (get_or l (i + 1) 0) (get_or l (i + 2) 0) (get_or l (i + 3) 0)
+sixteen : (r : List Bool) (l : List ℕ) (i : ℕ) → length r ≡ 32 → ((j : ℕ) → get_or l j 0 < 256) → i + 16 ≤ length l → number_of (fed r (flat_map bits_of (take 16 (drop i l)))) ≡ bit_xor (words_of 12 (bit_xor (number_of r) (four_at l i))) (bit_xor (words_of 8 (four_at l (i + 4))) (bit_xor (words_of 4 (four_at l (i + 8))) (words_of 0 (four_at l (i + 12)))))
+sixteen r l i len fits le =
+    let eight : i + 4 + 4 ≡ i + 8 = omega arith in
+    let twelve : i + 8 + 4 ≡ i + 12 = omega arith in
+    block 12 r l i (omega arith) len fits (omega arith)
+    ∙ ap (bit_xor (words_of 12 (bit_xor (number_of r) (four_at l i))))
+    (block 8 (none 32) l (i + 4) (omega arith) refl fits (omega arith)
+    ∙ ap (bit_xor (words_of 8 (four_at l (i + 4))))
+    (ap (λ (n : ℕ). number_of (fed (none 32) (flat_map bits_of (take 8 (drop n l))))) eight
+    ∙ block 4 (none 32) l (i + 8) (omega arith) refl fits (omega arith)
+    ∙ ap (bit_xor (words_of 4 (four_at l (i + 8))))
+    (ap (λ (n : ℕ). number_of (fed (none 32) (flat_map bits_of (take 4 (drop n l))))) twelve ∙ last_block l (i + 12) fits (omega arith))))
 
--- the words of four bytes at once
-abbrev pub four_words : ℕ → ℕ
-four_words m = bit_xor (bit_xor (bit_xor (get_or TABLE (bit_and (m / 16777216) 255) 0) (get_or ONE_AFTER (bit_and (m / 65536) 255) 0)) (get_or TWO_AFTER (bit_and (m / 256) 255) 0)) (get_or THREE_AFTER (bit_and m 255) 0)
-
-pub register_of-take_four : (l : List ℕ) (i register m : ℕ) → i + 4 ≤ length l → ((k : ℕ) → get_or l k 0 < 256) → register ≡ register_of (take i l) → m ≡ bit_xor register (four_at l i) → four_words m ≡ register_of (take (i + 4) l)
-register_of-take_four l i register m le fits is_register is_m =
-    let t0 : ℕ = get_or TABLE (bit_and (m / 16777216) 255) 0 in
-    let t1 : ℕ = get_or ONE_AFTER (bit_and (m / 65536) 255) 0 in
-    let t2 : ℕ = get_or TWO_AFTER (bit_and (m / 256) 255) 0 in
-    let t3 : ℕ = get_or THREE_AFTER (bit_and m 255) 0 in
-    let is_0 : t0 ≡ word (m / 16777216 % 256) = ap (λ (k : ℕ). get_or TABLE k 0) (and_mask (m / 16777216) 8) ∙ table-word (m / 16777216 % 256) (omega arith) in
-    let is_1 : t1 ≡ word_before 8 (m / 65536 % 256) = ap (λ (k : ℕ). get_or ONE_AFTER k 0) (and_mask (m / 65536) 8) ∙ one-word (m / 65536 % 256) (omega arith) in
-    let is_2 : t2 ≡ word_before 16 (m / 256 % 256) = ap (λ (k : ℕ). get_or TWO_AFTER k 0) (and_mask (m / 256) 8) ∙ two-word (m / 256 % 256) (omega arith) in
-    let is_3 : t3 ≡ word_before 24 (m % 256) = ap (λ (k : ℕ). get_or THREE_AFTER k 0) (and_mask m 8) ∙ three-word (m % 256) (omega arith) in
-    let order : four_words m ≡ bit_xor t3 (bit_xor t2 (bit_xor t1 t0)) =
-    xor_comm (bit_xor (bit_xor t0 t1) t2) t3 ∙ ap (bit_xor t3) (xor_comm (bit_xor t0 t1) t2 ∙ ap (bit_xor t2) (xor_comm t0 t1)) in
-    let turn = register_of-more_four (take i l) (get_or l i 0) (get_or l (i + 1) 0) (get_or l (i + 2) 0) (get_or l (i + 3) 0) m (fits i) (fits (i + 1)) (fits (i + 2)) (fits (i + 3)) (is_m ∙ ap (λ (r : ℕ). bit_xor r (four_at l i)) is_register) in
-    order ∙ ap (λ (n : ℕ). bit_xor n (bit_xor t2 (bit_xor t1 t0))) is_3
-    ∙ ap (bit_xor (word_before 24 (m % 256)))
-    (ap (λ (n : ℕ). bit_xor n (bit_xor t1 t0)) is_2
-    ∙ ap (bit_xor (word_before 16 (m / 256 % 256))) (ap (λ (n : ℕ). bit_xor n t0) is_1 ∙ ap (bit_xor (word_before 8 (m / 65536 % 256))) is_0))
-    ∙ sym turn ∙ ap register_of (sym (four_more l i le))
+pub register_of-take_sixteen : (l : List ℕ) (i register : ℕ) → i + 16 ≤ length l → ((j : ℕ) → get_or l j 0 < 256) → register ≡ register_of (take i l) → bit_xor (bit_xor (bit_xor (words_of 8 (four_at l (i + 4))) (words_of 4 (four_at l (i + 8)))) (words_of 0 (four_at l (i + 12)))) (words_of 12 (bit_xor register (four_at l i))) ≡ register_of (take (i + 16) l)
+register_of-take_sixteen l i register le fits is_register =
+    let before : List Bool = fed ones (flat_map bits_of (take i l)) in
+    let w0 : ℕ = words_of 0 (four_at l (i + 12)) in
+    let w4 : ℕ = words_of 4 (four_at l (i + 8)) in
+    let w8 : ℕ = words_of 8 (four_at l (i + 4)) in
+    xor_comm (bit_xor (bit_xor w8 w4) w0) (words_of 12 (bit_xor register (four_at l i)))
+    ∙ ap (bit_xor (words_of 12 (bit_xor register (four_at l i)))) (xor_assoc w8 w4 w0)
+    ∙ ap (λ (n : ℕ). bit_xor (words_of 12 (bit_xor n (four_at l i))) (bit_xor w8 (bit_xor w4 w0))) is_register
+    ∙ sym (sixteen before l i (length-fed 32 ones (flat_map bits_of (take i l)) refl) fits le)
+    ∙ sym (ap register_of (take-add i 16 l) ∙ ap (λ q. number_of (fed ones q)) (flat_map-append bits_of (take i l) (take 16 (drop i l))) ∙ ap number_of (fed-append ones (flat_map bits_of (take i l)) (flat_map bits_of (take 16 (drop i l)))))

@@ -1,14 +1,15 @@
 //! The CRC of FC frames (FC-FS-3), the same as that of IEEE 802.3.
 #![tactic(auto)]
 
-ghost use Rattle.std.specs.Prelude.{◌≡◌};
+ghost use Rattle.std.specs.Prelude.{◌≡◌, ◌≤◌, ◌+◌, length};
 ghost use Rattle.fc_check.specs.Crc as spec;
+ghost use Rattle.fc_check.specs.Tables.{four_at, words_of};
 
 mod table;
 #[cfg(test)]
 mod tests;
 
-use table::{ONE_AFTER, TABLE, THREE_AFTER, TWO_AFTER};
+use table::AFTER;
 
 /// The CRC of these bytes. It reads each byte once and takes no memory.
 pub fn crc32(bytes: &[u8]) -> u32
@@ -17,20 +18,40 @@ pub fn crc32(bytes: &[u8]) -> u32
     let mut register = u32::MAX;
     let mut at = 0;
     while at < bytes.len() {
-        if bytes.len() - at >= 4 {
-            let four = [bytes[at], bytes[at + 1], bytes[at + 2], bytes[at + 3]];
-            let mixed = register ^ u32::from_le_bytes(four);
-            register = TABLE[((mixed >> 24) & 0xff) as usize]
-                ^ ONE_AFTER[((mixed >> 16) & 0xff) as usize]
-                ^ TWO_AFTER[((mixed >> 8) & 0xff) as usize]
-                ^ THREE_AFTER[(mixed & 0xff) as usize];
-            at += 4;
+        if bytes.len() - at >= 16 {
+            let late = four_words(word_at(bytes, at + 4), 8)
+                ^ four_words(word_at(bytes, at + 8), 4)
+                ^ four_words(word_at(bytes, at + 12), 0);
+            // What the register waits for comes last.
+            register = late ^ four_words(register ^ word_at(bytes, at), 12);
+            at += 16;
         } else {
-            register = TABLE[((register ^ u32::from(bytes[at])) & 0xff) as usize] ^ (register >> 8);
+            register = AFTER[0][((register ^ u32::from(bytes[at])) & 0xff) as usize]
+                ^ (register >> 8);
             at += 1;
         }
     }
     !register
+}
+
+// Four bytes as a number, the first the least significant.
+fn word_at(bytes: &[u8], at: usize) -> u32
+    requires { at + 4 ≤ length bytes.now }
+    ensures { result ≡ four_at bytes.now at }
+{
+    u32::from_le_bytes([bytes[at], bytes[at + 1], bytes[at + 2], bytes[at + 3]])
+}
+
+// The register that the bits of a number leave behind in an empty one, where so many bytes of zeros
+// follow them.
+fn four_words(number: u32, after: usize) -> u32
+    requires { after ≤ 12 }
+    ensures { result ≡ words_of after number }
+{
+    AFTER[after + 3][(number & 0xff) as usize]
+        ^ AFTER[after + 2][((number >> 8) & 0xff) as usize]
+        ^ AFTER[after + 1][((number >> 16) & 0xff) as usize]
+        ^ AFTER[after][((number >> 24) & 0xff) as usize]
 }
 
 /// The bytes of a CRC as they stand behind a frame, the least significant first.
