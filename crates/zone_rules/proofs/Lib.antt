@@ -1,4 +1,4 @@
 pub mod ChangeLemmas
 pub mod JoinLemmas
+pub mod RowLemmas
 pub mod SetLemmas
-pub mod WalkLemmas

@@ -1,3 +1,4 @@
 pub mod Joined
 pub mod Rules
+pub mod Row
 pub mod Index

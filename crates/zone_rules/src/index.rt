@@ -1,61 +1,59 @@
-//! For each name the places of the zones that list it, in ascending order.
-ghost use Rattle.std.specs.Prelude.{◌≡◌, ◌==◌, ◌++◌, ◌∷◌, [], ℕ, IfOk, OnOk, if◌then◌else◌};
-ghost use Rattle.zone_rules.specs.Index.{listed, occurrences, IsIndex};
+//! For each name a row with the bits of the zones that list it.
+ghost use Rattle.std.specs.Prelude.{◌≡◌, ◌==◌, ◌&&◌, ◌||◌, ℕ, IfOk, OnOk};
+ghost use Rattle.zone_rules.specs.Row.{has};
+ghost use Rattle.zone_rules.specs.Joined as spec;
+ghost use Rattle.zone_rules.specs.Index.{of_name, IsIndex};
 
+use crate::row::{Row, set_bit};
 use fab_base::NoMemory;
 use fab_config::{NameList, ZoneList};
 use std::alloc::Global;
 use std::collections::HashMap;
 
-pub(crate) type Places = HashMap<u64, Vec<u64>>;
+pub(crate) type NameRows = HashMap<u64, Row>;
 
 /// The index of these zones.
-pub(crate) fn index_of(alloc: Global, zones: &ZoneList) -> Result<Places, NoMemory>
+pub(crate) fn index_of(alloc: Global, zones: &ZoneList) -> Result<NameRows, NoMemory>
     ensures { IfOk result (λ m. IsIndex m zones.now) }
 {
-    let mut places = HashMap::new(alloc);
+    let mut rows = HashMap::new(alloc);
     for index in 0..zones.len() {
-        add_zone(
-            alloc,
-            &mut places,
-            &zones.at(index).unwrap().members,
-            index as u64,
-        )?;
+        add_zone(alloc, &mut rows, &zones.at(index).unwrap().members, index)?;
     }
-    Ok(places)
+    Ok(rows)
 }
 
-// Adds a zone's place for each of its members.
+// Sets the bit of a zone's place for each of its members.
 fn add_zone(
     alloc: Global,
-    places: &mut Places,
+    rows: &mut NameRows,
     members: &NameList,
-    place: u64,
+    place: usize,
 ) -> Result<(), NoMemory>
-    ensures { OnOk result ((x : ℕ) → listed places.new x
-        ≡ listed places.old x ++ occurrences x place members.now) }
+    ensures { OnOk result ((x q : ℕ) → has (of_name rows.new x) q
+        ≡ ((place == q && spec.contains x members.now) || has (of_name rows.old x) q)) }
 {
     for index in 0..members.len() {
-        add(alloc, places, members.at(index).unwrap().0, place)?;
+        add(alloc, rows, members.at(index).unwrap().0, place)?;
     }
     Ok(())
 }
 
-// Adds a place for a name.
-fn add(alloc: Global, places: &mut Places, name: u64, place: u64) -> Result<(), NoMemory>
-    ensures { OnOk result ((x : ℕ) → listed places.new x
-        ≡ (if name == x then listed places.old x ++ place ∷ [] else listed places.old x)) }
+// Sets the bit of a place for a name.
+fn add(alloc: Global, rows: &mut NameRows, name: u64, place: usize) -> Result<(), NoMemory>
+    ensures { OnOk result ((x q : ℕ) → has (of_name rows.new x) q
+        ≡ ((place == q && name == x) || has (of_name rows.old x) q)) }
 {
-    places.entry(name)?.or_insert(Vec::new(alloc)).push(place)?;
+    set_bit(rows.entry(name)?.or_insert(Vec::new(alloc)), place)?;
     Ok(())
 }
 
-/// The places of a name.
-pub(crate) fn places_of(places: &Places, name: u64) -> &[u64]
-    ensures { result.now ≡ listed places.now name }
+/// The row of a name.
+pub(crate) fn row_of_name(rows: &NameRows, name: u64) -> &[u64]
+    ensures { result.now ≡ of_name rows.now name }
 {
-    match places.get(&name) {
-        Some(list) => list.as_slice(),
+    match rows.get(&name) {
+        Some(row) => row.as_slice(),
         None => &[],
     }
 }

@@ -2,6 +2,7 @@
 #![tactic(auto)]
 
 mod index;
+mod row;
 mod sets;
 mod zones;
 

@@ -1,35 +1,50 @@
-//! For each zone set the places that it names, which are looked up by their hashes.
-ghost use Rattle.std.specs.Prelude.{◌≡◌, ℕ, nat_eq, IfOk};
-ghost use Rattle.std.specs.HashSet.{contains};
+//! For each zone set a row with the bits of the zones that it names.
+ghost use Rattle.std.specs.Prelude.{◌≡◌, ◌<◌, ℕ, IfOk};
+ghost use Rattle.zone_rules.specs.Row.{has};
 ghost use Rattle.zone_rules.specs.Joined as spec;
-ghost use Rattle.zone_rules.specs.Index.{AreSets};
+ghost use Rattle.zone_rules.specs.Index.{of_set, AreRows};
 
+use crate::row::{Row, set_bit};
 use fab_base::{NoMemory, OwnedList};
 use fab_config::{PlaceList, SetList};
 use std::alloc::Global;
-use std::collections::HashSet;
 
-pub(crate) type SetPlaces = OwnedList<HashSet<u64>>;
+pub(crate) type SetRows = OwnedList<Row>;
 
-/// The places of these sets, each at its set's own place.
-pub(crate) fn places_of_sets(alloc: Global, sets: &SetList) -> Result<SetPlaces, NoMemory>
-    ensures { IfOk result (λ m. AreSets m sets.now) }
+/// The rows of these sets, each at its set's own place, for so many zones.
+pub(crate) fn rows_of_sets(alloc: Global, sets: &SetList, zones: usize) -> Result<SetRows, NoMemory>
+    ensures { IfOk result (λ rows. AreRows zones rows sets.now) }
 {
-    let mut all = SetPlaces::new(alloc)?;
+    let mut rows = SetRows::new(alloc)?;
     for index in 0..sets.len() {
-        all.push(alloc, hashed(alloc, &sets.at(index).unwrap().places)?)?;
+        rows.push(
+            alloc,
+            row_of_places(alloc, &sets.at(index).unwrap().places, zones)?,
+        )?;
     }
-    Ok(all)
+    Ok(rows)
 }
 
-// These places as a set.
-fn hashed(alloc: Global, places: &PlaceList) -> Result<HashSet<u64>, NoMemory>
-    ensures { IfOk result (λ s. (place : ℕ) → contains nat_eq s place
-        ≡ spec.contains place places.now) }
+// The row of these places, as far as there are zones.
+fn row_of_places(alloc: Global, places: &PlaceList, zones: usize) -> Result<Row, NoMemory>
+    ensures { IfOk result (λ row. (q : ℕ) → q < zones → has row.items q ≡ spec.contains q places.now) }
 {
-    let mut set = HashSet::new(alloc);
+    let mut row = Vec::new(alloc);
     for index in 0..places.len() {
-        set.insert(u64::from(*places.at(index).unwrap()))?;
+        let place = *places.at(index).unwrap() as usize;
+        if place < zones {
+            set_bit(&mut row, place)?;
+        }
     }
-    Ok(set)
+    Ok(row)
+}
+
+/// The row of the zone set at a place, where there is one.
+pub(crate) fn row_of_set(rows: &SetRows, set: u32) -> &[u64]
+    ensures { result.now ≡ of_set rows.now set }
+{
+    match rows.at(set as usize) {
+        Some(row) => row.as_slice(),
+        None => &[],
+    }
 }

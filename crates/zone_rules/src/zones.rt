@@ -1,29 +1,27 @@
 //! Zones, of which those of one zone set are active at a time.
-ghost use Rattle.std.specs.Prelude.{◌≡◌, ◌==◌, ◌&&◌, ℕ, Some, IfOk, IsTrue};
-ghost use Rattle.std.specs.List.{list_any};
+ghost use Rattle.std.specs.Prelude.{◌≡◌, IfOk, IsTrue};
 ghost use Rattle.zone_rules.specs.Joined as spec;
-ghost use Rattle.zone_rules.specs.Index.{Ascends, is_active_by};
 ghost use Rattle.fab_config.specs.Settings.{do_rise};
 ghost use Rattle.zone_rules.specs.Rules.{ZoneRules};
 
-use crate::index::{Places, index_of, places_of};
-use crate::sets::{SetPlaces, places_of_sets};
+use crate::index::{NameRows, index_of, row_of_name};
+use crate::row::share_a_place;
+use crate::sets::{SetRows, row_of_set, rows_of_sets};
 use fab_base::{Moment, NoMemory, Wwn};
 use fab_config::{ActivationList, SetList, ZoneList};
 use std::alloc::Global;
-use std::cmp::Ordering;
 use std::marker::Model;
 use std::snapshot::Snapshot;
 
-/// The activations of a configuration, with an index of the names that its zones list and one
-/// of its zone sets. The zones and the zone sets themselves are read by contracts alone.
+/// The activations of a configuration, with a row of bits over the zones for each name
+/// and each zone set. The zones and the zone sets themselves are read by contracts alone.
 #[derive(Drop)]
 pub struct Zones {
     zones: Snapshot<ZoneList>,
     sets: Snapshot<SetList>,
     activations: ActivationList,
-    places: Places,
-    set_places: SetPlaces,
+    names: NameRows,
+    set_rows: SetRows,
 }
 
 impl Model for Zones {
@@ -38,7 +36,7 @@ impl Model for Zones {
       activations = z.activations;
     } };
 
-    ghost invariant = { λ z. KeepsIndex z.places z.set_places z.zones.value z.sets.value };
+    ghost invariant = { λ z. KeepsIndex z.names z.set_rows z.zones.value z.sets.value };
 }
 
 impl Zones {
@@ -60,8 +58,8 @@ impl Zones {
             zones: Snapshot::of(list),
             sets: Snapshot::of(sets),
             activations: copy_activations(alloc, activations)?,
-            places: index_of(alloc, list)?,
-            set_places: places_of_sets(alloc, sets)?,
+            names: index_of(alloc, list)?,
+            set_rows: rows_of_sets(alloc, sets, list.len())?,
         })
     }
 
@@ -73,10 +71,12 @@ impl Zones {
         if x.0 == y.0 {
             return false;
         }
-        let set = active_set(&self.activations, at);
-        let of_x = places_of(&self.places, x.0);
-        let of_y = places_of(&self.places, y.0);
-        has_active_of_both(&self.set_places, set, of_x, of_y)
+        let of_x = row_of_name(&self.names, x.0);
+        let of_y = row_of_name(&self.names, y.0);
+        match active_set(&self.activations, at) {
+            None => share_a_place(of_x, of_y, of_x),
+            Some(set) => share_a_place(of_x, of_y, row_of_set(&self.set_rows, set)),
+        }
     }
 
     /// The moment of the first activation above this one.
@@ -107,47 +107,6 @@ fn value(moment: Moment) -> u64
     ensures { result ≡ moment }
 {
     moment.0
-}
-
-// Whether an active place stands in both lists, which ascend: one walk over both.
-fn has_active_of_both(sets: &SetPlaces, set: Option<u32>, of_x: &[u64], of_y: &[u64]) -> bool
-    requires of_x { Ascends 0 of_x.now }
-    requires of_y { Ascends 0 of_y.now }
-    ensures { result
-        ≡ list_any (λ p. list_any (λ q. p == q) of_y.now && is_active_by sets.now set p) of_x.now }
-{
-    let mut xs = of_x;
-    let mut ys = of_y;
-    while let Some((x, behind_x)) = xs.split_first() {
-        let Some((y, behind_y)) = ys.split_first() else {
-            break;
-        };
-        match x.cmp(y) {
-            Ordering::Greater => ys = behind_y,
-            Ordering::Equal if is_active(sets, set, *x) => return true,
-            _ => xs = behind_x,
-        }
-    }
-    false
-}
-
-// Whether the zone at a place is active while this set is.
-fn is_active(sets: &SetPlaces, set: Option<u32>, place: u64) -> bool
-    ensures { result ≡ is_active_by sets.now set place }
-{
-    match set {
-        None => true,
-        Some(set) => is_in_set(sets, set, place),
-    }
-}
-
-fn is_in_set(sets: &SetPlaces, set: u32, place: u64) -> bool
-    ensures { result ≡ is_active_by sets.now (Some set) place }
-{
-    match sets.at(set as usize) {
-        None => false,
-        Some(places) => places.contains(&place),
-    }
 }
 
 // The set that is active at a moment.

@@ -1,25 +1,33 @@
-use Rattle.std.proofs.Common.{◌∙◌, ap}
+use Rattle.std.proofs.Common.{ℕ, ◌∙◌, sym, ap, None, Some}
 use Rattle.zone_rules.specs.Joined.{joined}
+use Rattle.zone_rules.specs.Row.{has}
 use Rattle.zone_rules.specs.Rules.{ZoneRules}
-use Rattle.zone_rules.specs.Index.{is_active_by}
 use Rattle.zone_rules.proofs.JoinLemmas.{joined_same, joined_is}
-use Rattle.zone_rules.proofs.SetLemmas.{is_active_by-is}
-use Rattle.zone_rules.proofs.WalkLemmas.{listed_ascends}
+use Rattle.zone_rules.proofs.SetLemmas.{has-active}
 use Rattle.zone_rules.proofs.zones.Zones.joined.Goals as goal
 
 pub returns-then-x-y : goal.returns-then-x-y
 returns-then-x-y c = joined_same c.args.self.now.zones c.args.self.now.sets c.args.self.now.activations c.args.at c.args.x c.args.y c.x.inside.0 c.y.inside.0 c.x.view_is c.y.view_is c.if-x-y.true
 
-pub has_active_of_both-requires-clause-of_x : goal.has_active_of_both-requires-clause-of_x
-has_active_of_both-requires-clause-of_x c = listed_ascends c.self.inside.places c.self.inside.zones.value c.x.inside.0 _ c.self.invariant.of_names c.places_of-of_x.ensures
+pub returns-in-None : goal.returns-in-None
+returns-in-None c =
+    let zones = c.self.inside.zones.value in
+    let xs = c.row_of_name-of_x.result.now in
+    let ys = c.row_of_name-of_y.result.now in
+    let of_x = λ (q : ℕ). ap (λ l. has l q) c.row_of_name-of_x.ensures ∙ c.self.invariant.of_names c.x.inside.0 q in
+    let of_y = λ (q : ℕ). ap (λ l. has l q) c.row_of_name-of_y.ensures ∙ c.self.invariant.of_names c.y.inside.0 q in
+    joined_is zones c.self.inside.sets.value c.self.inside.activations c.args.at c.args.x c.args.y c.x.inside.0 c.y.inside.0 c.x.view_is c.y.view_is None xs ys xs c.share_a_place.result
+    c.if-x-y.false (sym c.in-None.is ∙ c.active_set.ensures) of_x of_y (λ q e. of_x q ∙ e) c.share_a_place.ensures.common c.share_a_place.ensures.none
+    ∙ ap (λ (z : ZoneRules). joined z.zones z.sets z.activations c.args.at c.args.x c.args.y) c.self.view_is
 
-pub has_active_of_both-requires-clause-of_y : goal.has_active_of_both-requires-clause-of_y
-has_active_of_both-requires-clause-of_y c = listed_ascends c.self.inside.places c.self.inside.zones.value c.y.inside.0 _ c.self.invariant.of_names c.places_of-of_y.ensures
-
-pub returns : goal.returns
-returns c =
-    joined_is c.self.inside.zones.value c.self.inside.sets.value c.self.inside.activations c.args.at c.args.x c.args.y c.x.inside.0 c.y.inside.0 c.x.view_is c.y.view_is
-    c.self.inside.places (is_active_by c.self.inside.set_places c.active_set-set.result) c.places_of-of_x.result.now c.places_of-of_y.result.now c.active_set-set.result c.has_active_of_both.result
-    c.self.invariant.of_names (is_active_by-is c.self.inside.set_places c.self.inside.sets.value c.self.invariant.of_sets c.active_set-set.result)
-    c.if-x-y.false c.places_of-of_x.ensures c.places_of-of_y.ensures c.active_set-set.ensures c.has_active_of_both.ensures
+pub returns-in-Some : goal.returns-in-Some
+returns-in-Some c =
+    let zones = c.self.inside.zones.value in
+    let xs = c.row_of_name-of_x.result.now in
+    let ys = c.row_of_name-of_y.result.now in
+    let zs = c.row_of_set.result.now in
+    let of_x = λ (q : ℕ). ap (λ l. has l q) c.row_of_name-of_x.ensures ∙ c.self.invariant.of_names c.x.inside.0 q in
+    let of_y = λ (q : ℕ). ap (λ l. has l q) c.row_of_name-of_y.ensures ∙ c.self.invariant.of_names c.y.inside.0 q in
+    joined_is zones c.self.inside.sets.value c.self.inside.activations c.args.at c.args.x c.args.y c.x.inside.0 c.y.inside.0 c.x.view_is c.y.view_is (Some c.in-Some.set) xs ys zs c.share_a_place-in-Some.result
+    c.if-x-y.false (sym c.in-Some.is ∙ c.active_set.ensures) of_x of_y (λ q e. has-active c.x.inside.0 zones c.self.inside.set_rows c.self.inside.sets.value c.in-Some.set q zs c.self.invariant.of_sets c.row_of_set.ensures e) c.share_a_place-in-Some.ensures.common c.share_a_place-in-Some.ensures.none
     ∙ ap (λ (z : ZoneRules). joined z.zones z.sets z.activations c.args.at c.args.x c.args.y) c.self.view_is
