@@ -3,6 +3,7 @@ use Rattle.std.specs.Prelude.{ℕ, ◌+◌, ◌*◌, ◌^◌, Bool, true, false,
 use Rattle.std.specs.List.{range_with_len}
 use Rattle.std.specs.Option.{option_map_or}
 use Rattle.std.specs.Str.{bytes_eq}
+use Rattle.fab_base.specs.Keyed.{item_at}
 use Rattle.ct_messages.specs.Ask.{Ask, NextOf, PortNameOf, NodeNameOf, TypesOf, FeaturesOf, ByPortName, AddressesOfType, PortNamesOfType, NodeNamesOfType, AddressesOfPortType, SetNode, SetTypes, SetSymbol, SetFeature, SetNodeSymbol, Erase, Unknown}
 use Rattle.ct_messages.specs.Answer.{has_type, has_no_type}
 use Rattle.ct_messages.specs.declared.TypeMap.{TypeMap}
@@ -66,10 +67,10 @@ pub record Known : Type 0 where
   pub values : Values
 
 abbrev pub known_at : ℕ → List Known → Option Known
-known_at a ports = find (λ p. p.address == a) ports
+known_at a ports = item_at (λ (p : Known). p.address) a ports
 
 abbrev pub known_by_name : ℕ → List Known → Option Known
-known_by_name name ports = find (λ p. p.name == name) ports
+known_by_name name ports = item_at (λ (p : Known). p.name) name ports
 
 -- those that have a type
 abbrev pub of_type : ℕ → List Known → List Known

@@ -1,6 +1,6 @@
 -- The table of commands of the name server (FC-GS-6, "Name Server"), one row each.
-use Rattle.std.specs.Prelude.{ℕ, zero, suc, ◌+◌, ◌%◌, ◌==◌, List, [], ◌∷◌, Option}
-use Rattle.std.specs.List.{find}
+use Rattle.std.specs.Prelude.{ℕ, zero, suc, ◌+◌, ◌%◌, List, [], ◌∷◌, Option}
+use Rattle.fab_base.specs.Keyed.{item_at}
 use Rattle.fab_base.specs.Layout.{field, byte, number}
 use Rattle.ct_messages.specs.declared.command.Command.{Command}
 use Rattle.ct_messages.specs.declared.command.Command.TheVariants.{GaNxt, GpnId, GnnId, GftId, GffId, GidPn, GidFt, GpnFt, GnnFt, GidPt, RnnId, RftId, RspnId, RffId, RsnnNn, DaId}
@@ -65,4 +65,4 @@ commands = GaNxt ∷ GpnId ∷ GnnId ∷ GftId ∷ GffId ∷ GidPn ∷ GidFt ∷
 
 -- the command of a code
 unfoldable pub command_with : ℕ → Option Command
-command_with code = find (λ c. (row_of c).code == code) commands
+command_with code = item_at (λ c. (row_of c).code) code commands

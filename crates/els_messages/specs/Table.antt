@@ -1,7 +1,7 @@
 -- The table of link services (FC-LS-2, "Extended Link Services"), under the standard's mnemonics. Each definition has
 -- a line for each row, in the same order.
-use Rattle.std.specs.Prelude.{ℕ, ◌==◌, List, [], ◌∷◌, Option}
-use Rattle.std.specs.List.{find}
+use Rattle.std.specs.Prelude.{ℕ, List, [], ◌∷◌, Option}
+use Rattle.fab_base.specs.Keyed.{item_at}
 
 pub data Command : Type 0 where
   -- F_Port login
@@ -52,4 +52,4 @@ commands = FLOGI ∷ FDISC ∷ PLOGI ∷ LS_ACC ∷ LS_RJT ∷ LOGO ∷ SCR ∷ 
 
 -- the command that has this code, where the table has one
 abbrev pub command_of : ℕ → Option Command
-command_of byte = find (λ command. code command == byte) commands
+command_of byte = item_at code byte commands

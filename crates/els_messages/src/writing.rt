@@ -7,7 +7,7 @@ ghost use Rattle.els_messages.specs.Els as spec;
 use crate::table::{FDISC, FLOGI, LOGO, LS_ACC, LS_RJT, PLOGI, RSCN, SCR};
 use crate::{Els, LoginParms};
 use arrayvec::ArrayVec;
-use fab_base::{FcId, NoMemory, Wwn};
+use fab_base::{FcId, NoMemory, Wwn, put};
 use std::alloc::Global;
 
 /// The bytes of the longest payload, a state change of 255 pages.
@@ -32,15 +32,6 @@ pub fn write_els(_alloc: Global, els: &Els<'_>, out: &mut Vec<u8>) -> Result<(),
     let bytes = bytes_of(els);
     out.extend_from_slice(&bytes)?;
     Ok(())
-}
-
-/// Appends bytes for which there is room.
-fn put(payload: &mut Payload, bytes: &[u8])
-    requires { array_vec_len payload.old + length bytes.now ≤ MOST }
-    ensures bytes { payload.new.items ≡ payload.old.items ++ bytes.now }
-    ensures size { array_vec_len payload.new ≡ array_vec_len payload.old + length bytes.now }
-{
-    payload.try_extend_from_slice(bytes).unwrap();
 }
 
 /// A payload that begins with these bytes.

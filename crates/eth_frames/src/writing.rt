@@ -6,7 +6,7 @@ ghost use Rattle.eth_frames.specs.Ethernet.{view, head_bytes, written};
 
 use crate::{EthFrame, LEAST, TAGGED};
 use arrayvec::ArrayVec;
-use fab_base::NoMemory;
+use fab_base::{NoMemory, append_reserved, put};
 use std::alloc::Global;
 
 /// Appends the frame, and zeros until it has 60 bytes. Where memory is refused, `out` is as it was.
@@ -21,20 +21,10 @@ pub fn write_eth(_alloc: Global, frame: &EthFrame<'_>, out: &mut Vec<u8>) -> Res
     let len = head.len() + frame.body.len();
     let pad = LEAST.saturating_sub(len);
     out.reserve(len + pad)?;
-    put(out, &head);
-    put(out, frame.body);
-    put(out, &[0; LEAST][..pad]);
+    append_reserved(out, &head);
+    append_reserved(out, frame.body);
+    append_reserved(out, &[0; LEAST][..pad]);
     Ok(())
-}
-
-/// Appends bytes for which there is room.
-fn put(out: &mut Vec<u8>, bytes: &[u8])
-    requires { vec_len out.old + length bytes.now ≤ vec_capacity out.old }
-    ensures bytes { out.new.items ≡ out.old.items ++ bytes.now }
-    ensures size { vec_len out.new ≡ vec_len out.old + length bytes.now }
-    ensures room { vec_capacity out.old ≤ vec_capacity out.new }
-{
-    out.extend_from_slice(bytes).unwrap();
 }
 
 /// What stands before the body: addresses, tag and Ethertype.
@@ -43,13 +33,12 @@ fn head_of(frame: &EthFrame<'_>) -> ArrayVec<u8, 18>
     ensures size { array_vec_len result ≤ 18 }
 {
     let mut head = ArrayVec::new();
-    head.try_extend_from_slice(&frame.dst.0).unwrap();
-    head.try_extend_from_slice(&frame.src.0).unwrap();
+    put(&mut head, &frame.dst.0);
+    put(&mut head, &frame.src.0);
     if let Some(tag) = frame.tag {
-        head.try_extend_from_slice(&TAGGED.to_be_bytes()).unwrap();
-        head.try_extend_from_slice(&tag.to_be_bytes()).unwrap();
+        put(&mut head, &TAGGED.to_be_bytes());
+        put(&mut head, &tag.to_be_bytes());
     }
-    head.try_extend_from_slice(&frame.kind.to_be_bytes())
-        .unwrap();
+    put(&mut head, &frame.kind.to_be_bytes());
     head
 }

@@ -1,50 +1,13 @@
 -- What is found in lists of items with keys after a change, and what ascending lists have in common.
-use Rattle.std.proofs.Common.{◌≡◌, ◌⊎◌, ℕ, suc, ◌+◌, ◌<◌, ◌≤◌, ◌==◌, ◌&&◌, ◌||◌, Bool, true, false, not, cond, if◌then◌else◌, List, [], ◌∷◌, ◌++◌, length, get_or, set, filter, find, position, Option, Some, None, option_map, unwrap_or, is_some, IsSome, slice_get, nat_lt, refl, sym, ◌∙◌, ap, subst, inl, inr, arith}
+use Rattle.std.proofs.Common.{◌≡◌, ◌⊎◌, ℕ, ◌+◌, ◌<◌, ◌≤◌, ◌==◌, ◌||◌, Bool, true, false, not, cond, if◌then◌else◌, List, [], ◌∷◌, ◌++◌, length, get_or, set, filter, find, position, Option, Some, None, option_map, unwrap_or, is_some, IsSome, nat_lt, refl, sym, ◌∙◌, ap, subst, inl, inr, arith}
 use Rattle.std.specs.List.{All, list_any, position_or_len, insert, remove}
 use Rattle.std.specs.Option.{option_or, option_map_or}
 use Rattle.std.proofs.lemmas.Bool.{cases_order}
 use Rattle.std.proofs.lemmas.Bool.Decides.{nat_tests}
 use Rattle.std.proofs.lemmas.List.Elements.{All-append, All-cons, All-filter, All-head, All-tail}
-use Rattle.std.proofs.lemmas.List.Folds.{find-append, find_at}
-use Rattle.std.proofs.lemmas.Option.{slice_get_past, slice_get-get_or}
-use Rattle.std.proofs.lemmas.List.Sums.{prefix_len-le-length}
-use Rattle.fab_base.specs.Keyed.{item_at, keys, AscendFrom, added, without, changed_if, changed}
-
--- ---- what is found among those that pass
-
-module _ {X : Type 0} (p q : X → Bool) where
-  -- all that may be found pass
-  pub find-kept : (xs : List X) → ((x : X) → p x ≡ true → q x ≡ true) → find p (filter q xs) ≡ find p xs
-  find-kept [] passes = refl
-  find-kept (x ∷ xs) passes = go (p x) refl (q x) refl (find-kept xs passes)
-    where
-      go : (b : Bool) → p x ≡ b → (c : Bool) → q x ≡ c → find p (filter q xs) ≡ find p xs → find p (cond c (x ∷ filter q xs) (filter q xs)) ≡ cond b (Some x) (find p xs)
-      go true this true kept others = ap (λ b. cond b (Some x) (find p (filter q xs))) this
-      go true this false gone others = absurd (cc (passes x this))
-      go false other true kept others = ap (λ b. cond b (Some x) (find p (filter q xs))) other ∙ others
-      go false other false gone others = others
-
-  -- none that may be found passes
-  pub find-gone : (xs : List X) → ((x : X) → p x ≡ true → q x ≡ false) → find p (filter q xs) ≡ None
-  find-gone [] fails = refl
-  find-gone (x ∷ xs) fails = go (p x) refl (q x) refl (find-gone xs fails)
-    where
-      go : (b : Bool) → p x ≡ b → (c : Bool) → q x ≡ c → find p (filter q xs) ≡ None → find p (cond c (x ∷ filter q xs) (filter q xs)) ≡ None
-      go true this true kept others = absurd (cc (fails x this))
-      go false other true kept others = ap (λ b. cond b (Some x) (find p (filter q xs))) other ∙ others
-      go _ this false gone others = others
-
-module _ {X : Type 0} (p q : X → Bool) where
-  -- the first that passes both
-  pub find-filter : (xs : List X) → find (λ x. p x && q x) xs ≡ find p (filter q xs)
-  find-filter [] = refl
-  find-filter (x ∷ xs) = go (p x) refl (q x) (find-filter xs)
-    where
-      go : (b : Bool) → p x ≡ b → (c : Bool) → find (λ y. p y && q y) xs ≡ find p (filter q xs) → cond (b && c) (Some x) (find (λ y. p y && q y) xs) ≡ find p (cond c (x ∷ filter q xs) (filter q xs))
-      go true passes true others = sym (ap (λ b. cond b (Some x) (find p (filter q xs))) passes)
-      go true passes false others = others
-      go false fails true others = others ∙ sym (ap (λ b. cond b (Some x) (find p (filter q xs))) fails)
-      go false fails false others = others
+use Rattle.std.proofs.lemmas.List.Folds.{find-append}
+use Rattle.fab_base.specs.Keyed.{item_at, keys, AscendFrom, added, without, changed_if, changed, KeysDiffer}
+use Rattle.fab_base.proofs.SamenessLemmas.{find-kept, find-gone, find-map, others-absent, length-others, length-others_found, item_of-all_but, item_of-not_found, IsPlaceOf, IsPlaceOf-found, sameness_of_numbers, position_or_len-here, position_or_len-later, unwrap_or-position}
 
 -- ---- keys
 
@@ -66,40 +29,6 @@ none_some x e = cc
 
 some_same : {X : Type 0} (x y : X) → Some x ≡ Some y → x ≡ y
 some_same x y e = cc
-
--- ---- places
-
-module _ {X : Type 0} (p : X → Bool) where
-  -- the first that passes is here, or among the others
-  position_or_len-here : (x : X) (xs : List X) → p x ≡ true → position_or_len p (x ∷ xs) ≡ 0
-  position_or_len-here x xs this = grind (arith, nat_tests)
-
-  position_or_len-later : (x : X) (xs : List X) → p x ≡ false → position_or_len p (x ∷ xs) ≡ suc (position_or_len p xs)
-  position_or_len-later x xs other = grind (arith, nat_tests)
-
-  pub position_or_len-Some : (xs : List X) (i : ℕ) → position p xs ≡ Some i → position_or_len p xs ≡ i
-  position_or_len-Some xs i found = go (nat_lt (position_or_len p xs) (length xs)) found
-    where
-      go : (b : Bool) → cond b (Some (position_or_len p xs)) None ≡ Some i → position_or_len p xs ≡ i
-      go true e = cc
-      go false e = cc
-
-  position-Some_within : (xs : List X) (i : ℕ) → position p xs ≡ Some i → position_or_len p xs < length xs
-  position-Some_within xs i found = go (nat_lt (position_or_len p xs) (length xs)) refl found
-    where
-      go : (b : Bool) → nat_lt (position_or_len p xs) (length xs) ≡ b → cond b (Some (position_or_len p xs)) None ≡ Some i → position_or_len p xs < length xs
-      go true less e = grind (arith, nat_tests)
-      go false past e = absurd (cc)
-
-  unwrap_or-position : (xs : List X) → unwrap_or (position p xs) (length xs) ≡ position_or_len p xs
-  unwrap_or-position xs = go (nat_lt (position_or_len p xs) (length xs)) refl
-    where
-      go : (b : Bool) → nat_lt (position_or_len p xs) (length xs) ≡ b → unwrap_or (cond b (Some (position_or_len p xs)) None) (length xs) ≡ position_or_len p xs
-      go true less = refl
-      go false past = grind (arith, nat_tests, prefix_len-le-length (λ x. not (p x)) xs)
-
-  pub position_or_len-None : (xs : List X) → position p xs ≡ None → position_or_len p xs ≡ length xs
-  position_or_len-None xs none = grind (arith, nat_tests, prefix_len-le-length (λ x. not (p x)) xs)
 
 module _ {X : Type 0} (key : X → ℕ) where
   -- ---- one more item
@@ -191,7 +120,7 @@ module _ {X : Type 0} (key : X → ℕ) where
   ]
 
   -- an insert before the first item with a greater key
-  insert-added : (x : X) (k : ℕ) (xs : List X) → AscendFrom key k xs → item_at key (key x) xs ≡ None → insert xs (position_or_len (λ y. nat_lt (key x) (key y)) xs) x ≡ added key x xs
+  pub insert-added : (x : X) (k : ℕ) (xs : List X) → AscendFrom key k xs → item_at key (key x) xs ≡ None → insert xs (position_or_len (λ y. nat_lt (key x) (key y)) xs) x ≡ added key x xs
   insert-added x k [] ascend absent = refl
   insert-added x k (y ∷ ys) ascend absent = elim (added_new_cases x y k ys ascend absent) [
     | inl first ↦ ap (λ n. insert (y ∷ ys) n x) (position_or_len-here (λ z. nat_lt (key x) (key z)) y ys (grind (arith, nat_tests))) ∙ sym first.1
@@ -223,41 +152,23 @@ module _ {X : Type 0} (key : X → ℕ) where
 
   -- ---- one item less
 
-  without-below : (a k : ℕ) (xs : List X) → AscendFrom key k xs → a < k → without key a xs ≡ xs
-  without-below a k [] ascend below = refl
-  without-below a k (x ∷ xs) ascend below = grind (arith, nat_tests, ascend.0, without-below a (key x + 1) xs ascend.1 (omega (arith, ascend.0)))
+  -- no key comes twice
+  KeysDiffer-ascending : (k : ℕ) (xs : List X) → AscendFrom key k xs → KeysDiffer key ◌==◌ xs
+  KeysDiffer-ascending k [] ascend = tt
+  KeysDiffer-ascending k (x ∷ xs) ascend = (item_at-below (key x) (key x + 1) xs ascend.1 (omega arith), KeysDiffer-ascending (key x + 1) xs ascend.1)
 
   pub without-absent : (a : ℕ) (xs : List X) → item_at key a xs ≡ None → without key a xs ≡ xs
-  without-absent a [] absent = refl
-  without-absent a (x ∷ xs) absent = grind (arith, nat_tests, λ (later : item_at key a xs ≡ None). without-absent a xs later)
+  without-absent a xs absent = others-absent (λ x. key x == a) xs absent
 
   pub item_at-without : (a b : ℕ) (xs : List X) → item_at key b (without key a xs) ≡ (if a == b then None else item_at key b xs)
-  item_at-without a b [] = grind (arith, nat_tests)
-  item_at-without a b (x ∷ xs) = grind (arith, nat_tests, item_at-without a b xs)
+  item_at-without a b xs = item_of-all_but key ◌==◌ sameness_of_numbers a b xs
 
   pub length-without : (a : ℕ) (xs : List X) → length (without key a xs) ≤ length xs
-  length-without a [] = omega arith
-  length-without a (x ∷ xs) = grind (arith, nat_tests, length-without a xs)
+  length-without a xs = length-others (λ x. key x == a) xs
 
   -- one that was there leaves room
   pub length-without_there : (a : ℕ) (xs : List X) (x : X) → item_at key a xs ≡ Some x → length (without key a xs) < length xs
-  length-without_there a [] x there = absurd (cc)
-  length-without_there a (y ∷ ys) x there = grind (arith, nat_tests, length-without a ys, λ (later : item_at key a ys ≡ Some x). length-without_there a ys x later)
-
-  -- a removal at the place of the key
-  remove-without : (a k : ℕ) (xs : List X) → AscendFrom key k xs → position_or_len (λ x. key x == a) xs < length xs → remove xs (position_or_len (λ x. key x == a) xs) ≡ without key a xs
-  remove-without a k [] ascend within = absurd (omega arith)
-  remove-without a k (x ∷ xs) ascend within = go (key x == a) refl (λ fewer. remove-without a (key x + 1) xs ascend.1 fewer)
-    where
-      here : X → Bool
-      here y = key y == a
-
-      go : (b : Bool) → (key x == a) ≡ b → (position_or_len here xs < length xs → remove xs (position_or_len here xs) ≡ without key a xs) → remove (x ∷ xs) (position_or_len here (x ∷ xs)) ≡ without key a (x ∷ xs)
-      go true this others =
-          ap (λ n. remove (x ∷ xs) n) (position_or_len-here here x xs this) ∙ grind (arith, nat_tests, without-below a (key x + 1) xs ascend.1 (grind (arith, nat_tests)))
-      go false other others =
-          let later = position_or_len-later here x xs other in
-          ap (λ n. remove (x ∷ xs) n) later ∙ ap (λ l. x ∷ l) (others (omega arith)) ∙ grind (arith, nat_tests)
+  length-without_there a xs x there = length-others_found (λ x. key x == a) xs (ap is_some there)
 
   -- the item that was in its place makes no difference to a new one
   pub added-without : (x : X) (xs : List X) → added key x (without key (key x) xs) ≡ added key x xs
@@ -278,19 +189,15 @@ module _ {X : Type 0} (key : X → ℕ) where
   -- ---- a changed item
 
   module _ (change : X → X) where
-    changed-below : (a k : ℕ) (xs : List X) → AscendFrom key k xs → a < k → changed key a change xs ≡ xs
-    changed-below a k [] ascend below = refl
-    changed-below a k (x ∷ xs) ascend below = grind (arith, nat_tests, ascend.0, changed-below a (key x + 1) xs ascend.1 (omega (arith, ascend.0)))
-
     pub changed-absent : (a : ℕ) (xs : List X) → item_at key a xs ≡ None → changed key a change xs ≡ xs
     changed-absent a [] absent = refl
     changed-absent a (x ∷ xs) absent = grind (arith, nat_tests, λ (later : item_at key a xs ≡ None). changed-absent a xs later)
 
     -- a write at the place of the key
-    set-changed : (a k : ℕ) (d : X) (xs : List X) → AscendFrom key k xs → position_or_len (λ x. key x == a) xs < length xs →
+    set-changed : (a : ℕ) (d : X) (xs : List X) → KeysDiffer key ◌==◌ xs → position_or_len (λ x. key x == a) xs < length xs →
         set xs (position_or_len (λ x. key x == a) xs) (change (get_or xs (position_or_len (λ x. key x == a) xs) d)) ≡ changed key a change xs
-    set-changed a k d [] ascend within = absurd (omega arith)
-    set-changed a k d (x ∷ xs) ascend within = go (key x == a) refl (λ fewer. set-changed a (key x + 1) d xs ascend.1 fewer)
+    set-changed a d [] differ within = absurd (omega arith)
+    set-changed a d (x ∷ xs) differ within = go (key x == a) refl (λ fewer. set-changed a d xs differ.1 fewer)
       where
         here : X → Bool
         here y = key y == a
@@ -300,7 +207,8 @@ module _ {X : Type 0} (key : X → ℕ) where
 
         go : (b : Bool) → (key x == a) ≡ b → (position_or_len here xs < length xs → write xs (position_or_len here xs) ≡ changed key a change xs) → write (x ∷ xs) (position_or_len here (x ∷ xs)) ≡ changed key a change (x ∷ xs)
         go true this others =
-            ap (λ n. write (x ∷ xs) n) (position_or_len-here here x xs this) ∙ grind (arith, nat_tests, changed-below a (key x + 1) xs ascend.1 (grind (arith, nat_tests)))
+            let at : key x ≡ a = grind (arith, nat_tests) in
+            ap (λ n. write (x ∷ xs) n) (position_or_len-here here x xs this) ∙ grind (arith, nat_tests, changed-absent a xs (subst (λ n. item_at key n xs ≡ None) at differ.0))
         go false other others =
             let later = position_or_len-later here x xs other in
             ap (λ n. write (x ∷ xs) n) later ∙ ap (λ l. x ∷ l) (others (omega arith)) ∙ grind (arith, nat_tests)
@@ -318,13 +226,7 @@ module _ {X : Type 0} (key : X → ℕ) where
       AscendFrom-changed a k (x ∷ xs) ascend = rw key-changed_if (ascend.0, AscendFrom-changed a (key x + 1) xs ascend.1)
 
       pub item_at-changed : (a b : ℕ) (xs : List X) → item_at key b (changed key a change xs) ≡ option_map (changed_if key a change) (item_at key b xs)
-      item_at-changed a b [] = refl
-      item_at-changed a b (x ∷ xs) = rw (key-changed_if a x) (go (key x == b) (item_at-changed a b xs))
-        where
-          go : (c : Bool) → item_at key b (changed key a change xs) ≡ option_map (changed_if key a change) (item_at key b xs) →
-              cond c (Some (changed_if key a change x)) (item_at key b (changed key a change xs)) ≡ option_map (changed_if key a change) (cond c (Some x) (item_at key b xs))
-          go true others = refl
-          go false others = others
+      item_at-changed a b xs = find-map (λ x. key x == b) (changed_if key a change) (λ x. ap (λ n. n == b) (key-changed_if a x)) xs
 
   -- ---- places that a search found
 
@@ -338,31 +240,20 @@ module _ {X : Type 0} (key : X → ℕ) where
   -- the list that was searched is this one
   pub IsPlace-found : (a k : ℕ) (xs seen : List X) (r : Option ℕ) (i : ℕ) → AscendFrom key k xs → r ≡ position (λ x. key x == a) seen → seen ≡ xs → r ≡ Some i → IsPlace a xs i
   IsPlace-found a k xs seen r i ascend search same is = record {
-    within = inside;
-    item = λ d. find_at here xs ∙ ap (λ n. slice_get xs n) place ∙ slice_get-get_or xs i d inside;
-    removal = ap (λ n. remove xs n) (sym place) ∙ remove-without a k xs ascend there;
-    write = λ change d. ap (λ n. set xs n (change (get_or xs n d))) (sym place) ∙ set-changed change a k d xs ascend there;
+    within = place.within;
+    item = place.item;
+    removal = place.removal;
+    write = λ change d. ap (λ n. set xs n (change (get_or xs n d))) (sym place.first) ∙ set-changed change a d xs differ (omega (arith, place.first, place.within));
   }
     where
-      here : X → Bool
-      here x = key x == a
+      differ : KeysDiffer key ◌==◌ xs
+      differ = KeysDiffer-ascending k xs ascend
 
-      found : position here xs ≡ Some i
-      found = sym (search ∙ ap (position here) same) ∙ is
-
-      place : position_or_len here xs ≡ i
-      place = position_or_len-Some here xs i found
-
-      there : position_or_len here xs < length xs
-      there = position-Some_within here xs i found
-
-      inside : i < length xs
-      inside = omega (arith, place, there)
+      place : IsPlaceOf key ◌==◌ sameness_of_numbers a xs i
+      place = IsPlaceOf-found key ◌==◌ sameness_of_numbers a xs seen r i differ search same is
 
   pub item_at-not_found : (a : ℕ) (xs seen : List X) (r : Option ℕ) → r ≡ position (λ x. key x == a) seen → seen ≡ xs → r ≡ None → item_at key a xs ≡ None
-  item_at-not_found a xs seen r search same none =
-      find_at (λ x. key x == a) xs
-      ∙ slice_get_past xs _ (omega (arith, position_or_len-None (λ x. key x == a) xs (sym (search ∙ ap (position (λ x. key x == a)) same) ∙ none)))
+  item_at-not_found a xs seen r search same none = item_of-not_found key ◌==◌ sameness_of_numbers a xs seen r search same none
 
   -- the new item was inserted before the first with a greater key, or at the end
   pub added-inserted : (x : X) (k : ℕ) (xs seen new : List X) (n : ℕ) → AscendFrom key k xs → item_at key (key x) xs ≡ None → seen ≡ xs →

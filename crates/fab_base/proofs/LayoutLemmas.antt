@@ -151,3 +151,11 @@ pub all_bytes : (l : List ℕ) → AreBytes l → AllPass (λ b. ltb b 256) l
 all_bytes [] bytes k d lt = absurd (omega arith)
 all_bytes (x ∷ l) bytes zero d lt = lt-ltb x 256 (bytes 0)
 all_bytes (x ∷ l) bytes (suc k) d lt = all_bytes l (λ i. bytes (suc i)) k d (omega arith)
+
+-- ---- what is appended in several steps
+
+pub appended_two : {A : Type 0} (old a b s t : List A) → s ≡ old ++ a → t ≡ s ++ b → t ≡ old ++ (a ++ b)
+appended_two old a b s t first second = second ∙ ap (λ m. m ++ b) first ∙ append_assoc old a b
+
+pub appended_three : {A : Type 0} (old a b c s t u : List A) → s ≡ old ++ a → t ≡ s ++ b → u ≡ t ++ c → u ≡ old ++ (a ++ b ++ c)
+appended_three old a b c s t u first second third = appended_two old (a ++ b) c t u (appended_two old a b s t first second) third

@@ -5,4 +5,5 @@ pub mod PlaceLemmas
 pub mod MemLemmas
 pub mod KnowLemmas
 pub mod TextLemmas
+pub mod SamenessLemmas
 pub mod KeyedLemmas

@@ -9,24 +9,18 @@ use Rattle.fab_base.specs.Layout.{spelled}
 use Rattle.fab_base.specs.Texts.{hex_digit, hex, hex_bytes}
 use Rattle.fab_base.proofs.LayoutLemmas.{AreBytes}
 
+-- what holds of each number below a bound, one by one
+abbrev pub AllBelow : ℕ → (ℕ → Type 0) → Type 0
+AllBelow zero P = Unit {0}
+AllBelow (suc n) P = P 0 × AllBelow n (λ d. P (suc d))
+
+pub below : (n : ℕ) (P : ℕ → Type 0) → AllBelow n P → (d : ℕ) → d < n → P d
+below zero P all d less = absurd (omega arith)
+below (suc n) P all zero less = all.0
+below (suc n) P all (suc d) less = below n (λ e. P (suc e)) all.1 d (omega arith)
+
 digit_is : (d : ℕ) → d < 16 → slice_index lower_digits d ≡ hex_digit d
-digit_is zero h = refl
-digit_is (suc zero) h = refl
-digit_is (suc (suc zero)) h = refl
-digit_is (suc (suc (suc zero))) h = refl
-digit_is (suc (suc (suc (suc zero)))) h = refl
-digit_is (suc (suc (suc (suc (suc zero))))) h = refl
-digit_is (suc (suc (suc (suc (suc (suc zero)))))) h = refl
-digit_is (suc (suc (suc (suc (suc (suc (suc zero))))))) h = refl
-digit_is (suc (suc (suc (suc (suc (suc (suc (suc zero)))))))) h = refl
-digit_is (suc (suc (suc (suc (suc (suc (suc (suc (suc zero))))))))) h = refl
-digit_is (suc (suc (suc (suc (suc (suc (suc (suc (suc (suc zero)))))))))) h = refl
-digit_is (suc (suc (suc (suc (suc (suc (suc (suc (suc (suc (suc zero))))))))))) h = refl
-digit_is (suc (suc (suc (suc (suc (suc (suc (suc (suc (suc (suc (suc zero)))))))))))) h = refl
-digit_is (suc (suc (suc (suc (suc (suc (suc (suc (suc (suc (suc (suc (suc zero))))))))))))) h = refl
-digit_is (suc (suc (suc (suc (suc (suc (suc (suc (suc (suc (suc (suc (suc (suc zero)))))))))))))) h = refl
-digit_is (suc (suc (suc (suc (suc (suc (suc (suc (suc (suc (suc (suc (suc (suc (suc zero))))))))))))))) h = refl
-digit_is (suc (suc (suc (suc (suc (suc (suc (suc (suc (suc (suc (suc (suc (suc (suc (suc d)))))))))))))))) h = absurd (omega arith)
+digit_is = below 16 (λ d. slice_index lower_digits d ≡ hex_digit d) search
 
 -- two digits of a byte
 two_digits : (b : ℕ) → b < 256 → slice_index lower_digits (b / 16) ∷ slice_index lower_digits (b % 16) ∷ [] ≡ hex 2 b

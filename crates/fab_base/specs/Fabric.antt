@@ -1,7 +1,8 @@
 -- Rules of a fabric that its journals and its tables say alike: who an ENode is, when a voice is silent, which addresses a
 -- name may have, and who is told of changes.
-use Rattle.std.specs.Prelude.{ℕ, ◌-◌, ◌*◌, Bool, true, false, ◌==◌, nat_lt, ◌&&◌, ◌||◌, List, find, Option, None, Some}
+use Rattle.std.specs.Prelude.{ℕ, ◌-◌, ◌*◌, Bool, true, false, ◌==◌, nat_lt, ◌&&◌, ◌||◌, List, Option, None, Some}
 use Rattle.std.specs.Str.{bytes_eq}
+use Rattle.fab_base.specs.Keyed.{item_at}
 use Rattle.fab_base.specs.declared.values.Enode.{Enode}
 
 -- ---- ENodes (FC-BB-5, "ENode")
@@ -30,7 +31,7 @@ pub record Past : Type 0 where
   pub ended : Option ℕ
 
 abbrev pub past_at : ℕ → List Past → Option Past
-past_at a past = find (λ p. p.address == a) past
+past_at a past = item_at (λ (p : Past). p.address) a past
 
 -- how many milliseconds an address is kept from other names after its login ended
 abbrev pub QUARANTINE : ℕ

@@ -1,6 +1,7 @@
 //! Values that the whole forwarder speaks of, and the outside world as traits.
 #![tactic(auto)]
 
+mod addressed;
 mod append;
 mod depot;
 mod desk;
@@ -14,7 +15,8 @@ mod texts;
 mod values;
 mod whole;
 
-pub use append::append_made;
+pub use addressed::{HasAddress, find_at, place_above, place_at};
+pub use append::{append_made, append_reserved, put};
 pub use depot::Depot;
 pub use desk::{Desk, DeskSlot, word_at};
 pub use gate::{Gate, OpenGate};

@@ -2,8 +2,9 @@
 use crate::fields::{address_at, mac_at, name_at, u16_at, u24_at, u32_at};
 use crate::{
     Bytes, Depot, Failed, FcId, IdList, Mac, MemDepot, MemSink, OwnedList, PortNo, Sink, Wwn,
-    address_text, append_made, mac_text, put_all, say_all, word_at, wwn_text,
+    address_text, append_made, append_reserved, mac_text, put, put_all, say_all, word_at, wwn_text,
 };
+use arrayvec::ArrayVec;
 use std::test::Fail;
 
 #[test]
@@ -63,6 +64,13 @@ fn bytes_are_appended_where_they_were_made(rt: HostRuntime) -> Result<(), Fail> 
     let mut out = b"ab".to_vec(alloc)?;
     append_made(b"cd".to_vec(alloc), &mut out)?;
     assert_eq!(rt; out.as_slice(), b"abcd".as_slice());
+    let mut reserved = Vec::with_capacity(alloc, 2)?;
+    append_reserved(&mut reserved, b"ef");
+    assert_eq!(rt; reserved.as_slice(), b"ef".as_slice());
+    let mut list = ArrayVec::<u8, 3>::new();
+    put(&mut list, b"g");
+    put(&mut list, b"hi");
+    assert_eq!(rt; list.as_slice(), b"ghi".as_slice());
     Ok(())
 }
 

@@ -11,6 +11,7 @@ use Rattle.std.proofs.lemmas.Bool.{leb-true, le-leb, ltb-true, lt-ltb, eqb-true,
 use Rattle.fab_base.specs.Layout.{spelled, big_endian}
 use Rattle.fab_base.specs.Texts.{hex_digit, hex}
 use Rattle.fab_base.proofs.LayoutLemmas.{length-spelled, big_endian-spelled}
+use Rattle.fab_base.proofs.TextLemmas.{below}
 use Rattle.fab_config.specs.Settings.{is_between}
 use Rattle.fab_config.specs.Values.{is_digit, digits_value, number, number_between, hex_value, octet, with_octet, octets, octets_of, name}
 use Rattle.fab_config.specs.Written.{octets_text, name_text}
@@ -88,23 +89,7 @@ decimal_word n fits = let d = decimal_is n fits in and_from (is_word (decimal n)
 -- ---- pairs of digits
 
 digit_back : (d : ℕ) → d < 16 → hex_value (hex_digit d) ≡ Some d
-digit_back zero h = refl
-digit_back (suc zero) h = refl
-digit_back (suc (suc zero)) h = refl
-digit_back (suc (suc (suc zero))) h = refl
-digit_back (suc (suc (suc (suc zero)))) h = refl
-digit_back (suc (suc (suc (suc (suc zero))))) h = refl
-digit_back (suc (suc (suc (suc (suc (suc zero)))))) h = refl
-digit_back (suc (suc (suc (suc (suc (suc (suc zero))))))) h = refl
-digit_back (suc (suc (suc (suc (suc (suc (suc (suc zero)))))))) h = refl
-digit_back (suc (suc (suc (suc (suc (suc (suc (suc (suc zero))))))))) h = refl
-digit_back (suc (suc (suc (suc (suc (suc (suc (suc (suc (suc zero)))))))))) h = refl
-digit_back (suc (suc (suc (suc (suc (suc (suc (suc (suc (suc (suc zero))))))))))) h = refl
-digit_back (suc (suc (suc (suc (suc (suc (suc (suc (suc (suc (suc (suc zero)))))))))))) h = refl
-digit_back (suc (suc (suc (suc (suc (suc (suc (suc (suc (suc (suc (suc (suc zero))))))))))))) h = refl
-digit_back (suc (suc (suc (suc (suc (suc (suc (suc (suc (suc (suc (suc (suc (suc zero)))))))))))))) h = refl
-digit_back (suc (suc (suc (suc (suc (suc (suc (suc (suc (suc (suc (suc (suc (suc (suc zero))))))))))))))) h = refl
-digit_back (suc (suc (suc (suc (suc (suc (suc (suc (suc (suc (suc (suc (suc (suc (suc (suc d)))))))))))))))) h = absurd (omega arith)
+digit_back = below 16 (λ d. hex_value (hex_digit d) ≡ Some d) search
 
 octet_back : (b : ℕ) → b < 256 → octet (hex_digit (b / 16 % 16)) (hex_digit (b % 16)) ≡ Some b
 octet_back b lt =

@@ -11,13 +11,15 @@ use crate::words::{first_word, is, next_word, read_address, read_number, read_po
 use crate::{Format, Line};
 use fab_base::{FcId, IdList, Moment};
 use std::alloc::Global;
+use thiserror::Error;
 
 /// Why no line is read.
-#[derive(Clone, Copy, Debug, PartialEq, Eq)]
+#[derive(Clone, Copy, Debug, PartialEq, Eq, Error)]
 pub enum LineError {
     /// The text is no line's one spelling.
+    #[error("the text is no line of a journal")]
     Fault,
-    /// Memory was refused.
+    #[error("memory was refused")]
     Memory,
 }
 

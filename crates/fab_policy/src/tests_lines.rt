@@ -277,6 +277,13 @@ fn a_clock_stands_in_format_2(rt: HostRuntime) -> Result<(), Fail> {
     Ok(())
 }
 
+#[test]
+fn a_fault_of_a_line_has_a_text(rt: HostRuntime) -> Result<(), Fail> {
+    let text = format!(in rt.alloc(); "{}", LineError::Fault)?;
+    assert_eq!(rt; text.as_str(), "the text is no line of a journal");
+    Ok(())
+}
+
 fn is_fault(alloc: Global, format: Format, text: &str) -> bool {
     match read_line(alloc, format, text.as_bytes()) {
         Err(LineError::Fault) => true,

@@ -3,7 +3,7 @@ ghost use Rattle.std.specs.Prelude.{◌≡◌, ◌++◌, ◌≤◌, drop, length
 ghost use Rattle.fab_policy.specs.Logins.{granted_mac as mac_granted};
 
 use crate::parts::granted_mac;
-use fab_base::{FcId, NoMemory};
+use fab_base::{FcId, NoMemory, append_reserved};
 use fab_config::Config;
 use std::alloc::Global;
 
@@ -28,8 +28,8 @@ pub(crate) fn write_forwarded(
 {
     let dst = granted_mac(config, to);
     into.reserve(frame.len())?;
-    into.extend_from_slice(&dst.0).unwrap();
-    into.extend_from_slice(&config.fcf_mac.0).unwrap();
-    into.extend_from_slice(&frame[MACS..]).unwrap();
+    append_reserved(into, &dst.0);
+    append_reserved(into, &config.fcf_mac.0);
+    append_reserved(into, &frame[MACS..]);
     Ok(())
 }

@@ -1,4 +1,3 @@
-pub mod Appends
 pub mod FrameLemmas
 pub mod PieceLemmas
 pub mod PieceLaws

@@ -4,7 +4,7 @@ ghost use Rattle.std.specs.Prelude.{length, OnOk, OnErr, vec_len, vec_capacity};
 ghost use Rattle.fc_frames.specs.Frame.{IsPayload, frame_bytes, header_bytes, view};
 
 use crate::{FcFrame, FcHeader, HEADER};
-use fab_base::NoMemory;
+use fab_base::{NoMemory, append_reserved};
 use std::alloc::Global;
 
 /// Appends the header and the payload. Where memory is refused, `out` is as it was.
@@ -22,8 +22,8 @@ pub fn write_frame(_alloc: Global, frame: &FcFrame<'_>, out: &mut Vec<u8>) -> Re
 {
     let head = header(&frame.head);
     out.reserve(HEADER + frame.payload.len())?;
-    out.extend_from_slice(&head).unwrap();
-    out.extend_from_slice(frame.payload).unwrap();
+    append_reserved(out, &head);
+    append_reserved(out, frame.payload);
     Ok(())
 }
 

@@ -1,5 +1,5 @@
 -- The layout against reading and writing.
-use Rattle.std.proofs.Common.{◌≡◌, ℕ, ◌+◌, ◌-◌, ◌*◌, ◌/◌, ◌%◌, ◌≤◌, Bool, true, false, cond, ◌&&◌, leb, eqb, List, [], ◌∷◌, ◌++◌, length, length-append, append_assoc, drop, Result, Ok, Err, refl, sym, ap, subst, ◌∙◌, arith}
+use Rattle.std.proofs.Common.{◌≡◌, ℕ, ◌+◌, ◌-◌, ◌*◌, ◌/◌, ◌%◌, ◌≤◌, Bool, true, false, cond, ◌&&◌, leb, eqb, List, [], ◌∷◌, ◌++◌, length, length-append, append_assoc, drop, Result, Ok, Err, OnOk, refl, sym, ap, subst, ◌∙◌, arith}
 use Rattle.std.proofs.Math.Seq.{get_or-append_seam}
 use Rattle.std.proofs.lemmas.List.{drop_at}
 use Rattle.std.proofs.lemmas.Bool.{le-leb, eq-eqb}
@@ -182,3 +182,7 @@ appended f old one two three new check from is_one is_from is_two is_check is_th
     let made : check ≡ crc_bytes (crc inner) = is_check ∙ ap (λ l. crc_bytes (crc l)) covers in
     let front : two ≡ (old ++ start) ++ inner = is_two ∙ ap (λ l. l ++ inner) is_one in
     is_new ∙ ap (λ l. l ++ tail) (is_three ∙ ap (λ l. l ++ check) front ∙ ap (λ l. ((old ++ start) ++ inner) ++ l) made) ∙ regroup old start inner (crc_bytes (crc inner)) tail
+
+-- what a call ensures where it is Ok
+pub from_ok : {E A P : Type 0} (r : Result A E) (x : A) → r ≡ Ok x → OnOk r P → P
+from_ok {E} {A} {P} r x ok on = let Q : Result A E → Type 0 = λ s. OnOk s P in subst Q ok on

@@ -7,7 +7,7 @@ ghost use Rattle.fc_frames.specs.Frame as fc;
 ghost use Rattle.fcoe_codec.specs.Fcoe as spec;
 
 use crate::{FcoeFrame, HEADER_AT, LEAST, SOF_AT};
-use fab_base::NoMemory;
+use fab_base::{NoMemory, append_reserved};
 use fc_check::{crc_bytes, crc32};
 use fc_frames::write_frame;
 use std::alloc::Global;
@@ -24,12 +24,12 @@ pub fn write_fcoe(alloc: Global, frame: &FcoeFrame<'_>, out: &mut Vec<u8>) -> Re
     ensures err { OnErr result (out.new.items ≡ out.old.items) }
 {
     out.reserve(LEAST + frame.frame.payload.len())?;
-    out.extend_from_slice(&start_with(frame.sof)).unwrap();
+    append_reserved(out, &start_with(frame.sof));
     let from = out.len();
     write_frame(alloc, &frame.frame, out).unwrap();
     let check = check_of(out, from);
-    out.extend_from_slice(&check).unwrap();
-    out.extend_from_slice(&[frame.eof, 0, 0, 0]).unwrap();
+    append_reserved(out, &check);
+    append_reserved(out, &[frame.eof, 0, 0, 0]);
     Ok(())
 }
 

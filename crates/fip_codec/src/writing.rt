@@ -16,7 +16,7 @@ use crate::descriptor::{
 use crate::message::{FipOut, LoginKind, VxPort};
 use crate::reading::{A, F, FP, HEADER_LEN, S};
 use arrayvec::ArrayVec;
-use fab_base::{Mac, NoMemory, Wwn};
+use fab_base::{Mac, NoMemory, Wwn, append_reserved, put};
 use std::alloc::Global;
 
 /// The bytes of the longest list: a MAC, a name and a hundred Vx_Ports.
@@ -24,15 +24,6 @@ const MOST_LIST: usize = 2020;
 
 /// The descriptors of a message.
 type Descriptors = ArrayVec<u8, MOST_LIST>;
-
-/// Appends bytes for which there is room.
-fn put(list: &mut Descriptors, bytes: &[u8])
-    requires { array_vec_len list.old + length bytes.now ≤ MOST_LIST }
-    ensures bytes { list.new.items ≡ list.old.items ++ bytes.now }
-    ensures size { array_vec_len list.new ≡ array_vec_len list.old + length bytes.now }
-{
-    list.try_extend_from_slice(bytes).unwrap();
-}
 
 fn put_priority(list: &mut Descriptors, value: u8)
     requires { array_vec_len list.old + 4 ≤ MOST_LIST }
@@ -349,7 +340,7 @@ pub fn write_fip(_alloc: Global, message: &FipOut<'_>, out: &mut Vec<u8>) -> Res
     let mut list = Descriptors::new();
     put_list(&mut list, message);
     out.reserve(HEADER_LEN + list.len())?;
-    out.extend_from_slice(&head_of(message, &list)).unwrap();
-    out.extend_from_slice(&list).unwrap();
+    append_reserved(out, &head_of(message, &list));
+    append_reserved(out, &list);
     Ok(())
 }

@@ -8,7 +8,8 @@ use Rattle.keepalive_clock.specs.Order.{due_of, ComeDue}
 use Rattle.keepalive_clock.specs.declared.voice.Voice.{Voice}
 use Rattle.keepalive_clock.specs.declared.voice.Voice.TheVariants.{Node, Port}
 use Rattle.keepalive_clock.specs.declared.voice.LastHeard.{LastHeard}
-use Rattle.keepalive_clock.proofs.HeardLemmas.{position_or_len-here, position_or_len-later, passes_found, found_passes}
+use Rattle.fab_base.proofs.SamenessLemmas.{position_or_len-here, position_or_len-later}
+use Rattle.keepalive_clock.proofs.HeardLemmas.{passes_found, found_passes}
 
 late : (h p m : ℕ) → h + 5 * p / 2 + 1 ≤ m → 5 * p < 2 * (m - h)
 late h p m due = omega arith

@@ -1,9 +1,10 @@
 -- What a contract sees of a clock: the two periods, how many voices it may hold, and each voice with its last moment. The
 -- order of the voices says nothing.
-use Rattle.std.specs.Prelude.{◌≡◌, ℕ, ◌<◌, ◌≤◌, Bool, true, false, not, List, [], ◌∷◌, length, filter, find, Option, None, Some, option_map, IsTrue, ◌+◌, is_some, if◌then◌else◌}
+use Rattle.std.specs.Prelude.{◌≡◌, ℕ, ◌<◌, ◌≤◌, Bool, true, false, List, length, Option, None, Some, option_map, IsTrue, ◌+◌, is_some, if◌then◌else◌}
 use Rattle.std.specs.List.{list_any}
 use Rattle.std.specs.Option.{option_map_or}
 use Rattle.fab_base.specs.Fabric.{is_silent}
+use Rattle.fab_base.specs.Keyed as keyed
 use Rattle.keepalive_clock.specs.Voices.{same_voice}
 use Rattle.keepalive_clock.specs.declared.voice.Voice.{Voice}
 use Rattle.keepalive_clock.specs.declared.voice.Voice.TheVariants.{Node, Port}
@@ -17,9 +18,13 @@ pub record VoiceClock : Type 0 where
 
 -- ---- questions
 
+-- the key of a last moment
+abbrev pub voice_of : LastHeard → Voice
+voice_of x = x.voice
+
 -- a voice with its last moment, if it is there
 abbrev pub heard_of : Voice → List LastHeard → Option LastHeard
-heard_of voice voices = find (λ x. same_voice x.voice voice) voices
+heard_of voice voices = keyed.item_of voice_of same_voice voice voices
 
 -- the last moment of a voice
 abbrev pub last_of : Voice → List LastHeard → Option ℕ
@@ -59,7 +64,7 @@ pub record IsFirstSilence (c : VoiceClock) (moment : ℕ) : Type 0 where
 
 -- the voices without this one
 abbrev pub without : Voice → List LastHeard → List LastHeard
-without voice voices = filter (λ x. not (same_voice x.voice voice)) voices
+without voice voices = keyed.all_but voice_of same_voice voice voices
 
 -- how many voices there are with this one
 abbrev pub count_with : Voice → List LastHeard → ℕ
@@ -83,8 +88,7 @@ pub record KeepsLimits (old new : VoiceClock) : Type 0 where
 
 -- no voice comes twice
 abbrev pub VoicesDiffer : List LastHeard → Type 0
-VoicesDiffer [] = Unit {0}
-VoicesDiffer (x ∷ voices) = (heard_of x.voice voices ≡ None) × VoicesDiffer voices
+VoicesDiffer voices = keyed.KeysDiffer voice_of same_voice voices
 
 -- No voice comes twice, and there are at most `room`.
 pub record IsSound (c : VoiceClock) : Type 0 where

@@ -1,5 +1,5 @@
 -- What a contract sees of a login table: how many logins it may hold, and the logins in ascending order of their addresses.
-use Rattle.std.specs.Prelude.{◌≡◌, ℕ, ◌≤◌, nat_le, Bool, ◌&&◌, List, [], ◌∷◌, length, find, Option, None, option_map}
+use Rattle.std.specs.Prelude.{ℕ, ◌==◌, ◌≤◌, nat_le, Bool, ◌&&◌, List, length, find, Option, option_map}
 use Rattle.fab_base.specs.Keyed as keyed
 use Rattle.login_table.specs.declared.login.Login.{Login}
 
@@ -7,9 +7,12 @@ pub record Logins : Type 0 where
   pub limit : ℕ
   pub logins : List Login
 
--- the key of a login
+-- the key of a login, and its other key
 abbrev pub address_of : Login → ℕ
 address_of l = l.address
+
+abbrev pub name_of : Login → ℕ
+name_of l = l.name
 
 -- ---- questions
 
@@ -19,7 +22,7 @@ login_at a logins = keyed.item_at address_of a logins
 
 -- the login of a port name
 abbrev pub named : ℕ → List Login → Option Login
-named name logins = keyed.item_at (λ (l : Login). l.name) name logins
+named name logins = keyed.item_at name_of name logins
 
 -- the least address from a bound on, of the logins that pass
 abbrev pub next_of : (Login → Bool) → ℕ → List Login → Option ℕ
@@ -55,8 +58,7 @@ AscendFrom from logins = keyed.AscendFrom address_of from logins
 
 -- no two logins have one port name
 abbrev pub NamesDiffer : List Login → Type 0
-NamesDiffer [] = Unit {0}
-NamesDiffer (l ∷ logins) = (named l.name logins ≡ None) × NamesDiffer logins
+NamesDiffer logins = keyed.KeysDiffer name_of ◌==◌ logins
 
 -- The logins ascend, so no address comes twice; no name comes twice; and there are at most `limit`.
 pub record IsSound (t : Logins) : Type 0 where

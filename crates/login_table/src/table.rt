@@ -4,8 +4,8 @@ ghost use Rattle.fab_base.specs.Fabric.{same_enode};
 ghost use Rattle.login_table.specs.Logins.{Logins, login_at, named, next_of, added, sized, with_server, without, IsSound};
 
 use crate::Login;
-use crate::search::{next, next_of_enode, of_address, of_name, place_above, place_of};
-use fab_base::{Enode, FcId, NoMemory, Wwn};
+use crate::search::{next, next_of_enode, of_name};
+use fab_base::{Enode, FcId, NoMemory, Wwn, find_at, place_above, place_at};
 use std::alloc::Global;
 use std::marker::Model;
 
@@ -63,7 +63,7 @@ impl LoginTable {
         ensures login { option_copied result ≡ login_at address self.now.logins }
         ensures sound { IsSound self.now }
     {
-        of_address(&self.logins, address)
+        find_at(&self.logins, address)
     }
 
     /// The login of a port name.
@@ -84,7 +84,7 @@ impl LoginTable {
         ensures found { (a : ℕ) → login_at a self.new.logins
             ≡ option_map (sized address size) (login_at a self.old.logins) }
     {
-        match place_of(&self.logins, address) {
+        match place_at(&self.logins, address) {
             Some(place) => {
                 self.logins[place].server_size = size;
                 true
@@ -109,7 +109,7 @@ impl LoginTable {
         ensures found { (a : ℕ) → login_at a self.new.logins
             ≡ (if address == a then None else login_at a self.old.logins) }
     {
-        match place_of(&self.logins, address) {
+        match place_at(&self.logins, address) {
             Some(place) => Some(self.logins.remove(place)),
             None => None,
         }

@@ -8,7 +8,7 @@ ghost use Rattle.name_server.specs.Registry.{entered, IsKept};
 use crate::features::{feature_map, no_features};
 use arrayvec::ArrayVec;
 use ct_messages::{CtAsk, FeatureMap, TypeMap};
-use fab_base::{FcId, Wwn};
+use fab_base::{FcId, HasAddress, Wwn};
 use std::marker::Model;
 
 /// The longest symbolic name, in bytes.
@@ -53,6 +53,14 @@ impl Model for Entry {
     }) };
 }
 
+impl HasAddress for Entry {
+    ghost address_of = { λ e. e.address };
+
+    fn address(&self) -> FcId {
+        self.address
+    }
+}
+
 impl Entry {
     /// What the login gave.
     pub(crate) fn new(address: FcId, node: Wwn) -> Entry
@@ -68,12 +76,6 @@ impl Entry {
             symbol: ArrayVec::new(),
             node_symbol: ArrayVec::new(),
         }
-    }
-
-    pub(crate) fn address(&self) -> FcId
-        ensures { result ≡ self.now.address }
-    {
-        self.address
     }
 
     pub(crate) fn node_name(&self) -> Wwn

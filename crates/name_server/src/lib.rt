@@ -9,7 +9,6 @@ mod lists;
 mod ports;
 mod refusals;
 mod registry;
-mod search;
 mod seen;
 
 pub use refusals::RegFault;

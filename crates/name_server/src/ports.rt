@@ -6,8 +6,7 @@ ghost use Rattle.name_server.specs.Views.{as_known};
 
 use crate::SeenPort;
 use crate::entry::Entry;
-use crate::search::entry_of;
-use fab_base::{FcId, Wwn};
+use fab_base::{FcId, Wwn, find_at};
 
 /// An N_Port that the asker may see.
 #[derive(Clone, Copy)]
@@ -20,7 +19,7 @@ pub(crate) struct Known<'a> {
 pub(crate) fn with_entry<'a>(entries: &'a [Entry], port: &'a SeenPort) -> Option<Known<'a>>
     ensures { option_map as_known result ≡ known_port entries.now port.now }
 {
-    match entry_of(entries, port.address) {
+    match find_at(entries, port.address) {
         Some(entry) => Some(Known { port, entry }),
         None => None,
     }

@@ -7,11 +7,13 @@ ghost use Rattle.name_server.specs.Registry.{codes};
 
 use ct_messages::{CtAsk, CtTell};
 use fab_base::{FcId, Wwn};
+use thiserror::Error;
 
 /// Why a registration is not done.
-#[derive(Clone, Copy, Debug, PartialEq, Eq)]
+#[derive(Clone, Copy, Debug, PartialEq, Eq, Error)]
 pub enum RegFault {
     /// It is refused with these codes.
+    #[error("refused with reason {reason:02x}, explanation {explanation:02x}")]
     Refused { reason: u8, explanation: u8 },
 }
 

@@ -8,10 +8,9 @@ ghost use Rattle.name_server.specs.Registry.{Registrations, entry_at, entered, a
 use crate::answers::answer_of;
 use crate::entry::Entry;
 use crate::refusals::refusal_of;
-use crate::search::{entry_of, place_above, place_of};
 use crate::{RegFault, Seen};
 use ct_messages::{CtAsk, CtTell, TypeMap};
-use fab_base::{FcId, NoMemory, Wwn};
+use fab_base::{FcId, HasAddress, NoMemory, Wwn, find_at, place_above, place_at};
 use std::alloc::Global;
 use std::marker::Model;
 
@@ -82,7 +81,7 @@ impl Registry {
         ensures found { (a : ℕ) → entry_at a self.new.entries
             ≡ (if address == a then None else entry_at a self.old.entries) }
     {
-        match place_of(&self.entries, address) {
+        match place_at(&self.entries, address) {
             Some(place) => {
                 self.entries.remove(place);
                 true
@@ -97,7 +96,7 @@ impl Registry {
             (entry_at address self.now.entries) }
         ensures sound { IsSound self.now }
     {
-        entry_of(&self.entries, address).map(|entry| entry.types())
+        find_at(&self.entries, address).map(|entry| entry.types())
     }
 
     /// The registered node name of an N_Port.
@@ -106,7 +105,7 @@ impl Registry {
             (entry_at address self.now.entries) }
         ensures sound { IsSound self.now }
     {
-        entry_of(&self.entries, address).map(|entry| entry.node_name())
+        find_at(&self.entries, address).map(|entry| entry.node_name())
     }
 
     /// Does a registration of the asker. Refused, nothing changes.
@@ -130,7 +129,7 @@ impl Registry {
         ensures stays { OnErr result (self.new ≡ self.old) }
         ensures sound { IsSound self.new }
     {
-        let Some(place) = place_of(&self.entries, asker) else {
+        let Some(place) = place_at(&self.entries, asker) else {
             unreachable!()
         };
         let entry = &mut self.entries[place];

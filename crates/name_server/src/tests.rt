@@ -281,3 +281,14 @@ fn queries_of_a_name_or_a_type(rt: HostRuntime) -> Result<(), Fail> {
     assert_answer(&rt, &two, &CtAsk::Unknown(0x0200), [0x0b, 0], &[])?;
     Ok(())
 }
+
+#[test]
+fn a_refusal_is_told_by_its_codes(rt: HostRuntime) -> Result<(), Fail> {
+    let fault = RegFault::Refused {
+        reason: 0x0b,
+        explanation: 1,
+    };
+    let text = format!(in rt.alloc(); "{fault}")?;
+    assert_eq!(rt; text.as_str(), "refused with reason 0b, explanation 01");
+    Ok(())
+}

@@ -88,7 +88,7 @@ abbrev pub place_after : ℕ → ℕ → ℕ
 place_after at count = min (at + count) (2 ^ 64 - 1)
 
 -- What holds of a record that a reader gives, told or not: limits of its parts, and what it takes from the budget.
-pub record Takes (before after : Reading) (had left : Budget) (r : Record) : Type 0 where
+pub record TakesRecord (before after : Reading) (had left : Budget) (r : Record) : Type 0 where
   pub fresh : before.kept ≡ None
   pub moved : after ≡ record before { at = place_after before.at (RECORD_HEAD + length r.caught.bytes); greatest = r.moment; held = after.held }
   pub onward : before.greatest ≤ r.moment
@@ -113,7 +113,7 @@ pub record KeepsError (before after : Reading) (had left : Budget) (e : CapError
 pub record NextReads (slot : ℕ) (old new : Seen) (before after : Reading) (had left : Budget) (result : Result (Option Record) CapError) : Type 0 where
   pub reads : Reads (old.name slot) old new
   pub says : IsTrue old.told → before.kept ≡ None → Says (step_of had before.at (next before.head before.greatest (to_come before old slot))) (to_come after new slot) result
-  pub taken : IfOk result (λ o. MatchOption o (Rests before after had left) (λ r. Takes before after had left r))
+  pub taken : IfOk result (λ o. MatchOption o (Rests before after had left) (λ r. TakesRecord before after had left r))
   pub kept : MatchResult result (λ o. Unit {0}) (λ e. KeepsError before after had left e)
   pub cause : before.kept ≡ None → (f : Failed) → result ≡ Err (errors.Read f) → Rose (old.read_faults (old.name slot)) (new.read_faults (old.name slot))
   pub again : (e : CapError) → before.kept ≡ Some e → (result ≡ Err e) × (new ≡ old) × (after ≡ before)

@@ -4,7 +4,7 @@ ghost use Rattle.arrayvec.specs.ArrayVec.{array_vec_len};
 ghost use Rattle.pcap_file.specs.Capture.{head_bytes, record_front, record_bytes};
 
 use arrayvec::ArrayVec;
-use fab_base::{Moment, NoMemory};
+use fab_base::{Moment, NoMemory, put};
 use std::alloc::Global;
 
 /// What a record has before its bytes.
@@ -54,20 +54,9 @@ fn record_head(moment: Moment, len: u32) -> ArrayVec<u8, RECORD_HEAD>
     let seconds = (moment.0 / 1000).min(LAST_SECOND);
     let micros = (moment.0 - seconds * 1000) * 1000;
     let mut head = ArrayVec::new();
-    add(&mut head, &seconds.to_le_bytes()[..4]);
-    add(&mut head, &micros.to_le_bytes()[..4]);
-    add(&mut head, &len.to_le_bytes());
-    add(&mut head, &len.to_le_bytes());
+    put(&mut head, &seconds.to_le_bytes()[..4]);
+    put(&mut head, &micros.to_le_bytes()[..4]);
+    put(&mut head, &len.to_le_bytes());
+    put(&mut head, &len.to_le_bytes());
     head
-}
-
-fn add(head: &mut ArrayVec<u8, RECORD_HEAD>, part: &[u8])
-    requires { array_vec_len head.old + length part.now ≤ 16 }
-    ensures items { head.new.items ≡ head.old.items ++ part.now }
-    ensures len { array_vec_len head.new ≡ array_vec_len head.old + length part.now }
-{
-    match head.try_extend_from_slice(part) {
-        Ok(()) => {}
-        Err(_) => unreachable!(),
-    }
 }

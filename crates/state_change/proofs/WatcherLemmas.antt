@@ -3,6 +3,7 @@ use Rattle.std.proofs.Common.{◌≡◌, ℕ, ◌<◌, ◌&&◌, Bool, List, len
 use Rattle.std.specs.Option.{option_map}
 use Rattle.std.proofs.lemmas.List.Elements.{All-filter}
 use Rattle.fab_base.proofs.KeyedLemmas as keyed
+use Rattle.fab_base.proofs.SamenessLemmas.{find-filter}
 use Rattle.state_change.specs.Watchers.{Watching, address_of, watcher_at, set_to, without, first_from, is_asking, IsSound}
 use Rattle.state_change.specs.declared.watcher.Watcher.{Watcher}
 
@@ -22,4 +23,4 @@ IsSound-without a t sound = record {
 }
 
 pub first_from-filter : (from : ℕ) (q : Watcher → Bool) (ws : List Watcher) → option_map address_of (find (λ w. nat_le from w.address && q w) ws) ≡ first_from from (filter q ws)
-first_from-filter from q ws = ap (option_map address_of) (keyed.find-filter (λ w. nat_le from w.address) q ws)
+first_from-filter from q ws = ap (option_map address_of) (find-filter (λ w. nat_le from w.address) q ws)

@@ -4,7 +4,7 @@ ghost use Rattle.state_change.specs.Watchers.{Watching, watcher_at, function_at,
 
 use crate::watcher::CLEAR;
 use crate::{Watcher, search};
-use fab_base::{FcId, Moment, NoMemory, Wwn};
+use fab_base::{FcId, Moment, NoMemory, Wwn, find_at, place_above, place_at};
 use std::alloc::Global;
 use std::marker::Model;
 use zone_rules::Zones;
@@ -75,7 +75,7 @@ impl Watchers {
         ensures found { (a : ℕ) → watcher_at a self.new.watchers
             ≡ (if watcher.address == a then Some watcher else watcher_at a self.old.watchers) }
     {
-        let place = search::place_above(&self.watchers, watcher.address);
+        let place = place_above(&self.watchers, watcher.address);
         let Ok(()) = self.watchers.insert(place, watcher) else {
             unreachable!()
         };
@@ -93,7 +93,7 @@ impl Watchers {
         ensures found { (a : ℕ) → watcher_at a self.new.watchers
             ≡ (if address == a then None else watcher_at a self.old.watchers) }
     {
-        match search::place_of(&self.watchers, address) {
+        match place_at(&self.watchers, address) {
             Some(place) => {
                 self.watchers.remove(place);
                 true
@@ -107,7 +107,7 @@ impl Watchers {
         ensures function { result ≡ function_at address self.now.watchers }
         ensures sound { IsSound self.now }
     {
-        match search::of_address(&self.watchers, address) {
+        match find_at(&self.watchers, address) {
             Some(watcher) => watcher.function,
             None => 0,
         }

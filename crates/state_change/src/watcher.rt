@@ -2,7 +2,7 @@
 ghost use Rattle.std.specs.Prelude.{◌≡◌};
 ghost use Rattle.state_change.specs.Watchers as spec;
 
-use fab_base::{FcId, Moment, Wwn};
+use fab_base::{FcId, HasAddress, Moment, Wwn};
 use zone_rules::Zones;
 
 /// The function that asks for nothing any more (FC-LS-2, "SCR", Clear registration).
@@ -22,6 +22,14 @@ pub struct Watcher {
     pub address: FcId,
     pub name: Wwn,
     pub function: u8,
+}
+
+impl HasAddress for Watcher {
+    ghost address_of = { λ w. w.address };
+
+    fn address(&self) -> FcId {
+        self.address
+    }
 }
 
 // Whether the fabric tells it of changes.

@@ -1,12 +1,15 @@
-use Rattle.std.proofs.Common.{not, ◌≡◌, ◌∙◌, ◌<◌, ap, sym, subst, arith, nat_lt, ◌+◌, length, List, None, ◌≤◌}
+use Rattle.std.proofs.Common.{not, ◌≡◌, ◌∙◌, ◌<◌, ap, sym, subst, arith, nat_lt, ◌+◌, length, List, None, ◌≤◌, if◌then◌else◌}
 use Rattle.std.specs.List.{position_or_len, insert}
 use Rattle.std.proofs.lemmas.List.Edits.{length-insert}
 use Rattle.std.proofs.lemmas.List.Sums.{prefix_len-le-length}
 use Rattle.std.proofs.lemmas.List.Sorted.{IsPermutation-insert}
-use Rattle.keepalive_clock.specs.Clock.{VoiceClock, IsSound, without, heard_of}
+use Rattle.fab_base.proofs.SamenessLemmas as same
+use Rattle.keepalive_clock.specs.Voices.{same_voice}
+use Rattle.keepalive_clock.specs.Clock.{VoiceClock, IsSound, voice_of, without, heard_of}
 use Rattle.keepalive_clock.specs.Order.{due_of, ComeDue}
 use Rattle.keepalive_clock.specs.declared.voice.LastHeard.{LastHeard}
-use Rattle.keepalive_clock.proofs.HeardLemmas.{count_without, room_without, last_of-insert, heard_of-without_this, VoicesDiffer-insert}
+use Rattle.keepalive_clock.proofs.HeardLemmas.{count_without, room_without, last_of-insert}
+use Rattle.keepalive_clock.proofs.VoiceLemmas.{voices_same}
 use Rattle.keepalive_clock.proofs.DueLemmas.{ComeDue-insert}
 use Rattle.keepalive_clock.proofs.clock.KeepClock.heard.Goals as goal
 
@@ -32,7 +35,10 @@ less c =
     omega (arith, room, room_without c.args.voice c.args.self.now.voices c.args.self.now.room c.requires.room c.remove_voice.ensures.was_sound.bound, ap (λ (l : List LastHeard). length l) (rest c))
 
 absent : (c : goal.In-Ok) → heard_of c.args.voice c.self.inside.voices.items ≡ None
-absent c = ap (λ l. heard_of c.args.voice l) (rest c) ∙ heard_of-without_this c.args.voice c.args.self.now.voices
+absent c =
+    ap (λ l. heard_of c.args.voice l) (rest c)
+    ∙ same.item_of-all_but voice_of same_voice voices_same c.args.voice c.args.voice c.args.self.now.voices
+    ∙ ap (λ b. if b then None else heard_of c.args.voice c.args.self.now.voices) (voices_same.self c.args.voice)
 
 within : (c : goal.In-Ok) → c.place_after-place.result ≤ length c.self.inside.voices.items
 within c =
@@ -46,7 +52,7 @@ sound : (c : goal.In-Ok) → IsSound (record {
   voices = insert c.self.inside.voices.items c.place_after-place.result (record { voice = c.args.voice; last = c.args.now });
 })
 sound c = record {
-  differ = VoicesDiffer-insert _ _ c.place_after-place.result c.self.invariant.sound.differ (absent c);
+  differ = same.KeysDiffer-insert voice_of same_voice voices_same _ _ c.place_after-place.result c.self.invariant.sound.differ (absent c);
   bound = omega (arith, less c, length-insert c.self.inside.voices.items c.place_after-place.result (record { voice = c.args.voice; last = c.args.now }) (within c));
 }
 

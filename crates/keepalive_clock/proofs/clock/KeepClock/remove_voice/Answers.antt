@@ -1,18 +1,20 @@
-use Rattle.std.proofs.Common.{◌≡◌, ◌∙◌, ap, sym, refl, arith, position, Some, None, is_some}
+use Rattle.std.proofs.Common.{◌≡◌, ◌∙◌, ap, sym, refl, arith, None, is_some}
 use Rattle.keepalive_clock.specs.Voices.{same_voice}
-use Rattle.keepalive_clock.specs.Clock.{IsSound, without}
-use Rattle.keepalive_clock.proofs.HeardLemmas.{without_by_remove, without-absent, heard_of-place, heard_of-no_place, is_some-last, VoicesDiffer-filter, length-without}
+use Rattle.fab_base.proofs.SamenessLemmas as same
+use Rattle.keepalive_clock.specs.Clock.{IsSound, voice_of, heard_of, without}
+use Rattle.keepalive_clock.proofs.VoiceLemmas.{voices_same}
+use Rattle.keepalive_clock.proofs.HeardLemmas.{is_some-last}
 use Rattle.keepalive_clock.proofs.DueLemmas.{ComeDue-filter}
 use Rattle.keepalive_clock.proofs.clock.KeepClock.remove_voice.Goals as goal
 
-found : (c : goal.After-remove) → position (λ x. same_voice x.voice c.args.voice.now) c.self.inside.voices.items ≡ Some c.in-Some.place
-found c = rw c.deref.ensures.value at (sym c.place_of.ensures ∙ c.in-Some.is)
+place : (c : goal.After-remove) → same.IsPlaceOf voice_of same_voice voices_same c.args.voice.now c.self.inside.voices.items c.in-Some.place
+place c = same.IsPlaceOf-found voice_of same_voice voices_same c.args.voice.now _ _ _ _ c.self.invariant.sound.differ c.place_of.ensures c.deref.ensures.value c.in-Some.is
 
 items : (c : goal.After-remove) → c.remove.new.self.items ≡ without c.args.voice.now c.self.inside.voices.items
-items c = c.remove.ensures.items ∙ without_by_remove c.args.voice.now _ c.self.invariant.sound.differ _ c.remove.result (found c)
+items c = c.remove.ensures.items ∙ (place c).removal
 
-none : (c : goal.In-None) → position (λ x. same_voice x.voice c.args.voice.now) c.self.inside.voices.items ≡ None
-none c = rw c.deref.ensures.value at (sym c.place_of.ensures ∙ c.in-None.is)
+none : (c : goal.In-None) → heard_of c.args.voice.now c.self.inside.voices.items ≡ None
+none c = same.item_of-not_found voice_of same_voice voices_same c.args.voice.now _ _ _ c.place_of.ensures c.deref.ensures.value c.in-None.is
 
 sound : (c : goal.After-remove) → IsSound (record {
   node_period = c.self.inside.node_period;
@@ -21,8 +23,8 @@ sound : (c : goal.After-remove) → IsSound (record {
   voices = without c.args.voice.now c.self.inside.voices.items;
 })
 sound c = record {
-  differ = VoicesDiffer-filter _ _ c.self.invariant.sound.differ;
-  bound = omega (arith, c.self.invariant.sound.bound, length-without c.args.voice.now c.self.inside.voices.items);
+  differ = same.KeysDiffer-filter voice_of same_voice voices_same _ _ c.self.invariant.sound.differ;
+  bound = omega (arith, c.self.invariant.sound.bound, same.length-others (λ x. same_voice x.voice c.args.voice.now) c.self.inside.voices.items);
 }
 
 pub invariant_of-self : goal.invariant_of-self
@@ -35,8 +37,7 @@ invariant_of-self c = rw (items c) (record {
 })
 
 pub returns-in-Some-clause-there : goal.returns-in-Some-clause-there
-returns-in-Some-clause-there c =
-    rw (← c.self.view_is) (sym (is_some-last _ ∙ ap is_some (heard_of-place c.args.voice.now _ c.self.invariant.sound.differ _ c.remove.result (found c))))
+returns-in-Some-clause-there c = rw (← c.self.view_is) (sym (is_some-last _ ∙ ap is_some ((place c).item c.remove.result)))
 
 pub returns-in-Some-clause-voices : goal.returns-in-Some-clause-voices
 returns-in-Some-clause-voices c = rw (items c, ← c.self.view_is) refl
@@ -45,7 +46,7 @@ pub returns-in-Some-clause-sound : goal.returns-in-Some-clause-sound
 returns-in-Some-clause-sound c = rw (items c) (sound c)
 
 pub returns-in-None-clause-there : goal.returns-in-None-clause-there
-returns-in-None-clause-there c = rw (← c.self.view_is) (sym (is_some-last _ ∙ ap is_some (heard_of-no_place c.args.voice.now _ (none c))))
+returns-in-None-clause-there c = rw (← c.self.view_is) (sym (is_some-last _ ∙ ap is_some (none c)))
 
 pub returns-in-None-clause-voices : goal.returns-in-None-clause-voices
-returns-in-None-clause-voices c = rw (← c.self.view_is) (rw (without-absent c.args.voice.now _ (heard_of-no_place c.args.voice.now _ (none c))) refl)
+returns-in-None-clause-voices c = rw (← c.self.view_is) (rw (same.others-absent _ _ (none c)) refl)

@@ -6,7 +6,7 @@ use Rattle.login_table.proofs.LoginLemmas.{IsSound-with_server}
 use Rattle.login_table.proofs.table.LoginTable.set_server.Goals as goal
 
 place : (c : goal.After-self-1) → keyed.IsPlace address_of c.args.address c.self.inside.logins.items c.in-Some.place
-place c = keyed.IsPlace-found address_of c.args.address 0 _ _ _ _ c.self.invariant.sound.ascending c.place_of.ensures c.deref.ensures.value c.in-Some.is
+place c = keyed.IsPlace-found address_of c.args.address 0 _ _ _ _ c.self.invariant.sound.ascending c.place_at.ensures c.deref.ensures.value c.in-Some.is
 
 items : (c : goal.After-self-1) → slice_set c.self.inside.logins.items c.in-Some.place (with_size c.args.size c.index_mut.result.now) ≡ with_server c.args.address c.args.size c.self.inside.logins.items
 items c = ap (λ (l : Login). slice_set c.self.inside.logins.items c.in-Some.place (with_size c.args.size l)) c.index_mut.ensures.value ∙ (place c).write (with_size c.args.size) c.index_mut.result.now
@@ -15,7 +15,7 @@ sound : (c : goal.After-self-1) → IsSound (record { limit = c.self.inside.limi
 sound c = IsSound-with_server c.args.address c.args.size _ c.self.invariant.sound
 
 none : (c : goal.In-None) → login_at c.args.address c.self.inside.logins.items ≡ None
-none c = keyed.item_at-not_found address_of c.args.address _ _ _ c.place_of.ensures c.deref.ensures.value c.in-None.is
+none c = keyed.item_at-not_found address_of c.args.address _ _ _ c.place_at.ensures c.deref.ensures.value c.in-None.is
 
 stays : (c : goal.In-None) → c.self.inside.logins.items ≡ with_server c.args.address c.args.size c.self.inside.logins.items
 stays c = sym (keyed.changed-absent address_of (with_size c.args.size) c.args.address _ (none c))

@@ -7,14 +7,14 @@ use Rattle.name_server.proofs.TableLemmas.{refusal-here, IsSound-with_registrati
 use Rattle.name_server.proofs.registry.Registry.register.Goals as goal
 
 absent : (c : goal.In_default) → entry_at c.args.asker c.self.inside.entries.items ≡ None
-absent c = keyed.item_at-not_found address_of c.args.asker _ _ _ c.place_of.ensures c.deref.ensures.value c.in_default.is
+absent c = keyed.item_at-not_found address_of c.args.asker _ _ _ c.place_at.ensures c.deref.ensures.value c.in_default.is
 
 pub unreachable-requires : goal.unreachable-requires
 unreachable-requires c = let there = rw (← c.self.view_is, absent c) at c.requires.asker in cc
 
 refused : (c : goal.In-Some-refusal_of) → entry_at c.args.asker c.self.inside.entries.items ≡ Some c.index_mut-entry.result.now
 refused c =
-    (keyed.IsPlace-found address_of c.args.asker 0 _ _ _ _ c.self.invariant.sound.ascending c.place_of.ensures c.deref.ensures.value c.in-Some.is).item c.index_mut-entry.result.now
+    (keyed.IsPlace-found address_of c.args.asker 0 _ _ _ _ c.self.invariant.sound.ascending c.place_at.ensures c.deref.ensures.value c.in-Some.is).item c.index_mut-entry.result.now
     ∙ ap Some (sym c.index_mut-entry.ensures.value)
 
 pub returns-in-Some-refusal_of-clause-refused : goal.returns-in-Some-refusal_of-clause-refused
@@ -23,7 +23,7 @@ returns-in-Some-refusal_of-clause-refused c =
     ∙ ap (option_map codes) c.in-Some-refusal_of.is)
 
 place : (c : goal.After-self-2-1) → keyed.IsPlace address_of c.args.asker c.self.inside.entries.items c.in-Some.place
-place c = keyed.IsPlace-found address_of c.args.asker 0 _ _ _ _ c.self.invariant.sound.ascending c.place_of.ensures c.deref.ensures.value c.in-Some.is
+place c = keyed.IsPlace-found address_of c.args.asker 0 _ _ _ _ c.self.invariant.sound.ascending c.place_at.ensures c.deref.ensures.value c.in-Some.is
 
 here : (c : goal.After-self-2-1) → entry_at c.args.asker c.self.inside.entries.items ≡ Some c.index_mut-entry.result.now
 here c = (place c).item c.index_mut-entry.result.now ∙ ap Some (sym c.index_mut-entry.ensures.value)

@@ -5,7 +5,7 @@ use Rattle.state_change.proofs.WatcherLemmas.{IsSound-without}
 use Rattle.state_change.proofs.table.Watchers.forget.Goals as goal
 
 place : (c : goal.After-remove) → keyed.IsPlace address_of c.args.address c.self.inside.watchers.items c.in-Some.place
-place c = keyed.IsPlace-found address_of c.args.address 0 _ _ _ _ c.self.invariant.sound.ascending c.place_of.ensures c.deref.ensures.value c.in-Some.is
+place c = keyed.IsPlace-found address_of c.args.address 0 _ _ _ _ c.self.invariant.sound.ascending c.place_at.ensures c.deref.ensures.value c.in-Some.is
 
 items : (c : goal.After-remove) → c.remove.new.self.items ≡ without c.args.address c.self.inside.watchers.items
 items c = c.remove.ensures.items ∙ (place c).removal
@@ -14,7 +14,7 @@ sound : (c : goal.After-remove) → IsSound (record { room = c.self.inside.room;
 sound c = rw (items c) (IsSound-without c.args.address _ c.self.invariant.sound)
 
 none : (c : goal.In-None) → watcher_at c.args.address c.self.inside.watchers.items ≡ None
-none c = keyed.item_at-not_found address_of c.args.address _ _ _ c.place_of.ensures c.deref.ensures.value c.in-None.is
+none c = keyed.item_at-not_found address_of c.args.address _ _ _ c.place_at.ensures c.deref.ensures.value c.in-None.is
 
 stays : (c : goal.In-None) → c.self.inside.watchers.items ≡ without c.args.address c.self.inside.watchers.items
 stays c = sym (keyed.without-absent address_of c.args.address _ (none c))
