@@ -4,7 +4,8 @@ ghost use Rattle.state_change.specs.Watchers.{Watching, watcher_at, function_at,
 
 use crate::watcher::CLEAR;
 use crate::{Watcher, search};
-use fab_base::{FcId, Moment, NoMemory, Wwn, find_at, place_above, place_at};
+use fab_base::{FcId, Moment, NoMemory, Wwn};
+use sorted_lists::{find_at, place_above, place_at};
 use std::alloc::Global;
 use std::marker::Model;
 use zone_rules::Zones;

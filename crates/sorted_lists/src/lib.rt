@@ -1,0 +1,63 @@
+//! Lists that ascend by address: where an item stands, or would stand, by halving.
+#![tactic(auto)]
+
+ghost use Rattle.std.specs.Prelude.{◌≡◌, ◌==◌, ◌≤◌, nat_lt, nat_le, length, position, option_copied, unwrap_or};
+ghost use Rattle.fab_base.specs.Keyed.{item_at, AscendFrom};
+
+use fab_base::{FcId, HasAddress};
+
+/// The place of the first item whose address isn't below the bound, or past the end.
+pub fn place_from<T: HasAddress>(items: &[T], from: u32) -> usize
+    requires { AscendFrom T.address_of 0 items.now }
+    ensures place { result ≡ unwrap_or (position (λ x. nat_le from (T.address_of x)) items.now)
+        (length items.now) }
+    ensures within { result ≤ length items.now }
+{
+    let mut low = 0;
+    let mut high = items.len();
+    while low < high {
+        let middle = low + (high - low) / 2;
+        if items[middle].address().value() < from {
+            low = middle + 1;
+        } else {
+            high = middle;
+        }
+    }
+    low
+}
+
+/// The place of the first item above the address, or past the end.
+pub fn place_above<T: HasAddress>(items: &[T], address: FcId) -> usize
+    requires { AscendFrom T.address_of 0 items.now }
+    ensures place { result ≡ unwrap_or (position (λ x. nat_lt address (T.address_of x)) items.now)
+        (length items.now) }
+    ensures within { result ≤ length items.now }
+{
+    place_from(items, address.value() + 1)
+}
+
+/// The place of the item at an address.
+pub fn place_at<T: HasAddress>(items: &[T], address: FcId) -> Option<usize>
+    requires { AscendFrom T.address_of 0 items.now }
+    ensures { result ≡ position (λ x. T.address_of x == address) items.now }
+{
+    let place = place_from(items, address.value());
+    if place == items.len() {
+        return None;
+    }
+    if items[place].address() != address {
+        return None;
+    }
+    Some(place)
+}
+
+/// The item at an address.
+pub fn find_at<T: HasAddress>(items: &[T], address: FcId) -> Option<&T>
+    requires { AscendFrom T.address_of 0 items.now }
+    ensures { option_copied result ≡ item_at T.address_of address items.now }
+{
+    match place_at(items, address) {
+        Some(place) => Some(&items[place]),
+        None => None,
+    }
+}
