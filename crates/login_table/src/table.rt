@@ -5,7 +5,8 @@ ghost use Rattle.login_table.specs.Logins.{Logins, login_at, named, next_of, add
 
 use crate::Login;
 use crate::search::{next, next_of_enode, of_name};
-use fab_base::{Enode, FcId, NoMemory, Wwn, find_at, place_above, place_at};
+use fab_base::{Enode, FcId, NoMemory, Wwn};
+use sorted_lists::{find_at, place_above, place_at};
 use std::alloc::Global;
 use std::marker::Model;
 
