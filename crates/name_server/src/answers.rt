@@ -4,7 +4,7 @@ ghost use Rattle.ct_messages.specs.Ask as asks;
 ghost use Rattle.ct_messages.specs.CanWrite.{CanTell};
 ghost use Rattle.ct_messages.specs.Server as server;
 ghost use Rattle.ct_messages.specs.declared.CtTell.TheVariants as tell;
-ghost use Rattle.name_server.specs.Registry.{AreEntered, known};
+ghost use Rattle.name_server.specs.Registry.{AreEntered, AscendFrom, known};
 ghost use Rattle.name_server.specs.Views.{as_known, by_name_of};
 
 use crate::SeenPort;
@@ -45,7 +45,8 @@ fn next_of(
     seen: &[SeenPort],
     address: FcId,
 ) -> Result<CtTell, NoMemory>
-    requires { AreEntered entries.now seen.now }
+    requires entered { AreEntered entries.now seen.now }
+    requires ascending { AscendFrom 0 entries.now }
     ensures answer { IfOk result (λ t. t ≡ server.answer (known entries.now seen.now)
         (asks.NextOf address)) }
     ensures writable { IfOk result CanTell }
@@ -58,7 +59,8 @@ fn next_of(
 
 #[tactic(auto, unfolding(ct_messages::specs::Server::query))]
 fn port_name_of(entries: &[Entry], seen: &[SeenPort], address: FcId) -> CtTell
-    requires { AreEntered entries.now seen.now }
+    requires entered { AreEntered entries.now seen.now }
+    requires ascending { AscendFrom 0 entries.now }
     ensures answer { result ≡ server.answer (known entries.now seen.now) (asks.PortNameOf address) }
     ensures writable { CanTell result }
 {
@@ -70,7 +72,8 @@ fn port_name_of(entries: &[Entry], seen: &[SeenPort], address: FcId) -> CtTell
 
 #[tactic(auto, unfolding(ct_messages::specs::Server::query))]
 fn node_name_of(entries: &[Entry], seen: &[SeenPort], address: FcId) -> CtTell
-    requires { AreEntered entries.now seen.now }
+    requires entered { AreEntered entries.now seen.now }
+    requires ascending { AscendFrom 0 entries.now }
     ensures answer { result ≡ server.answer (known entries.now seen.now) (asks.NodeNameOf address) }
     ensures writable { CanTell result }
 {
@@ -82,7 +85,8 @@ fn node_name_of(entries: &[Entry], seen: &[SeenPort], address: FcId) -> CtTell
 
 #[tactic(auto, unfolding(ct_messages::specs::Server::query))]
 fn types_of(entries: &[Entry], seen: &[SeenPort], address: FcId) -> CtTell
-    requires { AreEntered entries.now seen.now }
+    requires entered { AreEntered entries.now seen.now }
+    requires ascending { AscendFrom 0 entries.now }
     ensures answer { result ≡ server.answer (known entries.now seen.now) (asks.TypesOf address) }
     ensures writable { CanTell result }
 {
@@ -95,7 +99,8 @@ fn types_of(entries: &[Entry], seen: &[SeenPort], address: FcId) -> CtTell
 
 #[tactic(auto, unfolding(ct_messages::specs::Server::query))]
 fn features_of(entries: &[Entry], seen: &[SeenPort], address: FcId) -> CtTell
-    requires { AreEntered entries.now seen.now }
+    requires entered { AreEntered entries.now seen.now }
+    requires ascending { AscendFrom 0 entries.now }
     ensures answer { result ≡ server.answer (known entries.now seen.now) (asks.FeaturesOf address) }
     ensures writable { CanTell result }
 {
@@ -107,7 +112,8 @@ fn features_of(entries: &[Entry], seen: &[SeenPort], address: FcId) -> CtTell
 
 #[tactic(auto, unfolding(ct_messages::specs::Server::query))]
 fn address_of(entries: &[Entry], seen: &[SeenPort], name: Wwn) -> CtTell
-    requires { AreEntered entries.now seen.now }
+    requires entered { AreEntered entries.now seen.now }
+    requires ascending { AscendFrom 0 entries.now }
     ensures answer { result ≡ server.answer (known entries.now seen.now) (asks.ByPortName name) }
     ensures writable { CanTell result }
 {
@@ -124,6 +130,7 @@ fn of_type(
     seen: &[SeenPort],
     kind: u8,
 ) -> Result<CtTell, NoMemory>
+    requires { AscendFrom 0 entries.now }
     ensures answer { IfOk result (λ t. t ≡ server.answer (known entries.now seen.now)
         (asks.AddressesOfType kind)) }
     ensures writable { IfOk result CanTell }
@@ -143,6 +150,7 @@ fn named_of_type(
     kind: u8,
     name: NameOf,
 ) -> Result<CtTell, NoMemory>
+    requires { AscendFrom 0 entries.now }
     ensures answer { IfOk result (λ t. t ≡ server.answer (known entries.now seen.now)
         (by_name_of name kind)) }
     ensures writable { IfOk result CanTell }
@@ -162,6 +170,7 @@ fn of_port_type(
     kind: u8,
 ) -> Result<CtTell, NoMemory>
     requires some { 0 < length (known entries.now seen.now) }
+    requires ascending { AscendFrom 0 entries.now }
     ensures answer { IfOk result (λ t. t ≡ server.answer (known entries.now seen.now)
         (asks.AddressesOfPortType kind)) }
     ensures writable { IfOk result CanTell }
@@ -181,6 +190,7 @@ pub(crate) fn answer_of(
     requires query { server.is_registration (asks.view ask.now) ≡ false }
     requires entered { AreEntered entries.now seen.now }
     requires some { 0 < length (known entries.now seen.now) }
+    requires ascending { AscendFrom 0 entries.now }
     ensures answer { IfOk result (λ t. t ≡ server.answer (known entries.now seen.now)
         (asks.view ask.now)) }
     ensures writable { IfOk result CanTell }

@@ -3,7 +3,7 @@ ghost use Rattle.std.specs.Prelude.{◌≡◌, IfOk, option_map};
 ghost use Rattle.std.specs.Option.{option_map_or};
 ghost use Rattle.ct_messages.specs.Answer.{has_type};
 ghost use Rattle.ct_messages.specs.Server.{addresses, named, of_type};
-ghost use Rattle.name_server.specs.Registry.{entry_at, known, known_port};
+ghost use Rattle.name_server.specs.Registry.{AscendFrom, entry_at, known, known_port};
 ghost use Rattle.name_server.specs.Views.{as_known, name_of, typed_if};
 
 use crate::SeenPort;
@@ -46,6 +46,7 @@ impl NameOf {
 
 // The port with its entry, if it has the type.
 fn with_type<'a>(entries: &'a [Entry], port: &'a SeenPort, kind: u8) -> Option<Known<'a>>
+    requires { AscendFrom 0 entries.now }
     ensures { option_map as_known result ≡ typed_if kind (known_port entries.now port.now) }
 {
     match with_entry(entries, port) {
@@ -61,6 +62,7 @@ pub(crate) fn addresses_of_type(
     seen: &[SeenPort],
     kind: u8,
 ) -> Result<IdList, NoMemory>
+    requires { AscendFrom 0 entries.now }
     ensures { IfOk result (λ list. list ≡ addresses (of_type kind (known entries.now seen.now))) }
 {
     let mut list = IdList::new(alloc)?;
@@ -80,6 +82,7 @@ pub(crate) fn names_of_type(
     kind: u8,
     name: NameOf,
 ) -> Result<NamedList, NoMemory>
+    requires { AscendFrom 0 entries.now }
     ensures { IfOk result (λ list. list ≡ named (name_of name)
         (of_type kind (known entries.now seen.now))) }
 {
@@ -98,6 +101,7 @@ pub(crate) fn all_addresses(
     entries: &[Entry],
     seen: &[SeenPort],
 ) -> Result<IdList, NoMemory>
+    requires { AscendFrom 0 entries.now }
     ensures { IfOk result (λ list. list ≡ addresses (known entries.now seen.now)) }
 {
     let mut list = IdList::new(alloc)?;

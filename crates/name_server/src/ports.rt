@@ -1,12 +1,13 @@
 //! A seen N_Port with what is registered of it.
 ghost use Rattle.std.specs.Prelude.{◌≡◌, ◌==◌, find, nat_lt, option_copied, option_map};
 ghost use Rattle.ct_messages.specs.Server.{first_of, known_at, known_by_name, next_port};
-ghost use Rattle.name_server.specs.Registry.{AreEntered, known, known_port};
+ghost use Rattle.name_server.specs.Registry.{AreEntered, AscendFrom, known, known_port};
 ghost use Rattle.name_server.specs.Views.{as_known};
 
 use crate::SeenPort;
 use crate::entry::Entry;
-use fab_base::{FcId, Wwn, find_at};
+use fab_base::{FcId, Wwn};
+use sorted_lists::find_at;
 
 /// An N_Port that the asker may see.
 #[derive(Clone, Copy)]
@@ -17,6 +18,7 @@ pub(crate) struct Known<'a> {
 
 // The port with its entry, if it has one.
 pub(crate) fn with_entry<'a>(entries: &'a [Entry], port: &'a SeenPort) -> Option<Known<'a>>
+    requires { AscendFrom 0 entries.now }
     ensures { option_map as_known result ≡ known_port entries.now port.now }
 {
     match find_at(entries, port.address) {
@@ -49,7 +51,8 @@ pub(crate) fn by_address<'a>(
     seen: &'a [SeenPort],
     address: FcId,
 ) -> Option<Known<'a>>
-    requires { AreEntered entries.now seen.now }
+    requires entered { AreEntered entries.now seen.now }
+    requires ascending { AscendFrom 0 entries.now }
     ensures { option_map as_known result ≡ known_at address (known entries.now seen.now) }
 {
     match first_at(seen, address) {
@@ -63,7 +66,8 @@ pub(crate) fn by_name<'a>(
     seen: &'a [SeenPort],
     name: Wwn,
 ) -> Option<Known<'a>>
-    requires { AreEntered entries.now seen.now }
+    requires entered { AreEntered entries.now seen.now }
+    requires ascending { AscendFrom 0 entries.now }
     ensures { option_map as_known result ≡ known_by_name name (known entries.now seen.now) }
 {
     match first_named(seen, name) {
@@ -73,7 +77,8 @@ pub(crate) fn by_name<'a>(
 }
 
 fn least<'a>(entries: &'a [Entry], seen: &'a [SeenPort]) -> Option<Known<'a>>
-    requires { AreEntered entries.now seen.now }
+    requires entered { AreEntered entries.now seen.now }
+    requires ascending { AscendFrom 0 entries.now }
     ensures { option_map as_known result ≡ first_of (known entries.now seen.now) }
 {
     match seen.first() {
@@ -88,7 +93,8 @@ pub(crate) fn next_to<'a>(
     seen: &'a [SeenPort],
     address: FcId,
 ) -> Option<Known<'a>>
-    requires { AreEntered entries.now seen.now }
+    requires entered { AreEntered entries.now seen.now }
+    requires ascending { AscendFrom 0 entries.now }
     ensures { option_map as_known result ≡ next_port address (known entries.now seen.now) }
 {
     match first_above(seen, address) {

@@ -10,7 +10,8 @@ use crate::entry::Entry;
 use crate::refusals::refusal_of;
 use crate::{RegFault, Seen};
 use ct_messages::{CtAsk, CtTell, TypeMap};
-use fab_base::{FcId, HasAddress, NoMemory, Wwn, find_at, place_above, place_at};
+use fab_base::{FcId, HasAddress, NoMemory, Wwn};
+use sorted_lists::{find_at, place_above, place_at};
 use std::alloc::Global;
 use std::marker::Model;
 
