@@ -1,9 +1,10 @@
 //! The addresses of the pool, each with the name that had it last and the end of that login.
-ghost use Rattle.std.specs.Prelude.{◌≡◌, ℕ, ◌+◌, ◌<◌, ◌≤◌, IsTrue, IfOk, IfSome, is_some, position};
+ghost use Rattle.std.specs.Prelude.{◌≡◌, ℕ, ◌+◌, ◌<◌, ◌≤◌, ◌^◌, IsTrue, IfOk, IfSome, is_some, length, position};
 ghost use Rattle.fc_addresses.specs.Pool.{unused, is_free, has_free, is_held, AreEndedBy, IsSound};
 ghost use Rattle.fc_addresses.specs.Pool.{addresses, taken, released, HoldsAddress, EndsLogin};
-ghost use Rattle.fc_addresses.specs.Holders.{may_follow};
+ghost use Rattle.fc_addresses.specs.Holders.{AreMarked, may_follow};
 
+use bit_rows::{Row, clear_bit, full_row, next_bit, put_bit};
 use fab_base::{FcId, Moment, NoMemory, Wwn};
 use std::alloc::Global;
 use std::marker::Model;
@@ -31,13 +32,23 @@ impl Holder {
     }
 }
 
-// The first place that a login of this name may have next.
-fn first_place(holders: &[Holder], name: Wwn, now: Moment) -> Option<usize>
+// The first place that a login of this name may have next, among those that no login holds.
+fn first_place(holders: &[Holder], unheld: &[u64], name: Wwn, now: Moment) -> Option<usize>
+    requires marked { AreMarked unheld.now holders.now }
+    requires few { length unheld.now < 2 ^ 32 }
     ensures { result ≡ position (may_follow name now) holders.now }
 {
-    holders
-        .iter()
-        .position(|holder| holder.may_be_followed(name, now))
+    let mut from = 0;
+    while let Some(place) = next_bit(unheld, from) {
+        if place >= holders.len() {
+            return None;
+        }
+        if holders[place].may_be_followed(name, now) {
+            return Some(place);
+        }
+        from = place + 1;
+    }
+    None
 }
 
 /// The addresses that may be granted, in ascending order.
@@ -45,19 +56,21 @@ fn first_place(holders: &[Holder], name: Wwn, now: Moment) -> Option<usize>
 pub struct Pool {
     first: u32,
     holders: Vec<Holder>,
+    // The places that no login holds.
+    unheld: Row,
 }
 
 impl Model for Pool {
-    ghost use Rattle.std.specs.Prelude.{ℕ, ◌+◌, ◌<◌, List, length};
+    ghost use Rattle.std.specs.Prelude.{List};
     ghost use Rattle.fab_base.specs.Fabric.{Past};
 
     ghost Value = { List Past };
 
-    ghost use Rattle.fc_addresses.specs.Holders.{pasts_from};
+    ghost use Rattle.fc_addresses.specs.Holders.{IsKept, pasts_from};
 
     ghost view = { λ p. pasts_from p.first p.holders.items };
 
-    ghost invariant = { λ p. (k : ℕ) → k < length p.holders.items → p.first + k < 0xFF0000 };
+    ghost invariant = { λ p. IsKept p.first p.holders.items p.unheld.items };
 }
 
 impl Pool {
@@ -71,9 +84,11 @@ impl Pool {
             ended: None,
         };
         let holders = vec![in alloc; nobody; count as usize]?;
+        let unheld = full_row(alloc, count)?;
         Ok(Pool {
             first: first.value(),
             holders,
+            unheld,
         })
     }
 
@@ -83,7 +98,7 @@ impl Pool {
         ensures some { is_some result ≡ has_free self.now name now }
         ensures sound { IsSound self.now }
     {
-        match first_place(&self.holders, name, now) {
+        match first_place(&self.holders, &self.unheld, name, now) {
             Some(place) => FcId::new(self.first + place as u32),
             None => None,
         }
@@ -115,6 +130,7 @@ impl Pool {
             name: Some(name),
             ended: None,
         };
+        clear_bit(&mut self.unheld, place);
     }
 
     /// The login that holds the address ends.
@@ -128,5 +144,6 @@ impl Pool {
     {
         let place = (address.value() - self.first) as usize;
         self.holders[place].ended = Some(now);
+        put_bit(&mut self.unheld, place);
     }
 }

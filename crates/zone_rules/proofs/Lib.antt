@@ -1,4 +1,3 @@
 pub mod ChangeLemmas
 pub mod JoinLemmas
-pub mod RowLemmas
 pub mod SetLemmas

@@ -1,4 +1,3 @@
 pub mod Joined
 pub mod Rules
-pub mod Row
 pub mod Index

@@ -1,10 +1,10 @@
 //! For each name a row with the bits of the zones that list it.
 ghost use Rattle.std.specs.Prelude.{◌≡◌, ◌==◌, ◌&&◌, ◌||◌, ℕ, IfOk, OnOk};
-ghost use Rattle.zone_rules.specs.Row.{has};
+ghost use Rattle.bit_rows.specs.Row.{has};
 ghost use Rattle.zone_rules.specs.Joined as spec;
 ghost use Rattle.zone_rules.specs.Index.{of_name, IsIndex};
 
-use crate::row::{Row, set_bit};
+use bit_rows::{Row, set_bit};
 use fab_base::NoMemory;
 use fab_config::{NameList, ZoneList};
 use std::alloc::Global;

@@ -2,7 +2,6 @@
 #![tactic(auto)]
 
 mod index;
-mod row;
 mod sets;
 mod zones;
 

@@ -1,10 +1,10 @@
 //! For each zone set a row with the bits of the zones that it names.
 ghost use Rattle.std.specs.Prelude.{◌≡◌, ◌<◌, ℕ, IfOk};
-ghost use Rattle.zone_rules.specs.Row.{has};
+ghost use Rattle.bit_rows.specs.Row.{has};
 ghost use Rattle.zone_rules.specs.Joined as spec;
 ghost use Rattle.zone_rules.specs.Index.{of_set, AreRows};
 
-use crate::row::{Row, set_bit};
+use bit_rows::{Row, set_bit};
 use fab_base::{NoMemory, OwnedList};
 use fab_config::{PlaceList, SetList};
 use std::alloc::Global;

@@ -5,8 +5,8 @@ ghost use Rattle.fab_config.specs.Settings.{do_rise};
 ghost use Rattle.zone_rules.specs.Rules.{ZoneRules};
 
 use crate::index::{NameRows, index_of, row_of_name};
-use crate::row::share_a_place;
 use crate::sets::{SetRows, row_of_set, rows_of_sets};
+use bit_rows::share_a_place;
 use fab_base::{Moment, NoMemory, Wwn};
 use fab_config::{ActivationList, SetList, ZoneList};
 use std::alloc::Global;

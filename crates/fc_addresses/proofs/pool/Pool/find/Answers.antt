@@ -15,7 +15,7 @@ pub returns-in-Some-clause-some : goal.returns-in-Some-clause-some
 returns-in-Some-clause-some c =
     let found = rw c.deref.ensures.value at (sym c.first_place.ensures ∙ c.in-Some.is) in
     let here = position-Some (may_follow c.args.name c.args.now) _ _ (record { name = None; ended = None }) found in
-    let below = c.self.invariant c.in-Some.place here.0 in
+    let below = c.self.invariant.range c.in-Some.place here.0 in
     c.new.ensures.some.1 (omega (arith, below))
     ∙ sym (ap (λ (o : Option ℕ). is_some o) found)
     ∙ has_free-position _ c.self.inside.first c.self.inside.holders.items c.self.view_is c.args.name c.args.now
@@ -27,7 +27,7 @@ returns-in-None-clause-some c =
     ∙ has_free-position _ c.self.inside.first c.self.inside.holders.items c.self.view_is c.args.name c.args.now
 
 pub returns-in-Some-clause-sound : goal.returns-in-Some-clause-sound
-returns-in-Some-clause-sound c = subst IsSound c.self.view_is (sound_places c.self.inside.first c.self.inside.holders.items c.self.invariant)
+returns-in-Some-clause-sound c = subst IsSound c.self.view_is (sound_places c.self.inside.first c.self.inside.holders.items c.self.invariant.range)
 
 pub returns-in-None-clause-sound : goal.returns-in-None-clause-sound
-returns-in-None-clause-sound c = subst IsSound c.self.view_is (sound_places c.self.inside.first c.self.inside.holders.items c.self.invariant)
+returns-in-None-clause-sound c = subst IsSound c.self.view_is (sound_places c.self.inside.first c.self.inside.holders.items c.self.invariant.range)

@@ -1,9 +1,9 @@
-use Rattle.std.proofs.Common.{◌∙◌, ap, arith, refl, subst, sym, is_some, is_none, ◌&&◌}
+use Rattle.std.proofs.Common.{◌-◌, ◌∙◌, ap, arith, refl, subst, sym, is_some, is_none, ◌&&◌}
 use Rattle.fab_base.specs.Fabric.{Past, past_at}
 use Rattle.fc_addresses.specs.Pool.{AreEndedBy, ended_at, addresses}
 use Rattle.fc_addresses.specs.Holders.{past_of}
 use Rattle.fc_addresses.specs.declared.pool.Holder.{Holder}
-use Rattle.fc_addresses.proofs.PoolLemmas.{place_of_past, changed_pool, found-changed, places-changed, ended-released}
+use Rattle.fc_addresses.proofs.PoolLemmas.{kept-ended, place_of_past, changed_pool, found-changed, places-changed, ended-released}
 use Rattle.fc_addresses.proofs.pool.Pool.release.Goals as goal
 
 pub overflow_sub-place : goal.overflow_sub-place
@@ -15,6 +15,16 @@ pub index_mut-requires : goal.index_mut-requires
 index_mut-requires c =
     let place = place_of_past _ c.self.inside.first c.self.inside.holders.items c.self.view_is (λ p. is_some p.name && is_none p.ended) c.args.address c.requires.taken in
     omega (arith, place.1, c.self.inside.holders.ok.0)
+
+pub put_bit-requires : goal.put_bit-requires
+put_bit-requires c =
+    let place = place_of_past _ c.self.inside.first c.self.inside.holders.items c.self.view_is (λ p. is_some p.name && is_none p.ended) c.args.address c.requires.taken in
+    omega (arith, place.1, c.self.invariant.wide, c.value.ensures.value)
+
+pub invariant_of-self : goal.invariant_of-self
+invariant_of-self c =
+    let place = place_of_past _ c.self.inside.first c.self.inside.holders.items c.self.view_is (λ p. is_some p.name && is_none p.ended) c.args.address c.requires.taken in
+    kept-ended c.self.inside.first c.self.inside.holders.items c.self.inside.unheld.items c.put_bit.new.row.items (c.value.result - c.self.inside.first) _ c.args.now c.self.invariant (omega (arith, place.1, c.value.ensures.value)) c.put_bit.ensures.words c.put_bit.ensures.bits refl
 
 pub returns-clause-pool : goal.returns-clause-pool
 returns-clause-pool c =

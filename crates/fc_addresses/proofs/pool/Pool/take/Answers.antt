@@ -1,6 +1,6 @@
-use Rattle.std.proofs.Common.{subst, sym, ◌∙◌, ap, arith, refl, Some, None}
+use Rattle.std.proofs.Common.{◌-◌, subst, sym, ◌∙◌, ap, arith, refl, Some, None}
 use Rattle.fc_addresses.specs.Pool.{is_open, held, addresses, HoldsAddress}
-use Rattle.fc_addresses.proofs.PoolLemmas.{place_of_past, changed_pool, found-taken, places-changed}
+use Rattle.fc_addresses.proofs.PoolLemmas.{kept-held, place_of_past, changed_pool, found-taken, places-changed}
 use Rattle.fc_addresses.proofs.pool.Pool.take.Goals as goal
 
 pub overflow_sub-place : goal.overflow_sub-place
@@ -12,6 +12,16 @@ pub index_mut-requires : goal.index_mut-requires
 index_mut-requires c =
     let place = place_of_past _ c.self.inside.first c.self.inside.holders.items c.self.view_is (is_open c.args.name c.args.now) c.args.address c.requires.free in
     omega (arith, place.1, c.self.inside.holders.ok.0)
+
+pub clear_bit-requires : goal.clear_bit-requires
+clear_bit-requires c =
+    let place = place_of_past _ c.self.inside.first c.self.inside.holders.items c.self.view_is (is_open c.args.name c.args.now) c.args.address c.requires.free in
+    omega (arith, place.1, c.self.invariant.wide, c.value.ensures.value)
+
+pub invariant_of-self : goal.invariant_of-self
+invariant_of-self c =
+    let place = place_of_past _ c.self.inside.first c.self.inside.holders.items c.self.view_is (is_open c.args.name c.args.now) c.args.address c.requires.free in
+    kept-held c.self.inside.first c.self.inside.holders.items c.self.inside.unheld.items c.clear_bit.new.row.items (c.value.result - c.self.inside.first) _ c.self.invariant (omega (arith, place.1, c.value.ensures.value)) c.clear_bit.ensures.words c.clear_bit.ensures.bits refl
 
 pub returns-clause-pool : goal.returns-clause-pool
 returns-clause-pool c =

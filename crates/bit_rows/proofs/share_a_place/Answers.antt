@@ -1,6 +1,6 @@
 use Rattle.std.proofs.Common.{length, arith}
-use Rattle.zone_rules.proofs.RowLemmas.{common-at, none-common, zeros-behind, least_end}
-use Rattle.zone_rules.proofs.row.share_a_place.Goals as goal
+use Rattle.bit_rows.proofs.RowLemmas.{common-at, none-common, zeros-behind, least_end}
+use Rattle.bit_rows.proofs.share_a_place.Goals as goal
 
 pub returns-then-xs-word-ne0-clause-common : goal.returns-then-xs-word-ne0-clause-common
 returns-then-xs-word-ne0-clause-common c =

@@ -1,7 +1,7 @@
 use Rattle.std.proofs.Common.{◌≡◌, ◌+◌, ◌-◌, ◌/◌, vec_len, get_or, ap, ◌∙◌, arith}
-use Rattle.zone_rules.proofs.RowLemmas.{has-set, padded}
-use Rattle.zone_rules.proofs.row.set_bit.Goals as goal
-use Rattle.zone_rules.proofs.row.set_bit.Goals.{then-len-word+in_ok-resize, else-len-word}
+use Rattle.bit_rows.proofs.RowLemmas.{has-set, padded}
+use Rattle.bit_rows.proofs.set_bit.Goals as goal
+use Rattle.bit_rows.proofs.set_bit.Goals.{then-len-word+in_ok-resize, else-len-word}
 
 pub returns : goal.returns
 returns c = elim c.if-len-word.branch [
