@@ -1,6 +1,6 @@
 //! From a frame to bytes.
 ghost use Rattle.std.specs.Prelude.{◌≡◌, ◌≢◌, ◌≤◌, ◌+◌, ◌++◌};
-ghost use Rattle.std.specs.Prelude.{None, length, vec_len, vec_capacity, OnOk, OnErr};
+ghost use Rattle.std.specs.Prelude.{None, length, OnOk, OnErr};
 ghost use Rattle.arrayvec.specs.ArrayVec.{array_vec_len};
 ghost use Rattle.eth_frames.specs.Ethernet.{view, head_bytes, written};
 

@@ -1,5 +1,6 @@
 //! Lists of items that have an address: where an item stands, or would stand.
-ghost use Rattle.std.specs.Prelude.{◌≡◌, ◌==◌, ◌≤◌, nat_lt, length, position, option_copied, unwrap_or};
+ghost use Rattle.std.specs.Prelude.{◌≡◌, ◌==◌, ◌≤◌, nat_lt};
+ghost use Rattle.std.specs.Prelude.{length, position, option_copied, unwrap_or};
 ghost use Rattle.fab_base.specs.Keyed.{item_at};
 
 use crate::FcId;

@@ -6,7 +6,7 @@ use Rattle.std.proofs.lemmas.Bool.{lt-ltb, and_from}
 use Rattle.fab_config.specs.Settings.{Settings, is_between, is_station, is_in_range}
 use Rattle.fab_config.specs.Lines.{lines_of}
 use Rattle.fab_config.specs.Fitting.{Fits, passes}
-use Rattle.fab_config.specs.Text.{line_read, lines_read, finished}
+use Rattle.fab_config.specs.Text.{line_read, lines_read, with_defaults, finished}
 use Rattle.fab_config.specs.declared.ConfigWhy.{ConfigWhy}
 use Rattle.fab_config.specs.declared.ConfigWhy.TheVariants as why
 use Rattle.fab_config.specs.declared.ConfigFault.{ConfigFault}
@@ -38,21 +38,7 @@ default_passes test None d p e = e
 default_passes test (Some x) d p e = p
 
 pub fits_in_range : (d : Draft) (mac : List ℕ) (vlan switch : ℕ) → Fits d → d.fcf_mac ≡ Some mac → d.vlan ≡ Some vlan → switch < 2 ^ 64
-    → IsTrue (is_in_range (record {
-      switch = switch;
-      fcf_mac = mac;
-      fc_map = unwrap_or d.map 0x0efc00;
-      vlan = vlan;
-      domain = unwrap_or d.domain 1;
-      pool = unwrap_or d.pool 256;
-      priority = unwrap_or d.priority 128;
-      period = unwrap_or d.period 8000;
-      window = unwrap_or d.window 100;
-      limit = unwrap_or d.limit 240;
-      zones = d.zones;
-      sets = d.sets;
-      activations = d.activations;
-    }))
+    → IsTrue (is_in_range (with_defaults d mac vlan switch))
 fits_in_range d mac vlan switch fit is_mac is_vlan small =
     let a1 = lt-ltb switch (2 ^ 64) small in
     let a2 : is_station mac ≡ true = sym (ap (passes is_station) is_mac) ∙ fit.fcf_mac in

@@ -13,7 +13,7 @@ use Rattle.fab_config.specs.Values.{is_digit, hex_value, octet, with_octet, octe
 use Rattle.fab_config.specs.Fitting.{Fits, passes}
 use Rattle.fab_config.specs.Typed.{IsTyped}
 use Rattle.fab_config.specs.Written.{written}
-use Rattle.fab_config.specs.Text.{NOTHING, zone_put, zones_with, sets_with, activations_with, set_once, with_number, with_keyword, line_read, switch_of, finished, lines_read, decoded}
+use Rattle.fab_config.specs.Text.{NOTHING, zone_put, zones_with, sets_with, activations_with, set_once, with_number, with_keyword, line_read, switch_of, with_defaults, finished, lines_read, decoded}
 use Rattle.fab_config.specs.declared.Zone.{Zone}
 use Rattle.fab_config.specs.declared.ConfigWhy.{ConfigWhy}
 use Rattle.fab_config.specs.declared.ConfigWhy.TheVariants as why
@@ -162,21 +162,7 @@ pub record Sound (c : Settings) : Type 0 where
   pub typed : IsTyped c
 
 abbrev made : Draft → List ℕ → ℕ → Settings
-made d mac vlan = record {
-  switch = unwrap_or d.switch (switch_of mac);
-  fcf_mac = mac;
-  fc_map = unwrap_or d.map 0x0efc00;
-  vlan = vlan;
-  domain = unwrap_or d.domain 1;
-  pool = unwrap_or d.pool 256;
-  priority = unwrap_or d.priority 128;
-  period = unwrap_or d.period 8000;
-  window = unwrap_or d.window 100;
-  limit = unwrap_or d.limit 240;
-  zones = d.zones;
-  sets = d.sets;
-  activations = d.activations;
-}
+made d mac vlan = with_defaults d mac vlan (unwrap_or d.switch (switch_of mac))
 
 switch_small : (o : Option ℕ) (mac : List ℕ) → passes (λ n. ltb n (2 ^ 64)) o ≡ true → is_station mac ≡ true → are_bytes mac ≡ true → unwrap_or o (switch_of mac) < 2 ^ 64
 switch_small (Some n) mac h s b = ltb-true n (2 ^ 64) h

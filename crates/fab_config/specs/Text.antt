@@ -206,24 +206,27 @@ line_read d line =
 abbrev pub switch_of : List ℕ → ℕ
 switch_of mac = 0x1000 * 2 ^ 48 + big_endian mac
 
+-- these values, and the defaults for what else no line says
+abbrev pub with_defaults : Draft → List ℕ → ℕ → ℕ → Settings
+with_defaults d mac vlan switch = record {
+  switch = switch;
+  fcf_mac = mac;
+  fc_map = unwrap_or d.map 0x0efc00;
+  vlan = vlan;
+  domain = unwrap_or d.domain 1;
+  pool = unwrap_or d.pool 256;
+  priority = unwrap_or d.priority 128;
+  period = unwrap_or d.period 8000;
+  window = unwrap_or d.window 100;
+  limit = unwrap_or d.limit 240;
+  zones = d.zones;
+  sets = d.sets;
+  activations = d.activations;
+}
+
 -- the value with the defaults for what no line says
 unfoldable pub finished : Draft → Option Settings
-finished d =
-    option_and_then (λ mac. option_map (λ vlan. record {
-      switch = unwrap_or d.switch (switch_of mac);
-      fcf_mac = mac;
-      fc_map = unwrap_or d.map 0x0efc00;
-      vlan = vlan;
-      domain = unwrap_or d.domain 1;
-      pool = unwrap_or d.pool 256;
-      priority = unwrap_or d.priority 128;
-      period = unwrap_or d.period 8000;
-      window = unwrap_or d.window 100;
-      limit = unwrap_or d.limit 240;
-      zones = d.zones;
-      sets = d.sets;
-      activations = d.activations;
-    }) d.vlan) d.fcf_mac
+finished d = option_and_then (λ mac. option_map (λ vlan. with_defaults d mac vlan (unwrap_or d.switch (switch_of mac))) d.vlan) d.fcf_mac
 
 -- the value of lines that begin at this number, or the first fault
 abbrev pub lines_read : ℕ → Draft → List (List ℕ) → Result Settings ConfigFault

@@ -76,23 +76,9 @@ impl Model for Config {
 
     ghost Value = { Settings };
 
-    ghost view = { λ c. record {
-      switch = c.switch;
-      fcf_mac = c.fcf_mac;
-      fc_map = c.fc_map;
-      vlan = c.vlan;
-      domain = c.domain;
-      pool = c.pool;
-      priority = c.priority;
-      period = c.period;
-      window = c.window;
-      limit = c.limit;
-      zones = c.zones;
-      sets = c.sets;
-      activations = c.activations;
-    } };
+    ghost use Rattle.fab_config.specs.InRange.{settings_of, inside_in_range};
 
-    ghost use Rattle.fab_config.specs.InRange.{inside_in_range};
+    ghost view = { settings_of };
 
     ghost invariant = { inside_in_range };
 }

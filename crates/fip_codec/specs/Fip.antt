@@ -104,12 +104,16 @@ vx_port content = record { mac = field content 0 6; address = number content 7 3
 abbrev pub vlan_number : List ℕ → ℕ
 vlan_number content = number content 0 2 % 4096
 
--- the Vx_Port descriptors, and the VLAN numbers, of the bytes of a list
+-- what the descriptors of a type say, of the bytes of a list
+abbrev pub items : {X : Type 0} → ℕ → (List ℕ → X) → List ℕ → List X
+items kind value list = map (λ d. value d.content) (of_kind kind (descriptors_from (length list) HEADER list))
+
+-- the Vx_Port descriptors, and the VLAN numbers
 abbrev pub vx_ports : List ℕ → List VxPort
-vx_ports list = map (λ d. vx_port d.content) (of_kind 11 (descriptors_from (length list) HEADER list))
+vx_ports list = items 11 vx_port list
 
 abbrev pub vlan_numbers : List ℕ → List ℕ
-vlan_numbers list = map (λ d. vlan_number d.content) (of_kind 14 (descriptors_from (length list) HEADER list))
+vlan_numbers list = items 14 vlan_number list
 
 -- ---- messages
 

@@ -1,13 +1,12 @@
 -- FIP messages as values, and the one way in which the forwarder writes each (FC-BB-5, "FIP operations").
 use Rattle.std.specs.Prelude.{ℕ, ◌+◌, ◌/◌, Bool, if◌then◌else◌, List, [], ◌∷◌, ◌++◌, length, flat_map, Option, Some, None}
+use Rattle.std.specs.Borrow.{Bor}
 use Rattle.fab_base.specs.Layout.{spelled, zeros}
 use Rattle.fip_codec.specs.declared.message.LoginKind.{LoginKind}
 use Rattle.fip_codec.specs.declared.message.LoginKind.TheVariants.{Flogi, Fdisc, Logo}
 use Rattle.fip_codec.specs.declared.message.VxPort.{VxPort}
-use Rattle.fip_codec.specs.declared.message.FipMessage.{FipMessage}
-use Rattle.fip_codec.specs.declared.message.FipMessage.TheVariants as read
-use Rattle.fip_codec.specs.declared.message.FipOut.{FipOut}
-use Rattle.fip_codec.specs.declared.message.FipOut.TheVariants as out
+use Rattle.fip_codec.specs.declared.message.Message.{Message}
+use Rattle.fip_codec.specs.declared.message.Message.TheVariants as code
 
 -- A message: a MAC is a list of six bytes, a name and an address are numbers.
 pub data Fip : Type 0 where
@@ -20,26 +19,24 @@ pub data Fip : Type 0 where
   VlanAsk : (mac : List ℕ) (node : Option ℕ) → Fip
   VlanTell : (mac : List ℕ) (vlans : List ℕ) → Fip
 
--- what the code reads and writes, without where the bytes lie in memory
-abbrev pub view : FipMessage → Fip
-view (read.Solicit from_fcf fp mac node size) = Solicit from_fcf fp mac node size
-view (read.Advertise solicited available from_fcf fp priority mac switch fc_map fabric quiet period) = Advertise solicited available from_fcf fp priority mac switch fc_map fabric quiet period
-view (read.Login kind fp frame mac) = Login kind fp frame.now mac
-view (read.LoginReply kind fp frame mac) = LoginReply kind fp frame.now mac
-view (read.Keep mac port) = Keep mac port
-view (read.Clear mac switch ports) = Clear mac switch ports
-view (read.VlanAsk mac node) = VlanAsk mac node
-view (read.VlanTell mac vlans) = VlanTell mac vlans
+-- a message of the code, by what its lists say
+abbrev pub plain : {P V : Type 0} → (P → List VxPort) → (V → List ℕ) → Message P V → Fip
+plain ports_of vlans_of (code.Solicit from_fcf fp mac node size) = Solicit from_fcf fp mac node size
+plain ports_of vlans_of (code.Advertise solicited available from_fcf fp priority mac switch fc_map fabric quiet period) =
+    Advertise solicited available from_fcf fp priority mac switch fc_map fabric quiet period
+plain ports_of vlans_of (code.Login kind fp frame mac) = Login kind fp frame.now mac
+plain ports_of vlans_of (code.LoginReply kind fp frame mac) = LoginReply kind fp frame.now mac
+plain ports_of vlans_of (code.Keep mac port) = Keep mac port
+plain ports_of vlans_of (code.Clear mac switch ports) = Clear mac switch (ports_of ports)
+plain ports_of vlans_of (code.VlanAsk mac node) = VlanAsk mac node
+plain ports_of vlans_of (code.VlanTell mac vlans) = VlanTell mac (vlans_of vlans)
 
-abbrev pub view_out : FipOut → Fip
-view_out (out.Solicit from_fcf fp mac node size) = Solicit from_fcf fp mac node size
-view_out (out.Advertise solicited available from_fcf fp priority mac switch fc_map fabric quiet period) = Advertise solicited available from_fcf fp priority mac switch fc_map fabric quiet period
-view_out (out.Login kind fp frame mac) = Login kind fp frame.now mac
-view_out (out.LoginReply kind fp frame mac) = LoginReply kind fp frame.now mac
-view_out (out.Keep mac port) = Keep mac port
-view_out (out.Clear mac switch ports) = Clear mac switch ports.now
-view_out (out.VlanAsk mac node) = VlanAsk mac node
-view_out (out.VlanTell mac vlans) = VlanTell mac vlans.now
+-- what the code reads and writes, without where the bytes lie in memory
+abbrev pub view : Message (List VxPort) (List ℕ) → Fip
+view m = plain (λ ports. ports) (λ vlans. vlans) m
+
+abbrev pub view_out : Message (Bor (List VxPort)) (Bor (List ℕ)) → Fip
+view_out m = plain (λ ports. ports.now) (λ vlans. vlans.now) m
 
 -- ---- written descriptors: type, length in words, and the rest
 

@@ -13,8 +13,8 @@ mod writing;
 
 pub use fault::FipFault;
 pub use laws::{a_written_message_is_read_back, the_grammar_is_what_is_decoded};
-pub use lists::{VlanList, VxList};
-pub use message::{FipMessage, FipOut, LoginKind, VxPort};
+pub use lists::{Item, ItemList, VlanList, VxList};
+pub use message::{FipMessage, FipOut, LoginKind, Message, VxPort};
 pub use reading::read_fip;
 pub use writing::write_fip;
 

@@ -19,73 +19,15 @@ pub struct VxPort {
     pub name: Wwn,
 }
 
-/// A message that was read. Slices are cut out of the body.
-#[derive(Debug, Drop)]
-pub enum FipMessage<'a> {
-    /// Discovery solicitation, 1 and 1. `size` is the FCoE size that the answer is to have.
-    Solicit {
-        from_fcf: bool,
-        fp: bool,
-        mac: Mac,
-        node: Wwn,
-        size: u16,
-    },
-    /// Discovery advertisement, 1 and 2. `period` is in milliseconds, and `quiet` asks for no keep
-    /// alives.
-    Advertise {
-        solicited: bool,
-        available: bool,
-        from_fcf: bool,
-        fp: bool,
-        priority: u8,
-        mac: Mac,
-        switch: Wwn,
-        map: u32,
-        fabric: Wwn,
-        quiet: bool,
-        period: u32,
-    },
-    /// FLOGI, FDISC or LOGO request, 2 and 1. `frame` is the encapsulated FC frame, header and
-    /// payload.
-    Login {
-        kind: LoginKind,
-        fp: bool,
-        frame: &'a [u8],
-        mac: Mac,
-    },
-    /// The answer to it, 2 and 2. `mac` is the granted MAC.
-    LoginReply {
-        kind: LoginKind,
-        fp: bool,
-        frame: &'a [u8],
-        mac: Option<Mac>,
-    },
-    /// Keep alive, 3 and 1: of a VN_Port where there is one, else of the ENode.
-    Keep {
-        mac: Mac,
-        port: Option<VxPort>,
-    },
-    /// Clear virtual links, 3 and 2.
-    Clear {
-        mac: Mac,
-        switch: Wwn,
-        ports: VxList<'a>,
-    },
-    /// VLAN request, 4 and 1.
-    VlanAsk {
-        mac: Mac,
-        node: Option<Wwn>,
-    },
-    /// VLAN notification, 4 and 2.
-    VlanTell {
-        mac: Mac,
-        vlans: VlanList<'a>,
-    },
-}
+/// A message that was read. Slices and lists are cut out of the body.
+pub type FipMessage<'a> = Message<'a, VxList<'a>, VlanList<'a>>;
 
 /// A message to write.
-#[derive(Clone, Copy, Debug)]
-pub enum FipOut<'a> {
+pub type FipOut<'a> = Message<'a, &'a [VxPort], &'a [u16]>;
+
+/// A message, with its Vx_Ports as a `P` and its VLAN numbers as a `V`.
+#[derive(Debug, Drop)]
+pub enum Message<'a, P, V> {
     /// Discovery solicitation, 1 and 1. `size` is the FCoE size that the answer is to have.
     Solicit {
         from_fcf: bool,
@@ -133,7 +75,7 @@ pub enum FipOut<'a> {
     Clear {
         mac: Mac,
         switch: Wwn,
-        ports: &'a [VxPort],
+        ports: P,
     },
     /// VLAN request, 4 and 1.
     VlanAsk {
@@ -143,6 +85,6 @@ pub enum FipOut<'a> {
     /// VLAN notification, 4 and 2.
     VlanTell {
         mac: Mac,
-        vlans: &'a [u16],
+        vlans: V,
     },
 }

@@ -27,12 +27,6 @@ pub(crate) fn with_entry<'a>(entries: &'a [Entry], port: &'a SeenPort) -> Option
     }
 }
 
-fn first_at(seen: &[SeenPort], address: FcId) -> Option<&SeenPort>
-    ensures { option_copied result ≡ find (λ s. s.address == address) seen.now }
-{
-    seen.iter().find(|port| port.address == address)
-}
-
 fn first_named(seen: &[SeenPort], name: Wwn) -> Option<&SeenPort>
     ensures { option_copied result ≡ find (λ s. s.name == name) seen.now }
 {
@@ -55,7 +49,7 @@ pub(crate) fn by_address<'a>(
     requires ascending { AscendFrom 0 entries.now }
     ensures { option_map as_known result ≡ known_at address (known entries.now seen.now) }
 {
-    match first_at(seen, address) {
+    match fab_base::find_at(seen, address) {
         Some(port) => with_entry(entries, port),
         None => None,
     }

@@ -3,7 +3,7 @@ ghost use Rattle.std.specs.Prelude.{◌≡◌, ◌<◌, [], ◌∷◌, ◌++◌,
 ghost use Rattle.std.specs.List.{All};
 ghost use Rattle.name_server.specs.Registry.{SeenAscend};
 
-use fab_base::{FcId, NoMemory, Wwn};
+use fab_base::{FcId, HasAddress, NoMemory, Wwn};
 use std::alloc::Global;
 use std::marker::Model;
 
@@ -15,6 +15,14 @@ pub struct SeenPort {
     pub name: Wwn,
     /// The name of the port of the forwarder that it is behind.
     pub fabric_port: Wwn,
+}
+
+impl HasAddress for SeenPort {
+    ghost address_of = { λ s. s.address };
+
+    fn address(&self) -> FcId {
+        self.address
+    }
 }
 
 /// N_Ports in ascending order of their addresses.

@@ -2,6 +2,7 @@
 ghost use Rattle.std.specs.Prelude.{◌≡◌};
 
 use fab_base::Failed;
+use std::alloc::AllocError;
 use thiserror::Error;
 
 /// Why a block is none that is read, in the order of the tests.
@@ -70,6 +71,17 @@ pub enum NgError {
     Read(Failed),
     #[error("memory was refused")]
     Memory,
+}
+
+impl From<AllocError> for NgError {
+    ghost use Rattle.std.specs.Prelude.{◌≡◌};
+    ghost use Rattle.pcapng_file.specs.declared.fault.NgError.TheVariants.{Memory};
+
+    ghost from_gives = { λ _ e. e ≡ Memory };
+
+    fn from(_refused: AllocError) -> NgError {
+        NgError::Memory
+    }
 }
 
 // The fault of the block at a place.

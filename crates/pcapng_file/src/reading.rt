@@ -139,8 +139,7 @@ fn next_block<D: Depot>(
         Ok(got) => got,
         Err(failed) => return Err(NgError::Read(failed)),
     };
-    let ended = is_end(got, section.order);
-    if ended {
+    if is_end(got, section.order) {
         return Ok(None);
     }
     if got < HEAD {
@@ -153,9 +152,7 @@ fn next_block<D: Depot>(
     if budget.bytes < head.size as u64 {
         return Err(NgError::Limit(NgLimit::Bytes));
     }
-    let Ok(mut body) = vec![in alloc; 0u8; head.size as usize - HEAD] else {
-        return Err(NgError::Memory);
-    };
+    let mut body = vec![in alloc; 0u8; head.size as usize - HEAD]?;
     match ahead.pull(depot, slot, &mut body) {
         Ok(got) => {
             if got < body.len() {
@@ -164,9 +161,7 @@ fn next_block<D: Depot>(
         }
         Err(failed) => return Err(NgError::Read(failed)),
     }
-    let Ok(block) = joined(alloc, &front, &body) else {
-        return Err(NgError::Memory);
-    };
+    let block = joined(alloc, &front, &body)?;
     let content = match read_block(alloc, at, head, &section.faces, &block) {
         Ok(content) => content,
         Err(error) => return Err(error),

@@ -8,14 +8,14 @@ use Rattle.pcapng_file.specs.File.{Section, Tells, at_fault}
 use Rattle.pcapng_file.proofs.StepLemmas.{block_end, block_short, block_bad, block_bytes, block_cut, block_err, block_frames, block_done}
 use Rattle.pcapng_file.proofs.reading.next_block.Goals as goal
 
-pub returns-then-ended : goal.returns-then-ended
-returns-then-ended g c = record {
-  reads = block_end c.args.slot _ _ _ _ c.pull.new.into c.in-Ok.got c.args.budget c.args.at c.args.section.now c.pull.auto.into c.in-Ok.ensures.pulls (ap (λ (s : Section). eqb c.in-Ok.got 0 && is_some s.order) (sym c.section.view_is) ∙ sym c.is_end-ended.ensures ∙ c.if-ended.true);
+pub returns-then-is_end : goal.returns-then-is_end
+returns-then-is_end g c = record {
+  reads = block_end c.args.slot _ _ _ _ c.pull.new.into c.in-Ok.got c.args.budget c.args.at c.args.section.now c.pull.auto.into c.in-Ok.ensures.pulls (ap (λ (s : Section). eqb c.in-Ok.got 0 && is_some s.order) (sym c.section.view_is) ∙ sym c.is_end.ensures ∙ c.if-is_end.true);
 }
 
 pub returns-then-got-lt-HEAD : goal.returns-then-got-lt-HEAD
 returns-then-got-lt-HEAD g c = rw c.fault.ensures (record {
-  reads = block_short c.args.slot _ _ _ _ c.pull.new.into c.in-Ok.got c.args.budget c.args.at c.args.section.now c.pull.auto.into c.in-Ok.ensures.pulls (omega arith) (ap (λ (s : Section). eqb c.in-Ok.got 0 && is_some s.order) (sym c.section.view_is) ∙ sym c.is_end-ended.ensures ∙ c.if-ended.false);
+  reads = block_short c.args.slot _ _ _ _ c.pull.new.into c.in-Ok.got c.args.budget c.args.at c.args.section.now c.pull.auto.into c.in-Ok.ensures.pulls (omega arith) (ap (λ (s : Section). eqb c.in-Ok.got 0 && is_some s.order) (sym c.section.view_is) ∙ sym c.is_end.ensures ∙ c.if-is_end.false);
 })
 
 pub returns-in-Err-read_head : goal.returns-in-Err-read_head
@@ -30,31 +30,31 @@ returns-then-budget-head g c = record {
 
 pub returns-then-got-len : goal.returns-then-got-len
 returns-then-got-len g c =
-    let sized = c.pull-2.auto.into ∙ c.deref_mut.ensures.len ∙ c.in-Ok-vec.ensures.len in
+    let sized = c.pull-2.auto.into ∙ c.deref_mut.ensures.len ∙ c.in_ok-body.ensures.len in
     rw c.fault-then-got-len.ensures (record {
-      reads = block_cut c.args.slot _ _ _ _ c.pull.new.into c.in-Ok.got c.args.budget c.args.at c.args.section.now c.pull.auto.into c.in-Ok.ensures.pulls (omega arith) c.in-Ok-read_head.head (ap (λ (s : Section). head_read s.order c.pull.new.into) (sym c.section.view_is) ∙ sym c.in-Ok-read_head.ensures.exact) _ c.pull-2.new.self c.pull-2.new.into c.requires.input c.if-budget-head.false (omega (arith, c.in-Ok-read_head.ensures.least)) sized c.in-Ok-pull.got c.in-Ok-pull.ensures.pulls (omega (arith, sized, c.len.ensures, c.in-Ok-vec.ensures.len));
+      reads = block_cut c.args.slot _ _ _ _ c.pull.new.into c.in-Ok.got c.args.budget c.args.at c.args.section.now c.pull.auto.into c.in-Ok.ensures.pulls (omega arith) c.in-Ok-read_head.head (ap (λ (s : Section). head_read s.order c.pull.new.into) (sym c.section.view_is) ∙ sym c.in-Ok-read_head.ensures.exact) _ c.pull-2.new.self c.pull-2.new.into c.requires.input c.if-budget-head.false (omega (arith, c.in-Ok-read_head.ensures.least)) sized c.in-Ok-pull.got c.in-Ok-pull.ensures.pulls (omega (arith, sized, c.len.ensures, c.in_ok-body.ensures.len));
     })
 
 pub returns-in-Err-read_block : goal.returns-in-Err-read_block
 returns-in-Err-read_block g c =
-    let sized = c.pull-2.auto.into ∙ c.deref_mut.ensures.len ∙ c.in-Ok-vec.ensures.len in
-    let made = c.deref-3.ensures.value ∙ c.in-Ok-joined.ensures ∙ ap (λ (b : List ℕ). c.pull.new.into ++ b) (c.deref.ensures.value ∙ take_at c.pull-2.new.into _ _ (sized ∙ sym c.in-Ok-vec.ensures.len)) in
+    let sized = c.pull-2.auto.into ∙ c.deref_mut.ensures.len ∙ c.in_ok-body.ensures.len in
+    let made = c.deref-3.ensures.value ∙ c.in_ok-block.ensures ∙ ap (λ (b : List ℕ). c.pull.new.into ++ b) (c.deref.ensures.value ∙ take_at c.pull-2.new.into _ _ (sized ∙ sym c.in_ok-body.ensures.len)) in
     record {
-      reads = block_err c.args.slot _ _ _ _ c.pull.new.into c.in-Ok.got c.args.budget c.args.at c.args.section.now c.pull.auto.into c.in-Ok.ensures.pulls (omega arith) c.in-Ok-read_head.head (ap (λ (s : Section). head_read s.order c.pull.new.into) (sym c.section.view_is) ∙ sym c.in-Ok-read_head.ensures.exact) _ c.pull-2.new.self c.pull-2.new.into c.requires.input c.if-budget-head.false (omega (arith, c.in-Ok-read_head.ensures.least)) sized c.in-Ok-pull.got c.in-Ok-pull.ensures.pulls (omega (arith, sized, c.len.ensures, c.in-Ok-vec.ensures.len)) c.deref-3.result.now made c.in-Err-read_block.error c.in-Err-read_block.ensures.own (subst (λ (f : List Interface). Tells {A = Content} (at_fault c.args.at (body_read c.in-Ok-read_head.head f c.deref-3.result.now)) (Err c.in-Err-read_block.error)) (c.deref-2.ensures.value ∙ ap (λ (s : Section). s.faces) c.section.view_is) c.in-Err-read_block.ensures.tells);
+      reads = block_err c.args.slot _ _ _ _ c.pull.new.into c.in-Ok.got c.args.budget c.args.at c.args.section.now c.pull.auto.into c.in-Ok.ensures.pulls (omega arith) c.in-Ok-read_head.head (ap (λ (s : Section). head_read s.order c.pull.new.into) (sym c.section.view_is) ∙ sym c.in-Ok-read_head.ensures.exact) _ c.pull-2.new.self c.pull-2.new.into c.requires.input c.if-budget-head.false (omega (arith, c.in-Ok-read_head.ensures.least)) sized c.in-Ok-pull.got c.in-Ok-pull.ensures.pulls (omega (arith, sized, c.len.ensures, c.in_ok-body.ensures.len)) c.deref-3.result.now made c.in-Err-read_block.error c.in-Err-read_block.ensures.own (subst (λ (f : List Interface). Tells {A = Content} (at_fault c.args.at (body_read c.in-Ok-read_head.head f c.deref-3.result.now)) (Err c.in-Err-read_block.error)) (c.deref-2.ensures.value ∙ ap (λ (s : Section). s.faces) c.section.view_is) c.in-Err-read_block.ensures.tells);
     }
 
 pub returns-then-budget-frames : goal.returns-then-budget-frames
 returns-then-budget-frames g c =
-    let sized = c.pull-2.auto.into ∙ c.deref_mut.ensures.len ∙ c.in-Ok-vec.ensures.len in
-    let made = c.deref-3.ensures.value ∙ c.in-Ok-joined.ensures ∙ ap (λ (b : List ℕ). c.pull.new.into ++ b) (c.deref.ensures.value ∙ take_at c.pull-2.new.into _ _ (sized ∙ sym c.in-Ok-vec.ensures.len)) in
+    let sized = c.pull-2.auto.into ∙ c.deref_mut.ensures.len ∙ c.in_ok-body.ensures.len in
+    let made = c.deref-3.ensures.value ∙ c.in_ok-block.ensures ∙ ap (λ (b : List ℕ). c.pull.new.into ++ b) (c.deref.ensures.value ∙ take_at c.pull-2.new.into _ _ (sized ∙ sym c.in_ok-body.ensures.len)) in
     record {
-      reads = block_frames c.args.slot _ _ _ _ c.pull.new.into c.in-Ok.got c.args.budget c.args.at c.args.section.now c.pull.auto.into c.in-Ok.ensures.pulls (omega arith) c.in-Ok-read_head.head (ap (λ (s : Section). head_read s.order c.pull.new.into) (sym c.section.view_is) ∙ sym c.in-Ok-read_head.ensures.exact) _ c.pull-2.new.self c.pull-2.new.into c.requires.input c.if-budget-head.false (omega (arith, c.in-Ok-read_head.ensures.least)) sized c.in-Ok-pull.got c.in-Ok-pull.ensures.pulls (omega (arith, sized, c.len.ensures, c.in-Ok-vec.ensures.len)) c.deref-3.result.now made c.in-Ok-read_block.content (ap (λ (f : List Interface). at_fault c.args.at (body_read c.in-Ok-read_head.head f c.deref-3.result.now)) (sym (c.deref-2.ensures.value ∙ ap (λ (s : Section). s.faces) c.section.view_is)) ∙ c.in-Ok-read_block.ensures.tells) (omega (arith, c.frames.ensures.value));
+      reads = block_frames c.args.slot _ _ _ _ c.pull.new.into c.in-Ok.got c.args.budget c.args.at c.args.section.now c.pull.auto.into c.in-Ok.ensures.pulls (omega arith) c.in-Ok-read_head.head (ap (λ (s : Section). head_read s.order c.pull.new.into) (sym c.section.view_is) ∙ sym c.in-Ok-read_head.ensures.exact) _ c.pull-2.new.self c.pull-2.new.into c.requires.input c.if-budget-head.false (omega (arith, c.in-Ok-read_head.ensures.least)) sized c.in-Ok-pull.got c.in-Ok-pull.ensures.pulls (omega (arith, sized, c.len.ensures, c.in_ok-body.ensures.len)) c.deref-3.result.now made c.in-Ok-read_block.content (ap (λ (f : List Interface). at_fault c.args.at (body_read c.in-Ok-read_head.head f c.deref-3.result.now)) (sym (c.deref-2.ensures.value ∙ ap (λ (s : Section). s.faces) c.section.view_is)) ∙ c.in-Ok-read_block.ensures.tells) (omega (arith, c.frames.ensures.value));
     }
 
 pub returns : goal.returns
 returns g c =
-    let sized = c.pull-2.auto.into ∙ c.deref_mut.ensures.len ∙ c.in-Ok-vec.ensures.len in
-    let made = c.deref-3.ensures.value ∙ c.in-Ok-joined.ensures ∙ ap (λ (b : List ℕ). c.pull.new.into ++ b) (c.deref.ensures.value ∙ take_at c.pull-2.new.into _ _ (sized ∙ sym c.in-Ok-vec.ensures.len)) in
+    let sized = c.pull-2.auto.into ∙ c.deref_mut.ensures.len ∙ c.in_ok-body.ensures.len in
+    let made = c.deref-3.ensures.value ∙ c.in_ok-block.ensures ∙ ap (λ (b : List ℕ). c.pull.new.into ++ b) (c.deref.ensures.value ∙ take_at c.pull-2.new.into _ _ (sized ∙ sym c.in_ok-body.ensures.len)) in
     record {
-      reads = block_done c.args.slot _ _ _ _ c.pull.new.into c.in-Ok.got c.args.budget c.args.at c.args.section.now c.pull.auto.into c.in-Ok.ensures.pulls (omega arith) c.in-Ok-read_head.head (ap (λ (s : Section). head_read s.order c.pull.new.into) (sym c.section.view_is) ∙ sym c.in-Ok-read_head.ensures.exact) _ c.pull-2.new.self c.pull-2.new.into c.requires.input c.if-budget-head.false (omega (arith, c.in-Ok-read_head.ensures.least)) sized c.in-Ok-pull.got c.in-Ok-pull.ensures.pulls (omega (arith, sized, c.len.ensures, c.in-Ok-vec.ensures.len)) c.deref-3.result.now made c.in-Ok-read_block.content (ap (λ (f : List Interface). at_fault c.args.at (body_read c.in-Ok-read_head.head f c.deref-3.result.now)) (sym (c.deref-2.ensures.value ∙ ap (λ (s : Section). s.faces) c.section.view_is)) ∙ c.in-Ok-read_block.ensures.tells) (omega (arith, c.frames.ensures.value));
+      reads = block_done c.args.slot _ _ _ _ c.pull.new.into c.in-Ok.got c.args.budget c.args.at c.args.section.now c.pull.auto.into c.in-Ok.ensures.pulls (omega arith) c.in-Ok-read_head.head (ap (λ (s : Section). head_read s.order c.pull.new.into) (sym c.section.view_is) ∙ sym c.in-Ok-read_head.ensures.exact) _ c.pull-2.new.self c.pull-2.new.into c.requires.input c.if-budget-head.false (omega (arith, c.in-Ok-read_head.ensures.least)) sized c.in-Ok-pull.got c.in-Ok-pull.ensures.pulls (omega (arith, sized, c.len.ensures, c.in_ok-body.ensures.len)) c.deref-3.result.now made c.in-Ok-read_block.content (ap (λ (f : List Interface). at_fault c.args.at (body_read c.in-Ok-read_head.head f c.deref-3.result.now)) (sym (c.deref-2.ensures.value ∙ ap (λ (s : Section). s.faces) c.section.view_is)) ∙ c.in-Ok-read_block.ensures.tells) (omega (arith, c.frames.ensures.value));
     }
