@@ -1,4 +1,5 @@
 pub mod CommandLemmas
+pub mod FormLemmas
 pub mod ConfigLemmas
 pub mod SpanLemmas
 pub mod MoveLemmas
@@ -13,5 +14,6 @@ pub mod OutcomeLemmas
 pub mod ReadLemmas
 pub mod NameLemmas
 pub mod WriteLemmas
+pub mod FileLemmas
 pub mod RunLemmas
 pub mod EndLemmas

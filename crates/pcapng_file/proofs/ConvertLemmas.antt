@@ -67,6 +67,7 @@ module _ (from to : List ℕ) (slot : ℕ) (budget left : Budget) (a b c : Seen)
             bytes = b.left slot;
             packets = v;
             found = opens.left told;
+            read = r.exact (told_b told);
             is = (read told).file;
             within = ((read told).bytes, (read told).frames);
             output = subst (λ n. e.file n ≡ Some (classic_bytes v)) is_out (p.grown (told_stays to c d o.keeps (told_c told)) [] (ap d.file is_out ∙ o.emptied (told_c told)) ∙ ap (λ (l : List ℕ). Some l) made);

@@ -56,6 +56,7 @@ pub record Converted (from to : List ℕ) (budget : Budget) (old new : Seen) (co
   pub bytes : List ℕ
   pub packets : List NgRecord
   pub found : old.file from ≡ Some bytes
+  pub read : ng_read budget bytes ≡ Ok packets
   pub is : IsNg packets bytes
   pub within : Within budget packets bytes
   pub output : new.file to ≡ Some (classic_bytes packets)
