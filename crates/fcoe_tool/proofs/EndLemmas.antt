@@ -269,25 +269,25 @@ not_refused d name packets h error says =
     absurd (cc)
 
 -- inputs of the right forms are taken, where nothing fails
-done_or_memory : (k : Command) (old new : Seen) (before after : Sunk) → IsTrue old.told → HasForms k old → IsQuiet k old new before after → (o : Outcome) → Holds k old new o → (0 ≡ status_of o) ⊎ (5 ≡ status_of o)
-done_or_memory (Run k) old new before after told forms quiet o holds = run_cases k old new (λ o. (0 ≡ status_of o) ⊎ (5 ≡ status_of o))
+done_or_memory : (k : Command) (old new : Seen) (before after : Sunk) → HasForms k old → IsQuiet k old new before after → (o : Outcome) → Holds k old new o → (0 ≡ status_of o) ⊎ (5 ≡ status_of o)
+done_or_memory (Run k) old new before after forms quiet o holds = run_cases k old new (λ o. (0 ≡ status_of o) ⊎ (5 ≡ status_of o))
     (λ frames entries h. inl refl)
-    (λ fault h. absurd (no_fault old k.config forms.settings fault forms.config (h.1 told)))
-    (λ port h. absurd (none_stops k old port forms.settings forms.ins forms.config forms.captures (h.1 told)))
+    (λ fault h. absurd (no_fault old k.config forms.settings fault forms.config (h.1 forms.told)))
+    (λ port h. absurd (none_stops k old port forms.settings forms.ins forms.config forms.captures (h.1 forms.told)))
     (λ h. absurd (quiet.reads h.1))
     (λ h. absurd (quiet.writes h.1))
     (λ h. inr refl)
     o holds
-done_or_memory (Convert k) old new before after told forms quiet o holds = convert_cases k old new (λ o. (0 ≡ status_of o) ⊎ (5 ≡ status_of o))
+done_or_memory (Convert k) old new before after forms quiet o holds = convert_cases k old new (λ o. (0 ≡ status_of o) ⊎ (5 ≡ status_of o))
     (λ records h. inl refl)
-    (λ at fault h. absurd (not_refused old k.from forms.0 forms.1 (ng.Fault at fault) (h.1 told)))
-    (λ limit h. absurd (not_refused old k.from forms.0 forms.1 (ng.Limit limit) (h.1 told)))
+    (λ at fault h. absurd (not_refused old k.from forms.packets forms.input (ng.Fault at fault) (h.1 forms.told)))
+    (λ limit h. absurd (not_refused old k.from forms.packets forms.input (ng.Limit limit) (h.1 forms.told)))
     (λ h. absurd (quiet.reads h.1))
     (λ h. absurd (quiet.writes h.1))
     (λ h. inr refl)
     o holds
-done_or_memory Help old new before after told forms quiet o holds = inl (sym (ap status_of holds.0))
-done_or_memory Version old new before after told forms quiet o holds = inl (sym (ap status_of holds.0))
+done_or_memory Help old new before after forms quiet o holds = inl (sym (ap status_of holds.0))
+done_or_memory Version old new before after forms quiet o holds = inl (sym (ap status_of holds.0))
 
 -- the output of `convert`, whatever its end
 front_of : (k : ConvertNames) (old new : Seen) → IsTrue old.told → (o : Outcome) → ConvertHolds k old new o → IsFront k.from k.to LIMITS old new
@@ -349,10 +349,17 @@ module _ (words : List (String Global)) (old new : Seen) (before after : Sunk) (
   pub completed : IsComplete words old new before after → (status ≡ 0) ⊎ (status ≡ 5)
   completed x = elim (status_is e.outcome before after status e.prints) [
     | inr sink ↦ absurd (x.quiet.sink sink.1)
-    | inl is ↦ elim (done_or_memory x.k old new before after x.told x.forms x.quiet e.outcome (of_command x.k x.is)) [
+    | inl is ↦ elim (done_or_memory x.k old new before after x.forms x.quiet e.outcome (of_command x.k x.is)) [
       | inl zero_is ↦ inl (is ∙ sym zero_is)
       | inr five ↦ inr (is ∙ sym five)
     ]
+  ]
+
+  -- words that are no command
+  pub no_command : command words ≡ None → ¬ Rose before.faults after.faults → status ≡ 2
+  no_command none quiet = elim (status_is e.outcome before after status e.prints) [
+    | inl is ↦ is ∙ ap status_of (subst (λ c. HoldsFor c old new e.outcome) none e.holds).0
+    | inr sink ↦ absurd (quiet sink.1)
   ]
 
   pub fronts : IsTrue old.told → (k : ConvertNames) → command words ≡ Some (Convert k) → IsFront k.from k.to LIMITS old new

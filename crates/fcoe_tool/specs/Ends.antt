@@ -184,15 +184,22 @@ IsPastLimit d Version = ⊥
 
 -- the files of a `run` have their forms
 pub record RunForms (k : RunNames) (d : Seen) : Type 0 where
+  pub told : IsTrue d.told
   pub settings : Settings
   pub config : HasConfig d k.config settings
   pub ins : List (List Record)
   pub captures : HaveCaptures settings d k.ins ins
 
--- the inputs of a command have their forms
+-- the file of a `convert` has its form
+pub record ConvertForms (k : ConvertNames) (d : Seen) : Type 0 where
+  pub told : IsTrue d.told
+  pub packets : List NgRecord
+  pub input : HasPackets d k.from packets
+
+-- the inputs of a command have their forms, where the depot tells
 abbrev pub HasForms : Command → Seen → Type 0
 HasForms (Run k) d = RunForms k d
-HasForms (Convert k) d = (packets : List NgRecord) × HasPackets d k.from packets
+HasForms (Convert k) d = ConvertForms k d
 HasForms Help d = Unit {0}
 HasForms Version d = Unit {0}
 
@@ -200,7 +207,6 @@ HasForms Version d = Unit {0}
 pub record IsComplete (words : List (String Global)) (old new : Seen) (before after : Sunk) : Type 0 where
   pub k : Command
   pub is : command words ≡ Some k
-  pub told : IsTrue old.told
   pub forms : HasForms k old
   pub quiet : IsQuiet k old new before after
 

@@ -1,6 +1,8 @@
 //! `convert`, `--help` and `--version` over stores in memory.
 use crate::help::help;
-use crate::tests::{CONFIG, HEAD, NOTIFICATION, REQUEST, depot_of, joined, refused, runs, words_in};
+use crate::tests::{
+    CONFIG, HEAD, NOTIFICATION, REQUEST, depot_of, joined, refused, runs, words_in,
+};
 use crate::tool::fabric_tool;
 use fab_base::{MemDepot, MemSink, NoMemory, OpenGate};
 use std::alloc::Global;
@@ -64,12 +66,22 @@ fn files_that_are_not_converted(rt: HostRuntime) -> Result<(), Fail> {
     // A packet of interface 1, which isn't there.
     let unknown = joined(
         alloc,
-        &[&LITTLE[..56], &[1, 0, 0, 0], &LITTLE[60..], &REQUEST[40..], &[92, 0, 0, 0]],
+        &[
+            &LITTLE[..56],
+            &[1, 0, 0, 0],
+            &LITTLE[60..],
+            &REQUEST[40..],
+            &[92, 0, 0, 0],
+        ],
     )?;
     // A section header of more bytes than are taken.
     let long = joined(alloc, &[&LITTLE[..4], &[4, 0, 0, 0x40], &LITTLE[8..]])?;
     let rows = [
-        (unknown.as_slice(), b"capture 1 48 interface\n".as_slice(), 1),
+        (
+            unknown.as_slice(),
+            b"capture 1 48 interface\n".as_slice(),
+            1,
+        ),
         (b"", b"capture 1 0 cut\n", 1),
         (&REQUEST, b"capture 1 0 section\n", 1),
         (&long, b"limit bytes 1073741824\n", 6),

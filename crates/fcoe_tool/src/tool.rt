@@ -44,6 +44,8 @@ pub fn fabric_tool<R: Threads + Wait + Sync, D: Depot, K: Sink, G: Gate + Sync>(
         IsRefused (D.seen depot.old) k) }
     ensures words { result ≡ 2 → (spec.command words.now ≡ None)
         × SameFiles (D.seen depot.old) (D.seen depot.new) }
+    ensures no_command { spec.command words.now ≡ None →
+        ¬ Rose (K.sunk say.old).faults (K.sunk say.new).faults → result ≡ 2 }
     ensures read { result ≡ 3 → SameFiles (D.seen depot.old) (D.seen depot.new)
         × OfCommand words.now (λ k. spec.ReadRose k (D.seen depot.old) (D.seen depot.new)) }
     ensures write { result ≡ 4 → Rose (K.sunk say.old).faults (K.sunk say.new).faults

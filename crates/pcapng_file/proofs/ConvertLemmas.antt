@@ -57,9 +57,12 @@ module _ (from to : List ℕ) (slot : ℕ) (budget left : Budget) (a b c : Seen)
       is_out = o.opened.2
 
       pub front : (failed : Failed) → bytes ≡ classic_bytes v → PutsAll {T = Unit {0}} {E = Failed} out bytes d e (Err failed) → Converts from to budget a e (Err (ends.Write failed))
-      front failed made p = (rose_later _ _ _ (omega (arith, writes_kept, o.keeps.writes_rise)) (subst (λ n. Rose (d.write_faults n) (e.write_faults n)) is_out p.cause), λ told.
-          let part = p.part (told_stays to c d o.keeps (told_c told)) [] (ap d.file is_out ∙ o.emptied (told_c told)) in
-          Front (b.left slot) v part.0 (opens.left told) (read told).file ((read told).bytes, (read told).frames) (subst (λ n. e.file n ≡ Some (take part.0 bytes)) is_out part.1 ∙ ap (λ (l : List ℕ). Some (take part.0 l)) made))
+      front failed made p = (
+        rose_later _ _ _ (omega (arith, writes_kept, o.keeps.writes_rise)) (subst (λ n. Rose (d.write_faults n) (e.write_faults n)) is_out p.cause),
+        λ told.
+            let part = p.part (told_stays to c d o.keeps (told_c told)) [] (ap d.file is_out ∙ o.emptied (told_c told)) in
+            Front (b.left slot) v part.0 (opens.left told) (read told).file ((read told).bytes, (read told).frames) (subst (λ n. e.file n ≡ Some (take part.0 bytes)) is_out part.1 ∙ ap (λ (l : List ℕ). Some (take part.0 l)) made),
+      )
 
       pub converted : (count : ℕ) → bytes ≡ classic_bytes v → count ≡ length v → PutsAll {T = Unit {0}} {E = Failed} out bytes d e (Ok tt) → Converts from to budget a e (Ok count)
       converted count made counted p = λ told.

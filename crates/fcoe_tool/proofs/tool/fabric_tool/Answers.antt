@@ -1,4 +1,4 @@
-use Rattle.fcoe_tool.proofs.EndLemmas.{done, refused, past_limit, completed, fronts, exactly, is_printed}
+use Rattle.fcoe_tool.proofs.EndLemmas.{done, refused, no_command, past_limit, completed, fronts, exactly, is_printed}
 use Rattle.fcoe_tool.proofs.tool.fabric_tool.Goals as goal
 
 pub returns-clause-done : goal.returns-clause-done
@@ -6,6 +6,9 @@ returns-clause-done g c = done c.args.words.now _ _ _ _ c.ended-status.result c.
 
 pub returns-clause-refused : goal.returns-clause-refused
 returns-clause-refused g c = refused c.args.words.now _ _ _ _ c.ended-status.result c.ended-status.ensures.ends
+
+pub returns-clause-no_command : goal.returns-clause-no_command
+returns-clause-no_command g c = no_command c.args.words.now _ _ _ _ c.ended-status.result c.ended-status.ensures.ends
 
 pub returns-clause-limit : goal.returns-clause-limit
 returns-clause-limit g c = past_limit c.args.words.now _ _ _ _ c.ended-status.result c.ended-status.ensures.ends
