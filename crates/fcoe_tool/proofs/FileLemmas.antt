@@ -1,23 +1,15 @@
 -- A pcapng file that is converted.
-use Rattle.std.proofs.Common.{◌≡◌, ◌≢◌, List, ℕ, [], ◌∷◌, IsTrue, true, false, not, ◌&&◌, Ok, Err, inl, sym, ap, ◌∙◌, subst, length, codes, arith}
-use Rattle.std.specs.Prelude.{Result, String, ◌==◌}
-use Rattle.std.proofs.lemmas.Bool.{eqb-true}
-use Rattle.std.specs.List.{list_any}
+use Rattle.std.proofs.Common.{◌≡◌, List, ℕ, Err, inl, sym, subst}
+use Rattle.std.specs.Prelude.{Result}
 use Rattle.std.specs.Str.{bytes_eq}
-use Rattle.std.specs.declared.alloc.Global.{Global}
-use Rattle.fab_base.specs.Places.{name_at}
 use Rattle.fab_base.specs.Seen.{Seen}
-use Rattle.pcapng_file.specs.declared.fault.NgError.{NgError}
-use Rattle.pcapng_file.specs.declared.fault.NgError.TheVariants as ng
 use Rattle.pcapng_file.specs.declared.fault.ConvertError.{ConvertError}
 use Rattle.pcapng_file.specs.declared.fault.ConvertError.TheVariants as errors
-use Rattle.pcapng_file.specs.Classic.{Converts, KeepsBut, Same}
+use Rattle.pcapng_file.specs.Classic.{Converts, KeepsBut}
 use Rattle.fab_base.specs.declared.values.Failed.{Failed}
-use Rattle.fcoe_tool.specs.Command.{ConvertNames, Convert, convert_of, KeepsOthers}
+use Rattle.fcoe_tool.specs.Command.{ConvertNames, Convert, KeepsOthers}
 use Rattle.fcoe_tool.specs.Ends.{ConvertHolds}
 use Rattle.fcoe_tool.specs.Gathered.{LIMITS}
-use Rattle.fcoe_tool.specs.Read.{unconverted_by}
-use Rattle.fcoe_tool.specs.declared.outcome.Outcome.{Outcome}
 use Rattle.fcoe_tool.specs.declared.outcome.Outcome.TheVariants as ends
 use Rattle.fcoe_tool.proofs.MoveLemmas.{differs}
 use Rattle.fcoe_tool.proofs.NameLemmas.{or_false}

@@ -16,4 +16,8 @@ pub mod NameLemmas
 pub mod WriteLemmas
 pub mod FileLemmas
 pub mod RunLemmas
+pub mod InputLemmas
+pub mod OutcomeCases
+pub mod DoneLemmas
+pub mod CauseLemmas
 pub mod EndLemmas

@@ -40,8 +40,8 @@ pub enum Outcome {
     Memory,
 }
 
-/// Prints what an outcome says, mostly a line, and answers its status; 4 where the line can't be printed. Where
-/// memory for a line is refused, the outcome is want of memory.
+/// Prints what an outcome says, mostly a line, and answers its status; 4 where that can't be
+/// printed. Where memory for a line is refused, the outcome is want of memory.
 pub(crate) fn report<K: Sink>(alloc: Global, outcome: Outcome, say: &mut K) -> u8
     ensures reports { Reports outcome (K.sunk say.old) (K.sunk say.new) result }
 {

@@ -1,4 +1,4 @@
-use Rattle.fcoe_tool.proofs.EndLemmas.{ended_as}
+use Rattle.fcoe_tool.proofs.OutcomeCases.{ended_as}
 use Rattle.fcoe_tool.proofs.tool.ended.Goals as goal
 
 pub returns : goal.returns
