@@ -1,4 +1,5 @@
 pub mod CommandLemmas
+pub mod FormLemmas
 pub mod ConfigLemmas
 pub mod SpanLemmas
 pub mod MoveLemmas
@@ -13,5 +14,10 @@ pub mod OutcomeLemmas
 pub mod ReadLemmas
 pub mod NameLemmas
 pub mod WriteLemmas
+pub mod FileLemmas
 pub mod RunLemmas
+pub mod InputLemmas
+pub mod OutcomeCases
+pub mod DoneLemmas
+pub mod CauseLemmas
 pub mod EndLemmas

@@ -6,7 +6,10 @@ use Rattle.std.specs.declared.alloc.Global.{Global}
 use Rattle.std.specs.declared.alloc.AllocError.{AllocError}
 use Rattle.fab_base.specs.Sunk.{Sunk}
 use Rattle.fab_config.specs.declared.ConfigFault.{ConfigFault}
-use Rattle.fcoe_tool.specs.Outcome.{status_of, line_of, run_text, capture_text, config_text}
+use Rattle.fcoe_tool.specs.Outcome.{status_of, line_of, run_text, capture_text, config_text, converted_text, block_text, limit_text}
+use Rattle.fcoe_tool.specs.Help.{help_text, version_text}
+use Rattle.pcapng_file.specs.declared.fault.NgWhy.{NgWhy}
+use Rattle.pcapng_file.specs.declared.fault.NgLimit.{NgLimit}
 use Rattle.fcoe_tool.specs.Ends.{Puts, Prints, Reports, TakesMemory}
 use Rattle.fcoe_tool.specs.declared.outcome.Outcome.{Outcome}
 use Rattle.fcoe_tool.specs.declared.outcome.Outcome.TheVariants as ends
@@ -50,6 +53,26 @@ line_ran frames entries = refl
 pub line_capture : (port : ℕ) → capture_text port ≡ line_of (ends.Capture port)
 unfolding line_of
 line_capture port = refl
+
+pub line_converted : (records : ℕ) → converted_text records ≡ line_of (ends.Converted records)
+unfolding line_of
+line_converted records = refl
+
+pub line_block : (at : ℕ) (why : NgWhy) → block_text at why ≡ line_of (ends.BadBlock at why)
+unfolding line_of
+line_block at why = refl
+
+pub line_limit : (limit : NgLimit) → limit_text limit ≡ line_of (ends.PastLimit limit)
+unfolding line_of
+line_limit limit = refl
+
+pub line_help : help_text ≡ line_of ends.Help
+unfolding line_of
+line_help = refl
+
+pub line_version : version_text ≡ line_of ends.Version
+unfolding line_of
+line_version = refl
 
 -- a line that was made, or want of memory in its place
 pub reports_made : (r : Result (String Global) AllocError) (line : List ℕ) (before after : Sunk) (result : ℕ) (o p : Outcome) (status : ℕ) → o ≡ p → line ≡ line_of p → status ≡ status_of p → TakesMemory p →

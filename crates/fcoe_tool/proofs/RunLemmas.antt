@@ -12,8 +12,8 @@ use Rattle.pcap_file.specs.declared.Record.{Record}
 use Rattle.fab_policy.specs.Journal.{Journal}
 use Rattle.fab_policy.specs.Text.{egress}
 use Rattle.fab_policy.specs.Written.{egresses}
-use Rattle.fcoe_tool.specs.Command.{Command, AnyRose, is_run, port_count, output_at, command_of, KeepsOthers}
-use Rattle.fcoe_tool.specs.Ends.{Holds}
+use Rattle.fcoe_tool.specs.Command.{RunNames, Run, AnyRose, is_run, port_count, output_at, run_of, KeepsOthers}
+use Rattle.fcoe_tool.specs.Ends.{RunHolds}
 use Rattle.fcoe_tool.specs.Gathered.{AreCaptures, HaveCaptures, IsFirstBad, bytes_in}
 use Rattle.fcoe_tool.specs.Machine.{Made, outs_in}
 use Rattle.fcoe_tool.specs.Read.{ConfigRead, InputsRead, Moves, lists_in}
@@ -67,8 +67,8 @@ any_rose_later before mid now (n ∷ names) le (inr more) = inr (any_rose_later 
 -- ---- a command, call after call
 
 module _ (words : List (String Global)) (run : is_run words ≡ true) where
-  abbrev k : Command
-  k = command_of words
+  abbrev k : RunNames
+  k = run_of words
 
   -- a name that isn't that of an output
   other_names : (m : List ℕ) → list_any (λ n. bytes_eq n m) (k.journal ∷ k.outs) ≡ false → (m ≢ k.journal) × (list_any (λ n. bytes_eq n m) k.outs ≡ false)
@@ -79,12 +79,12 @@ module _ (words : List (String Global)) (run : is_run words ≡ true) where
   journal_differs : list_any (λ n. bytes_eq n k.journal) k.outs ≡ false
   journal_differs = differs_from_all_0 (output_at words) k.journal (port_count words) (λ q lt e. let fits = (pairs words run).fits in names_differ words 2 (2 * q + 4) run (omega arith) (omega arith) (omega arith) (sym e))
 
-  pub config_end : (a b : Seen) (o : Outcome) → ConfigRead (name_at words 1) a b (Err o) → Holds (command_of words) a b o
+  pub config_end : (a b : Seen) (o : Outcome) → ConfigRead (name_at words 1) a b (Err o) → RunHolds (run_of words) a b o
   config_end a b o r = elim r.only [
-    | inl is ↦ subst (Holds k a b) (sym is.1) (r.reads.files, λ told. r.fault told is.0 is.1)
+    | inl is ↦ subst (RunHolds k a b) (sym is.1) (r.reads.files, λ told. r.fault told is.0 is.1)
     | inr other ↦ elim other [
-      | inl is ↦ subst (Holds k a b) (sym is) (r.reads.files, inl (r.cause (ap (λ (x : Outcome). Err x) is)))
-      | inr is ↦ subst (Holds k a b) (sym is) (λ m h. r.reads.files m)
+      | inl is ↦ subst (RunHolds k a b) (sym is) (r.reads.files, inl (r.cause (ap (λ (x : Outcome). Err x) is)))
+      | inr is ↦ subst (RunHolds k a b) (sym is) (λ m h. r.reads.files m)
     ]
   ]
 
@@ -95,16 +95,16 @@ module _ (words : List (String Global)) (run : is_run words ≡ true) where
     moves_b : Moves a b
     moves_b = keeps_moves (name_at words 1) a b first.reads.keeps
 
-    pub inputs_end : (o : Outcome) → InputsRead cf (command_of words).ins b c (Err o) → Holds (command_of words) a c o
+    pub inputs_end : (o : Outcome) → InputsRead cf (run_of words).ins b c (Err o) → RunHolds (run_of words) a c o
     inputs_end o r = elim r.only [
-      | inl is ↦ subst (Holds k a c) (sym is.1) ((λ m. r.files m ∙ first.reads.files m), λ told. (cf, first.ok told, bad_there cf a b first.reads.files k.ins is.0 (r.none (told_b told) is.0 is.1)))
+      | inl is ↦ subst (RunHolds k a c) (sym is.1) ((λ m. r.files m ∙ first.reads.files m), λ told. (cf, first.ok told, bad_there cf a b first.reads.files k.ins is.0 (r.none (told_b told) is.0 is.1)))
       | inr other ↦ elim other [
-        | inl is ↦ subst (Holds k a c) (sym is) ((λ m. r.files m ∙ first.reads.files m), inr (any_rose_later a.read_faults b.read_faults c.read_faults k.ins moves_b.reads (r.cause (ap (λ (x : Outcome). Err x) is))))
-        | inr is ↦ subst (Holds k a c) (sym is) (λ m h. r.files m ∙ first.reads.files m)
+        | inl is ↦ subst (RunHolds k a c) (sym is) ((λ m. r.files m ∙ first.reads.files m), inr (any_rose_later a.read_faults b.read_faults c.read_faults k.ins moves_b.reads (r.cause (ap (λ (x : Outcome). Err x) is))))
+        | inr is ↦ subst (RunHolds k a c) (sym is) (λ m h. r.files m ∙ first.reads.files m)
       ]
     ]
 
-    module _ (v : Vec (Vec Record Global) Global) (second : InputsRead cf (command_of words).ins b c (Ok v)) where
+    module _ (v : Vec (Vec Record Global) Global) (second : InputsRead cf (run_of words).ins b c (Ok v)) where
       pub same_files : SameFiles a c
       same_files m = second.files m ∙ first.reads.files m
 
@@ -114,12 +114,12 @@ module _ (words : List (String Global)) (run : is_run words ≡ true) where
       told_c : IsTrue a.told → IsTrue c.told
       told_c told = subst IsTrue (sym moves_c.told) told
 
-      pub no_machine : KeepsOthers (command_of words) a c
+      pub no_machine : KeepsOthers (Run (run_of words)) a c
       no_machine m h = same_files m
 
       module _ (e : Seen) (lines : List ℕ) where
-        pub journal_failed : (o : Outcome) → FileWritten (name_at words 2) lines c e (Err o) → Holds (command_of words) a e o
-        journal_failed o third = subst (Holds k a e) (sym third.cause.0) (
+        pub journal_failed : (o : Outcome) → FileWritten (name_at words 2) lines c e (Err o) → RunHolds (run_of words) a e o
+        journal_failed o third = subst (RunHolds k a e) (sym third.cause.0) (
           (λ n h. third.keeps.files n (other_names n h).0 ∙ same_files n),
           inl (rose_between (a.write_faults k.journal) (c.write_faults k.journal) (e.write_faults k.journal) (e.write_faults k.journal) (moves_c.writes k.journal) third.cause.1 (omega arith)),
         )
@@ -128,13 +128,13 @@ module _ (words : List (String Global)) (run : is_run words ≡ true) where
           moves_e : Moves a e
           moves_e = moves_trans a c e moves_c (keeps_moves k.journal c e third.keeps)
 
-          pub outputs_failed : (o : Outcome) → OutputsWritten (command_of words).outs outs e f (Err o) → Holds (command_of words) a f o
-          outputs_failed o fourth = subst (Holds k a f) (sym fourth.cause.0) (
+          pub outputs_failed : (o : Outcome) → OutputsWritten (run_of words).outs outs e f (Err o) → RunHolds (run_of words) a f o
+          outputs_failed o fourth = subst (RunHolds k a f) (sym fourth.cause.0) (
             (λ n h. fourth.others n (other_names n h).1 ∙ third.keeps.files n (other_names n h).0 ∙ same_files n),
             inr (any_rose_later a.write_faults e.write_faults f.write_faults k.outs moves_e.writes fourth.cause.1),
           )
 
-          pub ran : (m : Machine) (rs : List (Vec Record Global)) → rs ≡ v.items → Made cf (lists_in rs) m → lines ≡ m.journal.items → outs ≡ outs_in m.outs.items → OutputsWritten (command_of words).outs outs e f (Ok tt) → Holds (command_of words) a f (ends.Ran m.frames m.entries)
+          pub ran : (m : Machine) (rs : List (Vec Record Global)) → rs ≡ v.items → Made cf (lists_in rs) m → lines ≡ m.journal.items → outs ≡ outs_in m.outs.items → OutputsWritten (run_of words).outs outs e f (Ok tt) → RunHolds (run_of words) a f (ends.Ran m.frames m.entries)
           ran m rs is_rs made_of is_lines is_outs fourth = (
             (λ n h. fourth.others n (other_names n h).1 ∙ third.keeps.files n (other_names n h).0 ∙ same_files n),
             (λ told.

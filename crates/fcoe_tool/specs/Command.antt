@@ -1,5 +1,5 @@
 -- The command that words are.
-use Rattle.std.specs.Prelude.{◌≡◌, ℕ, ◌+◌, ◌-◌, ◌*◌, ◌/◌, ◌%◌, ◌<◌, ◌⊎◌, Bool, true, false, not, ◌==◌, nat_lt, nat_le, ◌&&◌, if◌then◌else◌, IsTrue, List, [], ◌∷◌, length, map, drop, Option, Some, None, codes, String}
+use Rattle.std.specs.Prelude.{◌≡◌, ℕ, ◌+◌, ◌-◌, ◌*◌, ◌/◌, ◌%◌, ◌<◌, ◌⊎◌, Bool, true, false, not, ◌==◌, nat_lt, nat_le, ◌&&◌, if◌then◌else◌, IsTrue, List, [], ◌∷◌, length, map, drop, Option, Some, None, option_map, codes, String}
 use Rattle.std.specs.List.{list_any}
 use Rattle.std.specs.Str.{bytes_eq}
 use Rattle.std.specs.String.{string_bytes}
@@ -7,13 +7,27 @@ use Rattle.std.specs.declared.alloc.Global.{Global}
 use Rattle.fab_base.specs.Places.{name_at}
 use Rattle.fab_base.specs.Seen.{Seen, Rose}
 use Rattle.fab_policy.specs.Logins.{counting}
+use Rattle.fcoe_tool.specs.declared.command.Form.{Form}
+use Rattle.fcoe_tool.specs.declared.command.Form.TheVariants as forms
 
 -- `run CONFIG JOURNAL IN OUT [IN OUT ..]`: the names of the configuration, of the journal, and of the captures of each port
-pub record Command : Type 0 where
+pub record RunNames : Type 0 where
   pub config : List ℕ
   pub journal : List ℕ
   pub ins : List (List ℕ)
   pub outs : List (List ℕ)
+
+-- `convert IN OUT`: the names of the pcapng file and of the capture
+pub record ConvertNames : Type 0 where
+  pub from : List ℕ
+  pub to : List ℕ
+
+-- a command with its names; `--help` and `--version` have none
+pub data Command : Type 0 where
+  Run : (names : RunNames) → Command
+  Convert : (names : ConvertNames) → Command
+  Help : Command
+  Version : Command
 
 -- the words from a place on
 abbrev pub names_from : ℕ → List (String Global) → List (List ℕ)
@@ -31,6 +45,23 @@ has_form words = nat_le 5 (length words) && nat_le (length words) 131 && length 
 abbrev pub is_run : List (String Global) → Bool
 is_run words = has_form words && are_names (names_from 1 words)
 
+-- two names behind the word `convert`
+abbrev pub is_convert : List (String Global) → Bool
+is_convert words = length words == 3 && bytes_eq (name_at words 0) (codes "convert") && are_names (names_from 1 words)
+
+-- this word alone
+abbrev pub is_word : List ℕ → List (String Global) → Bool
+is_word word words = length words == 1 && bytes_eq (name_at words 0) word
+
+-- the form of words, or none
+abbrev pub form_of : List (String Global) → Option Form
+form_of words =
+    if is_run words then Some forms.Run
+    else if is_convert words then Some forms.Convert
+    else if is_word (codes "--help") words then Some forms.Help
+    else if is_word (codes "--version") words then Some forms.Version
+    else None
+
 abbrev pub port_count : List (String Global) → ℕ
 port_count words = (length words - 3) / 2
 
@@ -41,24 +72,40 @@ input_at words port = name_at words (2 * port + 3)
 abbrev pub output_at : List (String Global) → ℕ → List ℕ
 output_at words port = name_at words (2 * port + 4)
 
-abbrev pub command_of : List (String Global) → Command
-command_of words = record {
+abbrev pub run_of : List (String Global) → RunNames
+run_of words = record {
   config = name_at words 1;
   journal = name_at words 2;
   ins = map (input_at words) (counting 0 (port_count words));
   outs = map (output_at words) (counting 0 (port_count words));
 }
 
+abbrev pub convert_of : List (String Global) → ConvertNames
+convert_of words = record { from = name_at words 1; to = name_at words 2 }
+
+-- the command that words of a form are
+abbrev pub named : List (String Global) → Form → Command
+named words forms.Run = Run (run_of words)
+named words forms.Convert = Convert (convert_of words)
+named words forms.Help = Help
+named words forms.Version = Version
+
 -- the command that words are, or none
 unfoldable pub command : List (String Global) → Option Command
-command words = if is_run words then Some (command_of words) else None
+command words = option_map (named words) (form_of words)
 
 -- what a command reads, and what it writes
 abbrev pub inputs : Command → List (List ℕ)
-inputs k = k.config ∷ k.ins
+inputs (Run k) = k.config ∷ k.ins
+inputs (Convert k) = k.from ∷ []
+inputs Help = []
+inputs Version = []
 
 abbrev pub outputs : Command → List (List ℕ)
-outputs k = k.journal ∷ k.outs
+outputs (Run k) = k.journal ∷ k.outs
+outputs (Convert k) = k.to ∷ []
+outputs Help = []
+outputs Version = []
 
 -- every word but the first is known
 abbrev pub AllKnown : Seen → List (String Global) → Type 0

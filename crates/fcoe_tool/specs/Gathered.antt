@@ -1,6 +1,7 @@
 -- What a command finds in its inputs.
 use Rattle.std.specs.Prelude.{◌≡◌, ℕ, ◌+◌, ◌-◌, ◌≤◌, min, max, List, [], ◌∷◌, length, map, flat_map, take, Some, Ok, Err}
 use Rattle.fab_base.specs.Seen.{Seen, bytes_of}
+use Rattle.pcap_file.specs.declared.Budget.{Budget}
 use Rattle.pcap_file.specs.declared.CaptureHead.{CaptureHead}
 use Rattle.pcap_file.specs.declared.Record.{Record}
 use Rattle.pcap_file.specs.Capture.{IsCapture}
@@ -9,6 +10,10 @@ use Rattle.fab_config.specs.Text.{decoded}
 use Rattle.fab_config.specs.declared.ConfigFault.{ConfigFault}
 use Rattle.fab_policy.specs.Legal.{window_start}
 use Rattle.fab_policy.specs.declared.looks.TheConstants.{MOST_SPAN}
+use Rattle.pcapng_file.specs.declared.NgRecord.{NgRecord}
+use Rattle.pcapng_file.specs.File.{IsNg}
+use Rattle.pcapng_file.specs.Laws.{Within}
+pub use Rattle.fcoe_tool.specs.declared.gathering.TheConstants.{MOST_BYTES, MOST_FRAMES}
 
 -- a name's file is a configuration text of this value, and one with this first fault
 pub record HasConfig (d : Seen) (name : List ℕ) (c : Settings) : Type 0 where
@@ -22,11 +27,8 @@ pub record HasFault (d : Seen) (name : List ℕ) (fault : ConfigFault) : Type 0 
   pub value : decoded text ≡ Err fault
 
 -- the limits on the bytes of all captures and on their frames
-abbrev pub MOST_BYTES : ℕ
-MOST_BYTES = 1073741824
-
-abbrev pub MOST_FRAMES : ℕ
-MOST_FRAMES = 200000
+abbrev pub LIMITS : Budget
+LIMITS = record { bytes = MOST_BYTES; frames = MOST_FRAMES }
 
 -- the windows of these records, and of those of all ports
 abbrev pub windows_of : Settings → List Record → List ℕ
@@ -87,3 +89,10 @@ pub record IsFirstBad (c : Settings) (d : Seen) (names : List (List ℕ)) (port 
   pub ins : List (List Record)
   pub before : HaveCaptures c d (take (port - 1) names) ins
   pub none : (more : List (List Record)) → HaveCaptures c d (take port names) more → ⊥
+
+-- a name's file is a pcapng file of these packets, within the limits
+pub record HasPackets (d : Seen) (name : List ℕ) (packets : List NgRecord) : Type 0 where
+  pub bytes : List ℕ
+  pub file : d.file name ≡ Some bytes
+  pub is : IsNg packets bytes
+  pub within : Within LIMITS packets bytes

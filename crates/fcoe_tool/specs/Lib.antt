@@ -3,6 +3,7 @@ pub mod Command
 pub mod Gathered
 pub mod Read
 pub mod Write
+pub mod Help
 pub mod Outcome
 pub mod Ends
 pub mod Reach

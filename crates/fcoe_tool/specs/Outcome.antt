@@ -3,17 +3,28 @@ use Rattle.std.specs.Prelude.{ℕ, List, ◌++◌, codes, decimal}
 use Rattle.fab_config.specs.declared.ConfigFault.{ConfigFault}
 use Rattle.fab_config.specs.declared.ConfigWhy.{ConfigWhy}
 use Rattle.fab_config.specs.declared.ConfigWhy.TheVariants as why
+use Rattle.pcapng_file.specs.declared.fault.NgWhy.{NgWhy}
+use Rattle.pcapng_file.specs.declared.fault.NgWhy.TheVariants as ng
+use Rattle.pcapng_file.specs.declared.fault.NgLimit.{NgLimit}
+use Rattle.pcapng_file.specs.declared.fault.NgLimit.TheVariants as limits
+use Rattle.fcoe_tool.specs.Help.{help_text, version_text}
+use Rattle.fcoe_tool.specs.Gathered.{MOST_BYTES, MOST_FRAMES}
 use Rattle.fcoe_tool.specs.declared.outcome.Outcome.{Outcome}
-use Rattle.fcoe_tool.specs.declared.outcome.Outcome.TheVariants.{Ran, Words, Config, Capture, ReadFault, WriteFault, Memory}
+use Rattle.fcoe_tool.specs.declared.outcome.Outcome.TheVariants.{Ran, Converted, Help, Version, Words, Config, Capture, BadBlock, PastLimit, ReadFault, WriteFault, Memory}
 
 abbrev pub status_of : Outcome → ℕ
 status_of (Ran frames entries) = 0
+status_of (Converted records) = 0
+status_of Help = 0
+status_of Version = 0
 status_of (Config fault) = 1
 status_of (Capture port) = 1
+status_of (BadBlock at fault) = 1
 status_of Words = 2
 status_of ReadFault = 3
 status_of WriteFault = 4
 status_of Memory = 5
+status_of (PastLimit limit) = 6
 
 -- the line of a run, of a capture that can't be taken, and of a faulty configuration
 abbrev pub run_text : ℕ → ℕ → List ℕ
@@ -34,11 +45,42 @@ why_word why.Missing = codes "missing"
 abbrev pub config_text : ConfigFault → List ℕ
 config_text fault = codes "config " ++ decimal fault.line ++ codes " " ++ why_word fault.why ++ codes "\n"
 
--- the line that is printed
+-- the line of a conversion, of a pcapng file with a fault at a block, and of one past a limit
+abbrev pub converted_text : ℕ → List ℕ
+converted_text records = codes "records " ++ decimal records ++ codes "\n"
+
+abbrev pub fault_word : NgWhy → List ℕ
+fault_word ng.Cut = codes "cut"
+fault_word ng.Section = codes "section"
+fault_word ng.Order = codes "order"
+fault_word ng.Length = codes "length"
+fault_word ng.Version = codes "version"
+fault_word ng.Simple = codes "simple"
+fault_word ng.Options = codes "options"
+fault_word ng.Interface = codes "interface"
+fault_word ng.Link = codes "link"
+fault_word ng.Resolution = codes "resolution"
+fault_word ng.Offset = codes "offset"
+fault_word ng.Time = codes "time"
+fault_word ng.Long = codes "long"
+
+abbrev pub block_text : ℕ → NgWhy → List ℕ
+block_text at fault = codes "capture 1 " ++ decimal at ++ codes " " ++ fault_word fault ++ codes "\n"
+
+abbrev pub limit_text : NgLimit → List ℕ
+limit_text limits.Bytes = codes "limit bytes " ++ decimal MOST_BYTES ++ codes "\n"
+limit_text limits.Frames = codes "limit frames " ++ decimal MOST_FRAMES ++ codes "\n"
+
+-- what is printed: one line, but for the text of `--help`
 unfoldable pub line_of : Outcome → List ℕ
 line_of (Ran frames entries) = run_text frames entries
 line_of (Config fault) = config_text fault
 line_of (Capture port) = capture_text port
+line_of (Converted records) = converted_text records
+line_of (BadBlock at fault) = block_text at fault
+line_of (PastLimit limit) = limit_text limit
+line_of Help = help_text
+line_of Version = version_text
 line_of Words = codes "words\n"
 line_of ReadFault = codes "read fault\n"
 line_of WriteFault = codes "write fault\n"

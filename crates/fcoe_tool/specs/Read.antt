@@ -11,6 +11,8 @@ use Rattle.pcap_file.specs.declared.CapError.TheVariants as errors
 use Rattle.pcap_file.specs.declared.Record.{Record}
 use Rattle.pcap_file.specs.Capture.{HEAD, IsCapture}
 use Rattle.pcap_file.specs.Records.{Ascends, size_of}
+use Rattle.pcapng_file.specs.declared.fault.NgError.{NgError}
+use Rattle.pcapng_file.specs.declared.fault.NgError.TheVariants as ng
 use Rattle.fab_config.specs.Settings.{Settings}
 use Rattle.fab_config.specs.Text.{decoded}
 use Rattle.fab_config.specs.declared.ConfigFault.{ConfigFault}
@@ -133,3 +135,12 @@ pub record InputsRead (c : Settings) (names : List (List ℕ)) (old new : Seen) 
   pub none : IsTrue old.told → IfErr result (λ o. (port : ℕ) → o ≡ ends.Capture port → IsFirstBad c old names port)
   pub cause : IsErrOf result ends.ReadFault → AnyRose old.read_faults new.read_faults names
   pub only : IfErr result (λ o. ((port : ℕ) × (o ≡ ends.Capture port)) ⊎ ((o ≡ ends.ReadFault) ⊎ (o ≡ ends.Memory)))
+
+-- ---- a pcapng file
+
+-- what an error of its reading ends a command with
+abbrev pub unconverted_by : NgError → Outcome
+unconverted_by (ng.Fault at fault) = ends.BadBlock at fault
+unconverted_by (ng.Limit limit) = ends.PastLimit limit
+unconverted_by (ng.Read failed) = ends.ReadFault
+unconverted_by ng.Memory = ends.Memory

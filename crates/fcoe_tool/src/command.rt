@@ -1,6 +1,5 @@
 //! The words of the command line.
-ghost use Rattle.std.specs.Prelude.{◌≡◌, ◌+◌, ◌*◌, ◌<◌, ◌≤◌, IsTrue, length, true, Some, None};
-ghost use Rattle.std.specs.Prelude.{if◌then◌else◌};
+ghost use Rattle.std.specs.Prelude.{◌≡◌, ◌+◌, ◌*◌, ◌<◌, ◌≤◌, length, true};
 ghost use Rattle.std.specs.Str.{bytes_eq};
 ghost use Rattle.std.specs.List.{list_any};
 ghost use Rattle.fab_base.specs.Places.{name_at};
@@ -11,15 +10,53 @@ use fab_base::word_at;
 /// The most ports of a forwarder.
 const MOST_PORTS: usize = 64;
 
-/// Whether words are `run CONFIG JOURNAL IN OUT [IN OUT ..]` with 1 to 64 pairs, and no name is
-/// empty or used twice.
-#[tactic(auto, unfolding(crate::specs::Command::command))]
-pub(crate) fn is_run(words: &[String]) -> bool
-    ensures command { spec.command words.now ≡
-        (if result then Some (spec.command_of words.now) else None) }
-    ensures is { IsTrue result → spec.is_run words.now ≡ true }
+/// The forms of a command line.
+#[derive(Clone, Copy, Debug, PartialEq, Eq)]
+pub(crate) enum Form {
+    /// `run CONFIG JOURNAL IN OUT [IN OUT ..]` with 1 to 64 pairs. No name is empty or used twice.
+    Run,
+    /// `convert IN OUT`. No name is empty, and they differ.
+    Convert,
+    /// `--help`
+    Help,
+    /// `--version`
+    Version,
+}
+
+/// The form that words have, or none.
+pub(crate) fn form_of(words: &[String]) -> Option<Form>
+    ensures { result ≡ spec.form_of words.now }
+{
+    if is_run(words) {
+        Some(Form::Run)
+    } else if is_convert(words) {
+        Some(Form::Convert)
+    } else if is_word(words, "--help") {
+        Some(Form::Help)
+    } else if is_word(words, "--version") {
+        Some(Form::Version)
+    } else {
+        None
+    }
+}
+
+fn is_run(words: &[String]) -> bool
+    ensures { result ≡ spec.is_run words.now }
 {
     has_form(words) && are_names(words)
+}
+
+fn is_convert(words: &[String]) -> bool
+    ensures { result ≡ spec.is_convert words.now }
+{
+    words.len() == 3 && word_at(words, 0) == "convert" && are_names(words)
+}
+
+// Whether this is the only word.
+fn is_word(words: &[String], word: &str) -> bool
+    ensures { result ≡ spec.is_word word.now words.now }
+{
+    words.len() == 1 && word_at(words, 0) == word
 }
 
 fn has_form(words: &[String]) -> bool

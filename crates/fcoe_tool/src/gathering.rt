@@ -14,10 +14,10 @@ use pcap_file::{Budget, CapError, CapOpen, Reader, Record};
 use std::alloc::{AllocError, Global};
 
 /// The bytes of all captures together.
-const MOST_BYTES: u64 = 1 << 30;
+pub(crate) const MOST_BYTES: u64 = 1 << 30;
 
 /// The frames of all captures together.
-const MOST_FRAMES: u64 = 200_000;
+pub(crate) const MOST_FRAMES: u64 = 200_000;
 
 /// One byte more than a configuration text may have.
 const ROOM: usize = 1_048_577;
@@ -85,7 +85,7 @@ pub(crate) fn inputs_of<D: Depot>(
 ) -> Result<Vec<Vec<Record>>, Outcome>
     requires run { spec.is_run words.now ≡ true }
     requires known { spec.AllKnown (D.seen depot.old) words.now }
-    ensures reads { InputsRead config.now (spec.command_of words.now).ins (D.seen depot.old)
+    ensures reads { InputsRead config.now (spec.run_of words.now).ins (D.seen depot.old)
         (D.seen depot.new) result }
 {
     let mut budget = Budget {

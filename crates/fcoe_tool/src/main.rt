@@ -3,8 +3,10 @@
 
 mod clock;
 mod command;
+mod converting;
 mod edge;
 mod gathering;
+mod help;
 mod machine;
 mod outcome;
 mod outputs;
@@ -13,6 +15,8 @@ mod queue;
 mod span;
 #[cfg(test)]
 mod tests;
+#[cfg(test)]
+mod tests_convert;
 #[cfg(test)]
 mod tests_edge;
 mod tool;

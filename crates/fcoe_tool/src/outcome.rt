@@ -4,8 +4,11 @@ ghost use Rattle.std.specs.String.{string_bytes};
 ghost use Rattle.fcoe_tool.specs.Outcome as spec;
 ghost use Rattle.fcoe_tool.specs.Ends.{Puts, Reports};
 
+use crate::gathering::{MOST_BYTES, MOST_FRAMES};
+use crate::help::{help, version};
 use fab_base::{PortNo, Sink, say_all};
 use fab_config::{ConfigFault, ConfigWhy};
+use pcapng_file::{NgLimit, NgWhy};
 use std::alloc::{AllocError, Global};
 
 /// How a command ended. The status and the printed line are two tables over it.
@@ -13,12 +16,22 @@ use std::alloc::{AllocError, Global};
 pub enum Outcome {
     /// All was done.
     Ran { frames: u64, entries: u64 },
+    /// A pcapng file was converted, with so many records.
+    Converted { records: u64 },
+    /// `--help`
+    Help,
+    /// `--version`
+    Version,
     /// The words are no command.
     Words,
     /// The configuration text has this first fault.
     Config { fault: ConfigFault },
     /// The capture of a port can't be taken.
     Capture { port: PortNo },
+    /// The pcapng file has this first fault, at a block.
+    BadBlock { at: u64, why: NgWhy },
+    /// The pcapng file passes a limit.
+    PastLimit { limit: NgLimit },
     /// An input couldn't be read.
     ReadFault,
     /// An output couldn't be written.
@@ -27,8 +40,8 @@ pub enum Outcome {
     Memory,
 }
 
-/// Prints the line of an outcome, and answers its status; 4 where the line can't be printed. Where
-/// memory for a line is refused, the outcome is want of memory.
+/// Prints what an outcome says, mostly a line, and answers its status; 4 where that can't be
+/// printed. Where memory for a line is refused, the outcome is want of memory.
 pub(crate) fn report<K: Sink>(alloc: Global, outcome: Outcome, say: &mut K) -> u8
     ensures reports { Reports outcome (K.sunk say.old) (K.sunk say.new) result }
 {
@@ -36,6 +49,11 @@ pub(crate) fn report<K: Sink>(alloc: Global, outcome: Outcome, say: &mut K) -> u
         Outcome::Ran { frames, entries } => put_made(say, run_line(alloc, frames, entries), 0),
         Outcome::Config { fault } => put_made(say, config_line(alloc, fault), 1),
         Outcome::Capture { port } => put_made(say, capture_line(alloc, port), 1),
+        Outcome::Converted { records } => put_made(say, converted_line(alloc, records), 0),
+        Outcome::BadBlock { at, why } => put_made(say, block_line(alloc, at, why), 1),
+        Outcome::PastLimit { limit } => put_made(say, limit_line(alloc, limit), 6),
+        Outcome::Help => put_line(say, help().as_bytes(), 0),
+        Outcome::Version => put_line(say, version().as_bytes(), 0),
         Outcome::Words => put_line(say, b"words\n", 2),
         Outcome::ReadFault => put_line(say, b"read fault\n", 3),
         Outcome::WriteFault => put_line(say, b"write fault\n", 4),
@@ -90,6 +108,49 @@ fn why_word(why: ConfigWhy) -> &'static str
         ConfigWhy::Value => "value",
         ConfigWhy::Limit => "limit",
         ConfigWhy::Missing => "missing",
+    }
+}
+
+fn converted_line(alloc: Global, records: u64) -> Result<String, AllocError>
+    ensures { IfOk result (λ s. string_bytes s ≡ spec.converted_text records) }
+{
+    format!(in alloc; "records {records}\n")
+}
+
+fn block_line(alloc: Global, at: u64, why: NgWhy) -> Result<String, AllocError>
+    ensures { IfOk result (λ s. string_bytes s ≡ spec.block_text at why) }
+{
+    let word = fault_word(why);
+    format!(in alloc; "capture 1 {at} {word}\n")
+}
+
+fn limit_line(alloc: Global, limit: NgLimit) -> Result<String, AllocError>
+    ensures { IfOk result (λ s. string_bytes s ≡ spec.limit_text limit) }
+{
+    match limit {
+        NgLimit::Bytes => format!(in alloc; "limit bytes {MOST_BYTES}\n"),
+        NgLimit::Frames => format!(in alloc; "limit frames {MOST_FRAMES}\n"),
+    }
+}
+
+// The word of a fault at a block.
+fn fault_word(why: NgWhy) -> &'static str
+    ensures { result.now ≡ spec.fault_word why }
+{
+    match why {
+        NgWhy::Cut => "cut",
+        NgWhy::Section => "section",
+        NgWhy::Order => "order",
+        NgWhy::Length => "length",
+        NgWhy::Version => "version",
+        NgWhy::Simple => "simple",
+        NgWhy::Options => "options",
+        NgWhy::Interface => "interface",
+        NgWhy::Link => "link",
+        NgWhy::Resolution => "resolution",
+        NgWhy::Offset => "offset",
+        NgWhy::Time => "time",
+        NgWhy::Long => "long",
     }
 }
 

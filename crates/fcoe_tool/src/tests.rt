@@ -104,7 +104,7 @@ pub(crate) const ONE_PORT: [&str; 5] = ["run", "K", "J", "IN", "OUT"];
 pub(crate) const TWO_PORTS: [&str; 7] = ["run", "K", "J", "IN", "OUT", "IN2", "OUT2"];
 
 // Runs a command, which prints this line and answers this status.
-fn runs<R: Threads + Wait + Sync + Abort>(
+pub(crate) fn runs<R: Threads + Wait + Sync + Abort>(
     rt: &R,
     alloc: Global,
     words: &[&str],
@@ -122,7 +122,7 @@ fn runs<R: Threads + Wait + Sync + Abort>(
 }
 
 // The same, after which every file is as it was.
-fn refused<R: Threads + Wait + Sync + Abort>(
+pub(crate) fn refused<R: Threads + Wait + Sync + Abort>(
     rt: &R,
     alloc: Global,
     words: &[&str],

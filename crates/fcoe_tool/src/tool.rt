@@ -1,13 +1,18 @@
 //! The command over the files of a depot.
-ghost use Rattle.std.specs.Prelude.{◌≡◌, ◌≤◌, ◌⊎◌, IsTrue, Some, None, true, length};
+ghost use Rattle.std.specs.Prelude.{◌≡◌, ◌≤◌, ◌⊎◌, IsTrue, Some, None, true, length, List, ℕ};
 ghost use Rattle.fab_base.specs.Seen.{SameFiles, Rose};
 ghost use Rattle.fcoe_tool.specs.Command as spec;
-ghost use Rattle.fcoe_tool.specs.Ends.{Ends, Holds, HoldsFor, RunEnded, OfCommand, IsRefused};
-ghost use Rattle.fcoe_tool.specs.Ends.{IsComplete, Printed};
+ghost use Rattle.fcoe_tool.specs.Ends.{Ends, Holds, HoldsFor, RunHolds, Done, OfCommand};
+ghost use Rattle.fcoe_tool.specs.Ends.{IsRefused, IsPastLimit, IsComplete, Printed, Prints};
+ghost use Rattle.fcoe_tool.specs.Ends.{IsQuietConvert, ended_by};
+ghost use Rattle.fcoe_tool.specs.Gathered.{LIMITS};
+ghost use Rattle.pcapng_file.specs.Classic.{IsFront};
+ghost use Rattle.pcapng_file.specs.File.{ng_read};
 ghost use Rattle.fcoe_tool.specs.Machine.{outs_in};
 ghost use Rattle.fcoe_tool.specs.Write.{FileWritten, OutputsWritten};
 
-use crate::command::{is_run, output_at, port_count};
+use crate::command::{Form, form_of, output_at, port_count};
+use crate::converting::convert_file;
 use crate::gathering::{config_of, inputs_of};
 use crate::machine::machine_of;
 use crate::outcome::{Outcome, report};
@@ -28,27 +33,43 @@ pub fn fabric_tool<R: Threads + Wait + Sync, D: Depot, K: Sink, G: Gate + Sync>(
     gate: &G,
 ) -> u8
     requires { spec.AllKnown (D.seen depot.old) words.now }
-    // The headline: one journal that is a run over the captures as they were found stands in the
-    // outputs, and its line was printed.
-    ensures run { result ≡ 0 → IsTrue (D.seen depot.old).told →
-        RunEnded words.now (D.seen depot.old) (D.seen depot.new) (K.sunk say.old) (K.sunk say.new) }
-    // The configuration has a fault, or a capture can't be taken, and every file is as it was.
+    // The command was done. The headline, of `run`: one journal that is a run over the captures as
+    // they were found stands in the outputs, and its line was printed. Of `convert`: the output is
+    // the capture of the input's packets. The two texts were printed.
+    ensures done { result ≡ 0 → OfCommand words.now (λ k. Done k (D.seen depot.old)
+        (D.seen depot.new) (K.sunk say.old) (K.sunk say.new)) }
+    // The configuration has a fault, or an input can't be taken, and every file is as it was.
     ensures refused { result ≡ 1 → SameFiles (D.seen depot.old) (D.seen depot.new)
         × OfCommand words.now (λ k. IsTrue (D.seen depot.old).told →
         IsRefused (D.seen depot.old) k) }
     ensures words { result ≡ 2 → (spec.command words.now ≡ None)
         × SameFiles (D.seen depot.old) (D.seen depot.new) }
+    ensures no_command { spec.command words.now ≡ None →
+        ¬ Rose (K.sunk say.old).faults (K.sunk say.new).faults → result ≡ 2 }
     ensures read { result ≡ 3 → SameFiles (D.seen depot.old) (D.seen depot.new)
         × OfCommand words.now (λ k. spec.ReadRose k (D.seen depot.old) (D.seen depot.new)) }
     ensures write { result ≡ 4 → Rose (K.sunk say.old).faults (K.sunk say.new).faults
         ⊎ OfCommand words.now (λ k. spec.WriteRose k (D.seen depot.old) (D.seen depot.new)) }
-    ensures statuses { result ≤ 5 }
+    // The input of `convert` passes a limit, and every file is as it was.
+    ensures limit { result ≡ 6 → SameFiles (D.seen depot.old) (D.seen depot.new)
+        × OfCommand words.now (λ k. IsTrue (D.seen depot.old).told →
+        IsPastLimit (D.seen depot.old) k) }
+    ensures statuses { result ≤ 6 }
     // No file changes but the outputs.
     ensures others { (k : spec.Command) → spec.command words.now ≡ Some k →
         spec.KeepsOthers k (D.seen depot.old) (D.seen depot.new) }
-    // Inputs of the right forms are run, where nothing fails and memory is there.
+    // The output of `convert` is as it was, or a front of the capture of the input's packets.
+    ensures front { IsTrue (D.seen depot.old).told → (k : spec.ConvertNames) →
+        spec.command words.now ≡ Some (spec.Convert k) →
+        IsFront k.from k.to LIMITS (D.seen depot.old) (D.seen depot.new) }
+    // Inputs of the right forms are taken, where nothing fails and memory is there.
     ensures complete { IsComplete words.now (D.seen depot.old) (D.seen depot.new) (K.sunk say.old)
         (K.sunk say.new) → (result ≡ 0) ⊎ (result ≡ 5) }
+    // Where nothing fails, `convert` ends as its input's bytes say, or memory is refused.
+    ensures exact { (bytes : List ℕ) → IsQuietConvert words.now bytes (D.seen depot.old)
+        (D.seen depot.new) (K.sunk say.old) (K.sunk say.new) →
+        Prints (ended_by (ng_read LIMITS bytes)) (K.sunk say.old) (K.sunk say.new) result
+        ⊎ (result ≡ 5) }
     // What was printed is the line of an outcome, or a front of it where the sink failed.
     ensures printed { IsTrue (K.sunk say.old).told → Printed (K.sunk say.old) (K.sunk say.new) }
     // The call ended by an outcome whose cause holds, and the line of that outcome was printed.
@@ -84,10 +105,29 @@ fn outcome_of<D: Depot, G: Gate>(
     requires { spec.AllKnown (D.seen depot.old) words.now }
     ensures holds { HoldsFor (spec.command words.now) (D.seen depot.old) (D.seen depot.new) result }
 {
-    if is_run(words) {
-        run(alloc, words, depot, gate)
-    } else {
-        Outcome::Words
+    match form_of(words) {
+        Some(form) => outcome_by(alloc, form, words, depot, gate),
+        None => Outcome::Words,
+    }
+}
+
+// How words of a form end.
+fn outcome_by<D: Depot, G: Gate>(
+    alloc: Global,
+    form: Form,
+    words: &[String],
+    depot: &mut D,
+    gate: &G,
+) -> Outcome
+    requires form { spec.form_of words.now ≡ Some form }
+    requires known { spec.AllKnown (D.seen depot.old) words.now }
+    ensures holds { Holds (spec.named words.now form) (D.seen depot.old) (D.seen depot.new) result }
+{
+    match form {
+        Form::Run => run(alloc, words, depot, gate),
+        Form::Convert => convert_file(alloc, words, depot),
+        Form::Help => Outcome::Help,
+        Form::Version => Outcome::Version,
     }
 }
 
@@ -95,7 +135,7 @@ fn outcome_of<D: Depot, G: Gate>(
 fn run<D: Depot, G: Gate>(alloc: Global, words: &[String], depot: &mut D, gate: &G) -> Outcome
     requires run { spec.is_run words.now ≡ true }
     requires known { spec.AllKnown (D.seen depot.old) words.now }
-    ensures holds { Holds (spec.command_of words.now) (D.seen depot.old) (D.seen depot.new) result }
+    ensures holds { RunHolds (spec.run_of words.now) (D.seen depot.old) (D.seen depot.new) result }
 {
     let config = match config_of(alloc, depot, word_at(words, 1)) {
         Ok(config) => config,
@@ -126,7 +166,7 @@ fn write_outputs<D: Depot>(depot: &mut D, words: &[String], outs: &[Vec<u8>]) ->
     requires run { spec.is_run words.now ≡ true }
     requires known { spec.AllKnown (D.seen depot.old) words.now }
     requires count { length outs.now ≡ spec.port_count words.now }
-    ensures writes { OutputsWritten (spec.command_of words.now).outs (outs_in outs.now)
+    ensures writes { OutputsWritten (spec.run_of words.now).outs (outs_in outs.now)
         (D.seen depot.old) (D.seen depot.new) result }
 {
     for port in 0..port_count(words) {

@@ -4,3 +4,4 @@ pub mod Buffers
 pub mod Steps
 pub mod Chains
 pub mod Loop
+pub mod Written

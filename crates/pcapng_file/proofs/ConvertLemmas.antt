@@ -1,16 +1,18 @@
 -- Converting a file: the input is read whole, and then the output is written.
-use Rattle.std.proofs.Common.{◌≡◌, ℕ, suc, ◌+◌, IsTrue, List, [], ◌∷◌, ◌++◌, length, append_assoc, drop, Some, Ok, sym, ap, ◌∙◌, subst, arith}
+use Rattle.std.proofs.Common.{◌≡◌, ℕ, suc, ◌+◌, ◌≤◌, IsTrue, List, [], ◌∷◌, ◌++◌, length, append_assoc, take, drop, Some, Ok, Err, sym, ap, ◌∙◌, subst, arith}
 use Rattle.std.specs.Prelude.{Result, slice_get}
 use Rattle.std.proofs.Math.Seq.{drop-cons}
 use Rattle.std.proofs.lemmas.Option.{slice_get_within, get_or_from_slice_get}
-use Rattle.fab_base.specs.Seen.{Seen, Reads, OpensIn, OpensOut, PutsAll}
+use Rattle.fab_base.specs.Seen.{Seen, Reads, Rose, OpensIn, OpensOut, PutsAll}
 use Rattle.fab_base.specs.declared.values.Failed.{Failed}
-use Rattle.fab_base.proofs.SeenLemmas.{reads_trans, told_stays}
+use Rattle.fab_base.proofs.SeenLemmas.{reads_trans, reads_touches, told_stays, rose_later}
 use Rattle.pcap_file.specs.declared.Budget.{Budget}
 use Rattle.pcapng_file.specs.declared.fault.NgError.{NgError}
 use Rattle.pcapng_file.specs.declared.NgRecord.{NgRecord}
 use Rattle.pcapng_file.specs.File.{before_all, NgReads}
-use Rattle.pcapng_file.specs.Classic.{classic_record, classic_records, classic_bytes, Converts}
+use Rattle.pcapng_file.specs.declared.fault.ConvertError.TheVariants as ends
+use Rattle.pcapng_file.specs.Classic.{classic_record, classic_records, classic_bytes, Converts, IsFront, Same, Front}
+use Rattle.pcapng_file.proofs.BackLemmas.{read_back}
 use Rattle.pcapng_file.proofs.GoingLemmas.{read_is}
 use Rattle.pcapng_file.proofs.LawLemmas.{Read, read_is_file}
 
@@ -39,21 +41,39 @@ module _ (from to : List ℕ) (slot : ℕ) (budget left : Budget) (a b c : Seen)
     told_c : IsTrue a.told → IsTrue c.told
     told_c told = told_stays from a c (reads (Ok v) r).keeps told
 
+    read : IsTrue a.told → Read budget before_all v (b.left slot)
+    read told = read_is_file (suc (length (b.left slot))) budget 0 before_all (b.left slot) v (sym (read_is budget (b.left slot)) ∙ r.exact (told_b told))
+
+    writes_kept : a.write_faults to ≤ c.write_faults to
+    writes_kept = (reads_touches from a c (reads (Ok v) r)).writes_rise to
+
+    pub unopened : (d : Seen) (failed : Failed) → OpensOut {E = Failed} to c d (Err failed) → Converts from to budget a d (Err (ends.Write failed))
+    unopened d failed o = (rose_later _ _ _ writes_kept o.cause, λ told. Same (o.same ∙ (reads (Ok v) r).files to))
+
     -- ---- the output
 
     module _ (out : ℕ) (d e : Seen) (bytes : List ℕ) (o : OpensOut {E = Failed} to c d (Ok out)) where
       is_out : d.name out ≡ to
       is_out = o.opened.2
 
+      pub front : (failed : Failed) → bytes ≡ classic_bytes v → PutsAll {T = Unit {0}} {E = Failed} out bytes d e (Err failed) → Converts from to budget a e (Err (ends.Write failed))
+      front failed made p = (
+        rose_later _ _ _ (omega (arith, writes_kept, o.keeps.writes_rise)) (subst (λ n. Rose (d.write_faults n) (e.write_faults n)) is_out p.cause),
+        λ told.
+            let part = p.part (told_stays to c d o.keeps (told_c told)) [] (ap d.file is_out ∙ o.emptied (told_c told)) in
+            Front (b.left slot) v part.0 (opens.left told) (read told).file ((read told).bytes, (read told).frames) (subst (λ n. e.file n ≡ Some (take part.0 bytes)) is_out part.1 ∙ ap (λ (l : List ℕ). Some (take part.0 l)) made),
+      )
+
       pub converted : (count : ℕ) → bytes ≡ classic_bytes v → count ≡ length v → PutsAll {T = Unit {0}} {E = Failed} out bytes d e (Ok tt) → Converts from to budget a e (Ok count)
       converted count made counted p = λ told.
-          let read : Read budget before_all v (b.left slot) = read_is_file (suc (length (b.left slot))) budget 0 before_all (b.left slot) v (sym (read_is budget (b.left slot)) ∙ r.exact (told_b told)) in
           record {
             bytes = b.left slot;
             packets = v;
             found = opens.left told;
-            is = read.file;
-            within = (read.bytes, read.frames);
+            read = r.exact (told_b told);
+            is = (read told).file;
+            within = ((read told).bytes, (read told).frames);
             output = subst (λ n. e.file n ≡ Some (classic_bytes v)) is_out (p.grown (told_stays to c d o.keeps (told_c told)) [] (ap d.file is_out ∙ o.emptied (told_c told)) ∙ ap (λ (l : List ℕ). Some l) made);
             counted = counted;
+            read_back = read_back v r.kept;
           }

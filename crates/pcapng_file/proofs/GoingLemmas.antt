@@ -9,14 +9,19 @@ use Rattle.pcapng_file.specs.declared.fault.NgError.{NgError}
 use Rattle.pcapng_file.specs.declared.fault.NgError.TheVariants as errors
 use Rattle.pcapng_file.specs.declared.reading.Block.{Block}
 use Rattle.pcapng_file.specs.declared.NgRecord.{NgRecord}
-use Rattle.pcapng_file.specs.File.{Section, before_all, after, found, less, in_front, go_on, step_of, read_from, ng_read, Tells, BlockRead, NgReads}
+use Rattle.pcapng_file.specs.File.{Section, before_all, after, found, less, in_front, go_on, step_of, read_from, ng_read, AreKept, Tells, BlockRead, NgReads}
 
 -- What stands for the loop at a place, with these packets read.
 pub record Going (slot : ℕ) (had : Budget) (a b : Seen) (held : List ℕ) (s : Section) (left : Budget) (at : ℕ) (v : List NgRecord) : Type 0 where
   pub reads : Reads (a.name slot) a b
   pub place : at + left.bytes ≡ had.bytes
   pub frames : left.frames + length v ≡ had.frames
+  pub kept : AreKept v
   pub on : IsTrue a.told → (m : ℕ) × (length (held ++ b.left slot) ≤ m) × (at + length (held ++ b.left slot) ≡ length (a.left slot)) × (in_front v (read_from (suc m) left at s (held ++ b.left slot)) ≡ ng_read had (a.left slot))
+
+kept_append : (v w : List NgRecord) → AreKept v → AreKept w → AreKept (v ++ w)
+kept_append [] w a b = b
+kept_append (r ∷ v) w a b = (a.0, kept_append v w a.1 b)
 
 no_more : (h l : List ℕ) → h ++ l ≡ [] → l ≡ []
 no_more [] l e = e
@@ -42,6 +47,7 @@ going_none slot had a held s at v none is_s is_at is_v =
       reads = reads_refl (a.name slot) a;
       place = omega arith;
       frames = omega (arith, ap length is_v);
+      kept = subst AreKept (sym is_v) tt;
       on = λ told. (
         length (a.left slot),
         omega (arith, ap length all),
@@ -80,6 +86,7 @@ module _ (slot : ℕ) (had : Budget) (a b c : Seen) (held rest : List ℕ) (s : 
     bytes = λ told. tt;
     frames = tt;
     untouched = is_had;
+    kept = tt;
     cause = λ f is. let same_error : e ≡ errors.Read f = cc in rose_later _ _ _ g.reads.keeps.reads_rise (subst (λ m. Rose (b.read_faults m) (c.read_faults m)) same (r.cause f (ap (λ (x : NgError). Err x) same_error)));
   }
 
@@ -92,6 +99,7 @@ module _ (slot : ℕ) (had : Budget) (a b c : Seen) (held rest : List ℕ) (s : 
     bytes = λ told. tt;
     frames = tt;
     untouched = is_had;
+    kept = tt;
     cause = λ f is. absurd (cc);
   }
 
@@ -105,6 +113,7 @@ module _ (slot : ℕ) (had : Budget) (a b c : Seen) (held rest : List ℕ) (s : 
         bytes = λ told. omega (arith, (g.on told).2, ap length (r.behind (told_b told)), g.place);
         frames = g.frames;
         untouched = tt;
+        kept = g.kept;
         cause = λ f e. absurd (cc);
       }
 
@@ -128,6 +137,7 @@ module _ (slot : ℕ) (had : Budget) (a b c : Seen) (held rest : List ℕ) (s : 
           reads = both (Ok (Some k)) r;
           place = omega (arith, fits.1, g.place);
           frames = omega (arith, fits.2, g.frames, ap length is_w, length-append v (found k.content));
+          kept = subst AreKept (sym is_w) (kept_append v (found k.content) g.kept fits.3);
           on = λ told.
               let behind = r.behind (told_b told) in
               let on = g.on told in

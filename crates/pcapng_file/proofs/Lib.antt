@@ -3,4 +3,5 @@ pub mod PacketLemmas
 pub mod StepLemmas
 pub mod GoingLemmas
 pub mod LawLemmas
+pub mod BackLemmas
 pub mod ConvertLemmas

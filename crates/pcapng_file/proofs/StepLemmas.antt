@@ -18,7 +18,7 @@ use Rattle.pcapng_file.specs.declared.block.Head.{Head}
 use Rattle.pcapng_file.specs.declared.packet.Content.{Content}
 use Rattle.pcapng_file.specs.declared.reading.Block.{Block}
 use Rattle.pcapng_file.specs.Block.{head_read, body_read}
-use Rattle.pcapng_file.specs.File.{Section, at_fault, and_then, frames_of, counted, step_in, step_of, Tells, NotRead, BlockRead}
+use Rattle.pcapng_file.specs.File.{Section, at_fault, and_then, frames_of, counted, step_in, step_of, found, AreKept, Tells, NotRead, BlockRead}
 
 -- ---- the step by its tests
 
@@ -202,12 +202,12 @@ module _ (slot : ℕ) (a b : Seen) (held mid front : List ℕ) (n : ℕ) (budget
                 cause = no_cause _ _ (errors.Limit limits.Frames) tt;
               }
 
-              pub block_done : frames_of content ≤ budget.frames → BlockRead slot a c held rest budget at s (Ok (Some (record { size = h.size; content = content })))
-              block_done le_frames = record {
+              pub block_done : frames_of content ≤ budget.frames → AreKept (found content) → BlockRead slot a c held rest budget at s (Ok (Some (record { size = h.size; content = content })))
+              block_done le_frames kept = record {
                 reads = both;
                 tells = λ told. counts told ∙ (λ i. if le-ltb budget.frames (frames_of content) le_frames i then Err (errors.Limit limits.Frames) else Ok (Some (record { size = h.size; content = content })));
                 behind = λ told. (long_enough told, sym (ap (drop h.size) (all told) ∙ drop_at block (rest ++ c.left slot) h.size sized_block));
                 ended = λ told. tt;
-                fits = (least, room, le_frames);
+                fits = (least, room, le_frames, kept);
                 cause = λ f e. absurd (cc);
               }

@@ -1,15 +1,17 @@
 -- The classic capture of the packets of a file, and what converting a file does.
-use Rattle.std.specs.Prelude.{◌≡◌, ◌≢◌, ℕ, ◌*◌, ◌/◌, ◌%◌, List, [], ◌∷◌, ◌++◌, length, IsTrue, Some, Result, Ok, Err}
+use Rattle.std.specs.Prelude.{◌≡◌, ◌≢◌, ℕ, ◌*◌, ◌/◌, ◌%◌, max, Bool, false, List, [], ◌∷◌, ◌++◌, length, take, IsTrue, Some, Result, Ok, Err}
 use Rattle.fab_base.specs.Layout.{spelled_low}
 use Rattle.fab_base.specs.Seen.{Seen, SameFiles, Rose}
 use Rattle.pcap_file.specs.declared.Budget.{Budget}
-use Rattle.pcap_file.specs.Capture.{head_bytes}
+use Rattle.pcap_file.specs.declared.CaptureHead.{CaptureHead}
+use Rattle.pcap_file.specs.declared.Record.{Record}
+use Rattle.pcap_file.specs.Capture.{head_bytes, IsCapture}
 use Rattle.pcapng_file.specs.declared.NgRecord.{NgRecord}
 use Rattle.pcapng_file.specs.declared.fault.NgError.{NgError}
 use Rattle.pcapng_file.specs.declared.fault.NgError.TheVariants as errors
 use Rattle.pcapng_file.specs.declared.fault.ConvertError.{ConvertError}
 use Rattle.pcapng_file.specs.declared.fault.ConvertError.TheVariants as ends
-use Rattle.pcapng_file.specs.File.{IsNg, ng_read}
+use Rattle.pcapng_file.specs.File.{IsNg, AreKept, ng_read}
 use Rattle.pcapng_file.specs.Laws.{Within}
 
 -- seconds, microseconds, stored length and original length of a record
@@ -26,6 +28,15 @@ classic_records (r ∷ v) = classic_record r ++ classic_records v
 -- the capture of these packets, little-endian in microseconds
 abbrev pub classic_bytes : List NgRecord → List ℕ
 classic_bytes v = head_bytes ++ classic_records v
+
+-- the records of that capture: in place of a moment that goes back it has the greatest one so far
+abbrev pub timed : ℕ → List NgRecord → List Record
+timed greatest [] = []
+timed greatest (r ∷ v) = record { moment = max greatest r.moment; caught = r.caught } ∷ timed (max greatest r.moment) v
+
+-- the head that is written
+abbrev pub written : CaptureHead
+written = record { big = false; nano = false }
 
 -- why an input isn't converted; a depot's fault and want of memory say nothing of its bytes
 abbrev pub SaysInput : List ℕ → Budget → Seen → NgError → Type 0
@@ -45,17 +56,30 @@ pub record Converted (from to : List ℕ) (budget : Budget) (old new : Seen) (co
   pub bytes : List ℕ
   pub packets : List NgRecord
   pub found : old.file from ≡ Some bytes
+  pub read : ng_read budget bytes ≡ Ok packets
   pub is : IsNg packets bytes
   pub within : Within budget packets bytes
   pub output : new.file to ≡ Some (classic_bytes packets)
   pub counted : count ≡ length packets
+  pub read_back : IsCapture written (timed 0 packets) (classic_bytes packets)
+
+-- The output is as it was, or it holds a front of the capture of the packets that the input was found to have.
+pub data IsFront (from to : List ℕ) (budget : Budget) (old new : Seen) : Type 0 where
+  Same : new.file to ≡ old.file to → IsFront from to budget old new
+  Front : (bytes : List ℕ) (packets : List NgRecord) (n : ℕ) → old.file from ≡ Some bytes → IsNg packets bytes → Within budget packets bytes → new.file to ≡ Some (take n (classic_bytes packets)) → IsFront from to budget old new
 
 -- How a conversion ends. The output is opened only behind the whole input: an error of the input leaves every file.
 abbrev pub Converts : List ℕ → List ℕ → Budget → Seen → Seen → Result ℕ ConvertError → Type 0
 Converts from to budget old new (Ok count) = IsTrue old.told → Converted from to budget old new count
 Converts from to budget old new (Err (ends.Input e)) = SameFiles old new × CauseInput from old new e × (IsTrue old.told → SaysInput from budget old e)
-Converts from to budget old new (Err (ends.Write failed)) = Rose (old.write_faults to) (new.write_faults to)
+Converts from to budget old new (Err (ends.Write failed)) = Rose (old.write_faults to) (new.write_faults to) × (IsTrue old.told → IsFront from to budget old new)
 
 -- no file changes but the output
 abbrev pub KeepsBut : List ℕ → Seen → Seen → Type 0
 KeepsBut to old new = (m : List ℕ) → m ≢ to → new.file m ≡ old.file m
+
+-- ---- law
+
+-- the capture of packets is read as these records
+abbrev pub ReadsBack : Type 0
+ReadsBack = (v : List NgRecord) → AreKept v → IsCapture written (timed 0 v) (classic_bytes v)

@@ -1,5 +1,5 @@
 -- A pcapng file, read block by block.
-use Rattle.std.specs.Prelude.{◌≡◌, ℕ, zero, suc, ◌+◌, ◌-◌, ◌≤◌, Bool, IsTrue, ◌==◌, nat_lt, ◌&&◌, if◌then◌else◌, List, [], ◌∷◌, ◌++◌, length, take, drop, Option, Some, None, is_some, Result, Ok, Err, IfOk, OnOk, OnErr, MatchOption}
+use Rattle.std.specs.Prelude.{◌≡◌, ℕ, zero, suc, ◌+◌, ◌-◌, ◌*◌, ◌^◌, ◌<◌, ◌≤◌, Bool, not, IsTrue, ◌==◌, nat_lt, ◌&&◌, if◌then◌else◌, List, [], ◌∷◌, ◌++◌, length, take, drop, Option, Some, None, is_some, Result, Ok, Err, IfOk, OnOk, OnErr, MatchOption}
 use Rattle.fab_base.specs.Seen.{Seen, Reads, Rose}
 use Rattle.fab_base.specs.declared.values.Failed.{Failed}
 use Rattle.pcap_file.specs.declared.Budget.{Budget}
@@ -53,6 +53,19 @@ found (says.Section big) = []
 found (says.Interface face) = []
 found (says.Packet r) = r ∷ []
 found says.Nothing = []
+
+-- ---- what every packet keeps
+
+-- A packet whose numbers have their ranges, and which is whole exactly where all bytes of its frame are stored.
+pub record IsKept (r : NgRecord) : Type 0 where
+  pub moment : r.moment < 2 ^ 32 * 1000
+  pub stored : length r.caught.bytes ≤ 65535
+  pub original : r.original < 2 ^ 32
+  pub whole : r.caught.whole ≡ not (nat_lt (length r.caught.bytes) r.original)
+
+abbrev pub AreKept : List NgRecord → Type 0
+AreKept [] = Unit {0}
+AreKept (r ∷ v) = IsKept r × AreKept v
 
 -- ---- the file
 
@@ -148,6 +161,7 @@ pub record NgReads (slot : ℕ) (old new : Seen) (had left : Budget) (result : R
   pub bytes : IsTrue old.told → OnOk result (left.bytes + length (old.left slot) ≡ had.bytes)
   pub frames : IfOk result (λ v. left.frames + length v ≡ had.frames)
   pub untouched : OnErr result (left ≡ had)
+  pub kept : IfOk result AreKept
   pub cause : (f : Failed) → result ≡ Err (errors.Read f) → Rose (old.read_faults (old.name slot)) (new.read_faults (old.name slot))
 
 -- ---- inside the crate
@@ -158,5 +172,5 @@ pub record BlockRead (slot : ℕ) (old new : Seen) (held rest : List ℕ) (budge
   pub tells : IsTrue old.told → Tells (step_of budget at s (held ++ old.left slot)) result
   pub behind : IsTrue old.told → IfOk result (λ o. MatchOption o (held ++ old.left slot ≡ []) (λ b. (b.size ≤ length (held ++ old.left slot)) × (rest ++ new.left slot ≡ drop b.size (held ++ old.left slot))))
   pub ended : IsTrue old.told → IfOk result (λ o. MatchOption o (rest ++ new.left slot ≡ []) (λ b. Unit {0}))
-  pub fits : IfOk result (λ o. MatchOption o (Unit {0}) (λ b. (HEAD ≤ b.size) × (b.size ≤ budget.bytes) × (frames_of b.content ≤ budget.frames)))
+  pub fits : IfOk result (λ o. MatchOption o (Unit {0}) (λ b. (HEAD ≤ b.size) × (b.size ≤ budget.bytes) × (frames_of b.content ≤ budget.frames) × AreKept (found b.content)))
   pub cause : (f : Failed) → result ≡ Err (errors.Read f) → Rose (old.read_faults (old.name slot)) (new.read_faults (old.name slot))

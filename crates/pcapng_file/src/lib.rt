@@ -14,7 +14,9 @@ mod tests;
 pub use classic::{classic_capture, convert};
 use fab_base::{Caught, Moment, OwnedList};
 pub use fault::{ConvertError, NgError, NgLimit, NgWhy};
-pub use laws::{a_file_has_one_list_of_packets, a_reading_is_the_file};
+pub use laws::{
+    a_capture_of_packets_is_read_back, a_file_has_one_list_of_packets, a_reading_is_the_file,
+};
 pub use reading::read_ng;
 
 /// One packet: its time, the frame that was captured, and the length that the frame had.

@@ -1,8 +1,9 @@
 //! A whole block, and the packet in it.
 ghost use Rattle.std.specs.Prelude.{◌≡◌, ◌≤◌, ◌<◌, ◌+◌, ◌*◌};
-ghost use Rattle.std.specs.Prelude.{◌/◌, ◌%◌, ◌^◌, length, slice_get, IfErr};
+ghost use Rattle.std.specs.Prelude.{◌/◌, ◌%◌, ◌^◌, length, slice_get, IfOk, IfErr};
 ghost use Rattle.pcapng_file.specs.Block.{least, body_read, packet_read, timed_read, stored};
-ghost use Rattle.pcapng_file.specs.File.{Tells, NotRead, at_fault, frames_of};
+ghost use Rattle.pcapng_file.specs.File.{Tells, NotRead, IsKept, AreKept};
+ghost use Rattle.pcapng_file.specs.File.{at_fault, found, frames_of};
 
 use crate::NgRecord;
 use crate::block::{Head, Interface, Kind, is_version, read_interface};
@@ -56,6 +57,7 @@ pub(crate) fn read_block(
     requires least { least head.kind ≤ head.size }
     ensures tells { Tells (at_fault at (body_read head faces.now block.now)) result }
     ensures own { IfErr result NotRead }
+    ensures kept { IfOk result (λ content. AreKept (found content)) }
 {
     let Head { kind, big, size } = head;
     if number_at(big, block, block.len() - 4) != size {
@@ -98,6 +100,7 @@ fn read_packet(
     requires { 32 ≤ length block.now }
     ensures tells { Tells (at_fault at (packet_read big faces.now block.now)) result }
     ensures own { IfErr result NotRead }
+    ensures kept { IfOk result IsKept }
 {
     if block.len() - 32 < padded(number_at(big, block, 20) as usize) {
         return Err(fault(at, NgWhy::Length));
@@ -130,6 +133,7 @@ fn read_of(
     requires whole { 32 + stored big block.now ≤ length block.now }
     ensures tells { Tells (at_fault at (timed_read face big block.now)) result }
     ensures own { IfErr result NotRead }
+    ensures kept { IfOk result IsKept }
 {
     if face.link != ETHERNET {
         return Err(fault(at, NgWhy::Link));
@@ -187,7 +191,8 @@ fn power(resolution: u8) -> u64
 fn milliseconds(units: u64, second: u64) -> u64
     requires second { (1 ≤ second) × (second ≤ 1000000000) }
     requires small { units / second < 2 ^ 32 }
-    ensures { result ≡ units * 1000 / second }
+    ensures value { result ≡ units * 1000 / second }
+    ensures small { result < 2 ^ 32 * 1000 }
 {
     units / second * 1000 + units % second * 1000 / second
 }

@@ -1,6 +1,6 @@
-use Rattle.std.proofs.Common.{refl, codes}
+use Rattle.std.proofs.Common.{refl, ◌∙◌, codes}
 use Rattle.fcoe_tool.specs.declared.outcome.Outcome.TheVariants as ends
-use Rattle.fcoe_tool.proofs.OutcomeLemmas.{reports, reports_made, line_config, line_words, line_read_fault, line_write_fault, line_memory, line_ran, line_capture}
+use Rattle.fcoe_tool.proofs.OutcomeLemmas.{reports, reports_made, line_config, line_words, line_read_fault, line_write_fault, line_memory, line_ran, line_capture, line_converted, line_block, line_limit, line_help, line_version}
 use Rattle.fcoe_tool.proofs.outcome.report.Goals as goal
 
 pub returns-in-Ran : goal.returns-in-Ran
@@ -13,7 +13,7 @@ pub returns-in-Capture : goal.returns-in-Capture
 returns-in-Capture g c = record { reports = reports_made _ _ (g.K.Sink.sunk c.args.say.now) (g.K.Sink.sunk c.put_made-in-Capture.new.say) c.put_made-in-Capture.result c.args.outcome (ends.Capture c.in-Capture.port) 1 c.in-Capture.is (line_capture c.in-Capture.port) refl tt c.capture_line.ensures c.put_made-in-Capture.ensures.ok c.put_made-in-Capture.ensures.err }
 
 pub returns-in-Words : goal.returns-in-Words
-returns-in-Words g c = record { reports = reports (codes "words\n") (g.K.Sink.sunk c.args.say.now) (g.K.Sink.sunk c.put_line.new.say) c.put_line.result c.args.outcome ends.Words 2 c.in-Words.is line_words refl c.put_line.ensures }
+returns-in-Words g c = record { reports = reports (codes "words\n") (g.K.Sink.sunk c.args.say.now) (g.K.Sink.sunk c.put_line-in-Words.new.say) c.put_line-in-Words.result c.args.outcome ends.Words 2 c.in-Words.is line_words refl c.put_line-in-Words.ensures }
 
 pub returns-in-ReadFault : goal.returns-in-ReadFault
 returns-in-ReadFault g c = record { reports = reports (codes "read fault\n") (g.K.Sink.sunk c.args.say.now) (g.K.Sink.sunk c.put_line-in-ReadFault.new.say) c.put_line-in-ReadFault.result c.args.outcome ends.ReadFault 3 c.in-ReadFault.is line_read_fault refl c.put_line-in-ReadFault.ensures }
@@ -23,3 +23,18 @@ returns-in-WriteFault g c = record { reports = reports (codes "write fault\n") (
 
 pub returns-in-Memory : goal.returns-in-Memory
 returns-in-Memory g c = record { reports = reports (codes "no memory\n") (g.K.Sink.sunk c.args.say.now) (g.K.Sink.sunk c.put_line-in-Memory.new.say) c.put_line-in-Memory.result c.args.outcome ends.Memory 5 c.in-Memory.is line_memory refl c.put_line-in-Memory.ensures }
+
+pub returns-in-Converted : goal.returns-in-Converted
+returns-in-Converted g c = record { reports = reports_made _ _ (g.K.Sink.sunk c.args.say.now) (g.K.Sink.sunk c.put_made-in-Converted.new.say) c.put_made-in-Converted.result c.args.outcome (ends.Converted c.in-Converted.records) 0 c.in-Converted.is (line_converted c.in-Converted.records) refl tt c.converted_line.ensures c.put_made-in-Converted.ensures.ok c.put_made-in-Converted.ensures.err }
+
+pub returns-in-BadBlock : goal.returns-in-BadBlock
+returns-in-BadBlock g c = record { reports = reports_made _ _ (g.K.Sink.sunk c.args.say.now) (g.K.Sink.sunk c.put_made-in-BadBlock.new.say) c.put_made-in-BadBlock.result c.args.outcome (ends.BadBlock c.in-BadBlock.at c.in-BadBlock.why) 1 c.in-BadBlock.is (line_block c.in-BadBlock.at c.in-BadBlock.why) refl tt c.block_line.ensures c.put_made-in-BadBlock.ensures.ok c.put_made-in-BadBlock.ensures.err }
+
+pub returns-in-PastLimit : goal.returns-in-PastLimit
+returns-in-PastLimit g c = record { reports = reports_made _ _ (g.K.Sink.sunk c.args.say.now) (g.K.Sink.sunk c.put_made-in-PastLimit.new.say) c.put_made-in-PastLimit.result c.args.outcome (ends.PastLimit c.in-PastLimit.limit) 6 c.in-PastLimit.is (line_limit c.in-PastLimit.limit) refl tt c.limit_line.ensures c.put_made-in-PastLimit.ensures.ok c.put_made-in-PastLimit.ensures.err }
+
+pub returns-in-Help : goal.returns-in-Help
+returns-in-Help g c = record { reports = reports c.as_bytes.result.now (g.K.Sink.sunk c.args.say.now) (g.K.Sink.sunk c.put_line.new.say) c.put_line.result c.args.outcome ends.Help 0 c.in-Help.is (c.as_bytes.ensures.value ∙ c.help.ensures ∙ line_help) refl c.put_line.ensures }
+
+pub returns-in-Version : goal.returns-in-Version
+returns-in-Version g c = record { reports = reports c.as_bytes-in-Version.result.now (g.K.Sink.sunk c.args.say.now) (g.K.Sink.sunk c.put_line-in-Version.new.say) c.put_line-in-Version.result c.args.outcome ends.Version 0 c.in-Version.is (c.as_bytes-in-Version.ensures.value ∙ c.version.ensures ∙ line_version) refl c.put_line-in-Version.ensures }

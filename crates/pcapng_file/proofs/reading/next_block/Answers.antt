@@ -56,5 +56,5 @@ returns g c =
     let sized = c.pull-2.auto.into ∙ c.deref_mut.ensures.len ∙ c.in_ok-body.ensures.len in
     let made = c.deref-3.ensures.value ∙ c.in_ok-block.ensures ∙ ap (λ (b : List ℕ). c.pull.new.into ++ b) (c.deref.ensures.value ∙ take_at c.pull-2.new.into _ _ (sized ∙ sym c.in_ok-body.ensures.len)) in
     record {
-      reads = block_done c.args.slot _ _ _ _ c.pull.new.into c.in-Ok.got c.args.budget c.args.at c.args.section.now c.pull.auto.into c.in-Ok.ensures.pulls (omega arith) c.in-Ok-read_head.head (ap (λ (s : Section). head_read s.order c.pull.new.into) (sym c.section.view_is) ∙ sym c.in-Ok-read_head.ensures.exact) _ c.pull-2.new.self c.pull-2.new.into c.requires.input c.if-budget-head.false (omega (arith, c.in-Ok-read_head.ensures.least)) sized c.in-Ok-pull.got c.in-Ok-pull.ensures.pulls (omega (arith, sized, c.len.ensures, c.in_ok-body.ensures.len)) c.deref-3.result.now made c.in-Ok-read_block.content (ap (λ (f : List Interface). at_fault c.args.at (body_read c.in-Ok-read_head.head f c.deref-3.result.now)) (sym (c.deref-2.ensures.value ∙ ap (λ (s : Section). s.faces) c.section.view_is)) ∙ c.in-Ok-read_block.ensures.tells) (omega (arith, c.frames.ensures.value));
+      reads = block_done c.args.slot _ _ _ _ c.pull.new.into c.in-Ok.got c.args.budget c.args.at c.args.section.now c.pull.auto.into c.in-Ok.ensures.pulls (omega arith) c.in-Ok-read_head.head (ap (λ (s : Section). head_read s.order c.pull.new.into) (sym c.section.view_is) ∙ sym c.in-Ok-read_head.ensures.exact) _ c.pull-2.new.self c.pull-2.new.into c.requires.input c.if-budget-head.false (omega (arith, c.in-Ok-read_head.ensures.least)) sized c.in-Ok-pull.got c.in-Ok-pull.ensures.pulls (omega (arith, sized, c.len.ensures, c.in_ok-body.ensures.len)) c.deref-3.result.now made c.in-Ok-read_block.content (ap (λ (f : List Interface). at_fault c.args.at (body_read c.in-Ok-read_head.head f c.deref-3.result.now)) (sym (c.deref-2.ensures.value ∙ ap (λ (s : Section). s.faces) c.section.view_is)) ∙ c.in-Ok-read_block.ensures.tells) (omega (arith, c.frames.ensures.value)) c.in-Ok-read_block.ensures.kept;
     }

@@ -1,0 +1,65 @@
+-- What a command did that ended with status 0.
+use Rattle.std.proofs.Common.{◌≡◌, ℕ, IsTrue, List, ◌++◌, Some, sym, ap, ◌∙◌, subst, arith}
+use Rattle.std.specs.Prelude.{◌↔◌}
+use Rattle.fab_base.specs.Seen.{Seen}
+use Rattle.fab_base.specs.Sunk.{Sunk}
+use Rattle.pcap_file.specs.declared.Record.{Record}
+use Rattle.pcap_file.specs.Capture.{IsCapture}
+use Rattle.pcap_file.proofs.lemmas.Chains.{one_capture}
+use Rattle.pcapng_file.specs.Classic.{Converted, classic_bytes, timed, written}
+use Rattle.fcoe_tool.specs.Command.{RunNames, ConvertNames, Command, Run, Convert, Help, Version}
+use Rattle.fcoe_tool.specs.Ends.{RunHolds, ConvertHolds, Holds, Done}
+use Rattle.fcoe_tool.specs.Gathered.{HasCapture, LIMITS}
+use Rattle.fcoe_tool.specs.Outcome.{status_of, line_of}
+use Rattle.fcoe_tool.specs.declared.outcome.Outcome.{Outcome}
+use Rattle.fcoe_tool.proofs.OutcomeCases.{run_cases, convert_cases}
+
+-- the records of the capture that was written, and no others
+taken : (k : ConvertNames) (old new : Seen) (records : ℕ) (c : Converted k.from k.to LIMITS old new records) (rs : List Record) → HasCapture new k.to rs ↔ (rs ≡ timed 0 c.packets)
+taken k old new records c rs = (
+  λ h.
+      let file : Some h.bytes ≡ Some (classic_bytes c.packets) = sym h.file ∙ c.output in
+      let same : h.bytes ≡ classic_bytes c.packets = cc in
+      (one_capture (classic_bytes c.packets) h.head written rs (timed 0 c.packets) (subst (λ l. IsCapture h.head rs l) same h.capture) c.read_back).1,
+  λ is. record { bytes = classic_bytes c.packets; file = c.output; head = written; capture = subst (λ l. IsCapture written l (classic_bytes c.packets)) (sym is) c.read_back },
+)
+
+-- a line that was printed whole, with its status
+abbrev pub Whole : Outcome → Sunk → Sunk → ℕ → Type 0
+Whole o before after status = (status ≡ status_of o) × (IsTrue before.told → after.written ≡ before.written ++ line_of o)
+
+run_done : (k : RunNames) (old new : Seen) (before after : Sunk) (status : ℕ) → status ≡ 0 → (o : Outcome) → RunHolds k old new o → Whole o before after status → Done (Run k) old new before after
+unfolding line_of
+run_done k old new before after status none o holds = run_cases k old new (λ o. Whole o before after status → Done (Run k) old new before after)
+    (λ frames entries h w told. record { frames = frames; entries = entries; run = h.1 told; printed = w.1 })
+    (λ fault h w. let one = w.0 in absurd (omega arith))
+    (λ port h w. let one = w.0 in absurd (omega arith))
+    (λ h w. let three = w.0 in absurd (omega arith))
+    (λ h w. let four = w.0 in absurd (omega arith))
+    (λ h w. let five = w.0 in absurd (omega arith))
+    o holds
+
+convert_done : (k : ConvertNames) (old new : Seen) (before after : Sunk) (status : ℕ) → status ≡ 0 → (o : Outcome) → ConvertHolds k old new o → Whole o before after status → Done (Convert k) old new before after
+unfolding line_of
+convert_done k old new before after status none o holds = convert_cases k old new (λ o. Whole o before after status → Done (Convert k) old new before after)
+    (λ records h w told. record { count = records; done = h.1 told; run_takes = taken k old new records (h.1 told); printed = w.1 })
+    (λ at fault h w. let one = w.0 in absurd (omega arith))
+    (λ limit h w. let six = w.0 in absurd (omega arith))
+    (λ h w. let three = w.0 in absurd (omega arith))
+    (λ h w. let four = w.0 in absurd (omega arith))
+    (λ h w. let five = w.0 in absurd (omega arith))
+    o holds
+
+help_done : (old new : Seen) (before after : Sunk) (status : ℕ) (o : Outcome) → Holds Help old new o → Whole o before after status → Done Help old new before after
+unfolding line_of
+help_done old new before after status o holds w = record { files = holds.1; printed = λ told. w.1 told ∙ ap (λ o. before.written ++ line_of o) holds.0 }
+
+version_done : (old new : Seen) (before after : Sunk) (status : ℕ) (o : Outcome) → Holds Version old new o → Whole o before after status → Done Version old new before after
+unfolding line_of
+version_done old new before after status o holds w = record { files = holds.1; printed = λ told. w.1 told ∙ ap (λ o. before.written ++ line_of o) holds.0 }
+
+pub command_done : (k : Command) (old new : Seen) (before after : Sunk) (status : ℕ) → status ≡ 0 → (o : Outcome) → Holds k old new o → Whole o before after status → Done k old new before after
+command_done (Run k) old new before after status none o holds w = run_done k old new before after status none o holds w
+command_done (Convert k) old new before after status none o holds w = convert_done k old new before after status none o holds w
+command_done Help old new before after status none o holds w = help_done old new before after status o holds w
+command_done Version old new before after status none o holds w = version_done old new before after status o holds w

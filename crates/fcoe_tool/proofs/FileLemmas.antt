@@ -1,0 +1,30 @@
+-- A pcapng file that is converted.
+use Rattle.std.proofs.Common.{◌≡◌, List, ℕ, Err, inl, sym, subst}
+use Rattle.std.specs.Prelude.{Result}
+use Rattle.std.specs.Str.{bytes_eq}
+use Rattle.fab_base.specs.Seen.{Seen}
+use Rattle.pcapng_file.specs.declared.fault.ConvertError.{ConvertError}
+use Rattle.pcapng_file.specs.declared.fault.ConvertError.TheVariants as errors
+use Rattle.pcapng_file.specs.Classic.{Converts, KeepsBut}
+use Rattle.fab_base.specs.declared.values.Failed.{Failed}
+use Rattle.fcoe_tool.specs.Command.{ConvertNames, Convert, KeepsOthers}
+use Rattle.fcoe_tool.specs.Ends.{ConvertHolds}
+use Rattle.fcoe_tool.specs.Gathered.{LIMITS}
+use Rattle.fcoe_tool.specs.declared.outcome.Outcome.TheVariants as ends
+use Rattle.fcoe_tool.proofs.MoveLemmas.{differs}
+use Rattle.fcoe_tool.proofs.NameLemmas.{or_false}
+
+module _ (k : ConvertNames) (a b : Seen) (others : KeepsBut k.to a b) where
+  keeps : KeepsOthers (Convert k) a b
+  keeps m none = others m (λ e. differs k.to m (or_false (bytes_eq k.to m) _ none).0 (sym e))
+
+  -- the output couldn't be written
+  pub output_failed : (failed : Failed) (e : ConvertError) → e ≡ errors.Write failed → Converts k.from k.to LIMITS a b (Err e) → ConvertHolds k a b ends.WriteFault
+  output_failed failed e is c = let w = subst (λ (x : ConvertError). Converts k.from k.to LIMITS a b (Err x)) is c in (keeps, inl w.0, w.1)
+
+-- names that are words
+pub keeps_as : (m n : List ℕ) (a b : Seen) → m ≡ n → KeepsBut m a b → KeepsBut n a b
+keeps_as m n a b e keeps = subst (λ l. KeepsBut l a b) e keeps
+
+pub converts_as : (x m y n : List ℕ) (a b : Seen) (r : Result ℕ ConvertError) → x ≡ m → y ≡ n → Converts x y LIMITS a b r → Converts m n LIMITS a b r
+converts_as x m y n a b r e f c = subst (λ l. Converts m l LIMITS a b r) f (subst (λ l. Converts l y LIMITS a b r) e c)

@@ -1,0 +1,32 @@
+-- What `--help` and `--version` print.
+use Rattle.std.specs.Prelude.{ℕ, List, ◌++◌, codes}
+
+unfoldable pub version_text : List ℕ
+version_text = codes "fcoe_tool 0.1.0\n"
+
+-- the commands, what they print, and the statuses
+unfoldable pub help_text : List ℕ
+help_text =
+    codes "fcoe_tool 0.1.0: an FCoE forwarder, run over captures\n"
+    ++ codes "\n"
+    ++ codes "  fcoe_tool run CONFIG JOURNAL IN OUT [IN OUT ..]\n"
+    ++ codes "      runs the forwarder over the captures of 1 to 64 ports; writes the journal\n"
+    ++ codes "      and a capture for each port, and prints: frames N entries M\n"
+    ++ codes "  fcoe_tool convert IN OUT\n"
+    ++ codes "      reads a pcapng file, writes the classic capture of its packets, and\n"
+    ++ codes "      prints: records N\n"
+    ++ codes "  fcoe_tool --help\n"
+    ++ codes "      prints this text\n"
+    ++ codes "  fcoe_tool --version\n"
+    ++ codes "      prints the version\n"
+    ++ codes "\n"
+    ++ codes "No name is empty, and none is used twice. The statuses, with what is printed:\n"
+    ++ codes "\n"
+    ++ codes "  0  as above: all was done\n"
+    ++ codes "  1  config LINE WHY: the first fault of the configuration\n"
+    ++ codes "     capture PORT PLACE WHY: the first input that is none; no file has changed\n"
+    ++ codes "  2  words: the words are no command; no file has changed\n"
+    ++ codes "  3  read fault: an input could not be read; no file has changed\n"
+    ++ codes "  4  write fault: an output, or what is printed, could not be written\n"
+    ++ codes "  5  no memory: memory was refused\n"
+    ++ codes "  6  limit WHAT NUMBER: the input passes this limit; no file has changed\n"

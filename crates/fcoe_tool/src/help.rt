@@ -1,0 +1,43 @@
+//! The texts of `--help` and `--version`.
+ghost use Rattle.std.specs.Prelude.{◌≡◌};
+ghost use Rattle.fcoe_tool.specs.Help as spec;
+
+const HELP: &str = "\
+fcoe_tool 0.1.0: an FCoE forwarder, run over captures
+
+  fcoe_tool run CONFIG JOURNAL IN OUT [IN OUT ..]
+      runs the forwarder over the captures of 1 to 64 ports; writes the journal
+      and a capture for each port, and prints: frames N entries M
+  fcoe_tool convert IN OUT
+      reads a pcapng file, writes the classic capture of its packets, and
+      prints: records N
+  fcoe_tool --help
+      prints this text
+  fcoe_tool --version
+      prints the version
+
+No name is empty, and none is used twice. The statuses, with what is printed:
+
+  0  as above: all was done
+  1  config LINE WHY: the first fault of the configuration
+     capture PORT PLACE WHY: the first input that is none; no file has changed
+  2  words: the words are no command; no file has changed
+  3  read fault: an input could not be read; no file has changed
+  4  write fault: an output, or what is printed, could not be written
+  5  no memory: memory was refused
+  6  limit WHAT NUMBER: the input passes this limit; no file has changed
+";
+
+/// The commands, what they print, and the statuses.
+pub(crate) fn help() -> &'static str
+    ensures { result.now ≡ spec.help_text }
+{
+    HELP
+}
+
+/// The program and its version.
+pub(crate) fn version() -> &'static str
+    ensures { result.now ≡ spec.version_text }
+{
+    "fcoe_tool 0.1.0\n"
+}

@@ -1,0 +1,40 @@
+-- The capture of packets is read as their records.
+use Rattle.std.proofs.Common.{◌≡◌, ℕ, ◌+◌, ◌*◌, ◌/◌, ◌%◌, ◌^◌, ◌<◌, ◌≤◌, max, Bool, false, not, nat_lt, List, [], ◌∷◌, ◌++◌, length, append_assoc, refl, sym, ap, ◌∙◌, arith}
+use Rattle.fab_base.specs.Layout.{little_endian, spelled_low}
+use Rattle.fab_base.proofs.LayoutLemmas.{little_endian-spelled}
+use Rattle.pcap_file.specs.Capture.{at_place, milliseconds, stored, head_bytes, Found, next, IsCapture}
+use Rattle.pcap_file.specs.Records.{Chain, last_moment}
+use Rattle.pcap_file.proofs.lemmas.Chains.{ends_as_capture}
+use Rattle.pcap_file.proofs.lemmas.Written.{next_end, front_whole, head_read}
+use Rattle.pcapng_file.specs.declared.NgRecord.{NgRecord}
+use Rattle.pcapng_file.specs.File.{IsKept, AreKept}
+use Rattle.pcapng_file.specs.Classic.{classic_front, classic_record, classic_records, classic_bytes, timed, written}
+
+module _ (r : NgRecord) (kept : IsKept r) where
+  stored_is : stored written (classic_front r) ≡ length r.caught.bytes
+  stored_is = let small = kept.stored in little_endian-spelled 4 (length r.caught.bytes) (omega arith)
+
+  original_is : at_place false (classic_front r) 12 4 ≡ r.original
+  original_is = let small = kept.original in little_endian-spelled 4 r.original (omega arith)
+
+  moment_is : milliseconds written (classic_front r) ≡ r.moment
+  moment_is =
+      let below = kept.moment in
+      let seconds : little_endian (spelled_low 4 (r.moment / 1000)) ≡ r.moment / 1000 = little_endian-spelled 4 (r.moment / 1000) (omega arith) in
+      let micros : little_endian (spelled_low 4 (r.moment % 1000 * 1000)) ≡ r.moment % 1000 * 1000 = little_endian-spelled 4 (r.moment % 1000 * 1000) (omega arith) in
+      (λ i. seconds i * 1000 + micros i / 1000) ∙ (let e : r.moment / 1000 * 1000 + r.moment % 1000 * 1000 / 1000 ≡ r.moment = omega arith in e)
+
+  record_stands : (greatest : ℕ) (rest : List ℕ) → next written greatest (classic_record r ++ rest) ≡ Found (max greatest r.moment) r.caught rest
+  record_stands greatest rest =
+      ap (next written greatest) (append_assoc (classic_front r) r.caught.bytes rest)
+      ∙ front_whole written greatest (classic_front r) (r.caught.bytes ++ rest) refl r.caught.bytes rest refl (sym stored_is) (let small = kept.stored in omega (arith, stored_is))
+      ∙ (λ i. Found (max greatest (moment_is i)) (record { bytes = r.caught.bytes; whole = not (nat_lt (stored_is i) (original_is i)) }) rest)
+      ∙ ap (λ (b : Bool). Found (max greatest r.moment) (record { bytes = r.caught.bytes; whole = b }) rest) (sym kept.whole)
+
+-- the records stand one after another
+chain : (greatest : ℕ) (v : List NgRecord) → AreKept v → Chain written greatest (timed greatest v) (classic_records v) []
+chain greatest [] kept = refl
+chain greatest (r ∷ v) kept = (classic_records v, record_stands r kept.0 greatest (classic_records v), chain (max greatest r.moment) v kept.1)
+
+pub read_back : (v : List NgRecord) → AreKept v → IsCapture written (timed 0 v) (classic_bytes v)
+read_back v kept = ends_as_capture written (timed 0 v) (classic_bytes v) [] (head_read (classic_records v)) (chain 0 v kept) (next_end written (last_moment 0 (timed 0 v)))
