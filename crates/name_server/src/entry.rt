@@ -111,6 +111,24 @@ impl Entry {
         feature_map(&self.features)
     }
 
+    /// Whether a registration would change the types or a feature.
+    pub(crate) fn is_changed_by(&self, ask: &CtAsk<'_>) -> bool
+        requires registration { is_registration (view ask.now) ≡ true }
+        ensures { result ≡ has_changed self.now.values
+            (after self.now.node (view ask.now) self.now.values) }
+    {
+        match ask {
+            CtAsk::SetTypes(_, types) => self.types != *types,
+            CtAsk::SetFeature { feature, kind, .. } => {
+                let mut features = self.features;
+                features[*kind as usize] = *feature;
+                self.features != features
+            }
+            CtAsk::Erase(_) => self.types != TypeMap([0; 8]) || self.features != no_features(),
+            _ => false,
+        }
+    }
+
     /// Takes a registration over. True where it changes the types or a feature.
     pub(crate) fn register(&mut self, ask: &CtAsk<'_>) -> bool
         requires registration { is_registration (view ask.now) ≡ true }

@@ -109,6 +109,31 @@ impl Registry {
         find_at(&self.entries, address).map(|entry| entry.node_name())
     }
 
+    /// Why a registration of the asker would be refused; none where the asker isn't entered.
+    pub fn refusal(&self, asker: FcId, ask: &CtAsk<'_>) -> Option<RegFault>
+        ensures codes { option_map codes result
+            ≡ refusal (view ask.now) (entry_at asker self.now.entries) }
+        ensures sound { IsSound self.now }
+    {
+        match find_at(&self.entries, asker) {
+            Some(entry) => refusal_of(entry.address(), entry.node_name(), ask),
+            None => None,
+        }
+    }
+
+    /// Whether a registration would change the FC-4 types or a feature of the asker.
+    pub fn is_noticed(&self, asker: FcId, ask: &CtAsk<'_>) -> bool
+        requires registration { server.is_registration (view ask.now) ≡ true }
+        ensures noticed { result
+            ≡ is_noticed (view ask.now) (entry_at asker self.now.entries) }
+        ensures sound { IsSound self.now }
+    {
+        match find_at(&self.entries, asker) {
+            Some(entry) => entry.is_changed_by(ask),
+            None => false,
+        }
+    }
+
     /// Does a registration of the asker. Refused, nothing changes.
     pub fn register(&mut self, asker: FcId, ask: &CtAsk<'_>) -> Result<Change, RegFault>
         requires asker { IsSome (entry_at asker self.old.entries) }

@@ -24,7 +24,7 @@ fn two_ports(alloc: Global, low: FcId, high: FcId) -> Result<Registry, NoMemory>
     Ok(registry)
 }
 
-/// A registration has this outcome, and the same N_Ports are there after it.
+/// A registration has this outcome, which was told before, and the same N_Ports are there after it.
 fn assert_register(
     rt: &impl Abort,
     registry: &mut Registry,
@@ -37,9 +37,18 @@ fn assert_register(
     requires size { CanWrite (view ask.now) }
     ensures { (a : ℕ) → is_some (entry_at a registry.new.entries) ≡ is_some (entry_at a registry.old.entries) }
 {
+    let refusal = registry.refusal(asker, ask);
+    let noticed = registry.is_noticed(asker, ask);
     match registry.register(asker, ask) {
-        Ok(change) => assert_eq!(rt; Ok(change), want),
-        Err(fault) => assert_eq!(rt; Err(fault), want),
+        Ok(change) => {
+            assert_eq!(rt; refusal, None);
+            assert_eq!(rt; noticed, change.noticed);
+            assert_eq!(rt; Ok(change), want);
+        }
+        Err(fault) => {
+            assert_eq!(rt; refusal, Some(fault));
+            assert_eq!(rt; Err(fault), want);
+        }
     }
 }
 
