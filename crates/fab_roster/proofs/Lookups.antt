@@ -1,0 +1,73 @@
+-- Look-ups in the list of N_Ports that the tables make are look-ups among logins.
+use Rattle.std.proofs.Common.{◌≡◌, ℕ, ◌==◌, ◌&&◌, ◌||◌, nat_le, Bool, true, false, cond, List, [], ◌∷◌, map, find, Option, Some, None, option_map, IsSome, refl, sym, ap, ◌∙◌}
+use Rattle.std.specs.List.{list_any}
+use Rattle.keepalive_clock.specs.declared.voice.LastHeard.{LastHeard}
+use Rattle.login_table.specs.Logins.{login_at, named, next_of}
+use Rattle.login_table.specs.declared.login.Login.{Login}
+use Rattle.name_server.specs.Registry.{Entry}
+use Rattle.state_change.specs.declared.watcher.Watcher.{Watcher}
+use Rattle.fab_policy.specs.State.{LivePort, port_at}
+use Rattle.fab_roster.specs.Roll.{live_of, ports_of, login_of}
+use Rattle.fab_roster.proofs.Found.{some_found}
+
+-- a list whose items are changed and pass as before
+pub find_map : {X Y : Type 0} (f : X → Y) (p : Y → Bool) (q : X → Bool) (xs : List X) → ((x : X) → p (f x) ≡ q x) → find p (map f xs) ≡ option_map f (find q xs)
+find_map f p q [] same = refl
+find_map f p q (x ∷ xs) same = ap (λ b. cond b (Some (f x)) (find p (map f xs))) (same x) ∙ (ap (λ o. cond (q x) (Some (f x)) o) (find_map f p q xs same) ∙ sym (out (q x)))
+  where
+    out : (b : Bool) → option_map f (cond b (Some x) (find q xs)) ≡ cond b (Some (f x)) (option_map f (find q xs))
+    out true = refl
+    out false = refl
+
+pub list_any-map : {X Y : Type 0} (f : X → Y) (p : Y → Bool) (xs : List X) → list_any p (map f xs) ≡ list_any (λ x. p (f x)) xs
+list_any-map f p [] = refl
+list_any-map f p (x ∷ xs) = ap (λ b. p (f x) || b) (list_any-map f p xs)
+
+pub option_map-map : {X Y Z : Type 0} (g : Y → Z) (f : X → Y) (o : Option X) → option_map g (option_map f o) ≡ option_map (λ x. g (f x)) o
+option_map-map g f None = refl
+option_map-map g f (Some x) = refl
+
+pub option_map-same : {X : Type 0} (f : X → X) (o : Option X) → ((x : X) → f x ≡ x) → option_map f o ≡ o
+option_map-same f None same = refl
+option_map-same f (Some x) same = ap (λ y. Some y) (same x)
+
+module _ (V : List LastHeard) (R : List Entry) (W : List Watcher) (ls : List Login) where
+  -- the N_Port of an address is what the tables say of its login
+  pub port_of_login : (a : ℕ) → port_at a (ports_of V R W ls) ≡ option_map (live_of V R W) (login_at a ls)
+  port_of_login a = find_map (live_of V R W) (λ p. p.address == a) (λ l. l.address == a) ls (λ l. refl)
+
+  -- a test that asks an N_Port for no more than its login finds that login
+  pub login_found : (p : LivePort → Bool) (q : Login → Bool) → ((l : Login) → p (live_of V R W l) ≡ q l) → find q ls ≡ option_map login_of (find p (ports_of V R W ls))
+  login_found p q as_login =
+      sym (ap (λ o. option_map login_of o) (find_map (live_of V R W) p q ls as_login) ∙ (option_map-map login_of (live_of V R W) (find q ls) ∙ option_map-same _ (find q ls) (λ l. refl)))
+
+  pub login_of_port : (a : ℕ) → login_at a ls ≡ option_map login_of (port_at a (ports_of V R W ls))
+  login_of_port a = login_found (λ p. p.address == a) (λ l. l.address == a) (λ l. refl)
+
+  pub login_named : (n : ℕ) → named n ls ≡ option_map login_of (find (λ (p : LivePort). p.name == n) (ports_of V R W ls))
+  login_named n = login_found (λ p. p.name == n) (λ l. l.name == n) (λ l. refl)
+
+  -- the next address
+  pub next_port : (k : ℕ) (p : LivePort → Bool) (q : Login → Bool) → ((l : Login) → p (live_of V R W l) ≡ (nat_le k l.address && q l)) →
+      next_of q k ls ≡ option_map (λ (p : LivePort). p.address) (find p (ports_of V R W ls))
+  next_port k p q as_login =
+      ap (λ o. option_map (λ l. l.address) o) (login_found p (λ l. nat_le k l.address && q l) as_login)
+      ∙ option_map-map (λ (l : Login). l.address) login_of (find p (ports_of V R W ls))
+
+  -- some login passes where some N_Port does
+  pub any_login : (p : LivePort → Bool) (q : Login → Bool) → ((l : Login) → p (live_of V R W l) ≡ q l) → list_any p (ports_of V R W ls) ≡ list_any q ls
+  any_login p q as_login = list_any-map (live_of V R W) p ls ∙ each ls
+    where
+      each : (xs : List Login) → list_any (λ l. p (live_of V R W l)) xs ≡ list_any q xs
+      each [] = refl
+      each (x ∷ xs) = ap (λ b. b || list_any (λ l. p (live_of V R W l)) xs) (as_login x) ∙ ap (λ b. q x || b) (each xs)
+
+  -- a live address has its login
+  pub login_there : (a : ℕ) → IsSome (port_at a (ports_of V R W ls)) → (l : Login) × (login_at a ls ≡ Some l)
+  login_there a h =
+      let f = some_found (port_at a (ports_of V R W ls)) h in
+      (login_of f.0, login_of_port a ∙ ap (λ o. option_map login_of o) f.1)
+
+  -- and an address with a login is live
+  pub live_there : (a : ℕ) (l : Login) → login_at a ls ≡ Some l → port_at a (ports_of V R W ls) ≡ Some (live_of V R W l)
+  live_there a l e = port_of_login a ∙ ap (λ o. option_map (live_of V R W) o) e

@@ -1,0 +1,51 @@
+-- The N_Ports of a roll ascend, and a walk over the logins is a walk over them.
+use Rattle.std.proofs.Common.{◌≡◌, ℕ, ◌+◌, ◌&&◌, nat_le, Bool, true, false, cond, List, [], ◌∷◌, find, Option, Some, option_map, sym, ap, ◌∙◌, refl, subst}
+use Rattle.fab_base.specs.Fabric.{Past}
+use Rattle.fab_base.specs.Keyed.{AscendFrom}
+use Rattle.keepalive_clock.specs.Clock.{VoiceClock}
+use Rattle.keepalive_clock.specs.declared.voice.LastHeard.{LastHeard}
+use Rattle.login_table.specs.Logins as logins
+use Rattle.login_table.specs.Logins.{Logins, next_of}
+use Rattle.login_table.specs.declared.login.Login.{Login}
+use Rattle.name_server.specs.Registry.{Entry, Registrations}
+use Rattle.state_change.specs.Watchers.{Watching}
+use Rattle.state_change.specs.declared.watcher.Watcher.{Watcher}
+use Rattle.fab_policy.specs.State.{LivePort}
+use Rattle.fab_roster.specs.Agreement.{Agree}
+use Rattle.fab_roster.specs.Roll.{Roll, ports_of}
+use Rattle.fab_roster.proofs.Lookups.{next_port}
+use Rattle.fab_roster.proofs.SoundLemmas.{roll_of}
+use Rattle.fab_roster.proofs.Walks.{IsNext, first_key, next_some}
+
+-- the key of an N_Port
+abbrev pub address : LivePort → ℕ
+address p = p.address
+
+pub ports_ascend : (V : List LastHeard) (R : List Entry) (W : List Watcher) (from : ℕ) (ls : List Login) → AscendFrom logins.address_of from ls → AscendFrom address from (ports_of V R W ls)
+ports_ascend V R W from [] ascend = tt
+ports_ascend V R W from (l ∷ ls) ascend = (ascend.0, ports_ascend V R W (l.address + 1) ls ascend.1)
+
+and_true : (b : Bool) → b ≡ b && true
+and_true true = refl
+and_true false = refl
+
+module _ (lowest count limit period : ℕ) (clock : Option ℕ) (A : List Past) (t : Logins) (k : VoiceClock) (r : Registrations) (w : Watching) (R : Roll) (view : roll_of lowest count limit period clock A t k r w ≡ R) where
+  pub roll_ascends : Agree lowest count clock A t k r w → AscendFrom address 0 R.tables.ports
+  roll_ascends agree = subst (λ (x : Roll). AscendFrom address 0 x.tables.ports) view (ports_ascend k.voices r.entries w.watchers 0 t.logins agree.sound.logins.ascending)
+
+  pub next_of_roll : (from : ℕ) → next_of (λ l. true) from t.logins ≡ first_key address from R.tables.ports
+  next_of_roll from =
+      next_port k.voices r.entries w.watchers t.logins from (λ p. nat_le from p.address) (λ l. true) (λ (l : Login). and_true (nat_le from l.address))
+      ∙ ap (λ (x : Roll). first_key address from x.tables.ports) view
+
+-- ---- a walk over the logins
+
+find-same : {X : Type 0} (p q : X → Bool) → ((x : X) → p x ≡ q x) → (xs : List X) → find p xs ≡ find q xs
+find-same p q alike [] = refl
+find-same p q alike (x ∷ xs) = ap (λ b. cond b (Some x) (find p xs)) (alike x) ∙ ap (λ o. cond (q x) (Some x) o) (find-same p q alike xs)
+
+pub next_is_first : (from : ℕ) (ls : List Login) → next_of (λ l. true) from ls ≡ first_key logins.address_of from ls
+next_is_first from ls = ap (option_map logins.address_of) (find-same (λ (l : Login). nat_le from l.address && true) (λ (l : Login). nat_le from l.address) (λ l. sym (and_true (nat_le from l.address))) ls)
+
+pub next_login : (from a : ℕ) (t : Logins) → logins.IsSound t → Some a ≡ next_of (λ l. true) from t.logins → IsNext logins.address_of from t.logins a
+next_login from a t sound is = next_some logins.address_of 0 from a t.logins sound.ascending (is ∙ next_is_first from t.logins)

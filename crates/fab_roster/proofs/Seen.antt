@@ -1,0 +1,131 @@
+-- What a login sees, by a walk over the logins, and what the registry knows of it.
+use Rattle.std.proofs.Common.{◌≡◌, ℕ, ◌+◌, ◌<◌, ◌≤◌, ◌==◌, ◌||◌, Bool, true, false, cond, List, [], ◌∷◌, ◌++◌, map, filter, Option, Some, None, option_map, is_some, IsSome, unwrap_or, refl, sym, ap, subst, ◌∙◌, arith}
+use Rattle.std.proofs.lemmas.List.Elements.{All-append, All-cons, All-filter, All-head, All-map, All-nil, All-tail, All-weaker}
+use Rattle.std.specs.List.{All, cons_option}
+use Rattle.std.specs.Option.{option_map_or}
+use Rattle.fab_base.proofs.KeyedLemmas.{is_some-item_at-filter}
+use Rattle.fab_base.specs.Fabric.{Past}
+use Rattle.fab_config.specs.Settings.{Settings}
+use Rattle.ct_messages.specs.Server.{first_values}
+use Rattle.keepalive_clock.specs.Clock.{VoiceClock}
+use Rattle.keepalive_clock.specs.declared.voice.LastHeard.{LastHeard}
+use Rattle.login_table.specs.Logins.{Logins, address_of, login_at}
+use Rattle.login_table.specs.declared.login.Login.{Login}
+use Rattle.name_server.specs.Registry as registry
+use Rattle.name_server.specs.Registry.{AreEntered, Entry, Registrations, entry_at, known_port, seen_at}
+use Rattle.name_server.specs.declared.seen.SeenPort.{SeenPort}
+use Rattle.state_change.specs.Watchers.{Watching}
+use Rattle.state_change.specs.declared.watcher.Watcher.{Watcher}
+use Rattle.zone_rules.specs.Joined as zones
+use Rattle.zone_rules.specs.Rules.{ZoneRules}
+use Rattle.fab_policy.specs.Queries.{fport, known, known_to}
+use Rattle.fab_policy.specs.Rules.{joined}
+use Rattle.fab_policy.specs.State.{LivePort, Tables, now_of, port_at}
+use Rattle.fab_roster.specs.Agreement.{Agree}
+use Rattle.fab_roster.specs.Reaching.{may_see, seen_port, zones_of}
+use Rattle.fab_roster.specs.Roll.{Roll, live_of, ports_of}
+use Rattle.fab_roster.proofs.Found.{All-item_at, same}
+use Rattle.fab_roster.proofs.Lookups.{find_map, live_there}
+use Rattle.fab_roster.proofs.SoundLemmas.{roll_of}
+use Rattle.fab_roster.proofs.Walks.{IsNext, Walked, walk_takes, walk_passes, makes_one, makes_none}
+
+-- what a login sees of others at a moment
+abbrev pub seen_of : Settings → ZoneRules → ℕ → Login → List Login → List SeenPort
+seen_of c z at asker ls = map (seen_port c) (filter (may_see z at asker) ls)
+
+-- all that were seen have addresses below a bound
+abbrev pub AreBelow : ℕ → List SeenPort → Type 0
+AreBelow bound seen = All (λ (s : SeenPort). s.address < bound) seen
+
+-- ---- the walk
+
+module _ (c : Settings) (z : ZoneRules) (at : ℕ) (asker : Login) (from a v : ℕ) (ls : List Login) (out new : List SeenPort) (l : Login) (b : Bool) (n : IsNext address_of from ls a) (found : Some l ≡ login_at a ls) (test : b ≡ may_see z at asker l) where
+  is_item : l ≡ n.item
+  is_item = cc (n.found)
+
+  pub one_seen : b ≡ true → v ≡ a → new ≡ out ++ seen_port c l ∷ [] → Walked address_of (seen_of c z at asker) from ls out → Walked address_of (seen_of c z at asker) (v + 1) ls new
+  one_seen passes is grown so_far =
+      walk_takes address_of (seen_of c z at asker) from a v ls out new (seen_port c l) n
+      (λ ys. makes_one (seen_port c) (may_see z at asker) n.item (sym (ap (may_see z at asker) is_item) ∙ (sym test ∙ passes)) ys ∙ ap (λ x. seen_port c x ∷ seen_of c z at asker ys) (sym is_item))
+      is grown so_far
+
+  pub none_seen : b ≡ false → v ≡ a → new ≡ out → Walked address_of (seen_of c z at asker) from ls out → Walked address_of (seen_of c z at asker) (v + 1) ls new
+  none_seen fails is unchanged so_far =
+      walk_passes address_of (seen_of c z at asker) from a v ls out new n
+      (makes_none (seen_port c) (may_see z at asker) n.item (sym (ap (may_see z at asker) is_item) ∙ (sym test ∙ fails)))
+      is unchanged so_far
+
+-- the next login is the one that is found at its address
+pub found_address : (from a : ℕ) (ls : List Login) (l : Login) → IsNext address_of from ls a → Some l ≡ login_at a ls → l.address ≡ a
+found_address from a ls l n found = let is : l ≡ n.item = cc (n.found, found) in ap address_of is ∙ n.at
+
+module _ (from v : ℕ) (le : from ≤ v) (out new : List SeenPort) where
+  pub below_same : new ≡ out → AreBelow from out → AreBelow (v + 1) new
+  below_same is below = subst (AreBelow (v + 1)) (sym is) (All-weaker (λ (s : SeenPort). s.address < from) (λ (s : SeenPort). s.address < v + 1) (λ s lt. omega arith) out below)
+
+  pub below_more : (s : SeenPort) → s.address ≡ v → new ≡ out ++ s ∷ [] → AreBelow from out → AreBelow (v + 1) new
+  below_more s here is below =
+      let P : SeenPort → Type 0 = λ x. x.address < v + 1 in
+      subst (AreBelow (v + 1)) (sym is)
+      (All-append P out (s ∷ []) (All-weaker (λ (x : SeenPort). x.address < from) P (λ x lt. omega arith) out below) (All-cons P s [] (omega arith) (All-nil P)))
+
+-- ---- what the registry knows
+
+module _ (c : Settings) (V : List LastHeard) (R : List Entry) (W : List Watcher) where
+  one_known : (l : Login) → IsSome (entry_at l.address R) → known_port R (seen_port c l) ≡ Some (known c (live_of V R W l))
+  one_known l some = go (entry_at l.address R) some
+    where
+      go : (o : Option Entry) → IsSome o → option_map (registry.known_of (seen_port c l)) o ≡ Some (record { address = l.address; name = l.name; fabric_port = fport c l.enode.port; values = option_map_or (λ x. x.values) o (first_values l.node) })
+      go None i = cc
+      go (Some x) i = refl
+
+  -- what it knows of the logins that pass is what is known of their N_Ports
+  seen_are_known : (q : Login → Bool) (p : LivePort → Bool) → ((l : Login) → p (live_of V R W l) ≡ q l) → (ls : List Login) → All (λ l. IsSome (entry_at l.address R)) ls →
+      registry.known R (map (seen_port c) (filter q ls)) ≡ map (known c) (filter p (ports_of V R W ls))
+  seen_are_known q p as_login [] entered = refl
+  seen_are_known q p as_login (l ∷ ls) entered =
+      go (q l) (seen_are_known q p as_login ls (All-tail (λ x. IsSome (entry_at x.address R)) l ls entered))
+      ∙ ap (λ b. map (known c) (cond b (live_of V R W l ∷ filter p (ports_of V R W ls)) (filter p (ports_of V R W ls)))) (sym (as_login l))
+    where
+      go : (b : Bool) → registry.known R (map (seen_port c) (filter q ls)) ≡ map (known c) (filter p (ports_of V R W ls)) →
+          registry.known R (map (seen_port c) (cond b (l ∷ filter q ls) (filter q ls))) ≡ map (known c) (cond b (live_of V R W l ∷ filter p (ports_of V R W ls)) (filter p (ports_of V R W ls)))
+      go true others =
+          ap (λ o. cons_option o (registry.known R (map (seen_port c) (filter q ls)))) (one_known l (All-head (λ x. IsSome (entry_at x.address R)) l ls entered))
+          ∙ ap (λ ks. known c (live_of V R W l) ∷ ks) others
+      go false others = others
+
+module _ (lowest count : ℕ) (clock : Option ℕ) (A : List Past) (t : Logins) (k : VoiceClock) (r : Registrations) (w : Watching) (agree : Agree lowest count clock A t k r w) (c : Settings) (z : ZoneRules) (at a : ℕ) (l : Login) (found : login_at a t.logins ≡ Some l) where
+  all_entered : All (λ (x : Login). IsSome (entry_at x.address r.entries)) t.logins
+  all_entered = All-item_at address_of (λ x. IsSome (entry_at x.address r.entries)) 0 t.logins agree.sound.logins.ascending (λ x i. ap is_some (agree.known x.address x i).entry.1)
+
+  pub seen_entered : AreEntered r.entries (seen_of c z at l t.logins)
+  seen_entered =
+      All-map (λ (s : SeenPort). IsSome (entry_at s.address r.entries)) (seen_port c) (filter (may_see z at l) t.logins)
+      (All-filter (may_see z at l) (λ (x : Login). IsSome (entry_at x.address r.entries)) t.logins all_entered)
+
+  -- the asker sees itself
+  pub seen_itself : IsSome (seen_at a (seen_of c z at l t.logins))
+  seen_itself =
+      ap is_some (find_map (seen_port c) (λ (s : SeenPort). s.address == a) (λ (x : Login). x.address == a) (filter (may_see z at l) t.logins) (λ x. refl))
+      ∙ (is_some-map (login_at a (filter (may_see z at l) t.logins))
+      ∙ (is_some-item_at-filter address_of (may_see z at l) 0 a t.logins agree.sound.logins.ascending
+      ∙ (ap (λ o. option_map_or (may_see z at l) o false) found
+      ∙ ap (λ b. b || zones.joined z.zones z.sets z.activations at l.name l.name) (same l.address))))
+    where
+      is_some-map : (o : Option Login) → is_some (option_map (seen_port c) o) ≡ is_some o
+      is_some-map None = refl
+      is_some-map (Some x) = refl
+
+  module _ (limit period : ℕ) (is_zones : z ≡ zones_of c) where
+    at_roll : at ≡ unwrap_or clock 0 → (b : LivePort) → port_at a (ports_of k.voices r.entries w.watchers t.logins) ≡ Some b →
+        registry.known r.entries (seen_of c z at l t.logins) ≡ known_to c (roll_of lowest count limit period clock A t k r w).tables b
+    at_roll now b there =
+        let T : Tables = (roll_of lowest count limit period clock A t k r w).tables in
+        let is : live_of k.voices r.entries w.watchers l ≡ b = cc (live_there k.voices r.entries w.watchers t.logins a l found) in
+        seen_are_known c k.voices r.entries w.watchers (may_see z at l) (λ p. p.address == l.address || joined c T p.name l.name)
+        (λ x. sym (ap (λ y. may_see y at l x) is_zones ∙ ap (λ m. may_see (zones_of c) m l x) now)) t.logins all_entered
+        ∙ ap (λ p. known_to c T p) is
+
+    pub answer_law : (R : Roll) → roll_of lowest count limit period clock A t k r w ≡ R → at ≡ now_of R.tables → (b : LivePort) → port_at a R.tables.ports ≡ Some b →
+        registry.known r.entries (seen_of c z at l t.logins) ≡ known_to c R.tables b
+    answer_law R view = subst (λ (x : Roll). at ≡ now_of x.tables → (b : LivePort) → port_at a x.tables.ports ≡ Some b → registry.known r.entries (seen_of c z at l t.logins) ≡ known_to c x.tables b) view at_roll

@@ -1,0 +1,17 @@
+use Rattle.std.proofs.Common.{◌≡◌, ap, ◌∙◌, ◌&&◌, nat_le, option_map, find, Bool, true, false, refl}
+use Rattle.login_table.specs.declared.login.Login.{Login}
+use Rattle.fab_policy.specs.State.{LivePort}
+use Rattle.fab_roster.specs.Roll.{Roll}
+use Rattle.fab_roster.proofs.Lookups.{next_port}
+use Rattle.fab_roster.proofs.roster.Roster.next.Goals as goal
+
+and_true : (b : Bool) → b ≡ b && true
+and_true true = refl
+and_true false = refl
+
+pub returns : goal.returns
+returns c =
+    let i = c.self.inside in
+    c.after.ensures.first
+    ∙ next_port i.voices.voices i.registry.entries i.watchers.watchers i.logins.logins c.args.from (λ p. nat_le c.args.from p.address) (λ l. true) (λ (l : Login). and_true (nat_le c.args.from l.address))
+    ∙ ap (λ (r : Roll). option_map (λ (p : LivePort). p.address) (find (λ (p : LivePort). nat_le c.args.from p.address) r.tables.ports)) c.self.view_is

@@ -1,0 +1,4 @@
+pub mod Roll
+pub mod Agreement
+pub mod Changes
+pub mod Reaching

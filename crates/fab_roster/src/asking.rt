@@ -1,0 +1,97 @@
+//! What the name server answers a live N_Port.
+ghost use Rattle.std.specs.Prelude.{◌≡◌, IfOk, IsSome, Some, false, map, filter};
+ghost use Rattle.ct_messages.specs.Ask.{view};
+ghost use Rattle.ct_messages.specs.CanWrite.{CanTell};
+ghost use Rattle.ct_messages.specs.Server as server;
+ghost use Rattle.fab_policy.specs.Queries.{known_to, fport};
+ghost use Rattle.fab_policy.specs.State.{LivePort, port_at};
+ghost use Rattle.fab_roster.specs.Reaching.{zones_of, may_see, seen_port};
+
+use crate::Roster;
+use ct_messages::{CtAsk, CtTell};
+use fab_base::{FcId, Moment, NoMemory, PortNo, Wwn};
+use fab_config::Config;
+use login_table::{Login, LoginTable};
+use name_server::{Seen, SeenPort};
+use std::alloc::Global;
+use zone_rules::Zones;
+
+impl Roster {
+    /// The answer of the name server to a query of a live address, over the N_Ports that it may
+    /// see: itself, and those that are joined with it at the clock. The zones are those of the
+    /// configuration.
+    pub fn answer(
+        &self,
+        alloc: Global,
+        config: &Config,
+        zones: &Zones,
+        asker: FcId,
+        ask: &CtAsk<'_>,
+    ) -> Result<CtTell, NoMemory>
+        requires zones { zones.now ≡ zones_of config.now }
+        requires query { server.is_registration (view ask.now) ≡ false }
+        requires live { IsSome (port_at asker self.now.tables.ports) }
+        ensures answer { IfOk result (λ tell. (b : LivePort)
+            → port_at asker self.now.tables.ports ≡ Some b
+            → tell ≡ server.answer (known_to config.now self.now.tables b) (view ask.now)) }
+        ensures writable { IfOk result CanTell }
+    {
+        let Some(login) = self.logins.by_address(asker) else {
+            unreachable!()
+        };
+        let seen = seen_by(alloc, &self.logins, config, zones, self.now(), login)?;
+        self.registry.answer(alloc, asker, ask, &seen)
+    }
+}
+
+// The logins that one of them may see at a moment.
+fn seen_by(
+    alloc: Global,
+    logins: &LoginTable,
+    config: &Config,
+    zones: &Zones,
+    at: Moment,
+    asker: &Login,
+) -> Result<Seen, NoMemory>
+    ensures { IfOk result (λ seen. seen
+        ≡ map (seen_port config.now) (filter (may_see zones.now at asker.now) logins.now.logins)) }
+{
+    let mut seen = Seen::new(alloc)?;
+    let mut from = 0;
+    while let Some(address) = logins.after(from) {
+        let Some(login) = logins.by_address(address) else {
+            unreachable!()
+        };
+        if may_see(zones, at, asker, login) {
+            seen.push(alloc, seen_port(config, login))?;
+        }
+        from = address.value() + 1;
+    }
+    Ok(seen)
+}
+
+// Whether a login may see another at a moment: it is the same, or a zone joins them.
+fn may_see(zones: &Zones, at: Moment, asker: &Login, login: &Login) -> bool
+    ensures { result ≡ may_see zones.now at asker.now login.now }
+{
+    login.address.value() == asker.address.value() || zones.joined(at, login.name, asker.name)
+}
+
+fn seen_port(config: &Config, login: &Login) -> SeenPort
+    ensures { result ≡ seen_port config.now login.now }
+{
+    SeenPort {
+        address: login.address,
+        name: login.name,
+        fabric_port: fabric_port_name(config, login.enode.port),
+    }
+}
+
+// The name of a port of the forwarder: 2000 (hexadecimal) plus its number, and the low 48 bits of
+// the switch name.
+fn fabric_port_name(config: &Config, port: PortNo) -> Wwn
+    ensures { result ≡ fport config.now port }
+{
+    let high = 0x2000 + u64::from(port.value());
+    Wwn((high << 48) + config.switch.0 % (1 << 48))
+}
