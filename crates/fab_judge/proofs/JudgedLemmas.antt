@@ -1,0 +1,75 @@
+-- The judgement of a frame: the rows on the frame itself, and then those of its message.
+use Rattle.std.proofs.Common.{◌≡◌, ℕ, Bool, true, false, List, [], ◌∷◌, ◌++◌, Option, Some, None, Result, Ok, Err, refl, ap, ◌∙◌}
+use Rattle.fab_base.specs.declared.values.Caught.{Caught}
+use Rattle.fab_config.specs.Settings.{Settings}
+use Rattle.eth_frames.specs.Ethernet as eth
+use Rattle.fcoe_codec.specs.Fcoe as capsule
+use Rattle.fcoe_codec.specs.declared.FcoeFault.{FcoeFault}
+use Rattle.fip_codec.specs.Message as fip
+use Rattle.fab_policy.specs.Cause.{Cause}
+use Rattle.fab_policy.specs.Heard.{What, Bad, Fip, Fcoe, decoded, plain, carried}
+use Rattle.fab_policy.specs.Rules.{first_row, frame_rule, rule_for, rule_of, is_wrong_vlan, fip_frame_rows, fip_login_rows, fcoe_rows}
+use Rattle.fab_policy.specs.State.{Tables}
+use Rattle.fab_policy.specs.Verdicts.{Judgement, Must, judged, message_judged, fip_judged}
+use Rattle.fab_policy.specs.declared.verdict.Verdict.TheVariants.{Dropped}
+use Rattle.fab_policy.specs.declared.verdict.Rule.TheVariants as rule
+use Rattle.fab_policy.specs.Carried.{BodiesAreCarried}
+use Rattle.fab_judge.specs.Rows.{unless_dropped, body_judged, IsCarried}
+
+-- rows behind others count where none of those holds
+first : (rows more : List (Bool × Cause)) (cause : Cause) → first_row rows ≡ Some cause → first_row (rows ++ more) ≡ Some cause
+first [] more cause e = cc
+first (row ∷ rows) more cause e = by_test row.0 e (first rows more cause)
+  where
+    by_test : (b : Bool) → (elim b as (λ _. Option Cause) [ true ↦ Some row.1 | false ↦ first_row rows ]) ≡ Some cause → (first_row rows ≡ Some cause → first_row (rows ++ more) ≡ Some cause) →
+        (elim b as (λ _. Option Cause) [ true ↦ Some row.1 | false ↦ first_row (rows ++ more) ]) ≡ Some cause
+    by_test true e ih = e
+    by_test false e ih = ih e
+
+behind : (rows more : List (Bool × Cause)) → first_row rows ≡ None → first_row (rows ++ more) ≡ first_row more
+behind [] more e = refl
+behind (row ∷ rows) more e = by_test row.0 e (behind rows more)
+  where
+    by_test : (b : Bool) → (elim b as (λ _. Option Cause) [ true ↦ Some row.1 | false ↦ first_row rows ]) ≡ None → (first_row rows ≡ None → first_row (rows ++ more) ≡ first_row more) →
+        (elim b as (λ _. Option Cause) [ true ↦ Some row.1 | false ↦ first_row (rows ++ more) ]) ≡ first_row more
+    by_test true e ih = cc
+    by_test false e ih = ih e
+
+abbrev by_rule : Option Cause → Judgement → Judgement
+by_rule o j = elim o [ Some cause ↦ Must (Dropped cause) | None ↦ j ]
+
+module _ (c : Settings) (T : Tables) (port : ℕ) (caught : Caught) where
+  -- a rule on the frame itself is the rule for it
+  rule_first : (w : What) (cause : Cause) → frame_rule c w ≡ Some cause → rule_for c T port caught w ≡ Some cause
+  unfolding rule_for
+  rule_first (Bad why) cause e = e
+  rule_first (Fip f m) cause e = first (fip_frame_rows c f m) (fip_login_rows c T port caught m) cause e
+  rule_first (Fcoe f (Ok x)) cause e = first ((is_wrong_vlan c f false, plain rule.Vlan) ∷ []) (fcoe_rows c T port f x) cause e
+  rule_first (Fcoe f (Err fault)) cause e = first ((is_wrong_vlan c f false, plain rule.Vlan) ∷ []) ((true, rule_of fault) ∷ []) cause e
+
+  pub judged_by_rule : (cause : Cause) → frame_rule c (decoded caught) ≡ Some cause → judged c T port caught ≡ Must (Dropped cause)
+  unfolding judged
+  judged_by_rule cause e = ap (λ o. by_rule o (message_judged c T port caught (decoded caught))) (rule_first (decoded caught) cause e)
+
+  abbrev told : What → Judgement
+  told w = by_rule (rule_for c T port caught w) (message_judged c T port caught w)
+
+  judged_is : (w : What) → decoded caught ≡ w → judged c T port caught ≡ told w
+  unfolding judged
+  judged_is w e = ap told e
+
+  pub judged_fip : (f : eth.Eth) (m : fip.Fip) → decoded caught ≡ Fip f m → frame_rule c (Fip f m) ≡ None →
+      judged c T port caught ≡ unless_dropped (fip_login_rows c T port caught m) (fip_judged c T port caught m)
+  unfolding rule_for
+  judged_fip f m d e = judged_is (Fip f m) d ∙ ap (λ o. by_rule o (fip_judged c T port caught m)) (behind (fip_frame_rows c f m) (fip_login_rows c T port caught m) e)
+
+  pub judged_fcoe : (f : eth.Eth) (read : Result capsule.Fcoe FcoeFault) → decoded caught ≡ Fcoe f read → frame_rule c (Fcoe f read) ≡ None →
+      judged c T port caught ≡ body_judged c T port f read
+  unfolding rule_for
+  judged_fcoe f (Ok x) d e = judged_is (Fcoe f (Ok x)) d ∙ ap (λ o. by_rule o (message_judged c T port caught (Fcoe f (Ok x)))) (behind ((is_wrong_vlan c f false, plain rule.Vlan) ∷ []) (fcoe_rows c T port f x) e)
+  judged_fcoe f (Err fault) d e = judged_is (Fcoe f (Err fault)) d ∙ ap (λ o. by_rule o (message_judged c T port caught (Fcoe f (Err fault)))) (behind ((is_wrong_vlan c f false, plain rule.Vlan) ∷ []) ((true, rule_of fault) ∷ []) e)
+
+-- a body carries its frame
+pub carried_by : BodiesAreCarried → (caught : Caught) (f : eth.Eth) (read : Result capsule.Fcoe FcoeFault) → decoded caught ≡ Fcoe f read → IsCarried read (carried caught)
+carried_by law caught f (Ok x) d = (law caught f x d).0
+carried_by law caught f (Err fault) d = tt

@@ -1,0 +1,5 @@
+pub mod RowLemmas
+pub mod AskLemmas
+pub mod LoginLemmas
+pub mod JudgedLemmas
+pub mod CommandLemmas

@@ -1,0 +1,83 @@
+use Rattle.std.proofs.Common.{◌==◌, ◌||◌, ◌&&◌, not, nat_le, length, ap, sym, ◌∙◌, arith}
+use Rattle.std.specs.List.{list_any}
+use Rattle.els_messages.specs.Els.{offers_class3}
+use Rattle.fab_base.proofs.KeyedLemmas.{AscendFrom-weaker}
+use Rattle.fab_policy.specs.Free.{has_free}
+use Rattle.fab_policy.specs.Rules.{is_known}
+use Rattle.fab_policy.specs.State.{LivePort}
+use Rattle.fab_policy.specs.Verdicts.{MayGrant, staying}
+use Rattle.fab_judge.specs.Judged.{judgement_of}
+use Rattle.fab_judge.proofs.LoginLemmas.{missing_row, class3_row, name_row, full_row, no_row, has_room, or_false}
+use Rattle.fab_judge.proofs.logins.judge_asked.Goals as goal
+
+pub returns-then-is_first_missing-clause-judged : goal.returns-then-is_first_missing-clause-judged
+returns-then-is_first_missing-clause-judged c =
+    let C = c.args.config.now in
+    let T = c.args.roster.now.tables in
+    let r = c.args.request in
+    ap judgement_of c.rejected-then-is_first_missing.ensures
+    ∙ sym (missing_row c.args.fp (not r.flogi && not (is_known C T c.args.from.now.port c.args.from.now.caught)) (offers_class3 c.args.parms.now)
+    (r.name == 0 || list_any (λ q. q.name == r.name) (staying C T r)) (nat_le C.limit (length (staying C T r)) || not (has_free T r)) (MayGrant r)
+    c.if-not-fp.false (sym (c.is_first_missing.ensures C) ∙ c.if-is_first_missing.true))
+
+pub returns-then-not-offers_class3-clause-judged : goal.returns-then-not-offers_class3-clause-judged
+returns-then-not-offers_class3-clause-judged c =
+    let C = c.args.config.now in
+    let T = c.args.roster.now.tables in
+    let r = c.args.request in
+    ap judgement_of c.rejected-then-not-offers_class3.ensures
+    ∙ sym (class3_row c.args.fp (not r.flogi && not (is_known C T c.args.from.now.port c.args.from.now.caught)) (offers_class3 c.args.parms.now)
+    (r.name == 0 || list_any (λ q. q.name == r.name) (staying C T r)) (nat_le C.limit (length (staying C T r)) || not (has_free T r)) (MayGrant r)
+    c.if-not-fp.false (sym (c.is_first_missing.ensures C) ∙ c.if-is_first_missing.false) (sym c.offers_class3.ensures ∙ c.if-not-offers_class3.true))
+
+pub returns-then-is_name_refused-clause-judged : goal.returns-then-is_name_refused-clause-judged
+returns-then-is_name_refused-clause-judged c =
+    let C = c.args.config.now in
+    let T = c.args.roster.now.tables in
+    let r = c.args.request in
+    ap judgement_of c.rejected-then-is_name_refused.ensures
+    ∙ sym (name_row c.args.fp (not r.flogi && not (is_known C T c.args.from.now.port c.args.from.now.caught)) (offers_class3 c.args.parms.now)
+    (r.name == 0 || list_any (λ q. q.name == r.name) (staying C T r)) (nat_le C.limit (length (staying C T r)) || not (has_free T r)) (MayGrant r)
+    c.if-not-fp.false (sym (c.is_first_missing.ensures C) ∙ c.if-is_first_missing.false) (sym c.offers_class3.ensures ∙ c.if-not-offers_class3.false)
+    (sym (c.is_name_refused.ensures C) ∙ c.if-is_name_refused.true))
+
+pub is_full-requires-clause-ascending : goal.is_full-requires-clause-ascending
+is_full-requires-clause-ascending c =
+    AscendFrom-weaker (λ (p : LivePort). p.address) 0 c.args.roster.now.lowest c.args.roster.now.tables.ports (omega arith) c.len-live.ensures.sound.ascending.0
+
+pub returns-then-is_full-clause-judged : goal.returns-then-is_full-clause-judged
+returns-then-is_full-clause-judged c =
+    let C = c.args.config.now in
+    let T = c.args.roster.now.tables in
+    let r = c.args.request in
+    ap judgement_of c.rejected-then-is_full.ensures
+    ∙ sym (full_row c.args.fp (not r.flogi && not (is_known C T c.args.from.now.port c.args.from.now.caught)) (offers_class3 c.args.parms.now)
+    (r.name == 0 || list_any (λ q. q.name == r.name) (staying C T r)) (nat_le C.limit (length (staying C T r)) || not (has_free T r)) (MayGrant r)
+    c.if-not-fp.false (sym (c.is_first_missing.ensures C) ∙ c.if-is_first_missing.false) (sym c.offers_class3.ensures ∙ c.if-not-offers_class3.false)
+    (sym (c.is_name_refused.ensures C) ∙ c.if-is_name_refused.false) (sym c.is_full.ensures ∙ c.if-is_full.true))
+
+pub returns-clause-judged : goal.returns-clause-judged
+returns-clause-judged c =
+    let C = c.args.config.now in
+    let T = c.args.roster.now.tables in
+    let r = c.args.request in
+    sym (no_row c.args.fp (not r.flogi && not (is_known C T c.args.from.now.port c.args.from.now.caught)) (offers_class3 c.args.parms.now)
+    (r.name == 0 || list_any (λ q. q.name == r.name) (staying C T r)) (nat_le C.limit (length (staying C T r)) || not (has_free T r)) (MayGrant r)
+    c.if-not-fp.false (sym (c.is_first_missing.ensures C) ∙ c.if-is_first_missing.false) (sym c.offers_class3.ensures ∙ c.if-not-offers_class3.false)
+    (sym (c.is_name_refused.ensures C) ∙ c.if-is_name_refused.false) (sym c.is_full.ensures ∙ c.if-is_full.false))
+
+pub returns-clause-grounds : goal.returns-clause-grounds
+returns-clause-grounds c = λ x flogi f asks parms.
+    let C = c.args.config.now in
+    let T = c.args.roster.now.tables in
+    let r = c.args.request in
+    let room = has_room C.limit (length (staying C T r)) (has_free T r) (sym c.is_full.ensures ∙ c.if-is_full.false) in
+    record {
+      flogi_is = ap (λ r. r.flogi) asks;
+      enode = ap (λ r. r.enode) asks;
+      name = ap (λ r. r.name) asks ∙ ap (λ p. p.port_name) (sym parms);
+      node_is = ap (λ p. p.node_name) (sym parms);
+      free = room.0;
+      fresh = (or_false (r.name == 0) (list_any (λ q. q.name == r.name) (staying C T r)) (sym (c.is_name_refused.ensures C) ∙ c.if-is_name_refused.false)).1;
+      room = room.1;
+    }

@@ -1,0 +1,34 @@
+use Rattle.std.proofs.Common.{◌≡◌, ap, sym, subst, inl, inr, ◌∙◌}
+use Rattle.els_messages.specs.Els as els
+use Rattle.els_messages.specs.declared.Els.TheVariants as variants
+use Rattle.fab_policy.specs.Heard.{sender}
+use Rattle.fc_frames.specs.Frame.{view as fc_view}
+use Rattle.fab_judge.specs.Origin.{is_flogi_by}
+use Rattle.fab_judge.proofs.CommandLemmas.{by_flogi, by_fdisc}
+use Rattle.fab_judge.proofs.logins.judge_command.Goals as goal
+
+pub returns-in-Logo-clause-grounds : goal.returns-in-Logo-clause-grounds
+returns-in-Logo-clause-grounds c =
+    c.judge_logout.ensures.grounds (sender c.args.from.now.port c.args.from.now.caught) (is_flogi_by c.args.kind c.args.from.now.caught) (fc_view c.args.frame.now)
+
+pub returns-in-Flogi-clause-judged : goal.returns-in-Flogi-clause-judged
+returns-in-Flogi-clause-judged c =
+    let C = c.args.config.now in
+    let T = c.args.roster.now.tables in
+    let port = c.args.from.now.port in
+    let caught = c.args.from.now.caught in
+    let f = fc_view c.args.frame.now in
+    c.judge_request.ensures.judged
+    ∙ elim c.in-Flogi.is [
+      | inl e ↦ sym (by_flogi C T port caught c.args.fp c.args.kind f c.args.mac.now c.in-Flogi.parms (c.requires.value ∙ ap els.view e))
+      | inr e ↦ sym (by_fdisc C T port caught c.args.fp c.args.kind f c.args.mac.now c.in-Flogi.parms (c.requires.value ∙ ap els.view e))
+    ]
+
+pub returns-in-Flogi-clause-grounds : goal.returns-in-Flogi-clause-grounds
+returns-in-Flogi-clause-grounds c =
+    let f = fc_view c.args.frame.now in
+    let parms : els.parms_of f.payload ≡ c.in-Flogi.parms = elim c.in-Flogi.is [
+      | inl e ↦ (let read : els.IsEls (els.view (variants.Flogi c.in-Flogi.parms)) f.payload = subst (λ v. els.IsEls (els.view v) f.payload) e c.requires.grammar in read.1)
+      | inr e ↦ (let read : els.IsEls (els.view (variants.Fdisc c.in-Flogi.parms)) f.payload = subst (λ v. els.IsEls (els.view v) f.payload) e c.requires.grammar in read.1)
+    ] in
+    c.judge_request.ensures.grounds f parms

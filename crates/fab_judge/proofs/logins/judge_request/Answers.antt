@@ -1,0 +1,7 @@
+use Rattle.fab_policy.specs.Heard.{sender}
+use Rattle.fab_judge.specs.Origin.{is_flogi_by}
+use Rattle.fab_judge.proofs.logins.judge_request.Goals as goal
+
+pub returns-clause-grounds : goal.returns-clause-grounds
+returns-clause-grounds c = λ f parms.
+    c.judge_asked.ensures.grounds (sender c.args.from.now.port c.args.from.now.caught) (is_flogi_by c.args.kind c.args.from.now.caught) f c.request_of-request.ensures parms

@@ -1,0 +1,4 @@
+pub mod Judged
+pub mod Origin
+pub mod Rows
+pub mod Told

@@ -1,0 +1,119 @@
+//! FCoE frames that were read: of whom they come, and where they go (FC-BB-5, "FCoE forwarding").
+ghost use Rattle.std.specs.Prelude.{◌≡◌, ◌<◌, nat_lt, true, false, drop};
+ghost use Rattle.std.specs.Prelude.{Bool, Some, None, IfOk, option_map};
+ghost use Rattle.eth_frames.specs.Ethernet.{Eth, view as eth_view};
+ghost use Rattle.fab_base.specs.declared.values.Enode.{Enode};
+ghost use Rattle.fab_judge.specs.Judged.{judgement_of, Rests};
+ghost use Rattle.fab_judge.specs.Rows.{unless_dropped};
+ghost use Rattle.fab_policy.specs.Rules as rules;
+ghost use Rattle.fab_policy.specs.Rules.{fcoe_rows};
+ghost use Rattle.fab_policy.specs.State.{port_at};
+ghost use Rattle.fab_policy.specs.Verdicts.{fcoe_judged};
+ghost use Rattle.fab_roster.specs.Reaching.{zones_of};
+ghost use Rattle.fab_roster.specs.Roll.{login_of};
+ghost use Rattle.fc_frames.specs.Frame.{view as fc_view};
+ghost use Rattle.fcoe_codec.specs.Fcoe.{view as fcoe_view};
+
+use crate::Judged;
+use crate::frames::{SERVICES, granted_mac, is_class3, is_same};
+use crate::services::judge_request;
+use crate::verdicts::dropped;
+use eth_frames::EthFrame;
+use fab_base::{Moment, NoMemory, PortNo};
+use fab_config::Config;
+use fab_policy::{Rule, Verdict};
+use fab_roster::Roster;
+use fcoe_codec::FcoeFrame;
+use login_table::Login;
+use std::alloc::Global;
+use zone_rules::Zones;
+
+/// The judgement of a frame on the configured VLAN.
+pub(crate) fn judge_fcoe(
+    alloc: Global,
+    config: &Config,
+    zones: &Zones,
+    roster: &Roster,
+    port: PortNo,
+    eth: &EthFrame<'_>,
+    body: &FcoeFrame<'_>,
+) -> Result<Judged, NoMemory>
+    requires zones { zones.now ≡ zones_of config.now }
+    ensures judged { IfOk result (λ j. judgement_of j ≡ unless_dropped
+        (fcoe_rows config.now roster.now.tables port (eth_view eth.now) (fcoe_view body.now))
+        (fcoe_judged config.now roster.now.tables (fc_view body.now.frame))) }
+    ensures grounds { IfOk result (λ j. (x : Enode) (flogi : Bool)
+        → Rests config.now roster.now.tables x flogi (fc_view body.now.frame) j) }
+{
+    if !is_class3(body) {
+        return Ok(dropped(Rule::FcoeClass));
+    }
+    if !is_same(&eth.dst, &config.fcf_mac) {
+        return Ok(dropped(Rule::FcoeDest));
+    }
+    if !is_same(&eth.src, &granted_mac(config, body.frame.head.s_id)) {
+        return Ok(dropped(Rule::SourceMac));
+    }
+    judge_sent(alloc, config, zones, roster, port, body)
+}
+
+// The judgement of a frame with the MAC of its S_ID.
+fn judge_sent(
+    alloc: Global,
+    config: &Config,
+    zones: &Zones,
+    roster: &Roster,
+    port: PortNo,
+    body: &FcoeFrame<'_>,
+) -> Result<Judged, NoMemory>
+    requires zones { zones.now ≡ zones_of config.now }
+    ensures judged { IfOk result (λ j. (f : Eth) → judgement_of j ≡ unless_dropped
+        (drop 3 (fcoe_rows config.now roster.now.tables port f (fcoe_view body.now)))
+        (fcoe_judged config.now roster.now.tables (fc_view body.now.frame))) }
+    ensures grounds { IfOk result (λ j. (x : Enode) (flogi : Bool)
+        → Rests config.now roster.now.tables x flogi (fc_view body.now.frame) j) }
+{
+    let Some(login) = roster.by_address(body.frame.head.s_id) else {
+        return Ok(dropped(Rule::SourceLogin));
+    };
+    if login.enode.port != port {
+        return Ok(dropped(Rule::SourcePort));
+    }
+    if body.frame.head.d_id.value() < SERVICES {
+        return Ok(judge_data(config, zones, roster, port, login, body));
+    }
+    judge_request(alloc, config, zones, roster, port, login, body)
+}
+
+// The judgement of a frame of a live N_Port to an N_Port.
+fn judge_data(
+    config: &Config,
+    zones: &Zones,
+    roster: &Roster,
+    port: PortNo,
+    login: &Login,
+    body: &FcoeFrame<'_>,
+) -> Judged
+    requires zones { zones.now ≡ zones_of config.now }
+    requires live { option_map login_of (port_at body.now.frame.head.s_id roster.now.tables.ports)
+        ≡ Some login.now }
+    requires data { nat_lt body.now.frame.head.d_id rules.SERVICES ≡ true }
+    ensures judged { (f : Eth) → judgement_of result ≡ unless_dropped
+        (drop 9 (fcoe_rows config.now roster.now.tables port f (fcoe_view body.now)))
+        (fcoe_judged config.now roster.now.tables (fc_view body.now.frame)) }
+    ensures grounds { (x : Enode) (flogi : Bool)
+        → Rests config.now roster.now.tables x flogi (fc_view body.now.frame) result }
+{
+    let head = &body.frame.head;
+    if head.d_id == head.s_id {
+        return dropped(Rule::OwnAddress);
+    }
+    let Some(to) = roster.by_address(head.d_id) else {
+        return dropped(Rule::DestLogin);
+    };
+    let now = roster.clock().unwrap_or(Moment(0));
+    if !zones.joined(now, login.name, to.name) {
+        return dropped(Rule::Zone);
+    }
+    Judged::Must(Verdict::Forwarded(to.enode.port))
+}

@@ -1,0 +1,109 @@
+//! Messages of FIP that no rule on the frame itself drops (FC-BB-5, "FIP operations").
+ghost use Rattle.std.specs.Prelude.{◌≡◌, ◌∷◌, [], not, Some};
+ghost use Rattle.std.specs.List.{list_any};
+ghost use Rattle.eth_frames.specs.Ethernet.{Eth};
+ghost use Rattle.fab_base.specs.Fabric.{same_enode};
+ghost use Rattle.fab_judge.specs.Judged.{judgement_of, Grounds};
+ghost use Rattle.fab_judge.specs.Rows.{unless_dropped};
+ghost use Rattle.fab_policy.specs.Heard.{Fip, decoded, plain, sender};
+ghost use Rattle.fab_policy.specs.Rules as rules;
+ghost use Rattle.fab_policy.specs.Rules.{fip_login_rows};
+ghost use Rattle.fab_policy.specs.Verdicts as verdicts;
+ghost use Rattle.fab_policy.specs.Verdicts.{fip_judged};
+ghost use Rattle.fip_codec.specs.Message as fip;
+ghost use Rattle.fip_codec.specs.Message.{view as fip_view};
+
+use crate::Judged;
+use crate::frames::{granted_mac, is_same};
+use crate::logins::judge_login;
+use crate::sender::Sender;
+use crate::verdicts::dropped;
+use fab_base::Mac;
+use fab_config::Config;
+use fab_policy::{Rule, Verdict, frames_are_carried};
+use fab_roster::Roster;
+use fip_codec::{FipMessage, VxPort};
+
+/// The judgement of a message.
+pub(crate) fn judge_fip(
+    config: &Config,
+    roster: &Roster,
+    from: &Sender,
+    message: &FipMessage<'_>,
+) -> Judged
+    requires { (f : Eth) × (decoded from.now.caught ≡ Fip f (fip_view message.now)) }
+    ensures judged { judgement_of result ≡ unless_dropped
+        (fip_login_rows config.now roster.now.tables from.now.port from.now.caught
+        (fip_view message.now))
+        (fip_judged config.now roster.now.tables from.now.port from.now.caught
+        (fip_view message.now)) }
+    ensures grounds { Grounds config.now roster.now.tables from.now.port from.now.caught result }
+{
+    match message {
+        FipMessage::VlanAsk { .. } => Judged::Must(Verdict::Vlans),
+        FipMessage::Solicit { .. } => Judged::Must(Verdict::Advertised),
+        FipMessage::Keep { mac, port } => judge_keep(config, roster, from, mac, port),
+        FipMessage::Login {
+            kind,
+            fp,
+            frame,
+            mac,
+        } => {
+            frames_are_carried();
+            judge_login(config, roster, from, *kind, *fp, frame, mac)
+        }
+        _ => dropped(Rule::FipRole),
+    }
+}
+
+// The judgement of a keep alive, of a VN_Port or of an ENode.
+fn judge_keep(
+    config: &Config,
+    roster: &Roster,
+    from: &Sender,
+    mac: &Mac,
+    port: &Option<VxPort>,
+) -> Judged
+    ensures judged { judgement_of result ≡ unless_dropped
+        (fip_login_rows config.now roster.now.tables from.now.port from.now.caught
+        (fip.Keep mac.now port.now))
+        (fip_judged config.now roster.now.tables from.now.port from.now.caught
+        (fip.Keep mac.now port.now)) }
+    ensures grounds { Grounds config.now roster.now.tables from.now.port from.now.caught result }
+{
+    match port {
+        None if !is_known(roster, from) => dropped(Rule::KeepaliveUnknown),
+        None => Judged::Must(Verdict::AliveNode),
+        Some(vx) if is_unknown_port(config, roster, from, mac, vx) => {
+            dropped(Rule::KeepaliveUnknown)
+        }
+        Some(vx) => Judged::Must(Verdict::AlivePort(vx.address)),
+    }
+}
+
+// Whether an N_Port of the sender is live.
+pub(crate) fn is_known(roster: &Roster, from: &Sender) -> bool
+    ensures { result ≡ list_any (λ p. same_enode p.enode (sender from.now.port from.now.caught))
+        roster.now.tables.ports }
+{
+    let enode = from.enode();
+    roster.first_of(&enode, 0).is_some()
+}
+
+// Whether a keep alive is of no live VN_Port of its sender.
+fn is_unknown_port(config: &Config, roster: &Roster, from: &Sender, mac: &Mac, vx: &VxPort) -> bool
+    ensures { result ≡ rules.is_keepalive_unknown config.now roster.now.tables
+        from.now.port from.now.caught (fip.Keep mac.now (Some vx.now)) }
+{
+    let Some(login) = roster.by_address(vx.address) else {
+        return true;
+    };
+    let enode = from.enode();
+    let granted = granted_mac(config, vx.address);
+    let known = login.enode.port == enode.port
+        && login.name == vx.name
+        && is_same(&login.enode.mac, mac)
+        && is_same(&granted, &vx.mac)
+        && is_same(&granted, &enode.mac);
+    !known
+}

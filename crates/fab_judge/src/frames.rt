@@ -1,0 +1,108 @@
+//! What an FCoE frame is by its delimiters and its header.
+ghost use Rattle.std.specs.Prelude.{◌≡◌, ◌==◌};
+ghost use Rattle.fab_config.specs.Settings.{same_bytes};
+ghost use Rattle.fab_policy.specs.Logins.{granted_mac as mac_granted};
+ghost use Rattle.fab_policy.specs.Rules as rules;
+ghost use Rattle.fc_frames.specs.Frame.{view as fc_view};
+ghost use Rattle.fcoe_codec.specs.Fcoe.{view as fcoe_view};
+
+use fab_base::{FcId, Mac};
+use fab_config::Config;
+use fc_frames::FcFrame;
+use fcoe_codec::{EOF_N, EOF_T, FcoeFrame, SOF_I3, SOF_N3};
+
+/// The least address of a service.
+pub(crate) const SERVICES: u32 = 0xff_0000;
+
+/// The address of the name server.
+pub(crate) const NAME_SERVER: u32 = 0xff_fffc;
+
+/// The address of the fabric controller.
+const CONTROLLER: u32 = 0xff_fffd;
+
+/// R_CTL of a request and of a reply of extended link services, and their TYPE.
+const ELS_REQUEST: u8 = 0x22;
+
+const ELS_REPLY: u8 = 0x23;
+
+const ELS: u8 = 0x01;
+
+/// R_CTL of a request of the common transport, and its TYPE.
+const CT_REQUEST: u8 = 0x02;
+
+const CT: u8 = 0x20;
+
+// Whether two MACs are the same.
+pub(crate) fn is_same(one: &Mac, other: &Mac) -> bool
+    ensures { result ≡ same_bytes one.now other.now }
+{
+    let one: &[u8] = &one.0;
+    let other: &[u8] = &other.0;
+    one == other
+}
+
+// The MAC that comes with an address.
+pub(crate) fn granted_mac(config: &Config, address: FcId) -> Mac
+    ensures { result ≡ mac_granted config.now address }
+{
+    let [_, m0, m1, m2] = config.fc_map.to_be_bytes();
+    let [_, a0, a1, a2] = address.value().to_be_bytes();
+    Mac([m0, m1, m2, a0, a1, a2])
+}
+
+// Whether the delimiters are of class 3.
+pub(crate) fn is_class3(body: &FcoeFrame<'_>) -> bool
+    ensures { result ≡ rules.is_class3 (fcoe_view body.now) }
+{
+    (body.sof == SOF_I3 || body.sof == SOF_N3) && (body.eof == EOF_N || body.eof == EOF_T)
+}
+
+// Whether the frame has a whole sequence.
+fn is_one_frame(body: &FcoeFrame<'_>) -> bool
+    ensures { result ≡ rules.is_one_frame (fcoe_view body.now) }
+{
+    body.sof == SOF_I3 && body.eof == EOF_T
+}
+
+// Whether an address is that of a service.
+pub(crate) fn is_service(address: FcId) -> bool
+    ensures { result ≡ rules.is_service address }
+{
+    address.value() == NAME_SERVER || address.value() == CONTROLLER
+}
+
+pub(crate) fn is_els_request(frame: &FcFrame<'_>) -> bool
+    ensures { result ≡ rules.is_els_request (fc_view frame.now) }
+{
+    frame.head.r_ctl == ELS_REQUEST && frame.head.kind == ELS
+}
+
+pub(crate) fn is_els_reply(frame: &FcFrame<'_>) -> bool
+    ensures { result ≡ rules.is_els_reply (fc_view frame.now) }
+{
+    frame.head.r_ctl == ELS_REPLY && frame.head.kind == ELS
+}
+
+fn is_ct_request(frame: &FcFrame<'_>) -> bool
+    ensures { result ≡ rules.is_ct_request (fc_view frame.now) }
+{
+    frame.head.r_ctl == CT_REQUEST && frame.head.kind == CT
+}
+
+// Whether the frame is to the name server.
+pub(crate) fn is_to_names(frame: &FcFrame<'_>) -> bool
+    ensures { result ≡ (frame.now.head.d_id == rules.NAME_SERVER) }
+{
+    frame.head.d_id.value() == NAME_SERVER
+}
+
+// Whether a service takes the frame, which is to it.
+pub(crate) fn is_for_service(body: &FcoeFrame<'_>) -> bool
+    ensures { result ≡ rules.is_for_service (fcoe_view body.now) }
+{
+    let frame = &body.frame;
+    is_one_frame(body)
+        && (is_els_request(frame)
+            || is_els_reply(frame)
+            || (is_to_names(frame) && is_ct_request(frame)))
+}

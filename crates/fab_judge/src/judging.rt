@@ -1,0 +1,105 @@
+//! The judgement of one frame.
+ghost use Rattle.std.specs.Prelude.{◌≡◌, Bool, IfOk};
+ghost use Rattle.eth_frames.specs.Ethernet.{view as eth_view};
+ghost use Rattle.fab_base.specs.declared.values.Enode.{Enode};
+ghost use Rattle.fab_judge.specs.Judged.{judgement_of, Grounds, Rests};
+ghost use Rattle.fab_judge.specs.Rows.{body_judged, IsCarried};
+ghost use Rattle.fab_policy.specs.Rules.{rule_of};
+ghost use Rattle.fab_policy.specs.Verdicts.{judged};
+ghost use Rattle.fab_policy.specs.View.{read_view};
+ghost use Rattle.fab_roster.specs.Reaching.{zones_of};
+ghost use Rattle.fc_frames.specs.Frame.{Frame};
+
+use crate::fcoe::judge_fcoe;
+use crate::fip::judge_fip;
+use crate::sender::Sender;
+use crate::verdicts::dropped;
+use ct_messages::CtTell;
+use eth_frames::EthFrame;
+use fab_base::{NoMemory, PortNo, Wwn};
+use fab_config::Config;
+use fab_policy::{Heard, Rule, Verdict, What, frame_rule, frames_are_carried};
+use fab_roster::{Request, Roster};
+use fcoe_codec::{FcoeFault, FcoeFrame};
+use std::alloc::Global;
+use zone_rules::Zones;
+
+/// What the tables say of a frame, with what a step needs to carry it out.
+#[derive(Debug, Drop)]
+pub enum Judged {
+    /// This verdict, which needs nothing else.
+    Must(Verdict),
+    /// A login to which any free address may be granted, and its node name.
+    MayGrant { request: Request, node: Wwn },
+    /// A login to the name server, with this receive size: `ns-login`.
+    ServerLogin { size: u16 },
+    /// A registration that isn't refused: `registered`. The request is read again from the frame.
+    Registers,
+    /// A query that isn't refused, with its answer: `answered`.
+    Answers(CtTell),
+}
+
+/// The judgement of a frame that comes on a port, over who is live. The zones are those of the
+/// configuration. Memory is taken where a query is answered, and nowhere else.
+pub fn judge(
+    alloc: Global,
+    config: &Config,
+    zones: &Zones,
+    roster: &Roster,
+    port: PortNo,
+    heard: &Heard<'_>,
+) -> Result<Judged, NoMemory>
+    requires zones { zones.now ≡ zones_of config.now }
+    ensures judged { IfOk result (λ j. judgement_of j
+        ≡ judged config.now roster.now.tables port heard.now.caught.now) }
+    ensures grounds { IfOk result (λ j.
+        Grounds config.now roster.now.tables port heard.now.caught.now j) }
+{
+    if let Some(cause) = frame_rule(config, heard) {
+        return Ok(Judged::Must(Verdict::Dropped(cause)));
+    }
+    frames_are_carried();
+    match &heard.what {
+        What::Bad { .. } => unreachable!(),
+        What::Fip { eth, message } => {
+            let from = Sender::of(port, heard.caught, eth.src);
+            Ok(judge_fip(config, roster, &from, message))
+        }
+        What::Fcoe { eth, read } => judge_body(alloc, config, zones, roster, port, eth, read),
+    }
+}
+
+// The judgement of a body of FCoE on the configured VLAN.
+fn judge_body(
+    alloc: Global,
+    config: &Config,
+    zones: &Zones,
+    roster: &Roster,
+    port: PortNo,
+    eth: &EthFrame<'_>,
+    read: &Result<FcoeFrame<'_>, FcoeFault>,
+) -> Result<Judged, NoMemory>
+    requires zones { zones.now ≡ zones_of config.now }
+    ensures judged { IfOk result (λ j. judgement_of j ≡ body_judged
+        config.now roster.now.tables port (eth_view eth.now) (read_view read.now)) }
+    ensures grounds { IfOk result (λ j. (x : Enode) (flogi : Bool) (f : Frame)
+        → IsCarried (read_view read.now) f → Rests config.now roster.now.tables x flogi f j) }
+{
+    match read {
+        Ok(body) => judge_fcoe(alloc, config, zones, roster, port, eth, body),
+        Err(fault) => Ok(unread(*fault)),
+    }
+}
+
+// A body with a fault is dropped.
+fn unread(fault: FcoeFault) -> Judged
+    ensures { result ≡ Judged.Must (Verdict.Dropped (rule_of fault)) }
+{
+    dropped(match fault {
+        FcoeFault::Length => Rule::FcoeLength,
+        FcoeFault::Version => Rule::FcoeVersion,
+        FcoeFault::Sof => Rule::FcoeSof,
+        FcoeFault::Eof => Rule::FcoeEof,
+        FcoeFault::Crc { .. } => Rule::FcoeCrc,
+    })
+}

@@ -1,0 +1,198 @@
+//! Requests to the name server (FC-GS-6, "Name Server").
+ghost use Rattle.std.specs.Prelude.{◌≡◌, Bool, true, false, Some, Ok};
+ghost use Rattle.std.specs.Prelude.{Err, IfOk, IsSome, option_map};
+ghost use Rattle.ct_messages.specs.Ask.{view};
+ghost use Rattle.ct_messages.specs.CanWrite.{CanWrite, HasByte};
+ghost use Rattle.ct_messages.specs.Ct as ct;
+ghost use Rattle.ct_messages.specs.Server as server;
+ghost use Rattle.fab_base.specs.declared.values.Enode.{Enode};
+ghost use Rattle.fab_config.specs.Settings.{Settings};
+ghost use Rattle.fab_judge.specs.Judged.{judgement_of, Rests};
+ghost use Rattle.fab_judge.specs.Told.{told_as, unless_refusal};
+ghost use Rattle.fab_policy.specs.Queries.{fault_refusal, known_to};
+ghost use Rattle.fab_policy.specs.State.{LivePort, port_at};
+ghost use Rattle.fab_policy.specs.Verdicts as verdicts;
+ghost use Rattle.fab_roster.specs.Reaching.{zones_of};
+ghost use Rattle.fab_roster.specs.Roll.{login_of};
+ghost use Rattle.fc_frames.specs.Frame.{view as fc_view};
+
+use crate::Judged;
+use ct_messages::{CtAsk, CtFault, CtTell, a_query_is_no_reject, read_ask};
+use fab_base::NoMemory;
+use fab_config::Config;
+use fab_policy::Verdict;
+use fab_roster::Roster;
+use fc_frames::FcFrame;
+use login_table::Login;
+use name_server::RegFault;
+use std::alloc::Global;
+use zone_rules::Zones;
+
+/// The reasons of a reject: a malformed request, one that can't be performed, and one that isn't
+/// supported.
+const MALFORMED: u8 = 0x04;
+
+const UNABLE: u8 = 0x09;
+
+const UNSUPPORTED: u8 = 0x0b;
+
+/// The explanations: none, and that the asker isn't logged in.
+const NO_EXPLANATION: u8 = 0;
+
+const NOT_LOGGED_IN: u8 = 0x10;
+
+/// The judgement of a request of a live N_Port.
+pub(crate) fn judge_ask(
+    alloc: Global,
+    config: &Config,
+    zones: &Zones,
+    roster: &Roster,
+    login: &Login,
+    frame: &FcFrame<'_>,
+) -> Result<Judged, NoMemory>
+    requires zones { zones.now ≡ zones_of config.now }
+    requires live { option_map login_of (port_at frame.now.head.s_id roster.now.tables.ports)
+        ≡ Some login.now }
+    ensures judged { IfOk result (λ j. (p : LivePort)
+        → port_at frame.now.head.s_id roster.now.tables.ports ≡ Some p → judgement_of j
+        ≡ verdicts.ct_judged config.now roster.now.tables p frame.now.payload.now) }
+    ensures grounds { IfOk result (λ j. (x : Enode) (flogi : Bool)
+        → Rests config.now roster.now.tables x flogi (fc_view frame.now) j) }
+{
+    if login.server_size.is_none() {
+        return Ok(refused(UNABLE, NOT_LOGGED_IN));
+    }
+    match read_ask(frame.payload) {
+        Ok(ask) => judge_read(alloc, config, zones, roster, login, frame, &ask),
+        Err(fault) => Ok(unread(fault)),
+    }
+}
+
+// The judgement of a request that was read.
+fn judge_read(
+    alloc: Global,
+    config: &Config,
+    zones: &Zones,
+    roster: &Roster,
+    login: &Login,
+    frame: &FcFrame<'_>,
+    ask: &CtAsk<'_>,
+) -> Result<Judged, NoMemory>
+    requires zones { zones.now ≡ zones_of config.now }
+    requires live { option_map login_of (port_at frame.now.head.s_id roster.now.tables.ports)
+        ≡ Some login.now }
+    requires server { IsSome login.now.server_size }
+    requires read { ct.decoded frame.now.payload.now ≡ Ok (view ask.now) }
+    requires writes { server.is_registration (view ask.now) ≡ true → CanWrite (view ask.now) }
+    requires byte { HasByte (view ask.now) }
+    ensures judged { IfOk result (λ j. (p : LivePort)
+        → port_at frame.now.head.s_id roster.now.tables.ports ≡ Some p → judgement_of j
+        ≡ verdicts.ct_judged config.now roster.now.tables p frame.now.payload.now) }
+    ensures grounds { IfOk result (λ j. (x : Enode) (flogi : Bool)
+        → Rests config.now roster.now.tables x flogi (fc_view frame.now) j) }
+{
+    if is_registration(ask) {
+        return Ok(judge_registration(roster, frame, ask));
+    }
+    judge_query(alloc, config, zones, roster, frame, ask)
+}
+
+// The judgement of a registration.
+fn judge_registration(roster: &Roster, frame: &FcFrame<'_>, ask: &CtAsk<'_>) -> Judged
+    requires live { IsSome (port_at frame.now.head.s_id roster.now.tables.ports) }
+    requires read { ct.decoded frame.now.payload.now ≡ Ok (view ask.now) }
+    requires registration { server.is_registration (view ask.now) ≡ true }
+    requires writes { CanWrite (view ask.now) }
+    requires byte { HasByte (view ask.now) }
+    ensures judged { (p : LivePort) → port_at frame.now.head.s_id roster.now.tables.ports ≡ Some p
+        → judgement_of result ≡ unless_refusal
+        (server.registration_refusal p.address p.values.node_name (view ask.now))
+        (verdicts.Must Verdict.Registered) }
+    ensures grounds { (c : Settings) (x : Enode) (flogi : Bool)
+        → Rests c roster.now.tables x flogi (fc_view frame.now) result }
+{
+    match roster.refusal(frame.head.s_id, ask) {
+        Some(
+            RegFault::Refused {
+                reason,
+                explanation,
+            },
+        ) => refused(reason, explanation),
+        None => Judged::Registers,
+    }
+}
+
+// The judgement of a query.
+fn judge_query(
+    alloc: Global,
+    config: &Config,
+    zones: &Zones,
+    roster: &Roster,
+    frame: &FcFrame<'_>,
+    ask: &CtAsk<'_>,
+) -> Result<Judged, NoMemory>
+    requires zones { zones.now ≡ zones_of config.now }
+    requires live { IsSome (port_at frame.now.head.s_id roster.now.tables.ports) }
+    requires server { (p : LivePort)
+        → port_at frame.now.head.s_id roster.now.tables.ports ≡ Some p → IsSome p.server }
+    requires read { ct.decoded frame.now.payload.now ≡ Ok (view ask.now) }
+    requires query { server.is_registration (view ask.now) ≡ false }
+    ensures judged { IfOk result (λ j. (p : LivePort)
+        → port_at frame.now.head.s_id roster.now.tables.ports ≡ Some p
+        → judgement_of j ≡ unless_refusal
+        (server.query_refusal (known_to config.now roster.now.tables p) (view ask.now))
+        (verdicts.Must Verdict.Answered)) }
+    ensures grounds { IfOk result (λ j. (x : Enode) (flogi : Bool)
+        → Rests config.now roster.now.tables x flogi (fc_view frame.now) j) }
+{
+    a_query_is_no_reject();
+    match roster.answer(alloc, config, zones, frame.head.s_id, ask) {
+        Ok(tell) => Ok(answered(tell)),
+        Err(NoMemory) => Err(NoMemory),
+    }
+}
+
+// A request is refused: reason and explanation.
+fn refused(reason: u8, explanation: u8) -> Judged
+    ensures { result ≡ Judged.Must (Verdict.Refused reason explanation) }
+{
+    Judged::Must(Verdict::Refused(reason, explanation))
+}
+
+// A request that can't be read is refused.
+fn unread(fault: CtFault) -> Judged
+    ensures { let why = fault_refusal fault in
+        result ≡ Judged.Must (Verdict.Refused why.0 why.1) }
+{
+    match fault {
+        CtFault::Short | CtFault::Size => refused(MALFORMED, NO_EXPLANATION),
+        CtFault::NotNameServer => refused(UNSUPPORTED, NO_EXPLANATION),
+    }
+}
+
+// A query is answered, or refused where its answer says so.
+fn answered(tell: CtTell) -> Judged
+    ensures { result ≡ told_as tell }
+{
+    match tell {
+        CtTell::Reject {
+            reason,
+            explanation,
+        } => refused(reason, explanation),
+        tell => Judged::Answers(tell),
+    }
+}
+
+fn is_registration(ask: &CtAsk<'_>) -> bool
+    ensures { result ≡ server.is_registration (view ask.now) }
+{
+    match ask {
+        CtAsk::SetNode(..)
+        | CtAsk::SetTypes(..)
+        | CtAsk::SetSymbol(..)
+        | CtAsk::SetFeature { .. }
+        | CtAsk::SetNodeSymbol(..)
+        | CtAsk::Erase(_) => true,
+        _ => false,
+    }
+}

@@ -1,0 +1,45 @@
+//! Who sent a frame.
+ghost use Rattle.std.specs.Prelude.{◌≡◌};
+ghost use Rattle.fab_policy.specs.Heard.{sender, source};
+
+use fab_base::{Caught, Enode, Mac, PortNo};
+use std::marker::Model;
+use std::snapshot::Snapshot;
+
+/// The ENode that sent a frame: the source of its Ethernet header, behind the port on which it
+/// came. The frame itself is read by contracts alone.
+#[derive(Drop)]
+pub(crate) struct Sender {
+    caught: Snapshot<Caught>,
+    enode: Enode,
+}
+
+impl Model for Sender {
+    ghost use Rattle.std.specs.Prelude.{◌≡◌};
+    ghost use Rattle.fab_policy.specs.Heard.{sender};
+    ghost use Rattle.fab_judge.specs.Origin.{Origin};
+
+    ghost Value = { Origin };
+
+    ghost view = { λ s. record { port = s.enode.port; caught = s.caught.value } };
+
+    ghost invariant = { λ s. s.enode ≡ sender s.enode.port s.caught.value };
+}
+
+impl Sender {
+    pub(crate) fn of(port: PortNo, caught: &Caught, mac: Mac) -> Sender
+        requires { source caught.now ≡ mac }
+        ensures { result ≡ record { port = port; caught = caught.now } }
+    {
+        Sender {
+            caught: Snapshot::of(caught),
+            enode: Enode { port, mac },
+        }
+    }
+
+    pub(crate) fn enode(&self) -> Enode
+        ensures { result ≡ sender self.now.port self.now.caught }
+    {
+        self.enode
+    }
+}
