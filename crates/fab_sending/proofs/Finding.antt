@@ -1,0 +1,194 @@
+-- N_Ports that are found by their addresses.
+use Rattle.std.proofs.Common.{◌≡◌, ℕ, ◌+◌, ◌<◌, ◌≤◌, ◌==◌, ◌||◌, Bool, true, false, cond, List, [], ◌∷◌, ◌++◌, map, filter, filter_map, find, nat_le, Option, Some, None, is_some, IsSome, option_to_list, refl, sym, ap, subst, ◌∙◌, arith}
+use Rattle.std.proofs.lemmas.Bool.{eqb-true}
+use Rattle.std.proofs.lemmas.Bool.Decides.{nat_tests, Decides-eqb}
+use Rattle.std.proofs.lemmas.List.Elements.{All-nil, All-cons, All-head, All-tail, All-weaker}
+use Rattle.std.specs.List.{All, cons_option, list_any}
+use Rattle.std.specs.Option.{option_map_or}
+use Rattle.fab_base.specs.Keyed as keyed
+use Rattle.fab_base.proofs.KeyedLemmas.{list_any-keys-filter, item_at-below}
+use Rattle.zone_rules.specs.Joined.{contains}
+use Rattle.fab_policy.specs.State.{LivePort, addresses, port_at}
+
+abbrev pub Ascend : ℕ → List LivePort → Type 0
+Ascend from ports = keyed.AscendFrom (λ p. p.address) from ports
+
+-- the address of the N_Port that is found
+pub found_address : (a : ℕ) (ports : List LivePort) (p : LivePort) → port_at a ports ≡ Some p → p.address ≡ a
+found_address a [] p e = cc
+found_address a (x ∷ ports) p e = go (x.address == a) refl e (found_address a ports p)
+  where
+    same : Some x ≡ Some p → x ≡ p
+    same i = cc
+
+    go : (b : Bool) → x.address == a ≡ b → cond b (Some x) (port_at a ports) ≡ Some p → (port_at a ports ≡ Some p → p.address ≡ a) → p.address ≡ a
+    go true t i ih = ap (λ y. y.address) (sym (same i)) ∙ eqb-true x.address a t
+    go false t i ih = ih i
+
+pub eqb_same : (a : ℕ) → a == a ≡ true
+eqb_same a = (Decides-eqb a a).1 refl
+
+pub eqb_other : (a b : ℕ) → a < b → a == b ≡ false
+eqb_other a b l = grind (arith, nat_tests)
+
+pub eqb_swap : (a b : ℕ) → a == b ≡ b == a
+eqb_swap a b = grind (arith, nat_tests)
+
+-- an N_Port of ascending ones is the one that is found at its address
+abbrev pub IsFoundFrom : ℕ → List LivePort → LivePort → Type 0
+IsFoundFrom from ports p = (from ≤ p.address) × (port_at p.address ports ≡ Some p)
+
+pub found_from : (from : ℕ) (ports : List LivePort) → Ascend from ports → All (IsFoundFrom from ports) ports
+found_from from [] h = All-nil (IsFoundFrom from [])
+found_from from (p ∷ ports) h =
+    All-cons (IsFoundFrom from (p ∷ ports)) p ports (h.0, ap (λ b. cond b (Some p) (port_at p.address ports)) (eqb_same p.address))
+    (All-weaker (IsFoundFrom (p.address + 1) ports) (IsFoundFrom from (p ∷ ports)) later ports (found_from (p.address + 1) ports h.1))
+  where
+    later : (q : LivePort) → IsFoundFrom (p.address + 1) ports q → IsFoundFrom from (p ∷ ports) q
+    later q i = (omega (arith, h.0, i.0), ap (λ b. cond b (Some p) (port_at q.address ports)) (eqb_other p.address q.address (omega (arith, i.0))) ∙ i.1)
+
+abbrev pub IsFoundIn : List LivePort → LivePort → Type 0
+IsFoundIn ports p = port_at p.address ports ≡ Some p
+
+pub found_in : (from : ℕ) (ports : List LivePort) → Ascend from ports → All (IsFoundIn ports) ports
+found_in from ports h = All-weaker (IsFoundFrom from ports) (IsFoundIn ports) (λ p i. i.1) ports (found_from from ports h)
+
+-- an address is listed of those that pass exactly where its N_Port passes
+pub listed_at : (q : LivePort → Bool) (from a : ℕ) (ports : List LivePort) → Ascend from ports → contains a (addresses (filter q ports)) ≡ option_map_or q (port_at a ports) false
+listed_at q from a ports h = list_any-keys-filter (λ (p : LivePort). p.address) q from a ports h
+
+pub listed_of : (q : LivePort → Bool) (from a : ℕ) (ports : List LivePort) (p : LivePort) → Ascend from ports → port_at a ports ≡ Some p → contains a (addresses (filter q ports)) ≡ q p
+listed_of q from a ports p h e = listed_at q from a ports h ∙ ap (λ o. option_map_or q o false) e
+
+pub filter-same : (p q : LivePort → Bool) (ports : List LivePort) → All (λ x. p x ≡ q x) ports → filter p ports ≡ filter q ports
+filter-same p q [] h = refl
+filter-same p q (x ∷ ports) h =
+    ap (λ b. cond b (x ∷ filter p ports) (filter p ports)) (All-head (λ (y : LivePort). p y ≡ q y) x ports h)
+    ∙ ap (λ ys. cond (q x) (x ∷ ys) ys) (filter-same p q ports (All-tail (λ (y : LivePort). p y ≡ q y) x ports h))
+
+-- those whose addresses are listed of those that pass are those that pass
+pub filter-listed : (q : LivePort → Bool) (from : ℕ) (ports : List LivePort) → Ascend from ports → filter (λ p. contains p.address (addresses (filter q ports))) ports ≡ filter q ports
+filter-listed q from ports h =
+    filter-same (λ p. contains p.address (addresses (filter q ports))) q ports
+    (All-weaker (IsFoundIn ports) (λ (p : LivePort). contains p.address (addresses (filter q ports)) ≡ q p) (λ p e. listed_of q from p.address ports p h e) ports (found_in from ports h))
+
+pub filter-none : (ports : List LivePort) → filter (λ p. false) ports ≡ []
+filter-none [] = refl
+filter-none (p ∷ ports) = filter-none ports
+
+-- those with an address are the one that is found
+pub filter-address : (from a : ℕ) (ports : List LivePort) → Ascend from ports → filter (λ p. p.address == a) ports ≡ option_to_list (port_at a ports)
+filter-address from a [] h = refl
+filter-address from a (p ∷ ports) h = go (p.address == a) refl (filter-address (p.address + 1) a ports h.1)
+  where
+    go : (b : Bool) → p.address == a ≡ b → filter (λ x. x.address == a) ports ≡ option_to_list (port_at a ports) →
+        cond b (p ∷ filter (λ x. x.address == a) ports) (filter (λ x. x.address == a) ports) ≡ option_to_list (cond b (Some p) (port_at a ports))
+    go true e ih = ap (λ ys. p ∷ ys) (ih ∙ ap option_to_list (item_at-below (λ (x : LivePort). x.address) a (p.address + 1) ports h.1 (omega (arith, eqb-true p.address a e))))
+    go false e ih = ih
+
+-- ---- N_Ports that are found at places
+
+abbrev pub AreAddressed : (ℕ → Option LivePort) → Type 0
+AreAddressed find = (a : ℕ) (p : LivePort) → find a ≡ Some p → p.address ≡ a
+
+-- an address at which one is found is a place
+pub place_of : (find : ℕ → Option LivePort) → AreAddressed find → (a : ℕ) (places : List ℕ) → IsSome (port_at a (filter_map find places)) → contains a places ≡ true
+place_of find h a [] i = cc
+place_of find h a (k ∷ places) i = by_item (find k) refl i (place_of find h a places)
+  where
+    last : (b c : Bool) → c ≡ true → b || c ≡ true
+    last true c e = refl
+    last false c e = e
+
+    by_test : (p : LivePort) → p.address ≡ k → (b : Bool) → p.address == a ≡ b → IsSome (cond b (Some p) (port_at a (filter_map find places))) →
+        (IsSome (port_at a (filter_map find places)) → contains a places ≡ true) → (k == a) || contains a places ≡ true
+    by_test p is true e j ih = ap (λ x. (x == a) || contains a places) (sym is) ∙ ap (λ b. b || contains a places) e
+    by_test p is false e j ih = last (k == a) (contains a places) (ih j)
+
+    by_item : (o : Option LivePort) → find k ≡ o → IsSome (port_at a (cons_option o (filter_map find places))) →
+        (IsSome (port_at a (filter_map find places)) → contains a places ≡ true) → (k == a) || contains a places ≡ true
+    by_item None e j ih = last (k == a) (contains a places) (ih j)
+    by_item (Some p) e j ih = by_test p (h k p e) (p.address == a) refl j ih
+
+-- at a place the one of that place is found
+pub found_at : (find : ℕ → Option LivePort) → AreAddressed find → (a : ℕ) (p : LivePort) → find a ≡ Some p → (places : List ℕ) → contains a places ≡ true → port_at a (filter_map find places) ≡ Some p
+found_at find h a p e [] i = cc
+found_at find h a p e (k ∷ places) i = by_test (k == a) refl i (found_at find h a p e places)
+  where
+    here : find k ≡ Some p → port_at a (cons_option (find k) (filter_map find places)) ≡ Some p
+    here f = ap (λ o. port_at a (cons_option o (filter_map find places))) f ∙ ap (λ b. cond b (Some p) (port_at a (filter_map find places))) (ap (λ x. x == a) (h a p e) ∙ eqb_same a)
+
+    by_item : (o : Option LivePort) → find k ≡ o → k == a ≡ false → port_at a (filter_map find places) ≡ Some p → port_at a (cons_option o (filter_map find places)) ≡ Some p
+    by_item None f t ih = ih
+    by_item (Some q) f t ih = ap (λ b. cond b (Some q) (port_at a (filter_map find places))) (ap (λ x. x == a) (h k q f) ∙ t) ∙ ih
+
+    by_test : (b : Bool) → k == a ≡ b → b || contains a places ≡ true → (contains a places ≡ true → port_at a (filter_map find places) ≡ Some p) → port_at a (cons_option (find k) (filter_map find places)) ≡ Some p
+    by_test true t j ih = here (ap find (eqb-true k a t) ∙ e)
+    by_test false t j ih = by_item (find k) refl t (ih j)
+
+-- ---- N_Ports from an address on
+
+abbrev pub from_on : ℕ → List LivePort → List LivePort
+from_on from ports = filter (λ p. nat_le from p.address) ports
+
+le_true : (a b : ℕ) → a ≤ b → nat_le a b ≡ true
+le_true a b l = grind (arith, nat_tests)
+
+le_false : (a b : ℕ) → b < a → nat_le a b ≡ false
+le_false a b l = grind (arith, nat_tests)
+
+true_le : (a b : ℕ) → nat_le a b ≡ true → a ≤ b
+true_le a b e = grind (arith, nat_tests)
+
+false_le : (a b : ℕ) → nat_le a b ≡ false → b < a
+false_le a b e = grind (arith, nat_tests)
+
+-- all of ascending ones are from an address on that isn't above the first
+pub from_on-all : (j k : ℕ) (ports : List LivePort) → j ≤ k → Ascend k ports → from_on j ports ≡ ports
+from_on-all j k [] le h = refl
+from_on-all j k (p ∷ ports) le h =
+    ap (λ b. cond b (p ∷ from_on j ports) (from_on j ports)) (le_true j p.address (omega (arith, le, h.0)))
+    ∙ ap (λ ys. p ∷ ys) (from_on-all j (p.address + 1) ports (omega (arith, le, h.0)) h.1)
+
+-- the first one from an address on, and those behind it
+pub from_on-next : (k from : ℕ) (ports : List LivePort) (p : LivePort) → Ascend k ports → find (λ q. nat_le from q.address) ports ≡ Some p →
+    (from ≤ p.address) × (port_at p.address ports ≡ Some p) × (from_on from ports ≡ p ∷ from_on (p.address + 1) ports)
+from_on-next k from [] p h e = cc
+from_on-next k from (x ∷ ports) p h e = go (nat_le from x.address) refl e (λ i. from_on-next (x.address + 1) from ports p h.1 i)
+  where
+    same : Some x ≡ Some p → x ≡ p
+    same i = cc
+
+    here : nat_le from x.address ≡ true → (from ≤ x.address) × (port_at x.address (x ∷ ports) ≡ Some x) × (from_on from (x ∷ ports) ≡ x ∷ from_on (x.address + 1) (x ∷ ports))
+    here t = (
+      true_le from x.address t,
+      ap (λ b. cond b (Some x) (port_at x.address ports)) (eqb_same x.address),
+      ap (λ b. cond b (x ∷ from_on from ports) (from_on from ports)) t
+          ∙ ap (λ ys. x ∷ ys) (from_on-all from (x.address + 1) ports (let l = true_le from x.address t in omega (arith, l)) h.1 ∙ sym (from_on-all (x.address + 1) (x.address + 1) ports (omega arith) h.1))
+          ∙ ap (λ b. x ∷ cond b (x ∷ from_on (x.address + 1) ports) (from_on (x.address + 1) ports)) (sym (le_false (x.address + 1) x.address (omega arith))),
+    )
+
+    later : nat_le from x.address ≡ false → (from ≤ p.address) × (port_at p.address ports ≡ Some p) × (from_on from ports ≡ p ∷ from_on (p.address + 1) ports) →
+        (from ≤ p.address) × (port_at p.address (x ∷ ports) ≡ Some p) × (from_on from (x ∷ ports) ≡ p ∷ from_on (p.address + 1) (x ∷ ports))
+    later t i =
+        let below : x.address < from = false_le from x.address t in (
+          i.0,
+          ap (λ b. cond b (Some x) (port_at p.address ports)) (eqb_other x.address p.address (omega (arith, below, i.0))) ∙ i.1,
+          ap (λ b. cond b (x ∷ from_on from ports) (from_on from ports)) t ∙ i.2
+              ∙ ap (λ b. p ∷ cond b (x ∷ from_on (p.address + 1) ports) (from_on (p.address + 1) ports)) (sym (le_false (p.address + 1) x.address (omega (arith, below, i.0)))),
+        )
+
+    go : (b : Bool) → nat_le from x.address ≡ b → cond b (Some x) (find (λ q. nat_le from q.address) ports) ≡ Some p →
+        (find (λ q. nat_le from q.address) ports ≡ Some p → (from ≤ p.address) × (port_at p.address ports ≡ Some p) × (from_on from ports ≡ p ∷ from_on (p.address + 1) ports)) →
+        (from ≤ p.address) × (port_at p.address (x ∷ ports) ≡ Some p) × (from_on from (x ∷ ports) ≡ p ∷ from_on (p.address + 1) (x ∷ ports))
+    go true t i ih = subst (λ y. (from ≤ y.address) × (port_at y.address (x ∷ ports) ≡ Some y) × (from_on from (x ∷ ports) ≡ y ∷ from_on (y.address + 1) (x ∷ ports))) (same i) (here t)
+    go false t i ih = later t (ih i)
+
+pub from_on-none : (from : ℕ) (ports : List LivePort) → find (λ q. nat_le from q.address) ports ≡ None → from_on from ports ≡ []
+from_on-none from [] e = refl
+from_on-none from (x ∷ ports) e = go (nat_le from x.address) refl e (λ i. from_on-none from ports i)
+  where
+    go : (b : Bool) → nat_le from x.address ≡ b → cond b (Some x) (find (λ q. nat_le from q.address) ports) ≡ None →
+        (find (λ q. nat_le from q.address) ports ≡ None → from_on from ports ≡ []) → from_on from (x ∷ ports) ≡ []
+    go true t i ih = cc
+    go false t i ih = ap (λ b. cond b (x ∷ from_on from ports) (from_on from ports)) t ∙ ih i

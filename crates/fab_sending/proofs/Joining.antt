@@ -1,0 +1,181 @@
+-- The replies to a frame and its state changes are what the frame sends.
+use Rattle.std.proofs.Common.{◌≡◌, ℕ, ◌+◌, ◌*◌, ◌%◌, ◌^◌, ◌≤◌, Bool, true, false, List, [], ◌∷◌, ◌++◌, length, map, filter, option_to_list, Option, Some, None, Ok, Err, IsSome, unwrap_or, refl, sym, ap, subst, ◌∙◌}
+use Rattle.std.proofs.lemmas.List.{append-nil, map-append}
+use Rattle.std.proofs.lemmas.List.Elements.{All-nil, All-cons, All-append}
+use Rattle.fab_base.specs.declared.values.Caught.{Caught}
+use Rattle.fab_config.specs.Settings.{Settings}
+use Rattle.ct_messages.specs.Answer.{size_of, written}
+use Rattle.ct_messages.specs.Ct.{Ask}
+use Rattle.ct_messages.specs.Server as server
+use Rattle.ct_messages.specs.declared.CtTell.{CtTell}
+use Rattle.fc_frames.specs.Pieces.{pieces}
+use Rattle.fab_policy.specs.Heard.{What, Bad, Fip, Fcoe, ask_of, decoded, s_id}
+use Rattle.fab_policy.specs.Outputs.{Notice, State, notices}
+use Rattle.fab_policy.specs.Queries.{query}
+use Rattle.fab_policy.specs.Replies.{Asker, asker_of}
+use Rattle.fab_policy.specs.State.{LivePort, Tables, addresses, now_of, overdue, port_at}
+use Rattle.fab_policy.specs.Steps.{AreAscending, InPool, after}
+use Rattle.fab_policy.specs.Verdicts.{IsRight}
+use Rattle.fab_policy.specs.declared.event.Event.{Event}
+use Rattle.fab_policy.specs.declared.event.Event.TheVariants.{Frame, Tick}
+use Rattle.fab_policy.specs.declared.verdict.Verdict.{Verdict}
+use Rattle.fab_policy.specs.declared.verdict.Verdict.TheVariants.{Granted, Registered, Answered}
+use Rattle.fab_replies.specs.Laws.{in_frames, messages, numbered, on}
+use Rattle.fab_replies.specs.Message.{AreSendable, can_send, frame_at, sent_of}
+use Rattle.fab_replies.specs.declared.message.Out.{Out}
+use Rattle.fab_replies.specs.declared.message.OutMessage.{OutMessage}
+use Rattle.fab_sending.specs.Asking.{CarriesFrame}
+use Rattle.fab_sending.specs.Laws.{FramesSend, FramesTell, TicksSend, TicksTell}
+use Rattle.fab_sending.specs.Messages.{advertisements_owed, at_moment, changes, clears, tick_messages}
+use Rattle.fab_sending.specs.Notices.{changed_at, notices_of_frame, notices_of_tick, told_of_each}
+use Rattle.fab_sending.specs.Replies.{IsBody}
+use Rattle.fab_sending.specs.Sends.{AreSent, CanFollow, is_plain}
+use Rattle.fab_sending.specs.declared.sends.Sends.{Sends}
+use Rattle.fab_sending.proofs.AnswerFits.{answer_short}
+use Rattle.fab_sending.proofs.Counting.{length-changes}
+use Rattle.fab_sending.proofs.ReplyMade.{right_suits}
+
+-- the N_Ports of a roll whose bounds are the pool's
+pub in_pool : (c : Settings) (lowest count : ℕ) (ports : List LivePort) → lowest ≡ c.domain * 65536 + 256 → count ≡ c.pool → AreAscending lowest (lowest + count) ports → InPool c ports
+in_pool c lowest count ports from many h =
+    subst (λ k. AreAscending k (k + c.pool) ports) from (subst (λ k. AreAscending lowest (lowest + k) ports) many h)
+
+-- state changes can be sent
+changes_sendable : (events : List Event) (moment n : ℕ) (ns : List Notice) → AreSendable events (at_moment moment (changes n ns))
+changes_sendable events moment n [] = All-nil (λ (out : Out). can_send events out.message ≡ true)
+changes_sendable events moment n (notice ∷ ns) = All-cons (λ (out : Out). can_send events out.message ≡ true) _ (at_moment moment (changes (n + 1) ns)) refl (changes_sendable events moment (n + 1) ns)
+
+-- frames that can be sent, with state changes behind them
+pub all_sendable : (events : List Event) (frames told outs : List Out) (moment n : ℕ) (ns : List Notice) → AreSendable events frames → told ≡ at_moment moment (changes n ns) → outs ≡ frames ++ told → AreSendable events outs
+all_sendable events frames told outs moment n ns h is made =
+    subst (AreSendable events) (sym (made ∙ ap (λ l. frames ++ l) is))
+    (All-append (λ (out : Out). can_send events out.message ≡ true) frames (at_moment moment (changes n ns)) h (changes_sendable events moment n ns))
+
+-- the replies and the state changes are what the frame sends
+pub frame_sent : FramesSend → FramesTell → (c : Settings) (n : ℕ) (S : State) (port index entry : ℕ) (caught : Caught) (v : Verdict) (events : List Event) (s : Sends) (frames told : List Out) →
+    InPool c S.tables.ports → CanFollow c S.tables port index caught v → frame_at entry events ≡ Some caught →
+    frames ≡ at_moment (now_of S.tables) (messages c S.tables port entry caught v) → told ≡ at_moment (now_of S.tables) (changes S.rscns (notices_of_frame c S.tables port caught v)) →
+    s.outs ≡ frames ++ told → s.rscns ≡ (S.rscns + length told) % 65535 → AreSendable events s.outs → AreSent c n S (Frame port index caught v) events s
+frame_sent send tell c n S port index entry caught v events s frames told asc can at replied changed made counted sendable =
+    let m : ℕ = now_of S.tables in
+    let ms : List (ℕ × OutMessage) = messages c S.tables port entry caught v in
+    let ns : List Notice = notices_of_frame c S.tables port caught v in
+    record {
+      outs = ap (map (sent_of c events)) (made ∙ ap (λ l. l ++ told) replied ∙ ap (λ l. at_moment m ms ++ l) changed ∙ sym (map-append _ ms (changes S.rscns ns)))
+          ∙ send c n S port index entry caught v events asc can at;
+      rscns = counted ∙ ap (λ k. (S.rscns + k) % 65535) (ap length changed ∙ length-changes m S.rscns ns ∙ ap length (sym (tell c S.tables port index caught v asc can)));
+      sendable = sendable;
+    }
+
+-- a verdict that needs nothing else follows at once
+pub plain_follows : (c : Settings) (T : Tables) (port index : ℕ) (caught : Caught) (v : Verdict) → is_plain v ≡ true → CanFollow c T port index caught v
+plain_follows c T port index caught (Granted a) h = cc
+plain_follows c T port index caught Registered h = cc
+plain_follows c T port index caught _ h = tt
+
+pub body_carries : (what : What) → IsBody what → CarriesFrame what
+body_carries (Bad cause) h = absurd h
+body_carries (Fip f m) h = absurd h
+body_carries (Fcoe f (Ok x)) h = tt
+body_carries (Fcoe f (Err e)) h = absurd h
+
+-- the frame of a request to the name server
+pub registered_carries : (c : Settings) (T : Tables) (port : ℕ) (caught : Caught) → IsRight c T port caught Registered → CarriesFrame (decoded caught)
+registered_carries c T port caught right = body_carries (decoded caught) (right_suits c T port caught Registered right)
+
+pub answered_carries : (c : Settings) (T : Tables) (port : ℕ) (caught : Caught) → IsRight c T port caught Answered → CarriesFrame (decoded caught)
+answered_carries c T port caught right = body_carries (decoded caught) (right_suits c T port caught Answered right)
+
+-- the frames of an answer to a live N_Port
+pub answer_frames : (c : Settings) (T : Tables) (port entry size : ℕ) (caught : Caught) (tell : CtTell) → IsSome (port_at (s_id caught) T.ports) →
+    ((b : LivePort) → port_at (s_id caught) T.ports ≡ Some b → tell ≡ query c T b (ask_of caught)) → ((b : LivePort) → port_at (s_id caught) T.ports ≡ Some b → size ≡ unwrap_or b.server 2112) →
+    on port (in_frames caught size tell) ≡ messages c T port entry caught Answered
+answer_frames c T port entry size caught tell live told asked = go (port_at (s_id caught) T.ports) live told asked
+  where
+    go : (o : Option LivePort) → IsSome o → ((b : LivePort) → o ≡ Some b → tell ≡ query c T b (ask_of caught)) → ((b : LivePort) → o ≡ Some b → size ≡ unwrap_or b.server 2112) →
+        on port (in_frames caught size tell) ≡ elim o as (λ _. List (ℕ × OutMessage)) [ None ↦ [] | Some b ↦ on port (in_frames caught (unwrap_or b.server 2112) (query c T b (ask_of caught))) ]
+    go None i t a = cc
+    go (Some b) i t a = ap (λ n. on port (in_frames caught n tell)) (a b refl) ∙ ap (λ x. on port (in_frames caught (unwrap_or b.server 2112) x)) (t b refl)
+
+-- ---- at the clock
+
+pub at_clock : (m n : ℕ) (ms : List (ℕ × OutMessage)) (outs : List Out) → m ≡ n → outs ≡ at_moment m ms → outs ≡ at_moment n ms
+at_clock m n ms outs e made = made ∙ ap (λ k. at_moment k ms) e
+
+-- the frames of an answer to whom asked
+pub answer_at : (m n port size : ℕ) (caught : Caught) (tell : CtTell) (to : Asker) (outs : List Out) → m ≡ n → to ≡ asker_of caught →
+    outs ≡ at_moment m (on port (numbered to 0 (pieces (length (written tell)) size (written tell)))) → outs ≡ at_moment n (on port (in_frames caught size tell))
+answer_at m n port size caught tell to outs e is made =
+    at_clock m n (on port (numbered to 0 (pieces (length (written tell)) size (written tell)))) outs e made
+    ∙ ap (λ t. at_moment n (on port (numbered t 0 (pieces (length (written tell)) size (written tell))))) is
+
+-- the state changes of a registration of the frame's sender
+pub registered_told : (c : Settings) (T : Tables) (first a : ℕ) (caught : Caught) (ask : Ask) (outs : List Out) → a ≡ s_id caught → ask ≡ ask_of caught →
+    outs ≡ at_moment (now_of T) (changes first (told_of_each c T [] (filter (λ p. server.has_changed p.values (server.after p.node ask p.values)) (option_to_list (port_at a T.ports))))) →
+    outs ≡ at_moment (now_of T) (changes first (told_of_each c T [] (changed_at T caught)))
+registered_told c T first a caught ask outs is asks made =
+    made
+    ∙ ap (λ x. at_moment (now_of T) (changes first (told_of_each c T [] (filter (λ p. server.has_changed p.values (server.after p.node ask p.values)) (option_to_list (port_at x T.ports)))))) is
+    ∙ ap (λ x. at_moment (now_of T) (changes first (told_of_each c T [] (filter (λ p. server.has_changed p.values (server.after p.node x p.values)) (option_to_list (port_at (s_id caught) T.ports)))))) asks
+
+-- the accept of a login can be sent
+pub accept_sendable : (events : List Event) (m port : ℕ) (message : OutMessage) (outs : List Out) → outs ≡ at_moment m ((port, message) ∷ []) → can_send events message ≡ true → AreSendable events outs
+accept_sendable events m port message outs made h =
+    subst (AreSendable events) (sym made) (All-cons (λ (out : Out). can_send events out.message ≡ true) (record { port = port; moment = m; message = message }) [] h (All-nil (λ (out : Out). can_send events out.message ≡ true)))
+
+-- ---- a tick
+
+abbrev pub sends_of : List Out → ℕ → Sends
+sends_of outs rscns = record { outs = outs; rscns = rscns }
+
+-- clear link messages, state changes and advertisements are what a tick sends
+pub tick_sent : TicksSend → TicksTell → (c : Settings) (n : ℕ) (S : State) (m : ℕ) (ended : List ℕ) (events : List Event) (s : Sends) (cleared told advertised mid : List Out) →
+    InPool c S.tables.ports → ended ≡ addresses (overdue c S.tables m) →
+    cleared ≡ at_moment m (clears c (overdue c S.tables m)) → told ≡ at_moment m (changes S.rscns (notices_of_tick c S.tables m)) → advertised ≡ at_moment m (advertisements_owed c n S.advertised m) →
+    mid ≡ cleared ++ told → s.outs ≡ mid ++ advertised → s.rscns ≡ (S.rscns + length told) % 65535 →
+    AreSendable events cleared → AreSendable events advertised → AreSent c n S (Tick m ended) events s
+tick_sent send tell c n S m ended events s cleared told advertised mid asc ends clears_made told_made adverts_made first last counted clears_ok adverts_ok =
+    let xs : List (ℕ × OutMessage) = clears c (overdue c S.tables m) in
+    let ns : List Notice = notices_of_tick c S.tables m in
+    let ys : List (ℕ × OutMessage) = changes S.rscns ns in
+    let zs : List (ℕ × OutMessage) = advertisements_owed c n S.advertised m in
+    let all : s.outs ≡ at_moment m (tick_messages c n S m) =
+    last ∙ ap (λ l. l ++ advertised) (first ∙ ap (λ l. l ++ told) clears_made ∙ ap (λ l. at_moment m xs ++ l) told_made ∙ sym (map-append _ xs ys))
+    ∙ ap (λ l. at_moment m (xs ++ ys) ++ l) adverts_made ∙ sym (map-append _ (xs ++ ys) zs) in
+    subst (λ ids. AreSent c n S (Tick m ids) events s) (sym ends) (record {
+      outs = ap (map (sent_of c events)) all ∙ send c n S m events asc;
+      rscns = counted ∙ ap (λ k. (S.rscns + k) % 65535) (ap length told_made ∙ length-changes m S.rscns ns ∙ ap length (sym (tell c S.tables m asc)));
+      sendable = subst (AreSendable events) (sym last)
+          (All-append (λ (out : Out). can_send events out.message ≡ true) mid advertised (all_sendable events cleared told mid m S.rscns ns clears_ok told_made first) adverts_ok);
+    })
+
+-- ---- values that a message doesn't depend on
+
+pub no_settings : Settings
+no_settings = record {
+  switch = 0;
+  fcf_mac = [];
+  fc_map = 0;
+  vlan = 0;
+  domain = 0;
+  pool = 0;
+  priority = 0;
+  period = 0;
+  window = 0;
+  limit = 0;
+  zones = [];
+  sets = [];
+  activations = [];
+}
+
+pub no_tables : Tables
+no_tables = record { clock = None; ports = []; past = [] }
+
+-- an answer to a live N_Port is short enough to be cut
+pub answer_fits : (c : Settings) (T : Tables) (caught : Caught) (tell : CtTell) → IsSome (port_at (s_id caught) T.ports) →
+    ((b : LivePort) → port_at (s_id caught) T.ports ≡ Some b → tell ≡ query c T b (ask_of caught)) → length T.ports ≤ 65535 → size_of tell ≤ 2 ^ 20
+answer_fits c T caught tell live told few = go (port_at (s_id caught) T.ports) live told
+  where
+    go : (o : Option LivePort) → IsSome o → ((b : LivePort) → o ≡ Some b → tell ≡ query c T b (ask_of caught)) → size_of tell ≤ 2 ^ 20
+    go None i t = cc
+    go (Some b) i t = subst (λ x. size_of x ≤ 2 ^ 20) (sym (t b refl)) (answer_short c T b (ask_of caught) few)

@@ -1,0 +1,16 @@
+pub mod Lists
+pub mod Finding
+pub mod Watching
+pub mod Telling
+pub mod Sending
+pub mod Counting
+pub mod Keeping
+pub mod Counted
+pub mod Sendable
+pub mod AdvertMade
+pub mod FrameMade
+pub mod ReplyMade
+pub mod Joining
+pub mod ClearMade
+pub mod AnswerFits
+pub mod Turning

@@ -1,0 +1,82 @@
+-- Where no activation comes between two moments, the same names are joined at both.
+use Rattle.std.proofs.Common.{◌≡◌, ℕ, ◌+◌, ◌&&◌, not, nat_le, nat_eq, Bool, true, false, cond, List, [], ◌∷◌, ◌++◌, take, map, filter, find, flat_map, reverse, Option, Some, None, option_map, slice_get, refl, sym, ap, subst, ◌∙◌}
+use Rattle.std.proofs.lemmas.List.{append-nil, reverse-append}
+use Rattle.std.proofs.lemmas.List.Elements.{All-nil, All-cons, All-append, All-head, All-tail}
+use Rattle.std.proofs.lemmas.List.Folds.{find-append}
+use Rattle.std.specs.List.{All}
+use Rattle.std.specs.Option.{option_or}
+use Rattle.fab_config.specs.Settings.{Settings}
+use Rattle.fab_config.specs.declared.Activation.{Activation}
+use Rattle.fab_config.specs.declared.Zone.{Zone}
+use Rattle.fab_config.specs.declared.ZoneSet.{ZoneSet}
+use Rattle.zone_rules.specs.Joined.{active_set, contains, has_zone_of, is_active, is_other, joined}
+use Rattle.fab_policy.specs.Outputs.{Notice, differs, is_watcher, told}
+use Rattle.fab_policy.specs.State.{LivePort, Tables}
+use Rattle.fab_replies.specs.declared.message.Out.{Out}
+use Rattle.fab_roster.specs.Reaching.{told_between}
+use Rattle.fab_sending.specs.Counting.{is_turned, with_changes}
+use Rattle.fab_sending.specs.Notices.{staying_at, told_of_change}
+use Rattle.fab_sending.proofs.Counting.{take_slice}
+
+abbrev pub Stays : ℕ → ℕ → Activation → Type 0
+Stays since at a = is_turned since at a ≡ false
+
+-- one activation more
+pub stays_more : (since at i : ℕ) (xs : List Activation) (x : Activation) → slice_get xs i ≡ Some x → All (Stays since at) (take i xs) → Stays since at x → All (Stays since at) (take (i + 1) xs)
+stays_more since at i xs x there before here =
+    subst (All (Stays since at)) (sym (take_slice xs i x there)) (All-append (Stays since at) (take i xs) (x ∷ []) before (All-cons (Stays since at) x [] here (All-nil (Stays since at))))
+
+same_test : (b c : Bool) → is_other b c ≡ false → b ≡ c
+same_test true true e = refl
+same_test true false e = cc
+same_test false true e = cc
+same_test false false e = refl
+
+abbrev come_by : ℕ → Activation → Bool
+come_by m a = nat_le a.moment m
+
+same_found : (since at : ℕ) (xs : List Activation) → All (Stays since at) xs → find (come_by since) (reverse xs) ≡ find (come_by at) (reverse xs)
+same_found since at [] h = refl
+same_found since at (a ∷ xs) h =
+    ap (find (come_by since)) (reverse-append (a ∷ []) xs) ∙ find-append (come_by since) (reverse xs) (a ∷ [])
+    ∙ ap (λ o. option_or o (cond (come_by since a) (Some a) None)) (same_found since at xs (All-tail (Stays since at) a xs h))
+    ∙ ap (λ b. option_or (find (come_by at) (reverse xs)) (cond b (Some a) None)) (same_test (come_by since a) (come_by at a) (All-head (Stays since at) a xs h))
+    ∙ sym (ap (find (come_by at)) (reverse-append (a ∷ []) xs) ∙ find-append (come_by at) (reverse xs) (a ∷ []))
+
+same_joined : (zones : List Zone) (sets : List ZoneSet) (xs : List Activation) (since at x y : ℕ) → All (Stays since at) xs → joined zones sets xs since x y ≡ joined zones sets xs at x y
+unfolding joined
+same_joined zones sets xs since at x y h =
+    ap (λ o. not (nat_eq x y) && has_zone_of (is_active sets (option_map (λ (a : Activation). a.set) o)) x y 0 zones) (same_found since at xs h)
+
+never_differs : (c : Settings) (since at x y : ℕ) → All (Stays since at) c.activations → differs c since at x y ≡ false
+never_differs c since at x y h =
+    ap (λ b. is_other b (joined c.zones c.sets c.activations at x y)) (same_joined c.zones c.sets c.activations since at x y h) ∙ itself (joined c.zones c.sets c.activations at x y)
+  where
+    itself : (b : Bool) → is_other b b ≡ false
+    itself true = refl
+    itself false = refl
+
+none_told : (c : Settings) (since at name : ℕ) (but : List ℕ) (ports : List LivePort) → All (Stays since at) c.activations →
+    filter (λ w. not (contains w.address but) && is_watcher w && differs c since at w.name name) ports ≡ []
+none_told c since at name but [] h = refl
+none_told c since at name but (w ∷ ports) h =
+    ap (λ b. cond (not (contains w.address but) && is_watcher w && b) (w ∷ rest) rest) (never_differs c since at w.name name h)
+    ∙ ap (λ b. cond b (w ∷ rest) rest) (never (not (contains w.address but) && is_watcher w)) ∙ none_told c since at name but ports h
+  where
+    rest : List LivePort
+    rest = filter (λ v. not (contains v.address but) && is_watcher v && differs c since at v.name name) ports
+
+    never : (b : Bool) → b && false ≡ false
+    never true = refl
+    never false = refl
+
+nothing_told : (c : Settings) (T : Tables) (since at : ℕ) (but : List ℕ) (ports : List LivePort) → All (Stays since at) c.activations → flat_map (told_of_change c T since at but) ports ≡ []
+nothing_told c T since at but [] h = refl
+nothing_told c T since at but (p ∷ ports) h =
+    ap (λ ws. map (λ w. told w p.address) ws ++ flat_map (told_of_change c T since at but) ports) (none_told c since at p.name but T.ports h) ∙ nothing_told c T since at but ports h
+
+-- nothing is added
+pub stays_told : (c : Settings) (T : Tables) (m first since : ℕ) (but : List ℕ) (outs : List Out) (xs : List Activation) → xs ≡ c.activations → All (Stays since m) xs →
+    outs ≡ with_changes m first outs (flat_map (told_of_change c T since m but) (staying_at c T m))
+stays_told c T m first since but outs xs is h =
+    sym (append-nil outs) ∙ ap (with_changes m first outs) (sym (nothing_told c T since m but (staying_at c T m) (subst (All (Stays since m)) is h)))

@@ -1,0 +1,233 @@
+//! Clear link messages (FC-BB-5, "FIP Clear Virtual Links").
+ghost use Rattle.std.specs.Prelude.{◌≡◌, ◌++◌, ◌≤◌, List, IfOk, IsSome, OnOk, length};
+ghost use Rattle.std.specs.List.{All};
+ghost use Rattle.fab_policy.specs.Logins as logins;
+ghost use Rattle.fab_policy.specs.Outputs as spec;
+ghost use Rattle.fab_policy.specs.State.{LivePort, addresses, overdue, port_at};
+ghost use Rattle.fab_policy.specs.Steps.{InPool};
+ghost use Rattle.fab_policy.specs.declared.event.Event.{Event as Entry};
+ghost use Rattle.fab_replies.specs.Message.{AreSendable};
+ghost use Rattle.fab_roster.specs.Roll.{login_of};
+ghost use Rattle.fab_sending.specs.Clearing.{enodes_at, in_hundreds, place_of, vx_ports_at};
+ghost use Rattle.fab_sending.specs.Messages as messages;
+ghost use Rattle.fab_sending.specs.Messages.{at_moment};
+
+use fab_base::{Enode, FcId, IdList, Mac, Moment, NoMemory};
+use fab_config::Config;
+use fab_replies::{Out, OutList, OutMessage, VxPorts};
+use fab_roster::Roster;
+use fip_codec::VxPort;
+use login_table::Login;
+use std::alloc::Global;
+
+/// The most N_Ports of one message.
+const HUNDRED: usize = 100;
+
+/// The clear link messages of a tick that ends the logins of these addresses: to each ENode, by
+/// port and MAC, one for each hundred of its N_Ports.
+pub(crate) fn clears(
+    alloc: Global,
+    config: &Config,
+    roster: &Roster,
+    moment: Moment,
+    ended: &IdList,
+) -> Result<OutList, NoMemory>
+    requires pool { InPool config.now roster.now.tables.ports }
+    requires ended { ended.now ≡ addresses (overdue config.now roster.now.tables moment) }
+    ensures made { IfOk result (λ outs. outs ≡ at_moment moment
+        (messages.clears config.now (overdue config.now roster.now.tables moment))) }
+    ensures sendable { IfOk result (λ outs. (events : List Entry) → AreSendable events outs) }
+{
+    let enodes = enodes_of(alloc, roster, ended)?;
+    let mut outs = OutList::empty(alloc);
+    for enode in enodes.iter() {
+        let ports = vx_ports(alloc, config, roster, ended, enode)?;
+        clear(alloc, moment, enode, ports.as_slice(), &mut outs)?;
+    }
+    Ok(outs)
+}
+
+// Appends the clear link messages to an ENode that name these N_Ports.
+fn clear(
+    alloc: Global,
+    moment: Moment,
+    enode: &Enode,
+    ports: &[VxPort],
+    outs: &mut OutList,
+) -> Result<(), NoMemory>
+    ensures { OnOk result (
+        outs.new ≡ outs.old ++ at_moment moment (in_hundreds enode.now ports.now)) }
+{
+    let mut done = 0;
+    while done < ports.len() {
+        let end = done + HUNDRED.min(ports.len() - done);
+        let group = ports[done..end].to_vec(alloc)?;
+        let message = OutMessage::Clear {
+            to: enode.mac,
+            ports: VxPorts::from_vec(group),
+        };
+        let out = Out {
+            port: enode.port,
+            moment,
+            message,
+        };
+        outs.push(alloc, out)?;
+        done = end;
+    }
+    Ok(())
+}
+
+// The N_Ports of an ENode among these addresses.
+fn vx_ports(
+    alloc: Global,
+    config: &Config,
+    roster: &Roster,
+    ended: &IdList,
+    enode: &Enode,
+) -> Result<Vec<VxPort>, NoMemory>
+    requires { All (λ a. IsSome (port_at a roster.now.tables.ports)) ended.now }
+    ensures { IfOk result (λ v. v.items
+        ≡ vx_ports_at config.now roster.now.tables.ports enode.now ended.now) }
+{
+    let mut ports = Vec::new(alloc);
+    for index in 0..ended.len() {
+        let address = *ended.at(index).unwrap();
+        let login = roster.by_address(address).unwrap();
+        if login.enode == *enode {
+            ports.push(vx_port(config, login))?;
+        }
+    }
+    Ok(ports)
+}
+
+fn vx_port(config: &Config, login: &Login) -> VxPort
+    ensures { (p : LivePort) → login_of p ≡ login.now → result ≡ spec.vx_port_of config.now p }
+{
+    VxPort {
+        mac: granted_mac(config, login.address),
+        address: login.address,
+        name: login.name,
+    }
+}
+
+// The MAC that comes with an address.
+fn granted_mac(config: &Config, address: FcId) -> Mac
+    ensures { result ≡ logins.granted_mac config.now address }
+{
+    let [_, m0, m1, m2] = config.fc_map.to_be_bytes();
+    let [_, a0, a1, a2] = address.value().to_be_bytes();
+    Mac([m0, m1, m2, a0, a1, a2])
+}
+
+// The ENodes of these addresses by port and MAC, each once.
+fn enodes_of(alloc: Global, roster: &Roster, ended: &IdList) -> Result<Vec<Enode>, NoMemory>
+    requires { All (λ a. IsSome (port_at a roster.now.tables.ports)) ended.now }
+    ensures { IfOk result (λ v. v.items ≡ enodes_at roster.now.tables.ports ended.now) }
+{
+    let mut enodes = Vec::new(alloc);
+    for done in 0..ended.len() {
+        let address = *ended.at(ended.len() - 1 - done).unwrap();
+        let login = roster.by_address(address).unwrap();
+        add(&mut enodes, login.enode)?;
+    }
+    Ok(enodes)
+}
+
+// Puts an ENode at its place among ascending ones, where it isn't there.
+fn add(enodes: &mut Vec<Enode>, enode: Enode) -> Result<(), NoMemory>
+    ensures { OnOk result (enodes.new.items ≡ spec.with_enode enode enodes.old.items) }
+{
+    let place = place_of(enodes.as_slice(), &enode);
+    if place < enodes.len() && enode == enodes[place] {
+        return Ok(());
+    }
+    enodes.insert(place, enode)?;
+    Ok(())
+}
+
+fn place_of(enodes: &[Enode], enode: &Enode) -> usize
+    ensures place { result ≡ place_of enode.now enodes.now }
+    ensures inside { result ≤ length enodes.now }
+{
+    for (place, other) in enodes.iter().enumerate() {
+        if *enode == *other || is_before(enode, other) {
+            return place;
+        }
+    }
+    enodes.len()
+}
+
+// Whether an ENode comes before another, by port and then by MAC.
+fn is_before(one: &Enode, other: &Enode) -> bool
+    ensures { result ≡ spec.enode_before one.now other.now }
+{
+    one.port.value() < other.port.value()
+        || (one.port.value() == other.port.value() && are_before(&one.mac.0, &other.mac.0))
+}
+
+// Whether bytes come before others, compared as numbers are.
+fn are_before(one: &[u8], other: &[u8]) -> bool
+    ensures { result ≡ spec.bytes_before one.now other.now }
+{
+    for (i, byte) in one.iter().enumerate() {
+        if i >= other.len() {
+            return false;
+        }
+        if *byte != other[i] {
+            return *byte < other[i];
+        }
+    }
+    false
+}
+
+#[cfg(test)]
+mod tests {
+    use super::*;
+    use fab_base::{PortNo, Wwn};
+    use std::test::Fail;
+
+    // An ENode of a port by the last byte of its MAC.
+    fn enode(port: PortNo, last: u8) -> Enode {
+        let mac = Mac([0x00, 0x1b, 0x21, 0x00, 0x00, last]);
+        Enode { port, mac }
+    }
+
+    #[test]
+    fn enodes_ascend_by_port_and_mac(rt: HostRuntime) -> Result<(), Fail> {
+        let (one, two) = (PortNo::at(0), PortNo::at(1));
+        let mut enodes = Vec::new(rt.alloc());
+        add(&mut enodes, enode(two, 3))?;
+        add(&mut enodes, enode(one, 7))?;
+        add(&mut enodes, enode(two, 2))?;
+        add(&mut enodes, enode(one, 7))?;
+        let want = [enode(one, 7), enode(two, 2), enode(two, 3)];
+        assert_eq!(rt; enodes.as_slice(), want.as_slice());
+        Ok(())
+    }
+
+    #[test]
+    fn a_message_names_a_hundred(rt: HostRuntime) -> Result<(), Fail> {
+        let alloc = rt.alloc();
+        let mut ports = Vec::new(alloc);
+        for number in 0..101 {
+            let address = FcId::new(0x010100 + number).ok_or("an address")?;
+            let mac = Mac([0x0e, 0xfc, 0x00, 0x01, 0x01, number as u8]);
+            let name = Wwn(1);
+            ports.push(VxPort { mac, address, name })?;
+        }
+        let mut outs = OutList::empty(alloc);
+        let node = enode(PortNo::at(1), 3);
+        clear(alloc, Moment(5), &node, ports.as_slice(), &mut outs)?;
+        let mut sizes = Vec::new(alloc);
+        for index in 0..outs.len() {
+            let out = outs.at(index).ok_or("a message")?;
+            assert_eq!(rt; (out.port.value(), out.moment), (2, Moment(5)));
+            if let OutMessage::Clear { to, ports } = &out.message {
+                assert_eq!(rt; *to, node.mac);
+                sizes.push(ports.view().len())?;
+            }
+        }
+        assert_eq!(rt; sizes.as_slice(), [100, 1].as_slice());
+        Ok(())
+    }
+}

@@ -1,0 +1,25 @@
+//! What an entry sends, from the tables before it: replies, clear link messages, state changes and
+//! advertisements.
+#![tactic(auto)]
+
+mod adverts;
+mod answers;
+mod asking;
+mod changing;
+mod clears;
+mod frame;
+mod laws;
+mod noticing;
+mod replies;
+mod sends;
+#[cfg(test)]
+mod tests;
+mod tick;
+mod zoning;
+
+pub use asking::asker;
+pub use frame::{answer_sends, frame_sends, grant_sends, registration_sends};
+pub use laws::{frames_send, frames_tell, ticks_send, ticks_tell};
+pub use replies::right_frames_suit;
+pub use sends::{Before, Sends};
+pub use tick::tick_sends;
