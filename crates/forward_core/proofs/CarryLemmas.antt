@@ -1,0 +1,76 @@
+-- Tables changed by a frame that grants nothing are those of the policy.
+use Rattle.std.proofs.Common.{◌≡◌, ℕ, ◌==◌, Bool, true, false, cond, List, [], ◌∷◌, Option, Some, None, option_map, refl, sym, ap, ◌∙◌, subst, IsSome}
+use Rattle.std.specs.List.{All}
+use Rattle.std.proofs.lemmas.List.Elements.{All-head, All-tail}
+use Rattle.fab_base.specs.declared.values.Caught.{Caught}
+use Rattle.fab_config.specs.Settings.{Settings}
+use Rattle.fab_policy.specs.Changes.{CanStay, FrameSteps, LogoutSteps, leaves_logins, stays_as}
+use Rattle.fab_policy.specs.State.{LivePort, now_of, port_at}
+use Rattle.fab_policy.specs.declared.verdict.Verdict.{Verdict}
+use Rattle.fab_policy.specs.declared.verdict.Verdict.TheVariants.{Logout}
+use Rattle.fab_roster.specs.Changes.{ChangesPorts, Ends, IsSoundRoll, KeepsBounds}
+use Rattle.fab_roster.specs.Roll.{Roll}
+use Rattle.forward_core.specs.Carrying.{CarriesOut, IsRollOf}
+use Rattle.forward_core.proofs.TickLemmas.{in_pool}
+
+-- a roll with the same bounds as one that was made for a configuration
+pub same_roll : (c : Settings) (old new : Roll) → KeepsBounds old new → IsRollOf c old → IsRollOf c new
+same_roll c old new bounds of = record { lowest = bounds.lowest ∙ of.lowest; count = bounds.count ∙ of.count }
+
+-- each N_Port stays as the verdict says
+pub stayed : FrameSteps → (port : ℕ) (caught : Caught) (v : Verdict) (old new : Roll) → leaves_logins v ≡ true → ((a : ℕ) (p : LivePort) → port_at a old.tables.ports ≡ Some p → CanStay caught v p) →
+    ChangesPorts (stays_as (now_of old.tables) port caught v) old new → IsSoundRoll new → CarriesOut port caught v old new
+stayed steps port caught v old new leaves can change sound = record {
+  bounds = change.bounds;
+  sound = sound;
+  tables = λ c index of. let is = same_roll c old new change.bounds of in
+      steps c port index caught v old.tables new.tables leaves can change.clock (in_pool c new is.lowest is.count sound) change.ports change.past;
+}
+
+same_bounds : (r : Roll) → KeepsBounds r r
+same_bounds r = record { lowest = refl; count = refl; limit = refl; period = refl }
+
+unchanged : (f : LivePort → LivePort) → ((p : LivePort) → f p ≡ p) → (o : Option LivePort) → o ≡ option_map f o
+unchanged f same None = refl
+unchanged f same (Some p) = ap Some (sym (same p))
+
+-- nothing changes
+pub left : FrameSteps → (port : ℕ) (caught : Caught) (v : Verdict) (r : Roll) → leaves_logins v ≡ true → ((p : LivePort) → CanStay caught v p) → ((at : ℕ) (p : LivePort) → stays_as at port caught v p ≡ p) →
+    IsSoundRoll r → CarriesOut port caught v r r
+left steps port caught v r leaves can same sound =
+    stayed steps port caught v r r leaves (λ a p e. can p) (record {
+      bounds = same_bounds r;
+      clock = refl;
+      past = refl;
+      ports = λ a. unchanged (stays_as (now_of r.tables) port caught v) (same (now_of r.tables)) (port_at a r.tables.ports);
+    }) sound
+
+-- a live login ended
+pub ended : LogoutSteps → (port a : ℕ) (caught : Caught) (old new : Roll) → IsSome (port_at a old.tables.ports) → Ends a old new → IsSoundRoll new → CarriesOut port caught (Logout a) old new
+ended steps port a caught old new live ends sound = record {
+  bounds = ends.bounds;
+  sound = sound;
+  tables = λ c index of. let is = same_roll c old new ends.bounds of in
+      steps c port index a caught old.tables new.tables live ends.clock (in_pool c new is.lowest is.count sound) ends.ports ends.past;
+}
+
+-- a verdict that is this one, by what it does to each N_Port
+pub changed : FrameSteps → (port : ℕ) (caught : Caught) (v w : Verdict) (old new : Roll) → v ≡ w → leaves_logins w ≡ true → ((a : ℕ) (p : LivePort) → port_at a old.tables.ports ≡ Some p → CanStay caught w p) →
+    (f : LivePort → LivePort) → f ≡ stays_as (now_of old.tables) port caught w → ChangesPorts f old new → IsSoundRoll new → CarriesOut port caught v old new
+changed steps port caught v w old new same leaves can f is change sound =
+    subst (λ u. CarriesOut port caught u old new) (sym same) (stayed steps port caught w old new leaves can (subst (λ g. ChangesPorts g old new) is change) sound)
+
+none_some : (p : LivePort) → None ≡ Some p → ⊥
+none_some p e = cc
+
+some_same : (p q : LivePort) → Some p ≡ Some q → p ≡ q
+some_same p q e = cc
+
+-- what holds of each N_Port holds of one that is found
+pub found_one : (P : LivePort → Type 0) (a : ℕ) (ports : List LivePort) (p : LivePort) → All P ports → port_at a ports ≡ Some p → P p
+found_one P a [] p all found = absurd (none_some p found)
+found_one P a (q ∷ ports) p all found = go (q.address == a) (λ e. found_one P a ports p (All-tail P q ports all) e) found
+  where
+    go : (b : Bool) → (port_at a ports ≡ Some p → P p) → cond b (Some q) (port_at a ports) ≡ Some p → P p
+    go true later e = subst P (some_same q p e) (All-head P q ports all)
+    go false later e = later e

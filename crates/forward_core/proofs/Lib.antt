@@ -1,0 +1,11 @@
+mod CarryLemmas
+mod DueLemmas
+mod FrameLemmas
+mod GrantedLemmas
+mod KeepLemmas
+mod NewLemmas
+mod RangeLemmas
+mod ReadLemmas
+mod ServiceLemmas
+mod TakeLemmas
+mod TickLemmas

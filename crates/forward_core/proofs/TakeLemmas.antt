@@ -1,0 +1,47 @@
+-- A turn: an entry is kept with what it sends, and the tables are those after it.
+use Rattle.std.proofs.Common.{◌≡◌, ℕ, ◌+◌, ◌%◌, ◌<◌, List, [], ◌∷◌, ◌++◌, map, Option, refl, sym, ap, ◌∙◌, arith, subst}
+use Rattle.std.proofs.Math.Nat.{mod-lt}
+use Rattle.fab_config.specs.Settings.{Settings}
+use Rattle.fab_policy.specs.Outputs.{State, Sent, advertised_after, notices, outputs_by}
+use Rattle.fab_policy.specs.State.{Tables}
+use Rattle.fab_policy.specs.Standing.{Contents, Takes, state_after}
+use Rattle.fab_policy.specs.Steps.{after}
+use Rattle.fab_policy.specs.declared.event.Event.{Event}
+use Rattle.fab_replies.specs.Message.{sent_of}
+use Rattle.fab_sending.specs.Sends.{AreSent}
+use Rattle.fab_sending.specs.declared.sends.Sends.{Sends}
+use Rattle.forward_core.specs.Turns.{Keeps}
+
+-- the contents with other tables and another moment of the last advertisement
+abbrev pub with_state : Contents → Tables → Option ℕ → Contents
+with_state F T advertised = record {
+  settings = F.settings;
+  count = F.count;
+  state = record { tables = T; advertised = advertised; rscns = F.state.rscns };
+  events = F.events;
+  outs = F.outs;
+}
+
+abbrev state_made : Tables → Option ℕ → ℕ → State
+state_made T advertised rscns = record { tables = T; advertised = advertised; rscns = rscns }
+
+pub takes : (F K : Contents) (e : Event) (s : Sends) (T : Tables) (advertised : Option ℕ) → Keeps F e s K → AreSent F.settings F.count F.state e (F.events ++ e ∷ []) s →
+    T ≡ after F.settings F.state.tables e → advertised ≡ advertised_after F.settings F.state.advertised e → Takes F e (with_state K T advertised)
+takes F K e s T advertised k sent tables advert = record {
+  settings = k.settings;
+  count = k.count;
+  state =
+      ap (λ t. state_made t advertised K.state.rscns) tables ∙ (ap (λ a. state_made (after F.settings F.state.tables e) a K.state.rscns) advert
+      ∙ ap (λ n. state_made (after F.settings F.state.tables e) (advertised_after F.settings F.state.advertised e) n) (k.rscns ∙ sent.rscns));
+  events = k.events;
+  outs = k.outs ∙ ap (λ l. F.outs ++ l) sent.outs;
+}
+
+-- state changes are counted below 65535
+pub few_changes : (n r : ℕ) → r ≡ n % 65535 → r < 65535
+few_changes n r e = let some : 0 < 65535 = omega arith in let l : n % 65535 < 65535 = mod-lt n some in omega (arith, e, l)
+
+-- what is sent by values that are the same
+pub sent_for : (c d : Settings) (n k : ℕ) (S T : State) (e : Event) (events : List Event) (s : Sends) → c ≡ d → n ≡ k → S ≡ T → AreSent c n S e events s → AreSent d k T e events s
+sent_for c d n k S T e events s to_d to_k to_T sent =
+    subst (λ x. AreSent d k x e events s) to_T (subst (λ x. AreSent d x S e events s) to_k (subst (λ x. AreSent x n S e events s) to_d sent))

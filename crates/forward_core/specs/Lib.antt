@@ -1,0 +1,5 @@
+pub mod Carrying
+pub mod Due
+pub mod Fabric
+pub mod Ranges
+pub mod Turns

@@ -1,0 +1,16 @@
+-- How the parts of a turn change a fabric. No public clause cites this module.
+use Rattle.std.specs.Prelude.{◌≡◌, ℕ, List, [], ◌∷◌, ◌++◌, map}
+use Rattle.fab_policy.specs.Standing.{Contents}
+use Rattle.fab_policy.specs.declared.event.Event.{Event}
+use Rattle.fab_replies.specs.Message.{sent_of}
+use Rattle.fab_sending.specs.declared.sends.Sends.{Sends}
+
+-- An entry and what it sends are put behind those since the last drain, and state changes are counted on.
+pub record Keeps (F : Contents) (e : Event) (s : Sends) (G : Contents) : Type 0 where
+  pub settings : G.settings ≡ F.settings
+  pub count : G.count ≡ F.count
+  pub tables : G.state.tables ≡ F.state.tables
+  pub advertised : G.state.advertised ≡ F.state.advertised
+  pub rscns : G.state.rscns ≡ s.rscns
+  pub events : G.events ≡ F.events ++ e ∷ []
+  pub outs : G.outs ≡ F.outs ++ map (sent_of F.settings (F.events ++ e ∷ [])) s.outs

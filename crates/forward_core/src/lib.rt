@@ -1,0 +1,19 @@
+//! The fabric of one thread: it logs in, forwards, watches silence, names and notifies.
+#![tactic(auto)]
+
+mod carrying;
+mod drained;
+mod due;
+mod fabric;
+mod granting;
+mod keeping;
+mod payload;
+mod reading;
+mod step;
+mod tick;
+mod turns;
+
+pub use drained::Drained;
+pub use fab_replies::{EventList, Out, OutList, OutMessage, write_out};
+pub use fabric::Fabric;
+pub use step::StepFault;

@@ -1,0 +1,96 @@
+//! Frames: one step each.
+ghost use Rattle.std.specs.Prelude.{◌≡◌, ℕ, ◌≤◌, ◌∷◌, IfOk, OnOk, OnErr, IsErrOf, IsSome, Some};
+ghost use Rattle.fab_policy.specs.Journal.{Journal};
+ghost use Rattle.fab_policy.specs.Legal.{Legal};
+ghost use Rattle.fab_policy.specs.Ranged.{IsRangedVerdict};
+ghost use Rattle.fab_policy.specs.Standing.{Stands, Takes};
+ghost use Rattle.fab_policy.specs.Verdicts.{IsRight};
+ghost use Rattle.fab_policy.specs.declared.event.Event.TheVariants.{Frame};
+ghost use Rattle.fab_policy.specs.declared.verdict.Verdict.TheVariants.{Granted};
+ghost use Rattle.forward_core.specs.Fabric.{IsTaken};
+
+use crate::Fabric;
+use fab_base::{FcId, NoMemory, PortNo};
+use fab_judge::{Judged, judge};
+use fab_policy::{Heard, Verdict, fabric_steps, known_verdict};
+use std::alloc::Global;
+
+/// Why a step changed nothing.
+#[derive(Clone, Copy, Debug, PartialEq, Eq)]
+pub enum StepFault {
+    /// The wished address isn't free for this login.
+    WishTaken,
+    /// Memory was refused.
+    Memory,
+}
+
+impl From<NoMemory> for StepFault {
+    ghost use Rattle.std.specs.Prelude.{◌≡◌};
+    ghost use Rattle.forward_core.specs.declared.step.StepFault.TheVariants.{Memory};
+
+    ghost from_gives = { λ _ e. e ≡ Memory };
+
+    fn from(_refused: NoMemory) -> StepFault {
+        StepFault::Memory
+    }
+}
+
+impl Fabric {
+    /// Handles a frame of a port, the one of that index, and answers its verdict. A wish names the
+    /// address that a login is to get; without one it gets any free address. After an error nothing
+    /// has changed.
+    pub fn step(
+        &mut self,
+        alloc: Global,
+        port: PortNo,
+        index: u64,
+        heard: &Heard<'_>,
+        wish: Option<FcId>,
+    ) -> Result<Verdict, StepFault>
+        requires clock { IsSome self.old.state.tables.clock }
+        requires port { port ≤ self.old.count }
+        ensures right { IfOk result (λ v. IsRight self.old.settings self.old.state.tables port
+            heard.now.caught.now v) }
+        ensures takes { IfOk result (λ v.
+            Takes self.old (Frame port index heard.now.caught.now v) self.new) }
+        ensures journal { IfOk result (λ v. (J : Journal) → Legal self.old.settings J
+            → Stands self.old J → let K = Frame port index heard.now.caught.now v ∷ J in
+            Legal self.old.settings K × Stands self.new K) }
+        ensures ranged { IfOk result IsRangedVerdict }
+        ensures wished { IfOk result (λ v. (a b : ℕ) → wish ≡ Some a → v ≡ Granted b → b ≡ a) }
+        ensures taken { IsErrOf result StepFault.WishTaken → IsTaken self.old.settings
+            self.old.state.tables port heard.now.caught.now wish }
+        ensures granted { OnOk result (IsTaken self.old.settings self.old.state.tables port
+            heard.now.caught.now wish → ⊥) }
+        ensures err { OnErr result (self.new ≡ self.old) }
+    {
+        fabric_steps();
+        let judged = judge(alloc, &self.config, &self.zones, &self.roster, port, heard)?;
+        match judged {
+            Judged::Must(verdict) => {
+                self.settle(alloc, port, index, heard, &verdict)?;
+                known_verdict(&verdict);
+                Ok(verdict)
+            }
+            Judged::MayGrant { request, node } => {
+                let Some(address) = self.address_for(&request, wish) else {
+                    return Err(StepFault::WishTaken);
+                };
+                self.log_in(alloc, port, index, heard, &request, node, address)?;
+                Ok(Verdict::Granted(address))
+            }
+            Judged::ServerLogin { size } => {
+                self.log_in_to_server(alloc, port, index, heard, size)?;
+                Ok(Verdict::NsLogin)
+            }
+            Judged::Registers => {
+                self.register(alloc, port, index, heard)?;
+                Ok(Verdict::Registered)
+            }
+            Judged::Answers(tell) => {
+                self.answer(alloc, port, index, heard, &tell)?;
+                Ok(Verdict::Answered)
+            }
+        }
+    }
+}
