@@ -1,10 +1,10 @@
 -- When a tick is owed: from some moment on.
-use Rattle.std.proofs.Common.{◌≡◌, ℕ, zero, suc, ◌+◌, ◌-◌, ◌*◌, ◌/◌, ◌%◌, ◌<◌, ◌≤◌, ◌==◌, ◌||◌, ◌&&◌, not, Bool, true, false, cond, List, [], ◌∷◌, length, filter, Option, Some, None, refl, sym, ap, ◌∙◌, subst, arith, nat_lt, nat_le, MatchOption, map, unwrap_or}
+use Rattle.std.proofs.Common.{◌≡◌, ℕ, suc, ◌+◌, ◌-◌, ◌*◌, ◌/◌, ◌%◌, ◌<◌, ◌≤◌, ◌==◌, ◌||◌, ◌&&◌, not, Bool, true, false, cond, List, [], ◌∷◌, length, filter, Option, Some, None, refl, sym, ap, ◌∙◌, arith, nat_lt, nat_le, MatchOption, map, unwrap_or}
 use Rattle.std.specs.List.{list_any, All, Contains}
 use Rattle.std.proofs.lemmas.List.Folds.{list_any_at}
 use Rattle.std.proofs.lemmas.List.Elements.{All-head, All-tail}
 use Rattle.std.proofs.lemmas.Bool.Decides.{nat_tests}
-use Rattle.std.proofs.Math.Nat.{div-add-mod, mul-mod_right, mod-lt, mul-le-mul_left}
+use Rattle.std.proofs.Math.Nat.{div-add-mod, mul-mod_right, mul-le-mul_left}
 use Rattle.fab_base.specs.Fabric.{is_silent, PORT_PERIOD}
 use Rattle.fab_config.specs.Settings.{Settings}
 use Rattle.fab_config.specs.declared.Activation.{Activation}

@@ -1,13 +1,12 @@
 -- What is sent already stays so when an entry is added.
-use Rattle.std.proofs.Common.{◌≡◌, ℕ, List, [], ◌∷◌, ◌++◌, map, true, refl, sym, ap, ◌∙◌}
+use Rattle.std.proofs.Common.{◌≡◌, ℕ, List, [], ◌∷◌, ◌++◌, map, true, refl, ap, ◌∙◌}
 use Rattle.std.proofs.lemmas.List.{map-append}
 use Rattle.std.proofs.lemmas.List.Elements.{All-head, All-tail}
 use Rattle.fab_config.specs.Settings.{Settings}
 use Rattle.fab_policy.specs.Outputs.{Sent}
-use Rattle.fab_policy.specs.Standing.{Contents}
 use Rattle.fab_policy.specs.declared.event.Event.{Event}
 use Rattle.fab_replies.specs.Laws.{MessagesAreKept}
-use Rattle.fab_replies.specs.Message.{AreSendable, bytes_of, can_send, sent_of}
+use Rattle.fab_replies.specs.Message.{AreSendable, can_send, sent_of}
 use Rattle.fab_replies.specs.declared.message.Out.{Out}
 use Rattle.fab_sending.specs.declared.sends.Sends.{Sends}
 use Rattle.forward_core.specs.Fabric.{contents_of, IsFabric}

@@ -1,5 +1,5 @@
 -- A fabric before the first tick.
-use Rattle.std.proofs.Common.{◌≡◌, ℕ, zero, suc, ◌+◌, ◌*◌, List, [], ◌∷◌, map, Option, Some, None, refl, ap, sym, ◌∙◌, subst}
+use Rattle.std.proofs.Common.{◌≡◌, ℕ, zero, suc, ◌+◌, ◌*◌, List, [], ◌∷◌, map, None, refl, ap, sym, ◌∙◌, subst}
 use Rattle.std.specs.Prelude.{filter_map}
 use Rattle.fab_base.specs.Fabric.{Past}
 use Rattle.fab_config.specs.Settings.{Settings}

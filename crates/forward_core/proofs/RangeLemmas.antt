@@ -1,8 +1,8 @@
 -- What the range of a configuration says of its values.
-use Rattle.std.proofs.Common.{◌≡◌, ℕ, ◌≤◌, ◌^◌, ◌==◌, Bool, true, false, IsTrue, length, refl, subst, sym}
-use Rattle.std.specs.Prelude.{nat_le, nat_lt, ◌&&◌}
+use Rattle.std.proofs.Common.{◌≡◌, ℕ, ◌≤◌, Bool, true, false, IsTrue, refl}
+use Rattle.std.specs.Prelude.{nat_le, ◌&&◌}
 use Rattle.std.proofs.lemmas.Bool.{leb-true}
-use Rattle.fab_config.specs.Settings.{Settings, is_between, is_in_range, is_station, are_zones, are_sets, are_activations, do_rise}
+use Rattle.fab_config.specs.Settings.{Settings, is_between, is_in_range}
 use Rattle.forward_core.specs.Ranges.{Ranges}
 
 false_true : false ≡ true → ⊥

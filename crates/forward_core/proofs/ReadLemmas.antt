@@ -1,10 +1,9 @@
 -- What can be read of a frame with a verdict: that of a service carries an FC frame.
-use Rattle.std.proofs.Common.{◌≡◌, ℕ, List, Bool, Option, Some, None, Result, Ok, Err, sym, subst}
+use Rattle.std.proofs.Common.{◌≡◌, ℕ, Option, Some, None, Ok, Err, sym, subst}
 use Rattle.fab_base.specs.declared.values.Caught.{Caught}
 use Rattle.fab_config.specs.Settings.{Settings}
 use Rattle.eth_frames.specs.Ethernet as eth
 use Rattle.fip_codec.specs.Message as fip
-use Rattle.fip_codec.specs.declared.message.VxPort.{VxPort}
 use Rattle.fab_policy.specs.Cause.{Cause}
 use Rattle.fab_policy.specs.Heard.{What, Bad, Fip, Fcoe, decoded}
 use Rattle.fab_policy.specs.Rules.{rule_for}

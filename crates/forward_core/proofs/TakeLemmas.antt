@@ -1,13 +1,12 @@
 -- A turn: an entry is kept with what it sends, and the tables are those after it.
-use Rattle.std.proofs.Common.{◌≡◌, ℕ, ◌+◌, ◌%◌, ◌<◌, List, [], ◌∷◌, ◌++◌, map, Option, refl, sym, ap, ◌∙◌, arith, subst}
+use Rattle.std.proofs.Common.{◌≡◌, ℕ, ◌%◌, ◌<◌, List, [], ◌∷◌, ◌++◌, Option, ap, ◌∙◌, arith, subst}
 use Rattle.std.proofs.Math.Nat.{mod-lt}
 use Rattle.fab_config.specs.Settings.{Settings}
-use Rattle.fab_policy.specs.Outputs.{State, Sent, advertised_after, notices, outputs_by}
+use Rattle.fab_policy.specs.Outputs.{State, advertised_after}
 use Rattle.fab_policy.specs.State.{Tables}
-use Rattle.fab_policy.specs.Standing.{Contents, Takes, state_after}
+use Rattle.fab_policy.specs.Standing.{Contents, Takes}
 use Rattle.fab_policy.specs.Steps.{after}
 use Rattle.fab_policy.specs.declared.event.Event.{Event}
-use Rattle.fab_replies.specs.Message.{sent_of}
 use Rattle.fab_sending.specs.Sends.{AreSent}
 use Rattle.fab_sending.specs.declared.sends.Sends.{Sends}
 use Rattle.forward_core.specs.Turns.{Keeps}

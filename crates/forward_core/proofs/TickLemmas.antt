@@ -1,12 +1,12 @@
 -- The tables after a tick.
-use Rattle.std.proofs.Common.{◌≡◌, ℕ, ◌+◌, ◌*◌, ◌<◌, ◌≤◌, ◌==◌, not, Bool, true, false, cond, List, [], ◌∷◌, map, filter, Option, Some, None, refl, sym, ap, ◌∙◌, subst, arith, if◌then◌else◌, length, ◌++◌, option_and_then, nat_lt, unwrap_or, IsSome, slice_index_or, suc}
+use Rattle.std.proofs.Common.{◌≡◌, ℕ, ◌+◌, ◌*◌, ◌<◌, ◌≤◌, ◌==◌, not, Bool, true, false, cond, List, [], ◌∷◌, map, filter, Option, Some, None, refl, sym, ap, ◌∙◌, subst, arith, if◌then◌else◌, length, ◌++◌, option_and_then, unwrap_or, IsSome, slice_index_or, suc}
 use Rattle.std.specs.Option.{option_map_or}
 use Rattle.std.specs.List.{All}
 use Rattle.std.proofs.lemmas.List.Folds.{list_any_at}
 use Rattle.std.proofs.lemmas.Bool.Decides.{nat_tests}
 use Rattle.fab_base.specs.Fabric.{Past}
-use Rattle.fab_base.specs.Keyed.{AscendFrom, item_at, keys}
-use Rattle.fab_base.proofs.KeyedLemmas.{AscendFrom-filter, AscendFrom-weaker, equal_by_items, item_at-below, list_any-keys-filter}
+use Rattle.fab_base.specs.Keyed.{AscendFrom, item_at}
+use Rattle.fab_base.proofs.KeyedLemmas.{AscendFrom-filter, equal_by_items, item_at-below, list_any-keys-filter}
 use Rattle.fab_config.specs.Settings.{Settings}
 use Rattle.zone_rules.specs.Joined.{contains}
 use Rattle.fab_policy.specs.Changes.{all_ended, TickSteps}
@@ -15,9 +15,8 @@ use Rattle.fab_policy.specs.Steps.{after, AreAscending, InPool}
 use Rattle.fab_policy.specs.declared.event.Event.TheVariants.{Tick}
 use Rattle.fab_roster.specs.Changes.{EndsAll, IsSoundRoll, Moves}
 use Rattle.fab_roster.specs.Roll.{Roll}
-use Rattle.fab_policy.specs.Outputs.{State, advertised_after}
+use Rattle.fab_policy.specs.Outputs.{advertised_after}
 use Rattle.fab_policy.specs.Standing.{Contents, Takes}
-use Rattle.fab_policy.specs.declared.event.Event.{Event}
 use Rattle.fab_sending.specs.Sends.{AreSent}
 use Rattle.fab_sending.specs.declared.sends.Sends.{Sends}
 use Rattle.forward_core.specs.Fabric.{contents_of, IsFabric}

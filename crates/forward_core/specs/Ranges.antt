@@ -1,5 +1,5 @@
 -- The ranges of a configuration's values that the fabric counts on.
-use Rattle.std.specs.Prelude.{ℕ, ◌≤◌, IsTrue}
+use Rattle.std.specs.Prelude.{◌≤◌, IsTrue}
 use Rattle.fab_config.specs.Settings.{Settings, do_rise}
 
 pub record Ranges (c : Settings) : Type 0 where

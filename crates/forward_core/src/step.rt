@@ -1,5 +1,5 @@
 //! Frames: one step each.
-ghost use Rattle.std.specs.Prelude.{◌≡◌, ℕ, ◌≤◌, ◌∷◌, IfOk, OnOk, OnErr, IsErrOf, IsSome, Some};
+ghost use Rattle.std.specs.Prelude.{◌≡◌, ℕ, ◌∷◌, IfOk, OnOk, OnErr, IsErrOf, IsSome, Some};
 ghost use Rattle.fab_policy.specs.Journal.{Journal};
 ghost use Rattle.fab_policy.specs.Legal.{Legal};
 ghost use Rattle.fab_policy.specs.Ranged.{IsRangedVerdict};
@@ -48,7 +48,6 @@ impl Fabric {
         wish: Option<FcId>,
     ) -> Result<Verdict, StepFault>
         requires clock { IsSome self.old.state.tables.clock }
-        requires port { port ≤ self.old.count }
         ensures right { IfOk result (λ v. IsRight self.old.settings self.old.state.tables port
             heard.now.caught.now v) }
         ensures takes { IfOk result (λ v.

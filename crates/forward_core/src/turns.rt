@@ -1,7 +1,7 @@
 //! The turns of frames, one for each kind of judgement: what the frame sends is made first, then
 //! the entry is kept, and then the tables change, which takes no memory.
-ghost use Rattle.std.specs.Prelude.{◌≡◌, ◌≤◌, IfOk, OnOk, OnErr, IsSome, IsTrue};
-ghost use Rattle.fab_judge.specs.Judged.{Grounds, VerdictRests, GrantRests, ServerRests, RegistrationRests, AnswerRests};
+ghost use Rattle.std.specs.Prelude.{◌≡◌, OnOk, OnErr, IsSome, IsTrue};
+ghost use Rattle.fab_judge.specs.Judged.{VerdictRests, GrantRests, ServerRests, RegistrationRests, AnswerRests};
 ghost use Rattle.fab_policy.specs.Free.{is_free};
 ghost use Rattle.fab_policy.specs.Heard.{carried, is_flogi, sender};
 ghost use Rattle.fab_policy.specs.Standing.{Takes};

@@ -1,4 +1,4 @@
-use Rattle.std.proofs.Common.{◌≡◌, None, refl, ap, ◌∙◌, subst}
+use Rattle.std.proofs.Common.{None, refl, ap, ◌∙◌, subst}
 use Rattle.fab_policy.specs.Changes.{heard_node, with_server, with_watch}
 use Rattle.fab_policy.specs.Heard.{decoded}
 use Rattle.fab_policy.specs.State.{now_of}

@@ -1,6 +1,5 @@
-use Rattle.std.proofs.Common.{◌≡◌, ◌≤◌, ℕ, List, length, ap, ◌∙◌, sym, subst, IsSome}
+use Rattle.std.proofs.Common.{◌≡◌, ◌≤◌, ℕ, List, length, sym, subst, IsSome}
 use Rattle.std.specs.List.{All}
-use Rattle.fab_config.specs.Settings.{Settings}
 use Rattle.fab_policy.specs.Ranged.{AscendFrom}
 use Rattle.fab_policy.specs.Standing.{Contents}
 use Rattle.fab_policy.specs.State.{addresses, is_overdue, overdue, port_at}

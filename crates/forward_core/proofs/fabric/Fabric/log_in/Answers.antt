@@ -1,13 +1,11 @@
-use Rattle.std.proofs.Common.{◌≡◌, ℕ, ◌∙◌, List, Some, IsSome, IsTrue, length, ap, sym, subst}
+use Rattle.std.proofs.Common.{IsSome, length, ap, sym, subst}
 use Rattle.fab_policy.specs.Standing.{Contents}
 use Rattle.fab_policy.specs.Heard.{asked, is_flogi, sender}
 use Rattle.fab_policy.specs.Outputs.{State}
 use Rattle.fab_policy.specs.State.{Tables, port_at}
-use Rattle.fab_policy.specs.declared.event.Event.{Event}
 use Rattle.fab_policy.specs.declared.event.Event.TheVariants.{Frame}
 use Rattle.fab_policy.specs.declared.verdict.Verdict.TheVariants.{Granted}
-use Rattle.fab_sending.specs.Sends.{CanFollow, request_from, state_before}
-use Rattle.forward_core.specs.Carrying.{Asks, CarriesOut}
+use Rattle.fab_sending.specs.Sends.{state_before}
 use Rattle.forward_core.specs.Turns.{Keeps}
 use Rattle.forward_core.proofs.FrameLemmas.{carried_fabric, carried_takes, tables_after}
 use Rattle.forward_core.proofs.ServiceLemmas.{granted_follows, request_is}

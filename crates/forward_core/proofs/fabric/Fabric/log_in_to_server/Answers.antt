@@ -1,6 +1,5 @@
-use Rattle.std.proofs.Common.{◌≡◌, ℕ, ◌∙◌, List, Some, length, ap, sym, subst}
+use Rattle.std.proofs.Common.{◌≡◌, ℕ, ◌∙◌, Some, length, ap, sym, subst}
 use Rattle.fab_policy.specs.Standing.{Contents}
-use Rattle.fab_policy.specs.declared.event.Event.{Event}
 use Rattle.fab_policy.specs.declared.event.Event.TheVariants.{Frame}
 use Rattle.fab_policy.specs.declared.verdict.Verdict.TheVariants.{NsLogin}
 use Rattle.fab_replies.specs.Message.{frame_at}

@@ -1,4 +1,4 @@
-use Rattle.std.proofs.Common.{None, [], map, ap}
+use Rattle.std.proofs.Common.{None, map, ap}
 use Rattle.fab_replies.specs.Message.{sent_of}
 use Rattle.fab_roster.specs.Roll.{Roll}
 use Rattle.forward_core.proofs.NewLemmas.{empty_stands, empty_state}

@@ -1,4 +1,4 @@
-use Rattle.std.proofs.Common.{◌≡◌, ℕ, ◌==◌, not, length, List, sym, subst}
+use Rattle.std.proofs.Common.{◌≡◌, ◌==◌, not, length, subst}
 use Rattle.fab_policy.specs.State.{overdue}
 use Rattle.fab_policy.specs.Standing.{Contents}
 use Rattle.forward_core.specs.Due.{reaches}

@@ -1,8 +1,8 @@
-use Rattle.std.proofs.Common.{◌≡◌, ℕ, ◌∙◌, List, Some, length, ap, sym, subst}
+use Rattle.std.proofs.Common.{◌≡◌, ◌∙◌, Some, length, ap, sym, subst}
 use Rattle.fab_policy.specs.Heard.{s_id}
 use Rattle.fab_policy.specs.Outputs.{State}
 use Rattle.fab_policy.specs.Standing.{Contents}
-use Rattle.fab_policy.specs.State.{LivePort, Tables, port_at}
+use Rattle.fab_policy.specs.State.{Tables, port_at}
 use Rattle.fab_policy.specs.declared.event.Event.TheVariants.{Frame}
 use Rattle.fab_policy.specs.declared.verdict.Verdict.TheVariants.{Registered}
 use Rattle.fab_sending.specs.Sends.{state_before}

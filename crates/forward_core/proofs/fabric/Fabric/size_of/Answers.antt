@@ -1,8 +1,8 @@
-use Rattle.std.proofs.Common.{◌≡◌, ℕ, ◌∙◌, Option, Some, None, IsSome, IfSome, ap, sym, subst}
+use Rattle.std.proofs.Common.{◌≡◌, ℕ, ◌∙◌, Option, Some, None, IsSome, IfSome, ap, subst}
 use Rattle.fab_policy.specs.Replies.{Asker}
 use Rattle.fab_policy.specs.Heard.{s_id}
 use Rattle.fab_policy.specs.Standing.{Contents}
-use Rattle.fab_policy.specs.State.{LivePort, port_at}
+use Rattle.fab_policy.specs.State.{port_at}
 use Rattle.fab_roster.specs.Changes.{IsSize}
 use Rattle.forward_core.proofs.ServiceLemmas.{found_holds, of_login}
 use Rattle.forward_core.proofs.fabric.Fabric.size_of.Goals as goal

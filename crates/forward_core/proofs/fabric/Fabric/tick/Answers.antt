@@ -1,9 +1,8 @@
-use Rattle.std.proofs.Common.{◌≡◌, ℕ, ◌+◌, ◌%◌, List, [], ◌∷◌, ◌++◌, length, refl, sym, subst}
+use Rattle.std.proofs.Common.{◌+◌, [], ◌∷◌, ◌++◌, length, refl, sym, subst}
 use Rattle.fab_policy.specs.Outputs.{notices}
 use Rattle.fab_policy.specs.Standing.{Contents, Takes}
 use Rattle.fab_policy.specs.State.{addresses, overdue}
 use Rattle.fab_policy.specs.Steps.{after}
-use Rattle.fab_policy.specs.declared.event.Event.{Event}
 use Rattle.fab_policy.specs.declared.event.Event.TheVariants.{Tick}
 use Rattle.fab_sending.specs.Sends.{AreSent, state_before}
 use Rattle.forward_core.specs.Fabric.{contents_of}
