@@ -1,0 +1,9 @@
+pub mod WindowLemmas
+pub mod SlotLemmas
+pub mod OrderLemmas
+pub mod PortLemmas
+pub mod PortsLemmas
+pub mod LookLemmas
+pub mod FirstLemmas
+pub mod NextLemmas
+pub mod ReadLemmas

@@ -1,0 +1,366 @@
+-- The records of a window, taken of one port after another.
+use Rattle.std.proofs.Common.{◌≡◌, ◌≢◌, ℕ, zero, suc, ◌+◌, ◌-◌, ◌<◌, ◌≤◌, inl, inr, false, List, [], ◌∷◌, ◌++◌, length, slice_get, set, get_or, Option, Some, None, IfSome, Ok, Err, IsTrue, refl, sym, ap, ◌∙◌, subst, arith, append_assoc}
+use Rattle.std.specs.Prelude.{nat_lt, Result}
+use Rattle.std.proofs.lemmas.List.{length-set}
+use Rattle.std.proofs.lemmas.Option.{slice_get_within, slice_get-get_or}
+use Rattle.fab_base.specs.Seen.{Seen, Touches, Nothing}
+use Rattle.fab_base.proofs.SeenLemmas.{touches_refl}
+use Rattle.fab_config.specs.Settings.{Settings}
+use Rattle.fab_policy.specs.Legal.{window_start}
+use Rattle.fab_policy.specs.Looks.{Look, looks, in_order, stop_in}
+use Rattle.fab_policy.specs.declared.looks.TheConstants.{MOST_SPAN}
+use Rattle.pcap_file.specs.Reading.{Reading, to_come}
+use Rattle.pcap_file.specs.Records.{Chain}
+use Rattle.pcap_file.specs.declared.Budget.{Budget}
+use Rattle.pcap_file.specs.declared.Record.{Record}
+use Rattle.pcap_file.proofs.lemmas.Numbers.{le_or_lt}
+use Rattle.fab_gather.specs.declared.shelf.Input.{Input}
+use Rattle.fab_gather.specs.declared.shelf.Shelf.{Shelf}
+use Rattle.fab_gather.specs.declared.fault.RunFault.{RunFault}
+use Rattle.fab_gather.specs.Port.{IsReady, Spends, AreOf, Taking, TakesWindow, to_look}
+use Rattle.fab_gather.specs.Ports.{AreInputs, AreReady, At, Took, TakesAll, slots_of, NameIn, rests, joined, stop_from, counts_of}
+use Rattle.fab_gather.proofs.OrderLemmas.{TakesAt, taken_at, Sorted, AllNotBefore, Leads, EachBefore, each-append, each-nil, leads_more, sorted_leads, sorted_looks, later_looks, later_not_before, made_before}
+use Rattle.fab_gather.proofs.PortLemmas.{are_of-push}
+use Rattle.fab_gather.proofs.SlotLemmas.{some_is, get_set_same, get_set_other, slots_set, same_length, open_now, touches_on, others_left, rose_on}
+use Rattle.fab_gather.proofs.WindowLemmas.{window_start-mono}
+
+-- ---- what stands before a port
+
+-- a port whose turn was, and one whose turn comes
+pub record Done (c : Settings) (w : ℕ) (a b : Seen) (i i' : Input) (s s' : Shelf) (left : Budget) : Type 0 where
+  pub took : Took c w a b i i' s s'
+  pub ready : IsReady i'.reader s'.next s'.count left
+  pub beyond : IfSome s'.next (λ x. w + 1 ≤ window_start c x.moment)
+
+pub record Waits (c : Settings) (w : ℕ) (a b : Seen) (i i' : Input) (s s' : Shelf) (left : Budget) : Type 0 where
+  pub input : i' ≡ i
+  pub shelf : s' ≡ s
+  pub rest : b.left i.slot ≡ a.left i.slot
+  pub ready : IsReady i.reader s.next s.count left
+  pub from : IfSome s.next (λ x. w ≤ window_start c x.moment)
+
+pub record Round (c : Settings) (w k : ℕ) (a b : Seen) (ins ins' : List Input) (shelves shelves' : List Shelf) (had left : Budget) : Type 0 where
+  pub touches : Touches Nothing (NameIn a (slots_of ins)) a b
+  pub slots : slots_of ins' ≡ slots_of ins
+  pub count : length shelves' ≡ length shelves
+  pub done : (q : ℕ) (i i' : Input) (s s' : Shelf) → q < k → At q ins shelves i s → At q ins' shelves' i' s' → Done c w a b i i' s s' left
+  pub waits : (q : ℕ) (i i' : Input) (s s' : Shelf) → k ≤ q → At q ins shelves i s → At q ins' shelves' i' s' → Waits c w a b i i' s s' left
+  pub spent : Spends had left (counts_of shelves) (counts_of shelves')
+  pub looks : IsTrue a.told → (first : ℕ) → nat_lt MOST_SPAN (w - first) ≡ false → stop_from c first a ins shelves had ≡ stop_from c first b ins' shelves' left
+
+-- ---- counts
+
+-- the sum of counts where one changes
+counts_set : (shelves : List Shelf) (k : ℕ) (s s' : Shelf) → slice_get shelves k ≡ Some s → counts_of (set shelves k s') + s.count ≡ counts_of shelves + s'.count
+counts_set [] k s s' at = absurd (cc)
+counts_set (x ∷ shelves) zero s s' at = let same : x ≡ s = cc in let e = ap (λ (y : Shelf). y.count) same in omega arith
+counts_set (x ∷ shelves) (suc k) s s' at = let e = counts_set shelves k s s' at in omega arith
+
+-- ---- the looks of all ports, of which one took some
+
+abbrev look_of : Settings → ℕ → Seen → Input → Shelf → List Look
+look_of c n d i s = to_look c n d i.slot i.reader s.count s.next
+
+pub same_looks : (c : Settings) (n : ℕ) (b d : Seen) (i : Input) (next : Option Record) (count : ℕ) → d.left i.slot ≡ b.left i.slot → to_look c n b i.slot i.reader count next ≡ to_look c n d i.slot i.reader count next
+same_looks c n b d i None count e = refl
+same_looks c n b d i (Some x) count e =
+    ap (λ (l : List ℕ). looks c n (record { head = i.reader.head; index = count; at = i.reader.at; window = Some (window_start c x.moment); greatest = i.reader.greatest; bytes = i.reader.held ++ l })) (sym e)
+
+same_rests : (c : Settings) (p : ℕ) (b d : Seen) (ins : List Input) (shelves : List Shelf) → ((q : ℕ) (i : Input) (s : Shelf) → At q ins shelves i s → d.left i.slot ≡ b.left i.slot) → rests c p b ins shelves ≡ rests c p d ins shelves
+same_rests c p b d [] shelves h = refl
+same_rests c p b d (i ∷ ins) [] h = refl
+same_rests c p b d (i ∷ ins) (s ∷ shelves) h =
+    ap (λ l. l ∷ rests c (p + 1) b ins shelves) (same_looks c p b d i s.next s.count (h 0 i s (record { input = refl; shelf = refl })))
+    ∙ ap (λ ls. look_of c p d i s ∷ ls) (same_rests c (p + 1) b d ins shelves (λ q j t at. h (suc q) j t (record { input = at.input; shelf = at.shelf })))
+
+each_rests : (c : Settings) (p : ℕ) (d : Seen) (made : List Look) (ins : List Input) (shelves : List Shelf) → ((q n : ℕ) (i : Input) (s : Shelf) → n ≡ p + q → At q ins shelves i s → EachBefore made (look_of c n d i s)) → EachBefore made (joined (rests c p d ins shelves))
+each_rests c p d made [] shelves h = each-nil made
+each_rests c p d made (i ∷ ins) [] h = each-nil made
+each_rests c p d made (i ∷ ins) (s ∷ shelves) h =
+    each-append made (look_of c p d i s) (joined (rests c (p + 1) d ins shelves)) (h 0 p i s (omega arith) (record { input = refl; shelf = refl }))
+    (each_rests c (p + 1) d made ins shelves (λ q n j t e at. h (suc q) n j t (omega arith) (record { input = at.input; shelf = at.shelf })))
+
+-- one port's looks are some that were made, and others; all looks of ports before it come later, and those of ports behind it too
+pub record OneTakes (c : Settings) (k p : ℕ) (b d : Seen) (made behind_ : List Look) (ins : List Input) (shelves : List Shelf) : Type 0 where
+  pub own : (n : ℕ) (i : Input) (s : Shelf) → n ≡ p + k → At k ins shelves i s → look_of c n b i s ≡ made ++ behind_
+  pub leads : Leads made behind_
+  pub same : (q : ℕ) (i : Input) (s : Shelf) → q ≢ k → At q ins shelves i s → d.left i.slot ≡ b.left i.slot
+  pub before : (q n : ℕ) (i : Input) (s : Shelf) → n ≡ p + q → q < k → At q ins shelves i s → AllNotBefore (look_of c n d i s) made
+  pub behind : (q n : ℕ) (i : Input) (s : Shelf) → n ≡ p + q → k < q → At q ins shelves i s → EachBefore made (look_of c n d i s)
+
+pub takes_at : (c : Settings) (k p : ℕ) (b d : Seen) (made behind_ : List Look) (ins : List Input) (shelves : List Shelf) → k < length ins → length shelves ≡ length ins → OneTakes c k p b d made behind_ ins shelves →
+    TakesAt k made (rests c p b ins shelves) (set (rests c p d ins shelves) k behind_)
+takes_at c k p b d made behind_ [] shelves lt count t = absurd (omega arith)
+takes_at c k p b d made behind_ (i ∷ ins) [] lt count t = absurd (omega arith)
+takes_at c zero p b d made behind_ (i ∷ ins) (s ∷ shelves) lt count t = (
+  t.own p i s (omega arith) (record { input = refl; shelf = refl }),
+  same_rests c (p + 1) b d ins shelves (λ q j u at. t.same (suc q) j u (λ e. omega arith) (record { input = at.input; shelf = at.shelf })),
+  leads_more made behind_ (joined (rests c (p + 1) d ins shelves)) t.leads
+      (each_rests c (p + 1) d made ins shelves (λ q n j u e at. t.behind (suc q) n j u (omega arith) (omega arith) (record { input = at.input; shelf = at.shelf }))),
+)
+takes_at c (suc k) p b d made behind_ (i ∷ ins) (s ∷ shelves) lt count t = (
+  same_looks c p b d i s.next s.count (t.same 0 i s (λ e. omega arith) (record { input = refl; shelf = refl })),
+  t.before 0 p i s (omega arith) (omega arith) (record { input = refl; shelf = refl }),
+  takes_at c k (p + 1) b d made behind_ ins shelves (omega arith) (omega arith) (record {
+    own = λ n j u e at. t.own n j u (omega arith) (record { input = at.input; shelf = at.shelf });
+    leads = t.leads;
+    same = λ q j u ne at. t.same (suc q) j u (λ e. ne (omega arith)) (record { input = at.input; shelf = at.shelf });
+    before = λ q n j u e less at. t.before (suc q) n j u (omega arith) (omega arith) (record { input = at.input; shelf = at.shelf });
+    behind = λ q n j u e more at. t.behind (suc q) n j u (omega arith) (omega arith) (record { input = at.input; shelf = at.shelf });
+  }),
+)
+
+rests_set : (c : Settings) (k p : ℕ) (d : Seen) (ins : List Input) (shelves : List Shelf) (i : Input) (s : Shelf) (l : List Look) → k < length ins → length shelves ≡ length ins → ((n : ℕ) → n ≡ p + k → look_of c n d i s ≡ l) →
+    set (rests c p d ins shelves) k l ≡ rests c p d (set ins k i) (set shelves k s)
+rests_set c k p d [] shelves i s l lt count e = absurd (omega arith)
+rests_set c k p d (x ∷ ins) [] i s l lt count e = absurd (omega arith)
+rests_set c zero p d (x ∷ ins) (y ∷ shelves) i s l lt count e = ap (λ m. m ∷ rests c (p + 1) d ins shelves) (sym (e p (omega arith)))
+rests_set c (suc k) p d (x ∷ ins) (y ∷ shelves) i s l lt count e = ap (λ ls. look_of c p d x y ∷ ls) (rests_set c k (p + 1) d ins shelves i s l (omega arith) (omega arith) (λ n f. e n (omega arith)))
+
+-- ---- one port's turn
+
+pub smaller : (r : Reading) (next : Option Record) (count : ℕ) (mid left : Budget) → left.bytes ≤ mid.bytes → left.frames ≤ mid.frames → IsReady r next count mid → IsReady r next count left
+smaller r next count mid left bytes frames h = record { fresh = h.fresh; last = h.last; early = h.early; place = let f = h.place in omega arith; few = let f = h.few in omega arith }
+
+-- the window of the record behind those of a window is a later one
+beyond_is : (c : Settings) (w g g' : ℕ) (next next' : Option Record) → IfSome next (λ x. g ≡ x.moment) → IfSome next (λ x. w ≤ window_start c x.moment) → IfSome next' (λ x. g' ≡ x.moment) → IfSome next' (λ x. window_start c x.moment ≢ w) → g ≤ g' → (next ≡ None → next' ≡ None) → IfSome next' (λ x. w + 1 ≤ window_start c x.moment)
+beyond_is c w g g' next None last from last' other le still = tt
+beyond_is c w g g' None (Some y) last from last' other le still = let e = still refl in absurd (cc)
+beyond_is c w g g' (Some x) (Some y) last from last' other le still =
+    let up = window_start-mono c x.moment y.moment (omega arith) in
+    elim (le_or_lt (window_start c y.moment) w) [ inl small ↦ absurd (other (omega arith)) | inr large ↦ omega arith ]
+
+module _ (c : Settings) (w k : ℕ) (a b : Seen) (ins ins' : List Input) (shelves shelves' : List Shelf) (had mid : Budget) (are : AreInputs a (slots_of ins)) (count : length shelves ≡ length ins) (lt : k < length ins) (round : Round c w k a b ins ins' shelves shelves' had mid) where
+  told_b : IsTrue a.told → IsTrue b.told
+  told_b told = subst IsTrue (sym round.touches.told) told
+
+  long : length ins' ≡ length ins
+  long = same_length ins ins' round.slots
+
+  wide : length shelves' ≡ length ins'
+  wide = round.count ∙ count ∙ sym long
+
+  -- each current port has its first state
+  first_at : (q : ℕ) (i' : Input) (s' : Shelf) → At q ins' shelves' i' s' → At q ins shelves (get_or ins q i') (get_or shelves q s')
+  first_at q i' s' at =
+      let less = slice_get_within ins' q i' at.input in
+      let l = long in
+      record { input = slice_get-get_or ins q i' (omega arith); shelf = slice_get-get_or shelves q s' (omega arith) }
+
+  -- the port whose turn it is
+  module _ (i1 : Input) (s1 : Shelf) (at : At k ins' shelves' i1 s1) where
+    pub turn_open : IsTrue (b.input i1.slot)
+    turn_open = open_now a b ins ins' are round.touches round.slots k i1 at.input
+
+    abbrev i : Input
+    i = get_or ins k i1
+
+    abbrev s : Shelf
+    s = get_or shelves k s1
+
+    waits : Waits c w a b i i1 s s1 mid
+    waits = round.waits k i i1 s s1 (omega arith) (first_at k i1 s1 at) at
+
+    pub turn_ready : IsReady i1.reader s1.next s1.count mid
+    turn_ready = subst (λ (x : Input). IsReady x.reader s1.next s1.count mid) (sym waits.input) (subst (λ (y : Shelf). IsReady i.reader y.next y.count mid) (sym waits.shelf) waits.ready)
+
+    from_now : IfSome s1.next (λ x. w ≤ window_start c x.moment)
+    from_now = subst (λ (y : Shelf). IfSome y.next (λ x. w ≤ window_start c x.moment)) (sym waits.shelf) waits.from
+
+    module _ (d : Seen) (i2 : Input) (s2 : Shelf) (left : Budget) (slot : i2.slot ≡ i1.slot) where
+      slots_on : slots_of (set ins' k i2) ≡ slots_of ins
+      slots_on = slots_set ins' k i1 i2 at.input slot ∙ round.slots
+
+      count_on : length (set shelves' k s2) ≡ length shelves
+      count_on = length-set shelves' k s2 ∙ round.count
+
+      others_at : (q : ℕ) (j : Input) (u : Shelf) → q ≢ k → At q (set ins' k i2) (set shelves' k s2) j u → At q ins' shelves' j u
+      others_at q j u ne h = record { input = sym (get_set_other ins' k q i2 ne) ∙ h.input; shelf = sym (get_set_other shelves' k q s2 ne) ∙ h.shelf }
+
+      -- looks that were made of this port, and those behind them
+      one_takes : (e : Seen) (made behind_ : List Look) → ((q : ℕ) (j : Input) (u : Shelf) → q ≢ k → At q ins' shelves' j u → e.left j.slot ≡ b.left j.slot) → to_look c (k + 1) b i1.slot i1.reader s1.count s1.next ≡ made ++ behind_ → AreOf (k + 1) w made → OneTakes c k 1 b e made behind_ ins' shelves'
+      one_takes e made behind_ same is of = record {
+        own = λ n j u f h.
+            let number : k + 1 ≡ n = omega arith in
+            subst (λ (m : ℕ). look_of c m b j u ≡ made ++ behind_) number
+            (subst (λ (x : Input). look_of c (k + 1) b x u ≡ made ++ behind_) (some_is (slice_get ins' k) i1 j at.input h.input)
+            (subst (λ (y : Shelf). look_of c (k + 1) b i1 y ≡ made ++ behind_) (some_is (slice_get shelves' k) s1 u at.shelf h.shelf) is));
+        leads = sorted_leads made behind_ (subst Sorted is (sorted_looks c (k + 1) b i1.slot i1.reader s1.count s1.next turn_ready.last));
+        same = same;
+        before = λ q n j u f less h.
+            let own = round.done q (get_or ins q j) j (get_or shelves q u) u less (first_at q j u h) h in
+            later_not_before n (w + 1) 0 (k + 1) w (look_of c n e j u) made (later_looks c n e j.slot j.reader u.count u.next (w + 1) own.ready.last own.beyond) (omega arith) of;
+        behind = λ q n j u f more h.
+            let own = round.waits q (get_or ins q j) j (get_or shelves q u) u (omega arith) (first_at q j u h) h in
+            let last = subst (λ (x : Input). IfSome u.next (λ y. x.reader.greatest ≡ y.moment)) (sym own.input) (subst (λ (y : Shelf). IfSome y.next (λ z. (get_or ins q j).reader.greatest ≡ z.moment)) (sym own.shelf) own.ready.last) in
+            let from = subst (λ (y : Shelf). IfSome y.next (λ z. w ≤ window_start c z.moment)) (sym own.shelf) own.from in
+            made_before (k + 1) w n w 0 made (look_of c n e j u) of (later_looks c n e j.slot j.reader u.count u.next w last from) (omega arith) (omega arith);
+      }
+
+      in_front : (e : Seen) (made behind_ : List Look) → OneTakes c k 1 b e made behind_ ins' shelves' → in_order (joined (rests c 1 b ins' shelves')) ≡ made ++ in_order (joined (set (rests c 1 e ins' shelves') k behind_))
+      in_front e made behind_ t = taken_at k made _ _ (takes_at c k 1 b e made behind_ ins' shelves' (let l = long in omega arith) wide t)
+
+      pub turn_failed : (f : RunFault) → TakesWindow c (k + 1) w i1.slot b d i1.reader i2.reader s1 s2 mid left (Err f) → TakesAll c w a d ins (set ins' k i2) shelves (set shelves' k s2) had left (Err f)
+      turn_failed f t = record {
+        touches = touches_on a b ins ins' are round.touches round.slots k i1 at.input d t.reads;
+        slots = slots_on;
+        count = count_on;
+        ready = tt;
+        took = tt;
+        spent = tt;
+        looks = λ told. tt;
+        stops = λ told stopped first late.
+            let st = t.stops (told_b told) stopped in
+            let of = are_of-push (k + 1) w st.made st.failing st.before st.at.0 st.at.1 in
+            let whole = st.are ∙ sym (append_assoc st.made (st.failing ∷ []) st.behind) in
+            let one = one_takes b (st.made ++ st.failing ∷ []) st.behind (λ q j u ne h. refl) whole of in
+            let more = in_order (joined (set (rests c 1 b ins' shelves') k st.behind)) in
+            let says = st.says first more late in (
+              says.0,
+              round.looks told first late
+                  ∙ ap (stop_in first mid.bytes mid.frames) (in_front b (st.made ++ st.failing ∷ []) st.behind one ∙ append_assoc st.made (st.failing ∷ []) more)
+                  ∙ says.1,
+              says.2,
+              says.3,
+            );
+        cause = λ is. (k, lt, rose_on a b ins ins' are round.touches round.slots k i1 at.input d (t.cause is));
+        only = t.only;
+      }
+
+      pub turn_taken : TakesWindow c (k + 1) w i1.slot b d i1.reader i2.reader s1 s2 mid left (Ok tt) → Round c w (k + 1) a d ins (set ins' k i2) shelves (set shelves' k s2) had left
+      turn_taken t =
+          let g = subst (λ (y : Shelf). Taking c (k + 1) w i.slot b d i.reader i2.reader y s2 mid left) waits.shelf (subst (λ (x : Input). Taking c (k + 1) w x.slot b d x.reader i2.reader s1 s2 mid left) waits.input t.taking) in
+          record {
+            touches = touches_on a b ins ins' are round.touches round.slots k i1 at.input d t.reads;
+            slots = slots_on;
+            count = count_on;
+            done = λ q j j' u u' less first now. elim (le_or_lt k q) [
+              | inl le ↦
+                  let same : k ≡ q = omega arith in
+                  let is_j = some_is (slice_get ins k) i j (first_at k i1 s1 at).input (ap (slice_get ins) same ∙ first.input) in
+                  let is_u = some_is (slice_get shelves k) s u (first_at k i1 s1 at).shelf (ap (slice_get shelves) same ∙ first.shelf) in
+                  let is_j' = some_is (slice_get (set ins' k i2) k) i2 j' (get_set_same ins' k i2 (let l = long in omega arith)) (ap (slice_get (set ins' k i2)) same ∙ now.input) in
+                  let is_u' = some_is (slice_get (set shelves' k s2) k) s2 u' (get_set_same shelves' k s2 (let l = long in let m = wide in omega arith)) (ap (slice_get (set shelves' k s2)) same ∙ now.shelf) in
+                  coe_done is_j is_j' is_u is_u' (own_done g t)
+              | inr more ↦ others_done q j j' u u' more first (others_at q j' u' (λ e. omega arith) now) t
+            ];
+            waits = λ q j j' u u' le first now. others_wait q j j' u u' (omega arith) first (others_at q j' u' (λ e. omega arith) now) t;
+            spent =
+                let own = t.taking.spent in
+                let so_far = round.spent in
+                let f = own.frames in
+                let g = so_far.frames in
+                let m = own.bytes in
+                let n = so_far.bytes in
+                let sum = counts_set shelves' k s1 s2 at.shelf in
+                record { frames = omega arith; bytes = omega arith };
+            looks = λ told first late.
+                let l = t.taking.looks (told_b told) in
+                let one = one_takes d l.0 (to_look c (k + 1) d i1.slot i2.reader s2.count s2.next) (λ q j u ne h. others_left a b ins ins' are round.touches round.slots k i1 at.input d t.reads q j ne h.input) l.1 l.2 in
+                round.looks told first late
+                ∙ ap (stop_in first mid.bytes mid.frames) (in_front d l.0 _ one)
+                ∙ l.3 first (in_order (joined (set (rests c 1 d ins' shelves') k (to_look c (k + 1) d i1.slot i2.reader s2.count s2.next)))) late
+                ∙ ap (λ ls. stop_in first left.bytes left.frames (in_order (joined ls)))
+                (rests_set c k 1 d ins' shelves' i2 s2 (to_look c (k + 1) d i1.slot i2.reader s2.count s2.next) (let m = long in omega arith) wide
+                (λ n e. let number : k + 1 ≡ n = omega arith in λ x. to_look c (number_sym n number x) d (slot x) i2.reader s2.count s2.next));
+          }
+        where
+          coe_done : {x y x' y' : Input} {v z v' z' : Shelf} → x ≡ y → x' ≡ y' → v ≡ z → v' ≡ z' → Done c w a d x x' v v' left → Done c w a d y y' z z' left
+          coe_done {x} {y} {x'} {y'} {v} {z} {v'} {z'} e f g h d0 = subst (λ q. Done c w a d y y' z q left) h (subst (λ q. Done c w a d y y' q v' left) g (subst (λ q. Done c w a d y q v v' left) f (subst (λ q. Done c w a d q x' v v' left) e d0)))
+
+          number_sym : (n : ℕ) → k + 1 ≡ n → n ≡ k + 1
+          number_sym n e = sym e
+
+          own_done : Taking c (k + 1) w i.slot b d i.reader i2.reader s s2 mid left → TakesWindow c (k + 1) w i1.slot b d i1.reader i2.reader s1 s2 mid left (Ok tt) → Done c w a d i i2 s s2 left
+          own_done g t = record {
+            took = record {
+              slot = slot ∙ ap (λ (x : Input). x.slot) waits.input;
+              in_window = g.in_window;
+              given = g.given;
+              order = g.order;
+              count = g.count;
+              head = g.head;
+              greatest = g.greatest;
+              chain = λ told. subst (λ (l : List ℕ). Chain i.reader.head i.reader.greatest g.given (i.reader.held ++ l) (to_come i2.reader d i.slot)) waits.rest (g.chain (told_b told));
+              ended = λ told some none. g.ended (told_b told) some none;
+            };
+            ready = g.ready;
+            beyond = beyond_is c w i.reader.greatest i2.reader.greatest s.next s2.next waits.ready.last waits.from g.ready.last t.beyond g.onward g.still;
+          }
+
+          less_is : TakesWindow c (k + 1) w i1.slot b d i1.reader i2.reader s1 s2 mid left (Ok tt) → (left.bytes ≤ mid.bytes) × (left.frames ≤ mid.frames)
+          less_is t =
+              let own = t.taking.spent in
+              let f = own.frames in
+              let m = own.bytes in
+              let n = t.taking.count in (omega arith, omega arith)
+
+          others_done : (q : ℕ) (j j' : Input) (u u' : Shelf) → q < k → At q ins shelves j u → At q ins' shelves' j' u' → TakesWindow c (k + 1) w i1.slot b d i1.reader i2.reader s1 s2 mid left (Ok tt) → Done c w a d j j' u u' left
+          others_done q j j' u u' less first now t =
+              let h = round.done q j j' u u' less first now in
+              let same = others_left a b ins ins' are round.touches round.slots k i1 at.input d t.reads q j' (λ e. omega arith) now.input in
+              let at_j : d.left j.slot ≡ b.left j.slot = subst (λ (n : ℕ). d.left n ≡ b.left n) h.took.slot same in
+              let fewer = less_is t in
+              record {
+                took = record {
+                  slot = h.took.slot;
+                  in_window = h.took.in_window;
+                  given = h.took.given;
+                  order = h.took.order;
+                  count = h.took.count;
+                  head = h.took.head;
+                  greatest = h.took.greatest;
+                  chain = λ told. subst (λ (l : List ℕ). Chain j.reader.head j.reader.greatest h.took.given (to_come j.reader a j.slot) (j'.reader.held ++ l)) (sym at_j) (h.took.chain told);
+                  ended = λ told some none. ap (λ (l : List ℕ). j'.reader.held ++ l) at_j ∙ h.took.ended told some none;
+                };
+                ready = smaller j'.reader u'.next u'.count mid left fewer.0 fewer.1 h.ready;
+                beyond = h.beyond;
+              }
+
+          others_wait : (q : ℕ) (j j' : Input) (u u' : Shelf) → k < q → At q ins shelves j u → At q ins' shelves' j' u' → TakesWindow c (k + 1) w i1.slot b d i1.reader i2.reader s1 s2 mid left (Ok tt) → Waits c w a d j j' u u' left
+          others_wait q j j' u u' more first now t =
+              let h = round.waits q j j' u u' (omega arith) first now in
+              let same = others_left a b ins ins' are round.touches round.slots k i1 at.input d t.reads q j' (λ e. omega arith) now.input in
+              let fewer = less_is t in
+              record {
+                input = h.input;
+                shelf = h.shelf;
+                rest = subst (λ (x : Input). d.left x.slot ≡ b.left x.slot) h.input same ∙ h.rest;
+                ready = smaller j.reader u.next u.count mid left fewer.0 fewer.1 h.ready;
+                from = h.from;
+              }
+
+-- before the first port
+pub round_none : (c : Settings) (w : ℕ) (a : Seen) (ins : List Input) (shelves : List Shelf) (had : Budget) → AreReady c w ins shelves had → Round c w 0 a a ins ins shelves shelves had had
+round_none c w a ins shelves had ready = record {
+  touches = touches_refl Nothing (NameIn a (slots_of ins)) a;
+  slots = refl;
+  count = refl;
+  done = λ q i i' s s' lt. absurd (omega arith);
+  waits = λ q i i' s s' le first now.
+      let h = ready q i s first in
+      record { input = some_is (slice_get ins q) i' i now.input first.input; shelf = some_is (slice_get shelves q) s' s now.shelf first.shelf; rest = refl; ready = h.0; from = h.1 };
+  spent = record { frames = omega arith; bytes = omega arith };
+  looks = λ told first late. refl;
+}
+
+-- behind the last
+pub round_all : (c : Settings) (w k : ℕ) (a b : Seen) (ins ins' : List Input) (shelves shelves' : List Shelf) (had left : Budget) → length ins ≤ k → length shelves ≡ length ins → Round c w k a b ins ins' shelves shelves' had left → TakesAll c w a b ins ins' shelves shelves' had left (Ok tt)
+round_all c w k a b ins ins' shelves shelves' had left le count r = record {
+  touches = r.touches;
+  slots = r.slots;
+  count = r.count;
+  ready = λ q i' s' now.
+      let less = slice_get_within ins' q i' now.input in
+      let l = same_length ins ins' r.slots in
+      let h = r.done q (get_or ins q i') i' (get_or shelves q s') s' (omega arith) (record { input = slice_get-get_or ins q i' (omega arith); shelf = slice_get-get_or shelves q s' (omega arith) }) now in (h.ready, h.beyond);
+  took = λ q i i' s s' first now. let less = slice_get_within ins q i first.input in (r.done q i i' s s' (omega arith) first now).took;
+  spent = r.spent;
+  looks = λ told first late. r.looks told first late;
+  stops = λ told. tt;
+  cause = λ e. absurd (cc);
+  only = tt;
+}
+
+pub taken_as : {c : Settings} {m n w slot : ℕ} {a b : Seen} {r r' : Reading} {s s' : Shelf} {had left : Budget} {result : Result (Unit {0}) RunFault} → n ≡ m → TakesWindow c m w slot a b r r' s s' had left result → TakesWindow c n w slot a b r r' s s' had left result
+taken_as {c} {m} {n} {w} {slot} {a} {b} {r} {r'} {s} {s'} {had} {left} {result} e t = subst (λ (x : ℕ). TakesWindow c x w slot a b r r' s s' had left result) (sym e) t

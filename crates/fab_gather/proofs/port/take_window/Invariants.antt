@@ -1,0 +1,15 @@
+use Rattle.std.proofs.Common.{◌≡◌, ◌+◌, ◌*◌, length}
+use Rattle.std.specs.Prelude.{option_to_list}
+use Rattle.fab_gather.specs.Port.{Taking}
+use Rattle.fab_gather.proofs.port.take_window.Given as goal
+
+abbrev pub invariant-records : goal.invariant-records
+invariant-records g l =
+    let seen = g.D.Depot.seen in
+    record {
+      slot : l.input.slot ≡ l.fn.input.slot;
+      taking : Taking l.config l.port l.window l.fn.input.slot (seen l.fn.depot) (seen l.depot) l.fn.input.reader l.input.reader l.fn.shelf l.shelf l.fn.budget l.budget;
+    }
+
+abbrev pub decreases-records : goal.decreases-records
+decreases-records g l = 2 * l.budget.frames + length (option_to_list l.shelf.next)

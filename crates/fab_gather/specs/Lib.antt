@@ -1,0 +1,5 @@
+pub mod Port
+pub mod Ports
+pub mod First
+pub mod Reads
+pub mod Laws

@@ -1,0 +1,128 @@
+-- The records of a window, taken of one port's capture.
+use Rattle.std.specs.Prelude.{◌≡◌, ◌≢◌, ℕ, ◌+◌, ◌-◌, ◌*◌, ◌^◌, ◌≤◌, ◌<◌, Bool, false, IsTrue, List, [], ◌∷◌, ◌++◌, length, Option, Some, None, IfSome, Result, OnOk, IfErr, IsErrOf, option_to_list, nat_lt, ◌==◌}
+use Rattle.fab_base.specs.Seen.{Seen, Reads, Rose}
+use Rattle.fab_config.specs.Settings.{Settings}
+use Rattle.fab_policy.specs.Legal.{window_start}
+use Rattle.fab_policy.specs.Looks.{Spot, Look, looks, stop_in, Stop, Reason, Fails, Span}
+use Rattle.fab_policy.specs.declared.looks.TheConstants.{MOST_SPAN}
+use Rattle.pcap_file.specs.Capture.{RECORD_HEAD}
+use Rattle.pcap_file.specs.Reading.{Reading, to_come, error_of}
+use Rattle.pcap_file.specs.Records.{Chain, last_moment}
+use Rattle.pcap_file.specs.declared.Budget.{Budget}
+use Rattle.pcap_file.specs.declared.CapError.{CapError}
+use Rattle.pcap_file.specs.declared.CapError.TheVariants as errors
+use Rattle.pcap_file.specs.declared.Record.{Record}
+use Rattle.fab_gather.specs.declared.shelf.Shelf.{Shelf}
+use Rattle.fab_gather.specs.declared.fault.CapWhy.TheVariants as why
+use Rattle.fab_gather.specs.declared.fault.LimitKind.TheVariants as limit
+use Rattle.fab_gather.specs.declared.fault.RunFault.{RunFault}
+use Rattle.fab_gather.specs.declared.fault.RunFault.TheVariants as fault
+
+-- ---- endings
+
+-- what an error of the reader of a port ends a run with
+abbrev pub fault_by : CapError → ℕ → RunFault
+fault_by (errors.Cut at) port = fault.Capture port at why.Cut
+fault_by (errors.TooLong at len) port = fault.Capture port at why.Long
+fault_by errors.Bytes port = fault.Limit limit.Bytes
+fault_by errors.Frames port = fault.Limit limit.Frames
+fault_by (errors.Read failed) port = fault.Read
+fault_by errors.Memory port = fault.Memory
+
+-- what a stop ends a run with: what the reader's error there does, or the limit of the span
+abbrev pub ending_of : Reason → ℕ → ℕ → RunFault
+ending_of (Fails why) port at = fault_by (error_of why at) port
+ending_of Span port at = fault.Limit limit.Span
+
+abbrev pub ending : Stop → RunFault
+ending s = ending_of s.why s.port s.at
+
+-- an ending that stands in the captures, and not in the store or in the memory
+abbrev pub IsStopped : RunFault → Type 0
+IsStopped (fault.Capture port at w) = Unit {0}
+IsStopped (fault.Limit kind) = Unit {0}
+IsStopped fault.Read = ⊥
+IsStopped fault.Write = ⊥
+IsStopped fault.Memory = ⊥
+
+-- ---- a port
+
+-- where the reading of a capture stands, after so many records, the last of them in this window
+abbrev pub spot_of : Seen → ℕ → Reading → ℕ → Option ℕ → Spot
+spot_of d slot r count window = record { head = r.head; index = count; at = r.at; window = window; greatest = r.greatest; bytes = to_come r d slot }
+
+-- the looks to come of a port; none behind the end of its capture
+abbrev pub to_look : Settings → ℕ → Seen → ℕ → Reading → ℕ → Option Record → List Look
+to_look c port d slot r count None = []
+to_look c port d slot r count (Some x) = looks c port (spot_of d slot r count (Some (window_start c x.moment)))
+
+-- What stands for a port's reader and shelf while no look failed: the record that was looked at last is the last that was
+-- found, and neither places nor counts come to their types' ends.
+pub record IsReady (r : Reading) (ahead : Option Record) (found : ℕ) (budget : Budget) : Type 0 where
+  pub fresh : r.kept ≡ None
+  pub last : IfSome ahead (λ x. r.greatest ≡ x.moment)
+  pub early : IfSome ahead (λ x. x.moment < 2 ^ 43)
+  pub place : r.at + budget.bytes < 2 ^ 64
+  pub few : found + budget.frames < 2 ^ 64
+
+-- What records take of the limits, of which so many were found before and so many now.
+pub record Spends (had left : Budget) (before now : ℕ) : Type 0 where
+  pub frames : left.frames + now ≡ had.frames + before
+  pub bytes : left.bytes + RECORD_HEAD * now ≤ had.bytes + RECORD_HEAD * before
+
+-- looks of a port in a window
+abbrev pub AreOf : ℕ → ℕ → List Look → Type 0
+AreOf port w [] = Unit {0}
+AreOf port w (x ∷ made) = (x.port ≡ port) × (x.window ≡ Some w) × AreOf port w made
+
+-- These looks pass, whatever comes behind them, unless their window is too late.
+abbrev pub Pass : ℕ → List Look → Budget → Budget → Type 0
+Pass w made had left = (first : ℕ) (rest : List Look) → nat_lt MOST_SPAN (w - first) ≡ false → stop_in first had.bytes had.frames (made ++ rest) ≡ stop_in first left.bytes left.frames rest
+
+-- a record is there and belongs to a window
+abbrev pub is_in : Settings → Option Record → ℕ → Bool
+is_in c None w = false
+is_in c (Some r) w = window_start c r.moment == w
+
+-- records of a window
+abbrev pub AreIn : Settings → ℕ → List Record → Type 0
+AreIn c w [] = Unit {0}
+AreIn c w (r ∷ records) = (window_start c r.moment ≡ w) × AreIn c w records
+
+-- What stands while the records of a window are taken of one port: which are on the shelf, which the reader gave, and which
+-- looks were made.
+pub record Taking (c : Settings) (port w slot : ℕ) (a b : Seen) (r r' : Reading) (s s' : Shelf) (had left : Budget) : Type 0 where
+  pub reads : Reads (a.name slot) a b
+  pub ready : IsReady r' s'.next s'.count left
+  pub spent : Spends had left s.count s'.count
+  pub in_window : AreIn c w s'.batch.items
+  pub given : List Record
+  pub order : option_to_list s.next ++ given ≡ s'.batch.items ++ option_to_list s'.next
+  pub count : s'.count ≡ s.count + length given
+  pub head : r'.head ≡ r.head
+  pub greatest : r'.greatest ≡ last_moment r.greatest given
+  pub chain : IsTrue a.told → Chain r.head r.greatest given (to_come r a slot) (to_come r' b slot)
+  pub still : s.next ≡ None → s'.next ≡ None
+  pub onward : r.greatest ≤ r'.greatest
+  pub ended : IsTrue a.told → s.next ≢ None → s'.next ≡ None → to_come r' b slot ≡ []
+  pub looks : IsTrue a.told → (made : List Look) × (to_look c port a slot r s.count s.next ≡ made ++ to_look c port b slot r' s'.count s'.next) × AreOf port w made × Pass w made had left
+
+-- The looks come to one that fails, and the ending says so.
+pub record StopsIn (port w : ℕ) (had : Budget) (looks : List Look) (e : RunFault) : Type 0 where
+  pub made : List Look
+  pub failing : Look
+  pub behind : List Look
+  pub are : looks ≡ made ++ failing ∷ behind
+  pub before : AreOf port w made
+  pub at : (failing.port ≡ port) × (failing.window ≡ Some w)
+  pub says : (first : ℕ) (rest : List Look) → nat_lt MOST_SPAN (w - first) ≡ false →
+      (s : Stop) × (stop_in first had.bytes had.frames (made ++ failing ∷ rest) ≡ Some s) × (ending s ≡ e) × (s.window ≡ Some w)
+
+-- What taking the records of a window of one port does.
+pub record TakesWindow (c : Settings) (port w slot : ℕ) (a b : Seen) (r r' : Reading) (s s' : Shelf) (had left : Budget) (result : Result (Unit {0}) RunFault) : Type 0 where
+  pub reads : Reads (a.name slot) a b
+  pub taking : OnOk result (Taking c port w slot a b r r' s s' had left)
+  pub beyond : OnOk result (IfSome s'.next (λ x. window_start c x.moment ≢ w))
+  pub stops : IsTrue a.told → IfErr result (λ e. IsStopped e → StopsIn port w had (to_look c port a slot r s.count s.next) e)
+  pub cause : IsErrOf result fault.Read → Rose (a.read_faults (a.name slot)) (b.read_faults (a.name slot))
+  pub only : IfErr result (λ e. e ≢ fault.Write)

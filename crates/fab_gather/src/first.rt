@@ -1,0 +1,67 @@
+//! The look at the first record of each port's capture.
+ghost use Rattle.std.specs.Prelude.{◌≡◌, ◌+◌, ◌≤◌, ◌<◌, ◌^◌, IsTrue, length};
+ghost use Rattle.fab_config.specs.Settings.{Settings};
+ghost use Rattle.fab_gather.specs.First.{AreFresh, IsFresh, LooksFirst, LooksOnce};
+ghost use Rattle.fab_gather.specs.Ports.{AreInputs, slots_of};
+
+use crate::fault::fault_of;
+use crate::{Input, RunFault, Shelf};
+use fab_base::{Depot, PortNo};
+use fab_policy::{looks_go_on, steps_find_the_stop};
+use pcap_file::Budget;
+use std::alloc::Global;
+
+/// Looks at the first record of each port, in port order. Nothing is on the shelves then.
+pub fn first_looks<D: Depot>(
+    alloc: Global,
+    depot: &mut D,
+    ins: &mut [Input],
+    budget: &mut Budget,
+) -> Result<Vec<Shelf>, RunFault>
+    requires ports { length ins.old ≤ 64 }
+    requires inputs { AreInputs (D.seen depot.old) (slots_of ins.old) }
+    requires fresh { AreFresh ins.old }
+    requires budget { (budget.old.bytes + 24 < 2 ^ 64) × (budget.old.frames < 2 ^ 64) }
+    ensures looks { (c : Settings) → LooksFirst c (D.seen depot.old) (D.seen depot.new) ins.old
+        ins.new budget.old budget.new result }
+{
+    looks_go_on();
+    let mut shelves = Vec::new(alloc);
+    for port in 0..ins.len() {
+        match look(alloc, depot, PortNo::at(port), &mut ins[port], budget) {
+            Ok(shelf) => match shelves.push(shelf) {
+                Ok(()) => {}
+                Err(_) => return Err(RunFault::Memory),
+            },
+            Err(fault) => return Err(fault),
+        }
+    }
+    Ok(shelves)
+}
+
+// Looks at the first record of a port.
+fn look<D: Depot>(
+    alloc: Global,
+    depot: &mut D,
+    port: PortNo,
+    input: &mut Input,
+    budget: &mut Budget,
+) -> Result<Shelf, RunFault>
+    requires input { IsTrue ((D.seen depot.old).input input.old.slot) }
+    requires fresh { IsFresh input.old.reader }
+    requires budget { (budget.old.bytes + 24 < 2 ^ 64) × (budget.old.frames < 2 ^ 64) }
+    ensures slot { input.new.slot ≡ input.old.slot }
+    ensures looks { (c : Settings) → LooksOnce c port input.old.slot (D.seen depot.old)
+        (D.seen depot.new) input.old.reader input.new.reader budget.old budget.new result }
+{
+    looks_go_on();
+    steps_find_the_stop();
+    match input.reader.next(alloc, depot, input.slot, budget) {
+        Ok(next) => Ok(Shelf {
+            batch: Vec::new(alloc),
+            count: u64::from(next.is_some()),
+            next,
+        }),
+        Err(error) => Err(fault_of(error, port)),
+    }
+}

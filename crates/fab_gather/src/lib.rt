@@ -1,0 +1,19 @@
+//! The records of captures, taken window by window of all ports in their order.
+#![tactic(auto)]
+
+mod fault;
+mod first;
+mod laws;
+mod port;
+mod ports;
+mod shelf;
+#[cfg(test)]
+mod tests;
+mod window;
+
+pub use fault::{CapWhy, LimitKind, RunFault};
+pub use first::first_looks;
+pub use laws::{looks_to_come, records_are_read, windows_move_on};
+pub use ports::take_windows;
+pub use shelf::{Input, Shelf};
+pub use window::{next_window, window_start};

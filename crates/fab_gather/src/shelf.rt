@@ -1,0 +1,47 @@
+//! What stands of one port while its capture is taken.
+ghost use Rattle.std.specs.Prelude.{◌≡◌, ◌+◌, ◌^◌, ◌<◌, ◌++◌, OnOk, option_to_list, length};
+
+use fab_base::NoMemory;
+use pcap_file::{Reader, Record};
+use std::mem;
+
+/// A capture whose head was read, and its slot in the depot.
+#[derive(Debug, Drop)]
+pub struct Input {
+    pub slot: u32,
+    pub reader: Reader,
+}
+
+/// The records of a window of one port, the one that was looked at behind them, or none at the end
+/// of the capture, and how many records were found so far.
+#[derive(Debug, Drop)]
+pub struct Shelf {
+    pub batch: Vec<Record>,
+    pub next: Option<Record>,
+    pub count: u64,
+}
+
+impl Shelf {
+    ghost use Rattle.std.specs.Prelude.{◌≡◌, ◌+◌, ◌^◌, ◌<◌, ◌++◌, OnOk, option_to_list, length};
+
+    // Puts the record that was looked at into the batch, and the next one, or none, into its place.
+    pub(crate) fn turn(&mut self, next: Option<Record>) -> Result<(), NoMemory>
+        requires { self.old.count + length (option_to_list next) < 2 ^ 64 }
+        ensures batch { OnOk result
+            (self.new.batch.items ≡ self.old.batch.items ++ option_to_list self.old.next) }
+        ensures next { OnOk result (self.new.next ≡ next) }
+        ensures count { OnOk result
+            (self.new.count ≡ self.old.count + length (option_to_list next)) }
+    {
+        if next.is_some() {
+            self.count += 1;
+        }
+        match mem::replace(&mut self.next, next) {
+            Some(record) => match self.batch.push(record) {
+                Ok(()) => Ok(()),
+                Err(_) => Err(NoMemory),
+            },
+            None => Ok(()),
+        }
+    }
+}
