@@ -1,0 +1,278 @@
+-- How a run begins, goes on to its next window, and comes to its end.
+use Rattle.std.proofs.Common.{◌≡◌, ◌≢◌, ℕ, zero, suc, ◌+◌, ◌^◌, ◌<◌, ◌≤◌, ◌⊎◌, inl, inr, List, [], ◌∷◌, ◌++◌, length, map, Option, Some, None, IfSome, IsTrue, Result, Ok, Err, OnOk, IfErr, refl, sym, ap, ◌∙◌, subst, arith}
+use Rattle.std.specs.Prelude.{unwrap_or, Vec}
+use Rattle.std.specs.declared.alloc.Global.{Global}
+use Rattle.fab_base.specs.Seen.{Seen, Touches, Nothing, Rose}
+use Rattle.fab_base.specs.declared.values.Failed.{Failed}
+use Rattle.fab_base.proofs.SeenLemmas.{rose_later, touches_refl, touches_trans, touches_wider}
+use Rattle.fab_config.specs.Settings.{Settings}
+use Rattle.fab_policy.specs.Growing.{AllBelow}
+use Rattle.fab_policy.specs.Journal.{Journal, followed}
+use Rattle.fab_policy.specs.Legal.{Run}
+use Rattle.fab_policy.specs.Looks.{Opened, Stop, stop, in_order, first_window}
+use Rattle.fab_policy.specs.Outputs.{State, state_of}
+use Rattle.fab_policy.specs.Standing.{Contents, Stands, sent_after}
+use Rattle.fab_policy.specs.Text.{text, head_line}
+use Rattle.pcap_file.specs.Capture.{head_bytes}
+use Rattle.pcap_file.specs.declared.Budget.{Budget}
+use Rattle.pcap_file.specs.declared.Record.{Record}
+use Rattle.fab_gather.specs.declared.shelf.Input.{Input}
+use Rattle.fab_gather.specs.declared.shelf.Shelf.{Shelf}
+use Rattle.fab_gather.specs.declared.fault.RunFault.{RunFault}
+use Rattle.fab_gather.specs.declared.fault.RunFault.TheVariants as fault
+use Rattle.fab_gather.specs.First.{IsNextWindow, LooksFirst, opened_in, opened_by}
+use Rattle.fab_gather.specs.Ports.{slots_of, name_of, NameIn, AreInputs, AreReady, rests, joined, stop_from}
+use Rattle.fab_gather.specs.Reads.{HaveRead}
+use Rattle.fab_windows.specs.declared.Done.{Done}
+use Rattle.fab_windows.specs.Files.{AreFiles, Written, Hold, Wholes, Fronts, Writes, captures, piece_at}
+use Rattle.fab_windows.specs.Run.{AreGiven, Runs, Interrupted, Stopped}
+use Rattle.fab_windows.specs.Steps.{Sofar}
+use Rattle.fab_windows.specs.Turns.{Laws, Task, captures_in, Touched, Begun, Reached, Going, Ended}
+use Rattle.fab_windows.proofs.EndLemmas.{whole_is_front, ends_before, stops_first, finished}
+use Rattle.fab_windows.proofs.FileLemmas.{files_stay}
+use Rattle.fab_windows.proofs.StayLemmas.{LeftStays, inputs_stay, input_name_in, hold_stays, length-slots, same_ports, writing_leaves}
+use Rattle.fab_windows.proofs.TickLemmas.{distance}
+use Rattle.fab_windows.proofs.TurnLemmas.{ended}
+
+-- a capture with these bytes left in its file
+abbrev with_rest : Input → List ℕ → Opened
+with_rest i rest = record { head = i.reader.head; body = i.reader.held ++ rest }
+
+opened_stay : (a b : Seen) (ins : List Input) → LeftStays a b ins → opened_in b ins ≡ opened_in a ins
+opened_stay a b [] h = refl
+opened_stay a b (i ∷ ins) h =
+    (λ j. ap (with_rest i) h.0 j ∷ opened_stay a b ins h.1 j)
+
+-- ---- the heads, and the first looks
+
+module _ (laws : Laws) (k : Task) (given : AreGiven k.seen k.ins k.journal k.outs) where
+  abbrev Ours : List ℕ → Type 0
+  Ours = Written k.seen k.journal k.outs
+
+  -- refused memory at once
+  pub ended_at_once : Ended k k.seen fault.Memory
+  ended_at_once =
+      ended k k.seen fault.Memory (touches_refl Ours (Touched k) k.seen) (λ told x. absurd x) (λ told x. absurd (cc))
+      (λ told x. ends_before k.settings k.budget (captures_in k) laws.nothing_run (Fronts k.settings k.seen k.journal k.outs) (record {
+        lines_ = ([], (given.empty told).0, (text [], refl));
+        records = λ q lt. ([], (given.empty told).1 q lt, (captures k.settings (length k.outs) [] q, refl));
+      }))
+      (λ x. absurd (cc), λ x. absurd (cc))
+
+  hold_none : IsTrue k.seen.told → Hold k.seen k.journal k.outs [] (λ q. [])
+  hold_none told = record { lines_ = (given.empty told).0; records = (given.empty told).1 }
+
+  module _ (pieces : List (List ℕ)) (heads : (q : ℕ) → q < length k.outs → piece_at pieces q ≡ head_bytes) (a : Seen) where
+    records_are : (q : ℕ) → q < length k.outs → captures k.settings (length k.outs) [] q ≡ [] ++ piece_at pieces q
+    records_are q lt = laws.nothing_written.1 k.settings (length k.outs) (q + 1) ∙ sym (heads q lt)
+
+    module _ {r : Result (Unit {0}) Failed} (w : Writes k.journal k.outs head_line pieces k.seen a r) where
+      touches_heads : Touches Ours (Touched k) k.seen a
+      touches_heads = touches_wider Ours Ours Ours (Touched k) k.seen a (λ m h. h) (λ m h. inl h) w.touches
+
+      lefts_heads : LeftStays k.seen a k.ins
+      lefts_heads = writing_leaves k.journal k.outs k.seen a k.ins w.touches given.inputs given.apart
+
+    -- a head that can't be written
+    pub ended_heads : (f : Failed) → Writes k.journal k.outs head_line pieces k.seen a (Err f) → Ended k a fault.Write
+    ended_heads f w =
+        ended k a fault.Write (touches_heads w) (λ told x. absurd x) (λ told x. absurd (cc))
+        (λ told x. ends_before k.settings k.budget (captures_in k) laws.nothing_run (Fronts k.settings a k.journal k.outs)
+        (w.front told [] (text []) (λ q. []) (captures k.settings (length k.outs) []) (hold_none told) laws.nothing_written.0 records_are))
+        (λ x. absurd (cc), λ x. elim w.cause [ inl rose ↦ (k.seen.name k.journal, inl refl, rose) | inr rose ↦ (name_of k.seen k.outs rose.0, inr (rose.0, rose.1, refl), rose.2) ])
+
+    module _ (w : Writes k.journal k.outs head_line pieces k.seen a (Ok tt)) (d : Seen) (ins : List Input) (left : Budget) where
+      opened_then : opened_in a k.ins ≡ captures_in k
+      opened_then = opened_stay k.seen a k.ins (lefts_heads w)
+
+      wholes_then : IsTrue k.seen.told → Wholes k.settings a k.journal k.outs []
+      wholes_then told = w.whole told [] (text []) (λ q. []) (captures k.settings (length k.outs) []) (hold_none told) laws.nothing_written.0 records_are
+
+      told_then : IsTrue k.seen.told → IsTrue a.told
+      told_then told = subst IsTrue (sym w.touches.told) told
+
+      name_then : (m : List ℕ) → NameIn a (slots_of k.ins) m → NameIn k.seen (slots_of k.ins) m
+      name_then m h = input_name_in Ours Ours k.seen a w.touches (slots_of k.ins) given.inputs m h
+
+      module _ (t : Touches Nothing (NameIn a (slots_of k.ins)) a d) where
+        touches_looks : Touches Ours (Touched k) k.seen d
+        touches_looks = touches_trans Ours (Touched k) k.seen a d (touches_heads w) (touches_wider Nothing (NameIn a (slots_of k.ins)) Ours (Touched k) a d (λ m x. absurd x) (λ m h. inr (name_then m h)) t)
+
+        wholes_looks : IsTrue k.seen.told → Wholes k.settings d k.journal k.outs []
+        wholes_looks told = hold_stays (NameIn a (slots_of k.ins)) a d t k.journal k.outs w.files (text []) (captures k.settings (length k.outs) []) (wholes_then told)
+
+      -- a fault at the first looks
+      pub ended_looks : (e : RunFault) → LooksFirst k.settings a d k.ins ins k.budget left (Err e) → Ended k d e
+      ended_looks e f =
+          ended k d e (touches_looks f.touches)
+          (λ told stops.
+          let s = f.stops (told_then told) stops in
+          subst (λ x. Stopped k.settings k.budget (captures_in k) d k.journal k.outs x) s.2
+          (stops_first k.settings k.budget (captures_in k) laws.nothing_run d k.journal k.outs s.0 (sym (ap (stop k.settings k.budget.bytes k.budget.frames) opened_then) ∙ s.1) s.3 (wholes_looks f.touches told)))
+          (λ told x. ends_before k.settings k.budget (captures_in k) laws.nothing_run (Wholes k.settings d k.journal k.outs) (wholes_looks f.touches told))
+          (λ told x. ends_before k.settings k.budget (captures_in k) laws.nothing_run (Fronts k.settings d k.journal k.outs) (whole_is_front k.settings d k.journal k.outs [] (wholes_looks f.touches told))) (
+            λ x.
+                let cause = f.cause (ap (λ y. Err y) x) in
+                let at = name_then (name_of a (slots_of k.ins) cause.0) (cause.0, omega (arith, cause.1, length-slots k.ins), refl) in
+                (at.0, omega (arith, at.1, length-slots k.ins), rose_later _ _ _ (w.touches.reads_rise _) (subst (λ n. Rose (a.read_faults n) (d.read_faults n)) at.2 cause.2)),
+            λ x. absurd (f.only x),
+          )
+
+      pub begun : (shelves : Vec Shelf Global) → (1 ≤ length k.ins) × (length k.ins ≤ 64) → length k.outs ≡ length k.ins → k.budget.bytes + 24 < 2 ^ 64 →
+          LooksFirst k.settings a d k.ins ins k.budget left (Ok shelves) → Begun k d ins shelves.items left
+      begun shelves ports outputs limits f = record {
+        given = given;
+        ports = ports;
+        outputs = outputs;
+        limits = limits;
+        touches = touches_looks f.touches;
+        slots = f.slots;
+        count = f.count ∙ sym (same_ports k.ins ins f.slots);
+        ready = f.ready;
+        read = subst (λ o. HaveRead k.settings 0 o (map (λ i. []) k.ins) ins shelves.items d) opened_then f.read;
+        spent = f.spent;
+        stops = λ told. sym (ap (stop k.settings k.budget.bytes k.budget.frames) opened_then) ∙ f.looks_ (told_then told);
+        whole = wholes_looks f.touches;
+      }
+
+-- ---- before the first window
+
+below_none : (c : Settings) (ins : List Input) → AllBelow c 0 (map (λ i. []) ins)
+below_none c [] = tt
+below_none c (i ∷ ins) = (tt, below_none c ins)
+
+length-none : (ins : List Input) → length (map {B = List Record} (λ i. []) ins) ≡ length ins
+length-none [] = refl
+length-none (i ∷ ins) = ap suc (length-none ins)
+
+abbrev no_records : List Record
+no_records = []
+
+none_none : (ins : List Input) → map (λ (l : List Record). no_records) (map (λ (i : Input). no_records) ins) ≡ map (λ (i : Input). no_records) ins
+none_none [] = refl
+none_none (i ∷ ins) = ap (λ l. [] ∷ l) (none_none ins)
+
+module _ (laws : Laws) (k : Task) (d : Seen) (ins : List Input) (shelves : List Shelf) (left : Budget) (b : Begun k d ins shelves left) where
+  -- the first window comes before all others
+  first_is : (o : Option ℕ) → IsNextWindow k.settings shelves o → IsTrue k.seen.told →
+      stop k.settings k.budget.bytes k.budget.frames (captures_in k) ≡ stop_from k.settings (unwrap_or o 0) d ins shelves left
+  first_is None h told = b.stops told ∙ laws.none_left k.settings _ d ins shelves left h ∙ sym (laws.none_left k.settings 0 d ins shelves left h)
+  first_is (Some w) h told = b.stops told ∙ ap (λ (f : ℕ). stop_from k.settings f d ins shelves left) (laws.next_first k.settings 0 w d ins shelves left b.count b.ready h)
+
+  pub going_first : (F : Contents) (o : Option ℕ) (done : Done) → F.settings ≡ k.settings → F.count ≡ length k.ins → F.state ≡ state_of F.settings [] → F.events ≡ [] → F.outs ≡ [] →
+      IsNextWindow k.settings shelves o → done.frames ≡ 0 → done.entries ≡ 0 → Going k 0 (unwrap_or o 0) F d ins shelves left done
+  going_first F o done settings count state events outs next frames entries = record {
+    reached = record {
+      given = b.given;
+      ports = b.ports;
+      outputs = b.outputs;
+      limits = b.limits;
+      touches = b.touches;
+      slots = b.slots;
+      count = b.count;
+      taken = map (λ i. []) k.ins;
+      entry_list = [];
+      sofar = record {
+        run = record { ranged = tt; run = subst (λ l. Run k.settings l []) (none_none k.ins) (laws.nothing_run k.settings (map (λ i. []) k.ins)).0 };
+        width = length-none k.ins;
+        below = below_none k.settings k.ins;
+        stands = record { state = state; older = []; events = sym (ap (followed []) events); outs = outs ∙ sym (ap (sent_after F.settings F.count []) events) };
+        settings = settings;
+        count = count;
+        events = events;
+        outs = outs;
+      };
+      clock = subst (λ x. IfSome x (λ t. t < 0)) (sym (ap (λ (S : State). S.tables.clock) state)) tt;
+      ready = b.ready;
+      read = b.read;
+      spent = b.spent;
+      stops = first_is o next;
+    };
+    whole = b.whole;
+    frames = frames;
+    entries = entries;
+  }
+
+-- ---- the next window
+
+module _ (laws : Laws) (k : Task) (v w first : ℕ) (F : Contents) (d : Seen) (ins : List Input) (shelves : List Shelf) (left : Budget) (done : Done)
+    (g : Going k v first F d ins shelves left done) (next : IsNextWindow k.settings shelves (Some w)) where
+  abbrev r : Reached k v first F d ins shelves left
+  r = g.reached
+
+  ahead : (v ≤ w) × (w < 2 ^ 43) × AreReady k.settings w ins shelves left
+  ahead = laws.next_ahead k.settings v w ins shelves left r.count r.ready next
+
+  pub next_early : w < 2 ^ 43
+  next_early = ahead.1
+
+  read_then : HaveRead k.settings w (captures_in k) r.taken ins shelves d
+  read_then = laws.read_stays k.settings v w (captures_in k) r.taken ins shelves d ahead.0 r.read
+
+  clock_then : (o : Option ℕ) → IfSome o (λ t. t < v) → IfSome o (λ t. t < w)
+  clock_then None h = tt
+  clock_then (Some t) h = omega (arith, h, ahead.0)
+
+  pub going_next : Going k w first F d ins shelves left done
+  going_next = record {
+    reached = record {
+      given = r.given;
+      ports = r.ports;
+      outputs = r.outputs;
+      limits = r.limits;
+      touches = r.touches;
+      slots = r.slots;
+      count = r.count;
+      taken = r.taken;
+      entry_list = r.entry_list;
+      sofar = record {
+        run = r.sofar.run;
+        width = r.sofar.width;
+        below = (laws.read_below k.settings w (captures_in k) r.taken ins shelves d read_then).1;
+        stands = r.sofar.stands;
+        settings = r.sofar.settings;
+        count = r.sofar.count;
+        events = r.sofar.events;
+        outs = r.sofar.outs;
+      };
+      clock = clock_then F.state.tables.clock r.clock;
+      ready = ahead.2;
+      read = read_then;
+      spent = r.spent;
+      stops = r.stops;
+    };
+    whole = g.whole;
+    frames = g.frames;
+    entries = g.entries;
+  }
+
+-- ---- the end of all captures
+
+pub ended_well : (laws : Laws) (k : Task) (w first : ℕ) (F : Contents) (d : Seen) (ins : List Input) (shelves : List Shelf) (left : Budget) (done : Done) →
+    Going k w first F d ins shelves left done → IsNextWindow k.settings shelves None → Runs k.settings k.budget k.ins k.seen d k.journal k.outs (Ok done)
+ended_well laws k w first F d ins shelves left done g next =
+    let r = g.reached in
+    record {
+      touches = r.touches;
+      ends = λ told.
+          let read = laws.read_all k.settings w (captures_in k) r.taken ins shelves d (subst IsTrue (sym r.touches.told) told) r.read next in
+          finished k.settings k.budget (captures_in k) r.taken r.entry_list d k.journal k.outs done r.sofar.run (r.stops told ∙ laws.none_left k.settings first d ins shelves left next) read.0 read.1 (g.whole told) g.frames g.entries;
+      read = λ x. absurd (cc);
+      write = λ x. absurd (cc);
+    }
+
+-- the captures are still open when the heads are written
+pub inputs_heads : (d : Seen) (ins : List Input) (journal : ℕ) (outs : List ℕ) → AreGiven d ins journal outs → (b : Seen) {lines : List ℕ} {pieces : List (List ℕ)} {r : Result (Unit {0}) Failed} → Writes journal outs lines pieces d b r → AreInputs b (slots_of ins)
+inputs_heads d ins journal outs given b w = inputs_stay (Written d journal outs) (Written d journal outs) d b w.touches (slots_of ins) given.inputs
+
+-- the clock comes nearer to the end of time
+pub nearer : (n w : ℕ) (old new : Option ℕ) → IfSome old (λ t. t < w) → w < n → new ≡ Some w → distance n new < distance n old
+nearer n w old new h lt is = subst (λ o. distance n o < distance n old) (sym is) (go old h)
+  where
+    go : (o : Option ℕ) → IfSome o (λ t. t < w) → distance n (Some w) < distance n o
+    go None b = omega (arith, lt)
+    go (Some t) b = omega (arith, b, lt)
+
+-- the next window, by the code's own configuration and its own list of shelves
+pub next_as : (c d : Settings) (l shelves : List Shelf) (o : Option ℕ) → c ≡ d → l ≡ shelves → IsNextWindow c l o → IsNextWindow d shelves o
+next_as c d l shelves o e f h = subst (λ x. IsNextWindow d x o) f (subst (λ s. IsNextWindow s l o) e h)

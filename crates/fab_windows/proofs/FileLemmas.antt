@@ -1,0 +1,259 @@
+-- Several files, written one after another.
+use Rattle.std.proofs.Common.{◌≡◌, ◌≢◌, ℕ, zero, suc, ◌+◌, ◌-◌, ◌<◌, ◌≤◌, ◌⊎◌, inl, inr, Bool, true, false, List, [], ◌∷◌, ◌++◌, length, take, drop, get_or, Option, Some, None, Ok, Err, IsTrue, refl, sym, ap, ◌∙◌, subst, arith, append_assoc}
+use Rattle.std.specs.Prelude.{Result, Vec, OnOk}
+use Rattle.std.specs.declared.alloc.Global.{Global}
+use Rattle.std.proofs.lemmas.List.{append-nil, take-append-drop}
+use Rattle.fab_base.specs.Seen.{Seen, Keeps, Rose, PutsAll, Touches, Only}
+use Rattle.fab_base.specs.declared.values.Failed.{Failed}
+use Rattle.fab_base.proofs.SeenLemmas.{rose_later, touches_refl, touches_trans, touches_wider, keeps_touches}
+use Rattle.fab_policy.specs.Written.{IsPrefixOf}
+use Rattle.pcap_file.proofs.lemmas.Numbers.{le_or_lt}
+use Rattle.fab_gather.specs.Ports.{slot_at, name_of, NameIn}
+use Rattle.fab_windows.specs.Files.{AreOutputs, items_in, piece_at, PutsEach, Hold, HoldFronts, Written, AreFiles, Writes}
+
+-- ---- a piece to each
+
+-- What stands before an output: those before it have their pieces, and the others are as they were.
+pub record Putting (slots : List ℕ) (pieces : List (List ℕ)) (k : ℕ) (a b : Seen) : Type 0 where
+  pub touches : Touches (NameIn a slots) (NameIn a slots) a b
+  pub done : IsTrue a.told → (q : ℕ) → q < k → q < length slots → (bytes : List ℕ) → a.file (name_of a slots q) ≡ Some bytes → b.file (name_of a slots q) ≡ Some (bytes ++ piece_at pieces q)
+  pub rest : (q : ℕ) → k ≤ q → q < length slots → b.file (name_of a slots q) ≡ a.file (name_of a slots q)
+
+pub putting_none : (slots : List ℕ) (pieces : List (List ℕ)) (a : Seen) → Putting slots pieces 0 a a
+putting_none slots pieces a = record {
+  touches = touches_refl (NameIn a slots) (NameIn a slots) a;
+  done = λ told q lt within bytes was. absurd (omega arith);
+  rest = λ q le lt. refl;
+}
+
+module _ (slots : List ℕ) (pieces : List (List ℕ)) (k : ℕ) (a b d : Seen) (outs : AreOutputs a slots) (lt : k < length slots) (p : Putting slots pieces k a b) where
+  abbrev s : ℕ
+  s = slot_at slots k
+
+  abbrev name : List ℕ
+  name = name_of a slots k
+
+  pub output_on : IsTrue (b.output s)
+  output_on = subst IsTrue (sym (p.touches.slots s (inr (outs.outputs k lt))).output) (outs.outputs k lt)
+
+  name_is : b.name s ≡ name
+  name_is = (p.touches.slots s (inr (outs.outputs k lt))).name
+
+  told_on : IsTrue a.told → IsTrue b.told
+  told_on told = subst IsTrue (sym p.touches.told) told
+
+  differs : (q : ℕ) → q < length slots → q ≢ k → name_of a slots q ≢ name
+  differs q less ne e = ne (outs.differ q k less lt e)
+
+  module _ {r : Result (Unit {0}) Failed} (puts : PutsAll s (piece_at pieces k) b d r) where
+    keeps : Keeps name b d
+    keeps = subst (λ n. Keeps n b d) name_is puts.keeps
+
+    touches_on : Touches (NameIn a slots) (NameIn a slots) a d
+    touches_on =
+        touches_trans (NameIn a slots) (NameIn a slots) a b d p.touches
+        (touches_wider (Only name) (Only name) (NameIn a slots) (NameIn a slots) b d (λ m e. (k, lt, e)) (λ m e. (k, lt, e)) (keeps_touches name b d keeps))
+
+    was : b.file name ≡ a.file name
+    was = p.rest k (omega arith) lt
+
+    others_rest : (q : ℕ) → k + 1 ≤ q → q < length slots → d.file (name_of a slots q) ≡ a.file (name_of a slots q)
+    others_rest q le less = keeps.files (name_of a slots q) (differs q less (λ e. omega arith)) ∙ p.rest q (omega arith) less
+
+  pub put_more : PutsAll {T = Unit {0}} {E = Failed} s (piece_at pieces k) b d (Ok tt) → Putting slots pieces (k + 1) a d
+  put_more puts = record {
+    touches = touches_on puts;
+    done = λ told q less within bytes had. elim (le_or_lt k q) [
+      | inl last ↦
+          let same : k ≡ q = omega arith in
+          subst (λ (x : ℕ). a.file (name_of a slots x) ≡ Some bytes → d.file (name_of a slots x) ≡ Some (bytes ++ piece_at pieces x)) same
+          (λ own. subst (λ n. d.file n ≡ Some (bytes ++ piece_at pieces k)) name_is (puts.grown (told_on told) bytes (ap b.file name_is ∙ was puts ∙ own)))
+          had
+      | inr more ↦ (keeps puts).files (name_of a slots q) (differs q within (λ e. omega arith)) ∙ p.done told q more within bytes had
+    ];
+    rest = others_rest puts;
+  }
+
+  pub put_failed : (e : Failed) → PutsAll {T = Unit {0}} {E = Failed} s (piece_at pieces k) b d (Err e) → PutsEach slots pieces a d (Err e)
+  put_failed e puts = record {
+    touches = touches_on puts;
+    all = λ told q less bytes had. tt;
+    part = λ told q less bytes had. elim (le_or_lt k q) [
+      | inl le ↦ elim (le_or_lt (k + 1) q) [
+        | inl behind ↦ (0, others_rest puts q behind less ∙ had ∙ ap Some (sym (append-nil bytes)))
+        | inr own ↦
+            let same : k ≡ q = omega arith in
+            subst (λ (x : ℕ). a.file (name_of a slots x) ≡ Some bytes → (n : ℕ) × (d.file (name_of a slots x) ≡ Some (bytes ++ take n (piece_at pieces x)))) same
+            (λ own. let part = puts.part (told_on told) bytes (ap b.file name_is ∙ was puts ∙ own) in (part.0, subst (λ n. d.file n ≡ Some (bytes ++ take part.0 (piece_at pieces k))) name_is part.1))
+            had
+      ]
+      | inr more ↦ (length (piece_at pieces q), (keeps puts).files (name_of a slots q) (differs q less (λ e. omega arith)) ∙ p.done told q more less bytes had ∙ ap (λ l. Some (bytes ++ l)) (sym (take_all (piece_at pieces q))))
+    ];
+    cause = (
+      k,
+      lt,
+      rose_later _ _ _ (p.touches.writes_rise name) (subst (λ n. Rose (b.write_faults n) (d.write_faults n)) name_is puts.cause),
+    );
+  }
+    where
+      take_all : (l : List ℕ) → take (length l) l ≡ l
+      take_all [] = refl
+      take_all (x ∷ l) = ap (λ m. x ∷ m) (take_all l)
+
+pub put_all_of : (slots : List ℕ) (pieces : List (List ℕ)) (k : ℕ) (a b : Seen) → length slots ≤ k → Putting slots pieces k a b → PutsEach slots pieces a b (Ok tt)
+put_all_of slots pieces k a b le p = record {
+  touches = p.touches;
+  all = λ told q less bytes had. p.done told q (omega arith) less bytes had;
+  part = λ told q less bytes had. (length (piece_at pieces q), p.done told q (omega arith) less bytes had ∙ ap (λ l. Some (bytes ++ l)) (sym (take_all (piece_at pieces q))));
+  cause = tt;
+}
+  where
+    take_all : (l : List ℕ) → take (length l) l ≡ l
+    take_all [] = refl
+    take_all (x ∷ l) = ap (λ m. x ∷ m) (take_all l)
+
+-- the piece at a place of the code's list
+pub piece-item : (l : List (Vec ℕ Global)) (i : ℕ) (v : Vec ℕ Global) → i < length l → v ≡ get_or l i v → v.items ≡ piece_at (items_in l) i
+piece-item [] i v lt is = absurd (omega arith)
+piece-item (x ∷ l) zero v lt is = ap (λ (y : Vec ℕ Global). y.items) is
+piece-item (x ∷ l) (suc i) v lt is = piece-item l i v (omega arith) is
+
+-- ---- the journal, and then the outputs
+
+-- open files stay so
+module _ (F G : List ℕ → Type 0) (a b : Seen) (k : Touches F G a b) where
+  pub stays_output : (s : ℕ) → IsTrue (a.output s) → IsTrue (b.output s)
+  stays_output s h = subst IsTrue (sym (k.slots s (inr h)).output) h
+
+  pub stays_named : (s : ℕ) → IsTrue (a.output s) → b.name s ≡ a.name s
+  stays_named s h = (k.slots s (inr h)).name
+
+  module _ (outs : List ℕ) (o : AreOutputs a outs) where
+    pub same_name : (q : ℕ) → q < length outs → name_of b outs q ≡ name_of a outs q
+    same_name q lt = stays_named (slot_at outs q) (o.outputs q lt)
+
+    pub outputs_stay : AreOutputs b outs
+    outputs_stay = record {
+      outputs = λ q lt. stays_output (slot_at outs q) (o.outputs q lt);
+      differ = λ p q less lt e. o.differ p q less lt (sym (same_name p less) ∙ e ∙ same_name q lt);
+    }
+
+  pub files_stay : (journal : ℕ) (outs : List ℕ) → AreFiles a journal outs → AreFiles b journal outs
+  files_stay journal outs f = record {
+    journal_ = stays_output journal f.journal_;
+    outs_ = outputs_stay outs f.outs_;
+    apart = λ q lt e. f.apart q lt (sym (same_name outs f.outs_ q lt) ∙ e ∙ stays_named journal f.journal_);
+  }
+
+moved : (d : Seen) {m n : List ℕ} {x : Option (List ℕ)} → m ≡ n → d.file m ≡ x → d.file n ≡ x
+moved d {m} {n} {x} e h = subst (λ k. d.file k ≡ x) e h
+
+-- a front of what continues is a front of the whole
+continued : (front back part : List ℕ) (n : ℕ) (whole : List ℕ) → whole ≡ front ++ back → part ≡ take n back → IsPrefixOf (front ++ part) whole
+continued front back part n whole is of = (drop n back, append_assoc front part (drop n back) ∙ ap (λ l. front ++ (l ++ drop n back)) of ∙ ap (λ l. front ++ l) (take-append-drop n back) ∙ sym is)
+
+pub first_touches : (journal : ℕ) (outs lines : List ℕ) (a b : Seen) {r : Result (Unit {0}) Failed} → PutsAll journal lines a b r → Touches (Written a journal outs) (Written a journal outs) a b
+first_touches journal outs lines a b puts = touches_wider (Only (a.name journal)) (Only (a.name journal)) (Written a journal outs) (Written a journal outs) a b (λ m e. inl e) (λ m e. inl e) (keeps_touches (a.name journal) a b puts.keeps)
+
+module _ (journal : ℕ) (outs lines : List ℕ) (pieces : List (List ℕ)) (a b : Seen) (f : AreFiles a journal outs) where
+  abbrev F : List ℕ → Type 0
+  F = Written a journal outs
+
+  module _ {r : Result (Unit {0}) Failed} (puts : PutsAll journal lines a b r) where
+    -- the outputs are as they were
+    outs_same : (q : ℕ) → q < length outs → b.file (name_of a outs q) ≡ a.file (name_of a outs q)
+    outs_same q lt = puts.keeps.files (name_of a outs q) (f.apart q lt)
+
+  pub first_failed : (e : Failed) → PutsAll {T = Unit {0}} {E = Failed} journal lines a b (Err e) → Writes journal outs lines pieces a b (Err e)
+  first_failed e puts =
+      let k = first_touches journal outs lines a b puts in
+      record {
+        touches = k;
+        files = files_stay F F a b k journal outs f;
+        whole = λ told l l' r r' w is more. tt;
+        front = λ told l l' r r' w is more.
+            let part = puts.part told l w.lines_ in
+            record {
+              lines_ = (
+                l ++ take part.0 lines,
+                moved b (sym (stays_named F F a b k journal f.journal_)) part.1,
+                continued l lines (take part.0 lines) part.0 l' is refl,
+              );
+              records = λ q lt. (
+                r q,
+                moved b (sym (same_name F F a b k outs f.outs_ q lt)) (outs_same puts q lt ∙ w.records q lt),
+                (piece_at pieces q, sym (more q lt)),
+              );
+            };
+        cause = inl puts.cause;
+      }
+
+  module _ (d : Seen) (puts : PutsAll {T = Unit {0}} {E = Failed} journal lines a b (Ok tt)) where
+    abbrev k : Touches F F a b
+    k = first_touches journal outs lines a b puts
+
+    told_b : IsTrue a.told → IsTrue b.told
+    told_b told = subst IsTrue (sym k.told) told
+
+    outs_b : AreOutputs b outs
+    outs_b = outputs_stay F F a b k outs f.outs_
+
+    name_b : (q : ℕ) → q < length outs → name_of b outs q ≡ name_of a outs q
+    name_b q lt = same_name F F a b k outs f.outs_ q lt
+
+    in_f : (m : List ℕ) → NameIn b outs m → F m
+    in_f m h = inr (h.0, h.1, h.2 ∙ name_b h.0 h.1)
+
+    had_b : (l : List ℕ) (r : ℕ → List ℕ) → Hold a journal outs l r → (q : ℕ) → q < length outs → b.file (name_of b outs q) ≡ Some (r q)
+    had_b l r w q lt = moved b (sym (name_b q lt)) (outs_same puts q lt ∙ w.records q lt)
+
+    module _ {z : Result (Unit {0}) Failed} (each : PutsEach outs pieces b d z) where
+      second : Touches F F b d
+      second = touches_wider (NameIn b outs) (NameIn b outs) F F b d in_f in_f each.touches
+
+      both : Touches F F a d
+      both = touches_trans F F a b d k second
+
+      name_d : (q : ℕ) → q < length outs → name_of d outs q ≡ name_of b outs q
+      name_d q lt = same_name F F b d second outs outs_b q lt
+
+      journal_d : d.name journal ≡ a.name journal
+      journal_d = stays_named F F a d both journal f.journal_
+
+      journal_kept : d.file (a.name journal) ≡ b.file (a.name journal)
+      journal_kept = each.touches.files (a.name journal) (λ h. f.apart h.0 h.1 (sym (h.2 ∙ name_b h.0 h.1)))
+
+      lines_d : IsTrue a.told → (l l' : List ℕ) (r : ℕ → List ℕ) → Hold a journal outs l r → l' ≡ l ++ lines → d.file (d.name journal) ≡ Some l'
+      lines_d told l l' r w is = moved d (sym journal_d) (journal_kept ∙ puts.grown told l w.lines_ ∙ ap Some (sym is))
+
+      records_d : IsTrue a.told → (l : List ℕ) (r r' : ℕ → List ℕ) → Hold a journal outs l r → ((q : ℕ) → q < length outs → r' q ≡ r q ++ piece_at pieces q) → (q : ℕ) → q < length outs → (bytes : List ℕ) × (d.file (name_of d outs q) ≡ Some bytes) × IsPrefixOf bytes (r' q)
+      records_d told l r r' w more q lt =
+          let part = each.part (told_b told) q lt (r q) (had_b l r w q lt) in (
+            r q ++ take part.0 (piece_at pieces q),
+            moved d (sym (name_d q lt)) part.1,
+            continued (r q) (piece_at pieces q) (take part.0 (piece_at pieces q)) part.0 (r' q) (more q lt) refl,
+          )
+
+    rose_d : (q : ℕ) → q < length outs → Rose (b.write_faults (name_of b outs q)) (d.write_faults (name_of b outs q)) → Rose (a.write_faults (name_of a outs q)) (d.write_faults (name_of a outs q))
+    rose_d q lt rose = rose_later _ _ _ (k.writes_rise (name_of a outs q)) (subst (λ n. Rose (b.write_faults n) (d.write_faults n)) (name_b q lt) rose)
+
+    pub second_done : PutsEach outs pieces b d (Ok tt) → Writes journal outs lines pieces a d (Ok tt)
+    second_done each = record {
+      touches = both each;
+      files = files_stay F F a d (both each) journal outs f;
+      whole = λ told l l' r r' w is more. record {
+        lines_ = lines_d each told l l' r w is;
+        records = λ q lt. moved d (sym (name_d each q lt)) (each.all (told_b told) q lt (r q) (had_b l r w q lt) ∙ ap Some (sym (more q lt)));
+      };
+      front = λ told l l' r r' w is more. record { lines_ = (l', lines_d each told l l' r w is, ([], append-nil l')); records = records_d each told l r r' w more };
+      cause = tt;
+    }
+
+    pub second_failed : (e : Failed) → PutsEach outs pieces b d (Err e) → Writes journal outs lines pieces a d (Err e)
+    second_failed e each = record {
+      touches = both each;
+      files = files_stay F F a d (both each) journal outs f;
+      whole = λ told l l' r r' w is more. tt;
+      front = λ told l l' r r' w is more. record { lines_ = (l', lines_d each told l l' r w is, ([], append-nil l')); records = records_d each told l r r' w more };
+      cause = inr (each.cause.0, each.cause.1, rose_d each.cause.0 each.cause.1 each.cause.2);
+    }

@@ -1,0 +1,264 @@
+-- A window that was gathered and handled: what stands after it, before and behind its writing.
+use Rattle.std.proofs.Common.{◌≡◌, ◌≢◌, ℕ, zero, suc, ◌+◌, ◌-◌, ◌*◌, ◌^◌, ◌<◌, ◌≤◌, ◌⊎◌, inl, inr, List, [], ◌∷◌, ◌++◌, length, map, Option, Some, None, IfSome, IsTrue, Result, Ok, Err, OnOk, IfErr, take, drop, refl, sym, ap, ◌∙◌, subst, arith, length-append}
+use Rattle.std.specs.Prelude.{unwrap_or, option_to_list}
+use Rattle.fab_base.specs.Seen.{Seen, Touches, Nothing}
+use Rattle.fab_config.specs.Settings.{Settings}
+use Rattle.fab_policy.specs.Growing.{lines_from, records_to, with_more}
+use Rattle.fab_policy.specs.Journal.{Journal, followed, clock, now, frame_count}
+use Rattle.fab_policy.specs.Legal.{Legal}
+use Rattle.fab_policy.specs.Looks.{Opened, stop}
+use Rattle.fab_policy.specs.Outputs.{State, Sent}
+use Rattle.fab_policy.specs.Standing.{Contents, Stands, drained, sent_after}
+use Rattle.fab_policy.specs.Text.{text}
+use Rattle.fab_policy.specs.declared.event.Event.{Event}
+use Rattle.fab_replies.specs.Message.{sent_of}
+use Rattle.fab_replies.specs.declared.message.Out.{Out}
+use Rattle.forward_core.specs.Fabric.{AreRanged}
+use Rattle.pcap_file.specs.declared.Budget.{Budget}
+use Rattle.pcap_file.specs.declared.Record.{Record}
+use Rattle.fab_gather.specs.declared.shelf.Input.{Input}
+use Rattle.fab_gather.specs.declared.shelf.Shelf.{Shelf}
+use Rattle.fab_gather.specs.declared.fault.RunFault.{RunFault}
+use Rattle.fab_gather.specs.declared.fault.RunFault.TheVariants as fault
+use Rattle.fab_gather.specs.First.{IsNextWindow}
+use Rattle.fab_gather.specs.Port.{Spends}
+use Rattle.fab_gather.specs.Ports.{slots_of, NameIn, counts_of, stop_from}
+use Rattle.fab_gather.specs.Reads.{HaveRead, batches_of}
+use Rattle.fab_windows.specs.declared.Done.{Done}
+use Rattle.fab_windows.specs.Files.{AreFiles, Wholes, Fronts, captures}
+use Rattle.fab_windows.specs.Pages.{AreEarly}
+use Rattle.fab_windows.specs.Steps.{Sofar}
+use Rattle.fab_windows.specs.Turns.{Laws, Task, captures_in, Reached, Going, Gathered, Ended, Gathers, Handles, Publishes}
+use Rattle.fab_windows.specs.Window.{Ticked, Handled, firsts_of}
+use Rattle.fab_windows.proofs.CountLemmas.{frames_found, entries_few, length-followed, frames-followed}
+use Rattle.fab_windows.proofs.SentLemmas.{NotAfter, outs_are, outs_early, early, clock_is}
+use Rattle.fab_windows.proofs.PageLemmas.{front_of}
+use Rattle.fab_windows.proofs.StayLemmas.{same_ports}
+use Rattle.fab_windows.proofs.FileLemmas.{files_stay}
+use Rattle.fab_windows.proofs.TurnLemmas.{read_touches, reached_on, ended_writing, ended_gathering, ended_unwritten, whole_on, files_now}
+
+length-batches : (shelves : List Shelf) → length (batches_of shelves) ≡ length shelves
+length-batches [] = refl
+length-batches (s ∷ shelves) = ap suc (length-batches shelves)
+
+-- ticks, frames and what is handed out, one after another
+pub handles_by : (w : ℕ) (shelves : List Shelf) (F G H E : Contents) (events : List Event) (outs : List Out) → Ticked w F G → Handled (firsts_of shelves) (batches_of shelves) G H →
+    E ≡ drained H → events ≡ H.events → map (sent_of H.settings H.events) outs ≡ H.outs → AreRanged H.events → Handles w shelves F E events outs
+handles_by w shelves F G H E events outs t f after es sents ranged =
+    let settings : F.settings ≡ H.settings = sym (f.grown.settings ∙ t.settings) in
+    record {
+      ticked = G;
+      handled = H;
+      ticks = t;
+      frames = f;
+      after = after;
+      events_ = es;
+      outs_ = (λ i. map (sent_of (settings i) (es i)) outs) ∙ sents;
+      ranged = subst AreRanged (sym es) ranged;
+    }
+
+-- what is left of the limits after both
+pub spends_both : (had mid left : Budget) (a b : ℕ) → Spends had mid 0 a → Spends mid left a b → Spends had left 0 b
+spends_both had mid left a b h k = record { frames = omega (arith, h.frames, k.frames); bytes = omega (arith, h.bytes, k.bytes) }
+
+module _ (laws : Laws) (k : Task) (w first : ℕ) (F : Contents) (d : Seen) (ins : List Input) (shelves : List Shelf) (left : Budget) (r : Reached k w first F d ins shelves left)
+    (b : Seen) (ins' : List Input) (shelves' : List Shelf) (left' : Budget) (t : Gathers k.settings first w d b ins ins' shelves shelves' left left' (Ok tt))
+    (next : IsNextWindow k.settings shelves (Some w)) (E : Contents) (events : List Event) (outs : List Out) (h : Handles w shelves' F E events outs) where
+  abbrev c : Settings
+  c = k.settings
+
+  abbrev taken' : List (List Record)
+  taken' = with_more r.taken (batches_of shelves')
+
+  abbrev K : Journal
+  K = followed r.entry_list events
+
+  pub count_on : length shelves' ≡ length ins'
+  count_on = t.count ∙ r.count ∙ sym (same_ports ins ins' t.slots)
+
+  pub read_on : HaveRead c (w + 1) (captures_in k) taken' ins' shelves' b
+  read_on = laws.reads_on c w (captures_in k) r.taken d b ins ins' shelves shelves' t.touches.told (same_ports ins ins' t.slots) t.count r.read t.took
+
+  width : length r.taken ≡ length shelves'
+  width = r.sofar.width ∙ sym (same_ports k.ins ins r.slots) ∙ sym r.count ∙ sym t.count
+
+  pub sofar_on : Sofar c (length k.ins) (w + 1) taken' K E
+  sofar_on =
+      let moved = laws.moves c w d b ins ins' shelves shelves' left left' r.count (same_ports ins ins' t.slots) t.count next t.took t.ready t.spent in
+      let n : length (batches_of shelves') ≡ length k.ins = length-batches shelves' ∙ sym width ∙ r.sofar.width in
+      let frames = subst (λ l. Handled l (batches_of shelves') h.ticked h.handled) (laws.firsts_taken c (w + 1) (captures_in k) r.taken ins' shelves' b width read_on) h.frames in
+      let ranged = subst AreRanged h.events_ h.ranged in
+      let s = laws.windows_run c (length k.ins) w r.taken (batches_of shelves') r.entry_list F h.ticked h.handled r.sofar n moved.batches moved.some h.ticks frames ranged in
+      subst (Sofar c (length k.ins) (w + 1) taken' K) (sym h.after) (subst (λ l. Sofar c (length k.ins) (w + 1) taken' (followed r.entry_list l) (drained h.handled)) (sym h.events_) s)
+
+  pub clock_on : E.state.tables.clock ≡ Some w
+  clock_on = ap (λ (G : Contents). G.state.tables.clock) h.after ∙ h.frames.grown.clock ∙ h.ticks.at_clock
+
+  abbrev pub reached_after : Reached k (w + 1) first E b ins' shelves' left'
+  reached_after = record {
+    given = r.given;
+    ports = r.ports;
+    outputs = r.outputs;
+    limits = r.limits;
+    touches = read_touches laws k w first F d ins shelves left r b t.touches;
+    slots = t.slots ∙ r.slots;
+    count = count_on;
+    taken = taken';
+    entry_list = K;
+    sofar = sofar_on;
+    clock = subst (λ o. IfSome o (λ u. u < w + 1)) (sym clock_on) (omega arith);
+    ready = t.ready;
+    read = read_on;
+    spent = spends_both k.budget left left' (counts_of shelves) (counts_of shelves') r.spent t.spent;
+    stops = λ told. r.stops told ∙ t.looks (subst IsTrue (sym r.touches.told) told);
+  }
+
+  -- ---- what it adds to the files
+
+  settings_same : F.settings ≡ c
+  settings_same = r.sofar.settings
+
+  legal_here : Legal F.settings r.entry_list
+  legal_here = subst (λ s. Legal s r.entry_list) (sym settings_same) r.sofar.run.run.legal
+
+  sent_here : map (sent_of F.settings events) outs ≡ sent_after c (length k.outs) r.entry_list events
+  sent_here =
+      h.outs_
+      ∙ outs_are laws w F h.ticked h.handled (firsts_of shelves') (batches_of shelves') h.ticks h.frames r.sofar.events r.entry_list legal_here r.sofar.stands
+      ∙ ap (λ l. sent_after F.settings F.count r.entry_list l) (sym h.events_)
+      ∙ ap (λ s. sent_after s F.count r.entry_list events) settings_same
+      ∙ ap (λ n. sent_after c n r.entry_list events) (r.sofar.count ∙ sym r.outputs)
+
+  pub early_here : w < 2 ^ 53 → AreEarly outs
+  early_here lt =
+      early F.settings events w outs lt
+      (subst (NotAfter w) (sym h.outs_) (outs_early laws w F h.ticked h.handled (firsts_of shelves') (batches_of shelves') h.ticks h.frames r.sofar.events r.entry_list legal_here r.sofar.stands))
+
+  lines_here : text K ≡ text r.entry_list ++ lines_from (unwrap_or F.state.tables.clock 0) events
+  lines_here = laws.text_grows r.entry_list events ∙ ap (λ (o : Option ℕ). text r.entry_list ++ lines_from (unwrap_or o 0) events) (sym (clock_is F r.entry_list r.sofar.stands))
+
+  records_here : (q : ℕ) → q < length k.outs → captures c (length k.outs) K q ≡ captures c (length k.outs) r.entry_list q ++ records_to (q + 1) (map (sent_of F.settings events) outs)
+  records_here q lt = laws.egress_grows c (length k.outs) (q + 1) r.entry_list events ∙ ap (λ l. captures c (length k.outs) r.entry_list q ++ records_to (q + 1) l) (sym sent_here)
+
+  module _ (whole : IsTrue k.seen.told → Wholes c b k.journal k.outs r.entry_list) (z : Seen) where
+    told_b : IsTrue k.seen.told → IsTrue b.told
+    told_b told = subst IsTrue (sym (t.touches.told ∙ r.touches.told)) told
+
+    pub ended_publishing : (e : RunFault) → Publishes k.journal k.outs (lines_from (unwrap_or F.state.tables.clock 0) events) (map (sent_of F.settings events) outs) b z (Err e) → Ended k z e
+    ended_publishing e p =
+        ended_writing laws k (w + 1) first E b ins' shelves' left' reached_after z p.touches e p.only
+        (λ told. p.front (told_b told) (text r.entry_list) (text K) (captures c (length k.outs) r.entry_list) (captures c (length k.outs) K) (whole told) lines_here records_here)
+        (λ x. p.cause (ap (λ y. Err y) x))
+
+    module _ (done done' : Done) (frames : done.frames ≡ frame_count r.entry_list) (entries : done.entries ≡ length r.entry_list) where
+      pub going_on : Publishes k.journal k.outs (lines_from (unwrap_or F.state.tables.clock 0) events) (map (sent_of F.settings events) outs) b z (Ok tt) →
+          done'.frames ≡ done.frames + frame_count events → done'.entries ≡ done.entries + length events → Going k (w + 1) first E z ins' shelves' left' done'
+      going_on p more_frames more_entries = record {
+        reached = reached_on laws k (w + 1) first E b ins' shelves' left' reached_after z p.touches;
+        whole = λ told. p.whole (told_b told) (text r.entry_list) (text K) (captures c (length k.outs) r.entry_list) (captures c (length k.outs) K) (whole told) lines_here records_here;
+        frames = more_frames ∙ ap (λ (n : ℕ). n + frame_count events) frames ∙ sym (frames-followed r.entry_list events);
+        entries = more_entries ∙ ap (λ (n : ℕ). n + length events) entries ∙ sym (length-followed r.entry_list events);
+      }
+
+      -- the numbers don't come to their types' ends
+      pub room_on : w < 2 ^ 43 → (done.frames + frame_count events < 2 ^ 64) × (done.entries + length events < 2 ^ 64)
+      room_on lt =
+          let x = reached_after in
+          let found = frames_found c (length k.ins) (w + 1) (captures_in k) taken' K ins' shelves' b x.sofar.width x.sofar.run.run read_on in
+          let few = entries_few c taken' K (w + 1) x.sofar.run.run.timed (subst (λ o. IfSome o (λ u. u < w + 1)) (clock_is E K x.sofar.stands) x.clock) in
+          let a = frames-followed r.entry_list events in
+          let e = length-followed r.entry_list events in
+          let bytes = x.spent.bytes in
+          (omega (arith, found, a, frames, bytes, r.limits), omega (arith, found, few, a, e, entries, bytes, lt, r.limits))
+
+-- ---- one turn
+
+module _ (laws : Laws) (k : Task) (w first : ℕ) (F : Contents) (d : Seen) (ins : List Input) (shelves : List Shelf) (left : Budget) (done : Done) (g : Going k w first F d ins shelves left done) (b : Seen) (ins' : List Input) (shelves' : List Shelf) (left' : Budget) where
+  pub turn_stops : (e : RunFault) → Gathers k.settings first w d b ins ins' shelves shelves' left left' (Err e) → Ended k b e
+  turn_stops e t = ended_gathering laws k w first F d ins shelves left g.reached g.whole b ins' shelves' left' e t
+
+  module _ (t : Gathers k.settings first w d b ins ins' shelves shelves' left left' (Ok tt)) where
+    pub turn_refused : Ended k b fault.Memory
+    turn_refused = ended_unwritten laws k w first F d ins shelves left g.reached b t.touches g.whole
+
+    whole_b : IsTrue k.seen.told → Wholes k.settings b k.journal k.outs g.reached.entry_list
+    whole_b told = whole_on laws k w first F d ins shelves left g.reached b t.touches g.whole told
+
+    pub files_b : AreFiles b k.journal k.outs
+    files_b = files_stay Nothing (NameIn d (slots_of ins)) d b t.touches k.journal k.outs (files_now laws k w first F d ins shelves left g.reached)
+
+    module _ (next : IsNextWindow k.settings shelves (Some w)) (E : Contents) (events : List Event) (outs : List Out) (h : Handles w shelves' F E events outs) where
+      pub turn_early : w < 2 ^ 43 → AreEarly outs
+      turn_early lt = early_here laws k w first F d ins shelves left g.reached b ins' shelves' left' t next E events outs h (omega (arith, lt))
+
+      pub turn_room : w < 2 ^ 43 → (done.frames + frame_count events < 2 ^ 64) × (done.entries + length events < 2 ^ 64)
+      turn_room lt = room_on laws k w first F d ins shelves left g.reached b ins' shelves' left' t next E events outs h whole_b b done done g.frames g.entries lt
+
+      pub turn_unwritten : (z : Seen) (e : RunFault) → Publishes k.journal k.outs (lines_from (unwrap_or F.state.tables.clock 0) events) (map (sent_of F.settings events) outs) b z (Err e) → Ended k z e
+      turn_unwritten z e p = ended_publishing laws k w first F d ins shelves left g.reached b ins' shelves' left' t next E events outs h whole_b z e p
+
+      pub turn_done : (z : Seen) (done' : Done) → Publishes k.journal k.outs (lines_from (unwrap_or F.state.tables.clock 0) events) (map (sent_of F.settings events) outs) b z (Ok tt) →
+          done'.frames ≡ done.frames + frame_count events → done'.entries ≡ done.entries + length events → Going k (w + 1) first E z ins' shelves' left' done'
+      turn_done z done' p frames entries = going_on laws k w first F d ins shelves left g.reached b ins' shelves' left' t next E events outs h whole_b z done done' g.frames g.entries p frames entries
+
+-- what was gathered, by the code's own configuration and its own list of shelves
+module _ (k : Task) (w first : ℕ) (F : Contents) (d : Seen) (ins : List Input) (shelves : List Shelf) (left : Budget) (b : Seen) (ins' : List Input) (new : List Shelf) (left' : Budget) (c : Settings) (c_is : c ≡ k.settings) (l : List Shelf) (l_is : l ≡ shelves) where
+  pub gathers_as : (result : Result (Unit {0}) RunFault) → Gathers c first w d b ins ins' l new left left' result → Gathers k.settings first w d b ins ins' shelves new left left' result
+  gathers_as result t =
+      subst (λ x. Gathers k.settings first w d b ins ins' x new left left' result) l_is (subst (λ s. Gathers s first w d b ins ins' l new left left' result) c_is t)
+
+  pub gathered_by : (done : Done) → Going k w first F d ins shelves left done → IsNextWindow k.settings shelves (Some w) → (n : ℕ) → n ≡ length shelves →
+      Gathers c first w d b ins ins' l new left left' (Ok tt) → Gathered k w first F b ins' (take n (new ++ drop (length new) shelves)) left' done
+  gathered_by done g next n n_is t =
+      let t' = gathers_as (Ok tt) t in
+      subst (λ x. Gathered k w first F b ins' x left' done) (sym (front_of new (drop (length new) shelves) n (n_is ∙ sym t'.count))) (record {
+        seen = d;
+        ins = ins;
+        shelves = shelves;
+        left = left;
+        going = g;
+        next = next;
+        gathers = t';
+      })
+
+-- ---- behind the gathering
+
+pub settings_kept : (w : ℕ) (shelves : List Shelf) (F E : Contents) (events : List Event) (outs : List Out) → Handles w shelves F E events outs → E.settings ≡ F.settings
+settings_kept w shelves F E events outs h = ap (λ (G : Contents). G.settings) h.after ∙ h.frames.grown.settings ∙ h.ticks.settings
+
+pub clock_there : (w : ℕ) (shelves : List Shelf) (F E : Contents) (events : List Event) (outs : List Out) → Handles w shelves F E events outs → E.state.tables.clock ≡ Some w
+clock_there w shelves F E events outs h = ap (λ (G : Contents). G.state.tables.clock) h.after ∙ h.frames.grown.clock ∙ h.ticks.at_clock
+
+module _ (laws : Laws) (k : Task) (w first : ℕ) (F : Contents) (b : Seen) (ins : List Input) (shelves : List Shelf) (left : Budget) (done : Done) (x : Gathered k w first F b ins shelves left done) where
+  abbrev old : Reached k w first F x.seen x.ins x.shelves x.left
+  old = x.going.reached
+
+  pub gathered_ports : length shelves ≡ length k.ins
+  gathered_ports = x.gathers.count ∙ old.count ∙ same_ports k.ins x.ins old.slots
+
+  pub gathered_files : AreFiles b k.journal k.outs
+  gathered_files = files_b laws k w first F x.seen x.ins x.shelves x.left done x.going b ins shelves left x.gathers
+
+  pub answer_refused : Ended k b fault.Memory
+  answer_refused = turn_refused laws k w first F x.seen x.ins x.shelves x.left done x.going b ins shelves left x.gathers
+
+  module _ (E : Contents) (events : List Event) (outs : List Out) (h : Handles w shelves F E events outs) where
+    pub answer_early : w < 2 ^ 43 → AreEarly outs
+    answer_early = turn_early laws k w first F x.seen x.ins x.shelves x.left done x.going b ins shelves left x.gathers x.next E events outs h
+
+    pub answer_room : w < 2 ^ 43 → (done.frames + frame_count events < 2 ^ 64) × (done.entries + length events < 2 ^ 64)
+    answer_room = turn_room laws k w first F x.seen x.ins x.shelves x.left done x.going b ins shelves left x.gathers x.next E events outs h
+
+    module _ (z : Seen) (at : ℕ) (at_is : at ≡ unwrap_or F.state.tables.clock 0) (c : Settings) (c_is : c ≡ E.settings) where
+      as_is : (result : Result (Unit {0}) RunFault) → Publishes k.journal k.outs (lines_from at events) (map (sent_of c events) outs) b z result →
+          Publishes k.journal k.outs (lines_from (unwrap_or F.state.tables.clock 0) events) (map (sent_of F.settings events) outs) b z result
+      as_is result p =
+          subst (λ s. Publishes k.journal k.outs (lines_from (unwrap_or F.state.tables.clock 0) events) (map (sent_of s events) outs) b z result) (c_is ∙ settings_kept w shelves F E events outs h)
+          (subst (λ (t : ℕ). Publishes k.journal k.outs (lines_from t events) (map (sent_of c events) outs) b z result) at_is p)
+
+      pub answer_unwritten : (e : RunFault) → Publishes k.journal k.outs (lines_from at events) (map (sent_of c events) outs) b z (Err e) → Ended k z e
+      answer_unwritten e p = turn_unwritten laws k w first F x.seen x.ins x.shelves x.left done x.going b ins shelves left x.gathers x.next E events outs h z e (as_is (Err e) p)
+
+      pub answer_done : (done' : Done) → Publishes k.journal k.outs (lines_from at events) (map (sent_of c events) outs) b z (Ok tt) →
+          done'.frames ≡ done.frames + frame_count events → done'.entries ≡ done.entries + length events → Going k (w + 1) first E z ins shelves left done'
+      answer_done done' p frames entries = turn_done laws k w first F x.seen x.ins x.shelves x.left done x.going b ins shelves left x.gathers x.next E events outs h z done' (as_is (Ok tt) p) frames entries

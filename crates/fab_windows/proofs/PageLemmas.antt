@@ -1,0 +1,202 @@
+-- Pages that grow by records.
+use Rattle.std.proofs.Common.{◌≡◌, ◌≢◌, ℕ, zero, suc, ◌+◌, ◌-◌, ◌^◌, ◌<◌, ◌≤◌, ◌⊎◌, inl, inr, Bool, cond, eqb, List, [], ◌∷◌, ◌++◌, length, map, take, drop, get_or, Option, Some, None, refl, sym, ap, ◌∙◌, subst, arith, append_assoc, append-nil, length-append}
+use Rattle.std.specs.Prelude.{Vec, slice_get, slice_set, flat_map, filter, replicate}
+use Rattle.std.specs.declared.alloc.Global.{Global}
+use Rattle.std.proofs.lemmas.Bool.{eq-eqb, ne_eqb}
+use Rattle.std.proofs.lemmas.Grind.{flat_map-append}
+use Rattle.std.proofs.lemmas.List.Elements.{filter-append}
+use Rattle.fab_base.specs.Layout.{spelled_low}
+use Rattle.pcap_file.specs.Capture.{record_bytes}
+use Rattle.pcap_file.proofs.lemmas.Numbers.{le_or_lt}
+use Rattle.fab_policy.specs.Growing.{records_to, clock_after, lines_from}
+use Rattle.fab_policy.specs.Outputs.{Sent}
+use Rattle.fab_policy.specs.Text.{sent_bytes, line}
+use Rattle.fab_policy.specs.declared.event.Event.{Event}
+use Rattle.fab_windows.specs.Files.{items_in, piece_at}
+use Rattle.fab_replies.specs.declared.message.Out.{Out}
+use Rattle.fab_windows.specs.Pages.{Adds, AreEarly}
+use Rattle.fab_windows.proofs.CountLemmas.{drop_next}
+use Rattle.fab_windows.proofs.FileLemmas.{piece-item}
+
+-- ---- what is sent on a port
+
+records-append : (p : ℕ) (l m : List Sent) → records_to p (l ++ m) ≡ records_to p l ++ records_to p m
+records-append p l m = ap (flat_map sent_bytes) (filter-append (λ (s : Sent). eqb s.port p) l m) ∙ flat_map-append sent_bytes (filter (λ s. eqb s.port p) l) (filter (λ s. eqb s.port p) m)
+
+own_record : (p : ℕ) (s : Sent) → s.port ≡ p → records_to p (s ∷ []) ≡ sent_bytes s
+own_record p s is = ap (λ (b : Bool). flat_map sent_bytes (cond b (s ∷ []) [])) (eq-eqb s.port p is) ∙ append-nil (sent_bytes s)
+
+other_record : (p : ℕ) (s : Sent) → s.port ≢ p → records_to p (s ∷ []) ≡ []
+other_record p s ne = ap (λ (b : Bool). flat_map sent_bytes (cond b (s ∷ []) [])) (ne_eqb s.port p ne)
+
+-- ---- pages
+
+pub length-items : (l : List (Vec ℕ Global)) → length (items_in l) ≡ length l
+length-items [] = refl
+length-items (v ∷ l) = ap suc (length-items l)
+
+pub adds_none : (pages : List (List ℕ)) → Adds [] pages pages
+adds_none pages = record { count = refl; pages = λ q lt. sym (append-nil (piece_at pages q)) }
+
+pub adds_more : (l m : List Sent) (a b c : List (List ℕ)) → Adds l a b → Adds m b c → Adds (l ++ m) a c
+adds_more l m a b c h k = record {
+  count = k.count ∙ h.count;
+  pages = λ q lt.
+      k.pages q (subst (λ (n : ℕ). q < n) (sym h.count) lt) ∙ ap (λ x. x ++ records_to (q + 1) m) (h.pages q lt)
+      ∙ append_assoc (piece_at a q) (records_to (q + 1) l) (records_to (q + 1) m) ∙ ap (λ x. piece_at a q ++ x) (sym (records-append (q + 1) l m));
+}
+
+-- no page for a port
+pub adds_nowhere : (s : Sent) (pages : List (List ℕ)) → length pages < s.port → Adds (s ∷ []) pages pages
+adds_nowhere s pages lt = record {
+  count = refl;
+  pages = λ q within. sym (ap (λ l. piece_at pages q ++ l) (other_record (q + 1) s (λ e. absurd (omega (arith, e, lt, within)))) ∙ append-nil (piece_at pages q));
+}
+
+length_set : (l : List (Vec ℕ Global)) (k : ℕ) (v : Vec ℕ Global) → length (items_in (slice_set l k v)) ≡ length (items_in l)
+length_set [] k v = refl
+length_set (x ∷ l) zero v = refl
+length_set (x ∷ l) (suc k) v = ap suc (length_set l k v)
+
+pub set_page : (l : List (Vec ℕ Global)) (k : ℕ) (v : Vec ℕ Global) → k < length l → piece_at (items_in (slice_set l k v)) k ≡ v.items
+set_page [] k v lt = absurd (omega (arith, lt))
+set_page (x ∷ l) zero v lt = refl
+set_page (x ∷ l) (suc k) v lt = set_page l k v (omega (arith, lt))
+
+own_page : (l : List (Vec ℕ Global)) (k : ℕ) (v w : Vec ℕ Global) (bytes : List ℕ) → k < length l → w ≡ get_or l k w → v.items ≡ w.items ++ bytes → piece_at (items_in (slice_set l k v)) k ≡ piece_at (items_in l) k ++ bytes
+own_page l k v w bytes lt is e = set_page l k v lt ∙ e ∙ ap (λ x. x ++ bytes) (piece-item l k w lt is)
+
+pub other_page : (l : List (Vec ℕ Global)) (k q : ℕ) (v : Vec ℕ Global) → q ≢ k → piece_at (items_in (slice_set l k v)) q ≡ piece_at (items_in l) q
+other_page [] k q v ne = refl
+other_page (x ∷ l) zero zero v ne = absurd (ne refl)
+other_page (x ∷ l) zero (suc q) v ne = refl
+other_page (x ∷ l) (suc k) zero v ne = refl
+other_page (x ∷ l) (suc k) (suc q) v ne = other_page l k q v (λ e. ne (ap suc e))
+
+-- a record behind the page of its port
+pub adds_record : (s : Sent) (l : List (Vec ℕ Global)) (k : ℕ) (v w : Vec ℕ Global) → s.port ≡ k + 1 → k < length l → w ≡ get_or l k w → v.items ≡ w.items ++ sent_bytes s → Adds (s ∷ []) (items_in l) (items_in (slice_set l k v))
+adds_record s l k v w port lt is e = record {
+  count = length_set l k v;
+  pages = λ q within. elim (cases_eq q k) [
+    | inl same ↦ subst (λ (x : ℕ). piece_at (items_in (slice_set l k v)) x ≡ piece_at (items_in l) x ++ records_to (x + 1) (s ∷ [])) (sym same)
+        (own_page l k v w (sent_bytes s) lt is e ∙ ap (λ x. piece_at (items_in l) k ++ x) (sym (own_record (k + 1) s port)))
+    | inr differ ↦
+        other_page l k q v differ
+        ∙ sym (ap (λ x. piece_at (items_in l) q ++ x) (other_record (q + 1) s (λ f. absurd (differ (omega (arith, f, port))))) ∙ append-nil (piece_at (items_in l) q))
+  ];
+}
+  where
+    cases_eq : (a b : ℕ) → (a ≡ b) ⊎ (a ≢ b)
+    cases_eq a b = elim (le_or_lt a b) [
+      | inl le ↦ elim (le_or_lt b a) [ inl ge ↦ inl (omega (arith, le, ge)) | inr lt' ↦ inr (λ e'. absurd (omega (arith, e', lt'))) ]
+      | inr gt ↦ inr (λ e'. absurd (omega (arith, e', gt)))
+    ]
+
+-- one item further
+pub take_next : {X : Type 0} (xs : List X) (i : ℕ) (x : X) → slice_get xs i ≡ Some x → take (i + 1) xs ≡ take i xs ++ x ∷ []
+take_next [] i x e = absurd (cc)
+take_next (y ∷ xs) zero x e = let same : y ≡ x = cc in ap (λ z. z ∷ []) same
+take_next (y ∷ xs) (suc i) x e = ap (λ (n : ℕ). take n (y ∷ xs)) (let s : suc i + 1 ≡ suc (i + 1) = omega arith in s) ∙ ap (λ l. y ∷ l) (take_next xs i x e)
+
+pub map_next : {X Y : Type 0} (f : X → Y) (l : List X) (x : X) → map f (l ++ x ∷ []) ≡ map f l ++ f x ∷ []
+map_next f [] x = refl
+map_next f (y ∷ l) x = ap (λ m. f y ∷ m) (map_next f l x)
+
+-- new pages, and pages that were emptied
+pub pushed_page : (l : List (Vec ℕ Global)) (v : Vec ℕ Global) → items_in (l ++ v ∷ []) ≡ items_in l ++ v.items ∷ []
+pushed_page [] v = refl
+pushed_page (x ∷ l) v = ap (λ m. x.items ∷ m) (pushed_page l v)
+
+pub no_page : (l : List (Vec ℕ Global)) (q : ℕ) → length l ≤ q → piece_at (items_in l) q ≡ []
+no_page [] q le = refl
+no_page (x ∷ l) zero le = absurd (omega (arith, le))
+no_page (x ∷ l) (suc q) le = no_page l q (omega (arith, le))
+
+pub page_of : (x : List ℕ) (n q : ℕ) → q < n → piece_at (replicate n x) q ≡ x
+page_of x zero q lt = absurd (omega (arith, lt))
+page_of x (suc n) zero lt = refl
+page_of x (suc n) (suc q) lt = page_of x n q (omega (arith, lt))
+
+pub length-pages : (x : List ℕ) (n : ℕ) → length (replicate n x) ≡ n
+length-pages x zero = refl
+length-pages x (suc n) = ap suc (length-pages x n)
+
+pub one_page : (n : ℕ) (x : List ℕ) → replicate n x ++ x ∷ [] ≡ replicate (n + 1) x
+one_page zero x = refl
+one_page (suc n) x = ap (λ l. x ∷ l) (one_page n x) ∙ ap (λ (m : ℕ). replicate m x) (let e : suc (n + 1) ≡ suc n + 1 = omega arith in e)
+
+-- ---- lines
+
+pub lines_step : (clock clock' i : ℕ) (events : List Event) (e : Event) (lines lines' all : List ℕ) → slice_get events i ≡ Some e → clock' ≡ clock_after clock e → lines' ≡ lines ++ line clock' e →
+    lines ++ lines_from clock (drop i events) ≡ all → lines' ++ lines_from clock' (drop (i + 1) events) ≡ all
+lines_step clock clock' i events e lines lines' all at same is so_far =
+    ap (λ l. l ++ lines_from clock' (drop (i + 1) events)) is
+    ∙ append_assoc lines (line clock' e) (lines_from clock' (drop (i + 1) events))
+    ∙ ap (λ (t : ℕ). lines ++ (line t e ++ lines_from t (drop (i + 1) events))) same
+    ∙ ap (λ l. lines ++ lines_from clock l) (sym (drop_next events i e at))
+    ∙ so_far
+
+-- ---- what is sent, one after another
+
+pub early_at : (outs : List Out) (i : ℕ) (o : Out) → AreEarly outs → slice_get outs i ≡ Some o → o.moment < 2 ^ 53
+early_at [] i o h e = absurd (cc)
+early_at (x ∷ outs) zero o h e = let same : x ≡ o = cc in subst (λ (y : Out). y.moment < 2 ^ 53) same h.0
+early_at (x ∷ outs) (suc i) o h e = early_at outs i o h.1 e
+
+pub adds_next : (f : Out → Sent) (outs : List Out) (i : ℕ) (o : Out) (a b c : List (List ℕ)) → slice_get outs i ≡ Some o → Adds (map f (take i outs)) a b → Adds (f o ∷ []) b c → Adds (map f (take (i + 1) outs)) a c
+adds_next f outs i o a b c at h k =
+    subst (λ l. Adds l a c) (sym (ap (map f) (take_next outs i o at) ∙ map_next f (take i outs) o)) (adds_more (map f (take i outs)) (f o ∷ []) a b c h k)
+
+-- ---- a record, whose lengths are set behind its frame
+
+pub front_of : {X : Type 0} (l m : List X) (n : ℕ) → n ≡ length l → take n (l ++ m) ≡ l
+front_of {X} [] m n e = ap (λ (k : ℕ). take k m) e ∙ take_none m
+  where
+    take_none : (m : List X) → take 0 m ≡ []
+    take_none [] = refl
+    take_none (x ∷ m) = refl
+front_of (x ∷ l) m n e = ap (λ (k : ℕ). take k (x ∷ l ++ m)) e ∙ ap (λ k. x ∷ k) (front_of l m (length l) refl)
+
+whole_of : (l : List ℕ) → take (length l) l ≡ l
+whole_of l = ap (take (length l)) (sym (append-nil l)) ∙ front_of l [] (length l) refl
+
+behind_front : (l m : List ℕ) (n : ℕ) → n ≡ length l → drop n (l ++ m) ≡ m
+behind_front [] m n e = ap (λ (k : ℕ). drop k m) e ∙ drop_none m
+  where
+    drop_none : (m : List ℕ) → drop 0 m ≡ m
+    drop_none [] = refl
+    drop_none (x ∷ m) = refl
+behind_front (x ∷ l) m n e = ap (λ (k : ℕ). drop k (x ∷ l ++ m)) e ∙ behind_front l m (length l) refl
+
+past_all : (l : List ℕ) (n : ℕ) → length l ≤ n → drop n l ≡ []
+past_all [] zero le = refl
+past_all [] (suc n) le = refl
+past_all (x ∷ l) zero le = absurd (omega (arith, le))
+past_all (x ∷ l) (suc n) le = past_all l n (omega (arith, le))
+
+-- the head of a record of nothing, with the length of the frame that stands behind it
+length_set_later : (m : ℕ) (bytes X R : List ℕ) → X ≡ record_bytes m [] ++ bytes → R ≡ take 8 X ++ spelled_low 4 (length X - 16) ++ spelled_low 4 (length X - 16) ++ drop 16 X → R ≡ record_bytes m bytes
+length_set_later m bytes X R is set =
+    let L : List ℕ = record_bytes m [] ++ bytes in
+    let size : length L - 16 ≡ length bytes = omega arith in
+    set ∙ ap (λ l. take 8 l ++ spelled_low 4 (length l - 16) ++ spelled_low 4 (length l - 16) ++ drop 16 l) is
+    ∙ ap (λ (n : ℕ). take 8 L ++ spelled_low 4 n ++ spelled_low 4 n ++ drop 16 L) size
+
+-- what is left of a page's end, where the record is written in its place
+pub sent_made : (old P X R W : List ℕ) (b n m : ℕ) (bytes : List ℕ) → b ≡ length old → P ≡ (old ++ record_bytes m []) ++ bytes → X ≡ take (length P - b) (drop b P) →
+    R ≡ take 8 X ++ spelled_low 4 (length X - 16) ++ spelled_low 4 (length X - 16) ++ drop 16 X → n ≡ length P →
+    take n (take b P ++ (R ++ drop (length P - b) (drop b P)) ++ W) ≡ old ++ record_bytes m bytes
+sent_made old P X R W b n m bytes begin is part set all =
+    let L : List ℕ = record_bytes m [] ++ bytes in
+    let parts : P ≡ old ++ L = is ∙ append_assoc old (record_bytes m []) bytes in
+    let rest : drop b P ≡ L = ap (drop b) parts ∙ behind_front old L b begin in
+    let front : take b P ≡ old = ap (take b) parts ∙ front_of old L b begin in
+    let size : length P ≡ length old + length L = ap length parts ∙ length-append old L in
+    let within : length P - b ≡ length L = omega (arith, size, begin) in
+    let whole : X ≡ L = part ∙ (λ i. take (within i) (rest i)) ∙ whole_of L in
+    let made = length_set_later m bytes X R whole set in
+    let nothing : drop (length P - b) (drop b P) ≡ [] = (λ i. drop (within i) (rest i)) ∙ past_all L (length L) (omega arith) in
+    let lengths : length (record_bytes m bytes) ≡ length L = omega arith in
+    (λ i. take n ((front i ++ (made i ++ nothing i)) ++ W))
+    ∙ ap (λ l. take n ((old ++ l) ++ W)) (append-nil (record_bytes m bytes))
+    ∙ front_of (old ++ record_bytes m bytes) W n (let e = length-append old (record_bytes m bytes) in omega (arith, all, size, e, lengths))

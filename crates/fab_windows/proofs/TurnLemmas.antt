@@ -1,0 +1,178 @@
+-- One window after another: how a turn ends, and what stands after it.
+use Rattle.std.proofs.Common.{◌≡◌, ◌≢◌, ℕ, zero, suc, ◌+◌, ◌*◌, ◌^◌, ◌<◌, ◌≤◌, ◌⊎◌, inl, inr, List, [], ◌∷◌, ◌++◌, length, map, Option, Some, None, IfSome, IsTrue, Result, Ok, Err, OnOk, IfErr, refl, sym, ap, ◌∙◌, subst, arith}
+use Rattle.std.specs.Prelude.{unwrap_or}
+use Rattle.fab_base.specs.Seen.{Seen, Touches, Nothing, Rose}
+use Rattle.fab_base.proofs.SeenLemmas.{rose_later, touches_trans, touches_wider}
+use Rattle.fab_config.specs.Settings.{Settings}
+use Rattle.fab_policy.specs.Growing.{lines_from, records_to, with_more}
+use Rattle.fab_policy.specs.Journal.{Journal, followed, now, frame_count}
+use Rattle.fab_policy.specs.Keeping.{IsAhead}
+use Rattle.fab_policy.specs.Looks.{Opened, Stop, stop}
+use Rattle.fab_policy.specs.Outputs.{Sent}
+use Rattle.fab_policy.specs.Standing.{Contents}
+use Rattle.fab_policy.specs.Text.{text}
+use Rattle.pcap_file.specs.declared.Budget.{Budget}
+use Rattle.pcap_file.specs.declared.Record.{Record}
+use Rattle.fab_gather.specs.declared.shelf.Input.{Input}
+use Rattle.fab_gather.specs.declared.shelf.Shelf.{Shelf}
+use Rattle.fab_gather.specs.declared.fault.RunFault.{RunFault}
+use Rattle.fab_gather.specs.declared.fault.RunFault.TheVariants as fault
+use Rattle.fab_gather.specs.Port.{IsStopped, ending}
+use Rattle.fab_gather.specs.Ports.{slots_of, name_of, NameIn, AreInputs, AreReady, stop_from}
+use Rattle.fab_gather.specs.Reads.{HaveRead}
+use Rattle.fab_windows.specs.declared.Done.{Done}
+use Rattle.fab_windows.specs.Files.{AreFiles, Written, Wholes, Fronts, captures}
+use Rattle.fab_windows.specs.Run.{IsRunOver, Interrupted, Stopped, Ends}
+use Rattle.fab_windows.specs.Turns.{Laws, Task, captures_in, Touched, Reached, Ended, Gathers, IsUnwritten}
+use Rattle.fab_windows.proofs.EndLemmas.{interrupted, stopped, whole_is_front}
+use Rattle.fab_windows.proofs.FileLemmas.{files_stay}
+use Rattle.fab_windows.proofs.StayLemmas.{LeftStays, inputs_stay, input_name_in, written_in, hold_stays, same_ports, length-slots, writing_leaves, read_stays, stop_stays}
+
+-- ---- how a run ends, fault by fault
+
+abbrev Causes : Task → Seen → RunFault → Type 0
+Causes k d e =
+    (e ≡ fault.Read → (q : ℕ) × (q < length k.ins) × Rose (k.seen.read_faults (name_of k.seen (slots_of k.ins) q)) (d.read_faults (name_of k.seen (slots_of k.ins) q)))
+    × (e ≡ fault.Write → (m : List ℕ) × Written k.seen k.journal k.outs m × Rose (k.seen.write_faults m) (d.write_faults m))
+
+error_is : (r : Result Done RunFault) (x y : RunFault) → r ≡ Err x → r ≡ Err y → x ≡ y
+error_is r x y h k = cc
+
+pub ended : (k : Task) (d : Seen) (e : RunFault) → Touches (Written k.seen k.journal k.outs) (Touched k) k.seen d →
+    (IsTrue k.seen.told → IsStopped e → Stopped k.settings k.budget (captures_in k) d k.journal k.outs e) →
+    (IsTrue k.seen.told → e ≡ fault.Read → Interrupted k.settings k.budget (captures_in k) (Wholes k.settings d k.journal k.outs)) →
+    (IsTrue k.seen.told → (e ≡ fault.Write) ⊎ (e ≡ fault.Memory) → Interrupted k.settings k.budget (captures_in k) (Fronts k.settings d k.journal k.outs)) →
+    Causes k d e → Ended k d e
+ended k d e touches stop read front causes = record {
+  touches = touches;
+  ends = λ told. by_fault e (stop told) (read told) (front told);
+  read = λ is. causes.0 (error_is (Err e) e fault.Read refl is);
+  write = λ is. causes.1 (error_is (Err e) e fault.Write refl is);
+}
+  where
+    by_fault : (f : RunFault) → (IsStopped f → Stopped k.settings k.budget (captures_in k) d k.journal k.outs f) →
+        (f ≡ fault.Read → Interrupted k.settings k.budget (captures_in k) (Wholes k.settings d k.journal k.outs)) →
+        ((f ≡ fault.Write) ⊎ (f ≡ fault.Memory) → Interrupted k.settings k.budget (captures_in k) (Fronts k.settings d k.journal k.outs)) →
+        Ends k.settings k.budget (captures_in k) d k.journal k.outs (Err f)
+    by_fault (fault.Capture port at why) s r f = s tt
+    by_fault (fault.Limit kind) s r f = s tt
+    by_fault fault.Read s r f = r refl
+    by_fault fault.Write s r f = f (inl refl)
+    by_fault fault.Memory s r f = f (inr refl)
+
+-- ---- from where a run has come
+
+module _ (laws : Laws) (k : Task) (w first : ℕ) (F : Contents) (d : Seen) (ins : List Input) (shelves : List Shelf) (left : Budget) (r : Reached k w first F d ins shelves left) where
+  abbrev Ours : List ℕ → Type 0
+  Ours = Written k.seen k.journal k.outs
+
+  told_on : IsTrue k.seen.told → IsTrue d.told
+  told_on told = subst IsTrue (sym r.touches.told) told
+
+  pub files_now : AreFiles d k.journal k.outs
+  files_now = files_stay Ours (Touched k) k.seen d r.touches k.journal k.outs r.given.files
+
+  pub inputs_now : AreInputs d (slots_of ins)
+  inputs_now = subst (AreInputs d) (sym r.slots) (inputs_stay Ours (Touched k) k.seen d r.touches (slots_of k.ins) r.given.inputs)
+
+  pub ports_now : length ins ≡ length k.ins
+  ports_now = same_ports k.ins ins r.slots
+
+  name_now : (m : List ℕ) → NameIn d (slots_of ins) m → NameIn k.seen (slots_of k.ins) m
+  name_now m h = input_name_in Ours (Touched k) k.seen d r.touches (slots_of k.ins) r.given.inputs m (subst (λ slots. NameIn d slots m) r.slots h)
+
+  written_now : (m : List ℕ) → Written d k.journal k.outs m → Ours m
+  written_now = written_in Ours (Touched k) k.seen d r.touches k.journal k.outs r.given.files
+
+  apart_now : (m : List ℕ) → NameIn d (slots_of ins) m → ¬ Written d k.journal k.outs m
+  apart_now m h x = r.given.apart m (name_now m h) (written_now m x)
+
+  -- by a fault or want of memory, where the files are told this of the journal
+  pub interrupted_here : IsTrue k.seen.told → (Files : Journal → Type 0) → Files r.entry_list → Interrupted k.settings k.budget (captures_in k) Files
+  interrupted_here told Files files =
+      interrupted k.settings k.budget (captures_in k) w r.taken r.entry_list r.sofar.run (laws.read_splits k.settings w (captures_in k) r.taken ins shelves d left (told_on told) r.read r.ready) laws.keeps_before Files
+      (subst (IsAhead w) (sym (r.stops told)) (laws.looks_ahead k.settings first w d ins shelves left r.ready)) files
+
+  -- at a look of the next window
+  pub stopped_here : IsTrue k.seen.told → (b : Seen) (s : Stop) → stop_from k.settings first d ins shelves left ≡ Some s → s.window ≡ Some w → Wholes k.settings b k.journal k.outs r.entry_list → Stopped k.settings k.budget (captures_in k) b k.journal k.outs (ending s)
+  stopped_here told b s is own files =
+      stopped k.settings k.budget (captures_in k) w r.taken r.entry_list r.sofar.run (laws.read_splits k.settings w (captures_in k) r.taken ins shelves d left (told_on told) r.read r.ready) laws.keeps_just b k.journal k.outs s (r.stops told ∙ is) own files
+
+  -- ---- reading touches nothing else
+
+  module _ (b : Seen) (t : Touches Nothing (NameIn d (slots_of ins)) d b) where
+    pub read_touches : Touches Ours (Touched k) k.seen b
+    read_touches = touches_trans Ours (Touched k) k.seen d b r.touches (touches_wider Nothing (NameIn d (slots_of ins)) Ours (Touched k) d b (λ m x. absurd x) (λ m h. inr (name_now m h)) t)
+
+    module _ (whole : IsTrue k.seen.told → Wholes k.settings d k.journal k.outs r.entry_list) where
+      pub whole_on : IsTrue k.seen.told → Wholes k.settings b k.journal k.outs r.entry_list
+      whole_on told = hold_stays (NameIn d (slots_of ins)) d b t k.journal k.outs files_now (text r.entry_list) (captures k.settings (length k.outs) r.entry_list) (whole told)
+
+      front_on : IsTrue k.seen.told → Interrupted k.settings k.budget (captures_in k) (Fronts k.settings b k.journal k.outs)
+      front_on told = interrupted_here told (Fronts k.settings b k.journal k.outs) (whole_is_front k.settings b k.journal k.outs r.entry_list (whole_on told))
+
+      -- refused memory, before anything of the window is written
+      pub ended_unwritten : Ended k b fault.Memory
+      ended_unwritten = ended k b fault.Memory read_touches (λ told x. absurd x) (λ told x. absurd (cc)) (λ told x. front_on told) (λ x. absurd (cc), λ x. absurd (cc))
+
+      rose_on : (q : ℕ) → q < length ins → Rose (d.read_faults (name_of d (slots_of ins) q)) (b.read_faults (name_of d (slots_of ins) q)) →
+          (p : ℕ) × (p < length k.ins) × Rose (k.seen.read_faults (name_of k.seen (slots_of k.ins) p)) (b.read_faults (name_of k.seen (slots_of k.ins) p))
+      rose_on q lt rose =
+          let within : q < length (slots_of ins) = omega (arith, lt, length-slots ins) in
+          let at = name_now (name_of d (slots_of ins) q) (q, within, refl) in
+          (at.0, omega (arith, at.1, length-slots k.ins), rose_later _ _ _ (r.touches.reads_rise _) (subst (λ n. Rose (d.read_faults n) (b.read_faults n)) at.2 rose))
+
+  -- a fault while the window is gathered
+  pub ended_gathering : (IsTrue k.seen.told → Wholes k.settings d k.journal k.outs r.entry_list) → (b : Seen) (ins' : List Input) (shelves' : List Shelf) (left' : Budget) (e : RunFault) →
+      Gathers k.settings first w d b ins ins' shelves shelves' left left' (Err e) → Ended k b e
+  ended_gathering whole b ins' shelves' left' e t =
+      ended k b e (read_touches b t.touches)
+      (λ told stops.
+      let s = t.stops (told_on told) stops in
+      subst (Stopped k.settings k.budget (captures_in k) b k.journal k.outs) s.2 (stopped_here told b s.0 s.1 s.3 (whole_on b t.touches whole told)))
+      (λ told x. interrupted_here told (Wholes k.settings b k.journal k.outs) (whole_on b t.touches whole told))
+      (λ told x. front_on b t.touches whole told)
+      (λ x. let cause = t.cause (ap (λ y. Err y) x) in rose_on b t.touches whole cause.0 cause.1 cause.2, λ x. absurd (t.only x))
+
+  -- ---- writing keeps what is to come
+
+  module _ (z : Seen) (t : Touches (Written d k.journal k.outs) (Written d k.journal k.outs) d z) where
+    pub lefts : LeftStays d z ins
+    lefts = writing_leaves k.journal k.outs d z ins t inputs_now apart_now
+
+    pub write_touches : Touches Ours (Touched k) k.seen z
+    write_touches = touches_trans Ours (Touched k) k.seen d z r.touches (touches_wider (Written d k.journal k.outs) (Written d k.journal k.outs) Ours (Touched k) d z written_now (λ m h. inl (written_now m h)) t)
+
+    abbrev pub reached_on : Reached k w first F z ins shelves left
+    reached_on = record {
+      given = r.given;
+      ports = r.ports;
+      outputs = r.outputs;
+      limits = r.limits;
+      touches = write_touches;
+      slots = r.slots;
+      count = r.count;
+      taken = r.taken;
+      entry_list = r.entry_list;
+      sofar = r.sofar;
+      clock = r.clock;
+      ready = r.ready;
+      read = read_stays d z t.told k.settings w (captures_in k) r.taken ins shelves lefts r.read;
+      spent = r.spent;
+      stops = λ told. r.stops told ∙ sym (stop_stays k.settings first d z ins shelves left lefts);
+    }
+
+    -- a window that can't be written: beginnings of its journal
+    pub ended_writing : (e : RunFault) → IsUnwritten e → (IsTrue k.seen.told → Fronts k.settings z k.journal k.outs r.entry_list) →
+        (e ≡ fault.Write → (m : List ℕ) × Written d k.journal k.outs m × Rose (d.write_faults m) (z.write_faults m)) → Ended k z e
+    ended_writing e only front cause =
+        ended k z e write_touches (λ told x. absurd (not_both e only x)) (λ told x. absurd (subst IsUnwritten x only))
+        (λ told x. interrupted_here told (Fronts k.settings z k.journal k.outs) (front told))
+        (λ x. absurd (subst IsUnwritten x only), λ x. let rose = cause x in (rose.0, written_now rose.0 rose.1, rose_later _ _ _ (r.touches.writes_rise rose.0) rose.2))
+      where
+        not_both : (f : RunFault) → IsUnwritten f → IsStopped f → ⊥
+        not_both (fault.Capture port at why) u s = u
+        not_both (fault.Limit kind) u s = u
+        not_both fault.Read u s = u
+        not_both fault.Write u s = s
+        not_both fault.Memory u s = s

@@ -1,0 +1,18 @@
+use Rattle.std.proofs.Common.{◌≡◌, ◌∙◌, ap, sym, subst, take, map, length, Some, slice_get, take_all, arith}
+use Rattle.std.specs.Option.{option_copied}
+use Rattle.fab_replies.specs.Message.{sent_of}
+use Rattle.fab_windows.specs.Files.{items_in}
+use Rattle.fab_windows.specs.Pages.{Adds}
+use Rattle.fab_windows.proofs.PageLemmas.{early_at, adds_next, adds_none}
+use Rattle.fab_windows.proofs.pages.write_records.Goals as goal
+
+pub write_to_port-requires-clause-early : goal.write_to_port-requires-clause-early
+write_to_port-requires-clause-early c =
+    let at : slice_get c.args.drained.now.outs c.loop-index.index ≡ Some c.in-Some.out.now = sym c.at.ensures ∙ ap option_copied c.in-Some.is in
+    early_at c.args.drained.now.outs c.loop-index.index c.in-Some.out.now c.requires.early at
+
+pub loop-index-preserved : goal.loop-index-preserved
+loop-index-preserved c =
+    let at : slice_get c.args.drained.now.outs c.loop-index.index ≡ Some c.in-Some.out.now = sym c.at.ensures ∙ ap option_copied c.in-Some.is in
+    adds_next (sent_of c.args.config.now c.args.drained.now.events) c.args.drained.now.outs c.loop-index.index c.in-Some.out.now (items_in c.args.pages.now) (items_in c.loop-index.pages) (items_in c.write_to_port.new.pages)
+    at c.loop-index.invariant c.in_ok-write_to_port.ensures

@@ -1,0 +1,12 @@
+use Rattle.std.proofs.Common.{◌∙◌, ◌++◌, ◌-◌, ap, sym, take, drop, length, refl}
+use Rattle.fab_replies.specs.Message.{bytes_of}
+use Rattle.fab_windows.proofs.PageLemmas.{sent_made}
+use Rattle.fab_windows.proofs.pages.write_sent.Goals as goal
+
+pub returns : goal.returns
+returns c =
+    let P = c.deref_mut.result.now in
+    let b = c.len-begin.result in
+    let bytes = bytes_of c.args.config.now c.args.events.now c.args.out.now.message in
+    sent_made c.args.page.now.items P (take (length P - b) (drop b P)) c.set_length.new.stored _ b c.write_out.new.into.len c.args.out.now.moment bytes (c.len-begin.ensures ∙ c.args.page.now.ok.0)
+    (c.deref_mut.ensures.value ∙ c.in_ok-write_out.ensures.ok ∙ ap (λ l. l ++ bytes) c.in_ok-write_record.ensures.ok) refl c.set_length.ensures (c.write_out.new.into.ok.0 ∙ ap length (sym c.deref_mut.ensures.value))

@@ -1,0 +1,133 @@
+use Rattle.std.proofs.Common.{◌≡◌, ◌∙◌, ◌+◌, ◌%◌, ◌^◌, ℕ, Some, None, Err, refl, sym, ap, subst, arith}
+use Rattle.fab_config.specs.Settings.{Settings}
+use Rattle.fab_windows.specs.Run.{Runs}
+use Rattle.fab_windows.specs.Turns.{Start, Task, task_of, Going, Ended}
+use Rattle.fab_windows.proofs.BeginLemmas.{going_first, going_next, next_early, next_as, nearer, ended_well}
+use Rattle.fab_windows.proofs.ResultLemmas.{err_is}
+use Rattle.fab_windows.proofs.run.run_windows.Goals as goal
+
+pub begin-requires-clause-ports : goal.begin-requires-clause-ports
+begin-requires-clause-ports g c = c.requires.ports
+
+pub begin-requires-clause-outputs : goal.begin-requires-clause-outputs
+begin-requires-clause-outputs g c = c.requires.outputs
+
+pub begin-requires-clause-given : goal.begin-requires-clause-given
+begin-requires-clause-given g c = c.requires.given
+
+pub begin-requires-clause-budget : goal.begin-requires-clause-budget
+begin-requires-clause-budget g c = (c.requires.budget.0, omega (arith, c.requires.budget.1))
+
+pub returns-in_err-run : goal.returns-in_err-run
+returns-in_err-run g c =
+    let seen = g.D.Depot.seen in
+    record {
+      runs = subst (λ r. Runs c.args.fabric.settings c.args.budget.now c.args.ins.now (seen c.args.depot.now) (seen c.begin.new.depot) c.args.journal c.args.outs.now r)
+          (err_is c.from_residual.result c.in_err-run.field-0.0 c.from_residual.ensures.1) (c.in_err-run.ensures.begins c.args.fabric.settings);
+    }
+
+pub same-fabric : goal.same-fabric
+same-fabric g c = refl
+
+pub windows-init : goal.windows-init
+windows-init g c =
+    let seen = g.D.Depot.seen in
+    let s : Start = record { budget = c.args.budget.now; ins = c.args.ins.now; seen = seen c.args.depot.now } in
+    let k = task_of s c.args.fabric.settings c.args.journal c.args.outs.now in
+    let shelves = c.in_ok-run.run'.shelves.items in
+    let next = next_as c.config.result.now c.args.fabric.settings c.deref.result.now shelves c.next_window.result c.config.ensures c.deref.ensures.value c.next_window.ensures.least in
+    record {
+      v = 0;
+      going = subst (λ (f : ℕ). Going k 0 f c.args.fabric (seen c.begin.new.depot) c.begin.new.ins shelves c.begin.new.budget c.in_ok-run.run'.done) (sym c.unwrap_or-first.ensures)
+          (going_first c.laws_of_runs.ensures k (seen c.begin.new.depot) c.begin.new.ins shelves c.begin.new.budget (c.in_ok-run.ensures.begins c.args.fabric.settings) c.args.fabric c.next_window.result c.in_ok-run.run'.done
+          refl c.requires.count c.requires.state c.requires.nothing.0 c.requires.nothing.1 next c.in_ok-run.ensures.done.0 c.in_ok-run.ensures.done.1);
+      settings = refl;
+      pages = c.in_ok-run.ensures.pages;
+    }
+
+pub same-fabric-in-Some : goal.same-fabric-in-Some
+same-fabric-in-Some g c = refl
+
+pub turn-requires-clause-going : goal.turn-requires-clause-going
+turn-requires-clause-going g c =
+    let seen = g.D.Depot.seen in
+    let s : Start = record { budget = c.args.budget.now; ins = c.args.ins.now; seen = seen c.args.depot.now } in
+    let k = task_of s c.args.fabric.settings c.args.journal c.args.outs.now in
+    let l = c.windows in
+    let next = next_as c.config-in-windows.result.now c.args.fabric.settings c.deref-in-windows.result.now l.run.shelves.items (Some c.in-Some.window) (c.config-in-windows.ensures ∙ l.invariant.settings) c.deref-in-windows.ensures.value c.in-Some.ensures.least in (
+      s,
+      subst (λ (x : Settings). Going (task_of s x c.args.journal c.args.outs.now) c.in-Some.window c.unwrap_or-first.result l.fabric (seen l.depot) l.ins l.run.shelves.items l.budget l.run.done) (sym l.invariant.settings)
+          (going_next c.laws_of_runs.ensures k l.invariant.v c.in-Some.window c.unwrap_or-first.result l.fabric (seen l.depot) l.ins l.run.shelves.items l.budget l.run.done l.invariant.going next),
+    )
+
+pub turn-requires-clause-next : goal.turn-requires-clause-next
+turn-requires-clause-next g c =
+    next_as c.config-in-windows.result.now c.windows.fabric.settings c.deref-in-windows.result.now c.windows.run.shelves.items (Some c.in-Some.window) c.config-in-windows.ensures c.deref-in-windows.ensures.value c.in-Some.ensures.least
+
+pub turn-requires-clause-start : goal.turn-requires-clause-start
+turn-requires-clause-start g c = ap (λ (x : Settings). c.in-Some.window % x.window) (sym c.config-in-windows.ensures) ∙ c.in-Some.ensures.start
+
+pub turn-requires-clause-range : goal.turn-requires-clause-range
+turn-requires-clause-range g c =
+    let seen = g.D.Depot.seen in
+    let s : Start = record { budget = c.args.budget.now; ins = c.args.ins.now; seen = seen c.args.depot.now } in
+    let k = task_of s c.args.fabric.settings c.args.journal c.args.outs.now in
+    let l = c.windows in
+    let next = next_as c.config-in-windows.result.now c.args.fabric.settings c.deref-in-windows.result.now l.run.shelves.items (Some c.in-Some.window) (c.config-in-windows.ensures ∙ l.invariant.settings) c.deref-in-windows.ensures.value c.in-Some.ensures.least in
+    next_early c.laws_of_runs.ensures k l.invariant.v c.in-Some.window c.unwrap_or-first.result l.fabric (seen l.depot) l.ins l.run.shelves.items l.budget l.run.done l.invariant.going next
+
+pub turn-requires-clause-pages : goal.turn-requires-clause-pages
+turn-requires-clause-pages g c = c.windows.invariant.pages
+
+pub returns-in_err-fabric : goal.returns-in_err-fabric
+returns-in_err-fabric g c =
+    let seen = g.D.Depot.seen in
+    let s : Start = record { budget = c.args.budget.now; ins = c.args.ins.now; seen = seen c.args.depot.now } in
+    let k = task_of s c.args.fabric.settings c.args.journal c.args.outs.now in
+    let l = c.windows in
+    let e = c.in_err-fabric.field-0.0 in
+    let next = next_as c.config-in-windows.result.now c.args.fabric.settings c.deref-in-windows.result.now l.run.shelves.items (Some c.in-Some.window) (c.config-in-windows.ensures ∙ l.invariant.settings) c.deref-in-windows.ensures.value c.in-Some.ensures.least in
+    let going = subst (λ (x : Settings). Going (task_of s x c.args.journal c.args.outs.now) c.in-Some.window c.unwrap_or-first.result l.fabric (seen l.depot) l.ins l.run.shelves.items l.budget l.run.done) (sym l.invariant.settings)
+    (going_next c.laws_of_runs.ensures k l.invariant.v c.in-Some.window c.unwrap_or-first.result l.fabric (seen l.depot) l.ins l.run.shelves.items l.budget l.run.done l.invariant.going next) in
+    record {
+      runs = subst (λ r. Runs c.args.fabric.settings c.args.budget.now c.args.ins.now (seen c.args.depot.now) (seen c.turn.new.depot) c.args.journal c.args.outs.now r)
+          (err_is c.from_residual-in_err-fabric.result e c.from_residual-in_err-fabric.ensures.1)
+          (subst (λ (x : Settings). Ended (task_of s x c.args.journal c.args.outs.now) (seen c.turn.new.depot) e) l.invariant.settings (c.in_err-fabric.ensures.turns s going));
+    }
+
+pub windows-smaller : goal.windows-smaller
+windows-smaller g c =
+    let seen = g.D.Depot.seen in
+    let s : Start = record { budget = c.args.budget.now; ins = c.args.ins.now; seen = seen c.args.depot.now } in
+    let k = task_of s c.args.fabric.settings c.args.journal c.args.outs.now in
+    let l = c.windows in
+    let next = next_as c.config-in-windows.result.now c.args.fabric.settings c.deref-in-windows.result.now l.run.shelves.items (Some c.in-Some.window) (c.config-in-windows.ensures ∙ l.invariant.settings) c.deref-in-windows.ensures.value c.in-Some.ensures.least in
+    let going = going_next c.laws_of_runs.ensures k l.invariant.v c.in-Some.window c.unwrap_or-first.result l.fabric (seen l.depot) l.ins l.run.shelves.items l.budget l.run.done l.invariant.going next in
+    let early = next_early c.laws_of_runs.ensures k l.invariant.v c.in-Some.window c.unwrap_or-first.result l.fabric (seen l.depot) l.ins l.run.shelves.items l.budget l.run.done l.invariant.going next in
+    nearer (2 ^ 43) c.in-Some.window l.fabric.state.tables.clock c.in_ok-fabric.fabric.state.tables.clock going.reached.clock early c.in_ok-fabric.ensures.clock
+
+pub windows-preserved : goal.windows-preserved
+windows-preserved g c =
+    let seen = g.D.Depot.seen in
+    let s : Start = record { budget = c.args.budget.now; ins = c.args.ins.now; seen = seen c.args.depot.now } in
+    let k = task_of s c.args.fabric.settings c.args.journal c.args.outs.now in
+    let l = c.windows in
+    let next = next_as c.config-in-windows.result.now c.args.fabric.settings c.deref-in-windows.result.now l.run.shelves.items (Some c.in-Some.window) (c.config-in-windows.ensures ∙ l.invariant.settings) c.deref-in-windows.ensures.value c.in-Some.ensures.least in
+    let going = subst (λ (x : Settings). Going (task_of s x c.args.journal c.args.outs.now) c.in-Some.window c.unwrap_or-first.result l.fabric (seen l.depot) l.ins l.run.shelves.items l.budget l.run.done) (sym l.invariant.settings)
+    (going_next c.laws_of_runs.ensures k l.invariant.v c.in-Some.window c.unwrap_or-first.result l.fabric (seen l.depot) l.ins l.run.shelves.items l.budget l.run.done l.invariant.going next) in
+    record {
+      v = c.in-Some.window + 1;
+      going = subst (λ (x : Settings). Going (task_of s x c.args.journal c.args.outs.now) (c.in-Some.window + 1) c.unwrap_or-first.result c.in_ok-fabric.fabric (seen c.turn.new.depot) c.turn.new.ins c.turn.new.run.shelves.items c.turn.new.budget c.turn.new.run.done) l.invariant.settings
+          (c.in_ok-fabric.ensures.turns s going);
+      settings = c.in_ok-fabric.ensures.settings ∙ l.invariant.settings;
+      pages = c.in_ok-fabric.ensures.pages;
+    }
+
+pub returns : goal.returns
+returns g c =
+    let seen = g.D.Depot.seen in
+    let s : Start = record { budget = c.args.budget.now; ins = c.args.ins.now; seen = seen c.args.depot.now } in
+    let k = task_of s c.args.fabric.settings c.args.journal c.args.outs.now in
+    let l = c.windows in
+    let next = next_as c.config-in-windows.result.now c.args.fabric.settings c.deref-in-windows.result.now l.run.shelves.items None (c.config-in-windows.ensures ∙ l.invariant.settings) c.deref-in-windows.ensures.value c.in_default.ensures.least in
+    record { runs = ended_well c.laws_of_runs.ensures k l.invariant.v c.unwrap_or-first.result l.fabric (seen l.depot) l.ins l.run.shelves.items l.budget l.run.done l.invariant.going next }

@@ -1,0 +1,18 @@
+use Rattle.std.proofs.Common.{ℕ, ◌≡◌, ◌^◌, length}
+use Rattle.fab_windows.specs.Turns.{Start, task_of, Going}
+use Rattle.fab_windows.proofs.TickLemmas.{distance}
+use Rattle.fab_windows.proofs.run.run_windows.Given as goal
+
+abbrev pub invariant-windows : goal.invariant-windows
+invariant-windows g l =
+    let seen = g.D.Depot.seen in
+    let s : Start = record { budget = l.fn.budget; ins = l.fn.ins; seen = seen l.fn.depot } in
+    record {
+      v : ℕ;
+      going : Going (task_of s l.fn.fabric.settings l.journal l.outs) v l.first l.fabric (seen l.depot) l.ins l.run.shelves.items l.budget l.run.done;
+      settings : l.fabric.settings ≡ l.fn.fabric.settings;
+      pages : length l.run.pages.records.items ≡ length l.outs;
+    }
+
+abbrev pub decreases-windows : goal.decreases-windows
+decreases-windows g l = distance (2 ^ 43) l.fabric.state.tables.clock

@@ -1,0 +1,84 @@
+use Rattle.std.proofs.Common.{◌≡◌, ◌∙◌, ◌≤◌, ap, sym, subst, length, Some, Err, arith}
+use Rattle.fab_gather.specs.First.{IsNextWindow}
+use Rattle.fab_gather.specs.Ports.{AreReady}
+use Rattle.fab_windows.specs.Turns.{task_of}
+use Rattle.fab_windows.proofs.GoLemmas.{gathers_as, gathered_by, turn_stops}
+use Rattle.fab_windows.proofs.ResultLemmas.{told_on, not_ok}
+use Rattle.fab_windows.proofs.StayLemmas.{same_ports}
+use Rattle.fab_windows.proofs.TurnLemmas.{inputs_now}
+use Rattle.fab_windows.proofs.turn.turn.Goals as goal
+
+pub gather-requires-clause-count : goal.gather-requires-clause-count
+gather-requires-clause-count g c = ap length c.deref_mut.ensures.value ∙ c.requires.going.1.reached.count
+
+pub gather-requires-clause-ports : goal.gather-requires-clause-ports
+gather-requires-clause-ports g c =
+    let k = task_of c.requires.going.0 c.args.fabric.settings c.args.journal c.args.outs.now in
+    let r = c.requires.going.1.reached in
+    omega (arith, same_ports k.ins c.args.ins.now r.slots, r.ports.1)
+
+pub gather-requires-clause-inputs : goal.gather-requires-clause-inputs
+gather-requires-clause-inputs g c =
+    let k = task_of c.requires.going.0 c.args.fabric.settings c.args.journal c.args.outs.now in
+    let r = c.requires.going.1.reached in
+    inputs_now c.laws_of_runs.ensures k c.args.window c.args.first c.args.fabric (g.D.Depot.seen c.args.depot.now) c.args.ins.now c.args.run.now.shelves.items c.args.budget.now r
+
+pub gather-requires-clause-ready : goal.gather-requires-clause-ready
+gather-requires-clause-ready g c =
+    subst (λ l. AreReady c.config.result.now c.args.window c.args.ins.now l c.args.budget.now) (sym c.deref_mut.ensures.value)
+    (subst (λ s. AreReady s c.args.window c.args.ins.now c.args.run.now.shelves.items c.args.budget.now) (sym c.config.ensures) c.requires.going.1.reached.ready)
+
+pub gather-requires-clause-next : goal.gather-requires-clause-next
+gather-requires-clause-next g c =
+    subst (λ l. IsNextWindow c.config.result.now l (Some c.args.window)) (sym c.deref_mut.ensures.value)
+    (subst (λ s. IsNextWindow s c.args.run.now.shelves.items (Some c.args.window)) (sym c.config.ensures) c.requires.next)
+
+pub answer-requires-clause-gathered : goal.answer-requires-clause-gathered
+answer-requires-clause-gathered g c =
+    let k = task_of c.requires.going.0 c.args.fabric.settings c.args.journal c.args.outs.now in
+    let seen = g.D.Depot.seen in (
+      c.requires.going.0,
+      c.args.first,
+      c.gather.new.ins,
+      c.gather.new.budget,
+      gathered_by k c.args.window c.args.first c.args.fabric (seen c.args.depot.now) c.args.ins.now c.args.run.now.shelves.items c.args.budget.now (seen c.gather.new.depot) c.gather.new.ins c.gather.new.shelves c.gather.new.budget
+          c.config.result.now c.config.ensures c.deref_mut.result.now c.deref_mut.ensures.value c.args.run.now.done c.requires.going.1 c.requires.next c.args.run.now.shelves.len c.args.run.now.shelves.ok.0 c.in_ok-gather.ensures.gathers,
+    )
+
+pub answer-requires-clause-start : goal.answer-requires-clause-start
+answer-requires-clause-start g c = c.requires.start
+
+pub answer-requires-clause-range : goal.answer-requires-clause-range
+answer-requires-clause-range g c = c.requires.range
+
+pub answer-requires-clause-pages : goal.answer-requires-clause-pages
+answer-requires-clause-pages g c = c.requires.pages
+
+pub returns-in_err-gather-clause-turns : goal.returns-in_err-gather-clause-turns
+returns-in_err-gather-clause-turns g c = λ s going.
+    let k = task_of s c.args.fabric.settings c.args.journal c.args.outs.now in
+    let seen = g.D.Depot.seen in
+    let shelves = c.args.run.now.shelves.items in
+    let e = c.in_err-gather.field-0.0 in
+    told_on c.from_residual.result e _ _ c.from_residual.ensures.1
+    (turn_stops c.laws_of_runs.ensures k c.args.window c.args.first c.args.fabric (seen c.args.depot.now) c.args.ins.now shelves c.args.budget.now c.args.run.now.done going (seen c.gather.new.depot) c.gather.new.ins c.gather.new.shelves c.gather.new.budget e
+    (gathers_as k c.args.window c.args.first c.args.fabric (seen c.args.depot.now) c.args.ins.now shelves c.args.budget.now (seen c.gather.new.depot) c.gather.new.ins c.gather.new.shelves c.gather.new.budget
+    c.config.result.now c.config.ensures c.deref_mut.result.now c.deref_mut.ensures.value (Err e) c.in_err-gather.ensures.gathers))
+
+pub returns-in_err-gather-clause-pages : goal.returns-in_err-gather-clause-pages
+returns-in_err-gather-clause-pages g c = not_ok c.from_residual.result c.in_err-gather.field-0.0 _ c.from_residual.ensures.1
+
+pub returns-in_err-gather-clause-settings : goal.returns-in_err-gather-clause-settings
+returns-in_err-gather-clause-settings g c = not_ok c.from_residual.result c.in_err-gather.field-0.0 _ c.from_residual.ensures.1
+
+pub returns-in_err-gather-clause-clock : goal.returns-in_err-gather-clause-clock
+returns-in_err-gather-clause-clock g c = not_ok c.from_residual.result c.in_err-gather.field-0.0 _ c.from_residual.ensures.1
+
+pub returns-clause-turns : goal.returns-clause-turns
+returns-clause-turns g c = λ s going.
+    let k = task_of s c.args.fabric.settings c.args.journal c.args.outs.now in
+    let seen = g.D.Depot.seen in
+    let shelves = c.args.run.now.shelves.items in
+    c.answer.ensures.turns s c.args.first c.gather.new.ins c.gather.new.budget
+    (gathered_by k c.args.window c.args.first c.args.fabric (seen c.args.depot.now) c.args.ins.now shelves c.args.budget.now (seen c.gather.new.depot) c.gather.new.ins c.gather.new.shelves c.gather.new.budget
+    c.config.result.now c.config.ensures c.deref_mut.result.now c.deref_mut.ensures.value c.args.run.now.done going c.requires.next c.args.run.now.shelves.len c.args.run.now.shelves.ok.0 c.in_ok-gather.ensures.gathers)

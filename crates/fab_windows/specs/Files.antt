@@ -1,0 +1,75 @@
+-- The files of a run, and what writing to several files keeps and leaves.
+use Rattle.std.specs.Prelude.{◌≡◌, ◌≢◌, ℕ, zero, suc, ◌+◌, ◌<◌, ◌⊎◌, IsTrue, List, [], ◌∷◌, ◌++◌, length, take, map, Some, Result, OnOk, OnErr, Vec}
+use Rattle.std.specs.declared.alloc.Global.{Global}
+use Rattle.fab_base.specs.Seen.{Seen, Rose, Touches}
+use Rattle.fab_base.specs.declared.values.Failed.{Failed}
+use Rattle.fab_config.specs.Settings.{Settings}
+use Rattle.fab_policy.specs.Journal.{Journal}
+use Rattle.fab_policy.specs.Text.{text, egress}
+use Rattle.fab_policy.specs.Written.{IsPrefixOf}
+use Rattle.fab_gather.specs.Ports.{slot_at, name_of, NameIn}
+
+-- ---- a piece to each of several files
+
+-- slots that are open outputs of different names
+pub record AreOutputs (d : Seen) (slots : List ℕ) : Type 0 where
+  pub outputs : (q : ℕ) → q < length slots → IsTrue (d.output (slot_at slots q))
+  pub differ : (p q : ℕ) → p < length slots → q < length slots → name_of d slots p ≡ name_of d slots q → p ≡ q
+
+-- the bytes of each page
+abbrev pub items_in : List (Vec ℕ Global) → List (List ℕ)
+items_in pieces = map (λ v. v.items) pieces
+
+-- the piece at a place, and nothing past the last
+abbrev pub piece_at : List (List ℕ) → ℕ → List ℕ
+piece_at [] q = []
+piece_at (x ∷ xs) zero = x
+piece_at (x ∷ xs) (suc q) = piece_at xs q
+
+-- Putting a piece to each of several outputs appends each to its file, or, where it fails, a front of each.
+pub record PutsEach (slots : List ℕ) (pieces : List (List ℕ)) (old new : Seen) (result : Result (Unit {0}) Failed) : Type 0 where
+  pub touches : Touches (NameIn old slots) (NameIn old slots) old new
+  pub all : IsTrue old.told → (q : ℕ) → q < length slots → (bytes : List ℕ) → old.file (name_of old slots q) ≡ Some bytes → OnOk result (new.file (name_of old slots q) ≡ Some (bytes ++ piece_at pieces q))
+  pub part : IsTrue old.told → (q : ℕ) → q < length slots → (bytes : List ℕ) → old.file (name_of old slots q) ≡ Some bytes → (n : ℕ) × (new.file (name_of old slots q) ≡ Some (bytes ++ take n (piece_at pieces q)))
+  pub cause : OnErr result ((q : ℕ) × (q < length slots) × Rose (old.write_faults (name_of old slots q)) (new.write_faults (name_of old slots q)))
+
+-- ---- the files of a run
+
+-- The journal's file holds these bytes, and that of each output its own.
+pub record Hold (d : Seen) (journal : ℕ) (outs lines : List ℕ) (records_of : ℕ → List ℕ) : Type 0 where
+  pub lines_ : d.file (d.name journal) ≡ Some lines
+  pub records : (q : ℕ) → q < length outs → d.file (name_of d outs q) ≡ Some (records_of q)
+
+-- Each of them holds a beginning of these.
+pub record HoldFronts (d : Seen) (journal : ℕ) (outs lines : List ℕ) (records_of : ℕ → List ℕ) : Type 0 where
+  pub lines_ : (bytes : List ℕ) × (d.file (d.name journal) ≡ Some bytes) × IsPrefixOf bytes lines
+  pub records : (q : ℕ) → q < length outs → (bytes : List ℕ) × (d.file (name_of d outs q) ≡ Some bytes) × IsPrefixOf bytes (records_of q)
+
+-- the captures of a journal, by ports counted from 0
+abbrev pub captures : Settings → ℕ → Journal → ℕ → List ℕ
+captures c n J q = egress c n (q + 1) J
+
+-- The journal and the outputs hold the whole text of a journal, and its captures; or a beginning of each.
+abbrev pub Wholes : Settings → Seen → ℕ → List ℕ → Journal → Type 0
+Wholes c d journal outs J = Hold d journal outs (text J) (captures c (length outs) J)
+
+abbrev pub Fronts : Settings → Seen → ℕ → List ℕ → Journal → Type 0
+Fronts c d journal outs J = HoldFronts d journal outs (text J) (captures c (length outs) J)
+
+-- the names of the journal and of the outputs
+abbrev pub Written : Seen → ℕ → List ℕ → List ℕ → Type 0
+Written d journal outs m = (m ≡ d.name journal) ⊎ NameIn d outs m
+
+-- open outputs, all of different names
+pub record AreFiles (d : Seen) (journal : ℕ) (outs : List ℕ) : Type 0 where
+  pub journal_ : IsTrue (d.output journal)
+  pub outs_ : AreOutputs d outs
+  pub apart : (q : ℕ) → q < length outs → name_of d outs q ≢ d.name journal
+
+-- Writing to files that hold these bytes: they hold what is added behind them then, or beginnings of that.
+pub record Writes (journal : ℕ) (outs lines : List ℕ) (pieces : List (List ℕ)) (old new : Seen) (result : Result (Unit {0}) Failed) : Type 0 where
+  pub touches : Touches (Written old journal outs) (Written old journal outs) old new
+  pub files : AreFiles new journal outs
+  pub whole : IsTrue old.told → (l l' : List ℕ) (r r' : ℕ → List ℕ) → Hold old journal outs l r → l' ≡ l ++ lines → ((q : ℕ) → q < length outs → r' q ≡ r q ++ piece_at pieces q) → OnOk result (Hold new journal outs l' r')
+  pub front : IsTrue old.told → (l l' : List ℕ) (r r' : ℕ → List ℕ) → Hold old journal outs l r → l' ≡ l ++ lines → ((q : ℕ) → q < length outs → r' q ≡ r q ++ piece_at pieces q) → HoldFronts new journal outs l' r'
+  pub cause : OnErr result (Rose (old.write_faults (old.name journal)) (new.write_faults (old.name journal)) ⊎ ((q : ℕ) × (q < length outs) × Rose (old.write_faults (name_of old outs q)) (new.write_faults (name_of old outs q))))

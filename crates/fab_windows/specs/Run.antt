@@ -1,0 +1,84 @@
+-- What a run over captures leaves in its files, however it ends.
+use Rattle.std.specs.Prelude.{◌≡◌, ℕ, ◌<◌, ◌⊎◌, IsTrue, List, [], length, map, Option, Some, None, Result, Ok, Err, IsErrOf}
+use Rattle.std.specs.List.{All}
+use Rattle.fab_base.specs.Seen.{Seen, Rose, Touches}
+use Rattle.fab_config.specs.Settings.{Settings}
+use Rattle.pcap_file.specs.declared.Budget.{Budget}
+use Rattle.pcap_file.specs.declared.Record.{Record}
+use Rattle.fab_policy.specs.Journal.{Journal, frame_count}
+use Rattle.fab_policy.specs.Legal.{Run}
+use Rattle.fab_policy.specs.Looks.{Opened, Stop, stop, kept, all_records}
+use Rattle.fab_policy.specs.Ranged.{IsRanged}
+use Rattle.fab_policy.specs.Written.{before}
+use Rattle.fab_gather.specs.declared.shelf.Input.{Input}
+use Rattle.fab_gather.specs.declared.fault.RunFault.{RunFault}
+use Rattle.fab_gather.specs.declared.fault.RunFault.TheVariants as fault
+use Rattle.fab_gather.specs.First.{opened_in, AreFresh}
+use Rattle.fab_gather.specs.Port.{ending}
+use Rattle.fab_gather.specs.Ports.{slots_of, name_of, NameIn, AreInputs}
+use Rattle.fab_gather.specs.Reads.{IsWhole}
+use Rattle.fab_windows.specs.declared.Done.{Done}
+use Rattle.fab_windows.specs.Files.{Written, AreFiles, Wholes, Fronts}
+
+-- ---- what is handed in
+
+-- Each reader is as it was opened, for an open input, and all files have different names.
+pub record AreGiven (d : Seen) (ins : List Input) (journal : ℕ) (outs : List ℕ) : Type 0 where
+  pub inputs : AreInputs d (slots_of ins)
+  pub files : AreFiles d journal outs
+  pub apart : (m : List ℕ) → NameIn d (slots_of ins) m → ¬ Written d journal outs m
+  pub fresh : AreFresh ins
+  pub empty : IsTrue d.told → (d.file (d.name journal) ≡ Some []) × ((q : ℕ) → q < length outs → d.file (name_of d outs q) ≡ Some [])
+
+-- ---- endings
+
+-- one journal that is a run over these records
+pub record IsRunOver (c : Settings) (ins : List (List Record)) (J : Journal) : Type 0 where
+  pub ranged : IsRanged J
+  pub run : Run c ins J
+
+-- the records of the ports that are kept
+abbrev pub keeps : Settings → Budget → List Opened → List (List Record)
+keeps c budget ins = map (kept c (stop c budget.bytes budget.frames ins)) (all_records ins)
+
+-- A run to the end of all captures.
+pub record Finished (c : Settings) (budget : Budget) (ins : List Opened) (d : Seen) (journal : ℕ) (outs : List ℕ) (done : Done) : Type 0 where
+  pub entry_list : Journal
+  pub whole : All IsWhole ins
+  pub none : stop c budget.bytes budget.frames ins ≡ None
+  pub run : IsRunOver c (all_records ins) entry_list
+  pub files : Wholes c d journal outs entry_list
+  pub frames : done.frames ≡ frame_count entry_list
+  pub entries : done.entries ≡ length entry_list
+
+-- A run up to where the reading of captures stops.
+pub record Stopped (c : Settings) (budget : Budget) (ins : List Opened) (d : Seen) (journal : ℕ) (outs : List ℕ) (e : RunFault) : Type 0 where
+  pub at : Stop
+  pub is : stop c budget.bytes budget.frames ins ≡ Some at
+  pub says : ending at ≡ e
+  pub entry_list : Journal
+  pub run : IsRunOver c (keeps c budget ins) entry_list
+  pub files : Wholes c d journal outs entry_list
+
+-- A run up to some moment, of which the files are told this.
+pub record Interrupted (c : Settings) (budget : Budget) (ins : List Opened) (Files : Journal → Type 0) : Type 0 where
+  pub moment : ℕ
+  pub entry_list : Journal
+  pub run : IsRunOver c (before c moment (keeps c budget ins)) entry_list
+  pub files : Files entry_list
+
+-- What holds however a run ends. What is said of bytes needs a depot that tells them.
+abbrev pub Ends : Settings → Budget → List Opened → Seen → ℕ → List ℕ → Result Done RunFault → Type 0
+Ends c budget ins d journal outs (Ok done) = Finished c budget ins d journal outs done
+Ends c budget ins d journal outs (Err (fault.Capture port at why)) = Stopped c budget ins d journal outs (fault.Capture port at why)
+Ends c budget ins d journal outs (Err (fault.Limit kind)) = Stopped c budget ins d journal outs (fault.Limit kind)
+Ends c budget ins d journal outs (Err fault.Read) = Interrupted c budget ins (Wholes c d journal outs)
+Ends c budget ins d journal outs (Err fault.Write) = Interrupted c budget ins (Fronts c d journal outs)
+Ends c budget ins d journal outs (Err fault.Memory) = Interrupted c budget ins (Fronts c d journal outs)
+
+-- A run over captures.
+pub record Runs (c : Settings) (budget : Budget) (ins : List Input) (a b : Seen) (journal : ℕ) (outs : List ℕ) (result : Result Done RunFault) : Type 0 where
+  pub touches : Touches (Written a journal outs) (λ m. Written a journal outs m ⊎ NameIn a (slots_of ins) m) a b
+  pub ends : IsTrue a.told → Ends c budget (opened_in a ins) b journal outs result
+  pub read : IsErrOf result fault.Read → (q : ℕ) × (q < length ins) × Rose (a.read_faults (name_of a (slots_of ins) q)) (b.read_faults (name_of a (slots_of ins) q))
+  pub write : IsErrOf result fault.Write → (m : List ℕ) × Written a journal outs m × Rose (a.write_faults m) (b.write_faults m)

@@ -1,0 +1,186 @@
+-- What stands between the windows of a run, and what its parts do. No public clause cites this module.
+use Rattle.std.specs.Prelude.{◌≡◌, ◌≢◌, ℕ, ◌+◌, ◌<◌, ◌≤◌, ◌^◌, ◌⊎◌, IsTrue, IfSome, List, [], ◌++◌, length, map, Option, Some, None, Result, Ok, Err, OnOk, IfErr, IsErrOf}
+use Rattle.fab_base.specs.Seen.{Seen, Touches, Nothing, Rose}
+use Rattle.fab_config.specs.Settings.{Settings}
+use Rattle.pcap_file.specs.declared.Budget.{Budget}
+use Rattle.pcap_file.specs.declared.Record.{Record}
+use Rattle.fab_policy.specs.Growing.{records_to, FollowedByParts, SentByParts, TextGrows, EgressGrows, NothingIsWritten, NothingIsRun}
+use Rattle.fab_policy.specs.Keeping.{KeepsBefore, KeepsJust}
+use Rattle.fab_policy.specs.Journal.{Journal, frame_count}
+use Rattle.fab_policy.specs.Looks.{Opened, Stop, stop, in_order, first_window}
+use Rattle.fab_policy.specs.Outputs.{Sent}
+use Rattle.fab_policy.specs.Standing.{Contents, drained}
+use Rattle.fab_policy.specs.declared.event.Event.{Event}
+use Rattle.fab_replies.specs.Message.{sent_of}
+use Rattle.fab_replies.specs.declared.message.Out.{Out}
+use Rattle.forward_core.specs.Fabric.{AreRanged}
+use Rattle.fab_gather.specs.declared.shelf.Input.{Input}
+use Rattle.fab_gather.specs.declared.shelf.Shelf.{Shelf}
+use Rattle.fab_gather.specs.declared.fault.RunFault.{RunFault}
+use Rattle.fab_gather.specs.declared.fault.RunFault.TheVariants as fault
+use Rattle.fab_gather.specs.First.{opened_in, IsNextWindow}
+use Rattle.fab_gather.specs.Laws.{LooksAhead, NextIsAhead, NextIsFirst, LateEnds, NoneIsLeft, WindowMoves, ReadsOn, ReadStays, ReadIsBelow, ReadSplits, ReadIsAll}
+use Rattle.fab_gather.specs.Port.{Spends, IsStopped, ending}
+use Rattle.fab_gather.specs.Ports.{slots_of, name_of, NameIn, AreReady, TookAll, rests, joined, counts_of, stop_from}
+use Rattle.fab_gather.specs.Reads.{HaveRead, batches_of}
+use Rattle.fab_windows.specs.declared.Done.{Done}
+use Rattle.fab_windows.specs.Files.{Written, Hold, HoldFronts, Wholes}
+use Rattle.fab_windows.specs.Run.{AreGiven, Runs}
+use Rattle.fab_windows.specs.Steps.{Sofar, WindowIsRun, FirstsAreTaken}
+use Rattle.fab_windows.specs.Window.{Ticked, Handled, firsts_of}
+
+-- ---- laws
+
+-- The laws of the layers below on which a run rests.
+pub record Laws : Type 0 where
+  -- further entries
+  pub followed_by : FollowedByParts
+  pub sent_by : SentByParts
+  pub text_grows : TextGrows
+  pub egress_grows : EgressGrows
+  pub nothing_written : NothingIsWritten
+  -- further records
+  pub nothing_run : NothingIsRun
+  pub windows_run : WindowIsRun
+  pub firsts_taken : FirstsAreTaken
+  -- what a stop keeps
+  pub keeps_before : KeepsBefore
+  pub keeps_just : KeepsJust
+  -- the looks to come
+  pub looks_ahead : LooksAhead
+  pub next_ahead : NextIsAhead
+  pub next_first : NextIsFirst
+  pub late_ends : LateEnds
+  pub none_left : NoneIsLeft
+  -- what was read
+  pub moves : WindowMoves
+  pub reads_on : ReadsOn
+  pub read_stays : ReadStays
+  pub read_below : ReadIsBelow
+  pub read_splits : ReadSplits
+  pub read_all : ReadIsAll
+
+-- ---- between windows
+
+-- What a run is handed: its configuration and its limits, the captures, the depot as it is at the start, and where it writes.
+pub record Task : Type 0 where
+  pub settings : Settings
+  pub budget : Budget
+  pub ins : List Input
+  pub seen : Seen
+  pub journal : ℕ
+  pub outs : List ℕ
+
+-- what is there at the start
+pub record Start : Type 0 where
+  pub budget : Budget
+  pub ins : List Input
+  pub seen : Seen
+
+abbrev pub task_of : Start → Settings → ℕ → List ℕ → Task
+task_of s c journal outs = record { settings = c; budget = s.budget; ins = s.ins; seen = s.seen; journal = journal; outs = outs }
+
+-- the captures of a task
+abbrev pub captures_in : Task → List Opened
+captures_in k = opened_in k.seen k.ins
+
+-- the names that a run may touch
+abbrev pub Touched : Task → List ℕ → Type 0
+Touched k m = Written k.seen k.journal k.outs m ⊎ NameIn k.seen (slots_of k.ins) m
+
+-- What stands of a task before a window: which records were taken, a journal that stands for them, where the readers are, and,
+-- where the depot tells, that the looks to come stop where all looks do.
+pub record Reached (k : Task) (w first : ℕ) (F : Contents) (d : Seen) (ins : List Input) (shelves : List Shelf) (left : Budget) : Type 0 where
+  pub given : AreGiven k.seen k.ins k.journal k.outs
+  pub ports : (1 ≤ length k.ins) × (length k.ins ≤ 64)
+  pub outputs : length k.outs ≡ length k.ins
+  pub limits : k.budget.bytes + 24 < 2 ^ 64
+  pub touches : Touches (Written k.seen k.journal k.outs) (Touched k) k.seen d
+  pub slots : slots_of ins ≡ slots_of k.ins
+  pub count : length shelves ≡ length ins
+  pub taken : List (List Record)
+  pub entry_list : Journal
+  pub sofar : Sofar k.settings (length k.ins) w taken entry_list F
+  pub clock : IfSome F.state.tables.clock (λ t. t < w)
+  pub ready : AreReady k.settings w ins shelves left
+  pub read : HaveRead k.settings w (captures_in k) taken ins shelves d
+  pub spent : Spends k.budget left 0 (counts_of shelves)
+  pub stops : IsTrue k.seen.told → stop k.settings k.budget.bytes k.budget.frames (captures_in k) ≡ stop_from k.settings first d ins shelves left
+
+-- The files hold that journal, and its frames and entries are counted.
+pub record Going (k : Task) (w first : ℕ) (F : Contents) (d : Seen) (ins : List Input) (shelves : List Shelf) (left : Budget) (done : Done) : Type 0 where
+  pub reached : Reached k w first F d ins shelves left
+  pub whole : IsTrue k.seen.told → Wholes k.settings d k.journal k.outs reached.entry_list
+  pub frames : done.frames ≡ frame_count reached.entry_list
+  pub entries : done.entries ≡ length reached.entry_list
+
+-- What stands of a task before the first window, of whichever new fabric.
+pub record Begun (k : Task) (d : Seen) (ins : List Input) (shelves : List Shelf) (left : Budget) : Type 0 where
+  pub given : AreGiven k.seen k.ins k.journal k.outs
+  pub ports : (1 ≤ length k.ins) × (length k.ins ≤ 64)
+  pub outputs : length k.outs ≡ length k.ins
+  pub limits : k.budget.bytes + 24 < 2 ^ 64
+  pub touches : Touches (Written k.seen k.journal k.outs) (Touched k) k.seen d
+  pub slots : slots_of ins ≡ slots_of k.ins
+  pub count : length shelves ≡ length ins
+  pub ready : AreReady k.settings 0 ins shelves left
+  pub read : HaveRead k.settings 0 (captures_in k) (map (λ i. []) k.ins) ins shelves d
+  pub spent : Spends k.budget left 0 (counts_of shelves)
+  pub stops : IsTrue k.seen.told → stop k.settings k.budget.bytes k.budget.frames (captures_in k) ≡ stop_from k.settings (first_window (in_order (joined (rests k.settings 1 d ins shelves)))) d ins shelves left
+  pub whole : IsTrue k.seen.told → Wholes k.settings d k.journal k.outs []
+
+-- the run of a task ended with this fault
+abbrev pub Ended : Task → Seen → RunFault → Type 0
+Ended k d e = Runs k.settings k.budget k.ins k.seen d k.journal k.outs (Err e)
+
+-- ---- one window
+
+-- What gathering a window does: the looks to come stop where they stopped, or it ends as the first stop among them says.
+pub record Gathers (c : Settings) (first w : ℕ) (a b : Seen) (ins ins' : List Input) (shelves shelves' : List Shelf) (had left : Budget) (result : Result (Unit {0}) RunFault) : Type 0 where
+  pub touches : Touches Nothing (NameIn a (slots_of ins)) a b
+  pub slots : slots_of ins' ≡ slots_of ins
+  pub count : length shelves' ≡ length shelves
+  pub ready : OnOk result (AreReady c (w + 1) ins' shelves' left)
+  pub took : OnOk result (TookAll c w a b ins ins' shelves shelves')
+  pub spent : OnOk result (Spends had left (counts_of shelves) (counts_of shelves'))
+  pub looks : IsTrue a.told → OnOk result (stop_from c first a ins shelves had ≡ stop_from c first b ins' shelves' left)
+  pub stops : IsTrue a.told → IfErr result (λ e. IsStopped e → (s : Stop) × (stop_from c first a ins shelves had ≡ Some s) × (ending s ≡ e) × (s.window ≡ Some w))
+  pub cause : IsErrOf result fault.Read → (q : ℕ) × (q < length ins) × Rose (a.read_faults (name_of a (slots_of ins) q)) (b.read_faults (name_of a (slots_of ins) q))
+  pub only : IfErr result (λ e. e ≢ fault.Write)
+
+-- A fabric made the ticks up to a window and handled its frames, and handed out what it made.
+pub record Handles (w : ℕ) (shelves : List Shelf) (F E : Contents) (events : List Event) (outs : List Out) : Type 0 where
+  pub ticked : Contents
+  pub handled : Contents
+  pub ticks : Ticked w F ticked
+  pub frames : Handled (firsts_of shelves) (batches_of shelves) ticked handled
+  pub after : E ≡ drained handled
+  pub events_ : events ≡ handled.events
+  pub outs_ : map (sent_of F.settings events) outs ≡ handled.outs
+  pub ranged : AreRanged events
+
+-- what a fault of writing or want of memory leaves
+abbrev pub IsUnwritten : RunFault → Type 0
+IsUnwritten (fault.Capture port at w) = ⊥
+IsUnwritten (fault.Limit kind) = ⊥
+IsUnwritten fault.Read = ⊥
+IsUnwritten fault.Write = Unit {0}
+IsUnwritten fault.Memory = Unit {0}
+
+-- Writing lines and what is sent to files that hold these bytes: they hold what is added behind them then, or beginnings of it.
+pub record Publishes (journal : ℕ) (outs lines : List ℕ) (sents : List Sent) (a b : Seen) (result : Result (Unit {0}) RunFault) : Type 0 where
+  pub touches : Touches (Written a journal outs) (Written a journal outs) a b
+  pub whole : IsTrue a.told → (l l' : List ℕ) (r r' : ℕ → List ℕ) → Hold a journal outs l r → l' ≡ l ++ lines → ((q : ℕ) → q < length outs → r' q ≡ r q ++ records_to (q + 1) sents) → OnOk result (Hold b journal outs l' r')
+  pub front : IsTrue a.told → (l l' : List ℕ) (r r' : ℕ → List ℕ) → Hold a journal outs l r → l' ≡ l ++ lines → ((q : ℕ) → q < length outs → r' q ≡ r q ++ records_to (q + 1) sents) → HoldFronts b journal outs l' r'
+  pub cause : IsErrOf result fault.Write → (m : List ℕ) × Written a journal outs m × Rose (a.write_faults m) (b.write_faults m)
+  pub only : IfErr result IsUnwritten
+
+-- What stands once the next window was gathered from where a run had come.
+pub record Gathered (k : Task) (w first : ℕ) (F : Contents) (b : Seen) (ins' : List Input) (shelves' : List Shelf) (left' : Budget) (done : Done) : Type 0 where
+  pub seen : Seen
+  pub ins : List Input
+  pub shelves : List Shelf
+  pub left : Budget
+  pub going : Going k w first F seen ins shelves left done
+  pub next : IsNextWindow k.settings shelves (Some w)
+  pub gathers : Gathers k.settings first w seen b ins ins' shelves shelves' left left' (Ok tt)

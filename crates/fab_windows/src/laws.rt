@@ -1,0 +1,24 @@
+//! The laws of the layers below on which a run rests.
+//!
+//! The function does nothing: its contract is the laws.
+ghost use Rattle.fab_windows.specs.Turns.{Laws};
+
+use crate::steps::windows_are_runs;
+use fab_gather::{looks_to_come, records_are_read, windows_move_on};
+use fab_policy::{
+    entries_add_to_files, entries_come_in_parts, records_come_later, stops_keep_what_is_before,
+};
+
+/// Further entries, further records, where reading stops, and what was read.
+pub(crate) fn laws_of_runs()
+    ensures { Laws }
+{
+    entries_come_in_parts();
+    entries_add_to_files();
+    records_come_later();
+    windows_are_runs();
+    stops_keep_what_is_before();
+    looks_to_come();
+    windows_move_on();
+    records_are_read();
+}

@@ -1,0 +1,21 @@
+//! A forwarder over captures, window by window: read, handled and written as they come.
+#![tactic(auto)]
+
+mod files;
+mod frames;
+mod laws;
+mod pages;
+mod plan;
+mod run;
+mod steps;
+mod turn;
+
+pub use fab_gather::{CapWhy, Input, LimitKind, RunFault};
+pub use run::run_windows;
+
+/// How many frames and entries a run made.
+#[derive(Clone, Copy, Debug, PartialEq, Eq)]
+pub struct Done {
+    pub frames: u64,
+    pub entries: u64,
+}

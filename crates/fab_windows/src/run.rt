@@ -1,0 +1,96 @@
+//! The windows, one after another.
+ghost use Rattle.std.specs.Prelude.{◌≡◌, ◌+◌, ◌<◌, ◌≤◌, ◌^◌, length, [], IfOk, MatchResult};
+ghost use Rattle.fab_policy.specs.Outputs.{state_of};
+ghost use Rattle.fab_config.specs.Settings.{Settings};
+ghost use Rattle.fab_windows.specs.Run.{AreGiven, Runs};
+ghost use Rattle.fab_windows.specs.Turns.{task_of, Begun, Ended};
+
+use crate::Done;
+use crate::files::write_window;
+use crate::laws::laws_of_runs;
+use crate::pages::Pages;
+use crate::turn::{Run, turn};
+use fab_base::{Depot, Gate};
+use fab_gather::{Input, RunFault, first_looks, next_window};
+use forward_core::Fabric;
+use pcap_file::Budget;
+use std::alloc::Global;
+use std::sync::Wait;
+use std::thread::Threads;
+
+/// Runs a new fabric over captures whose heads were read, window by window. The journal and the
+/// outputs, which are empty, are written after each window; `ins` and `outs` are in port order.
+/// The gate sees each frame before it is handled and after.
+pub fn run_windows<R: Threads + Wait + Sync, D: Depot, G: Gate + Sync>(
+    _rt: &R,
+    alloc: Global,
+    depot: &mut D,
+    fabric: Fabric,
+    ins: &mut [Input],
+    budget: &mut Budget,
+    journal: u32,
+    outs: &[u32],
+    gate: &G,
+) -> Result<Done, RunFault>
+    requires ports { (1 ≤ length ins.old) × (length ins.old ≤ 64) }
+    requires outputs { length outs.now ≡ length ins.old }
+    requires given { AreGiven (D.seen depot.old) ins.old journal outs.now }
+    requires count { fabric.count ≡ length ins.old }
+    requires state { fabric.state ≡ state_of fabric.settings [] }
+    requires nothing { (fabric.events ≡ []) × (fabric.outs ≡ []) }
+    requires budget { (budget.old.bytes + 24 < 2 ^ 64) × (budget.old.frames + 1 < 2 ^ 64) }
+    ensures runs { Runs fabric.settings budget.old ins.old (D.seen depot.old) (D.seen depot.new)
+        journal outs.now result }
+{
+    let mut fabric = fabric;
+    laws_of_runs();
+    let mut run = begin(alloc, depot, ins, budget, journal, outs)?;
+    let first = next_window(fabric.config(), &run.shelves).unwrap_or(0);
+    'windows: while let Some(window) = next_window(fabric.config(), &run.shelves) {
+        fabric = turn(
+            alloc, depot, fabric, first, window, ins, &mut run, budget, journal, outs, gate,
+        )?;
+    }
+    Ok(run.done)
+}
+
+// Writes the heads of all files, and looks at the first record of each port.
+fn begin<D: Depot>(
+    alloc: Global,
+    depot: &mut D,
+    ins: &mut [Input],
+    budget: &mut Budget,
+    journal: u32,
+    outs: &[u32],
+) -> Result<Run, RunFault>
+    requires ports { (1 ≤ length ins.old) × (length ins.old ≤ 64) }
+    requires outputs { length outs.now ≡ length ins.old }
+    requires given { AreGiven (D.seen depot.old) ins.old journal outs.now }
+    requires budget { (budget.old.bytes + 24 < 2 ^ 64) × (budget.old.frames < 2 ^ 64) }
+    ensures begins { (c : Settings) → let k = task_of (record {
+      budget = budget.old;
+      ins = ins.old;
+      seen = D.seen depot.old;
+    }) c journal outs.now in MatchResult result
+        (λ r. Begun k (D.seen depot.new) ins.new r.shelves.items budget.new)
+        (λ e. Ended k (D.seen depot.new) e) }
+    ensures pages { IfOk result (λ r. length r.pages.records.items ≡ length outs.now) }
+    ensures done { IfOk result (λ r. (r.done.frames ≡ 0) × (r.done.entries ≡ 0)) }
+{
+    laws_of_runs();
+    let pages = Pages::heads(alloc, outs.len())?;
+    match write_window(depot, journal, outs, &pages.lines, &pages.records) {
+        Ok(()) => {}
+        Err(_) => return Err(RunFault::Write),
+    }
+    let shelves = first_looks(alloc, depot, ins, budget)?;
+    let done = Done {
+        frames: 0,
+        entries: 0,
+    };
+    Ok(Run {
+        shelves,
+        pages,
+        done,
+    })
+}

@@ -1,0 +1,17 @@
+//! What a window makes of a run.
+//!
+//! The function does nothing: its contract is the laws.
+ghost use Rattle.fab_windows.specs.Steps.{FirstsAreTaken, WindowIsRun};
+
+use fab_policy::{entries_come_in_parts, fabric_steps, records_come_later};
+
+/// A run over the records of all earlier windows goes on by the ticks and the frames of a window to
+/// a run over its records too; their numbers are those that the shelves tell.
+pub(crate) fn windows_are_runs()
+    ensures firsts { FirstsAreTaken }
+    ensures run { WindowIsRun }
+{
+    entries_come_in_parts();
+    records_come_later();
+    fabric_steps();
+}

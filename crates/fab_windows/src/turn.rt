@@ -1,0 +1,237 @@
+//! One window: gathered, handled and written.
+ghost use Rattle.std.specs.Prelude.{[], ◌∷◌, ◌≡◌, ◌+◌, ◌≤◌, ◌<◌, ◌^◌, ◌%◌, Some, length, map, IfSome, IfOk, OnOk, MatchResult};
+ghost use Rattle.std.specs.List.{All};
+ghost use Rattle.fab_policy.specs.Growing.{lines_from};
+ghost use Rattle.fab_policy.specs.Journal.{frame_count};
+ghost use Rattle.fab_policy.specs.Ranged.{IsRangedEvent};
+ghost use Rattle.fab_replies.specs.Message.{sent_of};
+ghost use Rattle.fab_gather.specs.First.{IsNextWindow};
+ghost use Rattle.fab_gather.specs.Ports.{AreInputs, AreReady, slots_of};
+ghost use Rattle.fab_windows.specs.Files.{AreFiles};
+ghost use Rattle.fab_windows.specs.Pages.{AreEarly};
+ghost use Rattle.fab_windows.specs.Turns.{Start, task_of, Going, Gathered, Ended, Gathers, Handles, Publishes};
+ghost use Rattle.std.specs.Prelude.{ℕ, List};
+ghost use Rattle.fab_gather.specs.declared.shelf.Input as of_gather;
+ghost use Rattle.pcap_file.specs.declared.Budget as of_captures;
+
+use crate::files::write_window;
+use crate::frames::take_frames;
+use crate::laws::laws_of_runs;
+use crate::pages::Pages;
+use crate::plan::tick_to;
+use crate::{Done, Input, LimitKind, RunFault};
+use fab_base::{Depot, Gate, Moment, NoMemory};
+use fab_config::Config;
+use fab_gather::{Shelf, take_windows};
+use fab_policy::{Event, MOST_SPAN};
+use forward_core::{Drained, EventList, Fabric};
+use pcap_file::Budget;
+use std::alloc::Global;
+
+/// What a run keeps from window to window.
+#[derive(Debug, Drop)]
+pub(crate) struct Run {
+    pub(crate) shelves: Vec<Shelf>,
+    pub(crate) pages: Pages,
+    pub(crate) done: Done,
+}
+
+/// Takes the next window of all ports, handles its frames and writes what they made.
+pub(crate) fn turn<D: Depot, G: Gate>(
+    alloc: Global,
+    depot: &mut D,
+    fabric: Fabric,
+    first: u64,
+    window: u64,
+    ins: &mut [Input],
+    run: &mut Run,
+    budget: &mut Budget,
+    journal: u32,
+    outs: &[u32],
+    gate: &G,
+) -> Result<Fabric, RunFault>
+    requires going { (s : Start) × Going (task_of s fabric.settings journal outs.now) window first
+        fabric (D.seen depot.old) ins.old run.old.shelves.items budget.old run.old.done }
+    requires next { IsNextWindow fabric.settings run.old.shelves.items (Some window) }
+    requires start { window % fabric.settings.window ≡ 0 }
+    requires range { window < 2 ^ 43 }
+    requires pages { length run.old.pages.records.items ≡ length outs.now }
+    ensures turns { (s : Start) → let k = task_of s fabric.settings journal outs.now in
+        Going k window first fabric (D.seen depot.old) ins.old run.old.shelves.items budget.old
+        run.old.done → MatchResult result
+        (λ f. Going k (window + 1) first f (D.seen depot.new) ins.new run.new.shelves.items
+        budget.new run.new.done) (λ e. Ended k (D.seen depot.new) e) }
+    ensures pages { OnOk result (length run.new.pages.records.items ≡ length outs.now) }
+    ensures settings { IfOk result (λ f. f.settings ≡ fabric.settings) }
+    ensures clock { IfOk result (λ f. f.state.tables.clock ≡ Some window) }
+{
+    laws_of_runs();
+    gather(
+        alloc,
+        depot,
+        fabric.config(),
+        first,
+        window,
+        ins,
+        &mut run.shelves,
+        budget,
+    )?;
+    answer(alloc, depot, fabric, window, run, journal, outs, gate)
+}
+
+// Handles the frames on the shelves, writes what they made and counts it.
+fn answer<D: Depot, G: Gate>(
+    alloc: Global,
+    depot: &mut D,
+    fabric: Fabric,
+    window: u64,
+    run: &mut Run,
+    journal: u32,
+    outs: &[u32],
+    gate: &G,
+) -> Result<Fabric, RunFault>
+    requires gathered { (s : Start) × (first : ℕ) × (ins : List of_gather.Input) × (left : of_captures.Budget)
+        × Gathered (task_of s fabric.settings journal outs.now) window first fabric
+        (D.seen depot.old) ins run.old.shelves.items left run.old.done }
+    requires start { window % fabric.settings.window ≡ 0 }
+    requires range { window < 2 ^ 43 }
+    requires pages { length run.old.pages.records.items ≡ length outs.now }
+    ensures turns { (s : Start) (first : ℕ) (ins : List of_gather.Input) (left : of_captures.Budget)
+        → let k = task_of s fabric.settings journal outs.now in
+        Gathered k window first fabric (D.seen depot.old) ins run.old.shelves.items left
+        run.old.done → MatchResult result
+        (λ f. Going k (window + 1) first f (D.seen depot.new) ins run.new.shelves.items left
+        run.new.done) (λ e. Ended k (D.seen depot.new) e) }
+    ensures pages { OnOk result (length run.new.pages.records.items ≡ length outs.now) }
+    ensures settings { IfOk result (λ f. f.settings ≡ fabric.settings) }
+    ensures clock { IfOk result (λ f. f.state.tables.clock ≡ Some window) }
+{
+    laws_of_runs();
+    let clock = fabric.clock().unwrap_or(Moment(0));
+    let (fabric, drained) = handle(alloc, fabric, window, &run.shelves, gate)?;
+    publish(
+        alloc,
+        depot,
+        fabric.config(),
+        clock,
+        &drained,
+        &mut run.pages,
+        journal,
+        outs,
+    )?;
+    run.done = counted(run.done, &drained.events);
+    Ok(fabric)
+}
+
+// Takes the records of a window, which may start too long after the first.
+fn gather<D: Depot>(
+    alloc: Global,
+    depot: &mut D,
+    config: &Config,
+    first: u64,
+    window: u64,
+    ins: &mut [Input],
+    shelves: &mut [Shelf],
+    budget: &mut Budget,
+) -> Result<(), RunFault>
+    requires count { length shelves.old ≡ length ins.old }
+    requires ports { length ins.old ≤ 64 }
+    requires inputs { AreInputs (D.seen depot.old) (slots_of ins.old) }
+    requires ready { AreReady config.now window ins.old shelves.old budget.old }
+    requires next { IsNextWindow config.now shelves.old (Some window) }
+    ensures gathers { Gathers config.now first window (D.seen depot.old) (D.seen depot.new) ins.old
+        ins.new shelves.old shelves.new budget.old budget.new result }
+{
+    laws_of_runs();
+    if window.saturating_sub(first) > MOST_SPAN {
+        return Err(RunFault::Limit(LimitKind::Span));
+    }
+    take_windows(alloc, depot, config, window, ins, shelves, budget)
+}
+
+// Makes the ticks up to a window and handles its frames.
+fn handle<G: Gate>(
+    alloc: Global,
+    fabric: Fabric,
+    window: u64,
+    shelves: &[Shelf],
+    gate: &G,
+) -> Result<(Fabric, Drained), NoMemory>
+    requires range { window < 2 ^ 43 }
+    requires start { window % fabric.settings.window ≡ 0 }
+    requires order { IfSome fabric.state.tables.clock (λ t. t < window) }
+    requires ports { fabric.count ≡ length shelves.now }
+    requires few { length shelves.now ≤ 64 }
+    ensures handles { IfOk result (λ p.
+        Handles window shelves.now fabric p.0 p.1.events p.1.outs) }
+{
+    let mut fabric = fabric;
+    tick_to(alloc, &mut fabric, window)?;
+    let mut fabric = take_frames(alloc, fabric, shelves, gate)?;
+    let drained = fabric.drain();
+    Ok((fabric, drained))
+}
+
+// Writes the lines of entries, from a clock on, and the records of what they sent.
+fn publish<D: Depot>(
+    alloc: Global,
+    depot: &mut D,
+    config: &Config,
+    clock: Moment,
+    drained: &Drained,
+    pages: &mut Pages,
+    journal: u32,
+    outs: &[u32],
+) -> Result<(), RunFault>
+    requires files { AreFiles (D.seen depot.old) journal outs.now }
+    requires count { length pages.old.records.items ≡ length outs.now }
+    requires ranged { All IsRangedEvent drained.now.events }
+    requires early { AreEarly drained.now.outs }
+    ensures publishes { Publishes journal outs.now (lines_from clock drained.now.events)
+        (map (sent_of config.now drained.now.events) drained.now.outs) (D.seen depot.old)
+        (D.seen depot.new) result }
+    ensures count { OnOk result (length pages.new.records.items ≡ length outs.now) }
+{
+    pages.fill(alloc, config, clock, drained)?;
+    match write_window(depot, journal, outs, &pages.lines, &pages.records) {
+        Ok(()) => Ok(()),
+        Err(_) => Err(RunFault::Write),
+    }
+}
+
+// The numbers of frames and entries with these entries.
+fn counted(done: Done, events: &EventList) -> Done
+    requires frames { done.frames + frame_count events.now < 2 ^ 64 }
+    requires entries { done.entries + length events.now < 2 ^ 64 }
+    ensures frames { result.frames ≡ done.frames + frame_count events.now }
+    ensures entries { result.entries ≡ done.entries + length events.now }
+{
+    Done {
+        frames: done.frames + frames_in(events),
+        entries: done.entries + events.len() as u64,
+    }
+}
+
+// How many of these entries are frames.
+fn frames_in(events: &EventList) -> u64
+    ensures { result ≡ frame_count events.now }
+{
+    let mut frames = 0;
+    for index in 0..events.len() {
+        let Some(event) = events.at(index) else {
+            unreachable!()
+        };
+        frames += frames_of(event);
+    }
+    frames
+}
+
+// A frame counts for itself, a tick for none.
+fn frames_of(event: &Event) -> u64
+    ensures { result ≡ frame_count (event.now ∷ []) }
+{
+    match event {
+        Event::Tick { .. } => 0,
+        Event::Frame { .. } => 1,
+    }
+}
