@@ -8,9 +8,10 @@ use Rattle.pcap_file.specs.Capture.{IsCapture}
 use Rattle.pcap_file.proofs.lemmas.Chains.{one_capture}
 use Rattle.pcapng_file.specs.Classic.{Converted, classic_bytes, timed, written}
 use Rattle.fcoe_tool.specs.Command.{RunNames, ConvertNames, Command, Run, Convert, Help, Version}
-use Rattle.fcoe_tool.specs.Ends.{RunHolds, ConvertHolds, Holds, Done}
-use Rattle.fcoe_tool.specs.Gathered.{HasCapture, LIMITS}
+use Rattle.fcoe_tool.specs.Ends.{RunHolds, ConvertHolds, Holds}
+use Rattle.fcoe_tool.specs.Inputs.{HasCapture, LIMITS}
 use Rattle.fcoe_tool.specs.Outcome.{status_of, line_of}
+use Rattle.fcoe_tool.specs.Statuses.{Done}
 use Rattle.fcoe_tool.specs.declared.outcome.Outcome.{Outcome}
 use Rattle.fcoe_tool.proofs.OutcomeCases.{run_cases, convert_cases}
 
@@ -33,7 +34,8 @@ unfolding line_of
 run_done k old new before after status none o holds = run_cases k old new (λ o. Whole o before after status → Done (Run k) old new before after)
     (λ frames entries h w told. record { frames = frames; entries = entries; run = h.1 told; printed = w.1 })
     (λ fault h w. let one = w.0 in absurd (omega arith))
-    (λ port h w. let one = w.0 in absurd (omega arith))
+    (λ port at reason h w. let one = w.0 in absurd (omega arith))
+    (λ kind h w. let six = w.0 in absurd (omega arith))
     (λ h w. let three = w.0 in absurd (omega arith))
     (λ h w. let four = w.0 in absurd (omega arith))
     (λ h w. let five = w.0 in absurd (omega arith))
@@ -44,7 +46,7 @@ unfolding line_of
 convert_done k old new before after status none o holds = convert_cases k old new (λ o. Whole o before after status → Done (Convert k) old new before after)
     (λ records h w told. record { count = records; done = h.1 told; run_takes = taken k old new records (h.1 told); printed = w.1 })
     (λ at fault h w. let one = w.0 in absurd (omega arith))
-    (λ limit h w. let six = w.0 in absurd (omega arith))
+    (λ kind h w. let six = w.0 in absurd (omega arith))
     (λ h w. let three = w.0 in absurd (omega arith))
     (λ h w. let four = w.0 in absurd (omega arith))
     (λ h w. let five = w.0 in absurd (omega arith))

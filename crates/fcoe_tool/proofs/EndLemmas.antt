@@ -2,17 +2,18 @@
 use Rattle.std.proofs.Common.{◌≡◌, ℕ, ◌⊎◌, inl, inr, IsTrue, List, ◌++◌, length, Option, Some, None, refl, sym, ap, ◌∙◌, subst, arith, String}
 use Rattle.std.proofs.lemmas.List.{take_all}
 use Rattle.std.specs.declared.alloc.Global.{Global}
-use Rattle.fab_base.specs.Seen.{Seen, Rose, SameFiles}
+use Rattle.fab_base.specs.Seen.{Seen, Rose}
 use Rattle.fab_base.specs.Sunk.{Sunk}
-use Rattle.pcapng_file.specs.File.{ng_read}
 use Rattle.pcapng_file.specs.Classic.{IsFront}
-use Rattle.fcoe_tool.specs.Command.{ConvertNames, Command, Convert, command}
-use Rattle.fcoe_tool.specs.Ends.{Holds, HoldsFor, Prints, Ends, Done, OfCommand, IsRefused, IsPastLimit, IsQuietConvert, IsComplete, Printed, ended_by}
-use Rattle.fcoe_tool.specs.Gathered.{LIMITS}
+use Rattle.fcoe_tool.specs.Command.{ConvertNames, Command, Convert, KeepsOthers, command}
+use Rattle.fcoe_tool.specs.Ends.{Holds, HoldsFor, Prints, Ends}
+use Rattle.fcoe_tool.specs.Inputs.{LIMITS}
 use Rattle.fcoe_tool.specs.Outcome.{status_of, line_of}
+use Rattle.fcoe_tool.specs.Statuses.{Done, OfCommand, IsRefused, IsPastLimit, IsComplete, IsNamed, Printed}
 use Rattle.fcoe_tool.specs.declared.outcome.Outcome.{Outcome}
+use Rattle.fcoe_tool.specs.declared.outcome.Outcome.TheVariants as ends
 use Rattle.fcoe_tool.proofs.DoneLemmas.{Whole, command_done}
-use Rattle.fcoe_tool.proofs.CauseLemmas.{refused_of, limit_of, done_or_memory, front_of, quiet_end}
+use Rattle.fcoe_tool.proofs.CauseLemmas.{is_read_fault, is_write_fault, is_memory, is_limit, refused_of, others_kept, done_or_memory, front_of, said_end}
 
 -- the status of an outcome, or 4 by a fault of the sink
 status_is : (o : Outcome) (before after : Sunk) (status : ℕ) → Prints o before after status → (status ≡ status_of o) ⊎ ((status ≡ 4) × Rose before.faults after.faults)
@@ -35,15 +36,33 @@ module _ (words : List (String Global)) (old new : Seen) (before after : Sunk) (
       (λ two. absurd (omega arith))
       (λ four rose. absurd (omega arith))
 
-  pub refused : status ≡ 1 → SameFiles old new × OfCommand words (λ k. IsTrue old.told → IsRefused old k)
-  refused one = by_command (SameFiles old new × OfCommand words (λ k. IsTrue old.told → IsRefused old k))
-      (λ k is o holds w. let r = refused_of k old new o holds (sym one ∙ w.0) in (r.0, record { k = k; is = is; holds = r.1 }))
+  pub refused : status ≡ 1 → OfCommand words (λ k. IsRefused k old new)
+  refused one = by_command (OfCommand words (λ k. IsRefused k old new))
+      (λ k is o holds w. record { k = k; is = is; holds = refused_of k old new o holds (sym one ∙ w.0) })
       (λ two. absurd (omega arith))
       (λ four rose. absurd (omega arith))
 
-  pub past_limit : status ≡ 6 → SameFiles old new × OfCommand words (λ k. IsTrue old.told → IsPastLimit old k)
-  past_limit six = by_command (SameFiles old new × OfCommand words (λ k. IsTrue old.told → IsPastLimit old k))
-      (λ k is o holds w. let r = limit_of k old new o holds (sym six ∙ w.0) in (r.0, record { k = k; is = is; holds = r.1 }))
+  pub read_failed : status ≡ 3 → OfCommand words (λ k. Holds k old new ends.ReadFault)
+  read_failed three = by_command (OfCommand words (λ k. Holds k old new ends.ReadFault))
+      (λ k is o holds w. record { k = k; is = is; holds = subst (Holds k old new) (is_read_fault o (sym three ∙ w.0)) holds })
+      (λ two. absurd (omega arith))
+      (λ four rose. absurd (omega arith))
+
+  pub write_failed : status ≡ 4 → Rose before.faults after.faults ⊎ OfCommand words (λ k. Holds k old new ends.WriteFault)
+  write_failed four = by_command (Rose before.faults after.faults ⊎ OfCommand words (λ k. Holds k old new ends.WriteFault))
+      (λ k is o holds w. inr (record { k = k; is = is; holds = subst (Holds k old new) (is_write_fault o (sym four ∙ w.0)) holds }))
+      (λ two. absurd (omega arith))
+      (λ four rose. inl rose)
+
+  pub memory_refused : status ≡ 5 → OfCommand words (λ k. Holds k old new ends.Memory)
+  memory_refused five = by_command (OfCommand words (λ k. Holds k old new ends.Memory))
+      (λ k is o holds w. record { k = k; is = is; holds = subst (Holds k old new) (is_memory o (sym five ∙ w.0)) holds })
+      (λ two. absurd (omega arith))
+      (λ four rose. absurd (omega arith))
+
+  pub past_limit : status ≡ 6 → OfCommand words (λ k. IsPastLimit k old new)
+  past_limit six = by_command (OfCommand words (λ k. IsPastLimit k old new))
+      (λ k is o holds w. let l = is_limit o (sym six ∙ w.0) in record { k = k; is = is; holds = (l.0, subst (Holds k old new) l.1 holds) })
       (λ two. absurd (omega arith))
       (λ four rose. absurd (omega arith))
 
@@ -70,8 +89,11 @@ module _ (words : List (String Global)) (old new : Seen) (before after : Sunk) (
   pub fronts : IsTrue old.told → (k : ConvertNames) → command words ≡ Some (Convert k) → IsFront k.from k.to LIMITS old new
   fronts told k is = front_of k old new told e.outcome (of_command (Convert k) is)
 
-  pub exactly : (bytes : List ℕ) → IsQuietConvert words bytes old new before after → Prints (ended_by (ng_read LIMITS bytes)) before after status ⊎ (status ≡ 5)
-  exactly bytes x = elim (quiet_end x.k old new before after bytes x.told x.found x.quiet e.outcome (of_command (Convert x.k) x.is)) [
+  pub others : (k : Command) → command words ≡ Some k → KeepsOthers k old new
+  others k is = others_kept k old new e.outcome (of_command k is)
+
+  pub exactly : (p : Outcome) → IsNamed words p old new before after → Prints p before after status ⊎ (status ≡ 5)
+  exactly p x = elim (said_end x.k old new before after p x.told x.says x.quiet e.outcome (of_command x.k x.is)) [
     | inl is ↦ inl (subst (λ o. Prints o before after status) is e.prints)
     | inr memory ↦ elim (status_is e.outcome before after status e.prints) [
       | inl five ↦ inr (five ∙ ap status_of memory)
@@ -79,15 +101,16 @@ module _ (words : List (String Global)) (old new : Seen) (before after : Sunk) (
     ]
   ]
 
-  -- what was printed is the line of an outcome, or a front of it
-  pub is_printed : IsTrue before.told → Printed before after
-  is_printed told = go e.outcome e.prints
+  -- what was printed is the line of the outcome, or a front of it
+  pub is_printed : IsTrue before.told → Printed words old new before after status
+  is_printed told = go e.outcome e.holds e.prints
     where
-      go : (o : Outcome) → Prints o before after status → Printed before after
-      go o (inl p) = record {
+      go : (o : Outcome) → HoldsFor (command words) old new o → Prints o before after status → Printed words old new before after status
+      go o holds (inl p) = record {
         outcome = o;
+        holds = holds;
         count = length (line_of o);
         front = p.1 told ∙ ap (λ l. before.written ++ l) (sym (take_all (length (line_of o)) (line_of o) (omega arith)));
-        whole = λ quiet. omega arith;
+        whole = λ quiet. (omega arith, p.0);
       }
-      go o (inr p) = record { outcome = o; count = (p.2 told).0; front = (p.2 told).1; whole = λ quiet. absurd (quiet p.1) }
+      go o holds (inr p) = record { outcome = o; holds = holds; count = (p.2 told).0; front = (p.2 told).1; whole = λ quiet. absurd (quiet p.1) }

@@ -9,10 +9,9 @@ use Rattle.pcapng_file.specs.Classic.{Converts, KeepsBut}
 use Rattle.fab_base.specs.declared.values.Failed.{Failed}
 use Rattle.fcoe_tool.specs.Command.{ConvertNames, Convert, KeepsOthers}
 use Rattle.fcoe_tool.specs.Ends.{ConvertHolds}
-use Rattle.fcoe_tool.specs.Gathered.{LIMITS}
+use Rattle.fcoe_tool.specs.Inputs.{LIMITS}
 use Rattle.fcoe_tool.specs.declared.outcome.Outcome.TheVariants as ends
-use Rattle.fcoe_tool.proofs.MoveLemmas.{differs}
-use Rattle.fcoe_tool.proofs.NameLemmas.{or_false}
+use Rattle.fcoe_tool.proofs.AmongLemmas.{differs, or_false}
 
 module _ (k : ConvertNames) (a b : Seen) (others : KeepsBut k.to a b) where
   keeps : KeepsOthers (Convert k) a b

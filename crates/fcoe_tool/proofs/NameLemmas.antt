@@ -1,23 +1,20 @@
 -- The names of a command differ.
-use Rattle.std.proofs.Common.{◌≡◌, ◌≢◌, ℕ, zero, suc, ◌+◌, ◌-◌, ◌*◌, ◌/◌, ◌%◌, codes, ◌<◌, ◌≤◌, List, [], ◌∷◌, length, get_or, Bool, true, false, not, ◌&&◌, ◌||◌, refl, sym, ap, ◌∙◌, arith, inl, inr}
+use Rattle.std.proofs.Common.{◌≡◌, ◌≢◌, ℕ, zero, suc, ◌+◌, ◌-◌, ◌*◌, ◌/◌, ◌%◌, codes, ◌<◌, ◌≤◌, List, [], ◌∷◌, ◌++◌, length, get_or, Bool, true, false, not, ◌&&◌, refl, sym, ap, ◌∙◌, arith, inl, inr}
 use Rattle.std.specs.Prelude.{String, map, nat_lt, nat_le, ◌==◌}
-use Rattle.std.proofs.lemmas.Bool.{cases_Bool, leb-true, eqb-true}
+use Rattle.std.proofs.lemmas.Bool.{leb-true, eqb-true}
 use Rattle.std.specs.List.{list_any}
 use Rattle.std.specs.Str.{bytes_eq}
 use Rattle.std.specs.String.{string_bytes}
 use Rattle.std.specs.declared.alloc.Global.{Global}
 use Rattle.fab_base.specs.Places.{name_at}
 use Rattle.fab_policy.specs.Logins.{counting}
-use Rattle.fcoe_tool.specs.Command.{names_from, are_names, has_form, is_run, port_count}
-use Rattle.fcoe_tool.proofs.MoveLemmas.{differs, same_name}
+use Rattle.pcap_file.proofs.lemmas.Numbers.{le_or_lt}
+use Rattle.fcoe_tool.specs.Command.{names_from, are_names, has_form, is_run, port_count, input_at, output_at, run_of, Among}
+use Rattle.fcoe_tool.proofs.AmongLemmas.{differs, or_false, among_counted}
 
 and_true : (a b : Bool) → (a && b) ≡ true → (a ≡ true) × (b ≡ true)
 and_true true b h = (refl, h)
 and_true false b h = absurd (cc)
-
-pub or_false : (a b : Bool) → (a || b) ≡ false → (a ≡ false) × (b ≡ false)
-or_false true b h = absurd (cc)
-or_false false b h = (refl, h)
 
 not_true : (b : Bool) → not b ≡ true → b ≡ false
 not_true true h = absurd (cc)
@@ -47,55 +44,46 @@ names_differ (w ∷ ws) zero j run some lt within = absurd (omega arith)
 names_differ (w ∷ ws) (suc i) zero run some lt within = absurd (omega arith)
 names_differ (w ∷ ws) (suc i) (suc j) run some lt within = words_differ ws i j (and_true (has_form (w ∷ ws)) (are_names (names_from 1 (w ∷ ws))) run).1 (omega arith) (omega arith)
 
+-- names at two places are one name only where the places are one
+pub one_place : (words : List (String Global)) (i j : ℕ) → is_run words ≡ true → 1 ≤ i → i < length words → 1 ≤ j → j < length words → name_at words i ≡ name_at words j → i ≡ j
+one_place words i j run some within some' within' same = elim (le_or_lt i j) [
+  | inl le ↦ elim (le_or_lt j i) [ inl ge ↦ omega arith | inr lt ↦ absurd (names_differ words i j run some lt within' same) ]
+  | inr gt ↦ absurd (names_differ words j i run some' gt within (sym same))
+]
+
 -- ---- numbered names
 
--- a name that none of numbered ones is
-pub none_counted : (f : ℕ → List ℕ) (m : List ℕ) (k n : ℕ) → list_any (λ x. bytes_eq x m) (map f (counting k n)) ≡ false → (q : ℕ) → q < n → m ≢ f (k + q)
-none_counted f m k zero h q lt = absurd (omega arith)
-none_counted f m k (suc n) h zero lt =
-    let e : k + 0 ≡ k = omega arith in
-    λ is. differs (f k) m (or_false (bytes_eq (f k) m) _ h).0 (sym (is ∙ ap f e))
-none_counted f m k (suc n) h (suc q) lt =
-    let e : k + suc q ≡ k + 1 + q = omega arith in
-    λ is. none_counted f m (k + 1) n (or_false (bytes_eq (f k) m) _ h).1 q (omega arith) (is ∙ ap f e)
+pub split_counted : {B : Type 0} (f : ℕ → B) (k q m : ℕ) → map f (counting k (q + suc m)) ≡ map f (counting k q) ++ f (k + q) ∷ map f (counting (k + q + 1) m)
+split_counted f k zero m =
+    let count : zero + suc m ≡ suc m = omega arith in
+    let at : k ≡ k + zero = omega arith in
+    ap (λ (n : ℕ). map f (counting k n)) count ∙ ap (λ (p : ℕ). f p ∷ map f (counting (p + 1) m)) at
+split_counted f k (suc q) m =
+    let count : suc q + suc m ≡ suc (q + suc m) = omega arith in
+    let at : k + 1 + q ≡ k + suc q = omega arith in
+    ap (λ (n : ℕ). map f (counting k n)) count ∙ ap (λ l. f k ∷ l) (split_counted f (k + 1) q m ∙ ap (λ (p : ℕ). map f (counting (k + 1) q) ++ f p ∷ map f (counting (p + 1) m)) at)
 
--- the same, counted from 0
-pub none_counted_0 : (f : ℕ → List ℕ) (m : List ℕ) (n : ℕ) → list_any (λ x. bytes_eq x m) (map f (counting 0 n)) ≡ false → (q : ℕ) → q < n → m ≢ f q
-none_counted_0 f m n h q lt = let e : q ≡ 0 + q = omega arith in λ is. none_counted f m 0 n h q lt (is ∙ ap f e)
+-- names up to a place, the one there, and those behind it
+pub split_names : (f : ℕ → List ℕ) (n q : ℕ) → q < n → map f (counting 0 n) ≡ map f (counting 0 q) ++ f q ∷ map f (counting (q + 1) (n - (q + 1)))
+split_names f n q lt =
+    let count : n ≡ q + suc (n - (q + 1)) = omega arith in
+    let at : 0 + q ≡ q = omega arith in
+    ap (λ (m : ℕ). map f (counting 0 m)) count ∙ split_counted f 0 q (n - (q + 1)) ∙ ap (λ (p : ℕ). map f (counting 0 q) ++ f p ∷ map f (counting (p + 1) (n - (q + 1)))) at
 
--- numbered values are those of a list
-pub map_counted : {B : Type 0} (f : ℕ → List ℕ) (h : List ℕ → B) (s : List ℕ → B) (k n : ℕ) (xs : List (List ℕ)) → length xs ≡ n → ((q : ℕ) → q < n → h (f (k + q)) ≡ s (get_or xs q [])) →
-    map (λ x. h x) (map f (counting k n)) ≡ map (λ x. s x) xs
-map_counted f h s k zero [] is each = refl
-map_counted f h s k zero (x ∷ xs) is each = absurd (omega arith)
-map_counted f h s k (suc n) [] is each = absurd (omega arith)
-map_counted f h s k (suc n) (x ∷ xs) is each =
-    let e : k + 0 ≡ k = omega arith in
-    let first : h (f k) ≡ s x = ap (λ (q : ℕ). h (f q)) (sym e) ∙ each 0 (omega arith) in
-    let rest = map_counted f h s (k + 1) n xs (omega arith) (λ q lt. let e : k + 1 + q ≡ k + suc q = omega arith in ap (λ (r : ℕ). h (f r)) e ∙ each (suc q) (omega arith)) in
-    ap (λ y. y ∷ map (λ x. h x) (map f (counting (k + 1) n))) first ∙ ap (λ l. s x ∷ l) rest
+pub push_name : (f : ℕ → List ℕ) (q : ℕ) → map f (counting 0 (q + 1)) ≡ map f (counting 0 q) ++ f q ∷ []
+push_name f q = let none : q + 1 - (q + 1) ≡ 0 = omega arith in split_names f (q + 1) q (omega arith) ∙ ap (λ (m : ℕ). map f (counting 0 q) ++ f q ∷ map f (counting (q + 1) m)) none
 
-pub map_counted_0 : {B : Type 0} (f : ℕ → List ℕ) (h : List ℕ → B) (s : List ℕ → B) (n : ℕ) (xs : List (List ℕ)) → length xs ≡ n → ((q : ℕ) → q < n → h (f q) ≡ s (get_or xs q [])) →
-    map (λ x. h x) (map f (counting 0 n)) ≡ map (λ x. s x) xs
-map_counted_0 f h s n xs is each = map_counted f h s 0 n xs is (λ q lt. let e : 0 + q ≡ q = omega arith in ap (λ (r : ℕ). h (f r)) e ∙ each q lt)
+pub length-counted : {B : Type 0} (f : ℕ → B) (k n : ℕ) → length (map f (counting k n)) ≡ n
+length-counted f k zero = refl
+length-counted f k (suc n) = let h = length-counted f (k + 1) n in omega arith
 
--- a name that differs from all numbered ones
-not_eq : (m n : List ℕ) → m ≢ n → bytes_eq m n ≡ false
-not_eq m n ne = elim (cases_Bool (bytes_eq m n)) [ inl same ↦ absurd (ne (same_name m n same)) | inr other ↦ other ]
+counted_at : (f : ℕ → List ℕ) (k n q : ℕ) → q < n → get_or (map f (counting k n)) q [] ≡ f (k + q)
+counted_at f k zero q lt = absurd (omega arith)
+counted_at f k (suc n) zero lt = ap f (let e : k ≡ k + zero = omega arith in e)
+counted_at f k (suc n) (suc q) lt = counted_at f (k + 1) n q (omega arith) ∙ ap f (let e : k + 1 + q ≡ k + suc q = omega arith in e)
 
-or_both : (a b : Bool) → a ≡ false → b ≡ false → (a || b) ≡ false
-or_both a b e f = ap (λ x. x || b) e ∙ f
-
-pub differs_from_all : (f : ℕ → List ℕ) (m : List ℕ) (k n : ℕ) → ((q : ℕ) → q < n → f (k + q) ≢ m) → list_any (λ x. bytes_eq x m) (map f (counting k n)) ≡ false
-differs_from_all f m k zero ne = refl
-differs_from_all f m k (suc n) ne =
-    let e : k + 0 ≡ k = omega arith in
-    or_both (bytes_eq (f k) m) _
-    (not_eq (f k) m (λ is. ne 0 (omega arith) (ap f e ∙ is)))
-    (differs_from_all f m (k + 1) n (λ q lt is. let e : k + 1 + q ≡ k + suc q = omega arith in ne (suc q) (omega arith) (sym (ap f e) ∙ is)))
-
-pub differs_from_all_0 : (f : ℕ → List ℕ) (m : List ℕ) (n : ℕ) → ((q : ℕ) → q < n → f q ≢ m) → list_any (λ x. bytes_eq x m) (map f (counting 0 n)) ≡ false
-differs_from_all_0 f m n ne = differs_from_all f m 0 n (λ q lt is. let e : 0 + q ≡ q = omega arith in ne q lt (sym (ap f e) ∙ is))
+pub name_counted : (f : ℕ → List ℕ) (n q : ℕ) → q < n → get_or (map f (counting 0 n)) q [] ≡ f q
+name_counted f n q lt = counted_at f 0 n q lt ∙ ap f (let e : 0 + q ≡ q = omega arith in e)
 
 -- ---- how many words
 
@@ -117,3 +105,43 @@ pairs words run =
     let ends = and_true (nat_le 5 n) (nat_le n 131) both.0 in
     let all = pairs_of n (leb-true 5 n ends.0) (leb-true n 131 ends.1) (eqb-true (n % 2) 1 both.1) in
     record { fits = all.0; some = all.1; few = all.2 }
+
+-- ---- the names of `run`
+
+module _ (words : List (String Global)) (run : is_run words ≡ true) where
+  fits : 2 * port_count words + 3 ≡ length words
+  fits = (pairs words run).fits
+
+  -- an input is no output
+  pub inputs_apart : (m : List ℕ) → Among (run_of words).ins m → Among ((run_of words).journal ∷ (run_of words).outs) m → ⊥
+  inputs_apart m input (inl is) =
+      let at = among_counted (input_at words) 0 (port_count words) m input in
+      let few = at.2 in
+      let place = one_place words (2 * at.0 + 3) 2 run (omega arith) (omega (arith, fits)) (omega arith) (omega (arith, fits)) (sym at.3 ∙ is) in
+      absurd (omega arith)
+  inputs_apart m input (inr output) =
+      let at = among_counted (input_at words) 0 (port_count words) m input in
+      let to = among_counted (output_at words) 0 (port_count words) m output in
+      let few = at.2 in
+      let few' = to.2 in
+      let place = one_place words (2 * at.0 + 3) (2 * to.0 + 4) run (omega arith) (omega (arith, fits)) (omega arith) (omega (arith, fits)) (sym at.3 ∙ to.3) in
+      absurd (omega arith)
+
+  -- an input is none of those before it
+  pub new_input : (q : ℕ) → q < port_count words → Among (map (input_at words) (counting 0 q)) (input_at words q) → ⊥
+  new_input q lt among =
+      let at = among_counted (input_at words) 0 q (input_at words q) among in
+      let few = at.2 in
+      let place = one_place words (2 * q + 3) (2 * at.0 + 3) run (omega arith) (omega (arith, fits)) (omega arith) (omega (arith, fits)) at.3 in
+      absurd (omega arith)
+
+  -- an output is neither the journal nor one of those before it
+  pub new_output : (q : ℕ) → q < port_count words → Among ((run_of words).journal ∷ map (output_at words) (counting 0 q)) (output_at words q) → ⊥
+  new_output q lt (inl is) =
+      let place = one_place words (2 * q + 4) 2 run (omega arith) (omega (arith, fits)) (omega arith) (omega (arith, fits)) is in
+      absurd (omega arith)
+  new_output q lt (inr among) =
+      let at = among_counted (output_at words) 0 q (output_at words q) among in
+      let few = at.2 in
+      let place = one_place words (2 * q + 4) (2 * at.0 + 4) run (omega arith) (omega (arith, fits)) (omega arith) (omega (arith, fits)) at.3 in
+      absurd (omega arith)

@@ -6,50 +6,54 @@ use Rattle.fab_base.specs.Seen.{Seen}
 use Rattle.fab_base.specs.Sunk.{Sunk}
 use Rattle.fab_config.specs.declared.ConfigFault.{ConfigFault}
 use Rattle.pcapng_file.specs.declared.fault.NgWhy.{NgWhy}
-use Rattle.pcapng_file.specs.declared.fault.NgLimit.{NgLimit}
+use Rattle.fab_gather.specs.declared.fault.CapWhy.{CapWhy}
+use Rattle.fab_gather.specs.declared.fault.LimitKind.{LimitKind}
+use Rattle.fab_gather.specs.declared.fault.RunFault.TheVariants as faults
 use Rattle.pcapng_file.specs.Classic.{Converted, IsFront, Same, Front, classic_bytes}
 use Rattle.fcoe_tool.specs.Command.{RunNames, ConvertNames, Command, Run, Convert, Help, Version, command}
 use Rattle.fcoe_tool.specs.Ends.{RunHolds, ConvertHolds, Holds, HoldsFor, TakesMemory, Reports, Ends}
-use Rattle.fcoe_tool.specs.Gathered.{LIMITS}
+use Rattle.fcoe_tool.specs.Inputs.{LIMITS}
 use Rattle.fcoe_tool.specs.declared.outcome.Outcome.{Outcome}
 use Rattle.fcoe_tool.specs.declared.outcome.Outcome.TheVariants as ends
+use Rattle.fcoe_tool.proofs.PartLemmas.{ran_part, stopped_part}
 
 -- `run` ends so, and not otherwise
 pub run_cases : (k : RunNames) (old new : Seen) (P : Outcome → Type 0) →
     ((frames entries : ℕ) → RunHolds k old new (ends.Ran frames entries) → P (ends.Ran frames entries)) →
     ((fault : ConfigFault) → RunHolds k old new (ends.Config fault) → P (ends.Config fault)) →
-    ((port : ℕ) → RunHolds k old new (ends.Capture port) → P (ends.Capture port)) →
+    ((port at : ℕ) (reason : CapWhy) → RunHolds k old new (ends.Capture port at reason) → P (ends.Capture port at reason)) →
+    ((kind : LimitKind) → RunHolds k old new (ends.Limit kind) → P (ends.Limit kind)) →
     (RunHolds k old new ends.ReadFault → P ends.ReadFault) → (RunHolds k old new ends.WriteFault → P ends.WriteFault) → (RunHolds k old new ends.Memory → P ends.Memory) →
     (o : Outcome) → RunHolds k old new o → P o
-run_cases k old new P ran config capture read write memory (ends.Ran frames entries) holds = ran frames entries holds
-run_cases k old new P ran config capture read write memory (ends.Config fault) holds = config fault holds
-run_cases k old new P ran config capture read write memory (ends.Capture port) holds = capture port holds
-run_cases k old new P ran config capture read write memory ends.ReadFault holds = read holds
-run_cases k old new P ran config capture read write memory ends.WriteFault holds = write holds
-run_cases k old new P ran config capture read write memory ends.Memory holds = memory holds
-run_cases k old new P ran config capture read write memory (ends.Converted records) holds = absurd holds
-run_cases k old new P ran config capture read write memory (ends.BadBlock at fault) holds = absurd holds
-run_cases k old new P ran config capture read write memory (ends.PastLimit limit) holds = absurd holds
-run_cases k old new P ran config capture read write memory ends.Help holds = absurd holds
-run_cases k old new P ran config capture read write memory ends.Version holds = absurd holds
-run_cases k old new P ran config capture read write memory ends.Words holds = absurd holds
+run_cases k old new P ran config capture limit read write memory (ends.Ran frames entries) holds = ran frames entries holds
+run_cases k old new P ran config capture limit read write memory (ends.Config fault) holds = config fault holds
+run_cases k old new P ran config capture limit read write memory (ends.Capture port at reason) holds = capture port at reason holds
+run_cases k old new P ran config capture limit read write memory (ends.Limit kind) holds = limit kind holds
+run_cases k old new P ran config capture limit read write memory ends.ReadFault holds = read holds
+run_cases k old new P ran config capture limit read write memory ends.WriteFault holds = write holds
+run_cases k old new P ran config capture limit read write memory ends.Memory holds = memory holds
+run_cases k old new P ran config capture limit read write memory (ends.Converted records) holds = absurd holds
+run_cases k old new P ran config capture limit read write memory (ends.BadBlock at fault) holds = absurd holds
+run_cases k old new P ran config capture limit read write memory ends.Help holds = absurd holds
+run_cases k old new P ran config capture limit read write memory ends.Version holds = absurd holds
+run_cases k old new P ran config capture limit read write memory ends.Words holds = absurd holds
 
 -- the same of `convert`
 pub convert_cases : (k : ConvertNames) (old new : Seen) (P : Outcome → Type 0) →
     ((records : ℕ) → ConvertHolds k old new (ends.Converted records) → P (ends.Converted records)) →
     ((at : ℕ) (fault : NgWhy) → ConvertHolds k old new (ends.BadBlock at fault) → P (ends.BadBlock at fault)) →
-    ((limit : NgLimit) → ConvertHolds k old new (ends.PastLimit limit) → P (ends.PastLimit limit)) →
+    ((kind : LimitKind) → ConvertHolds k old new (ends.Limit kind) → P (ends.Limit kind)) →
     (ConvertHolds k old new ends.ReadFault → P ends.ReadFault) → (ConvertHolds k old new ends.WriteFault → P ends.WriteFault) → (ConvertHolds k old new ends.Memory → P ends.Memory) →
     (o : Outcome) → ConvertHolds k old new o → P o
 convert_cases k old new P converted block limit read write memory (ends.Converted records) holds = converted records holds
 convert_cases k old new P converted block limit read write memory (ends.BadBlock at fault) holds = block at fault holds
-convert_cases k old new P converted block limit read write memory (ends.PastLimit l) holds = limit l holds
+convert_cases k old new P converted block limit read write memory (ends.Limit kind) holds = limit kind holds
 convert_cases k old new P converted block limit read write memory ends.ReadFault holds = read holds
 convert_cases k old new P converted block limit read write memory ends.WriteFault holds = write holds
 convert_cases k old new P converted block limit read write memory ends.Memory holds = memory holds
 convert_cases k old new P converted block limit read write memory (ends.Ran frames entries) holds = absurd holds
 convert_cases k old new P converted block limit read write memory (ends.Config fault) holds = absurd holds
-convert_cases k old new P converted block limit read write memory (ends.Capture port) holds = absurd holds
+convert_cases k old new P converted block limit read write memory (ends.Capture port at reason) holds = absurd holds
 convert_cases k old new P converted block limit read write memory ends.Help holds = absurd holds
 convert_cases k old new P converted block limit read write memory ends.Version holds = absurd holds
 convert_cases k old new P converted block limit read write memory ends.Words holds = absurd holds
@@ -61,9 +65,10 @@ whole_front k old new records c = Front c.bytes c.packets (length (classic_bytes
 -- want of memory for the line of an outcome says less than that outcome
 memory_holds : (k : Command) (old new : Seen) (o : Outcome) → Holds k old new o → TakesMemory o → Holds k old new ends.Memory
 memory_holds (Run k) old new o holds takes = run_cases k old new (λ o. TakesMemory o → Holds (Run k) old new ends.Memory)
-    (λ frames entries h takes. h.0)
-    (λ fault h takes m other. h.0 m)
-    (λ port h takes m other. h.0 m)
+    (λ frames entries h takes. (h.0, λ told. inr (ran_part k frames entries old new (h.1 told))))
+    (λ fault h takes. (λ m other. h.0 m, λ told. inl h.0))
+    (λ port at reason h takes. (h.0, λ told. elim (h.1 told) [ inl bad ↦ inl bad.0 | inr stopped ↦ inr (stopped_part k old new (faults.Capture port at reason) stopped) ]))
+    (λ kind h takes. (h.0, λ told. inr (stopped_part k old new (faults.Limit kind) (h.1 told))))
     (λ h takes. absurd takes)
     (λ h takes. absurd takes)
     (λ h takes. absurd takes)
@@ -71,7 +76,7 @@ memory_holds (Run k) old new o holds takes = run_cases k old new (λ o. TakesMem
 memory_holds (Convert k) old new o holds takes = convert_cases k old new (λ o. TakesMemory o → Holds (Convert k) old new ends.Memory)
     (λ records h takes. (h.0, λ told. whole_front k old new records (h.1 told)))
     (λ at fault h takes. (λ m other. h.0 m, λ told. Same (h.0 k.to)))
-    (λ limit h takes. (λ m other. h.0 m, λ told. Same (h.0 k.to)))
+    (λ kind h takes. (λ m other. h.0 m, λ told. Same (h.0 k.to)))
     (λ h takes. absurd takes)
     (λ h takes. absurd takes)
     (λ h takes. absurd takes)

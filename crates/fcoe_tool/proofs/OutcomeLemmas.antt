@@ -9,7 +9,8 @@ use Rattle.fab_config.specs.declared.ConfigFault.{ConfigFault}
 use Rattle.fcoe_tool.specs.Outcome.{status_of, line_of, run_text, capture_text, config_text, converted_text, block_text, limit_text}
 use Rattle.fcoe_tool.specs.Help.{help_text, version_text}
 use Rattle.pcapng_file.specs.declared.fault.NgWhy.{NgWhy}
-use Rattle.pcapng_file.specs.declared.fault.NgLimit.{NgLimit}
+use Rattle.fab_gather.specs.declared.fault.CapWhy.{CapWhy}
+use Rattle.fab_gather.specs.declared.fault.LimitKind.{LimitKind}
 use Rattle.fcoe_tool.specs.Ends.{Puts, Prints, Reports, TakesMemory}
 use Rattle.fcoe_tool.specs.declared.outcome.Outcome.{Outcome}
 use Rattle.fcoe_tool.specs.declared.outcome.Outcome.TheVariants as ends
@@ -50,9 +51,9 @@ pub line_ran : (frames entries : ℕ) → run_text frames entries ≡ line_of (e
 unfolding line_of
 line_ran frames entries = refl
 
-pub line_capture : (port : ℕ) → capture_text port ≡ line_of (ends.Capture port)
+pub line_capture : (port at : ℕ) (reason : CapWhy) → capture_text port at reason ≡ line_of (ends.Capture port at reason)
 unfolding line_of
-line_capture port = refl
+line_capture port at reason = refl
 
 pub line_converted : (records : ℕ) → converted_text records ≡ line_of (ends.Converted records)
 unfolding line_of
@@ -62,9 +63,9 @@ pub line_block : (at : ℕ) (why : NgWhy) → block_text at why ≡ line_of (end
 unfolding line_of
 line_block at why = refl
 
-pub line_limit : (limit : NgLimit) → limit_text limit ≡ line_of (ends.PastLimit limit)
+pub line_limit : (kind : LimitKind) → limit_text kind ≡ line_of (ends.Limit kind)
 unfolding line_of
-line_limit limit = refl
+line_limit kind = refl
 
 pub line_help : help_text ≡ line_of ends.Help
 unfolding line_of

@@ -111,6 +111,11 @@ outputs Version = []
 abbrev pub AllKnown : Seen → List (String Global) → Type 0
 AllKnown d words = (i : ℕ) → 0 < i → i < length words → IsTrue (d.knows (name_at words i))
 
+-- one of these names
+abbrev pub Among : List (List ℕ) → List ℕ → Type 0
+Among [] m = ⊥
+Among (n ∷ names) m = (m ≡ n) ⊎ Among names m
+
 -- the count of one of these names rose
 abbrev pub AnyRose : (List ℕ → ℕ) → (List ℕ → ℕ) → List (List ℕ) → Type 0
 AnyRose before now [] = ⊥

@@ -1,12 +1,10 @@
 pub mod Edge
 pub mod Command
-pub mod Gathered
-pub mod Read
-pub mod Write
+pub mod Inputs
+pub mod Reading
+pub mod Opening
 pub mod Help
 pub mod Outcome
+pub mod Left
 pub mod Ends
-pub mod Reach
-pub mod Machine
-pub mod Clock
-pub mod Queue
+pub mod Statuses

@@ -8,9 +8,14 @@ use Rattle.pcapng_file.specs.declared.fault.NgWhy.TheVariants as ng
 use Rattle.pcapng_file.specs.declared.fault.NgLimit.{NgLimit}
 use Rattle.pcapng_file.specs.declared.fault.NgLimit.TheVariants as limits
 use Rattle.fcoe_tool.specs.Help.{help_text, version_text}
-use Rattle.fcoe_tool.specs.Gathered.{MOST_BYTES, MOST_FRAMES}
+use Rattle.fab_policy.specs.declared.looks.TheConstants.{MOST_SPAN}
+use Rattle.fab_gather.specs.declared.fault.CapWhy.{CapWhy}
+use Rattle.fab_gather.specs.declared.fault.CapWhy.TheVariants as caps
+use Rattle.fab_gather.specs.declared.fault.LimitKind.{LimitKind}
+use Rattle.fab_gather.specs.declared.fault.LimitKind.TheVariants as kinds
+use Rattle.fcoe_tool.specs.declared.limits.TheConstants.{MOST_BYTES, MOST_FRAMES}
 use Rattle.fcoe_tool.specs.declared.outcome.Outcome.{Outcome}
-use Rattle.fcoe_tool.specs.declared.outcome.Outcome.TheVariants.{Ran, Converted, Help, Version, Words, Config, Capture, BadBlock, PastLimit, ReadFault, WriteFault, Memory}
+use Rattle.fcoe_tool.specs.declared.outcome.Outcome.TheVariants.{Ran, Converted, Help, Version, Words, Config, Capture, BadBlock, Limit, ReadFault, WriteFault, Memory}
 
 abbrev pub status_of : Outcome → ℕ
 status_of (Ran frames entries) = 0
@@ -18,21 +23,31 @@ status_of (Converted records) = 0
 status_of Help = 0
 status_of Version = 0
 status_of (Config fault) = 1
-status_of (Capture port) = 1
+status_of (Capture port at reason) = 1
 status_of (BadBlock at fault) = 1
 status_of Words = 2
 status_of ReadFault = 3
 status_of WriteFault = 4
 status_of Memory = 5
-status_of (PastLimit limit) = 6
+status_of (Limit kind) = 6
 
--- the line of a run, of a capture that can't be taken, and of a faulty configuration
+-- the line of a run
 abbrev pub run_text : ℕ → ℕ → List ℕ
 run_text frames entries = codes "frames " ++ decimal frames ++ codes " entries " ++ decimal entries ++ codes "\n"
 
-abbrev pub capture_text : ℕ → List ℕ
-capture_text port = codes "capture " ++ decimal port ++ codes " 0 form\n"
+-- the line of a capture that can't be taken from a place on
+abbrev pub cap_word : CapWhy → List ℕ
+cap_word caps.Short = codes "short"
+cap_word caps.Magic = codes "magic"
+cap_word caps.Version = codes "version"
+cap_word caps.Link = codes "link"
+cap_word caps.Cut = codes "cut"
+cap_word caps.Long = codes "long"
 
+abbrev pub capture_text : ℕ → ℕ → CapWhy → List ℕ
+capture_text port at reason = codes "capture " ++ decimal port ++ codes " " ++ decimal at ++ codes " " ++ cap_word reason ++ codes "\n"
+
+-- the line of a faulty configuration
 abbrev pub why_word : ConfigWhy → List ℕ
 why_word why.Long = codes "long"
 why_word why.Ascii = codes "ascii"
@@ -45,7 +60,7 @@ why_word why.Missing = codes "missing"
 abbrev pub config_text : ConfigFault → List ℕ
 config_text fault = codes "config " ++ decimal fault.line ++ codes " " ++ why_word fault.why ++ codes "\n"
 
--- the line of a conversion, of a pcapng file with a fault at a block, and of one past a limit
+-- the line of a conversion, and of a pcapng file with a fault at a block
 abbrev pub converted_text : ℕ → List ℕ
 converted_text records = codes "records " ++ decimal records ++ codes "\n"
 
@@ -67,18 +82,25 @@ fault_word ng.Long = codes "long"
 abbrev pub block_text : ℕ → NgWhy → List ℕ
 block_text at fault = codes "capture 1 " ++ decimal at ++ codes " " ++ fault_word fault ++ codes "\n"
 
-abbrev pub limit_text : NgLimit → List ℕ
-limit_text limits.Bytes = codes "limit bytes " ++ decimal MOST_BYTES ++ codes "\n"
-limit_text limits.Frames = codes "limit frames " ++ decimal MOST_FRAMES ++ codes "\n"
+-- which limit a pcapng file passes
+abbrev pub kind_of : NgLimit → LimitKind
+kind_of limits.Bytes = kinds.Bytes
+kind_of limits.Frames = kinds.Frames
+
+-- the line of inputs past a limit
+abbrev pub limit_text : LimitKind → List ℕ
+limit_text kinds.Bytes = codes "limit bytes " ++ decimal MOST_BYTES ++ codes "\n"
+limit_text kinds.Frames = codes "limit frames " ++ decimal MOST_FRAMES ++ codes "\n"
+limit_text kinds.Span = codes "limit span " ++ decimal MOST_SPAN ++ codes "\n"
 
 -- what is printed: one line, but for the text of `--help`
 unfoldable pub line_of : Outcome → List ℕ
 line_of (Ran frames entries) = run_text frames entries
 line_of (Config fault) = config_text fault
-line_of (Capture port) = capture_text port
+line_of (Capture port at reason) = capture_text port at reason
 line_of (Converted records) = converted_text records
 line_of (BadBlock at fault) = block_text at fault
-line_of (PastLimit limit) = limit_text limit
+line_of (Limit kind) = limit_text kind
 line_of Help = help_text
 line_of Version = version_text
 line_of Words = codes "words\n"

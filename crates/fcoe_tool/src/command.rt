@@ -8,7 +8,7 @@ ghost use Rattle.fcoe_tool.specs.Command as spec;
 use fab_base::word_at;
 
 /// The most ports of a forwarder.
-const MOST_PORTS: usize = 64;
+pub(crate) const MOST_PORTS: usize = 64;
 
 /// The forms of a command line.
 #[derive(Clone, Copy, Debug, PartialEq, Eq)]

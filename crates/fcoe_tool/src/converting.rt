@@ -2,13 +2,15 @@
 ghost use Rattle.std.specs.Prelude.{◌≡◌, true};
 ghost use Rattle.fcoe_tool.specs.Command as spec;
 ghost use Rattle.fcoe_tool.specs.Ends.{ConvertHolds};
-ghost use Rattle.fcoe_tool.specs.Read.{unconverted_by};
+ghost use Rattle.fcoe_tool.specs.Outcome.{kind_of};
+ghost use Rattle.fcoe_tool.specs.Reading.{unconverted_by};
 
-use crate::gathering::{MOST_BYTES, MOST_FRAMES};
+use crate::limits::{MOST_BYTES, MOST_FRAMES};
 use crate::outcome::Outcome;
 use fab_base::{Depot, word_at};
+use fab_windows::LimitKind;
 use pcap_file::Budget;
-use pcapng_file::{ConvertError, NgError, convert};
+use pcapng_file::{ConvertError, NgError, NgLimit, convert};
 use std::alloc::Global;
 
 /// Writes the packets of a pcapng file as a classic capture. The file is read whole before the
@@ -35,8 +37,17 @@ fn unconverted(error: NgError) -> Outcome
 {
     match error {
         NgError::Fault { at, why } => Outcome::BadBlock { at, why },
-        NgError::Limit(limit) => Outcome::PastLimit { limit },
+        NgError::Limit(limit) => Outcome::Limit { kind: kind(limit) },
         NgError::Read(_) => Outcome::ReadFault,
         NgError::Memory => Outcome::Memory,
+    }
+}
+
+fn kind(limit: NgLimit) -> LimitKind
+    ensures { result ≡ kind_of limit }
+{
+    match limit {
+        NgLimit::Bytes => LimitKind::Bytes,
+        NgLimit::Frames => LimitKind::Frames,
     }
 }

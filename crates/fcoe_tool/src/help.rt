@@ -20,12 +20,16 @@ No name is empty, and none is used twice. The statuses, with what is printed:
 
   0  as above: all was done
   1  config LINE WHY: the first fault of the configuration
-     capture PORT PLACE WHY: the first input that is none; no file has changed
-  2  words: the words are no command; no file has changed
-  3  read fault: an input could not be read; no file has changed
+     capture PORT PLACE WHY: an input can't be taken from this place on
+  2  words: the words are no command
+  3  read fault: an input could not be read
   4  write fault: an output, or what is printed, could not be written
   5  no memory: memory was refused
-  6  limit WHAT NUMBER: the input passes this limit; no file has changed
+  6  limit WHAT NUMBER: the inputs pass this limit
+
+After status 1 or 6 of run the journal and the captures hold what came before
+that place. No file has changed after status 2, nor where the configuration or
+the head of a capture is at fault, nor after statuses 1, 3 and 6 of convert.
 ";
 
 /// The commands, what they print, and the statuses.

@@ -1,18 +1,17 @@
 //! One FCoE forwarder, run over captures.
 #![tactic(auto)]
 
-mod clock;
 mod command;
 mod converting;
 mod edge;
-mod gathering;
+mod heads;
 mod help;
-mod machine;
+mod inputs;
+mod limits;
 mod outcome;
 mod outputs;
 mod process;
-mod queue;
-mod span;
+mod running;
 #[cfg(test)]
 mod tests;
 #[cfg(test)]

@@ -4,11 +4,13 @@ ghost use Rattle.std.specs.String.{string_bytes};
 ghost use Rattle.fcoe_tool.specs.Outcome as spec;
 ghost use Rattle.fcoe_tool.specs.Ends.{Puts, Reports};
 
-use crate::gathering::{MOST_BYTES, MOST_FRAMES};
 use crate::help::{help, version};
+use crate::limits::{MOST_BYTES, MOST_FRAMES};
 use fab_base::{PortNo, Sink, say_all};
 use fab_config::{ConfigFault, ConfigWhy};
-use pcapng_file::{NgLimit, NgWhy};
+use fab_policy::MOST_SPAN;
+use fab_windows::{CapWhy, LimitKind};
+use pcapng_file::NgWhy;
 use std::alloc::{AllocError, Global};
 
 /// How a command ended. The status and the printed line are two tables over it.
@@ -26,12 +28,12 @@ pub enum Outcome {
     Words,
     /// The configuration text has this first fault.
     Config { fault: ConfigFault },
-    /// The capture of a port can't be taken.
-    Capture { port: PortNo },
+    /// The capture of a port can't be taken from this place of its file on.
+    Capture { port: PortNo, at: u64, why: CapWhy },
     /// The pcapng file has this first fault, at a block.
     BadBlock { at: u64, why: NgWhy },
-    /// The pcapng file passes a limit.
-    PastLimit { limit: NgLimit },
+    /// The inputs pass this limit.
+    Limit { kind: LimitKind },
     /// An input couldn't be read.
     ReadFault,
     /// An output couldn't be written.
@@ -48,10 +50,12 @@ pub(crate) fn report<K: Sink>(alloc: Global, outcome: Outcome, say: &mut K) -> u
     match outcome {
         Outcome::Ran { frames, entries } => put_made(say, run_line(alloc, frames, entries), 0),
         Outcome::Config { fault } => put_made(say, config_line(alloc, fault), 1),
-        Outcome::Capture { port } => put_made(say, capture_line(alloc, port), 1),
+        Outcome::Capture { port, at, why } => {
+            put_made(say, capture_line(alloc, port, at, why), 1)
+        }
         Outcome::Converted { records } => put_made(say, converted_line(alloc, records), 0),
         Outcome::BadBlock { at, why } => put_made(say, block_line(alloc, at, why), 1),
-        Outcome::PastLimit { limit } => put_made(say, limit_line(alloc, limit), 6),
+        Outcome::Limit { kind } => put_made(say, limit_line(alloc, kind), 6),
         Outcome::Help => put_line(say, help().as_bytes(), 0),
         Outcome::Version => put_line(say, version().as_bytes(), 0),
         Outcome::Words => put_line(say, b"words\n", 2),
@@ -81,11 +85,26 @@ fn run_line(alloc: Global, frames: u64, entries: u64) -> Result<String, AllocErr
     Ok(line)
 }
 
-fn capture_line(alloc: Global, port: PortNo) -> Result<String, AllocError>
-    ensures { IfOk result (λ s. string_bytes s ≡ spec.capture_text port) }
+fn capture_line(alloc: Global, port: PortNo, at: u64, why: CapWhy) -> Result<String, AllocError>
+    ensures { IfOk result (λ s. string_bytes s ≡ spec.capture_text port at why) }
 {
     let port = port.value();
-    format!(in alloc; "capture {port} 0 form\n")
+    let word = cap_word(why);
+    format!(in alloc; "capture {port} {at} {word}\n")
+}
+
+// The word of a reason.
+fn cap_word(why: CapWhy) -> &'static str
+    ensures { result.now ≡ spec.cap_word why }
+{
+    match why {
+        CapWhy::Short => "short",
+        CapWhy::Magic => "magic",
+        CapWhy::Version => "version",
+        CapWhy::Link => "link",
+        CapWhy::Cut => "cut",
+        CapWhy::Long => "long",
+    }
 }
 
 fn config_line(alloc: Global, fault: ConfigFault) -> Result<String, AllocError>
@@ -124,12 +143,13 @@ fn block_line(alloc: Global, at: u64, why: NgWhy) -> Result<String, AllocError>
     format!(in alloc; "capture 1 {at} {word}\n")
 }
 
-fn limit_line(alloc: Global, limit: NgLimit) -> Result<String, AllocError>
-    ensures { IfOk result (λ s. string_bytes s ≡ spec.limit_text limit) }
+fn limit_line(alloc: Global, kind: LimitKind) -> Result<String, AllocError>
+    ensures { IfOk result (λ s. string_bytes s ≡ spec.limit_text kind) }
 {
-    match limit {
-        NgLimit::Bytes => format!(in alloc; "limit bytes {MOST_BYTES}\n"),
-        NgLimit::Frames => format!(in alloc; "limit frames {MOST_FRAMES}\n"),
+    match kind {
+        LimitKind::Bytes => format!(in alloc; "limit bytes {MOST_BYTES}\n"),
+        LimitKind::Frames => format!(in alloc; "limit frames {MOST_FRAMES}\n"),
+        LimitKind::Span => format!(in alloc; "limit span {MOST_SPAN}\n"),
     }
 }
 

@@ -137,7 +137,7 @@ pub(crate) fn refused<R: Threads + Wait + Sync + Abort>(
 }
 
 #[test]
-fn one_vlan_request(rt: HostRuntime) -> Result<(), Fail> {
+fn format_two_of_one_vlan_request(rt: HostRuntime) -> Result<(), Fail> {
     let alloc = rt.alloc();
     let mut depot = depot_of(alloc, &CONFIG, &REQUEST, &HEAD)?;
     runs(
@@ -148,7 +148,7 @@ fn one_vlan_request(rt: HostRuntime) -> Result<(), Fail> {
         b"frames 1 entries 2\n",
         0,
     )?;
-    let (journal, capture) = (b"tick 1000\n1 0 vlans\n", NOTIFICATION);
+    let (journal, capture) = (b"journal 2\n1000 tick\n1000 1 0 vlans\n", NOTIFICATION);
     assert_eq!(rt; depot.content("J"), Some(journal.as_slice()));
     assert_eq!(rt; depot.content("OUT"), Some(capture.as_slice()));
     Ok(())
@@ -166,7 +166,10 @@ fn two_requests_in_one_window(rt: HostRuntime) -> Result<(), Fail> {
         b"frames 2 entries 3\n",
         0,
     )?;
-    let (journal, capture) = (b"tick 1000\n1 0 vlans\n2 0 vlans\n", NOTIFICATION);
+    let (journal, capture) = (
+        b"journal 2\n1000 tick\n1000 1 0 vlans\n1000 2 0 vlans\n",
+        NOTIFICATION,
+    );
     assert_eq!(rt; depot.content("J"), Some(journal.as_slice()));
     assert_eq!(rt; depot.content("OUT"), Some(capture.as_slice()));
     assert_eq!(rt; depot.content("OUT2"), Some(capture.as_slice()));
@@ -186,7 +189,7 @@ fn two_empty_captures(rt: HostRuntime) -> Result<(), Fail> {
         0,
     )?;
     let head = HEAD;
-    assert_eq!(rt; depot.content("J"), Some(b"".as_slice()));
+    assert_eq!(rt; depot.content("J"), Some(b"journal 2\n".as_slice()));
     assert_eq!(rt; depot.content("OUT"), Some(head.as_slice()));
     assert_eq!(rt; depot.content("OUT2"), Some(head.as_slice()));
     Ok(())
@@ -207,7 +210,7 @@ fn solicited_advertisement_is_padded(rt: HostRuntime) -> Result<(), Fail> {
     )?;
     assert_eq!(rt;
         depot.content("J"),
-        Some(b"tick 1000\n2 0 advertised\n".as_slice())
+        Some(b"journal 2\n1000 tick\n1000 2 0 advertised\n".as_slice())
     );
     // 2176 bytes: 18 of Ethernet with a tag, the message, and zeros.
     let zeros = Vec::from_elem(alloc, 0u8, 2100)?;
@@ -247,7 +250,8 @@ fn advertisements_between_two_requests(rt: HostRuntime) -> Result<(), Fail> {
         b"frames 2 entries 6\n",
         0,
     )?;
-    let journal = b"tick 1000\n1 0 vlans\ntick 9000\ntick 17000\ntick 20000\n1 1 vlans\n";
+    let journal = b"journal 2\n1000 tick\n1000 1 0 vlans\n9000 tick\n17000 tick\n20000 tick\n\
+            20000 1 1 vlans\n";
     assert_eq!(rt; depot.content("J"), Some(journal.as_slice()));
     let at9 = [9, 0, 0, 0, 0, 0, 0, 0, 76, 0, 0, 0, 76, 0, 0, 0];
     let at17 = [17, 0, 0, 0, 0, 0, 0, 0, 76, 0, 0, 0, 76, 0, 0, 0];
@@ -275,7 +279,7 @@ fn drops<R: Threads + Wait + Sync + Abort>(
     let input = joined(alloc, &[&HEAD, &[1, 0, 0, 0, 0, 0, 0, 0], &frame])?;
     let mut depot = depot_of(alloc, &CONFIG, &input, &HEAD)?;
     runs(rt, alloc, &ONE_PORT, &mut depot, b"frames 1 entries 2\n", 0)?;
-    let journal = joined(alloc, &[b"tick 1000\n", line])?;
+    let journal = joined(alloc, &[b"journal 2\n1000 tick\n1000 ", line])?;
     assert_eq!(rt; depot.content("J"), Some(journal.as_slice()));
     let head = HEAD;
     assert_eq!(rt; depot.content("OUT"), Some(head.as_slice()));
@@ -339,7 +343,7 @@ fn sixty_four_ports(rt: HostRuntime) -> Result<(), Fail> {
     assert_eq!(rt; say.content(), b"frames 1 entries 2\n".as_slice());
     assert_eq!(rt;
         depot.content("J"),
-        Some(b"tick 1000\n64 0 vlans\n".as_slice())
+        Some(b"journal 2\n1000 tick\n1000 64 0 vlans\n".as_slice())
     );
     let (capture, head) = (NOTIFICATION, HEAD);
     assert_eq!(rt; depot.content("O64"), Some(capture.as_slice()));
@@ -404,27 +408,11 @@ fn faults_of_the_configuration(rt: HostRuntime) -> Result<(), Fail> {
     Ok(())
 }
 
-#[test]
-fn first_bad_capture_is_told(rt: HostRuntime) -> Result<(), Fail> {
-    let alloc = rt.alloc();
-    for size in [0, 23, 25, 39, 40, 99] {
-        let depot = depot_of(alloc, &CONFIG, &REQUEST[..size], b"")?;
-        refused(&rt, alloc, &TWO_PORTS, depot, b"capture 1 0 form\n", 1)?;
-        let depot = depot_of(alloc, &CONFIG, &HEAD, &REQUEST[..size])?;
-        refused(&rt, alloc, &TWO_PORTS, depot, b"capture 2 0 form\n", 1)?;
-    }
-    // The second port's record lies a window further than six hours behind the first port's.
-    let late = [0x62, 0x54, 0, 0];
-    let far = joined(alloc, &[&HEAD, &late, &REQUEST[28..]])?;
-    let depot = depot_of(alloc, &CONFIG, &REQUEST, &far)?;
-    refused(&rt, alloc, &TWO_PORTS, depot, b"capture 2 0 form\n", 1)
-}
-
-// The calls are: open and fetch twice K, open and fetch twice IN, open and put J, open and put OUT.
+// The calls are: open and fetch twice K, open IN and fetch its head.
 #[test]
 fn first_fetch_fails(rt: HostRuntime) -> Result<(), Fail> {
     let alloc = rt.alloc();
-    for call in [0, 1, 2, 3, 4, 5] {
+    for call in [0, 1, 2, 3, 4] {
         let mut depot = depot_of(alloc, &CONFIG, &REQUEST, &HEAD)?;
         depot.fail_call(alloc, call)?;
         refused(&rt, alloc, &ONE_PORT, depot, b"read fault\n", 3)?;
@@ -433,26 +421,19 @@ fn first_fetch_fails(rt: HostRuntime) -> Result<(), Fail> {
 }
 
 #[test]
-fn a_put_fails(rt: HostRuntime) -> Result<(), Fail> {
+fn no_room_to_print(rt: HostRuntime) -> Result<(), Fail> {
     let alloc = rt.alloc();
-    for call in [6, 7, 8, 9] {
+    for (room, printed) in [(0, b"".as_slice()), (7, b"frames ")] {
         let mut depot = depot_of(alloc, &CONFIG, &REQUEST, &HEAD)?;
-        depot.fail_call(alloc, call)?;
-        runs(&rt, alloc, &ONE_PORT, &mut depot, b"write fault\n", 4)?;
+        let mut say = MemSink::new(alloc, room)?;
+        let words = words_in(alloc, &ONE_PORT)?;
+        assert!(rt; depot.knows_all(&words));
+        let status = fabric_tool(&rt, alloc, &words, &mut depot, &mut say, &OpenGate);
+        assert_eq!(rt; status, 4);
+        assert_eq!(rt; say.content(), printed);
+        let (journal, capture) = (b"journal 2\n1000 tick\n1000 1 0 vlans\n", NOTIFICATION);
+        assert_eq!(rt; depot.content("J"), Some(journal.as_slice()));
+        assert_eq!(rt; depot.content("OUT"), Some(capture.as_slice()));
     }
-    Ok(())
-}
-
-#[test]
-fn the_sink_fails(rt: HostRuntime) -> Result<(), Fail> {
-    let alloc = rt.alloc();
-    let mut depot = depot_of(alloc, &CONFIG, &REQUEST, &HEAD)?;
-    let mut say = MemSink::new(alloc, 7)?;
-    let words = words_in(alloc, &ONE_PORT)?;
-    assert!(rt; depot.knows_all(&words));
-    let status = fabric_tool(&rt, alloc, &words, &mut depot, &mut say, &OpenGate);
-    assert_eq!(rt; status, 4);
-    assert_eq!(rt; say.content(), b"frames ".as_slice());
-    assert_eq!(rt; depot.content("OUT"), Some(NOTIFICATION.as_slice()));
     Ok(())
 }

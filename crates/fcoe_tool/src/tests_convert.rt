@@ -54,7 +54,7 @@ fn the_capture_is_run(rt: HostRuntime) -> Result<(), Fail> {
     runs(&rt, alloc, &CONVERT, &mut depot, b"records 1\n", 0)?;
     let run = ["run", "K", "J", "OUT", "OUT2"];
     runs(&rt, alloc, &run, &mut depot, b"frames 1 entries 2\n", 0)?;
-    let (journal, capture) = (b"tick 1000\n1 0 vlans\n", NOTIFICATION);
+    let (journal, capture) = (b"journal 2\n1000 tick\n1000 1 0 vlans\n", NOTIFICATION);
     assert_eq!(rt; depot.content("J"), Some(journal.as_slice()));
     assert_eq!(rt; depot.content("OUT2"), Some(capture.as_slice()));
     Ok(())

@@ -10,7 +10,7 @@ pub returns-in-Config : goal.returns-in-Config
 returns-in-Config g c = record { reports = reports_made _ _ (g.K.Sink.sunk c.args.say.now) (g.K.Sink.sunk c.put_made-in-Config.new.say) c.put_made-in-Config.result c.args.outcome (ends.Config c.in-Config.fault) 1 c.in-Config.is (line_config c.in-Config.fault) refl tt c.config_line.ensures c.put_made-in-Config.ensures.ok c.put_made-in-Config.ensures.err }
 
 pub returns-in-Capture : goal.returns-in-Capture
-returns-in-Capture g c = record { reports = reports_made _ _ (g.K.Sink.sunk c.args.say.now) (g.K.Sink.sunk c.put_made-in-Capture.new.say) c.put_made-in-Capture.result c.args.outcome (ends.Capture c.in-Capture.port) 1 c.in-Capture.is (line_capture c.in-Capture.port) refl tt c.capture_line.ensures c.put_made-in-Capture.ensures.ok c.put_made-in-Capture.ensures.err }
+returns-in-Capture g c = record { reports = reports_made _ _ (g.K.Sink.sunk c.args.say.now) (g.K.Sink.sunk c.put_made-in-Capture.new.say) c.put_made-in-Capture.result c.args.outcome (ends.Capture c.in-Capture.port c.in-Capture.at c.in-Capture.why) 1 c.in-Capture.is (line_capture c.in-Capture.port c.in-Capture.at c.in-Capture.why) refl tt c.capture_line.ensures c.put_made-in-Capture.ensures.ok c.put_made-in-Capture.ensures.err }
 
 pub returns-in-Words : goal.returns-in-Words
 returns-in-Words g c = record { reports = reports (codes "words\n") (g.K.Sink.sunk c.args.say.now) (g.K.Sink.sunk c.put_line-in-Words.new.say) c.put_line-in-Words.result c.args.outcome ends.Words 2 c.in-Words.is line_words refl c.put_line-in-Words.ensures }
@@ -30,8 +30,8 @@ returns-in-Converted g c = record { reports = reports_made _ _ (g.K.Sink.sunk c.
 pub returns-in-BadBlock : goal.returns-in-BadBlock
 returns-in-BadBlock g c = record { reports = reports_made _ _ (g.K.Sink.sunk c.args.say.now) (g.K.Sink.sunk c.put_made-in-BadBlock.new.say) c.put_made-in-BadBlock.result c.args.outcome (ends.BadBlock c.in-BadBlock.at c.in-BadBlock.why) 1 c.in-BadBlock.is (line_block c.in-BadBlock.at c.in-BadBlock.why) refl tt c.block_line.ensures c.put_made-in-BadBlock.ensures.ok c.put_made-in-BadBlock.ensures.err }
 
-pub returns-in-PastLimit : goal.returns-in-PastLimit
-returns-in-PastLimit g c = record { reports = reports_made _ _ (g.K.Sink.sunk c.args.say.now) (g.K.Sink.sunk c.put_made-in-PastLimit.new.say) c.put_made-in-PastLimit.result c.args.outcome (ends.PastLimit c.in-PastLimit.limit) 6 c.in-PastLimit.is (line_limit c.in-PastLimit.limit) refl tt c.limit_line.ensures c.put_made-in-PastLimit.ensures.ok c.put_made-in-PastLimit.ensures.err }
+pub returns-in-Limit : goal.returns-in-Limit
+returns-in-Limit g c = record { reports = reports_made _ _ (g.K.Sink.sunk c.args.say.now) (g.K.Sink.sunk c.put_made-in-Limit.new.say) c.put_made-in-Limit.result c.args.outcome (ends.Limit c.in-Limit.kind) 6 c.in-Limit.is (line_limit c.in-Limit.kind) refl tt c.limit_line.ensures c.put_made-in-Limit.ensures.ok c.put_made-in-Limit.ensures.err }
 
 pub returns-in-Help : goal.returns-in-Help
 returns-in-Help g c = record { reports = reports c.as_bytes.result.now (g.K.Sink.sunk c.args.say.now) (g.K.Sink.sunk c.put_line.new.say) c.put_line.result c.args.outcome ends.Help 0 c.in-Help.is (c.as_bytes.ensures.value ∙ c.help.ensures ∙ line_help) refl c.put_line.ensures }

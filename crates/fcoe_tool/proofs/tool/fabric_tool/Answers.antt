@@ -1,4 +1,4 @@
-use Rattle.fcoe_tool.proofs.EndLemmas.{done, refused, no_command, past_limit, completed, fronts, exactly, is_printed}
+use Rattle.fcoe_tool.proofs.EndLemmas.{done, refused, no_command, read_failed, write_failed, memory_refused, past_limit, others, completed, fronts, exactly, is_printed}
 use Rattle.fcoe_tool.proofs.tool.fabric_tool.Goals as goal
 
 pub returns-clause-done : goal.returns-clause-done
@@ -10,8 +10,20 @@ returns-clause-refused g c = refused c.args.words.now _ _ _ _ c.ended-status.res
 pub returns-clause-no_command : goal.returns-clause-no_command
 returns-clause-no_command g c = no_command c.args.words.now _ _ _ _ c.ended-status.result c.ended-status.ensures.ends
 
+pub returns-clause-read : goal.returns-clause-read
+returns-clause-read g c = read_failed c.args.words.now _ _ _ _ c.ended-status.result c.ended-status.ensures.ends
+
+pub returns-clause-write : goal.returns-clause-write
+returns-clause-write g c = write_failed c.args.words.now _ _ _ _ c.ended-status.result c.ended-status.ensures.ends
+
+pub returns-clause-memory : goal.returns-clause-memory
+returns-clause-memory g c = memory_refused c.args.words.now _ _ _ _ c.ended-status.result c.ended-status.ensures.ends
+
 pub returns-clause-limit : goal.returns-clause-limit
 returns-clause-limit g c = past_limit c.args.words.now _ _ _ _ c.ended-status.result c.ended-status.ensures.ends
+
+pub returns-clause-others : goal.returns-clause-others
+returns-clause-others g c = others c.args.words.now _ _ _ _ c.ended-status.result c.ended-status.ensures.ends
 
 pub returns-clause-front : goal.returns-clause-front
 returns-clause-front g c = fronts c.args.words.now _ _ _ _ c.ended-status.result c.ended-status.ensures.ends

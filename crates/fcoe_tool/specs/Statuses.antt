@@ -1,0 +1,148 @@
+-- What each status says, of a command and of what was printed.
+use Rattle.std.specs.Prelude.{◌≡◌, ℕ, ◌≤◌, ◌⊎◌, ◌↔◌, IsTrue, List, ◌++◌, length, take, Some, None, Result, Ok, Err, String}
+use Rattle.std.specs.declared.alloc.Global.{Global}
+use Rattle.fab_base.specs.Seen.{Seen, Rose, SameFiles}
+use Rattle.fab_base.specs.Sunk.{Sunk}
+use Rattle.pcap_file.specs.declared.Record.{Record}
+use Rattle.pcapng_file.specs.declared.NgRecord.{NgRecord}
+use Rattle.pcapng_file.specs.declared.fault.NgWhy.{NgWhy}
+use Rattle.pcapng_file.specs.declared.fault.NgError.{NgError}
+use Rattle.pcapng_file.specs.Classic.{Converted, timed}
+use Rattle.pcapng_file.specs.File.{ng_read}
+use Rattle.fab_config.specs.Settings.{Settings}
+use Rattle.fab_config.specs.declared.ConfigFault.{ConfigFault}
+use Rattle.fab_policy.specs.Looks.{Opened}
+use Rattle.fab_gather.specs.declared.fault.CapWhy.{CapWhy}
+use Rattle.fab_gather.specs.declared.fault.LimitKind.{LimitKind}
+use Rattle.fab_gather.specs.declared.fault.RunFault.TheVariants as faults
+use Rattle.fcoe_tool.specs.Command.{RunNames, ConvertNames, Command, Run, Convert, Help, Version, command, ReadRose, WriteRose}
+use Rattle.fcoe_tool.specs.Ends.{RunHolds, ConvertHolds, Holds, HoldsFor}
+use Rattle.fcoe_tool.specs.Help.{help_text, version_text}
+use Rattle.fcoe_tool.specs.Inputs.{HasFault, HasCapture, HasInputs, HasBadHead, StopsBy, HasPackets, LIMITS, stop_of}
+use Rattle.fcoe_tool.specs.Left.{HasRun}
+use Rattle.fcoe_tool.specs.Outcome.{status_of, line_of, run_text, converted_text}
+use Rattle.fcoe_tool.specs.Reading.{unconverted_by}
+use Rattle.fcoe_tool.specs.declared.outcome.Outcome.{Outcome}
+use Rattle.fcoe_tool.specs.declared.outcome.Outcome.TheVariants as ends
+
+-- What was printed is the line of an outcome that holds, whose status was answered; or a front of it, with status 4, where a
+-- fault of the sink was counted.
+pub record Printed (words : List (String Global)) (old new : Seen) (before after : Sunk) (status : ℕ) : Type 0 where
+  pub outcome : Outcome
+  pub holds : HoldsFor (command words) old new outcome
+  pub count : ℕ
+  pub front : after.written ≡ before.written ++ take count (line_of outcome)
+  pub whole : ¬ Rose before.faults after.faults → (length (line_of outcome) ≤ count) × (status ≡ status_of outcome)
+
+-- no count of an input's reads, an output's writes or the sink rose
+pub record IsQuiet (k : Command) (old new : Seen) (before after : Sunk) : Type 0 where
+  pub reads : ¬ ReadRose k old new
+  pub writes : ¬ WriteRose k old new
+  pub sink : ¬ Rose before.faults after.faults
+
+-- ---- done
+
+-- Status 0 of `run`: the files are those of a run, and the line with its numbers was printed.
+pub record RunEnded (k : RunNames) (old new : Seen) (before after : Sunk) : Type 0 where
+  pub frames : ℕ
+  pub entries : ℕ
+  pub run : HasRun k frames entries old new
+  pub printed : IsTrue before.told → after.written ≡ before.written ++ run_text frames entries
+
+-- Status 0 of `convert`: the input is a pcapng file of packets within the limits, the output is their capture, and the line
+-- with their number was printed. What `run` finds in that output are these packets' records, with the greatest moment so
+-- far in place of one that goes back, and nothing else.
+pub record ConvertEnded (k : ConvertNames) (old new : Seen) (before after : Sunk) : Type 0 where
+  pub count : ℕ
+  pub done : Converted k.from k.to LIMITS old new count
+  pub run_takes : (records : List Record) → HasCapture new k.to records ↔ (records ≡ timed 0 done.packets)
+  pub printed : IsTrue before.told → after.written ≡ before.written ++ converted_text count
+
+-- Status 0 of a command that prints a text: no file has changed, and the text was printed.
+pub record TextEnded (text : List ℕ) (old new : Seen) (before after : Sunk) : Type 0 where
+  pub files : SameFiles old new
+  pub printed : IsTrue before.told → after.written ≡ before.written ++ text
+
+-- status 0: the command was done
+abbrev pub Done : Command → Seen → Seen → Sunk → Sunk → Type 0
+Done (Run k) old new before after = IsTrue old.told → RunEnded k old new before after
+Done (Convert k) old new before after = IsTrue old.told → ConvertEnded k old new before after
+Done Help old new before after = TextEnded help_text old new before after
+Done Version old new before after = TextEnded version_text old new before after
+
+-- words that are a command of which this holds
+pub record OfCommand (words : List (String Global)) (P : Command → Type 0) : Type 0 where
+  pub k : Command
+  pub is : command words ≡ Some k
+  pub holds : P k
+
+-- ---- refused
+
+-- Status 1: of `run`, the configuration has a fault, or a capture can't be taken; of `convert`, the pcapng file has a fault at a
+-- block.
+abbrev pub IsRefused : Command → Seen → Seen → Type 0
+IsRefused (Run k) old new = ((fault : ConfigFault) × RunHolds k old new (ends.Config fault)) ⊎ ((port : ℕ) × (at : ℕ) × (why : CapWhy) × RunHolds k old new (ends.Capture port at why))
+IsRefused (Convert k) old new = (at : ℕ) × (fault : NgWhy) × ConvertHolds k old new (ends.BadBlock at fault)
+IsRefused Help old new = ⊥
+IsRefused Version old new = ⊥
+
+-- Status 6: the inputs pass a limit.
+abbrev pub IsPastLimit : Command → Seen → Seen → Type 0
+IsPastLimit k old new = (kind : LimitKind) × Holds k old new (ends.Limit kind)
+
+-- ---- where nothing fails
+
+-- the files of a `run` have their forms, and the reading of the captures stops nowhere
+pub record RunForms (k : RunNames) (d : Seen) : Type 0 where
+  pub told : IsTrue d.told
+  pub settings : Settings
+  pub opened : List Opened
+  pub inputs : HasInputs k d settings opened
+  pub none : stop_of settings opened ≡ None
+
+-- the file of a `convert` has its form
+pub record ConvertForms (k : ConvertNames) (d : Seen) : Type 0 where
+  pub told : IsTrue d.told
+  pub packets : List NgRecord
+  pub input : HasPackets d k.from packets
+
+-- the inputs of a command have their forms, where the depot tells
+abbrev pub HasForms : Command → Seen → Type 0
+HasForms (Run k) d = RunForms k d
+HasForms (Convert k) d = ConvertForms k d
+HasForms Help d = Unit {0}
+HasForms Version d = Unit {0}
+
+-- Words that are a command, whose inputs have their forms, where nothing failed.
+pub record IsComplete (words : List (String Global)) (old new : Seen) (before after : Sunk) : Type 0 where
+  pub k : Command
+  pub is : command words ≡ Some k
+  pub forms : HasForms k old
+  pub quiet : IsQuiet k old new before after
+
+-- what the inputs of `run` are refused for: the configuration's fault, the first bad head, or where the reading stops
+abbrev pub RunSays : RunNames → Seen → Outcome → Type 0
+RunSays k d (ends.Config fault) = HasFault d k.config fault
+RunSays k d (ends.Capture port at why) = ((at ≡ 0) × HasBadHead k d port why) ⊎ StopsBy k d (faults.Capture port at why)
+RunSays k d (ends.Limit kind) = StopsBy k d (faults.Limit kind)
+RunSays k d _ = ⊥
+
+-- how `convert` ends by what it reads
+abbrev pub ended_by : Result (List NgRecord) NgError → Outcome
+ended_by (Ok packets) = ends.Converted (length packets)
+ended_by (Err error) = unconverted_by error
+
+-- the outcome that the inputs of a command name
+abbrev pub Says : Command → Seen → Outcome → Type 0
+Says (Run k) d outcome = RunSays k d outcome
+Says (Convert k) d outcome = (bytes : List ℕ) × (d.file k.from ≡ Some bytes) × (outcome ≡ ended_by (ng_read LIMITS bytes))
+Says Help d outcome = outcome ≡ ends.Help
+Says Version d outcome = outcome ≡ ends.Version
+
+-- Words that are a command, whose inputs name this outcome, where nothing failed.
+pub record IsNamed (words : List (String Global)) (outcome : Outcome) (old new : Seen) (before after : Sunk) : Type 0 where
+  pub k : Command
+  pub is : command words ≡ Some k
+  pub told : IsTrue old.told
+  pub says : Says k old outcome
+  pub quiet : IsQuiet k old new before after
