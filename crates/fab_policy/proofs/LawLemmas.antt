@@ -1,4 +1,4 @@
--- A verdict by the decoders against the same by the layout and the grammar.
+-- A judgement by the decoders against the same by the layout and the grammar.
 use Rattle.std.proofs.Common.{◌≡◌, ℕ, zero, suc, lit<, ◌⊎◌, inl, inr, ⊎_elim, nat_lt, ltb, ◌==◌, ◌&&◌, ◌||◌, not, if◌then◌else◌, Bool, true, false, List, [], ◌∷◌, length, Option, Some, None, Result, Ok, Err, refl, sym, ap, subst, ◌∙◌, arith}
 use Rattle.std.specs.List.{AllPass}
 use Rattle.std.proofs.lemmas.Slice.Eq.{bytes_eq-Decides}
@@ -12,23 +12,28 @@ use Rattle.eth_frames.specs.Ethernet.{Eth, IsEth, has_tag, is_short, tagged_fram
 use Rattle.eth_frames.specs.declared.EthFault.{EthFault}
 use Rattle.eth_frames.specs.declared.EthFault.TheVariants.{Short}
 use Rattle.eth_frames.proofs.EthernetLemmas.{decoded-is, layout-plain, layout-tagged}
+use Rattle.fc_frames.specs.Frame as fc
 use Rattle.fcoe_codec.specs.Fcoe as capsule
+use Rattle.els_messages.specs.Els as els
+use Rattle.els_messages.specs.declared.LoginParms.{LoginParms}
 use Rattle.fip_codec.specs.Message as fip
 use Rattle.fip_codec.specs.Message.{Solicit, Advertise, Login, LoginReply, Keep, Clear, VlanAsk, VlanTell}
 use Rattle.fip_codec.specs.Reading as reading
 use Rattle.fip_codec.specs.declared.fault.FipFault.{FipFault}
+use Rattle.fip_codec.specs.declared.message.LoginKind.{LoginKind}
 use Rattle.fip_codec.proofs.Grammar.{IsFip-from_decoded}
 use Rattle.fip_codec.proofs.Unique.{decoded-from_IsFip}
 use Rattle.fab_policy.specs.Cause.{Cause}
-use Rattle.fab_policy.specs.Heard.{What, Bad, Fip, Fcoe, FIP, FCOE, plain, cause_of, decoded}
+use Rattle.fab_policy.specs.Free.{Request}
+use Rattle.fab_policy.specs.Heard.{What, Bad, Fip, Fcoe, FIP, FCOE, plain, cause_of, decoded, fc_of}
 use Rattle.fab_policy.specs.Laws.{AsksVlans, Solicits}
-use Rattle.fab_policy.specs.Rules.{first_row, is_wrong_vlan, ALL_FCFS}
-use Rattle.fab_policy.specs.SoFar.Stage.{verdict_so_far}
+use Rattle.fab_policy.specs.Rules.{first_row, rule_for, holds, is_wrong_vlan, ALL_FCFS}
+use Rattle.fab_policy.specs.State.{Tables, port_at}
+use Rattle.fab_policy.specs.Verdicts.{Judgement, Must, MayGrant, Meets, IsRight, judged, message_judged, frame_judged, login_judged, login_rows, request_of, unless_refused, is_own_logout, fcoe_judged}
 use Rattle.fab_policy.specs.declared.verdict.Verdict.{Verdict}
-use Rattle.fab_policy.specs.declared.verdict.Verdict.TheVariants.{Vlans, Advertised, Dropped}
+use Rattle.fab_policy.specs.declared.verdict.Verdict.TheVariants.{Vlans, Advertised, Logout, AliveNode, AlivePort, Dropped}
 use Rattle.fab_policy.specs.declared.verdict.Rule.TheVariants as rule
-use Rattle.fab_policy.proofs.JudgeLemmas.{by_rule, verdict_of, so_far_is, heard_is}
-use Rattle.fab_policy.proofs.StageLemmas.{frame_rows}
+use Rattle.fab_policy.proofs.FcoeJudged.{IsOfFcoe, refused_or, body_of_fcoe}
 
 -- ---- bytes
 
@@ -130,32 +135,111 @@ message_heard caught f m whole read kind message =
 
 -- ---- the rows
 
--- a verdict by which no frame is dropped
+abbrev by_rule : Option Cause → Judgement → Judgement
+by_rule o j = elim o as (λ _. Judgement) [ Some cause ↦ Must (Dropped cause) | None ↦ j ]
+
+-- the judgement by what was decoded
+abbrev judged_of : Settings → Tables → ℕ → Caught → What → Judgement
+judged_of c T port caught what = by_rule (rule_for c T port caught what) (message_judged c T port caught what)
+
+judged_is : (c : Settings) (T : Tables) (port : ℕ) (caught : Caught) → judged c T port caught ≡ judged_of c T port caught (decoded caught)
+unfolding judged
+judged_is c T port caught = refl
+
+-- the rows on the frame itself, with those on what it carries and on who is logged in behind them
+abbrev frame_rows : Bool → Bool → Bool → Bool → List (Bool × Cause) → List (Bool × Cause)
+frame_rows a b d e more = (a, plain rule.Vlan) ∷ (b, plain rule.FipDest) ∷ (d, plain rule.FipRole) ∷ (e, plain rule.FipMac) ∷ more
+
+-- which of the two answers a judgement is, if it is one
+abbrev answer : Judgement → Option Bool
+answer (Must Vlans) = Some true
+answer (Must Advertised) = Some false
+answer (Must _) = None
+answer (MayGrant r) = None
+
 abbrev Answers : Verdict → Type 0
-Answers v = (cause : Cause) → Dropped cause ≡ v → ⊥
+Answers v = answer (Must v) ≡ None → ⊥
 
-none_holds : (a b d e : Bool) (v : Verdict) → Answers v → by_rule (first_row (frame_rows a b d e [])) v ≡ v → (a ≡ false) × (b ≡ false) × (d ≡ false) × (e ≡ false)
-none_holds true b d e v h is = absurd (h _ is)
-none_holds false true d e v h is = absurd (h _ is)
-none_holds false false true e v h is = absurd (h _ is)
-none_holds false false false true v h is = absurd (h _ is)
-none_holds false false false false v h is = (refl, refl, refl, refl)
+none_holds : (a b d e : Bool) (more : List (Bool × Cause)) (v : Verdict) → Answers v → by_rule (first_row (frame_rows a b d e more)) (Must v) ≡ Must v →
+    (a ≡ false) × (b ≡ false) × (d ≡ false) × (e ≡ false)
+none_holds true b d e more v h is = absurd (h (sym (ap answer is)))
+none_holds false true d e more v h is = absurd (h (sym (ap answer is)))
+none_holds false false true e more v h is = absurd (h (sym (ap answer is)))
+none_holds false false false true more v h is = absurd (h (sym (ap answer is)))
+none_holds false false false false more v h is = (refl, refl, refl, refl)
 
-passes : (a b d e : Bool) (v : Verdict) → a ≡ false → b ≡ false → d ≡ false → e ≡ false → by_rule (first_row (frame_rows a b d e [])) v ≡ v
+-- a message that no row on logins concerns
+abbrev no_logins : List (Bool × Cause)
+no_logins = (false, plain rule.ElsShort) ∷ (false, plain rule.ElsKind) ∷ (false, plain rule.KeepaliveUnknown) ∷ []
+
+passes : (a b d e : Bool) (v : Verdict) → a ≡ false → b ≡ false → d ≡ false → e ≡ false → by_rule (first_row (frame_rows a b d e no_logins)) (Must v) ≡ Must v
 passes a b d e v p q r s =
-    ap (λ x. by_rule (first_row (frame_rows x b d e [])) v) p ∙ ap (λ x. by_rule (first_row (frame_rows false x d e [])) v) q
-    ∙ ap (λ x. by_rule (first_row (frame_rows false false x e [])) v) r ∙ ap (λ x. by_rule (first_row (frame_rows false false false x [])) v) s
+    ap (λ x. by_rule (first_row (frame_rows x b d e no_logins)) (Must v)) p ∙ ap (λ x. by_rule (first_row (frame_rows false x d e no_logins)) (Must v)) q
+    ∙ ap (λ x. by_rule (first_row (frame_rows false false x e no_logins)) (Must v)) r ∙ ap (λ x. by_rule (first_row (frame_rows false false false x no_logins)) (Must v)) s
 
-vlans_answer : Answers Vlans
-vlans_answer cause e = cc
+-- a frame of another judgement isn't answered so
+otherwise : (o : Option Cause) (j : Judgement) (v : Verdict) → Answers v → (answer j ≡ answer (Must v) → ⊥) → by_rule o j ≡ Must v → ⊥
+otherwise None j v h other e = other (ap answer e)
+otherwise (Some cause) j v h other e = h (sym (ap answer e))
 
-advertised_answers : Answers Advertised
-advertised_answers cause e = cc
+unanswered : (o : Option Cause) (j : Judgement) (v : Verdict) → Answers v → answer j ≡ None → by_rule o j ≡ Must v → ⊥
+unanswered o j v h none = otherwise o j v h (λ e. h (sym e ∙ none))
 
--- a frame of another verdict isn't answered so
-otherwise : (o : Option Cause) (w v : Verdict) → Answers v → (w ≡ v → ⊥) → by_rule o w ≡ v → ⊥
-otherwise None w v h other e = other e
-otherwise (Some cause) w v h other e = h cause e
+fcoe_unanswered : (j : Judgement) → IsOfFcoe j → answer j ≡ None
+fcoe_unanswered (Must Vlans) h = absurd (cc)
+fcoe_unanswered (Must Advertised) h = absurd (cc)
+fcoe_unanswered (Must _) h = refl
+fcoe_unanswered (MayGrant r) h = absurd h
+
+login_unanswered : (c : Settings) (T : Tables) (port : ℕ) (caught : Caught) (fp : Bool) (kind : LoginKind) (f : fc.Frame) (mac : List ℕ) →
+    answer (frame_judged c T port caught fp kind f mac) ≡ None
+login_unanswered c T port caught fp kind f mac = by_payload (els.payload_of f.payload)
+  where
+    asks : (p : LoginParms) → answer (login_judged c T port caught fp kind p) ≡ None
+    asks p =
+        let r : Request = request_of kind port caught p in
+        refused_or (λ j. answer j ≡ None) (λ why. refl) (login_rows c T port caught fp r p) (MayGrant r) refl
+
+    by_payload : (v : els.Els) → answer (elim v as (λ _. Judgement) [
+      | els.Flogi p ↦ login_judged c T port caught fp kind p
+      | els.Fdisc p ↦ login_judged c T port caught fp kind p
+      | els.Logo address name ↦
+          unless_refused ((not (holds (is_own_logout c T port caught mac address name) (port_at f.head.s_id T.ports)), (3, 0)) ∷ []) (Must (Logout f.head.s_id))
+      | _ ↦ Must (Dropped (plain rule.ElsKind))
+    ]) ≡ None
+    by_payload (els.Flogi p) = asks p
+    by_payload (els.Fdisc p) = asks p
+    by_payload (els.Logo address name) =
+        refused_or (λ j. answer j ≡ None) (λ why. refl) ((not (holds (is_own_logout c T port caught mac address name) (port_at f.head.s_id T.ports)), (3, 0)) ∷ []) (Must (Logout f.head.s_id)) refl
+    by_payload _ = refl
+
+-- what is neither a request nor a solicitation has neither answer
+abbrev is_asking : What → Bool
+is_asking (Fip f (VlanAsk _ _)) = true
+is_asking (Fip f (Solicit _ _ _ _ _)) = true
+is_asking _ = false
+
+not_asking : (c : Settings) (T : Tables) (port : ℕ) (caught : Caught) (what : What) (v : Verdict) → Answers v → is_asking what ≡ false → judged_of c T port caught what ≡ Must v → ⊥
+not_asking c T port caught (Bad cause) v h off e = unanswered (rule_for c T port caught (Bad cause)) (Must (Dropped cause)) v h refl e
+not_asking c T port caught (Fcoe f (Ok x)) v h off e =
+    unanswered (rule_for c T port caught (Fcoe f (Ok x))) (fcoe_judged c T x.frame) v h (fcoe_unanswered (fcoe_judged c T x.frame) (body_of_fcoe c T x.frame)) e
+not_asking c T port caught (Fcoe f (Err fault)) v h off e = unanswered (rule_for c T port caught (Fcoe f (Err fault))) (Must (Dropped (plain rule.FcoeLength))) v h refl e
+not_asking c T port caught (Fip f (Login kind fp l mac)) v h off e =
+    unanswered (rule_for c T port caught (Fip f (Login kind fp l mac))) (frame_judged c T port caught fp kind (fc_of l) mac) v h (login_unanswered c T port caught fp kind (fc_of l) mac) e
+not_asking c T port caught (Fip f (Keep mac None)) v h off e = unanswered (rule_for c T port caught (Fip f (Keep mac None))) (Must AliveNode) v h refl e
+not_asking c T port caught (Fip f (Keep mac (Some vx))) v h off e = unanswered (rule_for c T port caught (Fip f (Keep mac (Some vx)))) (Must (AlivePort vx.address)) v h refl e
+not_asking c T port caught (Fip f (VlanAsk mac _)) v h off e = absurd (cc)
+not_asking c T port caught (Fip f (Solicit from_fcf fp mac node size)) v h off e = absurd (cc)
+not_asking c T port caught (Fip f m) v h off e = unanswered (rule_for c T port caught (Fip f m)) (Must (Dropped (plain rule.FipRole))) v h refl e
+
+-- a verdict that is no grant meets the judgement of that verdict alone
+vlans_met : (c : Settings) (T : Tables) (j : Judgement) → Meets c T j Vlans → j ≡ Must Vlans
+vlans_met c T (Must v) e = ap Must (sym e)
+vlans_met c T (MayGrant r) e = absurd e
+
+advertised_met : (c : Settings) (T : Tables) (j : Judgement) → Meets c T j Advertised → j ≡ Must Advertised
+advertised_met c T (Must v) e = ap Must (sym e)
+advertised_met c T (MayGrant r) e = absurd e
 
 -- to the forwarder, or to all
 abbrev is_to : Settings → Eth → Bool
@@ -175,6 +259,9 @@ names_from named src e = ap not ((bytes_eq-Decides named src).1 e)
 
 -- ---- VLAN requests
 
+vlans_answer : Answers Vlans
+vlans_answer e = cc
+
 record HeardAsk (c : Settings) (what : What) : Type 0 where
   frame : Eth
   named : List ℕ
@@ -184,23 +271,25 @@ record HeardAsk (c : Settings) (what : What) : Type 0 where
   dest : not (is_to c frame) ≡ false
   source : not (same_bytes named frame.src) ≡ false
 
-heard_ask : (c : Settings) (what : What) → verdict_of c what ≡ Vlans → HeardAsk c what
-heard_ask c (Fip f (VlanAsk named node)) e =
-    let rows = none_holds (is_wrong_vlan c f true) (not (is_to c f)) false (not (same_bytes named f.src)) Vlans vlans_answer e in
+heard_ask : (c : Settings) (T : Tables) (port : ℕ) (caught : Caught) (what : What) → judged_of c T port caught what ≡ Must Vlans → HeardAsk c what
+unfolding rule_for
+heard_ask c T port caught (Fip f (VlanAsk named node)) e =
+    let rows = none_holds (is_wrong_vlan c f true) (not (is_to c f)) false (not (same_bytes named f.src)) no_logins Vlans vlans_answer e in
     record { frame = f; named = named; node = node; is = refl; vlan = rows.0; dest = rows.1; source = rows.3 }
-heard_ask c (Fip f (Solicit from_fcf fp mac node size)) e = absurd (otherwise _ Advertised Vlans vlans_answer (λ w. cc) e)
-heard_ask c (Fip f (Advertise solicited available from_fcf fp priority mac switch fc_map fabric quiet period)) e = absurd (otherwise _ (Dropped (plain rule.NotBuilt)) Vlans vlans_answer (λ w. cc) e)
-heard_ask c (Fip f (Login kind fp l mac)) e = absurd (otherwise _ (Dropped (plain rule.NotBuilt)) Vlans vlans_answer (λ w. cc) e)
-heard_ask c (Fip f (LoginReply kind fp l mac)) e = absurd (otherwise _ (Dropped (plain rule.NotBuilt)) Vlans vlans_answer (λ w. cc) e)
-heard_ask c (Fip f (Keep mac port)) e = absurd (otherwise _ (Dropped (plain rule.NotBuilt)) Vlans vlans_answer (λ w. cc) e)
-heard_ask c (Fip f (Clear mac switch ports)) e = absurd (otherwise _ (Dropped (plain rule.NotBuilt)) Vlans vlans_answer (λ w. cc) e)
-heard_ask c (Fip f (VlanTell mac vlans)) e = absurd (otherwise _ (Dropped (plain rule.NotBuilt)) Vlans vlans_answer (λ w. cc) e)
-heard_ask c (Fcoe f read) e = absurd (otherwise _ (Dropped (plain rule.NotBuilt)) Vlans vlans_answer (λ w. cc) e)
-heard_ask c (Bad cause) e = absurd (cc)
+heard_ask c T port caught (Fip f (Solicit from_fcf fp mac node size)) e =
+    absurd (otherwise (rule_for c T port caught (Fip f (Solicit from_fcf fp mac node size))) (Must Advertised) Vlans vlans_answer (λ w. cc) e)
+heard_ask c T port caught (Fip f m) e = absurd (not_asking c T port caught (Fip f m) Vlans vlans_answer refl e)
+heard_ask c T port caught (Fcoe f read) e = absurd (not_asking c T port caught (Fcoe f read) Vlans vlans_answer refl e)
+heard_ask c T port caught (Bad cause) e = absurd (not_asking c T port caught (Bad cause) Vlans vlans_answer refl e)
 
-pub request_means : (c : Settings) (caught : Caught) → AllPass (λ b. nat_lt b 256) caught.bytes → verdict_so_far c caught ≡ Vlans → AsksVlans c caught
-request_means c caught bytes e =
-    let a = heard_ask c (decoded caught) (sym (so_far_is c caught) ∙ e) in
+ask_judged : (c : Settings) (T : Tables) (port : ℕ) (caught : Caught) (f : Eth) (named : List ℕ) (node : Option ℕ) →
+    is_wrong_vlan c f true ≡ false → not (is_to c f) ≡ false → not (same_bytes named f.src) ≡ false → judged_of c T port caught (Fip f (VlanAsk named node)) ≡ Must Vlans
+unfolding rule_for
+ask_judged c T port caught f named who vlan dest source = passes (is_wrong_vlan c f true) (not (is_to c f)) false (not (same_bytes named f.src)) Vlans vlan dest refl source
+
+pub request_means : (c : Settings) (T : Tables) (port : ℕ) (caught : Caught) → AllPass (λ b. nat_lt b 256) caught.bytes → IsRight c T port caught Vlans → AsksVlans c caught
+request_means c T port caught bytes e =
+    let a = heard_ask c T port caught (decoded caught) (sym (judged_is c T port caught) ∙ vlans_met c T (judged c T port caught) e) in
     let f = a.frame in
     let h = heard_message caught f (VlanAsk a.named a.node) a.is in
     record {
@@ -216,15 +305,18 @@ request_means c caught bytes e =
       source = names_means a.named f.src a.source;
     }
 
-pub request_from : (c : Settings) (caught : Caught) → AsksVlans c caught → verdict_so_far c caught ≡ Vlans
-request_from c caught a =
+pub request_from : (c : Settings) (T : Tables) (port : ℕ) (caught : Caught) → AsksVlans c caught → IsRight c T port caught Vlans
+request_from c T port caught a =
     let f = a.frame in
-    let what = Fip f (VlanAsk a.named a.node) in
     let heard = message_heard caught f (VlanAsk a.named a.node) a.whole (decoded-is f caught.bytes a.stands) (eq-eqb f.kind FIP a.kind) (decoded-from_IsFip (VlanAsk a.named a.node) f.body a.request) in
     let vlan : is_wrong_vlan c f true ≡ false = ap not (⊎_elim (λ t. or_left (vlan_of_tag f.tag == c.vlan) (vlan_of_tag f.tag == 0) (eq-eqb (vlan_of_tag f.tag) c.vlan t)) (λ t. or_right (vlan_of_tag f.tag == c.vlan) (vlan_of_tag f.tag == 0) (eq-eqb (vlan_of_tag f.tag) 0 t)) a.vlan) in
-    sym (heard_is c caught what (sym heard)) ∙ passes (is_wrong_vlan c f true) (not (is_to c f)) false (not (same_bytes a.named f.src)) Vlans vlan (to_from c f a.dest) refl (names_from a.named f.src a.source)
+    let is = judged_is c T port caught ∙ ap (judged_of c T port caught) heard ∙ ask_judged c T port caught f a.named a.node vlan (to_from c f a.dest) (names_from a.named f.src a.source) in
+    subst (λ j. Meets c T j Vlans) (sym is) refl
 
 -- ---- solicitations
+
+advertised_answers : Answers Advertised
+advertised_answers e = cc
 
 record HeardSolicit (c : Settings) (what : What) : Type 0 where
   frame : Eth
@@ -239,9 +331,10 @@ record HeardSolicit (c : Settings) (what : What) : Type 0 where
   role : from_fcf ≡ false
   source : not (same_bytes named frame.src) ≡ false
 
-heard_solicit : (c : Settings) (what : What) → verdict_of c what ≡ Advertised → HeardSolicit c what
-heard_solicit c (Fip f (Solicit from_fcf fp named node size)) e =
-    let rows = none_holds (is_wrong_vlan c f false) (not (is_to c f)) from_fcf (not (same_bytes named f.src)) Advertised advertised_answers e in
+heard_solicit : (c : Settings) (T : Tables) (port : ℕ) (caught : Caught) (what : What) → judged_of c T port caught what ≡ Must Advertised → HeardSolicit c what
+unfolding rule_for
+heard_solicit c T port caught (Fip f (Solicit from_fcf fp named node size)) e =
+    let rows = none_holds (is_wrong_vlan c f false) (not (is_to c f)) from_fcf (not (same_bytes named f.src)) no_logins Advertised advertised_answers e in
     record {
       frame = f;
       from_fcf = from_fcf;
@@ -255,24 +348,25 @@ heard_solicit c (Fip f (Solicit from_fcf fp named node size)) e =
       role = rows.2;
       source = rows.3;
     }
-heard_solicit c (Fip f (VlanAsk named _)) e = absurd (otherwise _ Vlans Advertised advertised_answers (λ w. cc) e)
-heard_solicit c (Fip f (Advertise solicited available from_fcf fp priority mac switch fc_map fabric quiet period)) e = absurd (otherwise _ (Dropped (plain rule.NotBuilt)) Advertised advertised_answers (λ w. cc) e)
-heard_solicit c (Fip f (Login kind fp l mac)) e = absurd (otherwise _ (Dropped (plain rule.NotBuilt)) Advertised advertised_answers (λ w. cc) e)
-heard_solicit c (Fip f (LoginReply kind fp l mac)) e = absurd (otherwise _ (Dropped (plain rule.NotBuilt)) Advertised advertised_answers (λ w. cc) e)
-heard_solicit c (Fip f (Keep mac port)) e = absurd (otherwise _ (Dropped (plain rule.NotBuilt)) Advertised advertised_answers (λ w. cc) e)
-heard_solicit c (Fip f (Clear mac switch ports)) e = absurd (otherwise _ (Dropped (plain rule.NotBuilt)) Advertised advertised_answers (λ w. cc) e)
-heard_solicit c (Fip f (VlanTell mac vlans)) e = absurd (otherwise _ (Dropped (plain rule.NotBuilt)) Advertised advertised_answers (λ w. cc) e)
-heard_solicit c (Fcoe f read) e = absurd (otherwise _ (Dropped (plain rule.NotBuilt)) Advertised advertised_answers (λ w. cc) e)
-heard_solicit c (Bad cause) e = absurd (cc)
+heard_solicit c T port caught (Fip f (VlanAsk named node)) e =
+    absurd (otherwise (rule_for c T port caught (Fip f (VlanAsk named node))) (Must Vlans) Advertised advertised_answers (λ w. cc) e)
+heard_solicit c T port caught (Fip f m) e = absurd (not_asking c T port caught (Fip f m) Advertised advertised_answers refl e)
+heard_solicit c T port caught (Fcoe f read) e = absurd (not_asking c T port caught (Fcoe f read) Advertised advertised_answers refl e)
+heard_solicit c T port caught (Bad cause) e = absurd (not_asking c T port caught (Bad cause) Advertised advertised_answers refl e)
+
+solicit_judged : (c : Settings) (T : Tables) (port : ℕ) (caught : Caught) (f : Eth) (fp : Bool) (named : List ℕ) (node size : ℕ) →
+    is_wrong_vlan c f false ≡ false → not (is_to c f) ≡ false → not (same_bytes named f.src) ≡ false → judged_of c T port caught (Fip f (Solicit false fp named node size)) ≡ Must Advertised
+unfolding rule_for
+solicit_judged c T port caught f fp named node size vlan dest source = passes (is_wrong_vlan c f false) (not (is_to c f)) false (not (same_bytes named f.src)) Advertised vlan dest refl source
 
 -- either the VLAN is right, or nothing
 or_false : (a b : Bool) → (a || (false && b)) ≡ true → a ≡ true
 or_false true b e = refl
 or_false false b e = e
 
-pub solicitation_means : (c : Settings) (caught : Caught) → AllPass (λ b. nat_lt b 256) caught.bytes → verdict_so_far c caught ≡ Advertised → Solicits c caught
-solicitation_means c caught bytes e =
-    let a = heard_solicit c (decoded caught) (sym (so_far_is c caught) ∙ e) in
+pub solicitation_means : (c : Settings) (T : Tables) (port : ℕ) (caught : Caught) → AllPass (λ b. nat_lt b 256) caught.bytes → IsRight c T port caught Advertised → Solicits c caught
+solicitation_means c T port caught bytes e =
+    let a = heard_solicit c T port caught (decoded caught) (sym (judged_is c T port caught) ∙ advertised_met c T (judged c T port caught) e) in
     let f = a.frame in
     let m = Solicit a.from_fcf a.fp a.named a.node a.size in
     let h = heard_message caught f m a.is in
@@ -291,10 +385,11 @@ solicitation_means c caught bytes e =
       source = names_means a.named f.src a.source;
     }
 
-pub solicitation_from : (c : Settings) (caught : Caught) → Solicits c caught → verdict_so_far c caught ≡ Advertised
-solicitation_from c caught a =
+pub solicitation_from : (c : Settings) (T : Tables) (port : ℕ) (caught : Caught) → Solicits c caught → IsRight c T port caught Advertised
+solicitation_from c T port caught a =
     let f = a.frame in
     let m = Solicit false a.fp a.named a.node a.size in
     let heard = message_heard caught f m a.whole (decoded-is f caught.bytes a.stands) (eq-eqb f.kind FIP a.kind) (decoded-from_IsFip m f.body a.request) in
     let vlan : is_wrong_vlan c f false ≡ false = ap not (or_left (vlan_of_tag f.tag == c.vlan) (false && vlan_of_tag f.tag == 0) (eq-eqb (vlan_of_tag f.tag) c.vlan a.vlan)) in
-    sym (heard_is c caught (Fip f m) (sym heard)) ∙ passes (is_wrong_vlan c f false) (not (is_to c f)) false (not (same_bytes a.named f.src)) Advertised vlan (to_from c f a.dest) refl (names_from a.named f.src a.source)
+    let is = judged_is c T port caught ∙ ap (judged_of c T port caught) heard ∙ solicit_judged c T port caught f a.fp a.named a.node a.size vlan (to_from c f a.dest) (names_from a.named f.src a.source) in
+    subst (λ j. Meets c T j Advertised) (sym is) refl

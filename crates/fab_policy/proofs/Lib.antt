@@ -15,9 +15,8 @@ pub mod Carried
 pub mod Due
 pub mod Right
 pub mod FrameRuleLemmas
-pub mod JudgeLemmas
 pub mod ReplyLemmas
-pub mod StageLemmas
+pub mod FcoeJudged
 pub mod LawLemmas
 pub mod SoundGrants
 pub mod Sound

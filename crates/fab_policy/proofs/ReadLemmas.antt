@@ -146,7 +146,7 @@ none_one_more rules w text i r here before is not =
     subst P (sym (take_more rules i r here)) (none_more (take i rules) w (get_or rules i r) before (λ e. not (e ∙ sym is)))
 
 abbrev pub all_rules : List Rule
-all_rules = rule.Truncated ∷ rule.EthShort ∷ rule.Ethertype ∷ rule.FipShort ∷ rule.FipVersion ∷ rule.FipOperation ∷ rule.FipList ∷ rule.FipLength ∷ rule.FipCritical ∷ rule.FipDouble ∷ rule.FipMissing ∷ rule.Vlan ∷ rule.FipDest ∷ rule.FipRole ∷ rule.FipMac ∷ rule.ElsShort ∷ rule.ElsKind ∷ rule.KeepaliveUnknown ∷ rule.FcoeLength ∷ rule.FcoeVersion ∷ rule.FcoeSof ∷ rule.FcoeEof ∷ rule.FcoeCrc ∷ rule.FcoeClass ∷ rule.FcoeDest ∷ rule.SourceMac ∷ rule.SourceLogin ∷ rule.SourcePort ∷ rule.ServiceAddress ∷ rule.ServiceFrame ∷ rule.CtShort ∷ rule.OwnAddress ∷ rule.DestLogin ∷ rule.Zone ∷ rule.NotBuilt ∷ []
+all_rules = rule.Truncated ∷ rule.EthShort ∷ rule.Ethertype ∷ rule.FipShort ∷ rule.FipVersion ∷ rule.FipOperation ∷ rule.FipList ∷ rule.FipLength ∷ rule.FipCritical ∷ rule.FipDouble ∷ rule.FipMissing ∷ rule.Vlan ∷ rule.FipDest ∷ rule.FipRole ∷ rule.FipMac ∷ rule.ElsShort ∷ rule.ElsKind ∷ rule.KeepaliveUnknown ∷ rule.FcoeLength ∷ rule.FcoeVersion ∷ rule.FcoeSof ∷ rule.FcoeEof ∷ rule.FcoeCrc ∷ rule.FcoeClass ∷ rule.FcoeDest ∷ rule.SourceMac ∷ rule.SourceLogin ∷ rule.SourcePort ∷ rule.ServiceAddress ∷ rule.ServiceFrame ∷ rule.CtShort ∷ rule.OwnAddress ∷ rule.DestLogin ∷ rule.Zone ∷ []
 
 -- a word that is spelled by none of all rules is that of no rule
 pub none_of_all : (w : List ℕ) → SpellNone all_rules w → (r : Rule) → w ≡ rule_word r → ⊥
@@ -184,7 +184,6 @@ none_of_all w none rule.CtShort e = none.1.1.1.1.1.1.1.1.1.1.1.1.1.1.1.1.1.1.1.1
 none_of_all w none rule.OwnAddress e = none.1.1.1.1.1.1.1.1.1.1.1.1.1.1.1.1.1.1.1.1.1.1.1.1.1.1.1.1.1.1.1.0 e
 none_of_all w none rule.DestLogin e = none.1.1.1.1.1.1.1.1.1.1.1.1.1.1.1.1.1.1.1.1.1.1.1.1.1.1.1.1.1.1.1.1.0 e
 none_of_all w none rule.Zone e = none.1.1.1.1.1.1.1.1.1.1.1.1.1.1.1.1.1.1.1.1.1.1.1.1.1.1.1.1.1.1.1.1.1.0 e
-none_of_all w none rule.NotBuilt e = none.1.1.1.1.1.1.1.1.1.1.1.1.1.1.1.1.1.1.1.1.1.1.1.1.1.1.1.1.1.1.1.1.1.1.0 e
 
 -- what was found among all rules
 pub rule_found : (w : List ℕ) (r : Option Rule) → IfSome r (λ q. w ≡ rule_word q) → IfNone r (SpellNone all_rules w) → Finds (λ q. w ≡ rule_word q) r

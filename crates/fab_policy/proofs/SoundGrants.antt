@@ -1,29 +1,26 @@
 -- What a judgement says of a login request that may be granted: its kind, ENode and name are those that the journal reads from
 -- the same frame, no login that stays has its name, and there is room for it.
-use Rattle.std.proofs.Common.{◌≡◌, ℕ, Bool, true, false, not, ◌==◌, ◌&&◌, ◌||◌, List, [], ◌∷◌, IsTrue, Option, Some, None, Result, Ok, Err, refl, sym, ap, subst, ◌∙◌, nat_le, nat_lt, length, if◌then◌else◌}
+use Rattle.std.proofs.Common.{◌≡◌, ℕ, Bool, true, false, not, ◌==◌, ◌&&◌, ◌||◌, List, [], ◌∷◌, IsTrue, Option, Some, None, Ok, Err, refl, sym, ap, subst, ◌∙◌, nat_le, length}
 use Rattle.std.specs.List.{list_any}
 use Rattle.fab_base.specs.declared.values.Caught.{Caught}
 use Rattle.fab_config.specs.Settings.{Settings}
 use Rattle.eth_frames.specs.Ethernet as eth
-use Rattle.fc_frames.specs.Frame as fc
 use Rattle.fip_codec.specs.Message as fip
 use Rattle.fip_codec.specs.declared.message.LoginKind.{LoginKind}
 use Rattle.fip_codec.specs.declared.message.LoginKind.TheVariants.{Flogi, Fdisc, Logo}
 use Rattle.els_messages.specs.Els as els
 use Rattle.els_messages.specs.declared.LoginParms.{LoginParms}
-use Rattle.ct_messages.specs.Ct as ct
-use Rattle.ct_messages.specs.declared.CtFault.{CtFault}
 use Rattle.fab_policy.specs.Cause.{Cause}
 use Rattle.fab_policy.specs.Heard.{What, Bad, Fip, Fcoe, plain, decoded, sender, fc_of, login_of, carried, asked, is_flogi}
-use Rattle.fab_policy.specs.State.{Tables, LivePort, port_at}
+use Rattle.fab_policy.specs.State.{Tables, port_at}
 use Rattle.fab_policy.specs.Free.{Request, has_free, is_free}
-use Rattle.fab_policy.specs.Rules.{first_row, rule_for, holds, is_known, is_els_reply, is_els_request, NAME_SERVER, SERVICES}
-use Rattle.ct_messages.specs.Server.{Refusal, is_registration}
-use Rattle.fab_policy.specs.Queries.{refusal}
-use Rattle.fab_policy.specs.Verdicts.{Judgement, Must, MayGrant, Meets, IsRight, judged, message_judged, fip_judged, frame_judged, login_judged, request_of, staying, unless_refused, is_own_logout, fcoe_judged, service_judged, els_judged, ct_judged, is_function}
+use Rattle.fab_policy.specs.Rules.{rule_for, holds, is_known}
+use Rattle.ct_messages.specs.Server.{Refusal}
+use Rattle.fab_policy.specs.Verdicts.{Judgement, Must, MayGrant, Meets, IsRight, judged, message_judged, fip_judged, frame_judged, login_judged, request_of, staying, unless_refused, is_own_logout}
 use Rattle.fab_policy.specs.declared.verdict.Verdict.{Verdict}
-use Rattle.fab_policy.specs.declared.verdict.Verdict.TheVariants.{Granted, Rejected, Logout, NsLogin, NsLogout, Watching, Refused, Registered, Answered, Noted, Forwarded, Dropped}
+use Rattle.fab_policy.specs.declared.verdict.Verdict.TheVariants.{Granted, Logout, Dropped}
 use Rattle.fab_policy.specs.declared.verdict.Rule.TheVariants as rule
+use Rattle.fab_policy.proofs.FcoeJudged.{IsOfFcoe, refused_or, body_of_fcoe}
 use Rattle.fab_policy.proofs.Carried.{IsFipOf, fip_of, login_there, carried_there}
 use Rattle.fab_policy.proofs.SoundParms.{SaysParms, says_parms}
 
@@ -62,82 +59,11 @@ kind_there port caught kind l p e = by_kind kind ∙ sym (ap (λ o. of_login o) 
     by_kind Fdisc = refl
     by_kind Logo = refl
 
--- ---- judgements that grant nothing
-
-abbrev NeverGrants : Judgement → Type 0
-NeverGrants (Must v) = is_grant v ≡ false
-NeverGrants (MayGrant r) = ⊥
-
-never : (c : Settings) (T : Tables) (port : ℕ) (caught : Caught) (j : Judgement) → NeverGrants j → GrantsAllowed c T port caught j
-never c T port caught (Must v) h = h
+-- a judgement that a frame of FCoE can have grants nothing
+never : (c : Settings) (T : Tables) (port : ℕ) (caught : Caught) (j : Judgement) → IsOfFcoe j → GrantsAllowed c T port caught j
+never c T port caught (Must (Granted a)) h = absurd (cc)
+never c T port caught (Must _) h = refl
 never c T port caught (MayGrant r) h = absurd h
-
-refused_or : (rows : List (Bool × Refusal)) (v : Verdict) → is_grant v ≡ false → NeverGrants (unless_refused rows (Must v))
-refused_or rows v h = by_row (first_row rows)
-  where
-    by_row : (o : Option Refusal) → NeverGrants (elim o as (λ _. Judgement) [ Some r ↦ Must (Rejected r.0 r.1) | None ↦ Must v ])
-    by_row None = h
-    by_row (Some r) = refl
-
-els_never : (c : Settings) (T : Tables) (p : LivePort) (f : fc.Frame) → NeverGrants (els_judged c T p f)
-els_never c T p f = by_payload (els.payload_of f.payload) (f.head.d_id == NAME_SERVER)
-  where
-    by_payload : (v : els.Els) (to_names : Bool) → NeverGrants (elim v as (λ _. Judgement) [
-      | els.Plogi parms ↦ (if to_names
-          then unless_refused ((not (els.offers_class3 parms), (0x0b, 0)) ∷ (not (parms.port_name == p.name) || nat_lt parms.size 256, (3, 0)) ∷ []) (Must NsLogin)
-          else Must (Rejected 0x0b 0x2c))
-      | els.Logo address name ↦ (if to_names then Must NsLogout else Must (Rejected 0x0b 0x2c))
-      | els.Scr function ↦ (if to_names then Must (Rejected 0x0b 0x2c) else unless_refused ((not (is_function function), (3, 0)) ∷ []) (Must (Watching function)))
-      | _ ↦ Must (Rejected 0x0b 0x2c)
-    ])
-    by_payload (els.Plogi parms) true = refused_or ((not (els.offers_class3 parms), (0x0b, 0)) ∷ (not (parms.port_name == p.name) || nat_lt parms.size 256, (3, 0)) ∷ []) NsLogin refl
-    by_payload (els.Plogi parms) false = refl
-    by_payload (els.Logo address name) true = refl
-    by_payload (els.Logo address name) false = refl
-    by_payload (els.Scr function) true = refl
-    by_payload (els.Scr function) false = refused_or ((not (is_function function), (3, 0)) ∷ []) (Watching function) refl
-    by_payload _ to_names = refl
-
-ct_never : (c : Settings) (T : Tables) (p : LivePort) (payload : List ℕ) → NeverGrants (ct_judged c T p payload)
-ct_never c T p payload = by_refusal (refusal c T p (ct.decoded payload)) (ct.decoded payload)
-  where
-    by_kind : (b : Bool) → is_grant (if b then Registered else Answered) ≡ false
-    by_kind true = refl
-    by_kind false = refl
-
-    by_refusal : (o : Option Refusal) (read : Result ct.Ask CtFault) → NeverGrants (elim o as (λ _. Judgement) [
-      | Some r ↦ Must (Refused r.0 r.1)
-      | None ↦ elim read as (λ _. Judgement) [ Ok ask ↦ Must (if is_registration ask then Registered else Answered) | Err e ↦ Must (Refused 4 0) ]
-    ])
-    by_refusal (Some r) read = refl
-    by_refusal None (Ok ask) = by_kind (is_registration ask)
-    by_refusal None (Err e) = refl
-
-service_never : (c : Settings) (T : Tables) (f : fc.Frame) → NeverGrants (service_judged c T f)
-service_never c T f = by_port (port_at f.head.s_id T.ports) (is_els_reply f) (is_els_request f)
-  where
-    by_port : (o : Option LivePort) (reply request : Bool) → NeverGrants (elim o as (λ _. Judgement) [
-      | None ↦ Must (Dropped (plain rule.SourceLogin))
-      | Some p ↦ elim reply as (λ _. Judgement) [
-        | true ↦ Must Noted
-        | false ↦ elim request as (λ _. Judgement) [ true ↦ els_judged c T p f | false ↦ ct_judged c T p f.payload ]
-      ]
-    ])
-    by_port None reply request = refl
-    by_port (Some p) true request = refl
-    by_port (Some p) false true = els_never c T p f
-    by_port (Some p) false false = ct_never c T p f.payload
-
-fcoe_never : (c : Settings) (T : Tables) (f : fc.Frame) → NeverGrants (fcoe_judged c T f)
-fcoe_never c T f = by_address (nat_lt f.head.d_id SERVICES) (port_at f.head.d_id T.ports)
-  where
-    by_address : (to_port : Bool) (o : Option LivePort) → NeverGrants (elim to_port as (λ _. Judgement) [
-      | true ↦ elim o as (λ _. Judgement) [ Some q ↦ Must (Forwarded q.enode.port) | None ↦ Must (Dropped (plain rule.DestLogin)) ]
-      | false ↦ service_judged c T f
-    ])
-    by_address true (Some q) = refl
-    by_address true None = refl
-    by_address false o = service_never c T f
 
 -- ---- logins
 
@@ -177,7 +103,8 @@ frame_allowed c T port caught fp kind l mac there is = by_payload (els.payload_o
     ])
     by_payload (els.Flogi p) says = login_allowed c T port caught fp kind l p there is says
     by_payload (els.Fdisc p) says = login_allowed c T port caught fp kind l p there is says
-    by_payload (els.Logo address name) says = never c T port caught _ (refused_or ((not (holds (is_own_logout c T port caught mac address name) (port_at (fc_of l).head.s_id T.ports)), (3, 0)) ∷ []) (Logout (fc_of l).head.s_id) refl)
+    by_payload (els.Logo address name) says =
+        refused_or (GrantsAllowed c T port caught) (λ r. refl) ((not (holds (is_own_logout c T port caught mac address name) (port_at (fc_of l).head.s_id T.ports)), (3, 0)) ∷ []) (Must (Logout (fc_of l).head.s_id)) refl
     by_payload _ says = refl
 
 fip_allowed : (c : Settings) (T : Tables) (port : ℕ) (caught : Caught) (f : eth.Eth) (m : fip.Fip) → IsFipOf caught f m → GrantsAllowed c T port caught (fip_judged c T port caught m)
@@ -195,7 +122,7 @@ judged_allowed c T port caught = by_rule (rule_for c T port caught (decoded caug
     by_message : (w : What) → decoded caught ≡ w → GrantsAllowed c T port caught (message_judged c T port caught w)
     by_message (Bad cause) e = refl
     by_message (Fip f m) e = fip_allowed c T port caught f m (fip_of caught f m e)
-    by_message (Fcoe f (Ok x)) e = never c T port caught _ (fcoe_never c T x.frame)
+    by_message (Fcoe f (Ok x)) e = never c T port caught _ (body_of_fcoe c T x.frame)
     by_message (Fcoe f (Err fault)) e = refl
 
     by_rule : (o : Option Cause) → GrantsAllowed c T port caught (message_judged c T port caught (decoded caught)) →

@@ -114,7 +114,6 @@ rule_inside rule.CtShort = refl
 rule_inside rule.OwnAddress = refl
 rule_inside rule.DestLogin = refl
 rule_inside rule.Zone = refl
-rule_inside rule.NotBuilt = refl
 
 number_inside : (n : Option ℕ) → IfSome n (λ m. m < 2 ^ 32) → AreWords (number_words n)
 number_inside None small = tt
@@ -193,8 +192,7 @@ rule_named w =
     (cond (same_bytes w (codes "service-frame")) rule.ServiceFrame
     (cond (same_bytes w (codes "ct-short")) rule.CtShort
     (cond (same_bytes w (codes "self")) rule.OwnAddress
-    (cond (same_bytes w (codes "dest-login")) rule.DestLogin
-    (cond (same_bytes w (codes "zone")) rule.Zone rule.NotBuilt)))))))))))))))))))))))))))))))))
+    (cond (same_bytes w (codes "dest-login")) rule.DestLogin rule.Zone))))))))))))))))))))))))))))))))
 
 rule_named-word : (r : Rule) → rule_named (rule_word r) ≡ r
 rule_named-word rule.Truncated = refl
@@ -231,7 +229,6 @@ rule_named-word rule.CtShort = refl
 rule_named-word rule.OwnAddress = refl
 rule_named-word rule.DestLogin = refl
 rule_named-word rule.Zone = refl
-rule_named-word rule.NotBuilt = refl
 
 abbrev one_word : List ℕ → Verdict
 one_word w =

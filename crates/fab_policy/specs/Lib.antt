@@ -27,7 +27,6 @@ pub mod Written
 pub mod Growing
 pub mod Keeping
 pub mod Sound
-pub mod SoFar
 pub mod Laws
 pub mod Spelling
 pub mod Private

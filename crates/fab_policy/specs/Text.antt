@@ -68,7 +68,6 @@ rule_word rule.CtShort = codes "ct-short"
 rule_word rule.OwnAddress = codes "self"
 rule_word rule.DestLogin = codes "dest-login"
 rule_word rule.Zone = codes "zone"
-rule_word rule.NotBuilt = codes "not-built"
 
 abbrev pub cause_text : Cause → List ℕ
 cause_text cause = rule_word cause.rule ++ elim cause.number [ None ↦ [] | Some n ↦ then_word (decimal n) ]

@@ -41,8 +41,8 @@ fn cause_at(rule: Rule, at: u32) -> Dropped
     }
 }
 
-/// A rule without a number.
-pub(crate) fn dropped(rule: Rule) -> Dropped
+// A rule without a number.
+fn dropped(rule: Rule) -> Dropped
     requires { is_numbered rule ≡ false }
     ensures { result ≡ plain rule }
 {

@@ -8,6 +8,7 @@ ghost use Rattle.fab_policy.specs.Carried.{SourcesAreRead, LoginsAreCarried, Bod
 ghost use Rattle.fab_policy.specs.Carried.{ParmsAreAsked, AnswersAreAsked};
 ghost use Rattle.fab_policy.specs.Due.{DueIsOne, NextTickIsLesser};
 ghost use Rattle.fab_policy.specs.Forwarding.{ForwardsExactly, LegalForwards};
+ghost use Rattle.fab_policy.specs.Laws.{RequestsAreAnswered, SolicitationsAreAnswered};
 ghost use Rattle.fab_policy.specs.Right.{RightIsOne};
 ghost use Rattle.fab_policy.specs.Written.{TablesAscend, LegalIsQuiet, LegalIsSound};
 ghost use Rattle.fab_policy.specs.Sound.{MacsTellAddresses, LiveMacsDiffer, GrantsAreFree};
@@ -75,6 +76,17 @@ pub fn fabric_steps()
     ensures drained { StandsDrained }
     ensures legal { LegalAfter }
     ensures grows { GrowsByFrames }
+{}
+
+/// VLANs are told as the answer to a captured frame of bytes exactly where the layout of Ethernet
+/// and the grammar of FIP make it a VLAN request to this forwarder, whoever is logged in.
+pub fn requests_are_answered()
+    ensures { RequestsAreAnswered }
+{}
+
+/// The same of a solicitation and the advertisement that answers it.
+pub fn solicitations_are_answered()
+    ensures { SolicitationsAreAnswered }
 {}
 
 /// One moment at most is due, and after the first tick the next one is the lesser of it and of the

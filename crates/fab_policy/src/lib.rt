@@ -14,7 +14,6 @@ mod named;
 mod ranged;
 mod reading;
 mod replies;
-mod so_far;
 #[cfg(test)]
 mod tests_heard;
 #[cfg(test)]
@@ -31,7 +30,8 @@ pub use growing::{entries_add_to_files, entries_come_in_parts, records_come_late
 pub use heard::{Heard, What, hear};
 pub use laws::{
     fabric_steps, forwarding_rule, frames_are_carried, journal_steps, legal_journals, lookups,
-    registrations_fit, tables_change, ticks_are_due, verdicts_are_one,
+    registrations_fit, requests_are_answered, solicitations_are_answered, tables_change,
+    ticks_are_due, verdicts_are_one,
 };
 pub use line::{Format, Line};
 pub use lines::{write_frame_line, write_head_line, write_line, write_line1, write_tick_line};
@@ -39,11 +39,5 @@ pub use looks::{MOST_SPAN, looks_go_on, steps_find_the_stop, stops_keep_what_is_
 pub use named::journal_is_named;
 pub use ranged::{known, known_verdict};
 pub use reading::{LineError, read_line};
-pub use replies::{
-    write_advertisement, write_advertisement_to, write_made, write_notice_to, write_solicited,
-    write_vlan_notice,
-};
-pub use so_far::{
-    judge, requests_are_answered, solicitations_are_answered, stage_journals, stage_verdicts,
-};
+pub use replies::{write_advertisement, write_advertisement_to, write_made, write_notice_to};
 pub use verdict::{Dropped, Rule, Verdict};

@@ -1,22 +1,18 @@
-//! The frames that the forwarder makes of itself and for a request, so far as it is built (FC-BB-5,
-//! "FIP operations").
-ghost use Rattle.std.specs.Prelude.{◌≡◌, ◌==◌, ◌≢◌, ◌++◌, ◌≤◌, ◌+◌, ◌∷◌, [], true, length, OnOk};
+//! The frames of discovery that the forwarder makes, and any frame of its own (FC-BB-5, "FIP
+//! operations").
+ghost use Rattle.std.specs.Prelude.{◌≡◌, ◌≢◌, ◌++◌, ◌≤◌, ◌+◌, ◌∷◌, [], true, length, OnOk};
 ghost use Rattle.std.specs.Prelude.{OnErr, IfOk, vec_len};
 ghost use Rattle.fab_base.specs.Layout.{padded};
-ghost use Rattle.eth_frames.specs.Ethernet.{vlan_of_tag};
 ghost use Rattle.fip_codec.specs.Message as fip;
-ghost use Rattle.fab_policy.specs.Replies.{size_in};
 ghost use Rattle.fip_codec.specs.CanWrite.{CanWrite};
 ghost use Rattle.fab_policy.specs.Replies as spec;
 ghost use Rattle.fab_policy.specs.Rules.{ALL_ENODES as ALL_NODES};
-ghost use Rattle.fab_policy.specs.SoFar.Stage.{verdict_so_far};
-ghost use Rattle.fab_policy.specs.declared.verdict.Verdict.TheVariants.{Vlans, Advertised};
 
 use crate::heard::FIP;
-use eth_frames::{EthFrame, read_eth, write_eth};
-use fab_base::{Caught, Mac, NoMemory};
+use eth_frames::{EthFrame, write_eth};
+use fab_base::{Mac, NoMemory};
 use fab_config::Config;
-use fip_codec::{FipMessage, FipOut, VxPort, read_fip, write_fip};
+use fip_codec::{FipOut, VxPort, write_fip};
 use std::alloc::Global;
 
 /// All-ENode-MACs, the group of all nodes.
@@ -24,44 +20,6 @@ const ALL_ENODES: Mac = Mac([0x01, 0x10, 0x18, 0x01, 0x00, 0x01]);
 
 /// The most bytes that a solicited advertisement has behind its Ethernet header.
 const MOST: u16 = 2158;
-
-/// Appends the VLAN notification that answers a VLAN request: at most 65,535 bytes.
-pub fn write_vlan_notice(
-    alloc: Global,
-    config: &Config,
-    caught: &Caught,
-    out: &mut Vec<u8>,
-) -> Result<(), NoMemory>
-    requires { verdict_so_far config.now caught.now ≡ Vlans }
-    ensures ok { OnOk result (
-        out.new.items ≡ out.old.items ++ spec.vlan_notice config.now caught.now) }
-    ensures size { OnOk result (length (spec.vlan_notice config.now caught.now) ≤ 65535) }
-    ensures err { OnErr result (out.new.items ≡ out.old.items) }
-{
-    match read_eth(caught.bytes.view()) {
-        Ok(asked) => write_notice_for(alloc, config, &asked, out),
-        Err(_) => unreachable!(),
-    }
-}
-
-// Appends the notification to the sender of a frame.
-fn write_notice_for(
-    alloc: Global,
-    config: &Config,
-    asked: &EthFrame<'_>,
-    out: &mut Vec<u8>,
-) -> Result<(), NoMemory>
-    ensures ok { OnOk result (
-        out.new.items ≡ out.old.items
-        ++ spec.notice_to config.now asked.now.src (vlan_of_tag asked.now.tag == 0)) }
-    ensures size { OnOk result (
-        length (spec.notice_to config.now asked.now.src (vlan_of_tag asked.now.tag == 0))
-        ≤ 65535) }
-    ensures err { OnErr result (out.new.items ≡ out.old.items) }
-{
-    let untagged = asked.vlan() == 0;
-    write_notice_to(alloc, config, asked.src, untagged, out)
-}
 
 /// Appends a VLAN notification to a MAC, which has no tag where the request has none: at most
 /// 65,535 bytes.
@@ -84,45 +42,6 @@ pub fn write_notice_to(
         Some(own_tag(config))
     };
     write_made(alloc, config, tag, dst, FIP, &body, out)
-}
-
-/// Appends the advertisement that answers a solicitation, with zeros up to the size that is asked
-/// for: at most 65,535 bytes.
-pub fn write_solicited(
-    alloc: Global,
-    config: &Config,
-    caught: &Caught,
-    out: &mut Vec<u8>,
-) -> Result<(), NoMemory>
-    requires { verdict_so_far config.now caught.now ≡ Advertised }
-    ensures ok { OnOk result (
-        out.new.items ≡ out.old.items ++ spec.advertised_to_one config.now caught.now) }
-    ensures size { OnOk result (length (spec.advertised_to_one config.now caught.now) ≤ 65535) }
-    ensures err { OnErr result (out.new.items ≡ out.old.items) }
-{
-    match read_eth(caught.bytes.view()) {
-        Ok(asked) => write_solicited_for(alloc, config, &asked, out),
-        Err(_) => unreachable!(),
-    }
-}
-
-// Appends the advertisement to the sender of a frame, of the size that its body asks for.
-fn write_solicited_for(
-    alloc: Global,
-    config: &Config,
-    asked: &EthFrame<'_>,
-    out: &mut Vec<u8>,
-) -> Result<(), NoMemory>
-    ensures ok { OnOk result (
-        out.new.items ≡ out.old.items
-        ++ spec.advertised_to config.now asked.now.src (size_in asked.now.body.now)) }
-    ensures size { OnOk result (
-        length (spec.advertised_to config.now asked.now.src (size_in asked.now.body.now))
-        ≤ 65535) }
-    ensures err { OnErr result (out.new.items ≡ out.old.items) }
-{
-    let size = size_asked(asked.body);
-    write_advertisement_to(alloc, config, asked.src, size, out)
 }
 
 /// Appends a solicited advertisement to a MAC, with zeros up to a size of at most 2,158 bytes
@@ -193,19 +112,6 @@ fn own_tag(config: &Config) -> u16
     ensures { result ≡ 0x6000 + config.now.vlan }
 {
     0x6000 + config.vlan
-}
-
-// The size that a solicitation asks for, and 0 where the body is none.
-fn size_asked(body: &[u8]) -> u16
-    ensures { result ≡ size_in body.now }
-{
-    let Ok(message) = read_fip(body) else {
-        return 0;
-    };
-    match message {
-        FipMessage::Solicit { size, .. } => size,
-        _ => 0,
-    }
 }
 
 // The body of a VLAN notification.

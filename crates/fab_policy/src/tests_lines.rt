@@ -105,7 +105,7 @@ fn is_rule(alloc: Global, rule: Rule, text: &str) -> Result<bool, Fail> {
 }
 
 // The words of all rules.
-const RULES: [(Rule, &str); 35] = [
+const RULES: [(Rule, &str); 34] = [
     (Rule::Truncated, "truncated"),
     (Rule::EthShort, "eth-short"),
     (Rule::Ethertype, "ethertype"),
@@ -140,7 +140,6 @@ const RULES: [(Rule, &str); 35] = [
     (Rule::OwnAddress, "self"),
     (Rule::DestLogin, "dest-login"),
     (Rule::Zone, "zone"),
-    (Rule::NotBuilt, "not-built"),
 ];
 
 #[test]

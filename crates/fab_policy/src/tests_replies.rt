@@ -1,11 +1,13 @@
 //! The frames that answer requests and solicitations.
-use crate::tests_heard::{ASK, SOLICIT, settings};
+use crate::tests_heard::settings;
 use crate::*;
-use fab_base::{Bytes, Caught};
-use std::alloc::Global;
+use fab_base::Mac;
 use std::test::Fail;
 
-// The notification that answers the request.
+// The node that asks.
+const NODE: Mac = Mac([0x00, 0x1b, 0x21, 0x00, 0x00, 0x0a]);
+
+// The notification that answers a request without a tag.
 const TELL: [u8; 60] = [
     0x00, 0x1b, 0x21, 0x00, 0x00, 0x0a, 0x00, 0x05, 0x1e, 0x00, 0x00, 0x02, 0x89, 0x14, 0x10, 0x00,
     0x00, 0x04, 0x00, 0x02, 0x00, 0x03, 0x00, 0x00, 0x02, 0x02, 0x00, 0x05, 0x1e, 0x00, 0x00, 0x02,
@@ -13,15 +15,7 @@ const TELL: [u8; 60] = [
     0x00, 0x00, 0x00, 0x00, 0x00, 0x00, 0x00, 0x00, 0x00, 0x00, 0x00, 0x00,
 ];
 
-// The same request with the tag of VLAN 100.
-const TAGGED_ASK: [u8; 60] = [
-    0x01, 0x10, 0x18, 0x01, 0x00, 0x02, 0x00, 0x1b, 0x21, 0x00, 0x00, 0x0a, 0x81, 0x00, 0x00, 0x64,
-    0x89, 0x14, 0x10, 0x00, 0x00, 0x04, 0x00, 0x01, 0x00, 0x02, 0x00, 0x00, 0x02, 0x02, 0x00, 0x1b,
-    0x21, 0x00, 0x00, 0x0a, 0x00, 0x00, 0x00, 0x00, 0x00, 0x00, 0x00, 0x00, 0x00, 0x00, 0x00, 0x00,
-    0x00, 0x00, 0x00, 0x00, 0x00, 0x00, 0x00, 0x00, 0x00, 0x00, 0x00, 0x00,
-];
-
-// Its answer: priority 3 and VLAN 100.
+// The one that answers a request with a tag: priority 3 and VLAN 100.
 const TAGGED_TELL: [u8; 60] = [
     0x00, 0x1b, 0x21, 0x00, 0x00, 0x0a, 0x00, 0x05, 0x1e, 0x00, 0x00, 0x02, 0x81, 0x00, 0x60, 0x64,
     0x89, 0x14, 0x10, 0x00, 0x00, 0x04, 0x00, 0x02, 0x00, 0x03, 0x00, 0x00, 0x02, 0x02, 0x00, 0x05,
@@ -29,7 +23,7 @@ const TAGGED_TELL: [u8; 60] = [
     0x00, 0x00, 0x00, 0x00, 0x00, 0x00, 0x00, 0x00, 0x00, 0x00, 0x00, 0x00,
 ];
 
-// The advertisement that answers the solicitation, without zeros behind it.
+// The advertisement that answers a solicitation, without zeros behind it.
 const SOLICITED: [u8; 76] = [
     0x00, 0x1b, 0x21, 0x00, 0x00, 0x0a, 0x00, 0x05, 0x1e, 0x00, 0x00, 0x02, 0x81, 0x00, 0x60, 0x64,
     0x89, 0x14, 0x10, 0x00, 0x00, 0x01, 0x00, 0x02, 0x00, 0x0c, 0x80, 0x07, 0x01, 0x01, 0x00, 0x80,
@@ -38,31 +32,15 @@ const SOLICITED: [u8; 76] = [
     0x1e, 0x00, 0x00, 0x02, 0x0c, 0x02, 0x00, 0x00, 0x00, 0x00, 0x1f, 0x40,
 ];
 
-// What is appended to a byte for a frame.
-fn answer_to(alloc: Global, frame: &[u8]) -> Result<Vec<u8>, Fail> {
-    let config = settings(alloc)?;
-    let caught = Caught {
-        bytes: Bytes::copy(alloc, frame)?,
-        whole: true,
-    };
-    let mut out = Vec::new(alloc);
-    out.push(7)?;
-    match judge(&config, &hear(&caught)) {
-        Verdict::Vlans => write_vlan_notice(alloc, &config, &caught, &mut out)?,
-        Verdict::Advertised => write_solicited(alloc, &config, &caught, &mut out)?,
-        _ => return Err("the frame is answered".into()),
-    }
-    Ok(out)
-}
-
 #[test]
-fn requests_are_answered_in_their_way(rt: HostRuntime) -> Result<(), Fail> {
-    let mut priority = TAGGED_ASK;
-    priority[14] = 0x60;
-    priority[15] = 0x00;
-    let rows = [(ASK, TELL), (TAGGED_ASK, TAGGED_TELL), (priority, TELL)];
-    for (frame, want) in rows {
-        let out = answer_to(rt.alloc(), &frame)?;
+fn notifications_have_the_tag_of_their_request(rt: HostRuntime) -> Result<(), Fail> {
+    let alloc = rt.alloc();
+    let config = settings(alloc)?;
+    let rows = [(true, TELL), (false, TAGGED_TELL)];
+    for (untagged, want) in rows {
+        let mut out = Vec::new(alloc);
+        out.push(7)?;
+        write_notice_to(alloc, &config, NODE, untagged, &mut out)?;
         assert_eq!(rt; out.first(), Some(&7));
         assert_eq!(rt; out.get(1..), Some(want.as_slice()));
     }
@@ -70,26 +48,27 @@ fn requests_are_answered_in_their_way(rt: HostRuntime) -> Result<(), Fail> {
 }
 
 #[test]
-fn solicitations_are_answered_in_their_size(rt: HostRuntime) -> Result<(), Fail> {
+fn advertisements_have_the_size_that_is_asked_for(rt: HostRuntime) -> Result<(), Fail> {
+    let alloc = rt.alloc();
+    let config = settings(alloc)?;
     // The size that is asked for, and the bytes of the whole answer.
     let rows = [
-        (0x08, 0x6e, 18 + 2158),
-        (0x00, 0x28, 18 + 58),
-        (0x00, 0x3a, 18 + 58),
-        (0x00, 0x3b, 18 + 59),
-        (0x00, 0x64, 18 + 100),
-        (0x0b, 0xb8, 18 + 2158),
+        (2158, 18 + 2158),
+        (40, 18 + 58),
+        (58, 18 + 58),
+        (59, 18 + 59),
+        (100, 18 + 100),
+        (3000, 18 + 2158),
     ];
-    for (high, low, want) in rows {
-        let mut frame = SOLICIT;
-        frame[50] = high;
-        frame[51] = low;
-        let out = answer_to(rt.alloc(), &frame)?;
+    for (size, want) in rows {
+        let mut out = Vec::new(alloc);
+        out.push(7)?;
+        write_advertisement_to(alloc, &config, NODE, size, &mut out)?;
         assert_eq!(rt; out.first(), Some(&7));
-        assert_eq!(rt; out.len(), 1 + want, "the size {high} {low}");
+        assert_eq!(rt; out.len(), 1 + want, "the size {size}");
         assert_eq!(rt; out.get(1..77), Some(SOLICITED.as_slice()));
         let zeros = out.iter().skip(77).all(|byte| *byte == 0);
-        assert!(rt; zeros, "the zeros of {high} {low}");
+        assert!(rt; zeros, "the zeros of {size}");
     }
     Ok(())
 }

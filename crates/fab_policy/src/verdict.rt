@@ -76,8 +76,6 @@ pub enum Rule {
     DestLogin,
     /// `zone`: No zone joins the two.
     Zone,
-    /// `not-built`: Its kind isn't built yet.
-    NotBuilt,
 }
 
 impl Rule {

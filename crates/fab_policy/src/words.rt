@@ -214,12 +214,11 @@ pub(crate) fn rule_text(rule: Rule) -> &'static str
         Rule::OwnAddress => "self",
         Rule::DestLogin => "dest-login",
         Rule::Zone => "zone",
-        Rule::NotBuilt => "not-built",
     }
 }
 
 /// All rules.
-static RULES: [Rule; 35] = [
+static RULES: [Rule; 34] = [
     Rule::Truncated,
     Rule::EthShort,
     Rule::Ethertype,
@@ -254,7 +253,6 @@ static RULES: [Rule; 35] = [
     Rule::OwnAddress,
     Rule::DestLogin,
     Rule::Zone,
-    Rule::NotBuilt,
 ];
 
 /// The rule of a word.

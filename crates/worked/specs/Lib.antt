@@ -40,7 +40,7 @@ pub mod Services
 pub mod Stops
 pub mod Typed
 pub mod Watch
-pub mod NotBuilt
+pub mod Strangers
 pub mod TwoPorts
 pub mod Fields
 pub mod Ranges

@@ -11,7 +11,6 @@ use Rattle.fab_policy.specs.Heard as heard
 use Rattle.fab_policy.specs.Legal as legal
 use Rattle.fab_policy.specs.Outputs as outs
 use Rattle.fab_policy.specs.Rules as rules
-use Rattle.fab_policy.specs.SoFar.Stage as stage
 use Rattle.fab_policy.specs.Text as text
 use Rattle.fab_policy.specs.Verdicts as verdicts
 use Rattle.fab_policy.specs.declared.event.Event.TheVariants.{Tick, Frame}
@@ -90,8 +89,8 @@ no_port_3 h = omega (arith, h.2)
 
 -- ---- the run
 
-pub run : stage.RunSoFar K (requests ∷ [] ∷ []) J
-unfolding stage.judged_so_far verdicts.judged rules.rule_for heard.decoded eth.decoded reading.decoded legal.is_tick_owed
+pub run : legal.Run K (requests ∷ [] ∷ []) J
+unfolding verdicts.judged rules.rule_for heard.decoded eth.decoded reading.decoded legal.is_tick_owed
 run = record {
   ports = ((tt, lit≤ tt, lit≤ tt), lit≤ tt, lit≤ tt);
   frames = (refl, (refl, tt));

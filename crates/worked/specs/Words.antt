@@ -35,8 +35,8 @@ pub rules_of_fip : drops (rule.Truncated ∷ rule.EthShort ∷ rule.Ethertype �
 unfolding fmt.digits
 rules_of_fip = refl
 
-pub rules_of_fcoe : drops (rule.FcoeLength ∷ rule.FcoeVersion ∷ rule.FcoeSof ∷ rule.FcoeEof ∷ rule.FcoeCrc ∷ rule.FcoeClass ∷ rule.FcoeDest ∷ rule.SourceMac ∷ rule.SourceLogin ∷ rule.SourcePort ∷ rule.ServiceAddress ∷ rule.ServiceFrame ∷ rule.CtShort ∷ rule.OwnAddress ∷ rule.DestLogin ∷ rule.Zone ∷ rule.NotBuilt ∷ []) ≡
-    codes "dropped fcoe-length\ndropped fcoe-version\ndropped fcoe-sof\ndropped fcoe-eof\ndropped fcoe-crc\ndropped fcoe-class\ndropped fcoe-dest\ndropped source-mac\ndropped source-login\ndropped source-port\ndropped service-address\ndropped service-frame\ndropped ct-short\ndropped self\ndropped dest-login\ndropped zone\ndropped not-built\n"
+pub rules_of_fcoe : drops (rule.FcoeLength ∷ rule.FcoeVersion ∷ rule.FcoeSof ∷ rule.FcoeEof ∷ rule.FcoeCrc ∷ rule.FcoeClass ∷ rule.FcoeDest ∷ rule.SourceMac ∷ rule.SourceLogin ∷ rule.SourcePort ∷ rule.ServiceAddress ∷ rule.ServiceFrame ∷ rule.CtShort ∷ rule.OwnAddress ∷ rule.DestLogin ∷ rule.Zone ∷ []) ≡
+    codes "dropped fcoe-length\ndropped fcoe-version\ndropped fcoe-sof\ndropped fcoe-eof\ndropped fcoe-crc\ndropped fcoe-class\ndropped fcoe-dest\ndropped source-mac\ndropped source-login\ndropped source-port\ndropped service-address\ndropped service-frame\ndropped ct-short\ndropped self\ndropped dest-login\ndropped zone\n"
 unfolding fmt.digits
 rules_of_fcoe = refl
 

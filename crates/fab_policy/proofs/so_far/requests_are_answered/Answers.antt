@@ -1,6 +1,0 @@
--- The law is a lemma in each direction.
-use Rattle.fab_policy.proofs.LawLemmas.{request_means, request_from}
-use Rattle.fab_policy.proofs.so_far.requests_are_answered.Goals as goal
-
-pub returns : goal.returns
-returns c = λ s caught bytes. (request_means s caught bytes, request_from s caught)

@@ -1,6 +1,0 @@
--- The law is a lemma in each direction.
-use Rattle.fab_policy.proofs.LawLemmas.{solicitation_means, solicitation_from}
-use Rattle.fab_policy.proofs.so_far.solicitations_are_answered.Goals as goal
-
-pub returns : goal.returns
-returns c = λ s caught bytes. (solicitation_means s caught bytes, solicitation_from s caught)
