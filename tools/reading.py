@@ -142,7 +142,26 @@ FIP = {
     (4, 2): "VLAN notification",
 }
 LOGINS = {7: "FLOGI", 8: "FDISC", 9: "LOGO"}
-ELS = {0x01: "LS_RJT", 0x02: "LS_ACC", 0x03: "PLOGI", 0x04: "FLOGI", 0x05: "LOGO", 0x20: "PRLI", 0x21: "PRLO", 0x51: "FDISC", 0x52: "ADISC", 0x61: "RSCN", 0x62: "SCR"}
+ELS = {
+    0x01: "LS_RJT",
+    0x02: "LS_ACC",
+    0x03: "PLOGI",
+    0x04: "FLOGI",
+    0x05: "LOGO",
+    0x0E: "RTV",
+    0x0F: "RLS",
+    0x10: "ECHO",
+    0x11: "TEST",
+    0x12: "RRQ",
+    0x13: "REC",
+    0x20: "PRLI",
+    0x21: "PRLO",
+    0x50: "PDISC",
+    0x51: "FDISC",
+    0x52: "ADISC",
+    0x61: "RSCN",
+    0x62: "SCR",
+}
 CT = {
     0x0100: "GA_NXT",
     0x0112: "GPN_ID",
@@ -163,6 +182,7 @@ CT = {
     0x8001: "CT reject",
     0x8002: "CT accept",
 }
+BLS = {0x80: "NOP", 0x81: "ABTS", 0x84: "BA_ACC", 0x85: "BA_RJT"}
 FCP = {0x06: "FCP_CMND", 0x05: "FCP_XFER_RDY", 0x01: "FCP_DATA", 0x07: "FCP_RSP"}
 
 
@@ -208,6 +228,8 @@ def fcoe_kind(body):
         return "FCoE"
     head, payload = body[14:38], body[38:-8]
     r_ctl, kind = head[0], head[8]
+    if kind == 0x00:
+        return BLS.get(r_ctl, "BLS")
     if kind == 0x01:
         return ELS.get(payload[0], "ELS") if payload else "ELS"
     if kind == 0x20:
