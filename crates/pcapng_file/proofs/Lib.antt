@@ -5,3 +5,4 @@ pub mod GoingLemmas
 pub mod LawLemmas
 pub mod BackLemmas
 pub mod ConvertLemmas
+pub mod PassingLemmas

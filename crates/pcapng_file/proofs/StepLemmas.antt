@@ -1,11 +1,11 @@
 -- The next block, by what its buffers hold.
 use Rattle.std.proofs.Common.{◌≡◌, ℕ, ◌+◌, ◌-◌, ◌<◌, ◌≤◌, Bool, true, false, IsTrue, ◌&&◌, if◌then◌else◌, eqb, ltb, List, [], ◌++◌, length, length-append, take, drop, append_assoc, Option, Some, None, Ok, Err, refl, sym, ap, ◌∙◌, subst, arith}
-use Rattle.std.specs.Prelude.{Result, is_some}
+use Rattle.std.specs.Prelude.{Result, is_some, IfOk, MatchOption}
 use Rattle.std.proofs.lemmas.Bool.{lt-ltb, le-ltb, eqb-true, ne_eqb}
 use Rattle.std.proofs.lemmas.List.{take_at, drop_at}
 use Rattle.fab_base.specs.Seen.{Seen, Reads, Rose}
 use Rattle.fab_base.specs.declared.values.Failed.{Failed}
-use Rattle.fab_base.proofs.Depots.{reads_trans, input_name, told_stays}
+use Rattle.fab_base.proofs.Depots.{reads_trans, input_name, told_stays, rose_later}
 use Rattle.pcap_file.specs.declared.Budget.{Budget}
 use Rattle.pcap_file.specs.Reading.{Pulls}
 use Rattle.pcap_file.proofs.lemmas.Buffers.{front_is, short_is}
@@ -19,6 +19,7 @@ use Rattle.pcapng_file.specs.declared.packet.Content.{Content}
 use Rattle.pcapng_file.specs.declared.reading.Block.{Block}
 use Rattle.pcapng_file.specs.Block.{head_read, body_read}
 use Rattle.pcapng_file.specs.File.{Section, at_fault, and_then, frames_of, counted, step_in, step_of, found, AreKept, Tells, NotRead, BlockRead}
+use Rattle.pcapng_file.specs.Passing.{PassesOver}
 
 -- ---- the step by its tests
 
@@ -43,7 +44,7 @@ module _ (budget : Budget) (at : ℕ) (s : Section) (l : List ℕ) where
     more_than_none : eqb (length l) 0 ≡ false
     more_than_none = ne_eqb (length l) 0 (λ e. omega arith)
 
-    step_head : (head : Result Head NgWhy) → head_read s.order (take 12 l) ≡ head → step_of budget at s l ≡ and_then (at_fault at head) (step_in budget at s.faces l)
+    pub step_head : (head : Result Head NgWhy) → head_read s.order (take 12 l) ≡ head → step_of budget at s l ≡ and_then (at_fault at head) (step_in budget at s.faces l)
     step_head head is = step_is budget at s l ∙ (λ i. ladder (more_than_none i && is_some s.order) (le-ltb (length l) 12 le i) at (is i) (step_in budget at s.faces l))
 
     pub step_bad : (fault : NgWhy) → head_read s.order (take 12 l) ≡ Err fault → step_of budget at s l ≡ Err (errors.Fault at fault)
@@ -76,6 +77,22 @@ no_cause n m e own f is = let same : e ≡ errors.Read f = cc in absurd (subst N
 pub both_left : (x y : Bool) → (x && y) ≡ true → x ≡ true
 both_left true y e = refl
 both_left false y e = e
+
+-- what a block leaves that goes by, which is none of the ends of a file
+passed_behind : (all left : List ℕ) (result : Result (Option Block) NgError) → IfOk result (λ o. MatchOption o ⊥ (λ k. (k.size ≤ length all) × (left ≡ drop k.size all))) → IfOk result (λ o. MatchOption o (all ≡ []) (λ k. (k.size ≤ length all) × (left ≡ drop k.size all)))
+passed_behind all left (Ok (Some k)) is = is
+passed_behind all left (Ok None) is = absurd is
+passed_behind all left (Err e) is = tt
+
+passed_ends : (left : List ℕ) (size : ℕ) (result : Result (Option Block) NgError) → IfOk result (λ o. MatchOption o ⊥ (λ k. (k.size ≡ size) × (frames_of k.content ≡ 0) × AreKept (found k.content))) → IfOk result (λ o. MatchOption o (left ≡ []) (λ k. Unit {0}))
+passed_ends left size (Ok (Some k)) is = tt
+passed_ends left size (Ok None) is = absurd is
+passed_ends left size (Err e) is = tt
+
+passed_fits : (size : ℕ) (budget : Budget) → 12 ≤ size → size ≤ budget.bytes → (result : Result (Option Block) NgError) → IfOk result (λ o. MatchOption o ⊥ (λ k. (k.size ≡ size) × (frames_of k.content ≡ 0) × AreKept (found k.content))) → IfOk result (λ o. MatchOption o (Unit {0}) (λ k. (12 ≤ k.size) × (k.size ≤ budget.bytes) × (frames_of k.content ≤ budget.frames) × AreKept (found k.content)))
+passed_fits size budget least room (Ok (Some k)) is = (omega (arith, is.0), omega (arith, is.0), omega (arith, is.1), is.2)
+passed_fits size budget least room (Ok None) is = absurd is
+passed_fits size budget least room (Err e) is = tt
 
 module _ (slot : ℕ) (a b : Seen) (held mid front : List ℕ) (n : ℕ) (budget : Budget) (at : ℕ) (s : Section) (sized : length front ≡ 12) (first : Pulls slot front held mid a b (Ok n)) where
   pub block_end : (eqb n 0 && is_some s.order) ≡ true → BlockRead slot a b held mid budget at s (Ok None)
@@ -138,6 +155,20 @@ module _ (slot : ℕ) (a b : Seen) (held mid front : List ℕ) (n : ℕ) (budget
         fits = tt;
         cause = no_cause _ _ (errors.Limit limits.Bytes) tt;
       }
+
+      -- a block that goes by
+      pub block_passed : (c : Seen) (rest : List ℕ) → IsTrue (a.input slot) → h.size ≤ budget.bytes → 12 ≤ h.size → (result : Result (Option Block) NgError) → PassesOver slot b c mid rest front h at result → BlockRead slot a c held rest budget at s result
+      block_passed c rest is_in room least result p =
+          let same : b.name slot ≡ a.name slot = input_name (a.name slot) a b first.reads.keeps slot is_in in
+          let still : IsTrue a.told → IsTrue b.told = told_stays (a.name slot) a b first.reads.keeps in
+          record {
+            reads = reads_trans (a.name slot) a b c first.reads (subst (λ m. Reads m b c) same p.reads);
+            tells = λ told. subst (λ x. Tells {A = Option Block} x result) (sym (step_head budget at s (held ++ a.left slot) (omega (arith, long told)) (Ok h) (head_is told) ∙ ap (λ l. step_in budget at s.faces l h) (whole told))) (p.tells (still told) budget s.faces room);
+            behind = λ told. passed_behind (held ++ a.left slot) (rest ++ c.left slot) result (subst (λ l. IfOk result (λ o. MatchOption o ⊥ (λ k. (k.size ≤ length l) × (rest ++ c.left slot ≡ drop k.size l)))) (sym (whole told)) (p.behind (still told)));
+            ended = λ told. passed_ends (rest ++ c.left slot) h.size result p.fits;
+            fits = passed_fits h.size budget least room result p.fits;
+            cause = λ f is. rose_later _ _ _ first.reads.keeps.reads_rise (subst (λ m. Rose (b.read_faults m) (c.read_faults m)) same (p.cause f is));
+          }
 
       module _ (c : Seen) (rest body : List ℕ) (is_in : IsTrue (a.input slot)) (room : h.size ≤ budget.bytes) (least : 12 ≤ h.size) (sized_body : length body ≡ h.size - 12) where
         same : b.name slot ≡ a.name slot

@@ -2,3 +2,4 @@ pub mod Block
 pub mod File
 pub mod Laws
 pub mod Classic
+pub mod Passing

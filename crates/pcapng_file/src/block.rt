@@ -1,5 +1,5 @@
 //! The head of a block, and what blocks other than packets say.
-ghost use Rattle.std.specs.Prelude.{◌≡◌, ◌≤◌, ◌<◌, ◌+◌, ◌^◌, length, IfOk};
+ghost use Rattle.std.specs.Prelude.{◌≡◌, ◌≤◌, ◌<◌, ◌+◌, ◌%◌, ◌^◌, length, IfOk};
 ghost use Rattle.pcapng_file.specs.Block.{kind_of, order_of, magic_of, named, least, head_read};
 ghost use Rattle.pcapng_file.specs.Block.{is_header, interface_read, version_read};
 
@@ -45,6 +45,7 @@ pub(crate) fn read_head(order: Option<bool>, bytes: &[u8]) -> Result<Head, NgWhy
     requires { 12 ≤ length bytes.now }
     ensures exact { result ≡ head_read order bytes.now }
     ensures least { IfOk result (λ h. (12 ≤ least h.kind) × (least h.kind ≤ h.size)) }
+    ensures fourths { IfOk result (λ h. h.size % 4 ≡ 0) }
 {
     let header = is_header(bytes);
     if order.is_none() && !header {

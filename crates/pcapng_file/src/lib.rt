@@ -7,6 +7,7 @@ mod fault;
 mod laws;
 mod options;
 mod packet;
+mod passing;
 mod reading;
 #[cfg(test)]
 mod tests;

@@ -4,9 +4,10 @@ ghost use Rattle.std.specs.Prelude.{length, IsTrue, OnOk, IfOk, Some, ◌==◌, 
 ghost use Rattle.pcapng_file.specs.File.{Section, NgReads, BlockRead, after, found, before_all};
 
 use crate::NgRecords;
-use crate::block::{HEAD, Interface, read_head};
+use crate::block::{HEAD, Interface, Kind, read_head};
 use crate::fault::{NgError, NgLimit, NgWhy, fault};
 use crate::packet::{Content, read_block};
+use crate::passing::pass_over;
 use fab_base::{Depot, NoMemory, OwnedList};
 use pcap_file::{Ahead, Budget};
 use std::alloc::{AllocError, Global};
@@ -151,6 +152,9 @@ fn next_block<D: Depot>(
     };
     if budget.bytes < head.size as u64 {
         return Err(NgError::Limit(NgLimit::Bytes));
+    }
+    if head.kind == Kind::Other {
+        return pass_over(depot, slot, ahead, &front, head, at);
     }
     let mut body = vec![in alloc; 0u8; head.size as usize - HEAD]?;
     match ahead.pull(depot, slot, &mut body) {

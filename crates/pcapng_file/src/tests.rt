@@ -6,6 +6,7 @@ use super::*;
 use fab_base::{Depot, Failed, MemDepot, word_at};
 use pcap_file::Budget;
 use std::alloc::{AllocError, Global};
+use std::process::Abort;
 use std::test::Fail;
 
 // A depot whose every slot is open, of which it tells nothing, and whose counts stand at their end.
@@ -259,6 +260,35 @@ fn sections_units_and_other_blocks(rt: HostRuntime) -> Result<(), Fail> {
 }
 
 #[test]
+fn a_block_of_another_kind_goes_by(rt: HostRuntime) -> Result<(), Fail> {
+    let alloc = rt.alloc();
+    let zeros = vec![in alloc; 0u8; 4096]?;
+    for (size, second, given, want) in [
+        (12u32, 12u32, 12usize, None),
+        (12, 16, 12, fault(92, NgWhy::Length)),
+        (16, 16, 16, None),
+        (16, 12, 16, fault(92, NgWhy::Length)),
+        (16, 16, 15, fault(92, NgWhy::Cut)),
+        (4096, 4096, 4096, None),
+        (4096, 4092, 4096, fault(92, NgWhy::Length)),
+        (4096, 4096, 4095, fault(92, NgWhy::Cut)),
+        (4096, 4096, 1000, fault(92, NgWhy::Cut)),
+        (4097, 4097, 4096, fault(92, NgWhy::Length)),
+    ] {
+        let mut bytes = joined(alloc, &[&SMALL, &[5, 0, 0, 0], &size.to_le_bytes()])?;
+        bytes.extend_from_slice(&zeros[..(size as usize).saturating_sub(12).min(4084)])?;
+        bytes.extend_from_slice(&second.to_le_bytes())?;
+        bytes.truncate(given.saturating_add(92));
+        for step in [7, 5000] {
+            let mut budget = AMPLE;
+            let found = read(alloc, &bytes, step, &mut budget).err();
+            assert_eq!(rt; found, want, "{size} {second} {given}");
+        }
+    }
+    Ok(())
+}
+
+#[test]
 fn a_packet_of_65536_bytes_is_too_long(rt: HostRuntime) -> Result<(), Fail> {
     let alloc = rt.alloc();
     for (stored, want) in [(65_535, None), (65_536, fault(56, NgWhy::Long))] {
@@ -283,9 +313,12 @@ fn a_packet_of_65536_bytes_is_too_long(rt: HostRuntime) -> Result<(), Fail> {
     Ok(())
 }
 
-#[test]
-fn a_file_is_converted(rt: HostRuntime) -> Result<(), Fail> {
-    let alloc = rt.alloc();
+// What a conversion of the small file answers under these limits, and what it wrote.
+fn converted(
+    rt: &impl Abort,
+    alloc: Global,
+    limits: Budget,
+) -> Result<(Result<u64, ConvertError>, Option<Vec<u8>>), Fail> {
     let mut depot = MemDepot::new(alloc)?;
     depot.store(alloc, "in", &SMALL)?;
     depot.know(alloc, "out")?;
@@ -295,18 +328,38 @@ fn a_file_is_converted(rt: HostRuntime) -> Result<(), Fail> {
     }
     assert!(rt; depot.knows_all(&words));
     assert_eq!(rt; words.len(), 2);
-    let count = convert(
-        alloc,
-        &mut depot,
-        word_at(&words, 0),
-        word_at(&words, 1),
-        AMPLE,
-    )?;
-    assert_eq!(rt; count, 1);
+    let from = word_at(&words, 0);
+    let answer = convert(alloc, &mut depot, from, word_at(&words, 1), limits);
+    match depot.content("out") {
+        Some(bytes) => Ok((answer, Some(joined(alloc, &[bytes])?))),
+        None => Ok((answer, None)),
+    }
+}
+
+#[test]
+fn a_file_is_converted(rt: HostRuntime) -> Result<(), Fail> {
+    let (answer, written) = converted(&rt, rt.alloc(), AMPLE)?;
+    assert_eq!(rt; answer, Ok(1));
     let capture = [
         0xd4, 0xc3, 0xb2, 0xa1, 2, 0, 4, 0, 0, 0, 0, 0, 0, 0, 0, 0, 0xff, 0xff, 0, 0, 1, 0, 0, 0,
         0, 0, 0, 0, 0xe8, 3, 0, 0, 4, 0, 0, 0, 5, 0, 0, 0, 1, 2, 3, 4,
     ];
-    assert_eq!(rt; depot.content("out"), Some(capture.as_slice()));
+    let written = written.ok_or("a capture")?;
+    assert_eq!(rt; written.as_slice(), capture.as_slice());
+    Ok(())
+}
+
+#[test]
+fn a_packet_past_the_limit_is_not_converted(rt: HostRuntime) -> Result<(), Fail> {
+    let limits = Budget {
+        bytes: 92,
+        frames: 0,
+    };
+    let (answer, written) = converted(&rt, rt.alloc(), limits)?;
+    assert_eq!(rt;
+        answer.err(),
+        Some(ConvertError::Input(NgError::Limit(NgLimit::Frames)))
+    );
+    assert!(rt; written.is_none());
     Ok(())
 }

@@ -5,7 +5,7 @@ use Rattle.pcapng_file.specs.declared.packet.Content.{Content}
 use Rattle.std.proofs.lemmas.List.{take_at}
 use Rattle.pcapng_file.specs.Block.{head_read, body_read}
 use Rattle.pcapng_file.specs.File.{Section, Tells, at_fault}
-use Rattle.pcapng_file.proofs.StepLemmas.{block_end, block_short, block_bad, block_bytes, block_cut, block_err, block_frames, block_done}
+use Rattle.pcapng_file.proofs.StepLemmas.{block_end, block_short, block_bad, block_bytes, block_passed, block_cut, block_err, block_frames, block_done}
 use Rattle.pcapng_file.proofs.reading.next_block.Goals as goal
 
 pub returns-then-is_end : goal.returns-then-is_end
@@ -26,6 +26,11 @@ returns-in-Err-read_head g c = rw c.fault-in-Err-read_head.ensures (record {
 pub returns-then-budget-head : goal.returns-then-budget-head
 returns-then-budget-head g c = record {
   reads = block_bytes c.args.slot _ _ _ _ c.pull.new.into c.in-Ok.got c.args.budget c.args.at c.args.section.now c.pull.auto.into c.in-Ok.ensures.pulls (omega arith) c.in-Ok-read_head.head (ap (λ (s : Section). head_read s.order c.pull.new.into) (sym c.section.view_is) ∙ sym c.in-Ok-read_head.ensures.exact) c.if-budget-head.true;
+}
+
+pub returns-then-eq : goal.returns-then-eq
+returns-then-eq g c = record {
+  reads = block_passed c.args.slot _ _ _ _ c.pull.new.into c.in-Ok.got c.args.budget c.args.at c.args.section.now c.pull.auto.into c.in-Ok.ensures.pulls (omega arith) c.in-Ok-read_head.head (ap (λ (s : Section). head_read s.order c.pull.new.into) (sym c.section.view_is) ∙ sym c.in-Ok-read_head.ensures.exact) _ c.pass_over.new.ahead c.requires.input c.if-budget-head.false (omega (arith, c.in-Ok-read_head.ensures.least)) c.pass_over.result c.pass_over.ensures.passes;
 }
 
 pub returns-then-got-len : goal.returns-then-got-len
