@@ -59,7 +59,8 @@ fn two<R: Threads + Wait + Sync>(rt: &R, alloc: Global, one: PortNo, other: Port
         { add_all(rt, shared, first, one) },
         move || -> Pass<Log>
             requires { IsPassOf shared.now second × IsIdle second × (second.port ≡ Some other) }
-            ensures { IsPassOf shared.entry.now result × IsIdle result × (result.port ≡ Some other) }
+            ensures { IsPassOf shared.entry.now result × IsIdle result
+                × (result.port ≡ Some other) }
         { add_all(rt, shared, second, other) },
     );
     lock.join(&mut root, first);

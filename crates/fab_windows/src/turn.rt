@@ -90,7 +90,8 @@ fn answer<D: Depot, G: Gate>(
     outs: &[u32],
     gate: &G,
 ) -> Result<Fabric, RunFault>
-    requires gathered { (s : Start) × (first : ℕ) × (ins : List of_gather.Input) × (left : of_captures.Budget)
+    requires gathered { (s : Start) × (first : ℕ) × (ins : List of_gather.Input)
+        × (left : of_captures.Budget)
         × Gathered (task_of s fabric.settings journal outs.now) window first fabric
         (D.seen depot.old) ins run.old.shelves.items left run.old.done }
     requires start { window % fabric.settings.window ≡ 0 }

@@ -35,7 +35,8 @@ fn assert_register(
     requires asker { IsSome (entry_at asker registry.old.entries) }
     requires registration { is_registration (view ask.now) ≡ true }
     requires size { CanWrite (view ask.now) }
-    ensures { (a : ℕ) → is_some (entry_at a registry.new.entries) ≡ is_some (entry_at a registry.old.entries) }
+    ensures { (a : ℕ) → is_some (entry_at a registry.new.entries)
+        ≡ is_some (entry_at a registry.old.entries) }
 {
     let refusal = registry.refusal(asker, ask);
     let noticed = registry.is_noticed(asker, ask);

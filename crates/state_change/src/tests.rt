@@ -1,4 +1,5 @@
-//! Three watchers over two zones, of which a zone set has one from moment 1000 on and another has the other from 5000 on.
+//! Three watchers over two zones, of which a zone set has one from moment 1000 on and another has
+//! the other from 5000 on.
 use crate::Watchers;
 use fab_base::{Bytes, FcId, Moment, NoMemory, Wwn};
 use fab_config::{

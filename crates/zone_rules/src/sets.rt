@@ -27,7 +27,8 @@ pub(crate) fn rows_of_sets(alloc: Global, sets: &SetList, zones: usize) -> Resul
 
 // The row of these places, as far as there are zones.
 fn row_of_places(alloc: Global, places: &PlaceList, zones: usize) -> Result<Row, NoMemory>
-    ensures { IfOk result (λ row. (q : ℕ) → q < zones → has row.items q ≡ spec.contains q places.now) }
+    ensures { IfOk result (λ row. (q : ℕ) → q < zones
+        → has row.items q ≡ spec.contains q places.now) }
 {
     let mut row = Vec::new(alloc);
     for index in 0..places.len() {
