@@ -20,6 +20,13 @@ use Rattle.pcapng_file.specs.declared.reading.Block.{Block}
 use Rattle.pcapng_file.specs.Block.{head_read, body_read}
 use Rattle.pcapng_file.specs.File.{Section, at_fault, and_then, frames_of, counted, step_in, step_of, found, AreKept, Tells, NotRead, BlockRead}
 use Rattle.pcapng_file.specs.Passing.{PassesOver}
+use Rattle.std.specs.Result.{IsErrAnd}
+
+-- a block that ends in an error, in a result that hands it on
+pub handed_on : {slot : ℕ} {a b : Seen} {held rest : List ℕ} {budget : Budget} {at : ℕ} {s : Section} (r : Result (Option Block) NgError) (e : NgError) → IsErrAnd r (λ x. x ≡ e) →
+    BlockRead slot a b held rest budget at s (Err e) → BlockRead slot a b held rest budget at s r
+handed_on {slot} {a} {b} {held} {rest} {budget} {at} {s} (Ok t) e h p = absurd h
+handed_on {slot} {a} {b} {held} {rest} {budget} {at} {s} (Err x) e h p = subst (λ y. BlockRead slot a b held rest budget at s (Err y)) (sym h) p
 
 -- ---- the step by its tests
 

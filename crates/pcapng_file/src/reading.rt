@@ -166,17 +166,12 @@ fn next_block<D: Depot>(
         Err(failed) => return Err(NgError::Read(failed)),
     }
     let block = joined(alloc, &front, &body)?;
-    let content = match read_block(alloc, at, head, &section.faces, &block) {
-        Ok(content) => content,
-        Err(error) => return Err(error),
-    };
+    let content = read_block(alloc, at, head, &section.faces, &block)?;
     if budget.frames < content.frames() {
         return Err(NgError::Limit(NgLimit::Frames));
     }
-    Ok(Some(Block {
-        size: head.size,
-        content,
-    }))
+    let size = head.size;
+    Ok(Some(Block { size, content }))
 }
 
 // Whether a file ends where so many bytes of a block are left: between two blocks of a section.
