@@ -175,6 +175,12 @@ with_number d Period n = changed (set_once d.period n) (λ x. record d { period 
 with_number d Window n = changed (set_once d.window n) (λ x. record d { window = x })
 with_number d Logins n = changed (set_once d.limit n) (λ x. record d { limit = x })
 
+-- whether a key names no zones
+abbrev pub takes_value : Keyword → Bool
+takes_value Zones = false
+takes_value Sets = false
+takes_value k = true
+
 -- what one more line says, by its key, one a row
 abbrev pub with_keyword : Draft → Keyword → List (List ℕ) → Result Draft ConfigWhy
 with_keyword d FcfMac values = changed (set_once d.fcf_mac (only station values)) (λ x. record d { fcf_mac = x })

@@ -16,6 +16,10 @@ Tells line.Memory r = Unit {0}
 abbrev pub Answers : {X : Type 0} → Result X LineError → Result X ConfigWhy → Type 0
 Answers result r = MatchResult result (λ x. r ≡ Ok x) (λ e. Tells e r)
 
+-- the same of what a change leaves
+abbrev pub Leaves : {X : Type 0} → X → Result (Unit {0}) LineError → Result X ConfigWhy → Type 0
+Leaves left result r = MatchResult result (λ u. r ≡ Ok left) (λ e. Tells e r)
+
 -- the same of a whole text
 abbrev pub TellsText : {X : Type 0} → ConfigError → Result X ConfigFault → Type 0
 TellsText (text.Fault fault) r = r ≡ Err fault

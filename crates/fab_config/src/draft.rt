@@ -1,13 +1,13 @@
 //! What the lines of a text say so far.
-ghost use Rattle.std.specs.Prelude.{◌≡◌, ◌<◌, ◌^◌, Ok, IfOk, unwrap_or};
+ghost use Rattle.std.specs.Prelude.{◌≡◌, ◌<◌, ◌^◌, Ok, IfErr, IfNone, IfOk, IfSome, true, unwrap_or};
 ghost use Rattle.fab_config.specs.Lines.{words};
 ghost use Rattle.fab_config.specs.Text as spec;
-ghost use Rattle.fab_config.specs.Told.{Answers};
+ghost use Rattle.fab_config.specs.Told.{Answers, Leaves, Tells};
 ghost use Rattle.fab_config.specs.Fitting.{Fits};
 
 use crate::hexes::{only_fc_map, only_name, only_station};
 use crate::keyword::{Keyword, NumberKey, keyword_of};
-use crate::named::{NamedSets, NamedZones, with_activation, with_set, with_zone};
+use crate::named::{NamedSets, NamedZones, put_activation, with_set, with_zone};
 use crate::numbers::only_number;
 use crate::reading::LineError;
 use crate::words::{is_ascii, is_skipped, next_word};
@@ -56,22 +56,12 @@ impl Draft {
     }
 
     /// What is said with one more line.
-    #[tactic(auto, unfolding(crate::specs::Text::line_read))]
     pub(crate) fn with_line(self, alloc: Global, line: &[u8]) -> Result<Draft, LineError>
         ensures { Answers result (spec.line_read self line.now) }
     {
-        if is_skipped(line) {
-            return Ok(self);
-        }
-        if !is_ascii(line) {
-            return Err(LineError::Fault(ConfigWhy::Ascii));
-        }
-        let Some((word, values)) = next_word(line) else {
-            return Err(LineError::Fault(ConfigWhy::Key));
-        };
-        match keyword_of(word) {
-            Some(keyword) => self.with(alloc, keyword, values),
-            None => Err(LineError::Fault(ConfigWhy::Key)),
+        match key_and_values(line)? {
+            Some((keyword, values)) => self.with(alloc, keyword, values),
+            None => Ok(self),
         }
     }
 
@@ -80,78 +70,57 @@ impl Draft {
         ensures { Answers result (spec.with_keyword self keyword (words values.now)) }
     {
         match keyword {
-            Keyword::FcfMac => self.with_fcf_mac(values),
-            Keyword::Switch => self.with_switch(values),
-            Keyword::FcMap => self.with_map(values),
-            Keyword::Number(key) => self.with_number(key, values),
             Keyword::Zones => self.with_zone(alloc, values),
             Keyword::Sets => self.with_set(alloc, values),
-            Keyword::Activations => self.with_activation(alloc, values),
+            _ => self.with_value(alloc, keyword, values),
         }
     }
 
-    fn with_fcf_mac(self, values: &[u8]) -> Result<Draft, LineError>
-        ensures { Answers result (spec.with_keyword self Keyword.FcfMac (words values.now)) }
+    // With what a key says that names no zones.
+    fn with_value(self, alloc: Global, keyword: Keyword, values: &[u8]) -> Result<Draft, LineError>
+        requires { spec.takes_value keyword ≡ true }
+        ensures { Answers result (spec.with_keyword self keyword (words values.now)) }
     {
-        let fcf_mac = set_once(self.fcf_mac, only_station(values))?;
-        Ok(Draft { fcf_mac, ..self })
+        let mut draft = self;
+        draft.put_value(alloc, keyword, values)?;
+        Ok(draft)
     }
 
-    fn with_switch(self, values: &[u8]) -> Result<Draft, LineError>
-        ensures { Answers result (spec.with_keyword self Keyword.Switch (words values.now)) }
+    // Puts what a key says into its place.
+    fn put_value(&mut self, alloc: Global, keyword: Keyword, values: &[u8]) -> Result<(), LineError>
+        requires { spec.takes_value keyword ≡ true }
+        ensures { Leaves self.new result (spec.with_keyword self.old keyword (words values.now)) }
     {
-        let switch = set_once(self.switch, only_name(values))?;
-        Ok(Draft { switch, ..self })
+        match keyword {
+            Keyword::FcfMac => self.fcf_mac = set_once(self.fcf_mac, only_station(values))?,
+            Keyword::Switch => self.switch = set_once(self.switch, only_name(values))?,
+            Keyword::FcMap => self.map = set_once(self.map, only_fc_map(values))?,
+            Keyword::Number(key) => {
+                let (least, most) = key.range();
+                self.put_number(key, only_number(values, least, most))?;
+            }
+            Keyword::Activations => {
+                put_activation(&mut self.activations, alloc, &self.sets, values)?;
+            }
+            Keyword::Zones | Keyword::Sets => unreachable!(),
+        }
+        Ok(())
     }
 
-    fn with_map(self, values: &[u8]) -> Result<Draft, LineError>
-        ensures { Answers result (spec.with_keyword self Keyword.FcMap (words values.now)) }
-    {
-        let map = set_once(self.map, only_fc_map(values))?;
-        Ok(Draft { map, ..self })
-    }
-
-    fn with_number(self, key: NumberKey, values: &[u8]) -> Result<Draft, LineError>
-        ensures { Answers result (spec.with_keyword self (Keyword.Number key) (words values.now)) }
-    {
-        let (least, most) = key.range();
-        self.numbered(key, only_number(values, least, most))
-    }
-
-    // With a number under its key.
-    fn numbered(self, key: NumberKey, number: Option<u32>) -> Result<Draft, LineError>
-        ensures { Answers result (spec.with_number self key number) }
+    // Puts a number under its key.
+    fn put_number(&mut self, key: NumberKey, number: Option<u32>) -> Result<(), LineError>
+        ensures { Leaves self.new result (spec.with_number self.old key number) }
     {
         match key {
-            NumberKey::Vlan => {
-                let vlan = set_once(self.vlan, number)?;
-                Ok(Draft { vlan, ..self })
-            }
-            NumberKey::Domain => {
-                let domain = set_once(self.domain, number)?;
-                Ok(Draft { domain, ..self })
-            }
-            NumberKey::Pool => {
-                let pool = set_once(self.pool, number)?;
-                Ok(Draft { pool, ..self })
-            }
-            NumberKey::Priority => {
-                let priority = set_once(self.priority, number)?;
-                Ok(Draft { priority, ..self })
-            }
-            NumberKey::Period => {
-                let period = set_once(self.period, number)?;
-                Ok(Draft { period, ..self })
-            }
-            NumberKey::Window => {
-                let window = set_once(self.window, number)?;
-                Ok(Draft { window, ..self })
-            }
-            NumberKey::Logins => {
-                let limit = set_once(self.limit, number)?;
-                Ok(Draft { limit, ..self })
-            }
+            NumberKey::Vlan => self.vlan = set_once(self.vlan, number)?,
+            NumberKey::Domain => self.domain = set_once(self.domain, number)?,
+            NumberKey::Pool => self.pool = set_once(self.pool, number)?,
+            NumberKey::Priority => self.priority = set_once(self.priority, number)?,
+            NumberKey::Period => self.period = set_once(self.period, number)?,
+            NumberKey::Window => self.window = set_once(self.window, number)?,
+            NumberKey::Logins => self.limit = set_once(self.limit, number)?,
         }
+        Ok(())
     }
 
     fn with_zone(self, alloc: Global, values: &[u8]) -> Result<Draft, LineError>
@@ -166,16 +135,6 @@ impl Draft {
     {
         let sets = with_set(self.sets, alloc, &self.zones, values)?;
         Ok(Draft { sets, ..self })
-    }
-
-    fn with_activation(self, alloc: Global, values: &[u8]) -> Result<Draft, LineError>
-        ensures { Answers result (spec.with_keyword self Keyword.Activations (words values.now)) }
-    {
-        let activations = with_activation(self.activations, alloc, &self.sets, values)?;
-        Ok(Draft {
-            activations,
-            ..self
-        })
     }
 
     /// The configuration, with the defaults for what no line says, or none where a required key
@@ -224,6 +183,29 @@ fn switch_of(mac: &Mac) -> Wwn
 {
     let [a, b, c, d, e, f] = mac.0;
     Wwn(u64::from_be_bytes([0x10, 0, a, b, c, d, e, f]))
+}
+
+// The key and the values of a line, or none where it says nothing.
+#[tactic(auto, unfolding(crate::specs::Text::line_read))]
+fn key_and_values(line: &[u8]) -> Result<Option<(Keyword, &[u8])>, LineError>
+    ensures said { IfOk result (λ o. IfSome o (λ p. (d : Draft)
+        → spec.line_read d line.now ≡ spec.with_keyword d p.0 (words p.1.now))) }
+    ensures nothing { IfOk result (λ o. IfNone o ((d : Draft) → spec.line_read d line.now ≡ Ok d)) }
+    ensures fault { IfErr result (λ e. (d : Draft) → Tells e (spec.line_read d line.now)) }
+{
+    if is_skipped(line) {
+        return Ok(None);
+    }
+    if !is_ascii(line) {
+        return Err(LineError::Fault(ConfigWhy::Ascii));
+    }
+    let Some((word, values)) = next_word(line) else {
+        return Err(LineError::Fault(ConfigWhy::Key));
+    };
+    match keyword_of(word) {
+        Some(keyword) => Ok(Some((keyword, values))),
+        None => Err(LineError::Fault(ConfigWhy::Key)),
+    }
 }
 
 // The value of a key that stands once.

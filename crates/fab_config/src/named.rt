@@ -11,7 +11,7 @@ ghost use Rattle.fab_config.specs.Settings.{is_name_sign as is_name_sign_spec};
 ghost use Rattle.fab_config.specs.Text.{grown, zones_with, sets_with};
 ghost use Rattle.fab_config.specs.Text.{activations_with, activation, is_later as is_later_spec};
 ghost use Rattle.fab_config.specs.Text.{listed, listed_or_fault, zone_place};
-ghost use Rattle.fab_config.specs.Told.{Answers, Tells};
+ghost use Rattle.fab_config.specs.Told.{Answers, Leaves, Tells};
 
 use crate::hexes::read_name;
 use crate::index::{NameIndex, NumberIndex};
@@ -301,24 +301,25 @@ fn add_place(
     }
 }
 
-/// The activations with the one of a line with these values behind them.
+/// Puts the activation of a line with these values behind the others.
 #[tactic(auto, unfolding(crate::specs::Text::activations_with))]
-pub(crate) fn with_activation(
-    mut activations: ActivationList,
+pub(crate) fn put_activation(
+    activations: &mut ActivationList,
     alloc: Global,
     sets: &NamedSets,
     values: &[u8],
-) -> Result<ActivationList, LineError>
-    ensures { Answers result (activations_with sets.now activations (words values.now)) }
+) -> Result<(), LineError>
+    ensures { Leaves activations.new result
+        (activations_with sets.now activations.old (words values.now)) }
 {
-    let Some(activation) = read_activation(&activations, sets, values) else {
+    let Some(activation) = read_activation(activations, sets, values) else {
         return Err(LineError::Fault(ConfigWhy::Value));
     };
     if activations.len() >= MOST_ACTIVATIONS {
         return Err(LineError::Fault(ConfigWhy::Limit));
     }
     activations.push(alloc, activation)?;
-    Ok(activations)
+    Ok(())
 }
 
 // The activation of a line with these values.
