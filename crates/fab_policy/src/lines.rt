@@ -1,19 +1,26 @@
 //! The lines of a journal, written.
-ghost use Rattle.std.specs.Prelude.{◌≡◌, ◌++◌, ◌∷◌, [], ◌<◌, decimal, IfOk, OnOk, OnErr};
+ghost use Rattle.std.specs.Prelude.{◌≡◌, ◌++◌, ◌∷◌, ◌+◌, ◌≤◌, [], ◌<◌, length, decimal, IfOk, OnOk, OnErr};
 ghost use Rattle.fab_policy.specs.Spelling.{IsClockOf, EndsAscend};
 ghost use Rattle.fab_policy.specs.Text.{line, head_line, line1, frame_words, verdict_text};
 ghost use Rattle.fab_policy.specs.Text.{cause_text, then_word, address_word, address_words};
 ghost use Rattle.fab_policy.specs.Text.{code_word, LINE_FEED};
 ghost use Rattle.fab_base.specs.Texts.{hex_digit};
+ghost use Rattle.arrayvec.specs.ArrayVec.{array_vec_len};
 
 use crate::words::rule_text;
 use crate::{Dropped, Event, Verdict};
-use fab_base::{FcId, IdList, Moment, NoMemory, PortNo, address_text};
+use arrayvec::ArrayVec;
+use fab_base::{FcId, IdList, Moment, NoMemory, PortNo, address_text, append_made, put};
 use itoa::Buffer;
 use std::alloc::{AllocError, Global};
 
-/// Room for the line of a frame, so that its memory is asked for once.
-const LINE_ROOM: usize = 64;
+const FRAME_LINE: usize = 128;
+
+/// The line of a frame, made without memory: three numbers, a verdict of at most 48 bytes.
+type FrameLine = ArrayVec<u8, FRAME_LINE>;
+
+/// Room for the line of a tick that ends few logins, so that its memory is asked for once.
+const TICK_LINE: usize = 64;
 
 /// Appends the line that begins a journal of format 2.
 pub fn write_head_line(_alloc: Global, out: &mut Vec<u8>) -> Result<(), NoMemory>
@@ -36,18 +43,14 @@ pub fn write_line(
     ensures ok { OnOk result (out.new.items ≡ out.old.items ++ line clock event.now) }
     ensures err { OnErr result (out.new.items ≡ out.old.items) }
 {
-    let made = match event {
-        Event::Tick { ended, .. } => clocked_line_of_tick(alloc, clock, ended),
+    match event {
+        Event::Tick { ended, .. } => append_made(clocked_line_of_tick(alloc, clock, ended), out),
         Event::Frame {
             port,
             index,
             verdict,
             ..
-        } => clocked_line_of_frame(alloc, clock, *port, *index, verdict),
-    };
-    match made {
-        Ok(line) => append(&line, out),
-        Err(_) => Err(NoMemory),
+        } => append(&clocked_line_of_frame(clock, *port, *index, verdict), out),
     }
 }
 
@@ -78,15 +81,12 @@ pub fn write_tick_line(
         out.new.items ≡ out.old.items ++ line1 (Event.Tick moment ended.now)) }
     ensures err { OnErr result (out.new.items ≡ out.old.items) }
 {
-    let Ok(line) = line_of_tick(alloc, moment, ended) else {
-        return Err(NoMemory);
-    };
-    append(&line, out)
+    append_made(line_of_tick(alloc, moment, ended), out)
 }
 
 /// Appends the line of a frame's entry in format 1, as `1 0 vlans`.
 pub fn write_frame_line(
-    alloc: Global,
+    _alloc: Global,
     port: PortNo,
     index: u64,
     verdict: &Verdict,
@@ -96,10 +96,7 @@ pub fn write_frame_line(
         out.new.items ≡ out.old.items ++ (frame_words port index verdict.now ++ LINE_FEED ∷ [])) }
     ensures err { OnErr result (out.new.items ≡ out.old.items) }
 {
-    let Ok(line) = line_of_frame(alloc, port, index, verdict) else {
-        return Err(NoMemory);
-    };
-    append(&line, out)
+    append(&line_of_frame(port, index, verdict), out)
 }
 
 // All bytes, or none where memory is refused.
@@ -116,29 +113,10 @@ fn append(bytes: &[u8], out: &mut Vec<u8>) -> Result<(), NoMemory>
 fn clocked_line_of_tick(alloc: Global, clock: Moment, ended: &IdList) -> Result<Vec<u8>, AllocError>
     ensures { IfOk result (λ v. v.items ≡ line clock (Event.Tick clock ended.now)) }
 {
-    let mut line = Vec::with_capacity(alloc, LINE_ROOM)?;
-    write_digits(clock.0, &mut line)?;
+    let mut line = Vec::with_capacity(alloc, TICK_LINE)?;
+    line.extend_from_slice(Buffer::new().format(clock.0).as_bytes())?;
     line.extend_from_slice(b" tick")?;
     write_addresses(ended, &mut line)?;
-    line.extend_from_slice(b"\n")?;
-    Ok(line)
-}
-
-fn clocked_line_of_frame(
-    alloc: Global,
-    clock: Moment,
-    port: PortNo,
-    index: u64,
-    verdict: &Verdict,
-) -> Result<Vec<u8>, AllocError>
-    ensures { IfOk result (λ v.
-        v.items ≡ decimal clock ++ then_word (frame_words port index verdict.now)
-        ++ LINE_FEED ∷ []) }
-{
-    let mut line = Vec::with_capacity(alloc, LINE_ROOM)?;
-    write_digits(clock.0, &mut line)?;
-    line.extend_from_slice(b" ")?;
-    write_frame_words(port, index, verdict, &mut line)?;
     line.extend_from_slice(b"\n")?;
     Ok(line)
 }
@@ -146,41 +124,12 @@ fn clocked_line_of_frame(
 fn line_of_tick(alloc: Global, moment: Moment, ended: &IdList) -> Result<Vec<u8>, AllocError>
     ensures { IfOk result (λ v. v.items ≡ line1 (Event.Tick moment ended.now)) }
 {
-    let mut line = Vec::with_capacity(alloc, LINE_ROOM)?;
-    line.extend_from_slice(b"tick")?;
-    write_number(moment.0, &mut line)?;
+    let mut line = Vec::with_capacity(alloc, TICK_LINE)?;
+    line.extend_from_slice(b"tick ")?;
+    line.extend_from_slice(Buffer::new().format(moment.0).as_bytes())?;
     write_addresses(ended, &mut line)?;
     line.extend_from_slice(b"\n")?;
     Ok(line)
-}
-
-fn line_of_frame(
-    alloc: Global,
-    port: PortNo,
-    index: u64,
-    verdict: &Verdict,
-) -> Result<Vec<u8>, AllocError>
-    ensures { IfOk result (λ v. v.items ≡ frame_words port index verdict.now ++ LINE_FEED ∷ []) }
-{
-    let mut line = Vec::with_capacity(alloc, LINE_ROOM)?;
-    write_frame_words(port, index, verdict, &mut line)?;
-    line.extend_from_slice(b"\n")?;
-    Ok(line)
-}
-
-// The port, the index and the verdict of a frame.
-fn write_frame_words(
-    port: PortNo,
-    index: u64,
-    verdict: &Verdict,
-    line: &mut Vec<u8>,
-) -> Result<(), AllocError>
-    ensures { OnOk result (line.new.items ≡ line.old.items ++ frame_words port index verdict.now) }
-{
-    write_digits(u64::from(port.value()), line)?;
-    write_number(index, line)?;
-    line.extend_from_slice(b" ")?;
-    write_verdict(verdict, line)
 }
 
 // Each address after a space.
@@ -201,10 +150,63 @@ fn write_address(address: &FcId, line: &mut Vec<u8>) -> Result<(), AllocError>
     line.extend_from_slice(&address_text(address))
 }
 
-fn write_code(code: u8, line: &mut Vec<u8>) -> Result<(), AllocError>
-    ensures { OnOk result (line.new.items ≡ line.old.items ++ then_word (code_word code)) }
+fn clocked_line_of_frame(clock: Moment, port: PortNo, index: u64, verdict: &Verdict) -> FrameLine
+    ensures { result.items ≡ decimal clock ++ then_word (frame_words port index verdict.now)
+        ++ LINE_FEED ∷ [] }
 {
-    line.extend_from_slice(&[b' ', digit(code / 16 % 16), digit(code % 16)])
+    let mut line = ArrayVec::new();
+    put_digits(clock.0, &mut line);
+    put(&mut line, b" ");
+    put_frame_words(port, index, verdict, &mut line);
+    put(&mut line, b"\n");
+    line
+}
+
+fn line_of_frame(port: PortNo, index: u64, verdict: &Verdict) -> FrameLine
+    ensures { result.items ≡ frame_words port index verdict.now ++ LINE_FEED ∷ [] }
+{
+    let mut line = ArrayVec::new();
+    put_frame_words(port, index, verdict, &mut line);
+    put(&mut line, b"\n");
+    line
+}
+
+// The port, the index and the verdict of a frame: at most 90 bytes.
+fn put_frame_words(port: PortNo, index: u64, verdict: &Verdict, line: &mut FrameLine)
+    requires room { array_vec_len line.old + 90 ≤ FRAME_LINE }
+    ensures text { line.new.items ≡ line.old.items ++ frame_words port index verdict.now }
+    ensures size { array_vec_len line.new ≤ array_vec_len line.old + 90 }
+{
+    put_digits(u64::from(port.value()), line);
+    put_number(index, line);
+    put(line, b" ");
+    put_verdict(verdict, line);
+}
+
+// The digits of a number: at most 20 bytes.
+fn put_digits(number: u64, line: &mut FrameLine)
+    requires room { array_vec_len line.old + 20 ≤ FRAME_LINE }
+    ensures text { line.new.items ≡ line.old.items ++ decimal number }
+    ensures size { array_vec_len line.new ≤ array_vec_len line.old + 20 }
+{
+    put(line, Buffer::new().format(number).as_bytes());
+}
+
+fn put_number(number: u64, line: &mut FrameLine)
+    requires room { array_vec_len line.old + 21 ≤ FRAME_LINE }
+    ensures text { line.new.items ≡ line.old.items ++ then_word (decimal number) }
+    ensures size { array_vec_len line.new ≤ array_vec_len line.old + 21 }
+{
+    put(line, b" ");
+    put_digits(number, line);
+}
+
+fn put_code(code: u8, line: &mut FrameLine)
+    requires room { array_vec_len line.old + 3 ≤ FRAME_LINE }
+    ensures text { line.new.items ≡ line.old.items ++ then_word (code_word code) }
+    ensures size { array_vec_len line.new ≡ array_vec_len line.old + 3 }
+{
+    put(line, &[b' ', digit(code / 16 % 16), digit(code % 16)]);
 }
 
 fn digit(value: u8) -> u8
@@ -214,89 +216,78 @@ fn digit(value: u8) -> u8
     if value < 10 { 48 + value } else { 87 + value }
 }
 
-fn write_digits(number: u64, line: &mut Vec<u8>) -> Result<(), AllocError>
-    ensures { OnOk result (line.new.items ≡ line.old.items ++ decimal number) }
-{
-    line.extend_from_slice(Buffer::new().format(number).as_bytes())
-}
-
-fn write_number(number: u64, line: &mut Vec<u8>) -> Result<(), AllocError>
-    ensures { OnOk result (line.new.items ≡ line.old.items ++ then_word (decimal number)) }
-{
-    line.extend_from_slice(b" ")?;
-    write_digits(number, line)
-}
-
 // A word and an address.
-fn write_addressed(word: &str, address: &FcId, line: &mut Vec<u8>) -> Result<(), AllocError>
-    ensures { OnOk result (
-        line.new.items ≡ line.old.items ++ (word.now ++ then_word (address_word address.now))) }
+fn put_addressed(word: &str, address: &FcId, line: &mut FrameLine)
+    requires room { array_vec_len line.old + (length word.now + 7) ≤ FRAME_LINE }
+    ensures text { line.new.items ≡ line.old.items ++ (word.now ++ then_word (address_word address.now)) }
+    ensures size { array_vec_len line.new ≡ array_vec_len line.old + (length word.now + 7) }
 {
-    line.extend_from_slice(word.as_bytes())?;
-    write_address(address, line)
+    put(line, word.as_bytes());
+    put(line, b" ");
+    put(line, &address_text(address));
 }
 
 // A word and a number.
-fn write_numbered(word: &str, number: u32, line: &mut Vec<u8>) -> Result<(), AllocError>
-    ensures { OnOk result (
-        line.new.items ≡ line.old.items ++ (word.now ++ then_word (decimal number))) }
+fn put_numbered(word: &str, number: u32, line: &mut FrameLine)
+    requires room { array_vec_len line.old + (length word.now + 21) ≤ FRAME_LINE }
+    ensures text { line.new.items ≡ line.old.items ++ (word.now ++ then_word (decimal number)) }
+    ensures size { array_vec_len line.new ≤ array_vec_len line.old + (length word.now + 21) }
 {
-    line.extend_from_slice(word.as_bytes())?;
-    write_number(u64::from(number), line)
+    put(line, word.as_bytes());
+    put_number(u64::from(number), line);
 }
 
 // A word, a reason and an explanation.
-fn write_coded(
-    word: &str,
-    reason: u8,
-    explanation: u8,
-    line: &mut Vec<u8>,
-) -> Result<(), AllocError>
-    ensures { OnOk result (
-        line.new.items ≡ line.old.items
-        ++ (word.now ++ then_word (code_word reason) ++ then_word (code_word explanation))) }
+fn put_coded(word: &str, reason: u8, explanation: u8, line: &mut FrameLine)
+    requires room { array_vec_len line.old + (length word.now + 6) ≤ FRAME_LINE }
+    ensures text { line.new.items ≡ line.old.items
+        ++ (word.now ++ then_word (code_word reason) ++ then_word (code_word explanation)) }
+    ensures size { array_vec_len line.new ≡ array_vec_len line.old + (length word.now + 6) }
 {
-    line.extend_from_slice(word.as_bytes())?;
-    write_code(reason, line)?;
-    write_code(explanation, line)
+    put(line, word.as_bytes());
+    put_code(reason, line);
+    put_code(explanation, line);
 }
 
-fn write_verdict(verdict: &Verdict, line: &mut Vec<u8>) -> Result<(), AllocError>
-    ensures { OnOk result (line.new.items ≡ line.old.items ++ verdict_text verdict.now) }
+// A verdict: at most 48 bytes.
+fn put_verdict(verdict: &Verdict, line: &mut FrameLine)
+    requires room { array_vec_len line.old + 48 ≤ FRAME_LINE }
+    ensures text { line.new.items ≡ line.old.items ++ verdict_text verdict.now }
+    ensures size { array_vec_len line.new ≤ array_vec_len line.old + 48 }
 {
     match verdict {
-        Verdict::Vlans => line.extend_from_slice(b"vlans"),
-        Verdict::Advertised => line.extend_from_slice(b"advertised"),
-        Verdict::Granted(address) => write_addressed("granted", address, line),
+        Verdict::Vlans => put(line, b"vlans"),
+        Verdict::Advertised => put(line, b"advertised"),
+        Verdict::Granted(address) => put_addressed("granted", address, line),
         Verdict::Rejected(reason, explanation) => {
-            write_coded("rejected", *reason, *explanation, line)
+            put_coded("rejected", *reason, *explanation, line)
         }
-        Verdict::Logout(address) => write_addressed("logout", address, line),
-        Verdict::AliveNode => line.extend_from_slice(b"alive"),
-        Verdict::AlivePort(address) => write_addressed("alive", address, line),
-        Verdict::NsLogin => line.extend_from_slice(b"ns-login"),
-        Verdict::NsLogout => line.extend_from_slice(b"ns-logout"),
-        Verdict::Watching(function) => write_numbered("watching", u32::from(*function), line),
-        Verdict::Registered => line.extend_from_slice(b"registered"),
-        Verdict::Answered => line.extend_from_slice(b"answered"),
+        Verdict::Logout(address) => put_addressed("logout", address, line),
+        Verdict::AliveNode => put(line, b"alive"),
+        Verdict::AlivePort(address) => put_addressed("alive", address, line),
+        Verdict::NsLogin => put(line, b"ns-login"),
+        Verdict::NsLogout => put(line, b"ns-logout"),
+        Verdict::Watching(function) => put_numbered("watching", u32::from(*function), line),
+        Verdict::Registered => put(line, b"registered"),
+        Verdict::Answered => put(line, b"answered"),
         Verdict::Refused(reason, explanation) => {
-            write_coded("refused", *reason, *explanation, line)
+            put_coded("refused", *reason, *explanation, line)
         }
-        Verdict::Noted => line.extend_from_slice(b"noted"),
-        Verdict::Forwarded(port) => write_numbered("forwarded", port.value(), line),
-        Verdict::Dropped(dropped) => write_dropped(dropped, line),
+        Verdict::Noted => put(line, b"noted"),
+        Verdict::Forwarded(port) => put_numbered("forwarded", port.value(), line),
+        Verdict::Dropped(dropped) => put_dropped(dropped, line),
     }
 }
 
-// A rule, and its number where it has one.
-fn write_dropped(dropped: &Dropped, line: &mut Vec<u8>) -> Result<(), AllocError>
-    ensures { OnOk result (
-        line.new.items ≡ line.old.items ++ verdict_text (Verdict.Dropped dropped.now)) }
+// A rule, and its number where it has one: at most 48 bytes.
+fn put_dropped(dropped: &Dropped, line: &mut FrameLine)
+    requires room { array_vec_len line.old + 48 ≤ FRAME_LINE }
+    ensures text { line.new.items ≡ line.old.items ++ verdict_text (Verdict.Dropped dropped.now) }
+    ensures size { array_vec_len line.new ≤ array_vec_len line.old + 48 }
 {
-    line.extend_from_slice(b"dropped ")?;
-    line.extend_from_slice(rule_text(dropped.rule()).as_bytes())?;
-    match dropped.number() {
-        Some(number) => write_number(u64::from(number), line),
-        None => Ok(()),
+    put(line, b"dropped ");
+    put(line, rule_text(dropped.rule()).as_bytes());
+    if let Some(number) = dropped.number() {
+        put_number(u64::from(number), line);
     }
 }

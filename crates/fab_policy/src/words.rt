@@ -177,7 +177,8 @@ fn digit_value(byte: u8) -> Option<u32>
 
 /// The word of a rule.
 pub(crate) fn rule_text(rule: Rule) -> &'static str
-    ensures { result.now ≡ rule_word rule }
+    ensures word { result.now ≡ rule_word rule }
+    ensures short { length result.now ≤ 17 }
 {
     match rule {
         Rule::Truncated => "truncated",
