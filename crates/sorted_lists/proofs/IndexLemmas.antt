@@ -1,0 +1,173 @@
+-- An index stays one, when a record and its entry are taken out, put in, or changed together.
+use Rattle.std.proofs.Common.{◌≡◌, ◌≢◌, ℕ, ◌+◌, ◌<◌, ◌≤◌, ◌==◌, Bool, true, false, cond, if◌then◌else◌, List, [], ◌∷◌, length, Option, Some, None, is_some, option_map, ◌⊎◌, inl, inr, refl, sym, ◌∙◌, ap, subst, arith}
+use Rattle.std.proofs.lemmas.Bool.Decides.{nat_tests}
+use Rattle.std.proofs.lemmas.List.{length-map}
+use Rattle.fab_base.specs.Keyed.{item_at, AscendFrom, added, without, changed_if, changed, KeysDiffer}
+use Rattle.fab_base.proofs.KeyedLemmas as keyed
+use Rattle.fab_base.proofs.SamenessLemmas.{found_passes, length-all_but, sameness_of_numbers}
+use Rattle.sorted_lists.specs.Index.{IsIndex}
+
+none_some : {X : Type 0} (x : X) → None ≡ Some x → ⊥
+none_some x e = cc
+
+some_same : {X : Type 0} (x y : X) → Some x ≡ Some y → x ≡ y
+some_same x y e = cc
+
+equal : (m n : ℕ) → (m == n) ≡ true → m ≡ n
+equal m n e = grind (arith, nat_tests)
+
+unequal : (m n : ℕ) → (m == n) ≡ false → m ≢ n
+unequal m n e = grind (arith, nat_tests)
+
+differs : (m n : ℕ) → m ≢ n → (m == n) ≡ false
+differs m n ne = grind (arith, nat_tests)
+
+same : (n : ℕ) → (n == n) ≡ true
+same n = grind (arith, nat_tests)
+
+module _ {X : Type 0} (key : X → ℕ) where
+  -- the item at a key has it
+  pub key_found : (n : ℕ) (x : X) (xs : List X) → item_at key n xs ≡ Some x → key x ≡ n
+  key_found n x xs found = equal (key x) n (found_passes (λ y. key y == n) x xs found)
+
+  differ-ascending : (k : ℕ) (xs : List X) → AscendFrom key k xs → KeysDiffer key ◌==◌ xs
+  differ-ascending k [] ascend = tt
+  differ-ascending k (x ∷ xs) ascend = (keyed.item_at-below key (key x) (key x + 1) xs ascend.1 (omega arith), differ-ascending (key x + 1) xs ascend.1)
+
+  -- one that was there less
+  pub length-gone : (n : ℕ) (x : X) (xs : List X) → AscendFrom key 0 xs → item_at key n xs ≡ Some x → length (without key n xs) + 1 ≡ length xs
+  length-gone n x xs ascend there =
+      length-all_but key ◌==◌ sameness_of_numbers n xs (differ-ascending 0 xs ascend)
+      ∙ ap (λ (o : Option X). if is_some o then length xs else length xs + 1) there
+
+  -- what is found with one less was found, and is another
+  pub found-without : (a n : ℕ) (x : X) (xs : List X) → item_at key n (without key a xs) ≡ Some x → (a ≢ n) × (item_at key n xs ≡ Some x)
+  found-without a n x xs found = go (a == n) refl (sym (keyed.item_at-without key a n xs) ∙ found)
+    where
+      go : (b : Bool) → (a == n) ≡ b → (if b then None else item_at key n xs) ≡ Some x → (a ≢ n) × (item_at key n xs ≡ Some x)
+      go true e f = absurd (none_some x f)
+      go false e f = (unequal a n e, f)
+
+  pub kept-without : (a n : ℕ) (xs : List X) → a ≢ n → item_at key n (without key a xs) ≡ item_at key n xs
+  kept-without a n xs ne = keyed.item_at-without key a n xs ∙ ap (λ b. if b then None else item_at key n xs) (differs a n ne)
+
+  -- what is found with one more is that one, or was found
+  pub found-added : (y : X) (n : ℕ) (x : X) (xs : List X) → item_at key n (added key y xs) ≡ Some x → ((key y ≡ n) × (y ≡ x)) ⊎ (item_at key n xs ≡ Some x)
+  found-added y n x xs found = go (key y == n) refl (sym (keyed.item_at-added key y xs n) ∙ found)
+    where
+      go : (b : Bool) → (key y == n) ≡ b → (if b then Some y else item_at key n xs) ≡ Some x → ((key y ≡ n) × (y ≡ x)) ⊎ (item_at key n xs ≡ Some x)
+      go true e f = inl (equal (key y) n e, some_same y x f)
+      go false e f = inr f
+
+  pub here-added : (y : X) (xs : List X) → item_at key (key y) (added key y xs) ≡ Some y
+  here-added y xs = keyed.item_at-added key y xs (key y) ∙ ap (λ b. if b then Some y else item_at key (key y) xs) (same (key y))
+
+  -- the others stay, where it is new
+  pub kept-added : (y : X) (n : ℕ) (x : X) (xs : List X) → item_at key (key y) xs ≡ None → item_at key n xs ≡ Some x → item_at key n (added key y xs) ≡ Some x
+  kept-added y n x xs absent found = go (key y == n) refl
+    where
+      go : (b : Bool) → (key y == n) ≡ b → item_at key n (added key y xs) ≡ Some x
+      go true e = absurd (none_some x (sym absent ∙ ap (λ m. item_at key m xs) (equal (key y) n e) ∙ found))
+      go false e = keyed.item_at-added key y xs n ∙ ap (λ b. if b then Some y else item_at key n xs) e ∙ found
+
+module _ {X D : Type 0} (key : X → ℕ) (rank : D → ℕ) (entry : X → D) where
+  -- a record is taken out, and its entry
+  pub IsIndex-without : (a : ℕ) (x0 : X) (xs : List X) (ds : List D) → AscendFrom key 0 xs → IsIndex key rank entry xs ds → item_at key a xs ≡ Some x0 →
+      IsIndex key rank entry (without key a xs) (without rank (rank (entry x0)) ds)
+  IsIndex-without a x0 xs ds ascend index there = record {
+    ascending = keyed.AscendFrom-filter rank _ 0 ds index.ascending;
+    told = told;
+    made = made;
+    apart = λ n m x y f g e. index.apart n m x y (found-without key a n x xs f).1 (found-without key a m y xs g).1 e;
+    count = omega (arith, length-gone key a x0 xs ascend there, length-gone rank _ _ ds index.ascending (index.told a x0 there), index.count);
+  }
+    where
+      told : (n : ℕ) (x : X) → item_at key n (without key a xs) ≡ Some x → item_at rank (rank (entry x)) (without rank (rank (entry x0)) ds) ≡ Some (entry x)
+      told n x found =
+          let old = found-without key a n x xs found in
+          kept-without rank (rank (entry x0)) (rank (entry x)) ds (λ e. old.0 (index.apart a n x0 x there old.1 e)) ∙ index.told n x old.1
+
+      made : (k : ℕ) (d : D) → item_at rank k (without rank (rank (entry x0)) ds) ≡ Some d → (n : ℕ) × (x : X) × (item_at key n (without key a xs) ≡ Some x) × (entry x ≡ d)
+      made k d found =
+          let old = found-without rank (rank (entry x0)) k d ds found in
+          let (n, x, f, e) = index.made k d old.1 in
+          let other : a ≢ n = λ s. old.0 (
+          ap (λ z. rank (entry z)) (some_same x0 x (sym there ∙ ap (λ m. item_at key m xs) s ∙ f)) ∙ ap rank e ∙ key_found rank k d ds old.1) in
+          (n, x, kept-without key a n xs other ∙ f, e)
+
+  -- no record has an entry of this rank
+  abbrev pub IsFresh : X → List X → Type 0
+  IsFresh y xs = (n : ℕ) (x : X) → item_at key n xs ≡ Some x → rank (entry x) ≢ rank (entry y)
+
+  pub absent_entry : (y : X) (xs : List X) (ds : List D) → IsIndex key rank entry xs ds → IsFresh y xs → item_at rank (rank (entry y)) ds ≡ None
+  absent_entry y xs ds index fresh = go (item_at rank (rank (entry y)) ds) refl
+    where
+      go : (o : Option D) → item_at rank (rank (entry y)) ds ≡ o → o ≡ None
+      go None e = refl
+      go (Some d) e =
+          let (n, x, f, s) = index.made (rank (entry y)) d e in
+          absurd (fresh n x f (ap rank s ∙ key_found rank (rank (entry y)) d ds e))
+
+  -- a record is put in, and its entry
+  pub IsIndex-added : (y : X) (xs : List X) (ds : List D) → AscendFrom key 0 xs → IsIndex key rank entry xs ds → item_at key (key y) xs ≡ None → IsFresh y xs →
+      IsIndex key rank entry (added key y xs) (added rank (entry y) ds)
+  IsIndex-added y xs ds ascend index absent fresh = record {
+    ascending = keyed.AscendFrom-added rank (entry y) 0 ds index.ascending (omega arith);
+    told = λ n x found. told n x (found-added key y n x xs found);
+    made = λ k d found. made k d (found-added rank (entry y) k d ds found);
+    apart = λ n m x z f g e. apart n m x z (found-added key y n x xs f) (found-added key y m z xs g) e;
+    count = omega (arith, index.count, keyed.length-added key y 0 xs ascend absent, keyed.length-added rank (entry y) 0 ds index.ascending none);
+  }
+    where
+      none : item_at rank (rank (entry y)) ds ≡ None
+      none = absent_entry y xs ds index fresh
+
+      told : (n : ℕ) (x : X) → ((key y ≡ n) × (y ≡ x)) ⊎ (item_at key n xs ≡ Some x) → item_at rank (rank (entry x)) (added rank (entry y) ds) ≡ Some (entry x)
+      told n x (inl e) = subst (λ z. item_at rank (rank (entry z)) (added rank (entry y) ds) ≡ Some (entry z)) e.1 (here-added rank (entry y) ds)
+      told n x (inr found) = kept-added rank (entry y) (rank (entry x)) (entry x) ds none (index.told n x found)
+
+      made : (k : ℕ) (d : D) → ((rank (entry y) ≡ k) × (entry y ≡ d)) ⊎ (item_at rank k ds ≡ Some d) → (n : ℕ) × (x : X) × (item_at key n (added key y xs) ≡ Some x) × (entry x ≡ d)
+      made k d (inl e) = (key y, y, here-added key y xs, e.1)
+      made k d (inr found) =
+          let (n, x, f, s) = index.made k d found in
+          (n, x, kept-added key y n x xs absent f, s)
+
+      apart : (n m : ℕ) (x z : X) → ((key y ≡ n) × (y ≡ x)) ⊎ (item_at key n xs ≡ Some x) → ((key y ≡ m) × (y ≡ z)) ⊎ (item_at key m xs ≡ Some z) → rank (entry x) ≡ rank (entry z) → n ≡ m
+      apart n m x z (inl e) (inl f) s = sym e.0 ∙ f.0
+      apart n m x z (inl e) (inr f) s = absurd (fresh m z f (sym (ap (λ w. rank (entry w)) e.1 ∙ s)))
+      apart n m x z (inr e) (inl f) s = absurd (fresh n x e (s ∙ sym (ap (λ w. rank (entry w)) f.1)))
+      apart n m x z (inr e) (inr f) s = index.apart n m x z e f s
+
+  -- a record changes, and its entry doesn't
+  pub IsIndex-changed : (change : X → X) → ((x : X) → key (change x) ≡ key x) → ((x : X) → entry (change x) ≡ entry x) → (a : ℕ) (xs : List X) (ds : List D) → IsIndex key rank entry xs ds →
+      IsIndex key rank entry (changed key a change xs) ds
+  IsIndex-changed change keeps stays a xs ds index = record {
+    ascending = index.ascending;
+    told = λ n x found. told n x (item_at key n xs) refl (sym (found_changed n) ∙ found);
+    made = λ k d found. made (index.made k d found);
+    apart = λ n m x y f g e. apart n m x y (item_at key n xs) refl (sym (found_changed n) ∙ f) (item_at key m xs) refl (sym (found_changed m) ∙ g) e;
+    count = index.count ∙ sym (length-map xs (changed_if key a change));
+  }
+    where
+      found_changed : (n : ℕ) → item_at key n (changed key a change xs) ≡ option_map (changed_if key a change) (item_at key n xs)
+      found_changed n = keyed.item_at-changed key change keeps a n xs
+
+      entry_if : (x : X) → entry (changed_if key a change x) ≡ entry x
+      entry_if x = go (key x == a)
+        where
+          go : (b : Bool) → entry (if b then change x else x) ≡ entry x
+          go true = stays x
+          go false = refl
+
+      told : (n : ℕ) (x : X) (o : Option X) → item_at key n xs ≡ o → option_map (changed_if key a change) o ≡ Some x → item_at rank (rank (entry x)) ds ≡ Some (entry x)
+      told n x None e f = absurd (none_some x f)
+      told n x (Some w) e f = subst (λ d. item_at rank (rank d) ds ≡ Some d) (sym (entry_if w) ∙ ap entry (some_same _ x f)) (index.told n w e)
+
+      made : {d : D} → (n : ℕ) × (x : X) × (item_at key n xs ≡ Some x) × (entry x ≡ d) → (n : ℕ) × (x : X) × (item_at key n (changed key a change xs) ≡ Some x) × (entry x ≡ d)
+      made (n, x, f, e) = (n, changed_if key a change x, found_changed n ∙ ap (option_map (changed_if key a change)) f, entry_if x ∙ e)
+
+      apart : (n m : ℕ) (x y : X) (o : Option X) → item_at key n xs ≡ o → option_map (changed_if key a change) o ≡ Some x → (p : Option X) → item_at key m xs ≡ p → option_map (changed_if key a change) p ≡ Some y
+          → rank (entry x) ≡ rank (entry y) → n ≡ m
+      apart n m x y None e f p g h s = absurd (none_some x f)
+      apart n m x y (Some v) e f None g h s = absurd (none_some y h)
+      apart n m x y (Some v) e f (Some w) g h s = index.apart n m v w e g (ap rank (sym (entry_if v) ∙ ap entry (some_same _ x f)) ∙ s ∙ ap rank (sym (sym (entry_if w) ∙ ap entry (some_same _ y h))))
