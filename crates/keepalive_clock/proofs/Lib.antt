@@ -1,3 +1,4 @@
 pub mod VoiceLemmas
 pub mod HeardLemmas
+pub mod KeptLemmas
 pub mod DueLemmas

@@ -1,13 +1,14 @@
-//! The clock: voices with their last moments, in the order of their deadlines.
+//! The clock: voices with their last moments, and their deadlines, of which the first is the last.
 ghost use Rattle.std.specs.Prelude.{◌≡◌, ℕ, ◌+◌, ◌<◌, ◌≤◌, ◌^◌, ◌⊎◌, if◌then◌else◌, length, IfOk, IfSome, MatchOption, IfNone, Some, None, [], ◌∷◌, IsTrue, is_some, OnSome, ◌↔◌, IsPermutation};
 ghost use Rattle.keepalive_clock.specs.Voices.{same_voice};
 ghost use Rattle.keepalive_clock.specs.Clock.{last_of, count_with, without, HearsVoice, ForgetsVoice, KeepsLimits, IsSound};
+ghost use Rattle.keepalive_clock.specs.Order.{IsWhole};
 ghost use Rattle.keepalive_clock.specs.Clock.{is_silent_voice, has_silent, HasSilent, IsFirstSilence};
 
-use crate::due::due;
-use crate::search::{of_voice, place_after, place_of};
+use crate::due::{Deadline, deadline_of};
 use crate::{LastHeard, Steps, Voice};
 use fab_base::{Moment, NoMemory};
+use sorted_lists::{HasRank, rank_find, rank_put, rank_take};
 use std::alloc::Global;
 use std::marker::Model;
 use std::sync::ledger::Ledger;
@@ -18,7 +19,10 @@ pub struct KeepClock {
     node_period: u32,
     port_period: u32,
     room: u32,
+    // By their numbers.
     voices: Vec<LastHeard>,
+    // In descending order, so that the first one is the last.
+    deadlines: Vec<Deadline>,
 }
 
 impl Model for KeepClock {
@@ -42,7 +46,9 @@ impl Model for KeepClock {
       room = c.room;
       voices = c.voices.items;
     })
-        (vec_capacity c.voices) };
+        c.deadlines.items
+        (vec_capacity c.voices)
+        (vec_capacity c.deadlines) };
 }
 
 impl KeepClock {
@@ -61,11 +67,13 @@ impl KeepClock {
         }) }
     {
         let voices = Vec::with_capacity(alloc, room as usize)?;
+        let deadlines = Vec::with_capacity(alloc, room as usize)?;
         Ok(KeepClock {
             node_period,
             port_period,
             room,
             voices,
+            deadlines,
         })
     }
 
@@ -83,11 +91,9 @@ impl KeepClock {
     {
         self.remove_voice(&voice);
         let heard = LastHeard { voice, last: now };
-        let moment = due(self.node_period, self.port_period, &heard);
-        let place = place_after(self.node_period, self.port_period, &self.voices, moment);
-        let Ok(()) = self.voices.insert(place, heard) else {
-            unreachable!()
-        };
+        let deadline = deadline_of(self.node_period, self.port_period, &heard);
+        rank_put(&mut self.voices, heard);
+        rank_put(&mut self.deadlines, deadline);
     }
 
     /// Forgets a voice. False where it isn't there.
@@ -106,7 +112,7 @@ impl KeepClock {
         ensures moment { result ≡ last_of voice.now self.now.voices }
         ensures sound { IsSound self.now }
     {
-        match of_voice(&self.voices, voice) {
+        match rank_find(&self.voices, voice.number() as u128) {
             Some(heard) => Some(heard.last),
             None => None,
         }
@@ -119,11 +125,8 @@ impl KeepClock {
         ensures silent { (now : ℕ) → IsTrue (has_silent self.now now) ↔ HasSilent self.now now }
         ensures sound { IsSound self.now }
     {
-        match self.voices.first() {
-            Some(heard) => {
-                let moment = due(self.node_period, self.port_period, heard);
-                Some(Moment(moment as u64))
-            }
+        match self.deadlines.last() {
+            Some(first) => Some(Moment(first.due)),
             None => None,
         }
     }
@@ -141,12 +144,14 @@ impl KeepClock {
         ensures sound { IsSound self.new }
     {
         steps.tick();
-        match self.voices.first() {
-            Some(heard) => {
-                if due(self.node_period, self.port_period, heard) > now.0 as u128 {
+        match self.deadlines.last() {
+            Some(first) => {
+                if first.due > now.0 {
                     return None;
                 }
-                Some(self.voices.remove(0).voice)
+                let voice = first.voice;
+                self.remove_voice(&voice);
+                Some(voice)
             }
             None => None,
         }
@@ -157,10 +162,12 @@ impl KeepClock {
         ensures voices { self.new ≡ record self.old { voices = without voice.now self.old.voices } }
         ensures sound { IsSound self.new }
         ensures was_sound { IsSound self.old }
+        ensures whole { IsWhole voice.now }
     {
-        match place_of(&self.voices, voice) {
-            Some(place) => {
-                self.voices.remove(place);
+        match rank_take(&mut self.voices, voice.number() as u128) {
+            Some(heard) => {
+                let deadline = deadline_of(self.node_period, self.port_period, &heard);
+                rank_take(&mut self.deadlines, deadline.rank());
                 true
             }
             None => false,

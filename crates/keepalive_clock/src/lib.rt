@@ -4,7 +4,6 @@
 
 mod clock;
 mod due;
-mod search;
 mod steps;
 mod voice;
 

@@ -1,7 +1,8 @@
 //! Whose keep alives are heard, and when each was heard last.
-ghost use Rattle.std.specs.Prelude.{◌≡◌};
+ghost use Rattle.std.specs.Prelude.{◌≡◌, ◌<◌, ◌^◌, ℕ, length, slice_index};
+ghost use Rattle.fab_base.specs.Layout.{big_endian};
 
-use fab_base::{Enode, FcId, Moment};
+use fab_base::{Enode, FcId, Mac, Moment};
 
 /// Whose keep alives are heard: an ENode, or the N_Port of an address.
 #[derive(Clone, Copy, Debug, PartialEq, Eq)]
@@ -11,18 +12,28 @@ pub enum Voice {
 }
 
 impl Voice {
-    ghost use Rattle.keepalive_clock.specs.Voices.{same_voice};
+    ghost use Rattle.keepalive_clock.specs.Order.{number_of, IsWhole};
 
-    // Whether it is this voice.
-    pub(crate) fn is(&self, other: &Voice) -> bool
-        ensures { result ≡ same_voice self.now other.now }
+    // A number that no other voice has.
+    pub(crate) fn number(&self) -> u64
+        ensures value { result ≡ number_of self.now }
+        ensures whole { IsWhole self.now }
     {
-        match (self, other) {
-            (Voice::Node(x), Voice::Node(y)) => *x == *y,
-            (Voice::Port(a), Voice::Port(b)) => *a == *b,
-            _ => false,
+        match self {
+            Voice::Node(node) => { node.port.value() as u64 * (1 << 48) + mac_number(&node.mac) }
+            Voice::Port(address) => address.value() as u64,
         }
     }
+}
+
+fn mac_number(mac: &Mac) -> u64
+    ensures value { result ≡ big_endian mac.now }
+    ensures range { result < 2 ^ 48 }
+    ensures length { length mac.now ≡ 6 }
+    ensures bytes { (i : ℕ) → slice_index mac.now i < 256 }
+{
+    let [a, b, c, d, e, f] = mac.0;
+    u64::from_be_bytes([0, 0, a, b, c, d, e, f])
 }
 
 /// A voice with the moment at which it was last heard.

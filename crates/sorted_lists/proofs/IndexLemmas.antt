@@ -1,25 +1,27 @@
 -- An index stays one, when a record and its entry are taken out, put in, or changed together.
-use Rattle.std.proofs.Common.{◌≡◌, ◌≢◌, ℕ, ◌+◌, ◌<◌, ◌≤◌, ◌==◌, Bool, true, false, cond, if◌then◌else◌, List, [], ◌∷◌, length, Option, Some, None, is_some, option_map, ◌⊎◌, inl, inr, refl, sym, ◌∙◌, ap, subst, arith}
+use Rattle.std.proofs.Common.{◌≡◌, ◌≢◌, ℕ, suc, ◌+◌, ◌≤◌, ◌==◌, Bool, true, false, cond, if◌then◌else◌, List, [], ◌∷◌, length, Option, Some, None, is_some, option_map, slice_get, ◌-◌, find, filter, ◌⊎◌, inl, inr, refl, sym, ◌∙◌, ap, subst, arith}
 use Rattle.std.proofs.lemmas.Bool.Decides.{nat_tests}
+use Rattle.std.specs.List.{All}
+use Rattle.std.proofs.lemmas.List.Elements.{All-head, All-tail}
 use Rattle.std.proofs.lemmas.List.{length-map}
 use Rattle.fab_base.specs.Keyed.{item_at, AscendFrom, added, without, changed_if, changed, KeysDiffer}
 use Rattle.fab_base.proofs.KeyedLemmas as keyed
 use Rattle.fab_base.proofs.SamenessLemmas.{found_passes, length-all_but, sameness_of_numbers}
 use Rattle.sorted_lists.specs.Index.{IsIndex}
 
-none_some : {X : Type 0} (x : X) → None ≡ Some x → ⊥
+pub none_some : {X : Type 0} (x : X) → None ≡ Some x → ⊥
 none_some x e = cc
 
-some_same : {X : Type 0} (x y : X) → Some x ≡ Some y → x ≡ y
+pub some_same : {X : Type 0} (x y : X) → Some x ≡ Some y → x ≡ y
 some_same x y e = cc
 
-equal : (m n : ℕ) → (m == n) ≡ true → m ≡ n
+pub equal : (m n : ℕ) → (m == n) ≡ true → m ≡ n
 equal m n e = grind (arith, nat_tests)
 
-unequal : (m n : ℕ) → (m == n) ≡ false → m ≢ n
+pub unequal : (m n : ℕ) → (m == n) ≡ false → m ≢ n
 unequal m n e = grind (arith, nat_tests)
 
-differs : (m n : ℕ) → m ≢ n → (m == n) ≡ false
+pub differs : (m n : ℕ) → m ≢ n → (m == n) ≡ false
 differs m n ne = grind (arith, nat_tests)
 
 same : (n : ℕ) → (n == n) ≡ true
@@ -30,7 +32,7 @@ module _ {X : Type 0} (key : X → ℕ) where
   pub key_found : (n : ℕ) (x : X) (xs : List X) → item_at key n xs ≡ Some x → key x ≡ n
   key_found n x xs found = equal (key x) n (found_passes (λ y. key y == n) x xs found)
 
-  differ-ascending : (k : ℕ) (xs : List X) → AscendFrom key k xs → KeysDiffer key ◌==◌ xs
+  pub differ-ascending : (k : ℕ) (xs : List X) → AscendFrom key k xs → KeysDiffer key ◌==◌ xs
   differ-ascending k [] ascend = tt
   differ-ascending k (x ∷ xs) ascend = (keyed.item_at-below key (key x) (key x + 1) xs ascend.1 (omega arith), differ-ascending (key x + 1) xs ascend.1)
 
@@ -171,3 +173,56 @@ module _ {X D : Type 0} (key : X → ℕ) (rank : D → ℕ) (entry : X → D) w
       apart n m x y None e f p g h s = absurd (none_some x f)
       apart n m x y (Some v) e f None g h s = absurd (none_some y h)
       apart n m x y (Some v) e f (Some w) g h s = index.apart n m v w e g (ap rank (sym (entry_if v) ∙ ap entry (some_same _ x f)) ∙ s ∙ ap rank (sym (sym (entry_if w) ∙ ap entry (some_same _ y h))))
+
+-- ---- the last of an ascending list
+
+last_behind : {X : Type 0} (z w : X) (xs : List X) → slice_get (z ∷ w ∷ xs) (length (z ∷ w ∷ xs) - 1) ≡ slice_get (w ∷ xs) (length (w ∷ xs) - 1)
+last_behind z w xs = ap (λ (n : ℕ). slice_get (z ∷ w ∷ xs) n) (let e : length (z ∷ w ∷ xs) - 1 ≡ suc (length (w ∷ xs) - 1) = omega arith in e)
+
+module _ {X : Type 0} (key : X → ℕ) where
+  -- no other item is found above it
+  pub below_last : (k : ℕ) (xs : List X) (x : X) → AscendFrom key k xs → slice_get xs (length xs - 1) ≡ Some x → (n : ℕ) (y : X) → item_at key n xs ≡ Some y → key y ≤ key x
+  below_last k [] x ascend last n y found = absurd (none_some y found)
+  below_last k (z ∷ []) x ascend last n y found = go (key z == n) found
+    where
+      go : (b : Bool) → cond b (Some z) None ≡ Some y → key y ≤ key x
+      go true f = let e : y ≡ x = sym (some_same z y f) ∙ some_same z x last in omega (arith, ap key e)
+      go false f = absurd (none_some y f)
+  below_last k (z ∷ w ∷ xs) x ascend last n y found = go (key z == n) found (below_last (key z + 1) (w ∷ xs) x ascend.1 (sym (last_behind z w xs) ∙ last))
+    where
+      go : (b : Bool) → cond b (Some z) (item_at key n (w ∷ xs)) ≡ Some y → ((m : ℕ) (v : X) → item_at key m (w ∷ xs) ≡ Some v → key v ≤ key x) → key y ≤ key x
+      go true f rest = omega (arith, ap key (some_same z y f), ascend.1.0, rest (key w) w (ap (λ b. cond b (Some w) (item_at key (key w) xs)) (same (key w))))
+      go false f rest = rest n y f
+
+  -- it is found
+  pub last_found : (k : ℕ) (xs : List X) (x : X) → AscendFrom key k xs → slice_get xs (length xs - 1) ≡ Some x → item_at key (key x) xs ≡ Some x
+  last_found k [] x ascend last = absurd (none_some x last)
+  last_found k (z ∷ []) x ascend last = subst (λ v. item_at key (key v) (z ∷ []) ≡ Some v) (some_same z x last) (ap (λ b. cond b (Some z) None) (same (key z)))
+  last_found k (z ∷ w ∷ xs) x ascend last =
+      let behind = sym (last_behind z w xs) ∙ last in
+      let rest = last_found (key z + 1) (w ∷ xs) x ascend.1 behind in
+      let top = below_last (key z + 1) (w ∷ xs) x ascend.1 behind (key w) w (ap (λ b. cond b (Some w) (item_at key (key w) xs)) (same (key w))) in
+      ap (λ b. cond b (Some z) (item_at key (key x) (w ∷ xs))) (differs (key z) (key x) (λ e. absurd (omega (arith, e, top, ascend.1.0)))) ∙ rest
+
+-- ---- what holds of all items
+
+module _ {X : Type 0} (P : X → Type 0) where
+  -- holds of the one that is found
+  pub All-found : (p : X → Bool) (xs : List X) (x : X) → All P xs → find p xs ≡ Some x → P x
+  All-found p [] x all found = absurd (none_some x found)
+  All-found p (y ∷ ys) x all found = go (p y) found (All-found p ys x (All-tail P y ys all))
+    where
+      go : (b : Bool) → cond b (Some y) (find p ys) ≡ Some x → (find p ys ≡ Some x → P x) → P x
+      go true f rest = subst P (some_same y x f) (All-head P y ys all)
+      go false f rest = rest f
+
+  -- tests that answer alike where it holds find the same, and keep the same
+  pub find-alike : (p q : X → Bool) (xs : List X) → All P xs → ((x : X) → P x → p x ≡ q x) → find p xs ≡ find q xs
+  find-alike p q [] all alike = refl
+  find-alike p q (y ∷ ys) all alike =
+      ap (λ b. cond b (Some y) (find p ys)) (alike y (All-head P y ys all)) ∙ ap (λ (o : Option X). cond (q y) (Some y) o) (find-alike p q ys (All-tail P y ys all) alike)
+
+  pub filter-alike : (p q : X → Bool) (xs : List X) → All P xs → ((x : X) → P x → p x ≡ q x) → filter p xs ≡ filter q xs
+  filter-alike p q [] all alike = refl
+  filter-alike p q (y ∷ ys) all alike =
+      ap (λ b. cond b (y ∷ filter p ys) (filter p ys)) (alike y (All-head P y ys all)) ∙ ap (λ (l : List X). cond (q y) (y ∷ l) l) (filter-alike p q ys (All-tail P y ys all) alike)

@@ -1,34 +1,35 @@
-use Rattle.std.proofs.Common.{sym, refl, arith, ◌<◌}
-use Rattle.std.proofs.lemmas.Option.{slice_get_read, slice_get_within}
-use Rattle.keepalive_clock.specs.Clock.{VoiceClock}
-use Rattle.keepalive_clock.specs.Order.{due_of}
-use Rattle.keepalive_clock.proofs.HeardLemmas.{without_first, last_of-without}
-use Rattle.keepalive_clock.proofs.DueLemmas.{list_any-none}
+use Rattle.std.proofs.Common.{◌≡◌, true, is_some, ◌+◌, sym, subst, ◌∙◌, ap, arith, if◌then◌else◌, length}
+use Rattle.keepalive_clock.specs.Clock.{VoiceClock, IsSound, last_of}
+use Rattle.keepalive_clock.proofs.HeardLemmas.{last_of-without, count_without}
+use Rattle.keepalive_clock.proofs.KeptLemmas.{sound_kept}
+use Rattle.keepalive_clock.proofs.DueLemmas.{none_silent, silent_from, silent_voice, is_there}
 use Rattle.keepalive_clock.proofs.clock.KeepClock.pop_due.Goals as goal
 
-pub returns-then-due-now-clause-some : goal.returns-then-due-now-clause-some
-returns-then-due-now-clause-some g c =
+pub returns-then-first-now-clause-some : goal.returns-then-first-now-clause-some
+returns-then-first-now-clause-some g c =
     let first = rw c.deref.ensures.value at (sym c.in-Some.ensures.value) in
-    let early : c.args.now < due_of c.self.inside.node_period c.self.inside.port_period c.in-Some.heard.now = omega (arith, c.due.ensures, c.if-due-now.true, c.now.view_is) in
-    let clock : VoiceClock = record {
-      node_period = c.self.inside.node_period;
-      port_period = c.self.inside.port_period;
-      room = c.self.inside.room;
-      voices = c.self.inside.voices.items;
-    } in
-    rw (← c.self.view_is) (sym (list_any-none clock c.args.now 0 c.in-Some.heard.now _ c.self.invariant.order first early))
+    rw (← c.self.view_is) (sym (none_silent c.self.invariant c.in-Some.first.now first c.args.now (omega (arith, c.if-first-now.true, c.now.view_is))))
 
-pub returns-else-due-now-clause-taken : goal.returns-else-due-now-clause-taken
-returns-else-due-now-clause-taken g c =
+pub returns-then-first-now-clause-sound : goal.returns-then-first-now-clause-sound
+returns-then-first-now-clause-sound g c = subst IsSound c.self.view_is (sound_kept c.self.invariant)
+
+pub returns-else-first-now-clause-some : goal.returns-else-first-now-clause-some
+returns-else-first-now-clause-some g c =
     let first = rw c.deref.ensures.value at (sym c.in-Some.ensures.value) in
-    let taken = slice_get_read c.self.inside.voices.items _ 0 c.remove.result refl (slice_get_within _ 0 _ first) c.remove.ensures.value in
-    rw (c.remove.ensures.items, without_first c.remove.result c.self.inside.voices.items c.self.invariant.sound.differ taken, ← c.self.view_is) refl
+    rw (← c.self.view_is) (sym (silent_from c.self.invariant c.in-Some.first.now first c.args.now (omega (arith, c.if-first-now.false, c.now.view_is))))
 
-pub returns-else-due-now-clause-last : goal.returns-else-due-now-clause-last
-returns-else-due-now-clause-last g c = λ w.
+pub returns-else-first-now-clause-silent : goal.returns-else-first-now-clause-silent
+returns-else-first-now-clause-silent g c =
     let first = rw c.deref.ensures.value at (sym c.in-Some.ensures.value) in
-    let taken = slice_get_read c.self.inside.voices.items _ 0 c.remove.result refl (slice_get_within _ 0 _ first) c.remove.ensures.value in
-    rw (c.remove.ensures.items, without_first c.remove.result c.self.inside.voices.items c.self.invariant.sound.differ taken, ← c.self.view_is) (last_of-without c.remove.result.voice c.self.inside.voices.items w)
+    rw (← c.self.view_is) (silent_voice c.self.invariant c.in-Some.first.now first c.args.now (omega (arith, c.if-first-now.false, c.now.view_is)))
 
-pub returns-else-due-now-clause-count : goal.returns-else-due-now-clause-count
-returns-else-due-now-clause-count g c = rw (← c.self.view_is) (omega (arith, c.remove.ensures.len, c.self.inside.voices.ok.0, c.remove.new.self.ok.0))
+pub returns-else-first-now-clause-last : goal.returns-else-first-now-clause-last
+returns-else-first-now-clause-last g c = λ w.
+    ap (λ (d : VoiceClock). last_of w d.voices) c.remove_voice.ensures.voices ∙ last_of-without c.in-Some.first.now.voice c.args.self.now.voices w
+
+pub returns-else-first-now-clause-count : goal.returns-else-first-now-clause-count
+returns-else-first-now-clause-count g c =
+    let first = rw c.deref.ensures.value at (sym c.in-Some.ensures.value) in
+    let there = subst (λ (d : VoiceClock). is_some (last_of c.in-Some.first.now.voice d.voices) ≡ true) c.self.view_is (is_there c.self.invariant c.in-Some.first.now first) in
+    let xs = c.args.self.now.voices in
+    rw c.remove_voice.ensures.voices (sym (count_without c.in-Some.first.now.voice xs c.remove_voice.ensures.was_sound.differ ∙ ap (λ b. if b then length xs else length xs + 1) there))
