@@ -259,3 +259,8 @@ least_end x y z n le = by (cases_lt n x) (cases_lt n y)
     by (inr h) k = inl (inl h)
     by (inl h) (inr k) = inl (inr k)
     by (inl h) (inl k) = inr (omega arith)
+
+-- ---- a row under a row of its words
+
+pub has-zero_word : (row : List ℕ) (q : ℕ) → get_or row (q / 64) 0 ≡ 0 → has row q ≡ false
+has-zero_word row q e = has-zero row q (ap (λ (n : ℕ). bit_at n (q % 64)) e ∙ bit_at-zero (q % 64))

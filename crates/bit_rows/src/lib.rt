@@ -5,7 +5,10 @@ ghost use Rattle.std.specs.Prelude.{◌≡◌, ◌==◌, ◌&&◌, ◌||◌, ◌
 ghost use Rattle.std.specs.Bool.{OnTrue, OnFalse};
 ghost use Rattle.bit_rows.specs.Row.{has, IsCommon, HasNone, IsNextBit};
 
+mod tree;
+
 use std::alloc::{AllocError, Global};
+pub use tree::Tree;
 
 pub type Row = Vec<u64>;
 
