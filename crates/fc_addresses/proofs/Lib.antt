@@ -1,1 +1,4 @@
 pub mod PoolLemmas
+pub mod LineLemmas
+pub mod KeptLemmas
+pub mod FindLemmas

@@ -1,22 +1,19 @@
 -- Where the past of an address stands among the places of a pool, and what a write there changes.
-use Rattle.std.proofs.Common.{◌≡◌, ℕ, zero, suc, ◌+◌, ◌-◌, ◌<◌, ◌≤◌, ◌==◌, ◌≢◌, ◌⊎◌, ◌||◌, ◌&&◌, not, is_none, nat_lt, cond, Bool, true, false, List, [], ◌∷◌, length, get_or, set, map, if◌then◌else◌, Option, Some, None, is_some, IfSome, refl, sym, subst, ◌∙◌, ap, arith, slice_get, find, option_map, replicate, position, inl, inr}
+use Rattle.std.proofs.Common.{◌≡◌, ℕ, zero, suc, ◌+◌, ◌-◌, ◌<◌, ◌≤◌, ◌==◌, ◌≢◌, ◌⊎◌, ◌&&◌, is_none, Bool, true, false, List, [], ◌∷◌, length, get_or, set, map, if◌then◌else◌, Option, Some, None, is_some, IfSome, refl, sym, subst, ◌∙◌, ap, arith, slice_get, find, option_map, replicate, inl, inr}
 use mathlib.Core.Bool.{false≢true}
 use Rattle.std.specs.Option.{option_map_or}
 use Rattle.std.proofs.lemmas.Option.{slice_get_past, slice_get-get_or}
-use Rattle.std.proofs.lemmas.List.Quantifiers.{position-Some}
 use Rattle.std.proofs.lemmas.List.Elements.{All-nil, All-cons, All-map}
-use Rattle.std.specs.List.{All, position_or_len}
-use Rattle.std.proofs.lemmas.List.{get_or_default, get_or-replicate, get_or-set_same, get_or-set_other, length-replicate, length-set}
-use Rattle.std.proofs.lemmas.Bool.{cases_eq, lt-ltb}
+use Rattle.std.specs.List.{All}
+use Rattle.std.proofs.lemmas.List.{get_or-replicate, get_or-set_same, get_or-set_other, length-replicate, length-set}
+use Rattle.std.proofs.lemmas.Bool.{cases_eq}
 use Rattle.bit_rows.specs.Row.{has}
-use Rattle.fab_base.specs.Fabric.{may_have}
-use Rattle.fab_base.proofs.SamenessLemmas.{position_or_len-here, position_or_len-later}
 use Rattle.std.proofs.lemmas.Bool.{cases_lt}
 use Rattle.std.proofs.lemmas.Bool.Decides.{nat_tests}
 use Rattle.std.specs.List.{list_any}
 use Rattle.fab_base.specs.Fabric.{Past, past_at}
-use Rattle.fc_addresses.specs.Pool.{is_open, is_free, has_free, unused, taken, released, held, ended_at, HoldsAddress, FollowFrom, IsSound, AreEndedBy}
-use Rattle.fc_addresses.specs.Holders.{past_of, pasts_from, may_follow, is_unheld, AreMarked, IsKept}
+use Rattle.fc_addresses.specs.Pool.{is_open, is_free, has_free, is_held, unused, taken, released, held, ended_at, HoldsAddress, FollowFrom, IsSound, AreEndedBy}
+use Rattle.fc_addresses.specs.Holders.{past_of, pasts_from, may_follow, nobody, is_unused, AreMarked}
 use Rattle.fc_addresses.specs.declared.pool.Holder.{Holder}
 
 -- places that nobody had are those of unused addresses
@@ -52,10 +49,15 @@ changed-place F a k i [] y d same lt is = absurd (omega arith)
 changed-place F a k zero (h ∷ l) y d same lt is = grind (arith, nat_tests, changed-below F a (k + 1) l (omega arith))
 changed-place F a k (suc i) (h ∷ l) y d same lt is = grind (arith, nat_tests, changed-place F a (k + 1) i l y d (omega arith) (omega arith) is)
 
--- some place may be followed where one is found
-pub is_some-position : (p : Holder → Bool) (l : List Holder) → is_some (position p l) ≡ list_any p l
-is_some-position p [] = refl
-is_some-position p (h ∷ l) = grind (arith, nat_tests, is_some-position p l)
+-- a test passes somewhere if it does at a place
+list_any-at : (p : Holder → Bool) (l : List Holder) (i : ℕ) (d : Holder) → i < length l → p (get_or l i d) ≡ true → list_any p l ≡ true
+list_any-at p [] i d lt passes = absurd (omega arith)
+list_any-at p (h ∷ l) zero d lt passes = grind (arith, nat_tests)
+list_any-at p (h ∷ l) (suc i) d lt passes = grind (arith, nat_tests, list_any-at p l i d (omega arith) passes)
+
+list_any-nowhere : (p : Holder → Bool) (l : List Holder) (d : Holder) → ((i : ℕ) → i < length l → p (get_or l i d) ≡ false) → list_any p l ≡ false
+list_any-nowhere p [] d fails = refl
+list_any-nowhere p (h ∷ l) d fails = grind (arith, nat_tests, fails 0 (omega arith), list_any-nowhere p l d (λ i lt. fails (suc i) (omega arith)))
 
 -- what holds of a number holds of an answer that is that number
 pub IfSome-same : (r : Option ℕ) (P : ℕ → Type 0) (x : ℕ) → IfSome r (λ a. a ≡ x) → P x → IfSome r P
@@ -75,109 +77,23 @@ range-pasts_from k (h ∷ l) below = All-cons (λ (p : Past). p.address < 0xFF00
 pub sound_places : (k : ℕ) (l : List Holder) → ((i : ℕ) → i < length l → k + i < 0xFF0000) → IsSound (pasts_from k l)
 sound_places k l below = record { first = k; places = follow-pasts_from k l; range = range-pasts_from k l below }
 
--- ---- places that no login holds
-
--- the first place that passes
-pub position-first : (p : Holder → Bool) (l : List Holder) (n : ℕ) (d : Holder) → n < length l → p (get_or l n d) ≡ true → ((k : ℕ) (e : Holder) → k < n → k < length l → p (get_or l k e) ≡ false) → Some n ≡ position p l
-position-first p l n d lt passes before = sym (ap (λ b. cond b (Some (position_or_len p l)) None) (ap (λ (m : ℕ). nat_lt m (length l)) (place l n lt passes before) ∙ lt-ltb n (length l) lt) ∙ ap (λ (m : ℕ). Some m) (place l n lt passes before))
-  where
-    place : (xs : List Holder) (m : ℕ) → m < length xs → p (get_or xs m d) ≡ true → ((k : ℕ) (e : Holder) → k < m → k < length xs → p (get_or xs k e) ≡ false) → position_or_len p xs ≡ m
-    place [] m lt passes before = absurd (omega arith)
-    place (x ∷ xs) zero lt passes before = position_or_len-here p x xs passes
-    place (x ∷ xs) (suc m) lt passes before = position_or_len-later p x xs (before 0 x (omega arith) (omega arith)) ∙ ap (λ (n : ℕ). suc n) (place xs m (omega arith) passes (λ k e less within. before (suc k) e (omega arith) (omega arith)))
-
--- no place passes
-pub position-nowhere : (p : Holder → Bool) (l : List Holder) → ((k : ℕ) (e : Holder) → k < length l → p (get_or l k e) ≡ false) → None ≡ position p l
-position-nowhere p l fails = sym (ap (λ b. cond b (Some (position_or_len p l)) None) (ap (λ (m : ℕ). nat_lt m (length l)) (past l fails) ∙ not_less (length l)))
-  where
-    not_less : (n : ℕ) → nat_lt n n ≡ false
-    not_less n = grind (arith, nat_tests)
-
-    past : (xs : List Holder) → ((k : ℕ) (e : Holder) → k < length xs → p (get_or xs k e) ≡ false) → position_or_len p xs ≡ length xs
-    past [] fails = refl
-    past (x ∷ xs) fails = position_or_len-later p x xs (fails 0 x (omega arith)) ∙ ap (λ (n : ℕ). suc n) (past xs (λ k e within. fails (suc k) e (omega arith)))
-
--- an address that a login holds may not be had
-held-closed : (name now : ℕ) (h : Holder) → is_unheld h ≡ false → may_follow name now h ≡ false
-held-closed name now h held = go h.name h.ended held
-  where
-    go : (n e : Option ℕ) → (is_none n || is_some e) ≡ false → may_have name now n e ≡ false
-    go None e held = absurd (cc)
-    go (Some last) None held = refl
-    go (Some last) (Some end) held = absurd (cc)
-
--- no place that is passed over may be followed
-pub passed_over : (name now : ℕ) (row : List ℕ) (l : List Holder) (from to : ℕ) → AreMarked row l → ((k : ℕ) (d : Holder) → k < from → k < length l → may_follow name now (get_or l k d) ≡ false)
-    → ((k : ℕ) → from ≤ k → k < to → has row k ≡ false) → (k : ℕ) (d : Holder) → k < to → k < length l → may_follow name now (get_or l k d) ≡ false
-passed_over name now row l from to marked before clear k d lt within = by (cases_lt k from)
-  where
-    by : (k < from) ⊎ (from ≤ k) → may_follow name now (get_or l k d) ≡ false
-    by (inl less) = before k d less within
-    by (inr more) = held-closed name now (get_or l k d) (sym (marked k d within) ∙ clear k more lt)
-
--- one more that may not be followed
-pub one_passed : (name now : ℕ) (l : List Holder) (place : ℕ) (r : Holder) → ((k : ℕ) (d : Holder) → k < place → k < length l → may_follow name now (get_or l k d) ≡ false) → r ≡ get_or l place r → may_follow name now r ≡ false
-    → (k : ℕ) (d : Holder) → k < place + 1 → k < length l → may_follow name now (get_or l k d) ≡ false
-one_passed name now l place r before is fails k d lt within = by (cases_lt k place)
-  where
-    by : (k < place) ⊎ (place ≤ k) → may_follow name now (get_or l k d) ≡ false
-    by (inl less) = before k d less within
-    by (inr more) = ap (may_follow name now) (get_or_default l k d r within ∙ ap (λ (n : ℕ). get_or l n r) (let e : k ≡ place = omega arith in e) ∙ sym is) ∙ fails
+-- ---- places that nobody had
 
 -- a new pool has all places marked
 pub marked-new : (row : List ℕ) (n : ℕ) → ((q : ℕ) → q < n → has row q ≡ true) → AreMarked row (replicate n (record { name = None; ended = None }))
 marked-new row n full k d lt =
     let within : k < n = omega (arith, length-replicate {A = Holder} n (record { name = None; ended = None })) in
-    full k within ∙ sym (ap is_unheld (get_or-replicate n k (record { name = None; ended = None }) d within))
+    full k within ∙ sym (ap is_unused (get_or-replicate n k (record { name = None; ended = None }) d within))
 
 -- a write with its bit
-pub marked-set : (row new : List ℕ) (l : List Holder) (place : ℕ) (h : Holder) → AreMarked row l → place < length l → ((q : ℕ) → q ≢ place → has new q ≡ has row q) → has new place ≡ is_unheld h → AreMarked new (set l place h)
+pub marked-set : (row new : List ℕ) (l : List Holder) (place : ℕ) (h : Holder) → AreMarked row l → place < length l → ((q : ℕ) → q ≢ place → has new q ≡ has row q) → has new place ≡ is_unused h → AreMarked new (set l place h)
 marked-set row new l place h marked lt others here k d within = by (cases_eq k place)
   where
-    by : (k ≡ place) ⊎ (k ≢ place) → has new k ≡ is_unheld (get_or (set l place h) k d)
+    by : (k ≡ place) ⊎ (k ≢ place) → has new k ≡ is_unused (get_or (set l place h) k d)
     by (inl same) =
         ap (has new) same ∙ here
-        ∙ sym (ap (λ (n : ℕ). is_unheld (get_or (set l place h) n d)) same ∙ ap is_unheld (get_or-set_same l place h d lt))
-    by (inr other) = others k other ∙ marked k d (omega (arith, length-set l place h)) ∙ sym (ap is_unheld (get_or-set_other l place k h d other))
-
-kept-set : (first : ℕ) (l : List Holder) (row new : List ℕ) (place : ℕ) (h : Holder) → IsKept first l row → place < length l → length new ≡ length row → ((q : ℕ) → q ≢ place → has new q ≡ has row q) → has new place ≡ is_unheld h
-    → IsKept first (set l place h) new
-kept-set first l row new place h kept lt words others here = record {
-  range = λ k within. kept.range k (omega (arith, length-set l place h));
-  marked = marked-set row new l place h kept.marked lt others here;
-  wide = omega (arith, kept.wide, length-set l place h);
-  few = omega (arith, kept.few);
-}
-
--- a login holds the address, and its place isn't marked any more
-pub kept-held : (first : ℕ) (l : List Holder) (row new : List ℕ) (place : ℕ) (h : Holder) → IsKept first l row → place < length l → length new ≡ length row → ((q : ℕ) → has new q ≡ (not (place == q) && has row q)) → is_unheld h ≡ false
-    → IsKept first (set l place h) new
-kept-held first l row new place h kept lt words bits held = kept-set first l row new place h kept lt words
-    (λ q other. bits q ∙ ap (λ b. not b && has row q) (differs place q (λ e. other (sym e))))
-    (bits place ∙ ap (λ b. not b && has row place) (same place) ∙ sym held)
-  where
-    differs : (m n : ℕ) → m ≢ n → (m == n) ≡ false
-    differs m n ne = grind (arith, nat_tests)
-
-    same : (n : ℕ) → (n == n) ≡ true
-    same n = grind (arith, nat_tests)
-
--- a login ended, and its place is marked
-pub kept-ended : (first : ℕ) (l : List Holder) (row new : List ℕ) (place : ℕ) (h : Holder) (now : ℕ) → IsKept first l row → place < length l → length new ≡ length row → ((q : ℕ) → has new q ≡ (place == q || has row q)) → h.ended ≡ Some now
-    → IsKept first (set l place h) new
-kept-ended first l row new place h now kept lt words bits ended = kept-set first l row new place h kept lt words
-    (λ q other. bits q ∙ ap (λ b. b || has row q) (differs place q (λ e. other (sym e))))
-    (bits place ∙ ap (λ b. b || has row place) (same place) ∙ sym (ap (λ (o : Option ℕ). is_none h.name || is_some o) ended ∙ or_true (is_none h.name)))
-  where
-    differs : (m n : ℕ) → m ≢ n → (m == n) ≡ false
-    differs m n ne = grind (arith, nat_tests)
-
-    same : (n : ℕ) → (n == n) ≡ true
-    same n = grind (arith, nat_tests)
-
-    or_true : (b : Bool) → (b || true) ≡ true
-    or_true true = refl
-    or_true false = refl
+        ∙ sym (ap (λ (n : ℕ). is_unused (get_or (set l place h) n d)) same ∙ ap is_unused (get_or-set_same l place h d lt))
+    by (inr other) = others k other ∙ marked k d (omega (arith, length-set l place h)) ∙ sym (ap is_unused (get_or-set_other l place k h d other))
 
 -- ---- a change of one address
 
@@ -248,18 +164,37 @@ module _ (pool : List Past) (k : ℕ) (l : List Holder) (places : pasts_from k l
         )
       ]
 
-  -- a place that is found has a free address
-  pub free-found : (name now i : ℕ) → position (may_follow name now) l ≡ Some i → is_free pool name now (k + i) ≡ true
-  free-found name now i found =
-      let nobody : Holder = record { name = None; ended = None } in
-      let here = position-Some (may_follow name now) l i nobody found in
-      free-place name now (k + i) i (get_or l i nobody) refl (slice_get-get_or l i nobody here.0) ∙ here.1
+  -- a place that may be followed has a free address
+  pub free-found : (name now i : ℕ) → i < length l → may_follow name now (get_or l i nobody) ≡ true → is_free pool name now (k + i) ≡ true
+  free-found name now i lt may = free-place name now (k + i) i (get_or l i nobody) refl (slice_get-get_or l i nobody lt) ∙ may
 
-  -- some address is free where some place is found
-  pub has_free-position : (name now : ℕ) → is_some (position (may_follow name now) l) ≡ has_free pool name now
-  has_free-position name now = rw (← places) (is_some-position (may_follow name now) l ∙ sym (find-pasts_from name now k l))
+  -- and then some address is free
+  pub has_free-found : (name now i : ℕ) → i < length l → may_follow name now (get_or l i nobody) ≡ true → true ≡ has_free pool name now
+  has_free-found name now i lt may = rw (← places) (sym (find-pasts_from name now k l ∙ list_any-at (may_follow name now) l i nobody lt may))
+
+  -- where none may be followed no address is free
+  pub has_free-none : (name now : ℕ) → ((i : ℕ) → i < length l → may_follow name now (get_or l i nobody) ≡ false) → false ≡ has_free pool name now
+  has_free-none name now none = rw (← places) (sym (find-pasts_from name now k l ∙ list_any-nowhere (may_follow name now) l nobody none))
 
   -- a change of one address is a write at its place
   pub changed_pool : (F : Past → Past) (a : ℕ) (y d : Holder) → k ≤ a → a - k < length l → past_of a y ≡ F (past_of a (get_or l (a - k) d)) →
       pasts_from k (set l (a - k) y) ≡ map (λ p. if p.address == a then F p else p) pool
   changed_pool F a y d from lt is = rw (← places) (sym (changed-place F a k (a - k) l y d (omega arith) lt is))
+
+  -- the place of an address that a login holds
+  pub held_place : (a : ℕ) → is_held pool a ≡ true → (k ≤ a) × (a - k < length l) × (is_some (get_or l (a - k) nobody).name ≡ true) × ((get_or l (a - k) nobody).ended ≡ None)
+  held_place a holds =
+      let place = place_of_past (λ p. is_some p.name && is_none p.ended) a holds in
+      let there = rw (← places) at holds in
+      let found = past_at-place a k (a - k) l (omega (arith, place.0)) ∙ ap (option_map (past_of a)) (slice_get-get_or l (a - k) nobody place.1) in
+      let both = sym (ap (λ (o : Option Past). option_map_or (λ p. is_some p.name && is_none p.ended) o false) found) ∙ there in
+      (place.0, place.1, some_name (get_or l (a - k) nobody).name (get_or l (a - k) nobody).ended both, none_ended (get_or l (a - k) nobody).name (get_or l (a - k) nobody).ended both)
+    where
+      none_ended : (n e : Option ℕ) → (is_some n && is_none e) ≡ true → e ≡ None
+      none_ended n None h = refl
+      none_ended None (Some y) h = absurd (false≢true h)
+      none_ended (Some x) (Some y) h = absurd (false≢true h)
+
+      some_name : (n e : Option ℕ) → (is_some n && is_none e) ≡ true → is_some n ≡ true
+      some_name (Some x) e h = refl
+      some_name None e h = absurd (false≢true h)

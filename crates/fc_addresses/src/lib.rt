@@ -2,6 +2,7 @@
 #![tactic(auto)]
 
 mod pool;
+mod released;
 
 pub use pool::Pool;
 

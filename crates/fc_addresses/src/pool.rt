@@ -1,16 +1,17 @@
 //! The addresses of the pool, each with the name that had it last and the end of that login.
-ghost use Rattle.std.specs.Prelude.{◌≡◌, ℕ, ◌+◌, ◌<◌, ◌≤◌, ◌^◌, IsTrue, IfOk, IfSome, is_some, length, position};
+ghost use Rattle.std.specs.Prelude.{◌≡◌, ℕ, ◌+◌, ◌<◌, ◌≤◌, ◌^◌, IsTrue, IfOk, IfSome, is_some, length, vec_capacity};
 ghost use Rattle.fc_addresses.specs.Pool.{unused, is_free, has_free, is_held, AreEndedBy, IsSound};
 ghost use Rattle.fc_addresses.specs.Pool.{addresses, taken, released, HoldsAddress, EndsLogin};
-ghost use Rattle.fc_addresses.specs.Holders.{AreMarked, may_follow};
+ghost use Rattle.fc_addresses.specs.Holders.{may_follow, IsUnusedPlace, IsOneOf};
+ghost use Rattle.fc_addresses.specs.Holders.{owner_number, end_number, owner_of, release_of, left};
+ghost use Rattle.fab_base.specs.Keyed.{AscendFrom};
 
-use bit_rows::{Row, clear_bit, full_row, next_bit, put_bit};
+use crate::released::{Owner, QUARANTINE, Release, over_place, owned_place};
+use bit_rows::Tree;
 use fab_base::{FcId, Moment, NoMemory, Wwn};
+use sorted_lists::{HasRank, rank_put, rank_take};
 use std::alloc::Global;
 use std::marker::Model;
-
-// How long an address is kept from other names, in milliseconds.
-const QUARANTINE: u64 = 10_000;
 
 // The name that had an address last, and the end of its login.
 #[derive(Clone, Copy, Debug, PartialEq, Eq)]
@@ -32,23 +33,50 @@ impl Holder {
     }
 }
 
-// The first place that a login of this name may have next, among those that no login holds.
-fn first_place(holders: &[Holder], unheld: &[u64], name: Wwn, now: Moment) -> Option<usize>
-    requires marked { AreMarked unheld.now holders.now }
-    requires few { length unheld.now < 2 ^ 32 }
-    ensures { result ≡ position (may_follow name now) holders.now }
+// The first place that nobody had, of so many.
+fn unused_place(unused: &Tree, places: usize) -> Option<u32>
+    requires { places < 2 ^ 24 }
+    ensures { IsUnusedPlace unused.now places result }
 {
-    let mut from = 0;
-    while let Some(place) = next_bit(unheld, from) {
-        if place >= holders.len() {
-            return None;
+    match unused.first() {
+        Some(place) => {
+            if place < places {
+                Some(place as u32)
+            } else {
+                None
+            }
         }
-        if holders[place].may_be_followed(name, now) {
-            return Some(place);
-        }
-        from = place + 1;
+        None => None,
     }
-    None
+}
+
+// The lesser of two places.
+fn lesser(one: Option<u32>, other: Option<u32>) -> Option<u32>
+    ensures { IsOneOf one other result }
+{
+    match (one, other) {
+        (Some(x), Some(y)) => Some(x.min(y)),
+        (Some(x), None) => Some(x),
+        (None, y) => y,
+    }
+}
+
+// The place isn't among those whose login ended any more.
+fn unlist(owners: &mut Vec<Owner>, line: &mut Vec<Release>, place: u32, last: Holder)
+    requires owners { AscendFrom owner_number 0 owners.old.items }
+    requires line { AscendFrom end_number 0 line.old.items }
+    ensures owners { owners.new.items ≡ left owner_number (owner_of place last) owners.old.items }
+    ensures line { line.new.items ≡ left end_number (release_of place last) line.old.items }
+    ensures owner_room { vec_capacity owners.new ≡ vec_capacity owners.old }
+    ensures line_room { vec_capacity line.new ≡ vec_capacity line.old }
+{
+    match (last.name, last.ended) {
+        (Some(name), Some(end)) => {
+            rank_take(owners, Owner { name, place }.rank());
+            rank_take(line, Release { end, place }.rank());
+        }
+        _ => {}
+    }
 }
 
 /// The addresses that may be granted, in ascending order.
@@ -56,12 +84,15 @@ fn first_place(holders: &[Holder], unheld: &[u64], name: Wwn, now: Moment) -> Op
 pub struct Pool {
     first: u32,
     holders: Vec<Holder>,
-    // The places that no login holds.
-    unheld: Row,
+    // The places that nobody had.
+    unused: Tree,
+    // The places whose login ended, by name and by end.
+    owners: Vec<Owner>,
+    line: Vec<Release>,
 }
 
 impl Model for Pool {
-    ghost use Rattle.std.specs.Prelude.{List};
+    ghost use Rattle.std.specs.Prelude.{List, vec_capacity};
     ghost use Rattle.fab_base.specs.Fabric.{Past};
 
     ghost Value = { List Past };
@@ -70,7 +101,13 @@ impl Model for Pool {
 
     ghost view = { λ p. pasts_from p.first p.holders.items };
 
-    ghost invariant = { λ p. IsKept p.first p.holders.items p.unheld.items };
+    ghost invariant = { λ p. IsKept p.first
+        p.holders.items
+        p.unused
+        p.owners.items
+        p.line.items
+        (vec_capacity p.owners)
+        (vec_capacity p.line) };
 }
 
 impl Pool {
@@ -84,11 +121,15 @@ impl Pool {
             ended: None,
         };
         let holders = vec![in alloc; nobody; count as usize]?;
-        let unheld = full_row(alloc, count)?;
+        let unused = Tree::full(alloc, count)?;
+        let owners = Vec::with_capacity(alloc, count as usize)?;
+        let line = Vec::with_capacity(alloc, count as usize)?;
         Ok(Pool {
             first: first.value(),
             holders,
-            unheld,
+            unused,
+            owners,
+            line,
         })
     }
 
@@ -98,8 +139,11 @@ impl Pool {
         ensures some { is_some result ≡ has_free self.now name now }
         ensures sound { IsSound self.now }
     {
-        match first_place(&self.holders, &self.unheld, name, now) {
-            Some(place) => FcId::new(self.first + place as u32),
+        let unused = unused_place(&self.unused, self.holders.len());
+        let owned = owned_place(&self.owners, name);
+        let over = over_place(&self.line, now);
+        match lesser(unused, lesser(owned, over)) {
+            Some(place) => FcId::new(self.first + place),
             None => None,
         }
     }
@@ -125,12 +169,15 @@ impl Pool {
         ensures found { HoldsAddress address name self.old self.new }
         ensures places { addresses self.new ≡ addresses self.old }
     {
-        let place = (address.value() - self.first) as usize;
-        self.holders[place] = Holder {
+        let place = address.value() - self.first;
+        let held = Holder {
             name: Some(name),
             ended: None,
         };
-        clear_bit(&mut self.unheld, place);
+        let last = self.holders[place as usize];
+        self.holders[place as usize] = held;
+        self.unused.clear(place as usize);
+        unlist(&mut self.owners, &mut self.line, place, last);
     }
 
     /// The login that holds the address ends.
@@ -142,8 +189,16 @@ impl Pool {
         ensures places { addresses self.new ≡ addresses self.old }
         ensures order { AreEndedBy now self.new }
     {
-        let place = (address.value() - self.first) as usize;
-        self.holders[place].ended = Some(now);
-        put_bit(&mut self.unheld, place);
+        let place = address.value() - self.first;
+        let holder = self.holders[place as usize];
+        let Some(name) = holder.name else {
+            unreachable!()
+        };
+        self.holders[place as usize] = Holder {
+            name: Some(name),
+            ended: Some(now),
+        };
+        rank_put(&mut self.owners, Owner::new(name, place));
+        rank_put(&mut self.line, Release { end: now, place });
     }
 }

@@ -1,6 +1,8 @@
 -- An index stays one, when a record and its entry are taken out, put in, or changed together.
-use Rattle.std.proofs.Common.{◌≡◌, ◌≢◌, ℕ, suc, ◌+◌, ◌≤◌, ◌==◌, Bool, true, false, cond, if◌then◌else◌, List, [], ◌∷◌, length, Option, Some, None, is_some, option_map, slice_get, ◌-◌, find, filter, ◌⊎◌, inl, inr, refl, sym, ◌∙◌, ap, subst, arith}
+use Rattle.std.proofs.Common.{◌≡◌, ◌≢◌, ℕ, suc, ◌+◌, ◌<◌, ◌≤◌, ◌==◌, Bool, true, false, cond, if◌then◌else◌, List, [], ◌∷◌, length, Option, Some, None, is_some, option_map, slice_get, ◌-◌, nat_le, find, filter, ◌⊎◌, inl, inr, refl, sym, ◌∙◌, ap, subst, arith}
+use Rattle.std.proofs.lemmas.Bool.{cases_lt}
 use Rattle.std.proofs.lemmas.Bool.Decides.{nat_tests}
+use mathlib.Core.Bool.{false≢true}
 use Rattle.std.specs.List.{All}
 use Rattle.std.proofs.lemmas.List.Elements.{All-head, All-tail}
 use Rattle.std.proofs.lemmas.List.{length-map}
@@ -226,3 +228,100 @@ module _ {X : Type 0} (P : X → Type 0) where
   filter-alike p q [] all alike = refl
   filter-alike p q (y ∷ ys) all alike =
       ap (λ b. cond b (y ∷ filter p ys) (filter p ys)) (alike y (All-head P y ys all)) ∙ ap (λ (l : List X). cond (q y) (y ∷ l) l) (filter-alike p q ys (All-tail P y ys all) alike)
+
+-- ---- the first from a bound on
+
+module _ {X : Type 0} (key : X → ℕ) where
+  -- what a test finds is found by its key
+  pub find_by_key : (p : X → Bool) (k : ℕ) (xs : List X) (x : X) → AscendFrom key k xs → find p xs ≡ Some x → item_at key (key x) xs ≡ Some x
+  find_by_key p k [] x ascend found = absurd (none_some x found)
+  find_by_key p k (y ∷ ys) x ascend found = go (p y) found (find_by_key p (key y + 1) ys x ascend.1)
+    where
+      go : (b : Bool) → cond b (Some y) (find p ys) ≡ Some x → (find p ys ≡ Some x → item_at key (key x) ys ≡ Some x) → item_at key (key x) (y ∷ ys) ≡ Some x
+      go true f others = subst (λ z. item_at key (key z) (y ∷ ys) ≡ Some z) (some_same y x f) (ap (λ b. cond b (Some y) (item_at key (key y) ys)) (same (key y)))
+      go false f others = by (key y == key x) refl (others f)
+        where
+          by : (b : Bool) → (key y == key x) ≡ b → item_at key (key x) ys ≡ Some x → item_at key (key x) (y ∷ ys) ≡ Some x
+          by true e later = absurd (none_some x (sym (keyed.item_at-below key (key x) (key y + 1) ys ascend.1 (omega (arith, equal (key y) (key x) e))) ∙ later))
+          by false e later = ap (λ b. cond b (Some y) (item_at key (key x) ys)) e ∙ later
+
+  -- a key that is found isn't below the bound of its list
+  pub found-from : (k n : ℕ) (xs : List X) (y : X) → AscendFrom key k xs → item_at key n xs ≡ Some y → k ≤ n
+  found-from k n xs y ascend found = by (cases_lt n k)
+    where
+      by : (n < k) ⊎ (k ≤ n) → k ≤ n
+      by (inl lt) = absurd (none_some y (sym (keyed.item_at-below key n k xs ascend lt) ∙ found))
+      by (inr le) = le
+
+  -- no other item from the bound on is below the first
+  pub first_least : (from k : ℕ) (xs : List X) (x : X) → AscendFrom key k xs → find (λ z. nat_le from (key z)) xs ≡ Some x → (n : ℕ) (y : X) → item_at key n xs ≡ Some y → from ≤ n → key x ≤ n
+  first_least from k [] x ascend first n y found le = absurd (none_some y found)
+  first_least from k (z ∷ xs) x ascend first n y found le = go (nat_le from (key z)) refl first (λ f g. first_least from (key z + 1) xs x ascend.1 f n y g le)
+    where
+      go : (b : Bool) → nat_le from (key z) ≡ b → cond b (Some z) (find (λ w. nat_le from (key w)) xs) ≡ Some x → (find (λ w. nat_le from (key w)) xs ≡ Some x → item_at key n xs ≡ Some y → key x ≤ n) → key x ≤ n
+      go true here f rest = by (key z == n) refl found
+        where
+          by : (b : Bool) → (key z == n) ≡ b → cond b (Some z) (item_at key n xs) ≡ Some y → key x ≤ n
+          by true e g = omega (arith, ap key (some_same z x f), equal (key z) n e)
+          by false e g = omega (arith, ap key (some_same z x f), found-from (key z + 1) n xs y ascend.1 g)
+      go false below f rest = by (key z == n) refl found (rest f)
+        where
+          low : key z < from
+          low = grind (arith, nat_tests)
+
+          by : (b : Bool) → (key z == n) ≡ b → cond b (Some z) (item_at key n xs) ≡ Some y → (item_at key n xs ≡ Some y → key x ≤ n) → key x ≤ n
+          by true e g later = absurd (omega (arith, equal (key z) n e, low, le))
+          by false e g later = later g
+
+  -- where none is found from the bound on, each is below it
+  pub none_from : (from : ℕ) (xs : List X) → find (λ z. nat_le from (key z)) xs ≡ None → (n : ℕ) (y : X) → item_at key n xs ≡ Some y → n < from
+  none_from from [] none n y found = absurd (none_some y found)
+  none_from from (z ∷ xs) none n y found = go (nat_le from (key z)) refl none (λ f g. none_from from xs f n y g)
+    where
+      go : (b : Bool) → nat_le from (key z) ≡ b → cond b (Some z) (find (λ w. nat_le from (key w)) xs) ≡ None → (find (λ w. nat_le from (key w)) xs ≡ None → item_at key n xs ≡ Some y → n < from) → n < from
+      go true here f rest = absurd (none_some z (sym f))
+      go false below f rest = by (key z == n) refl found (rest f)
+        where
+          low : key z < from
+          low = grind (arith, nat_tests)
+
+          by : (b : Bool) → (key z == n) ≡ b → cond b (Some z) (item_at key n xs) ≡ Some y → (item_at key n xs ≡ Some y → n < from) → n < from
+          by true e g later = omega (arith, equal (key z) n e, low)
+          by false e g later = later g
+
+-- ---- what a test finds, by keys
+
+module _ {X : Type 0} (key : X → ℕ) (p : X → Bool) where
+  later_found : (k : ℕ) (z : X) (xs : List X) (n : ℕ) (y : X) → AscendFrom key k (z ∷ xs) → item_at key n xs ≡ Some y → item_at key n (z ∷ xs) ≡ Some y
+  later_found k z xs n y ascend found =
+      ap (λ b. cond b (Some z) (item_at key n xs)) (differs (key z) n (λ e. absurd (omega (arith, e, found-from key (key z + 1) n xs y ascend.1 found)))) ∙ found
+
+  first_found : (z : X) (xs : List X) → item_at key (key z) (z ∷ xs) ≡ Some z
+  first_found z xs = ap (λ b. cond b (Some z) (item_at key (key z) xs)) (same (key z))
+
+  -- the item that passes and is below each other that passes
+  pub find_least : (k : ℕ) (xs : List X) (x : X) → AscendFrom key k xs → item_at key (key x) xs ≡ Some x → p x ≡ true → ((n : ℕ) (y : X) → item_at key n xs ≡ Some y → p y ≡ true → key x ≤ n) → find p xs ≡ Some x
+  find_least k [] x ascend there passes least = absurd (none_some x there)
+  find_least k (z ∷ xs) x ascend there passes least =
+      go (p z) refl (key z == key x) refl there (λ t. find_least (key z + 1) xs x ascend.1 t passes (λ n y found. least n y (later_found k z xs n y ascend found)))
+    where
+      go : (b : Bool) → p z ≡ b → (c : Bool) → (key z == key x) ≡ c → cond c (Some z) (item_at key (key x) xs) ≡ Some x → (item_at key (key x) xs ≡ Some x → find p xs ≡ Some x) → cond b (Some z) (find p xs) ≡ Some x
+      go true this true e t rest = t
+      go true this false e t rest = absurd (omega (arith, least (key z) z (first_found z xs) this, found-from key (key z + 1) (key x) xs x ascend.1 t))
+      go false other true e t rest = absurd (false≢true (sym other ∙ ap p (some_same z x t) ∙ passes))
+      go false other false e t rest = rest t
+
+  -- where no item passes
+  pub find_nothing : (k : ℕ) (xs : List X) → AscendFrom key k xs → ((n : ℕ) (y : X) → item_at key n xs ≡ Some y → p y ≡ false) → find p xs ≡ None
+  find_nothing k [] ascend fails = refl
+  find_nothing k (z ∷ xs) ascend fails =
+      ap (λ b. cond b (Some z) (find p xs)) (fails (key z) z (first_found z xs)) ∙ find_nothing (key z + 1) xs ascend.1 (λ n y found. fails n y (later_found k z xs n y ascend found))
+
+  pub none_passes : (xs : List X) (n : ℕ) (y : X) → find p xs ≡ None → item_at key n xs ≡ Some y → p y ≡ false
+  none_passes [] n y none found = absurd (none_some y found)
+  none_passes (z ∷ xs) n y none found = go (p z) refl none (key z == n) found (none_passes xs n y)
+    where
+      go : (b : Bool) → p z ≡ b → cond b (Some z) (find p xs) ≡ None → (c : Bool) → cond c (Some z) (item_at key n xs) ≡ Some y → (find p xs ≡ None → item_at key n xs ≡ Some y → p y ≡ false) → p y ≡ false
+      go true e f c g rest = absurd (none_some z (sym f))
+      go false e f true g rest = ap p (sym (some_same z y g)) ∙ e
+      go false e f false g rest = rest f g

@@ -4,10 +4,14 @@
 ghost use Rattle.std.specs.Prelude.{◌≡◌, ◌==◌, ◌≤◌, nat_lt, nat_le, length, position, option_copied, unwrap_or};
 ghost use Rattle.fab_base.specs.Keyed.{item_at, AscendFrom};
 
+mod enode;
 mod ranked;
 
+pub use enode::enode_number;
 use fab_base::{FcId, HasAddress};
-pub use ranked::{HasRank, rank_above, rank_at, rank_find, rank_from, rank_put, rank_take};
+pub use ranked::{
+    HasRank, rank_above, rank_at, rank_find, rank_from, rank_next, rank_put, rank_take,
+};
 
 /// The place of the first item whose address isn't below the bound, or past the end.
 pub fn place_from<T: HasAddress>(items: &[T], from: u32) -> usize

@@ -1,5 +1,5 @@
 //! Lists that ascend by a number of their items, where it isn't an address.
-ghost use Rattle.std.specs.Prelude.{◌≡◌, ◌==◌, ◌+◌, ◌<◌, ◌^◌, ◌≤◌, nat_lt, nat_le, length, position, unwrap_or, option_copied, None, vec_capacity};
+ghost use Rattle.std.specs.Prelude.{◌≡◌, ◌==◌, ◌+◌, ◌<◌, ◌^◌, ◌≤◌, nat_lt, nat_le, length, position, unwrap_or, option_copied, None, vec_capacity, find};
 ghost use Rattle.fab_base.specs.Keyed.{AscendFrom, item_at, added, without};
 
 /// What has a number by which it is sorted.
@@ -95,5 +95,18 @@ pub fn rank_take<T: HasRank>(items: &mut Vec<T>, rank: u128) -> Option<T>
     match rank_at(items, rank) {
         Some(place) => Some(items.remove(place)),
         None => None,
+    }
+}
+
+/// The first item whose rank isn't below the bound.
+pub fn rank_next<T: HasRank>(items: &[T], from: u128) -> Option<&T>
+    requires { AscendFrom T.rank_of 0 items.now }
+    ensures { option_copied result ≡ find (λ x. nat_le from (T.rank_of x)) items.now }
+{
+    let place = rank_from(items, from);
+    if place < items.len() {
+        Some(&items[place])
+    } else {
+        None
     }
 }
