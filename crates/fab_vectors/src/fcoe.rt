@@ -1,0 +1,205 @@
+//! Frames in FCoE from a granted address.
+ghost use Rattle.std.specs.Prelude.{◌≡◌, ◌≤◌, ◌<◌, ◌++◌, length, IfOk, OnOk, vec_len};
+ghost use Rattle.ct_messages.specs.CanWrite.{CanWrite};
+ghost use Rattle.ct_messages.specs.Ct as ct;
+ghost use Rattle.els_messages.specs.Els as els;
+ghost use Rattle.fc_frames.specs.Frame.{IsPayload};
+ghost use Rattle.fcoe_codec.specs.Fcoe as capsule;
+ghost use Rattle.fab_vectors.specs.Frames as spec;
+
+use crate::LOGINS;
+use crate::names::{FORWARDER, TAG, address, granted_mac, well_known};
+use crate::parts::{els_bytes, header, parms};
+use ct_messages::{CtAsk, TypeMap, write_ask};
+use els_messages::Els;
+use eth_frames::{EthFrame, write_eth};
+use fab_base::{FcId, NoMemory, PortNo};
+use fc_frames::{FcFrame, FcHeader};
+use fcoe_codec::{EOF_T, FcoeFrame, SOF_I3, write_fcoe};
+use std::alloc::Global;
+
+/// The Ethertype of FCoE.
+const FCOE: u16 = 0x8906;
+
+/// The addresses of the name server and of the fabric controller.
+const NAME_SERVER: u32 = 0xff_fffc;
+
+const CONTROLLER: u32 = 0xff_fffd;
+
+/// SCSI over Fibre Channel.
+const FCP: u8 = 8;
+
+// Appends the login of a login to the name server.
+pub(crate) fn write_server_login(
+    alloc: Global,
+    port: PortNo,
+    login: u8,
+    out: &mut Vec<u8>,
+) -> Result<(), NoMemory>
+    ensures ok { OnOk result (out.new.items ≡ out.old.items ++ spec.server_login port login) }
+    ensures size { OnOk result (length (spec.server_login port login) ≤ 65535) }
+{
+    let head = header(0x22, well_known(NAME_SERVER), address(port, login), 0x01, 1);
+    let payload = els_bytes(alloc, &Els::Plogi(parms(0, port, login)))?;
+    write_payload(alloc, &head, &payload, out)
+}
+
+// Appends its request to be told of state changes.
+pub(crate) fn write_watch(
+    alloc: Global,
+    port: PortNo,
+    login: u8,
+    out: &mut Vec<u8>,
+) -> Result<(), NoMemory>
+    ensures ok { OnOk result (out.new.items ≡ out.old.items ++ spec.watch port login) }
+    ensures size { OnOk result (length (spec.watch port login) ≤ 65535) }
+{
+    let head = header(0x22, well_known(CONTROLLER), address(port, login), 0x01, 2);
+    let payload = els_bytes(alloc, &Els::Scr { function: 3 })?;
+    write_payload(alloc, &head, &payload, out)
+}
+
+// Appends its registration.
+pub(crate) fn write_registration(
+    alloc: Global,
+    port: PortNo,
+    login: u8,
+    out: &mut Vec<u8>,
+) -> Result<(), NoMemory>
+    ensures ok { OnOk result (out.new.items ≡ out.old.items ++ spec.registration port login) }
+    ensures size { OnOk result (length (spec.registration port login) ≤ 65535) }
+{
+    let s_id = address(port, login);
+    let head = header(0x02, well_known(NAME_SERVER), s_id, 0x20, 3);
+    let types = TypeMap([0x100, 0, 0, 0, 0, 0, 0, 0]);
+    let payload = ct_bytes(alloc, &CtAsk::SetTypes(s_id, types))?;
+    write_payload(alloc, &head, &payload, out)
+}
+
+// Appends its query.
+pub(crate) fn write_query(
+    alloc: Global,
+    port: PortNo,
+    login: u8,
+    out: &mut Vec<u8>,
+) -> Result<(), NoMemory>
+    ensures ok { OnOk result (out.new.items ≡ out.old.items ++ spec.query port login) }
+    ensures size { OnOk result (length (spec.query port login) ≤ 65535) }
+{
+    let head = header(0x02, well_known(NAME_SERVER), address(port, login), 0x20, 4);
+    let payload = ct_bytes(alloc, &CtAsk::AddressesOfType(FCP))?;
+    write_payload(alloc, &head, &payload, out)
+}
+
+// Appends the data frame of an OX_ID, by what was drawn for it.
+pub(crate) fn write_data(
+    alloc: Global,
+    port: PortNo,
+    ox_id: u16,
+    drawn: u32,
+    out: &mut Vec<u8>,
+) -> Result<(), NoMemory>
+    ensures ok { OnOk result (out.new.items ≡ out.old.items ++ spec.data_frame port ox_id drawn) }
+    ensures size { OnOk result (length (spec.data_frame port ox_id drawn) ≤ 65535) }
+{
+    let d_id = address(target_port(drawn), target(drawn));
+    let head = header(0x01, d_id, address(port, sender(drawn)), FCP, ox_id);
+    let payload = data_payload(alloc, drawn)?;
+    write_payload(alloc, &head, &payload, out)
+}
+
+// The login that a data frame is from.
+fn sender(drawn: u32) -> u8
+    ensures value { result ≡ spec.sender drawn }
+    ensures range { result < 30 }
+{
+    (drawn % u32::from(LOGINS)) as u8
+}
+
+// The port that it goes to.
+fn target_port(drawn: u32) -> PortNo
+    ensures { result ≡ spec.target_port drawn }
+{
+    PortNo::at((drawn / 30 % 8) as usize)
+}
+
+// The login that it goes to.
+fn target(drawn: u32) -> u8
+    ensures { result ≡ spec.target drawn }
+{
+    if drawn / 240 % 8 == 0 {
+        (sender(drawn) + 1) % LOGINS
+    } else {
+        sender(drawn)
+    }
+}
+
+// Its payload.
+#[tactic(auto, unfolding(crate::specs::Frames::payload))]
+fn data_payload(alloc: Global, drawn: u32) -> Result<Vec<u8>, NoMemory>
+    ensures bytes { IfOk result (λ v. v.items ≡ spec.payload drawn) }
+    ensures payload { IfOk result (λ v. IsPayload v.items) }
+{
+    let length = 4 * (drawn / 1920 % 529);
+    let mut bytes = Vec::with_capacity(alloc, length as usize)?;
+    for place in 0..length {
+        bytes.push(((u64::from(drawn) + u64::from(place)) % 256) as u8)?;
+    }
+    Ok(bytes)
+}
+
+// The payload of a request to the name server.
+fn ct_bytes(alloc: Global, ask: &CtAsk<'_>) -> Result<Vec<u8>, NoMemory>
+    requires { CanWrite (ct.view ask.now) }
+    ensures bytes { IfOk result (λ v. v.items ≡ ct.written (ct.view ask.now)) }
+    ensures payload { IfOk result (λ v. IsPayload v.items) }
+{
+    let mut payload = Vec::new(alloc);
+    write_ask(alloc, ask, &mut payload)?;
+    Ok(payload)
+}
+
+// Appends a frame with this header and payload.
+fn write_payload(
+    alloc: Global,
+    head: &FcHeader,
+    payload: &[u8],
+    out: &mut Vec<u8>,
+) -> Result<(), NoMemory>
+    requires { IsPayload payload.now }
+    ensures ok { OnOk result (out.new.items ≡ out.old.items ++ spec.fcoe_frame head.now payload.now) }
+    ensures size { OnOk result (length (spec.fcoe_frame head.now payload.now) ≤ 65535) }
+{
+    let body = body_of(alloc, head, payload)?;
+    let frame = EthFrame {
+        dst: FORWARDER,
+        src: granted_mac(head.s_id),
+        tag: Some(TAG),
+        kind: FCOE,
+        body: &body,
+    };
+    write_eth(alloc, &frame, out)
+}
+
+// A frame between its delimiters.
+fn body_of(alloc: Global, head: &FcHeader, payload: &[u8]) -> Result<Vec<u8>, NoMemory>
+    requires { IsPayload payload.now }
+    ensures bytes { IfOk result (λ v. v.items ≡ capsule.written (record {
+      sof = capsule.SOF_I3;
+      eof = capsule.EOF_T;
+      frame = record { head = head.now; payload = payload.now };
+    })) }
+    ensures size { IfOk result (λ v. vec_len v ≤ 2158) }
+{
+    let mut body = Vec::new(alloc);
+    let frame = FcoeFrame {
+        sof: SOF_I3,
+        eof: EOF_T,
+        frame: FcFrame {
+            head: *head,
+            payload,
+        },
+    };
+    write_fcoe(alloc, &frame, &mut body)?;
+    Ok(body)
+}

@@ -1,0 +1,64 @@
+//! Headers and payloads of requests.
+ghost use Rattle.std.specs.Prelude.{◌≡◌, IfOk, vec_len};
+ghost use Rattle.els_messages.specs.Els as els;
+ghost use Rattle.fc_frames.specs.Frame.{IsPayload};
+ghost use Rattle.fab_vectors.specs.Frames as spec;
+
+use crate::names::{node_name, port_name};
+use els_messages::{Els, LoginParms, write_els};
+use fab_base::{FcId, NoMemory, PortNo};
+use fc_frames::FcHeader;
+use std::alloc::Global;
+
+/// The originator's only frame.
+const F_CTL_REQUEST: u32 = 0x29_0000;
+
+/// The greatest payload of a frame.
+const RECEIVE_SIZE: u16 = 2112;
+
+/// The header of a request.
+pub(crate) fn header(r_ctl: u8, d_id: FcId, s_id: FcId, kind: u8, ox_id: u16) -> FcHeader
+    ensures { result ≡ spec.header r_ctl d_id s_id kind ox_id }
+{
+    FcHeader {
+        r_ctl,
+        d_id,
+        cs_ctl: 0,
+        s_id,
+        kind,
+        f_ctl: F_CTL_REQUEST,
+        seq_id: 0,
+        df_ctl: 0,
+        seq_cnt: 0,
+        ox_id,
+        rx_id: 0xffff,
+        parameter: 0,
+    }
+}
+
+/// The parameters of a login.
+pub(crate) fn parms(features: u16, port: PortNo, login: u8) -> LoginParms
+    ensures { result ≡ spec.parms features port login }
+{
+    LoginParms {
+        features,
+        size: RECEIVE_SIZE,
+        ra_tov: 0,
+        ed_tov: 0,
+        port_name: port_name(port, login),
+        node_name: node_name(port),
+        class3: [0x80, 0, 0, 0, 0, 0, 0, 0, 0, 0, 0, 0, 0, 0, 0, 0],
+    }
+}
+
+/// The payload of a link service.
+pub(crate) fn els_bytes(alloc: Global, message: &Els<'_>) -> Result<Vec<u8>, NoMemory>
+    requires { els.CanWrite (els.view message.now) }
+    ensures bytes { IfOk result (λ v. v.items ≡ els.written (els.view message.now)) }
+    ensures payload { IfOk result (λ v. IsPayload v.items) }
+    ensures size { IfOk result (λ v. vec_len v ≡ els.written_length (els.view message.now)) }
+{
+    let mut payload = Vec::new(alloc);
+    write_els(alloc, message, &mut payload)?;
+    Ok(payload)
+}
