@@ -1,1 +1,5 @@
+pub mod CaptureLemmas
+pub mod FilesLemmas
 pub mod FrameLemmas
+pub mod MakingLemmas
+pub mod SettingsLemmas

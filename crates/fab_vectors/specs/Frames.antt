@@ -1,5 +1,5 @@
 -- The bytes of the frames of a load, by the definitions of the codecs.
-use Rattle.std.specs.Prelude.{ℕ, ◌+◌, ◌*◌, ◌/◌, ◌%◌, ◌==◌, if◌then◌else◌, true, false, List, [], ◌∷◌, Option, Some, None}
+use Rattle.std.specs.Prelude.{ℕ, ◌+◌, ◌*◌, ◌/◌, ◌%◌, ◌==◌, if◌then◌else◌, true, false, List, ◌∷◌, Option, Some, None}
 use Rattle.fab_base.specs.Layout.{zeros}
 use Rattle.eth_frames.specs.Ethernet as eth
 use Rattle.fip_codec.specs.Message as fip

@@ -1,5 +1,5 @@
 -- The load of a number: which frame of which port stands at which moment, and its captures.
-use Rattle.std.specs.Prelude.{ℕ, zero, suc, ◌+◌, ◌-◌, ◌*◌, ◌/◌, ◌%◌, ◌^◌, List, [], ◌∷◌, ◌++◌, flat_map}
+use Rattle.std.specs.Prelude.{ℕ, zero, suc, ◌+◌, ◌*◌, ◌/◌, ◌%◌, ◌^◌, List, [], ◌∷◌, ◌++◌, flat_map}
 use Rattle.pcap_file.specs.Capture.{head_bytes, record_bytes}
 use Rattle.fab_vectors.specs.Frames.{frame_bytes}
 use Rattle.fab_vectors.specs.Names.{numbered, login_number}
@@ -58,9 +58,12 @@ data_frames number port j count = numbered (data_frame number port) j count
 -- 2500 frames. A keep alive stands before the data frame of its moment: those of 16000, 24000 and 32000 before frames 600, 1400 and 2200.
 unfoldable pub frames : ℕ → ℕ → List LoadFrame
 frames number port =
-    VlanRequest ∷ Solicitation ∷ logins Fabric ++ logins Server ++ logins Watch ++ logins Register ++ logins Query
-    ++ KeepAlive 1 ∷ data_frames number port 0 600 ++ KeepAlive 2 ∷ data_frames number port 600 800
-    ++ KeepAlive 3 ∷ data_frames number port 1400 800 ++ KeepAlive 4 ∷ data_frames number port 2200 144
+    (VlanRequest ∷ Solicitation ∷ [])
+    ++ logins Fabric ++ logins Server ++ logins Watch ++ logins Register ++ logins Query
+    ++ (KeepAlive 1 ∷ []) ++ data_frames number port 0 600
+    ++ (KeepAlive 2 ∷ []) ++ data_frames number port 600 800
+    ++ (KeepAlive 3 ∷ []) ++ data_frames number port 1400 800
+    ++ (KeepAlive 4 ∷ []) ++ data_frames number port 2200 144
 
 -- ---- the files
 

@@ -117,7 +117,13 @@ fn carried(alloc: Global, port: PortNo, login: u8) -> Result<Vec<u8>, NoMemory>
     let payload = login_payload(alloc, port, login)?;
     let mut bytes = Vec::new(alloc);
     let frame = FcFrame {
-        head: header(0x22, well_known(0xfffffe), well_known(0), 0x01, u16::from(login) + 1),
+        head: header(
+            0x22,
+            well_known(0xfffffe),
+            well_known(0),
+            0x01,
+            u16::from(login) + 1,
+        ),
         payload: &payload,
     };
     write_frame(alloc, &frame, &mut bytes)?;

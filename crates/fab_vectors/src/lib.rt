@@ -4,14 +4,17 @@
 
 mod drawing;
 mod fcoe;
+mod files;
 mod fip;
 mod frame;
+mod making;
 mod names;
 mod parts;
 mod plan;
 mod records;
+mod settings;
 
-pub mod trying;
+pub use making::make_load;
 use thiserror::Error;
 
 /// Why a load isn't made.
@@ -25,8 +28,8 @@ pub enum MakeFault {
     Memory,
 }
 
-/// How many ports a load has.
-const PORTS: usize = 8;
+/// How many files a load has.
+const FILES: usize = 9;
 
 /// How many logins a port has.
 const LOGINS: u8 = 30;

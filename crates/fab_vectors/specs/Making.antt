@@ -1,0 +1,42 @@
+-- The nine files of a load: the configuration, and then the captures of ports 1 to 8.
+use Rattle.std.specs.Prelude.{◌≡◌, ℕ, zero, suc, ◌<◌, IsTrue, List, [], length, slice_index, Some, Result, IfOk, OnOk, IsErrOf}
+use Rattle.fab_base.specs.Seen.{Seen, Rose, Touches}
+use Rattle.fab_vectors.specs.Files.{HoldsFront}
+use Rattle.fab_vectors.specs.Load.{capture}
+use Rattle.fab_vectors.specs.Settings.{config_text}
+use Rattle.fab_vectors.specs.declared.MakeFault.{MakeFault}
+use Rattle.fab_vectors.specs.declared.MakeFault.TheVariants as fault
+
+-- the files of a load by their place: the configuration at 0, and the capture of port p at p
+abbrev pub file_text : ℕ → ℕ → List ℕ
+file_text number zero = config_text
+file_text number (suc q) = capture number (suc q)
+
+-- how many frames a file has
+abbrev pub frame_count : ℕ → ℕ
+frame_count zero = 0
+frame_count (suc q) = 2500
+
+-- the name of the slot at a place
+abbrev pub name_at : Seen → List ℕ → ℕ → List ℕ
+name_at d slots q = d.name (slice_index slots q)
+
+-- a name of one of the nine
+abbrev pub IsNamed : Seen → List ℕ → List ℕ → Type 0
+IsNamed d slots m = (q : ℕ) × (q < 9) × (m ≡ name_at d slots q)
+
+-- Nine open outputs of different names, which are empty where the depot tells.
+pub record AreNine (d : Seen) (slots : List ℕ) : Type 0 where
+  pub count : length slots ≡ 9
+  pub outputs : (q : ℕ) → q < 9 → IsTrue (d.output (slice_index slots q))
+  pub differ : (p q : ℕ) → p < 9 → q < 9 → name_at d slots p ≡ name_at d slots q → p ≡ q
+  pub empty : IsTrue d.told → (q : ℕ) → q < 9 → d.file (name_at d slots q) ≡ Some []
+
+-- Making a load: each file holds its text, or, where it fails, a beginning of it; no other file changes. A fault of writing comes only where
+-- one was counted for one of the nine.
+pub record Makes (number : ℕ) (slots : List ℕ) (old new : Seen) (result : Result ℕ MakeFault) : Type 0 where
+  pub touches : Touches (IsNamed old slots) (IsNamed old slots) old new
+  pub whole : IsTrue old.told → OnOk result ((q : ℕ) → q < 9 → new.file (name_at old slots q) ≡ Some (file_text number q))
+  pub front : IsTrue old.told → (q : ℕ) → q < 9 → HoldsFront new (name_at old slots q) [] (file_text number q)
+  pub count : IfOk result (λ frames. frames ≡ 20000)
+  pub cause : IsErrOf result fault.Write → (q : ℕ) × (q < 9) × Rose (old.write_faults (name_at old slots q)) (new.write_faults (name_at old slots q))
