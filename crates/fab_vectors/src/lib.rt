@@ -13,6 +13,8 @@ mod parts;
 mod plan;
 mod records;
 mod settings;
+#[cfg(test)]
+mod tests;
 
 pub use making::make_load;
 use thiserror::Error;
