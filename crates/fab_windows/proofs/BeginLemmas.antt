@@ -1,5 +1,5 @@
 -- How a run begins, goes on to its next window, and comes to its end.
-use Rattle.std.proofs.Common.{◌≡◌, ◌≢◌, ℕ, zero, suc, ◌+◌, ◌^◌, ◌<◌, ◌≤◌, ◌⊎◌, inl, inr, List, [], ◌∷◌, ◌++◌, length, map, Option, Some, None, IfSome, IsTrue, Result, Ok, Err, OnOk, IfErr, refl, sym, ap, ◌∙◌, subst, arith}
+use Rattle.std.proofs.Common.{◌≡◌, ℕ, suc, ◌+◌, ◌^◌, ◌<◌, ◌≤◌, inl, inr, List, [], ◌∷◌, ◌++◌, length, map, Option, Some, None, IfSome, IsTrue, Result, Ok, Err, refl, sym, ap, ◌∙◌, subst, arith}
 use Rattle.std.specs.Prelude.{unwrap_or, Vec}
 use Rattle.std.specs.declared.alloc.Global.{Global}
 use Rattle.fab_base.specs.Seen.{Seen, Touches, Nothing, Rose}
@@ -7,11 +7,11 @@ use Rattle.fab_base.specs.declared.values.Failed.{Failed}
 use Rattle.fab_base.proofs.SeenLemmas.{rose_later, touches_refl, touches_trans, touches_wider}
 use Rattle.fab_config.specs.Settings.{Settings}
 use Rattle.fab_policy.specs.Growing.{AllBelow}
-use Rattle.fab_policy.specs.Journal.{Journal, followed}
+use Rattle.fab_policy.specs.Journal.{followed}
 use Rattle.fab_policy.specs.Legal.{Run}
-use Rattle.fab_policy.specs.Looks.{Opened, Stop, stop, in_order, first_window}
+use Rattle.fab_policy.specs.Looks.{Opened, stop}
 use Rattle.fab_policy.specs.Outputs.{State, state_of}
-use Rattle.fab_policy.specs.Standing.{Contents, Stands, sent_after}
+use Rattle.fab_policy.specs.Standing.{Contents, sent_after}
 use Rattle.fab_policy.specs.Text.{text, head_line}
 use Rattle.pcap_file.specs.Capture.{head_bytes}
 use Rattle.pcap_file.specs.declared.Budget.{Budget}
@@ -20,19 +20,19 @@ use Rattle.fab_gather.specs.declared.shelf.Input.{Input}
 use Rattle.fab_gather.specs.declared.shelf.Shelf.{Shelf}
 use Rattle.fab_gather.specs.declared.fault.RunFault.{RunFault}
 use Rattle.fab_gather.specs.declared.fault.RunFault.TheVariants as fault
-use Rattle.fab_gather.specs.First.{IsNextWindow, LooksFirst, opened_in, opened_by}
-use Rattle.fab_gather.specs.Ports.{slots_of, name_of, NameIn, AreInputs, AreReady, rests, joined, stop_from}
+use Rattle.fab_gather.specs.First.{IsNextWindow, LooksFirst, opened_in}
+use Rattle.fab_gather.specs.Ports.{slots_of, name_of, NameIn, AreInputs, AreReady, stop_from}
 use Rattle.fab_gather.specs.Reads.{HaveRead}
 use Rattle.fab_windows.specs.declared.Done.{Done}
-use Rattle.fab_windows.specs.Files.{AreFiles, Written, Hold, Wholes, Fronts, Writes, captures, piece_at}
-use Rattle.fab_windows.specs.Run.{AreGiven, Runs, Interrupted, Stopped}
-use Rattle.fab_windows.specs.Steps.{Sofar}
+use Rattle.fab_windows.specs.Files.{AreFiles, Written, Pending, Hold, Wholes, Fronts, Writes, captures, piece_at}
+use Rattle.fab_windows.specs.Pages.{IsNothing}
+use Rattle.fab_windows.specs.Run.{AreGiven, Runs, Stopped}
 use Rattle.fab_windows.specs.Turns.{Laws, Task, captures_in, Touched, Begun, Reached, Going, Ended}
 use Rattle.fab_windows.proofs.EndLemmas.{whole_is_front, ends_before, stops_first, finished}
-use Rattle.fab_windows.proofs.FileLemmas.{files_stay}
+use Rattle.fab_windows.proofs.PublishLemmas.{hold_all, flushed, flushed_front, write_cause}
 use Rattle.fab_windows.proofs.StayLemmas.{LeftStays, inputs_stay, input_name_in, hold_stays, length-slots, same_ports, writing_leaves}
 use Rattle.fab_windows.proofs.TickLemmas.{distance}
-use Rattle.fab_windows.proofs.TurnLemmas.{ended}
+use Rattle.fab_windows.proofs.TurnLemmas.{ended, ended_writing, files_now, reached_on}
 
 -- a capture with these bytes left in its file
 abbrev with_rest : Input → List ℕ → Opened
@@ -159,9 +159,9 @@ module _ (laws : Laws) (k : Task) (d : Seen) (ins : List Input) (shelves : List 
   first_is None h told = b.stops told ∙ laws.none_left k.settings _ d ins shelves left h ∙ sym (laws.none_left k.settings 0 d ins shelves left h)
   first_is (Some w) h told = b.stops told ∙ ap (λ (f : ℕ). stop_from k.settings f d ins shelves left) (laws.next_first k.settings 0 w d ins shelves left b.count b.ready h)
 
-  pub going_first : (F : Contents) (o : Option ℕ) (done : Done) → F.settings ≡ k.settings → F.count ≡ length k.ins → F.state ≡ state_of F.settings [] → F.events ≡ [] → F.outs ≡ [] →
-      IsNextWindow k.settings shelves o → done.frames ≡ 0 → done.entries ≡ 0 → Going k 0 (unwrap_or o 0) F d ins shelves left done
-  going_first F o done settings count state events outs next frames entries = record {
+  pub going_first : (F : Contents) (o : Option ℕ) (done : Done) (p : Pending) → IsNothing p → F.settings ≡ k.settings → F.count ≡ length k.ins → F.state ≡ state_of F.settings [] → F.events ≡ [] → F.outs ≡ [] →
+      IsNextWindow k.settings shelves o → done.frames ≡ 0 → done.entries ≡ 0 → Going k 0 (unwrap_or o 0) F d ins shelves left done p
+  going_first F o done p none settings count state events outs next frames entries = record {
     reached = record {
       given = b.given;
       ports = b.ports;
@@ -188,15 +188,15 @@ module _ (laws : Laws) (k : Task) (d : Seen) (ins : List Input) (shelves : List 
       spent = b.spent;
       stops = first_is o next;
     };
-    whole = b.whole;
+    files = λ told. hold_all p d k.journal k.outs (text []) (captures k.settings (length k.outs) []) none (b.whole told);
     frames = frames;
     entries = entries;
   }
 
 -- ---- the next window
 
-module _ (laws : Laws) (k : Task) (v w first : ℕ) (F : Contents) (d : Seen) (ins : List Input) (shelves : List Shelf) (left : Budget) (done : Done)
-    (g : Going k v first F d ins shelves left done) (next : IsNextWindow k.settings shelves (Some w)) where
+module _ (laws : Laws) (k : Task) (v w first : ℕ) (F : Contents) (d : Seen) (ins : List Input) (shelves : List Shelf) (left : Budget) (done : Done) (p : Pending)
+    (g : Going k v first F d ins shelves left done p) (next : IsNextWindow k.settings shelves (Some w)) where
   abbrev r : Reached k v first F d ins shelves left
   r = g.reached
 
@@ -213,7 +213,7 @@ module _ (laws : Laws) (k : Task) (v w first : ℕ) (F : Contents) (d : Seen) (i
   clock_then None h = tt
   clock_then (Some t) h = omega (arith, h, ahead.0)
 
-  pub going_next : Going k w first F d ins shelves left done
+  pub going_next : Going k w first F d ins shelves left done p
   going_next = record {
     reached = record {
       given = r.given;
@@ -241,25 +241,41 @@ module _ (laws : Laws) (k : Task) (v w first : ℕ) (F : Contents) (d : Seen) (i
       spent = r.spent;
       stops = r.stops;
     };
-    whole = g.whole;
+    files = g.files;
     frames = g.frames;
     entries = g.entries;
   }
 
 -- ---- the end of all captures
 
-pub ended_well : (laws : Laws) (k : Task) (w first : ℕ) (F : Contents) (d : Seen) (ins : List Input) (shelves : List Shelf) (left : Budget) (done : Done) →
-    Going k w first F d ins shelves left done → IsNextWindow k.settings shelves None → Runs k.settings k.budget k.ins k.seen d k.journal k.outs (Ok done)
-ended_well laws k w first F d ins shelves left done g next =
-    let r = g.reached in
-    record {
-      touches = r.touches;
-      ends = λ told.
-          let read = laws.read_all k.settings w (captures_in k) r.taken ins shelves d (subst IsTrue (sym r.touches.told) told) r.read next in
-          finished k.settings k.budget (captures_in k) r.taken r.entry_list d k.journal k.outs done r.sofar.run (r.stops told ∙ laws.none_left k.settings first d ins shelves left next) read.0 read.1 (g.whole told) g.frames g.entries;
-      read = λ x. absurd (cc);
-      write = λ x. absurd (cc);
-    }
+module _ (laws : Laws) (k : Task) (w first : ℕ) (F : Contents) (d : Seen) (ins : List Input) (shelves : List Shelf) (left : Budget) (done : Done) (p : Pending)
+    (g : Going k w first F d ins shelves left done p) (next : IsNextWindow k.settings shelves None) (z : Seen) where
+  told_end : IsTrue k.seen.told → IsTrue d.told
+  told_end told = subst IsTrue (sym g.reached.touches.told) told
+
+  pub files_end : AreFiles d k.journal k.outs
+  files_end = files_now laws k w first F d ins shelves left g.reached
+
+  -- what was still to be written is
+  pub ended_well : Writes k.journal k.outs p.lines p.pieces d z (Ok tt) → Runs k.settings k.budget k.ins k.seen z k.journal k.outs (Ok done)
+  ended_well x =
+      let r = reached_on laws k w first F d ins shelves left g.reached z x.touches in
+      record {
+        touches = r.touches;
+        ends = λ told.
+            let read = laws.read_all k.settings w (captures_in k) r.taken ins shelves z (subst IsTrue (sym r.touches.told) told) r.read next in
+            finished k.settings k.budget (captures_in k) r.taken r.entry_list z k.journal k.outs done r.sofar.run (r.stops told ∙ laws.none_left k.settings first z ins shelves left next) read.0 read.1
+            (flushed p d z k.journal k.outs (text r.entry_list) (captures k.settings (length k.outs) r.entry_list) (told_end told) (g.files told) x) g.frames g.entries;
+        read = λ y. absurd (cc);
+        write = λ y. absurd (cc);
+      }
+
+  -- or can't be
+  pub ended_broken : (f : Failed) → Writes k.journal k.outs p.lines p.pieces d z (Err f) → Ended k z fault.Write
+  ended_broken f x =
+      ended_writing laws k w first F d ins shelves left g.reached z x.touches fault.Write tt
+      (λ told. flushed_front p d z k.journal k.outs (text g.reached.entry_list) (captures k.settings (length k.outs) g.reached.entry_list) (told_end told) (g.files told) x)
+      (λ y. write_cause k.journal k.outs p.lines p.pieces d z f x)
 
 -- the captures are still open when the heads are written
 pub inputs_heads : (d : Seen) (ins : List Input) (journal : ℕ) (outs : List ℕ) → AreGiven d ins journal outs → (b : Seen) {lines : List ℕ} {pieces : List (List ℕ)} {r : Result (Unit {0}) Failed} → Writes journal outs lines pieces d b r → AreInputs b (slots_of ins)

@@ -1,5 +1,5 @@
 -- How a run ends from what stands between two windows.
-use Rattle.std.proofs.Common.{◌≡◌, ℕ, ◌+◌, ◌<◌, List, [], ◌∷◌, length, map, Option, Some, None, refl, sym, ap, ◌∙◌, subst}
+use Rattle.std.proofs.Common.{◌≡◌, ℕ, List, [], ◌∷◌, length, map, Option, Some, None, refl, sym, ap, ◌∙◌, subst}
 use Rattle.std.specs.Prelude.{filter, nat_lt}
 use Rattle.std.specs.List.{All}
 use Rattle.std.proofs.lemmas.List.{append-nil}
@@ -10,7 +10,7 @@ use Rattle.fab_policy.specs.Growing.{NothingIsRun}
 use Rattle.fab_policy.specs.Keeping.{Splits, IsAhead, KeepsBefore, KeepsJust}
 use Rattle.fab_policy.specs.Legal.{Run, window_start}
 use Rattle.fab_policy.specs.Looks.{Opened, Stop, stop, kept, all_records}
-use Rattle.fab_policy.specs.Text.{text, egress}
+use Rattle.fab_policy.specs.Text.{text}
 use Rattle.pcap_file.specs.declared.Budget.{Budget}
 use Rattle.pcap_file.specs.declared.Record.{Record}
 use Rattle.fab_gather.specs.Port.{ending}

@@ -1,6 +1,6 @@
 -- Several files, written one after another.
-use Rattle.std.proofs.Common.{◌≡◌, ◌≢◌, ℕ, zero, suc, ◌+◌, ◌-◌, ◌<◌, ◌≤◌, ◌⊎◌, inl, inr, Bool, true, false, List, [], ◌∷◌, ◌++◌, length, take, drop, get_or, Option, Some, None, Ok, Err, IsTrue, refl, sym, ap, ◌∙◌, subst, arith, append_assoc}
-use Rattle.std.specs.Prelude.{Result, Vec, OnOk}
+use Rattle.std.proofs.Common.{◌≡◌, ◌≢◌, ℕ, zero, suc, ◌+◌, ◌<◌, ◌≤◌, inl, inr, List, [], ◌∷◌, ◌++◌, length, take, drop, get_or, Option, Some, Ok, Err, IsTrue, refl, sym, ap, ◌∙◌, subst, arith, append_assoc}
+use Rattle.std.specs.Prelude.{Result, Vec}
 use Rattle.std.specs.declared.alloc.Global.{Global}
 use Rattle.std.proofs.lemmas.List.{append-nil, take-append-drop}
 use Rattle.fab_base.specs.Seen.{Seen, Keeps, Rose, PutsAll, Touches, Only}
@@ -9,7 +9,7 @@ use Rattle.fab_base.proofs.SeenLemmas.{rose_later, touches_refl, touches_trans, 
 use Rattle.fab_policy.specs.Written.{IsPrefixOf}
 use Rattle.pcap_file.proofs.lemmas.Numbers.{le_or_lt}
 use Rattle.fab_gather.specs.Ports.{slot_at, name_of, NameIn}
-use Rattle.fab_windows.specs.Files.{AreOutputs, items_in, piece_at, PutsEach, Hold, HoldFronts, Written, AreFiles, Writes}
+use Rattle.fab_windows.specs.Files.{AreOutputs, items_in, piece_at, PutsEach, Hold, Written, AreFiles, Writes}
 
 -- ---- a piece to each
 

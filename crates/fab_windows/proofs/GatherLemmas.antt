@@ -1,5 +1,5 @@
 -- A window that is gathered, which may start too long after the first.
-use Rattle.std.proofs.Common.{◌≡◌, ◌≢◌, ℕ, ◌+◌, ◌-◌, List, length, Option, Some, None, IsTrue, Result, Ok, Err, refl, true, false}
+use Rattle.std.proofs.Common.{◌≡◌, ℕ, ◌-◌, List, length, Some, Result, Ok, Err, refl, true, false}
 use Rattle.std.specs.Prelude.{nat_lt}
 use Rattle.fab_base.specs.Seen.{Seen, Nothing}
 use Rattle.fab_base.proofs.SeenLemmas.{touches_refl}

@@ -1,14 +1,13 @@
 -- A window that was gathered and handled: what stands after it, before and behind its writing.
-use Rattle.std.proofs.Common.{◌≡◌, ◌≢◌, ℕ, zero, suc, ◌+◌, ◌-◌, ◌*◌, ◌^◌, ◌<◌, ◌≤◌, ◌⊎◌, inl, inr, List, [], ◌∷◌, ◌++◌, length, map, Option, Some, None, IfSome, IsTrue, Result, Ok, Err, OnOk, IfErr, take, drop, refl, sym, ap, ◌∙◌, subst, arith, length-append}
-use Rattle.std.specs.Prelude.{unwrap_or, option_to_list}
+use Rattle.std.proofs.Common.{◌≡◌, ℕ, suc, ◌+◌, ◌^◌, ◌<◌, List, [], ◌∷◌, ◌++◌, length, map, Option, Some, IfSome, IsTrue, Result, Ok, Err, take, drop, refl, sym, ap, ◌∙◌, subst, arith}
+use Rattle.std.specs.Prelude.{unwrap_or}
 use Rattle.fab_base.specs.Seen.{Seen, Touches, Nothing}
+use Rattle.fab_base.specs.declared.values.Failed.{Failed}
 use Rattle.fab_config.specs.Settings.{Settings}
 use Rattle.fab_policy.specs.Growing.{lines_from, records_to, with_more}
-use Rattle.fab_policy.specs.Journal.{Journal, followed, clock, now, frame_count}
+use Rattle.fab_policy.specs.Journal.{Journal, followed, frame_count}
 use Rattle.fab_policy.specs.Legal.{Legal}
-use Rattle.fab_policy.specs.Looks.{Opened, stop}
-use Rattle.fab_policy.specs.Outputs.{State, Sent}
-use Rattle.fab_policy.specs.Standing.{Contents, Stands, drained, sent_after}
+use Rattle.fab_policy.specs.Standing.{Contents, drained, sent_after}
 use Rattle.fab_policy.specs.Text.{text}
 use Rattle.fab_policy.specs.declared.event.Event.{Event}
 use Rattle.fab_replies.specs.Message.{sent_of}
@@ -22,10 +21,10 @@ use Rattle.fab_gather.specs.declared.fault.RunFault.{RunFault}
 use Rattle.fab_gather.specs.declared.fault.RunFault.TheVariants as fault
 use Rattle.fab_gather.specs.First.{IsNextWindow}
 use Rattle.fab_gather.specs.Port.{Spends}
-use Rattle.fab_gather.specs.Ports.{slots_of, NameIn, counts_of, stop_from}
+use Rattle.fab_gather.specs.Ports.{slots_of, NameIn, counts_of}
 use Rattle.fab_gather.specs.Reads.{HaveRead, batches_of}
 use Rattle.fab_windows.specs.declared.Done.{Done}
-use Rattle.fab_windows.specs.Files.{AreFiles, Wholes, Fronts, captures}
+use Rattle.fab_windows.specs.Files.{AreFiles, Pending, WholesBut, Writes, captures}
 use Rattle.fab_windows.specs.Pages.{AreEarly}
 use Rattle.fab_windows.specs.Steps.{Sofar}
 use Rattle.fab_windows.specs.Turns.{Laws, Task, captures_in, Reached, Going, Gathered, Ended, Gathers, Handles, Publishes}
@@ -35,7 +34,7 @@ use Rattle.fab_windows.proofs.SentLemmas.{NotAfter, outs_are, outs_early, early,
 use Rattle.fab_windows.proofs.PageLemmas.{front_of}
 use Rattle.fab_windows.proofs.StayLemmas.{same_ports}
 use Rattle.fab_windows.proofs.FileLemmas.{files_stay}
-use Rattle.fab_windows.proofs.TurnLemmas.{read_touches, reached_on, ended_writing, ended_gathering, ended_unwritten, whole_on, files_now}
+use Rattle.fab_windows.proofs.TurnLemmas.{read_touches, reached_on, ended_writing, ended_gathering, ended_closing, ended_unwritten, but_on, files_now}
 
 length-batches : (shelves : List Shelf) → length (batches_of shelves) ≡ length shelves
 length-batches [] = refl
@@ -140,22 +139,22 @@ module _ (laws : Laws) (k : Task) (w first : ℕ) (F : Contents) (d : Seen) (ins
   records_here : (q : ℕ) → q < length k.outs → captures c (length k.outs) K q ≡ captures c (length k.outs) r.entry_list q ++ records_to (q + 1) (map (sent_of F.settings events) outs)
   records_here q lt = laws.egress_grows c (length k.outs) (q + 1) r.entry_list events ∙ ap (λ l. captures c (length k.outs) r.entry_list q ++ records_to (q + 1) l) (sym sent_here)
 
-  module _ (whole : IsTrue k.seen.told → Wholes c b k.journal k.outs r.entry_list) (z : Seen) where
+  module _ (p : Pending) (files : IsTrue k.seen.told → WholesBut p c b k.journal k.outs r.entry_list) (z : Seen) (p' : Pending) where
     told_b : IsTrue k.seen.told → IsTrue b.told
     told_b told = subst IsTrue (sym (t.touches.told ∙ r.touches.told)) told
 
-    pub ended_publishing : (e : RunFault) → Publishes k.journal k.outs (lines_from (unwrap_or F.state.tables.clock 0) events) (map (sent_of F.settings events) outs) b z (Err e) → Ended k z e
-    ended_publishing e p =
-        ended_writing laws k (w + 1) first E b ins' shelves' left' reached_after z p.touches e p.only
-        (λ told. p.front (told_b told) (text r.entry_list) (text K) (captures c (length k.outs) r.entry_list) (captures c (length k.outs) K) (whole told) lines_here records_here)
-        (λ x. p.cause (ap (λ y. Err y) x))
+    pub ended_publishing : (e : RunFault) → Publishes k.journal k.outs (lines_from (unwrap_or F.state.tables.clock 0) events) (map (sent_of F.settings events) outs) p p' b z (Err e) → Ended k z e
+    ended_publishing e x =
+        ended_writing laws k (w + 1) first E b ins' shelves' left' reached_after z x.touches e x.only
+        (λ told. x.front (told_b told) (text r.entry_list) (text K) (captures c (length k.outs) r.entry_list) (captures c (length k.outs) K) (files told) lines_here records_here)
+        (λ y. x.cause (ap (λ v. Err v) y))
 
     module _ (done done' : Done) (frames : done.frames ≡ frame_count r.entry_list) (entries : done.entries ≡ length r.entry_list) where
-      pub going_on : Publishes k.journal k.outs (lines_from (unwrap_or F.state.tables.clock 0) events) (map (sent_of F.settings events) outs) b z (Ok tt) →
-          done'.frames ≡ done.frames + frame_count events → done'.entries ≡ done.entries + length events → Going k (w + 1) first E z ins' shelves' left' done'
-      going_on p more_frames more_entries = record {
-        reached = reached_on laws k (w + 1) first E b ins' shelves' left' reached_after z p.touches;
-        whole = λ told. p.whole (told_b told) (text r.entry_list) (text K) (captures c (length k.outs) r.entry_list) (captures c (length k.outs) K) (whole told) lines_here records_here;
+      pub going_on : Publishes k.journal k.outs (lines_from (unwrap_or F.state.tables.clock 0) events) (map (sent_of F.settings events) outs) p p' b z (Ok tt) →
+          done'.frames ≡ done.frames + frame_count events → done'.entries ≡ done.entries + length events → Going k (w + 1) first E z ins' shelves' left' done' p'
+      going_on x more_frames more_entries = record {
+        reached = reached_on laws k (w + 1) first E b ins' shelves' left' reached_after z x.touches;
+        files = λ told. x.whole (told_b told) (text r.entry_list) (text K) (captures c (length k.outs) r.entry_list) (captures c (length k.outs) K) (files told) lines_here records_here;
         frames = more_frames ∙ ap (λ (n : ℕ). n + frame_count events) frames ∙ sym (frames-followed r.entry_list events);
         entries = more_entries ∙ ap (λ (n : ℕ). n + length events) entries ∙ sym (length-followed r.entry_list events);
       }
@@ -173,33 +172,42 @@ module _ (laws : Laws) (k : Task) (w first : ℕ) (F : Contents) (d : Seen) (ins
 
 -- ---- one turn
 
-module _ (laws : Laws) (k : Task) (w first : ℕ) (F : Contents) (d : Seen) (ins : List Input) (shelves : List Shelf) (left : Budget) (done : Done) (g : Going k w first F d ins shelves left done) (b : Seen) (ins' : List Input) (shelves' : List Shelf) (left' : Budget) where
-  pub turn_stops : (e : RunFault) → Gathers k.settings first w d b ins ins' shelves shelves' left left' (Err e) → Ended k b e
-  turn_stops e t = ended_gathering laws k w first F d ins shelves left g.reached g.whole b ins' shelves' left' e t
+-- the files are open behind the reading of a window
+pub files_then : (laws : Laws) (k : Task) (w first : ℕ) (F : Contents) (d : Seen) (ins : List Input) (shelves : List Shelf) (left : Budget) (done : Done) (p : Pending) → Going k w first F d ins shelves left done p →
+    (b : Seen) → Touches Nothing (NameIn d (slots_of ins)) d b → AreFiles b k.journal k.outs
+files_then laws k w first F d ins shelves left done p g b u = files_stay Nothing (NameIn d (slots_of ins)) d b u k.journal k.outs (files_now laws k w first F d ins shelves left g.reached)
+
+module _ (laws : Laws) (k : Task) (w first : ℕ) (F : Contents) (d : Seen) (ins : List Input) (shelves : List Shelf) (left : Budget) (done : Done) (p : Pending) (g : Going k w first F d ins shelves left done p) (b : Seen) (ins' : List Input) (shelves' : List Shelf) (left' : Budget) where
+  module _ (e : RunFault) (t : Gathers k.settings first w d b ins ins' shelves shelves' left left' (Err e)) (z : Seen) where
+    pub turn_stops : Writes k.journal k.outs p.lines p.pieces b z (Ok tt) → Ended k z e
+    turn_stops = ended_gathering laws k w first F d ins shelves left g.reached p g.files b ins' shelves' left' e t z
+
+    pub turn_breaks : (f : Failed) → Writes k.journal k.outs p.lines p.pieces b z (Err f) → Ended k z fault.Write
+    turn_breaks = ended_closing laws k w first F d ins shelves left g.reached b t.touches p g.files z
 
   module _ (t : Gathers k.settings first w d b ins ins' shelves shelves' left left' (Ok tt)) where
     pub turn_refused : Ended k b fault.Memory
-    turn_refused = ended_unwritten laws k w first F d ins shelves left g.reached b t.touches g.whole
+    turn_refused = ended_unwritten laws k w first F d ins shelves left g.reached b t.touches p g.files
 
-    whole_b : IsTrue k.seen.told → Wholes k.settings b k.journal k.outs g.reached.entry_list
-    whole_b told = whole_on laws k w first F d ins shelves left g.reached b t.touches g.whole told
+    but_b : IsTrue k.seen.told → WholesBut p k.settings b k.journal k.outs g.reached.entry_list
+    but_b told = but_on laws k w first F d ins shelves left g.reached b t.touches p g.files told
 
     pub files_b : AreFiles b k.journal k.outs
-    files_b = files_stay Nothing (NameIn d (slots_of ins)) d b t.touches k.journal k.outs (files_now laws k w first F d ins shelves left g.reached)
+    files_b = files_then laws k w first F d ins shelves left done p g b t.touches
 
     module _ (next : IsNextWindow k.settings shelves (Some w)) (E : Contents) (events : List Event) (outs : List Out) (h : Handles w shelves' F E events outs) where
       pub turn_early : w < 2 ^ 43 → AreEarly outs
       turn_early lt = early_here laws k w first F d ins shelves left g.reached b ins' shelves' left' t next E events outs h (omega (arith, lt))
 
       pub turn_room : w < 2 ^ 43 → (done.frames + frame_count events < 2 ^ 64) × (done.entries + length events < 2 ^ 64)
-      turn_room lt = room_on laws k w first F d ins shelves left g.reached b ins' shelves' left' t next E events outs h whole_b b done done g.frames g.entries lt
+      turn_room lt = room_on laws k w first F d ins shelves left g.reached b ins' shelves' left' t next E events outs h p but_b b p done done g.frames g.entries lt
 
-      pub turn_unwritten : (z : Seen) (e : RunFault) → Publishes k.journal k.outs (lines_from (unwrap_or F.state.tables.clock 0) events) (map (sent_of F.settings events) outs) b z (Err e) → Ended k z e
-      turn_unwritten z e p = ended_publishing laws k w first F d ins shelves left g.reached b ins' shelves' left' t next E events outs h whole_b z e p
+      pub turn_unwritten : (z : Seen) (p' : Pending) (e : RunFault) → Publishes k.journal k.outs (lines_from (unwrap_or F.state.tables.clock 0) events) (map (sent_of F.settings events) outs) p p' b z (Err e) → Ended k z e
+      turn_unwritten z p' e x = ended_publishing laws k w first F d ins shelves left g.reached b ins' shelves' left' t next E events outs h p but_b z p' e x
 
-      pub turn_done : (z : Seen) (done' : Done) → Publishes k.journal k.outs (lines_from (unwrap_or F.state.tables.clock 0) events) (map (sent_of F.settings events) outs) b z (Ok tt) →
-          done'.frames ≡ done.frames + frame_count events → done'.entries ≡ done.entries + length events → Going k (w + 1) first E z ins' shelves' left' done'
-      turn_done z done' p frames entries = going_on laws k w first F d ins shelves left g.reached b ins' shelves' left' t next E events outs h whole_b z done done' g.frames g.entries p frames entries
+      pub turn_done : (z : Seen) (p' : Pending) (done' : Done) → Publishes k.journal k.outs (lines_from (unwrap_or F.state.tables.clock 0) events) (map (sent_of F.settings events) outs) p p' b z (Ok tt) →
+          done'.frames ≡ done.frames + frame_count events → done'.entries ≡ done.entries + length events → Going k (w + 1) first E z ins' shelves' left' done' p'
+      turn_done z p' done' x frames entries = going_on laws k w first F d ins shelves left g.reached b ins' shelves' left' t next E events outs h p but_b z p' done done' g.frames g.entries x frames entries
 
 -- what was gathered, by the code's own configuration and its own list of shelves
 module _ (k : Task) (w first : ℕ) (F : Contents) (d : Seen) (ins : List Input) (shelves : List Shelf) (left : Budget) (b : Seen) (ins' : List Input) (new : List Shelf) (left' : Budget) (c : Settings) (c_is : c ≡ k.settings) (l : List Shelf) (l_is : l ≡ shelves) where
@@ -207,11 +215,11 @@ module _ (k : Task) (w first : ℕ) (F : Contents) (d : Seen) (ins : List Input)
   gathers_as result t =
       subst (λ x. Gathers k.settings first w d b ins ins' x new left left' result) l_is (subst (λ s. Gathers s first w d b ins ins' l new left left' result) c_is t)
 
-  pub gathered_by : (done : Done) → Going k w first F d ins shelves left done → IsNextWindow k.settings shelves (Some w) → (n : ℕ) → n ≡ length shelves →
-      Gathers c first w d b ins ins' l new left left' (Ok tt) → Gathered k w first F b ins' (take n (new ++ drop (length new) shelves)) left' done
-  gathered_by done g next n n_is t =
+  pub gathered_by : (done : Done) (p : Pending) → Going k w first F d ins shelves left done p → IsNextWindow k.settings shelves (Some w) → (n : ℕ) → n ≡ length shelves →
+      Gathers c first w d b ins ins' l new left left' (Ok tt) → Gathered k w first F b ins' (take n (new ++ drop (length new) shelves)) left' done p
+  gathered_by done p g next n n_is t =
       let t' = gathers_as (Ok tt) t in
-      subst (λ x. Gathered k w first F b ins' x left' done) (sym (front_of new (drop (length new) shelves) n (n_is ∙ sym t'.count))) (record {
+      subst (λ x. Gathered k w first F b ins' x left' done p) (sym (front_of new (drop (length new) shelves) n (n_is ∙ sym t'.count))) (record {
         seen = d;
         ins = ins;
         shelves = shelves;
@@ -229,7 +237,7 @@ settings_kept w shelves F E events outs h = ap (λ (G : Contents). G.settings) h
 pub clock_there : (w : ℕ) (shelves : List Shelf) (F E : Contents) (events : List Event) (outs : List Out) → Handles w shelves F E events outs → E.state.tables.clock ≡ Some w
 clock_there w shelves F E events outs h = ap (λ (G : Contents). G.state.tables.clock) h.after ∙ h.frames.grown.clock ∙ h.ticks.at_clock
 
-module _ (laws : Laws) (k : Task) (w first : ℕ) (F : Contents) (b : Seen) (ins : List Input) (shelves : List Shelf) (left : Budget) (done : Done) (x : Gathered k w first F b ins shelves left done) where
+module _ (laws : Laws) (k : Task) (w first : ℕ) (F : Contents) (b : Seen) (ins : List Input) (shelves : List Shelf) (left : Budget) (done : Done) (p : Pending) (x : Gathered k w first F b ins shelves left done p) where
   abbrev old : Reached k w first F x.seen x.ins x.shelves x.left
   old = x.going.reached
 
@@ -237,28 +245,28 @@ module _ (laws : Laws) (k : Task) (w first : ℕ) (F : Contents) (b : Seen) (ins
   gathered_ports = x.gathers.count ∙ old.count ∙ same_ports k.ins x.ins old.slots
 
   pub gathered_files : AreFiles b k.journal k.outs
-  gathered_files = files_b laws k w first F x.seen x.ins x.shelves x.left done x.going b ins shelves left x.gathers
+  gathered_files = files_b laws k w first F x.seen x.ins x.shelves x.left done p x.going b ins shelves left x.gathers
 
   pub answer_refused : Ended k b fault.Memory
-  answer_refused = turn_refused laws k w first F x.seen x.ins x.shelves x.left done x.going b ins shelves left x.gathers
+  answer_refused = turn_refused laws k w first F x.seen x.ins x.shelves x.left done p x.going b ins shelves left x.gathers
 
   module _ (E : Contents) (events : List Event) (outs : List Out) (h : Handles w shelves F E events outs) where
     pub answer_early : w < 2 ^ 43 → AreEarly outs
-    answer_early = turn_early laws k w first F x.seen x.ins x.shelves x.left done x.going b ins shelves left x.gathers x.next E events outs h
+    answer_early = turn_early laws k w first F x.seen x.ins x.shelves x.left done p x.going b ins shelves left x.gathers x.next E events outs h
 
     pub answer_room : w < 2 ^ 43 → (done.frames + frame_count events < 2 ^ 64) × (done.entries + length events < 2 ^ 64)
-    answer_room = turn_room laws k w first F x.seen x.ins x.shelves x.left done x.going b ins shelves left x.gathers x.next E events outs h
+    answer_room = turn_room laws k w first F x.seen x.ins x.shelves x.left done p x.going b ins shelves left x.gathers x.next E events outs h
 
-    module _ (z : Seen) (at : ℕ) (at_is : at ≡ unwrap_or F.state.tables.clock 0) (c : Settings) (c_is : c ≡ E.settings) where
-      as_is : (result : Result (Unit {0}) RunFault) → Publishes k.journal k.outs (lines_from at events) (map (sent_of c events) outs) b z result →
-          Publishes k.journal k.outs (lines_from (unwrap_or F.state.tables.clock 0) events) (map (sent_of F.settings events) outs) b z result
-      as_is result p =
-          subst (λ s. Publishes k.journal k.outs (lines_from (unwrap_or F.state.tables.clock 0) events) (map (sent_of s events) outs) b z result) (c_is ∙ settings_kept w shelves F E events outs h)
-          (subst (λ (t : ℕ). Publishes k.journal k.outs (lines_from t events) (map (sent_of c events) outs) b z result) at_is p)
+    module _ (z : Seen) (p' : Pending) (at : ℕ) (at_is : at ≡ unwrap_or F.state.tables.clock 0) (c : Settings) (c_is : c ≡ E.settings) where
+      as_is : (result : Result (Unit {0}) RunFault) → Publishes k.journal k.outs (lines_from at events) (map (sent_of c events) outs) p p' b z result →
+          Publishes k.journal k.outs (lines_from (unwrap_or F.state.tables.clock 0) events) (map (sent_of F.settings events) outs) p p' b z result
+      as_is result h' =
+          subst (λ s. Publishes k.journal k.outs (lines_from (unwrap_or F.state.tables.clock 0) events) (map (sent_of s events) outs) p p' b z result) (c_is ∙ settings_kept w shelves F E events outs h)
+          (subst (λ (t : ℕ). Publishes k.journal k.outs (lines_from t events) (map (sent_of c events) outs) p p' b z result) at_is h')
 
-      pub answer_unwritten : (e : RunFault) → Publishes k.journal k.outs (lines_from at events) (map (sent_of c events) outs) b z (Err e) → Ended k z e
-      answer_unwritten e p = turn_unwritten laws k w first F x.seen x.ins x.shelves x.left done x.going b ins shelves left x.gathers x.next E events outs h z e (as_is (Err e) p)
+      pub answer_unwritten : (e : RunFault) → Publishes k.journal k.outs (lines_from at events) (map (sent_of c events) outs) p p' b z (Err e) → Ended k z e
+      answer_unwritten e y = turn_unwritten laws k w first F x.seen x.ins x.shelves x.left done p x.going b ins shelves left x.gathers x.next E events outs h z p' e (as_is (Err e) y)
 
-      pub answer_done : (done' : Done) → Publishes k.journal k.outs (lines_from at events) (map (sent_of c events) outs) b z (Ok tt) →
-          done'.frames ≡ done.frames + frame_count events → done'.entries ≡ done.entries + length events → Going k (w + 1) first E z ins shelves left done'
-      answer_done done' p frames entries = turn_done laws k w first F x.seen x.ins x.shelves x.left done x.going b ins shelves left x.gathers x.next E events outs h z done' (as_is (Ok tt) p) frames entries
+      pub answer_done : (done' : Done) → Publishes k.journal k.outs (lines_from at events) (map (sent_of c events) outs) p p' b z (Ok tt) →
+          done'.frames ≡ done.frames + frame_count events → done'.entries ≡ done.entries + length events → Going k (w + 1) first E z ins shelves left done' p'
+      answer_done done' y frames entries = turn_done laws k w first F x.seen x.ins x.shelves x.left done p x.going b ins shelves left x.gathers x.next E events outs h z p' done' (as_is (Ok tt) y) frames entries

@@ -1,44 +1,103 @@
--- A window that is written, or can't be.
-use Rattle.std.proofs.Common.{◌≡◌, ℕ, ◌+◌, ◌<◌, ◌⊎◌, inl, inr, List, [], ◌++◌, length, IsTrue, Result, Ok, Err, refl, sym, ap, ◌∙◌}
-use Rattle.fab_base.specs.Seen.{Seen}
+-- A window whose lines and records are added to the pages, and written where these are full.
+use Rattle.std.proofs.Common.{◌≡◌, ℕ, ◌+◌, ◌<◌, inl, inr, List, ◌++◌, length, IsTrue, Result, Ok, Err, refl, sym, ap, ◌∙◌, append_assoc}
+use Rattle.std.proofs.lemmas.List.{append-nil}
+use Rattle.fab_base.specs.Seen.{Seen, Rose}
 use Rattle.fab_base.specs.declared.values.Failed.{Failed}
 use Rattle.fab_base.proofs.SeenLemmas.{touches_refl}
 use Rattle.fab_policy.specs.Growing.{records_to}
 use Rattle.fab_policy.specs.Outputs.{Sent}
 use Rattle.fab_gather.specs.declared.fault.RunFault.TheVariants as fault
 use Rattle.fab_gather.specs.Ports.{name_of}
-use Rattle.fab_windows.specs.Files.{Written, Hold, HoldFronts, Writes, piece_at}
+use Rattle.fab_windows.specs.Files.{Written, Pending, Hold, HoldBut, HoldFronts, Writes, piece_at}
+use Rattle.fab_windows.specs.Pages.{IsNothing}
 use Rattle.fab_windows.specs.Turns.{Publishes}
 
-module _ (journal : ℕ) (outs lines : List ℕ) (sents : List Sent) (a : Seen) where
-  -- refused memory: nothing is written, which is a beginning
-  pub publishes_nothing : Publishes journal outs lines sents a a (Err fault.Memory)
-  publishes_nothing = record {
+-- ---- what is still to be written
+
+-- nothing is, where the files hold all
+pub hold_all : (p : Pending) (d : Seen) (journal : ℕ) (outs l : List ℕ) (r : ℕ → List ℕ) → IsNothing p → Hold d journal outs l r → HoldBut p d journal outs l r
+hold_all p d journal outs l r none h = record {
+  lines_now = l;
+  records_now = r;
+  hold = h;
+  lines_ = sym (append-nil l) ∙ ap (λ x. l ++ x) (sym none.lines_);
+  records = λ q lt. sym (append-nil (r q)) ∙ ap (λ x. r q ++ x) (sym (none.pieces_ q));
+}
+
+-- what the files hold is a beginning of it
+pub but_is_front : (p : Pending) (d : Seen) (journal : ℕ) (outs l : List ℕ) (r : ℕ → List ℕ) → HoldBut p d journal outs l r → HoldFronts d journal outs l r
+but_is_front p d journal outs l r h = record {
+  lines_ = (h.lines_now, h.hold.lines_, (p.lines, sym h.lines_));
+  records = λ q lt. (h.records_now q, h.hold.records q lt, (piece_at p.pieces q, sym (h.records q lt)));
+}
+
+-- written, the files hold all, or beginnings
+module _ (p : Pending) (a b : Seen) (journal : ℕ) (outs l : List ℕ) (r : ℕ → List ℕ) (told : IsTrue a.told) (h : HoldBut p a journal outs l r) where
+  pub flushed : Writes journal outs p.lines p.pieces a b (Ok tt) → Hold b journal outs l r
+  flushed w = w.whole told h.lines_now l h.records_now r h.hold h.lines_ h.records
+
+  pub flushed_front : {x : Result (Unit {0}) Failed} → Writes journal outs p.lines p.pieces a b x → HoldFronts b journal outs l r
+  flushed_front w = w.front told h.lines_now l h.records_now r h.hold h.lines_ h.records
+
+-- why writing failed
+pub write_cause : (journal : ℕ) (outs lines : List ℕ) (pieces : List (List ℕ)) (a b : Seen) (f : Failed) → Writes journal outs lines pieces a b (Err f) → (m : List ℕ) × Written a journal outs m × Rose (a.write_faults m) (b.write_faults m)
+write_cause journal outs lines pieces a b f w = elim w.cause [ inl rose ↦ (a.name journal, inl refl, rose) | inr rose ↦ (name_of a outs rose.0, inr (rose.0, rose.1, refl), rose.2) ]
+
+-- ---- what a window adds
+
+-- what is there, what was still to be written, and what is added
+behind : (w p more l l' : List ℕ) → l ≡ w ++ p → l' ≡ l ++ more → l' ≡ w ++ (p ++ more)
+behind w p more l l' e f = f ∙ ap (λ x. x ++ more) e ∙ append_assoc w p more
+
+module _ (journal : ℕ) (outs lines : List ℕ) (sents : List Sent) (p : Pending) (a : Seen) where
+  -- refused memory: nothing more is written, which is a beginning
+  pub publishes_nothing : (p' : Pending) → Publishes journal outs lines sents p p' a a (Err fault.Memory)
+  publishes_nothing p' = record {
     touches = touches_refl (Written a journal outs) (Written a journal outs) a;
     whole = λ told l l' r r' h is more. tt;
     front = λ told l l' r r' h is more. record {
-      lines_ = (l, h.lines_, (lines, sym is));
-      records = λ q lt. (r q, h.records q lt, (records_to (q + 1) sents, sym (more q lt)));
+      lines_ = (h.lines_now, h.hold.lines_, (p.lines ++ lines, sym (behind h.lines_now p.lines lines l l' h.lines_ is)));
+      records = λ q lt. (h.records_now q, h.hold.records q lt, (piece_at p.pieces q ++ records_to (q + 1) sents, sym (behind (h.records_now q) (piece_at p.pieces q) (records_to (q + 1) sents) (r q) (r' q) (h.records q lt) (more q lt))));
     };
     cause = λ x. absurd (cc);
     only = tt;
   }
 
-  module _ (pieces : List (List ℕ)) (are : (q : ℕ) → q < length outs → piece_at pieces q ≡ records_to (q + 1) sents) (b : Seen) where
-    pub publishes_all : Writes journal outs lines pieces a b (Ok tt) → Publishes journal outs lines sents a b (Ok tt)
-    publishes_all w = record {
-      touches = w.touches;
-      whole = λ told l l' r r' h is more. w.whole told l l' r r' h is (λ q lt. more q lt ∙ ap (λ x. r q ++ x) (sym (are q lt)));
-      front = λ told l l' r r' h is more. w.front told l l' r r' h is (λ q lt. more q lt ∙ ap (λ x. r q ++ x) (sym (are q lt)));
+  module _ (m : Pending) (lines_are : m.lines ≡ p.lines ++ lines) (are : (q : ℕ) → q < length outs → piece_at m.pieces q ≡ piece_at p.pieces q ++ records_to (q + 1) sents) where
+    -- what was added is still to be written
+    added : (l l' : List ℕ) (r r' : ℕ → List ℕ) → HoldBut p a journal outs l r → l' ≡ l ++ lines → ((q : ℕ) → q < length outs → r' q ≡ r q ++ records_to (q + 1) sents) → HoldBut m a journal outs l' r'
+    added l l' r r' h is more = record {
+      lines_now = h.lines_now;
+      records_now = h.records_now;
+      hold = h.hold;
+      lines_ = behind h.lines_now p.lines lines l l' h.lines_ is ∙ ap (λ x. h.lines_now ++ x) (sym lines_are);
+      records = λ q lt. behind (h.records_now q) (piece_at p.pieces q) (records_to (q + 1) sents) (r q) (r' q) (h.records q lt) (more q lt) ∙ ap (λ x. h.records_now q ++ x) (sym (are q lt));
+    }
+
+    pub publishes_later : Publishes journal outs lines sents p m a a (Ok tt)
+    publishes_later = record {
+      touches = touches_refl (Written a journal outs) (Written a journal outs) a;
+      whole = λ told l l' r r' h is more. added l l' r r' h is more;
+      front = λ told l l' r r' h is more. but_is_front m a journal outs l' r' (added l l' r r' h is more);
       cause = λ x. absurd (cc);
       only = tt;
     }
 
-    pub publishes_front : (f : Failed) → Writes journal outs lines pieces a b (Err f) → Publishes journal outs lines sents a b (Err fault.Write)
-    publishes_front f w = record {
-      touches = w.touches;
-      whole = λ told l l' r r' h is more. tt;
-      front = λ told l l' r r' h is more. w.front told l l' r r' h is (λ q lt. more q lt ∙ ap (λ x. r q ++ x) (sym (are q lt)));
-      cause = λ x. elim w.cause [ inl rose ↦ (a.name journal, inl refl, rose) | inr rose ↦ (name_of a outs rose.0, inr (rose.0, rose.1, refl), rose.2) ];
-      only = tt;
-    }
+    module _ (b : Seen) where
+      pub publishes_all : (p' : Pending) → IsNothing p' → Writes journal outs m.lines m.pieces a b (Ok tt) → Publishes journal outs lines sents p p' a b (Ok tt)
+      publishes_all p' none w = record {
+        touches = w.touches;
+        whole = λ told l l' r r' h is more. hold_all p' b journal outs l' r' none (flushed m a b journal outs l' r' told (added l l' r r' h is more) w);
+        front = λ told l l' r r' h is more. flushed_front m a b journal outs l' r' told (added l l' r r' h is more) w;
+        cause = λ x. absurd (cc);
+        only = tt;
+      }
+
+      pub publishes_front : (p' : Pending) (f : Failed) → Writes journal outs m.lines m.pieces a b (Err f) → Publishes journal outs lines sents p p' a b (Err fault.Write)
+      publishes_front p' f w = record {
+        touches = w.touches;
+        whole = λ told l l' r r' h is more. tt;
+        front = λ told l l' r r' h is more. flushed_front m a b journal outs l' r' told (added l l' r r' h is more) w;
+        cause = λ x. write_cause journal outs m.lines m.pieces a b f w;
+        only = tt;
+      }

@@ -1,12 +1,11 @@
 -- What a window sends, and when.
-use Rattle.std.proofs.Common.{◌≡◌, ℕ, zero, suc, ◌+◌, ◌%◌, ◌^◌, ◌<◌, ◌≤◌, ◌⊎◌, List, [], ◌∷◌, ◌++◌, length, map, Option, Some, None, IsTrue, refl, sym, ap, ◌∙◌, subst, arith, append_assoc}
+use Rattle.std.proofs.Common.{◌≡◌, ℕ, ◌%◌, ◌^◌, ◌<◌, ◌≤◌, ◌⊎◌, List, [], ◌∷◌, ◌++◌, map, Option, Some, None, IsTrue, refl, sym, ap, ◌∙◌, subst, arith}
 use Rattle.std.specs.Prelude.{unwrap_or, false}
 use Rattle.fab_config.specs.Settings.{Settings}
 use Rattle.fab_policy.specs.Journal.{Journal, followed, clock, now}
 use Rattle.fab_policy.specs.Legal.{Legal, IsNextTick, IsTickTime, is_owed_after}
-use Rattle.fab_policy.specs.Outputs.{Sent, State, state_of, outputs_by, outputs, replies_of, clears_of, rscn_frames, notices, advertisements_of}
+use Rattle.fab_policy.specs.Outputs.{Sent, State, outputs_by, outputs}
 use Rattle.fab_policy.specs.Standing.{Contents, Stands, AreFrames, sent_after}
-use Rattle.fab_policy.specs.State.{Tables, tables_of, now_of}
 use Rattle.fab_policy.specs.declared.event.Event.{Event}
 use Rattle.fab_policy.specs.declared.event.Event.TheVariants.{Tick, Frame}
 use Rattle.fab_policy.proofs.Standing.{stands_older}

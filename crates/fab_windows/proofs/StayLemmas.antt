@@ -1,11 +1,10 @@
 -- What writing leaves of the readers, and reading of the files.
-use Rattle.std.proofs.Common.{◌≡◌, ℕ, zero, suc, ◌+◌, ◌<◌, ◌⊎◌, List, [], ◌∷◌, ◌++◌, length, map, IsTrue, Option, Some, None, option_to_list, refl, sym, ap, ◌∙◌, subst, arith, inl, inr}
-use Rattle.std.specs.Prelude.{slice_get}
+use Rattle.std.proofs.Common.{◌≡◌, ℕ, suc, ◌+◌, ◌<◌, List, [], ◌∷◌, ◌++◌, length, IsTrue, Option, Some, None, option_to_list, refl, sym, ap, ◌∙◌, subst, arith, inl, inr}
 use Rattle.fab_base.specs.Seen.{Seen, Touches, Nothing}
 use Rattle.fab_config.specs.Settings.{Settings}
 use Rattle.fab_policy.specs.Legal.{window_start}
-use Rattle.fab_policy.specs.Looks.{Opened, Look, Stop, stop_in, in_order, looks}
-use Rattle.pcap_file.specs.Reading.{Reading, to_come}
+use Rattle.fab_policy.specs.Looks.{Opened, stop_in, in_order, looks}
+use Rattle.pcap_file.specs.Reading.{to_come}
 use Rattle.pcap_file.specs.Records.{Chain}
 use Rattle.pcap_file.specs.declared.Budget.{Budget}
 use Rattle.pcap_file.specs.declared.Record.{Record}
@@ -14,8 +13,8 @@ use Rattle.fab_gather.specs.declared.shelf.Shelf.{Shelf}
 use Rattle.fab_gather.specs.Port.{to_look}
 use Rattle.fab_gather.specs.Ports.{slots_of, slot_at, name_of, NameIn, AreInputs, rests, joined, stop_from}
 use Rattle.fab_gather.specs.Reads.{HasRead, HaveRead}
-use Rattle.fab_windows.specs.Files.{AreFiles, AreOutputs, Written, Hold, HoldFronts}
-use Rattle.fab_windows.proofs.FileLemmas.{files_stay, same_name, stays_named}
+use Rattle.fab_windows.specs.Files.{AreFiles, Written, Pending, Hold, HoldBut}
+use Rattle.fab_windows.proofs.FileLemmas.{same_name, stays_named}
 
 pub length-slots : (ins : List Input) → length (slots_of ins) ≡ length ins
 length-slots [] = refl
@@ -56,6 +55,15 @@ module _ (counted : List ℕ → Type 0) (a b : Seen) (k : Touches Nothing count
   hold_stays l r h = record {
     lines_ = file_same (a.name journal) (b.name journal) (Some l) (stays_named Nothing counted a b k journal f.journal_) h.lines_;
     records = λ q lt. file_same (name_of a outs q) (name_of b outs q) (Some (r q)) (same_name Nothing counted a b k outs f.outs_ q lt) (h.records q lt);
+  }
+
+  pub but_stays : (p : Pending) (l : List ℕ) (r : ℕ → List ℕ) → HoldBut p a journal outs l r → HoldBut p b journal outs l r
+  but_stays p l r h = record {
+    lines_now = h.lines_now;
+    records_now = h.records_now;
+    hold = hold_stays h.lines_now h.records_now h.hold;
+    lines_ = h.lines_;
+    records = h.records;
   }
 
 -- ---- writing leaves what is to come

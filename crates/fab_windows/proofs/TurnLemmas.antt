@@ -1,32 +1,28 @@
 -- One window after another: how a turn ends, and what stands after it.
-use Rattle.std.proofs.Common.{◌≡◌, ◌≢◌, ℕ, zero, suc, ◌+◌, ◌*◌, ◌^◌, ◌<◌, ◌≤◌, ◌⊎◌, inl, inr, List, [], ◌∷◌, ◌++◌, length, map, Option, Some, None, IfSome, IsTrue, Result, Ok, Err, OnOk, IfErr, refl, sym, ap, ◌∙◌, subst, arith}
-use Rattle.std.specs.Prelude.{unwrap_or}
+use Rattle.std.proofs.Common.{◌≡◌, ℕ, ◌<◌, ◌≤◌, ◌⊎◌, inl, inr, List, length, Some, IsTrue, Result, Ok, Err, refl, sym, ap, ◌∙◌, subst, arith}
 use Rattle.fab_base.specs.Seen.{Seen, Touches, Nothing, Rose}
+use Rattle.fab_base.specs.declared.values.Failed.{Failed}
 use Rattle.fab_base.proofs.SeenLemmas.{rose_later, touches_trans, touches_wider}
-use Rattle.fab_config.specs.Settings.{Settings}
-use Rattle.fab_policy.specs.Growing.{lines_from, records_to, with_more}
-use Rattle.fab_policy.specs.Journal.{Journal, followed, now, frame_count}
+use Rattle.fab_policy.specs.Journal.{Journal}
 use Rattle.fab_policy.specs.Keeping.{IsAhead}
-use Rattle.fab_policy.specs.Looks.{Opened, Stop, stop}
-use Rattle.fab_policy.specs.Outputs.{Sent}
+use Rattle.fab_policy.specs.Looks.{Stop, stop}
 use Rattle.fab_policy.specs.Standing.{Contents}
 use Rattle.fab_policy.specs.Text.{text}
 use Rattle.pcap_file.specs.declared.Budget.{Budget}
-use Rattle.pcap_file.specs.declared.Record.{Record}
 use Rattle.fab_gather.specs.declared.shelf.Input.{Input}
 use Rattle.fab_gather.specs.declared.shelf.Shelf.{Shelf}
 use Rattle.fab_gather.specs.declared.fault.RunFault.{RunFault}
 use Rattle.fab_gather.specs.declared.fault.RunFault.TheVariants as fault
 use Rattle.fab_gather.specs.Port.{IsStopped, ending}
-use Rattle.fab_gather.specs.Ports.{slots_of, name_of, NameIn, AreInputs, AreReady, stop_from}
-use Rattle.fab_gather.specs.Reads.{HaveRead}
+use Rattle.fab_gather.specs.Ports.{slots_of, name_of, NameIn, AreInputs, stop_from}
 use Rattle.fab_windows.specs.declared.Done.{Done}
-use Rattle.fab_windows.specs.Files.{AreFiles, Written, Wholes, Fronts, captures}
-use Rattle.fab_windows.specs.Run.{IsRunOver, Interrupted, Stopped, Ends}
+use Rattle.fab_windows.specs.Files.{AreFiles, Written, Pending, Wholes, WholesBut, Fronts, Writes, captures}
+use Rattle.fab_windows.specs.Run.{Interrupted, Stopped, Ends}
 use Rattle.fab_windows.specs.Turns.{Laws, Task, captures_in, Touched, Reached, Ended, Gathers, IsUnwritten}
-use Rattle.fab_windows.proofs.EndLemmas.{interrupted, stopped, whole_is_front}
+use Rattle.fab_windows.proofs.EndLemmas.{interrupted, stopped}
 use Rattle.fab_windows.proofs.FileLemmas.{files_stay}
-use Rattle.fab_windows.proofs.StayLemmas.{LeftStays, inputs_stay, input_name_in, written_in, hold_stays, same_ports, length-slots, writing_leaves, read_stays, stop_stays}
+use Rattle.fab_windows.proofs.PublishLemmas.{but_is_front, flushed, flushed_front, write_cause}
+use Rattle.fab_windows.proofs.StayLemmas.{LeftStays, inputs_stay, input_name_in, written_in, but_stays, same_ports, length-slots, writing_leaves, read_stays, stop_stays}
 
 -- ---- how a run ends, fault by fault
 
@@ -59,6 +55,10 @@ ended k d e touches stop read front causes = record {
     by_fault fault.Read s r f = r refl
     by_fault fault.Write s r f = f (inl refl)
     by_fault fault.Memory s r f = f (inr refl)
+
+-- a count that rose before
+rose_longer : (a b c : ℕ) → Rose a b → b ≤ c → Rose a c
+rose_longer a b c rose le = omega (arith, rose, le)
 
 -- ---- from where a run has come
 
@@ -104,35 +104,59 @@ module _ (laws : Laws) (k : Task) (w first : ℕ) (F : Contents) (d : Seen) (ins
     pub read_touches : Touches Ours (Touched k) k.seen b
     read_touches = touches_trans Ours (Touched k) k.seen d b r.touches (touches_wider Nothing (NameIn d (slots_of ins)) Ours (Touched k) d b (λ m x. absurd x) (λ m h. inr (name_now m h)) t)
 
-    module _ (whole : IsTrue k.seen.told → Wholes k.settings d k.journal k.outs r.entry_list) where
-      pub whole_on : IsTrue k.seen.told → Wholes k.settings b k.journal k.outs r.entry_list
-      whole_on told = hold_stays (NameIn d (slots_of ins)) d b t k.journal k.outs files_now (text r.entry_list) (captures k.settings (length k.outs) r.entry_list) (whole told)
+    written_then : (m : List ℕ) → Written b k.journal k.outs m → Ours m
+    written_then m h = written_now m (written_in Nothing (NameIn d (slots_of ins)) d b t k.journal k.outs files_now m h)
+
+    told_then : IsTrue k.seen.told → IsTrue b.told
+    told_then told = subst IsTrue (sym t.told) (told_on told)
+
+    rose_on : (q : ℕ) → q < length ins → Rose (d.read_faults (name_of d (slots_of ins) q)) (b.read_faults (name_of d (slots_of ins) q)) →
+        (p : ℕ) × (p < length k.ins) × Rose (k.seen.read_faults (name_of k.seen (slots_of k.ins) p)) (b.read_faults (name_of k.seen (slots_of k.ins) p))
+    rose_on q lt rose =
+        let within : q < length (slots_of ins) = omega (arith, lt, length-slots ins) in
+        let at = name_now (name_of d (slots_of ins) q) (q, within, refl) in
+        (at.0, omega (arith, at.1, length-slots k.ins), rose_later _ _ _ (r.touches.reads_rise _) (subst (λ n. Rose (d.read_faults n) (b.read_faults n)) at.2 rose))
+
+    module _ (p : Pending) (files : IsTrue k.seen.told → WholesBut p k.settings d k.journal k.outs r.entry_list) where
+      pub but_on : IsTrue k.seen.told → WholesBut p k.settings b k.journal k.outs r.entry_list
+      but_on told = but_stays (NameIn d (slots_of ins)) d b t k.journal k.outs files_now p (text r.entry_list) (captures k.settings (length k.outs) r.entry_list) (files told)
 
       front_on : IsTrue k.seen.told → Interrupted k.settings k.budget (captures_in k) (Fronts k.settings b k.journal k.outs)
-      front_on told = interrupted_here told (Fronts k.settings b k.journal k.outs) (whole_is_front k.settings b k.journal k.outs r.entry_list (whole_on told))
+      front_on told = interrupted_here told (Fronts k.settings b k.journal k.outs) (but_is_front p b k.journal k.outs (text r.entry_list) (captures k.settings (length k.outs) r.entry_list) (but_on told))
 
       -- refused memory, before anything of the window is written
       pub ended_unwritten : Ended k b fault.Memory
       ended_unwritten = ended k b fault.Memory read_touches (λ told x. absurd x) (λ told x. absurd (cc)) (λ told x. front_on told) (λ x. absurd (cc), λ x. absurd (cc))
 
-      rose_on : (q : ℕ) → q < length ins → Rose (d.read_faults (name_of d (slots_of ins) q)) (b.read_faults (name_of d (slots_of ins) q)) →
-          (p : ℕ) × (p < length k.ins) × Rose (k.seen.read_faults (name_of k.seen (slots_of k.ins) p)) (b.read_faults (name_of k.seen (slots_of k.ins) p))
-      rose_on q lt rose =
-          let within : q < length (slots_of ins) = omega (arith, lt, length-slots ins) in
-          let at = name_now (name_of d (slots_of ins) q) (q, within, refl) in
-          (at.0, omega (arith, at.1, length-slots k.ins), rose_later _ _ _ (r.touches.reads_rise _) (subst (λ n. Rose (d.read_faults n) (b.read_faults n)) at.2 rose))
+      -- then all is written that was still to be
+      module _ (z : Seen) where
+        then_touches : Touches (Written b k.journal k.outs) (Written b k.journal k.outs) b z → Touches Ours (Touched k) k.seen z
+        then_touches u = touches_trans Ours (Touched k) k.seen b z read_touches (touches_wider (Written b k.journal k.outs) (Written b k.journal k.outs) Ours (Touched k) b z written_then (λ m h. inl (written_then m h)) u)
 
-  -- a fault while the window is gathered
-  pub ended_gathering : (IsTrue k.seen.told → Wholes k.settings d k.journal k.outs r.entry_list) → (b : Seen) (ins' : List Input) (shelves' : List Shelf) (left' : Budget) (e : RunFault) →
-      Gathers k.settings first w d b ins ins' shelves shelves' left left' (Err e) → Ended k b e
-  ended_gathering whole b ins' shelves' left' e t =
-      ended k b e (read_touches b t.touches)
+        wholes_then : Writes k.journal k.outs p.lines p.pieces b z (Ok tt) → IsTrue k.seen.told → Wholes k.settings z k.journal k.outs r.entry_list
+        wholes_then x told = flushed p b z k.journal k.outs (text r.entry_list) (captures k.settings (length k.outs) r.entry_list) (told_then told) (but_on told) x
+
+        fronts_then : {x : Result (Unit {0}) Failed} → Writes k.journal k.outs p.lines p.pieces b z x → IsTrue k.seen.told → Interrupted k.settings k.budget (captures_in k) (Fronts k.settings z k.journal k.outs)
+        fronts_then x told = interrupted_here told (Fronts k.settings z k.journal k.outs)
+            (flushed_front p b z k.journal k.outs (text r.entry_list) (captures k.settings (length k.outs) r.entry_list) (told_then told) (but_on told) x)
+
+        -- which fails
+        pub ended_closing : (f : Failed) → Writes k.journal k.outs p.lines p.pieces b z (Err f) → Ended k z fault.Write
+        ended_closing f x =
+            ended k z fault.Write (then_touches x.touches) (λ told y. absurd y) (λ told y. absurd (cc)) (λ told y. fronts_then x told)
+            (λ y. absurd (cc), λ y. let rose = write_cause k.journal k.outs p.lines p.pieces b z f x in (rose.0, written_then rose.0 rose.1, rose_later _ _ _ (read_touches.writes_rise rose.0) rose.2))
+
+  -- a fault while the window is gathered, behind which all is written that was still to be
+  pub ended_gathering : (p : Pending) → (IsTrue k.seen.told → WholesBut p k.settings d k.journal k.outs r.entry_list) → (b : Seen) (ins' : List Input) (shelves' : List Shelf) (left' : Budget) (e : RunFault) →
+      Gathers k.settings first w d b ins ins' shelves shelves' left left' (Err e) → (z : Seen) → Writes k.journal k.outs p.lines p.pieces b z (Ok tt) → Ended k z e
+  ended_gathering p files b ins' shelves' left' e t z x =
+      ended k z e (then_touches b t.touches p files z x.touches)
       (λ told stops.
       let s = t.stops (told_on told) stops in
-      subst (Stopped k.settings k.budget (captures_in k) b k.journal k.outs) s.2 (stopped_here told b s.0 s.1 s.3 (whole_on b t.touches whole told)))
-      (λ told x. interrupted_here told (Wholes k.settings b k.journal k.outs) (whole_on b t.touches whole told))
-      (λ told x. front_on b t.touches whole told)
-      (λ x. let cause = t.cause (ap (λ y. Err y) x) in rose_on b t.touches whole cause.0 cause.1 cause.2, λ x. absurd (t.only x))
+      subst (Stopped k.settings k.budget (captures_in k) z k.journal k.outs) s.2 (stopped_here told z s.0 s.1 s.3 (wholes_then b t.touches p files z x told)))
+      (λ told y. interrupted_here told (Wholes k.settings z k.journal k.outs) (wholes_then b t.touches p files z x told))
+      (λ told y. fronts_then b t.touches p files z x told)
+      (λ y. let cause = t.cause (ap (λ v. Err v) y) in let rose = rose_on b t.touches cause.0 cause.1 cause.2 in (rose.0, rose.1, rose_longer _ _ _ rose.2 (x.touches.reads_rise _)), λ y. absurd (t.only y))
 
   -- ---- writing keeps what is to come
 

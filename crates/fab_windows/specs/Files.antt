@@ -40,6 +40,19 @@ pub record Hold (d : Seen) (journal : ℕ) (outs lines : List ℕ) (records_of :
   pub lines_ : d.file (d.name journal) ≡ Some lines
   pub records : (q : ℕ) → q < length outs → d.file (name_of d outs q) ≡ Some (records_of q)
 
+-- what is still to be written: lines of the journal, and a piece for each output
+pub record Pending : Type 0 where
+  pub lines : List ℕ
+  pub pieces : List (List ℕ)
+
+-- They hold these bytes but for what is still to be written behind them.
+pub record HoldBut (p : Pending) (d : Seen) (journal : ℕ) (outs lines : List ℕ) (records_of : ℕ → List ℕ) : Type 0 where
+  pub lines_now : List ℕ
+  pub records_now : ℕ → List ℕ
+  pub hold : Hold d journal outs lines_now records_now
+  pub lines_ : lines ≡ lines_now ++ p.lines
+  pub records : (q : ℕ) → q < length outs → records_of q ≡ records_now q ++ piece_at p.pieces q
+
 -- Each of them holds a beginning of these.
 pub record HoldFronts (d : Seen) (journal : ℕ) (outs lines : List ℕ) (records_of : ℕ → List ℕ) : Type 0 where
   pub lines_ : (bytes : List ℕ) × (d.file (d.name journal) ≡ Some bytes) × IsPrefixOf bytes lines
@@ -49,9 +62,13 @@ pub record HoldFronts (d : Seen) (journal : ℕ) (outs lines : List ℕ) (record
 abbrev pub captures : Settings → ℕ → Journal → ℕ → List ℕ
 captures c n J q = egress c n (q + 1) J
 
--- The journal and the outputs hold the whole text of a journal, and its captures; or a beginning of each.
+-- The journal and the outputs hold the whole text of a journal, and its captures; or all but what is still to be written; or a
+-- beginning of each.
 abbrev pub Wholes : Settings → Seen → ℕ → List ℕ → Journal → Type 0
 Wholes c d journal outs J = Hold d journal outs (text J) (captures c (length outs) J)
+
+abbrev pub WholesBut : Pending → Settings → Seen → ℕ → List ℕ → Journal → Type 0
+WholesBut p c d journal outs J = HoldBut p d journal outs (text J) (captures c (length outs) J)
 
 abbrev pub Fronts : Settings → Seen → ℕ → List ℕ → Journal → Type 0
 Fronts c d journal outs J = HoldFronts d journal outs (text J) (captures c (length outs) J)

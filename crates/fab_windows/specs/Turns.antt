@@ -1,5 +1,5 @@
 -- What stands between the windows of a run, and what its parts do. No public clause cites this module.
-use Rattle.std.specs.Prelude.{◌≡◌, ◌≢◌, ℕ, ◌+◌, ◌<◌, ◌≤◌, ◌^◌, ◌⊎◌, IsTrue, IfSome, List, [], ◌++◌, length, map, Option, Some, None, Result, Ok, Err, OnOk, IfErr, IsErrOf}
+use Rattle.std.specs.Prelude.{◌≡◌, ◌≢◌, ℕ, ◌+◌, ◌<◌, ◌≤◌, ◌^◌, ◌⊎◌, IsTrue, IfSome, List, [], ◌++◌, length, map, Some, Result, Ok, Err, OnOk, IfErr, IsErrOf}
 use Rattle.fab_base.specs.Seen.{Seen, Touches, Nothing, Rose}
 use Rattle.fab_config.specs.Settings.{Settings}
 use Rattle.pcap_file.specs.declared.Budget.{Budget}
@@ -24,7 +24,7 @@ use Rattle.fab_gather.specs.Port.{Spends, IsStopped, ending}
 use Rattle.fab_gather.specs.Ports.{slots_of, name_of, NameIn, AreReady, TookAll, rests, joined, counts_of, stop_from}
 use Rattle.fab_gather.specs.Reads.{HaveRead, batches_of}
 use Rattle.fab_windows.specs.declared.Done.{Done}
-use Rattle.fab_windows.specs.Files.{Written, Hold, HoldFronts, Wholes}
+use Rattle.fab_windows.specs.Files.{Written, Pending, HoldBut, HoldFronts, Wholes, WholesBut}
 use Rattle.fab_windows.specs.Run.{AreGiven, Runs}
 use Rattle.fab_windows.specs.Steps.{Sofar, WindowIsRun, FirstsAreTaken}
 use Rattle.fab_windows.specs.Window.{Ticked, Handled, firsts_of}
@@ -107,10 +107,10 @@ pub record Reached (k : Task) (w first : ℕ) (F : Contents) (d : Seen) (ins : L
   pub spent : Spends k.budget left 0 (counts_of shelves)
   pub stops : IsTrue k.seen.told → stop k.settings k.budget.bytes k.budget.frames (captures_in k) ≡ stop_from k.settings first d ins shelves left
 
--- The files hold that journal, and its frames and entries are counted.
-pub record Going (k : Task) (w first : ℕ) (F : Contents) (d : Seen) (ins : List Input) (shelves : List Shelf) (left : Budget) (done : Done) : Type 0 where
+-- The files hold that journal but for what is still to be written, and its frames and entries are counted.
+pub record Going (k : Task) (w first : ℕ) (F : Contents) (d : Seen) (ins : List Input) (shelves : List Shelf) (left : Budget) (done : Done) (p : Pending) : Type 0 where
   pub reached : Reached k w first F d ins shelves left
-  pub whole : IsTrue k.seen.told → Wholes k.settings d k.journal k.outs reached.entry_list
+  pub files : IsTrue k.seen.told → WholesBut p k.settings d k.journal k.outs reached.entry_list
   pub frames : done.frames ≡ frame_count reached.entry_list
   pub entries : done.entries ≡ length reached.entry_list
 
@@ -167,20 +167,21 @@ IsUnwritten fault.Read = ⊥
 IsUnwritten fault.Write = Unit {0}
 IsUnwritten fault.Memory = Unit {0}
 
--- Writing lines and what is sent to files that hold these bytes: they hold what is added behind them then, or beginnings of it.
-pub record Publishes (journal : ℕ) (outs lines : List ℕ) (sents : List Sent) (a b : Seen) (result : Result (Unit {0}) RunFault) : Type 0 where
+-- Adding lines and what is sent, from what was still to be written to what is then: files that held these bytes but for that hold
+-- them with what is added, or beginnings of it.
+pub record Publishes (journal : ℕ) (outs lines : List ℕ) (sents : List Sent) (p p' : Pending) (a b : Seen) (result : Result (Unit {0}) RunFault) : Type 0 where
   pub touches : Touches (Written a journal outs) (Written a journal outs) a b
-  pub whole : IsTrue a.told → (l l' : List ℕ) (r r' : ℕ → List ℕ) → Hold a journal outs l r → l' ≡ l ++ lines → ((q : ℕ) → q < length outs → r' q ≡ r q ++ records_to (q + 1) sents) → OnOk result (Hold b journal outs l' r')
-  pub front : IsTrue a.told → (l l' : List ℕ) (r r' : ℕ → List ℕ) → Hold a journal outs l r → l' ≡ l ++ lines → ((q : ℕ) → q < length outs → r' q ≡ r q ++ records_to (q + 1) sents) → HoldFronts b journal outs l' r'
+  pub whole : IsTrue a.told → (l l' : List ℕ) (r r' : ℕ → List ℕ) → HoldBut p a journal outs l r → l' ≡ l ++ lines → ((q : ℕ) → q < length outs → r' q ≡ r q ++ records_to (q + 1) sents) → OnOk result (HoldBut p' b journal outs l' r')
+  pub front : IsTrue a.told → (l l' : List ℕ) (r r' : ℕ → List ℕ) → HoldBut p a journal outs l r → l' ≡ l ++ lines → ((q : ℕ) → q < length outs → r' q ≡ r q ++ records_to (q + 1) sents) → HoldFronts b journal outs l' r'
   pub cause : IsErrOf result fault.Write → (m : List ℕ) × Written a journal outs m × Rose (a.write_faults m) (b.write_faults m)
   pub only : IfErr result IsUnwritten
 
 -- What stands once the next window was gathered from where a run had come.
-pub record Gathered (k : Task) (w first : ℕ) (F : Contents) (b : Seen) (ins' : List Input) (shelves' : List Shelf) (left' : Budget) (done : Done) : Type 0 where
+pub record Gathered (k : Task) (w first : ℕ) (F : Contents) (b : Seen) (ins' : List Input) (shelves' : List Shelf) (left' : Budget) (done : Done) (p : Pending) : Type 0 where
   pub seen : Seen
   pub ins : List Input
   pub shelves : List Shelf
   pub left : Budget
-  pub going : Going k w first F seen ins shelves left done
+  pub going : Going k w first F seen ins shelves left done p
   pub next : IsNextWindow k.settings shelves (Some w)
   pub gathers : Gathers k.settings first w seen b ins ins' shelves shelves' left left' (Ok tt)

@@ -1,12 +1,41 @@
-//! The journal and the outputs, which grow by what each window adds.
-ghost use Rattle.std.specs.Prelude.{◌≡◌, length};
+//! The journal and the outputs, which grow by what the pages hold.
+ghost use Rattle.std.specs.Prelude.{◌≡◌, length, Ok, Err, OnOk, IfErr, MatchResult};
+ghost use Rattle.fab_base.specs.declared.values.Failed as of_files;
 ghost use Rattle.fab_windows.specs.Files.{AreOutputs, AreFiles, PutsEach, Writes, items_in};
+ghost use Rattle.fab_windows.specs.Pages.{IsNothing, pending};
 
+use crate::RunFault;
+use crate::pages::Pages;
 use fab_base::{Depot, Failed, put_all};
 
-/// Writes what a window adds: the lines of the journal, and then the records of each output, in
-/// port order.
-pub(crate) fn write_window<D: Depot>(
+/// Writes what the pages hold, and empties them. Its one fault is `Write`.
+pub(crate) fn flush<D: Depot>(
+    depot: &mut D,
+    journal: u32,
+    outs: &[u32],
+    pages: &mut Pages,
+) -> Result<(), RunFault>
+    requires count { length outs.now ≡ length pages.old.records.items }
+    requires files { AreFiles (D.seen depot.old) journal outs.now }
+    ensures writes { let W = Writes journal outs.now pages.old.lines.items
+        (items_in pages.old.records.items) (D.seen depot.old) (D.seen depot.new) in
+        MatchResult result (λ _. W (Ok tt)) (λ _. (f : of_files.Failed) × W (Err f)) }
+    ensures fault { IfErr result (λ e. e ≡ RunFault.Write) }
+    ensures nothing { OnOk result (IsNothing (pending pages.new)) }
+    ensures count { OnOk result (length pages.new.records.items
+        ≡ length pages.old.records.items) }
+{
+    match write_pages(depot, journal, outs, &pages.lines, &pages.records) {
+        Ok(()) => {
+            pages.clear();
+            Ok(())
+        }
+        Err(_) => Err(RunFault::Write),
+    }
+}
+
+// The lines of the journal, and then the records of each output, in port order.
+fn write_pages<D: Depot>(
     depot: &mut D,
     journal: u32,
     outs: &[u32],

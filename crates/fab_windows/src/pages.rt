@@ -1,4 +1,4 @@
-//! What a window adds to the files, in buffers that are used again.
+//! What is still to be written to the files, in buffers that are used again.
 ghost use Rattle.std.specs.Prelude.{◌≡◌, ℕ, ◌+◌, ◌-◌, ◌<◌, ◌≤◌, ◌^◌, ◌++◌, ◌∷◌, [], length, map, replicate, take, drop, IfOk, OnOk, IsTrue};
 ghost use Rattle.fab_base.specs.Layout.{spelled_low};
 ghost use Rattle.std.specs.List.{All};
@@ -8,7 +8,7 @@ ghost use Rattle.fab_policy.specs.Text.{head_line, sent_bytes};
 ghost use Rattle.fab_policy.specs.Ranged.{IsRangedEvent};
 ghost use Rattle.fab_replies.specs.Message.{AreSendable, can_send, sent_of};
 ghost use Rattle.fab_windows.specs.Files.{items_in, piece_at};
-ghost use Rattle.fab_windows.specs.Pages.{AreEarly, Adds};
+ghost use Rattle.fab_windows.specs.Pages.{AreEarly, Adds, IsNothing, pending};
 
 use fab_base::{Moment, NoMemory};
 use fab_config::Config;
@@ -17,12 +17,15 @@ use forward_core::{Drained, EventList, Out, write_out};
 use pcap_file::{write_head, write_record};
 use std::alloc::Global;
 
+/// The bytes of a page from which on it is written.
+const FULL: usize = 65536;
+
 /// Where the first of the two lengths of a record stands in it, and where its frame begins.
 const LENGTH_AT: usize = 8;
 
 const RECORD_HEAD: usize = 16;
 
-/// What is added to the journal, and to the output of each port.
+/// What is still to be written: lines of the journal, and records of the output of each port.
 #[derive(Debug, Drop)]
 pub(crate) struct Pages {
     pub(crate) lines: Vec<u8>,
@@ -43,8 +46,8 @@ impl Pages {
         Ok(Pages { lines, records })
     }
 
-    /// The lines of entries from a clock on, and the records of what they sent on each port.
-    pub(crate) fn fill(
+    /// Adds the lines of entries, from a clock on, and the records of what they sent on each port.
+    pub(crate) fn add(
         &mut self,
         alloc: Global,
         config: &Config,
@@ -53,19 +56,33 @@ impl Pages {
     ) -> Result<(), NoMemory>
         requires ranged { All IsRangedEvent drained.now.events }
         requires early { AreEarly drained.now.outs }
-        ensures lines { OnOk result (self.new.lines.items ≡ lines_from clock drained.now.events) }
+        ensures lines { OnOk result (self.new.lines.items
+            ≡ self.old.lines.items ++ lines_from clock drained.now.events) }
         ensures count { OnOk result (length self.new.records.items
             ≡ length self.old.records.items) }
         ensures records { OnOk result ((q : ℕ) → q < length self.old.records.items
             → piece_at (items_in self.new.records.items) q
-            ≡ records_to (q + 1) (map (sent_of config.now drained.now.events)
+            ≡ piece_at (items_in self.old.records.items) q
+            ++ records_to (q + 1) (map (sent_of config.now drained.now.events)
             drained.now.outs)) }
     {
-        self.lines.clear();
         write_lines(alloc, clock, &drained.events, &mut self.lines)?;
-        clear_all(&mut self.records);
         write_records(alloc, config, drained, &mut self.records)?;
         Ok(())
+    }
+
+    /// Whether a page is so long that all are best written.
+    pub(crate) fn are_full(&self) -> bool {
+        self.lines.len() >= FULL || self.records.iter().any(|record| record.len() >= FULL)
+    }
+
+    /// Empties all pages, whose room is used again.
+    pub(crate) fn clear(&mut self)
+        ensures nothing { IsNothing (pending self.new) }
+        ensures count { length self.new.records.items ≡ length self.old.records.items }
+    {
+        self.lines.clear();
+        clear_all(&mut self.records);
     }
 }
 

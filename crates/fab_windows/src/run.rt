@@ -2,11 +2,12 @@
 ghost use Rattle.std.specs.Prelude.{◌≡◌, ◌+◌, ◌<◌, ◌≤◌, ◌^◌, length, [], IfOk, MatchResult};
 ghost use Rattle.fab_policy.specs.Outputs.{state_of};
 ghost use Rattle.fab_config.specs.Settings.{Settings};
+ghost use Rattle.fab_windows.specs.Pages.{IsNothing, pending};
 ghost use Rattle.fab_windows.specs.Run.{AreGiven, Runs};
 ghost use Rattle.fab_windows.specs.Turns.{task_of, Begun, Ended};
 
 use crate::Done;
-use crate::files::write_window;
+use crate::files::flush;
 use crate::laws::laws_of_runs;
 use crate::pages::Pages;
 use crate::turn::{Run, turn};
@@ -19,8 +20,9 @@ use std::sync::Wait;
 use std::thread::Threads;
 
 /// Runs a new fabric over captures whose heads were read, window by window. The journal and the
-/// outputs, which are empty, are written after each window; `ins` and `outs` are in port order.
-/// The gate sees each frame before it is handled and after.
+/// outputs, which are empty, are written in pieces of some 64 KiB, and wholly before the call
+/// returns, but where a write fails or memory is refused; `ins` and `outs` are in port order. The
+/// gate sees each frame before it is handled and after.
 pub fn run_windows<R: Threads + Wait + Sync, D: Depot, G: Gate + Sync>(
     _rt: &R,
     alloc: Global,
@@ -51,6 +53,7 @@ pub fn run_windows<R: Threads + Wait + Sync, D: Depot, G: Gate + Sync>(
             alloc, depot, fabric, first, window, ins, &mut run, budget, journal, outs, gate,
         )?;
     }
+    flush(depot, journal, outs, &mut run.pages)?;
     Ok(run.done)
 }
 
@@ -75,14 +78,12 @@ fn begin<D: Depot>(
         (λ r. Begun k (D.seen depot.new) ins.new r.shelves.items budget.new)
         (λ e. Ended k (D.seen depot.new) e) }
     ensures pages { IfOk result (λ r. length r.pages.records.items ≡ length outs.now) }
+    ensures nothing { IfOk result (λ r. IsNothing (pending r.pages)) }
     ensures done { IfOk result (λ r. (r.done.frames ≡ 0) × (r.done.entries ≡ 0)) }
 {
     laws_of_runs();
-    let pages = Pages::heads(alloc, outs.len())?;
-    match write_window(depot, journal, outs, &pages.lines, &pages.records) {
-        Ok(()) => {}
-        Err(_) => return Err(RunFault::Write),
-    }
+    let mut pages = Pages::heads(alloc, outs.len())?;
+    flush(depot, journal, outs, &mut pages)?;
     let shelves = first_looks(alloc, depot, ins, budget)?;
     let done = Done {
         frames: 0,

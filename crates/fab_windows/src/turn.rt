@@ -1,4 +1,4 @@
-//! One window: gathered, handled and written.
+//! One window: gathered, handled and put behind what is still to be written.
 ghost use Rattle.std.specs.Prelude.{[], ◌∷◌, ◌≡◌, ◌+◌, ◌≤◌, ◌<◌, ◌^◌, ◌%◌, Some, length, map, IfSome, IfOk, OnOk, MatchResult};
 ghost use Rattle.std.specs.List.{All};
 ghost use Rattle.fab_policy.specs.Growing.{lines_from};
@@ -8,13 +8,13 @@ ghost use Rattle.fab_replies.specs.Message.{sent_of};
 ghost use Rattle.fab_gather.specs.First.{IsNextWindow};
 ghost use Rattle.fab_gather.specs.Ports.{AreInputs, AreReady, slots_of};
 ghost use Rattle.fab_windows.specs.Files.{AreFiles};
-ghost use Rattle.fab_windows.specs.Pages.{AreEarly};
+ghost use Rattle.fab_windows.specs.Pages.{AreEarly, pending};
 ghost use Rattle.fab_windows.specs.Turns.{Start, task_of, Going, Gathered, Ended, Gathers, Handles, Publishes};
 ghost use Rattle.std.specs.Prelude.{ℕ, List};
 ghost use Rattle.fab_gather.specs.declared.shelf.Input as of_gather;
 ghost use Rattle.pcap_file.specs.declared.Budget as of_captures;
 
-use crate::files::write_window;
+use crate::files::flush;
 use crate::frames::take_frames;
 use crate::laws::laws_of_runs;
 use crate::pages::Pages;
@@ -36,7 +36,8 @@ pub(crate) struct Run {
     pub(crate) done: Done,
 }
 
-/// Takes the next window of all ports, handles its frames and writes what they made.
+/// Takes the next window of all ports, handles its frames and adds what they made to the pages.
+/// Where the window can't be taken, the pages are written before the run ends.
 pub(crate) fn turn<D: Depot, G: Gate>(
     alloc: Global,
     depot: &mut D,
@@ -51,22 +52,23 @@ pub(crate) fn turn<D: Depot, G: Gate>(
     gate: &G,
 ) -> Result<Fabric, RunFault>
     requires going { (s : Start) × Going (task_of s fabric.settings journal outs.now) window first
-        fabric (D.seen depot.old) ins.old run.old.shelves.items budget.old run.old.done }
+        fabric (D.seen depot.old) ins.old run.old.shelves.items budget.old run.old.done
+        (pending run.old.pages) }
     requires next { IsNextWindow fabric.settings run.old.shelves.items (Some window) }
     requires start { window % fabric.settings.window ≡ 0 }
     requires range { window < 2 ^ 43 }
     requires pages { length run.old.pages.records.items ≡ length outs.now }
     ensures turns { (s : Start) → let k = task_of s fabric.settings journal outs.now in
         Going k window first fabric (D.seen depot.old) ins.old run.old.shelves.items budget.old
-        run.old.done → MatchResult result
+        run.old.done (pending run.old.pages) → MatchResult result
         (λ f. Going k (window + 1) first f (D.seen depot.new) ins.new run.new.shelves.items
-        budget.new run.new.done) (λ e. Ended k (D.seen depot.new) e) }
+        budget.new run.new.done (pending run.new.pages)) (λ e. Ended k (D.seen depot.new) e) }
     ensures pages { OnOk result (length run.new.pages.records.items ≡ length outs.now) }
     ensures settings { IfOk result (λ f. f.settings ≡ fabric.settings) }
     ensures clock { IfOk result (λ f. f.state.tables.clock ≡ Some window) }
 {
     laws_of_runs();
-    gather(
+    match gather(
         alloc,
         depot,
         fabric.config(),
@@ -75,11 +77,16 @@ pub(crate) fn turn<D: Depot, G: Gate>(
         ins,
         &mut run.shelves,
         budget,
-    )?;
-    answer(alloc, depot, fabric, window, run, journal, outs, gate)
+    ) {
+        Ok(()) => answer(alloc, depot, fabric, window, run, journal, outs, gate),
+        Err(fault) => {
+            flush(depot, journal, outs, &mut run.pages)?;
+            Err(fault)
+        }
+    }
 }
 
-// Handles the frames on the shelves, writes what they made and counts it.
+// Handles the frames on the shelves, adds what they made to the pages and counts it.
 fn answer<D: Depot, G: Gate>(
     alloc: Global,
     depot: &mut D,
@@ -93,16 +100,17 @@ fn answer<D: Depot, G: Gate>(
     requires gathered { (s : Start) × (first : ℕ) × (ins : List of_gather.Input)
         × (left : of_captures.Budget)
         × Gathered (task_of s fabric.settings journal outs.now) window first fabric
-        (D.seen depot.old) ins run.old.shelves.items left run.old.done }
+        (D.seen depot.old) ins run.old.shelves.items left run.old.done
+        (pending run.old.pages) }
     requires start { window % fabric.settings.window ≡ 0 }
     requires range { window < 2 ^ 43 }
     requires pages { length run.old.pages.records.items ≡ length outs.now }
     ensures turns { (s : Start) (first : ℕ) (ins : List of_gather.Input) (left : of_captures.Budget)
         → let k = task_of s fabric.settings journal outs.now in
         Gathered k window first fabric (D.seen depot.old) ins run.old.shelves.items left
-        run.old.done → MatchResult result
+        run.old.done (pending run.old.pages) → MatchResult result
         (λ f. Going k (window + 1) first f (D.seen depot.new) ins run.new.shelves.items left
-        run.new.done) (λ e. Ended k (D.seen depot.new) e) }
+        run.new.done (pending run.new.pages)) (λ e. Ended k (D.seen depot.new) e) }
     ensures pages { OnOk result (length run.new.pages.records.items ≡ length outs.now) }
     ensures settings { IfOk result (λ f. f.settings ≡ fabric.settings) }
     ensures clock { IfOk result (λ f. f.state.tables.clock ≡ Some window) }
@@ -173,7 +181,8 @@ fn handle<G: Gate>(
     Ok((fabric, drained))
 }
 
-// Writes the lines of entries, from a clock on, and the records of what they sent.
+// Adds the lines of entries, from a clock on, and the records of what they sent to the pages, which
+// are written where they are full.
 fn publish<D: Depot>(
     alloc: Global,
     depot: &mut D,
@@ -189,21 +198,22 @@ fn publish<D: Depot>(
     requires ranged { All IsRangedEvent drained.now.events }
     requires early { AreEarly drained.now.outs }
     ensures publishes { Publishes journal outs.now (lines_from clock drained.now.events)
-        (map (sent_of config.now drained.now.events) drained.now.outs) (D.seen depot.old)
-        (D.seen depot.new) result }
+        (map (sent_of config.now drained.now.events) drained.now.outs) (pending pages.old)
+        (pending pages.new) (D.seen depot.old) (D.seen depot.new) result }
     ensures count { OnOk result (length pages.new.records.items ≡ length outs.now) }
 {
-    pages.fill(alloc, config, clock, drained)?;
-    match write_window(depot, journal, outs, &pages.lines, &pages.records) {
-        Ok(()) => Ok(()),
-        Err(_) => Err(RunFault::Write),
+    pages.add(alloc, config, clock, drained)?;
+    if !pages.are_full() {
+        return Ok(());
     }
+    flush(depot, journal, outs, pages)?;
+    Ok(())
 }
 
 // The numbers of frames and entries with these entries.
 fn counted(done: Done, events: &EventList) -> Done
-    requires frames { done.frames + frame_count events.now < 2 ^ 64 }
-    requires entries { done.entries + length events.now < 2 ^ 64 }
+    requires room { (done.frames + frame_count events.now < 2 ^ 64)
+        × (done.entries + length events.now < 2 ^ 64) }
     ensures frames { result.frames ≡ done.frames + frame_count events.now }
     ensures entries { result.entries ≡ done.entries + length events.now }
 {

@@ -1,5 +1,4 @@
-use Rattle.std.proofs.Common.{◌∙◌, ap, arith, length, subst, Ok, Err}
-use Rattle.std.specs.Prelude.{Result}
+use Rattle.std.proofs.Common.{◌∙◌, arith, subst, Ok, Err}
 use Rattle.fab_base.specs.Seen.{PutsAll}
 use Rattle.fab_gather.specs.Ports.{slot_at}
 use Rattle.fab_windows.specs.Files.{items_in}

@@ -1,6 +1,5 @@
-use Rattle.std.proofs.Common.{◌≡◌, ◌∙◌, ℕ, ◌<◌, [], length, slice_set, arith, inl, inr, subst, sym, below_more}
+use Rattle.std.proofs.Common.{◌∙◌, ◌<◌, length, arith, inl, inr, below_more}
 use Rattle.pcap_file.proofs.lemmas.Numbers.{le_or_lt}
-use Rattle.fab_windows.specs.Files.{items_in, piece_at}
 use Rattle.fab_windows.proofs.PageLemmas.{set_page, other_page, no_page}
 use Rattle.fab_windows.proofs.pages.clear_all.Goals as goal
 

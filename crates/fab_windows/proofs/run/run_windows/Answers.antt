@@ -1,8 +1,10 @@
-use Rattle.std.proofs.Common.{◌≡◌, ◌∙◌, ◌+◌, ◌%◌, ◌^◌, ℕ, Some, None, Err, refl, sym, ap, subst, arith}
+use Rattle.std.proofs.Common.{◌∙◌, ◌+◌, ◌%◌, ◌^◌, ℕ, Some, None, Err, refl, sym, ap, subst, arith}
 use Rattle.fab_config.specs.Settings.{Settings}
+use Rattle.fab_windows.specs.Pages.{pending}
 use Rattle.fab_windows.specs.Run.{Runs}
-use Rattle.fab_windows.specs.Turns.{Start, Task, task_of, Going, Ended}
-use Rattle.fab_windows.proofs.BeginLemmas.{going_first, going_next, next_early, next_as, nearer, ended_well}
+use Rattle.fab_windows.specs.Turns.{Start, task_of, Going, Ended}
+use Rattle.fab_windows.proofs.BeginLemmas.{going_first, going_next, next_early, next_as, nearer, ended_well, ended_broken}
+use Rattle.fab_windows.proofs.TurnLemmas.{files_now}
 use Rattle.fab_windows.proofs.ResultLemmas.{err_is}
 use Rattle.fab_windows.proofs.run.run_windows.Goals as goal
 
@@ -38,8 +40,8 @@ windows-init g c =
     let next = next_as c.config.result.now c.args.fabric.settings c.deref.result.now shelves c.next_window.result c.config.ensures c.deref.ensures.value c.next_window.ensures.least in
     record {
       v = 0;
-      going = subst (λ (f : ℕ). Going k 0 f c.args.fabric (seen c.begin.new.depot) c.begin.new.ins shelves c.begin.new.budget c.in_ok-run.run'.done) (sym c.unwrap_or-first.ensures)
-          (going_first c.laws_of_runs.ensures k (seen c.begin.new.depot) c.begin.new.ins shelves c.begin.new.budget (c.in_ok-run.ensures.begins c.args.fabric.settings) c.args.fabric c.next_window.result c.in_ok-run.run'.done
+      going = subst (λ (f : ℕ). Going k 0 f c.args.fabric (seen c.begin.new.depot) c.begin.new.ins shelves c.begin.new.budget c.in_ok-run.run'.done (pending c.in_ok-run.run'.pages)) (sym c.unwrap_or-first.ensures)
+          (going_first c.laws_of_runs.ensures k (seen c.begin.new.depot) c.begin.new.ins shelves c.begin.new.budget (c.in_ok-run.ensures.begins c.args.fabric.settings) c.args.fabric c.next_window.result c.in_ok-run.run'.done (pending c.in_ok-run.run'.pages) c.in_ok-run.ensures.nothing
           refl c.requires.count c.requires.state c.requires.nothing.0 c.requires.nothing.1 next c.in_ok-run.ensures.done.0 c.in_ok-run.ensures.done.1);
       settings = refl;
       pages = c.in_ok-run.ensures.pages;
@@ -56,8 +58,8 @@ turn-requires-clause-going g c =
     let l = c.windows in
     let next = next_as c.config-in-windows.result.now c.args.fabric.settings c.deref-in-windows.result.now l.run.shelves.items (Some c.in-Some.window) (c.config-in-windows.ensures ∙ l.invariant.settings) c.deref-in-windows.ensures.value c.in-Some.ensures.least in (
       s,
-      subst (λ (x : Settings). Going (task_of s x c.args.journal c.args.outs.now) c.in-Some.window c.unwrap_or-first.result l.fabric (seen l.depot) l.ins l.run.shelves.items l.budget l.run.done) (sym l.invariant.settings)
-          (going_next c.laws_of_runs.ensures k l.invariant.v c.in-Some.window c.unwrap_or-first.result l.fabric (seen l.depot) l.ins l.run.shelves.items l.budget l.run.done l.invariant.going next),
+      subst (λ (x : Settings). Going (task_of s x c.args.journal c.args.outs.now) c.in-Some.window c.unwrap_or-first.result l.fabric (seen l.depot) l.ins l.run.shelves.items l.budget l.run.done (pending l.run.pages)) (sym l.invariant.settings)
+          (going_next c.laws_of_runs.ensures k l.invariant.v c.in-Some.window c.unwrap_or-first.result l.fabric (seen l.depot) l.ins l.run.shelves.items l.budget l.run.done (pending l.run.pages) l.invariant.going next),
     )
 
 pub turn-requires-clause-next : goal.turn-requires-clause-next
@@ -74,7 +76,7 @@ turn-requires-clause-range g c =
     let k = task_of s c.args.fabric.settings c.args.journal c.args.outs.now in
     let l = c.windows in
     let next = next_as c.config-in-windows.result.now c.args.fabric.settings c.deref-in-windows.result.now l.run.shelves.items (Some c.in-Some.window) (c.config-in-windows.ensures ∙ l.invariant.settings) c.deref-in-windows.ensures.value c.in-Some.ensures.least in
-    next_early c.laws_of_runs.ensures k l.invariant.v c.in-Some.window c.unwrap_or-first.result l.fabric (seen l.depot) l.ins l.run.shelves.items l.budget l.run.done l.invariant.going next
+    next_early c.laws_of_runs.ensures k l.invariant.v c.in-Some.window c.unwrap_or-first.result l.fabric (seen l.depot) l.ins l.run.shelves.items l.budget l.run.done (pending l.run.pages) l.invariant.going next
 
 pub turn-requires-clause-pages : goal.turn-requires-clause-pages
 turn-requires-clause-pages g c = c.windows.invariant.pages
@@ -87,8 +89,8 @@ returns-in_err-fabric g c =
     let l = c.windows in
     let e = c.in_err-fabric.field-0.0 in
     let next = next_as c.config-in-windows.result.now c.args.fabric.settings c.deref-in-windows.result.now l.run.shelves.items (Some c.in-Some.window) (c.config-in-windows.ensures ∙ l.invariant.settings) c.deref-in-windows.ensures.value c.in-Some.ensures.least in
-    let going = subst (λ (x : Settings). Going (task_of s x c.args.journal c.args.outs.now) c.in-Some.window c.unwrap_or-first.result l.fabric (seen l.depot) l.ins l.run.shelves.items l.budget l.run.done) (sym l.invariant.settings)
-    (going_next c.laws_of_runs.ensures k l.invariant.v c.in-Some.window c.unwrap_or-first.result l.fabric (seen l.depot) l.ins l.run.shelves.items l.budget l.run.done l.invariant.going next) in
+    let going = subst (λ (x : Settings). Going (task_of s x c.args.journal c.args.outs.now) c.in-Some.window c.unwrap_or-first.result l.fabric (seen l.depot) l.ins l.run.shelves.items l.budget l.run.done (pending l.run.pages)) (sym l.invariant.settings)
+    (going_next c.laws_of_runs.ensures k l.invariant.v c.in-Some.window c.unwrap_or-first.result l.fabric (seen l.depot) l.ins l.run.shelves.items l.budget l.run.done (pending l.run.pages) l.invariant.going next) in
     record {
       runs = subst (λ r. Runs c.args.fabric.settings c.args.budget.now c.args.ins.now (seen c.args.depot.now) (seen c.turn.new.depot) c.args.journal c.args.outs.now r)
           (err_is c.from_residual-in_err-fabric.result e c.from_residual-in_err-fabric.ensures.1)
@@ -102,8 +104,8 @@ windows-smaller g c =
     let k = task_of s c.args.fabric.settings c.args.journal c.args.outs.now in
     let l = c.windows in
     let next = next_as c.config-in-windows.result.now c.args.fabric.settings c.deref-in-windows.result.now l.run.shelves.items (Some c.in-Some.window) (c.config-in-windows.ensures ∙ l.invariant.settings) c.deref-in-windows.ensures.value c.in-Some.ensures.least in
-    let going = going_next c.laws_of_runs.ensures k l.invariant.v c.in-Some.window c.unwrap_or-first.result l.fabric (seen l.depot) l.ins l.run.shelves.items l.budget l.run.done l.invariant.going next in
-    let early = next_early c.laws_of_runs.ensures k l.invariant.v c.in-Some.window c.unwrap_or-first.result l.fabric (seen l.depot) l.ins l.run.shelves.items l.budget l.run.done l.invariant.going next in
+    let going = going_next c.laws_of_runs.ensures k l.invariant.v c.in-Some.window c.unwrap_or-first.result l.fabric (seen l.depot) l.ins l.run.shelves.items l.budget l.run.done (pending l.run.pages) l.invariant.going next in
+    let early = next_early c.laws_of_runs.ensures k l.invariant.v c.in-Some.window c.unwrap_or-first.result l.fabric (seen l.depot) l.ins l.run.shelves.items l.budget l.run.done (pending l.run.pages) l.invariant.going next in
     nearer (2 ^ 43) c.in-Some.window l.fabric.state.tables.clock c.in_ok-fabric.fabric.state.tables.clock going.reached.clock early c.in_ok-fabric.ensures.clock
 
 pub windows-preserved : goal.windows-preserved
@@ -113,14 +115,39 @@ windows-preserved g c =
     let k = task_of s c.args.fabric.settings c.args.journal c.args.outs.now in
     let l = c.windows in
     let next = next_as c.config-in-windows.result.now c.args.fabric.settings c.deref-in-windows.result.now l.run.shelves.items (Some c.in-Some.window) (c.config-in-windows.ensures ∙ l.invariant.settings) c.deref-in-windows.ensures.value c.in-Some.ensures.least in
-    let going = subst (λ (x : Settings). Going (task_of s x c.args.journal c.args.outs.now) c.in-Some.window c.unwrap_or-first.result l.fabric (seen l.depot) l.ins l.run.shelves.items l.budget l.run.done) (sym l.invariant.settings)
-    (going_next c.laws_of_runs.ensures k l.invariant.v c.in-Some.window c.unwrap_or-first.result l.fabric (seen l.depot) l.ins l.run.shelves.items l.budget l.run.done l.invariant.going next) in
+    let going = subst (λ (x : Settings). Going (task_of s x c.args.journal c.args.outs.now) c.in-Some.window c.unwrap_or-first.result l.fabric (seen l.depot) l.ins l.run.shelves.items l.budget l.run.done (pending l.run.pages)) (sym l.invariant.settings)
+    (going_next c.laws_of_runs.ensures k l.invariant.v c.in-Some.window c.unwrap_or-first.result l.fabric (seen l.depot) l.ins l.run.shelves.items l.budget l.run.done (pending l.run.pages) l.invariant.going next) in
     record {
       v = c.in-Some.window + 1;
-      going = subst (λ (x : Settings). Going (task_of s x c.args.journal c.args.outs.now) (c.in-Some.window + 1) c.unwrap_or-first.result c.in_ok-fabric.fabric (seen c.turn.new.depot) c.turn.new.ins c.turn.new.run.shelves.items c.turn.new.budget c.turn.new.run.done) l.invariant.settings
+      going = subst (λ (x : Settings). Going (task_of s x c.args.journal c.args.outs.now) (c.in-Some.window + 1) c.unwrap_or-first.result c.in_ok-fabric.fabric (seen c.turn.new.depot) c.turn.new.ins c.turn.new.run.shelves.items c.turn.new.budget c.turn.new.run.done (pending c.turn.new.run.pages)) l.invariant.settings
           (c.in_ok-fabric.ensures.turns s going);
       settings = c.in_ok-fabric.ensures.settings ∙ l.invariant.settings;
       pages = c.in_ok-fabric.ensures.pages;
+    }
+
+pub flush-requires-clause-count : goal.flush-requires-clause-count
+flush-requires-clause-count g c = sym c.windows.invariant.pages
+
+pub flush-requires-clause-files : goal.flush-requires-clause-files
+flush-requires-clause-files g c =
+    let seen = g.D.Depot.seen in
+    let s : Start = record { budget = c.args.budget.now; ins = c.args.ins.now; seen = seen c.args.depot.now } in
+    let k = task_of s c.args.fabric.settings c.args.journal c.args.outs.now in
+    let l = c.windows in
+    files_now c.laws_of_runs.ensures k l.invariant.v c.unwrap_or-first.result l.fabric (seen l.depot) l.ins l.run.shelves.items l.budget l.invariant.going.reached
+
+pub returns-in_err-flush : goal.returns-in_err-flush
+returns-in_err-flush g c =
+    let seen = g.D.Depot.seen in
+    let s : Start = record { budget = c.args.budget.now; ins = c.args.ins.now; seen = seen c.args.depot.now } in
+    let k = task_of s c.args.fabric.settings c.args.journal c.args.outs.now in
+    let l = c.windows in
+    let w = c.in_err-flush.ensures in
+    let next = next_as c.config-in-windows.result.now c.args.fabric.settings c.deref-in-windows.result.now l.run.shelves.items None (c.config-in-windows.ensures ∙ l.invariant.settings) c.deref-in-windows.ensures.value c.in_default.ensures.least in
+    record {
+      runs = subst (Runs c.args.fabric.settings c.args.budget.now c.args.ins.now (seen c.args.depot.now) (seen c.flush.new.depot) c.args.journal c.args.outs.now)
+          (ap (λ e. Err e) (sym w.fault) ∙ err_is c.from_residual-in_err-flush.result c.in_err-flush.field-0.0 c.from_residual-in_err-flush.ensures.1)
+          (ended_broken c.laws_of_runs.ensures k l.invariant.v c.unwrap_or-first.result l.fabric (seen l.depot) l.ins l.run.shelves.items l.budget l.run.done (pending l.run.pages) l.invariant.going next (seen c.flush.new.depot) w.writes.0 w.writes.1);
     }
 
 pub returns : goal.returns
@@ -130,4 +157,6 @@ returns g c =
     let k = task_of s c.args.fabric.settings c.args.journal c.args.outs.now in
     let l = c.windows in
     let next = next_as c.config-in-windows.result.now c.args.fabric.settings c.deref-in-windows.result.now l.run.shelves.items None (c.config-in-windows.ensures ∙ l.invariant.settings) c.deref-in-windows.ensures.value c.in_default.ensures.least in
-    record { runs = ended_well c.laws_of_runs.ensures k l.invariant.v c.unwrap_or-first.result l.fabric (seen l.depot) l.ins l.run.shelves.items l.budget l.run.done l.invariant.going next }
+    record {
+      runs = ended_well c.laws_of_runs.ensures k l.invariant.v c.unwrap_or-first.result l.fabric (seen l.depot) l.ins l.run.shelves.items l.budget l.run.done (pending l.run.pages) l.invariant.going next (seen c.flush.new.depot) c.in_ok-flush.ensures.writes;
+    }

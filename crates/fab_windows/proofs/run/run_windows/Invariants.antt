@@ -1,4 +1,5 @@
 use Rattle.std.proofs.Common.{ℕ, ◌≡◌, ◌^◌, length}
+use Rattle.fab_windows.specs.Pages.{pending}
 use Rattle.fab_windows.specs.Turns.{Start, task_of, Going}
 use Rattle.fab_windows.proofs.TickLemmas.{distance}
 use Rattle.fab_windows.proofs.run.run_windows.Given as goal
@@ -9,7 +10,7 @@ invariant-windows g l =
     let s : Start = record { budget = l.fn.budget; ins = l.fn.ins; seen = seen l.fn.depot } in
     record {
       v : ℕ;
-      going : Going (task_of s l.fn.fabric.settings l.journal l.outs) v l.first l.fabric (seen l.depot) l.ins l.run.shelves.items l.budget l.run.done;
+      going : Going (task_of s l.fn.fabric.settings l.journal l.outs) v l.first l.fabric (seen l.depot) l.ins l.run.shelves.items l.budget l.run.done (pending l.run.pages);
       settings : l.fabric.settings ≡ l.fn.fabric.settings;
       pages : length l.run.pages.records.items ≡ length l.outs;
     }

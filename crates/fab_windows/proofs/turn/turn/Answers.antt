@@ -1,9 +1,12 @@
-use Rattle.std.proofs.Common.{◌≡◌, ◌∙◌, ◌≤◌, ap, sym, subst, length, Some, Err, arith}
+use Rattle.std.proofs.Common.{◌≡◌, ◌∙◌, ap, sym, subst, length, Some, Err, arith}
+use Rattle.std.specs.Result.{IsErrAnd}
 use Rattle.fab_gather.specs.First.{IsNextWindow}
 use Rattle.fab_gather.specs.Ports.{AreReady}
+use Rattle.fab_gather.specs.declared.fault.RunFault.TheVariants as fault
+use Rattle.fab_windows.specs.Pages.{pending}
 use Rattle.fab_windows.specs.Turns.{task_of}
-use Rattle.fab_windows.proofs.GoLemmas.{gathers_as, gathered_by, turn_stops}
-use Rattle.fab_windows.proofs.ResultLemmas.{told_on, not_ok}
+use Rattle.fab_windows.proofs.GoLemmas.{gathers_as, gathered_by, turn_stops, turn_breaks, files_then}
+use Rattle.fab_windows.proofs.ResultLemmas.{told_on}
 use Rattle.fab_windows.proofs.StayLemmas.{same_ports}
 use Rattle.fab_windows.proofs.TurnLemmas.{inputs_now}
 use Rattle.fab_windows.proofs.turn.turn.Goals as goal
@@ -42,7 +45,7 @@ answer-requires-clause-gathered g c =
       c.gather.new.ins,
       c.gather.new.budget,
       gathered_by k c.args.window c.args.first c.args.fabric (seen c.args.depot.now) c.args.ins.now c.args.run.now.shelves.items c.args.budget.now (seen c.gather.new.depot) c.gather.new.ins c.gather.new.shelves c.gather.new.budget
-          c.config.result.now c.config.ensures c.deref_mut.result.now c.deref_mut.ensures.value c.args.run.now.done c.requires.going.1 c.requires.next c.args.run.now.shelves.len c.args.run.now.shelves.ok.0 c.in_ok-gather.ensures.gathers,
+          c.config.result.now c.config.ensures c.deref_mut.result.now c.deref_mut.ensures.value c.args.run.now.done (pending c.args.run.now.pages) c.requires.going.1 c.requires.next c.args.run.now.shelves.len c.args.run.now.shelves.ok.0 c.in-Ok.ensures.gathers,
     )
 
 pub answer-requires-clause-start : goal.answer-requires-clause-start
@@ -54,31 +57,44 @@ answer-requires-clause-range g c = c.requires.range
 pub answer-requires-clause-pages : goal.answer-requires-clause-pages
 answer-requires-clause-pages g c = c.requires.pages
 
-pub returns-in_err-gather-clause-turns : goal.returns-in_err-gather-clause-turns
-returns-in_err-gather-clause-turns g c = λ s going.
+pub flush-requires-clause-count : goal.flush-requires-clause-count
+flush-requires-clause-count g c = sym c.requires.pages
+
+pub flush-requires-clause-files : goal.flush-requires-clause-files
+flush-requires-clause-files g c =
+    let k = task_of c.requires.going.0 c.args.fabric.settings c.args.journal c.args.outs.now in
+    let seen = g.D.Depot.seen in
+    let t = gathers_as k c.args.window c.args.first c.args.fabric (seen c.args.depot.now) c.args.ins.now c.args.run.now.shelves.items c.args.budget.now (seen c.gather.new.depot) c.gather.new.ins c.gather.new.shelves c.gather.new.budget
+    c.config.result.now c.config.ensures c.deref_mut.result.now c.deref_mut.ensures.value (Err c.in-Err.fault) c.in-Err.ensures.gathers in
+    files_then c.laws_of_runs.ensures k c.args.window c.args.first c.args.fabric (seen c.args.depot.now) c.args.ins.now c.args.run.now.shelves.items c.args.budget.now c.args.run.now.done (pending c.args.run.now.pages) c.requires.going.1 (seen c.gather.new.depot) t.touches
+
+pub returns-in_err-flush-in-Err-clause-turns : goal.returns-in_err-flush-in-Err-clause-turns
+returns-in_err-flush-in-Err-clause-turns g c = λ s going.
     let k = task_of s c.args.fabric.settings c.args.journal c.args.outs.now in
     let seen = g.D.Depot.seen in
     let shelves = c.args.run.now.shelves.items in
-    let e = c.in_err-gather.field-0.0 in
-    told_on c.from_residual.result e _ _ c.from_residual.ensures.1
-    (turn_stops c.laws_of_runs.ensures k c.args.window c.args.first c.args.fabric (seen c.args.depot.now) c.args.ins.now shelves c.args.budget.now c.args.run.now.done going (seen c.gather.new.depot) c.gather.new.ins c.gather.new.shelves c.gather.new.budget e
+    let e = c.in-Err.fault in
+    let w = c.in_err-flush-in-Err.ensures in
+    told_on c.from_residual.result fault.Write _ _ (subst (λ x. IsErrAnd c.from_residual.result (λ y. y ≡ x)) w.fault c.from_residual.ensures.1)
+    (turn_breaks c.laws_of_runs.ensures k c.args.window c.args.first c.args.fabric (seen c.args.depot.now) c.args.ins.now shelves c.args.budget.now c.args.run.now.done (pending c.args.run.now.pages) going (seen c.gather.new.depot) c.gather.new.ins c.gather.new.shelves c.gather.new.budget e
     (gathers_as k c.args.window c.args.first c.args.fabric (seen c.args.depot.now) c.args.ins.now shelves c.args.budget.now (seen c.gather.new.depot) c.gather.new.ins c.gather.new.shelves c.gather.new.budget
-    c.config.result.now c.config.ensures c.deref_mut.result.now c.deref_mut.ensures.value (Err e) c.in_err-gather.ensures.gathers))
+    c.config.result.now c.config.ensures c.deref_mut.result.now c.deref_mut.ensures.value (Err e) c.in-Err.ensures.gathers) (seen c.flush.new.depot) w.writes.0 w.writes.1)
 
-pub returns-in_err-gather-clause-pages : goal.returns-in_err-gather-clause-pages
-returns-in_err-gather-clause-pages g c = not_ok c.from_residual.result c.in_err-gather.field-0.0 _ c.from_residual.ensures.1
+pub returns-in_ok-flush-in-Err-clause-turns : goal.returns-in_ok-flush-in-Err-clause-turns
+returns-in_ok-flush-in-Err-clause-turns g c = λ s going.
+    let k = task_of s c.args.fabric.settings c.args.journal c.args.outs.now in
+    let seen = g.D.Depot.seen in
+    let shelves = c.args.run.now.shelves.items in
+    let e = c.in-Err.fault in
+    turn_stops c.laws_of_runs.ensures k c.args.window c.args.first c.args.fabric (seen c.args.depot.now) c.args.ins.now shelves c.args.budget.now c.args.run.now.done (pending c.args.run.now.pages) going (seen c.gather.new.depot) c.gather.new.ins c.gather.new.shelves c.gather.new.budget e
+    (gathers_as k c.args.window c.args.first c.args.fabric (seen c.args.depot.now) c.args.ins.now shelves c.args.budget.now (seen c.gather.new.depot) c.gather.new.ins c.gather.new.shelves c.gather.new.budget
+    c.config.result.now c.config.ensures c.deref_mut.result.now c.deref_mut.ensures.value (Err e) c.in-Err.ensures.gathers) (seen c.flush.new.depot) c.in_ok-flush-in-Err.ensures.writes
 
-pub returns-in_err-gather-clause-settings : goal.returns-in_err-gather-clause-settings
-returns-in_err-gather-clause-settings g c = not_ok c.from_residual.result c.in_err-gather.field-0.0 _ c.from_residual.ensures.1
-
-pub returns-in_err-gather-clause-clock : goal.returns-in_err-gather-clause-clock
-returns-in_err-gather-clause-clock g c = not_ok c.from_residual.result c.in_err-gather.field-0.0 _ c.from_residual.ensures.1
-
-pub returns-clause-turns : goal.returns-clause-turns
-returns-clause-turns g c = λ s going.
+pub returns-in-Ok-clause-turns : goal.returns-in-Ok-clause-turns
+returns-in-Ok-clause-turns g c = λ s going.
     let k = task_of s c.args.fabric.settings c.args.journal c.args.outs.now in
     let seen = g.D.Depot.seen in
     let shelves = c.args.run.now.shelves.items in
     c.answer.ensures.turns s c.args.first c.gather.new.ins c.gather.new.budget
     (gathered_by k c.args.window c.args.first c.args.fabric (seen c.args.depot.now) c.args.ins.now shelves c.args.budget.now (seen c.gather.new.depot) c.gather.new.ins c.gather.new.shelves c.gather.new.budget
-    c.config.result.now c.config.ensures c.deref_mut.result.now c.deref_mut.ensures.value c.args.run.now.done going c.requires.next c.args.run.now.shelves.len c.args.run.now.shelves.ok.0 c.in_ok-gather.ensures.gathers)
+    c.config.result.now c.config.ensures c.deref_mut.result.now c.deref_mut.ensures.value c.args.run.now.done (pending c.args.run.now.pages) going c.requires.next c.args.run.now.shelves.len c.args.run.now.shelves.ok.0 c.in-Ok.ensures.gathers)

@@ -1,4 +1,4 @@
-use Rattle.std.proofs.Common.{◌≡◌, ◌∙◌, ap}
+use Rattle.std.proofs.Common.{◌∙◌, ap}
 use Rattle.pcap_file.specs.Capture.{head_bytes}
 use Rattle.fab_windows.specs.Files.{piece_at}
 use Rattle.fab_windows.proofs.PageLemmas.{page_of}
