@@ -11,16 +11,13 @@ use Rattle.fab_vectors.specs.declared.frame.LoadFrame.{LoadFrame}
 use Rattle.fab_vectors.specs.declared.frame.LoadFrame.TheVariants.{VlanRequest, Solicitation, Login, KeepAlive}
 use Rattle.fab_vectors.specs.declared.frame.Step.{Step}
 use Rattle.fab_vectors.specs.declared.frame.Step.TheVariants.{Fabric, Server, Watch, Register, Query}
+use Rattle.fab_vectors.proofs.NumberedLemmas.{length_numbered}
 use Rattle.fab_vectors.proofs.FilesLemmas.{adds_behind, adds_more, adds_ok, adds_err, same_name}
 
 -- ---- 2500 frames
 
 both : {X : Type 0} (m n : ℕ) (xs ys : List X) → length xs ≡ m → length ys ≡ n → length (xs ++ ys) ≡ m + n
 both m n xs ys x_is y_is = omega (arith, length-append xs ys)
-
-pub length_numbered : {X : Type 0} (f : ℕ → X) (from count : ℕ) → length (numbered f from count) ≡ count
-length_numbered f from zero = refl
-length_numbered f from (suc count) = omega (arith, length_numbered f from count, length-append (numbered f from count) (f (count + from) ∷ []))
 
 logins_count : (step : Step) → length (logins step) ≡ 30
 unfolding logins

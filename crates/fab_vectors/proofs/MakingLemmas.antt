@@ -27,6 +27,16 @@ pub few : (k total n : ℕ) → k < 9 → total ≡ 2500 * (k - 1) → n ≡ fra
 few zero total n lt is n_is = omega arith
 few (suc k) total n lt is n_is = omega arith
 
+-- memory was refused before anything was written
+pub made_nothing : (number : ℕ) (slots : List ℕ) (a : Seen) → AreNine a slots → Makes number slots a a (Err fault.Memory)
+made_nothing number slots a nine = record {
+  touches = touches_refl (IsNamed a slots) (IsNamed a slots) a;
+  whole = λ told. tt;
+  front = λ told q less. ([], file_text number q, nine.empty told q less, refl);
+  count = tt;
+  cause = λ w. absurd (cc);
+}
+
 -- What stands before the file of a place: those before it are whole, and the others are as they were.
 pub record Made (number : ℕ) (slots : List ℕ) (k total : ℕ) (a b : Seen) : Type 0 where
   pub touches : Touches (IsNamed a slots) (IsNamed a slots) a b

@@ -138,6 +138,13 @@ payload_length drawn = 4 * (drawn / 1920 % 529)
 unfoldable pub payload : ℕ → List ℕ
 payload drawn = numbered (λ place. (drawn + place) % 256) 0 (payload_length drawn)
 
+-- so many bytes that count on from 0, of which each payload is a part; the longest one ends before this place
+unfoldable pub counted : ℕ → List ℕ
+counted count = numbered (λ place. place % 256) 0 count
+
+abbrev pub COUNTED : ℕ
+COUNTED = 2368
+
 abbrev pub data_frame : ℕ → ℕ → ℕ → List ℕ
 data_frame port ox_id drawn =
     fcoe_frame (header 0x01 (address (target_port drawn) (target drawn)) (address port (sender drawn)) 0x08 ox_id) (payload drawn)

@@ -1,4 +1,4 @@
-//! What data frames are drawn from: a linear congruence, of which each port takes every eighth value.
+//! What data frames are drawn from: a linear congruence; each port takes every eighth value.
 ghost use Rattle.std.specs.Prelude.{◌≡◌, ◌+◌, ◌*◌, ◌<◌, ℕ};
 ghost use Rattle.fab_vectors.specs.Load as spec;
 

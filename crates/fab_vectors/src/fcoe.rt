@@ -26,6 +26,9 @@ const NAME_SERVER: u32 = 0xff_fffc;
 
 const CONTROLLER: u32 = 0xff_fffd;
 
+/// How many bytes count on: payloads are cut out of them.
+const COUNTED: usize = 2368;
+
 /// SCSI over Fibre Channel.
 const FCP: u8 = 8;
 
@@ -97,15 +100,16 @@ pub(crate) fn write_data(
     port: PortNo,
     ox_id: u16,
     drawn: u32,
+    counted: &[u8],
     out: &mut Vec<u8>,
 ) -> Result<(), NoMemory>
+    requires { counted.now ≡ spec.counted spec.COUNTED }
     ensures ok { OnOk result (out.new.items ≡ out.old.items ++ spec.data_frame port ox_id drawn) }
     ensures size { OnOk result (length (spec.data_frame port ox_id drawn) ≤ 65535) }
 {
     let d_id = address(target_port(drawn), target(drawn));
     let head = header(0x01, d_id, address(port, sender(drawn)), FCP, ox_id);
-    let payload = data_payload(alloc, drawn)?;
-    write_payload(alloc, &head, &payload, out)
+    write_payload(alloc, &head, payload_of(drawn, counted), out)
 }
 
 // The login that a data frame is from.
@@ -134,16 +138,33 @@ fn target(drawn: u32) -> u8
     }
 }
 
-// Its payload.
-#[tactic(auto, unfolding(crate::specs::Frames::payload))]
-fn data_payload(alloc: Global, drawn: u32) -> Result<Vec<u8>, NoMemory>
-    ensures bytes { IfOk result (λ v. v.items ≡ spec.payload drawn) }
-    ensures payload { IfOk result (λ v. IsPayload v.items) }
+// Its payload, as a part of bytes that count on.
+fn payload_of(drawn: u32, counted: &[u8]) -> &[u8]
+    requires { counted.now ≡ spec.counted spec.COUNTED }
+    ensures bytes { result.now ≡ spec.payload drawn }
+    ensures payload { IsPayload result.now }
 {
-    let length = 4 * (drawn / 1920 % 529);
-    let mut bytes = Vec::with_capacity(alloc, length as usize)?;
-    for place in 0..length {
-        bytes.push(((u64::from(drawn) + u64::from(place)) % 256) as u8)?;
+    let from = (drawn % 256) as usize;
+    let length = 4 * (drawn / 1920 % 529) as usize;
+    let (_, rest) = counted.split_at(from);
+    let (payload, _) = rest.split_at(length);
+    payload
+}
+
+/// Bytes that count on from 0, of which each payload is a part.
+pub(crate) fn counted_bytes(alloc: Global) -> Result<Vec<u8>, NoMemory>
+    ensures { IfOk result (λ v. v.items ≡ spec.counted spec.COUNTED) }
+{
+    count_to(alloc, COUNTED)
+}
+
+#[tactic(auto, unfolding(crate::specs::Frames::counted))]
+fn count_to(alloc: Global, count: usize) -> Result<Vec<u8>, NoMemory>
+    ensures { IfOk result (λ v. v.items ≡ spec.counted count) }
+{
+    let mut bytes = Vec::with_capacity(alloc, count)?;
+    for place in 0..count {
+        bytes.push((place % 256) as u8)?;
     }
     Ok(bytes)
 }

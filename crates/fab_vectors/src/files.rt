@@ -1,6 +1,7 @@
 //! One file of a load, written page by page.
 ghost use Rattle.std.specs.Prelude.{◌≡◌, IsTrue, IfOk, flat_map};
 ghost use Rattle.fab_vectors.specs.Files.{Adds};
+ghost use Rattle.fab_vectors.specs.Frames as spec;
 ghost use Rattle.fab_vectors.specs.Load.{capture, record_of};
 ghost use Rattle.pcap_file.specs.Capture.{head_bytes};
 
@@ -30,8 +31,10 @@ pub(crate) fn write_capture<D: Depot>(
     number: u64,
     port: PortNo,
     slot: u32,
+    counted: &[u8],
     buffers: &mut Buffers,
 ) -> Result<u64, MakeFault>
+    requires counted { counted.now ≡ spec.counted spec.COUNTED }
     requires output { IsTrue ((D.seen depot.old).output slot) }
     ensures adds { Adds slot (capture number port) (D.seen depot.old) (D.seen depot.new) result }
     ensures count { IfOk result (λ frames. frames ≡ 2500) }
@@ -43,7 +46,7 @@ pub(crate) fn write_capture<D: Depot>(
         Ok(()) => {}
         Err(fault) => return Err(fault),
     }
-    match put_pages(alloc, depot, port, slot, &frames, buffers) {
+    match put_pages(alloc, depot, port, slot, &frames, counted, buffers) {
         Ok(()) => Ok(frames.len() as u64),
         Err(fault) => Err(fault),
     }
@@ -73,8 +76,10 @@ fn put_pages<D: Depot>(
     port: PortNo,
     slot: u32,
     frames: &[LoadFrame],
+    counted: &[u8],
     buffers: &mut Buffers,
 ) -> Result<(), MakeFault>
+    requires counted { counted.now ≡ spec.counted spec.COUNTED }
     requires output { IsTrue ((D.seen depot.old).output slot) }
     ensures adds { Adds slot (flat_map (record_of port) frames.now) (D.seen depot.old)
         (D.seen depot.new) result }
@@ -82,7 +87,7 @@ fn put_pages<D: Depot>(
     let mut rest = frames;
     while !rest.is_empty() {
         let (now, later) = rest.split_at(rest.len().min(PAGE));
-        match put_records(alloc, depot, port, slot, now, buffers) {
+        match put_records(alloc, depot, port, slot, now, counted, buffers) {
             Ok(()) => {}
             Err(fault) => return Err(fault),
         }
@@ -98,14 +103,23 @@ fn put_records<D: Depot>(
     port: PortNo,
     slot: u32,
     frames: &[LoadFrame],
+    counted: &[u8],
     buffers: &mut Buffers,
 ) -> Result<(), MakeFault>
+    requires counted { counted.now ≡ spec.counted spec.COUNTED }
     requires output { IsTrue ((D.seen depot.old).output slot) }
     ensures adds { Adds slot (flat_map (record_of port) frames.now) (D.seen depot.old)
         (D.seen depot.new) result }
 {
     buffers.page.clear();
-    match write_records(alloc, port, frames, &mut buffers.frame, &mut buffers.page) {
+    match write_records(
+        alloc,
+        port,
+        frames,
+        counted,
+        &mut buffers.frame,
+        &mut buffers.page,
+    ) {
         Ok(()) => put_page(depot, slot, &buffers.page),
         Err(_) => Err(MakeFault::Memory),
     }

@@ -7,6 +7,7 @@ mod fcoe;
 mod files;
 mod fip;
 mod frame;
+mod laws;
 mod making;
 mod names;
 mod parts;
@@ -16,6 +17,7 @@ mod settings;
 #[cfg(test)]
 mod tests;
 
+pub use laws::each_capture_has_2500_frames;
 pub use making::make_load;
 use thiserror::Error;
 

@@ -1,9 +1,11 @@
 //! The files of a load, written one after another.
 ghost use Rattle.std.specs.Prelude.{◌≡◌, ◌<◌, IsTrue, IfOk};
 ghost use Rattle.fab_vectors.specs.Files.{Adds};
+ghost use Rattle.fab_vectors.specs.Frames as spec;
 ghost use Rattle.fab_vectors.specs.Making.{AreNine, Makes, file_text, frame_count};
 ghost use Rattle.fab_vectors.specs.Settings.{config_text};
 
+use crate::fcoe::counted_bytes;
 use crate::files::{Buffers, put_page, write_capture};
 use crate::settings::settings;
 use crate::{FILES, MakeFault};
@@ -23,13 +25,39 @@ pub fn make_load<D: Depot>(
     requires files { AreNine (D.seen depot.old) slots.now }
     ensures makes { Makes number slots.now (D.seen depot.old) (D.seen depot.new) result }
 {
+    let Ok(counted) = counted_bytes(alloc) else {
+        return Err(MakeFault::Memory);
+    };
+    write_files(alloc, depot, number, slots, &counted)
+}
+
+// Writes the files in their order. `counted` has the bytes of all payloads.
+fn write_files<D: Depot>(
+    alloc: Global,
+    depot: &mut D,
+    number: u64,
+    slots: &[u32],
+    counted: &[u8],
+) -> Result<u64, MakeFault>
+    requires counted { counted.now ≡ spec.counted spec.COUNTED }
+    requires files { AreNine (D.seen depot.old) slots.now }
+    ensures makes { Makes number slots.now (D.seen depot.old) (D.seen depot.new) result }
+{
     let mut buffers = Buffers {
         page: Vec::new(alloc),
         frame: Vec::new(alloc),
     };
     let mut total = 0;
     for place in 0..FILES {
-        match write_file(alloc, depot, number, place, slots[place], &mut buffers) {
+        match write_file(
+            alloc,
+            depot,
+            number,
+            place,
+            slots[place],
+            counted,
+            &mut buffers,
+        ) {
             Ok(frames) => total += frames,
             Err(fault) => return Err(fault),
         }
@@ -44,8 +72,10 @@ fn write_file<D: Depot>(
     number: u64,
     place: usize,
     slot: u32,
+    counted: &[u8],
     buffers: &mut Buffers,
 ) -> Result<u64, MakeFault>
+    requires counted { counted.now ≡ spec.counted spec.COUNTED }
     requires output { IsTrue ((D.seen depot.old).output slot) }
     requires place { place < 9 }
     ensures adds { Adds slot (file_text number place) (D.seen depot.old) (D.seen depot.new)
@@ -55,7 +85,15 @@ fn write_file<D: Depot>(
     if place == 0 {
         write_settings(alloc, depot, slot, buffers)
     } else {
-        write_capture(alloc, depot, number, PortNo::at(place - 1), slot, buffers)
+        write_capture(
+            alloc,
+            depot,
+            number,
+            PortNo::at(place - 1),
+            slot,
+            counted,
+            buffers,
+        )
     }
 }
 

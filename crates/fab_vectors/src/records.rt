@@ -1,6 +1,6 @@
 //! Frames as the records of a capture.
 ghost use Rattle.std.specs.Prelude.{◌≡◌, ◌≤◌, ◌++◌, length, flat_map, OnOk};
-ghost use Rattle.fab_vectors.specs.Frames as frames;
+ghost use Rattle.fab_vectors.specs.Frames as bytes_of;
 ghost use Rattle.fab_vectors.specs.Load as spec;
 
 use crate::fcoe::{write_data, write_query, write_registration, write_server_login, write_watch};
@@ -10,19 +10,22 @@ use fab_base::{NoMemory, PortNo};
 use pcap_file::write_record;
 use std::alloc::Global;
 
-/// Appends the records of frames of a port. `bytes` is a buffer for one frame.
+/// Appends the records of frames of a port. `counted` has the bytes of all payloads, and `bytes` is
+/// a buffer for one frame.
 pub(crate) fn write_records(
     alloc: Global,
     port: PortNo,
     frames: &[LoadFrame],
+    counted: &[u8],
     bytes: &mut Vec<u8>,
     out: &mut Vec<u8>,
 ) -> Result<(), NoMemory>
+    requires { counted.now ≡ bytes_of.counted bytes_of.COUNTED }
     ensures { OnOk result (out.new.items
         ≡ out.old.items ++ flat_map (spec.record_of port) frames.now) }
 {
     for frame in frames {
-        write_one(alloc, port, *frame, bytes, out)?;
+        write_one(alloc, port, *frame, counted, bytes, out)?;
     }
     Ok(())
 }
@@ -33,13 +36,15 @@ fn write_one(
     alloc: Global,
     port: PortNo,
     frame: LoadFrame,
+    counted: &[u8],
     bytes: &mut Vec<u8>,
     out: &mut Vec<u8>,
 ) -> Result<(), NoMemory>
+    requires { counted.now ≡ bytes_of.counted bytes_of.COUNTED }
     ensures { OnOk result (out.new.items ≡ out.old.items ++ spec.record_of port frame) }
 {
     bytes.clear();
-    write_frame(alloc, port, frame, bytes)?;
+    write_frame(alloc, port, frame, counted, bytes)?;
     write_record(alloc, frame.moment(port), bytes, out)
 }
 
@@ -49,17 +54,19 @@ fn write_frame(
     alloc: Global,
     port: PortNo,
     frame: LoadFrame,
+    counted: &[u8],
     out: &mut Vec<u8>,
 ) -> Result<(), NoMemory>
-    ensures ok { OnOk result (out.new.items ≡ out.old.items ++ frames.frame_bytes port frame) }
-    ensures size { OnOk result (length (frames.frame_bytes port frame) ≤ 65535) }
+    requires { counted.now ≡ bytes_of.counted bytes_of.COUNTED }
+    ensures ok { OnOk result (out.new.items ≡ out.old.items ++ bytes_of.frame_bytes port frame) }
+    ensures size { OnOk result (length (bytes_of.frame_bytes port frame) ≤ 65535) }
 {
     match frame {
         LoadFrame::VlanRequest => write_vlan_request(alloc, port, out),
         LoadFrame::Solicitation => write_solicitation(alloc, port, out),
         LoadFrame::Login(step, login) => write_login(alloc, port, step, login, out),
         LoadFrame::KeepAlive(_) => write_keep_alive(alloc, port, out),
-        LoadFrame::Data(ox_id, drawn) => write_data(alloc, port, ox_id, drawn, out),
+        LoadFrame::Data(ox_id, drawn) => write_data(alloc, port, ox_id, drawn, counted, out),
     }
 }
 
@@ -72,8 +79,8 @@ fn write_login(
     out: &mut Vec<u8>,
 ) -> Result<(), NoMemory>
     ensures ok { OnOk result (out.new.items
-        ≡ out.old.items ++ frames.login_frame port step login) }
-    ensures size { OnOk result (length (frames.login_frame port step login) ≤ 65535) }
+        ≡ out.old.items ++ bytes_of.login_frame port step login) }
+    ensures size { OnOk result (length (bytes_of.login_frame port step login) ≤ 65535) }
 {
     match step {
         Step::Fabric => write_fabric_login(alloc, port, login, out),

@@ -1,5 +1,6 @@
 //! Files of loads, by the lengths and check sequences (CRC-32) that another generator's files have.
 use super::*;
+use crate::fcoe::counted_bytes;
 use crate::plan::frames_of;
 use crate::records::write_records;
 use crate::settings::settings;
@@ -12,10 +13,11 @@ use std::test::Fail;
 
 fn capture_of(alloc: Global, number: u64, port: PortNo) -> Result<Vec<u8>, NoMemory> {
     let frames = frames_of(alloc, number, port)?;
+    let counted = counted_bytes(alloc)?;
     let mut bytes = Vec::new(alloc);
     let mut out = Vec::new(alloc);
     write_head(alloc, &mut out)?;
-    write_records(alloc, port, &frames, &mut bytes, &mut out)?;
+    write_records(alloc, port, &frames, &counted, &mut bytes, &mut out)?;
     Ok(out)
 }
 

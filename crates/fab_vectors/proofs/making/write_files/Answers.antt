@@ -1,5 +1,5 @@
 use Rattle.fab_vectors.proofs.MakingLemmas.{made_none, made_more, made_failed, made_all, output_on}
-use Rattle.fab_vectors.proofs.making.make_load.Goals as goal
+use Rattle.fab_vectors.proofs.making.write_files.Goals as goal
 
 pub loop-place-init : goal.loop-place-init
 loop-place-init g c = made_none c.args.number c.args.slots.now (g.D.Depot.seen c.args.depot.now)

@@ -1,5 +1,5 @@
 use Rattle.fab_vectors.proofs.MakingLemmas.{Made}
-use Rattle.fab_vectors.proofs.making.make_load.Given as goal
+use Rattle.fab_vectors.proofs.making.write_files.Given as goal
 
 abbrev pub invariant-loop-place : goal.invariant-loop-place
 invariant-loop-place g l =
