@@ -2,6 +2,7 @@
 //! by ENode.
 #![tactic(auto)]
 
+mod indexes;
 mod login;
 mod search;
 mod table;

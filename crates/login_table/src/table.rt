@@ -4,9 +4,10 @@ ghost use Rattle.fab_base.specs.Fabric.{same_enode};
 ghost use Rattle.login_table.specs.Logins.{Logins, login_at, named, next_of, added, sized, with_server, without, IsSound};
 
 use crate::Login;
-use crate::search::{next, next_of_enode, of_name};
+use crate::indexes::{Behind, Named, first_behind};
+use crate::search::next;
 use fab_base::{Enode, FcId, NoMemory, Wwn};
-use sorted_lists::{find_at, place_above, place_at};
+use sorted_lists::{HasRank, find_at, place_above, place_at, rank_find, rank_put, rank_take};
 use std::alloc::Global;
 use std::marker::Model;
 
@@ -15,6 +16,9 @@ use std::marker::Model;
 pub struct LoginTable {
     limit: u32,
     logins: Vec<Login>,
+    // The addresses of their names, and those of their ENodes, in order.
+    names: Vec<Named>,
+    entries: Vec<Behind>,
 }
 
 impl Model for LoginTable {
@@ -23,12 +27,16 @@ impl Model for LoginTable {
 
     ghost Value = { Logins };
 
-    ghost use Rattle.login_table.specs.Sound.{HasRoom};
+    ghost use Rattle.login_table.specs.Sound.{IsKept};
 
     ghost view = { λ t. record { limit = t.limit; logins = t.logins.items } };
 
-    ghost invariant = { λ t. HasRoom (record { limit = t.limit; logins = t.logins.items })
-        (vec_capacity t.logins) };
+    ghost invariant = { λ t. IsKept (record { limit = t.limit; logins = t.logins.items })
+        t.names.items
+        t.entries.items
+        (vec_capacity t.logins)
+        (vec_capacity t.names)
+        (vec_capacity t.entries) };
 }
 
 impl LoginTable {
@@ -38,7 +46,14 @@ impl LoginTable {
         ensures sound { IfOk result IsSound }
     {
         let logins = Vec::with_capacity(alloc, limit as usize)?;
-        Ok(LoginTable { limit, logins })
+        let names = Vec::with_capacity(alloc, limit as usize)?;
+        let entries = Vec::with_capacity(alloc, limit as usize)?;
+        Ok(LoginTable {
+            limit,
+            logins,
+            names,
+            entries,
+        })
     }
 
     /// Adds a login.
@@ -53,6 +68,10 @@ impl LoginTable {
         ensures named { (name : ℕ) → named name self.new.logins
             ≡ (if login.name == name then Some login else named name self.old.logins) }
     {
+        let named = Named::new(&login);
+        let behind = Behind::new(&login);
+        rank_put(&mut self.names, named);
+        rank_put(&mut self.entries, behind);
         let place = place_above(&self.logins, login.address);
         let Ok(()) = self.logins.insert(place, login) else {
             unreachable!()
@@ -72,7 +91,10 @@ impl LoginTable {
         ensures login { option_copied result ≡ named name self.now.logins }
         ensures sound { IsSound self.now }
     {
-        of_name(&self.logins, name)
+        match rank_find(&self.names, name.0 as u128) {
+            Some(entry) => find_at(&self.logins, entry.address),
+            None => None,
+        }
     }
 
     /// Sets the receive size at the name server. False where the address has no login.
@@ -99,7 +121,7 @@ impl LoginTable {
         ensures first { result ≡ next_of (λ l. same_enode l.enode enode.now) from self.now.logins }
         ensures sound { IsSound self.now }
     {
-        next_of_enode(&self.logins, enode, from)
+        first_behind(&self.entries, enode, from)
     }
 
     /// Removes the login of an address, and hands it out.
@@ -111,7 +133,12 @@ impl LoginTable {
             ≡ (if address == a then None else login_at a self.old.logins) }
     {
         match place_at(&self.logins, address) {
-            Some(place) => Some(self.logins.remove(place)),
+            Some(place) => {
+                let login = self.logins.remove(place);
+                rank_take(&mut self.names, Named::new(&login).rank());
+                rank_take(&mut self.entries, Behind::new(&login).rank());
+                Some(login)
+            }
             None => None,
         }
     }

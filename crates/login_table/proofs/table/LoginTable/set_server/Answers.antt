@@ -3,6 +3,7 @@ use Rattle.fab_base.proofs.KeyedLemmas as keyed
 use Rattle.login_table.specs.Logins.{address_of, login_at, with_size, with_server, IsSound}
 use Rattle.login_table.specs.declared.login.Login.{Login}
 use Rattle.login_table.proofs.LoginLemmas.{IsSound-with_server}
+use Rattle.login_table.proofs.KeptLemmas.{kept_changed}
 use Rattle.login_table.proofs.table.LoginTable.set_server.Goals as goal
 
 place : (c : goal.After-self-1) → keyed.IsPlace address_of c.args.address c.self.inside.logins.items c.in-Some.place
@@ -21,11 +22,7 @@ stays : (c : goal.In-None) → c.self.inside.logins.items ≡ with_server c.args
 stays c = sym (keyed.changed-absent address_of (with_size c.args.size) c.args.address _ (none c))
 
 pub invariant_of-self : goal.invariant_of-self
-invariant_of-self c = record {
-  sound = rw (items c) (sound c);
-  room = c.self.invariant.room;
-  range = c.self.invariant.range;
-}
+invariant_of-self c = rw (items c) (kept_changed c.self.invariant c.args.address c.args.size)
 
 pub returns-in-Some-clause-there : goal.returns-in-Some-clause-there
 returns-in-Some-clause-there c = rw (← c.self.view_is) (sym (ap is_some ((place c).item c.index_mut.result.now)))
