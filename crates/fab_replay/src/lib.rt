@@ -2,5 +2,7 @@
 #![tactic(auto)]
 
 mod outputs;
+mod rows;
 
 pub use outputs::Compared;
+pub use rows::Row;
