@@ -1,2 +1,3 @@
 pub mod OutputLemmas
 pub mod RowLemmas
+pub mod ShowLemmas

@@ -3,6 +3,8 @@
 
 mod outputs;
 mod rows;
+#[cfg(test)]
+mod tests;
 
 pub use outputs::Compared;
 pub use rows::Row;
