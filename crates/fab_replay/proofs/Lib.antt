@@ -1,3 +1,4 @@
+pub mod EachLemmas
 pub mod OutputLemmas
 pub mod RowLemmas
 pub mod ShowLemmas

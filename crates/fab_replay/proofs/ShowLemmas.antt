@@ -1,7 +1,6 @@
 -- The live N_Ports one after another, by address.
-use Rattle.std.proofs.Common.{◌≡◌, ℕ, ◌+◌, ◌<◌, ◌≤◌, Bool, true, false, cond, List, [], ◌∷◌, ◌++◌, filter, find, flat_map, Option, Some, None, option_map, nat_le, ◌==◌, refl, sym, ◌∙◌, ap, subst, arith, append_assoc, unwrap_or}
+use Rattle.std.proofs.Common.{◌≡◌, ℕ, ◌+◌, ◌≤◌, Bool, true, false, cond, List, [], ◌∷◌, filter, find, Some, None, nat_le, refl, subst, arith}
 use Rattle.std.proofs.lemmas.Bool.Decides.{nat_tests}
-use Rattle.std.proofs.lemmas.List.{append-nil}
 use Rattle.fab_base.specs.Keyed.{AscendFrom, item_at}
 
 -- ---- lists with ascending keys

@@ -1,2 +1,3 @@
+pub mod AllOutputs
 pub mod Outputs
 pub mod Rows

@@ -1,10 +1,12 @@
 //! A journal checked against the captures that it was written for.
 #![tactic(auto)]
 
+mod all_outputs;
 mod outputs;
 mod rows;
 #[cfg(test)]
 mod tests;
 
+pub use all_outputs::{feed_each, finish_each};
 pub use outputs::Compared;
 pub use rows::Row;
