@@ -1,3 +1,4 @@
 pub mod AllOutputs
 pub mod Outputs
 pub mod Rows
+pub mod Verdicts

@@ -6,7 +6,9 @@ mod outputs;
 mod rows;
 #[cfg(test)]
 mod tests;
+mod verdicts;
 
 pub use all_outputs::{feed_each, finish_each};
 pub use outputs::Compared;
 pub use rows::Row;
+pub use verdicts::{Misjudged, step_as};
