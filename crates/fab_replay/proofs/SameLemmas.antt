@@ -2,7 +2,6 @@
 use Rattle.std.proofs.Common.{rules, ◌≡◌, ℕ, ◌==◌, Bool, true, false, ◌&&◌, Option, None, Some, refl, ap, ◌∙◌, arith}
 use Rattle.std.proofs.lemmas.Bool.Decides.{nat_tests}
 use denote.Enum.Bare.{same_true}
-use Rattle.fab_policy.specs.Cause.{Cause}
 use Rattle.fab_policy.specs.contracts.verdict.Rule.{the_type}
 use Rattle.fab_policy.specs.contracts.verdict.VerdictPartialEq.TheImpl as verdict_eq
 use Rattle.fab_policy.specs.declared.verdict.Rule.{Rule}

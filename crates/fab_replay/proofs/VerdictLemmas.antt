@@ -1,5 +1,5 @@
 -- Why a verdict that a fabric didn't give is wrong.
-use Rattle.std.proofs.Common.{◌≡◌, ◌⊎◌, inl, inr, ℕ, false, Option, None, Some, IsTrue, refl, sym, ◌∙◌, ap, subst}
+use Rattle.std.proofs.Common.{◌≡◌, inl, inr, ℕ, false, Some, IsTrue, sym, ◌∙◌, ap, subst}
 use Rattle.std.specs.Prelude.{Result, Ok, Err, IfErr}
 use Rattle.fab_base.specs.declared.values.Caught.{Caught}
 use Rattle.fab_config.specs.Settings.{Settings}
@@ -7,9 +7,9 @@ use Rattle.fab_policy.specs.Free.{is_free}
 use Rattle.fab_policy.specs.Journal.{Journal}
 use Rattle.fab_policy.specs.Outputs.{State}
 use Rattle.fab_policy.specs.Right.{RightIsOne}
-use Rattle.fab_policy.specs.Standing.{Contents, Stands, Takes}
+use Rattle.fab_policy.specs.Standing.{Contents, Stands}
 use Rattle.fab_policy.specs.State.{Tables, tables_of}
-use Rattle.fab_policy.specs.Verdicts.{IsRight, Judgement, MayGrant, Meets, judged}
+use Rattle.fab_policy.specs.Verdicts.{IsRight, Meets}
 use Rattle.fab_policy.specs.declared.verdict.Verdict.{Verdict}
 use Rattle.fab_policy.specs.declared.verdict.Verdict.TheVariants.{Granted}
 use Rattle.forward_core.specs.Fabric.{IsTaken}
