@@ -7,16 +7,16 @@ use Rattle.pcap_file.specs.declared.Record.{Record}
 use Rattle.pcap_file.specs.Capture.{IsCapture}
 use Rattle.pcap_file.proofs.lemmas.Chains.{one_capture}
 use Rattle.pcapng_file.specs.Classic.{Converted, classic_bytes, timed, written}
-use Rattle.fcoe_tool.specs.Command.{RunNames, ConvertNames, Command, Run, Convert, Help, Version}
-use Rattle.fcoe_tool.specs.Ends.{RunHolds, ConvertHolds, Holds}
+use Rattle.fcoe_tool.specs.Command.{RunNames, PairNames, Command, Run, Convert, Migrate, Help, Version}
+use Rattle.fcoe_tool.specs.Ends.{RunHolds, ConvertHolds, MigrateHolds, Holds}
 use Rattle.fcoe_tool.specs.Inputs.{HasCapture, LIMITS}
 use Rattle.fcoe_tool.specs.Outcome.{status_of, line_of}
 use Rattle.fcoe_tool.specs.Statuses.{Done}
 use Rattle.fcoe_tool.specs.declared.outcome.Outcome.{Outcome}
-use Rattle.fcoe_tool.proofs.OutcomeCases.{run_cases, convert_cases}
+use Rattle.fcoe_tool.proofs.OutcomeCases.{run_cases, convert_cases, migrate_cases}
 
 -- the records of the capture that was written, and no others
-taken : (k : ConvertNames) (old new : Seen) (records : ℕ) (c : Converted k.from k.to LIMITS old new records) (rs : List Record) → HasCapture new k.to rs ↔ (rs ≡ timed 0 c.packets)
+taken : (k : PairNames) (old new : Seen) (records : ℕ) (c : Converted k.from k.to LIMITS old new records) (rs : List Record) → HasCapture new k.to rs ↔ (rs ≡ timed 0 c.packets)
 taken k old new records c rs = (
   λ h.
       let file : Some h.bytes ≡ Some (classic_bytes c.packets) = sym h.file ∙ c.output in
@@ -41,11 +41,22 @@ run_done k old new before after status none o holds = run_cases k old new (λ o.
     (λ h w. let five = w.0 in absurd (omega arith))
     o holds
 
-convert_done : (k : ConvertNames) (old new : Seen) (before after : Sunk) (status : ℕ) → status ≡ 0 → (o : Outcome) → ConvertHolds k old new o → Whole o before after status → Done (Convert k) old new before after
+convert_done : (k : PairNames) (old new : Seen) (before after : Sunk) (status : ℕ) → status ≡ 0 → (o : Outcome) → ConvertHolds k old new o → Whole o before after status → Done (Convert k) old new before after
 unfolding line_of
 convert_done k old new before after status none o holds = convert_cases k old new (λ o. Whole o before after status → Done (Convert k) old new before after)
     (λ records h w told. record { count = records; done = h.1 told; run_takes = taken k old new records (h.1 told); printed = w.1 })
     (λ at fault h w. let one = w.0 in absurd (omega arith))
+    (λ kind h w. let six = w.0 in absurd (omega arith))
+    (λ h w. let three = w.0 in absurd (omega arith))
+    (λ h w. let four = w.0 in absurd (omega arith))
+    (λ h w. let five = w.0 in absurd (omega arith))
+    o holds
+
+migrate_done : (k : PairNames) (old new : Seen) (before after : Sunk) (status : ℕ) → status ≡ 0 → (o : Outcome) → MigrateHolds k old new o → Whole o before after status → Done (Migrate k) old new before after
+unfolding line_of
+migrate_done k old new before after status none o holds = migrate_cases k old new (λ o. Whole o before after status → Done (Migrate k) old new before after)
+    (λ entries h w told. record { count = entries; done = h.1 told; printed = w.1 })
+    (λ line fault h w. let one = w.0 in absurd (omega arith))
     (λ kind h w. let six = w.0 in absurd (omega arith))
     (λ h w. let three = w.0 in absurd (omega arith))
     (λ h w. let four = w.0 in absurd (omega arith))
@@ -63,5 +74,6 @@ version_done old new before after status o holds w = record { files = holds.1; p
 pub command_done : (k : Command) (old new : Seen) (before after : Sunk) (status : ℕ) → status ≡ 0 → (o : Outcome) → Holds k old new o → Whole o before after status → Done k old new before after
 command_done (Run k) old new before after status none o holds w = run_done k old new before after status none o holds w
 command_done (Convert k) old new before after status none o holds w = convert_done k old new before after status none o holds w
+command_done (Migrate k) old new before after status none o holds w = migrate_done k old new before after status none o holds w
 command_done Help old new before after status none o holds w = help_done old new before after status o holds w
 command_done Version old new before after status none o holds w = version_done old new before after status o holds w

@@ -4,12 +4,10 @@ use Rattle.std.proofs.lemmas.List.{take_all}
 use Rattle.std.specs.declared.alloc.Global.{Global}
 use Rattle.fab_base.specs.Seen.{Seen, Rose}
 use Rattle.fab_base.specs.Sunk.{Sunk}
-use Rattle.pcapng_file.specs.Classic.{IsFront}
-use Rattle.fcoe_tool.specs.Command.{ConvertNames, Command, Convert, KeepsOthers, command}
+use Rattle.fcoe_tool.specs.Command.{Command, KeepsOthers, command}
 use Rattle.fcoe_tool.specs.Ends.{Holds, HoldsFor, Prints, Ends}
-use Rattle.fcoe_tool.specs.Inputs.{LIMITS}
 use Rattle.fcoe_tool.specs.Outcome.{status_of, line_of}
-use Rattle.fcoe_tool.specs.Statuses.{Done, OfCommand, IsRefused, IsPastLimit, IsComplete, IsNamed, Printed}
+use Rattle.fcoe_tool.specs.Statuses.{Done, OfCommand, IsRefused, IsPastLimit, HasFront, IsComplete, IsNamed, Printed}
 use Rattle.fcoe_tool.specs.declared.outcome.Outcome.{Outcome}
 use Rattle.fcoe_tool.specs.declared.outcome.Outcome.TheVariants as ends
 use Rattle.fcoe_tool.proofs.DoneLemmas.{Whole, command_done}
@@ -86,8 +84,8 @@ module _ (words : List (String Global)) (old new : Seen) (before after : Sunk) (
     | inr sink ↦ absurd (quiet sink.1)
   ]
 
-  pub fronts : IsTrue old.told → (k : ConvertNames) → command words ≡ Some (Convert k) → IsFront k.from k.to LIMITS old new
-  fronts told k is = front_of k old new told e.outcome (of_command (Convert k) is)
+  pub fronts : IsTrue old.told → (k : Command) → command words ≡ Some k → HasFront k old new
+  fronts told k is = front_of k old new told e.outcome (of_command k is)
 
   pub others : (k : Command) → command words ≡ Some k → KeepsOthers k old new
   others k is = others_kept k old new e.outcome (of_command k is)

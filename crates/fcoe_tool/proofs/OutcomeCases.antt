@@ -10,9 +10,13 @@ use Rattle.fab_gather.specs.declared.fault.CapWhy.{CapWhy}
 use Rattle.fab_gather.specs.declared.fault.LimitKind.{LimitKind}
 use Rattle.fab_gather.specs.declared.fault.RunFault.TheVariants as faults
 use Rattle.pcapng_file.specs.Classic.{Converted, IsFront, Same, Front, classic_bytes}
-use Rattle.fcoe_tool.specs.Command.{RunNames, ConvertNames, Command, Run, Convert, Help, Version, command}
-use Rattle.fcoe_tool.specs.Ends.{RunHolds, ConvertHolds, Holds, HoldsFor, TakesMemory, Reports, Ends}
+use Rattle.fab_migrate.specs.Migrating.{Migrated, IsNewFront, Untouched, Begun}
+use Rattle.fab_migrate.specs.Old.{new_text}
+use Rattle.fab_migrate.specs.declared.old.OldWhy.{OldWhy}
+use Rattle.fcoe_tool.specs.Command.{RunNames, PairNames, Command, Run, Convert, Migrate, Help, Version, command}
+use Rattle.fcoe_tool.specs.Ends.{RunHolds, ConvertHolds, MigrateHolds, Holds, HoldsFor, TakesMemory, Reports, Ends}
 use Rattle.fcoe_tool.specs.Inputs.{LIMITS}
+use Rattle.fcoe_tool.specs.declared.limits.TheConstants.{MOST_BYTES}
 use Rattle.fcoe_tool.specs.declared.outcome.Outcome.{Outcome}
 use Rattle.fcoe_tool.specs.declared.outcome.Outcome.TheVariants as ends
 use Rattle.fcoe_tool.proofs.PartLemmas.{ran_part, stopped_part}
@@ -32,14 +36,10 @@ run_cases k old new P ran config capture limit read write memory (ends.Limit kin
 run_cases k old new P ran config capture limit read write memory ends.ReadFault holds = read holds
 run_cases k old new P ran config capture limit read write memory ends.WriteFault holds = write holds
 run_cases k old new P ran config capture limit read write memory ends.Memory holds = memory holds
-run_cases k old new P ran config capture limit read write memory (ends.Converted records) holds = absurd holds
-run_cases k old new P ran config capture limit read write memory (ends.BadBlock at fault) holds = absurd holds
-run_cases k old new P ran config capture limit read write memory ends.Help holds = absurd holds
-run_cases k old new P ran config capture limit read write memory ends.Version holds = absurd holds
-run_cases k old new P ran config capture limit read write memory ends.Words holds = absurd holds
+run_cases k old new P ran config capture limit read write memory o holds = absurd holds
 
 -- the same of `convert`
-pub convert_cases : (k : ConvertNames) (old new : Seen) (P : Outcome → Type 0) →
+pub convert_cases : (k : PairNames) (old new : Seen) (P : Outcome → Type 0) →
     ((records : ℕ) → ConvertHolds k old new (ends.Converted records) → P (ends.Converted records)) →
     ((at : ℕ) (fault : NgWhy) → ConvertHolds k old new (ends.BadBlock at fault) → P (ends.BadBlock at fault)) →
     ((kind : LimitKind) → ConvertHolds k old new (ends.Limit kind) → P (ends.Limit kind)) →
@@ -51,15 +51,29 @@ convert_cases k old new P converted block limit read write memory (ends.Limit ki
 convert_cases k old new P converted block limit read write memory ends.ReadFault holds = read holds
 convert_cases k old new P converted block limit read write memory ends.WriteFault holds = write holds
 convert_cases k old new P converted block limit read write memory ends.Memory holds = memory holds
-convert_cases k old new P converted block limit read write memory (ends.Ran frames entries) holds = absurd holds
-convert_cases k old new P converted block limit read write memory (ends.Config fault) holds = absurd holds
-convert_cases k old new P converted block limit read write memory (ends.Capture port at reason) holds = absurd holds
-convert_cases k old new P converted block limit read write memory ends.Help holds = absurd holds
-convert_cases k old new P converted block limit read write memory ends.Version holds = absurd holds
-convert_cases k old new P converted block limit read write memory ends.Words holds = absurd holds
+convert_cases k old new P converted block limit read write memory o holds = absurd holds
+
+-- the same of `migrate`
+pub migrate_cases : (k : PairNames) (old new : Seen) (P : Outcome → Type 0) →
+    ((entries : ℕ) → MigrateHolds k old new (ends.Migrated entries) → P (ends.Migrated entries)) →
+    ((line : ℕ) (fault : OldWhy) → MigrateHolds k old new (ends.BadLine line fault) → P (ends.BadLine line fault)) →
+    ((kind : LimitKind) → MigrateHolds k old new (ends.Limit kind) → P (ends.Limit kind)) →
+    (MigrateHolds k old new ends.ReadFault → P ends.ReadFault) → (MigrateHolds k old new ends.WriteFault → P ends.WriteFault) → (MigrateHolds k old new ends.Memory → P ends.Memory) →
+    (o : Outcome) → MigrateHolds k old new o → P o
+migrate_cases k old new P migrated bad limit read write memory (ends.Migrated entries) holds = migrated entries holds
+migrate_cases k old new P migrated bad limit read write memory (ends.BadLine line fault) holds = bad line fault holds
+migrate_cases k old new P migrated bad limit read write memory (ends.Limit kind) holds = limit kind holds
+migrate_cases k old new P migrated bad limit read write memory ends.ReadFault holds = read holds
+migrate_cases k old new P migrated bad limit read write memory ends.WriteFault holds = write holds
+migrate_cases k old new P migrated bad limit read write memory ends.Memory holds = memory holds
+migrate_cases k old new P migrated bad limit read write memory o holds = absurd holds
+
+-- the whole journal is a front of it
+pub whole_journal : (k : PairNames) (old new : Seen) (entries : ℕ) → Migrated k.from k.to MOST_BYTES old new entries → IsNewFront k.from k.to MOST_BYTES old new
+whole_journal k old new entries m = Begun m.bytes m.lines (length (new_text m.lines)) m.found m.within m.is (m.output ∙ ap (λ (l : List ℕ). Some l) (sym (take_all (length (new_text m.lines)) (new_text m.lines) (omega arith))))
 
 -- the whole capture is a front of it
-pub whole_front : (k : ConvertNames) (old new : Seen) (records : ℕ) → Converted k.from k.to LIMITS old new records → IsFront k.from k.to LIMITS old new
+pub whole_front : (k : PairNames) (old new : Seen) (records : ℕ) → Converted k.from k.to LIMITS old new records → IsFront k.from k.to LIMITS old new
 whole_front k old new records c = Front c.bytes c.packets (length (classic_bytes c.packets)) c.found c.is c.within (c.output ∙ ap (λ (l : List ℕ). Some l) (sym (take_all (length (classic_bytes c.packets)) (classic_bytes c.packets) (omega arith))))
 
 -- want of memory for the line of an outcome says less than that outcome
@@ -77,6 +91,14 @@ memory_holds (Convert k) old new o holds takes = convert_cases k old new (λ o. 
     (λ records h takes. (h.0, λ told. whole_front k old new records (h.1 told)))
     (λ at fault h takes. (λ m other. h.0 m, λ told. Same (h.0 k.to)))
     (λ kind h takes. (λ m other. h.0 m, λ told. Same (h.0 k.to)))
+    (λ h takes. absurd takes)
+    (λ h takes. absurd takes)
+    (λ h takes. absurd takes)
+    o holds takes
+memory_holds (Migrate k) old new o holds takes = migrate_cases k old new (λ o. TakesMemory o → Holds (Migrate k) old new ends.Memory)
+    (λ entries h takes. (h.0, λ told. whole_journal k old new entries (h.1 told)))
+    (λ line fault h takes. (λ m other. h.0 m, λ told. Untouched (h.0 k.to)))
+    (λ kind h takes. (λ m other. h.0 m, λ told. Untouched (h.0 k.to)))
     (λ h takes. absurd takes)
     (λ h takes. absurd takes)
     (λ h takes. absurd takes)

@@ -6,11 +6,12 @@ use Rattle.std.specs.declared.alloc.Global.{Global}
 use Rattle.std.specs.declared.alloc.AllocError.{AllocError}
 use Rattle.fab_base.specs.Sunk.{Sunk}
 use Rattle.fab_config.specs.declared.ConfigFault.{ConfigFault}
-use Rattle.fcoe_tool.specs.Outcome.{status_of, line_of, run_text, capture_text, config_text, converted_text, block_text, limit_text}
+use Rattle.fcoe_tool.specs.Outcome.{status_of, line_of, run_text, capture_text, config_text, converted_text, block_text, migrated_text, journal_text, limit_text}
 use Rattle.fcoe_tool.specs.Help.{help_text, version_text}
 use Rattle.pcapng_file.specs.declared.fault.NgWhy.{NgWhy}
 use Rattle.fab_gather.specs.declared.fault.CapWhy.{CapWhy}
 use Rattle.fab_gather.specs.declared.fault.LimitKind.{LimitKind}
+use Rattle.fab_migrate.specs.declared.old.OldWhy.{OldWhy}
 use Rattle.fcoe_tool.specs.Ends.{Puts, Prints, Reports, TakesMemory}
 use Rattle.fcoe_tool.specs.declared.outcome.Outcome.{Outcome}
 use Rattle.fcoe_tool.specs.declared.outcome.Outcome.TheVariants as ends
@@ -62,6 +63,14 @@ line_converted records = refl
 pub line_block : (at : ℕ) (why : NgWhy) → block_text at why ≡ line_of (ends.BadBlock at why)
 unfolding line_of
 line_block at why = refl
+
+pub line_migrated : (entries : ℕ) → migrated_text entries ≡ line_of (ends.Migrated entries)
+unfolding line_of
+line_migrated entries = refl
+
+pub line_journal : (line : ℕ) (why : OldWhy) → journal_text line why ≡ line_of (ends.BadLine line why)
+unfolding line_of
+line_journal line why = refl
 
 pub line_limit : (kind : LimitKind) → limit_text kind ≡ line_of (ends.Limit kind)
 unfolding line_of

@@ -16,7 +16,7 @@ use Rattle.fab_policy.specs.Written.{before, egresses}
 use Rattle.fab_windows.specs.Run.{IsRunOver}
 use Rattle.fcoe_tool.specs.Command.{RunNames}
 use Rattle.fcoe_tool.specs.Inputs.{HasInputs, kept_of}
-use Rattle.fcoe_tool.specs.Left.{HoldsAll, HoldsFronts, IsOldOrFront, AreOldOrFront, HasRun, HasStopped, HasFrontPart}
+use Rattle.fcoe_tool.specs.Left.{HoldsAll, HoldsFronts, IsOldOrFront, AreOldOrFront, HasRun, HasStopped, HasWholePart, HasFrontPart}
 
 -- ---- a moment behind all records
 
@@ -69,6 +69,9 @@ whole_part k c opened old new J inputs run holds = record {
   run = subst (λ l. IsRunOver c l J) (sym (all_below c (above_all c (kept_of c opened)) (kept_of c opened) (omega arith))) run;
   files = whole_fronts k c old new J holds;
 }
+
+pub part_front : (k : RunNames) (old new : Seen) → HasWholePart k old new → HasFrontPart k old new
+part_front k old new w = record { settings = w.settings; opened = w.opened; inputs = w.inputs; moment = w.moment; journal = w.journal; run = w.run; files = whole_fronts k w.settings old new w.journal w.files }
 
 -- a run that stopped, and one to the end
 pub stopped_part : (k : RunNames) (old new : Seen) (e : _) → HasStopped k e old new → HasFrontPart k old new

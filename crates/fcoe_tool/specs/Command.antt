@@ -17,15 +17,16 @@ pub record RunNames : Type 0 where
   pub ins : List (List ℕ)
   pub outs : List (List ℕ)
 
--- `convert IN OUT`: the names of the pcapng file and of the capture
-pub record ConvertNames : Type 0 where
+-- `convert IN OUT` and `migrate OLD NEW`: the names of the file that is read and of the one that is written
+pub record PairNames : Type 0 where
   pub from : List ℕ
   pub to : List ℕ
 
 -- a command with its names; `--help` and `--version` have none
 pub data Command : Type 0 where
   Run : (names : RunNames) → Command
-  Convert : (names : ConvertNames) → Command
+  Convert : (names : PairNames) → Command
+  Migrate : (names : PairNames) → Command
   Help : Command
   Version : Command
 
@@ -45,9 +46,9 @@ has_form words = nat_le 5 (length words) && nat_le (length words) 131 && length 
 abbrev pub is_run : List (String Global) → Bool
 is_run words = has_form words && are_names (names_from 1 words)
 
--- two names behind the word `convert`
-abbrev pub is_convert : List (String Global) → Bool
-is_convert words = length words == 3 && bytes_eq (name_at words 0) (codes "convert") && are_names (names_from 1 words)
+-- two names behind this word
+abbrev pub is_pair : List ℕ → List (String Global) → Bool
+is_pair word words = length words == 3 && bytes_eq (name_at words 0) word && are_names (names_from 1 words)
 
 -- this word alone
 abbrev pub is_word : List ℕ → List (String Global) → Bool
@@ -57,7 +58,8 @@ is_word word words = length words == 1 && bytes_eq (name_at words 0) word
 abbrev pub form_of : List (String Global) → Option Form
 form_of words =
     if is_run words then Some forms.Run
-    else if is_convert words then Some forms.Convert
+    else if is_pair (codes "convert") words then Some forms.Convert
+    else if is_pair (codes "migrate") words then Some forms.Migrate
     else if is_word (codes "--help") words then Some forms.Help
     else if is_word (codes "--version") words then Some forms.Version
     else None
@@ -80,13 +82,14 @@ run_of words = record {
   outs = map (output_at words) (counting 0 (port_count words));
 }
 
-abbrev pub convert_of : List (String Global) → ConvertNames
-convert_of words = record { from = name_at words 1; to = name_at words 2 }
+abbrev pub pair_of : List (String Global) → PairNames
+pair_of words = record { from = name_at words 1; to = name_at words 2 }
 
 -- the command that words of a form are
 abbrev pub named : List (String Global) → Form → Command
 named words forms.Run = Run (run_of words)
-named words forms.Convert = Convert (convert_of words)
+named words forms.Convert = Convert (pair_of words)
+named words forms.Migrate = Migrate (pair_of words)
 named words forms.Help = Help
 named words forms.Version = Version
 
@@ -98,12 +101,14 @@ command words = option_map (named words) (form_of words)
 abbrev pub inputs : Command → List (List ℕ)
 inputs (Run k) = k.config ∷ k.ins
 inputs (Convert k) = k.from ∷ []
+inputs (Migrate k) = k.from ∷ []
 inputs Help = []
 inputs Version = []
 
 abbrev pub outputs : Command → List (List ℕ)
 outputs (Run k) = k.journal ∷ k.outs
 outputs (Convert k) = k.to ∷ []
+outputs (Migrate k) = k.to ∷ []
 outputs Help = []
 outputs Version = []
 

@@ -8,12 +8,16 @@ use Rattle.pcapng_file.specs.declared.fault.NgLimit.{NgLimit}
 use Rattle.pcapng_file.specs.declared.fault.NgError.TheVariants as ng
 use Rattle.pcapng_file.specs.Classic.{Converted, IsFront, SaysInput}
 use Rattle.fab_gather.specs.declared.fault.CapWhy.{CapWhy}
+use Rattle.fab_gather.specs.declared.fault.LimitKind.TheVariants as kinds
 use Rattle.fab_gather.specs.declared.fault.RunFault.TheVariants as faults
-use Rattle.fcoe_tool.specs.Command.{RunNames, ConvertNames, Command, Run, Convert, Help, Version, command, ReadRose, WriteRose, KeepsOthers}
+use Rattle.fab_migrate.specs.Migrating.{Migrated, IsNewFront, SaysOld}
+use Rattle.fab_migrate.specs.declared.old.OldError.TheVariants as olds
+use Rattle.fcoe_tool.specs.Command.{RunNames, PairNames, Command, Run, Convert, Migrate, Help, Version, command, ReadRose, WriteRose, KeepsOthers}
 use Rattle.fcoe_tool.specs.Edge.{KnowsAll, untold}
 use Rattle.fcoe_tool.specs.Inputs.{HasFault, HasBadHead, LIMITS}
 use Rattle.fcoe_tool.specs.Left.{HasRun, HasStopped, HasWholePart, HasFrontPart}
 use Rattle.fcoe_tool.specs.Outcome.{status_of, line_of, kind_of}
+use Rattle.fcoe_tool.specs.declared.limits.TheConstants.{MOST_BYTES}
 use Rattle.fcoe_tool.specs.declared.outcome.Outcome.{Outcome}
 use Rattle.fcoe_tool.specs.declared.outcome.Outcome.TheVariants as ends
 
@@ -37,7 +41,7 @@ RunHolds k old new ends.Memory = KeepsOthers (Run k) old new × (IsTrue old.told
 RunHolds k old new _ = ⊥
 
 -- The same of `convert`. The output is opened only behind the whole input.
-abbrev pub ConvertHolds : ConvertNames → Seen → Seen → Outcome → Type 0
+abbrev pub ConvertHolds : PairNames → Seen → Seen → Outcome → Type 0
 ConvertHolds k old new (ends.Converted records) = KeepsOthers (Convert k) old new × (IsTrue old.told → Converted k.from k.to LIMITS old new records)
 ConvertHolds k old new (ends.BadBlock at fault) = SameFiles old new × (IsTrue old.told → SaysInput k.from LIMITS old (ng.Fault at fault))
 ConvertHolds k old new (ends.Limit kind) = SameFiles old new × (IsTrue old.told → (limit : NgLimit) × (kind ≡ kind_of limit) × SaysInput k.from LIMITS old (ng.Limit limit))
@@ -46,10 +50,21 @@ ConvertHolds k old new ends.WriteFault = KeepsOthers (Convert k) old new × Writ
 ConvertHolds k old new ends.Memory = KeepsOthers (Convert k) old new × (IsTrue old.told → IsFront k.from k.to LIMITS old new)
 ConvertHolds k old new _ = ⊥
 
+-- The same of `migrate`. The output is opened only behind the whole journal.
+abbrev pub MigrateHolds : PairNames → Seen → Seen → Outcome → Type 0
+MigrateHolds k old new (ends.Migrated entries) = KeepsOthers (Migrate k) old new × (IsTrue old.told → Migrated k.from k.to MOST_BYTES old new entries)
+MigrateHolds k old new (ends.BadLine line fault) = SameFiles old new × (IsTrue old.told → SaysOld k.from MOST_BYTES old (olds.Fault line fault))
+MigrateHolds k old new (ends.Limit kind) = SameFiles old new × (kind ≡ kinds.Bytes) × (IsTrue old.told → SaysOld k.from MOST_BYTES old olds.Bytes)
+MigrateHolds k old new ends.ReadFault = SameFiles old new × ReadRose (Migrate k) old new
+MigrateHolds k old new ends.WriteFault = KeepsOthers (Migrate k) old new × WriteRose (Migrate k) old new × (IsTrue old.told → IsNewFront k.from k.to MOST_BYTES old new)
+MigrateHolds k old new ends.Memory = KeepsOthers (Migrate k) old new × (IsTrue old.told → IsNewFront k.from k.to MOST_BYTES old new)
+MigrateHolds k old new _ = ⊥
+
 -- What holds where a command ends so.
 abbrev pub Holds : Command → Seen → Seen → Outcome → Type 0
 Holds (Run k) old new outcome = RunHolds k old new outcome
 Holds (Convert k) old new outcome = ConvertHolds k old new outcome
+Holds (Migrate k) old new outcome = MigrateHolds k old new outcome
 Holds Help old new outcome = (outcome ≡ ends.Help) × SameFiles old new
 Holds Version old new outcome = (outcome ≡ ends.Version) × SameFiles old new
 
@@ -75,7 +90,9 @@ TakesMemory (ends.Ran frames entries) = Unit {0}
 TakesMemory (ends.Config fault) = Unit {0}
 TakesMemory (ends.Capture port at why) = Unit {0}
 TakesMemory (ends.Converted records) = Unit {0}
+TakesMemory (ends.Migrated entries) = Unit {0}
 TakesMemory (ends.BadBlock at fault) = Unit {0}
+TakesMemory (ends.BadLine line fault) = Unit {0}
 TakesMemory (ends.Limit kind) = Unit {0}
 TakesMemory ends.Help = ⊥
 TakesMemory ends.Version = ⊥

@@ -13,18 +13,22 @@ use Rattle.fab_gather.specs.declared.fault.CapWhy.{CapWhy}
 use Rattle.fab_gather.specs.declared.fault.CapWhy.TheVariants as caps
 use Rattle.fab_gather.specs.declared.fault.LimitKind.{LimitKind}
 use Rattle.fab_gather.specs.declared.fault.LimitKind.TheVariants as kinds
+use Rattle.fab_migrate.specs.declared.old.OldWhy.{OldWhy}
+use Rattle.fab_migrate.specs.declared.old.OldWhy.TheVariants as olds
 use Rattle.fcoe_tool.specs.declared.limits.TheConstants.{MOST_BYTES, MOST_FRAMES}
 use Rattle.fcoe_tool.specs.declared.outcome.Outcome.{Outcome}
-use Rattle.fcoe_tool.specs.declared.outcome.Outcome.TheVariants.{Ran, Converted, Help, Version, Words, Config, Capture, BadBlock, Limit, ReadFault, WriteFault, Memory}
+use Rattle.fcoe_tool.specs.declared.outcome.Outcome.TheVariants.{Ran, Converted, Migrated, Help, Version, Words, Config, Capture, BadBlock, BadLine, Limit, ReadFault, WriteFault, Memory}
 
 abbrev pub status_of : Outcome → ℕ
 status_of (Ran frames entries) = 0
 status_of (Converted records) = 0
+status_of (Migrated entries) = 0
 status_of Help = 0
 status_of Version = 0
 status_of (Config fault) = 1
 status_of (Capture port at reason) = 1
 status_of (BadBlock at fault) = 1
+status_of (BadLine line fault) = 1
 status_of Words = 2
 status_of ReadFault = 3
 status_of WriteFault = 4
@@ -87,6 +91,17 @@ abbrev pub kind_of : NgLimit → LimitKind
 kind_of limits.Bytes = kinds.Bytes
 kind_of limits.Frames = kinds.Frames
 
+-- the line of a journal that was migrated, and of one with a fault at a line
+abbrev pub migrated_text : ℕ → List ℕ
+migrated_text entries = codes "migrated " ++ decimal entries ++ codes "\n"
+
+abbrev pub old_word : OldWhy → List ℕ
+old_word olds.Text = codes "text"
+old_word olds.Tick = codes "tick"
+
+abbrev pub journal_text : ℕ → OldWhy → List ℕ
+journal_text line fault = codes "journal " ++ decimal line ++ codes " " ++ old_word fault ++ codes "\n"
+
 -- the line of inputs past a limit
 abbrev pub limit_text : LimitKind → List ℕ
 limit_text kinds.Bytes = codes "limit bytes " ++ decimal MOST_BYTES ++ codes "\n"
@@ -99,7 +114,9 @@ line_of (Ran frames entries) = run_text frames entries
 line_of (Config fault) = config_text fault
 line_of (Capture port at reason) = capture_text port at reason
 line_of (Converted records) = converted_text records
+line_of (Migrated entries) = migrated_text entries
 line_of (BadBlock at fault) = block_text at fault
+line_of (BadLine line fault) = journal_text line fault
 line_of (Limit kind) = limit_text kind
 line_of Help = help_text
 line_of Version = version_text

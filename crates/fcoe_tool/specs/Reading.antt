@@ -14,6 +14,8 @@ use Rattle.pcapng_file.specs.declared.fault.NgError.TheVariants as ng
 use Rattle.fab_gather.specs.First.{IsFresh, opened_by}
 use Rattle.fab_gather.specs.declared.shelf.Input.{Input}
 use Rattle.fab_gather.specs.declared.fault.LimitKind.TheVariants as kinds
+use Rattle.fab_migrate.specs.declared.old.OldError.{OldError}
+use Rattle.fab_migrate.specs.declared.old.OldError.TheVariants as olds
 use Rattle.fcoe_tool.specs.Command.{AnyRose, Among}
 use Rattle.fcoe_tool.specs.Inputs.{HasConfig, HasFault, IsOpened, HasNoHead, IsFirstWithout, why_of}
 use Rattle.fcoe_tool.specs.Outcome.{kind_of}
@@ -101,3 +103,11 @@ unconverted_by (ng.Fault at fault) = ends.BadBlock at fault
 unconverted_by (ng.Limit limit) = ends.Limit (kind_of limit)
 unconverted_by (ng.Read failed) = ends.ReadFault
 unconverted_by ng.Memory = ends.Memory
+
+-- ---- a journal to migrate
+
+abbrev pub unmigrated_by : OldError → Outcome
+unmigrated_by (olds.Fault line fault) = ends.BadLine line fault
+unmigrated_by olds.Bytes = ends.Limit kinds.Bytes
+unmigrated_by (olds.Read failed) = ends.ReadFault
+unmigrated_by olds.Memory = ends.Memory

@@ -1,5 +1,5 @@
 -- What each status says, of a command and of what was printed.
-use Rattle.std.specs.Prelude.{◌≡◌, ℕ, ◌≤◌, ◌⊎◌, ◌↔◌, IsTrue, List, ◌++◌, length, take, Some, None, Result, Ok, Err, String}
+use Rattle.std.specs.Prelude.{◌≡◌, ℕ, ◌<◌, ◌≤◌, ◌⊎◌, ◌↔◌, IsTrue, List, ◌++◌, length, take, Some, None, Result, Ok, Err, String}
 use Rattle.std.specs.declared.alloc.Global.{Global}
 use Rattle.fab_base.specs.Seen.{Seen, Rose, SameFiles}
 use Rattle.fab_base.specs.Sunk.{Sunk}
@@ -7,21 +7,27 @@ use Rattle.pcap_file.specs.declared.Record.{Record}
 use Rattle.pcapng_file.specs.declared.NgRecord.{NgRecord}
 use Rattle.pcapng_file.specs.declared.fault.NgWhy.{NgWhy}
 use Rattle.pcapng_file.specs.declared.fault.NgError.{NgError}
-use Rattle.pcapng_file.specs.Classic.{Converted, timed}
+use Rattle.pcapng_file.specs.Classic.{Converted, IsFront, timed}
 use Rattle.pcapng_file.specs.File.{ng_read}
 use Rattle.fab_config.specs.Settings.{Settings}
 use Rattle.fab_config.specs.declared.ConfigFault.{ConfigFault}
 use Rattle.fab_policy.specs.Looks.{Opened}
 use Rattle.fab_gather.specs.declared.fault.CapWhy.{CapWhy}
 use Rattle.fab_gather.specs.declared.fault.LimitKind.{LimitKind}
+use Rattle.fab_gather.specs.declared.fault.LimitKind.TheVariants as kinds
 use Rattle.fab_gather.specs.declared.fault.RunFault.TheVariants as faults
-use Rattle.fcoe_tool.specs.Command.{RunNames, ConvertNames, Command, Run, Convert, Help, Version, command, ReadRose, WriteRose}
-use Rattle.fcoe_tool.specs.Ends.{RunHolds, ConvertHolds, Holds, HoldsFor}
+use Rattle.fab_policy.specs.declared.line.Line.{Line}
+use Rattle.fab_migrate.specs.Migrating.{Migrated, IsNewFront}
+use Rattle.fab_migrate.specs.Old.{IsOld, HasFirstFault}
+use Rattle.fab_migrate.specs.declared.old.OldWhy.{OldWhy}
+use Rattle.fcoe_tool.specs.Command.{RunNames, PairNames, Command, Run, Convert, Migrate, Help, Version, command, ReadRose, WriteRose}
+use Rattle.fcoe_tool.specs.Ends.{RunHolds, ConvertHolds, MigrateHolds, Holds, HoldsFor}
 use Rattle.fcoe_tool.specs.Help.{help_text, version_text}
 use Rattle.fcoe_tool.specs.Inputs.{HasFault, HasCapture, HasInputs, HasBadHead, StopsBy, HasPackets, LIMITS, stop_of}
-use Rattle.fcoe_tool.specs.Left.{HasRun}
-use Rattle.fcoe_tool.specs.Outcome.{status_of, line_of, run_text, converted_text}
+use Rattle.fcoe_tool.specs.Left.{HasRun, HasFrontPart}
+use Rattle.fcoe_tool.specs.Outcome.{status_of, line_of, run_text, converted_text, migrated_text}
 use Rattle.fcoe_tool.specs.Reading.{unconverted_by}
+use Rattle.fcoe_tool.specs.declared.limits.TheConstants.{MOST_BYTES}
 use Rattle.fcoe_tool.specs.declared.outcome.Outcome.{Outcome}
 use Rattle.fcoe_tool.specs.declared.outcome.Outcome.TheVariants as ends
 
@@ -52,11 +58,18 @@ pub record RunEnded (k : RunNames) (old new : Seen) (before after : Sunk) : Type
 -- Status 0 of `convert`: the input is a pcapng file of packets within the limits, the output is their capture, and the line
 -- with their number was printed. What `run` finds in that output are these packets' records, with the greatest moment so
 -- far in place of one that goes back, and nothing else.
-pub record ConvertEnded (k : ConvertNames) (old new : Seen) (before after : Sunk) : Type 0 where
+pub record ConvertEnded (k : PairNames) (old new : Seen) (before after : Sunk) : Type 0 where
   pub count : ℕ
   pub done : Converted k.from k.to LIMITS old new count
   pub run_takes : (records : List Record) → HasCapture new k.to records ↔ (records ≡ timed 0 done.packets)
   pub printed : IsTrue before.told → after.written ≡ before.written ++ converted_text count
+
+-- Status 0 of `migrate`: the input is a journal of format 1 within the limit, the output is the same in format 2, and the line
+-- with the number of its entries was printed.
+pub record MigrateEnded (k : PairNames) (old new : Seen) (before after : Sunk) : Type 0 where
+  pub count : ℕ
+  pub done : Migrated k.from k.to MOST_BYTES old new count
+  pub printed : IsTrue before.told → after.written ≡ before.written ++ migrated_text count
 
 -- Status 0 of a command that prints a text: no file has changed, and the text was printed.
 pub record TextEnded (text : List ℕ) (old new : Seen) (before after : Sunk) : Type 0 where
@@ -67,6 +80,7 @@ pub record TextEnded (text : List ℕ) (old new : Seen) (before after : Sunk) : 
 abbrev pub Done : Command → Seen → Seen → Sunk → Sunk → Type 0
 Done (Run k) old new before after = IsTrue old.told → RunEnded k old new before after
 Done (Convert k) old new before after = IsTrue old.told → ConvertEnded k old new before after
+Done (Migrate k) old new before after = IsTrue old.told → MigrateEnded k old new before after
 Done Help old new before after = TextEnded help_text old new before after
 Done Version old new before after = TextEnded version_text old new before after
 
@@ -79,16 +93,27 @@ pub record OfCommand (words : List (String Global)) (P : Command → Type 0) : T
 -- ---- refused
 
 -- Status 1: of `run`, the configuration has a fault, or a capture can't be taken; of `convert`, the pcapng file has a fault at a
--- block.
+-- block; of `migrate`, the journal has one at a line.
 abbrev pub IsRefused : Command → Seen → Seen → Type 0
 IsRefused (Run k) old new = ((fault : ConfigFault) × RunHolds k old new (ends.Config fault)) ⊎ ((port : ℕ) × (at : ℕ) × (why : CapWhy) × RunHolds k old new (ends.Capture port at why))
 IsRefused (Convert k) old new = (at : ℕ) × (fault : NgWhy) × ConvertHolds k old new (ends.BadBlock at fault)
+IsRefused (Migrate k) old new = (line : ℕ) × (fault : OldWhy) × MigrateHolds k old new (ends.BadLine line fault)
 IsRefused Help old new = ⊥
 IsRefused Version old new = ⊥
 
 -- Status 6: the inputs pass a limit.
 abbrev pub IsPastLimit : Command → Seen → Seen → Type 0
 IsPastLimit k old new = (kind : LimitKind) × Holds k old new (ends.Limit kind)
+
+-- ---- whatever the end
+
+-- The outputs hold fronts of what they would hold, or are as they were; of a command without outputs nothing has changed.
+abbrev pub HasFront : Command → Seen → Seen → Type 0
+HasFront (Run k) old new = SameFiles old new ⊎ HasFrontPart k old new
+HasFront (Convert k) old new = IsFront k.from k.to LIMITS old new
+HasFront (Migrate k) old new = IsNewFront k.from k.to MOST_BYTES old new
+HasFront Help old new = SameFiles old new
+HasFront Version old new = SameFiles old new
 
 -- ---- where nothing fails
 
@@ -101,15 +126,26 @@ pub record RunForms (k : RunNames) (d : Seen) : Type 0 where
   pub none : stop_of settings opened ≡ None
 
 -- the file of a `convert` has its form
-pub record ConvertForms (k : ConvertNames) (d : Seen) : Type 0 where
+pub record ConvertForms (k : PairNames) (d : Seen) : Type 0 where
   pub told : IsTrue d.told
   pub packets : List NgRecord
   pub input : HasPackets d k.from packets
+
+-- The file of a `migrate` has its form: at most so many bytes, which are lines of format 1, of which the first, if any, is a
+-- tick, and whose ticks rise.
+pub record MigrateForms (k : PairNames) (d : Seen) : Type 0 where
+  pub told : IsTrue d.told
+  pub bytes : List ℕ
+  pub lines : List Line
+  pub file : d.file k.from ≡ Some bytes
+  pub within : length bytes ≤ MOST_BYTES
+  pub is : IsOld bytes lines
 
 -- the inputs of a command have their forms, where the depot tells
 abbrev pub HasForms : Command → Seen → Type 0
 HasForms (Run k) d = RunForms k d
 HasForms (Convert k) d = ConvertForms k d
+HasForms (Migrate k) d = MigrateForms k d
 HasForms Help d = Unit {0}
 HasForms Version d = Unit {0}
 
@@ -132,10 +168,18 @@ abbrev pub ended_by : Result (List NgRecord) NgError → Outcome
 ended_by (Ok packets) = ends.Converted (length packets)
 ended_by (Err error) = unconverted_by error
 
+-- how `migrate` ends by the bytes that it reads
+abbrev pub MigrateSays : List ℕ → Outcome → Type 0
+MigrateSays bytes (ends.Migrated entries) = (length bytes ≤ MOST_BYTES) × (lines : List Line) × IsOld bytes lines × (entries ≡ length lines)
+MigrateSays bytes (ends.BadLine line fault) = (length bytes ≤ MOST_BYTES) × HasFirstFault bytes line fault
+MigrateSays bytes (ends.Limit kind) = (MOST_BYTES < length bytes) × (kind ≡ kinds.Bytes)
+MigrateSays bytes _ = ⊥
+
 -- the outcome that the inputs of a command name
 abbrev pub Says : Command → Seen → Outcome → Type 0
 Says (Run k) d outcome = RunSays k d outcome
 Says (Convert k) d outcome = (bytes : List ℕ) × (d.file k.from ≡ Some bytes) × (outcome ≡ ended_by (ng_read LIMITS bytes))
+Says (Migrate k) d outcome = (bytes : List ℕ) × (d.file k.from ≡ Some bytes) × MigrateSays bytes outcome
 Says Help d outcome = outcome ≡ ends.Help
 Says Version d outcome = outcome ≡ ends.Version
 

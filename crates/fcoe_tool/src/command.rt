@@ -17,6 +17,8 @@ pub(crate) enum Form {
     Run,
     /// `convert IN OUT`. No name is empty, and they differ.
     Convert,
+    /// `migrate OLD NEW`. No name is empty, and they differ.
+    Migrate,
     /// `--help`
     Help,
     /// `--version`
@@ -29,8 +31,10 @@ pub(crate) fn form_of(words: &[String]) -> Option<Form>
 {
     if is_run(words) {
         Some(Form::Run)
-    } else if is_convert(words) {
+    } else if is_pair(words, "convert") {
         Some(Form::Convert)
+    } else if is_pair(words, "migrate") {
+        Some(Form::Migrate)
     } else if is_word(words, "--help") {
         Some(Form::Help)
     } else if is_word(words, "--version") {
@@ -46,10 +50,11 @@ fn is_run(words: &[String]) -> bool
     has_form(words) && are_names(words)
 }
 
-fn is_convert(words: &[String]) -> bool
-    ensures { result ≡ spec.is_convert words.now }
+// Whether these are this word and two names.
+fn is_pair(words: &[String], word: &str) -> bool
+    ensures { result ≡ spec.is_pair word.now words.now }
 {
-    words.len() == 3 && word_at(words, 0) == "convert" && are_names(words)
+    words.len() == 3 && word_at(words, 0) == word && are_names(words)
 }
 
 // Whether this is the only word.

@@ -1,5 +1,5 @@
 //! The command `convert`.
-ghost use Rattle.std.specs.Prelude.{◌≡◌, true};
+ghost use Rattle.std.specs.Prelude.{◌≡◌, true, codes};
 ghost use Rattle.fcoe_tool.specs.Command as spec;
 ghost use Rattle.fcoe_tool.specs.Ends.{ConvertHolds};
 ghost use Rattle.fcoe_tool.specs.Outcome.{kind_of};
@@ -16,9 +16,9 @@ use std::alloc::Global;
 /// Writes the packets of a pcapng file as a classic capture. The file is read whole before the
 /// capture is opened.
 pub(crate) fn convert_file<D: Depot>(alloc: Global, words: &[String], depot: &mut D) -> Outcome
-    requires convert { spec.is_convert words.now ≡ true }
+    requires convert { spec.is_pair (codes "convert") words.now ≡ true }
     requires known { spec.AllKnown (D.seen depot.old) words.now }
-    ensures holds { ConvertHolds (spec.convert_of words.now) (D.seen depot.old)
+    ensures holds { ConvertHolds (spec.pair_of words.now) (D.seen depot.old)
         (D.seen depot.new) result }
 {
     let limits = Budget {

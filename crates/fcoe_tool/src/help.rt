@@ -11,6 +11,8 @@ fcoe_tool 0.1.0: an FCoE forwarder, run over captures
   fcoe_tool convert IN OUT
       reads a pcapng file, writes the classic capture of its packets, and
       prints: records N
+  fcoe_tool migrate OLD NEW
+      writes a journal of format 1 in format 2, and prints: migrated M
   fcoe_tool --help
       prints this text
   fcoe_tool --version
@@ -21,6 +23,7 @@ No name is empty, and none is used twice. The statuses, with what is printed:
   0  as above: all was done
   1  config LINE WHY: the first fault of the configuration
      capture PORT PLACE WHY: an input can't be taken from this place on
+     journal LINE WHY: the first fault of the journal to migrate
   2  words: the words are no command
   3  read fault: an input could not be read
   4  write fault: an output, or what is printed, could not be written
@@ -29,7 +32,8 @@ No name is empty, and none is used twice. The statuses, with what is printed:
 
 After status 1 or 6 of run the journal and the captures hold what came before
 that place. No file has changed after status 2, nor where the configuration or
-the head of a capture is at fault, nor after statuses 1, 3 and 6 of convert.
+the head of a capture is at fault, nor after statuses 1, 3 and 6 of convert and
+migrate.
 ";
 
 /// The commands, what they print, and the statuses.

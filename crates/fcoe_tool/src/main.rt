@@ -8,6 +8,7 @@ mod heads;
 mod help;
 mod inputs;
 mod limits;
+mod migrating;
 mod outcome;
 mod outputs;
 mod process;
@@ -18,6 +19,8 @@ mod tests;
 mod tests_convert;
 #[cfg(test)]
 mod tests_edge;
+#[cfg(test)]
+mod tests_migrate;
 mod tool;
 
 use edge::StdSink;

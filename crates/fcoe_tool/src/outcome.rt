@@ -8,6 +8,7 @@ use crate::help::{help, version};
 use crate::limits::{MOST_BYTES, MOST_FRAMES};
 use fab_base::{PortNo, Sink, say_all};
 use fab_config::{ConfigFault, ConfigWhy};
+use fab_migrate::OldWhy;
 use fab_policy::MOST_SPAN;
 use fab_windows::{CapWhy, LimitKind};
 use pcapng_file::NgWhy;
@@ -20,6 +21,8 @@ pub enum Outcome {
     Ran { frames: u64, entries: u64 },
     /// A pcapng file was converted, with so many records.
     Converted { records: u64 },
+    /// A journal was migrated, with so many entries.
+    Migrated { entries: u64 },
     /// `--help`
     Help,
     /// `--version`
@@ -32,6 +35,8 @@ pub enum Outcome {
     Capture { port: PortNo, at: u64, why: CapWhy },
     /// The pcapng file has this first fault, at a block.
     BadBlock { at: u64, why: NgWhy },
+    /// The journal to migrate has this first fault, at a line.
+    BadLine { line: u64, why: OldWhy },
     /// The inputs pass this limit.
     Limit { kind: LimitKind },
     /// An input couldn't be read.
@@ -55,6 +60,8 @@ pub(crate) fn report<K: Sink>(alloc: Global, outcome: Outcome, say: &mut K) -> u
         }
         Outcome::Converted { records } => put_made(say, converted_line(alloc, records), 0),
         Outcome::BadBlock { at, why } => put_made(say, block_line(alloc, at, why), 1),
+        Outcome::Migrated { entries } => put_made(say, migrated_line(alloc, entries), 0),
+        Outcome::BadLine { line, why } => put_made(say, journal_line(alloc, line, why), 1),
         Outcome::Limit { kind } => put_made(say, limit_line(alloc, kind), 6),
         Outcome::Help => put_line(say, help().as_bytes(), 0),
         Outcome::Version => put_line(say, version().as_bytes(), 0),
@@ -141,6 +148,29 @@ fn block_line(alloc: Global, at: u64, why: NgWhy) -> Result<String, AllocError>
 {
     let word = fault_word(why);
     format!(in alloc; "capture 1 {at} {word}\n")
+}
+
+fn migrated_line(alloc: Global, entries: u64) -> Result<String, AllocError>
+    ensures { IfOk result (λ s. string_bytes s ≡ spec.migrated_text entries) }
+{
+    format!(in alloc; "migrated {entries}\n")
+}
+
+fn journal_line(alloc: Global, line: u64, why: OldWhy) -> Result<String, AllocError>
+    ensures { IfOk result (λ s. string_bytes s ≡ spec.journal_text line why) }
+{
+    let word = old_word(why);
+    format!(in alloc; "journal {line} {word}\n")
+}
+
+// The word of a fault at a line.
+fn old_word(why: OldWhy) -> &'static str
+    ensures { result.now ≡ spec.old_word why }
+{
+    match why {
+        OldWhy::Text => "text",
+        OldWhy::Tick => "tick",
+    }
 }
 
 fn limit_line(alloc: Global, kind: LimitKind) -> Result<String, AllocError>

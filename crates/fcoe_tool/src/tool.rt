@@ -3,13 +3,12 @@ ghost use Rattle.std.specs.Prelude.{◌≡◌, ◌≤◌, ◌⊎◌, IsTrue, Som
 ghost use Rattle.fab_base.specs.Seen.{SameFiles, Rose};
 ghost use Rattle.fcoe_tool.specs.Command as spec;
 ghost use Rattle.fcoe_tool.specs.Ends.{Ends, Holds, HoldsFor, Prints};
-ghost use Rattle.fcoe_tool.specs.Inputs.{LIMITS};
 ghost use Rattle.fcoe_tool.specs.Statuses.{Done, OfCommand, IsRefused, IsPastLimit};
-ghost use Rattle.fcoe_tool.specs.Statuses.{IsComplete, IsNamed, Printed};
-ghost use Rattle.pcapng_file.specs.Classic.{IsFront};
+ghost use Rattle.fcoe_tool.specs.Statuses.{HasFront, IsComplete, IsNamed, Printed};
 
 use crate::command::{Form, form_of};
 use crate::converting::convert_file;
+use crate::migrating::migrate_file;
 use crate::outcome::{Outcome, report};
 use crate::running::run;
 use fab_base::{Depot, Gate, Sink};
@@ -60,10 +59,10 @@ pub fn fabric_tool<R: Threads + Wait + Sync, D: Depot, K: Sink, G: Gate + Sync>(
     // No file changes but the outputs.
     ensures others { (k : spec.Command) → spec.command words.now ≡ Some k →
         spec.KeepsOthers k (D.seen depot.old) (D.seen depot.new) }
-    // The output of `convert` is as it was, or a front of the capture of the input's packets.
-    ensures front { IsTrue (D.seen depot.old).told → (k : spec.ConvertNames) →
-        spec.command words.now ≡ Some (spec.Convert k) →
-        IsFront k.from k.to LIMITS (D.seen depot.old) (D.seen depot.new) }
+    // The output of `convert` is as it was, or a front of the capture of the input's packets; that
+    // of `migrate` is as it was, or a front of the input's journal in format 2.
+    ensures front { IsTrue (D.seen depot.old).told → (k : spec.Command) →
+        spec.command words.now ≡ Some k → HasFront k (D.seen depot.old) (D.seen depot.new) }
     // Inputs of the right forms are taken, where nothing fails and memory is there.
     ensures complete { IsComplete words.now (D.seen depot.old) (D.seen depot.new) (K.sunk say.old)
         (K.sunk say.new) → (result ≡ 0) ⊎ (result ≡ 5) }
@@ -131,6 +130,7 @@ fn outcome_by<R: Threads + Wait + Sync, D: Depot, G: Gate + Sync>(
     match form {
         Form::Run => run(rt, alloc, words, depot, gate),
         Form::Convert => convert_file(alloc, words, depot),
+        Form::Migrate => migrate_file(alloc, words, depot),
         Form::Help => Outcome::Help,
         Form::Version => Outcome::Version,
     }

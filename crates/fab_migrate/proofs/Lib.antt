@@ -1,0 +1,6 @@
+pub mod OldLineLemmas
+pub mod OldReadingLemmas
+mod WholeLemmas
+mod OldLemmas
+mod OldJournalLemmas
+mod MigrateLemmas

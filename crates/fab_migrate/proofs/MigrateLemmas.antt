@@ -1,0 +1,77 @@
+-- Migrating a file: the input is read whole, and then the output is written.
+use Rattle.std.proofs.Common.{◌≡◌, ℕ, ◌≤◌, IsTrue, List, [], length, take, Some, Ok, Err, sym, ap, ◌∙◌, subst, arith}
+use Rattle.std.specs.Prelude.{Result, Vec}
+use Rattle.std.specs.declared.alloc.Global.{Global}
+use Rattle.fab_base.specs.Seen.{Seen, Reads, Rose, OpensIn, OpensOut, PutsAll}
+use Rattle.fab_base.specs.declared.values.Failed.{Failed}
+use Rattle.fab_base.proofs.SeenLemmas.{reads_trans, reads_touches, told_stays, rose_later}
+use Rattle.fab_migrate.specs.Migrating.{Migrates, Begun}
+use Rattle.fab_migrate.specs.Old.{IsOld, new_text}
+use Rattle.fab_migrate.specs.OldWords.{Rewrites, WholeRead}
+use Rattle.fab_migrate.specs.declared.old.MigrateError.TheVariants as ends
+use Rattle.fab_migrate.specs.declared.old.OldError.{OldError}
+use Rattle.fab_migrate.specs.declared.old.Rewritten.{Rewritten}
+use Rattle.fab_migrate.proofs.OldJournalLemmas.{migrated_to}
+
+module _ (from to : List ℕ) (slot limit : ℕ) (a b c : Seen) (opens : OpensIn {E = Failed} from a b (Ok slot)) where
+  is_name : b.name slot ≡ from
+  is_name = opens.opened.2
+
+  told_b : IsTrue a.told → IsTrue b.told
+  told_b told = told_stays from a b opens.reads.keeps told
+
+  reads : (result : Result (Vec ℕ Global) OldError) → WholeRead slot limit b c result → Reads from a c
+  reads result r = reads_trans from a b c opens.reads (subst (λ n. Reads n b c) is_name r.reads)
+
+  module _ (v : Vec ℕ Global) (r : WholeRead slot limit b c (Ok v)) where
+    told_c : IsTrue a.told → IsTrue c.told
+    told_c told = told_stays from a c (reads (Ok v) r).keeps told
+
+    found : IsTrue a.told → a.file from ≡ Some v.items
+    found told = opens.left told ∙ ap (λ (l : List ℕ). Some l) (sym (r.whole (told_b told)).0)
+
+    within : IsTrue a.told → length v.items ≤ limit
+    within told = (r.whole (told_b told)).1
+
+    module _ (n : Rewritten) (w : Rewrites v.items (Ok n)) where
+      writes_kept : a.write_faults to ≤ c.write_faults to
+      writes_kept = (reads_touches from a c (reads (Ok v) r)).writes_rise to
+
+      -- ---- the output
+
+      module _ (out : ℕ) (d e : Seen) (bytes : List ℕ) (o : OpensOut {E = Failed} to c d (Ok out)) (made : bytes ≡ n.text.items) where
+        is_out : d.name out ≡ to
+        is_out = o.opened.2
+
+        told_d : IsTrue a.told → IsTrue d.told
+        told_d told = told_stays to c d o.keeps (told_c told)
+
+        empty : IsTrue a.told → d.file (d.name out) ≡ Some []
+        empty told = ap d.file is_out ∙ o.emptied (told_c told)
+
+        all : bytes ≡ new_text w.0
+        all = made ∙ w.2
+
+        pub front : (failed : Failed) → PutsAll {T = Unit {0}} {E = Failed} out bytes d e (Err failed) → Migrates from to limit a e (Err (ends.Write failed))
+        front failed p = (
+          rose_later _ _ _ (omega (arith, writes_kept, o.keeps.writes_rise)) (subst (λ n. Rose (d.write_faults n) (e.write_faults n)) is_out p.cause),
+          λ told.
+              let part = p.part (told_d told) [] (empty told) in
+              Begun v.items w.0 part.0 (found told) (within told) w.1 (subst (λ n. e.file n ≡ Some (take part.0 bytes)) is_out part.1 ∙ ap (λ (l : List ℕ). Some (take part.0 l)) all),
+        )
+
+        pub migrated : PutsAll {T = Unit {0}} {E = Failed} out bytes d e (Ok tt) → Migrates from to limit a e (Ok n.entries)
+        migrated p = λ told.
+            let output : e.file to ≡ Some (new_text w.0) = subst (λ n. e.file n ≡ Some bytes) is_out (p.grown (told_d told) [] (empty told)) ∙ ap (λ (l : List ℕ). Some l) all in
+            record {
+              bytes = v.items;
+              lines = w.0;
+              found = found told;
+              within = within told;
+              is = w.1;
+              output = output;
+              counted = w.3;
+              journal = λ J ranged text.
+                  let same = (migrated_to J ranged).is_new w.0 (subst (λ (l : List ℕ). IsOld l w.0) text w.1) in
+                  (output ∙ ap (λ (l : List ℕ). Some l) same.0, w.3 ∙ same.1);
+            }

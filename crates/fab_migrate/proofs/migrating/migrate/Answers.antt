@@ -1,0 +1,14 @@
+use Rattle.std.proofs.Common.{Ok, subst}
+use Rattle.fab_migrate.specs.OldWords.{Rewrites}
+use Rattle.fab_migrate.proofs.MigrateLemmas.{migrated, front}
+use Rattle.fab_migrate.proofs.migrating.migrate.Goals as goal
+
+pub returns-in-Ok-put_all-clause-migrates : goal.returns-in-Ok-put_all-clause-migrates
+returns-in-Ok-put_all-clause-migrates g c =
+    let made = subst (λ l. Rewrites l (Ok c.in-Ok-in_format_two.new)) c.deref.ensures.value c.in-Ok-in_format_two.ensures in
+    migrated c.args.from.now c.args.to.now c.in-Ok.slot c.args.limit _ _ _ c.in-Ok.ensures.opens c.in-Ok-read_whole.text c.in-Ok-read_whole.ensures.reads c.in-Ok-in_format_two.new made c.in-Ok-open_out.out _ _ c.deref-2.result.now c.in-Ok-open_out.ensures.opens c.deref-2.ensures.value c.in-Ok-put_all.ensures.puts
+
+pub returns-clause-migrates : goal.returns-clause-migrates
+returns-clause-migrates g c =
+    let made = subst (λ l. Rewrites l (Ok c.in-Ok-in_format_two.new)) c.deref.ensures.value c.in-Ok-in_format_two.ensures in
+    front c.args.from.now c.args.to.now c.in-Ok.slot c.args.limit _ _ _ c.in-Ok.ensures.opens c.in-Ok-read_whole.text c.in-Ok-read_whole.ensures.reads c.in-Ok-in_format_two.new made c.in-Ok-open_out.out _ _ c.deref-2.result.now c.in-Ok-open_out.ensures.opens c.deref-2.ensures.value c.in-Err-put_all.failed c.in-Err-put_all.ensures.puts

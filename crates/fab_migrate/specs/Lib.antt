@@ -1,0 +1,4 @@
+pub mod Old
+pub mod Migrating
+pub mod OldLaws
+pub mod OldWords

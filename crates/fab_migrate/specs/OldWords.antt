@@ -1,0 +1,54 @@
+-- Words of private contracts alone: a line that is cut off, and a file that is read whole.
+use Rattle.std.specs.Prelude.{◌≡◌, ℕ, ◌≤◌, ◌<◌, true, List, [], ◌++◌, length, IsTrue, Option, Some, None, Result, Ok, Err, Vec}
+use Rattle.std.specs.declared.alloc.Global.{Global}
+use Rattle.fab_base.specs.Seen.{Seen, Reads, Rose}
+use Rattle.fab_policy.specs.Spelling.{Spells, line_text}
+use Rattle.fab_policy.specs.declared.event.Event.{Event}
+use Rattle.fab_policy.specs.declared.event.Event.TheVariants as event
+use Rattle.fab_policy.specs.declared.line.Format.TheVariants.{One, Two}
+use Rattle.fab_policy.specs.declared.line.Line.{Line}
+use Rattle.fab_policy.specs.declared.line.Line.TheVariants.{Tick, Frame}
+use Rattle.fab_migrate.specs.Old.{IsOld, HasFirstFault, MayCome, clock_after, clocked, new_text}
+use Rattle.fab_migrate.specs.declared.old.OldWhy.TheVariants as why
+use Rattle.fab_migrate.specs.declared.old.OldError.{OldError}
+use Rattle.fab_migrate.specs.declared.old.OldError.TheVariants as errors
+use Rattle.fab_migrate.specs.declared.old.Refused.{Refused}
+use Rattle.fab_migrate.specs.declared.old.Refused.TheVariants as refused
+use Rattle.fab_migrate.specs.declared.old.Rewritten.{Rewritten}
+
+-- the entry of a line, without its frame, of which no line tells
+abbrev pub entry_of : Line → Event
+entry_of (Tick m ended) = event.Tick m ended
+entry_of (Frame port index verdict at) = event.Frame port index (record { bytes = []; whole = true }) verdict
+
+-- the clock behind a line that may come, or none where it may not
+abbrev pub Admits : Option ℕ → Line → Option ℕ → Type 0
+Admits clock l None = MayCome clock l → ⊥
+Admits clock l (Some t) = MayCome clock l × (clock_after clock l ≡ Some t)
+
+-- A text that spells a line which may come was appended in format 2, and this is the clock behind it; or nothing was.
+abbrev pub AddsLine : Option ℕ → List ℕ → List ℕ → List ℕ → Result ℕ Refused → Type 0
+AddsLine clock line old new (Ok t) = (l : Line) × Spells One line l × MayCome clock l × (clock_after clock l ≡ Some t) × (new ≡ old ++ line_text Two (clocked clock l))
+AddsLine clock line old new (Err (refused.Fault why.Text)) = (l : Line) → Spells One line l → ⊥
+AddsLine clock line old new (Err (refused.Fault why.Tick)) = (l : Line) × Spells One line l × (MayCome clock l → ⊥)
+AddsLine clock line old new (Err refused.Memory) = Unit {0}
+
+-- A text is a journal of format 1, and this is it in format 2 with the number of its entries; or its first fault.
+abbrev pub Rewrites : List ℕ → Result Rewritten OldError → Type 0
+Rewrites text (Ok r) = (ls : List Line) × IsOld text ls × (r.text.items ≡ new_text ls) × (r.entries ≡ length ls)
+Rewrites text (Err (errors.Fault line fault)) = HasFirstFault text line fault
+Rewrites text (Err errors.Bytes) = ⊥
+Rewrites text (Err (errors.Read failed)) = ⊥
+Rewrites text (Err errors.Memory) = Unit {0}
+
+-- What is left of a slot was read whole, or it is longer than a limit.
+abbrev pub IsWhole : ℕ → ℕ → Seen → Seen → Result (Vec ℕ Global) OldError → Type 0
+IsWhole s limit old new (Ok v) = IsTrue old.told → (v.items ≡ old.left s) × (length v.items ≤ limit)
+IsWhole s limit old new (Err (errors.Fault line fault)) = ⊥
+IsWhole s limit old new (Err errors.Bytes) = IsTrue old.told → limit < length (old.left s)
+IsWhole s limit old new (Err (errors.Read failed)) = Rose (old.read_faults (old.name s)) (new.read_faults (old.name s))
+IsWhole s limit old new (Err errors.Memory) = Unit {0}
+
+pub record WholeRead (s limit : ℕ) (old new : Seen) (result : Result (Vec ℕ Global) OldError) : Type 0 where
+  pub reads : Reads (old.name s) old new
+  pub whole : IsWhole s limit old new result
