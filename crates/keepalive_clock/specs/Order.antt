@@ -1,9 +1,9 @@
 -- How a clock keeps its voices: in the order of a number that each has, and their deadlines beside them. No public clause
 -- cites this module.
-use Rattle.std.specs.Prelude.{◌≡◌, ℕ, ◌+◌, ◌-◌, ◌*◌, ◌/◌, ◌<◌, ◌≤◌, ◌^◌, List, length, get_or}
+use Rattle.std.specs.Prelude.{ℕ, ◌+◌, ◌-◌, ◌*◌, ◌/◌, ◌<◌, ◌≤◌, ◌^◌, List, length}
 use Rattle.std.specs.List.{All}
 use Rattle.fab_base.specs.Keyed.{AscendFrom}
-use Rattle.fab_base.specs.Layout.{big_endian}
+use Rattle.sorted_lists.specs.Enodes as enodes
 use Rattle.sorted_lists.specs.Index.{IsIndex}
 use Rattle.keepalive_clock.specs.Clock.{VoiceClock, period_of}
 use Rattle.keepalive_clock.specs.declared.voice.Voice.{Voice}
@@ -11,14 +11,14 @@ use Rattle.keepalive_clock.specs.declared.voice.Voice.TheVariants.{Node, Port}
 use Rattle.keepalive_clock.specs.declared.voice.LastHeard.{LastHeard}
 use Rattle.keepalive_clock.specs.declared.due.Deadline.{Deadline}
 
--- the number of a voice: port and MAC of an ENode, or the address
+-- the number of a voice: that of an ENode, or the address
 abbrev pub number_of : Voice → ℕ
-number_of (Node x) = x.port * 2 ^ 48 + big_endian x.mac
+number_of (Node x) = enodes.enode_number x
 number_of (Port a) = a
 
--- six bytes of a port from 1 to 64, or an address
+-- a whole ENode, or an address
 abbrev pub IsWhole : Voice → Type 0
-IsWhole (Node x) = (1 ≤ x.port) × (x.port ≤ 64) × (length x.mac ≡ 6) × ((i : ℕ) → get_or x.mac i 0 < 256)
+IsWhole (Node x) = enodes.IsWhole x
 IsWhole (Port a) = a < 2 ^ 24
 
 -- the number of a voice with its last moment

@@ -1,8 +1,8 @@
 //! Whose keep alives are heard, and when each was heard last.
-ghost use Rattle.std.specs.Prelude.{◌≡◌, ◌<◌, ◌^◌, ℕ, length, slice_index};
-ghost use Rattle.fab_base.specs.Layout.{big_endian};
+ghost use Rattle.std.specs.Prelude.{◌≡◌};
 
-use fab_base::{Enode, FcId, Mac, Moment};
+use fab_base::{Enode, FcId, Moment};
+use sorted_lists::enode_number;
 
 /// Whose keep alives are heard: an ENode, or the N_Port of an address.
 #[derive(Clone, Copy, Debug, PartialEq, Eq)]
@@ -20,20 +20,10 @@ impl Voice {
         ensures whole { IsWhole self.now }
     {
         match self {
-            Voice::Node(node) => { node.port.value() as u64 * (1 << 48) + mac_number(&node.mac) }
+            Voice::Node(node) => enode_number(node),
             Voice::Port(address) => address.value() as u64,
         }
     }
-}
-
-fn mac_number(mac: &Mac) -> u64
-    ensures value { result ≡ big_endian mac.now }
-    ensures range { result < 2 ^ 48 }
-    ensures length { length mac.now ≡ 6 }
-    ensures bytes { (i : ℕ) → slice_index mac.now i < 256 }
-{
-    let [a, b, c, d, e, f] = mac.0;
-    u64::from_be_bytes([0, 0, a, b, c, d, e, f])
 }
 
 /// A voice with the moment at which it was last heard.
