@@ -1,5 +1,11 @@
 pub mod AllOutputs
+pub mod Check
+pub mod Front
+pub mod Laws
+pub mod Lines
 pub mod Outputs
 pub mod Rows
 pub mod Showing
+pub mod Steps
 pub mod Verdicts
+pub mod Windows

@@ -1,15 +1,25 @@
-//! A journal checked against the captures that it was written for.
+//! A journal checked, line by line, against the captures that it was written for.
 #![tactic(auto)]
 
 mod all_outputs;
+mod check;
+mod fault;
+mod frames;
+mod laws;
+mod lines;
 mod outputs;
 mod rows;
 mod showing;
 #[cfg(test)]
 mod tests;
+mod ticks;
 mod verdicts;
+mod windows;
 
 pub use all_outputs::{feed_each, finish_each};
+pub use check::check_lines;
+pub use fault::{CheckFault, LineWhy};
+pub use lines::{Place, first_place, next_line, number_at};
 pub use outputs::Compared;
 pub use rows::Row;
 pub use showing::write_shown;

@@ -1,0 +1,206 @@
+-- What the line at a place makes of the lines before it: one more entry, or the first fault.
+use Rattle.std.proofs.Common.{◌≡◌, ℕ, ◌<◌, ◌≤◌, inl, inr, Bool, true, List, [], ◌∷◌, ◌++◌, length, drop, Option, Some, None, IfSome, refl, sym, ap, ◌∙◌, subst, arith}
+use Rattle.std.specs.Prelude.{unwrap_or}
+use Rattle.std.specs.List.{list_any}
+use Rattle.fab_base.specs.declared.values.Caught.{Caught}
+use Rattle.fab_config.specs.Settings.{Settings}
+use Rattle.fab_policy.specs.Journal.{Journal, clock, now}
+use Rattle.fab_policy.specs.Legal.{IsLeastOf, IsNextTick, Legal, windows_left}
+use Rattle.fab_policy.specs.Ranged.{IsRangedEvent}
+use Rattle.fab_policy.specs.Spelling.{HasClockOf, Spells, line_of}
+use Rattle.fab_policy.specs.Standing.{Contents, Stands}
+use Rattle.fab_policy.specs.State.{Tables, addresses, overdue, tables_of}
+use Rattle.fab_policy.specs.Verdicts.{IsRight}
+use Rattle.fab_policy.specs.declared.event.Event.{Event}
+use Rattle.fab_policy.specs.declared.event.Event.TheVariants as event
+use Rattle.fab_policy.specs.declared.line.Format.{Format}
+use Rattle.fab_policy.specs.declared.line.Format.TheVariants.{One, Two}
+use Rattle.fab_policy.specs.declared.line.Line.{Line}
+use Rattle.fab_policy.specs.declared.line.Line.TheVariants.{Tick, Frame}
+use Rattle.fab_policy.specs.declared.verdict.Verdict.{Verdict}
+use Rattle.fab_gather.specs.declared.shelf.Shelf.{Shelf}
+use Rattle.pcap_file.specs.declared.Record.{Record}
+use Rattle.fab_replay.specs.Front.{IsFirstWrong, IsNextFrame, IsWrong, expects_tick, has_left, is_at}
+use Rattle.fab_replay.specs.Lines.{IsLineAt, IsUnread, first_line, number_behind, text_in}
+use Rattle.fab_replay.specs.Steps.{HasLeft, HoldSame, IsFound, IsOnShelf, IsReached, IsRefused, IsTickOf, IsWindow, Scene}
+use Rattle.fab_replay.specs.declared.fault.CheckFault.{CheckFault}
+use Rattle.fab_replay.specs.declared.fault.CheckFault.TheVariants as fault
+use Rattle.fab_replay.specs.declared.fault.LineWhy.{LineWhy}
+use Rattle.fab_replay.specs.declared.fault.LineWhy.TheVariants as why
+use Rattle.fab_replay.specs.Verdicts.{IsMisjudged}
+use Rattle.fab_replay.specs.declared.lines.Place.{Place}
+use Rattle.fab_replay.specs.declared.verdicts.Misjudged.{Misjudged}
+use Rattle.fab_replay.specs.declared.verdicts.Misjudged.TheVariants.{Wrong}
+use Rattle.fab_replay.proofs.FrontLemmas.{front_frame, front_tick, same_clock, same_tables}
+use Rattle.fab_replay.proofs.LeftLemmas.{left_same, tick_expected}
+use Rattle.fab_replay.proofs.LineLemmas.{behind_more}
+use Rattle.fab_replay.proofs.WindowLemmas.{any_left, from_next, left_here, next_from, no_tick_here}
+
+module _ (x : Scene) (J : Journal) (F : Contents) (p : Place) (h : IsReached x J F p) where
+  abbrev c : Settings
+  c = x.settings
+
+  -- what is wrong with the line at the place is the first fault
+  pub wrong_here : (n : ℕ) (y : LineWhy) → n ≡ number_behind p.format p.entries → IsWrong c x.records J p.format (drop p.at x.bytes) y → IsFirstWrong c x.records x.bytes n y
+  wrong_here n y number wrong = record {
+    entry_list = J;
+    before = record {
+      rest = drop p.at x.bytes;
+      lines = h.behind.lines ∙ ap (λ (f : Format). text_in f J ++ drop p.at x.bytes) h.behind.format;
+      front = h.front;
+    };
+    number = number ∙ ap (number_behind p.format) h.behind.entries ∙ ap (λ (f : Format). number_behind f (length J)) h.behind.format;
+    wrong = subst (λ (f : Format). IsWrong c x.records J f (drop p.at x.bytes) y) h.behind.format wrong;
+  }
+
+  -- a line that can't be read, or isn't there
+  pub unread_here : (e : CheckFault) → has_left c x.records J ≡ true → IsUnread x.bytes p e → IsFound x e
+  unread_here (fault.Line n why.Rest) left u = wrong_here n why.Rest u.0 (u.1, left)
+  unread_here (fault.Line n why.Text) left u = wrong_here n why.Text u.0 (u.1, u.2)
+  unread_here (fault.Line n why.Tick) left u = absurd u
+  unread_here (fault.Line n why.Frame) left u = absurd u
+  unread_here (fault.Line n (why.Verdict found made)) left u = absurd u
+  unread_here (fault.Output port at) left u = absurd u
+  unread_here (fault.Capture port at w) left u = absurd u
+  unread_here (fault.Limit kind) left u = absurd u
+  unread_here fault.Read left u = absurd u
+  unread_here fault.Memory left u = tt
+
+  -- ---- a tick
+
+  module _ (w m : ℕ) (least : IsLeastOf (windows_left c 1 x.records J) w) (next : IsNextTick c J w m) (expected : expects_tick c x.records J ≡ true) where
+    pub left_then : has_left c x.records J ≡ true
+    left_then = any_left (windows_left c 1 x.records J) w least.0
+
+    abbrev ends : List ℕ
+    ends = addresses (overdue F.settings F.state.tables m)
+
+    pub other_tick : (n : ℕ) (q : Place) (l : Line) → n ≡ number_behind p.format p.entries → IsLineAt x.bytes p q l → (l ≡ Tick m ends → ⊥) → IsFirstWrong c x.records x.bytes n why.Tick
+    other_tick n q l number at ne = wrong_here n why.Tick number (
+      l,
+      at.spells,
+      inl (
+        expected,
+        m,
+        ends,
+        record {
+          window = w;
+          least = least;
+          next = next;
+          ends = ap (λ (T : Tables). addresses (overdue F.settings T m)) (same_tables F J h.stands) ∙ ap (λ (s : Settings). addresses (overdue s (tables_of s J) m)) h.settings;
+        },
+        ne,
+      ),
+    )
+
+    pub tick_reached : (G : Contents) (q : Place) (l : Line) (ended : List ℕ) → IsLineAt x.bytes p q l → l ≡ Tick m ended →
+        (Legal F.settings J → Stands F J → Legal F.settings (event.Tick m ended ∷ J) × Stands G (event.Tick m ended ∷ J)) → G.settings ≡ F.settings → G.count ≡ F.count → IsReached x (event.Tick m ended ∷ J) G q
+    tick_reached G q l ended at is on settings count =
+        let both = on (subst (λ (s : Settings). Legal s J) (sym h.settings) h.front.legal) h.stands in
+        let spells : Spells p.format (first_line (drop p.at x.bytes)) (Tick m ended) = subst (Spells p.format (first_line (drop p.at x.bytes))) is at.spells in
+        record {
+          front = front_tick c x.records J w m ended h.front least next (subst (λ (s : Settings). Legal s (event.Tick m ended ∷ J)) h.settings both.0) spells.ranged;
+          behind = behind_more x.bytes p q J (event.Tick m ended) l h.behind at is;
+          stands = both.1;
+          settings = settings ∙ h.settings;
+          count = count ∙ h.count;
+        }
+
+  -- ---- a frame
+
+  module _ (w : ℕ) (shelves : List Shelf) (done : List ℕ) (win : IsWindow x w J shelves done) (left : HasLeft shelves done) where
+    pub has_left_here : has_left c x.records J ≡ true
+    has_left_here = any_is (is_at (clock J)) (windows_left c 1 x.records J) (left_here x w J shelves done win left)
+      where
+        any_is : (test : ℕ → Bool) (l : List ℕ) → list_any test l ≡ true → list_any (λ v. true) l ≡ true
+        any_is test [] e = absurd (cc)
+        any_is test (v ∷ l) e = refl
+
+    -- a tick where none is expected
+    pub tick_here : (n : ℕ) (q : Place) (m : ℕ) (ended : List ℕ) → n ≡ number_behind p.format p.entries → IsLineAt x.bytes p q (Tick m ended) → IsFirstWrong c x.records x.bytes n why.Tick
+    tick_here n q m ended number at = wrong_here n why.Tick number (Tick m ended, at.spells, inr (no_tick_here x w J shelves done win left, refl))
+
+    module _ (q : Place) (port index : ℕ) (verdict : Verdict) (told : Option ℕ) (at : IsLineAt x.bytes p q (Frame port index verdict told)) where
+      -- no next frame
+      pub other_frame : (n : ℕ) → n ≡ number_behind p.format p.entries → length done ≡ length shelves → ((r : Record) → IsOnShelf shelves done w port index told r → ⊥) → IsFirstWrong c x.records x.bytes n why.Frame
+      other_frame n number width none =
+          wrong_here n why.Frame number (port, index, told, (verdict, at.spells), no_tick_here x w J shelves done win left, λ r next. none r (from_next x w J shelves done win width port index told r next))
+
+      module _ (r : Record) (on : IsOnShelf shelves done w port index told r) where
+        abbrev e : Event
+        e = event.Frame port index r.caught verdict
+
+        next_is : IsNextFrame c x.records J port index told r
+        next_is = next_from x w J shelves done win port index told r on
+
+        to_journal : (v : Verdict) → IsRight F.settings F.state.tables port r.caught v → IsRight c (tables_of c J) port r.caught v
+        to_journal v y = subst (λ (s : Settings). IsRight s (tables_of s J) port r.caught v) h.settings (subst (λ (T : Tables). IsRight F.settings T port r.caught v) (same_tables F J h.stands) y)
+
+        from_journal : (v : Verdict) → IsRight c (tables_of c J) port r.caught v → IsRight F.settings F.state.tables port r.caught v
+        from_journal v y = subst (λ (T : Tables). IsRight F.settings T port r.caught v) (sym (same_tables F J h.stands)) (subst (λ (s : Settings). IsRight s (tables_of s J) port r.caught v) (sym h.settings) y)
+
+        -- a verdict that isn't right
+        pub refused_here : (f : CheckFault) → IsRefused F.settings F.state.tables p port r.caught verdict f → IsFound x f
+        refused_here (fault.Line n (why.Verdict found made)) u =
+            wrong_here n (why.Verdict found made) u.0 (
+              port,
+              index,
+              told,
+              r,
+              subst (λ (v : Verdict). Spells p.format (first_line (drop p.at x.bytes)) (Frame port index v told)) (sym u.1) at.spells,
+              no_tick_here x w J shelves done win left,
+              next_is,
+              λ right. u.2 (from_journal found right),
+              to_journal made u.3,
+            )
+        refused_here (fault.Line n why.Rest) u = absurd u
+        refused_here (fault.Line n why.Text) u = absurd u
+        refused_here (fault.Line n why.Tick) u = absurd u
+        refused_here (fault.Line n why.Frame) u = absurd u
+        refused_here (fault.Output o at) u = absurd u
+        refused_here (fault.Capture o at w) u = absurd u
+        refused_here (fault.Limit kind) u = absurd u
+        refused_here fault.Read u = absurd u
+        refused_here fault.Memory u = tt
+
+        line_is : (f : Format) (t : ℕ) (o : Option ℕ) → HasClockOf f o → IfSome o (λ k. k ≡ t) → Frame port index verdict o ≡ line_of f t e
+        line_is One t None has is = refl
+        line_is One t (Some k) has is = absurd has
+        line_is Two t None has is = absurd has
+        line_is Two t (Some k) has is = ap (λ (n : ℕ). Frame port index verdict (Some n)) is
+
+        pub frame_reached : (G : Contents) → (Legal F.settings J → Stands F J → Legal F.settings (e ∷ J) × Stands G (e ∷ J)) → IsRangedEvent e → G.settings ≡ F.settings → G.count ≡ F.count → IsReached x (e ∷ J) G q
+        frame_reached G goes ranged settings count =
+            let both = goes (subst (λ (s : Settings). Legal s J) (sym h.settings) h.front.legal) h.stands in
+            let t : w ≡ now (e ∷ J) = sym (ap (λ (o : Option ℕ). unwrap_or o 0) win.clock_) in
+            record {
+              front = front_frame c x.records J port index told r verdict h.front next_is (subst (λ (s : Settings). Legal s (e ∷ J)) h.settings both.0) ranged;
+              behind = behind_more x.bytes p q J e (Frame port index verdict told) h.behind at (line_is p.format w told at.spells.ranged.4 on.clock_ ∙ ap (λ (n : ℕ). line_of p.format n e) t);
+              stands = both.1;
+              settings = settings ∙ h.settings;
+              count = count ∙ h.count;
+            }
+
+-- ---- the next tick
+
+before_window : (o : Option ℕ) (m w : ℕ) → IfSome o (λ t. t < m) → m ≤ w → IfSome o (λ t. t < w)
+before_window None m w h le = tt
+before_window (Some t) m w h le = omega (arith, h, le)
+
+-- a journal that is reached on the way to a window, and the fabric's next tick
+module _ (x : Scene) (I J : Journal) (F : Contents) (p : Place) (h : IsReached x J F p) (w m : ℕ) (same : HoldSame I J) (least : IsLeastOf (windows_left x.settings 1 x.records I) w) (t : IsTickOf w F m) where
+  pub least_then : IsLeastOf (windows_left x.settings 1 x.records J) w
+  least_then = subst (λ l. IsLeastOf l w) (sym (left_same x.settings 1 x.records I J same)) least
+
+  pub next_then : IsNextTick x.settings J w m
+  next_then = subst (λ (c : Settings). IsNextTick c J w m) h.settings (t.next J h.stands)
+
+  pub expected_then : expects_tick x.settings x.records J ≡ true
+  expected_then = tick_expected x.settings x.records J w least_then (before_window (clock J) m w (subst (λ o. IfSome o (λ k. k < m)) (same_clock F J h.stands) t.above) t.within)
+
+-- what a misjudged frame is refused with
+pub refused_as : (c : Settings) (T : Tables) (p : Place) (port : ℕ) (caught heard : Caught) (found made : Verdict) (e : Misjudged) (f : CheckFault) → heard ≡ caught → e ≡ Wrong made → IsMisjudged c T port heard found e →
+    f ≡ fault.Line (number_behind p.format p.entries) (why.Verdict found made) → IsRefused c T p port caught found f
+refused_as c T p port caught heard found made e f same is h told =
+    let w = subst (λ (k : Caught). IsMisjudged c T port k found (Wrong made)) same (subst (IsMisjudged c T port heard found) is h) in
+    subst (IsRefused c T p port caught found) (sym told) (refl, refl, w.0, w.1)

@@ -1,0 +1,102 @@
+use Rattle.std.proofs.Common.{◌≡◌, ◌∷◌, refl, sym, subst, arith}
+use Rattle.fab_policy.specs.declared.event.Event.TheVariants as event
+use Rattle.fab_replay.specs.Lines.{IsLineAt, IsUnread, number_behind}
+use Rattle.fab_replay.specs.Steps.{IsFound}
+use Rattle.fab_replay.proofs.ListLemmas.{at_inside}
+use Rattle.fab_replay.proofs.ResultLemmas.{told_on}
+use Rattle.fab_replay.proofs.StepLemmas.{frame_reached, has_left_here, other_frame, refused_here, tick_here, unread_here}
+use Rattle.fab_replay.proofs.WindowLemmas.{count_fits, counts_more, window_more}
+use Rattle.fab_replay.proofs.frames.check_frame.Goals as goal
+
+pub returns-in_err-line-clause-checks : goal.returns-in_err-line-clause-checks
+returns-in_err-line-clause-checks c = λ x J same h win.
+    let F = c.args.fabric.now in
+    let p = c.args.place.now in
+    let w = c.args.window in
+    let shelves = c.args.shelves.now in
+    let done = c.args.done.now in
+    let q = c.next_line.new.place in
+    let e = c.in_err-line.field-0.0 in
+    told_on c.from_residual.result e _ _ c.from_residual.ensures.1
+    (unread_here x J F p h e (has_left_here x J F p h w shelves done win c.requires.left) (subst (λ b. IsUnread b p e) (sym same) c.in_err-line.ensures.unread.0))
+
+pub returns-in_default-clause-checks : goal.returns-in_default-clause-checks
+returns-in_default-clause-checks c = λ x J same h win.
+    let F = c.args.fabric.now in
+    let p = c.args.place.now in
+    let w = c.args.window in
+    let shelves = c.args.shelves.now in
+    let done = c.args.done.now in
+    let q = c.next_line.new.place in
+    subst (IsFound x) (sym c.fault_at.ensures)
+    (tick_here x J F p h w shelves done win c.requires.left (number_behind p.format p.entries) q c.in_default.field-0 c.in_default.field-1 refl
+    (subst (IsLineAt x.bytes p q) c.in_default.is (subst (λ b. IsLineAt b p q c.in_ok-line.line) (sym same) c.in_ok-line.ensures.line)))
+
+pub returns-in_default-next_on_shelf-clause-checks : goal.returns-in_default-next_on_shelf-clause-checks
+returns-in_default-next_on_shelf-clause-checks c = λ x J same h win.
+    let F = c.args.fabric.now in
+    let p = c.args.place.now in
+    let w = c.args.window in
+    let shelves = c.args.shelves.now in
+    let done = c.args.done.now in
+    let q = c.next_line.new.place in
+    let at = subst (IsLineAt x.bytes p q) c.in-Frame.is (subst (λ b. IsLineAt b p q c.in_ok-line.line) (sym same) c.in_ok-line.ensures.line) in
+    subst (IsFound x) (sym c.fault_at-in_default-next_on_shelf.ensures)
+    (other_frame x J F p h w shelves done win c.requires.left q c.in-Frame.port c.in-Frame.index c.in-Frame.verdict c.in-Frame.clock at (number_behind p.format p.entries) refl c.requires.count.1 c.in_default-next_on_shelf.ensures.named)
+
+pub returns-in_err-take_frame-clause-checks : goal.returns-in_err-take_frame-clause-checks
+returns-in_err-take_frame-clause-checks c = λ x J same h win.
+    let F = c.args.fabric.now in
+    let p = c.args.place.now in
+    let w = c.args.window in
+    let shelves = c.args.shelves.now in
+    let done = c.args.done.now in
+    let q = c.next_line.new.place in
+    let at = subst (IsLineAt x.bytes p q) c.in-Frame.is (subst (λ b. IsLineAt b p q c.in_ok-line.line) (sym same) c.in_ok-line.ensures.line) in
+    let e = c.in_err-take_frame.field-0.0 in
+    told_on c.from_residual-in_err-take_frame.result e _ _ c.from_residual-in_err-take_frame.ensures.1
+    (refused_here x J F p h w shelves done win c.requires.left q c.in-Frame.port c.in-Frame.index c.in-Frame.verdict c.in-Frame.clock at c.in-Some.found.now c.in-Some.ensures.named e c.in_err-take_frame.ensures.refused)
+
+pub bounds-done-index : goal.bounds-done-index
+bounds-done-index c =
+    let on = c.in-Some.ensures.named in
+    let lt = at_inside c.args.done.now on.place on.done_ on.at.done_ in
+    let is = on.is in
+    let value = c.index.ensures.value in
+    omega (arith, lt, is, value)
+
+pub bounds-done-index-2 : goal.bounds-done-index-2
+bounds-done-index-2 c =
+    let on = c.in-Some.ensures.named in
+    let lt = at_inside c.args.done.now on.place on.done_ on.at.done_ in
+    let is = on.is in
+    let value = c.index.ensures.value in
+    omega (arith, lt, is, value)
+
+pub returns-clause-checks : goal.returns-clause-checks
+returns-clause-checks c = λ x J same h win.
+    let F = c.args.fabric.now in
+    let p = c.args.place.now in
+    let w = c.args.window in
+    let shelves = c.args.shelves.now in
+    let done = c.args.done.now in
+    let q = c.next_line.new.place in
+    let at = subst (IsLineAt x.bytes p q) c.in-Frame.is (subst (λ b. IsLineAt b p q c.in_ok-line.line) (sym same) c.in_ok-line.ensures.line) in
+    let r = c.in-Some.found.now in
+    let on = c.in-Some.ensures.named in
+    let is = on.is in
+    let value = c.index.ensures.value in
+    let place : c.index.result ≡ on.place = omega (arith, is, value) in (
+      event.Frame c.in-Frame.port c.in-Frame.index r.caught c.in-Frame.verdict ∷ J,
+      frame_reached x J F p h w shelves done win c.requires.left q c.in-Frame.port c.in-Frame.index c.in-Frame.verdict c.in-Frame.clock at r on c.take_frame.new.fabric (c.in_ok-take_frame.ensures.journal J) c.in_ok-take_frame.ensures.ranged c.in_ok-take_frame.ensures.settings.0 c.in_ok-take_frame.ensures.settings.1,
+      window_more x w J shelves done win c.in-Frame.port c.in-Frame.index c.in-Frame.clock r c.in-Frame.verdict on _ (counts_more done c.index.result on.place on.done_ place on.at.done_),
+    )
+
+pub overflow_add-done : goal.overflow_add-done
+overflow_add-done c =
+    let on = c.in-Some.ensures.named in
+    let is = on.is in
+    let value = c.index.ensures.value in
+    let place : c.index.result ≡ on.place = omega (arith, is, value) in
+    let fits = count_fits c.args.done.now c.index.result on.place on.done_ place on.at.done_ (c.in-Some.ensures.room on.place on.done_ on.is on.at.done_) in
+    omega (arith, fits)

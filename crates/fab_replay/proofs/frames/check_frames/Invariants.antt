@@ -1,0 +1,19 @@
+use Rattle.std.proofs.Common.{◌≡◌, ◌-◌, Some, [], length}
+use Rattle.fab_policy.specs.Journal.{Journal}
+use Rattle.fab_replay.specs.Lines.{IsInside}
+use Rattle.fab_replay.specs.Steps.{IsReached, IsWindow, Scene}
+use Rattle.fab_replay.proofs.frames.check_frames.Given as goal
+
+abbrev pub invariant-lines : goal.invariant-lines
+invariant-lines l = record {
+  checks : (x : Scene) (J : Journal) → x.bytes ≡ l.journal → IsReached x J l.fn.fabric l.fn.place → IsWindow x l.window J l.shelves l.fn.done → (K : Journal) × IsReached x K l.fabric l.place × IsWindow x l.window K l.shelves l.done;
+  inside : IsInside l.journal l.place;
+  clock : l.fabric.state.tables.clock ≡ Some l.window;
+  settings : l.fabric.settings ≡ l.fn.fabric.settings;
+  count : l.fabric.count ≡ l.fn.fabric.count;
+  idle : l.fabric.events ≡ [];
+  width : length l.done ≡ length l.fn.done;
+}
+
+abbrev pub decreases-lines : goal.decreases-lines
+decreases-lines l = length l.journal - l.place.at

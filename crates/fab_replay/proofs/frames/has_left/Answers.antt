@@ -1,0 +1,11 @@
+use Rattle.std.proofs.Common.{refl}
+use Rattle.fab_replay.proofs.WindowLemmas.{done_more}
+use Rattle.fab_replay.proofs.frames.has_left.Goals as goal
+
+pub returns-then-is_left : goal.returns-then-is_left
+returns-then-is_left c =
+    let h = c.if-is_left.ensures in
+    record { port = c.ports.port; shelf = h.0; done_ = h.1; at = h.2; more = h.3 }
+
+pub ports-preserved : goal.ports-preserved
+ports-preserved c = done_more c.args.shelves.now c.args.done.now c.ports.port _ refl c.ports.invariant c.if-is_left.ensures

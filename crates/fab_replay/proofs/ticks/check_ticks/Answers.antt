@@ -1,0 +1,35 @@
+use Rattle.std.proofs.Common.{◌∙◌, ◌∷◌, ◌≤◌, IfSome, sym, subst}
+use Rattle.fab_policy.specs.declared.event.Event.TheVariants as event
+use Rattle.fab_replay.proofs.ResultLemmas.{told_on}
+use Rattle.fab_replay.proofs.StepLemmas.{expected_then, least_then, next_then}
+use Rattle.fab_replay.proofs.ticks.check_ticks.Goals as goal
+
+pub ticks-preserved : goal.ticks-preserved
+ticks-preserved c = record {
+  checks = λ x J same h least.
+      let F = c.ticks.fabric in
+      let p = c.ticks.place in
+      let w = c.args.window in
+      let m = c.in-Some.moment in
+      let t = c.in-Some.ensures in
+      let at = c.ticks.invariant.checks x J same h least in
+      let step = c.in_ok-check_tick.ensures.checks x at.0 w same at.1 (least_then x J at.0 F p at.1 w m at.2 least t) (next_then x J at.0 F p at.1 w m at.2 least t) (expected_then x J at.0 F p at.1 w m at.2 least t) in
+      (event.Tick m step.0 ∷ at.0, step.1, at.2);
+  inside = c.in_ok-check_tick.ensures.inside;
+  order = subst (λ o. IfSome o (λ k. k ≤ c.args.window)) (sym c.in_ok-check_tick.ensures.clock) c.in-Some.ensures.within;
+  settings = c.in_ok-check_tick.ensures.settings.0 ∙ c.ticks.invariant.settings;
+  count = c.in_ok-check_tick.ensures.settings.1 ∙ c.ticks.invariant.count;
+  idle = c.in_ok-check_tick.ensures.idle;
+}
+
+pub returns-in_err-check_tick-clause-checks : goal.returns-in_err-check_tick-clause-checks
+returns-in_err-check_tick-clause-checks c = λ x J same h least.
+    let F = c.ticks.fabric in
+    let p = c.ticks.place in
+    let w = c.args.window in
+    let m = c.in-Some.moment in
+    let t = c.in-Some.ensures in
+    let e = c.in_err-check_tick.field-0.0 in
+    let at = c.ticks.invariant.checks x J same h least in
+    told_on c.from_residual.result e _ _ c.from_residual.ensures.1
+    (c.in_err-check_tick.ensures.checks x at.0 w same at.1 (least_then x J at.0 F p at.1 w m at.2 least t) (next_then x J at.0 F p at.1 w m at.2 least t) (expected_then x J at.0 F p at.1 w m at.2 least t))

@@ -1,0 +1,38 @@
+use Rattle.std.proofs.Common.{◌∙◌, ap, sym, subst, length}
+use Rattle.fab_replay.specs.Steps.{IsWindow}
+use Rattle.fab_replay.specs.declared.fault.CheckFault.TheVariants as fault
+use Rattle.fab_replay.proofs.FrontLemmas.{same_clock}
+use Rattle.fab_replay.proofs.ResultLemmas.{told_on}
+use Rattle.fab_replay.proofs.WindowLemmas.{least_gathered, length-zeros, no_later, shelves_end, window_first}
+use Rattle.fab_replay.proofs.windows.check_shelves.Goals as goal
+
+pub returns-in_err-done-clause-checks : goal.returns-in_err-done-clause-checks
+returns-in_err-done-clause-checks c = λ x J same h gathered. told_on c.from_residual.result fault.Memory _ _ c.from_residual.ensures.1 tt
+
+pub check_ticks-requires-clause-order : goal.check_ticks-requires-clause-order
+check_ticks-requires-clause-order c = no_later c.args.fabric.now.state.tables.clock c.args.window c.requires.order
+
+pub returns-in_err-check_ticks-clause-checks : goal.returns-in_err-check_ticks-clause-checks
+returns-in_err-check_ticks-clause-checks c = λ x J same h gathered.
+    let e = c.in_err-check_ticks.field-0.0 in
+    told_on c.from_residual-in_err-check_ticks.result e _ _ c.from_residual-in_err-check_ticks.ensures.1
+    (c.in_err-check_ticks.ensures.checks x J same h (least_gathered x c.args.window J c.args.shelves.now gathered))
+
+pub check_frames-requires-clause-count : goal.check_frames-requires-clause-count
+check_frames-requires-clause-count c = (
+  c.in_ok-check_ticks.ensures.settings.1 ∙ c.requires.count,
+  ap length c.deref_mut.ensures.value ∙ ap length c.in_ok-done.ensures.zeros ∙ length-zeros (length c.args.shelves.now),
+)
+
+pub returns-clause-checks : goal.returns-clause-checks
+returns-clause-checks c = λ x J same h gathered.
+    let w = c.args.window in
+    let shelves = c.args.shelves.now in
+    let t = c.in_ok-check_ticks.ensures in
+    let at = t.checks x J same h (least_gathered x w J shelves gathered) in
+    let width = ap length c.deref_mut.ensures.value ∙ ap length c.in_ok-done.ensures.zeros ∙ length-zeros (length c.args.shelves.now) in
+    let zeros = c.deref_mut.ensures.value ∙ c.in_ok-done.ensures.zeros in
+    let clock = sym (same_clock c.check_ticks.new.fabric at.0 at.1.stands) ∙ t.clock in
+    let win = subst (IsWindow x w at.0 shelves) (sym zeros) (window_first x w J shelves gathered at.0 (length shelves) at.2 clock) in
+    let e = c.check_frames.ensures in
+    shelves_end x w shelves c.check_frames.new.fabric c.check_frames.new.place c.check_frames.new.done c.check_frames.result (e.checks x at.0 same at.1 win) e.all (e.width ∙ width)

@@ -1,0 +1,80 @@
+use Rattle.std.proofs.Common.{◌∙◌, sym, subst, Some, Ok, Err, OnOk, arith}
+use Rattle.fab_gather.specs.First.{IsNextWindow}
+use Rattle.fab_gather.specs.Ports.{AreReady}
+use Rattle.fab_replay.specs.Lines.{IsInside}
+use Rattle.fab_replay.specs.Windows.{Ended}
+use Rattle.fab_replay.proofs.GoLemmas.{ended_gathering, gathers_as, inputs_now, lines_left, same_ports, turn_ends}
+use Rattle.fab_replay.proofs.windows.check_window.Goals as goal
+
+pub gather-requires-clause-count : goal.gather-requires-clause-count
+gather-requires-clause-count g c = c.requires.going.2.count
+
+pub gather-requires-clause-ports : goal.gather-requires-clause-ports
+gather-requires-clause-ports g c =
+    let r = c.requires.going.2 in
+    let same = same_ports c.requires.going.0.start.ins c.args.ins.now r.slots in
+    let few = r.ports in
+    omega (arith, same, few)
+
+pub gather-requires-clause-inputs : goal.gather-requires-clause-inputs
+gather-requires-clause-inputs g c =
+    inputs_now c.laws_of_windows.ensures c.requires.going.0 c.args.window c.args.first c.args.fabric.now c.args.place.now (g.D.Depot.seen c.args.depot.now) c.args.ins.now c.args.shelves.now c.args.budget.now c.requires.going.2
+
+pub gather-requires-clause-ready : goal.gather-requires-clause-ready
+gather-requires-clause-ready g c = subst (λ s. AreReady s c.args.window c.args.ins.now c.args.shelves.now c.args.budget.now) (sym (c.config.ensures ∙ c.requires.going.2.settings_)) c.requires.going.2.ready
+
+pub gather-requires-clause-next : goal.gather-requires-clause-next
+gather-requires-clause-next g c = subst (λ s. IsNextWindow s c.args.shelves.now (Some c.args.window)) (sym c.config.ensures) c.requires.next
+
+pub fault_of-requires : goal.fault_of-requires
+fault_of-requires g c = c.in-Err.ensures.gathers.only
+
+pub returns-in-Err-clause-turns : goal.returns-in-Err-clause-turns
+returns-in-Err-clause-turns g c = λ k same going.
+    let seen = g.D.Depot.seen in
+    subst (Ended k (seen c.gather.new.depot)) (sym c.fault_of.ensures)
+    (ended_gathering c.laws_of_windows.ensures k c.args.window c.args.first c.args.fabric.now c.args.place.now (seen c.args.depot.now) c.args.ins.now c.args.shelves.now c.args.budget.now going
+    (seen c.gather.new.depot) c.gather.new.ins c.gather.new.shelves c.gather.new.budget c.in-Err.fault
+    (gathers_as c.config.result.now k.settings (c.config.ensures ∙ going.settings_) c.args.first c.args.window (seen c.args.depot.now) (seen c.gather.new.depot) c.args.ins.now c.gather.new.ins c.args.shelves.now c.gather.new.shelves c.args.budget.now c.gather.new.budget (Err c.in-Err.fault) c.in-Err.ensures.gathers))
+
+pub check_shelves-requires-clause-inside : goal.check_shelves-requires-clause-inside
+check_shelves-requires-clause-inside g c = subst (λ b. IsInside b c.args.place.now) c.requires.going.1 c.requires.going.2.inside
+
+pub check_shelves-requires-clause-range : goal.check_shelves-requires-clause-range
+check_shelves-requires-clause-range g c = let r = c.requires.range in omega (arith, r)
+
+pub check_shelves-requires-clause-start : goal.check_shelves-requires-clause-start
+check_shelves-requires-clause-start g c = c.requires.start
+
+pub check_shelves-requires-clause-order : goal.check_shelves-requires-clause-order
+check_shelves-requires-clause-order g c = c.requires.going.2.clock
+
+pub check_shelves-requires-clause-idle : goal.check_shelves-requires-clause-idle
+check_shelves-requires-clause-idle g c = c.requires.going.2.idle
+
+pub check_shelves-requires-clause-ports : goal.check_shelves-requires-clause-ports
+check_shelves-requires-clause-ports g c =
+    let r = c.requires.going.2 in
+    let same = same_ports c.requires.going.0.start.ins c.args.ins.now r.slots in
+    let few = r.ports in
+    let count = r.count in
+    let on = c.in-Ok.ensures.gathers.count in
+    omega (arith, same, few, count, on)
+
+pub check_shelves-requires-clause-count : goal.check_shelves-requires-clause-count
+check_shelves-requires-clause-count g c =
+    let r = c.requires.going.2 in
+    r.count_ ∙ sym (c.in-Ok.ensures.gathers.count ∙ r.count ∙ same_ports c.requires.going.0.start.ins c.args.ins.now r.slots)
+
+pub returns-clause-turns : goal.returns-clause-turns
+returns-clause-turns g c = λ k same going.
+    let seen = g.D.Depot.seen in
+    let laws = c.laws_of_windows.ensures in
+    let t = gathers_as c.config.result.now k.settings (c.config.ensures ∙ going.settings_) c.args.first c.args.window (seen c.args.depot.now) (seen c.gather.new.depot) c.args.ins.now c.gather.new.ins c.args.shelves.now c.gather.new.shelves c.args.budget.now c.gather.new.budget (Ok tt) c.in-Ok.ensures.gathers in
+    let next = subst (λ s. IsNextWindow s c.args.shelves.now (Some c.args.window)) going.settings_ c.requires.next in
+    let e = c.check_shelves.ensures in
+    turn_ends laws k c.args.window c.args.first c.args.fabric.now c.args.place.now (seen c.args.depot.now) c.args.ins.now c.args.shelves.now c.args.budget.now going
+    (seen c.gather.new.depot) c.gather.new.ins c.gather.new.shelves c.gather.new.budget t next c.check_shelves.new.fabric c.check_shelves.new.place c.check_shelves.result
+    (lines_left laws k c.args.window c.args.first c.args.fabric.now c.args.place.now (seen c.args.depot.now) c.args.ins.now c.args.shelves.now c.args.budget.now going
+    (seen c.gather.new.depot) c.gather.new.ins c.gather.new.shelves c.gather.new.budget t next c.check_shelves.new.fabric c.check_shelves.new.place c.args.journal.now same c.check_shelves.result e.checks)
+    e.only (subst (λ b. OnOk c.check_shelves.result (IsInside b c.check_shelves.new.place)) (sym same) e.inside) e.clock (e.settings.0 ∙ going.settings_) e.settings.1 e.idle

@@ -1,0 +1,15 @@
+use Rattle.std.proofs.Common.{ℕ, ◌≡◌, ◌^◌}
+use Rattle.fab_replay.specs.Windows.{Going, Task}
+use Rattle.fab_replay.proofs.GoLemmas.{distance}
+use Rattle.fab_replay.proofs.windows.check_windows.Given as goal
+
+abbrev pub invariant-windows : goal.invariant-windows
+invariant-windows g l =
+    let seen = g.D.Depot.seen in
+    record {
+      turns : (k : Task) → k.bytes ≡ l.journal → Going k 0 l.first l.fn.fabric l.fn.place (seen l.fn.depot) l.fn.ins l.fn.shelves l.fn.budget → (v : ℕ) × Going k v l.first l.fabric l.place (seen l.depot) l.ins l.shelves l.budget;
+      settings : l.fabric.settings ≡ l.fn.fabric.settings;
+    }
+
+abbrev pub decreases-windows : goal.decreases-windows
+decreases-windows g l = distance (2 ^ 43) l.fabric.state.tables.clock

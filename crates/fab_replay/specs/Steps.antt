@@ -1,0 +1,133 @@
+-- What stands between two lines of a journal, while a window of the captures is checked. No public clause cites this module.
+use Rattle.std.specs.Prelude.{◌≡◌, ℕ, ◌+◌, ◌-◌, ◌≤◌, ◌<◌, IfSome, List, ◌++◌, length, drop, Option, Some, option_to_list, slice_get}
+use Rattle.fab_base.specs.declared.values.Caught.{Caught}
+use Rattle.fab_config.specs.Settings.{Settings}
+use Rattle.pcap_file.specs.declared.Record.{Record}
+use Rattle.fab_policy.specs.Growing.{AreFrom}
+use Rattle.fab_policy.specs.Journal.{Journal, clock}
+use Rattle.fab_policy.specs.Legal.{IsNextTick, left_of, of_port}
+use Rattle.fab_policy.specs.Standing.{Contents, Stands}
+use Rattle.fab_policy.specs.State.{Tables}
+use Rattle.fab_policy.specs.Verdicts.{IsRight}
+use Rattle.fab_policy.specs.declared.verdict.Verdict.{Verdict}
+use Rattle.fab_gather.specs.Port.{AreIn}
+use Rattle.fab_gather.specs.declared.shelf.Shelf.{Shelf}
+use Rattle.fab_replay.specs.Front.{IsFront, IsFirstWrong}
+use Rattle.fab_replay.specs.Lines.{IsBehind, number_behind}
+use Rattle.fab_replay.specs.declared.fault.CheckFault.{CheckFault}
+use Rattle.fab_replay.specs.declared.fault.CheckFault.TheVariants as fault
+use Rattle.fab_replay.specs.declared.fault.LineWhy.TheVariants as why
+use Rattle.fab_replay.specs.declared.lines.Place.{Place}
+
+-- What a journal is checked against, and its text.
+pub record Scene : Type 0 where
+  pub settings : Settings
+  pub records : List (List Record)
+  pub bytes : List ℕ
+
+-- The lines before a place are right, and a fabric stands for their entries.
+pub record IsReached (x : Scene) (J : Journal) (F : Contents) (p : Place) : Type 0 where
+  pub front : IsFront x.settings x.records J
+  pub behind : IsBehind x.bytes p J
+  pub stands : Stands F J
+  pub settings : F.settings ≡ x.settings
+  pub count : F.count ≡ length x.records
+
+-- A fault of a line is the first; none of another kind comes here but want of memory.
+abbrev pub IsFound : Scene → CheckFault → Type 0
+IsFound x (fault.Line line why) = IsFirstWrong x.settings x.records x.bytes line why
+IsFound x fault.Memory = Unit {0}
+IsFound x _ = ⊥
+
+-- the entries of each port are the same in two journals
+abbrev pub HoldSame : Journal → Journal → Type 0
+HoldSame J K = (port : ℕ) → of_port port K ≡ of_port port J
+
+-- ---- ticks
+
+-- A moment is the next tick of a fabric on the way to a window.
+pub record IsTickOf (w : ℕ) (F : Contents) (m : ℕ) : Type 0 where
+  pub above : IfSome F.state.tables.clock (λ t. t < m)
+  pub within : m ≤ w
+  pub next : (J : Journal) → Stands F J → IsNextTick F.settings J w m
+
+-- ---- frames
+
+-- how many records of a capture stand before those on its shelf
+abbrev pub first_of : Shelf → ℕ
+first_of s = s.count - length (option_to_list s.next) - length s.batch.items
+
+-- So many records of a port's shelf have lines, and behind those that have none come only later windows.
+pub record IsPortIn (x : Scene) (w : ℕ) (J : Journal) (q : ℕ) (s : Shelf) (done : ℕ) : Type 0 where
+  pub records : List Record
+  pub are : slice_get x.records q ≡ Some records
+  pub own : AreIn x.settings w s.batch.items
+  pub few : done ≤ length s.batch.items
+  pub later : List Record
+  pub left : left_of (q + 1) records J ≡ drop done s.batch.items ++ later
+  pub from : AreFrom x.settings (w + 1) later
+  pub count : length (of_port (q + 1) J) ≡ first_of s + done
+
+-- a port's shelf and how many of its records have lines, by their place
+pub record At (q : ℕ) (shelves : List Shelf) (done : List ℕ) (s : Shelf) (k : ℕ) : Type 0 where
+  pub shelf : slice_get shelves q ≡ Some s
+  pub done_ : slice_get done q ≡ Some k
+
+-- the same of each port
+pub record IsWindow (x : Scene) (w : ℕ) (J : Journal) (shelves : List Shelf) (done : List ℕ) : Type 0 where
+  pub width : length shelves ≡ length x.records
+  pub ports : (q : ℕ) (s : Shelf) (k : ℕ) → At q shelves done s k → IsPortIn x w J q s k
+  pub clock_ : clock J ≡ Some w
+
+-- The record of a port is the next one on its shelf, with this index; a line that tells the clock tells this one.
+pub record IsOnShelf (shelves : List Shelf) (done : List ℕ) (w port index : ℕ) (told : Option ℕ) (r : Record) : Type 0 where
+  pub place : ℕ
+  pub is : port ≡ place + 1
+  pub shelf : Shelf
+  pub done_ : ℕ
+  pub at : At place shelves done shelf done_
+  pub record_ : slice_get shelf.batch.items done_ ≡ Some r
+  pub number : index ≡ first_of shelf + done_
+  pub clock_ : IfSome told (λ t. t ≡ w)
+
+-- a record of some port has no line yet
+pub record HasLeft (shelves : List Shelf) (done : List ℕ) : Type 0 where
+  pub port : ℕ
+  pub shelf : Shelf
+  pub done_ : ℕ
+  pub at : At port shelves done shelf done_
+  pub more : done_ < length shelf.batch.items
+
+-- a record of a port has no line yet
+abbrev pub IsLeft : List Shelf → List ℕ → ℕ → Type 0
+IsLeft shelves done q = (s : Shelf) × (k : ℕ) × At q shelves done s k × (k < length s.batch.items)
+
+-- each record of a port has a line
+abbrev pub IsDone : List Shelf → List ℕ → ℕ → Type 0
+IsDone shelves done q = (s : Shelf) (k : ℕ) → At q shelves done s k → length s.batch.items ≤ k
+
+-- each record of every port has a line
+abbrev pub AllDone : List Shelf → List ℕ → Type 0
+AllDone shelves done = (q : ℕ) → IsDone shelves done q
+
+-- ---- a frame as its line says
+
+-- Why a frame isn't handled as its line says: its verdict isn't right over these tables, and another one is; or memory was
+-- refused.
+abbrev pub IsRefused : Settings → Tables → Place → ℕ → Caught → Verdict → CheckFault → Type 0
+IsRefused c T p port caught verdict (fault.Line n (why.Verdict found made)) =
+    (n ≡ number_behind p.format p.entries) × (found ≡ verdict) × (IsRight c T port caught found → ⊥) × IsRight c T port caught made
+IsRefused c T p port caught verdict fault.Memory = Unit {0}
+IsRefused c T p port caught verdict _ = ⊥
+
+-- ---- a window
+
+-- What is on the shelves when a window was gathered, of which no frame has a line yet: some record of the window is there.
+pub record IsGathered (x : Scene) (w : ℕ) (J : Journal) (shelves : List Shelf) : Type 0 where
+  pub width : length shelves ≡ length x.records
+  pub ports : (q : ℕ) (s : Shelf) → slice_get shelves q ≡ Some s → IsPortIn x w J q s 0
+  pub some : (q : ℕ) × (s : Shelf) × (slice_get shelves q ≡ Some s) × (0 < length s.batch.items)
+
+-- each frame on the shelves has a line
+abbrev pub AreCounted : Journal → List Shelf → Type 0
+AreCounted J shelves = (q : ℕ) (s : Shelf) → slice_get shelves q ≡ Some s → length (of_port (q + 1) J) ≡ first_of s + length s.batch.items

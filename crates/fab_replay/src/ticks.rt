@@ -1,0 +1,149 @@
+//! The lines of ticks.
+ghost use Rattle.std.specs.Prelude.{IfErr, ◌≡◌, ◌<◌, ◌≤◌, ◌%◌, ◌^◌, ◌∷◌, [], ℕ, List, IfSome, MatchOption, MatchResult, MatchBool, OnOk, Some, true};
+ghost use Rattle.fab_policy.specs.Journal.{Journal};
+ghost use Rattle.fab_policy.specs.Legal.{IsLeastOf, IsNextTick, windows_left};
+ghost use Rattle.fab_policy.specs.declared.event.Event.TheVariants as event;
+ghost use Rattle.fab_policy.specs.declared.line.Line.TheVariants as line_;
+ghost use Rattle.fab_replay.specs.Front.{expects_tick};
+ghost use Rattle.fab_replay.specs.Lines.{IsInside, IsOfLine};
+ghost use Rattle.fab_replay.specs.Steps.{HoldSame, IsFound, IsReached, IsTickOf, Scene};
+
+use crate::lines::{fault_at, next_line};
+use crate::{CheckFault, LineWhy, Place};
+use fab_base::{IdList, Moment};
+use fab_policy::{Event, Line, Verdict, ticks_are_due};
+use forward_core::{EventList, Fabric};
+use std::alloc::Global;
+
+/// Checks the lines of the ticks up to a window, and makes the ticks.
+pub(crate) fn check_ticks(
+    alloc: Global,
+    fabric: &mut Fabric,
+    journal: &[u8],
+    place: &mut Place,
+    window: u64,
+) -> Result<(), CheckFault>
+    requires inside { IsInside journal.now place.old }
+    requires range { window < 2 ^ 63 }
+    requires start { window % fabric.old.settings.window ≡ 0 }
+    requires order { IfSome fabric.old.state.tables.clock (λ t. t ≤ window) }
+    requires idle { fabric.old.events ≡ [] }
+    ensures checks { (x : Scene) (J : Journal) → x.bytes ≡ journal.now
+        → IsReached x J fabric.old place.old
+        → IsLeastOf (windows_left x.settings 1 x.records J) window
+        → MatchResult result
+        (λ _. (K : Journal) × IsReached x K fabric.new place.new × HoldSame J K)
+        (λ e. IsFound x e) }
+    ensures inside { OnOk result (IsInside journal.now place.new) }
+    ensures clock { OnOk result (fabric.new.state.tables.clock ≡ Some window) }
+    ensures settings { (fabric.new.settings ≡ fabric.old.settings)
+        × (fabric.new.count ≡ fabric.old.count) }
+    ensures idle { OnOk result (fabric.new.events ≡ []) }
+    ensures only { IfErr result IsOfLine }
+{
+    let _verdicts: &[Verdict] = &[];
+    let _whys: &[LineWhy] = &[];
+    'ticks: while let Some(moment) = next_tick(fabric, window) {
+        check_tick(alloc, fabric, journal, place, moment)?;
+    }
+    Ok(())
+}
+
+// Checks the line of a tick, and makes the tick.
+fn check_tick(
+    alloc: Global,
+    fabric: &mut Fabric,
+    journal: &[u8],
+    place: &mut Place,
+    moment: Moment,
+) -> Result<(), CheckFault>
+    requires inside { IsInside journal.now place.old }
+    requires range { moment < 2 ^ 63 }
+    requires order { IfSome fabric.old.state.tables.clock (λ t. t < moment) }
+    requires idle { fabric.old.events ≡ [] }
+    ensures checks { (x : Scene) (J : Journal) (w : ℕ) → x.bytes ≡ journal.now
+        → IsReached x J fabric.old place.old
+        → IsLeastOf (windows_left x.settings 1 x.records J) w → IsNextTick x.settings J w moment
+        → expects_tick x.settings x.records J ≡ true
+        → MatchResult result
+        (λ _. (ended : List ℕ) × IsReached x (event.Tick moment ended ∷ J) fabric.new place.new)
+        (λ e. IsFound x e) }
+    ensures inside { OnOk result (IsInside journal.now place.new) }
+    ensures onward { OnOk result (place.old.at < place.new.at) }
+    ensures clock { OnOk result (fabric.new.state.tables.clock ≡ Some moment) }
+    ensures settings { (fabric.new.settings ≡ fabric.old.settings)
+        × (fabric.new.count ≡ fabric.old.count) }
+    ensures idle { OnOk result (fabric.new.events ≡ []) }
+    ensures only { IfErr result IsOfLine }
+{
+    let before = *place;
+    let line = next_line(alloc, journal, place)?;
+    fabric.tick(alloc, moment)?;
+    let drained = fabric.drain();
+    if !is_line_of(&line, &drained.events) {
+        return Err(fault_at(&before, LineWhy::Tick));
+    }
+    Ok(())
+}
+
+// Whether a line is that of the one entry in a list, which is a tick.
+fn is_line_of(line: &Line, events: &EventList) -> bool
+    ensures { (moment : ℕ) (ended : List ℕ) → events.now ≡ event.Tick moment ended ∷ []
+        → MatchBool result (line.now ≡ line_.Tick moment ended)
+        (line.now ≡ line_.Tick moment ended → ⊥) }
+{
+    match (line, events.at(0)) {
+        (
+            Line::Tick { moment, ended },
+            Some(
+                Event::Tick {
+                    moment: at,
+                    ended: ends,
+                },
+            ),
+        ) => moment.0 == at.0 && are_same(ended, ends),
+        _ => false,
+    }
+}
+
+// Whether two lists have the same addresses.
+fn are_same(one: &IdList, other: &IdList) -> bool
+    ensures { MatchBool result (one.now ≡ other.now) (one.now ≡ other.now → ⊥) }
+{
+    if one.len() != other.len() {
+        return false;
+    }
+    let mut place = 0;
+    'places: while place < one.len() {
+        let address = one.at(place).unwrap();
+        let same = other.at(place).unwrap();
+        if address.value() != same.value() {
+            return false;
+        }
+        place += 1;
+    }
+    true
+}
+
+// The next tick on the way to a window, and none where the clock stands there.
+fn next_tick(fabric: &Fabric, window: u64) -> Option<Moment>
+    requires start { window % fabric.now.settings.window ≡ 0 }
+    requires order { IfSome fabric.now.state.tables.clock (λ t. t ≤ window) }
+    ensures { MatchOption result (fabric.now.state.tables.clock ≡ Some window)
+        (λ m. IsTickOf window fabric.now m) }
+{
+    ticks_are_due();
+    let Some(clock) = fabric.clock() else {
+        return Some(Moment(window));
+    };
+    if clock.0 == window {
+        return None;
+    }
+    let Some(due) = fabric.due() else {
+        unreachable!()
+    };
+    if due.0 < window {
+        return Some(due);
+    }
+    Some(Moment(window))
+}
