@@ -18,7 +18,7 @@ impl<'a> Depot for Output<'a> {
       told = false;
       knows = λ _. true;
       input = λ _. true;
-      output = λ _. false;
+      output = λ _. true;
       name = λ s. s ∷ [];
       file = λ _. None;
       left = λ _. [];
