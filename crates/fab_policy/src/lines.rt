@@ -219,7 +219,8 @@ fn digit(value: u8) -> u8
 // A word and an address.
 fn put_addressed(word: &str, address: &FcId, line: &mut FrameLine)
     requires room { array_vec_len line.old + (length word.now + 7) ≤ FRAME_LINE }
-    ensures text { line.new.items ≡ line.old.items ++ (word.now ++ then_word (address_word address.now)) }
+    ensures text { line.new.items
+        ≡ line.old.items ++ (word.now ++ then_word (address_word address.now)) }
     ensures size { array_vec_len line.new ≡ array_vec_len line.old + (length word.now + 7) }
 {
     put(line, word.as_bytes());

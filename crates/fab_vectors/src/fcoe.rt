@@ -188,7 +188,8 @@ fn write_payload(
     out: &mut Vec<u8>,
 ) -> Result<(), NoMemory>
     requires { IsPayload payload.now }
-    ensures ok { OnOk result (out.new.items ≡ out.old.items ++ spec.fcoe_frame head.now payload.now) }
+    ensures ok { OnOk result (out.new.items
+        ≡ out.old.items ++ spec.fcoe_frame head.now payload.now) }
     ensures size { OnOk result (length (spec.fcoe_frame head.now payload.now) ≤ 65535) }
 {
     let body = body_of(alloc, head, payload)?;
