@@ -114,6 +114,15 @@ unfolding has
 has-full n q within =
     ap (λ (m : ℕ). eqb (bit_at m (q % 64)) 1) (get_or-replicate n (q / 64) (2 ^ 64 - 1) 0 within) ∙ ap (λ (m : ℕ). eqb m 1) (bit_at_ones 64 (q % 64) (omega arith))
 
+-- no bit
+pub has-empty : (n q : ℕ) → has (replicate n 0) q ≡ false
+unfolding has
+has-empty n q = by (cases_lt (q / 64) n)
+  where
+    by : (q / 64 < n) ⊎ (n ≤ q / 64) → eqb (bit_at (get_or (replicate n 0) (q / 64) 0) (q % 64)) 1 ≡ false
+    by (inl lt) = ap (λ (m : ℕ). eqb (bit_at m (q % 64)) 1) (get_or-replicate n (q / 64) 0 0 lt) ∙ ap (λ (m : ℕ). eqb m 1) (bit_at-zero (q % 64))
+    by (inr ge) = ap (λ (m : ℕ). eqb (bit_at m (q % 64)) 1) (get_or_past (replicate n 0) (q / 64) 0 (omega (arith, ge, length-replicate {A = ℕ} n 0))) ∙ ap (λ (m : ℕ). eqb m 1) (bit_at-zero (q % 64))
+
 -- ---- the next bit
 
 is_one : (n : ℕ) → 0 < n → n < 2 → eqb n 1 ≡ true

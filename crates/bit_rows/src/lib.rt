@@ -1,7 +1,7 @@
 //! Rows of bits, one for each place of a list, in words of 64.
 #![tactic(auto)]
 
-ghost use Rattle.std.specs.Prelude.{◌≡◌, ◌==◌, ◌&&◌, ◌||◌, ◌<◌, ◌^◌, ◌/◌, not, ℕ, ◌+◌, true, length, OnOk, IfOk};
+ghost use Rattle.std.specs.Prelude.{◌≡◌, ◌==◌, ◌&&◌, ◌||◌, ◌<◌, ◌≤◌, ◌^◌, ◌/◌, not, ℕ, ◌+◌, true, false, length, OnOk, IfOk};
 ghost use Rattle.std.specs.Bool.{OnTrue, OnFalse};
 ghost use Rattle.bit_rows.specs.Row.{has, IsCommon, HasNone, IsNextBit};
 
@@ -65,9 +65,18 @@ pub fn full_row(alloc: Global, places: u32) -> Result<Row, AllocError>
     Ok(row)
 }
 
+/// A row for this many places, of which none is set.
+pub fn empty_row(alloc: Global, places: usize) -> Result<Row, AllocError>
+    ensures bits { IfOk result (λ row. (q : ℕ) → has row.items q ≡ false) }
+    ensures words { IfOk result (λ row. length row.items ≡ places / 64 + 1) }
+{
+    let row = vec![in alloc; 0; places / 64 + 1]?;
+    Ok(row)
+}
+
 /// The least place from this one on whose bit is set.
 pub fn next_bit(row: &[u64], from: usize) -> Option<usize>
-    requires { length row.now < 2 ^ 32 }
+    requires { length row.now ≤ 2 ^ 58 }
     ensures { IsNextBit row.now from result }
 {
     let word = from / 64;
