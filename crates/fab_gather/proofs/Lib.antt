@@ -7,3 +7,5 @@ pub mod LookLemmas
 pub mod FirstLemmas
 pub mod NextLemmas
 pub mod ReadLemmas
+pub mod GatherLemmas
+pub mod ClockLemmas

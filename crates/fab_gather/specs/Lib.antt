@@ -3,3 +3,4 @@ pub mod Ports
 pub mod First
 pub mod Reads
 pub mod Laws
+pub mod Gather

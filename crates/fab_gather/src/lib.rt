@@ -3,6 +3,7 @@
 
 mod fault;
 mod first;
+mod gathering;
 mod laws;
 mod port;
 mod ports;
@@ -13,6 +14,7 @@ mod window;
 
 pub use fault::{CapWhy, LimitKind, RunFault};
 pub use first::first_looks;
+pub use gathering::gather;
 pub use laws::{looks_to_come, records_are_read, windows_move_on};
 pub use ports::take_windows;
 pub use shelf::{Input, Shelf};

@@ -1,0 +1,60 @@
+-- A window that is gathered, which may start too long after the first.
+use Rattle.std.proofs.Common.{◌≡◌, ℕ, ◌-◌, List, length, Some, Result, Ok, Err, refl, true, false}
+use Rattle.std.specs.Prelude.{nat_lt}
+use Rattle.fab_base.specs.Seen.{Seen, Nothing}
+use Rattle.fab_base.proofs.SeenLemmas.{touches_refl}
+use Rattle.fab_config.specs.Settings.{Settings}
+use Rattle.fab_policy.specs.declared.looks.TheConstants.{MOST_SPAN}
+use Rattle.pcap_file.specs.declared.Budget.{Budget}
+use Rattle.fab_gather.specs.declared.shelf.Input.{Input}
+use Rattle.fab_gather.specs.declared.shelf.Shelf.{Shelf}
+use Rattle.fab_gather.specs.declared.fault.LimitKind.TheVariants as limit
+use Rattle.fab_gather.specs.declared.fault.RunFault.{RunFault}
+use Rattle.fab_gather.specs.declared.fault.RunFault.TheVariants as fault
+use Rattle.fab_gather.specs.First.{IsNextWindow}
+use Rattle.fab_gather.specs.Laws.{LateEnds}
+use Rattle.fab_gather.specs.Ports.{NameIn, slots_of, AreReady, TakesAll}
+use Rattle.fab_gather.specs.Gather.{Gathers}
+
+module _ (c : Settings) (first w : ℕ) where
+  pub gathers_late : (late : LateEnds) (d : Seen) (ins : List Input) (shelves : List Shelf) (left : Budget) → length shelves ≡ length ins → AreReady c w ins shelves left →
+      IsNextWindow c shelves (Some w) → nat_lt MOST_SPAN (w - first) ≡ true → Gathers c first w d d ins ins shelves shelves left left (Err (fault.Limit limit.Span))
+  gathers_late late d ins shelves left count ready next is = record {
+    touches = touches_refl Nothing (NameIn d (slots_of ins)) d;
+    slots = refl;
+    count = refl;
+    ready = tt;
+    took = tt;
+    spent = tt;
+    looks = λ told. tt;
+    stops = λ told stops. late c first w w d ins shelves left count ready next is;
+    cause = λ x. absurd (cc);
+    only = λ x. absurd (cc);
+  }
+
+  pub gathers_all : (a b : Seen) (ins ins' : List Input) (shelves shelves' : List Shelf) (had left : Budget) (r : Result (Unit {0}) RunFault) → nat_lt MOST_SPAN (w - first) ≡ false →
+      TakesAll c w a b ins ins' shelves shelves' had left r → Gathers c first w a b ins ins' shelves shelves' had left r
+  gathers_all a b ins ins' shelves shelves' had left (Ok u) in_time t = record {
+    touches = t.touches;
+    slots = t.slots;
+    count = t.count;
+    ready = t.ready;
+    took = t.took;
+    spent = t.spent;
+    looks = λ told. t.looks told first in_time;
+    stops = λ told. tt;
+    cause = t.cause;
+    only = tt;
+  }
+  gathers_all a b ins ins' shelves shelves' had left (Err e) in_time t = record {
+    touches = t.touches;
+    slots = t.slots;
+    count = t.count;
+    ready = tt;
+    took = tt;
+    spent = tt;
+    looks = λ told. tt;
+    stops = λ told stops. t.stops told stops first in_time;
+    cause = t.cause;
+    only = t.only;
+  }

@@ -1,0 +1,39 @@
+//! The next window of captures, which may start too long after the first.
+ghost use Rattle.std.specs.Prelude.{◌≡◌, ◌≤◌, Some, length};
+ghost use Rattle.fab_gather.specs.First.{IsNextWindow};
+ghost use Rattle.fab_gather.specs.Gather.{Gathers};
+ghost use Rattle.fab_gather.specs.Ports.{AreInputs, AreReady, slots_of};
+
+use crate::{Input, LimitKind, RunFault, Shelf, looks_to_come, take_windows};
+use fab_base::Depot;
+use fab_config::Config;
+use fab_policy::MOST_SPAN;
+use pcap_file::Budget;
+use std::alloc::Global;
+
+/// Takes the records of the next window, unless it starts more than the most span of milliseconds
+/// after the first one. On Err the shelves hold some of them.
+pub fn gather<D: Depot>(
+    alloc: Global,
+    depot: &mut D,
+    config: &Config,
+    first: u64,
+    window: u64,
+    ins: &mut [Input],
+    shelves: &mut [Shelf],
+    budget: &mut Budget,
+) -> Result<(), RunFault>
+    requires count { length shelves.old ≡ length ins.old }
+    requires ports { length ins.old ≤ 64 }
+    requires inputs { AreInputs (D.seen depot.old) (slots_of ins.old) }
+    requires ready { AreReady config.now window ins.old shelves.old budget.old }
+    requires next { IsNextWindow config.now shelves.old (Some window) }
+    ensures gathers { Gathers config.now first window (D.seen depot.old) (D.seen depot.new) ins.old
+        ins.new shelves.old shelves.new budget.old budget.new result }
+{
+    looks_to_come();
+    if window.saturating_sub(first) > MOST_SPAN {
+        return Err(RunFault::Limit(LimitKind::Span));
+    }
+    take_windows(alloc, depot, config, window, ins, shelves, budget)
+}
