@@ -24,14 +24,14 @@ use Rattle.fab_gather.specs.First.{IsNextWindow, LooksFirst, opened_in}
 use Rattle.fab_gather.specs.Ports.{slots_of, name_of, NameIn, AreInputs, AreReady, stop_from}
 use Rattle.fab_gather.specs.Reads.{HaveRead}
 use Rattle.fab_windows.specs.declared.Done.{Done}
-use Rattle.fab_windows.specs.Files.{AreFiles, Written, Pending, Hold, Wholes, Fronts, Writes, captures, piece_at}
+use Rattle.fab_windows.specs.Files.{AreFiles, Written, Pending, Hold, Wholes, Fronts, Writes, captures}
+use Rattle.fab_pages.specs.Pages.{piece_at}
 use Rattle.fab_windows.specs.Pages.{IsNothing}
 use Rattle.fab_windows.specs.Run.{AreGiven, Runs, Stopped}
-use Rattle.fab_windows.specs.Turns.{Laws, Task, captures_in, Touched, Begun, Reached, Going, Ended}
+use Rattle.fab_windows.specs.Turns.{Laws, Task, captures_in, Touched, Begun, Reached, Going, Ended, Finishes}
 use Rattle.fab_windows.proofs.EndLemmas.{whole_is_front, ends_before, stops_first, finished}
 use Rattle.fab_windows.proofs.PublishLemmas.{hold_all, flushed, flushed_front, write_cause}
 use Rattle.fab_windows.proofs.StayLemmas.{LeftStays, inputs_stay, input_name_in, hold_stays, length-slots, same_ports, writing_leaves}
-use Rattle.fab_windows.proofs.TickLemmas.{distance}
 use Rattle.fab_windows.proofs.TurnLemmas.{ended, ended_writing, files_now, reached_on}
 
 -- a capture with these bytes left in its file
@@ -257,7 +257,7 @@ module _ (laws : Laws) (k : Task) (w first : ℕ) (F : Contents) (d : Seen) (ins
   files_end = files_now laws k w first F d ins shelves left g.reached
 
   -- what was still to be written is
-  pub ended_well : Writes k.journal k.outs p.lines p.pieces d z (Ok tt) → Runs k.settings k.budget k.ins k.seen z k.journal k.outs (Ok done)
+  ended_well : Writes k.journal k.outs p.lines p.pieces d z (Ok tt) → Runs k.settings k.budget k.ins k.seen z k.journal k.outs (Ok done)
   ended_well x =
       let r = reached_on laws k w first F d ins shelves left g.reached z x.touches in
       record {
@@ -271,23 +271,19 @@ module _ (laws : Laws) (k : Task) (w first : ℕ) (F : Contents) (d : Seen) (ins
       }
 
   -- or can't be
-  pub ended_broken : (f : Failed) → Writes k.journal k.outs p.lines p.pieces d z (Err f) → Ended k z fault.Write
+  ended_broken : (f : Failed) → Writes k.journal k.outs p.lines p.pieces d z (Err f) → Ended k z fault.Write
   ended_broken f x =
       ended_writing laws k w first F d ins shelves left g.reached z x.touches fault.Write tt
       (λ told. flushed_front p d z k.journal k.outs (text g.reached.entry_list) (captures k.settings (length k.outs) g.reached.entry_list) (told_end told) (g.files told) x)
       (λ y. write_cause k.journal k.outs p.lines p.pieces d z f x)
 
+  pub ended_by : (r : Result Done RunFault) → Finishes k.journal k.outs p done d z r → Runs k.settings k.budget k.ins k.seen z k.journal k.outs r
+  ended_by (Ok told) h = subst (λ x. Runs k.settings k.budget k.ins k.seen z k.journal k.outs (Ok x)) (sym h.1) (ended_well h.0)
+  ended_by (Err e) h = subst (Ended k z) (sym h.2) (ended_broken h.0 h.1)
+
 -- the captures are still open when the heads are written
 pub inputs_heads : (d : Seen) (ins : List Input) (journal : ℕ) (outs : List ℕ) → AreGiven d ins journal outs → (b : Seen) {lines : List ℕ} {pieces : List (List ℕ)} {r : Result (Unit {0}) Failed} → Writes journal outs lines pieces d b r → AreInputs b (slots_of ins)
 inputs_heads d ins journal outs given b w = inputs_stay (Written d journal outs) (Written d journal outs) d b w.touches (slots_of ins) given.inputs
-
--- the clock comes nearer to the end of time
-pub nearer : (n w : ℕ) (old new : Option ℕ) → IfSome old (λ t. t < w) → w < n → new ≡ Some w → distance n new < distance n old
-nearer n w old new h lt is = subst (λ o. distance n o < distance n old) (sym is) (go old h)
-  where
-    go : (o : Option ℕ) → IfSome o (λ t. t < w) → distance n (Some w) < distance n o
-    go None b = omega (arith, lt)
-    go (Some t) b = omega (arith, b, lt)
 
 -- the next window, by the code's own configuration and its own list of shelves
 pub next_as : (c d : Settings) (l shelves : List Shelf) (o : Option ℕ) → c ≡ d → l ≡ shelves → IsNextWindow c l o → IsNextWindow d shelves o

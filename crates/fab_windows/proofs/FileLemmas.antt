@@ -9,7 +9,8 @@ use Rattle.fab_base.proofs.SeenLemmas.{rose_later, touches_refl, touches_trans, 
 use Rattle.fab_policy.specs.Written.{IsPrefixOf}
 use Rattle.pcap_file.proofs.lemmas.Numbers.{le_or_lt}
 use Rattle.fab_gather.specs.Ports.{slot_at, name_of, NameIn}
-use Rattle.fab_windows.specs.Files.{AreOutputs, items_in, piece_at, PutsEach, Hold, Written, AreFiles, Writes}
+use Rattle.fab_pages.specs.Pages.{piece_at}
+use Rattle.fab_windows.specs.Files.{AreOutputs, PutsEach, Hold, Written, AreFiles, Writes}
 
 -- ---- a piece to each
 
@@ -111,12 +112,6 @@ put_all_of slots pieces k a b le p = record {
     take_all : (l : List ℕ) → take (length l) l ≡ l
     take_all [] = refl
     take_all (x ∷ l) = ap (λ m. x ∷ m) (take_all l)
-
--- the piece at a place of the code's list
-pub piece-item : (l : List (Vec ℕ Global)) (i : ℕ) (v : Vec ℕ Global) → i < length l → v ≡ get_or l i v → v.items ≡ piece_at (items_in l) i
-piece-item [] i v lt is = absurd (omega arith)
-piece-item (x ∷ l) zero v lt is = ap (λ (y : Vec ℕ Global). y.items) is
-piece-item (x ∷ l) (suc i) v lt is = piece-item l i v (omega arith) is
 
 -- ---- the journal, and then the outputs
 

@@ -1,5 +1,5 @@
 -- A window that was gathered and handled: what stands after it, before and behind its writing.
-use Rattle.std.proofs.Common.{◌≡◌, ℕ, suc, ◌+◌, ◌^◌, ◌<◌, List, [], ◌∷◌, ◌++◌, length, map, Option, Some, IfSome, IsTrue, Result, Ok, Err, take, drop, refl, sym, ap, ◌∙◌, subst, arith}
+use Rattle.std.proofs.Common.{◌≡◌, ℕ, suc, ◌+◌, ◌^◌, ◌<◌, List, [], ◌∷◌, ◌++◌, length, map, Option, Some, IfSome, IsTrue, Result, Ok, Err, inl, inr, take, drop, refl, sym, ap, ◌∙◌, subst, arith}
 use Rattle.std.specs.Prelude.{unwrap_or}
 use Rattle.fab_base.specs.Seen.{Seen, Touches, Nothing}
 use Rattle.fab_base.specs.declared.values.Failed.{Failed}
@@ -25,13 +25,15 @@ use Rattle.fab_gather.specs.Ports.{slots_of, NameIn, counts_of}
 use Rattle.fab_gather.specs.Reads.{HaveRead, batches_of}
 use Rattle.fab_windows.specs.declared.Done.{Done}
 use Rattle.fab_windows.specs.Files.{AreFiles, Pending, WholesBut, Writes, captures}
-use Rattle.fab_windows.specs.Pages.{AreEarly}
+use Rattle.fab_pages.specs.Pages.{AreEarly}
+use Rattle.fab_windows.specs.Pages.{FlushedFor}
 use Rattle.fab_windows.specs.Steps.{Sofar}
-use Rattle.fab_windows.specs.Turns.{Laws, Task, captures_in, Reached, Going, Gathered, Ended, Gathers, Handles, Publishes}
+use Rattle.fab_windows.specs.Turns.{Laws, Task, captures_in, Reached, Going, Gathered, Ended, Handles, Publishes}
+use Rattle.fab_gather.specs.Gather.{Gathers}
 use Rattle.fab_windows.specs.Window.{Ticked, Handled, firsts_of}
 use Rattle.fab_windows.proofs.CountLemmas.{frames_found, entries_few, length-followed, frames-followed}
 use Rattle.fab_windows.proofs.SentLemmas.{NotAfter, outs_are, outs_early, early, clock_is}
-use Rattle.fab_windows.proofs.PageLemmas.{front_of}
+use Rattle.fab_pages.proofs.PageLemmas.{front_of}
 use Rattle.fab_windows.proofs.StayLemmas.{same_ports}
 use Rattle.fab_windows.proofs.FileLemmas.{files_stay}
 use Rattle.fab_windows.proofs.TurnLemmas.{read_touches, reached_on, ended_writing, ended_gathering, ended_closing, ended_unwritten, but_on, files_now}
@@ -179,11 +181,15 @@ files_then laws k w first F d ins shelves left done p g b u = files_stay Nothing
 
 module _ (laws : Laws) (k : Task) (w first : ℕ) (F : Contents) (d : Seen) (ins : List Input) (shelves : List Shelf) (left : Budget) (done : Done) (p : Pending) (g : Going k w first F d ins shelves left done p) (b : Seen) (ins' : List Input) (shelves' : List Shelf) (left' : Budget) where
   module _ (e : RunFault) (t : Gathers k.settings first w d b ins ins' shelves shelves' left left' (Err e)) (z : Seen) where
-    pub turn_stops : Writes k.journal k.outs p.lines p.pieces b z (Ok tt) → Ended k z e
+    turn_stops : Writes k.journal k.outs p.lines p.pieces b z (Ok tt) → Ended k z e
     turn_stops = ended_gathering laws k w first F d ins shelves left g.reached p g.files b ins' shelves' left' e t z
 
-    pub turn_breaks : (f : Failed) → Writes k.journal k.outs p.lines p.pieces b z (Err f) → Ended k z fault.Write
+    turn_breaks : (f : Failed) → Writes k.journal k.outs p.lines p.pieces b z (Err f) → Ended k z fault.Write
     turn_breaks = ended_closing laws k w first F d ins shelves left g.reached b t.touches p g.files z
+
+    pub turn_ends : (told : RunFault) → FlushedFor k.journal k.outs p b z e told → Ended k z told
+    turn_ends told (inl x) = subst (Ended k z) (sym x.1) (turn_stops x.0)
+    turn_ends told (inr x) = subst (Ended k z) (sym x.2) (turn_breaks x.0 x.1)
 
   module _ (t : Gathers k.settings first w d b ins ins' shelves shelves' left left' (Ok tt)) where
     pub turn_refused : Ended k b fault.Memory

@@ -13,6 +13,5 @@ pub mod CountLemmas
 pub mod TurnLemmas
 pub mod GoLemmas
 pub mod BeginLemmas
-pub mod GatherLemmas
-pub mod PageLemmas
+pub mod LineLemmas
 pub mod PublishLemmas

@@ -8,7 +8,8 @@ use Rattle.fab_policy.specs.Growing.{records_to}
 use Rattle.fab_policy.specs.Outputs.{Sent}
 use Rattle.fab_gather.specs.declared.fault.RunFault.TheVariants as fault
 use Rattle.fab_gather.specs.Ports.{name_of}
-use Rattle.fab_windows.specs.Files.{Written, Pending, Hold, HoldBut, HoldFronts, Writes, piece_at}
+use Rattle.fab_windows.specs.Files.{Written, Pending, Hold, HoldBut, HoldFronts, Writes}
+use Rattle.fab_pages.specs.Pages.{piece_at}
 use Rattle.fab_windows.specs.Pages.{IsNothing}
 use Rattle.fab_windows.specs.Turns.{Publishes}
 

@@ -12,7 +12,7 @@ use Rattle.fab_policy.proofs.Standing.{stands_older}
 use Rattle.fab_replies.specs.Message.{sent_of}
 use Rattle.fab_replies.specs.declared.message.Out.{Out}
 use Rattle.pcap_file.specs.declared.Record.{Record}
-use Rattle.fab_windows.specs.Pages.{AreEarly}
+use Rattle.fab_pages.specs.Pages.{AreEarly}
 use Rattle.fab_windows.specs.Turns.{Laws}
 use Rattle.fab_windows.specs.Window.{AreTicksTo, Ticked, Handled}
 

@@ -17,11 +17,6 @@ same_clock F J s = ap (λ (S : State). S.tables.clock) s.state
 
 -- ---- the ticks so far
 
--- how many moments are left up to a window
-abbrev pub distance : ℕ → Option ℕ → ℕ
-distance w None = w + 1
-distance w (Some t) = w - t
-
 -- Some of the ticks were made: with those that are still to come they are ticks up to the window.
 pub record Ticking (w : ℕ) (F G : Contents) : Type 0 where
   pub settings : G.settings ≡ F.settings

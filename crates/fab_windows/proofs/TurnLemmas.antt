@@ -18,7 +18,8 @@ use Rattle.fab_gather.specs.Ports.{slots_of, name_of, NameIn, AreInputs, stop_fr
 use Rattle.fab_windows.specs.declared.Done.{Done}
 use Rattle.fab_windows.specs.Files.{AreFiles, Written, Pending, Wholes, WholesBut, Fronts, Writes, captures}
 use Rattle.fab_windows.specs.Run.{Interrupted, Stopped, Ends}
-use Rattle.fab_windows.specs.Turns.{Laws, Task, captures_in, Touched, Reached, Ended, Gathers, IsUnwritten}
+use Rattle.fab_windows.specs.Turns.{Laws, Task, captures_in, Touched, Reached, Ended, IsUnwritten}
+use Rattle.fab_gather.specs.Gather.{Gathers}
 use Rattle.fab_windows.proofs.EndLemmas.{interrupted, stopped}
 use Rattle.fab_windows.proofs.FileLemmas.{files_stay}
 use Rattle.fab_windows.proofs.PublishLemmas.{but_is_front, flushed, flushed_front, write_cause}

@@ -1,6 +1,5 @@
 -- The files of a run, and what writing to several files keeps and leaves.
-use Rattle.std.specs.Prelude.{◌≡◌, ◌≢◌, ℕ, zero, suc, ◌+◌, ◌<◌, ◌⊎◌, IsTrue, List, [], ◌∷◌, ◌++◌, length, take, map, Some, Result, OnOk, OnErr, Vec}
-use Rattle.std.specs.declared.alloc.Global.{Global}
+use Rattle.std.specs.Prelude.{◌≡◌, ◌≢◌, ℕ, ◌+◌, ◌<◌, ◌⊎◌, IsTrue, List, ◌++◌, length, take, Some, Result, OnOk, OnErr}
 use Rattle.fab_base.specs.Seen.{Seen, Rose, Touches}
 use Rattle.fab_base.specs.declared.values.Failed.{Failed}
 use Rattle.fab_config.specs.Settings.{Settings}
@@ -8,6 +7,7 @@ use Rattle.fab_policy.specs.Journal.{Journal}
 use Rattle.fab_policy.specs.Text.{text, egress}
 use Rattle.fab_policy.specs.Written.{IsPrefixOf}
 use Rattle.fab_gather.specs.Ports.{slot_at, name_of, NameIn}
+use Rattle.fab_pages.specs.Pages.{piece_at}
 
 -- ---- a piece to each of several files
 
@@ -15,16 +15,6 @@ use Rattle.fab_gather.specs.Ports.{slot_at, name_of, NameIn}
 pub record AreOutputs (d : Seen) (slots : List ℕ) : Type 0 where
   pub outputs : (q : ℕ) → q < length slots → IsTrue (d.output (slot_at slots q))
   pub differ : (p q : ℕ) → p < length slots → q < length slots → name_of d slots p ≡ name_of d slots q → p ≡ q
-
--- the bytes of each page
-abbrev pub items_in : List (Vec ℕ Global) → List (List ℕ)
-items_in pieces = map (λ v. v.items) pieces
-
--- the piece at a place, and nothing past the last
-abbrev pub piece_at : List (List ℕ) → ℕ → List ℕ
-piece_at [] q = []
-piece_at (x ∷ xs) zero = x
-piece_at (x ∷ xs) (suc q) = piece_at xs q
 
 -- Putting a piece to each of several outputs appends each to its file, or, where it fails, a front of each.
 pub record PutsEach (slots : List ℕ) (pieces : List (List ℕ)) (old new : Seen) (result : Result (Unit {0}) Failed) : Type 0 where

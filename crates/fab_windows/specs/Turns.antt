@@ -1,6 +1,7 @@
 -- What stands between the windows of a run, and what its parts do. No public clause cites this module.
-use Rattle.std.specs.Prelude.{◌≡◌, ◌≢◌, ℕ, ◌+◌, ◌<◌, ◌≤◌, ◌^◌, ◌⊎◌, IsTrue, IfSome, List, [], ◌++◌, length, map, Some, Result, Ok, Err, OnOk, IfErr, IsErrOf}
-use Rattle.fab_base.specs.Seen.{Seen, Touches, Nothing, Rose}
+use Rattle.std.specs.Prelude.{◌≡◌, ℕ, ◌+◌, ◌<◌, ◌≤◌, ◌^◌, ◌⊎◌, IsTrue, IfSome, List, [], ◌++◌, length, map, Some, Result, Ok, Err, OnOk, IfErr, IsErrOf}
+use Rattle.fab_base.specs.Seen.{Seen, Touches, Rose}
+use Rattle.fab_base.specs.declared.values.Failed.{Failed}
 use Rattle.fab_config.specs.Settings.{Settings}
 use Rattle.pcap_file.specs.declared.Budget.{Budget}
 use Rattle.pcap_file.specs.declared.Record.{Record}
@@ -19,12 +20,13 @@ use Rattle.fab_gather.specs.declared.shelf.Shelf.{Shelf}
 use Rattle.fab_gather.specs.declared.fault.RunFault.{RunFault}
 use Rattle.fab_gather.specs.declared.fault.RunFault.TheVariants as fault
 use Rattle.fab_gather.specs.First.{opened_in, IsNextWindow}
-use Rattle.fab_gather.specs.Laws.{LooksAhead, NextIsAhead, NextIsFirst, LateEnds, NoneIsLeft, WindowMoves, ReadsOn, ReadStays, ReadIsBelow, ReadSplits, ReadIsAll}
-use Rattle.fab_gather.specs.Port.{Spends, IsStopped, ending}
-use Rattle.fab_gather.specs.Ports.{slots_of, name_of, NameIn, AreReady, TookAll, rests, joined, counts_of, stop_from}
+use Rattle.fab_gather.specs.Gather.{Gathers}
+use Rattle.fab_gather.specs.Laws.{LooksAhead, NextIsAhead, NextIsFirst, NoneIsLeft, WindowMoves, ReadsOn, ReadStays, ReadIsBelow, ReadSplits, ReadIsAll}
+use Rattle.fab_gather.specs.Port.{Spends}
+use Rattle.fab_gather.specs.Ports.{slots_of, NameIn, AreReady, rests, joined, counts_of, stop_from}
 use Rattle.fab_gather.specs.Reads.{HaveRead, batches_of}
 use Rattle.fab_windows.specs.declared.Done.{Done}
-use Rattle.fab_windows.specs.Files.{Written, Pending, HoldBut, HoldFronts, Wholes, WholesBut}
+use Rattle.fab_windows.specs.Files.{Written, Writes, Pending, HoldBut, HoldFronts, Wholes, WholesBut}
 use Rattle.fab_windows.specs.Run.{AreGiven, Runs}
 use Rattle.fab_windows.specs.Steps.{Sofar, WindowIsRun, FirstsAreTaken}
 use Rattle.fab_windows.specs.Window.{Ticked, Handled, firsts_of}
@@ -50,7 +52,6 @@ pub record Laws : Type 0 where
   pub looks_ahead : LooksAhead
   pub next_ahead : NextIsAhead
   pub next_first : NextIsFirst
-  pub late_ends : LateEnds
   pub none_left : NoneIsLeft
   -- what was read
   pub moves : WindowMoves
@@ -133,20 +134,12 @@ pub record Begun (k : Task) (d : Seen) (ins : List Input) (shelves : List Shelf)
 abbrev pub Ended : Task → Seen → RunFault → Type 0
 Ended k d e = Runs k.settings k.budget k.ins k.seen d k.journal k.outs (Err e)
 
--- ---- one window
+-- Nothing is still to be written, and the numbers are told; or some of it couldn't be.
+abbrev pub Finishes : ℕ → List ℕ → Pending → Done → Seen → Seen → Result Done RunFault → Type 0
+Finishes journal outs p done a b (Ok told) = Writes journal outs p.lines p.pieces a b (Ok tt) × (told ≡ done)
+Finishes journal outs p done a b (Err e) = (f : Failed) × Writes journal outs p.lines p.pieces a b (Err f) × (e ≡ fault.Write)
 
--- What gathering a window does: the looks to come stop where they stopped, or it ends as the first stop among them says.
-pub record Gathers (c : Settings) (first w : ℕ) (a b : Seen) (ins ins' : List Input) (shelves shelves' : List Shelf) (had left : Budget) (result : Result (Unit {0}) RunFault) : Type 0 where
-  pub touches : Touches Nothing (NameIn a (slots_of ins)) a b
-  pub slots : slots_of ins' ≡ slots_of ins
-  pub count : length shelves' ≡ length shelves
-  pub ready : OnOk result (AreReady c (w + 1) ins' shelves' left)
-  pub took : OnOk result (TookAll c w a b ins ins' shelves shelves')
-  pub spent : OnOk result (Spends had left (counts_of shelves) (counts_of shelves'))
-  pub looks : IsTrue a.told → OnOk result (stop_from c first a ins shelves had ≡ stop_from c first b ins' shelves' left)
-  pub stops : IsTrue a.told → IfErr result (λ e. IsStopped e → (s : Stop) × (stop_from c first a ins shelves had ≡ Some s) × (ending s ≡ e) × (s.window ≡ Some w))
-  pub cause : IsErrOf result fault.Read → (q : ℕ) × (q < length ins) × Rose (a.read_faults (name_of a (slots_of ins) q)) (b.read_faults (name_of a (slots_of ins) q))
-  pub only : IfErr result (λ e. e ≢ fault.Write)
+-- ---- one window
 
 -- A fabric made the ticks up to a window and handled its frames, and handed out what it made.
 pub record Handles (w : ℕ) (shelves : List Shelf) (F E : Contents) (events : List Event) (outs : List Out) : Type 0 where

@@ -1,8 +1,9 @@
 //! The journal and the outputs, which grow by what the pages hold.
 ghost use Rattle.std.specs.Prelude.{◌≡◌, length, Ok, Err, OnOk, IfErr, MatchResult};
 ghost use Rattle.fab_base.specs.declared.values.Failed as of_files;
-ghost use Rattle.fab_windows.specs.Files.{AreOutputs, AreFiles, PutsEach, Writes, items_in};
-ghost use Rattle.fab_windows.specs.Pages.{IsNothing, pending};
+ghost use Rattle.fab_pages.specs.Pages.{items_in};
+ghost use Rattle.fab_windows.specs.Files.{AreOutputs, AreFiles, PutsEach, Writes};
+ghost use Rattle.fab_windows.specs.Pages.{FlushedFor, IsNothing, pending};
 
 use crate::RunFault;
 use crate::pages::Pages;
@@ -31,6 +32,26 @@ pub(crate) fn flush<D: Depot>(
             Ok(())
         }
         Err(_) => Err(RunFault::Write),
+    }
+}
+
+/// Writes what the pages hold before a run ends by a fault, and answers what it ends by: that
+/// fault, or `Write`.
+pub(crate) fn flush_for<D: Depot>(
+    depot: &mut D,
+    journal: u32,
+    outs: &[u32],
+    pages: &mut Pages,
+    fault: RunFault,
+) -> RunFault
+    requires count { length outs.now ≡ length pages.old.records.items }
+    requires files { AreFiles (D.seen depot.old) journal outs.now }
+    ensures { FlushedFor journal outs.now (pending pages.old) (D.seen depot.old)
+        (D.seen depot.new) fault result }
+{
+    match flush(depot, journal, outs, pages) {
+        Ok(()) => fault,
+        Err(failed) => failed,
     }
 }
 

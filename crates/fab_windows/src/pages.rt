@@ -1,29 +1,23 @@
 //! What is still to be written to the files, in buffers that are used again.
-ghost use Rattle.std.specs.Prelude.{◌≡◌, ℕ, ◌+◌, ◌-◌, ◌<◌, ◌≤◌, ◌^◌, ◌++◌, ◌∷◌, [], length, map, replicate, take, drop, IfOk, OnOk, IsTrue};
-ghost use Rattle.fab_base.specs.Layout.{spelled_low};
+ghost use Rattle.std.specs.Prelude.{◌≡◌, ℕ, ◌+◌, ◌<◌, ◌++◌, length, map, IfOk, OnOk};
 ghost use Rattle.std.specs.List.{All};
 ghost use Rattle.pcap_file.specs.Capture.{head_bytes};
 ghost use Rattle.fab_policy.specs.Growing.{clock_after, lines_from, records_to};
-ghost use Rattle.fab_policy.specs.Text.{head_line, sent_bytes};
+ghost use Rattle.fab_policy.specs.Text.{head_line};
 ghost use Rattle.fab_policy.specs.Ranged.{IsRangedEvent};
-ghost use Rattle.fab_replies.specs.Message.{AreSendable, can_send, sent_of};
-ghost use Rattle.fab_windows.specs.Files.{items_in, piece_at};
-ghost use Rattle.fab_windows.specs.Pages.{AreEarly, Adds, IsNothing, pending};
+ghost use Rattle.fab_replies.specs.Message.{sent_of};
+ghost use Rattle.fab_pages.specs.Pages.{AreEarly, items_in, piece_at};
+ghost use Rattle.fab_windows.specs.Pages.{IsNothing, pending};
 
 use fab_base::{Moment, NoMemory};
 use fab_config::Config;
+use fab_pages::{clear_all, head_records, write_records};
 use fab_policy::{Event, write_head_line, write_line};
-use forward_core::{Drained, EventList, Out, write_out};
-use pcap_file::{write_head, write_record};
+use forward_core::{Drained, EventList};
 use std::alloc::Global;
 
 /// The bytes of a page from which on it is written.
 const FULL: usize = 65536;
-
-/// Where the first of the two lengths of a record stands in it, and where its frame begins.
-const LENGTH_AT: usize = 8;
-
-const RECORD_HEAD: usize = 16;
 
 /// What is still to be written: lines of the journal, and records of the output of each port.
 #[derive(Debug, Drop)]
@@ -86,19 +80,6 @@ impl Pages {
     }
 }
 
-// The head of an output, for so many ports.
-fn head_records(alloc: Global, ports: usize) -> Result<Vec<Vec<u8>>, NoMemory>
-    ensures { IfOk result (λ v. items_in v.items ≡ replicate ports head_bytes) }
-{
-    let mut records = Vec::new(alloc);
-    for _ in 0..ports {
-        let mut record = Vec::new(alloc);
-        write_head(alloc, &mut record)?;
-        records.push(record)?;
-    }
-    Ok(records)
-}
-
 // Appends the lines of entries, from a clock on.
 fn write_lines(
     alloc: Global,
@@ -128,87 +109,4 @@ fn moved(clock: Moment, event: &Event) -> Moment
         Event::Tick { moment, .. } => *moment,
         Event::Frame { .. } => clock,
     }
-}
-
-// Empties each page.
-fn clear_all(pages: &mut [Vec<u8>])
-    ensures { (q : ℕ) → piece_at (items_in pages.new) q ≡ [] }
-{
-    for page in pages.iter_mut() {
-        page.clear();
-    }
-}
-
-// Appends the record of each frame that is sent to the page of its port.
-fn write_records(
-    alloc: Global,
-    config: &Config,
-    drained: &Drained,
-    pages: &mut [Vec<u8>],
-) -> Result<(), NoMemory>
-    requires early { AreEarly drained.now.outs }
-    ensures { OnOk result (Adds (map (sent_of config.now drained.now.events) drained.now.outs)
-        (items_in pages.old) (items_in pages.new)) }
-{
-    for index in 0..drained.outs.len() {
-        let Some(out) = drained.outs.at(index) else {
-            unreachable!()
-        };
-        write_to_port(alloc, config, &drained.events, out, pages)?;
-    }
-    Ok(())
-}
-
-// Appends the record of a frame that is sent to the page of its port; other ports have none.
-fn write_to_port(
-    alloc: Global,
-    config: &Config,
-    events: &EventList,
-    out: &Out,
-    pages: &mut [Vec<u8>],
-) -> Result<(), NoMemory>
-    requires can { IsTrue (can_send events.now out.now.message) }
-    requires early { out.now.moment < 2 ^ 53 }
-    ensures { OnOk result (Adds (sent_of config.now events.now out.now ∷ []) (items_in pages.old)
-        (items_in pages.new)) }
-{
-    let port = out.port.index();
-    if port >= pages.len() {
-        return Ok(());
-    }
-    write_sent(alloc, config, events, out, &mut pages[port])?;
-    Ok(())
-}
-
-// Appends the record of a frame that is sent. Its lengths are set once the frame stands there, so
-// that no byte of a frame is copied twice.
-fn write_sent(
-    alloc: Global,
-    config: &Config,
-    events: &EventList,
-    out: &Out,
-    page: &mut Vec<u8>,
-) -> Result<(), NoMemory>
-    requires can { IsTrue (can_send events.now out.now.message) }
-    requires early { out.now.moment < 2 ^ 53 }
-    ensures { OnOk result (page.new.items
-        ≡ page.old.items ++ sent_bytes (sent_of config.now events.now out.now)) }
-{
-    let begin = page.len();
-    write_record(alloc, out.moment, &[], page)?;
-    write_out(alloc, config, events, out, page)?;
-    set_length(&mut page[begin..]);
-    Ok(())
-}
-
-// Sets both lengths of a record to that of the frame in it.
-fn set_length(stored: &mut [u8])
-    requires least { 16 ≤ length stored.old }
-    requires most { length stored.old ≤ 65551 }
-    ensures { stored.new ≡ take 8 stored.old ++ spelled_low 4 (length stored.old - 16)
-        ++ spelled_low 4 (length stored.old - 16) ++ drop 16 stored.old }
-{
-    let length = ((stored.len() - RECORD_HEAD) as u32).to_le_bytes();
-    stored[LENGTH_AT..LENGTH_AT + 4].copy_from_slice(&length);
-    stored[LENGTH_AT + 4..RECORD_HEAD].copy_from_slice(&length);
 }

@@ -2,9 +2,10 @@
 ghost use Rattle.std.specs.Prelude.{◌≡◌, ◌+◌, ◌<◌, ◌≤◌, ◌^◌, length, [], IfOk, MatchResult};
 ghost use Rattle.fab_policy.specs.Outputs.{state_of};
 ghost use Rattle.fab_config.specs.Settings.{Settings};
+ghost use Rattle.fab_windows.specs.Files.{AreFiles};
 ghost use Rattle.fab_windows.specs.Pages.{IsNothing, pending};
 ghost use Rattle.fab_windows.specs.Run.{AreGiven, Runs};
-ghost use Rattle.fab_windows.specs.Turns.{task_of, Begun, Ended};
+ghost use Rattle.fab_windows.specs.Turns.{task_of, Begun, Ended, Finishes};
 
 use crate::Done;
 use crate::files::flush;
@@ -53,6 +54,18 @@ pub fn run_windows<R: Threads + Wait + Sync, D: Depot, G: Gate + Sync>(
             alloc, depot, fabric, first, window, ins, &mut run, budget, journal, outs, gate,
         )?;
     }
+    finish(depot, journal, outs, run)
+}
+
+// Writes what is still to be written at the end of all captures. It takes the run by value and is
+// the last that is called, so that no fabric is owned beside it where it fails.
+fn finish<D: Depot>(depot: &mut D, journal: u32, outs: &[u32], run: Run) -> Result<Done, RunFault>
+    requires count { length outs.now ≡ length run.pages.records.items }
+    requires files { AreFiles (D.seen depot.old) journal outs.now }
+    ensures { Finishes journal outs.now (pending run.pages) run.done (D.seen depot.old)
+        (D.seen depot.new) result }
+{
+    let mut run = run;
     flush(depot, journal, outs, &mut run.pages)?;
     Ok(run.done)
 }

@@ -6,24 +6,24 @@ ghost use Rattle.fab_policy.specs.Journal.{frame_count};
 ghost use Rattle.fab_policy.specs.Ranged.{IsRangedEvent};
 ghost use Rattle.fab_replies.specs.Message.{sent_of};
 ghost use Rattle.fab_gather.specs.First.{IsNextWindow};
-ghost use Rattle.fab_gather.specs.Ports.{AreInputs, AreReady, slots_of};
+ghost use Rattle.fab_pages.specs.Pages.{AreEarly};
 ghost use Rattle.fab_windows.specs.Files.{AreFiles};
-ghost use Rattle.fab_windows.specs.Pages.{AreEarly, pending};
-ghost use Rattle.fab_windows.specs.Turns.{Start, task_of, Going, Gathered, Ended, Gathers, Handles, Publishes};
+ghost use Rattle.fab_windows.specs.Pages.{pending};
+ghost use Rattle.fab_windows.specs.Turns.{Start, task_of, Going, Gathered, Ended, Handles, Publishes};
 ghost use Rattle.std.specs.Prelude.{ℕ, List};
 ghost use Rattle.fab_gather.specs.declared.shelf.Input as of_gather;
 ghost use Rattle.pcap_file.specs.declared.Budget as of_captures;
 
-use crate::files::flush;
+use crate::files::{flush, flush_for};
 use crate::frames::take_frames;
 use crate::laws::laws_of_runs;
 use crate::pages::Pages;
 use crate::plan::tick_to;
-use crate::{Done, Input, LimitKind, RunFault};
+use crate::{Done, Input, RunFault};
 use fab_base::{Depot, Gate, Moment, NoMemory};
 use fab_config::Config;
-use fab_gather::{Shelf, take_windows};
-use fab_policy::{Event, MOST_SPAN};
+use fab_gather::{Shelf, gather};
+use fab_policy::Event;
 use forward_core::{Drained, EventList, Fabric};
 use pcap_file::Budget;
 use std::alloc::Global;
@@ -79,10 +79,7 @@ pub(crate) fn turn<D: Depot, G: Gate>(
         budget,
     ) {
         Ok(()) => answer(alloc, depot, fabric, window, run, journal, outs, gate),
-        Err(fault) => {
-            flush(depot, journal, outs, &mut run.pages)?;
-            Err(fault)
-        }
+        Err(fault) => Err(flush_for(depot, journal, outs, &mut run.pages, fault)),
     }
 }
 
@@ -130,32 +127,6 @@ fn answer<D: Depot, G: Gate>(
     )?;
     run.done = counted(run.done, &drained.events);
     Ok(fabric)
-}
-
-// Takes the records of a window, which may start too long after the first.
-fn gather<D: Depot>(
-    alloc: Global,
-    depot: &mut D,
-    config: &Config,
-    first: u64,
-    window: u64,
-    ins: &mut [Input],
-    shelves: &mut [Shelf],
-    budget: &mut Budget,
-) -> Result<(), RunFault>
-    requires count { length shelves.old ≡ length ins.old }
-    requires ports { length ins.old ≤ 64 }
-    requires inputs { AreInputs (D.seen depot.old) (slots_of ins.old) }
-    requires ready { AreReady config.now window ins.old shelves.old budget.old }
-    requires next { IsNextWindow config.now shelves.old (Some window) }
-    ensures gathers { Gathers config.now first window (D.seen depot.old) (D.seen depot.new) ins.old
-        ins.new shelves.old shelves.new budget.old budget.new result }
-{
-    laws_of_runs();
-    if window.saturating_sub(first) > MOST_SPAN {
-        return Err(RunFault::Limit(LimitKind::Span));
-    }
-    take_windows(alloc, depot, config, window, ins, shelves, budget)
 }
 
 // Makes the ticks up to a window and handles its frames.

@@ -1,8 +1,9 @@
 use Rattle.std.proofs.Common.{◌∙◌, arith, subst, Ok, Err}
 use Rattle.fab_base.specs.Seen.{PutsAll}
 use Rattle.fab_gather.specs.Ports.{slot_at}
-use Rattle.fab_windows.specs.Files.{items_in}
-use Rattle.fab_windows.proofs.FileLemmas.{put_more, put_failed, put_all_of, output_on, piece-item}
+use Rattle.fab_pages.specs.Pages.{items_in}
+use Rattle.fab_windows.proofs.FileLemmas.{put_more, put_failed, put_all_of, output_on}
+use Rattle.fab_pages.proofs.PageLemmas.{piece-item}
 use Rattle.fab_windows.proofs.files.put_each.Goals as goal
 
 pub returns-in-Err : goal.returns-in-Err

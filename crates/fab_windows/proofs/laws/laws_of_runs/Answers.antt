@@ -15,7 +15,6 @@ returns c = record {
   looks_ahead = c.looks_to_come.ensures.ahead;
   next_ahead = c.looks_to_come.ensures.next;
   next_first = c.looks_to_come.ensures.first;
-  late_ends = c.looks_to_come.ensures.late;
   none_left = c.looks_to_come.ensures.none;
   moves = c.windows_move_on.ensures;
   reads_on = c.records_are_read.ensures.on;

@@ -1,7 +1,7 @@
 use Rattle.std.proofs.Common.{◌≡◌, ◌++◌, ◌∙◌, ap, sym, Some, slice_get}
 use Rattle.std.specs.Option.{option_copied}
 use Rattle.fab_policy.specs.Growing.{lines_from}
-use Rattle.fab_windows.proofs.PageLemmas.{lines_step}
+use Rattle.fab_windows.proofs.LineLemmas.{lines_step}
 use Rattle.fab_windows.proofs.pages.write_lines.Goals as goal
 
 pub loop-index-preserved : goal.loop-index-preserved

@@ -1,4 +1,5 @@
-use Rattle.fab_windows.proofs.TickLemmas.{Ticking, distance}
+use Rattle.fab_gather.proofs.ClockLemmas.{distance}
+use Rattle.fab_windows.proofs.TickLemmas.{Ticking}
 use Rattle.fab_windows.proofs.plan.tick_to.Given as goal
 
 abbrev pub invariant-ticks : goal.invariant-ticks

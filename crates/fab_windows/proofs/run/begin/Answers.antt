@@ -1,7 +1,8 @@
 use Rattle.std.proofs.Common.{◌≡◌, ◌∙◌, sym, subst, Ok, Err, refl}
 use Rattle.std.specs.Result.{IsErrAnd}
 use Rattle.fab_gather.specs.declared.fault.RunFault.TheVariants as fault
-use Rattle.fab_windows.specs.Files.{items_in, Writes}
+use Rattle.fab_pages.specs.Pages.{items_in}
+use Rattle.fab_windows.specs.Files.{Writes}
 use Rattle.fab_windows.specs.Turns.{task_of}
 use Rattle.fab_windows.proofs.BeginLemmas.{ended_at_once, ended_heads, ended_looks, begun, inputs_heads}
 use Rattle.fab_windows.proofs.ResultLemmas.{told_on, not_ok}

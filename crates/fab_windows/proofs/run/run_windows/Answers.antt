@@ -1,9 +1,10 @@
 use Rattle.std.proofs.Common.{◌∙◌, ◌+◌, ◌%◌, ◌^◌, ℕ, Some, None, Err, refl, sym, ap, subst, arith}
 use Rattle.fab_config.specs.Settings.{Settings}
+use Rattle.fab_gather.proofs.ClockLemmas.{nearer}
 use Rattle.fab_windows.specs.Pages.{pending}
 use Rattle.fab_windows.specs.Run.{Runs}
 use Rattle.fab_windows.specs.Turns.{Start, task_of, Going, Ended}
-use Rattle.fab_windows.proofs.BeginLemmas.{going_first, going_next, next_early, next_as, nearer, ended_well, ended_broken}
+use Rattle.fab_windows.proofs.BeginLemmas.{going_first, going_next, next_early, next_as, ended_by}
 use Rattle.fab_windows.proofs.TurnLemmas.{files_now}
 use Rattle.fab_windows.proofs.ResultLemmas.{err_is}
 use Rattle.fab_windows.proofs.run.run_windows.Goals as goal
@@ -125,30 +126,16 @@ windows-preserved g c =
       pages = c.in_ok-fabric.ensures.pages;
     }
 
-pub flush-requires-clause-count : goal.flush-requires-clause-count
-flush-requires-clause-count g c = sym c.windows.invariant.pages
+pub finish-requires-clause-count : goal.finish-requires-clause-count
+finish-requires-clause-count g c = sym c.windows.invariant.pages
 
-pub flush-requires-clause-files : goal.flush-requires-clause-files
-flush-requires-clause-files g c =
+pub finish-requires-clause-files : goal.finish-requires-clause-files
+finish-requires-clause-files g c =
     let seen = g.D.Depot.seen in
     let s : Start = record { budget = c.args.budget.now; ins = c.args.ins.now; seen = seen c.args.depot.now } in
     let k = task_of s c.args.fabric.settings c.args.journal c.args.outs.now in
     let l = c.windows in
     files_now c.laws_of_runs.ensures k l.invariant.v c.unwrap_or-first.result l.fabric (seen l.depot) l.ins l.run.shelves.items l.budget l.invariant.going.reached
-
-pub returns-in_err-flush : goal.returns-in_err-flush
-returns-in_err-flush g c =
-    let seen = g.D.Depot.seen in
-    let s : Start = record { budget = c.args.budget.now; ins = c.args.ins.now; seen = seen c.args.depot.now } in
-    let k = task_of s c.args.fabric.settings c.args.journal c.args.outs.now in
-    let l = c.windows in
-    let w = c.in_err-flush.ensures in
-    let next = next_as c.config-in-windows.result.now c.args.fabric.settings c.deref-in-windows.result.now l.run.shelves.items None (c.config-in-windows.ensures ∙ l.invariant.settings) c.deref-in-windows.ensures.value c.in_default.ensures.least in
-    record {
-      runs = subst (Runs c.args.fabric.settings c.args.budget.now c.args.ins.now (seen c.args.depot.now) (seen c.flush.new.depot) c.args.journal c.args.outs.now)
-          (ap (λ e. Err e) (sym w.fault) ∙ err_is c.from_residual-in_err-flush.result c.in_err-flush.field-0.0 c.from_residual-in_err-flush.ensures.1)
-          (ended_broken c.laws_of_runs.ensures k l.invariant.v c.unwrap_or-first.result l.fabric (seen l.depot) l.ins l.run.shelves.items l.budget l.run.done (pending l.run.pages) l.invariant.going next (seen c.flush.new.depot) w.writes.0 w.writes.1);
-    }
 
 pub returns : goal.returns
 returns g c =
@@ -158,5 +145,5 @@ returns g c =
     let l = c.windows in
     let next = next_as c.config-in-windows.result.now c.args.fabric.settings c.deref-in-windows.result.now l.run.shelves.items None (c.config-in-windows.ensures ∙ l.invariant.settings) c.deref-in-windows.ensures.value c.in_default.ensures.least in
     record {
-      runs = ended_well c.laws_of_runs.ensures k l.invariant.v c.unwrap_or-first.result l.fabric (seen l.depot) l.ins l.run.shelves.items l.budget l.run.done (pending l.run.pages) l.invariant.going next (seen c.flush.new.depot) c.in_ok-flush.ensures.writes;
+      runs = ended_by c.laws_of_runs.ensures k l.invariant.v c.unwrap_or-first.result l.fabric (seen l.depot) l.ins l.run.shelves.items l.budget l.run.done (pending l.run.pages) l.invariant.going next (seen c.finish.new.depot) c.finish.result c.finish.ensures;
     }

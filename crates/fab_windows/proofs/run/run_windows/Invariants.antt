@@ -1,7 +1,7 @@
 use Rattle.std.proofs.Common.{ℕ, ◌≡◌, ◌^◌, length}
 use Rattle.fab_windows.specs.Pages.{pending}
 use Rattle.fab_windows.specs.Turns.{Start, task_of, Going}
-use Rattle.fab_windows.proofs.TickLemmas.{distance}
+use Rattle.fab_gather.proofs.ClockLemmas.{distance}
 use Rattle.fab_windows.proofs.run.run_windows.Given as goal
 
 abbrev pub invariant-windows : goal.invariant-windows

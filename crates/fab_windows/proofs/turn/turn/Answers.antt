@@ -1,12 +1,9 @@
 use Rattle.std.proofs.Common.{◌≡◌, ◌∙◌, ap, sym, subst, length, Some, Err, arith}
-use Rattle.std.specs.Result.{IsErrAnd}
 use Rattle.fab_gather.specs.First.{IsNextWindow}
 use Rattle.fab_gather.specs.Ports.{AreReady}
-use Rattle.fab_gather.specs.declared.fault.RunFault.TheVariants as fault
 use Rattle.fab_windows.specs.Pages.{pending}
 use Rattle.fab_windows.specs.Turns.{task_of}
-use Rattle.fab_windows.proofs.GoLemmas.{gathers_as, gathered_by, turn_stops, turn_breaks, files_then}
-use Rattle.fab_windows.proofs.ResultLemmas.{told_on}
+use Rattle.fab_windows.proofs.GoLemmas.{gathers_as, gathered_by, turn_ends, files_then}
 use Rattle.fab_windows.proofs.StayLemmas.{same_ports}
 use Rattle.fab_windows.proofs.TurnLemmas.{inputs_now}
 use Rattle.fab_windows.proofs.turn.turn.Goals as goal
@@ -57,38 +54,26 @@ answer-requires-clause-range g c = c.requires.range
 pub answer-requires-clause-pages : goal.answer-requires-clause-pages
 answer-requires-clause-pages g c = c.requires.pages
 
-pub flush-requires-clause-count : goal.flush-requires-clause-count
-flush-requires-clause-count g c = sym c.requires.pages
+pub flush_for-requires-clause-count : goal.flush_for-requires-clause-count
+flush_for-requires-clause-count g c = sym c.requires.pages
 
-pub flush-requires-clause-files : goal.flush-requires-clause-files
-flush-requires-clause-files g c =
+pub flush_for-requires-clause-files : goal.flush_for-requires-clause-files
+flush_for-requires-clause-files g c =
     let k = task_of c.requires.going.0 c.args.fabric.settings c.args.journal c.args.outs.now in
     let seen = g.D.Depot.seen in
     let t = gathers_as k c.args.window c.args.first c.args.fabric (seen c.args.depot.now) c.args.ins.now c.args.run.now.shelves.items c.args.budget.now (seen c.gather.new.depot) c.gather.new.ins c.gather.new.shelves c.gather.new.budget
     c.config.result.now c.config.ensures c.deref_mut.result.now c.deref_mut.ensures.value (Err c.in-Err.fault) c.in-Err.ensures.gathers in
     files_then c.laws_of_runs.ensures k c.args.window c.args.first c.args.fabric (seen c.args.depot.now) c.args.ins.now c.args.run.now.shelves.items c.args.budget.now c.args.run.now.done (pending c.args.run.now.pages) c.requires.going.1 (seen c.gather.new.depot) t.touches
 
-pub returns-in_err-flush-in-Err-clause-turns : goal.returns-in_err-flush-in-Err-clause-turns
-returns-in_err-flush-in-Err-clause-turns g c = λ s going.
+pub returns-in-Err-clause-turns : goal.returns-in-Err-clause-turns
+returns-in-Err-clause-turns g c = λ s going.
     let k = task_of s c.args.fabric.settings c.args.journal c.args.outs.now in
     let seen = g.D.Depot.seen in
     let shelves = c.args.run.now.shelves.items in
     let e = c.in-Err.fault in
-    let w = c.in_err-flush-in-Err.ensures in
-    told_on c.from_residual.result fault.Write _ _ (subst (λ x. IsErrAnd c.from_residual.result (λ y. y ≡ x)) w.fault c.from_residual.ensures.1)
-    (turn_breaks c.laws_of_runs.ensures k c.args.window c.args.first c.args.fabric (seen c.args.depot.now) c.args.ins.now shelves c.args.budget.now c.args.run.now.done (pending c.args.run.now.pages) going (seen c.gather.new.depot) c.gather.new.ins c.gather.new.shelves c.gather.new.budget e
+    turn_ends c.laws_of_runs.ensures k c.args.window c.args.first c.args.fabric (seen c.args.depot.now) c.args.ins.now shelves c.args.budget.now c.args.run.now.done (pending c.args.run.now.pages) going (seen c.gather.new.depot) c.gather.new.ins c.gather.new.shelves c.gather.new.budget e
     (gathers_as k c.args.window c.args.first c.args.fabric (seen c.args.depot.now) c.args.ins.now shelves c.args.budget.now (seen c.gather.new.depot) c.gather.new.ins c.gather.new.shelves c.gather.new.budget
-    c.config.result.now c.config.ensures c.deref_mut.result.now c.deref_mut.ensures.value (Err e) c.in-Err.ensures.gathers) (seen c.flush.new.depot) w.writes.0 w.writes.1)
-
-pub returns-in_ok-flush-in-Err-clause-turns : goal.returns-in_ok-flush-in-Err-clause-turns
-returns-in_ok-flush-in-Err-clause-turns g c = λ s going.
-    let k = task_of s c.args.fabric.settings c.args.journal c.args.outs.now in
-    let seen = g.D.Depot.seen in
-    let shelves = c.args.run.now.shelves.items in
-    let e = c.in-Err.fault in
-    turn_stops c.laws_of_runs.ensures k c.args.window c.args.first c.args.fabric (seen c.args.depot.now) c.args.ins.now shelves c.args.budget.now c.args.run.now.done (pending c.args.run.now.pages) going (seen c.gather.new.depot) c.gather.new.ins c.gather.new.shelves c.gather.new.budget e
-    (gathers_as k c.args.window c.args.first c.args.fabric (seen c.args.depot.now) c.args.ins.now shelves c.args.budget.now (seen c.gather.new.depot) c.gather.new.ins c.gather.new.shelves c.gather.new.budget
-    c.config.result.now c.config.ensures c.deref_mut.result.now c.deref_mut.ensures.value (Err e) c.in-Err.ensures.gathers) (seen c.flush.new.depot) c.in_ok-flush-in-Err.ensures.writes
+    c.config.result.now c.config.ensures c.deref_mut.result.now c.deref_mut.ensures.value (Err e) c.in-Err.ensures.gathers) (seen c.flush_for.new.depot) c.flush_for.result c.flush_for.ensures
 
 pub returns-in-Ok-clause-turns : goal.returns-in-Ok-clause-turns
 returns-in-Ok-clause-turns g c = λ s going.

@@ -1,8 +1,8 @@
 use Rattle.std.proofs.Common.{◌∙◌, ap}
 use Rattle.pcap_file.specs.Capture.{head_bytes}
-use Rattle.fab_windows.specs.Files.{piece_at}
-use Rattle.fab_windows.proofs.PageLemmas.{page_of}
+use Rattle.fab_pages.specs.Pages.{piece_at}
+use Rattle.fab_pages.proofs.PageLemmas.{page_of}
 use Rattle.fab_windows.proofs.pages.Pages.heads.Goals as goal
 
 pub returns-clause-records : goal.returns-clause-records
-returns-clause-records c = λ q lt. ap (λ l. piece_at l q) c.in_ok-records.ensures ∙ page_of head_bytes c.args.ports q lt
+returns-clause-records c = λ q lt. ap (λ l. piece_at l q) c.in_ok-records.ensures.heads ∙ page_of head_bytes c.args.ports q lt

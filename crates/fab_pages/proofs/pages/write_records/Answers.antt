@@ -1,9 +1,9 @@
 use Rattle.std.proofs.Common.{◌≡◌, ◌∙◌, ap, sym, Some, slice_get}
 use Rattle.std.specs.Option.{option_copied}
 use Rattle.fab_replies.specs.Message.{sent_of}
-use Rattle.fab_windows.specs.Files.{items_in}
-use Rattle.fab_windows.proofs.PageLemmas.{early_at, adds_next}
-use Rattle.fab_windows.proofs.pages.write_records.Goals as goal
+use Rattle.fab_pages.specs.Pages.{items_in}
+use Rattle.fab_pages.proofs.PageLemmas.{early_at, adds_next}
+use Rattle.fab_pages.proofs.pages.write_records.Goals as goal
 
 pub write_to_port-requires-clause-early : goal.write_to_port-requires-clause-early
 write_to_port-requires-clause-early c =

@@ -8,15 +8,11 @@ use Rattle.std.proofs.lemmas.List.Elements.{filter-append}
 use Rattle.fab_base.specs.Layout.{spelled_low}
 use Rattle.pcap_file.specs.Capture.{record_bytes}
 use Rattle.pcap_file.proofs.lemmas.Numbers.{le_or_lt}
-use Rattle.fab_policy.specs.Growing.{records_to, clock_after, lines_from}
+use Rattle.fab_policy.specs.Growing.{records_to}
 use Rattle.fab_policy.specs.Outputs.{Sent}
-use Rattle.fab_policy.specs.Text.{sent_bytes, line}
-use Rattle.fab_policy.specs.declared.event.Event.{Event}
-use Rattle.fab_windows.specs.Files.{items_in, piece_at}
+use Rattle.fab_policy.specs.Text.{sent_bytes}
 use Rattle.fab_replies.specs.declared.message.Out.{Out}
-use Rattle.fab_windows.specs.Pages.{Adds, AreEarly}
-use Rattle.fab_windows.proofs.CountLemmas.{drop_next}
-use Rattle.fab_windows.proofs.FileLemmas.{piece-item}
+use Rattle.fab_pages.specs.Pages.{Adds, AreEarly, items_in, piece_at}
 
 -- ---- what is sent on a port
 
@@ -52,6 +48,12 @@ adds_nowhere s pages lt = record {
   count = refl;
   pages = λ q within. sym (ap (λ l. piece_at pages q ++ l) (other_record (q + 1) s (λ e. absurd (omega (arith, e, lt, within)))) ∙ append-nil (piece_at pages q));
 }
+
+-- the piece at a place of the code's list
+pub piece-item : (l : List (Vec ℕ Global)) (i : ℕ) (v : Vec ℕ Global) → i < length l → v ≡ get_or l i v → v.items ≡ piece_at (items_in l) i
+piece-item [] i v lt is = absurd (omega arith)
+piece-item (x ∷ l) zero v lt is = ap (λ (y : Vec ℕ Global). y.items) is
+piece-item (x ∷ l) (suc i) v lt is = piece-item l i v (omega arith) is
 
 length_set : (l : List (Vec ℕ Global)) (k : ℕ) (v : Vec ℕ Global) → length (items_in (slice_set l k v)) ≡ length (items_in l)
 length_set [] k v = refl
@@ -124,17 +126,6 @@ length-pages x (suc n) = ap suc (length-pages x n)
 pub one_page : (n : ℕ) (x : List ℕ) → replicate n x ++ x ∷ [] ≡ replicate (n + 1) x
 one_page zero x = refl
 one_page (suc n) x = ap (λ l. x ∷ l) (one_page n x) ∙ ap (λ (m : ℕ). replicate m x) (let e : suc (n + 1) ≡ suc n + 1 = omega arith in e)
-
--- ---- lines
-
-pub lines_step : (clock clock' i : ℕ) (events : List Event) (e : Event) (lines lines' all : List ℕ) → slice_get events i ≡ Some e → clock' ≡ clock_after clock e → lines' ≡ lines ++ line clock' e →
-    lines ++ lines_from clock (drop i events) ≡ all → lines' ++ lines_from clock' (drop (i + 1) events) ≡ all
-lines_step clock clock' i events e lines lines' all at same is so_far =
-    ap (λ l. l ++ lines_from clock' (drop (i + 1) events)) is
-    ∙ append_assoc lines (line clock' e) (lines_from clock' (drop (i + 1) events))
-    ∙ ap (λ (t : ℕ). lines ++ (line t e ++ lines_from t (drop (i + 1) events))) same
-    ∙ ap (λ l. lines ++ lines_from clock l) (sym (drop_next events i e at))
-    ∙ so_far
 
 -- ---- what is sent, one after another
 

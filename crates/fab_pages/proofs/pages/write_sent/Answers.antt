@@ -1,7 +1,7 @@
 use Rattle.std.proofs.Common.{◌∙◌, ◌++◌, ◌-◌, ap, sym, take, drop, length, refl}
 use Rattle.fab_replies.specs.Message.{bytes_of}
-use Rattle.fab_windows.proofs.PageLemmas.{sent_made}
-use Rattle.fab_windows.proofs.pages.write_sent.Goals as goal
+use Rattle.fab_pages.proofs.PageLemmas.{sent_made}
+use Rattle.fab_pages.proofs.pages.write_sent.Goals as goal
 
 pub returns : goal.returns
 returns c =

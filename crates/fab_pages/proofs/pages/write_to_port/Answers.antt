@@ -1,8 +1,8 @@
 use Rattle.std.proofs.Common.{◌∙◌, ◌++◌, Vec, Global, ℕ, ap, sym, arith}
 use Rattle.fab_policy.specs.Text.{sent_bytes}
 use Rattle.fab_replies.specs.Message.{sent_of}
-use Rattle.fab_windows.proofs.PageLemmas.{adds_record}
-use Rattle.fab_windows.proofs.pages.write_to_port.Goals as goal
+use Rattle.fab_pages.proofs.PageLemmas.{adds_record}
+use Rattle.fab_pages.proofs.pages.write_to_port.Goals as goal
 
 pub returns : goal.returns
 returns c =

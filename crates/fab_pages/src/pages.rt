@@ -1,0 +1,118 @@
+//! Pages: for each port the bytes that its output grows by next.
+ghost use Rattle.std.specs.Prelude.{◌≡◌, ℕ, ◌+◌, ◌-◌, ◌<◌, ◌≤◌, ◌^◌, ◌++◌, ◌∷◌, [], length, map, replicate, take, drop, IfOk, OnOk, IsTrue};
+ghost use Rattle.fab_base.specs.Layout.{spelled_low};
+ghost use Rattle.pcap_file.specs.Capture.{head_bytes};
+ghost use Rattle.fab_policy.specs.Text.{sent_bytes};
+ghost use Rattle.fab_replies.specs.Message.{can_send, sent_of};
+ghost use Rattle.fab_pages.specs.Pages.{Adds, AreEarly, items_in, piece_at};
+
+use fab_base::NoMemory;
+use fab_config::Config;
+use forward_core::{Drained, EventList, Out, write_out};
+use pcap_file::{write_head, write_record};
+use std::alloc::Global;
+
+/// Where the first of the two lengths of a record stands in it, and where its frame begins.
+const LENGTH_AT: usize = 8;
+
+const RECORD_HEAD: usize = 16;
+
+/// A page for each of so many ports, with the head of a capture.
+pub fn head_records(alloc: Global, ports: usize) -> Result<Vec<Vec<u8>>, NoMemory>
+    ensures heads { IfOk result (λ v. items_in v.items ≡ replicate ports head_bytes) }
+    ensures count { IfOk result (λ v. length v.items ≡ ports) }
+{
+    let mut records = Vec::new(alloc);
+    for _ in 0..ports {
+        let mut record = Vec::new(alloc);
+        write_head(alloc, &mut record)?;
+        records.push(record)?;
+    }
+    Ok(records)
+}
+
+/// Empties each page, whose room is used again.
+pub fn clear_all(pages: &mut [Vec<u8>])
+    ensures nothing { (q : ℕ) → piece_at (items_in pages.new) q ≡ [] }
+    ensures count { length pages.new ≡ length pages.old }
+{
+    for page in pages.iter_mut() {
+        page.clear();
+    }
+}
+
+/// Appends the record of each frame that is sent to the page of its port, pages being in port
+/// order. A frame's bytes are copied once, from its entry into the page.
+pub fn write_records(
+    alloc: Global,
+    config: &Config,
+    drained: &Drained,
+    pages: &mut [Vec<u8>],
+) -> Result<(), NoMemory>
+    requires early { AreEarly drained.now.outs }
+    ensures adds { OnOk result (Adds (map (sent_of config.now drained.now.events) drained.now.outs)
+        (items_in pages.old) (items_in pages.new)) }
+    ensures count { length pages.new ≡ length pages.old }
+{
+    for index in 0..drained.outs.len() {
+        let Some(out) = drained.outs.at(index) else {
+            unreachable!()
+        };
+        write_to_port(alloc, config, &drained.events, out, pages)?;
+    }
+    Ok(())
+}
+
+// Appends the record of a frame that is sent to the page of its port; other ports have none.
+fn write_to_port(
+    alloc: Global,
+    config: &Config,
+    events: &EventList,
+    out: &Out,
+    pages: &mut [Vec<u8>],
+) -> Result<(), NoMemory>
+    requires can { IsTrue (can_send events.now out.now.message) }
+    requires early { out.now.moment < 2 ^ 53 }
+    ensures { OnOk result (Adds (sent_of config.now events.now out.now ∷ []) (items_in pages.old)
+        (items_in pages.new)) }
+{
+    let port = out.port.index();
+    if port >= pages.len() {
+        return Ok(());
+    }
+    write_sent(alloc, config, events, out, &mut pages[port])?;
+    Ok(())
+}
+
+// Appends the record of a frame that is sent. Its lengths are set once the frame stands there, so
+// that no byte of a frame is copied twice.
+fn write_sent(
+    alloc: Global,
+    config: &Config,
+    events: &EventList,
+    out: &Out,
+    page: &mut Vec<u8>,
+) -> Result<(), NoMemory>
+    requires can { IsTrue (can_send events.now out.now.message) }
+    requires early { out.now.moment < 2 ^ 53 }
+    ensures { OnOk result (page.new.items
+        ≡ page.old.items ++ sent_bytes (sent_of config.now events.now out.now)) }
+{
+    let begin = page.len();
+    write_record(alloc, out.moment, &[], page)?;
+    write_out(alloc, config, events, out, page)?;
+    set_length(&mut page[begin..]);
+    Ok(())
+}
+
+// Sets both lengths of a record to that of the frame in it.
+fn set_length(stored: &mut [u8])
+    requires least { 16 ≤ length stored.old }
+    requires most { length stored.old ≤ 65551 }
+    ensures { stored.new ≡ take 8 stored.old ++ spelled_low 4 (length stored.old - 16)
+        ++ spelled_low 4 (length stored.old - 16) ++ drop 16 stored.old }
+{
+    let length = ((stored.len() - RECORD_HEAD) as u32).to_le_bytes();
+    stored[LENGTH_AT..LENGTH_AT + 4].copy_from_slice(&length);
+    stored[LENGTH_AT + 4..RECORD_HEAD].copy_from_slice(&length);
+}
