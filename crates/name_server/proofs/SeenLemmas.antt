@@ -1,11 +1,18 @@
 -- What is known of seen N_Ports, all of which are entered.
-use Rattle.std.proofs.Common.{◌≡◌, ℕ, ◌+◌, ◌<◌, Bool, true, false, List, [], ◌∷◌, ◌++◌, length, find, Option, Some, None, cond, refl, sym, ◌∙◌, ap, arith, if◌then◌else◌, map, drop, get_or, nat_lt, append_assoc, subst, suc, drop-cons, add-one}
+use Rattle.std.proofs.Common.{◌≡◌, ℕ, zero, ◌+◌, ◌-◌, ◌<◌, ◌≤◌, ◌⊎◌, inl, inr, Bool, true, false, List, [], ◌∷◌, ◌++◌, length, find, Option, Some, None, cond, refl, sym, ◌∙◌, ap, arith, if◌then◌else◌, map, drop, get_or, nat_lt, append_assoc, subst, suc, drop-cons, length-drop, append-nil, add-one, slice_get, option_map}
+use mathlib.Core.Bool.{false≢true}
 use Rattle.std.specs.Option.{IsSome}
+use Rattle.std.proofs.lemmas.Bool.{cases_lt}
+use Rattle.std.proofs.lemmas.List.{drop_all}
+use Rattle.std.proofs.lemmas.Option.{slice_get-get_or, slice_get_past}
 use Rattle.std.proofs.lemmas.Bool.Decides.{nat_tests}
 use Rattle.std.proofs.lemmas.List.Elements.{All-head, All-tail}
+use Rattle.bit_rows.specs.Row.{has, IsNextBit}
+use Rattle.sorted_lists.proofs.IndexLemmas.{some_same}
 use Rattle.ct_messages.specs.Answer.{has_type}
 use Rattle.ct_messages.specs.Server.{Known, first_of, or_first, next_port, of_type}
-use Rattle.name_server.specs.Views.{typed_if}
+use Rattle.name_server.specs.Places.{is_of_type}
+use Rattle.name_server.specs.Views.{typed_if, seen_of_type}
 use Rattle.name_server.specs.declared.seen.SeenPort.{SeenPort}
 use Rattle.name_server.specs.Registry.{Entry, entry_at, known_of, known_port, known, seen_at, AreEntered}
 
@@ -35,7 +42,7 @@ find-known q p same entries (s ∷ seen) there =
     go None is some others = absurd (grind (arith, nat_tests))
     go (Some e) is some others = rw is (rw (same s e) (test e (p s) refl is others))
 
-not_there : (o : Option Entry) → IsSome o → o ≡ None → ⊥
+pub not_there : (o : Option Entry) → IsSome o → o ≡ None → ⊥
 not_there None some is = cc
 not_there (Some e) some is = cc
 
@@ -102,9 +109,74 @@ module _ {Y : Type 0} (f : Known → Y) (kind : ℕ) (entries : List Entry) wher
       ∙ ap (λ l. done ++ l) (sym (ap listed (drop-cons seen i s within) ∙ listed-cons (get_or seen i s) (drop (suc i) seen) _ refl ∙ rw this refl))
       ∙ so_far
 
-  pub listed-other : (seen : List SeenPort) (i n : ℕ) (s : SeenPort) (done all : List Y) → i < length seen → n ≡ i + 1 →
-      typed_if kind (known_port entries (get_or seen i s)) ≡ None → done ++ listed (drop i seen) ≡ all → done ++ listed (drop n seen) ≡ all
-  listed-other seen i n s done all within next other so_far =
-      ap (λ m. done ++ listed (drop m seen)) (next ∙ add-one i)
-      ∙ ap (λ l. done ++ l) (sym (ap listed (drop-cons seen i s within) ∙ listed-cons (get_or seen i s) (drop (suc i) seen) _ refl ∙ rw other refl))
-      ∙ so_far
+  -- one that hasn't the type isn't
+  listed-other : (seen : List SeenPort) (i : ℕ) (s : SeenPort) → i < length seen → typed_if kind (known_port entries (get_or seen i s)) ≡ None → listed (drop i seen) ≡ listed (drop (i + 1) seen)
+  listed-other seen i s within other =
+      ap listed (drop-cons seen i s within) ∙ listed-cons (get_or seen i s) (drop (suc i) seen) _ refl
+      ∙ ap (λ o. elim o [ None ↦ listed (drop (suc i) seen) | Some k ↦ f k ∷ listed (drop (suc i) seen) ]) other
+      ∙ ap (λ n. listed (drop n seen)) (sym (add-one i))
+
+  -- ---- by the bits of those that have the type
+
+  no_type_there : (s : SeenPort) → seen_of_type kind entries (Some s) ≡ false → typed_if kind (known_port entries s) ≡ None
+  no_type_there s none = go (entry_at s.address entries) refl
+    where
+      go : (o : Option Entry) → entry_at s.address entries ≡ o → typed_if kind (option_map (known_of s) (entry_at s.address entries)) ≡ None
+      go None is = ap (λ o. typed_if kind (option_map (known_of s) o)) is
+      go (Some e) is =
+          let lacks : has_type e.values.types kind ≡ false = sym (ap (is_of_type kind) is) ∙ none in
+          ap (λ o. typed_if kind (option_map (known_of s) o)) is ∙ ap (λ b. if b then Some (known_of s e) else None) lacks
+
+  pub typed_known : (s : SeenPort) → seen_of_type kind entries (Some s) ≡ true → (k : Known) × (known_port entries s ≡ Some k) × (k.address ≡ s.address) × (typed_if kind (Some k) ≡ Some k)
+  typed_known s some = go (entry_at s.address entries) refl
+    where
+      go : (o : Option Entry) → entry_at s.address entries ≡ o → (k : Known) × (known_port entries s ≡ Some k) × (k.address ≡ s.address) × (typed_if kind (Some k) ≡ Some k)
+      go None is = absurd (false≢true (sym (ap (is_of_type kind) is) ∙ some))
+      go (Some e) is =
+          let has_it : has_type e.values.types kind ≡ true = sym (ap (is_of_type kind) is) ∙ some in
+          (known_of s e, ap (option_map (known_of s)) is, refl, ap (λ b. if b then Some (known_of s e) else None) has_it)
+
+  module _ (seen : List SeenPort) (row : List ℕ) (bits : (i : ℕ) → has row i ≡ seen_of_type kind entries (slice_get seen i)) where
+    -- a bit is that of one that is seen
+    pub seen_within : (i : ℕ) → has row i ≡ true → i < length seen
+    seen_within i bit = go (cases_lt i (length seen))
+      where
+        go : (i < length seen) ⊎ (length seen ≤ i) → i < length seen
+        go (inl lt) = lt
+        go (inr ge) = absurd (false≢true (sym (bits i ∙ ap (seen_of_type kind entries) (slice_get_past seen i ge)) ∙ bit))
+
+    pub typed_at : (i : ℕ) (s : SeenPort) → has row i ≡ true → seen_of_type kind entries (Some (get_or seen i s)) ≡ true
+    typed_at i s bit = sym (ap (seen_of_type kind entries) (slice_get-get_or seen i s (seen_within i bit))) ∙ sym (bits i) ∙ bit
+
+    skipped : (from n : ℕ) → from + n ≤ length seen → ((i : ℕ) → from ≤ i → i < from + n → has row i ≡ false) → listed (drop from seen) ≡ listed (drop (from + n) seen)
+    skipped from zero le clear = ap (λ m. listed (drop m seen)) (let e : from ≡ from + 0 = omega arith in e)
+    skipped from (suc n) le clear = skipped from n (omega (arith, le)) (λ i low high. clear i low (omega (arith, high))) ∙ last (drop (from + n) seen) refl
+      where
+        lt : from + n < length seen
+        lt = omega (arith, le)
+
+        fails : has row (from + n) ≡ false
+        fails = clear (from + n) (omega arith) (omega arith)
+
+        last : (l : List SeenPort) → drop (from + n) seen ≡ l → listed (drop (from + n) seen) ≡ listed (drop (from + suc n) seen)
+        last [] is = absurd (omega (arith, lt, ap length is, length-drop (from + n) seen))
+        last (s ∷ more) is =
+            listed-other seen (from + n) s lt (no_type_there (get_or seen (from + n) s) (sym (ap (seen_of_type kind entries) (slice_get-get_or seen (from + n) s lt)) ∙ sym (bits (from + n)) ∙ fails))
+            ∙ ap (λ m. listed (drop m seen)) (let e : from + n + 1 ≡ from + suc n = omega arith in e)
+
+    -- what is listed from the next bit on
+    pub listed-next : (from i n : ℕ) (s : SeenPort) (k : Known) (done new all : List Y) → IsNextBit row from (Some i) → n ≡ i + 1 → known_port entries (get_or seen i s) ≡ Some k → new ≡ done ++ f k ∷ []
+        → done ++ listed (drop from seen) ≡ all → new ++ listed (drop n seen) ≡ all
+    listed-next from i n s k done new all next after is pushed so_far =
+        let (this, known_so, _, typed) = typed_known (get_or seen i s) (typed_at i s next.1) in
+        let same : this ≡ k = some_same this k (sym known_so ∙ is) in
+        let lt = seen_within i next.1 in
+        listed-this seen i n s k done new all lt after (ap (typed_if kind) is ∙ subst (λ z. typed_if kind (Some z) ≡ Some z) same typed) pushed
+        (ap (λ l. done ++ l) (sym (skipped from (i - from) (omega (arith, lt, next.0)) (λ j low high. next.2 j low (omega (arith, high, next.0))) ∙ ap (λ m. listed (drop m seen)) (let e : from + (i - from) ≡ i = omega (arith, next.0) in e))) ∙ so_far)
+
+    -- and where there is none, nothing more is
+    pub listed-end : (from : ℕ) (done all : List Y) → IsNextBit row from None → from ≤ length seen → done ++ listed (drop from seen) ≡ all → done ≡ all
+    listed-end from done all none le so_far =
+        sym (append-nil done)
+        ∙ ap (λ l. done ++ l) (sym (skipped from (length seen - from) (omega (arith, le)) (λ j low high. none j low) ∙ ap listed (drop_all (from + (length seen - from)) seen (omega (arith, le)))))
+        ∙ so_far

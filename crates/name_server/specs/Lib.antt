@@ -1,3 +1,3 @@
 pub mod Registry
-pub mod Sound
+pub mod Places
 pub mod Views

@@ -1,12 +1,14 @@
 -- How the code holds a seen N_Port with its entry. No public clause cites this module.
-use Rattle.std.specs.Prelude.{ℕ, if◌then◌else◌, Option, Some, None}
+use Rattle.std.specs.Prelude.{ℕ, ◌==◌, if◌then◌else◌, Bool, false, List, Option, Some, None}
 use Rattle.ct_messages.specs.Ask.{Ask, PortNamesOfType, NodeNamesOfType}
 use Rattle.ct_messages.specs.Answer.{has_type}
 use Rattle.ct_messages.specs.Server as server
-use Rattle.name_server.specs.Registry.{known_of}
+use Rattle.name_server.specs.Registry.{Entry, entry_at, known_of}
+use Rattle.name_server.specs.Places.{is_of_type}
 use Rattle.name_server.specs.declared.lists.NameOf.{NameOf}
 use Rattle.name_server.specs.declared.lists.NameOf.TheVariants.{Port, Node}
 use Rattle.name_server.specs.declared.ports.Known.{Known}
+use Rattle.name_server.specs.declared.seen.SeenPort.{SeenPort}
 
 abbrev pub as_known : Known → server.Known
 as_known k = known_of k.port.now k.entry.now
@@ -25,3 +27,15 @@ typed_if kind (Some k) = if has_type k.values.types kind then Some k else None
 abbrev pub by_name_of : NameOf → ℕ → Ask
 by_name_of Port kind = PortNamesOfType kind
 by_name_of Node kind = NodeNamesOfType kind
+
+-- ---- seen N_Ports by their index
+
+-- it has this address
+abbrev pub is_at : ℕ → Option SeenPort → Bool
+is_at a None = false
+is_at a (Some s) = s.address == a
+
+-- it has a type
+abbrev pub seen_of_type : ℕ → List Entry → Option SeenPort → Bool
+seen_of_type kind entries None = false
+seen_of_type kind entries (Some s) = is_of_type kind (entry_at s.address entries)

@@ -6,10 +6,12 @@ mod answers;
 mod entry;
 mod features;
 mod lists;
+mod placed;
 mod ports;
 mod refusals;
 mod registry;
 mod seen;
+mod types;
 
 pub use refusals::RegFault;
 pub use registry::{Change, Registry};

@@ -1,14 +1,12 @@
 //! Lists of seen N_Ports.
-ghost use Rattle.std.specs.Prelude.{◌≡◌, IfOk, option_map};
-ghost use Rattle.std.specs.Option.{option_map_or};
-ghost use Rattle.ct_messages.specs.Answer.{has_type};
+ghost use Rattle.std.specs.Prelude.{◌≡◌, IfOk};
 ghost use Rattle.ct_messages.specs.Server.{addresses, named, of_type};
-ghost use Rattle.name_server.specs.Registry.{AscendFrom, entry_at, known, known_port};
-ghost use Rattle.name_server.specs.Views.{as_known, name_of, typed_if};
+ghost use Rattle.name_server.specs.Registry.{AreEntered, SeenAscend, known};
+ghost use Rattle.name_server.specs.Views.{as_known, name_of};
 
-use crate::SeenPort;
-use crate::entry::Entry;
 use crate::ports::{Known, with_entry};
+use crate::{Registry, SeenPort};
+use bit_rows::next_bit;
 use ct_messages::{Named, NamedList};
 use fab_base::{IdList, NoMemory, Wwn};
 use std::alloc::Global;
@@ -44,32 +42,24 @@ impl NameOf {
     }
 }
 
-// The port with its entry, if it has the type.
-fn with_type<'a>(entries: &'a [Entry], port: &'a SeenPort, kind: u8) -> Option<Known<'a>>
-    requires { AscendFrom 0 entries.now }
-    ensures { option_map as_known result ≡ typed_if kind (known_port entries.now port.now) }
-{
-    match with_entry(entries, port) {
-        Some(known) if known.entry.types().has_type(kind) => Some(known),
-        _ => None,
-    }
-}
-
 /// The addresses that have an FC-4 type.
 pub(crate) fn addresses_of_type(
     alloc: Global,
-    entries: &[Entry],
+    registry: &Registry,
     seen: &[SeenPort],
     kind: u8,
 ) -> Result<IdList, NoMemory>
-    requires { AscendFrom 0 entries.now }
-    ensures { IfOk result (λ list. list ≡ addresses (of_type kind (known entries.now seen.now))) }
+    requires entered { AreEntered registry.now.entries seen.now }
+    requires ascending { SeenAscend 0 seen.now }
+    ensures { IfOk result (λ list. list
+        ≡ addresses (of_type kind (known registry.now.entries seen.now))) }
 {
+    let typed = registry.of_type(alloc, seen, kind)?;
     let mut list = IdList::new(alloc)?;
-    for port in seen {
-        if let Some(known) = with_type(entries, port, kind) {
-            list.push(alloc, known.port.address)?;
-        }
+    let mut from = 0;
+    while let Some(index) = next_bit(&typed, from) {
+        list.push(alloc, seen[index].address)?;
+        from = index + 1;
     }
     Ok(list)
 }
@@ -77,20 +67,25 @@ pub(crate) fn addresses_of_type(
 /// Those that have an FC-4 type, each with one of its names.
 pub(crate) fn names_of_type(
     alloc: Global,
-    entries: &[Entry],
+    registry: &Registry,
     seen: &[SeenPort],
     kind: u8,
     name: NameOf,
 ) -> Result<NamedList, NoMemory>
-    requires { AscendFrom 0 entries.now }
+    requires entered { AreEntered registry.now.entries seen.now }
+    requires ascending { SeenAscend 0 seen.now }
     ensures { IfOk result (λ list. list ≡ named (name_of name)
-        (of_type kind (known entries.now seen.now))) }
+        (of_type kind (known registry.now.entries seen.now))) }
 {
+    let typed = registry.of_type(alloc, seen, kind)?;
     let mut list = NamedList::new(alloc)?;
-    for port in seen {
-        if let Some(known) = with_type(entries, port, kind) {
-            list.push(alloc, name.entry(&known))?;
-        }
+    let mut from = 0;
+    while let Some(index) = next_bit(&typed, from) {
+        let Some(known) = with_entry(registry, &seen[index]) else {
+            unreachable!()
+        };
+        list.push(alloc, name.entry(&known))?;
+        from = index + 1;
     }
     Ok(list)
 }
@@ -98,15 +93,14 @@ pub(crate) fn names_of_type(
 /// All addresses.
 pub(crate) fn all_addresses(
     alloc: Global,
-    entries: &[Entry],
+    registry: &Registry,
     seen: &[SeenPort],
 ) -> Result<IdList, NoMemory>
-    requires { AscendFrom 0 entries.now }
-    ensures { IfOk result (λ list. list ≡ addresses (known entries.now seen.now)) }
+    ensures { IfOk result (λ list. list ≡ addresses (known registry.now.entries seen.now)) }
 {
     let mut list = IdList::new(alloc)?;
     for port in seen {
-        if let Some(known) = with_entry(entries, port) {
+        if let Some(known) = with_entry(registry, port) {
             list.push(alloc, known.port.address)?;
         }
     }

@@ -1,17 +1,24 @@
-//! The registry: its entries in ascending order of addresses.
-ghost use Rattle.std.specs.Prelude.{◌≡◌, ℕ, ◌<◌, if◌then◌else◌, ◌==◌, length, IfOk, IfErr, OnOk, OnErr, IsSome, Some, None, [], is_some, true, false, option_map};
+//! The registry: its entries at places of their own, by address and by type.
+ghost use Rattle.std.specs.Prelude.{◌≡◌, ℕ, ◌<◌, ◌≤◌, ◌^◌, if◌then◌else◌, ◌==◌, length, IfOk, IfErr, OnOk, OnErr, IsSome, Some, None, [], is_some, true, false, option_map, option_copied, slice_get};
+ghost use Rattle.bit_rows.specs.Row.{has};
 ghost use Rattle.ct_messages.specs.Ask.{view};
 ghost use Rattle.ct_messages.specs.CanWrite.{CanWrite, CanTell};
 ghost use Rattle.ct_messages.specs.Server as server;
-ghost use Rattle.name_server.specs.Registry.{Registrations, entry_at, entered, added, without, registered, with_registration, refusal, is_noticed, codes, seen_at, AreEntered, known, IsSound};
+ghost use Rattle.name_server.specs.Registry.{Registrations, entry_at, entered, added, without, registered, with_registration, refusal, is_noticed, codes, seen_at, AreEntered, known, SeenAscend, IsSound};
+ghost use Rattle.name_server.specs.Views.{seen_of_type};
 
 use crate::answers::answer_of;
 use crate::entry::Entry;
+use crate::placed::{Placed, place_of, take_place};
 use crate::refusals::refusal_of;
-use crate::{RegFault, Seen};
+use crate::seen::mark;
+use crate::types::{TypeRows, next_of_type, no_types, put_types};
+use crate::{RegFault, Seen, SeenPort};
+use bit_rows::{Row, empty_row};
 use ct_messages::{CtAsk, CtTell, TypeMap};
 use fab_base::{FcId, HasAddress, NoMemory, Wwn};
-use sorted_lists::{find_at, place_above, place_at};
+use slab::Slab;
+use sorted_lists::rank_put;
 use std::alloc::Global;
 use std::marker::Model;
 
@@ -27,7 +34,11 @@ pub struct Change {
 #[derive(Debug, Drop)]
 pub struct Registry {
     room: u32,
-    entries: Vec<Entry>,
+    entries: Slab<Entry>,
+    // The places of the entries, by address.
+    index: Vec<Placed>,
+    // The places of the entries, by type.
+    types: TypeRows,
 }
 
 impl Model for Registry {
@@ -36,12 +47,15 @@ impl Model for Registry {
 
     ghost Value = { Registrations };
 
-    ghost use Rattle.name_server.specs.Sound.{HasRoom};
+    ghost use Rattle.name_server.specs.Places.{entries_of, HasPlaces};
 
-    ghost view = { λ r. record { room = r.room; entries = r.entries.items } };
+    ghost view = { λ r. record { room = r.room; entries = entries_of r.entries r.index.items } };
 
-    ghost invariant = { λ r. HasRoom (record { room = r.room; entries = r.entries.items })
-        (vec_capacity r.entries) };
+    ghost invariant = { λ r. HasPlaces r.room
+        r.entries
+        r.index.items
+        r.types.items
+        (vec_capacity r.index) };
 }
 
 impl Registry {
@@ -50,8 +64,15 @@ impl Registry {
         ensures empty { IfOk result (λ r. r ≡ record { room = room; entries = [] }) }
         ensures sound { IfOk result IsSound }
     {
-        let entries = Vec::with_capacity(alloc, room as usize)?;
-        Ok(Registry { room, entries })
+        let entries = Slab::with_capacity(alloc, room as usize)?;
+        let index = Vec::with_capacity(alloc, room as usize)?;
+        let types = no_types(alloc, entries.capacity())?;
+        Ok(Registry {
+            room,
+            entries,
+            index,
+            types,
+        })
     }
 
     /// Enters an N_Port that logged in, with the node name of its login and nothing else.
@@ -66,10 +87,8 @@ impl Registry {
         ensures found { (a : ℕ) → entry_at a self.new.entries
             ≡ (if address == a then Some (entered address node) else entry_at a self.old.entries) }
     {
-        let place = place_above(&self.entries, address);
-        let Ok(()) = self.entries.insert(place, Entry::new(address, node)) else {
-            unreachable!()
-        };
+        let place = self.entries.insert_reserved(Entry::new(address, node));
+        rank_put(&mut self.index, Placed::new(address, place));
     }
 
     /// Takes an N_Port out, with all that it registered. False where the address isn't there.
@@ -82,12 +101,24 @@ impl Registry {
         ensures found { (a : ℕ) → entry_at a self.new.entries
             ≡ (if address == a then None else entry_at a self.old.entries) }
     {
-        match place_at(&self.entries, address) {
+        match take_place(&mut self.index, address) {
             Some(place) => {
                 self.entries.remove(place);
+                put_types(&mut self.types, place, TypeMap([0; 8]));
                 true
             }
             None => false,
+        }
+    }
+
+    /// The entry of an address.
+    pub(crate) fn find(&self, address: FcId) -> Option<&Entry>
+        ensures entry { option_copied result ≡ entry_at address self.now.entries }
+        ensures sound { IsSound self.now }
+    {
+        match place_of(&self.index, address) {
+            Some(place) => self.entries.get(place),
+            None => None,
         }
     }
 
@@ -97,7 +128,7 @@ impl Registry {
             (entry_at address self.now.entries) }
         ensures sound { IsSound self.now }
     {
-        find_at(&self.entries, address).map(|entry| entry.types())
+        self.find(address).map(|entry| entry.types())
     }
 
     /// The registered node name of an N_Port.
@@ -106,7 +137,7 @@ impl Registry {
             (entry_at address self.now.entries) }
         ensures sound { IsSound self.now }
     {
-        find_at(&self.entries, address).map(|entry| entry.node_name())
+        self.find(address).map(|entry| entry.node_name())
     }
 
     /// Why a registration of the asker would be refused; none where the asker isn't entered.
@@ -115,7 +146,7 @@ impl Registry {
             ≡ refusal (view ask.now) (entry_at asker self.now.entries) }
         ensures sound { IsSound self.now }
     {
-        match find_at(&self.entries, asker) {
+        match self.find(asker) {
             Some(entry) => refusal_of(entry.address(), entry.node_name(), ask),
             None => None,
         }
@@ -128,7 +159,7 @@ impl Registry {
             ≡ is_noticed (view ask.now) (entry_at asker self.now.entries) }
         ensures sound { IsSound self.now }
     {
-        match find_at(&self.entries, asker) {
+        match self.find(asker) {
             Some(entry) => entry.is_changed_by(ask),
             None => false,
         }
@@ -155,14 +186,18 @@ impl Registry {
         ensures stays { OnErr result (self.new ≡ self.old) }
         ensures sound { IsSound self.new }
     {
-        let Some(place) = place_at(&self.entries, asker) else {
-            unreachable!()
-        };
-        let entry = &mut self.entries[place];
-        if let Some(fault) = refusal_of(entry.address(), entry.node_name(), ask) {
+        if let Some(fault) = self.refusal(asker, ask) {
             return Err(fault);
         }
+        let Some(place) = place_of(&self.index, asker) else {
+            unreachable!()
+        };
+        let Some(entry) = self.entries.get_mut(place) else {
+            unreachable!()
+        };
         let noticed = entry.register(ask);
+        let types = entry.types();
+        put_types(&mut self.types, place, types);
         Ok(Change { noticed })
     }
 
@@ -183,6 +218,31 @@ impl Registry {
         ensures writable { IfOk result CanTell }
         ensures sound { IsSound self.now }
     {
-        answer_of(alloc, &self.entries, seen.ports(), ask)
+        let _ = &self.room;
+        answer_of(alloc, self, seen.ports(), ask)
+    }
+
+    /// A row with the bits of those of the seen N_Ports that have an FC-4 type.
+    pub(crate) fn of_type(
+        &self,
+        alloc: Global,
+        seen: &[SeenPort],
+        kind: u8,
+    ) -> Result<Row, NoMemory>
+        requires { SeenAscend 0 seen.now }
+        ensures bits { IfOk result (λ row. (i : ℕ) → has row.items i
+            ≡ seen_of_type kind self.now.entries (slice_get seen.now i)) }
+        ensures words { IfOk result (λ row. length row.items ≤ 2 ^ 58) }
+    {
+        let mut row = empty_row(alloc, seen.len())?;
+        let mut from = 0;
+        while let Some(place) = next_of_type(&self.types, kind, from) {
+            let Some(entry) = self.entries.get(place) else {
+                unreachable!()
+            };
+            mark(&mut row, seen, entry.address());
+            from = place + 1;
+        }
+        Ok(row)
     }
 }

@@ -1,9 +1,13 @@
 //! The N_Ports that an asker may see.
-ghost use Rattle.std.specs.Prelude.{◌≡◌, ◌<◌, [], ◌∷◌, ◌++◌, IfOk, OnOk, OnErr};
+ghost use Rattle.std.specs.Prelude.{◌≡◌, ℕ, ◌<◌, ◌/◌, ◌||◌, [], ◌∷◌, ◌++◌, length, slice_get, IfOk, OnOk, OnErr};
 ghost use Rattle.std.specs.List.{All};
+ghost use Rattle.bit_rows.specs.Row.{has};
 ghost use Rattle.name_server.specs.Registry.{SeenAscend};
+ghost use Rattle.name_server.specs.Views.{is_at};
 
+use bit_rows::{Row, put_bit};
 use fab_base::{FcId, HasAddress, NoMemory, Wwn};
+use sorted_lists::place_at;
 use std::alloc::Global;
 use std::marker::Model;
 
@@ -65,8 +69,22 @@ impl Seen {
     }
 
     pub(crate) fn ports(&self) -> &[SeenPort]
-        ensures { result.now ≡ self.now }
+        ensures ports { result.now ≡ self.now }
+        ensures ascending { SeenAscend 0 result.now }
     {
         self.ports.as_slice()
+    }
+}
+
+/// Sets the bit of the seen N_Port with this address, where there is one.
+pub(crate) fn mark(row: &mut Row, seen: &[SeenPort], address: FcId)
+    requires ascending { SeenAscend 0 seen.now }
+    requires wide { length seen.now / 64 < length row.old.items }
+    ensures bits { (i : ℕ) → has row.new.items i
+        ≡ (is_at address (slice_get seen.now i) || has row.old.items i) }
+    ensures words { length row.new.items ≡ length row.old.items }
+{
+    if let Some(index) = place_at(seen, address) {
+        put_bit(row, index);
     }
 }

@@ -1,6 +1,12 @@
-use Rattle.std.proofs.Common.{◌≡◌, ◌++◌, drop}
+use Rattle.std.proofs.Common.{◌≡◌, ◌≤◌, ◌-◌, ◌++◌, drop, length}
 use Rattle.name_server.proofs.SeenLemmas.{listed}
 use Rattle.name_server.proofs.lists.addresses_of_type.Given as goal
 
-abbrev pub invariant-loop-port : goal.invariant-loop-port
-invariant-loop-port l = l.list ++ listed (λ p. p.address) l.kind l.entries (drop l.port-index l.seen) ≡ listed (λ p. p.address) l.kind l.entries l.seen
+abbrev pub invariant-loop-index : goal.invariant-loop-index
+invariant-loop-index l = record {
+  within : l.from ≤ length l.seen;
+  so_far : l.list ++ listed (λ p. p.address) l.kind l.registry.entries (drop l.from l.seen) ≡ listed (λ p. p.address) l.kind l.registry.entries l.seen;
+}
+
+abbrev pub decreases-loop-index : goal.decreases-loop-index
+decreases-loop-index l = length l.seen - l.from

@@ -1,6 +1,9 @@
 use Rattle.name_server.proofs.SeenLemmas.{known-some}
+use Rattle.name_server.proofs.PlaceLemmas.{sound_places}
 use Rattle.name_server.proofs.registry.Registry.answer.Goals as goal
 
 pub answer_of-requires-clause-some : goal.answer_of-requires-clause-some
-answer_of-requires-clause-some c =
-    rw (c.deref.ensures.value, c.ports.ensures) (known-some c.args._asker c.self.inside.entries.items c.args.seen.now (rw (← c.self.view_is) at c.requires.entered) c.requires.asker)
+answer_of-requires-clause-some c = rw c.ports.ensures.ports (known-some c.args._asker c.args.self.now.entries c.args.seen.now c.requires.entered c.requires.asker)
+
+pub returns-clause-sound : goal.returns-clause-sound
+returns-clause-sound c = rw (← c.self.view_is) (sound_places c.self.invariant)

@@ -1,67 +1,92 @@
-use Rattle.std.proofs.Common.{◌≡◌, ◌∙◌, ap, sym, refl, Some, None, option_map, slice_set, get_or, subst}
+use Rattle.std.proofs.Common.{◌≡◌, ◌∙◌, ℕ, ◌<◌, ◌==◌, if◌then◌else◌, refl, ap, sym, subst, arith, Some, is_some, length}
+use Rattle.std.specs.Option.{option_copied_mut}
+use Rattle.slab.specs.Slab.{Updates, with_value}
+use Rattle.slab.proofs.SlabLemmas.{Updates-with_value}
+use Rattle.fab_base.specs.Keyed as spec
 use Rattle.fab_base.proofs.KeyedLemmas as keyed
+use Rattle.bit_rows.specs.Row.{has}
+use Rattle.sorted_lists.proofs.IndexLemmas.{none_some, some_same}
+use Rattle.ct_messages.specs.Answer.{has_type}
 use Rattle.ct_messages.specs.Ask.{view}
 use Rattle.ct_messages.specs.Server.{has_changed}
-use Rattle.name_server.specs.Registry.{Entry, IsKept, IsSound, address_of, entry_at, updated, with_registration, is_noticed, codes}
-use Rattle.name_server.proofs.TableLemmas.{refusal-here, IsSound-with_registration}
+use Rattle.name_server.specs.Registry.{Entry, IsKept, address_of, entry_at, is_noticed, updated, with_registration}
+use Rattle.name_server.specs.Places.{placed_address, entries_of, row_of, AreWide, Holds}
+use Rattle.name_server.proofs.SeenLemmas.{not_there}
+use Rattle.name_server.proofs.PlaceLemmas.{entry_in, entry_found, place_is, place_none, sound_places}
+use Rattle.name_server.proofs.ChangeLemmas.{at, place_fits, slab_len-with_value, entries_changed, places_changed}
+use Rattle.name_server.proofs.TypeLemmas.{whole}
 use Rattle.name_server.proofs.registry.Registry.register.Goals as goal
 
-absent : (c : goal.In_default) → entry_at c.args.asker c.self.inside.entries.items ≡ None
-absent c = keyed.item_at-not_found address_of c.args.asker _ _ _ c.place_at.ensures c.deref.ensures.value c.in_default.is
-
 pub unreachable-requires : goal.unreachable-requires
-unreachable-requires c = let there = rw (← c.self.view_is, absent c) at c.requires.asker in cc
+unreachable-requires c =
+    let some = rw (← c.self.view_is) at c.requires.asker in
+    not_there _ some (place_none c.self.invariant c.args.asker _ _ c.place_of.ensures c.deref.ensures.value c.in_default-place_of.is)
 
-refused : (c : goal.In-Some-refusal_of) → entry_at c.args.asker c.self.inside.entries.items ≡ Some c.index_mut-entry.result.now
-refused c =
-    (keyed.IsPlace-found address_of c.args.asker 0 _ _ _ _ c.self.invariant.sound.ascending c.place_at.ensures c.deref.ensures.value c.in-Some.is).item c.index_mut-entry.result.now
-    ∙ ap Some (sym c.index_mut-entry.ensures.value)
+pub unreachable-requires-in_default-get_mut : goal.unreachable-requires-in_default-get_mut
+unreachable-requires-in_default-get_mut c =
+    let found = place_is c.self.invariant c.args.asker _ _ c.in-Some-place_of.place c.place_of.ensures c.deref.ensures.value c.in-Some-place_of.is in
+    none_some _ (sym (ap option_copied_mut c.in_default-get_mut.is) ∙ c.get_mut.follows ∙ (at c.self.invariant c.args.asker _ found).here)
 
-pub returns-in-Some-refusal_of-clause-refused : goal.returns-in-Some-refusal_of-clause-refused
-returns-in-Some-refusal_of-clause-refused c =
-    rw (← c.self.view_is) (refusal-here c.args.asker (view c.args.ask.now) _ c.index_mut-entry.result.now _ _ _ (refused c) c.address.ensures c.node_name.ensures c.refusal_of.ensures
-    ∙ ap (option_map codes) c.in-Some-refusal_of.is)
+pub put_types-requires : goal.put_types-requires
+put_types-requires c =
+    let found = place_is c.self.invariant c.args.asker _ _ c.in-Some-place_of.place c.place_of.ensures c.deref.ensures.value c.in-Some-place_of.is in
+    record { wide = (c.self.invariant.words, subst (λ l. AreWide c.self.invariant.words l) (sym c.deref_mut.ensures.value) c.self.invariant.wide, place_fits c.self.invariant c.args.asker _ found) }
 
-place : (c : goal.After-self-2-1) → keyed.IsPlace address_of c.args.asker c.self.inside.entries.items c.in-Some.place
-place c = keyed.IsPlace-found address_of c.args.asker 0 _ _ _ _ c.self.invariant.sound.ascending c.place_at.ensures c.deref.ensures.value c.in-Some.is
+found : (c : goal.After-self-3-1) → spec.item_at placed_address c.args.asker c.self.inside.index.items ≡ Some (record { address = c.args.asker; place = c.in-Some-place_of.place })
+found c = place_is c.self.invariant c.args.asker _ _ c.in-Some-place_of.place c.place_of.ensures c.deref.ensures.value c.in-Some-place_of.is
 
-here : (c : goal.After-self-2-1) → entry_at c.args.asker c.self.inside.entries.items ≡ Some c.index_mut-entry.result.now
-here c = (place c).item c.index_mut-entry.result.now ∙ ap Some (sym c.index_mut-entry.ensures.value)
+-- the asker's entry
+abbrev old : (c : goal.After-self-3-1) → Holds c.self.inside.entries (record { address = c.args.asker; place = c.in-Some-place_of.place })
+old c = at c.self.invariant c.args.asker _ (found c)
 
-new : (c : goal.After-self-2-1) → c.register-noticed.new.self ≡ updated (view c.args.ask.now) (get_or c.self.inside.entries.items c.in-Some.place c.index_mut-entry.result.now)
-new c = c.register-noticed.ensures.entry ∙ ap (updated (view c.args.ask.now)) c.index_mut-entry.ensures.value
+old_is : (c : goal.After-self-3-1) → c.in-Some-get_mut.entry.now ≡ (old c).entry
+old_is c = some_same _ _ (sym (ap option_copied_mut c.in-Some-get_mut.is) ∙ c.get_mut.follows ∙ (old c).here)
 
-items : (c : goal.After-self-2-1) → slice_set c.self.inside.entries.items c.in-Some.place c.register-noticed.new.self ≡ with_registration c.args.asker (view c.args.ask.now) c.self.inside.entries.items
-items c = ap (λ e. slice_set c.self.inside.entries.items c.in-Some.place e) (new c) ∙ (place c).write (updated (view c.args.ask.now)) c.index_mut-entry.result.now
+new_is : (c : goal.After-self-3-1) → c.register-noticed.new.self ≡ updated (view c.args.ask.now) (old c).entry
+new_is c = c.register-noticed.ensures.entry ∙ ap (updated (view c.args.ask.now)) (old_is c)
 
-sound : (c : goal.After-self-2-1) → IsSound (record { room = c.self.inside.room; entries = with_registration c.args.asker (view c.args.ask.now) c.self.inside.entries.items })
-sound c =
-    IsSound-with_registration c.args.asker (view c.args.ask.now) _ _ c.index_mut-entry.result.now c.self.invariant.sound (place c)
-    (subst (λ (e : Entry). IsKept e.values) (new c) c.register-noticed.ensures.kept)
+here : (c : goal.After-self-3-1) → entry_at c.args.asker (entries_of c.self.inside.entries c.self.inside.index.items) ≡ Some (old c).entry
+here c = entry_found c.self.invariant c.args.asker ∙ ap (entry_in c.self.inside.entries) (found c) ∙ (old c).here
 
-pub invariant_of-self-2 : goal.invariant_of-self-2
-invariant_of-self-2 c = record {
-  sound = rw (items c) (sound c);
-  room = c.self.invariant.room;
-  range = c.self.invariant.range;
-}
+updates : (c : goal.After-self-3-1) → Updates c.self.inside.entries (with_value c.self.inside.entries c.in-Some-place_of.place c.register-noticed.new.self) c.in-Some-place_of.place (Some (updated (view c.args.ask.now) (old c).entry))
+updates c =
+    subst (λ (e : Entry). Updates c.self.inside.entries (with_value c.self.inside.entries c.in-Some-place_of.place c.register-noticed.new.self) c.in-Some-place_of.place (Some e)) (new_is c)
+    (Updates-with_value c.self.inside.entries c.in-Some-place_of.place c.register-noticed.new.self (ap is_some (old c).here))
 
-pub returns-clause-allowed : goal.returns-clause-allowed
-returns-clause-allowed c =
-    rw (← c.self.view_is) (refusal-here c.args.asker (view c.args.ask.now) _ c.index_mut-entry.result.now _ _ _ (here c) c.address.ensures c.node_name.ensures c.refusal_of.ensures
-    ∙ ap (option_map codes) c.in_default-refusal_of.is)
+kept : (c : goal.After-self-3-1) → IsKept (updated (view c.args.ask.now) (old c).entry).values
+kept c = subst (λ (e : Entry). IsKept e.values) (new_is c) c.register-noticed.ensures.kept
+
+wide : (c : goal.After-self-3-1) → AreWide c.self.invariant.words c.put_types.new.rows
+wide c = c.put_types.ensures.wide c.self.invariant.words (subst (λ l. AreWide c.self.invariant.words l) (sym c.deref_mut.ensures.value) c.self.invariant.wide)
+
+bits : (c : goal.After-self-3-1) → (kind q : ℕ) → kind < 256
+    → has (row_of c.put_types.new.rows kind) q ≡ (if c.in-Some-place_of.place == q then has_type c.types-types.result kind else has (row_of c.self.inside.types.items kind) q)
+bits c = λ kind q lt. c.put_types.ensures.bits kind q lt ∙ ap (λ l. if c.in-Some-place_of.place == q then has_type c.types-types.result kind else has (row_of l kind) q) c.deref_mut.ensures.value
+
+entries : (c : goal.After-self-3-1) → entries_of (with_value c.self.inside.entries c.in-Some-place_of.place c.register-noticed.new.self) c.self.inside.index.items
+    ≡ with_registration c.args.asker (view c.args.ask.now) (entries_of c.self.inside.entries c.self.inside.index.items)
+entries c = entries_changed c.self.invariant c.args.asker _ (found c) (updated (view c.args.ask.now)) (λ e. refl) _ (updates c) refl (kept c)
+
+pub invariant_of-self : goal.invariant_of-self
+invariant_of-self c =
+    let count = c.self.invariant.wide.count in
+    let types = c.types-types.ensures ∙ ap (λ (e : Entry). e.values.types) (new_is c) in
+    rw (whole c.self.inside.types.len c.put_types.new.rows c.self.inside.types.items (omega (arith, ap length c.deref_mut.ensures.value, c.deref_mut.ensures.len)) (omega (arith, count, (wide c).count)))
+    (places_changed c.self.invariant c.args.asker _ (found c) (updated (view c.args.ask.now)) (λ e. refl) _ (updates c) refl (kept c)
+    c.put_types.new.rows c.types-types.result (slab_len-with_value c.self.inside.entries c.in-Some-place_of.place (old c).entry c.register-noticed.new.self (old c).here) (wide c) types (bits c))
 
 pub returns-clause-entries : goal.returns-clause-entries
-returns-clause-entries c = rw (← c.self.view_is) (ap (λ l. record { room = c.self.inside.room; entries = l }) (items c))
+returns-clause-entries c = rw (← c.self.view_is) (ap (λ l. record { room = c.self.inside.room; entries = l }) (entries c))
 
 pub returns-clause-found : goal.returns-clause-found
-returns-clause-found c = rw (items c, ← c.self.view_is) (λ a. keyed.item_at-changed address_of (updated (view c.args.ask.now)) (λ e. refl) c.args.asker a c.self.inside.entries.items)
+returns-clause-found c = rw (entries c, ← c.self.view_is) (λ a. keyed.item_at-changed address_of (updated (view c.args.ask.now)) (λ e. refl) c.args.asker a (entries_of c.self.inside.entries c.self.inside.index.items))
 
 pub returns-clause-noticed : goal.returns-clause-noticed
 returns-clause-noticed c =
     rw (← c.self.view_is) (c.register-noticed.ensures.noticed
-    ∙ ap (λ (e : Entry). has_changed c.index_mut-entry.result.now.values e.values) c.register-noticed.ensures.entry
+    ∙ ap (λ (e : Entry). has_changed e.values c.register-noticed.new.self.values) (old_is c)
+    ∙ ap (λ (e : Entry). has_changed (old c).entry.values e.values) (new_is c)
     ∙ sym (ap (is_noticed (view c.args.ask.now)) (here c)))
 
 pub returns-clause-sound : goal.returns-clause-sound
-returns-clause-sound c = rw (items c) (sound c)
+returns-clause-sound c = sound_places (invariant_of-self c)
