@@ -1,11 +1,11 @@
 -- How a check begins, goes on from window to window, and ends.
-use Rattle.std.proofs.Common.{◌≡◌, ◌≢◌, ℕ, zero, suc, ◌+◌, ◌-◌, ◌^◌, ◌<◌, ◌≤◌, ◌⊎◌, inl, inr, false, List, [], ◌∷◌, ◌++◌, length, map, take, drop, slice_get, Option, Some, None, IfSome, IsTrue, Result, Ok, Err, OnOk, IfErr, MatchResult, refl, sym, ap, ◌∙◌, subst, arith}
+use Rattle.std.proofs.Common.{◌≡◌, ◌≢◌, ℕ, zero, suc, ◌+◌, ◌^◌, ◌<◌, ◌≤◌, ◌⊎◌, inl, inr, false, List, [], ◌∷◌, ◌++◌, length, map, take, drop, slice_get, Option, Some, None, IfSome, IsTrue, Result, Ok, Err, OnOk, MatchResult, refl, sym, ap, ◌∙◌, subst, arith}
 use Rattle.std.specs.Prelude.{unwrap_or, nat_lt, filter, Vec}
 use Rattle.std.specs.declared.alloc.Global.{Global}
 use Rattle.std.specs.List.{All}
 use Rattle.std.proofs.lemmas.List.{append-nil}
-use Rattle.fab_base.specs.Seen.{Seen, Touches, Nothing, Rose}
-use Rattle.fab_base.proofs.SeenLemmas.{rose_later, touches_trans, touches_wider}
+use Rattle.fab_base.specs.Seen.{Seen, Touches, Nothing}
+use Rattle.fab_base.proofs.SeenLemmas.{touches_refl, touches_trans, touches_wider}
 use Rattle.fab_config.specs.Settings.{Settings}
 use Rattle.fab_policy.specs.Growing.{with_more}
 use Rattle.fab_policy.specs.Journal.{Journal, followed}
@@ -14,7 +14,7 @@ use Rattle.fab_policy.specs.Legal.{HoldsFrames, left_of, numbered_from, of_port,
 use Rattle.fab_policy.specs.Looks.{Opened, Stop, all_records, first_window, in_order, records_in, stop}
 use Rattle.fab_policy.specs.Outputs.{State, state_of}
 use Rattle.fab_policy.specs.Standing.{Contents, sent_after}
-use Rattle.fab_policy.specs.Text.{text, text1}
+use Rattle.fab_policy.specs.Text.{egress, text, text1}
 use Rattle.fab_policy.specs.Written.{all_kept}
 use Rattle.fab_policy.specs.declared.line.Format.{Format}
 use Rattle.fab_policy.specs.declared.line.Format.TheVariants.{One, Two}
@@ -25,22 +25,29 @@ use Rattle.fab_gather.specs.declared.shelf.Shelf.{Shelf}
 use Rattle.fab_gather.specs.declared.fault.RunFault.{RunFault}
 use Rattle.fab_gather.specs.declared.fault.RunFault.TheVariants as run_fault
 use Rattle.fab_gather.specs.First.{IsNextWindow, LooksFirst, opened_in}
+use Rattle.fab_gather.specs.Gather.{Gathers}
 use Rattle.fab_gather.specs.Port.{IsStopped}
-use Rattle.fab_gather.specs.Ports.{AreInputs, AreReady, NameIn, joined, name_of, rests, slot_at, slots_of, stop_from}
+use Rattle.fab_gather.specs.Ports.{AreInputs, AreReady, NameIn, joined, rests, slot_at, slots_of, stop_from}
 use Rattle.fab_gather.specs.Reads.{HaveRead, IsWhole, batches_of}
-use Rattle.fab_replay.specs.Check.{Checks, IsAccepted, IsFirstStop, Says}
-use Rattle.fab_replay.specs.Front.{AreRightLines, IsFirstWrong, expects_tick, has_left}
+use Rattle.fab_replay.specs.AllOutputs.{IsFirst, OneRose, page_at}
+use Rattle.fab_replay.specs.Check.{Checks, IsFirstStop, NamesRun, Says, sent_on}
+use Rattle.fab_replay.specs.Front.{AreRightLines, expects_tick, has_left}
 use Rattle.fab_replay.specs.Laws.{Laws}
 use Rattle.fab_replay.specs.Lines.{IsBehind, IsInside, IsOfLine, text_in}
-use Rattle.fab_replay.specs.Steps.{AreCounted, IsFound, IsGathered, IsReached, Scene}
-use Rattle.fab_replay.specs.Windows.{Ended, Gathers, Going, OfTask, Task, captures_in, check_fault, scene_of}
+use Rattle.fab_replay.specs.Owed.{AreMany, AreNew, IsOwed, ReadsOut, Tells}
+use Rattle.fab_replay.specs.Steps.{AreCounted, IsFound, IsGathered, IsIdle, IsReached, Scene}
+use Rattle.fab_replay.specs.Windows.{Ended, Going, IsOf, OfTask, Task, captures_in, check_fault, matter_of, scene_of, slots_in}
 use Rattle.fab_replay.specs.declared.fault.CheckFault.{CheckFault}
 use Rattle.fab_replay.specs.declared.fault.CheckFault.TheVariants as fault
 use Rattle.fab_replay.specs.declared.lines.Place.{Place}
+use Rattle.fab_replay.specs.declared.owed.Owed.{Owed}
 use Rattle.fab_replay.proofs.FrontLemmas.{front_run}
 use Rattle.fab_replay.proofs.LeftLemmas.{left_none, tick_never}
 use Rattle.fab_replay.proofs.ListLemmas.{rest_none, take_front}
+use Rattle.fab_replay.proofs.OwedLemmas.{first_as, owed_first, owed_stays}
 use Rattle.fab_replay.proofs.ReadLemmas.{gathered, length-records, lines_on}
+use Rattle.fab_replay.proofs.SlotsLemmas.{in_back, in_front, inputs_back, inputs_front, inputs_stay, left_back, left_front, name_in, rose_back, rose_front, rose_in_all}
+use Rattle.fab_replay.proofs.StayLemmas.{SameLeft, read_stays, same_left, stop_stays}
 
 -- ---- slots
 
@@ -61,19 +68,6 @@ length-opened d (i ∷ ins) = ap suc (length-opened d ins)
 pub length-scene : (k : Task) → length (scene_of k).records ≡ length k.start.ins
 length-scene k = length-records (captures_in k) ∙ length-opened k.start.seen k.start.ins
 
-module _ (counted : List ℕ → Type 0) (a b : Seen) (t : Touches Nothing counted a b) (slots : List ℕ) (o : AreInputs a slots) where
-  named : (q : ℕ) → q < length slots → name_of b slots q ≡ name_of a slots q
-  named q lt = (t.slots (slot_at slots q) (inl (o.inputs q lt))).name
-
-  inputs_stay : AreInputs b slots
-  inputs_stay = record {
-    inputs = λ q lt. subst IsTrue (sym (t.slots (slot_at slots q) (inl (o.inputs q lt))).input) (o.inputs q lt);
-    differ = λ p q less lt e. o.differ p q less lt (sym (named p less) ∙ e ∙ named q lt);
-  }
-
-  name_in : (m : List ℕ) → NameIn b slots m → NameIn a slots m
-  name_in m h = (h.0, h.1, h.2 ∙ named h.0 h.1)
-
 -- ---- the lines so far
 
 pub right_lines : (x : Scene) (J : Journal) (F : Contents) (p : Place) → IsReached x J F p → AreRightLines x.settings x.records x.bytes J
@@ -84,15 +78,15 @@ right_lines x J F p h = record {
 }
 
 -- a fault of a line ends the check
-pub says_found : (x : Scene) (budget : Budget) (opened : List Opened) (F : Contents) (e : CheckFault) → x.records ≡ all_records opened → IsFound x e → Says x.settings budget opened x.bytes F (Err e)
-says_found x budget opened F (fault.Line n y) same h = subst (λ rs. IsFirstWrong x.settings rs x.bytes n y) same h
-says_found x budget opened F (fault.Output port at) same h = absurd h
-says_found x budget opened F (fault.Capture port at w) same h = absurd h
-says_found x budget opened F (fault.Limit kind) same h = absurd h
-says_found x budget opened F fault.Read same h = absurd h
-says_found x budget opened F fault.Memory same h = tt
+pub says_found : (k : Task) (F : Contents) (e : CheckFault) → IsFound (scene_of k) e → Says k.settings k.start.budget (matter_of k) F (Err e)
+says_found k F (fault.Line n y) h = h
+says_found k F (fault.Output port at) h = absurd h
+says_found k F (fault.Capture port at w) h = absurd h
+says_found k F (fault.Limit kind) h = absurd h
+says_found k F fault.Read h = tt
+says_found k F fault.Memory h = tt
 
-not_read : (e : CheckFault) → IsOfLine e → e ≡ fault.Read → ⊥
+pub not_read : (e : CheckFault) → IsOfLine e → e ≡ fault.Read → ⊥
 not_read (fault.Line n y) h is = cc
 not_read (fault.Output port at) h is = absurd h
 not_read (fault.Capture port at w) h is = absurd h
@@ -100,18 +94,25 @@ not_read (fault.Limit kind) h is = absurd h
 not_read fault.Read h is = absurd h
 not_read fault.Memory h is = cc
 
-pub ended_line : (k : Task) (d : Seen) (e : CheckFault) → Touches Nothing (OfTask k) k.start.seen d → IsOfLine e → (IsTrue k.start.seen.told → IsFound (scene_of k) e) → Ended k d e
-ended_line k d e touches only found F = record {
+-- the cause of a fault of reading, if this is one
+abbrev pub Caused : Task → Seen → CheckFault → Type 0
+Caused k d e = e ≡ fault.Read → OneRose (slots_in k) k.start.seen d
+
+pub ended_line : (k : Task) (d : Seen) (e : CheckFault) → Touches Nothing (OfTask k) k.start.seen d → Caused k d e → (IsTrue k.start.seen.told → IsFound (scene_of k) e) → Ended k d e
+ended_line k d e touches cause found F = record {
   touches = touches;
-  says = λ told. says_found (scene_of k) k.start.budget (captures_in k) F e refl (found told);
-  read = λ is. absurd (not_read e only (let same : e ≡ fault.Read = cc in same));
+  says = λ told. says_found k F e (found told);
+  read = λ is. cause (let same : e ≡ fault.Read = cc in same);
 }
+
+-- memory is refused before anything is read
+pub ended_refused : (k : Task) → Ended k k.start.seen fault.Memory
+ended_refused k F = record { touches = touches_refl Nothing (OfTask k) k.start.seen; says = λ told. tt; read = λ is. absurd (cc) }
 
 -- ---- a stop
 
 module _ (k : Task) (d : Seen) (touches : Touches Nothing (OfTask k) k.start.seen d) where
-  pub ended_gather : (e : RunFault) → e ≢ run_fault.Write → (IsTrue k.start.seen.told → IsStopped e → IsFirstStop k.settings k.start.budget (captures_in k) k.bytes e) →
-      (e ≡ run_fault.Read → (q : ℕ) × (q < length k.start.ins) × Rose (k.start.seen.read_faults (name_of k.start.seen (slots_of k.start.ins) q)) (d.read_faults (name_of k.start.seen (slots_of k.start.ins) q))) →
+  pub ended_gather : (e : RunFault) → e ≢ run_fault.Write → (IsTrue k.start.seen.told → IsStopped e → IsFirstStop k.settings k.start.budget (matter_of k) e) → (e ≡ run_fault.Read → OneRose (slots_in k) k.start.seen d) →
       Ended k d (check_fault e)
   ended_gather (run_fault.Capture port at w) ne stops cause F = record { touches = touches; says = λ told. stops told tt; read = λ is. absurd (cc) }
   ended_gather (run_fault.Limit kind) ne stops cause F = record { touches = touches; says = λ told. stops told tt; read = λ is. absurd (cc) }
@@ -142,20 +143,6 @@ holds_nothing c s p [] none = tt
 holds_nothing c s p (records ∷ ins) none =
     (sym (ap (numbered_from 0) (ap (λ (x : Option ℕ). elim x as (λ _. List Record) [ None ↦ [] | Some v ↦ filter (λ r. nat_lt (window_start c r.moment) v) records ]) none)), holds_nothing c s (p + 1) ins none)
 
--- ---- measures
-
--- how far a clock is from a moment that it stays before
-abbrev pub distance : ℕ → Option ℕ → ℕ
-distance w None = w + 1
-distance w (Some t) = w - t
-
-pub nearer : (n w : ℕ) (old new : Option ℕ) → IfSome old (λ t. t < w) → w < n → new ≡ Some w → distance n new < distance n old
-nearer n w old new h lt is = subst (λ o. distance n o < distance n old) (sym is) (go old h)
-  where
-    go : (o : Option ℕ) → IfSome o (λ t. t < w) → distance n (Some w) < distance n o
-    go None b = omega (arith, lt)
-    go (Some t) b = omega (arith, b, lt)
-
 -- the same window, by the code's own configuration
 pub gathers_as : (c s : Settings) → c ≡ s → (first w : ℕ) (a b : Seen) (ins ins' : List Input) (shelves shelves' : List Shelf) (had left : Budget) (r : Result (Unit {0}) RunFault) →
     Gathers c first w a b ins ins' shelves shelves' had left r → Gathers s first w a b ins ins' shelves shelves' had left r
@@ -163,18 +150,24 @@ gathers_as c s e first w a b ins ins' shelves shelves' had left r t = subst (λ 
 
 -- ---- between windows
 
-module _ (laws : Laws) (k : Task) (w first : ℕ) (F : Contents) (p : Place) (d : Seen) (ins : List Input) (shelves : List Shelf) (left : Budget) (g : Going k w first F p d ins shelves left) where
+module _ (laws : Laws) (k : Task) (w first : ℕ) (F : Contents) (p : Place) (d : Seen) (ins : List Input) (shelves : List Shelf) (left : Budget) (o : Owed) (g : Going k w first F p d ins shelves left o) where
+  abbrev xs : List ℕ
+  xs = slots_of k.start.ins
+
   told_on : IsTrue k.start.seen.told → IsTrue d.told
   told_on told = subst IsTrue (sym g.touches.told) told
 
+  all_inputs : AreInputs d (slots_in k)
+  all_inputs = inputs_stay (OfTask k) k.start.seen d g.touches (slots_in k) g.inputs
+
   pub inputs_now : AreInputs d (slots_of ins)
-  inputs_now = subst (AreInputs d) (sym g.slots) (inputs_stay (OfTask k) k.start.seen d g.touches (slots_of k.start.ins) g.inputs)
+  inputs_now = subst (AreInputs d) (sym g.slots) (inputs_front xs k.outs d all_inputs)
 
   pub ports_now : length ins ≡ length k.start.ins
   ports_now = same_ports k.start.ins ins g.slots
 
   name_now : (m : List ℕ) → NameIn d (slots_of ins) m → OfTask k m
-  name_now m h = name_in (OfTask k) k.start.seen d g.touches (slots_of k.start.ins) g.inputs m (subst (λ s. NameIn d s m) g.slots h)
+  name_now m h = name_in (OfTask k) k.start.seen d g.touches (slots_in k) g.inputs m (in_front xs k.outs d m (subst (λ s. NameIn d s m) g.slots h))
 
   touches_on : (b : Seen) → Touches Nothing (NameIn d (slots_of ins)) d b → Touches Nothing (OfTask k) k.start.seen b
   touches_on b t = touches_trans Nothing (OfTask k) k.start.seen d b g.touches (touches_wider Nothing (NameIn d (slots_of ins)) Nothing (OfTask k) d b (λ m h. h) name_now t)
@@ -190,12 +183,14 @@ module _ (laws : Laws) (k : Task) (w first : ℕ) (F : Contents) (p : Place) (d 
   pub next_here : (c : Settings) → c ≡ F.settings → (o : Option ℕ) → IsNextWindow c shelves o → IsNextWindow k.settings shelves o
   next_here c e o h = subst (λ s. IsNextWindow s shelves o) (e ∙ g.settings_) h
 
-  pub going_next : (v : ℕ) → IsNextWindow k.settings shelves (Some v) → Going k v first F p d ins shelves left
+  pub going_next : (v : ℕ) → IsNextWindow k.settings shelves (Some v) → Going k v first F p d ins shelves left o
   going_next v next =
       let ahead = laws.next_ahead k.settings w v ins shelves left g.count g.ready next in
       record {
         inputs = g.inputs;
         ports = g.ports;
+        outputs = g.outputs;
+        many = g.many;
         touches = g.touches;
         slots = g.slots;
         count = g.count;
@@ -243,8 +238,8 @@ module _ (laws : Laws) (k : Task) (w first : ℕ) (F : Contents) (p : Place) (d 
         })
         (λ is.
         let cause = t.cause (ap (λ y. Err y) is) in
-        let at = name_now (name_of d (slots_of ins) cause.0) (cause.0, (let lt = cause.1 in omega (arith, lt, length-slots ins)), refl) in
-        (at.0, (let lt = at.1 in omega (arith, lt, length-slots k.start.ins)), rose_later _ _ _ (g.touches.reads_rise _) (subst (λ n. Rose (d.read_faults n) (b.read_faults n)) at.2 cause.2)))
+        let rose : OneRose (slots_of ins) d b = (cause.0, (let lt = cause.1 in omega (arith, lt, length-slots ins)), cause.2) in
+        rose_in_all (OfTask k) k.start.seen d g.touches (slots_in k) g.inputs b (rose_front xs k.outs d b (subst (λ s. OneRose s d b) g.slots rose)))
 
     module _ (t : Gathers k.settings first w d b ins ins' shelves shelves' left left' (Ok tt)) (next : IsNextWindow k.settings shelves (Some w)) where
       abbrev taken' : List (List Record)
@@ -273,28 +268,63 @@ module _ (laws : Laws) (k : Task) (w first : ℕ) (F : Contents) (p : Place) (d 
 
       -- ---- and checking its lines
 
-      module _ (G : Contents) (q : Place) where
+      touches_b : Touches Nothing (OfTask k) k.start.seen b
+      touches_b = touches_on b t.touches
+
+      inputs_b : AreInputs b (slots_in k)
+      inputs_b = inputs_stay (OfTask k) k.start.seen b touches_b (slots_in k) g.inputs
+
+      pub outputs_b : AreInputs b k.outs
+      outputs_b = inputs_back xs k.outs b inputs_b
+
+      -- the outputs, of which nothing was fetched
+      pub owed_now : (told : IsTrue k.start.seen.told) → IsOwed k.settings (length (scene_of k).records) k.start.seen b k.outs (g.lines told).0 o
+      owed_now told =
+          owed_stays k.settings (length (scene_of k).records) k.start.seen d k.outs (g.lines told).0 o g.many (g.lines told).3 b
+          (left_back xs k.outs d all_inputs b (subst (λ s. Touches Nothing (NameIn d s) d b) g.slots t.touches))
+
+      module _ (G : Contents) (q : Place) (e : Seen) (o' : Owed) where
         -- what the lines of the window leave
         abbrev pub Lines : Result (Unit {0}) CheckFault → Type 0
-        Lines r = MatchResult r (λ _. (told : IsTrue k.start.seen.told) → (K : Journal) × IsReached (scene_of k) K G q × AreCounted K shelves') (λ e. (told : IsTrue k.start.seen.told) → IsFound (scene_of k) e)
+        Lines r = MatchResult r
+            (λ _. (told : IsTrue k.start.seen.told) → (K : Journal) × IsReached (scene_of k) K G q × AreCounted K shelves' × IsOwed k.settings (length (scene_of k).records) k.start.seen e k.outs K o')
+            (λ f. (told : IsTrue k.start.seen.told) → IsFound (scene_of k) f)
 
-        pub lines_left : (bytes : List ℕ) → k.bytes ≡ bytes → (r : Result (Unit {0}) CheckFault) →
-            ((x : Scene) (J : Journal) → x.bytes ≡ bytes → IsReached x J F p → IsGathered x w J shelves' → MatchResult r (λ _. (K : Journal) × IsReached x K G q × AreCounted K shelves') (λ e. IsFound x e)) → Lines r
-        lines_left bytes same (Ok u) h = λ told. h (scene_of k) (g.lines told).0 same (g.lines told).1 (gathered_now told)
-        lines_left bytes same (Err e) h = λ told. h (scene_of k) (g.lines told).0 same (g.lines told).1 (gathered_now told)
+        by_result : (r : Result (Unit {0}) CheckFault) →
+            ((told : IsTrue k.start.seen.told) → MatchResult r (λ _. (K : Journal) × IsReached (scene_of k) K G q × AreCounted K shelves' × IsOwed k.settings (length (scene_of k).records) k.start.seen e k.outs K o') (λ f. IsFound (scene_of k) f)) → Lines r
+        by_result (Ok u) h = h
+        by_result (Err f) h = h
 
-        pub turn_ends : (r : Result (Unit {0}) CheckFault) → Lines r → IfErr r IsOfLine → OnOk r (IsInside k.bytes q) → OnOk r (G.state.tables.clock ≡ Some w) → G.settings ≡ k.settings → G.count ≡ F.count → OnOk r (G.events ≡ []) →
-            MatchResult r (λ _. Going k (w + 1) first G q b ins' shelves' left') (λ e. Ended k b e)
-        turn_ends (Ok u) lines only inside clock settings count idle = record {
+        pub lines_left : (bytes outs : List ℕ) → IsOf k bytes outs → (r : Result (Unit {0}) CheckFault) →
+            (IsTrue b.told → (x : Scene) (J : Journal) (start : Seen) → x.bytes ≡ bytes → IsReached x J F p → IsGathered x w J shelves' → IsOwed x.settings (length x.records) start b outs J o →
+            MatchResult r (λ _. (K : Journal) × IsReached x K G q × AreCounted K shelves' × IsOwed x.settings (length x.records) start e outs K o') (λ f. IsFound x f)) → Lines r
+        lines_left bytes outs same r h = by_result r (λ told.
+            let l = g.lines told in
+            subst (λ s. MatchResult r (λ _. (K : Journal) × IsReached (scene_of k) K G q × AreCounted K shelves' × IsOwed k.settings (length (scene_of k).records) k.start.seen e s K o') (λ f. IsFound (scene_of k) f)) (sym same.outputs)
+            (h (told_b told) (scene_of k) l.0 k.start.seen same.journal l.1 (gathered_now told) (subst (λ s. IsOwed k.settings (length (scene_of k).records) k.start.seen b s l.0 o) same.outputs (owed_now told))))
+
+        touches_e : Touches Nothing (NameIn b k.outs) b e → Touches Nothing (OfTask k) k.start.seen e
+        touches_e touched =
+            touches_trans Nothing (OfTask k) k.start.seen b e touches_b
+            (touches_wider Nothing (NameIn b k.outs) Nothing (OfTask k) b e (λ m h. h) (λ m h. name_in (OfTask k) k.start.seen b touches_b (slots_in k) g.inputs m (in_back xs k.outs b m h)) touched)
+
+        same_e : Touches Nothing (NameIn b k.outs) b e → SameLeft b e ins'
+        same_e touched = same_left b e ins' (subst (λ s. (q : ℕ) → q < length s → e.left (slot_at s q) ≡ b.left (slot_at s q)) (sym (t.slots ∙ g.slots)) (left_front xs k.outs b inputs_b e touched))
+
+        pub turn_ends : (r : Result (Unit {0}) CheckFault) → Lines r → Touches Nothing (NameIn b k.outs) b e → (r ≡ Err fault.Read → OneRose k.outs b e) → OnOk r (AreMany (length k.outs) o') → OnOk r (IsInside k.bytes q) →
+            OnOk r (G.state.tables.clock ≡ Some w) → G.settings ≡ k.settings → G.count ≡ F.count → OnOk r (IsIdle G) → MatchResult r (λ _. Going k (w + 1) first G q e ins' shelves' left' o') (λ f. Ended k e f)
+        turn_ends (Ok u) lines touched cause many inside clock settings count idle = record {
           inputs = g.inputs;
           ports = g.ports;
-          touches = touches_on b t.touches;
+          outputs = g.outputs;
+          many = many;
+          touches = touches_e touched;
           slots = t.slots ∙ g.slots;
           count = t.count ∙ g.count ∙ sym same_ins;
           ready = t.ready;
           taken = taken';
-          read = read_on;
-          stops = λ told. g.stops told ∙ t.looks (told_on told);
+          read = read_stays k.settings b e touched.told (w + 1) (captures_in k) taken' ins' shelves' (same_e touched) read_on;
+          stops = λ told. g.stops told ∙ t.looks (told_on told) ∙ sym (stop_stays k.settings b e first ins' shelves' left' (same_e touched));
           settings_ = settings;
           count_ = count ∙ g.count_;
           clock = subst (λ o. IfSome o (λ n. n < w + 1)) (sym clock) (omega arith);
@@ -302,9 +332,12 @@ module _ (laws : Laws) (k : Task) (w first : ℕ) (F : Contents) (p : Place) (d 
           inside = inside;
           lines = λ told.
               let l = lines told in
-              (l.0, l.1, lines_on k.settings w (captures_in k) g.taken ins' shelves' b width_on read_on l.0 l.2);
+              (l.0, l.1, lines_on k.settings w (captures_in k) g.taken ins' shelves' b width_on read_on l.0 l.2, l.3);
         }
-        turn_ends (Err e) lines only inside clock settings count idle = ended_line k b e (touches_on b t.touches) only lines
+        turn_ends (Err f) lines touched cause many inside clock settings count idle =
+            ended_line k e f (touches_e touched)
+            (λ is. rose_in_all (OfTask k) k.start.seen b touches_b (slots_in k) g.inputs e (rose_back xs k.outs b e (cause (ap (λ y. Err y) is))))
+            lines
 
   -- ---- the end of all captures
 
@@ -329,12 +362,11 @@ module _ (laws : Laws) (k : Task) (w first : ℕ) (F : Contents) (p : Place) (d 
     by_format One e = inr (e ∙ append-nil (text1 J))
     by_format Two e = inl (e ∙ append-nil (text J))
 
-    pub accepted : drop p.at k.bytes ≡ [] → IsAccepted k.settings k.start.budget (captures_in k) k.bytes F p.entries
-    accepted end =
+    names : drop p.at k.bytes ≡ [] → NamesRun k.settings k.start.budget (matter_of k) J
+    names end =
         let h = (g.lines told).1 in
         let run = front_run k.settings (scene_of k).records J h.front none_of in
         record {
-          entry_list = J;
           named = record {
             ranged = h.front.ranged;
             ports = h.front.ports;
@@ -344,34 +376,86 @@ module _ (laws : Laws) (k : Task) (w first : ℕ) (F : Contents) (p : Place) (d 
           run = run;
           none = g.stops told ∙ laws.none_left k.settings first d ins shelves left none;
           whole = all.1;
-          stands = h.stands;
-          count = h.behind.entries;
         }
+
+    -- what the outputs are against the captures that the journal sends
+    outputs_first : (e : Seen) (r : Result (Unit {0}) CheckFault) → ReadsOut k.outs d e o r → (first : Option (ℕ × ℕ)) →
+        ((found wanted : ℕ → List ℕ) → Tells (length k.outs) found wanted r → IsFirst first (length k.outs) found wanted) → IsFirst first (length k.outs) (matter_of k).found (sent_on k.settings (matter_of k) J)
+    outputs_first e r read first tells =
+        let i = (g.lines told).3 in
+        let found = (matter_of k).found in
+        let wanted = λ (q : ℕ). i.before q ++ page_at o.pages.items q in
+        first_as first (length k.outs) found wanted (sent_on k.settings (matter_of k) J)
+        (λ q lt. sym (i.next q lt) ∙ ap (λ (n : ℕ). egress k.settings n (q + 1) J) (length-records (captures_in k)))
+        (tells found wanted (read.tells (told_on told) found i.before i.read))
 
   -- ---- the end of the journal
 
+  -- no line is behind the last frame
+  abbrev pub Ends : Type 0
+  Ends = (x : Scene) (J : Journal) (E : Contents) → x.bytes ≡ k.bytes → IsReached x J E p → has_left x.settings x.records J ≡ false → expects_tick x.settings x.records J ≡ false → drop p.at k.bytes ≡ []
+
   pub ended_behind : IsNextWindow k.settings shelves None → (e : CheckFault) → IsOfLine e →
       ((x : Scene) (J : Journal) (E : Contents) → x.bytes ≡ k.bytes → IsReached x J E p → has_left x.settings x.records J ≡ false → expects_tick x.settings x.records J ≡ false → IsFound x e) → Ended k d e
-  ended_behind none e only found = ended_line k d e g.touches only (λ told. let n = nothing_left none told in found (scene_of k) (g.lines told).0 F refl (g.lines told).1 n.0 n.1)
+  ended_behind none e only found =
+      ended_line k d e g.touches (λ is. absurd (not_read e only is)) (λ told. let n = nothing_left none told in found (scene_of k) (g.lines told).0 F refl (g.lines told).1 n.0 n.1)
 
-  pub ended_well : IsNextWindow k.settings shelves None →
-      ((x : Scene) (J : Journal) (E : Contents) → x.bytes ≡ k.bytes → IsReached x J E p → has_left x.settings x.records J ≡ false → expects_tick x.settings x.records J ≡ false → drop p.at k.bytes ≡ []) →
-      Checks k.settings k.start.budget k.start.ins k.bytes k.start.seen d F (Ok p.entries)
-  ended_well none end = record {
-    touches = g.touches;
-    says = λ told.
-        let n = nothing_left none told in
-        accepted none told (end (scene_of k) (g.lines told).0 F refl (g.lines told).1 n.0 n.1);
-    read = λ is. absurd (cc);
-  }
+  pub outputs_now : AreInputs d k.outs
+  outputs_now = inputs_back xs k.outs d all_inputs
+
+  module _ (none : IsNextWindow k.settings shelves None) (ends : Ends) (e : Seen) where
+    end_now : (told : IsTrue k.start.seen.told) → drop p.at k.bytes ≡ []
+    end_now told = let n = nothing_left none told in ends (scene_of k) (g.lines told).0 F refl (g.lines told).1 n.0 n.1
+
+    touches_out : Touches Nothing (NameIn d k.outs) d e → Touches Nothing (OfTask k) k.start.seen e
+    touches_out t =
+        touches_trans Nothing (OfTask k) k.start.seen d e g.touches
+        (touches_wider Nothing (NameIn d k.outs) Nothing (OfTask k) d e (λ m h. h) (λ m h. name_in (OfTask k) k.start.seen d g.touches (slots_in k) g.inputs m (in_back xs k.outs d m h)) t)
+
+    -- an output differs, or can't be read
+    pub ended_out : (f : CheckFault) → ReadsOut k.outs d e o (Err f) → Ended k e f
+    ended_out (fault.Output port at) r E = record {
+      touches = touches_out r.touches;
+      says = λ told. record {
+        entry_list = (g.lines told).0;
+        names = names none told (end_now told);
+        first = outputs_first none told e (Err (fault.Output port at)) r (Some (port, at)) (λ found wanted h. h);
+      };
+      read = λ is. absurd (cc);
+    }
+    ended_out fault.Read r E = record {
+      touches = touches_out r.touches;
+      says = λ told. tt;
+      read = λ is. rose_in_all (OfTask k) k.start.seen d g.touches (slots_in k) g.inputs e (rose_back xs k.outs d e (r.cause refl));
+    }
+    ended_out (fault.Line n y) r E = absurd r.only
+    ended_out (fault.Capture port at w) r E = absurd r.only
+    ended_out (fault.Limit kind) r E = absurd r.only
+    ended_out fault.Memory r E = absurd r.only
+
+    pub ended_well : ReadsOut k.outs d e o (Ok tt) → Checks k.settings k.start.budget k.start.ins k.outs k.bytes k.start.seen e F (Ok p.entries)
+    ended_well r = record {
+      touches = touches_out r.touches;
+      says = λ told. record {
+        entry_list = (g.lines told).0;
+        names = names none told (end_now told);
+        outputs = outputs_first none told e (Ok tt) r None (λ found wanted h. h);
+        stands = (g.lines told).1.stands;
+        count = (g.lines told).1.behind.entries;
+      };
+      read = λ is. absurd (cc);
+    }
 
 -- ---- before the first window
 
 module _ (laws : Laws) (k : Task) (d : Seen) (ins : List Input) (left : Budget) (F : Contents) (p : Place)
-    (inputs : AreInputs k.start.seen (slots_of k.start.ins)) (ports : length k.start.ins ≤ 64) where
+    (inputs : AreInputs k.start.seen (slots_in k)) (ports : length k.start.ins ≤ 64) where
+  wider : Touches Nothing (NameIn k.start.seen (slots_of k.start.ins)) k.start.seen d → Touches Nothing (OfTask k) k.start.seen d
+  wider t = touches_wider Nothing (NameIn k.start.seen (slots_of k.start.ins)) Nothing (OfTask k) k.start.seen d (λ m h. h) (in_front (slots_of k.start.ins) k.outs k.start.seen) t
+
   pub ended_looks : (e : RunFault) → LooksFirst k.settings k.start.seen d k.start.ins ins k.start.budget left (Err e) → IsBehind k.bytes p [] → Ended k d (check_fault e)
   ended_looks e f behind =
-      ended_gather k d f.touches e f.only
+      ended_gather k d (wider f.touches) e f.only
       (λ told stopped.
       let s = f.stops told stopped in
       record {
@@ -386,10 +470,12 @@ module _ (laws : Laws) (k : Task) (d : Seen) (ins : List Input) (left : Budget) 
         };
         all = holds_nothing k.settings s.0 1 (all_records (captures_in k)) s.3;
       })
-      (λ is. f.cause (ap (λ y. Err y) is))
+      (λ is.
+      let cause = f.cause (ap (λ y. Err y) is) in
+      rose_front (slots_of k.start.ins) k.outs k.start.seen d (cause.0, (let lt = cause.1 in omega (arith, lt, length-slots k.start.ins)), cause.2))
 
-  module _ (shelves : List Shelf) (count : length shelves ≡ length k.start.ins) (ready : AreReady k.settings 0 ins shelves left) (read : HaveRead k.settings 0 (captures_in k) (map (λ i. []) k.start.ins) ins shelves d)
-      (touches : Touches Nothing (OfTask k) k.start.seen d) (slots : slots_of ins ≡ slots_of k.start.ins)
+  module _ (o : Owed) (new : AreNew (length k.outs) o) (outputs : length k.outs ≤ length k.start.ins) (shelves : List Shelf) (count : length shelves ≡ length k.start.ins) (ready : AreReady k.settings 0 ins shelves left) (read : HaveRead k.settings 0 (captures_in k) (map (λ i. []) k.start.ins) ins shelves d)
+      (touches : Touches Nothing (NameIn k.start.seen (slots_of k.start.ins)) k.start.seen d) (slots : slots_of ins ≡ slots_of k.start.ins)
       (looks : IsTrue k.start.seen.told → stop k.settings k.start.budget.bytes k.start.budget.frames (captures_in k) ≡ stop_from k.settings (first_window (in_order (joined (rests k.settings 1 d ins shelves)))) d ins shelves left) where
     first_is : (o : Option ℕ) → IsNextWindow k.settings shelves o → IsTrue k.start.seen.told → stop k.settings k.start.budget.bytes k.start.budget.frames (captures_in k) ≡ stop_from k.settings (unwrap_or o 0) d ins shelves left
     first_is None h told = looks told ∙ laws.none_left k.settings _ d ins shelves left h ∙ sym (laws.none_left k.settings 0 d ins shelves left h)
@@ -400,22 +486,24 @@ module _ (laws : Laws) (k : Task) (d : Seen) (ins : List Input) (left : Budget) 
     lines_none (i ∷ is) zero records at = let e : [] ≡ records = cc in ap length e
     lines_none (i ∷ is) (suc q) records at = lines_none is q records at
 
-    pub going_first : (o : Option ℕ) → IsNextWindow k.settings shelves o → F.settings ≡ k.settings → F.count ≡ length k.start.ins → F.state ≡ state_of F.settings [] → F.events ≡ [] → F.outs ≡ [] → F.state.tables.clock ≡ None →
-        IsBehind k.bytes p [] → IsInside k.bytes p → Going k 0 (unwrap_or o 0) F p d ins shelves left
-    going_first o next settings counted state events outs clock behind inside = record {
+    pub going_first : (v : Option ℕ) → IsNextWindow k.settings shelves v → F.settings ≡ k.settings → F.count ≡ length k.start.ins → F.state ≡ state_of F.settings [] → F.events ≡ [] → F.outs ≡ [] → F.state.tables.clock ≡ None →
+        IsBehind k.bytes p [] → IsInside k.bytes p → Going k 0 (unwrap_or v 0) F p d ins shelves left o
+    going_first v next settings counted state events outs clock behind inside = record {
       inputs = inputs;
       ports = ports;
-      touches = touches;
+      outputs = outputs;
+      many = new.many;
+      touches = wider touches;
       slots = slots;
       count = count ∙ sym (same_ports k.start.ins ins slots);
       ready = ready;
       taken = map (λ i. []) k.start.ins;
       read = read;
-      stops = first_is o next;
+      stops = first_is v next;
       settings_ = settings;
       count_ = counted;
       clock = subst (λ x. IfSome x (λ t. t < 0)) (sym clock) tt;
-      idle = events;
+      idle = record { events = events; outs = outs };
       inside = inside;
       lines = λ told. (
         [],
@@ -427,15 +515,15 @@ module _ (laws : Laws) (k : Task) (d : Seen) (ins : List Input) (left : Budget) 
           count = counted ∙ sym (length-scene k);
         },
         λ q records at. lines_none k.start.ins q records at,
+        owed_first k.settings (length (scene_of k).records) k.start.seen d k.outs o new (left_back (slots_of k.start.ins) k.outs k.start.seen inputs d touches),
       );
     }
 
-  -- from the first looks on, by the code's own configuration and its own lists of shelves
-  pub going_begin : (v : Vec Shelf Global) (o : Option ℕ) (c : Settings) (l m : List Shelf) (first : ℕ) → LooksFirst k.settings k.start.seen d k.start.ins ins k.start.budget left (Ok v) →
-      IsNextWindow c l o → c ≡ k.settings → l ≡ v.items → m ≡ v.items → first ≡ unwrap_or o 0 →
-      F.settings ≡ k.settings → F.count ≡ length k.start.ins → F.state ≡ state_of F.settings [] → F.events ≡ [] → F.outs ≡ [] → IsBehind k.bytes p [] → IsInside k.bytes p → Going k 0 first F p d ins m left
-  going_begin v o c l m first f next same l_is m_is first_is settings counted state events outs behind inside =
-      subst (λ (t : List Shelf). Going k 0 first F p d ins t left) (sym m_is)
-      (subst (λ (n : ℕ). Going k 0 n F p d ins v.items left) (sym first_is)
-      (going_first v.items f.count f.ready f.read f.touches f.slots f.looks_ o (subst (λ s. IsNextWindow s v.items o) same (subst (λ t. IsNextWindow c t o) l_is next))
-      settings counted state events outs (ap (λ (S : State). S.tables.clock) state) behind inside))
+  -- from the first looks on, by the code's own configuration and its own list of shelves
+  pub going_begin : (o : Owed) → AreNew (length k.outs) o → length k.outs ≤ length k.start.ins → (s : Vec Shelf Global) (v : Option ℕ) (c : Settings) (l : List Shelf) (first : ℕ) →
+      LooksFirst k.settings k.start.seen d k.start.ins ins k.start.budget left (Ok s) → IsNextWindow c l v → c ≡ k.settings → l ≡ s.items → first ≡ unwrap_or v 0 → F.settings ≡ k.settings → F.count ≡ length k.start.ins →
+      F.state ≡ state_of F.settings [] → F.events ≡ [] → F.outs ≡ [] → IsBehind k.bytes p [] → IsInside k.bytes p → Going k 0 first F p d ins s.items left o
+  going_begin o new outputs s v c l first f next same l_is first_is settings counted state events outs behind inside =
+      subst (λ (n : ℕ). Going k 0 n F p d ins s.items left o) (sym first_is)
+      (going_first o new outputs s.items f.count f.ready f.read f.touches f.slots f.looks_ v (subst (λ c. IsNextWindow c s.items v) same (subst (λ t. IsNextWindow c t v) l_is next))
+      settings counted state events outs (ap (λ (S : State). S.tables.clock) state) behind inside)

@@ -47,6 +47,12 @@ pub take_front : {X : Type 0} (xs ys : List X) → take (length xs) (xs ++ ys) �
 take_front [] ys = refl
 take_front (x ∷ xs) ys = ap (λ l. x ∷ l) (take_front xs ys)
 
+-- a slice that is handed back to its vector, as long as it was lent
+pub lent_back : {X : Type 0} (n : ℕ) (new old : List X) → n ≡ length old → length new ≡ length old → take n (new ++ drop (length new) old) ≡ new
+lent_back {X} n new old is same =
+    ap (λ (l : List X). take n (new ++ l)) (rest_none old (length new) (omega (arith, same)))
+    ∙ ap (λ (k : ℕ). take k (new ++ [])) (let e : n ≡ length new = omega (arith, is, same) in e) ∙ take_front new []
+
 pub none_long : {X : Type 0} (xs : List X) (k : ℕ) → drop k xs ≡ [] → length xs ≤ k
 none_long [] k e = omega arith
 none_long (y ∷ xs) zero e = absurd (cc)

@@ -22,7 +22,7 @@ use Rattle.fab_gather.specs.declared.shelf.Shelf.{Shelf}
 use Rattle.pcap_file.specs.declared.Record.{Record}
 use Rattle.fab_replay.specs.Front.{IsFirstWrong, IsNextFrame, IsWrong, expects_tick, has_left, is_at}
 use Rattle.fab_replay.specs.Lines.{IsLineAt, IsUnread, first_line, number_behind, text_in}
-use Rattle.fab_replay.specs.Steps.{HasLeft, HoldSame, IsFound, IsOnShelf, IsReached, IsRefused, IsTickOf, IsWindow, Scene}
+use Rattle.fab_replay.specs.Steps.{HasLeft, HoldSame, IsFound, IsOnShelf, IsReached, IsRefused, IsTickOf, IsWindow, Scene, refusal}
 use Rattle.fab_replay.specs.declared.fault.CheckFault.{CheckFault}
 use Rattle.fab_replay.specs.declared.fault.CheckFault.TheVariants as fault
 use Rattle.fab_replay.specs.declared.fault.LineWhy.{LineWhy}
@@ -30,7 +30,7 @@ use Rattle.fab_replay.specs.declared.fault.LineWhy.TheVariants as why
 use Rattle.fab_replay.specs.Verdicts.{IsMisjudged}
 use Rattle.fab_replay.specs.declared.lines.Place.{Place}
 use Rattle.fab_replay.specs.declared.verdicts.Misjudged.{Misjudged}
-use Rattle.fab_replay.specs.declared.verdicts.Misjudged.TheVariants.{Wrong}
+use Rattle.fab_replay.specs.declared.verdicts.Misjudged.TheVariants.{Wrong, Memory}
 use Rattle.fab_replay.proofs.FrontLemmas.{front_frame, front_tick, same_clock, same_tables}
 use Rattle.fab_replay.proofs.LeftLemmas.{left_same, tick_expected}
 use Rattle.fab_replay.proofs.LineLemmas.{behind_more}
@@ -199,8 +199,9 @@ module _ (x : Scene) (I J : Journal) (F : Contents) (p : Place) (h : IsReached x
   expected_then = tick_expected x.settings x.records J w least_then (before_window (clock J) m w (subst (λ o. IfSome o (λ k. k < m)) (same_clock F J h.stands) t.above) t.within)
 
 -- what a misjudged frame is refused with
-pub refused_as : (c : Settings) (T : Tables) (p : Place) (port : ℕ) (caught heard : Caught) (found made : Verdict) (e : Misjudged) (f : CheckFault) → heard ≡ caught → e ≡ Wrong made → IsMisjudged c T port heard found e →
-    f ≡ fault.Line (number_behind p.format p.entries) (why.Verdict found made) → IsRefused c T p port caught found f
-refused_as c T p port caught heard found made e f same is h told =
-    let w = subst (λ (k : Caught). IsMisjudged c T port k found (Wrong made)) same (subst (IsMisjudged c T port heard found) is h) in
-    subst (IsRefused c T p port caught found) (sym told) (refl, refl, w.0, w.1)
+pub refused_as : (c : Settings) (T : Tables) (p : Place) (port : ℕ) (caught heard : Caught) (found : Verdict) (e : Misjudged) (f : CheckFault) → heard ≡ caught → IsMisjudged c T port heard found e → f ≡ refusal p found e → IsRefused c T p port caught found f
+refused_as c T p port caught heard found e f same h told = subst (IsRefused c T p port caught found) (sym told) (by_why e (subst (λ (k : Caught). IsMisjudged c T port k found e) same h))
+  where
+    by_why : (e : Misjudged) → IsMisjudged c T port caught found e → IsRefused c T p port caught found (refusal p found e)
+    by_why (Wrong made) w = (refl, refl, w.0, w.1)
+    by_why Memory w = tt

@@ -1,17 +1,16 @@
 -- The outputs of all ports, each against the bytes that it should have.
-use Rattle.std.specs.Prelude.{◌≡◌, ℕ, zero, suc, ◌+◌, ◌<◌, IsTrue, List, [], ◌∷◌, ◌++◌, length, slice_get, Option, None, Some, Result, IfOk, OnOk, OnErr, Vec}
+use Rattle.std.specs.Prelude.{◌≡◌, ℕ, ◌+◌, ◌<◌, IsTrue, List, ◌++◌, length, slice_get, Option, None, Some, Result, IfOk, OnOk, OnErr, Vec}
 use Rattle.std.specs.declared.alloc.Global.{Global}
 use Rattle.fab_base.specs.Seen.{Seen, Rose, Touches, Nothing}
 use Rattle.fab_base.specs.declared.values.Failed.{Failed}
+use Rattle.fab_pages.specs.Pages.{items_in, piece_at}
 use Rattle.fab_gather.specs.Ports.{slot_at, name_of, NameIn}
 use Rattle.fab_replay.specs.Outputs.{IsCompared, IsRead}
 use Rattle.fab_replay.specs.declared.outputs.Compared.{Compared}
 
 -- the bytes of the page at a place, and nothing past the last
 abbrev pub page_at : List (Vec ℕ Global) → ℕ → List ℕ
-page_at [] q = []
-page_at (v ∷ pages) zero = v.items
-page_at (v ∷ pages) (suc q) = page_at pages q
+page_at pages q = piece_at (items_in pages) q
 
 -- Each output, which has these bytes, was read against those that are wanted of it so far. Places count from 0.
 abbrev pub AreRead : Seen → List ℕ → List Compared → (ℕ → List ℕ) → (ℕ → List ℕ) → Type 0

@@ -1,56 +1,91 @@
 -- What the check of a journal answers: all of it is right, or what is the first fault.
-use Rattle.std.specs.Prelude.{◌≡◌, ℕ, ◌<◌, IsTrue, List, length, Some, None, Result, Ok, Err, IsErrOf}
+use Rattle.std.specs.Prelude.{◌≡◌, ℕ, ◌+◌, ◌<◌, IsTrue, List, ◌++◌, length, Some, None, Result, Ok, Err, IsErrOf}
 use Rattle.std.specs.List.{All}
-use Rattle.fab_base.specs.Seen.{Seen, Rose, Touches, Nothing}
+use Rattle.fab_base.specs.Seen.{Seen, Touches, Nothing}
 use Rattle.fab_config.specs.Settings.{Settings}
 use Rattle.pcap_file.specs.declared.Budget.{Budget}
 use Rattle.fab_policy.specs.Journal.{Journal}
 use Rattle.fab_policy.specs.Legal.{HoldsFrames, Run}
 use Rattle.fab_policy.specs.Looks.{Opened, Stop, stop, all_records}
 use Rattle.fab_policy.specs.Standing.{Contents, Stands}
+use Rattle.fab_policy.specs.Text.{egress}
 use Rattle.fab_policy.specs.Written.{IsNamed, all_kept}
 use Rattle.fab_gather.specs.declared.fault.RunFault.{RunFault}
 use Rattle.fab_gather.specs.declared.fault.RunFault.TheVariants as run_fault
 use Rattle.fab_gather.specs.declared.shelf.Input.{Input}
 use Rattle.fab_gather.specs.First.{opened_in}
 use Rattle.fab_gather.specs.Port.{ending}
-use Rattle.fab_gather.specs.Ports.{slots_of, name_of, NameIn}
+use Rattle.fab_gather.specs.Ports.{slots_of, slot_at, NameIn}
 use Rattle.fab_gather.specs.Reads.{IsWhole}
+use Rattle.fab_replay.specs.AllOutputs.{IsFirst, OneRose}
 use Rattle.fab_replay.specs.Front.{AreRightLines, IsFirstWrong}
 use Rattle.fab_replay.specs.declared.fault.CheckFault.{CheckFault}
 use Rattle.fab_replay.specs.declared.fault.CheckFault.TheVariants as fault
 
--- A journal's text names a run over whole captures, and a fabric stands for it.
-pub record IsAccepted (c : Settings) (budget : Budget) (ins : List Opened) (journal : List ℕ) (F : Contents) (entries : ℕ) : Type 0 where
+-- ---- what is checked
+
+-- The captures, the text of a journal, and so many outputs with their bytes, by ports counted from 0.
+pub record Matter : Type 0 where
+  pub ins : List Opened
+  pub journal : List ℕ
+  pub outputs : ℕ
+  pub found : ℕ → List ℕ
+
+-- the same as a depot has it before a check
+abbrev pub matter_in : Seen → List Input → List ℕ → List ℕ → Matter
+matter_in d ins journal outs = record { ins = opened_in d ins; journal = journal; outputs = length outs; found = λ q. d.left (slot_at outs q) }
+
+-- the capture that a journal sends on a port, counted from 0
+abbrev pub sent_on : Settings → Matter → Journal → ℕ → List ℕ
+sent_on c m J q = egress c (length m.ins) (q + 1) J
+
+-- ---- what is answered
+
+-- The text names a run over whole captures, which no limit stops.
+pub record NamesRun (c : Settings) (budget : Budget) (m : Matter) (J : Journal) : Type 0 where
+  pub named : IsNamed (all_records m.ins) J m.journal
+  pub run : Run c (all_records m.ins) J
+  pub none : stop c budget.bytes budget.frames m.ins ≡ None
+  pub whole : All IsWhole m.ins
+
+-- It names a run whose captures the outputs are, and a fabric stands for it.
+pub record IsAccepted (c : Settings) (budget : Budget) (m : Matter) (F : Contents) (entries : ℕ) : Type 0 where
   pub entry_list : Journal
-  pub named : IsNamed (all_records ins) entry_list journal
-  pub run : Run c (all_records ins) entry_list
-  pub none : stop c budget.bytes budget.frames ins ≡ None
-  pub whole : All IsWhole ins
+  pub names : NamesRun c budget m entry_list
+  pub outputs : (q : ℕ) → q < m.outputs → m.found q ≡ sent_on c m entry_list q
   pub stands : Stands F entry_list
   pub count : entries ≡ length entry_list
 
+-- It names a run, and an output isn't the capture of its port, the first in port order: there is the first byte that differs, is
+-- missing or is too many.
+pub record IsFirstOutput (c : Settings) (budget : Budget) (m : Matter) (port at : ℕ) : Type 0 where
+  pub entry_list : Journal
+  pub names : NamesRun c budget m entry_list
+  pub first : IsFirst (Some (port, at)) m.outputs m.found (sent_on c m entry_list)
+
 -- The reading of the captures stops, and the lines of all frames before that are right.
-pub record IsFirstStop (c : Settings) (budget : Budget) (ins : List Opened) (journal : List ℕ) (e : RunFault) : Type 0 where
+pub record IsFirstStop (c : Settings) (budget : Budget) (m : Matter) (e : RunFault) : Type 0 where
   pub at : Stop
-  pub is : stop c budget.bytes budget.frames ins ≡ Some at
+  pub is : stop c budget.bytes budget.frames m.ins ≡ Some at
   pub says : ending at ≡ e
   pub entry_list : Journal
-  pub before : AreRightLines c (all_records ins) journal entry_list
-  pub all : HoldsFrames entry_list 1 (all_kept c at (all_records ins))
+  pub before : AreRightLines c (all_records m.ins) m.journal entry_list
+  pub all : HoldsFrames entry_list 1 (all_kept c at (all_records m.ins))
 
--- What the check of a journal says where the depot tells: the first fault, in the order in which windows and lines come.
-abbrev pub Says : Settings → Budget → List Opened → List ℕ → Contents → Result ℕ CheckFault → Type 0
-Says c budget ins journal F (Ok entries) = IsAccepted c budget ins journal F entries
-Says c budget ins journal F (Err (fault.Line line why)) = IsFirstWrong c (all_records ins) journal line why
-Says c budget ins journal F (Err (fault.Capture port at w)) = IsFirstStop c budget ins journal (run_fault.Capture port at w)
-Says c budget ins journal F (Err (fault.Limit kind)) = IsFirstStop c budget ins journal (run_fault.Limit kind)
-Says c budget ins journal F (Err (fault.Output port at)) = ⊥
-Says c budget ins journal F (Err fault.Read) = Unit {0}
-Says c budget ins journal F (Err fault.Memory) = Unit {0}
+-- What the check of a journal says where the depot tells: the first fault, in the order in which windows and lines come, and
+-- the outputs last.
+abbrev pub Says : Settings → Budget → Matter → Contents → Result ℕ CheckFault → Type 0
+Says c budget m F (Ok entries) = IsAccepted c budget m F entries
+Says c budget m F (Err (fault.Line line why)) = IsFirstWrong c (all_records m.ins) m.journal line why
+Says c budget m F (Err (fault.Output port at)) = IsFirstOutput c budget m port at
+Says c budget m F (Err (fault.Capture port at w)) = IsFirstStop c budget m (run_fault.Capture port at w)
+Says c budget m F (Err (fault.Limit kind)) = IsFirstStop c budget m (run_fault.Limit kind)
+Says c budget m F (Err fault.Read) = Unit {0}
+Says c budget m F (Err fault.Memory) = Unit {0}
 
--- The check of a journal without outputs: it changes no file, and it ends by a fault of reading only where that count rose.
-pub record Checks (c : Settings) (budget : Budget) (ins : List Input) (journal : List ℕ) (a b : Seen) (F : Contents) (result : Result ℕ CheckFault) : Type 0 where
-  pub touches : Touches Nothing (NameIn a (slots_of ins)) a b
-  pub says : IsTrue a.told → Says c budget (opened_in a ins) journal F result
-  pub read : IsErrOf result fault.Read → (q : ℕ) × (q < length ins) × Rose (a.read_faults (name_of a (slots_of ins) q)) (b.read_faults (name_of a (slots_of ins) q))
+-- The check of a journal: it changes no file, and it ends by a fault of reading only where a count of a capture or of an output
+-- rose.
+pub record Checks (c : Settings) (budget : Budget) (ins : List Input) (outs journal : List ℕ) (a b : Seen) (F : Contents) (result : Result ℕ CheckFault) : Type 0 where
+  pub touches : Touches Nothing (NameIn a (slots_of ins ++ outs)) a b
+  pub says : IsTrue a.told → Says c budget (matter_in a ins journal outs) F result
+  pub read : IsErrOf result fault.Read → OneRose (slots_of ins ++ outs) a b

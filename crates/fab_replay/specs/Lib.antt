@@ -1,9 +1,11 @@
 pub mod AllOutputs
 pub mod Check
+pub mod Exact
 pub mod Front
 pub mod Laws
 pub mod Lines
 pub mod Outputs
+pub mod Owed
 pub mod Rows
 pub mod Showing
 pub mod Steps

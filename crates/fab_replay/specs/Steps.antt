@@ -1,5 +1,5 @@
 -- What stands between two lines of a journal, while a window of the captures is checked. No public clause cites this module.
-use Rattle.std.specs.Prelude.{◌≡◌, ℕ, ◌+◌, ◌-◌, ◌≤◌, ◌<◌, IfSome, List, ◌++◌, length, drop, Option, Some, option_to_list, slice_get}
+use Rattle.std.specs.Prelude.{◌≡◌, ℕ, ◌+◌, ◌-◌, ◌≤◌, ◌<◌, IfSome, List, [], ◌++◌, length, drop, Option, Some, option_to_list, slice_get}
 use Rattle.fab_base.specs.declared.values.Caught.{Caught}
 use Rattle.fab_config.specs.Settings.{Settings}
 use Rattle.pcap_file.specs.declared.Record.{Record}
@@ -18,6 +18,8 @@ use Rattle.fab_replay.specs.declared.fault.CheckFault.{CheckFault}
 use Rattle.fab_replay.specs.declared.fault.CheckFault.TheVariants as fault
 use Rattle.fab_replay.specs.declared.fault.LineWhy.TheVariants as why
 use Rattle.fab_replay.specs.declared.lines.Place.{Place}
+use Rattle.fab_replay.specs.declared.verdicts.Misjudged.{Misjudged}
+use Rattle.fab_replay.specs.declared.verdicts.Misjudged.TheVariants as misjudged
 
 -- What a journal is checked against, and its text.
 pub record Scene : Type 0 where
@@ -33,11 +35,17 @@ pub record IsReached (x : Scene) (J : Journal) (F : Contents) (p : Place) : Type
   pub settings : F.settings ≡ x.settings
   pub count : F.count ≡ length x.records
 
--- A fault of a line is the first; none of another kind comes here but want of memory.
+-- A fault of a line is the first; none of another kind comes here but one of reading and want of memory.
 abbrev pub IsFound : Scene → CheckFault → Type 0
 IsFound x (fault.Line line why) = IsFirstWrong x.settings x.records x.bytes line why
+IsFound x fault.Read = Unit {0}
 IsFound x fault.Memory = Unit {0}
 IsFound x _ = ⊥
+
+-- nothing happened and nothing was sent since the last drain
+pub record IsIdle (F : Contents) : Type 0 where
+  pub events : F.events ≡ []
+  pub outs : F.outs ≡ []
 
 -- the entries of each port are the same in two journals
 abbrev pub HoldSame : Journal → Journal → Type 0
@@ -119,6 +127,11 @@ IsRefused c T p port caught verdict (fault.Line n (why.Verdict found made)) =
     (n ≡ number_behind p.format p.entries) × (found ≡ verdict) × (IsRight c T port caught found → ⊥) × IsRight c T port caught made
 IsRefused c T p port caught verdict fault.Memory = Unit {0}
 IsRefused c T p port caught verdict _ = ⊥
+
+-- what it is refused with
+abbrev pub refusal : Place → Verdict → Misjudged → CheckFault
+refusal p found (misjudged.Wrong made) = fault.Line (number_behind p.format p.entries) (why.Verdict found made)
+refusal p found misjudged.Memory = fault.Memory
 
 -- ---- a window
 

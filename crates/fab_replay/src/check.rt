@@ -1,5 +1,5 @@
-//! A journal checked against captures whose heads were read.
-ghost use Rattle.std.specs.Prelude.{◌≡◌, ◌+◌, ◌<◌, ◌≤◌, ◌^◌, ℕ, IfErr, MatchBool, MatchResult, OnOk, length, [], false};
+//! A journal checked against captures whose heads were read, and against outputs.
+ghost use Rattle.std.specs.Prelude.{◌≡◌, ◌++◌, ◌+◌, ◌<◌, ◌≤◌, ◌^◌, ℕ, IfErr, MatchBool, MatchResult, length, [], false};
 ghost use Rattle.fab_gather.specs.First.{AreFresh};
 ghost use Rattle.fab_gather.specs.Ports.{AreInputs, slots_of};
 ghost use Rattle.fab_policy.specs.Journal.{Journal};
@@ -8,64 +8,142 @@ ghost use Rattle.fab_replay.specs.Check.{Checks};
 ghost use Rattle.fab_replay.specs.Front.{expects_tick, has_left};
 ghost use Rattle.fab_replay.specs.Lines.{IsInside, IsOfLine};
 ghost use Rattle.fab_replay.specs.Steps.{IsFound, IsReached, Scene};
+ghost use Rattle.fab_replay.specs.Windows.{Ended, Going, IsOf, Task, task_of};
 ghost use Rattle.fab_policy.specs.Standing.{Contents};
 ghost use Rattle.std.specs.Prelude.{drop};
 
 use crate::laws::laws_of_windows;
 use crate::lines::{fault_at, first_place, next_line};
+use crate::owed::Owed;
 use crate::windows::{check_windows, fault_of};
 use crate::{CheckFault, LineWhy, Place};
 use fab_base::Depot;
-use fab_gather::{Input, first_looks, next_window};
+use fab_gather::{Input, Shelf, first_looks, next_window};
 use fab_policy::{Line, Verdict};
 use forward_core::Fabric;
 use pcap_file::Budget;
 use std::alloc::Global;
 
-/// Checks a journal, in either format, against captures in port order, and answers how many entries
-/// it has. A window of the captures is read before its lines are checked. The fabric, which is new,
-/// stands for the journal then; on Err it stands for some of it.
-pub fn check_lines<D: Depot>(
+/// What a check keeps from window to window.
+#[derive(Debug, Drop)]
+struct Begun {
+    place: Place,
+    first: u64,
+    shelves: Vec<Shelf>,
+    owed: Owed,
+}
+
+/// Checks a journal, in either format, against captures in port order and against outputs of the
+/// first ports, and answers how many entries it has; without outputs none is compared. A window of
+/// the captures is read before its lines are checked, and an output that differs is told only where
+/// all lines are right. The fabric, which is new, stands for the journal then; on Err it stands for
+/// some of it.
+pub fn check_captures<D: Depot>(
     alloc: Global,
     depot: &mut D,
     fabric: &mut Fabric,
     journal: &[u8],
     ins: &mut [Input],
+    outs: &[u32],
     budget: &mut Budget,
 ) -> Result<u64, CheckFault>
     requires ports { (1 ≤ length ins.old) × (length ins.old ≤ 64) }
-    requires inputs { AreInputs (D.seen depot.old) (slots_of ins.old) }
+    requires outputs { length outs.now ≤ length ins.old }
+    requires inputs { AreInputs (D.seen depot.old) (slots_of ins.old ++ outs.now) }
     requires fresh { AreFresh ins.old }
     requires count { fabric.old.count ≡ length ins.old }
     requires state { fabric.old.state ≡ state_of fabric.old.settings [] }
     requires nothing { (fabric.old.events ≡ []) × (fabric.old.outs ≡ []) }
     requires budget { (budget.old.bytes + 24 < 2 ^ 64) × (budget.old.frames + 1 < 2 ^ 64) }
-    ensures checks { Checks fabric.old.settings budget.old ins.old journal.now
+    ensures checks { Checks fabric.old.settings budget.old ins.old outs.now journal.now
         (D.seen depot.old) (D.seen depot.new) fabric.new result }
+    ensures settings { fabric.new.settings ≡ fabric.old.settings }
+{
+    let _verdicts: &[Verdict] = &[];
+    let _whys: &[LineWhy] = &[];
+    let mut begun = begin(alloc, depot, fabric, journal, ins, outs, budget)?;
+    check_begun(alloc, depot, fabric, journal, ins, outs, budget, &mut begun)
+}
+
+// Looks at the first record of each port; nothing of the journal and of the outputs is read yet.
+fn begin<D: Depot>(
+    alloc: Global,
+    depot: &mut D,
+    fabric: &Fabric,
+    journal: &[u8],
+    ins: &mut [Input],
+    outs: &[u32],
+    budget: &mut Budget,
+) -> Result<Begun, CheckFault>
+    requires ports { (1 ≤ length ins.old) × (length ins.old ≤ 64) }
+    requires outputs { length outs.now ≤ length ins.old }
+    requires inputs { AreInputs (D.seen depot.old) (slots_of ins.old ++ outs.now) }
+    requires fresh { AreFresh ins.old }
+    requires count { fabric.now.count ≡ length ins.old }
+    requires state { fabric.now.state ≡ state_of fabric.now.settings [] }
+    requires nothing { (fabric.now.events ≡ []) × (fabric.now.outs ≡ []) }
+    requires budget { (budget.old.bytes + 24 < 2 ^ 64) × (budget.old.frames + 1 < 2 ^ 64) }
+    ensures begins { let k = task_of fabric.now.settings budget.old ins.old (D.seen depot.old)
+        journal.now outs.now in MatchResult result
+        (λ b. Going k 0 b.first fabric.now b.place (D.seen depot.new) ins.new b.shelves.items
+        budget.new b.owed) (λ e. Ended k (D.seen depot.new) e) }
+{
+    laws_of_windows();
+    let place = first_place(journal);
+    let owed = Owed::new(alloc, outs.len())?;
+    let shelves = match first_looks(alloc, depot, ins, budget) {
+        Ok(shelves) => shelves,
+        Err(fault) => return Err(fault_of(fault)),
+    };
+    let first = next_window(fabric.config(), &shelves).unwrap_or(0);
+    Ok(Begun {
+        place,
+        first,
+        shelves,
+        owed,
+    })
+}
+
+// Checks the lines of all windows, that no line is behind them, and then the outputs.
+fn check_begun<D: Depot>(
+    alloc: Global,
+    depot: &mut D,
+    fabric: &mut Fabric,
+    journal: &[u8],
+    ins: &mut [Input],
+    outs: &[u32],
+    budget: &mut Budget,
+    begun: &mut Begun,
+) -> Result<u64, CheckFault>
+    requires going { (k : Task) × IsOf k journal.now outs.now × Going k 0 begun.old.first fabric.old
+        begun.old.place (D.seen depot.old) ins.old begun.old.shelves.items budget.old
+        begun.old.owed }
+    ensures checks { (k : Task) → IsOf k journal.now outs.now → Going k 0 begun.old.first fabric.old
+        begun.old.place (D.seen depot.old) ins.old begun.old.shelves.items budget.old
+        begun.old.owed → Checks k.settings k.start.budget k.start.ins k.outs k.bytes k.start.seen
+        (D.seen depot.new) fabric.new result }
     ensures settings { fabric.new.settings ≡ fabric.old.settings }
 {
     laws_of_windows();
     let _verdicts: &[Verdict] = &[];
     let _whys: &[LineWhy] = &[];
-    let mut place = first_place(journal);
-    let mut shelves = match first_looks(alloc, depot, ins, budget) {
-        Ok(shelves) => shelves,
-        Err(fault) => return Err(fault_of(fault)),
-    };
-    let first = next_window(fabric.config(), &shelves).unwrap_or(0);
+    let first = begun.first;
     check_windows(
         alloc,
         depot,
         fabric,
         journal,
-        &mut place,
+        &mut begun.place,
         first,
         ins,
-        &mut shelves,
+        &mut begun.shelves,
         budget,
+        outs,
+        &mut begun.owed,
     )?;
-    check_end(alloc, journal, &place)?;
-    Ok(place.entries)
+    check_end(alloc, journal, &begun.place)?;
+    begun.owed.read_out(depot, outs)?;
+    Ok(begun.place.entries)
 }
 
 // Checks that no line is at a place, where no frame is left.

@@ -1,5 +1,5 @@
 //! How the check of a journal ends before its end.
-use fab_base::{NoMemory, PortNo};
+use fab_base::{Failed, NoMemory, PortNo};
 use fab_gather::{CapWhy, LimitKind};
 use fab_policy::Verdict;
 
@@ -43,5 +43,16 @@ impl From<NoMemory> for CheckFault {
 
     fn from(_refused: NoMemory) -> CheckFault {
         CheckFault::Memory
+    }
+}
+
+impl From<Failed> for CheckFault {
+    ghost use Rattle.std.specs.Prelude.{◌≡◌};
+    ghost use Rattle.fab_replay.specs.declared.fault.CheckFault.TheVariants.{Read};
+
+    ghost from_gives = { λ _ e. e ≡ Read };
+
+    fn from(_failed: Failed) -> CheckFault {
+        CheckFault::Read
     }
 }

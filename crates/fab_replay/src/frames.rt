@@ -8,12 +8,15 @@ ghost use Rattle.fab_policy.specs.Standing.{Stands};
 ghost use Rattle.fab_policy.specs.declared.event.Event as events;
 ghost use Rattle.fab_policy.specs.declared.event.Event.TheVariants as event;
 ghost use Rattle.fab_policy.specs.declared.line.Line.TheVariants as line_;
+ghost use Rattle.fab_pages.specs.Pages.{items_in};
 ghost use Rattle.fab_replay.specs.Lines.{IsInside, IsOfLine};
 ghost use Rattle.fab_replay.specs.Steps as spec;
-ghost use Rattle.fab_replay.specs.Steps.{AllDone, At, HasLeft, IsFound, IsOnShelf, IsReached, IsRefused, IsWindow, Scene};
+ghost use Rattle.fab_replay.specs.Owed.{PagesGrow};
+ghost use Rattle.fab_replay.specs.Steps.{AllDone, At, HasLeft, IsFound, IsIdle, IsOnShelf, IsReached, IsRefused, IsWindow, Scene};
 ghost use Rattle.pcap_file.specs.declared.Record.{Record as of_captures};
 
 use crate::lines::{fault_at, next_line};
+use crate::sent::take_sent;
 use crate::verdicts::{Misjudged, step_as};
 use crate::{CheckFault, LineWhy, Place};
 use fab_base::{Moment, NoMemory, PortNo};
@@ -33,10 +36,12 @@ pub(crate) fn check_frames(
     window: u64,
     shelves: &[Shelf],
     done: &mut [usize],
+    pages: &mut [Vec<u8>],
 ) -> Result<(), CheckFault>
     requires inside { IsInside journal.now place.old }
     requires clock { fabric.old.state.tables.clock ≡ Some window }
-    requires idle { fabric.old.events ≡ [] }
+    requires range { window < 2 ^ 53 }
+    requires idle { IsIdle fabric.old }
     requires ports { length shelves.now ≤ 64 }
     requires count { (fabric.old.count ≡ length shelves.now)
         × (length done.old ≡ length shelves.now) }
@@ -44,20 +49,23 @@ pub(crate) fn check_frames(
         → IsReached x J fabric.old place.old → IsWindow x window J shelves.now done.old
         → MatchResult result
         (λ _. (K : Journal) × IsReached x K fabric.new place.new
-        × IsWindow x window K shelves.now done.new) (λ e. IsFound x e) }
+        × IsWindow x window K shelves.now done.new
+        × PagesGrow x.settings (length x.records) J K (items_in pages.old) (items_in pages.new))
+        (λ e. IsFound x e) }
     ensures all { OnOk result (AllDone shelves.now done.new) }
     ensures inside { OnOk result (IsInside journal.now place.new) }
     ensures clock { OnOk result (fabric.new.state.tables.clock ≡ Some window) }
     ensures settings { (fabric.new.settings ≡ fabric.old.settings)
         × (fabric.new.count ≡ fabric.old.count) }
-    ensures idle { OnOk result (fabric.new.events ≡ []) }
+    ensures idle { OnOk result (IsIdle fabric.new) }
+    ensures pages { length pages.new ≡ length pages.old }
     ensures only { IfErr result IsOfLine }
     ensures width { length done.new ≡ length done.old }
 {
     let _verdicts: &[Verdict] = &[];
     let _whys: &[LineWhy] = &[];
     'lines: while has_left(shelves, done) {
-        check_frame(alloc, fabric, journal, place, window, shelves, done)?;
+        check_frame(alloc, fabric, journal, place, window, shelves, done, pages)?;
     }
     Ok(())
 }
@@ -71,10 +79,12 @@ fn check_frame(
     window: u64,
     shelves: &[Shelf],
     done: &mut [usize],
+    pages: &mut [Vec<u8>],
 ) -> Result<(), CheckFault>
     requires inside { IsInside journal.now place.old }
     requires clock { fabric.old.state.tables.clock ≡ Some window }
-    requires idle { fabric.old.events ≡ [] }
+    requires range { window < 2 ^ 53 }
+    requires idle { IsIdle fabric.old }
     requires ports { length shelves.now ≤ 64 }
     requires count { (fabric.old.count ≡ length shelves.now)
         × (length done.old ≡ length shelves.now) }
@@ -83,13 +93,16 @@ fn check_frame(
         → IsReached x J fabric.old place.old → IsWindow x window J shelves.now done.old
         → MatchResult result
         (λ _. (K : Journal) × IsReached x K fabric.new place.new
-        × IsWindow x window K shelves.now done.new) (λ e. IsFound x e) }
+        × IsWindow x window K shelves.now done.new
+        × PagesGrow x.settings (length x.records) J K (items_in pages.old) (items_in pages.new))
+        (λ e. IsFound x e) }
     ensures inside { OnOk result (IsInside journal.now place.new) }
     ensures onward { OnOk result (place.old.at < place.new.at) }
     ensures clock { OnOk result (fabric.new.state.tables.clock ≡ Some window) }
     ensures settings { (fabric.new.settings ≡ fabric.old.settings)
         × (fabric.new.count ≡ fabric.old.count) }
-    ensures idle { OnOk result (fabric.new.events ≡ []) }
+    ensures idle { OnOk result (IsIdle fabric.new) }
+    ensures pages { length pages.new ≡ length pages.old }
     ensures only { IfErr result IsOfLine }
     ensures width { length done.new ≡ length done.old }
 {
@@ -107,7 +120,7 @@ fn check_frame(
     let Some(found) = next_on_shelf(shelves, done, window, port, index, clock) else {
         return Err(fault_at(&before, LineWhy::Frame));
     };
-    take_frame(alloc, fabric, &before, port, index, found, &verdict)?;
+    take_frame(alloc, fabric, &before, port, index, found, &verdict, pages)?;
     done[port.index()] += 1;
     Ok(())
 }
@@ -121,13 +134,17 @@ fn take_frame(
     index: u64,
     found: &Record,
     verdict: &Verdict,
+    pages: &mut [Vec<u8>],
 ) -> Result<(), CheckFault>
     requires room { place.now.entries + place.now.entries ≤ place.now.at }
     requires clock { IsSome fabric.old.state.tables.clock }
-    requires idle { fabric.old.events ≡ [] }
+    requires early { IfSome fabric.old.state.tables.clock (λ t. t < 2 ^ 53) }
+    requires idle { IsIdle fabric.old }
     ensures journal { OnOk result ((J : Journal) → Legal fabric.old.settings J
         → Stands fabric.old J → let K = event.Frame port index found.now.caught verdict.now ∷ J in
-        Legal fabric.old.settings K × Stands fabric.new K) }
+        Legal fabric.old.settings K × Stands fabric.new K
+        × PagesGrow fabric.old.settings fabric.old.count J K (items_in pages.old)
+        (items_in pages.new)) }
     ensures ranged { OnOk result
         (IsRangedEvent (event.Frame port index found.now.caught verdict.now)) }
     ensures refused { IfErr result (λ e. IsRefused fabric.old.settings fabric.old.state.tables
@@ -136,22 +153,26 @@ fn take_frame(
         (fabric.new.state.tables.clock ≡ fabric.old.state.tables.clock) }
     ensures settings { (fabric.new.settings ≡ fabric.old.settings)
         × (fabric.new.count ≡ fabric.old.count) }
-    ensures idle { OnOk result (fabric.new.events ≡ []) }
+    ensures idle { OnOk result (IsIdle fabric.new) }
+    ensures pages { length pages.new ≡ length pages.old }
     ensures only { IfErr result IsOfLine }
 {
     match step_as(alloc, fabric, port, index, &hear(&found.caught), *verdict) {
-        Ok(()) => {
-            let _ = fabric.drain();
-            Ok(())
-        }
-        Err(Misjudged::Wrong { made }) => Err(fault_at(
-            place,
-            LineWhy::Verdict {
-                found: *verdict,
-                made,
-            },
-        )),
-        Err(Misjudged::Memory) => Err(CheckFault::Memory),
+        Ok(()) => {}
+        Err(misjudged) => return Err(refusal(place, *verdict, misjudged)),
+    }
+    take_sent(alloc, fabric, pages)?;
+    Ok(())
+}
+
+// What a frame is refused with whose line at a place tells a verdict that isn't right.
+fn refusal(place: &Place, found: Verdict, misjudged: Misjudged) -> CheckFault
+    requires room { place.now.entries + place.now.entries ≤ place.now.at }
+    ensures { result ≡ spec.refusal place.now found misjudged }
+{
+    match misjudged {
+        Misjudged::Wrong { made } => fault_at(place, LineWhy::Verdict { found, made }),
+        Misjudged::Memory => CheckFault::Memory,
     }
 }
 

@@ -8,7 +8,9 @@ mod frames;
 mod laws;
 mod lines;
 mod outputs;
+mod owed;
 mod rows;
+mod sent;
 mod showing;
 #[cfg(test)]
 mod tests;
@@ -17,8 +19,9 @@ mod verdicts;
 mod windows;
 
 pub use all_outputs::{feed_each, finish_each};
-pub use check::check_lines;
+pub use check::check_captures;
 pub use fault::{CheckFault, LineWhy};
+pub use laws::faults_are_exact;
 pub use lines::{Place, first_place, next_line, number_at};
 pub use outputs::Compared;
 pub use rows::Row;

@@ -1,14 +1,17 @@
 //! The lines of ticks.
-ghost use Rattle.std.specs.Prelude.{IfErr, ◌≡◌, ◌<◌, ◌≤◌, ◌%◌, ◌^◌, ◌∷◌, [], ℕ, List, IfSome, MatchOption, MatchResult, MatchBool, OnOk, Some, true};
+ghost use Rattle.std.specs.Prelude.{IfErr, ◌≡◌, ◌<◌, ◌≤◌, ◌%◌, ◌^◌, ◌∷◌, [], ℕ, List, IfSome, MatchOption, MatchResult, MatchBool, OnOk, Some, length, true};
 ghost use Rattle.fab_policy.specs.Journal.{Journal};
 ghost use Rattle.fab_policy.specs.Legal.{IsLeastOf, IsNextTick, windows_left};
 ghost use Rattle.fab_policy.specs.declared.event.Event.TheVariants as event;
 ghost use Rattle.fab_policy.specs.declared.line.Line.TheVariants as line_;
+ghost use Rattle.fab_pages.specs.Pages.{items_in};
 ghost use Rattle.fab_replay.specs.Front.{expects_tick};
 ghost use Rattle.fab_replay.specs.Lines.{IsInside, IsOfLine};
-ghost use Rattle.fab_replay.specs.Steps.{HoldSame, IsFound, IsReached, IsTickOf, Scene};
+ghost use Rattle.fab_replay.specs.Owed.{PagesGrow};
+ghost use Rattle.fab_replay.specs.Steps.{HoldSame, IsFound, IsIdle, IsReached, IsTickOf, Scene};
 
 use crate::lines::{fault_at, next_line};
+use crate::sent::take_sent;
 use crate::{CheckFault, LineWhy, Place};
 use fab_base::{IdList, Moment};
 use fab_policy::{Event, Line, Verdict, ticks_are_due};
@@ -22,29 +25,32 @@ pub(crate) fn check_ticks(
     journal: &[u8],
     place: &mut Place,
     window: u64,
+    pages: &mut [Vec<u8>],
 ) -> Result<(), CheckFault>
     requires inside { IsInside journal.now place.old }
-    requires range { window < 2 ^ 63 }
+    requires range { window < 2 ^ 53 }
     requires start { window % fabric.old.settings.window ≡ 0 }
     requires order { IfSome fabric.old.state.tables.clock (λ t. t ≤ window) }
-    requires idle { fabric.old.events ≡ [] }
+    requires idle { IsIdle fabric.old }
     ensures checks { (x : Scene) (J : Journal) → x.bytes ≡ journal.now
         → IsReached x J fabric.old place.old
         → IsLeastOf (windows_left x.settings 1 x.records J) window
         → MatchResult result
-        (λ _. (K : Journal) × IsReached x K fabric.new place.new × HoldSame J K)
+        (λ _. (K : Journal) × IsReached x K fabric.new place.new × HoldSame J K
+        × PagesGrow x.settings (length x.records) J K (items_in pages.old) (items_in pages.new))
         (λ e. IsFound x e) }
     ensures inside { OnOk result (IsInside journal.now place.new) }
     ensures clock { OnOk result (fabric.new.state.tables.clock ≡ Some window) }
     ensures settings { (fabric.new.settings ≡ fabric.old.settings)
         × (fabric.new.count ≡ fabric.old.count) }
-    ensures idle { OnOk result (fabric.new.events ≡ []) }
+    ensures idle { OnOk result (IsIdle fabric.new) }
+    ensures pages { length pages.new ≡ length pages.old }
     ensures only { IfErr result IsOfLine }
 {
     let _verdicts: &[Verdict] = &[];
     let _whys: &[LineWhy] = &[];
     'ticks: while let Some(moment) = next_tick(fabric, window) {
-        check_tick(alloc, fabric, journal, place, moment)?;
+        check_tick(alloc, fabric, journal, place, moment, pages)?;
     }
     Ok(())
 }
@@ -56,30 +62,34 @@ fn check_tick(
     journal: &[u8],
     place: &mut Place,
     moment: Moment,
+    pages: &mut [Vec<u8>],
 ) -> Result<(), CheckFault>
     requires inside { IsInside journal.now place.old }
-    requires range { moment < 2 ^ 63 }
+    requires range { moment < 2 ^ 53 }
     requires order { IfSome fabric.old.state.tables.clock (λ t. t < moment) }
-    requires idle { fabric.old.events ≡ [] }
+    requires idle { IsIdle fabric.old }
     ensures checks { (x : Scene) (J : Journal) (w : ℕ) → x.bytes ≡ journal.now
         → IsReached x J fabric.old place.old
         → IsLeastOf (windows_left x.settings 1 x.records J) w → IsNextTick x.settings J w moment
         → expects_tick x.settings x.records J ≡ true
         → MatchResult result
-        (λ _. (ended : List ℕ) × IsReached x (event.Tick moment ended ∷ J) fabric.new place.new)
+        (λ _. (ended : List ℕ) × IsReached x (event.Tick moment ended ∷ J) fabric.new place.new
+        × PagesGrow x.settings (length x.records) J (event.Tick moment ended ∷ J)
+        (items_in pages.old) (items_in pages.new))
         (λ e. IsFound x e) }
     ensures inside { OnOk result (IsInside journal.now place.new) }
     ensures onward { OnOk result (place.old.at < place.new.at) }
     ensures clock { OnOk result (fabric.new.state.tables.clock ≡ Some moment) }
     ensures settings { (fabric.new.settings ≡ fabric.old.settings)
         × (fabric.new.count ≡ fabric.old.count) }
-    ensures idle { OnOk result (fabric.new.events ≡ []) }
+    ensures idle { OnOk result (IsIdle fabric.new) }
+    ensures pages { length pages.new ≡ length pages.old }
     ensures only { IfErr result IsOfLine }
 {
     let before = *place;
     let line = next_line(alloc, journal, place)?;
     fabric.tick(alloc, moment)?;
-    let drained = fabric.drain();
+    let drained = take_sent(alloc, fabric, pages)?;
     if !is_line_of(&line, &drained.events) {
         return Err(fault_at(&before, LineWhy::Tick));
     }

@@ -1,9 +1,11 @@
 use Rattle.std.proofs.Common.{◌≡◌, ◌∷◌, refl, sym, subst, arith}
 use Rattle.fab_policy.specs.declared.event.Event.TheVariants as event
+use Rattle.fab_pages.specs.Pages.{items_in}
 use Rattle.fab_replay.specs.Lines.{IsLineAt, IsUnread, number_behind}
 use Rattle.fab_replay.specs.Steps.{IsFound}
 use Rattle.fab_replay.proofs.ListLemmas.{at_inside}
 use Rattle.fab_replay.proofs.ResultLemmas.{told_on}
+use Rattle.fab_replay.proofs.SentLemmas.{grow_reached, legal_there}
 use Rattle.fab_replay.proofs.StepLemmas.{frame_reached, has_left_here, other_frame, refused_here, tick_here, unread_here}
 use Rattle.fab_replay.proofs.WindowLemmas.{count_fits, counts_more, window_more}
 use Rattle.fab_replay.proofs.frames.check_frame.Goals as goal
@@ -88,8 +90,9 @@ returns-clause-checks c = λ x J same h win.
     let value = c.index.ensures.value in
     let place : c.index.result ≡ on.place = omega (arith, is, value) in (
       event.Frame c.in-Frame.port c.in-Frame.index r.caught c.in-Frame.verdict ∷ J,
-      frame_reached x J F p h w shelves done win c.requires.left q c.in-Frame.port c.in-Frame.index c.in-Frame.verdict c.in-Frame.clock at r on c.take_frame.new.fabric (c.in_ok-take_frame.ensures.journal J) c.in_ok-take_frame.ensures.ranged c.in_ok-take_frame.ensures.settings.0 c.in_ok-take_frame.ensures.settings.1,
+      frame_reached x J F p h w shelves done win c.requires.left q c.in-Frame.port c.in-Frame.index c.in-Frame.verdict c.in-Frame.clock at r on c.take_frame.new.fabric (λ l s. let j = c.in_ok-take_frame.ensures.journal J l s in (j.0, j.1)) c.in_ok-take_frame.ensures.ranged c.in_ok-take_frame.ensures.settings.0 c.in_ok-take_frame.ensures.settings.1,
       window_more x w J shelves done win c.in-Frame.port c.in-Frame.index c.in-Frame.clock r c.in-Frame.verdict on _ (counts_more done c.index.result on.place on.done_ place on.at.done_),
+      grow_reached x J _ F p (items_in c.args.pages.now) (items_in c.take_frame.new.pages) h (c.in_ok-take_frame.ensures.journal J (legal_there x J F p h) h.stands).2,
     )
 
 pub overflow_add-done : goal.overflow_add-done

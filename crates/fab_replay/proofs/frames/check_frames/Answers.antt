@@ -1,18 +1,34 @@
-use Rattle.std.proofs.Common.{◌∙◌}
+use Rattle.std.proofs.Common.{◌∙◌, length, refl}
+use Rattle.fab_pages.specs.Pages.{items_in}
 use Rattle.fab_replay.proofs.ResultLemmas.{told_on}
+use Rattle.fab_replay.proofs.SentLemmas.{grow_more, grow_none}
 use Rattle.fab_replay.proofs.frames.check_frames.Goals as goal
+
+pub lines-init : goal.lines-init
+lines-init c = record {
+  checks = λ x J same h win. (J, h, win, grow_none x.settings (length x.records) J (items_in c.args.pages.now));
+  inside = c.requires.inside;
+  clock = c.requires.clock;
+  settings = refl;
+  count = refl;
+  idle = c.requires.idle;
+  width = refl;
+  pages = refl;
+}
 
 pub lines-preserved : goal.lines-preserved
 lines-preserved c = record {
   checks = λ x J same h win.
       let at = c.lines.invariant.checks x J same h win in
-      c.in_ok-check_frame.ensures.checks x at.0 same at.1 at.2;
+      let step = c.in_ok-check_frame.ensures.checks x at.0 same at.1 at.2 in
+      (step.0, step.1, step.2, grow_more x.settings (length x.records) J at.0 step.0 (items_in c.args.pages.now) (items_in c.lines.pages) (items_in c.check_frame.new.pages) at.3 step.3);
   inside = c.in_ok-check_frame.ensures.inside;
   clock = c.in_ok-check_frame.ensures.clock;
   settings = c.in_ok-check_frame.ensures.settings.0 ∙ c.lines.invariant.settings;
   count = c.in_ok-check_frame.ensures.settings.1 ∙ c.lines.invariant.count;
   idle = c.in_ok-check_frame.ensures.idle;
   width = c.in_ok-check_frame.ensures.width ∙ c.lines.invariant.width;
+  pages = c.in_ok-check_frame.ensures.pages ∙ c.lines.invariant.pages;
 }
 
 pub returns-in_err-check_frame-clause-checks : goal.returns-in_err-check_frame-clause-checks

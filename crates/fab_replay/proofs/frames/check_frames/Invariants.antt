@@ -1,18 +1,22 @@
-use Rattle.std.proofs.Common.{◌≡◌, ◌-◌, Some, [], length}
+use Rattle.std.proofs.Common.{◌≡◌, ◌-◌, Some, length}
+use Rattle.fab_pages.specs.Pages.{items_in}
 use Rattle.fab_policy.specs.Journal.{Journal}
 use Rattle.fab_replay.specs.Lines.{IsInside}
-use Rattle.fab_replay.specs.Steps.{IsReached, IsWindow, Scene}
+use Rattle.fab_replay.specs.Owed.{PagesGrow}
+use Rattle.fab_replay.specs.Steps.{IsIdle, IsReached, IsWindow, Scene}
 use Rattle.fab_replay.proofs.frames.check_frames.Given as goal
 
 abbrev pub invariant-lines : goal.invariant-lines
 invariant-lines l = record {
-  checks : (x : Scene) (J : Journal) → x.bytes ≡ l.journal → IsReached x J l.fn.fabric l.fn.place → IsWindow x l.window J l.shelves l.fn.done → (K : Journal) × IsReached x K l.fabric l.place × IsWindow x l.window K l.shelves l.done;
+  checks : (x : Scene) (J : Journal) → x.bytes ≡ l.journal → IsReached x J l.fn.fabric l.fn.place → IsWindow x l.window J l.shelves l.fn.done →
+      (K : Journal) × IsReached x K l.fabric l.place × IsWindow x l.window K l.shelves l.done × PagesGrow x.settings (length x.records) J K (items_in l.fn.pages) (items_in l.pages);
   inside : IsInside l.journal l.place;
   clock : l.fabric.state.tables.clock ≡ Some l.window;
   settings : l.fabric.settings ≡ l.fn.fabric.settings;
   count : l.fabric.count ≡ l.fn.fabric.count;
-  idle : l.fabric.events ≡ [];
+  idle : IsIdle l.fabric;
   width : length l.done ≡ length l.fn.done;
+  pages : length l.pages ≡ length l.fn.pages;
 }
 
 abbrev pub decreases-lines : goal.decreases-lines

@@ -2,10 +2,12 @@ use Rattle.std.proofs.Common.{◌∙◌, ◌∷◌, ◌++◌, [], List, refl, sy
 use Rattle.fab_policy.specs.State.{addresses, overdue}
 use Rattle.fab_policy.specs.declared.event.Event.{Event}
 use Rattle.fab_policy.specs.declared.event.Event.TheVariants as event
+use Rattle.fab_pages.specs.Pages.{items_in}
 use Rattle.fab_replay.specs.Lines.{IsLineAt, IsUnread, number_behind}
 use Rattle.fab_replay.specs.Steps.{IsFound}
 use Rattle.fab_replay.specs.declared.fault.CheckFault.TheVariants as fault
 use Rattle.fab_replay.proofs.ResultLemmas.{if_false, if_true, told_on}
+use Rattle.fab_replay.proofs.SentLemmas.{grow_reached, grow_taken, legal_there, tick_soon}
 use Rattle.fab_replay.proofs.StepLemmas.{left_then, other_tick, tick_reached, unread_here}
 use Rattle.fab_replay.proofs.ticks.check_tick.Goals as goal
 
@@ -25,7 +27,7 @@ returns-then-not-is_line_of-clause-checks c = λ x J w same h least next expecte
     let F = c.args.fabric.now in
     let p = c.args.place.now in
     let e = event.Tick c.args.moment (addresses (overdue F.settings F.state.tables c.args.moment)) in
-    let events = c.drain-drained.ensures.events ∙ c.in_ok-tick.ensures.takes.events ∙ ap (λ (l : List Event). l ++ e ∷ []) c.requires.idle in
+    let events = c.in_ok-drained.ensures.events ∙ c.in_ok-tick.ensures.takes.events ∙ ap (λ (l : List Event). l ++ e ∷ []) c.requires.idle.events in
     subst (IsFound x) (sym c.fault_at.ensures)
     (other_tick x J F p h w c.args.moment least next expected (number_behind p.format p.entries) c.next_line.new.place c.in_ok-line.line refl
     (subst (λ b. IsLineAt b p c.next_line.new.place c.in_ok-line.line) (sym same) c.in_ok-line.ensures.line)
@@ -37,14 +39,25 @@ returns-clause-checks c = λ x J w same h least next expected.
     let p = c.args.place.now in
     let ends = addresses (overdue F.settings F.state.tables c.args.moment) in
     let e = event.Tick c.args.moment ends in
-    let events = c.drain-drained.ensures.events ∙ c.in_ok-tick.ensures.takes.events ∙ ap (λ (l : List Event). l ++ e ∷ []) c.requires.idle in (
+    let events = c.in_ok-drained.ensures.events ∙ c.in_ok-tick.ensures.takes.events ∙ ap (λ (l : List Event). l ++ e ∷ []) c.requires.idle.events in (
       ends,
-      tick_reached x J F p h w c.args.moment least next expected c.drain-drained.new.self c.next_line.new.place c.in_ok-line.line ends
+      tick_reached x J F p h w c.args.moment least next expected c.take_sent.new.fabric c.next_line.new.place c.in_ok-line.line ends
           (subst (λ b. IsLineAt b p c.next_line.new.place c.in_ok-line.line) (sym same) c.in_ok-line.ensures.line)
           (if_true c.is_line_of.result _ _ c.if-not-is_line_of.false (c.is_line_of.ensures c.args.moment ends events))
           (λ l s.
           let j = c.in_ok-tick.ensures.journal J l s in
-          (j.0, c.drain-drained.ensures.stands (e ∷ J) j.1))
-          (ap (λ G. G.settings) c.drain-drained.ensures.fabric ∙ c.in_ok-tick.ensures.takes.settings)
-          (ap (λ G. G.count) c.drain-drained.ensures.fabric ∙ c.in_ok-tick.ensures.takes.count),
+          (j.0, c.take_sent.ensures.stands (e ∷ J) j.1))
+          (ap (λ G. G.settings) c.take_sent.ensures.fabric ∙ c.in_ok-tick.ensures.takes.settings)
+          (ap (λ G. G.count) c.take_sent.ensures.fabric ∙ c.in_ok-tick.ensures.takes.count),
+      grow_reached x J (e ∷ J) F p (items_in c.args.pages.now) (items_in c.take_sent.new.pages) h
+          (grow_taken F c.tick.new.self e J (items_in c.args.pages.now) (items_in c.take_sent.new.pages) c.requires.idle c.in_ok-tick.ensures.takes
+          (c.in_ok-tick.ensures.journal J (legal_there x J F p h) h.stands).1 c.in_ok-drained.ensures.adds),
     )
+
+pub take_sent-requires : goal.take_sent-requires
+take_sent-requires c = record {
+  early = tick_soon c.args.fabric.now c.tick.new.self c.args.moment _ c.requires.idle c.in_ok-tick.ensures.takes c.requires.range;
+}
+
+pub returns-in_err-drained-clause-checks : goal.returns-in_err-drained-clause-checks
+returns-in_err-drained-clause-checks c = λ x J w same h least next expected. told_on c.from_residual-in_err-drained.result fault.Memory _ _ c.from_residual-in_err-drained.ensures.1 tt

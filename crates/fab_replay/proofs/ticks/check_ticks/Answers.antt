@@ -1,8 +1,21 @@
-use Rattle.std.proofs.Common.{◌∙◌, ◌∷◌, ◌≤◌, IfSome, sym, subst}
+use Rattle.std.proofs.Common.{◌∙◌, ◌∷◌, ◌≤◌, IfSome, length, refl, sym, subst}
+use Rattle.fab_pages.specs.Pages.{items_in}
 use Rattle.fab_policy.specs.declared.event.Event.TheVariants as event
 use Rattle.fab_replay.proofs.ResultLemmas.{told_on}
+use Rattle.fab_replay.proofs.SentLemmas.{grow_more, grow_none}
 use Rattle.fab_replay.proofs.StepLemmas.{expected_then, least_then, next_then}
 use Rattle.fab_replay.proofs.ticks.check_ticks.Goals as goal
+
+pub ticks-init : goal.ticks-init
+ticks-init c = record {
+  checks = λ x J same h least. (J, h, λ port. refl, grow_none x.settings (length x.records) J (items_in c.args.pages.now));
+  inside = c.requires.inside;
+  order = c.requires.order;
+  settings = refl;
+  count = refl;
+  idle = c.requires.idle;
+  pages = refl;
+}
 
 pub ticks-preserved : goal.ticks-preserved
 ticks-preserved c = record {
@@ -14,12 +27,13 @@ ticks-preserved c = record {
       let t = c.in-Some.ensures in
       let at = c.ticks.invariant.checks x J same h least in
       let step = c.in_ok-check_tick.ensures.checks x at.0 w same at.1 (least_then x J at.0 F p at.1 w m at.2 least t) (next_then x J at.0 F p at.1 w m at.2 least t) (expected_then x J at.0 F p at.1 w m at.2 least t) in
-      (event.Tick m step.0 ∷ at.0, step.1, at.2);
+      (event.Tick m step.0 ∷ at.0, step.1, at.2, grow_more x.settings (length x.records) J at.0 (event.Tick m step.0 ∷ at.0) (items_in c.args.pages.now) (items_in c.ticks.pages) (items_in c.check_tick.new.pages) at.3 step.2);
   inside = c.in_ok-check_tick.ensures.inside;
   order = subst (λ o. IfSome o (λ k. k ≤ c.args.window)) (sym c.in_ok-check_tick.ensures.clock) c.in-Some.ensures.within;
   settings = c.in_ok-check_tick.ensures.settings.0 ∙ c.ticks.invariant.settings;
   count = c.in_ok-check_tick.ensures.settings.1 ∙ c.ticks.invariant.count;
   idle = c.in_ok-check_tick.ensures.idle;
+  pages = c.in_ok-check_tick.ensures.pages ∙ c.ticks.invariant.pages;
 }
 
 pub returns-in_err-check_tick-clause-checks : goal.returns-in_err-check_tick-clause-checks

@@ -1,4 +1,5 @@
 use Rattle.std.proofs.Common.{◌∙◌, ap, sym, subst, length}
+use Rattle.fab_pages.specs.Pages.{items_in}
 use Rattle.fab_replay.specs.Steps.{IsWindow}
 use Rattle.fab_replay.specs.declared.fault.CheckFault.TheVariants as fault
 use Rattle.fab_replay.proofs.FrontLemmas.{same_clock}
@@ -35,4 +36,4 @@ returns-clause-checks c = λ x J same h gathered.
     let clock = sym (same_clock c.check_ticks.new.fabric at.0 at.1.stands) ∙ t.clock in
     let win = subst (IsWindow x w at.0 shelves) (sym zeros) (window_first x w J shelves gathered at.0 (length shelves) at.2 clock) in
     let e = c.check_frames.ensures in
-    shelves_end x w shelves c.check_frames.new.fabric c.check_frames.new.place c.check_frames.new.done c.check_frames.result (e.checks x at.0 same at.1 win) e.all (e.width ∙ width)
+    shelves_end x w shelves c.check_frames.new.fabric c.check_frames.new.place c.check_frames.new.done J at.0 (items_in c.args.pages.now) (items_in c.check_ticks.new.pages) (items_in c.check_frames.new.pages) at.3 c.check_frames.result (e.checks x at.0 same at.1 win) e.all (e.width ∙ width)

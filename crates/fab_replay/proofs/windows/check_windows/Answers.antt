@@ -1,7 +1,8 @@
 use Rattle.std.proofs.Common.{◌∙◌, ◌+◌, ◌%◌, ◌^◌, Some, None, refl, sym, ap, subst}
 use Rattle.fab_config.specs.Settings.{Settings}
+use Rattle.fab_gather.proofs.ClockLemmas.{nearer}
 use Rattle.fab_gather.specs.First.{IsNextWindow}
-use Rattle.fab_replay.proofs.GoLemmas.{going_next, nearer, next_early, next_here}
+use Rattle.fab_replay.proofs.GoLemmas.{going_next, next_early, next_here}
 use Rattle.fab_replay.proofs.ResultLemmas.{told_on}
 use Rattle.fab_replay.proofs.windows.check_windows.Goals as goal
 
@@ -15,8 +16,8 @@ check_window-requires-clause-going g c =
     let at = l.invariant.turns k c.requires.going.1 c.requires.going.2 in
     let d = g.D.Depot.seen l.depot in
     let w = c.in-Some.window in
-    let next = next_here c.laws_of_windows.ensures k at.0 c.args.first l.fabric l.place d l.ins l.shelves l.budget at.1 c.config.result.now c.config.ensures (Some w) c.in-Some.ensures.least in
-    (k, c.requires.going.1, going_next c.laws_of_windows.ensures k at.0 c.args.first l.fabric l.place d l.ins l.shelves l.budget at.1 w next)
+    let next = next_here c.laws_of_windows.ensures k at.0 c.args.first l.fabric l.place d l.ins l.shelves l.budget l.owed at.1 c.config.result.now c.config.ensures (Some w) c.in-Some.ensures.least in
+    (k, c.requires.going.1, going_next c.laws_of_windows.ensures k at.0 c.args.first l.fabric l.place d l.ins l.shelves l.budget l.owed at.1 w next)
 
 pub check_window-requires-clause-next : goal.check_window-requires-clause-next
 check_window-requires-clause-next g c = subst (λ s. IsNextWindow s c.windows.shelves (Some c.in-Some.window)) c.config.ensures c.in-Some.ensures.least
@@ -31,8 +32,8 @@ check_window-requires-clause-range g c =
     let at = l.invariant.turns k c.requires.going.1 c.requires.going.2 in
     let d = g.D.Depot.seen l.depot in
     let w = c.in-Some.window in
-    let next = next_here c.laws_of_windows.ensures k at.0 c.args.first l.fabric l.place d l.ins l.shelves l.budget at.1 c.config.result.now c.config.ensures (Some w) c.in-Some.ensures.least in
-    next_early c.laws_of_windows.ensures k at.0 c.args.first l.fabric l.place d l.ins l.shelves l.budget at.1 w next
+    let next = next_here c.laws_of_windows.ensures k at.0 c.args.first l.fabric l.place d l.ins l.shelves l.budget l.owed at.1 c.config.result.now c.config.ensures (Some w) c.in-Some.ensures.least in
+    next_early c.laws_of_windows.ensures k at.0 c.args.first l.fabric l.place d l.ins l.shelves l.budget l.owed at.1 w next
 
 pub returns-in_err-check_window-clause-turns : goal.returns-in_err-check_window-clause-turns
 returns-in_err-check_window-clause-turns g c = λ k same start.
@@ -41,9 +42,9 @@ returns-in_err-check_window-clause-turns g c = λ k same start.
     let d = g.D.Depot.seen l.depot in
     let w = c.in-Some.window in
     let e = c.in_err-check_window.field-0.0 in
-    let next = next_here c.laws_of_windows.ensures k at.0 c.args.first l.fabric l.place d l.ins l.shelves l.budget at.1 c.config.result.now c.config.ensures (Some w) c.in-Some.ensures.least in
+    let next = next_here c.laws_of_windows.ensures k at.0 c.args.first l.fabric l.place d l.ins l.shelves l.budget l.owed at.1 c.config.result.now c.config.ensures (Some w) c.in-Some.ensures.least in
     told_on c.from_residual.result e _ _ c.from_residual.ensures.1
-    (c.in_err-check_window.ensures.turns k same (going_next c.laws_of_windows.ensures k at.0 c.args.first l.fabric l.place d l.ins l.shelves l.budget at.1 w next))
+    (c.in_err-check_window.ensures.turns k same (going_next c.laws_of_windows.ensures k at.0 c.args.first l.fabric l.place d l.ins l.shelves l.budget l.owed at.1 w next))
 
 pub windows-smaller : goal.windows-smaller
 windows-smaller g c =
@@ -52,9 +53,9 @@ windows-smaller g c =
     let at = l.invariant.turns k c.requires.going.1 c.requires.going.2 in
     let d = g.D.Depot.seen l.depot in
     let w = c.in-Some.window in
-    let next = next_here c.laws_of_windows.ensures k at.0 c.args.first l.fabric l.place d l.ins l.shelves l.budget at.1 c.config.result.now c.config.ensures (Some w) c.in-Some.ensures.least in
-    let going = going_next c.laws_of_windows.ensures k at.0 c.args.first l.fabric l.place d l.ins l.shelves l.budget at.1 w next in
-    let early = next_early c.laws_of_windows.ensures k at.0 c.args.first l.fabric l.place d l.ins l.shelves l.budget at.1 w next in
+    let next = next_here c.laws_of_windows.ensures k at.0 c.args.first l.fabric l.place d l.ins l.shelves l.budget l.owed at.1 c.config.result.now c.config.ensures (Some w) c.in-Some.ensures.least in
+    let going = going_next c.laws_of_windows.ensures k at.0 c.args.first l.fabric l.place d l.ins l.shelves l.budget l.owed at.1 w next in
+    let early = next_early c.laws_of_windows.ensures k at.0 c.args.first l.fabric l.place d l.ins l.shelves l.budget l.owed at.1 w next in
     nearer (2 ^ 43) w l.fabric.state.tables.clock c.check_window.new.fabric.state.tables.clock going.clock early c.in_ok-check_window.ensures.clock
 
 pub windows-preserved : goal.windows-preserved
@@ -65,8 +66,8 @@ windows-preserved g c =
     record {
       turns = λ k same start.
           let at = l.invariant.turns k same start in
-          let next = next_here c.laws_of_windows.ensures k at.0 c.args.first l.fabric l.place d l.ins l.shelves l.budget at.1 c.config.result.now c.config.ensures (Some w) c.in-Some.ensures.least in
-          (w + 1, c.in_ok-check_window.ensures.turns k same (going_next c.laws_of_windows.ensures k at.0 c.args.first l.fabric l.place d l.ins l.shelves l.budget at.1 w next));
+          let next = next_here c.laws_of_windows.ensures k at.0 c.args.first l.fabric l.place d l.ins l.shelves l.budget l.owed at.1 c.config.result.now c.config.ensures (Some w) c.in-Some.ensures.least in
+          (w + 1, c.in_ok-check_window.ensures.turns k same (going_next c.laws_of_windows.ensures k at.0 c.args.first l.fabric l.place d l.ins l.shelves l.budget l.owed at.1 w next));
       settings = c.in_ok-check_window.ensures.settings ∙ l.invariant.settings;
     }
 
@@ -75,4 +76,4 @@ returns-clause-turns g c = λ k same start.
     let l = c.windows in
     let at = l.invariant.turns k same start in
     let d = g.D.Depot.seen l.depot in
-    (at.0, at.1, next_here c.laws_of_windows.ensures k at.0 c.args.first l.fabric l.place d l.ins l.shelves l.budget at.1 c.config.result.now c.config.ensures None c.in_default.ensures.least)
+    (at.0, at.1, next_here c.laws_of_windows.ensures k at.0 c.args.first l.fabric l.place d l.ins l.shelves l.budget l.owed at.1 c.config.result.now c.config.ensures None c.in_default.ensures.least)

@@ -1,13 +1,14 @@
 use Rattle.std.proofs.Common.{ℕ, ◌≡◌, ◌^◌}
-use Rattle.fab_replay.specs.Windows.{Going, Task}
-use Rattle.fab_replay.proofs.GoLemmas.{distance}
+use Rattle.fab_gather.proofs.ClockLemmas.{distance}
+use Rattle.fab_replay.specs.Windows.{Going, IsOf, Task}
 use Rattle.fab_replay.proofs.windows.check_windows.Given as goal
 
 abbrev pub invariant-windows : goal.invariant-windows
 invariant-windows g l =
     let seen = g.D.Depot.seen in
     record {
-      turns : (k : Task) → k.bytes ≡ l.journal → Going k 0 l.first l.fn.fabric l.fn.place (seen l.fn.depot) l.fn.ins l.fn.shelves l.fn.budget → (v : ℕ) × Going k v l.first l.fabric l.place (seen l.depot) l.ins l.shelves l.budget;
+      turns : (k : Task) → IsOf k l.journal l.outs → Going k 0 l.first l.fn.fabric l.fn.place (seen l.fn.depot) l.fn.ins l.fn.shelves l.fn.budget l.fn.owed →
+          (v : ℕ) × Going k v l.first l.fabric l.place (seen l.depot) l.ins l.shelves l.budget l.owed;
       settings : l.fabric.settings ≡ l.fn.fabric.settings;
     }
 
