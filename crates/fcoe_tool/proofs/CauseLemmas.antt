@@ -14,16 +14,17 @@ use Rattle.fab_policy.specs.declared.line.Line.{Line}
 use Rattle.fab_migrate.specs.Migrating.{IsNewFront, Untouched}
 use Rattle.fab_migrate.specs.declared.old.OldWhy.{OldWhy}
 use Rattle.fab_migrate.proofs.OldReadingLemmas.{one_reading}
-use Rattle.fcoe_tool.specs.Command.{PairNames, Command, Run, Convert, Migrate, Help, Version, KeepsOthers}
+use Rattle.fcoe_tool.specs.Command.{PairNames, MakeNames, Command, Run, Convert, Migrate, Make, Help, Version, KeepsOthers}
 use Rattle.fab_gather.specs.declared.fault.LimitKind.{LimitKind}
 use Rattle.fcoe_tool.specs.Ends.{ConvertHolds, MigrateHolds, Holds}
 use Rattle.fcoe_tool.specs.Inputs.{HasPackets, LIMITS}
+use Rattle.fcoe_tool.specs.Load.{LOAD, HasLoadFront, MakeHolds}
 use Rattle.fcoe_tool.specs.Outcome.{status_of}
 use Rattle.fcoe_tool.specs.Statuses.{IsRefused, HasFront, HasForms, IsQuiet, MigrateSays, Says, ended_by}
 use Rattle.fcoe_tool.specs.declared.limits.TheConstants.{MOST_BYTES}
 use Rattle.fcoe_tool.specs.declared.outcome.Outcome.{Outcome}
 use Rattle.fcoe_tool.specs.declared.outcome.Outcome.TheVariants as ends
-use Rattle.fcoe_tool.proofs.OutcomeCases.{run_cases, convert_cases, migrate_cases, whole_front, whole_journal}
+use Rattle.fcoe_tool.proofs.OutcomeCases.{run_cases, convert_cases, migrate_cases, make_cases, whole_front, whole_journal, whole_load}
 use Rattle.fcoe_tool.proofs.PartLemmas.{ran_part, stopped_part, part_front}
 use Rattle.fcoe_tool.proofs.FoundLemmas.{run_completed, ends_as_said}
 
@@ -82,6 +83,11 @@ refused_of (Migrate k) old new o holds is = migrate_cases k old new (λ o. 1 ≡
     (λ h is. absurd (omega arith))
     (λ h is. absurd (omega arith))
     o holds is
+refused_of (Make k) old new o holds is = make_cases k old new (λ o. 1 ≡ status_of o → IsRefused (Make k) old new)
+    (λ frames h is. absurd (omega arith))
+    (λ h is. absurd (omega arith))
+    (λ h is. absurd (omega arith))
+    o holds is
 refused_of Help old new o holds is = let other : 1 ≡ 0 = is ∙ ap status_of holds.0 in absurd (omega (arith, other))
 refused_of Version old new o holds is = let other : 1 ≡ 0 = is ∙ ap status_of holds.0 in absurd (omega (arith, other))
 
@@ -109,6 +115,11 @@ others_kept (Migrate k) old new o holds = migrate_cases k old new (λ o. KeepsOt
     (λ line fault h m none. h.0 m)
     (λ kind h m none. h.0 m)
     (λ h m none. h.0 m)
+    (λ h. h.0)
+    (λ h. h.0)
+    o holds
+others_kept (Make k) old new o holds = make_cases k old new (λ o. KeepsOthers (Make k) old new)
+    (λ frames h. h.0)
     (λ h. h.0)
     (λ h. h.0)
     o holds
@@ -140,6 +151,11 @@ front_of (Migrate k) old new told o holds = migrate_cases k old new (λ o. IsNew
     (λ line fault h. Untouched (h.0 k.to))
     (λ kind h. Untouched (h.0 k.to))
     (λ h. Untouched (h.0 k.to))
+    (λ h. h.2 told)
+    (λ h. h.1 told)
+    o holds
+front_of (Make k) old new told o holds = make_cases k old new (λ o. HasLoadFront k old new)
+    (λ frames h. whole_load k old new (h.2 told))
     (λ h. h.2 told)
     (λ h. h.1 told)
     o holds
@@ -202,6 +218,14 @@ moved_end k old new before after bytes told found quiet o holds = migrate_cases 
     there : (m : List ℕ) → old.file k.from ≡ Some m → m ≡ bytes
     there m other = let same : Some m ≡ Some bytes = sym other ∙ found in cc
 
+-- `make` ends so, where nothing fails
+load_end : (k : MakeNames) (old new : Seen) (before after : Sunk) → IsQuiet (Make k) old new before after → (o : Outcome) → MakeHolds k old new o → (o ≡ ends.Made LOAD) ⊎ (o ≡ ends.Memory)
+load_end k old new before after quiet o holds = make_cases k old new (λ o. (o ≡ ends.Made LOAD) ⊎ (o ≡ ends.Memory))
+    (λ frames h. inl (ap (λ (n : ℕ). ends.Made n) h.1))
+    (λ h. absurd (quiet.writes h.1))
+    (λ h. inr refl)
+    o holds
+
 -- a command ends as its inputs say, where nothing fails
 pub said_end : (k : Command) (old new : Seen) (before after : Sunk) (p : Outcome) → IsTrue old.told → Says k old p → IsQuiet k old new before after → (o : Outcome) → Holds k old new o → (o ≡ p) ⊎ (o ≡ ends.Memory)
 said_end (Run k) old new before after p told says quiet o holds = ends_as_said k old new before after told quiet o p holds says
@@ -210,6 +234,7 @@ said_end (Migrate k) old new before after p told says quiet o holds = elim (move
   | inl is ↦ inl (one_end says.0 o p is says.2)
   | inr memory ↦ inr memory
 ]
+said_end (Make k) old new before after p told says quiet o holds = elim (load_end k old new before after quiet o holds) [ inl is ↦ inl (is ∙ sym says) | inr memory ↦ inr memory ]
 said_end Help old new before after p told says quiet o holds = inl (holds.0 ∙ sym says)
 said_end Version old new before after p told says quiet o holds = inl (holds.0 ∙ sym says)
 
@@ -230,5 +255,6 @@ done_or_memory (Migrate k) old new before after forms quiet o holds =
       | inl is ↦ inl (sym (ap status_of is))
       | inr memory ↦ inr (sym (ap status_of memory))
     ]
+done_or_memory (Make k) old new before after forms quiet o holds = elim (load_end k old new before after quiet o holds) [ inl is ↦ inl (sym (ap status_of is)) | inr memory ↦ inr (sym (ap status_of memory)) ]
 done_or_memory Help old new before after forms quiet o holds = inl (sym (ap status_of holds.0))
 done_or_memory Version old new before after forms quiet o holds = inl (sym (ap status_of holds.0))

@@ -7,13 +7,14 @@ use Rattle.pcap_file.specs.declared.Record.{Record}
 use Rattle.pcap_file.specs.Capture.{IsCapture}
 use Rattle.pcap_file.proofs.lemmas.Chains.{one_capture}
 use Rattle.pcapng_file.specs.Classic.{Converted, classic_bytes, timed, written}
-use Rattle.fcoe_tool.specs.Command.{RunNames, PairNames, Command, Run, Convert, Migrate, Help, Version}
+use Rattle.fcoe_tool.specs.Command.{RunNames, PairNames, MakeNames, Command, Run, Convert, Migrate, Make, Help, Version}
 use Rattle.fcoe_tool.specs.Ends.{RunHolds, ConvertHolds, MigrateHolds, Holds}
 use Rattle.fcoe_tool.specs.Inputs.{HasCapture, LIMITS}
-use Rattle.fcoe_tool.specs.Outcome.{status_of, line_of}
+use Rattle.fcoe_tool.specs.Load.{MakeHolds}
+use Rattle.fcoe_tool.specs.Outcome.{status_of, line_of, made_text}
 use Rattle.fcoe_tool.specs.Statuses.{Done}
 use Rattle.fcoe_tool.specs.declared.outcome.Outcome.{Outcome}
-use Rattle.fcoe_tool.proofs.OutcomeCases.{run_cases, convert_cases, migrate_cases}
+use Rattle.fcoe_tool.proofs.OutcomeCases.{run_cases, convert_cases, migrate_cases, make_cases}
 
 -- the records of the capture that was written, and no others
 taken : (k : PairNames) (old new : Seen) (records : ℕ) (c : Converted k.from k.to LIMITS old new records) (rs : List Record) → HasCapture new k.to rs ↔ (rs ≡ timed 0 c.packets)
@@ -63,6 +64,14 @@ migrate_done k old new before after status none o holds = migrate_cases k old ne
     (λ h w. let five = w.0 in absurd (omega arith))
     o holds
 
+make_done : (k : MakeNames) (old new : Seen) (before after : Sunk) (status : ℕ) → status ≡ 0 → (o : Outcome) → MakeHolds k old new o → Whole o before after status → Done (Make k) old new before after
+unfolding line_of
+make_done k old new before after status none o holds = make_cases k old new (λ o. Whole o before after status → Done (Make k) old new before after)
+    (λ frames h w told. record { load = h.2 told; printed = λ sunk. w.1 sunk ∙ ap (λ (n : ℕ). before.written ++ made_text n) h.1 })
+    (λ h w. let four = w.0 in absurd (omega arith))
+    (λ h w. let five = w.0 in absurd (omega arith))
+    o holds
+
 help_done : (old new : Seen) (before after : Sunk) (status : ℕ) (o : Outcome) → Holds Help old new o → Whole o before after status → Done Help old new before after
 unfolding line_of
 help_done old new before after status o holds w = record { files = holds.1; printed = λ told. w.1 told ∙ ap (λ o. before.written ++ line_of o) holds.0 }
@@ -75,5 +84,6 @@ pub command_done : (k : Command) (old new : Seen) (before after : Sunk) (status 
 command_done (Run k) old new before after status none o holds w = run_done k old new before after status none o holds w
 command_done (Convert k) old new before after status none o holds w = convert_done k old new before after status none o holds w
 command_done (Migrate k) old new before after status none o holds w = migrate_done k old new before after status none o holds w
+command_done (Make k) old new before after status none o holds w = make_done k old new before after status none o holds w
 command_done Help old new before after status none o holds w = help_done old new before after status o holds w
 command_done Version old new before after status none o holds w = version_done old new before after status o holds w

@@ -14,6 +14,8 @@ pub mod RanLemmas
 pub mod EdgeLemmas
 pub mod OutcomeLemmas
 pub mod FileLemmas
+pub mod NumberTextLemmas
+pub mod MakeLemmas
 pub mod OutcomeCases
 pub mod FoundLemmas
 pub mod DoneLemmas

@@ -12,7 +12,7 @@ use Rattle.pcap_file.proofs.lemmas.Numbers.{le_or_lt}
 use Rattle.fcoe_tool.specs.Command.{names_from, are_names, has_form, is_run, port_count, input_at, output_at, run_of, Among}
 use Rattle.fcoe_tool.proofs.AmongLemmas.{differs, or_false, among_counted}
 
-and_true : (a b : Bool) → (a && b) ≡ true → (a ≡ true) × (b ≡ true)
+pub and_true : (a b : Bool) → (a && b) ≡ true → (a ≡ true) × (b ≡ true)
 and_true true b h = (refl, h)
 and_true false b h = absurd (cc)
 
@@ -31,7 +31,7 @@ none_at n [] j lt h = absurd (omega arith)
 none_at n (w ∷ ws) zero lt h = differs n (string_bytes w) (or_false (bytes_eq n (string_bytes w)) _ h).0
 none_at n (w ∷ ws) (suc j) lt h = none_at n ws j (omega arith) (or_false (bytes_eq n (string_bytes w)) _ h).1
 
-words_differ : (ws : List (String Global)) (i j : ℕ) → are_names (map (λ w. string_bytes w) ws) ≡ true → i < j → j < length ws → name_at ws i ≢ name_at ws j
+pub words_differ : (ws : List (String Global)) (i j : ℕ) → are_names (map (λ w. string_bytes w) ws) ≡ true → i < j → j < length ws → name_at ws i ≢ name_at ws j
 words_differ [] i j h lt within = absurd (omega arith)
 words_differ (w ∷ ws) i zero h lt within = absurd (omega arith)
 words_differ (w ∷ ws) zero (suc j) h lt within = none_at (string_bytes w) ws j (omega arith) (first_differs (string_bytes w) (map (λ w. string_bytes w) ws) h).0

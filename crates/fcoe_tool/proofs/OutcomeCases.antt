@@ -1,6 +1,6 @@
 -- What follows from an outcome, command by command.
-use Rattle.std.proofs.Common.{ℕ, inl, inr, List, length, Option, Some, None, sym, ap, ◌∙◌, subst, arith, String}
-use Rattle.std.proofs.lemmas.List.{take_all}
+use Rattle.std.proofs.Common.{ℕ, inl, inr, List, [], length, Option, Some, None, sym, ap, ◌∙◌, subst, arith, String}
+use Rattle.std.proofs.lemmas.List.{take_all, append-nil}
 use Rattle.std.specs.declared.alloc.Global.{Global}
 use Rattle.fab_base.specs.Seen.{Seen}
 use Rattle.fab_base.specs.Sunk.{Sunk}
@@ -13,9 +13,11 @@ use Rattle.pcapng_file.specs.Classic.{Converted, IsFront, Same, Front, classic_b
 use Rattle.fab_migrate.specs.Migrating.{Migrated, IsNewFront, Untouched, Begun}
 use Rattle.fab_migrate.specs.Old.{new_text}
 use Rattle.fab_migrate.specs.declared.old.OldWhy.{OldWhy}
-use Rattle.fcoe_tool.specs.Command.{RunNames, PairNames, Command, Run, Convert, Migrate, Help, Version, command}
+use Rattle.fcoe_tool.specs.Command.{RunNames, PairNames, MakeNames, Command, Run, Convert, Migrate, Make, Help, Version, command}
 use Rattle.fcoe_tool.specs.Ends.{RunHolds, ConvertHolds, MigrateHolds, Holds, HoldsFor, TakesMemory, Reports, Ends}
 use Rattle.fcoe_tool.specs.Inputs.{LIMITS}
+use Rattle.fcoe_tool.specs.Load.{HasLoad, HasLoadFront, MakeHolds, file_name}
+use Rattle.fab_vectors.specs.Making.{file_text}
 use Rattle.fcoe_tool.specs.declared.limits.TheConstants.{MOST_BYTES}
 use Rattle.fcoe_tool.specs.declared.outcome.Outcome.{Outcome}
 use Rattle.fcoe_tool.specs.declared.outcome.Outcome.TheVariants as ends
@@ -68,6 +70,20 @@ migrate_cases k old new P migrated bad limit read write memory ends.WriteFault h
 migrate_cases k old new P migrated bad limit read write memory ends.Memory holds = memory holds
 migrate_cases k old new P migrated bad limit read write memory o holds = absurd holds
 
+-- the same of `make`
+pub make_cases : (k : MakeNames) (old new : Seen) (P : Outcome → Type 0) →
+    ((frames : ℕ) → MakeHolds k old new (ends.Made frames) → P (ends.Made frames)) →
+    (MakeHolds k old new ends.WriteFault → P ends.WriteFault) → (MakeHolds k old new ends.Memory → P ends.Memory) →
+    (o : Outcome) → MakeHolds k old new o → P o
+make_cases k old new P made write memory (ends.Made frames) holds = made frames holds
+make_cases k old new P made write memory ends.WriteFault holds = write holds
+make_cases k old new P made write memory ends.Memory holds = memory holds
+make_cases k old new P made write memory o holds = absurd holds
+
+-- the whole load is a front of it
+pub whole_load : (k : MakeNames) (old new : Seen) → HasLoad k new → HasLoadFront k old new
+whole_load k old new has q lt = inr (file_text k.number q, has q lt, ([], append-nil (file_text k.number q)))
+
 -- the whole journal is a front of it
 pub whole_journal : (k : PairNames) (old new : Seen) (entries : ℕ) → Migrated k.from k.to MOST_BYTES old new entries → IsNewFront k.from k.to MOST_BYTES old new
 whole_journal k old new entries m = Begun m.bytes m.lines (length (new_text m.lines)) m.found m.within m.is (m.output ∙ ap (λ (l : List ℕ). Some l) (sym (take_all (length (new_text m.lines)) (new_text m.lines) (omega arith))))
@@ -100,6 +116,11 @@ memory_holds (Migrate k) old new o holds takes = migrate_cases k old new (λ o. 
     (λ line fault h takes. (λ m other. h.0 m, λ told. Untouched (h.0 k.to)))
     (λ kind h takes. (λ m other. h.0 m, λ told. Untouched (h.0 k.to)))
     (λ h takes. absurd takes)
+    (λ h takes. absurd takes)
+    (λ h takes. absurd takes)
+    o holds takes
+memory_holds (Make k) old new o holds takes = make_cases k old new (λ o. TakesMemory o → Holds (Make k) old new ends.Memory)
+    (λ frames h takes. (h.0, λ told. whole_load k old new (h.2 told)))
     (λ h takes. absurd takes)
     (λ h takes. absurd takes)
     o holds takes

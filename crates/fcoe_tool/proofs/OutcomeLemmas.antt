@@ -6,7 +6,7 @@ use Rattle.std.specs.declared.alloc.Global.{Global}
 use Rattle.std.specs.declared.alloc.AllocError.{AllocError}
 use Rattle.fab_base.specs.Sunk.{Sunk}
 use Rattle.fab_config.specs.declared.ConfigFault.{ConfigFault}
-use Rattle.fcoe_tool.specs.Outcome.{status_of, line_of, run_text, capture_text, config_text, converted_text, block_text, migrated_text, journal_text, limit_text}
+use Rattle.fcoe_tool.specs.Outcome.{status_of, line_of, run_text, capture_text, config_text, converted_text, block_text, migrated_text, made_text, journal_text, limit_text}
 use Rattle.fcoe_tool.specs.Help.{help_text, version_text}
 use Rattle.pcapng_file.specs.declared.fault.NgWhy.{NgWhy}
 use Rattle.fab_gather.specs.declared.fault.CapWhy.{CapWhy}
@@ -67,6 +67,10 @@ line_block at why = refl
 pub line_migrated : (entries : ℕ) → migrated_text entries ≡ line_of (ends.Migrated entries)
 unfolding line_of
 line_migrated entries = refl
+
+pub line_made : (frames : ℕ) → made_text frames ≡ line_of (ends.Made frames)
+unfolding line_of
+line_made frames = refl
 
 pub line_journal : (line : ℕ) (why : OldWhy) → journal_text line why ≡ line_of (ends.BadLine line why)
 unfolding line_of

@@ -1,7 +1,8 @@
 -- The command that words are.
-use Rattle.std.specs.Prelude.{◌≡◌, ℕ, ◌+◌, ◌-◌, ◌*◌, ◌/◌, ◌%◌, ◌<◌, ◌⊎◌, Bool, true, false, not, ◌==◌, nat_lt, nat_le, ◌&&◌, if◌then◌else◌, IsTrue, List, [], ◌∷◌, length, map, drop, Option, Some, None, option_map, codes, String}
+use Rattle.std.specs.Prelude.{◌≡◌, ℕ, ◌+◌, ◌-◌, ◌*◌, ◌/◌, ◌%◌, ◌^◌, ◌<◌, ◌⊎◌, Bool, true, false, not, ◌==◌, nat_lt, nat_le, ◌&&◌, if◌then◌else◌, IsTrue, List, [], ◌∷◌, length, map, drop, Option, Some, None, is_some, unwrap_or, option_map, codes, decimal, String}
 use Rattle.std.specs.List.{list_any}
 use Rattle.std.specs.Str.{bytes_eq}
+use Rattle.std.specs.Str.Parse.{digits_value}
 use Rattle.std.specs.String.{string_bytes}
 use Rattle.std.specs.declared.alloc.Global.{Global}
 use Rattle.fab_base.specs.Places.{name_at}
@@ -22,11 +23,17 @@ pub record PairNames : Type 0 where
   pub from : List ℕ
   pub to : List ℕ
 
+-- `make NUMBER CONFIG IN1 .. IN8`: the number, and the names of the nine files, in their order
+pub record MakeNames : Type 0 where
+  pub number : ℕ
+  pub files : List (List ℕ)
+
 -- a command with its names; `--help` and `--version` have none
 pub data Command : Type 0 where
   Run : (names : RunNames) → Command
   Convert : (names : PairNames) → Command
   Migrate : (names : PairNames) → Command
+  Make : (names : MakeNames) → Command
   Help : Command
   Version : Command
 
@@ -50,6 +57,14 @@ is_run words = has_form words && are_names (names_from 1 words)
 abbrev pub is_pair : List ℕ → List (String Global) → Bool
 is_pair word words = length words == 3 && bytes_eq (name_at words 0) word && are_names (names_from 1 words)
 
+-- the number below 2 ^ 64 whose decimal text a word is, or none
+abbrev pub number_of : List ℕ → Option ℕ
+number_of word = let n = digits_value 10 word in if bytes_eq word (decimal n) && nat_lt n (2 ^ 64) then Some n else None
+
+-- `make`, a number, and nine names
+abbrev pub is_make : List (String Global) → Bool
+is_make words = length words == 11 && bytes_eq (name_at words 0) (codes "make") && is_some (number_of (name_at words 1)) && are_names (names_from 2 words)
+
 -- this word alone
 abbrev pub is_word : List ℕ → List (String Global) → Bool
 is_word word words = length words == 1 && bytes_eq (name_at words 0) word
@@ -60,6 +75,7 @@ form_of words =
     if is_run words then Some forms.Run
     else if is_pair (codes "convert") words then Some forms.Convert
     else if is_pair (codes "migrate") words then Some forms.Migrate
+    else if is_make words then Some forms.Make
     else if is_word (codes "--help") words then Some forms.Help
     else if is_word (codes "--version") words then Some forms.Version
     else None
@@ -85,11 +101,19 @@ run_of words = record {
 abbrev pub pair_of : List (String Global) → PairNames
 pair_of words = record { from = name_at words 1; to = name_at words 2 }
 
+-- a file of a load, which is counted from 0
+abbrev pub file_at : List (String Global) → ℕ → List ℕ
+file_at words place = name_at words (place + 2)
+
+abbrev pub make_of : List (String Global) → MakeNames
+make_of words = record { number = unwrap_or (number_of (name_at words 1)) 0; files = map (file_at words) (counting 0 9) }
+
 -- the command that words of a form are
 abbrev pub named : List (String Global) → Form → Command
 named words forms.Run = Run (run_of words)
 named words forms.Convert = Convert (pair_of words)
 named words forms.Migrate = Migrate (pair_of words)
+named words forms.Make = Make (make_of words)
 named words forms.Help = Help
 named words forms.Version = Version
 
@@ -102,6 +126,7 @@ abbrev pub inputs : Command → List (List ℕ)
 inputs (Run k) = k.config ∷ k.ins
 inputs (Convert k) = k.from ∷ []
 inputs (Migrate k) = k.from ∷ []
+inputs (Make k) = []
 inputs Help = []
 inputs Version = []
 
@@ -109,6 +134,7 @@ abbrev pub outputs : Command → List (List ℕ)
 outputs (Run k) = k.journal ∷ k.outs
 outputs (Convert k) = k.to ∷ []
 outputs (Migrate k) = k.to ∷ []
+outputs (Make k) = k.files
 outputs Help = []
 outputs Version = []
 

@@ -6,5 +6,6 @@ pub mod Opening
 pub mod Help
 pub mod Outcome
 pub mod Left
+pub mod Load
 pub mod Ends
 pub mod Statuses

@@ -5,7 +5,8 @@ use Rattle.fab_base.specs.declared.values.Failed.{Failed}
 use Rattle.fab_gather.specs.declared.fault.RunFault.{RunFault}
 use Rattle.fab_gather.specs.declared.fault.RunFault.TheVariants as faults
 use Rattle.fab_windows.specs.declared.Done.{Done}
-use Rattle.fcoe_tool.specs.Command.{RunNames, AnyRose, Among}
+use Rattle.fcoe_tool.specs.Command.{RunNames, MakeNames, AnyRose, Among}
+use Rattle.fcoe_tool.specs.declared.making.LoadFiles.{LoadFiles}
 use Rattle.fcoe_tool.specs.declared.outcome.Outcome.{Outcome}
 use Rattle.fcoe_tool.specs.declared.outcome.Outcome.TheVariants as ends
 use Rattle.fcoe_tool.specs.declared.outputs.Outputs.{Outputs}
@@ -27,6 +28,12 @@ pub record OutputsOpened (k : RunNames) (old new : Seen) (result : Result Output
   pub opens : Opens (k.journal ∷ k.outs) old new
   pub slots : IfOk result (λ o. AreEmptyOutputs new (k.journal ∷ k.outs) (o.journal ∷ o.outs.items))
   pub cause : OnErr result (AnyRose old.write_faults new.write_faults (k.journal ∷ k.outs))
+
+-- the files of `make`
+pub record FilesOpened (k : MakeNames) (old new : Seen) (result : Result LoadFiles Failed) : Type 0 where
+  pub opens : Opens k.files old new
+  pub slots : IfOk result (λ o. AreEmptyOutputs new k.files o.slots.items)
+  pub cause : OnErr result (AnyRose old.write_faults new.write_faults k.files)
 
 -- what a fault of the windows ends `run` with
 abbrev pub stopped_by : RunFault → Outcome

@@ -17,12 +17,13 @@ use Rattle.fab_migrate.specs.declared.old.OldWhy.{OldWhy}
 use Rattle.fab_migrate.specs.declared.old.OldWhy.TheVariants as olds
 use Rattle.fcoe_tool.specs.declared.limits.TheConstants.{MOST_BYTES, MOST_FRAMES}
 use Rattle.fcoe_tool.specs.declared.outcome.Outcome.{Outcome}
-use Rattle.fcoe_tool.specs.declared.outcome.Outcome.TheVariants.{Ran, Converted, Migrated, Help, Version, Words, Config, Capture, BadBlock, BadLine, Limit, ReadFault, WriteFault, Memory}
+use Rattle.fcoe_tool.specs.declared.outcome.Outcome.TheVariants.{Ran, Converted, Migrated, Made, Help, Version, Words, Config, Capture, BadBlock, BadLine, Limit, ReadFault, WriteFault, Memory}
 
 abbrev pub status_of : Outcome → ℕ
 status_of (Ran frames entries) = 0
 status_of (Converted records) = 0
 status_of (Migrated entries) = 0
+status_of (Made frames) = 0
 status_of Help = 0
 status_of Version = 0
 status_of (Config fault) = 1
@@ -91,6 +92,10 @@ abbrev pub kind_of : NgLimit → LimitKind
 kind_of limits.Bytes = kinds.Bytes
 kind_of limits.Frames = kinds.Frames
 
+-- the line of a load
+abbrev pub made_text : ℕ → List ℕ
+made_text frames = codes "made " ++ decimal frames ++ codes "\n"
+
 -- the line of a journal that was migrated, and of one with a fault at a line
 abbrev pub migrated_text : ℕ → List ℕ
 migrated_text entries = codes "migrated " ++ decimal entries ++ codes "\n"
@@ -115,6 +120,7 @@ line_of (Config fault) = config_text fault
 line_of (Capture port at reason) = capture_text port at reason
 line_of (Converted records) = converted_text records
 line_of (Migrated entries) = migrated_text entries
+line_of (Made frames) = made_text frames
 line_of (BadBlock at fault) = block_text at fault
 line_of (BadLine line fault) = journal_text line fault
 line_of (Limit kind) = limit_text kind

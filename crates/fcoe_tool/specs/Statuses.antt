@@ -20,12 +20,13 @@ use Rattle.fab_policy.specs.declared.line.Line.{Line}
 use Rattle.fab_migrate.specs.Migrating.{Migrated, IsNewFront}
 use Rattle.fab_migrate.specs.Old.{IsOld, HasFirstFault}
 use Rattle.fab_migrate.specs.declared.old.OldWhy.{OldWhy}
-use Rattle.fcoe_tool.specs.Command.{RunNames, PairNames, Command, Run, Convert, Migrate, Help, Version, command, ReadRose, WriteRose}
+use Rattle.fcoe_tool.specs.Command.{RunNames, PairNames, MakeNames, Command, Run, Convert, Migrate, Make, Help, Version, command, ReadRose, WriteRose}
 use Rattle.fcoe_tool.specs.Ends.{RunHolds, ConvertHolds, MigrateHolds, Holds, HoldsFor}
 use Rattle.fcoe_tool.specs.Help.{help_text, version_text}
 use Rattle.fcoe_tool.specs.Inputs.{HasFault, HasCapture, HasInputs, HasBadHead, StopsBy, HasPackets, LIMITS, stop_of}
 use Rattle.fcoe_tool.specs.Left.{HasRun, HasFrontPart}
-use Rattle.fcoe_tool.specs.Outcome.{status_of, line_of, run_text, converted_text, migrated_text}
+use Rattle.fcoe_tool.specs.Load.{LOAD, HasLoad, HasLoadFront}
+use Rattle.fcoe_tool.specs.Outcome.{status_of, line_of, run_text, converted_text, migrated_text, made_text}
 use Rattle.fcoe_tool.specs.Reading.{unconverted_by}
 use Rattle.fcoe_tool.specs.declared.limits.TheConstants.{MOST_BYTES}
 use Rattle.fcoe_tool.specs.declared.outcome.Outcome.{Outcome}
@@ -71,6 +72,11 @@ pub record MigrateEnded (k : PairNames) (old new : Seen) (before after : Sunk) :
   pub done : Migrated k.from k.to MOST_BYTES old new count
   pub printed : IsTrue before.told → after.written ≡ before.written ++ migrated_text count
 
+-- Status 0 of `make`: the files hold the load of the number, and the line with the number of its frames was printed.
+pub record MakeEnded (k : MakeNames) (new : Seen) (before after : Sunk) : Type 0 where
+  pub load : HasLoad k new
+  pub printed : IsTrue before.told → after.written ≡ before.written ++ made_text LOAD
+
 -- Status 0 of a command that prints a text: no file has changed, and the text was printed.
 pub record TextEnded (text : List ℕ) (old new : Seen) (before after : Sunk) : Type 0 where
   pub files : SameFiles old new
@@ -81,6 +87,7 @@ abbrev pub Done : Command → Seen → Seen → Sunk → Sunk → Type 0
 Done (Run k) old new before after = IsTrue old.told → RunEnded k old new before after
 Done (Convert k) old new before after = IsTrue old.told → ConvertEnded k old new before after
 Done (Migrate k) old new before after = IsTrue old.told → MigrateEnded k old new before after
+Done (Make k) old new before after = IsTrue old.told → MakeEnded k new before after
 Done Help old new before after = TextEnded help_text old new before after
 Done Version old new before after = TextEnded version_text old new before after
 
@@ -98,6 +105,7 @@ abbrev pub IsRefused : Command → Seen → Seen → Type 0
 IsRefused (Run k) old new = ((fault : ConfigFault) × RunHolds k old new (ends.Config fault)) ⊎ ((port : ℕ) × (at : ℕ) × (why : CapWhy) × RunHolds k old new (ends.Capture port at why))
 IsRefused (Convert k) old new = (at : ℕ) × (fault : NgWhy) × ConvertHolds k old new (ends.BadBlock at fault)
 IsRefused (Migrate k) old new = (line : ℕ) × (fault : OldWhy) × MigrateHolds k old new (ends.BadLine line fault)
+IsRefused (Make k) old new = ⊥
 IsRefused Help old new = ⊥
 IsRefused Version old new = ⊥
 
@@ -112,6 +120,7 @@ abbrev pub HasFront : Command → Seen → Seen → Type 0
 HasFront (Run k) old new = SameFiles old new ⊎ HasFrontPart k old new
 HasFront (Convert k) old new = IsFront k.from k.to LIMITS old new
 HasFront (Migrate k) old new = IsNewFront k.from k.to MOST_BYTES old new
+HasFront (Make k) old new = HasLoadFront k old new
 HasFront Help old new = SameFiles old new
 HasFront Version old new = SameFiles old new
 
@@ -146,6 +155,7 @@ abbrev pub HasForms : Command → Seen → Type 0
 HasForms (Run k) d = RunForms k d
 HasForms (Convert k) d = ConvertForms k d
 HasForms (Migrate k) d = MigrateForms k d
+HasForms (Make k) d = Unit {0}
 HasForms Help d = Unit {0}
 HasForms Version d = Unit {0}
 
@@ -180,6 +190,7 @@ abbrev pub Says : Command → Seen → Outcome → Type 0
 Says (Run k) d outcome = RunSays k d outcome
 Says (Convert k) d outcome = (bytes : List ℕ) × (d.file k.from ≡ Some bytes) × (outcome ≡ ended_by (ng_read LIMITS bytes))
 Says (Migrate k) d outcome = (bytes : List ℕ) × (d.file k.from ≡ Some bytes) × MigrateSays bytes outcome
+Says (Make k) d outcome = outcome ≡ ends.Made LOAD
 Says Help d outcome = outcome ≡ ends.Help
 Says Version d outcome = outcome ≡ ends.Version
 

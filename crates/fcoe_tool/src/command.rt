@@ -5,6 +5,7 @@ ghost use Rattle.std.specs.List.{list_any};
 ghost use Rattle.fab_base.specs.Places.{name_at};
 ghost use Rattle.fcoe_tool.specs.Command as spec;
 
+use crate::number::number_of;
 use fab_base::word_at;
 
 /// The most ports of a forwarder.
@@ -19,6 +20,8 @@ pub(crate) enum Form {
     Convert,
     /// `migrate OLD NEW`. No name is empty, and they differ.
     Migrate,
+    /// `make NUMBER CONFIG IN1 .. IN8`. No name is empty or used twice.
+    Make,
     /// `--help`
     Help,
     /// `--version`
@@ -35,6 +38,8 @@ pub(crate) fn form_of(words: &[String]) -> Option<Form>
         Some(Form::Convert)
     } else if is_pair(words, "migrate") {
         Some(Form::Migrate)
+    } else if is_make(words) {
+        Some(Form::Make)
     } else if is_word(words, "--help") {
         Some(Form::Help)
     } else if is_word(words, "--version") {
@@ -47,14 +52,24 @@ pub(crate) fn form_of(words: &[String]) -> Option<Form>
 fn is_run(words: &[String]) -> bool
     ensures { result ≡ spec.is_run words.now }
 {
-    has_form(words) && are_names(words)
+    has_form(words) && are_names(words, 1)
 }
 
 // Whether these are this word and two names.
 fn is_pair(words: &[String], word: &str) -> bool
     ensures { result ≡ spec.is_pair word.now words.now }
 {
-    words.len() == 3 && word_at(words, 0) == word && are_names(words)
+    words.len() == 3 && word_at(words, 0) == word && are_names(words, 1)
+}
+
+// Whether these are `make`, a number, and nine names.
+fn is_make(words: &[String]) -> bool
+    ensures { result ≡ spec.is_make words.now }
+{
+    words.len() == 11
+        && word_at(words, 0) == "make"
+        && number_of(word_at(words, 1)).is_some()
+        && are_names(words, 2)
 }
 
 // Whether this is the only word.
@@ -73,12 +88,12 @@ fn has_form(words: &[String]) -> bool
         && word_at(words, 0) == "run"
 }
 
-// Whether no name is empty and none is used twice.
+// Whether from this place on no name is empty and none is used twice.
 #[tactic(auto, using(crate::proofs::CommandLemmas::names_from_there))]
-fn are_names(words: &[String]) -> bool
-    ensures { result ≡ spec.are_names (spec.names_from 1 words.now) }
+fn are_names(words: &[String], first: usize) -> bool
+    ensures { result ≡ spec.are_names (spec.names_from first words.now) }
 {
-    for index in 1..words.len() {
+    for index in first..words.len() {
         if word_at(words, index).is_empty() || is_used_after(words, index) {
             return false;
         }
@@ -99,6 +114,22 @@ fn is_used_after(words: &[String], place: usize) -> bool
         }
     }
     false
+}
+
+/// The number of a load.
+pub(crate) fn number_at(words: &[String]) -> u64
+    requires { spec.is_make words.now ≡ true }
+    ensures { result ≡ (spec.make_of words.now).number }
+{
+    number_of(word_at(words, 1)).unwrap_or(0)
+}
+
+/// The name of a file of a load, which is counted from 0.
+pub(crate) fn file_at(words: &[String], place: usize) -> &str
+    requires { place + 2 < length words.now }
+    ensures { result.now ≡ spec.file_at words.now place }
+{
+    word_at(words, place + 2)
 }
 
 /// How many ports the command has.

@@ -13,12 +13,16 @@ fcoe_tool 0.1.0: an FCoE forwarder, run over captures
       prints: records N
   fcoe_tool migrate OLD NEW
       writes a journal of format 1 in format 2, and prints: migrated M
+  fcoe_tool make NUMBER CONFIG IN1 IN2 IN3 IN4 IN5 IN6 IN7 IN8
+      writes a configuration and the captures of 8 ports, all drawn from this
+      number, and prints: made 20000
   fcoe_tool --help
       prints this text
   fcoe_tool --version
       prints the version
 
-No name is empty, and none is used twice. The statuses, with what is printed:
+No name is empty, and none is used twice. NUMBER is decimal and below 2 to the
+64, with no sign and no leading zero. The statuses, with what is printed:
 
   0  as above: all was done
   1  config LINE WHY: the first fault of the configuration

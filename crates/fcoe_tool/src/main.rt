@@ -8,7 +8,9 @@ mod heads;
 mod help;
 mod inputs;
 mod limits;
+mod making;
 mod migrating;
+mod number;
 mod outcome;
 mod outputs;
 mod process;
@@ -19,6 +21,8 @@ mod tests;
 mod tests_convert;
 #[cfg(test)]
 mod tests_edge;
+#[cfg(test)]
+mod tests_make;
 #[cfg(test)]
 mod tests_migrate;
 mod tool;

@@ -23,6 +23,8 @@ pub enum Outcome {
     Converted { records: u64 },
     /// A journal was migrated, with so many entries.
     Migrated { entries: u64 },
+    /// A load was made, with so many frames.
+    Made { frames: u64 },
     /// `--help`
     Help,
     /// `--version`
@@ -61,6 +63,7 @@ pub(crate) fn report<K: Sink>(alloc: Global, outcome: Outcome, say: &mut K) -> u
         Outcome::Converted { records } => put_made(say, converted_line(alloc, records), 0),
         Outcome::BadBlock { at, why } => put_made(say, block_line(alloc, at, why), 1),
         Outcome::Migrated { entries } => put_made(say, migrated_line(alloc, entries), 0),
+        Outcome::Made { frames } => put_made(say, made_line(alloc, frames), 0),
         Outcome::BadLine { line, why } => put_made(say, journal_line(alloc, line, why), 1),
         Outcome::Limit { kind } => put_made(say, limit_line(alloc, kind), 6),
         Outcome::Help => put_line(say, help().as_bytes(), 0),
@@ -154,6 +157,12 @@ fn migrated_line(alloc: Global, entries: u64) -> Result<String, AllocError>
     ensures { IfOk result (λ s. string_bytes s ≡ spec.migrated_text entries) }
 {
     format!(in alloc; "migrated {entries}\n")
+}
+
+fn made_line(alloc: Global, frames: u64) -> Result<String, AllocError>
+    ensures { IfOk result (λ s. string_bytes s ≡ spec.made_text frames) }
+{
+    format!(in alloc; "made {frames}\n")
 }
 
 fn journal_line(alloc: Global, line: u64, why: OldWhy) -> Result<String, AllocError>

@@ -8,6 +8,7 @@ ghost use Rattle.fcoe_tool.specs.Statuses.{HasFront, IsComplete, IsNamed, Printe
 
 use crate::command::{Form, form_of};
 use crate::converting::convert_file;
+use crate::making::make;
 use crate::migrating::migrate_file;
 use crate::outcome::{Outcome, report};
 use crate::running::run;
@@ -131,6 +132,7 @@ fn outcome_by<R: Threads + Wait + Sync, D: Depot, G: Gate + Sync>(
         Form::Run => run(rt, alloc, words, depot, gate),
         Form::Convert => convert_file(alloc, words, depot),
         Form::Migrate => migrate_file(alloc, words, depot),
+        Form::Make => make(alloc, words, depot),
         Form::Help => Outcome::Help,
         Form::Version => Outcome::Version,
     }

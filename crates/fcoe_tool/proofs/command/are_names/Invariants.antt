@@ -3,4 +3,4 @@ use Rattle.fcoe_tool.specs.Command.{names_from, are_names}
 use Rattle.fcoe_tool.proofs.command.are_names.Given as goal
 
 abbrev pub invariant-loop-index : goal.invariant-loop-index
-invariant-loop-index l = are_names (names_from 1 l.words) ≡ are_names (names_from l.index l.words)
+invariant-loop-index l = are_names (names_from l.first l.words) ≡ are_names (names_from l.index l.words)

@@ -1,6 +1,6 @@
 use Rattle.std.proofs.Common.{refl, ◌∙◌, codes}
 use Rattle.fcoe_tool.specs.declared.outcome.Outcome.TheVariants as ends
-use Rattle.fcoe_tool.proofs.OutcomeLemmas.{reports, reports_made, line_config, line_words, line_read_fault, line_write_fault, line_memory, line_ran, line_capture, line_converted, line_block, line_migrated, line_journal, line_limit, line_help, line_version}
+use Rattle.fcoe_tool.proofs.OutcomeLemmas.{reports, reports_made, line_config, line_words, line_read_fault, line_write_fault, line_memory, line_ran, line_capture, line_converted, line_block, line_migrated, line_made, line_journal, line_limit, line_help, line_version}
 use Rattle.fcoe_tool.proofs.outcome.report.Goals as goal
 
 pub returns-in-Ran : goal.returns-in-Ran
@@ -41,6 +41,9 @@ returns-in-Version g c = record { reports = reports c.as_bytes-in-Version.result
 
 pub returns-in-Migrated : goal.returns-in-Migrated
 returns-in-Migrated g c = record { reports = reports_made _ _ (g.K.Sink.sunk c.args.say.now) (g.K.Sink.sunk c.put_made-in-Migrated.new.say) c.put_made-in-Migrated.result c.args.outcome (ends.Migrated c.in-Migrated.entries) 0 c.in-Migrated.is (line_migrated c.in-Migrated.entries) refl tt c.migrated_line.ensures c.put_made-in-Migrated.ensures.ok c.put_made-in-Migrated.ensures.err }
+
+pub returns-in-Made : goal.returns-in-Made
+returns-in-Made g c = record { reports = reports_made _ _ (g.K.Sink.sunk c.args.say.now) (g.K.Sink.sunk c.put_made-in-Made.new.say) c.put_made-in-Made.result c.args.outcome (ends.Made c.in-Made.frames) 0 c.in-Made.is (line_made c.in-Made.frames) refl tt c.made_line.ensures c.put_made-in-Made.ensures.ok c.put_made-in-Made.ensures.err }
 
 pub returns-in-BadLine : goal.returns-in-BadLine
 returns-in-BadLine g c = record { reports = reports_made _ _ (g.K.Sink.sunk c.args.say.now) (g.K.Sink.sunk c.put_made-in-BadLine.new.say) c.put_made-in-BadLine.result c.args.outcome (ends.BadLine c.in-BadLine.line c.in-BadLine.why) 1 c.in-BadLine.is (line_journal c.in-BadLine.line c.in-BadLine.why) refl tt c.journal_line.ensures c.put_made-in-BadLine.ensures.ok c.put_made-in-BadLine.ensures.err }

@@ -1,4 +1,5 @@
-use Rattle.std.proofs.Common.{sym, ◌∙◌, subst}
+use Rattle.std.proofs.Common.{IsTrue, sym, ◌∙◌, subst}
+use Rattle.fab_base.specs.Places.{name_at}
 use Rattle.fcoe_tool.specs.Command.{run_of}
 use Rattle.fcoe_tool.specs.Ends.{RunHolds}
 use Rattle.fcoe_tool.proofs.RanLemmas.{config_as, heads_ended, inputs_touched, inputs_read, no_fabric, not_opened, some_ports, same_count, one_a_port, given_as, runs_as, windows_ended}
@@ -17,6 +18,11 @@ returns-in_default g c =
     let k = run_of c.args.words.now in
     let read = config_as c.word_at.ensures c.in-Ok.ensures.reads in
     record { holds = no_fabric k c.in-Ok.config (seen c.args.depot.now) (seen c.config_of.new.depot) (seen c.heads_of.new.depot) read c.in-Ok-heads_of.ensures.reads.touches }
+
+pub open_outputs-requires-clause-known : goal.open_outputs-requires-clause-known
+open_outputs-requires-clause-known g c = λ i some within.
+    let name = name_at c.args.words.now i in
+    subst IsTrue (sym (c.in-Ok-heads_of.ensures.reads.touches.knows name ∙ c.in-Ok.ensures.reads.reads.keeps.knows name)) (c.requires.known i some within)
 
 pub returns-in-Err-open_outputs : goal.returns-in-Err-open_outputs
 returns-in-Err-open_outputs g c =
