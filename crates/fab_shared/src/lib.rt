@@ -1,0 +1,10 @@
+//! A fabric that threads take turns with: each turn is one frame of one port.
+#![tactic(auto)]
+
+mod locked;
+mod shared;
+#[cfg(test)]
+mod tests;
+
+pub use locked::{LockedFabric, Pass};
+pub use shared::SharedFabric;

@@ -1,0 +1,103 @@
+//! Two passes take turns with one fabric, in one thread.
+ghost use Rattle.std.specs.Prelude.{IfSome, IsSome};
+
+use crate::*;
+use fab_base::{Bytes, Caught, Mac, Moment, NoMemory, PortNo, Wwn};
+use fab_config::{ActivationList, Config, SetList, ZoneList};
+use fab_policy::{Event, Verdict, hear};
+use forward_core::{EventList, Fabric};
+use std::alloc::Global;
+use std::sync::Wait;
+use std::test::*;
+
+/// A VLAN request to all forwarders, without a tag.
+const ASK: [u8; 60] = [
+    0x01, 0x10, 0x18, 0x01, 0x00, 0x02, 0x00, 0x1b, 0x21, 0x00, 0x00, 0x0a, 0x89, 0x14, 0x10, 0x00,
+    0x00, 0x04, 0x00, 0x01, 0x00, 0x02, 0x00, 0x00, 0x02, 0x02, 0x00, 0x1b, 0x21, 0x00, 0x00, 0x0a,
+    0x00, 0x00, 0x00, 0x00, 0x00, 0x00, 0x00, 0x00, 0x00, 0x00, 0x00, 0x00, 0x00, 0x00, 0x00, 0x00,
+    0x00, 0x00, 0x00, 0x00, 0x00, 0x00, 0x00, 0x00, 0x00, 0x00, 0x00, 0x00,
+];
+
+fn settings(alloc: Global) -> Result<Config, NoMemory> {
+    Ok(Config {
+        switch: Wwn(0x1000_0005_1e00_0002),
+        fcf_mac: Mac([0x00, 0x05, 0x1e, 0x00, 0x00, 0x02]),
+        fc_map: 0x0efc00,
+        vlan: 100,
+        domain: 1,
+        pool: 8192,
+        priority: 128,
+        period: 8000,
+        window: 100,
+        limit: 256,
+        zones: ZoneList::new(alloc)?,
+        sets: SetList::new(alloc)?,
+        activations: ActivationList::new(alloc)?,
+    })
+}
+
+// A fabric of two ports that was drained after its first tick.
+fn ticked(alloc: Global) -> Option<Fabric>
+    ensures { IfSome result (λ f. IsSome f.state.tables.clock) }
+{
+    let mut fabric = Fabric::new(alloc, settings(alloc).ok()?, 2).ok()?;
+    fabric.tick(alloc, Moment(1000)).ok()?;
+    fabric.drain();
+    Some(fabric)
+}
+
+fn request(alloc: Global) -> Result<Caught, NoMemory> {
+    Ok(Caught {
+        bytes: Bytes::copy(alloc, &ASK)?,
+        whole: true,
+    })
+}
+
+// What a fabric did of which two ports submit a frame each, the second port first.
+fn taken_in_turns<R: Wait>(
+    rt: &R,
+    alloc: Global,
+    fabric: Fabric,
+    frame: &Caught,
+) -> Option<EventList>
+    requires clock { IsSome fabric.state.tables.clock }
+{
+    let Ok((shared, mut root)) = SharedFabric::open(alloc, fabric) else {
+        return None;
+    };
+    let mut first = shared.split(&mut root, PortNo::at(0));
+    let mut second = shared.split(&mut root, PortNo::at(1));
+    let _later = shared.submit(rt, alloc, &mut second, 7, &hear(frame));
+    let _last = shared.submit(rt, alloc, &mut first, 5, &hear(frame));
+    shared.join(&mut root, first);
+    shared.join(&mut root, second);
+    let mut fabric = shared.close(root);
+    Some(fabric.drain().events)
+}
+
+// Whether an entry is an answered request of this port, with this index.
+fn is_answered(events: &EventList, place: usize, port: PortNo, index: u64) -> bool {
+    match events.at(place) {
+        Some(
+            Event::Frame {
+                port: of,
+                index: number,
+                caught: _,
+                verdict: Verdict::Vlans,
+            },
+        ) => *of == port && *number == index,
+        _ => false,
+    }
+}
+
+#[test]
+fn turns_are_one_history(rt: HostRuntime) -> Result<(), Fail> {
+    let alloc = rt.alloc();
+    let frame = request(alloc)?;
+    let fabric = ticked(alloc).ok_or("memory")?;
+    let events = taken_in_turns(&rt, alloc, fabric, &frame).ok_or("memory")?;
+    assert_eq!(rt; events.len(), 2);
+    assert!(rt; is_answered(&events, 0, PortNo::at(1), 7));
+    assert!(rt; is_answered(&events, 1, PortNo::at(0), 5));
+    Ok(())
+}
