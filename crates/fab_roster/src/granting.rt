@@ -52,7 +52,7 @@ impl Roster {
         }
     }
 
-    /// The least address that may be granted to the request.
+    /// An address that may be granted to the request.
     pub fn find(&self, request: &Request) -> Option<FcId>
         ensures free { IfSome result (λ a. IsTrue (is_free self.now.tables request.now a)) }
         ensures some { is_some result ≡ has_free self.now.tables request.now }

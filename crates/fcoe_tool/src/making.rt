@@ -24,7 +24,8 @@ pub(crate) struct LoadFiles {
 pub(crate) fn make<D: Depot>(alloc: Global, words: &[String], depot: &mut D) -> Outcome
     requires make { spec.is_make words.now ≡ true }
     requires known { spec.AllKnown (D.seen depot.old) words.now }
-    ensures holds { MakeHolds (spec.make_of words.now) (D.seen depot.old) (D.seen depot.new) result }
+    ensures holds { MakeHolds (spec.make_of words.now) (D.seen depot.old) (D.seen depot.new)
+        result }
 {
     let number = number_at(words);
     let files = match open_files(depot, words) {

@@ -60,7 +60,8 @@ fn next_of(
 fn port_name_of(registry: &Registry, seen: &[SeenPort], address: FcId) -> CtTell
     requires entered { AreEntered registry.now.entries seen.now }
     requires ascending { SeenAscend 0 seen.now }
-    ensures answer { result ≡ server.answer (known registry.now.entries seen.now) (asks.PortNameOf address) }
+    ensures answer { result
+        ≡ server.answer (known registry.now.entries seen.now) (asks.PortNameOf address) }
     ensures writable { CanTell result }
 {
     match by_address(registry, seen, address) {
@@ -73,7 +74,8 @@ fn port_name_of(registry: &Registry, seen: &[SeenPort], address: FcId) -> CtTell
 fn node_name_of(registry: &Registry, seen: &[SeenPort], address: FcId) -> CtTell
     requires entered { AreEntered registry.now.entries seen.now }
     requires ascending { SeenAscend 0 seen.now }
-    ensures answer { result ≡ server.answer (known registry.now.entries seen.now) (asks.NodeNameOf address) }
+    ensures answer { result
+        ≡ server.answer (known registry.now.entries seen.now) (asks.NodeNameOf address) }
     ensures writable { CanTell result }
 {
     match by_address(registry, seen, address) {
@@ -86,7 +88,8 @@ fn node_name_of(registry: &Registry, seen: &[SeenPort], address: FcId) -> CtTell
 fn types_of(registry: &Registry, seen: &[SeenPort], address: FcId) -> CtTell
     requires entered { AreEntered registry.now.entries seen.now }
     requires ascending { SeenAscend 0 seen.now }
-    ensures answer { result ≡ server.answer (known registry.now.entries seen.now) (asks.TypesOf address) }
+    ensures answer { result
+        ≡ server.answer (known registry.now.entries seen.now) (asks.TypesOf address) }
     ensures writable { CanTell result }
 {
     match by_address(registry, seen, address) {
@@ -100,7 +103,8 @@ fn types_of(registry: &Registry, seen: &[SeenPort], address: FcId) -> CtTell
 fn features_of(registry: &Registry, seen: &[SeenPort], address: FcId) -> CtTell
     requires entered { AreEntered registry.now.entries seen.now }
     requires ascending { SeenAscend 0 seen.now }
-    ensures answer { result ≡ server.answer (known registry.now.entries seen.now) (asks.FeaturesOf address) }
+    ensures answer { result
+        ≡ server.answer (known registry.now.entries seen.now) (asks.FeaturesOf address) }
     ensures writable { CanTell result }
 {
     match by_address(registry, seen, address) {
@@ -112,7 +116,8 @@ fn features_of(registry: &Registry, seen: &[SeenPort], address: FcId) -> CtTell
 #[tactic(auto, unfolding(ct_messages::specs::Server::query))]
 fn address_of(registry: &Registry, seen: &[SeenPort], name: Wwn) -> CtTell
     requires entered { AreEntered registry.now.entries seen.now }
-    ensures answer { result ≡ server.answer (known registry.now.entries seen.now) (asks.ByPortName name) }
+    ensures answer { result
+        ≡ server.answer (known registry.now.entries seen.now) (asks.ByPortName name) }
     ensures writable { CanTell result }
 {
     match by_name(registry, seen, name) {

@@ -66,7 +66,8 @@ pub(crate) fn by_name<'a>(
     name: Wwn,
 ) -> Option<Known<'a>>
     requires entered { AreEntered registry.now.entries seen.now }
-    ensures { option_map as_known result ≡ known_by_name name (known registry.now.entries seen.now) }
+    ensures { option_map as_known result
+        ≡ known_by_name name (known registry.now.entries seen.now) }
 {
     match first_named(seen, name) {
         Some(port) => with_entry(registry, port),
