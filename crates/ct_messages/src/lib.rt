@@ -9,10 +9,6 @@ mod laws;
 mod maps;
 mod reading;
 mod telling;
-#[cfg(test)]
-mod tests;
-#[cfg(test)]
-mod tests_of_answers;
 mod writing;
 
 use fab_base::{Bytes, FcId, IdList, OwnedList, Wwn};

@@ -5,8 +5,6 @@ mod laws;
 mod parms;
 mod reading;
 mod table;
-#[cfg(test)]
-mod tests;
 mod writing;
 
 use fab_base::{FcId, Wwn};

@@ -6,8 +6,6 @@ ghost use Rattle.eth_frames.specs.Ethernet.{vlan_of_tag};
 
 mod laws;
 mod reading;
-#[cfg(test)]
-mod tests;
 mod writing;
 
 use fab_base::Mac;

@@ -27,6 +27,3 @@ pub use sink::Sink;
 pub use texts::{address_text, mac_text, wwn_text};
 pub use values::{Caught, Enode, Failed, FcId, Mac, Moment, NoMemory, PortNo, Wwn};
 pub use whole::{fill, put_all, say_all};
-
-#[cfg(test)]
-mod tests;

@@ -117,6 +117,3 @@ pub struct ConfigFault {
     pub line: u32,
     pub why: ConfigWhy,
 }
-
-#[cfg(test)]
-mod tests;

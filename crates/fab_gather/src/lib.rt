@@ -8,8 +8,6 @@ mod laws;
 mod port;
 mod ports;
 mod shelf;
-#[cfg(test)]
-mod tests;
 mod window;
 
 pub use fault::{CapWhy, LimitKind, RunFault};

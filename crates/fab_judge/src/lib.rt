@@ -9,8 +9,6 @@ mod logins;
 mod names;
 mod sender;
 mod services;
-#[cfg(test)]
-mod tests;
 mod verdicts;
 
 pub use judging::{Judged, judge};

@@ -14,12 +14,6 @@ mod named;
 mod ranged;
 mod reading;
 mod replies;
-#[cfg(test)]
-mod tests_heard;
-#[cfg(test)]
-mod tests_lines;
-#[cfg(test)]
-mod tests_replies;
 mod verdict;
 mod verdict_words;
 mod words;

@@ -12,8 +12,6 @@ mod owed;
 mod rows;
 mod sent;
 mod showing;
-#[cfg(test)]
-mod tests;
 mod ticks;
 mod verdicts;
 mod windows;
@@ -24,6 +22,6 @@ pub use fault::{CheckFault, LineWhy};
 pub use laws::faults_are_exact;
 pub use lines::{Place, first_place, next_line, number_at};
 pub use outputs::Compared;
-pub use rows::Row;
+pub use rows::{Row, write_row};
 pub use showing::write_shown;
 pub use verdicts::{Misjudged, step_as};

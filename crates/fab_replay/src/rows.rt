@@ -35,7 +35,7 @@ pub struct Row {
 }
 
 /// Appends the lines of a row.
-pub(crate) fn write_row(alloc: Global, row: &Row, out: &mut Vec<u8>) -> Result<(), NoMemory>
+pub fn write_row(alloc: Global, row: &Row, out: &mut Vec<u8>) -> Result<(), NoMemory>
     ensures ok { OnOk result (out.new.items ≡ out.old.items ++ row_lines row.now) }
     ensures err { OnErr result (out.new.items ≡ out.old.items) }
 {

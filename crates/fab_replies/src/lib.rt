@@ -8,8 +8,6 @@ mod forwarding;
 mod laws;
 mod message;
 mod parts;
-#[cfg(test)]
-mod tests;
 mod writing;
 
 pub use laws::{data_frames_go_on, messages_are_kept, replies_fit};

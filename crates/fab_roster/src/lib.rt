@@ -10,8 +10,6 @@ mod reaching;
 mod reading;
 mod roster;
 mod serving;
-#[cfg(test)]
-mod tests;
 
 pub use granting::Request;
 pub use roster::Roster;

@@ -11,7 +11,7 @@ use fab_replies::{Out, OutList, OutMessage};
 use std::alloc::Global;
 
 /// An advertisement on each port, where a period has passed since the last ones.
-pub(crate) fn advertise(
+pub fn advertise(
     alloc: Global,
     config: &Config,
     ports: u32,

@@ -47,8 +47,8 @@ pub(crate) fn clears(
     Ok(outs)
 }
 
-// Appends the clear link messages to an ENode that name these N_Ports.
-fn clear(
+/// Appends the clear link messages to an ENode that name these N_Ports, a hundred in each.
+pub fn clear(
     alloc: Global,
     moment: Moment,
     enode: &Enode,
@@ -178,56 +178,4 @@ fn are_before(one: &[u8], other: &[u8]) -> bool
         }
     }
     false
-}
-
-#[cfg(test)]
-mod tests {
-    use super::*;
-    use fab_base::{PortNo, Wwn};
-    use std::test::Fail;
-
-    // An ENode of a port by the last byte of its MAC.
-    fn enode(port: PortNo, last: u8) -> Enode {
-        let mac = Mac([0x00, 0x1b, 0x21, 0x00, 0x00, last]);
-        Enode { port, mac }
-    }
-
-    #[test]
-    fn enodes_ascend_by_port_and_mac(rt: HostRuntime) -> Result<(), Fail> {
-        let (one, two) = (PortNo::at(0), PortNo::at(1));
-        let mut enodes = Vec::new(rt.alloc());
-        add(&mut enodes, enode(two, 3))?;
-        add(&mut enodes, enode(one, 7))?;
-        add(&mut enodes, enode(two, 2))?;
-        add(&mut enodes, enode(one, 7))?;
-        let want = [enode(one, 7), enode(two, 2), enode(two, 3)];
-        assert_eq!(rt; enodes.as_slice(), want.as_slice());
-        Ok(())
-    }
-
-    #[test]
-    fn a_message_names_a_hundred(rt: HostRuntime) -> Result<(), Fail> {
-        let alloc = rt.alloc();
-        let mut ports = Vec::new(alloc);
-        for number in 0..101 {
-            let address = FcId::new(0x010100 + number).ok_or("an address")?;
-            let mac = Mac([0x0e, 0xfc, 0x00, 0x01, 0x01, number as u8]);
-            let name = Wwn(1);
-            ports.push(VxPort { mac, address, name })?;
-        }
-        let mut outs = OutList::empty(alloc);
-        let node = enode(PortNo::at(1), 3);
-        clear(alloc, Moment(5), &node, ports.as_slice(), &mut outs)?;
-        let mut sizes = Vec::new(alloc);
-        for index in 0..outs.len() {
-            let out = outs.at(index).ok_or("a message")?;
-            assert_eq!(rt; (out.port.value(), out.moment), (2, Moment(5)));
-            if let OutMessage::Clear { to, ports } = &out.message {
-                assert_eq!(rt; *to, node.mac);
-                sizes.push(ports.view().len())?;
-            }
-        }
-        assert_eq!(rt; sizes.as_slice(), [100, 1].as_slice());
-        Ok(())
-    }
 }

@@ -10,14 +10,15 @@ mod clears;
 mod frame;
 mod laws;
 mod noticing;
-mod replies;
+pub mod replies;
 mod sends;
-#[cfg(test)]
-mod tests;
 mod tick;
 mod zoning;
 
+pub use adverts::advertise;
+pub use answers::answer;
 pub use asking::asker;
+pub use clears::clear;
 pub use frame::{answer_sends, frame_sends, grant_sends, registration_sends};
 pub use laws::{frames_send, frames_tell, ticks_send, ticks_tell};
 pub use replies::right_frames_suit;

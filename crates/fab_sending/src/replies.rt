@@ -40,7 +40,7 @@ pub fn right_frames_suit()
 const WHOLE: u16 = 2112;
 
 /// The replies to a frame that stands in the entry at this place, other than the answer to a query.
-pub(crate) fn replies(
+pub fn replies(
     alloc: Global,
     moment: Moment,
     port: PortNo,

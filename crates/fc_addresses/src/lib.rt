@@ -5,6 +5,3 @@ mod pool;
 mod released;
 
 pub use pool::Pool;
-
-#[cfg(test)]
-mod tests;

@@ -6,8 +6,6 @@ ghost use Rattle.fc_check.specs.Crc as spec;
 ghost use Rattle.fc_check.specs.Tables.{four_at, words_of};
 
 mod table;
-#[cfg(test)]
-mod tests;
 
 use table::AFTER;
 

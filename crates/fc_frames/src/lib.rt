@@ -4,8 +4,6 @@
 mod cutting;
 mod laws;
 mod reading;
-#[cfg(test)]
-mod tests;
 mod writing;
 
 pub use cutting::pieces;

@@ -4,8 +4,6 @@
 mod delimiters;
 mod laws;
 mod reading;
-#[cfg(test)]
-mod tests;
 mod writing;
 
 pub use delimiters::{EOF_A, EOF_N, EOF_NI, EOF_T, SOF_F, SOF_I2, SOF_I3, SOF_N2, SOF_N3};

@@ -17,6 +17,3 @@ pub use lists::{Item, ItemList, VlanList, VxList};
 pub use message::{FipMessage, FipOut, LoginKind, Message, VxPort};
 pub use reading::read_fip;
 pub use writing::write_fip;
-
-#[cfg(test)]
-mod tests;

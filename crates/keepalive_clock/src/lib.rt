@@ -10,6 +10,3 @@ mod voice;
 pub use clock::KeepClock;
 pub use steps::Steps;
 pub use voice::{LastHeard, Voice};
-
-#[cfg(test)]
-mod tests;

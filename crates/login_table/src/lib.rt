@@ -9,6 +9,3 @@ mod table;
 
 pub use login::Login;
 pub use table::LoginTable;
-
-#[cfg(test)]
-mod tests;

@@ -16,6 +16,3 @@ mod types;
 pub use refusals::RegFault;
 pub use registry::{Change, Registry};
 pub use seen::{Seen, SeenPort};
-
-#[cfg(test)]
-mod tests;

@@ -5,8 +5,6 @@ mod ahead;
 mod head;
 mod laws;
 mod reader;
-#[cfg(test)]
-mod tests;
 mod writing;
 
 pub use ahead::Ahead;

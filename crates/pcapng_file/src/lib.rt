@@ -9,8 +9,6 @@ mod options;
 mod packet;
 mod passing;
 mod reading;
-#[cfg(test)]
-mod tests;
 
 pub use classic::{classic_capture, convert};
 use fab_base::{Caught, Moment, OwnedList};

@@ -8,6 +8,3 @@ mod watcher;
 
 pub use table::Watchers;
 pub use watcher::Watcher;
-
-#[cfg(test)]
-mod tests;

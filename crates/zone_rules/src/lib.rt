@@ -6,6 +6,3 @@ mod sets;
 mod zones;
 
 pub use zones::Zones;
-
-#[cfg(test)]
-mod tests;

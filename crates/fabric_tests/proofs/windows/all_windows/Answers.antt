@@ -1,0 +1,42 @@
+use Rattle.std.proofs.Common.{[], ◌∷◌, true, false, None, ◌^◌, ◌-◌, sym, ◌∙◌}
+use Rattle.fab_base.specs.Seen.{Seen}
+use Rattle.fab_gather.proofs.FirstLemmas.{none_below}
+use Rattle.fab_gather.proofs.SlotLemmas.{same_length}
+use Rattle.fabric_tests.proofs.windows.all_windows.Goals as goal
+
+pub take_windows-requires-clause-ready : goal.take_windows-requires-clause-ready
+take_windows-requires-clause-ready c =
+    let i = c.windows.invariant in
+    (c.looks_to_come.ensures.next c.args.config.now 0 c.in-Some.window c.windows.ins c.windows.shelves c.windows.budget i.count i.ready c.in-Some.ensures.least).2
+
+-- what is seen of the depot
+captures : Seen
+captures = record {
+  told = false;
+  knows = λ m. true;
+  input = λ s. true;
+  output = λ s. true;
+  name = λ s. s ∷ [];
+  file = λ m. None;
+  left = λ s. [];
+  read_faults = λ m. 2 ^ 64 - 1;
+  write_faults = λ m. 2 ^ 64 - 1;
+}
+
+pub windows-smaller : goal.windows-smaller
+unfolding captures
+windows-smaller c =
+    let i = c.windows.invariant in
+    let t = c.in_ok-take_windows.ensures.takes in
+    (c.windows_move_on.ensures c.args.config.now c.in-Some.window captures captures c.windows.ins c.take_windows.new.ins c.windows.shelves c.take_windows.new.shelves c.windows.budget c.take_windows.new.budget i.count
+    (same_length c.windows.ins c.take_windows.new.ins t.slots) t.count c.in-Some.ensures.least t.took t.ready t.spent).fewer
+
+pub windows-preserved : goal.windows-preserved
+windows-preserved c =
+    let i = c.windows.invariant in
+    let t = c.in_ok-take_windows.ensures.takes in
+    record {
+      slots = t.slots ∙ i.slots;
+      count = t.count ∙ i.count ∙ sym (same_length c.windows.ins c.take_windows.new.ins t.slots);
+      ready = λ q j s at. ((t.ready q j s at).0, none_below c.args.config.now s.next);
+    }

@@ -1,0 +1,214 @@
+//! Two captures in a depot whose fetches give a few bytes each, taken window by window.
+ghost use Rattle.std.specs.Prelude.{◌≡◌, [], ◌∷◌, false, true, None, ◌^◌, ◌-◌, ◌+◌, ◌<◌, ◌≤◌, length};
+ghost use Rattle.fab_gather.specs.First.{IsFresh};
+ghost use Rattle.fab_gather.specs.Ports.{AreReady, slots_of};
+
+use crate::settings::settings;
+use fab_base::{Bytes, Depot, Failed, Moment, NoMemory, PortNo};
+use fab_config::Config;
+use fab_gather::*;
+use pcap_file::{Budget, Reader, write_head, write_record};
+use std::alloc::Global;
+use std::test::Fail;
+
+// Captures on slots 0 and 1, all open, of which the depot tells nothing. A fetch fails once so many
+// were made.
+#[derive(Drop)]
+struct Captures<'a> {
+    first: &'a [u8],
+    second: &'a [u8],
+    fetches: usize,
+}
+
+impl<'a> Depot for Captures<'a> {
+    ghost seen = { λ _. record {
+      told = false;
+      knows = λ _. true;
+      input = λ _. true;
+      output = λ _. true;
+      name = λ s. s ∷ [];
+      file = λ _. None;
+      left = λ _. [];
+      read_faults = λ _. 2 ^ 64 - 1;
+      write_faults = λ _. 2 ^ 64 - 1;
+    } };
+
+    fn open_in(&mut self, _name: &str) -> Result<u32, Failed> {
+        Err(Failed)
+    }
+
+    fn open_out(&mut self, _name: &str) -> Result<u32, Failed> {
+        Err(Failed)
+    }
+
+    fn fetch(&mut self, slot: u32, into: &mut [u8]) -> Result<usize, Failed> {
+        if self.fetches == 0 {
+            return Err(Failed);
+        }
+        self.fetches -= 1;
+        let bytes = if slot == 0 { self.first } else { self.second };
+        let count = into.len().min(7).min(bytes.len());
+        into[..count].copy_from_slice(&bytes[..count]);
+        if slot == 0 {
+            self.first = &bytes[count..];
+        } else {
+            self.second = &bytes[count..];
+        }
+        Ok(count)
+    }
+
+    fn put(&mut self, _slot: u32, _from: &[u8]) -> Result<usize, Failed> {
+        Err(Failed)
+    }
+}
+
+// A capture with one byte at each of these moments.
+fn capture(alloc: Global, moments: &[u32]) -> Result<Vec<u8>, NoMemory> {
+    let mut out = Vec::new(alloc);
+    write_head(alloc, &mut out)?;
+    for moment in moments {
+        write_record(alloc, Moment(u64::from(*moment)), &[1], &mut out)?;
+    }
+    Ok(out)
+}
+
+// One record as it comes: its window, its port and its moment.
+type Come = (u64, usize, u64);
+
+// The records of two captures as their windows come.
+fn windows(
+    alloc: Global,
+    depot: &mut Captures<'_>,
+    config: &Config,
+    first: Reader,
+    second: Reader,
+    budget: &mut Budget,
+) -> Result<Vec<Come>, RunFault>
+    requires fresh { IsFresh first × IsFresh second }
+    requires budget { (budget.old.bytes + 24 < 2 ^ 64) × (budget.old.frames < 2 ^ 64) }
+{
+    let mut ins = [
+        Input {
+            slot: 0,
+            reader: first,
+        },
+        Input {
+            slot: 1,
+            reader: second,
+        },
+    ];
+    let mut shelves = first_looks(alloc, depot, &mut ins, budget)?;
+    all_windows(alloc, depot, config, &mut ins, &mut shelves, budget)
+}
+
+// The same behind the first looks.
+fn all_windows(
+    alloc: Global,
+    depot: &mut Captures<'_>,
+    config: &Config,
+    ins: &mut [Input],
+    shelves: &mut [Shelf],
+    budget: &mut Budget,
+) -> Result<Vec<Come>, RunFault>
+    requires count { length shelves.old ≡ length ins.old }
+    requires ports { length ins.old ≤ 64 }
+    requires slots { slots_of ins.old ≡ 0 ∷ 1 ∷ [] }
+    requires ready { AreReady config.now 0 ins.old shelves.old budget.old }
+{
+    looks_to_come();
+    windows_move_on();
+    let mut come = Vec::new(alloc);
+    'windows: while let Some(window) = next_window(config, shelves) {
+        take_windows(alloc, depot, config, window, ins, shelves, budget)?;
+        put_down(window, shelves, &mut come)?;
+    }
+    Ok(come)
+}
+
+// Puts down what is on the shelves.
+fn put_down(window: u64, shelves: &[Shelf], come: &mut Vec<Come>) -> Result<(), NoMemory> {
+    for port in 0..shelves.len() {
+        for record in &shelves[port].batch {
+            come.push((window, port, record.moment.0))?;
+        }
+    }
+    Ok(())
+}
+
+// The same of captures with these bytes, where so many fetches are made, and so many frames taken.
+fn gathered(
+    alloc: Global,
+    first: &[u8],
+    second: &[u8],
+    fetches: usize,
+    frames: u64,
+) -> Result<Result<Vec<Come>, RunFault>, Fail> {
+    let config = settings(alloc);
+    let mut depot = Captures {
+        first,
+        second,
+        fetches: 8,
+    };
+    let mut budget = Budget {
+        bytes: 1_000_000,
+        frames,
+    };
+    let one = Reader::open(&mut depot, 0, &mut budget)?;
+    let two = Reader::open(&mut depot, 1, &mut budget)?;
+    depot.fetches = fetches;
+    Ok(windows(alloc, &mut depot, &config, one, two, &mut budget))
+}
+
+#[test]
+fn windows_ascend_and_then_ports(rt: HostRuntime) -> Result<(), Fail> {
+    let alloc = rt.alloc();
+    let first = capture(alloc, &[5, 105, 130])?;
+    let second = capture(alloc, &[150, 350])?;
+    let come = gathered(alloc, &first, &second, 1000, 5)?
+        .ok()
+        .ok_or("stopped")?;
+    let wanted = [
+        (0, 0, 5),
+        (100, 0, 105),
+        (100, 0, 130),
+        (100, 1, 150),
+        (300, 1, 350),
+    ];
+    assert_eq!(rt; come.as_slice(), wanted.as_slice());
+    Ok(())
+}
+
+#[test]
+fn the_first_stop_ends_all(rt: HostRuntime) -> Result<(), Fail> {
+    let alloc = rt.alloc();
+    let first = capture(alloc, &[5, 105, 130])?;
+    let second = capture(alloc, &[50, 350])?;
+    let cut = &second[..second.len().saturating_sub(1)];
+    let early = gathered(alloc, &first, cut, 1000, 5)?.err();
+    let stop = RunFault::Capture {
+        port: PortNo::at(1),
+        at: 41,
+        why: CapWhy::Cut,
+    };
+    assert_eq!(rt; early, Some(stop));
+    let few = gathered(alloc, &first, &second, 1000, 4)?.err();
+    assert_eq!(rt; few, Some(RunFault::Limit(LimitKind::Frames)));
+    Ok(())
+}
+
+#[test]
+fn each_fetch_fails_in_turn(rt: HostRuntime) -> Result<(), Fail> {
+    let alloc = rt.alloc();
+    let first = capture(alloc, &[5, 105, 130])?;
+    let second = capture(alloc, &[50, 350])?;
+    for fetches in 0..40 {
+        match gathered(alloc, &first, &second, fetches, 5)? {
+            Ok(come) => {
+                assert!(rt; fetches > 10);
+                assert_eq!(rt; come.len(), 5);
+            }
+            Err(fault) => assert_eq!(rt; fault, RunFault::Read),
+        }
+    }
+    Ok(())
+}
