@@ -1,4 +1,4 @@
--- Words of private contracts alone: a line that is cut off, and a file that is read whole.
+-- A file that is read whole, and words of private contracts alone.
 use Rattle.std.specs.Prelude.{◌≡◌, ℕ, ◌≤◌, ◌<◌, true, List, [], ◌++◌, length, IsTrue, Option, Some, None, Result, Ok, Err, Vec}
 use Rattle.std.specs.declared.alloc.Global.{Global}
 use Rattle.fab_base.specs.Seen.{Seen, Reads, Rose}

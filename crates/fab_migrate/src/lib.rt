@@ -11,3 +11,4 @@ mod whole;
 pub use migrating::migrate;
 pub use old::{MigrateError, OldError, OldWhy};
 pub use old_laws::{an_old_journal_has_one_reading, journals_are_migrated};
+pub use whole::read_whole;

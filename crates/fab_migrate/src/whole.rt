@@ -1,5 +1,5 @@
 //! A file that is read whole.
-ghost use Rattle.std.specs.Prelude.{◌≡◌, ◌<◌, length, IsTrue, IfOk, vec_len};
+ghost use Rattle.std.specs.Prelude.{◌≡◌, ◌<◌, ◌≤◌, length, IsTrue, IfOk, vec_len};
 ghost use Rattle.fab_migrate.specs.OldWords.{WholeRead};
 
 use crate::old::OldError;
@@ -9,8 +9,8 @@ use std::alloc::{AllocError, Global};
 // The bytes that are read at once.
 const PIECE: usize = 65_536;
 
-// All that an open input has left, within a limit of bytes.
-pub(crate) fn read_whole<D: Depot>(
+/// All that an open input has left, within a limit of bytes.
+pub fn read_whole<D: Depot>(
     alloc: Global,
     depot: &mut D,
     slot: u32,
@@ -18,6 +18,7 @@ pub(crate) fn read_whole<D: Depot>(
 ) -> Result<Vec<u8>, OldError>
     requires input { IsTrue ((D.seen depot.old).input slot) }
     ensures reads { WholeRead slot limit (D.seen depot.old) (D.seen depot.new) result }
+    ensures within { IfOk result (λ v. length v.items ≤ limit) }
 {
     match zeros(alloc, PIECE) {
         Ok(mut piece) => read_by(alloc, depot, slot, limit, &mut piece),
@@ -36,6 +37,7 @@ fn read_by<D: Depot>(
     requires input { IsTrue ((D.seen depot.old).input slot) }
     requires some { 0 < length piece.old }
     ensures reads { WholeRead slot limit (D.seen depot.old) (D.seen depot.new) result }
+    ensures within { IfOk result (λ v. length v.items ≤ limit) }
 {
     let mut whole = Vec::new(alloc);
     let mut room = limit;

@@ -1,10 +1,12 @@
 -- Whole captures, by their heads and the bytes behind them.
-use Rattle.std.proofs.Common.{◌≡◌, ℕ, zero, suc, ◌+◌, ◌<◌, ◌≤◌, List, [], ◌∷◌, length, length-drop, true, Ok, sym, ap, ◌∙◌, subst, arith, refl, inl, inr}
+use Rattle.std.proofs.Common.{◌≡◌, ℕ, zero, suc, ◌+◌, ◌<◌, ◌≤◌, List, [], ◌∷◌, length, length-drop, true, Some, Ok, sym, ap, ◌∙◌, subst, arith, refl, inl, inr}
 use Rattle.std.proofs.lemmas.Bool.{lt-ltb}
+use Rattle.std.specs.Prelude.{Result, drop}
 use Rattle.std.specs.List.{All}
-use Rattle.std.proofs.lemmas.List.Elements.{All-head, All-tail}
+use Rattle.std.proofs.lemmas.List.Elements.{All-head, All-tail, All-nil, All-cons}
 use Rattle.fab_base.specs.Seen.{Seen}
 use Rattle.pcap_file.specs.Capture.{HEAD, Next, Found, End, CutHead, TooLong, CutBytes, next, records_from, is_whole_from, head_decoded}
+use Rattle.pcap_file.specs.declared.CapFault.{CapFault}
 use Rattle.pcap_file.specs.declared.CaptureHead.{CaptureHead}
 use Rattle.pcap_file.specs.declared.Record.{Record}
 use Rattle.pcap_file.proofs.lemmas.Chains.{found_stands, go_on}
@@ -55,3 +57,25 @@ whole_captures d [] [] are whole = tt
 whole_captures d [] (o ∷ opened) are whole = absurd are
 whole_captures d (n ∷ names) [] are whole = absurd are
 whole_captures d (n ∷ names) (o ∷ opened) are whole = (whole_capture d n o are.0 (All-head IsWhole o opened whole), whole_captures d names opened are.1 (All-tail IsWhole o opened whole))
+
+-- a capture whose head was read, and which is whole, is whole behind that head
+whole_again : (d : Seen) (name : List ℕ) (o : Opened) (rs : List Record) → IsOpened d name o → HasCapture d name rs → IsWhole o
+whole_again d name o rs i h =
+    let file : Some h.bytes ≡ Some i.bytes = sym h.file ∙ i.file in
+    let same : h.bytes ≡ i.bytes = cc in
+    let both : (let r : Result CaptureHead CapFault = Ok h.head in r) ≡ Ok o.head = sym h.capture.head ∙ ap head_decoded same ∙ i.head in
+    let head : h.head ≡ o.head = cc in
+    let many = head_enough i.bytes o.head i.head in
+    let count : length i.bytes ≡ length o.body + HEAD = omega (arith, ap length i.body, length-drop HEAD i.bytes) in
+    let there = subst (λ (l : List ℕ). is_whole_from (length l) h.head 0 (drop HEAD l) ≡ true) same h.capture.whole in
+    let headed = subst (λ (x : CaptureHead). is_whole_from (length i.bytes) x 0 (drop HEAD i.bytes) ≡ true) head there in
+    let behind = subst (λ (l : List ℕ). is_whole_from (length i.bytes) o.head 0 l ≡ true) (sym i.body) headed in
+    subst (λ (n : ℕ). is_whole_from n o.head 0 o.body ≡ true) count behind
+
+-- the same of all
+pub whole_all : (d : Seen) (names : List (List ℕ)) (opened : List Opened) (ins : List (List Record)) → AreOpened d names opened → AreCaptures d names ins → All IsWhole opened
+whole_all d [] [] ins are captures = All-nil IsWhole
+whole_all d [] (o ∷ opened) ins are captures = absurd are
+whole_all d (n ∷ names) [] ins are captures = absurd are
+whole_all d (n ∷ names) (o ∷ opened) [] are captures = absurd captures
+whole_all d (n ∷ names) (o ∷ opened) (rs ∷ ins) are captures = All-cons IsWhole o opened (whole_again d n o rs are.0 captures.0) (whole_all d names opened ins are.1 captures.1)

@@ -14,7 +14,7 @@ use Rattle.fab_policy.specs.declared.line.Line.{Line}
 use Rattle.fab_migrate.specs.Migrating.{IsNewFront, Untouched}
 use Rattle.fab_migrate.specs.declared.old.OldWhy.{OldWhy}
 use Rattle.fab_migrate.proofs.OldReadingLemmas.{one_reading}
-use Rattle.fcoe_tool.specs.Command.{PairNames, MakeNames, Command, Run, Convert, Migrate, Make, Help, Version, KeepsOthers}
+use Rattle.fcoe_tool.specs.Command.{PairNames, MakeNames, Command, Run, Replay, Show, Convert, Migrate, Make, Help, Version, KeepsOthers}
 use Rattle.fab_gather.specs.declared.fault.LimitKind.{LimitKind}
 use Rattle.fcoe_tool.specs.Ends.{ConvertHolds, MigrateHolds, Holds}
 use Rattle.fcoe_tool.specs.Inputs.{HasPackets, LIMITS}
@@ -24,8 +24,10 @@ use Rattle.fcoe_tool.specs.Statuses.{IsRefused, HasFront, HasForms, IsQuiet, Mig
 use Rattle.fcoe_tool.specs.declared.limits.TheConstants.{MOST_BYTES}
 use Rattle.fcoe_tool.specs.declared.outcome.Outcome.{Outcome}
 use Rattle.fcoe_tool.specs.declared.outcome.Outcome.TheVariants as ends
-use Rattle.fcoe_tool.proofs.OutcomeCases.{run_cases, convert_cases, migrate_cases, make_cases, whole_front, whole_journal, whole_load}
+use Rattle.fcoe_tool.proofs.OutcomeCases.{run_cases, convert_cases, migrate_cases, make_cases, replay_files, show_files, whole_front, whole_journal, whole_load}
 use Rattle.fcoe_tool.proofs.PartLemmas.{ran_part, stopped_part, part_front}
+use Rattle.fcoe_tool.proofs.LegalLemmas.{legal_end, shown_end}
+use Rattle.fcoe_tool.proofs.FaultLemmas.{replay_named, show_named}
 use Rattle.fcoe_tool.proofs.FoundLemmas.{run_completed, ends_as_said}
 
 -- ---- the outcomes of a status
@@ -67,6 +69,8 @@ refused_of (Run k) old new o holds is = run_cases k old new (λ o. 1 ≡ status_
     (λ h is. absurd (omega arith))
     (λ h is. absurd (omega arith))
     o holds is
+refused_of (Replay k) old new o holds is = (o, sym is, holds)
+refused_of (Show k) old new o holds is = (o, sym is, holds)
 refused_of (Convert k) old new o holds is = convert_cases k old new (λ o. 1 ≡ status_of o → IsRefused (Convert k) old new)
     (λ records h is. absurd (omega arith))
     (λ at fault h is. (at, fault, h))
@@ -102,6 +106,8 @@ others_kept (Run k) old new o holds = run_cases k old new (λ o. KeepsOthers (Ru
     (λ h. h.0)
     (λ h. h.0)
     o holds
+others_kept (Replay k) old new o holds = λ m none. replay_files k old new o holds m
+others_kept (Show k) old new o holds = λ m none. show_files k old new o holds m
 others_kept (Convert k) old new o holds = convert_cases k old new (λ o. KeepsOthers (Convert k) old new)
     (λ records h. h.0)
     (λ at fault h m none. h.0 m)
@@ -138,6 +144,8 @@ front_of (Run k) old new told o holds = run_cases k old new (λ o. HasFront (Run
     (λ h. h.2 told)
     (λ h. h.1 told)
     o holds
+front_of (Replay k) old new told o holds = replay_files k old new o holds
+front_of (Show k) old new told o holds = show_files k old new o holds
 front_of (Convert k) old new told o holds = convert_cases k old new (λ o. IsFront k.from k.to LIMITS old new)
     (λ records h. whole_front k old new records (h.1 told))
     (λ at fault h. Same (h.0 k.to))
@@ -229,6 +237,8 @@ load_end k old new before after quiet o holds = make_cases k old new (λ o. (o �
 -- a command ends as its inputs say, where nothing fails
 pub said_end : (k : Command) (old new : Seen) (before after : Sunk) (p : Outcome) → IsTrue old.told → Says k old p → IsQuiet k old new before after → (o : Outcome) → Holds k old new o → (o ≡ p) ⊎ (o ≡ ends.Memory)
 said_end (Run k) old new before after p told says quiet o holds = ends_as_said k old new before after told quiet o p holds says
+said_end (Replay k) old new before after p told says quiet o holds = replay_named k old new before after told quiet o p holds says
+said_end (Show k) old new before after p told says quiet o holds = show_named k old new before after told quiet o p holds says
 said_end (Convert k) old new before after p told says quiet o holds = elim (quiet_end k old new before after says.0 told says.1 quiet o holds) [ inl is ↦ inl (is ∙ sym says.2) | inr memory ↦ inr memory ]
 said_end (Migrate k) old new before after p told says quiet o holds = elim (moved_end k old new before after says.0 told says.1 quiet o holds) [
   | inl is ↦ inl (one_end says.0 o p is says.2)
@@ -241,6 +251,10 @@ said_end Version old new before after p told says quiet o holds = inl (holds.0 �
 -- inputs of the right forms are taken, where nothing fails
 pub done_or_memory : (k : Command) (old new : Seen) (before after : Sunk) → HasForms k old → IsQuiet k old new before after → (o : Outcome) → Holds k old new o → (0 ≡ status_of o) ⊎ (5 ≡ status_of o)
 done_or_memory (Run k) old new before after forms quiet o holds = run_completed k old new before after forms.told quiet forms o holds
+done_or_memory (Replay k) old new before after forms quiet o holds =
+    elim (legal_end k old forms.1 forms.2 new before after forms.0 quiet o holds) [ inl is ↦ inl (sym (ap status_of is)) | inr memory ↦ inr (sym (ap status_of memory)) ]
+done_or_memory (Show k) old new before after forms quiet o holds =
+    elim (shown_end k old forms.1 forms.2 new before after forms.0 quiet o holds) [ inl is ↦ inl (sym (ap status_of is)) | inr memory ↦ inr (sym (ap status_of memory)) ]
 done_or_memory (Convert k) old new before after forms quiet o holds = convert_cases k old new (λ o. (0 ≡ status_of o) ⊎ (5 ≡ status_of o))
     (λ records h. inl refl)
     (λ at fault h. absurd (not_refused old k.from forms.packets forms.input (ng.Fault at fault) (h.1 forms.told)))

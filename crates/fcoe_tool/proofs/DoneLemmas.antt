@@ -7,13 +7,15 @@ use Rattle.pcap_file.specs.declared.Record.{Record}
 use Rattle.pcap_file.specs.Capture.{IsCapture}
 use Rattle.pcap_file.proofs.lemmas.Chains.{one_capture}
 use Rattle.pcapng_file.specs.Classic.{Converted, classic_bytes, timed, written}
-use Rattle.fcoe_tool.specs.Command.{RunNames, PairNames, MakeNames, Command, Run, Convert, Migrate, Make, Help, Version}
+use Rattle.fcoe_tool.specs.Command.{RunNames, PairNames, MakeNames, Command, Run, Replay, Show, Convert, Migrate, Make, Help, Version}
 use Rattle.fcoe_tool.specs.Ends.{RunHolds, ConvertHolds, MigrateHolds, Holds}
 use Rattle.fcoe_tool.specs.Inputs.{HasCapture, LIMITS}
+use Rattle.fcoe_tool.specs.Checking.{ReplayHolds, ShowHolds}
 use Rattle.fcoe_tool.specs.Load.{MakeHolds}
 use Rattle.fcoe_tool.specs.Outcome.{status_of, line_of, made_text}
-use Rattle.fcoe_tool.specs.Statuses.{Done}
+use Rattle.fcoe_tool.specs.Statuses.{Done, ReplayEnded, ShowEnded}
 use Rattle.fcoe_tool.specs.declared.outcome.Outcome.{Outcome}
+use Rattle.fcoe_tool.specs.declared.outcome.Outcome.TheVariants as ends
 use Rattle.fcoe_tool.proofs.OutcomeCases.{run_cases, convert_cases, migrate_cases, make_cases}
 
 -- the records of the capture that was written, and no others
@@ -64,6 +66,30 @@ migrate_done k old new before after status none o holds = migrate_cases k old ne
     (λ h w. let five = w.0 in absurd (omega arith))
     o holds
 
+replay_done : (k : RunNames) (old new : Seen) (before after : Sunk) (status : ℕ) → status ≡ 0 → (o : Outcome) → ReplayHolds k old new o → Whole o before after status → IsTrue old.told → ReplayEnded k old new before after
+unfolding line_of
+replay_done k old new before after status none (ends.Legal entries) h w told = record { entries = entries; files = h.0; legal = h.1 told; printed = w.1 }
+replay_done k old new before after status none (ends.WrongLine line why) h w told = let one = w.0 in absurd (omega arith)
+replay_done k old new before after status none (ends.WrongOutput port at) h w told = let one = w.0 in absurd (omega arith)
+replay_done k old new before after status none (ends.Config fault) h w told = let one = w.0 in absurd (omega arith)
+replay_done k old new before after status none (ends.Capture port at why) h w told = let one = w.0 in absurd (omega arith)
+replay_done k old new before after status none (ends.Limit kind) h w told = let six = w.0 in absurd (omega arith)
+replay_done k old new before after status none ends.ReadFault h w told = let three = w.0 in absurd (omega arith)
+replay_done k old new before after status none ends.Memory h w told = let five = w.0 in absurd (omega arith)
+replay_done k old new before after status none o h w told = absurd h
+
+show_done : (k : RunNames) (old new : Seen) (before after : Sunk) (status : ℕ) → status ≡ 0 → (o : Outcome) → ShowHolds k old new o → Whole o before after status → IsTrue old.told → ShowEnded k old new before after
+unfolding line_of
+show_done k old new before after status none (ends.Shown text) h w told = record { text = text; files = h.0; shown = h.1 told; printed = w.1 }
+show_done k old new before after status none (ends.WrongLine line why) h w told = let one = w.0 in absurd (omega arith)
+show_done k old new before after status none (ends.WrongOutput port at) h w told = let one = w.0 in absurd (omega arith)
+show_done k old new before after status none (ends.Config fault) h w told = let one = w.0 in absurd (omega arith)
+show_done k old new before after status none (ends.Capture port at why) h w told = let one = w.0 in absurd (omega arith)
+show_done k old new before after status none (ends.Limit kind) h w told = let six = w.0 in absurd (omega arith)
+show_done k old new before after status none ends.ReadFault h w told = let three = w.0 in absurd (omega arith)
+show_done k old new before after status none ends.Memory h w told = let five = w.0 in absurd (omega arith)
+show_done k old new before after status none o h w told = absurd h
+
 make_done : (k : MakeNames) (old new : Seen) (before after : Sunk) (status : ℕ) → status ≡ 0 → (o : Outcome) → MakeHolds k old new o → Whole o before after status → Done (Make k) old new before after
 unfolding line_of
 make_done k old new before after status none o holds = make_cases k old new (λ o. Whole o before after status → Done (Make k) old new before after)
@@ -82,6 +108,8 @@ version_done old new before after status o holds w = record { files = holds.1; p
 
 pub command_done : (k : Command) (old new : Seen) (before after : Sunk) (status : ℕ) → status ≡ 0 → (o : Outcome) → Holds k old new o → Whole o before after status → Done k old new before after
 command_done (Run k) old new before after status none o holds w = run_done k old new before after status none o holds w
+command_done (Replay k) old new before after status none o holds w = replay_done k old new before after status none o holds w
+command_done (Show k) old new before after status none o holds w = show_done k old new before after status none o holds w
 command_done (Convert k) old new before after status none o holds w = convert_done k old new before after status none o holds w
 command_done (Migrate k) old new before after status none o holds w = migrate_done k old new before after status none o holds w
 command_done (Make k) old new before after status none o holds w = make_done k old new before after status none o holds w

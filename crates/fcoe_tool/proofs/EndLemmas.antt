@@ -7,10 +7,12 @@ use Rattle.fab_base.specs.Sunk.{Sunk}
 use Rattle.fcoe_tool.specs.Command.{Command, KeepsOthers, command}
 use Rattle.fcoe_tool.specs.Ends.{Holds, HoldsFor, Prints, Ends}
 use Rattle.fcoe_tool.specs.Outcome.{status_of, line_of}
+use Rattle.fcoe_tool.specs.Rechecking.{IsRechecked}
 use Rattle.fcoe_tool.specs.Statuses.{Done, OfCommand, IsRefused, IsPastLimit, HasFront, IsComplete, IsNamed, Printed}
 use Rattle.fcoe_tool.specs.declared.outcome.Outcome.{Outcome}
 use Rattle.fcoe_tool.specs.declared.outcome.Outcome.TheVariants as ends
 use Rattle.fcoe_tool.proofs.DoneLemmas.{Whole, command_done}
+use Rattle.fcoe_tool.proofs.RecheckLemmas.{recheck_complete}
 use Rattle.fcoe_tool.proofs.CauseLemmas.{is_read_fault, is_write_fault, is_memory, is_limit, refused_of, others_kept, done_or_memory, front_of, said_end}
 
 -- the status of an outcome, or 4 by a fault of the sink
@@ -76,6 +78,10 @@ module _ (words : List (String Global)) (old new : Seen) (before after : Sunk) (
       | inr five ↦ inr (is ∙ sym five)
     ]
   ]
+
+  -- what a `run` wrote is taken
+  pub rechecked : IsRechecked words old new before after → (status ≡ 0) ⊎ (status ≡ 5)
+  rechecked x = completed (recheck_complete words old new before after x)
 
   -- words that are no command
   pub no_command : command words ≡ None → ¬ Rose before.faults after.faults → status ≡ 2

@@ -26,22 +26,22 @@ use Rattle.fcoe_tool.proofs.OutcomeCases.{run_cases}
 
 -- ---- a file says one thing
 
-same_text : (d : Seen) (name : List ℕ) (x y : List ℕ) → d.file name ≡ Some x → d.file name ≡ Some y → x ≡ y
+pub same_text : (d : Seen) (name : List ℕ) (x y : List ℕ) → d.file name ≡ Some x → d.file name ≡ Some y → x ≡ y
 same_text d name x y is other = let e : Some x ≡ Some y = sym is ∙ other in cc
 
-one_value : (d : Seen) (name : List ℕ) (a b : Settings) → HasConfig d name a → HasConfig d name b → a ≡ b
+pub one_value : (d : Seen) (name : List ℕ) (a b : Settings) → HasConfig d name a → HasConfig d name b → a ≡ b
 one_value d name a b one other =
     let same = same_text d name one.text other.text one.file other.file in
     let both : (let r : Result Settings ConfigFault = Ok a in r) ≡ Ok b = sym one.value ∙ ap decoded same ∙ other.value in
     cc
 
-one_fault : (d : Seen) (name : List ℕ) (a b : ConfigFault) → HasFault d name a → HasFault d name b → a ≡ b
+pub one_fault : (d : Seen) (name : List ℕ) (a b : ConfigFault) → HasFault d name a → HasFault d name b → a ≡ b
 one_fault d name a b one other =
     let same = same_text d name one.text other.text one.file other.file in
     let both : (let r : Result Settings ConfigFault = Err a in r) ≡ Err b = sym one.value ∙ ap decoded same ∙ other.value in
     cc
 
-no_fault : (d : Seen) (name : List ℕ) (a : Settings) (fault : ConfigFault) → HasConfig d name a → HasFault d name fault → ⊥
+pub no_fault : (d : Seen) (name : List ℕ) (a : Settings) (fault : ConfigFault) → HasConfig d name a → HasFault d name fault → ⊥
 no_fault d name a fault one other =
     let same = same_text d name one.text other.text one.file other.file in
     let both : (let r : Result Settings ConfigFault = Ok a in r) ≡ Err fault = sym one.value ∙ ap decoded same ∙ other.value in
@@ -56,7 +56,7 @@ one_head d name x y one other =
     let both : (let r : Result CaptureHead CapFault = Ok x.head in r) ≡ Ok y.head = sym one.head ∙ ap head_decoded same ∙ other.head in
     same_opened x y (cc) (one.body ∙ ap (drop HEAD) same ∙ sym other.body)
 
-all_one : (d : Seen) (names : List (List ℕ)) (xs ys : List Opened) → AreOpened d names xs → AreOpened d names ys → xs ≡ ys
+pub all_one : (d : Seen) (names : List (List ℕ)) (xs ys : List Opened) → AreOpened d names xs → AreOpened d names ys → xs ≡ ys
 all_one d [] [] [] one other = refl
 all_one d [] [] (y ∷ ys) one other = absurd other
 all_one d [] (x ∷ xs) ys one other = absurd one
@@ -97,14 +97,14 @@ one_first d (x ∷ xs) (y ∷ ys) n m bs cs (o ∷ os) (q ∷ qs) w v e one othe
     let count = h.0 in
     (omega arith, h.1)
 
-one_bad : (k : RunNames) (d : Seen) (p q : ℕ) (w v : CapWhy) → HasBadHead k d p w → HasBadHead k d q v → (p ≡ q) × (w ≡ v)
+pub one_bad : (k : RunNames) (d : Seen) (p q : ℕ) (w v : CapWhy) → HasBadHead k d p w → HasBadHead k d q v → (p ≡ q) × (w ≡ v)
 one_bad k d p q w v one other =
     let x = one.first in
     let y = other.first in
     let h = one_first d x.before y.before x.name y.name x.behind y.behind x.opened y.opened w v (sym x.are ∙ y.are) x.heads y.heads x.without y.without in
     (x.number ∙ ap (λ (n : ℕ). n + 1) h.0 ∙ sym y.number, h.1)
 
-no_bad : (k : RunNames) (d : Seen) (c : Settings) (opened : List Opened) (p : ℕ) (w : CapWhy) → HasInputs k d c opened → HasBadHead k d p w → ⊥
+pub no_bad : (k : RunNames) (d : Seen) (c : Settings) (opened : List Opened) (p : ℕ) (w : CapWhy) → HasInputs k d c opened → HasBadHead k d p w → ⊥
 no_bad k d c opened p w inputs bad =
     let f = bad.first in
     none_without d f.before f.name f.behind opened w (subst (λ l. AreOpened d l opened) f.are inputs.heads) f.without

@@ -8,7 +8,7 @@ use Rattle.fab_gather.specs.Ports.{slot_at, slots_of, name_of, NameIn}
 use Rattle.fab_gather.specs.declared.shelf.Input.{Input}
 use Rattle.fab_windows.specs.Files.{Written}
 use Rattle.fab_windows.specs.Run.{AreGiven}
-use Rattle.fcoe_tool.specs.Command.{is_run, run_of, port_count, input_at, output_at, Among}
+use Rattle.fcoe_tool.specs.Command.{are_pairs, run_of, port_count, input_at, output_at, Among}
 use Rattle.fcoe_tool.specs.Opening.{AreEmptyOutputs}
 use Rattle.fcoe_tool.specs.Reading.{AreHeads}
 use Rattle.fcoe_tool.proofs.AmongLemmas.{counted_among}
@@ -24,7 +24,7 @@ input_named a d (n ∷ names) [] q lt are = absurd are
 input_named a d (n ∷ names) (i ∷ ins) zero lt are = (are.0.slot, are.0.name_)
 input_named a d (n ∷ names) (i ∷ ins) (suc q) lt are = input_named a d names ins q (omega arith) are.1
 
-all_fresh : (a d : Seen) (names : List (List ℕ)) (ins : List Input) → AreHeads a d names ins → AreFresh ins
+pub all_fresh : (a d : Seen) (names : List (List ℕ)) (ins : List Input) → AreHeads a d names ins → AreFresh ins
 all_fresh a d [] [] are = tt
 all_fresh a d [] (i ∷ ins) are = absurd are
 all_fresh a d (n ∷ names) [] are = absurd are
@@ -51,7 +51,7 @@ outputs_count d (n ∷ names) (s ∷ slots) are = let h = outputs_count d names 
 
 -- ---- all of them
 
-module _ (words : List (String Global)) (run : is_run words ≡ true) (a d : Seen) (ins : List Input) (journal : ℕ) (outs : List ℕ)
+module _ (words : List (String Global)) (run : are_pairs words ≡ true) (a d : Seen) (ins : List Input) (journal : ℕ) (outs : List ℕ)
     (heads : AreHeads a d (run_of words).ins ins) (outputs : AreEmptyOutputs d ((run_of words).journal ∷ (run_of words).outs) (journal ∷ outs)) where
   ports : ℕ
   ports = port_count words

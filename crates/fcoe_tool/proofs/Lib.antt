@@ -11,6 +11,10 @@ pub mod PartLemmas
 pub mod PortLoops
 pub mod SafeLemmas
 pub mod RanLemmas
+pub mod JournalLemmas
+pub mod SlotLemmas
+pub mod CheckLemmas
+pub mod ShowLemmas
 pub mod EdgeLemmas
 pub mod OutcomeLemmas
 pub mod FileLemmas
@@ -18,6 +22,9 @@ pub mod NumberTextLemmas
 pub mod MakeLemmas
 pub mod OutcomeCases
 pub mod FoundLemmas
+pub mod LegalLemmas
+pub mod FaultLemmas
 pub mod DoneLemmas
+pub mod RecheckLemmas
 pub mod CauseLemmas
 pub mod EndLemmas

@@ -1,5 +1,5 @@
 -- The names of a command differ.
-use Rattle.std.proofs.Common.{◌≡◌, ◌≢◌, ℕ, zero, suc, ◌+◌, ◌-◌, ◌*◌, ◌/◌, ◌%◌, codes, ◌<◌, ◌≤◌, List, [], ◌∷◌, ◌++◌, length, get_or, Bool, true, false, not, ◌&&◌, refl, sym, ap, ◌∙◌, arith, inl, inr}
+use Rattle.std.proofs.Common.{◌≡◌, ◌≢◌, ℕ, zero, suc, ◌+◌, ◌-◌, ◌*◌, ◌/◌, ◌%◌, ◌<◌, ◌≤◌, List, [], ◌∷◌, ◌++◌, length, get_or, Bool, true, false, not, ◌&&◌, refl, sym, ap, ◌∙◌, arith, inl, inr}
 use Rattle.std.specs.Prelude.{String, map, nat_lt, nat_le, ◌==◌}
 use Rattle.std.proofs.lemmas.Bool.{leb-true, eqb-true}
 use Rattle.std.specs.List.{list_any}
@@ -9,7 +9,9 @@ use Rattle.std.specs.declared.alloc.Global.{Global}
 use Rattle.fab_base.specs.Places.{name_at}
 use Rattle.fab_policy.specs.Logins.{counting}
 use Rattle.pcap_file.proofs.lemmas.Numbers.{le_or_lt}
-use Rattle.fcoe_tool.specs.Command.{names_from, are_names, has_form, is_run, port_count, input_at, output_at, run_of, Among}
+use Rattle.fcoe_tool.specs.declared.command.Width.{Width}
+use Rattle.fcoe_tool.specs.declared.command.Width.TheVariants as widths
+use Rattle.fcoe_tool.specs.Command.{are_ports, count_of, place_of, input_of, names_from, are_names, has_pairs, are_pairs, port_count, input_at, output_at, run_of, Among}
 use Rattle.fcoe_tool.proofs.AmongLemmas.{differs, or_false, among_counted}
 
 pub and_true : (a b : Bool) → (a && b) ≡ true → (a ≡ true) × (b ≡ true)
@@ -38,18 +40,22 @@ words_differ (w ∷ ws) zero (suc j) h lt within = none_at (string_bytes w) ws j
 words_differ (w ∷ ws) (suc i) (suc j) h lt within = words_differ ws i j (first_differs (string_bytes w) (map (λ w. string_bytes w) ws) h).1 (omega arith) (omega arith)
 
 -- names at different places differ
-pub names_differ : (words : List (String Global)) (i j : ℕ) → is_run words ≡ true → 1 ≤ i → i < j → j < length words → name_at words i ≢ name_at words j
+pub names_differ : (words : List (String Global)) (i j : ℕ) → are_names (names_from 1 words) ≡ true → 1 ≤ i → i < j → j < length words → name_at words i ≢ name_at words j
 names_differ [] i j run some lt within = absurd (omega arith)
 names_differ (w ∷ ws) zero j run some lt within = absurd (omega arith)
 names_differ (w ∷ ws) (suc i) zero run some lt within = absurd (omega arith)
-names_differ (w ∷ ws) (suc i) (suc j) run some lt within = words_differ ws i j (and_true (has_form (w ∷ ws)) (are_names (names_from 1 (w ∷ ws))) run).1 (omega arith) (omega arith)
+names_differ (w ∷ ws) (suc i) (suc j) run some lt within = words_differ ws i j run (omega arith) (omega arith)
 
 -- names at two places are one name only where the places are one
-pub one_place : (words : List (String Global)) (i j : ℕ) → is_run words ≡ true → 1 ≤ i → i < length words → 1 ≤ j → j < length words → name_at words i ≡ name_at words j → i ≡ j
-one_place words i j run some within some' within' same = elim (le_or_lt i j) [
+pub one_name : (words : List (String Global)) (i j : ℕ) → are_names (names_from 1 words) ≡ true → 1 ≤ i → i < length words → 1 ≤ j → j < length words → name_at words i ≡ name_at words j → i ≡ j
+one_name words i j run some within some' within' same = elim (le_or_lt i j) [
   | inl le ↦ elim (le_or_lt j i) [ inl ge ↦ omega arith | inr lt ↦ absurd (names_differ words i j run some lt within' same) ]
   | inr gt ↦ absurd (names_differ words j i run some' gt within (sym same))
 ]
+
+-- the same of pairs
+pub one_place : (words : List (String Global)) (i j : ℕ) → are_pairs words ≡ true → 1 ≤ i → i < length words → 1 ≤ j → j < length words → name_at words i ≡ name_at words j → i ≡ j
+one_place words i j run = one_name words i j (and_true (has_pairs words) (are_names (names_from 1 words)) run).1
 
 -- ---- numbered names
 
@@ -96,19 +102,52 @@ pub record Pairs (words : List (String Global)) : Type 0 where
 pairs_of : (n : ℕ) → 5 ≤ n → n ≤ 131 → n % 2 ≡ 1 → (2 * ((n - 3) / 2) + 3 ≡ n) × (1 ≤ (n - 3) / 2) × ((n - 3) / 2 ≤ 64)
 pairs_of n least most odd = (omega arith, omega arith, omega arith)
 
-pub pairs : (words : List (String Global)) → is_run words ≡ true → Pairs words
+pub pairs : (words : List (String Global)) → are_pairs words ≡ true → Pairs words
 pairs words run =
     let n = length words in
-    let form = (and_true (has_form words) (are_names (names_from 1 words)) run).0 in
-    let odd = (and_true (nat_le 5 n && nat_le n 131 && n % 2 == 1) (bytes_eq (name_at words 0) (codes "run")) form).0 in
+    let odd = (and_true (has_pairs words) (are_names (names_from 1 words)) run).0 in
     let both = and_true (nat_le 5 n && nat_le n 131) (n % 2 == 1) odd in
     let ends = and_true (nat_le 5 n) (nat_le n 131) both.0 in
     let all = pairs_of n (leb-true 5 n ends.0) (leb-true n 131 ends.1) (eqb-true (n % 2) 1 both.1) in
     record { fits = all.0; some = all.1; few = all.2 }
 
+-- the same by how many names a port has
+pub record Ports (w : Width) (words : List (String Global)) : Type 0 where
+  pub fits : place_of w (count_of w words) ≡ length words
+  pub some : 1 ≤ count_of w words
+  pub few : count_of w words ≤ 64
+  pub names : are_names (names_from 1 words) ≡ true
+
+pub ports : (w : Width) (words : List (String Global)) → are_ports w words ≡ true → Ports w words
+ports widths.One words are =
+    let n = length words in
+    let both = and_true (nat_le 4 n && nat_le n 67) (are_names (names_from 1 words)) are in
+    let ends = and_true (nat_le 4 n) (nat_le n 67) both.0 in
+    let least = leb-true 4 n ends.0 in
+    let most = leb-true n 67 ends.1 in
+    record { fits = omega arith; some = omega arith; few = omega arith; names = both.1 }
+ports widths.Two words are =
+    let p = pairs words are in
+    record { fits = p.fits; some = p.some; few = p.few; names = (and_true (has_pairs words) (are_names (names_from 1 words)) are).1 }
+
+pub places_ascend : (w : Width) (i j : ℕ) → i < j → (1 ≤ place_of w i) × (place_of w i < place_of w j)
+places_ascend widths.One i j lt = (omega arith, omega arith)
+places_ascend widths.Two i j lt = (omega arith, omega arith)
+
+-- an input is none of those before it
+pub new_input : (w : Width) (words : List (String Global)) → are_ports w words ≡ true → (q : ℕ) → q < count_of w words → Among (map (input_of w words) (counting 0 q)) (input_of w words q) → ⊥
+new_input w words are q lt among =
+    let at = among_counted (input_of w words) 0 q (input_of w words q) among in
+    let p = ports w words are in
+    let few = at.2 in
+    let below = places_ascend w at.0 q (omega arith) in
+    let within = places_ascend w q (count_of w words) lt in
+    let place = one_name words (place_of w q) (place_of w at.0) p.names within.0 (omega (arith, within.1, p.fits)) below.0 (omega (arith, below.1, within.1, p.fits)) at.3 in
+    absurd (omega (arith, place, below.1))
+
 -- ---- the names of `run`
 
-module _ (words : List (String Global)) (run : is_run words ≡ true) where
+module _ (words : List (String Global)) (run : are_pairs words ≡ true) where
   fits : 2 * port_count words + 3 ≡ length words
   fits = (pairs words run).fits
 
@@ -125,14 +164,6 @@ module _ (words : List (String Global)) (run : is_run words ≡ true) where
       let few = at.2 in
       let few' = to.2 in
       let place = one_place words (2 * at.0 + 3) (2 * to.0 + 4) run (omega arith) (omega (arith, fits)) (omega arith) (omega (arith, fits)) (sym at.3 ∙ to.3) in
-      absurd (omega arith)
-
-  -- an input is none of those before it
-  pub new_input : (q : ℕ) → q < port_count words → Among (map (input_at words) (counting 0 q)) (input_at words q) → ⊥
-  new_input q lt among =
-      let at = among_counted (input_at words) 0 q (input_at words q) among in
-      let few = at.2 in
-      let place = one_place words (2 * q + 3) (2 * at.0 + 3) run (omega arith) (omega (arith, fits)) (omega arith) (omega (arith, fits)) at.3 in
       absurd (omega arith)
 
   -- an output is neither the journal nor one of those before it

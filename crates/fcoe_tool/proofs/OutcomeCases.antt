@@ -1,8 +1,8 @@
 -- What follows from an outcome, command by command.
-use Rattle.std.proofs.Common.{ℕ, inl, inr, List, [], length, Option, Some, None, sym, ap, ◌∙◌, subst, arith, String}
+use Rattle.std.proofs.Common.{ℕ, inl, inr, IsTrue, List, [], length, Option, Some, None, sym, ap, ◌∙◌, subst, arith, String}
 use Rattle.std.proofs.lemmas.List.{take_all, append-nil}
 use Rattle.std.specs.declared.alloc.Global.{Global}
-use Rattle.fab_base.specs.Seen.{Seen}
+use Rattle.fab_base.specs.Seen.{Seen, SameFiles}
 use Rattle.fab_base.specs.Sunk.{Sunk}
 use Rattle.fab_config.specs.declared.ConfigFault.{ConfigFault}
 use Rattle.pcapng_file.specs.declared.fault.NgWhy.{NgWhy}
@@ -13,10 +13,11 @@ use Rattle.pcapng_file.specs.Classic.{Converted, IsFront, Same, Front, classic_b
 use Rattle.fab_migrate.specs.Migrating.{Migrated, IsNewFront, Untouched, Begun}
 use Rattle.fab_migrate.specs.Old.{new_text}
 use Rattle.fab_migrate.specs.declared.old.OldWhy.{OldWhy}
-use Rattle.fcoe_tool.specs.Command.{RunNames, PairNames, MakeNames, Command, Run, Convert, Migrate, Make, Help, Version, command}
+use Rattle.fcoe_tool.specs.Command.{RunNames, PairNames, MakeNames, Command, Run, Replay, Show, Convert, Migrate, Make, Help, Version, command}
 use Rattle.fcoe_tool.specs.Ends.{RunHolds, ConvertHolds, MigrateHolds, Holds, HoldsFor, TakesMemory, Reports, Ends}
+use Rattle.fcoe_tool.specs.Checking.{ReplayHolds, ShowHolds, CheckSays}
 use Rattle.fcoe_tool.specs.Inputs.{LIMITS}
-use Rattle.fcoe_tool.specs.Load.{HasLoad, HasLoadFront, MakeHolds, file_name}
+use Rattle.fcoe_tool.specs.Load.{HasLoad, HasLoadFront, MakeHolds}
 use Rattle.fab_vectors.specs.Making.{file_text}
 use Rattle.fcoe_tool.specs.declared.limits.TheConstants.{MOST_BYTES}
 use Rattle.fcoe_tool.specs.declared.outcome.Outcome.{Outcome}
@@ -70,6 +71,42 @@ migrate_cases k old new P migrated bad limit read write memory ends.WriteFault h
 migrate_cases k old new P migrated bad limit read write memory ends.Memory holds = memory holds
 migrate_cases k old new P migrated bad limit read write memory o holds = absurd holds
 
+-- The same of `replay` and of `show`, whose outcomes but a fault of reading and want of memory are what the files say.
+pub replay_cases : (k : RunNames) (old new : Seen) (P : Outcome → Type 0) →
+    ((o : Outcome) → SameFiles old new → (IsTrue old.told → CheckSays k old o) → P o) →
+    (ReplayHolds k old new ends.ReadFault → P ends.ReadFault) → (ReplayHolds k old new ends.Memory → P ends.Memory) →
+    (o : Outcome) → ReplayHolds k old new o → P o
+replay_cases k old new P says read memory (ends.Legal entries) holds = says (ends.Legal entries) holds.0 holds.1
+replay_cases k old new P says read memory (ends.WrongLine line why) holds = says (ends.WrongLine line why) holds.0 holds.1
+replay_cases k old new P says read memory (ends.WrongOutput port at) holds = says (ends.WrongOutput port at) holds.0 holds.1
+replay_cases k old new P says read memory (ends.Config fault) holds = says (ends.Config fault) holds.0 holds.1
+replay_cases k old new P says read memory (ends.Capture port at why) holds = says (ends.Capture port at why) holds.0 holds.1
+replay_cases k old new P says read memory (ends.Limit kind) holds = says (ends.Limit kind) holds.0 holds.1
+replay_cases k old new P says read memory ends.ReadFault holds = read holds
+replay_cases k old new P says read memory ends.Memory holds = memory holds
+replay_cases k old new P says read memory o holds = absurd holds
+
+pub show_cases : (k : RunNames) (old new : Seen) (P : Outcome → Type 0) →
+    ((o : Outcome) → SameFiles old new → (IsTrue old.told → CheckSays k old o) → P o) →
+    (ShowHolds k old new ends.ReadFault → P ends.ReadFault) → (ShowHolds k old new ends.Memory → P ends.Memory) →
+    (o : Outcome) → ShowHolds k old new o → P o
+show_cases k old new P says read memory (ends.Shown text) holds = says (ends.Shown text) holds.0 holds.1
+show_cases k old new P says read memory (ends.WrongLine line why) holds = says (ends.WrongLine line why) holds.0 holds.1
+show_cases k old new P says read memory (ends.WrongOutput port at) holds = says (ends.WrongOutput port at) holds.0 (λ told. absurd (holds.1 told))
+show_cases k old new P says read memory (ends.Config fault) holds = says (ends.Config fault) holds.0 holds.1
+show_cases k old new P says read memory (ends.Capture port at why) holds = says (ends.Capture port at why) holds.0 holds.1
+show_cases k old new P says read memory (ends.Limit kind) holds = says (ends.Limit kind) holds.0 holds.1
+show_cases k old new P says read memory ends.ReadFault holds = read holds
+show_cases k old new P says read memory ends.Memory holds = memory holds
+show_cases k old new P says read memory o holds = absurd holds
+
+-- whatever the outcome, no file has changed
+pub replay_files : (k : RunNames) (old new : Seen) (o : Outcome) → ReplayHolds k old new o → SameFiles old new
+replay_files k old new = replay_cases k old new (λ o. SameFiles old new) (λ o files says. files) (λ h. h.0) (λ h. h)
+
+pub show_files : (k : RunNames) (old new : Seen) (o : Outcome) → ShowHolds k old new o → SameFiles old new
+show_files k old new = show_cases k old new (λ o. SameFiles old new) (λ o files says. files) (λ h. h.0) (λ h. h)
+
 -- the same of `make`
 pub make_cases : (k : MakeNames) (old new : Seen) (P : Outcome → Type 0) →
     ((frames : ℕ) → MakeHolds k old new (ends.Made frames) → P (ends.Made frames)) →
@@ -103,6 +140,8 @@ memory_holds (Run k) old new o holds takes = run_cases k old new (λ o. TakesMem
     (λ h takes. absurd takes)
     (λ h takes. absurd takes)
     o holds takes
+memory_holds (Replay k) old new o holds takes = replay_files k old new o holds
+memory_holds (Show k) old new o holds takes = show_files k old new o holds
 memory_holds (Convert k) old new o holds takes = convert_cases k old new (λ o. TakesMemory o → Holds (Convert k) old new ends.Memory)
     (λ records h takes. (h.0, λ told. whole_front k old new records (h.1 told)))
     (λ at fault h takes. (λ m other. h.0 m, λ told. Same (h.0 k.to)))

@@ -6,12 +6,13 @@ use Rattle.std.specs.declared.alloc.Global.{Global}
 use Rattle.std.specs.declared.alloc.AllocError.{AllocError}
 use Rattle.fab_base.specs.Sunk.{Sunk}
 use Rattle.fab_config.specs.declared.ConfigFault.{ConfigFault}
-use Rattle.fcoe_tool.specs.Outcome.{status_of, line_of, run_text, capture_text, config_text, converted_text, block_text, migrated_text, made_text, journal_text, limit_text}
+use Rattle.fcoe_tool.specs.Outcome.{status_of, line_of, run_text, capture_text, config_text, converted_text, block_text, migrated_text, made_text, legal_text, wrong_text, output_text, journal_text, limit_text}
 use Rattle.fcoe_tool.specs.Help.{help_text, version_text}
 use Rattle.pcapng_file.specs.declared.fault.NgWhy.{NgWhy}
 use Rattle.fab_gather.specs.declared.fault.CapWhy.{CapWhy}
 use Rattle.fab_gather.specs.declared.fault.LimitKind.{LimitKind}
 use Rattle.fab_migrate.specs.declared.old.OldWhy.{OldWhy}
+use Rattle.fab_replay.specs.declared.fault.LineWhy.{LineWhy}
 use Rattle.fcoe_tool.specs.Ends.{Puts, Prints, Reports, TakesMemory}
 use Rattle.fcoe_tool.specs.declared.outcome.Outcome.{Outcome}
 use Rattle.fcoe_tool.specs.declared.outcome.Outcome.TheVariants as ends
@@ -67,6 +68,22 @@ line_block at why = refl
 pub line_migrated : (entries : ℕ) → migrated_text entries ≡ line_of (ends.Migrated entries)
 unfolding line_of
 line_migrated entries = refl
+
+pub line_legal : (entries : ℕ) → legal_text entries ≡ line_of (ends.Legal entries)
+unfolding line_of
+line_legal entries = refl
+
+pub line_shown : (text : List ℕ) → text ≡ line_of (ends.Shown text)
+unfolding line_of
+line_shown text = refl
+
+pub line_wrong : (line : ℕ) (why : LineWhy) → wrong_text line why ≡ line_of (ends.WrongLine line why)
+unfolding line_of
+line_wrong line why = refl
+
+pub line_output : (port at : ℕ) → output_text port at ≡ line_of (ends.WrongOutput port at)
+unfolding line_of
+line_output port at = refl
 
 pub line_made : (frames : ℕ) → made_text frames ≡ line_of (ends.Made frames)
 unfolding line_of

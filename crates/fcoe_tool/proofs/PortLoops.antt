@@ -7,7 +7,8 @@ use Rattle.fab_base.specs.declared.values.Failed.{Failed}
 use Rattle.pcap_file.specs.declared.Budget.{Budget}
 use Rattle.fab_policy.specs.Logins.{counting}
 use Rattle.fab_gather.specs.declared.shelf.Input.{Input}
-use Rattle.fcoe_tool.specs.Command.{is_run, run_of, port_count, input_at, output_at}
+use Rattle.fcoe_tool.specs.Command.{are_pairs, are_ports, run_of, ins_of, port_count, count_of, input_of, output_at}
+use Rattle.fcoe_tool.specs.declared.command.Width.{Width}
 use Rattle.fcoe_tool.specs.Opening.{OutputsOpened}
 use Rattle.fcoe_tool.specs.Reading.{HeadRead, HeadsRead}
 use Rattle.fcoe_tool.specs.declared.outcome.Outcome.{Outcome}
@@ -18,8 +19,8 @@ use Rattle.fcoe_tool.proofs.NameLemmas.{split_names, push_name, length-counted, 
 use Rattle.fcoe_tool.proofs.OpenLemmas.{OpenedSoFar, opened_none, opened_more, opened_failed}
 
 -- the inputs of the ports before this one
-abbrev pub input_names : List (String Global) → ℕ → List (List ℕ)
-input_names words p = map (input_at words) (counting 0 p)
+abbrev pub input_names : Width → List (String Global) → ℕ → List (List ℕ)
+input_names w words p = map (input_of w words) (counting 0 p)
 
 -- the journal, and the outputs of these ports
 abbrev pub output_names : List (String Global) → ℕ → List (List ℕ)
@@ -29,30 +30,28 @@ output_names words p = (run_of words).journal ∷ map (output_at words) (countin
 pub head_as : {q p : ℕ} {m n : List ℕ} {a b : Seen} {had left : Budget} {r : Result Input Outcome} → q ≡ p → m ≡ n → HeadRead q m a b had left r → HeadRead p n a b had left r
 head_as {q} {p} {m} {n} {a} {b} {had} {left} {r} e f read = subst (λ (x : ℕ). HeadRead x n a b had left r) e (subst (λ l. HeadRead q l a b had left r) f read)
 
-module _ (words : List (String Global)) (run : is_run words ≡ true) (p : ℕ) (lt : p < port_count words) (a b d : Seen) where
-  module _ (ins : List Input) (had left left' : Budget) (h : HeadsSoFar (input_names words p) a b ins had left) where
-    pub head_more : (i : Input) → HeadRead (p + 1) (input_at words p) b d left left' (Ok i) → HeadsSoFar (input_names words (p + 1)) a d (ins ++ i ∷ []) had left'
-    head_more i read =
-        subst (λ names. HeadsSoFar names a d (ins ++ i ∷ []) had left') (sym (push_name (input_at words) p))
-        (heads_more (input_names words p) a b ins had left h (p + 1) (input_at words p) d left' i (new_input words run p lt) read)
+module _ (w : Width) (words : List (String Global)) (are_all : are_ports w words ≡ true) (p : ℕ) (lt : p < count_of w words) (a b d : Seen) (ins : List Input) (had left left' : Budget)
+    (h : HeadsSoFar (map (input_of w words) (counting 0 p)) a b ins had left) where
+  pub head_more : (i : Input) → HeadRead (p + 1) (input_of w words p) b d left left' (Ok i) → HeadsSoFar (map (input_of w words) (counting 0 (p + 1))) a d (ins ++ i ∷ []) had left'
+  head_more i read =
+      subst (λ names. HeadsSoFar names a d (ins ++ i ∷ []) had left') (sym (push_name (input_of w words) p))
+      (heads_more (map (input_of w words) (counting 0 p)) a b ins had left h (p + 1) (input_of w words p) d left' i (new_input w words are_all p lt) read)
 
-    behind : List (List ℕ)
-    behind = map (input_at words) (counting (p + 1) (port_count words - (p + 1)))
+  are : ins_of w words ≡ map (input_of w words) (counting 0 p) ++ input_of w words p ∷ map (input_of w words) (counting (p + 1) (count_of w words - (p + 1)))
+  are = split_names (input_of w words) (count_of w words) p lt
 
-    are : (run_of words).ins ≡ input_names words p ++ input_at words p ∷ map (input_at words) (counting (p + 1) (port_count words - (p + 1)))
-    are = split_names (input_at words) (port_count words) p lt
+  number : p + 1 ≡ length (map (input_of w words) (counting 0 p)) + 1
+  number = ap (λ (n : ℕ). n + 1) (sym (length-counted (input_of w words) 0 p))
 
-    number : p + 1 ≡ length (input_names words p) + 1
-    number = ap (λ (n : ℕ). n + 1) (sym (length-counted (input_at words) 0 p))
+  pub head_ended : (x : Outcome) → HeadRead (p + 1) (input_of w words p) b d left left' (Err x) → HeadsRead (ins_of w words) a d had left' (Err x)
+  head_ended x read =
+      heads_failed (map (input_of w words) (counting 0 p)) a b ins had left h (p + 1) (input_of w words p) d left' (ins_of w words) (map (input_of w words) (counting (p + 1) (count_of w words - (p + 1)))) are number x read
 
-    pub head_ended : (x : Outcome) → HeadRead (p + 1) (input_at words p) b d left left' (Err x) → HeadsRead (run_of words).ins a d had left' (Err x)
-    head_ended x read =
-        heads_failed (input_names words p) a b ins had left h (p + 1) (input_at words p) d left' (run_of words).ins (map (input_at words) (counting (p + 1) (port_count words - (p + 1)))) are number x read
+  pub head_no_room : (i : Input) → HeadRead (p + 1) (input_of w words p) b d left left' (Ok i) → HeadsRead (ins_of w words) a d had left' (Err ends.Memory)
+  head_no_room i read =
+      heads_no_room (map (input_of w words) (counting 0 p)) a b ins had left h (p + 1) (input_of w words p) d left' (ins_of w words) (map (input_of w words) (counting (p + 1) (count_of w words - (p + 1)))) are i read
 
-    pub head_no_room : (i : Input) → HeadRead (p + 1) (input_at words p) b d left left' (Ok i) → HeadsRead (run_of words).ins a d had left' (Err ends.Memory)
-    head_no_room i read =
-        heads_no_room (input_names words p) a b ins had left h (p + 1) (input_at words p) d left' (run_of words).ins (map (input_at words) (counting (p + 1) (port_count words - (p + 1)))) are i read
-
+module _ (words : List (String Global)) (run : are_pairs words ≡ true) (p : ℕ) (lt : p < port_count words) (a b d : Seen) where
   module _ (slots : List ℕ) (h : OpenedSoFar (output_names words p) a b slots) where
     pub output_more : (s : ℕ) → OpensOut {E = Failed} (output_at words p) b d (Ok s) → OpenedSoFar (output_names words (p + 1)) a d (slots ++ s ∷ [])
     output_more s o =

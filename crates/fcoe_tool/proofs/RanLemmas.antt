@@ -21,7 +21,7 @@ use Rattle.fab_gather.specs.declared.fault.RunFault.TheVariants as faults
 use Rattle.fab_windows.specs.Files.{Written, Wholes, Fronts}
 use Rattle.fab_windows.specs.Run.{AreGiven, IsRunOver, Runs, Finished, Stopped, Interrupted, keeps}
 use Rattle.fab_windows.specs.declared.Done.{Done}
-use Rattle.fcoe_tool.specs.Command.{RunNames, Run, is_run, run_of, port_count, Among, AnyRose, KeepsOthers}
+use Rattle.fcoe_tool.specs.Command.{RunNames, Run, are_pairs, run_of, port_count, Among, AnyRose, KeepsOthers}
 use Rattle.fcoe_tool.specs.Ends.{RunHolds}
 use Rattle.fcoe_tool.specs.Inputs.{HasConfig, HasInputs, AreOpened, stop_of, kept_of, MOST_BYTES, MOST_FRAMES}
 use Rattle.fcoe_tool.specs.Left.{HoldsAll, HoldsFronts, AreOldOrFront, HasRun, HasStopped, HasPart, LegalIsSafe}
@@ -57,7 +57,7 @@ config_ended k old new x read = elim read.only [
   ]
 ]
 
-opened_since : (old b : Seen) → SameFiles old b → (names : List (List ℕ)) (opened : List Opened) → AreOpened b names opened → AreOpened old names opened
+pub opened_since : (old b : Seen) → SameFiles old b → (names : List (List ℕ)) (opened : List Opened) → AreOpened b names opened → AreOpened old names opened
 opened_since old b same [] [] are = tt
 opened_since old b same [] (o ∷ opened) are = absurd are
 opened_since old b same (n ∷ names) [] are = absurd are
@@ -143,7 +143,7 @@ module _ (k : RunNames) (c : Settings) (old m a : Seen) (ins : List Input)
 
 -- ---- what is handed to the windows
 
-module _ (words : List (String Global)) (run : is_run words ≡ true) (old m a : Seen) (ins : List Input) (journal : ℕ) (outs : List ℕ)
+module _ (words : List (String Global)) (run : are_pairs words ≡ true) (old m a : Seen) (ins : List Input) (journal : ℕ) (outs : List ℕ)
     (heads : AreHeads old m (run_of words).ins ins) (opens : Opens ((run_of words).journal ∷ (run_of words).outs) m a) (outputs : AreEmptyOutputs a ((run_of words).journal ∷ (run_of words).outs) (journal ∷ outs)) where
   pub heads_after : AreHeads old a (run_of words).ins ins
   heads_after = heads_still old m a (run_of words).ins ins (Among ((run_of words).journal ∷ (run_of words).outs)) (Among ((run_of words).journal ∷ (run_of words).outs)) opens.touches (inputs_apart words run) heads
@@ -211,7 +211,7 @@ held_fronts a b (n ∷ names) (s ∷ slots) g k are each =
       held_fronts a b names slots g (k + 1) are.1 (λ q lt. let e : k + suc q ≡ k + 1 + q = omega arith in let h = each (suc q) (omega arith) in (h.0, h.1, subst (λ (p : ℕ). IsPrefixOf h.0 (g p)) e h.2)),
     )
 
-module _ (words : List (String Global)) (run : is_run words ≡ true) (c : Settings) (old m a b : Seen) (ins : List Input) (journal : ℕ) (outs : List ℕ) (budget : Budget)
+module _ (words : List (String Global)) (run : are_pairs words ≡ true) (c : Settings) (old m a b : Seen) (ins : List Input) (journal : ℕ) (outs : List ℕ) (budget : Budget)
     (range : IsTrue (is_in_range c)) (safe : LegalIsSafe)
     (config : IsTrue old.told → HasConfig old (run_of words).config c) (inputs : Touches Nothing (Among ((run_of words).config ∷ (run_of words).ins)) old m) (heads : AreHeads old m (run_of words).ins ins)
     (opens : Opens ((run_of words).journal ∷ (run_of words).outs) m a) (outputs : AreEmptyOutputs a ((run_of words).journal ∷ (run_of words).outs) (journal ∷ outs))

@@ -1,5 +1,5 @@
 -- The command that words are.
-use Rattle.std.specs.Prelude.{◌≡◌, ℕ, ◌+◌, ◌-◌, ◌*◌, ◌/◌, ◌%◌, ◌^◌, ◌<◌, ◌⊎◌, Bool, true, false, not, ◌==◌, nat_lt, nat_le, ◌&&◌, if◌then◌else◌, IsTrue, List, [], ◌∷◌, length, map, drop, Option, Some, None, is_some, unwrap_or, option_map, codes, decimal, String}
+use Rattle.std.specs.Prelude.{◌≡◌, ℕ, ◌+◌, ◌-◌, ◌*◌, ◌/◌, ◌%◌, ◌^◌, ◌<◌, ◌⊎◌, Bool, true, false, not, ◌==◌, nat_lt, nat_le, ◌&&◌, if◌then◌else◌, IsTrue, List, [], ◌∷◌, ◌++◌, length, map, drop, Option, Some, None, is_some, unwrap_or, option_map, codes, decimal, String}
 use Rattle.std.specs.List.{list_any}
 use Rattle.std.specs.Str.{bytes_eq}
 use Rattle.std.specs.Str.Parse.{digits_value}
@@ -10,8 +10,10 @@ use Rattle.fab_base.specs.Seen.{Seen, Rose}
 use Rattle.fab_policy.specs.Logins.{counting}
 use Rattle.fcoe_tool.specs.declared.command.Form.{Form}
 use Rattle.fcoe_tool.specs.declared.command.Form.TheVariants as forms
+use Rattle.fcoe_tool.specs.declared.command.Width.{Width}
+use Rattle.fcoe_tool.specs.declared.command.Width.TheVariants as widths
 
--- `run CONFIG JOURNAL IN OUT [IN OUT ..]`: the names of the configuration, of the journal, and of the captures of each port
+-- `run CONFIG JOURNAL IN OUT [IN OUT ..]`, the same of `replay`, and of `show` with no outputs: the names of the configuration, of the journal, and of the captures of each port
 pub record RunNames : Type 0 where
   pub config : List ℕ
   pub journal : List ℕ
@@ -31,6 +33,8 @@ pub record MakeNames : Type 0 where
 -- a command with its names; `--help` and `--version` have none
 pub data Command : Type 0 where
   Run : (names : RunNames) → Command
+  Replay : (names : RunNames) → Command
+  Show : (names : RunNames) → Command
   Convert : (names : PairNames) → Command
   Migrate : (names : PairNames) → Command
   Make : (names : MakeNames) → Command
@@ -46,12 +50,29 @@ abbrev pub are_names : List (List ℕ) → Bool
 are_names [] = true
 are_names (n ∷ names) = nat_lt 0 (length n) && not (list_any (λ m. bytes_eq n m) names) && are_names names
 
--- 1 to 64 pairs behind the first three words, of which the first is `run`
-abbrev pub has_form : List (String Global) → Bool
-has_form words = nat_le 5 (length words) && nat_le (length words) 131 && length words % 2 == 1 && bytes_eq (name_at words 0) (codes "run")
+-- 1 to 64 pairs of names behind the first three words
+abbrev pub has_pairs : List (String Global) → Bool
+has_pairs words = nat_le 5 (length words) && nat_le (length words) 131 && length words % 2 == 1
 
-abbrev pub is_run : List (String Global) → Bool
-is_run words = has_form words && are_names (names_from 1 words)
+abbrev pub are_pairs : List (String Global) → Bool
+are_pairs words = has_pairs words && are_names (names_from 1 words)
+
+-- the same, of which this is the first word
+abbrev pub is_over : List ℕ → List (String Global) → Bool
+is_over word words = are_pairs words && bytes_eq (name_at words 0) word
+
+-- 1 to 64 names behind the first three words
+abbrev pub are_singles : List (String Global) → Bool
+are_singles words = nat_le 4 (length words) && nat_le (length words) 67 && are_names (names_from 1 words)
+
+-- the same, of which this is the first word
+abbrev pub is_over_singles : List ℕ → List (String Global) → Bool
+is_over_singles word words = are_singles words && bytes_eq (name_at words 0) word
+
+-- so many names for each port
+abbrev pub are_ports : Width → List (String Global) → Bool
+are_ports widths.One words = are_singles words
+are_ports widths.Two words = are_pairs words
 
 -- two names behind this word
 abbrev pub is_pair : List ℕ → List (String Global) → Bool
@@ -72,7 +93,9 @@ is_word word words = length words == 1 && bytes_eq (name_at words 0) word
 -- the form of words, or none
 abbrev pub form_of : List (String Global) → Option Form
 form_of words =
-    if is_run words then Some forms.Run
+    if is_over (codes "run") words then Some forms.Run
+    else if is_over (codes "replay") words then Some forms.Replay
+    else if is_over_singles (codes "show") words then Some forms.Show
     else if is_pair (codes "convert") words then Some forms.Convert
     else if is_pair (codes "migrate") words then Some forms.Migrate
     else if is_make words then Some forms.Make
@@ -98,6 +121,29 @@ run_of words = record {
   outs = map (output_at words) (counting 0 (port_count words));
 }
 
+-- the same by how many names a port has
+abbrev pub count_of : Width → List (String Global) → ℕ
+count_of widths.One words = length words - 3
+count_of widths.Two words = port_count words
+
+abbrev pub place_of : Width → ℕ → ℕ
+place_of widths.One port = port + 3
+place_of widths.Two port = 2 * port + 3
+
+abbrev pub input_of : Width → List (String Global) → ℕ → List ℕ
+input_of width words port = name_at words (place_of width port)
+
+abbrev pub ins_of : Width → List (String Global) → List (List ℕ)
+ins_of width words = map (input_of width words) (counting 0 (count_of width words))
+
+abbrev pub show_of : List (String Global) → RunNames
+show_of words = record { config = name_at words 1; journal = name_at words 2; ins = ins_of widths.One words; outs = [] }
+
+-- the names of `show` and of `replay`
+abbrev pub names_of : Width → List (String Global) → RunNames
+names_of widths.One words = show_of words
+names_of widths.Two words = run_of words
+
 abbrev pub pair_of : List (String Global) → PairNames
 pair_of words = record { from = name_at words 1; to = name_at words 2 }
 
@@ -111,6 +157,8 @@ make_of words = record { number = unwrap_or (number_of (name_at words 1)) 0; fil
 -- the command that words of a form are
 abbrev pub named : List (String Global) → Form → Command
 named words forms.Run = Run (run_of words)
+named words forms.Replay = Replay (run_of words)
+named words forms.Show = Show (show_of words)
 named words forms.Convert = Convert (pair_of words)
 named words forms.Migrate = Migrate (pair_of words)
 named words forms.Make = Make (make_of words)
@@ -124,6 +172,8 @@ command words = option_map (named words) (form_of words)
 -- what a command reads, and what it writes
 abbrev pub inputs : Command → List (List ℕ)
 inputs (Run k) = k.config ∷ k.ins
+inputs (Replay k) = k.config ∷ k.journal ∷ k.ins ++ k.outs
+inputs (Show k) = k.config ∷ k.journal ∷ k.ins
 inputs (Convert k) = k.from ∷ []
 inputs (Migrate k) = k.from ∷ []
 inputs (Make k) = []
@@ -132,6 +182,8 @@ inputs Version = []
 
 abbrev pub outputs : Command → List (List ℕ)
 outputs (Run k) = k.journal ∷ k.outs
+outputs (Replay k) = []
+outputs (Show k) = []
 outputs (Convert k) = k.to ∷ []
 outputs (Migrate k) = k.to ∷ []
 outputs (Make k) = k.files

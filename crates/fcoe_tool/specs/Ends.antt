@@ -12,9 +12,10 @@ use Rattle.fab_gather.specs.declared.fault.LimitKind.TheVariants as kinds
 use Rattle.fab_gather.specs.declared.fault.RunFault.TheVariants as faults
 use Rattle.fab_migrate.specs.Migrating.{Migrated, IsNewFront, SaysOld}
 use Rattle.fab_migrate.specs.declared.old.OldError.TheVariants as olds
-use Rattle.fcoe_tool.specs.Command.{RunNames, PairNames, Command, Run, Convert, Migrate, Make, Help, Version, command, ReadRose, WriteRose, KeepsOthers}
+use Rattle.fcoe_tool.specs.Command.{RunNames, PairNames, Command, Run, Replay, Show, Convert, Migrate, Make, Help, Version, command, ReadRose, WriteRose, KeepsOthers}
 use Rattle.fcoe_tool.specs.Edge.{KnowsAll, untold}
 use Rattle.fcoe_tool.specs.Inputs.{HasFault, HasBadHead, LIMITS}
+use Rattle.fcoe_tool.specs.Checking.{ReplayHolds, ShowHolds}
 use Rattle.fcoe_tool.specs.Load.{MakeHolds}
 use Rattle.fcoe_tool.specs.Left.{HasRun, HasStopped, HasWholePart, HasFrontPart}
 use Rattle.fcoe_tool.specs.Outcome.{status_of, line_of, kind_of}
@@ -64,6 +65,8 @@ MigrateHolds k old new _ = ⊥
 -- What holds where a command ends so.
 abbrev pub Holds : Command → Seen → Seen → Outcome → Type 0
 Holds (Run k) old new outcome = RunHolds k old new outcome
+Holds (Replay k) old new outcome = ReplayHolds k old new outcome
+Holds (Show k) old new outcome = ShowHolds k old new outcome
 Holds (Convert k) old new outcome = ConvertHolds k old new outcome
 Holds (Migrate k) old new outcome = MigrateHolds k old new outcome
 Holds (Make k) old new outcome = MakeHolds k old new outcome
@@ -94,6 +97,10 @@ TakesMemory (ends.Capture port at why) = Unit {0}
 TakesMemory (ends.Converted records) = Unit {0}
 TakesMemory (ends.Migrated entries) = Unit {0}
 TakesMemory (ends.Made frames) = Unit {0}
+TakesMemory (ends.Legal entries) = Unit {0}
+TakesMemory (ends.Shown text) = ⊥
+TakesMemory (ends.WrongLine line why) = Unit {0}
+TakesMemory (ends.WrongOutput port at) = Unit {0}
 TakesMemory (ends.BadBlock at fault) = Unit {0}
 TakesMemory (ends.BadLine line fault) = Unit {0}
 TakesMemory (ends.Limit kind) = Unit {0}

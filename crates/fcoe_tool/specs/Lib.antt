@@ -6,6 +6,8 @@ pub mod Opening
 pub mod Help
 pub mod Outcome
 pub mod Left
+pub mod Checking
 pub mod Load
 pub mod Ends
 pub mod Statuses
+pub mod Rechecking

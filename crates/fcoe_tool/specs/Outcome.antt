@@ -13,17 +13,23 @@ use Rattle.fab_gather.specs.declared.fault.CapWhy.{CapWhy}
 use Rattle.fab_gather.specs.declared.fault.CapWhy.TheVariants as caps
 use Rattle.fab_gather.specs.declared.fault.LimitKind.{LimitKind}
 use Rattle.fab_gather.specs.declared.fault.LimitKind.TheVariants as kinds
+use Rattle.fab_replay.specs.declared.fault.LineWhy.{LineWhy}
+use Rattle.fab_replay.specs.declared.fault.LineWhy.TheVariants as lines
 use Rattle.fab_migrate.specs.declared.old.OldWhy.{OldWhy}
 use Rattle.fab_migrate.specs.declared.old.OldWhy.TheVariants as olds
 use Rattle.fcoe_tool.specs.declared.limits.TheConstants.{MOST_BYTES, MOST_FRAMES}
 use Rattle.fcoe_tool.specs.declared.outcome.Outcome.{Outcome}
-use Rattle.fcoe_tool.specs.declared.outcome.Outcome.TheVariants.{Ran, Converted, Migrated, Made, Help, Version, Words, Config, Capture, BadBlock, BadLine, Limit, ReadFault, WriteFault, Memory}
+use Rattle.fcoe_tool.specs.declared.outcome.Outcome.TheVariants.{Ran, Converted, Migrated, Legal, Shown, WrongLine, WrongOutput, Made, Help, Version, Words, Config, Capture, BadBlock, BadLine, Limit, ReadFault, WriteFault, Memory}
 
 abbrev pub status_of : Outcome → ℕ
 status_of (Ran frames entries) = 0
 status_of (Converted records) = 0
 status_of (Migrated entries) = 0
 status_of (Made frames) = 0
+status_of (Legal entries) = 0
+status_of (Shown text) = 0
+status_of (WrongLine line reason) = 1
+status_of (WrongOutput port at) = 1
 status_of Help = 0
 status_of Version = 0
 status_of (Config fault) = 1
@@ -92,6 +98,23 @@ abbrev pub kind_of : NgLimit → LimitKind
 kind_of limits.Bytes = kinds.Bytes
 kind_of limits.Frames = kinds.Frames
 
+-- the line of a journal that was checked, of one with a line that is wrong, and of an output that differs
+abbrev pub legal_text : ℕ → List ℕ
+legal_text entries = codes "legal " ++ decimal entries ++ codes "\n"
+
+abbrev pub line_word : LineWhy → List ℕ
+line_word lines.Text = codes "text"
+line_word lines.Tick = codes "tick"
+line_word lines.Frame = codes "frame"
+line_word (lines.Verdict found made) = codes "verdict"
+line_word lines.Rest = codes "rest"
+
+abbrev pub wrong_text : ℕ → LineWhy → List ℕ
+wrong_text line reason = codes "journal " ++ decimal line ++ codes " " ++ line_word reason ++ codes "\n"
+
+abbrev pub output_text : ℕ → ℕ → List ℕ
+output_text port at = codes "output " ++ decimal port ++ codes " " ++ decimal at ++ codes "\n"
+
 -- the line of a load
 abbrev pub made_text : ℕ → List ℕ
 made_text frames = codes "made " ++ decimal frames ++ codes "\n"
@@ -113,7 +136,7 @@ limit_text kinds.Bytes = codes "limit bytes " ++ decimal MOST_BYTES ++ codes "\n
 limit_text kinds.Frames = codes "limit frames " ++ decimal MOST_FRAMES ++ codes "\n"
 limit_text kinds.Span = codes "limit span " ++ decimal MOST_SPAN ++ codes "\n"
 
--- what is printed: one line, but for the text of `--help`
+-- what is printed: one line, but for the text of `--help` and the lines of `show`
 unfoldable pub line_of : Outcome → List ℕ
 line_of (Ran frames entries) = run_text frames entries
 line_of (Config fault) = config_text fault
@@ -121,6 +144,10 @@ line_of (Capture port at reason) = capture_text port at reason
 line_of (Converted records) = converted_text records
 line_of (Migrated entries) = migrated_text entries
 line_of (Made frames) = made_text frames
+line_of (Legal entries) = legal_text entries
+line_of (Shown text) = text
+line_of (WrongLine line reason) = wrong_text line reason
+line_of (WrongOutput port at) = output_text port at
 line_of (BadBlock at fault) = block_text at fault
 line_of (BadLine line fault) = journal_text line fault
 line_of (Limit kind) = limit_text kind

@@ -1,8 +1,9 @@
 -- What each status says, of a command and of what was printed.
-use Rattle.std.specs.Prelude.{◌≡◌, ℕ, ◌<◌, ◌≤◌, ◌⊎◌, ◌↔◌, IsTrue, List, ◌++◌, length, take, Some, None, Result, Ok, Err, String}
+use Rattle.std.specs.Prelude.{◌≡◌, ℕ, ◌+◌, ◌*◌, ◌<◌, ◌≤◌, ◌⊎◌, ◌↔◌, IsTrue, List, ◌++◌, length, take, Some, None, Result, Ok, Err, String}
 use Rattle.std.specs.declared.alloc.Global.{Global}
 use Rattle.fab_base.specs.Seen.{Seen, Rose, SameFiles}
 use Rattle.fab_base.specs.Sunk.{Sunk}
+use Rattle.pcap_file.specs.Capture.{HEAD}
 use Rattle.pcap_file.specs.declared.Record.{Record}
 use Rattle.pcapng_file.specs.declared.NgRecord.{NgRecord}
 use Rattle.pcapng_file.specs.declared.fault.NgWhy.{NgWhy}
@@ -20,13 +21,14 @@ use Rattle.fab_policy.specs.declared.line.Line.{Line}
 use Rattle.fab_migrate.specs.Migrating.{Migrated, IsNewFront}
 use Rattle.fab_migrate.specs.Old.{IsOld, HasFirstFault}
 use Rattle.fab_migrate.specs.declared.old.OldWhy.{OldWhy}
-use Rattle.fcoe_tool.specs.Command.{RunNames, PairNames, MakeNames, Command, Run, Convert, Migrate, Make, Help, Version, command, ReadRose, WriteRose}
+use Rattle.fcoe_tool.specs.Command.{RunNames, PairNames, MakeNames, Command, Run, Replay, Show, Convert, Migrate, Make, Help, Version, command, ReadRose, WriteRose}
 use Rattle.fcoe_tool.specs.Ends.{RunHolds, ConvertHolds, MigrateHolds, Holds, HoldsFor}
 use Rattle.fcoe_tool.specs.Help.{help_text, version_text}
 use Rattle.fcoe_tool.specs.Inputs.{HasFault, HasCapture, HasInputs, HasBadHead, StopsBy, HasPackets, LIMITS, stop_of}
 use Rattle.fcoe_tool.specs.Left.{HasRun, HasFrontPart}
+use Rattle.fcoe_tool.specs.Checking.{ReplayHolds, ShowHolds, CheckSays}
 use Rattle.fcoe_tool.specs.Load.{LOAD, HasLoad, HasLoadFront}
-use Rattle.fcoe_tool.specs.Outcome.{status_of, line_of, run_text, converted_text, migrated_text, made_text}
+use Rattle.fcoe_tool.specs.Outcome.{status_of, line_of, run_text, converted_text, migrated_text, legal_text, made_text}
 use Rattle.fcoe_tool.specs.Reading.{unconverted_by}
 use Rattle.fcoe_tool.specs.declared.limits.TheConstants.{MOST_BYTES}
 use Rattle.fcoe_tool.specs.declared.outcome.Outcome.{Outcome}
@@ -55,6 +57,22 @@ pub record RunEnded (k : RunNames) (old new : Seen) (before after : Sunk) : Type
   pub entries : ℕ
   pub run : HasRun k frames entries old new
   pub printed : IsTrue before.told → after.written ≡ before.written ++ run_text frames entries
+
+-- Status 0 of `replay`: no file has changed, the journal names a run whose captures the outputs are, and the line with the
+-- number of its entries was printed.
+pub record ReplayEnded (k : RunNames) (old new : Seen) (before after : Sunk) : Type 0 where
+  pub entries : ℕ
+  pub files : SameFiles old new
+  pub legal : CheckSays k old (ends.Legal entries)
+  pub printed : IsTrue before.told → after.written ≡ before.written ++ legal_text entries
+
+-- Status 0 of `show`: no file has changed, the journal names a run over the captures, and what was printed is its entries, its
+-- clock and its live N_Ports.
+pub record ShowEnded (k : RunNames) (old new : Seen) (before after : Sunk) : Type 0 where
+  pub text : List ℕ
+  pub files : SameFiles old new
+  pub shown : CheckSays k old (ends.Shown text)
+  pub printed : IsTrue before.told → after.written ≡ before.written ++ text
 
 -- Status 0 of `convert`: the input is a pcapng file of packets within the limits, the output is their capture, and the line
 -- with their number was printed. What `run` finds in that output are these packets' records, with the greatest moment so
@@ -85,6 +103,8 @@ pub record TextEnded (text : List ℕ) (old new : Seen) (before after : Sunk) : 
 -- status 0: the command was done
 abbrev pub Done : Command → Seen → Seen → Sunk → Sunk → Type 0
 Done (Run k) old new before after = IsTrue old.told → RunEnded k old new before after
+Done (Replay k) old new before after = IsTrue old.told → ReplayEnded k old new before after
+Done (Show k) old new before after = IsTrue old.told → ShowEnded k old new before after
 Done (Convert k) old new before after = IsTrue old.told → ConvertEnded k old new before after
 Done (Migrate k) old new before after = IsTrue old.told → MigrateEnded k old new before after
 Done (Make k) old new before after = IsTrue old.told → MakeEnded k new before after
@@ -103,6 +123,8 @@ pub record OfCommand (words : List (String Global)) (P : Command → Type 0) : T
 -- block; of `migrate`, the journal has one at a line.
 abbrev pub IsRefused : Command → Seen → Seen → Type 0
 IsRefused (Run k) old new = ((fault : ConfigFault) × RunHolds k old new (ends.Config fault)) ⊎ ((port : ℕ) × (at : ℕ) × (why : CapWhy) × RunHolds k old new (ends.Capture port at why))
+IsRefused (Replay k) old new = (o : Outcome) × (status_of o ≡ 1) × ReplayHolds k old new o
+IsRefused (Show k) old new = (o : Outcome) × (status_of o ≡ 1) × ShowHolds k old new o
 IsRefused (Convert k) old new = (at : ℕ) × (fault : NgWhy) × ConvertHolds k old new (ends.BadBlock at fault)
 IsRefused (Migrate k) old new = (line : ℕ) × (fault : OldWhy) × MigrateHolds k old new (ends.BadLine line fault)
 IsRefused (Make k) old new = ⊥
@@ -118,6 +140,8 @@ IsPastLimit k old new = (kind : LimitKind) × Holds k old new (ends.Limit kind)
 -- The outputs hold fronts of what they would hold, or are as they were; of a command without outputs nothing has changed.
 abbrev pub HasFront : Command → Seen → Seen → Type 0
 HasFront (Run k) old new = SameFiles old new ⊎ HasFrontPart k old new
+HasFront (Replay k) old new = SameFiles old new
+HasFront (Show k) old new = SameFiles old new
 HasFront (Convert k) old new = IsFront k.from k.to LIMITS old new
 HasFront (Migrate k) old new = IsNewFront k.from k.to MOST_BYTES old new
 HasFront (Make k) old new = HasLoadFront k old new
@@ -153,6 +177,8 @@ pub record MigrateForms (k : PairNames) (d : Seen) : Type 0 where
 -- the inputs of a command have their forms, where the depot tells
 abbrev pub HasForms : Command → Seen → Type 0
 HasForms (Run k) d = RunForms k d
+HasForms (Replay k) d = IsTrue d.told × (entries : ℕ) × CheckSays k d (ends.Legal entries)
+HasForms (Show k) d = IsTrue d.told × (text : List ℕ) × CheckSays k d (ends.Shown text)
 HasForms (Convert k) d = ConvertForms k d
 HasForms (Migrate k) d = MigrateForms k d
 HasForms (Make k) d = Unit {0}
@@ -185,9 +211,27 @@ MigrateSays bytes (ends.BadLine line fault) = (length bytes ≤ MOST_BYTES) × H
 MigrateSays bytes (ends.Limit kind) = (MOST_BYTES < length bytes) × (kind ≡ kinds.Bytes)
 MigrateSays bytes _ = ⊥
 
+-- What `replay` and `show` are refused for before a line is checked: the configuration's fault, or the first bad head, where the
+-- journal is within the limit on bytes.
+abbrev pub CheckNames : RunNames → Seen → Outcome → Type 0
+CheckNames k d (ends.Config fault) = HasFault d k.config fault
+CheckNames k d (ends.Capture port at why) = (at ≡ 0) × HasBadHead k d port why × (journal : List ℕ) × (d.file k.journal ≡ Some journal) × (length journal + HEAD * length k.ins ≤ MOST_BYTES)
+CheckNames k d _ = ⊥
+
+-- what their inputs name: that, or a journal that is that of a run, with its entries or with what is shown of it
+abbrev pub ReplayNames : RunNames → Seen → Outcome → Type 0
+ReplayNames k d (ends.Legal entries) = CheckSays k d (ends.Legal entries)
+ReplayNames k d o = CheckNames k d o
+
+abbrev pub ShowNames : RunNames → Seen → Outcome → Type 0
+ShowNames k d (ends.Shown text) = CheckSays k d (ends.Shown text)
+ShowNames k d o = CheckNames k d o
+
 -- the outcome that the inputs of a command name
 abbrev pub Says : Command → Seen → Outcome → Type 0
 Says (Run k) d outcome = RunSays k d outcome
+Says (Replay k) d outcome = ReplayNames k d outcome
+Says (Show k) d outcome = ShowNames k d outcome
 Says (Convert k) d outcome = (bytes : List ℕ) × (d.file k.from ≡ Some bytes) × (outcome ≡ ended_by (ng_read LIMITS bytes))
 Says (Migrate k) d outcome = (bytes : List ℕ) × (d.file k.from ≡ Some bytes) × MigrateSays bytes outcome
 Says (Make k) d outcome = outcome ≡ ends.Made LOAD

@@ -16,6 +16,10 @@ pub(crate) const MOST_PORTS: usize = 64;
 pub(crate) enum Form {
     /// `run CONFIG JOURNAL IN OUT [IN OUT ..]` with 1 to 64 pairs. No name is empty or used twice.
     Run,
+    /// `replay CONFIG JOURNAL IN OUT [IN OUT ..]`, the same.
+    Replay,
+    /// `show CONFIG JOURNAL IN [IN ..]` with 1 to 64 inputs.
+    Show,
     /// `convert IN OUT`. No name is empty, and they differ.
     Convert,
     /// `migrate OLD NEW`. No name is empty, and they differ.
@@ -28,12 +32,23 @@ pub(crate) enum Form {
     Version,
 }
 
+/// How many names a port has: that of its input, or that of its output behind it.
+#[derive(Clone, Copy, Debug, PartialEq, Eq)]
+pub(crate) enum Width {
+    One,
+    Two,
+}
+
 /// The form that words have, or none.
 pub(crate) fn form_of(words: &[String]) -> Option<Form>
     ensures { result ≡ spec.form_of words.now }
 {
-    if is_run(words) {
+    if is_over(words, "run") {
         Some(Form::Run)
+    } else if is_over(words, "replay") {
+        Some(Form::Replay)
+    } else if is_over_singles(words, "show") {
+        Some(Form::Show)
     } else if is_pair(words, "convert") {
         Some(Form::Convert)
     } else if is_pair(words, "migrate") {
@@ -49,10 +64,18 @@ pub(crate) fn form_of(words: &[String]) -> Option<Form>
     }
 }
 
-fn is_run(words: &[String]) -> bool
-    ensures { result ≡ spec.is_run words.now }
+// Whether these are this word, two names, and 1 to 64 pairs of names.
+fn is_over(words: &[String], word: &str) -> bool
+    ensures { result ≡ spec.is_over word.now words.now }
 {
-    has_form(words) && are_names(words, 1)
+    are_pairs(words) && word_at(words, 0) == word
+}
+
+fn are_pairs(words: &[String]) -> bool
+    ensures pairs { result ≡ spec.are_pairs words.now }
+    ensures some { result ≡ true → 0 < length words.now }
+{
+    has_pairs(words) && are_names(words, 1)
 }
 
 // Whether these are this word and two names.
@@ -79,13 +102,25 @@ fn is_word(words: &[String], word: &str) -> bool
     words.len() == 1 && word_at(words, 0) == word
 }
 
-fn has_form(words: &[String]) -> bool
-    ensures { result ≡ spec.has_form words.now }
+// Whether these are this word, two names, and 1 to 64 names.
+fn is_over_singles(words: &[String], word: &str) -> bool
+    ensures { result ≡ spec.is_over_singles word.now words.now }
 {
-    words.len() >= 5
-        && words.len() <= 3 + 2 * MOST_PORTS
-        && words.len() % 2 == 1
-        && word_at(words, 0) == "run"
+    are_singles(words) && word_at(words, 0) == word
+}
+
+fn are_singles(words: &[String]) -> bool
+    ensures singles { result ≡ spec.are_singles words.now }
+    ensures some { result ≡ true → 0 < length words.now }
+{
+    words.len() >= 4 && words.len() <= 3 + MOST_PORTS && are_names(words, 1)
+}
+
+fn has_pairs(words: &[String]) -> bool
+    ensures pairs { result ≡ spec.has_pairs words.now }
+    ensures some { result ≡ true → 0 < length words.now }
+{
+    words.len() >= 5 && words.len() <= 3 + 2 * MOST_PORTS && words.len() % 2 == 1
 }
 
 // Whether from this place on no name is empty and none is used twice.
@@ -134,7 +169,7 @@ pub(crate) fn file_at(words: &[String], place: usize) -> &str
 
 /// How many ports the command has.
 pub(crate) fn port_count(words: &[String]) -> usize
-    requires { spec.is_run words.now ≡ true }
+    requires { spec.are_pairs words.now ≡ true }
     ensures value { result ≡ spec.port_count words.now }
     ensures range { (1 ≤ result) × (result ≤ 64) }
     ensures words { 2 * result + 3 ≡ length words.now }
@@ -142,12 +177,28 @@ pub(crate) fn port_count(words: &[String]) -> usize
     (words.len() - 3) / 2
 }
 
-/// The input of a port, which is counted from 0.
-pub(crate) fn input_at(words: &[String], port: usize) -> &str
-    requires { 2 * port + 3 < length words.now }
-    ensures { result.now ≡ spec.input_at words.now port }
+/// How many ports words of this width have.
+pub(crate) fn count_of(words: &[String], width: Width) -> usize
+    requires { spec.are_ports width words.now ≡ true }
+    ensures value { result ≡ spec.count_of width words.now }
+    ensures range { (1 ≤ result) × (result ≤ 64) }
+    ensures words { spec.place_of width result ≡ length words.now }
 {
-    word_at(words, 2 * port + 3)
+    match width {
+        Width::One => words.len() - 3,
+        Width::Two => port_count(words),
+    }
+}
+
+/// The input of a port, which is counted from 0.
+pub(crate) fn input_of(words: &[String], width: Width, port: usize) -> &str
+    requires { spec.place_of width port < length words.now }
+    ensures { result.now ≡ spec.input_of width words.now port }
+{
+    match width {
+        Width::One => word_at(words, port + 3),
+        Width::Two => word_at(words, 2 * port + 3),
+    }
 }
 
 /// The output of a port, which is counted from 0.

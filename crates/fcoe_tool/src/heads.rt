@@ -4,7 +4,7 @@ ghost use Rattle.fcoe_tool.specs.Command as spec;
 ghost use Rattle.fcoe_tool.specs.Inputs.{why_of};
 ghost use Rattle.fcoe_tool.specs.Reading.{HeadRead, HeadsRead, unopened_by};
 
-use crate::command::{input_at, port_count};
+use crate::command::{Width, count_of, input_of};
 use crate::outcome::Outcome;
 use fab_base::{Depot, PortNo};
 use fab_windows::{CapWhy, Input, LimitKind};
@@ -16,17 +16,19 @@ pub(crate) fn heads_of<D: Depot>(
     alloc: Global,
     depot: &mut D,
     words: &[String],
+    width: Width,
     budget: &mut Budget,
 ) -> Result<Vec<Input>, Outcome>
-    requires run { spec.is_run words.now ≡ true }
+    requires ports { spec.are_ports width words.now ≡ true }
     requires known { spec.AllKnown (D.seen depot.old) words.now }
-    requires bytes { 24 * 64 ≤ budget.old.bytes }
-    ensures reads { HeadsRead (spec.run_of words.now).ins (D.seen depot.old) (D.seen depot.new)
+    requires bytes { 24 * spec.count_of width words.now ≤ budget.old.bytes }
+    ensures reads { HeadsRead (spec.ins_of width words.now) (D.seen depot.old) (D.seen depot.new)
         budget.old budget.new result }
 {
     let mut ins = Vec::new(alloc);
-    for port in 0..port_count(words) {
-        let input = match head_of(depot, PortNo::at(port), input_at(words, port), budget) {
+    for port in 0..count_of(words, width) {
+        let name = input_of(words, width, port);
+        let input = match head_of(depot, PortNo::at(port), name, budget) {
             Ok(input) => input,
             Err(outcome) => return Err(outcome),
         };

@@ -8,6 +8,12 @@ fcoe_tool 0.1.0: an FCoE forwarder, run over captures
   fcoe_tool run CONFIG JOURNAL IN OUT [IN OUT ..]
       runs the forwarder over the captures of 1 to 64 ports; writes the journal
       and a capture for each port, and prints: frames N entries M
+  fcoe_tool show CONFIG JOURNAL IN [IN ..]
+      checks a journal against the captures that it was written for, and prints
+      its entries, its clock, and who is logged in at its end
+  fcoe_tool replay CONFIG JOURNAL IN OUT [IN OUT ..]
+      checks a journal against its captures, and that each output is what it
+      sends, and prints: legal M
   fcoe_tool convert IN OUT
       reads a pcapng file, writes the classic capture of its packets, and
       prints: records N
@@ -27,7 +33,9 @@ No name is empty, and none is used twice. NUMBER is decimal and below 2 to the
   0  as above: all was done
   1  config LINE WHY: the first fault of the configuration
      capture PORT PLACE WHY: an input can't be taken from this place on
-     journal LINE WHY: the first fault of the journal to migrate
+     journal LINE WHY: the first fault of the journal to migrate, or the first
+     line of the journal to check that no run has there
+     output PORT PLACE: the first byte of an output that isn't what is sent
   2  words: the words are no command
   3  read fault: an input could not be read
   4  write fault: an output, or what is printed, could not be written

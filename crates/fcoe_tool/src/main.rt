@@ -14,6 +14,7 @@ mod number;
 mod outcome;
 mod outputs;
 mod process;
+mod replaying;
 mod running;
 #[cfg(test)]
 mod tests;
@@ -25,6 +26,8 @@ mod tests_edge;
 mod tests_make;
 #[cfg(test)]
 mod tests_migrate;
+#[cfg(test)]
+mod tests_replay;
 mod tool;
 
 use edge::StdSink;

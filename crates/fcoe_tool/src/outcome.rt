@@ -6,16 +6,17 @@ ghost use Rattle.fcoe_tool.specs.Ends.{Puts, Reports};
 
 use crate::help::{help, version};
 use crate::limits::{MOST_BYTES, MOST_FRAMES};
-use fab_base::{PortNo, Sink, say_all};
+use fab_base::{Bytes, PortNo, Sink, say_all};
 use fab_config::{ConfigFault, ConfigWhy};
 use fab_migrate::OldWhy;
 use fab_policy::MOST_SPAN;
+use fab_replay::LineWhy;
 use fab_windows::{CapWhy, LimitKind};
 use pcapng_file::NgWhy;
 use std::alloc::{AllocError, Global};
 
 /// How a command ended. The status and the printed line are two tables over it.
-#[derive(Clone, Copy, Debug, PartialEq, Eq)]
+#[derive(Debug, Drop)]
 pub enum Outcome {
     /// All was done.
     Ran { frames: u64, entries: u64 },
@@ -23,6 +24,8 @@ pub enum Outcome {
     Converted { records: u64 },
     /// A journal was migrated, with so many entries.
     Migrated { entries: u64 },
+    /// A journal of so many entries and the outputs are those of a run.
+    Legal { entries: u64 },
     /// A load was made, with so many frames.
     Made { frames: u64 },
     /// `--help`
@@ -39,6 +42,12 @@ pub enum Outcome {
     BadBlock { at: u64, why: NgWhy },
     /// The journal to migrate has this first fault, at a line.
     BadLine { line: u64, why: OldWhy },
+    /// A journal is that of a run, of which this is told.
+    Shown { text: Bytes },
+    /// A line of the journal that is checked is the first that is wrong.
+    WrongLine { line: u64, why: LineWhy },
+    /// An output isn't what the journal sends, from this byte on.
+    WrongOutput { port: PortNo, at: u64 },
     /// The inputs pass this limit.
     Limit { kind: LimitKind },
     /// An input couldn't be read.
@@ -63,9 +72,13 @@ pub(crate) fn report<K: Sink>(alloc: Global, outcome: Outcome, say: &mut K) -> u
         Outcome::Converted { records } => put_made(say, converted_line(alloc, records), 0),
         Outcome::BadBlock { at, why } => put_made(say, block_line(alloc, at, why), 1),
         Outcome::Migrated { entries } => put_made(say, migrated_line(alloc, entries), 0),
+        Outcome::Legal { entries } => put_made(say, legal_line(alloc, entries), 0),
+        Outcome::WrongLine { line, why } => put_made(say, wrong_line(alloc, line, why), 1),
+        Outcome::WrongOutput { port, at } => put_made(say, output_line(alloc, port, at), 1),
         Outcome::Made { frames } => put_made(say, made_line(alloc, frames), 0),
         Outcome::BadLine { line, why } => put_made(say, journal_line(alloc, line, why), 1),
         Outcome::Limit { kind } => put_made(say, limit_line(alloc, kind), 6),
+        Outcome::Shown { text } => put_line(say, text.view(), 0),
         Outcome::Help => put_line(say, help().as_bytes(), 0),
         Outcome::Version => put_line(say, version().as_bytes(), 0),
         Outcome::Words => put_line(say, b"words\n", 2),
@@ -157,6 +170,39 @@ fn migrated_line(alloc: Global, entries: u64) -> Result<String, AllocError>
     ensures { IfOk result (λ s. string_bytes s ≡ spec.migrated_text entries) }
 {
     format!(in alloc; "migrated {entries}\n")
+}
+
+fn legal_line(alloc: Global, entries: u64) -> Result<String, AllocError>
+    ensures { IfOk result (λ s. string_bytes s ≡ spec.legal_text entries) }
+{
+    format!(in alloc; "legal {entries}\n")
+}
+
+fn wrong_line(alloc: Global, line: u64, why: LineWhy) -> Result<String, AllocError>
+    ensures { IfOk result (λ s. string_bytes s ≡ spec.wrong_text line why) }
+{
+    let word = line_word(&why);
+    format!(in alloc; "journal {line} {word}\n")
+}
+
+// The word of what is wrong with a line.
+fn line_word(why: &LineWhy) -> &'static str
+    ensures { result.now ≡ spec.line_word why.now }
+{
+    match why {
+        LineWhy::Text => "text",
+        LineWhy::Tick => "tick",
+        LineWhy::Frame => "frame",
+        LineWhy::Verdict { .. } => "verdict",
+        LineWhy::Rest => "rest",
+    }
+}
+
+fn output_line(alloc: Global, port: PortNo, at: u64) -> Result<String, AllocError>
+    ensures { IfOk result (λ s. string_bytes s ≡ spec.output_text port at) }
+{
+    let port = port.value();
+    format!(in alloc; "output {port} {at}\n")
 }
 
 fn made_line(alloc: Global, frames: u64) -> Result<String, AllocError>

@@ -17,7 +17,7 @@ pub(crate) struct Outputs {
 /// Opens the journal and the outputs of all ports, in port order; they are empty then. It takes no
 /// memory, so that none is emptied where memory is refused.
 pub(crate) fn open_outputs<D: Depot>(depot: &mut D, words: &[String]) -> Result<Outputs, Failed>
-    requires run { spec.is_run words.now ≡ true }
+    requires run { spec.are_pairs words.now ≡ true }
     requires known { spec.AllKnown (D.seen depot.old) words.now }
     ensures opens { OutputsOpened (spec.run_of words.now) (D.seen depot.old) (D.seen depot.new)
         result }
@@ -36,8 +36,8 @@ pub(crate) fn open_outputs<D: Depot>(depot: &mut D, words: &[String]) -> Result<
     Ok(Outputs { journal, outs })
 }
 
-// One slot more, of at most 64.
-fn keep(outs: &mut ArrayVec<u32, MOST_PORTS>, slot: u32)
+/// One slot more, of at most 64.
+pub(crate) fn keep(outs: &mut ArrayVec<u32, MOST_PORTS>, slot: u32)
     requires { length outs.old.items < 64 }
     ensures { outs.new.items ≡ outs.old.items ++ slot ∷ [] }
 {

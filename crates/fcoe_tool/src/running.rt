@@ -6,7 +6,7 @@ ghost use Rattle.fcoe_tool.specs.Ends.{RunHolds};
 ghost use Rattle.fcoe_tool.specs.Left.{LegalIsSafe};
 ghost use Rattle.fcoe_tool.specs.Opening.{ran_by, stopped_by};
 
-use crate::command::port_count;
+use crate::command::{Width, port_count};
 use crate::heads::heads_of;
 use crate::inputs::config_of;
 use crate::limits::{MOST_BYTES, MOST_FRAMES};
@@ -31,7 +31,7 @@ pub(crate) fn run<R: Threads + Wait + Sync, D: Depot, G: Gate + Sync>(
     depot: &mut D,
     gate: &G,
 ) -> Outcome
-    requires run { spec.is_run words.now ≡ true }
+    requires run { spec.are_pairs words.now ≡ true }
     requires known { spec.AllKnown (D.seen depot.old) words.now }
     ensures holds { RunHolds (spec.run_of words.now) (D.seen depot.old) (D.seen depot.new) result }
 {
@@ -45,7 +45,7 @@ pub(crate) fn run<R: Threads + Wait + Sync, D: Depot, G: Gate + Sync>(
         bytes: MOST_BYTES,
         frames: MOST_FRAMES,
     };
-    let mut ins = match heads_of(alloc, depot, words, &mut budget) {
+    let mut ins = match heads_of(alloc, depot, words, Width::Two, &mut budget) {
         Ok(ins) => ins,
         Err(outcome) => return outcome,
     };
@@ -100,8 +100,8 @@ fn stopped(fault: &RunFault) -> Outcome
     }
 }
 
-// Each value of a configuration is in its range.
-fn in_range(config: &Config)
+/// Each value of a configuration is in its range.
+pub(crate) fn in_range(config: &Config)
     ensures { IsTrue (is_in_range config.now) }
 {
     let _ = &config.window;

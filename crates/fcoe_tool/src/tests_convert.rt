@@ -139,7 +139,7 @@ fn help_and_version(rt: HostRuntime) -> Result<(), Fail> {
         depot.know(alloc, word)?;
         let words = words_in(alloc, &[word])?;
         assert!(rt; depot.knows_all(&words));
-        let mut say = MemSink::new(alloc, 2000)?;
+        let mut say = MemSink::new(alloc, 3000)?;
         let status = fabric_tool(&rt, alloc, &words, &mut depot, &mut say, &OpenGate);
         assert_eq!(rt; status, 0);
         assert_eq!(rt; say.content(), text);

@@ -3,6 +3,7 @@ ghost use Rattle.std.specs.Prelude.{◌≡◌, ◌≤◌, ◌⊎◌, IsTrue, Som
 ghost use Rattle.fab_base.specs.Seen.{SameFiles, Rose};
 ghost use Rattle.fcoe_tool.specs.Command as spec;
 ghost use Rattle.fcoe_tool.specs.Ends.{Ends, Holds, HoldsFor, Prints};
+ghost use Rattle.fcoe_tool.specs.Rechecking.{IsRechecked};
 ghost use Rattle.fcoe_tool.specs.Statuses.{Done, OfCommand, IsRefused, IsPastLimit};
 ghost use Rattle.fcoe_tool.specs.Statuses.{HasFront, IsComplete, IsNamed, Printed};
 
@@ -11,6 +12,7 @@ use crate::converting::convert_file;
 use crate::making::make;
 use crate::migrating::migrate_file;
 use crate::outcome::{Outcome, report};
+use crate::replaying::{replay, show};
 use crate::running::run;
 use fab_base::{Depot, Gate, Sink};
 use std::alloc::Global;
@@ -67,6 +69,10 @@ pub fn fabric_tool<R: Threads + Wait + Sync, D: Depot, K: Sink, G: Gate + Sync>(
     // Inputs of the right forms are taken, where nothing fails and memory is there.
     ensures complete { IsComplete words.now (D.seen depot.old) (D.seen depot.new) (K.sunk say.old)
         (K.sunk say.new) → (result ≡ 0) ⊎ (result ≡ 5) }
+    // What a `run` wrote with status 0 is taken by `replay` and by `show`, where nothing fails and
+    // memory is there.
+    ensures rechecked { IsRechecked words.now (D.seen depot.old) (D.seen depot.new)
+        (K.sunk say.old) (K.sunk say.new) → (result ≡ 0) ⊎ (result ≡ 5) }
     // Where nothing fails, a command ends as its inputs say, or memory is refused.
     ensures exact { (outcome : Outcome) → IsNamed words.now outcome (D.seen depot.old)
         (D.seen depot.new) (K.sunk say.old) (K.sunk say.new) →
@@ -130,6 +136,8 @@ fn outcome_by<R: Threads + Wait + Sync, D: Depot, G: Gate + Sync>(
 {
     match form {
         Form::Run => run(rt, alloc, words, depot, gate),
+        Form::Replay => replay(alloc, words, depot),
+        Form::Show => show(alloc, words, depot),
         Form::Convert => convert_file(alloc, words, depot),
         Form::Migrate => migrate_file(alloc, words, depot),
         Form::Make => make(alloc, words, depot),

@@ -1,6 +1,6 @@
 use Rattle.std.proofs.Common.{refl, ◌∙◌, codes}
 use Rattle.fcoe_tool.specs.declared.outcome.Outcome.TheVariants as ends
-use Rattle.fcoe_tool.proofs.OutcomeLemmas.{reports, reports_made, line_config, line_words, line_read_fault, line_write_fault, line_memory, line_ran, line_capture, line_converted, line_block, line_migrated, line_made, line_journal, line_limit, line_help, line_version}
+use Rattle.fcoe_tool.proofs.OutcomeLemmas.{reports, reports_made, line_config, line_words, line_read_fault, line_write_fault, line_memory, line_ran, line_capture, line_converted, line_block, line_migrated, line_made, line_legal, line_shown, line_wrong, line_output, line_journal, line_limit, line_help, line_version}
 use Rattle.fcoe_tool.proofs.outcome.report.Goals as goal
 
 pub returns-in-Ran : goal.returns-in-Ran
@@ -34,7 +34,7 @@ pub returns-in-Limit : goal.returns-in-Limit
 returns-in-Limit g c = record { reports = reports_made _ _ (g.K.Sink.sunk c.args.say.now) (g.K.Sink.sunk c.put_made-in-Limit.new.say) c.put_made-in-Limit.result c.args.outcome (ends.Limit c.in-Limit.kind) 6 c.in-Limit.is (line_limit c.in-Limit.kind) refl tt c.limit_line.ensures c.put_made-in-Limit.ensures.ok c.put_made-in-Limit.ensures.err }
 
 pub returns-in-Help : goal.returns-in-Help
-returns-in-Help g c = record { reports = reports c.as_bytes.result.now (g.K.Sink.sunk c.args.say.now) (g.K.Sink.sunk c.put_line.new.say) c.put_line.result c.args.outcome ends.Help 0 c.in-Help.is (c.as_bytes.ensures.value ∙ c.help.ensures ∙ line_help) refl c.put_line.ensures }
+returns-in-Help g c = record { reports = reports c.as_bytes.result.now (g.K.Sink.sunk c.args.say.now) (g.K.Sink.sunk c.put_line-in-Help.new.say) c.put_line-in-Help.result c.args.outcome ends.Help 0 c.in-Help.is (c.as_bytes.ensures.value ∙ c.help.ensures ∙ line_help) refl c.put_line-in-Help.ensures }
 
 pub returns-in-Version : goal.returns-in-Version
 returns-in-Version g c = record { reports = reports c.as_bytes-in-Version.result.now (g.K.Sink.sunk c.args.say.now) (g.K.Sink.sunk c.put_line-in-Version.new.say) c.put_line-in-Version.result c.args.outcome ends.Version 0 c.in-Version.is (c.as_bytes-in-Version.ensures.value ∙ c.version.ensures ∙ line_version) refl c.put_line-in-Version.ensures }
@@ -44,6 +44,18 @@ returns-in-Migrated g c = record { reports = reports_made _ _ (g.K.Sink.sunk c.a
 
 pub returns-in-Made : goal.returns-in-Made
 returns-in-Made g c = record { reports = reports_made _ _ (g.K.Sink.sunk c.args.say.now) (g.K.Sink.sunk c.put_made-in-Made.new.say) c.put_made-in-Made.result c.args.outcome (ends.Made c.in-Made.frames) 0 c.in-Made.is (line_made c.in-Made.frames) refl tt c.made_line.ensures c.put_made-in-Made.ensures.ok c.put_made-in-Made.ensures.err }
+
+pub returns-in-Legal : goal.returns-in-Legal
+returns-in-Legal g c = record { reports = reports_made _ _ (g.K.Sink.sunk c.args.say.now) (g.K.Sink.sunk c.put_made-in-Legal.new.say) c.put_made-in-Legal.result c.args.outcome (ends.Legal c.in-Legal.entries) 0 c.in-Legal.is (line_legal c.in-Legal.entries) refl tt c.legal_line.ensures c.put_made-in-Legal.ensures.ok c.put_made-in-Legal.ensures.err }
+
+pub returns-in-Shown : goal.returns-in-Shown
+returns-in-Shown g c = record { reports = reports c.view.result.now (g.K.Sink.sunk c.args.say.now) (g.K.Sink.sunk c.put_line.new.say) c.put_line.result c.args.outcome (ends.Shown c.in-Shown.text) 0 c.in-Shown.is (c.view.ensures.value ∙ line_shown c.in-Shown.text) refl c.put_line.ensures }
+
+pub returns-in-WrongLine : goal.returns-in-WrongLine
+returns-in-WrongLine g c = record { reports = reports_made _ _ (g.K.Sink.sunk c.args.say.now) (g.K.Sink.sunk c.put_made-in-WrongLine.new.say) c.put_made-in-WrongLine.result c.args.outcome (ends.WrongLine c.in-WrongLine.line c.in-WrongLine.why) 1 c.in-WrongLine.is (line_wrong c.in-WrongLine.line c.in-WrongLine.why) refl tt c.wrong_line.ensures c.put_made-in-WrongLine.ensures.ok c.put_made-in-WrongLine.ensures.err }
+
+pub returns-in-WrongOutput : goal.returns-in-WrongOutput
+returns-in-WrongOutput g c = record { reports = reports_made _ _ (g.K.Sink.sunk c.args.say.now) (g.K.Sink.sunk c.put_made-in-WrongOutput.new.say) c.put_made-in-WrongOutput.result c.args.outcome (ends.WrongOutput c.in-WrongOutput.port c.in-WrongOutput.at) 1 c.in-WrongOutput.is (line_output c.in-WrongOutput.port c.in-WrongOutput.at) refl tt c.output_line.ensures c.put_made-in-WrongOutput.ensures.ok c.put_made-in-WrongOutput.ensures.err }
 
 pub returns-in-BadLine : goal.returns-in-BadLine
 returns-in-BadLine g c = record { reports = reports_made _ _ (g.K.Sink.sunk c.args.say.now) (g.K.Sink.sunk c.put_made-in-BadLine.new.say) c.put_made-in-BadLine.result c.args.outcome (ends.BadLine c.in-BadLine.line c.in-BadLine.why) 1 c.in-BadLine.is (line_journal c.in-BadLine.line c.in-BadLine.why) refl tt c.journal_line.ensures c.put_made-in-BadLine.ensures.ok c.put_made-in-BadLine.ensures.err }

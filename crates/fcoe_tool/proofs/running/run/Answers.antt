@@ -1,9 +1,13 @@
-use Rattle.std.proofs.Common.{IsTrue, sym, ◌∙◌, subst}
+use Rattle.std.proofs.Common.{IsTrue, sym, ◌∙◌, subst, arith}
 use Rattle.fab_base.specs.Places.{name_at}
 use Rattle.fcoe_tool.specs.Command.{run_of}
 use Rattle.fcoe_tool.specs.Ends.{RunHolds}
 use Rattle.fcoe_tool.proofs.RanLemmas.{config_as, heads_ended, inputs_touched, inputs_read, no_fabric, not_opened, some_ports, same_count, one_a_port, given_as, runs_as, windows_ended}
+use Rattle.fcoe_tool.proofs.NameLemmas.{pairs}
 use Rattle.fcoe_tool.proofs.running.run.Goals as goal
+
+pub heads_of-requires-clause-bytes : goal.heads_of-requires-clause-bytes
+heads_of-requires-clause-bytes g c = let few = (pairs c.args.words.now c.requires.run).few in omega arith
 
 pub returns-in-Err-heads_of : goal.returns-in-Err-heads_of
 returns-in-Err-heads_of g c =

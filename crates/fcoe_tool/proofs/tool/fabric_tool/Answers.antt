@@ -1,4 +1,4 @@
-use Rattle.fcoe_tool.proofs.EndLemmas.{done, refused, no_command, read_failed, write_failed, memory_refused, past_limit, others, completed, fronts, exactly, is_printed}
+use Rattle.fcoe_tool.proofs.EndLemmas.{done, refused, no_command, read_failed, write_failed, memory_refused, past_limit, others, completed, rechecked, fronts, exactly, is_printed}
 use Rattle.fcoe_tool.proofs.tool.fabric_tool.Goals as goal
 
 pub returns-clause-done : goal.returns-clause-done
@@ -30,6 +30,9 @@ returns-clause-front g c = fronts c.args.words.now _ _ _ _ c.ended-status.result
 
 pub returns-clause-complete : goal.returns-clause-complete
 returns-clause-complete g c = completed c.args.words.now _ _ _ _ c.ended-status.result c.ended-status.ensures.ends
+
+pub returns-clause-rechecked : goal.returns-clause-rechecked
+returns-clause-rechecked g c = rechecked c.args.words.now _ _ _ _ c.ended-status.result c.ended-status.ensures.ends
 
 pub returns-clause-exact : goal.returns-clause-exact
 returns-clause-exact g c = exactly c.args.words.now _ _ _ _ c.ended-status.result c.ended-status.ensures.ends
