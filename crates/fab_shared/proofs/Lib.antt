@@ -1,3 +1,4 @@
 pub mod Entries
 pub mod Submitting
 pub mod Closing
+pub mod Crossing

@@ -5,6 +5,8 @@ mod locked;
 mod shared;
 #[cfg(test)]
 mod tests;
+#[cfg(test)]
+mod tests_of_threads;
 
 pub use locked::{LockedFabric, Pass};
 pub use shared::SharedFabric;

@@ -37,7 +37,7 @@ fn settings(alloc: Global) -> Result<Config, NoMemory> {
 }
 
 // A fabric of two ports that was drained after its first tick.
-fn ticked(alloc: Global) -> Option<Fabric>
+pub(crate) fn ticked(alloc: Global) -> Option<Fabric>
     ensures { IfSome result (λ f. IsSome f.state.tables.clock) }
 {
     let mut fabric = Fabric::new(alloc, settings(alloc).ok()?, 2).ok()?;
@@ -46,7 +46,7 @@ fn ticked(alloc: Global) -> Option<Fabric>
     Some(fabric)
 }
 
-fn request(alloc: Global) -> Result<Caught, NoMemory> {
+pub(crate) fn request(alloc: Global) -> Result<Caught, NoMemory> {
     Ok(Caught {
         bytes: Bytes::copy(alloc, &ASK)?,
         whole: true,
@@ -76,7 +76,7 @@ fn taken_in_turns<R: Wait>(
 }
 
 // Whether an entry is an answered request of this port, with this index.
-fn is_answered(events: &EventList, place: usize, port: PortNo, index: u64) -> bool {
+pub(crate) fn is_answered(events: &EventList, place: usize, port: PortNo, index: u64) -> bool {
     match events.at(place) {
         Some(
             Event::Frame {
