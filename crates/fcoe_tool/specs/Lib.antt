@@ -1,13 +1,1 @@
 pub mod Edge
-pub mod Command
-pub mod Inputs
-pub mod Reading
-pub mod Opening
-pub mod Help
-pub mod Outcome
-pub mod Left
-pub mod Checking
-pub mod Load
-pub mod Ends
-pub mod Statuses
-pub mod Rechecking

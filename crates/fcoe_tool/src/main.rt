@@ -1,34 +1,10 @@
 //! One FCoE forwarder, run over captures.
 #![tactic(auto)]
 
-mod command;
-mod converting;
 mod edge;
-mod heads;
-mod help;
-mod inputs;
-mod limits;
-mod making;
-mod migrating;
-mod number;
-mod outcome;
-mod outputs;
 mod process;
-mod replaying;
-mod running;
-#[cfg(test)]
-mod tests;
-#[cfg(test)]
-mod tests_convert;
 #[cfg(test)]
 mod tests_edge;
-#[cfg(test)]
-mod tests_make;
-#[cfg(test)]
-mod tests_migrate;
-#[cfg(test)]
-mod tests_replay;
-mod tool;
 
 use edge::StdSink;
 use process::{status_of_process, words_of};

@@ -1,11 +1,11 @@
 //! The command of a process, over real files.
 ghost use Rattle.std.specs.Prelude.{◌≡◌, ◌⊎◌, IfOk, IfErr};
-ghost use Rattle.fcoe_tool.specs.Ends.{EndsOverFiles, Reports};
+ghost use Rattle.fabric_tool.specs.Ends.{Reports};
+ghost use Rattle.fcoe_tool.specs.Edge.{EndsOverFiles};
 
 use crate::edge::FileDepot;
-use crate::outcome::{Outcome, report};
-use crate::tool::fabric_tool;
 use fab_base::{NoMemory, OpenGate, Sink};
+use fabric_tool::{Outcome, fabric_tool, report};
 use std::alloc::{AllocGlobal, Global};
 use std::rt::{Env, Files};
 use std::sync::Wait;

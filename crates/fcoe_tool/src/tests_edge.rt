@@ -1,15 +1,47 @@
-//! The command over real files, with memory that is refused, and under a gate.
+//! The command over real files, and with memory that is refused.
 use crate::edge::FileDepot;
-use crate::outcome::Outcome;
 use crate::process::{status_of_process, words_of};
-use crate::tests::{
-    CONFIG, HEAD, NOTIFICATION, ONE_PORT, REQUEST, TWO_PORTS, depot_of, joined, words_in,
-};
-use crate::tool::fabric_tool;
-use fab_base::{Depot, FcId, Gate, MemSink, PortNo, word_at};
+use fab_base::{Depot, MemSink, word_at};
+use fabric_tool::Outcome;
+use std::alloc::{AllocError, Global};
 use std::fs;
-use std::sync::atomic::{AtomicU64, Ordering};
 use std::test::Fail;
+
+const CONFIG: [u8; 35] = *b"fcf-mac 00:05:1e:00:00:02\nvlan 100\n";
+
+// A VLAN request of 00:1b:21:00:00:0a to All-FCF-MACs at 1000 ms.
+const REQUEST: [u8; 100] = [
+    0xd4, 0xc3, 0xb2, 0xa1, 2, 0, 4, 0, 0, 0, 0, 0, 0, 0, 0, 0, 255, 255, 0, 0, 1, 0, 0, 0, //
+    1, 0, 0, 0, 0, 0, 0, 0, 60, 0, 0, 0, 60, 0, 0, 0, //
+    0x01, 0x10, 0x18, 0x01, 0x00, 0x02, 0x00, 0x1b, 0x21, 0x00, 0x00, 0x0a, 0x89, 0x14, //
+    0x10, 0, 0x00, 0x04, 0, 0x01, 0, 2, 0, 0, 2, 2, 0x00, 0x1b, 0x21, 0x00, 0x00, 0x0a, //
+    0, 0, 0, 0, 0, 0, 0, 0, 0, 0, 0, 0, 0, 0, 0, 0, 0, 0, 0, 0, 0, 0, 0, 0, 0, 0, 0, 0,
+];
+
+// Its answer: a VLAN notification of VLAN 100 from 00:05:1e:00:00:02.
+const NOTIFICATION: [u8; 100] = [
+    0xd4, 0xc3, 0xb2, 0xa1, 2, 0, 4, 0, 0, 0, 0, 0, 0, 0, 0, 0, 255, 255, 0, 0, 1, 0, 0, 0, //
+    1, 0, 0, 0, 0, 0, 0, 0, 60, 0, 0, 0, 60, 0, 0, 0, //
+    0x00, 0x1b, 0x21, 0x00, 0x00, 0x0a, 0x00, 0x05, 0x1e, 0x00, 0x00, 0x02, 0x89, 0x14, //
+    0x10, 0, 0x00, 0x04, 0, 0x02, 0, 3, 0, 0, 2, 2, 0x00, 0x05, 0x1e, 0x00, 0x00, 0x02, 14, 1, 0,
+    100, //
+    0, 0, 0, 0, 0, 0, 0, 0, 0, 0, 0, 0, 0, 0, 0, 0, 0, 0, 0, 0, 0, 0, 0, 0,
+];
+
+const ONE_PORT: [&str; 5] = ["run", "K", "J", "IN", "OUT"];
+
+const TWO_PORTS: [&str; 7] = ["run", "K", "J", "IN", "OUT", "IN2", "OUT2"];
+
+fn words_in(alloc: Global, words: &[&str]) -> Result<Vec<String>, AllocError> {
+    let mut list = Vec::new(alloc);
+    for word in words {
+        match list.push(String::from_str(alloc, word)?) {
+            Ok(()) => {}
+            Err(_) => return Err(AllocError),
+        }
+    }
+    Ok(list)
+}
 
 #[test]
 fn real_files(rt: HostRuntime) -> Result<(), Fail> {
@@ -129,54 +161,5 @@ fn outputs_are_as_they_were_or_fronts(rt: HostRuntime) -> Result<(), Fail> {
         };
         assert!(rt; text.as_slice() == b"before".as_slice() || whole.starts_with(&text));
     }
-    Ok(())
-}
-
-// A gate that keeps its calls in order, each as three digits: the port, the index, and 1 for
-// `pass`, or 2 for `done` without an address.
-#[derive(Drop)]
-struct Recorder {
-    calls: AtomicU64,
-}
-
-impl Recorder {
-    fn add(&self, port: PortNo, index: u64, kind: u64) {
-        let call = u64::from(port.value()) * 100 + index % 10 * 10 + kind % 10;
-        let calls = self.calls.load(Ordering::SeqCst);
-        let calls = calls.wrapping_mul(1000).wrapping_add(call);
-        self.calls.store(calls, Ordering::SeqCst);
-    }
-}
-
-impl Gate for Recorder {
-    fn pass(&self, port: PortNo, index: u64) {
-        self.add(port, index, 1);
-    }
-
-    fn done(&self, port: PortNo, index: u64, granted: Option<FcId>) {
-        self.add(port, index, if granted.is_none() { 2 } else { 3 });
-    }
-}
-
-#[test]
-fn each_frame_passes_the_gate(rt: HostRuntime) -> Result<(), Fail> {
-    let alloc = rt.alloc();
-    let at_1100 = [1, 0, 0, 0, 0xa0, 0x86, 1, 0];
-    let at_1200 = [1, 0, 0, 0, 0x40, 0x0d, 3, 0];
-    let first = joined(alloc, &[&REQUEST, &at_1200, &REQUEST[32..]])?;
-    let second = joined(alloc, &[&HEAD, &at_1100, &REQUEST[32..]])?;
-    let mut depot = depot_of(alloc, &CONFIG, &first, &second)?;
-    let words = words_in(alloc, &TWO_PORTS)?;
-    assert!(rt; depot.knows_all(&words));
-    let mut say = MemSink::new(alloc, 100)?;
-    let gate = Recorder {
-        calls: AtomicU64::new(0),
-    };
-    let status = fabric_tool(&rt, alloc, &words, &mut depot, &mut say, &gate);
-    assert_eq!(rt; status, 0);
-    let journal = b"journal 2\n1000 tick\n1000 1 0 vlans\n1100 tick\n1100 2 0 vlans\n1200 tick\n\
-            1200 1 1 vlans\n";
-    assert_eq!(rt; depot.content("J"), Some(journal.as_slice()));
-    assert_eq!(rt; gate.calls.load(Ordering::SeqCst), 101_102_201_202_111_112);
     Ok(())
 }

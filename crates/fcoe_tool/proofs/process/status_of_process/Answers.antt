@@ -1,5 +1,5 @@
 use Rattle.std.proofs.Common.{sym, subst, IfOk}
-use Rattle.fcoe_tool.specs.Ends.{EndsOverFiles}
+use Rattle.fcoe_tool.specs.Edge.{EndsOverFiles}
 use Rattle.fcoe_tool.proofs.process.status_of_process.Goals as goal
 
 pub returns-in-Ok-clause-ends : goal.returns-in-Ok-clause-ends

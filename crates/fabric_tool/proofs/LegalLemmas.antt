@@ -1,0 +1,100 @@
+-- A journal that names a run excludes each refusal of `replay` and of `show`.
+use Rattle.std.proofs.Common.{◌≡◌, ℕ, ◌+◌, ◌*◌, ◌<◌, ◌≤◌, ◌⊎◌, List, length, IsTrue, refl, sym, ap, ◌∙◌, subst, arith, inl, inr}
+use Rattle.fab_base.specs.Seen.{Seen}
+use Rattle.fab_base.specs.Sunk.{Sunk}
+use Rattle.fab_config.specs.Settings.{Settings}
+use Rattle.pcap_file.specs.declared.Budget.{Budget}
+use Rattle.pcap_file.specs.Capture.{HEAD}
+use Rattle.fab_policy.specs.Journal.{Journal}
+use Rattle.fab_policy.specs.Looks.{Opened}
+use Rattle.fab_replay.specs.Check.{Matter}
+use Rattle.fab_replay.specs.Showing.{shown}
+use Rattle.fab_replay.proofs.ExactLemmas.{run_is_one, output_differs}
+use Rattle.fabric_tool.specs.Command.{RunNames, Replay, Show, ReadRose}
+use Rattle.fabric_tool.specs.Checking.{budget_of, matter_of, Finds, IsLegalJournal, IsShownJournal, IsLongJournal, ReplayHolds, ShowHolds}
+use Rattle.fabric_tool.specs.Inputs.{HasFault, HasBadHead, MOST_BYTES}
+use Rattle.fabric_tool.specs.Statuses.{IsQuiet}
+use Rattle.fabric_tool.specs.declared.outcome.Outcome.{Outcome}
+use Rattle.fabric_tool.specs.declared.outcome.Outcome.TheVariants as ends
+use Rattle.fabric_tool.proofs.FoundLemmas.{same_text, one_value, no_fault, all_one, no_bad}
+
+pub above : (l m : List ℕ) (n : ℕ) → l ≡ m → length l + HEAD * n ≤ MOST_BYTES → MOST_BYTES < length m + HEAD * n → ⊥
+above l m n e within over = let same : length l ≡ length m = ap (λ (x : List ℕ). length x) e in omega (arith, same, within, over)
+
+module _ (k : RunNames) (d : Seen) where
+  -- the files of a command are one matter
+  in_one : (P Q : Settings → Budget → Matter → Type 0) → Finds k d P → (g : Finds k d Q) → P g.settings (budget_of g.journal (length k.ins)) (matter_of k d g.opened g.journal)
+  in_one P Q f g =
+      let config = one_value d k.config f.settings g.settings f.matter.inputs.config g.matter.inputs.config in
+      let heads = all_one d k.ins f.opened g.opened f.matter.inputs.heads g.matter.inputs.heads in
+      let lines = same_text d k.journal f.journal g.journal f.matter.lines g.matter.lines in
+      subst (λ (c : Settings). P c (budget_of g.journal (length k.ins)) (matter_of k d g.opened g.journal)) config
+      (subst (λ (l : List Opened). P f.settings (budget_of g.journal (length k.ins)) (matter_of k d l g.journal)) heads
+      (subst (λ (l : List ℕ). P f.settings (budget_of l (length k.ins)) (matter_of k d f.opened l)) lines f.says))
+
+  -- whatever names a run excludes what no run allows
+  excluded : (P Q : Settings → Budget → Matter → Type 0) → ((c : Settings) (b : Budget) (m : Matter) → P c b m → Q c b m → ⊥) → Finds k d P → Finds k d Q → ⊥
+  excluded P Q apart f g = apart g.settings (budget_of g.journal (length k.ins)) (matter_of k d g.opened g.journal) (in_one P Q f g) g.says
+
+  -- no configuration's fault, no bad head, and no journal that is too long
+  module _ (P : Settings → Budget → Matter → Type 0) (f : Finds k d P) where
+    no_config : (fault : _) → HasFault d k.config fault → ⊥
+    no_config fault has = no_fault d k.config f.settings fault f.matter.inputs.config has
+
+    no_head : (port : ℕ) (why : _) → HasBadHead k d port why → ⊥
+    no_head port why bad = no_bad k d f.settings f.opened port why f.matter.inputs bad
+
+    no_long : IsLongJournal k d → ⊥
+    no_long l = above f.journal l.journal (length k.ins) (same_text d k.journal f.journal l.journal f.matter.lines l.lines) f.matter.within l.above
+
+  -- where the journal and the outputs are those of a run, the files say nothing else to `replay`
+  module _ (entries : ℕ) (f : Finds k d (IsLegalJournal entries)) where
+    only_legal : (new : Seen) → IsTrue d.told → (o : Outcome) → ReplayHolds k d new o → (ReadRose (Replay k) d new → ⊥) → (o ≡ ends.Legal entries) ⊎ (o ≡ ends.Memory)
+    only_legal new told (ends.Legal n) h quiet =
+        let g = h.1 told in
+        let mine = in_one (IsLegalJournal entries) (IsLegalJournal n) f g in
+        let one = (run_is_one g.settings (budget_of g.journal (length k.ins)) (matter_of k d g.opened g.journal) mine.entry_list mine.names).0 g.says.entry_list g.says.names in
+        inl (ap ends.Legal (g.says.count ∙ ap (λ (J : Journal). length J) one ∙ sym mine.count))
+    only_legal new told (ends.WrongLine line why) h quiet = absurd (excluded (IsLegalJournal entries) _ (λ c b m x wrong. (run_is_one c b m x.entry_list x.names).1 line why wrong) f (h.1 told))
+    only_legal new told (ends.WrongOutput port at) h quiet = absurd (excluded (IsLegalJournal entries) _ (λ c b m x wrong. output_differs c b m port at x.entry_list wrong x.names x.outputs) f (h.1 told))
+    only_legal new told (ends.Config fault) h quiet = absurd (no_config (IsLegalJournal entries) f fault (h.1 told))
+    only_legal new told (ends.Capture port at why) h quiet = absurd (elim (h.1 told) [
+      | inl bad ↦ no_head (IsLegalJournal entries) f port why bad.1
+      | inr g ↦ excluded (IsLegalJournal entries) _ (λ c b m x stop. (run_is_one c b m x.entry_list x.names).2 _ stop) f g
+    ])
+    only_legal new told (ends.Limit kind) h quiet = absurd (elim (h.1 told) [
+      | inl long ↦ no_long (IsLegalJournal entries) f long.1
+      | inr g ↦ excluded (IsLegalJournal entries) _ (λ c b m x stop. (run_is_one c b m x.entry_list x.names).2 _ stop) f g
+    ])
+    only_legal new told ends.ReadFault h quiet = absurd (quiet h.1)
+    only_legal new told ends.Memory h quiet = inr refl
+    only_legal new told o h quiet = absurd h
+
+    pub legal_end : (new : Seen) (before after : Sunk) → IsTrue d.told → IsQuiet (Replay k) d new before after → (o : Outcome) → ReplayHolds k d new o → (o ≡ ends.Legal entries) ⊎ (o ≡ ends.Memory)
+    legal_end new before after told quiet o h = only_legal new told o h quiet.reads
+
+  -- the same of `show`, to which no output is told
+  module _ (text : List ℕ) (f : Finds k d (IsShownJournal text)) where
+    only_shown : (new : Seen) → IsTrue d.told → (o : Outcome) → ShowHolds k d new o → (ReadRose (Show k) d new → ⊥) → (o ≡ ends.Shown text) ⊎ (o ≡ ends.Memory)
+    only_shown new told (ends.Shown n) h quiet =
+        let g = h.1 told in
+        let mine = in_one (IsShownJournal text) (IsShownJournal n) f g in
+        let one = (run_is_one g.settings (budget_of g.journal (length k.ins)) (matter_of k d g.opened g.journal) mine.entry_list mine.names).0 g.says.entry_list g.says.names in
+        inl (ap ends.Shown (g.says.told ∙ ap (λ (J : Journal). shown g.settings J) one ∙ sym mine.told))
+    only_shown new told (ends.WrongLine line why) h quiet = absurd (excluded (IsShownJournal text) _ (λ c b m x wrong. (run_is_one c b m x.entry_list x.names).1 line why wrong) f (h.1 told))
+    only_shown new told (ends.WrongOutput port at) h quiet = absurd (h.1 told)
+    only_shown new told (ends.Config fault) h quiet = absurd (no_config (IsShownJournal text) f fault (h.1 told))
+    only_shown new told (ends.Capture port at why) h quiet = absurd (elim (h.1 told) [
+      | inl bad ↦ no_head (IsShownJournal text) f port why bad.1
+      | inr g ↦ excluded (IsShownJournal text) _ (λ c b m x stop. (run_is_one c b m x.entry_list x.names).2 _ stop) f g
+    ])
+    only_shown new told (ends.Limit kind) h quiet = absurd (elim (h.1 told) [
+      | inl long ↦ no_long (IsShownJournal text) f long.1
+      | inr g ↦ excluded (IsShownJournal text) _ (λ c b m x stop. (run_is_one c b m x.entry_list x.names).2 _ stop) f g
+    ])
+    only_shown new told ends.ReadFault h quiet = absurd (quiet h.1)
+    only_shown new told ends.Memory h quiet = inr refl
+    only_shown new told o h quiet = absurd h
+
+    pub shown_end : (new : Seen) (before after : Sunk) → IsTrue d.told → IsQuiet (Show k) d new before after → (o : Outcome) → ShowHolds k d new o → (o ≡ ends.Shown text) ⊎ (o ≡ ends.Memory)
+    shown_end new before after told quiet o h = only_shown new told o h quiet.reads

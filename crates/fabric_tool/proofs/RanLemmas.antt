@@ -1,0 +1,347 @@
+-- How `run` ends.
+use Rattle.std.proofs.Common.{◌≡◌, ℕ, suc, ◌+◌, ◌-◌, ◌*◌, ◌<◌, ◌≤◌, List, [], ◌∷◌, ◌⊎◌, length, true, Some, Ok, Err, IsTrue, refl, sym, ap, ◌∙◌, subst, arith, inl, inr}
+use Rattle.std.specs.Prelude.{Result, String, map}
+use Rattle.std.specs.declared.alloc.Global.{Global}
+use Rattle.fab_base.specs.Seen.{Seen, SameFiles, Touches, Nothing, Only}
+use Rattle.fab_base.proofs.SeenLemmas.{touches_trans, touches_wider, reads_touches}
+use Rattle.fab_config.specs.Settings.{Settings, is_in_range}
+use Rattle.pcap_file.specs.Capture.{HEAD}
+use Rattle.pcap_file.specs.declared.Budget.{Budget}
+use Rattle.fab_policy.specs.Growing.{NothingIsRun}
+use Rattle.fab_policy.specs.Journal.{Journal}
+use Rattle.fab_policy.specs.Logins.{counting}
+use Rattle.fab_policy.specs.Looks.{Opened, stop, kept, all_records}
+use Rattle.fab_policy.specs.Text.{egress}
+use Rattle.fab_policy.specs.Written.{before, IsPrefixOf}
+use Rattle.fab_gather.specs.First.{opened_in}
+use Rattle.fab_gather.specs.Ports.{slots_of, name_of, NameIn}
+use Rattle.fab_gather.specs.declared.shelf.Input.{Input}
+use Rattle.fab_gather.specs.declared.fault.RunFault.{RunFault}
+use Rattle.fab_gather.specs.declared.fault.RunFault.TheVariants as faults
+use Rattle.fab_windows.specs.Files.{Written, Wholes, Fronts}
+use Rattle.fab_windows.specs.Run.{AreGiven, IsRunOver, Runs, Finished, Stopped, Interrupted, keeps}
+use Rattle.fab_windows.specs.declared.Done.{Done}
+use Rattle.fabric_tool.specs.Command.{RunNames, Run, are_pairs, run_of, port_count, Among, AnyRose, KeepsOthers}
+use Rattle.fabric_tool.specs.Ends.{RunHolds}
+use Rattle.fabric_tool.specs.Inputs.{HasConfig, HasInputs, AreOpened, stop_of, kept_of, MOST_BYTES, MOST_FRAMES}
+use Rattle.fabric_tool.specs.Left.{HoldsAll, HoldsFronts, AreOldOrFront, HasRun, HasStopped, HasPart, LegalIsSafe}
+use Rattle.fabric_tool.specs.Opening.{AreEmptyOutputs, Opens, ran_by}
+use Rattle.fabric_tool.specs.Reading.{AreHeads, ConfigRead, HeadsRead, HeadsEnd}
+use Rattle.fabric_tool.specs.declared.outcome.Outcome.{Outcome}
+use Rattle.fabric_tool.specs.declared.outcome.Outcome.TheVariants as ends
+use Rattle.fabric_tool.proofs.AmongLemmas.{none_among, rose_among, rose_since}
+use Rattle.fabric_tool.proofs.CaptureLemmas.{whole_captures}
+use Rattle.fabric_tool.proofs.GivenLemmas.{outputs_count, written_among, read_among, slots_length, ins_count, outs_count, given}
+use Rattle.fabric_tool.proofs.HeadLemmas.{heads_still, heads_since, heads_count, heads_opened}
+use Rattle.fabric_tool.proofs.NameLemmas.{pairs, inputs_apart}
+use Rattle.fabric_tool.proofs.PartLemmas.{empty_part}
+
+le_trans : {x y z : ℕ} → x ≤ y → y ≤ z → x ≤ z
+le_trans {x} {y} {z} h k = omega arith
+
+-- ---- before an output is opened
+
+others_same : (k : RunNames) (old new : Seen) → SameFiles old new → KeepsOthers (Run k) old new
+others_same k old new same m none = same m
+
+-- a configuration that was read of a word
+pub config_as : {m n : List ℕ} {a b : Seen} {r : Result Settings Outcome} → m ≡ n → ConfigRead m a b r → ConfigRead n a b r
+config_as {m} {n} {a} {b} {r} e read = subst (λ l. ConfigRead l a b r) e read
+
+pub config_ended : (k : RunNames) (old new : Seen) (x : Outcome) → ConfigRead k.config old new (Err x) → RunHolds k old new x
+config_ended k old new x read = elim read.only [
+  | inl fault ↦ subst (RunHolds k old new) (sym fault.1) (read.reads.files, λ told. read.fault told fault.0 fault.1)
+  | inr other ↦ elim other [
+    | inl failed ↦ subst (RunHolds k old new) (sym failed) (others_same k old new read.reads.files, inl (read.cause (ap (λ (o : Outcome). let r : Result Settings Outcome = Err o in r) failed)), λ told. inl read.reads.files)
+    | inr memory ↦ subst (RunHolds k old new) (sym memory) (others_same k old new read.reads.files, λ told. inl read.reads.files)
+  ]
+]
+
+pub opened_since : (old b : Seen) → SameFiles old b → (names : List (List ℕ)) (opened : List Opened) → AreOpened b names opened → AreOpened old names opened
+opened_since old b same [] [] are = tt
+opened_since old b same [] (o ∷ opened) are = absurd are
+opened_since old b same (n ∷ names) [] are = absurd are
+opened_since old b same (n ∷ names) (o ∷ opened) are =
+    (record { bytes = are.0.bytes; file = sym (same n) ∙ are.0.file; head = are.0.head; body = are.0.body }, opened_since old b same names opened are.1)
+
+-- the configuration was read, and a head can't be
+module _ (k : RunNames) (c : Settings) (old b new : Seen) (config : ConfigRead k.config old b (Ok c)) where
+  told_b : IsTrue old.told → IsTrue b.told
+  told_b told = subst IsTrue (sym config.reads.keeps.told) told
+
+  touched : Touches Nothing (Only k.config) old b
+  touched = reads_touches k.config old b config.reads
+
+  pub heads_ended : (had left : Budget) (x : Outcome) → HeadsRead k.ins b new had left (Err x) → RunHolds k old new x
+  heads_ended had left x read = go x read.ended
+    where
+      same : SameFiles old new
+      same m = read.touches.files m (λ y. y) ∙ config.reads.files m
+
+      go : (x : Outcome) → HeadsEnd k.ins b new x → RunHolds k old new x
+      go (ends.Capture port at reason) e = (
+        λ m none. same m,
+        λ told.
+            let f = e.1 (told_b told) in
+            inl (
+              same,
+              e.0,
+              record {
+                settings = c;
+                config = config.ok told;
+                first = record {
+                  before = f.before;
+                  name = f.name;
+                  behind = f.behind;
+                  are = f.are;
+                  number = f.number;
+                  opened = f.opened;
+                  heads = opened_since old b config.reads.files f.before f.opened f.heads;
+                  without = record { bytes = f.without.bytes; file = sym (config.reads.files f.name) ∙ f.without.file; fault = f.without.fault; says = f.without.says; word = f.without.word };
+                };
+              },
+            ),
+      )
+      go ends.ReadFault e = (λ m none. same m, inr (rose_since old.read_faults b.read_faults new.read_faults touched.reads_rise k.ins e), λ told. inl same)
+      go ends.Memory e = (λ m none. same m, λ told. inl same)
+      go x e = absurd e
+
+  -- what reading the configuration and the heads changes
+  pub inputs_touched : Touches Nothing (Among k.ins) b new → Touches Nothing (Among (k.config ∷ k.ins)) old new
+  inputs_touched heads = touches_trans Nothing (Among (k.config ∷ k.ins)) old b new
+      (touches_wider Nothing (Only k.config) Nothing (Among (k.config ∷ k.ins)) old b (λ m x. x) (λ m x. inl x) touched)
+      (touches_wider Nothing (Among k.ins) Nothing (Among (k.config ∷ k.ins)) b new (λ m x. x) (λ m x. inr x) heads)
+
+  pub inputs_read : (ins : List Input) → AreHeads b new k.ins ins → AreHeads old new k.ins ins
+  inputs_read ins heads = heads_since old b new config.reads.files told_b k.ins ins heads
+
+  -- memory is refused
+  pub no_fabric : Touches Nothing (Among k.ins) b new → RunHolds k old new ends.Memory
+  no_fabric heads =
+      let same : SameFiles old new = λ m. heads.files m (λ y. y) ∙ config.reads.files m in
+      (λ m none. same m, λ told. inl same)
+
+-- ---- outputs are opened
+
+module _ (k : RunNames) (c : Settings) (old m a : Seen) (ins : List Input)
+    (config : IsTrue old.told → HasConfig old k.config c) (inputs : Touches Nothing (Among (k.config ∷ k.ins)) old m) (heads : AreHeads old m k.ins ins) (opens : Opens (k.journal ∷ k.outs) m a) where
+  told_m : IsTrue old.told → IsTrue m.told
+  told_m told = subst IsTrue (sym inputs.told) told
+
+  others_opened : KeepsOthers (Run k) old a
+  others_opened name none = opens.touches.files name (none_among (k.journal ∷ k.outs) name none) ∙ inputs.files name (λ x. x)
+
+  -- one of them can't be
+  pub not_opened : NothingIsRun → AnyRose m.write_faults a.write_faults (k.journal ∷ k.outs) → RunHolds k old a ends.WriteFault
+  not_opened nothing rose = (
+    others_opened,
+    rose_since old.write_faults m.write_faults a.write_faults inputs.writes_rise (k.journal ∷ k.outs) rose,
+    λ told. inr (empty_part k c (opened_in m ins) old a nothing
+        (record { config = config told; heads = heads_opened old m k.ins ins told heads })
+        (λ name. elim (opens.each (told_m told) name) [ inl same ↦ inl (same ∙ inputs.files name (λ x. x)) | inr empty ↦ inr empty ])),
+  )
+
+-- ---- what is handed to the windows
+
+module _ (words : List (String Global)) (run : are_pairs words ≡ true) (old m a : Seen) (ins : List Input) (journal : ℕ) (outs : List ℕ)
+    (heads : AreHeads old m (run_of words).ins ins) (opens : Opens ((run_of words).journal ∷ (run_of words).outs) m a) (outputs : AreEmptyOutputs a ((run_of words).journal ∷ (run_of words).outs) (journal ∷ outs)) where
+  pub heads_after : AreHeads old a (run_of words).ins ins
+  heads_after = heads_still old m a (run_of words).ins ins (Among ((run_of words).journal ∷ (run_of words).outs)) (Among ((run_of words).journal ∷ (run_of words).outs)) opens.touches (inputs_apart words run) heads
+
+  -- the lists as they are lent
+  module _ (i : List Input) (o : List ℕ) (is : i ≡ ins) (are : o ≡ outs) where
+    ports_are : length i ≡ port_count words
+    ports_are = ap length is ∙ ins_count words run old a ins journal outs heads_after outputs
+
+    pub some_ports : (1 ≤ length i) × (length i ≤ 64)
+    some_ports =
+        let n = ports_are in
+        let some = (pairs words run).some in
+        let few = (pairs words run).few in
+        (omega arith, omega arith)
+
+    pub same_count : length o ≡ length i
+    same_count = ap length are ∙ outs_count words run old a ins journal outs heads_after outputs ∙ sym ports_are
+
+    pub one_a_port : (n : ℕ) → n ≡ port_count words → n ≡ length i
+    one_a_port n e = e ∙ sym ports_are
+
+    pub given_as : AreGiven a i journal o
+    given_as = subst (λ x. AreGiven a x journal o) (sym is) (subst (λ x. AreGiven a ins journal x) (sym are) (given words run old a ins journal outs heads_after outputs))
+
+-- what the windows did with them
+pub runs_as : {x c : Settings} {budget : Budget} {i ins : List Input} {a b : Seen} {journal : ℕ} {o outs : List ℕ} {r : Result Done RunFault} → x ≡ c → i ≡ ins → o ≡ outs → Runs x budget i a b journal o r → Runs c budget ins a b journal outs r
+runs_as {x} {c} {budget} {i} {ins} {a} {b} {journal} {o} {outs} {r} e f h runs =
+    subst (λ (s : Settings). Runs s budget ins a b journal outs r) e (subst (λ (l : List Input). Runs x budget l a b journal outs r) f (subst (λ (l : List ℕ). Runs x budget i a b journal l r) h runs))
+
+-- ---- the windows
+
+-- the slots of outputs have these names still
+abbrev AreNamed : Seen → List (List ℕ) → List ℕ → Type 0
+AreNamed d [] [] = Unit {0}
+AreNamed d [] (s ∷ slots) = ⊥
+AreNamed d (name ∷ names) [] = ⊥
+AreNamed d (name ∷ names) (s ∷ slots) = (d.name s ≡ name) × AreNamed d names slots
+
+named_still : (a b : Seen) (may counted : List ℕ → Type 0) → Touches may counted a b → (names : List (List ℕ)) (slots : List ℕ) → AreEmptyOutputs a names slots → AreNamed b names slots
+named_still a b may counted k [] [] are = tt
+named_still a b may counted k [] (s ∷ slots) are = absurd are
+named_still a b may counted k (n ∷ names) [] are = absurd are
+named_still a b may counted k (n ∷ names) (s ∷ slots) are = ((k.slots s (inr are.0.0)).name ∙ are.0.1, named_still a b may counted k names slots are.1)
+
+-- files that hold what is numbered
+held : (b : Seen) (names : List (List ℕ)) (slots : List ℕ) (g : ℕ → List ℕ) (k : ℕ) → AreNamed b names slots → ((q : ℕ) → q < length slots → b.file (name_of b slots q) ≡ Some (g (k + q))) → map (λ n. b.file n) names ≡ map (λ l. Some l) (map g (counting k (length names)))
+held b [] [] g k are each = refl
+held b [] (s ∷ slots) g k are each = absurd are
+held b (n ∷ names) [] g k are each = absurd are
+held b (n ∷ names) (s ∷ slots) g k are each =
+    let at : k + 0 ≡ k = omega arith in
+    let first : b.file n ≡ Some (g k) = ap b.file (sym are.0) ∙ each 0 (omega arith) ∙ ap (λ (p : ℕ). Some (g p)) at in
+    let rest = held b names slots g (k + 1) are.1 (λ q lt. let e : k + suc q ≡ k + 1 + q = omega arith in each (suc q) (omega arith) ∙ ap (λ (p : ℕ). Some (g p)) e) in
+    cc
+
+held_fronts : (a b : Seen) (names : List (List ℕ)) (slots : List ℕ) (g : ℕ → List ℕ) (k : ℕ) → AreNamed b names slots → ((q : ℕ) → q < length slots → (bytes : List ℕ) × (b.file (name_of b slots q) ≡ Some bytes) × IsPrefixOf bytes (g (k + q))) → AreOldOrFront a b names (map g (counting k (length names)))
+held_fronts a b [] [] g k are each = tt
+held_fronts a b [] (s ∷ slots) g k are each = absurd are
+held_fronts a b (n ∷ names) [] g k are each = absurd are
+held_fronts a b (n ∷ names) (s ∷ slots) g k are each =
+    let at : k + 0 ≡ k = omega arith in
+    let first = each 0 (omega arith) in (
+      inr (first.0, ap b.file (sym are.0) ∙ first.1, subst (λ (p : ℕ). IsPrefixOf first.0 (g p)) at first.2),
+      held_fronts a b names slots g (k + 1) are.1 (λ q lt. let e : k + suc q ≡ k + 1 + q = omega arith in let h = each (suc q) (omega arith) in (h.0, h.1, subst (λ (p : ℕ). IsPrefixOf h.0 (g p)) e h.2)),
+    )
+
+module _ (words : List (String Global)) (run : are_pairs words ≡ true) (c : Settings) (old m a b : Seen) (ins : List Input) (journal : ℕ) (outs : List ℕ) (budget : Budget)
+    (range : IsTrue (is_in_range c)) (safe : LegalIsSafe)
+    (config : IsTrue old.told → HasConfig old (run_of words).config c) (inputs : Touches Nothing (Among ((run_of words).config ∷ (run_of words).ins)) old m) (heads : AreHeads old m (run_of words).ins ins)
+    (opens : Opens ((run_of words).journal ∷ (run_of words).outs) m a) (outputs : AreEmptyOutputs a ((run_of words).journal ∷ (run_of words).outs) (journal ∷ outs))
+    (bytes : budget.bytes + 24 * length (run_of words).ins ≡ MOST_BYTES) (frames : budget.frames ≡ MOST_FRAMES) where
+  abbrev k : RunNames
+  k = run_of words
+
+  abbrev opened : List Opened
+  opened = opened_in a ins
+
+  heads_a : AreHeads old a k.ins ins
+  heads_a = heads_still old m a k.ins ins (Among (k.journal ∷ k.outs)) (Among (k.journal ∷ k.outs)) opens.touches (inputs_apart words run) heads
+
+  told_a : IsTrue old.told → IsTrue a.told
+  told_a told = subst IsTrue (sym opens.touches.told) (subst IsTrue (sym inputs.told) told)
+
+  has : IsTrue old.told → HasInputs k old c opened
+  has told = record { config = config told; heads = heads_opened old a k.ins ins told heads_a }
+
+  opened_count : length opened ≡ length k.ins
+  opened_count = go ins ∙ heads_count old a k.ins ins heads_a
+    where
+      go : (l : List Input) → length (opened_in a l) ≡ length l
+      go [] = refl
+      go (i ∷ l) = let h = go l in omega arith
+
+  -- the budget is what the heads leave of the limits
+  same_stop : stop c budget.bytes budget.frames opened ≡ stop_of c opened
+  same_stop =
+      let count = opened_count in
+      let left : budget.bytes ≡ MOST_BYTES - HEAD * length opened = omega arith in
+      ap (λ (n : ℕ). stop c n budget.frames opened) left ∙ ap (λ (n : ℕ). stop c (MOST_BYTES - HEAD * length opened) n opened) frames
+
+  same_kept : keeps c budget opened ≡ kept_of c opened
+  same_kept = ap (λ (s : _). map (kept c s) (all_records opened)) same_stop
+
+  module _ (touches : Touches (Written a journal outs) (λ n. Written a journal outs n ⊎ NameIn a (slots_of ins) n) a b) where
+    others : KeepsOthers (Run k) old b
+    others name none =
+        let apart = none_among (k.journal ∷ k.outs) name none in
+        touches.files name (λ w. apart (written_among words run old a ins journal outs heads_a outputs name w)) ∙ opens.touches.files name apart ∙ inputs.files name (λ x. x)
+
+    named : AreNamed b (k.journal ∷ k.outs) (journal ∷ outs)
+    named = named_still a b _ _ touches (k.journal ∷ k.outs) (journal ∷ outs) outputs
+
+    count : length outs ≡ length k.outs
+    count = outputs_count a k.outs outs outputs.1
+
+    holds_all : (J : Journal) → Wholes c b journal outs J → HoldsAll k c b J
+    holds_all J w = record {
+      lines = ap b.file (sym named.0) ∙ w.lines_;
+      captures = held b k.outs outs (λ p. egress c (length k.outs) p J) 1 named.1 (λ q lt.
+          let e : q + 1 ≡ 1 + q = omega arith in
+          w.records q lt ∙ ap (λ (p : ℕ). Some (egress c (length outs) p J)) e ∙ ap (λ (n : ℕ). Some (egress c n (1 + q) J)) count);
+    }
+
+    holds_fronts : (J : Journal) → Fronts c b journal outs J → HoldsFronts k c old b J
+    holds_fronts J w = record {
+      lines = inr (w.lines_.0, ap b.file (sym named.0) ∙ w.lines_.1, w.lines_.2);
+      captures = held_fronts old b k.outs outs (λ p. egress c (length k.outs) p J) 1 named.1 (λ q lt.
+          let e : q + 1 ≡ 1 + q = omega arith in
+          let h = w.records q lt in
+          (h.0, h.1, subst (λ (n : ℕ). IsPrefixOf h.0 (egress c n (1 + q) J)) count (subst (λ (p : ℕ). IsPrefixOf h.0 (egress c (length outs) p J)) e h.2)));
+    }
+
+    stopped : (e : RunFault) → IsTrue old.told → Stopped c budget opened b journal outs e → HasStopped k e old b
+    stopped e told s = record {
+      stops = record { settings = c; opened = opened; inputs = has told; at = s.at; is = sym same_stop ∙ s.is; says = s.says };
+      journal = s.entry_list;
+      run = subst (λ l. IsRunOver c l s.entry_list) same_kept s.run;
+      files = holds_all s.entry_list s.files;
+    }
+
+    finished : (done : Done) → IsTrue old.told → Finished c budget opened b journal outs done → HasRun k done.frames done.entries old b
+    finished done told f = record {
+      settings = c;
+      opened = opened;
+      inputs = has told;
+      captures = whole_captures old k.ins opened (has told).heads f.whole;
+      none = sym same_stop ∙ f.none;
+      journal = f.entry_list;
+      run = f.run;
+      safe = safe c f.entry_list range f.run.run.legal;
+      files = holds_all f.entry_list f.files;
+      frames_are = f.frames;
+      entries_are = f.entries;
+    }
+
+    interrupted_whole : IsTrue old.told → Interrupted c budget opened (Wholes c b journal outs) → HasPart k old (λ c J. HoldsAll k c b J)
+    interrupted_whole told i = record {
+      settings = c;
+      opened = opened;
+      inputs = has told;
+      moment = i.moment;
+      journal = i.entry_list;
+      run = subst (λ l. IsRunOver c (before c i.moment l) i.entry_list) same_kept i.run;
+      files = holds_all i.entry_list i.files;
+    }
+
+    interrupted_front : IsTrue old.told → Interrupted c budget opened (Fronts c b journal outs) → HasPart k old (λ c J. HoldsFronts k c old b J)
+    interrupted_front told i = record {
+      settings = c;
+      opened = opened;
+      inputs = has told;
+      moment = i.moment;
+      journal = i.entry_list;
+      run = subst (λ l. IsRunOver c (before c i.moment l) i.entry_list) same_kept i.run;
+      files = holds_fronts i.entry_list i.files;
+    }
+
+  pub windows_ended : (r : Result Done RunFault) → Runs c budget ins a b journal outs r → RunHolds k old b (ran_by r)
+  windows_ended (Ok done) r = (others r.touches, λ told. finished r.touches done told (r.ends (told_a told)))
+  windows_ended (Err (faults.Capture port at why)) r = (others r.touches, λ told. inr (stopped r.touches (faults.Capture port at why) told (r.ends (told_a told))))
+  windows_ended (Err (faults.Limit kind)) r = (others r.touches, λ told. stopped r.touches (faults.Limit kind) told (r.ends (told_a told)))
+  windows_ended (Err faults.Read) r =
+      let rose = r.read refl in
+      let l = slots_length words run old a ins journal outs heads_a outputs in
+      let lt = rose.1 in
+      let among = read_among words run old a ins journal outs heads_a outputs (name_of a (slots_of ins) rose.0) (rose.0, omega arith, refl) in
+      let le = λ (n : List ℕ). le_trans (inputs.reads_rise n) (opens.touches.reads_rise n) in (
+        others r.touches,
+        inr (rose_since old.read_faults a.read_faults b.read_faults le k.ins (rose_among a.read_faults b.read_faults k.ins (name_of a (slots_of ins) rose.0) among rose.2)),
+        λ told. inr (interrupted_whole r.touches told (r.ends (told_a told))),
+      )
+  windows_ended (Err faults.Write) r =
+      let rose = r.write refl in
+      let among = written_among words run old a ins journal outs heads_a outputs rose.0 rose.1 in
+      let le = λ (n : List ℕ). le_trans (inputs.writes_rise n) (opens.touches.writes_rise n) in (
+        others r.touches,
+        rose_since old.write_faults a.write_faults b.write_faults le (k.journal ∷ k.outs) (rose_among a.write_faults b.write_faults (k.journal ∷ k.outs) rose.0 among rose.2),
+        λ told. inr (interrupted_front r.touches told (r.ends (told_a told))),
+      )
+  windows_ended (Err faults.Memory) r = (others r.touches, λ told. inr (interrupted_front r.touches told (r.ends (told_a told))))

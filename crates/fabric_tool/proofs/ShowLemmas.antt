@@ -1,0 +1,101 @@
+-- How `replay` and `show` end, by how their check ended.
+use Rattle.std.proofs.Common.{◌≡◌, ℕ, ◌+◌, ◌-◌, ◌*◌, ◌<◌, ◌≤◌, List, [], ◌++◌, length, true, Ok, Err, ap, ◌∙◌, arith, inl}
+use Rattle.std.specs.Prelude.{String}
+use Rattle.std.specs.declared.alloc.Global.{Global}
+use Rattle.fab_base.specs.Seen.{Seen, SameFiles}
+use Rattle.fab_config.specs.Settings.{Settings}
+use Rattle.pcap_file.specs.Capture.{HEAD}
+use Rattle.pcap_file.specs.declared.Budget.{Budget}
+use Rattle.fab_policy.specs.Journal.{Journal}
+use Rattle.fab_policy.specs.Standing.{Contents, Stands}
+use Rattle.fab_policy.specs.State.{tables_of}
+use Rattle.fab_replay.specs.Check.{Matter}
+use Rattle.fab_replay.specs.Showing.{shown_by}
+use Rattle.fabric_tool.specs.Checking.{Finds, IsStanding, IsLegalJournal, IsShownJournal, IsChecked, CheckHolds, ReplayHolds, ShowHolds, GivenRead, GivenEnds, Tells, room_for}
+use Rattle.fabric_tool.specs.Command.{RunNames, Replay, Show, are_ports, names_of, show_of, input_of, count_of}
+use Rattle.fabric_tool.specs.Inputs.{MOST_BYTES}
+use Rattle.fabric_tool.specs.declared.command.Width.{Width}
+use Rattle.fabric_tool.specs.declared.command.Width.TheVariants as widths
+use Rattle.fabric_tool.specs.declared.outcome.Outcome.{Outcome}
+use Rattle.fabric_tool.specs.declared.outcome.Outcome.TheVariants as ends
+use Rattle.fabric_tool.proofs.CheckLemmas.{ins_named, rose_given}
+use Rattle.fabric_tool.proofs.NameLemmas.{ports, length-counted}
+
+-- ---- before the check
+
+long_journal : (n length_ count : ℕ) → count ≤ 64 → n ≡ count → MOST_BYTES - HEAD * count < length_ → MOST_BYTES < length_ + HEAD * n
+long_journal n length_ count few is above = omega arith
+
+-- the configuration or the journal can't be read
+pub given_ended : (w : Width) (words : List (String Global)) → are_ports w words ≡ true → (a z : Seen) (x : Outcome) → GivenRead (names_of w words) (room_for w words) a z (Err x) → IsChecked w (names_of w words) a z (Err x)
+given_ended w words run a z x r = go x r.ended
+  where
+    same : SameFiles a z
+    same m = r.touches.files m (λ y. y)
+
+    names_count : length (names_of w words).ins ≡ count_of w words
+    names_count = ap (λ (l : List (List ℕ)). length l) (ins_named w words) ∙ length-counted (input_of w words) 0 (count_of w words)
+
+    go : (x : Outcome) → GivenEnds (names_of w words) (room_for w words) a z x → IsChecked w (names_of w words) a z (Err x)
+    go (ends.Config fault) e = (same, λ told. e told)
+    go (ends.Limit kind) e = (
+      same,
+      λ told.
+          let l = e.1 told in
+          inl (e.0, record { settings = l.0; config = l.1; journal = l.2; lines = l.3; above = long_journal (length (names_of w words).ins) (length l.2) (count_of w words) (ports w words run).few names_count l.4 }),
+    )
+    go ends.ReadFault e = (same, rose_given w words a z e)
+    go ends.Memory e = same
+    go x e = absurd e
+
+-- ---- behind it
+
+-- the files of a command are so of another property that follows
+finds_on : (k : RunNames) (d : Seen) (P Q : Settings → Budget → Matter → Type 0) → ((c : Settings) (b : Budget) (m : Matter) → P c b m → Q c b m) → Finds k d P → Finds k d Q
+finds_on k d P Q on f = record { settings = f.settings; opened = f.opened; journal = f.journal; matter = f.matter; says = on _ _ _ f.says }
+
+pub replay_done : (k : RunNames) (a z : Seen) (F : Contents) (entries : ℕ) → IsChecked widths.Two k a z (Ok (F, entries)) → ReplayHolds k a z (ends.Legal entries)
+replay_done k a z F entries h = (h.0, λ told. finds_on k a (IsStanding F entries) (IsLegalJournal entries) (λ c b m s. record { entry_list = s.entry_list; names = s.names; outputs = s.outputs; count = s.count }) (h.1 told))
+
+pub replay_refused : (k : RunNames) (a z : Seen) (o : Outcome) → IsChecked widths.Two k a z (Err o) → ReplayHolds k a z o
+replay_refused k a z o h = go o h
+  where
+    go : (o : Outcome) → CheckHolds (Replay k) k a z o → ReplayHolds k a z o
+    go (ends.WrongLine line why) h = h
+    go (ends.WrongOutput port at) h = h
+    go (ends.Config fault) h = h
+    go (ends.Capture port at why) h = h
+    go (ends.Limit kind) h = h
+    go ends.ReadFault h = h
+    go ends.Memory h = h
+    go o h = absurd h
+
+-- what was written of a fabric into an empty text is what is told of it
+pub told_text : (F : Contents) (entries : ℕ) (text written before : List ℕ) → text ≡ written → ((J : Journal) → Stands F J → written ≡ before ++ shown_by entries (tables_of F.settings J)) → before ≡ [] → Tells F entries (ends.Shown text)
+told_text F entries text written before is made none = λ J stands. is ∙ made J stands ∙ ap (λ (l : List ℕ). l ++ shown_by entries (tables_of F.settings J)) none
+
+-- what is told of the fabric is what is shown of the journal
+shown_of : (F : Contents) (entries : ℕ) (text : List ℕ) (c : Settings) (b : Budget) (m : Matter) → Tells F entries (ends.Shown text) → IsStanding F entries c b m → IsShownJournal text c b m
+shown_of F entries text c b m tells s = record {
+  entry_list = s.entry_list;
+  names = s.names;
+  told = tells s.entry_list s.stands ∙ ap (λ (n : ℕ). shown_by n (tables_of F.settings s.entry_list)) s.count ∙ ap (λ (x : Settings). shown_by (length s.entry_list) (tables_of x s.entry_list)) s.settings;
+}
+
+pub show_done : (k : RunNames) (a z : Seen) (F : Contents) (entries : ℕ) (o : Outcome) → IsChecked widths.One k a z (Ok (F, entries)) → Tells F entries o → ShowHolds k a z o
+show_done k a z F entries (ends.Shown text) h tells = (h.0, λ told. finds_on k a (IsStanding F entries) (IsShownJournal text) (λ c b m s. shown_of F entries text c b m tells s) (h.1 told))
+show_done k a z F entries ends.Memory h tells = h.0
+show_done k a z F entries o h tells = absurd tells
+
+pub show_refused : (words : List (String Global)) (a z : Seen) (o : Outcome) → IsChecked widths.One (show_of words) a z (Err o) → ShowHolds (show_of words) a z o
+show_refused words a z o h = go o h
+  where
+    go : (o : Outcome) → CheckHolds (Show (show_of words)) (show_of words) a z o → ShowHolds (show_of words) a z o
+    go (ends.WrongLine line why) h = h
+    go (ends.WrongOutput port at) h = (h.0, λ told. let first = (h.1 told).says.first in absurd (omega (arith, first.2)))
+    go (ends.Config fault) h = h
+    go (ends.Capture port at why) h = h
+    go (ends.Limit kind) h = h
+    go ends.ReadFault h = h
+    go ends.Memory h = h
+    go o h = absurd h

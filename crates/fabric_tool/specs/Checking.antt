@@ -1,0 +1,205 @@
+-- What `replay` and `show` find: a journal, and outputs, checked against captures.
+use Rattle.std.specs.Prelude.{◌≡◌, ℕ, ◌+◌, ◌-◌, ◌*◌, ◌≤◌, ◌<◌, ◌⊎◌, IsTrue, List, [], ◌∷◌, length, get_or, Some, Ok, Err, Result, IfOk, IfErr, OnErr, Vec, String}
+use Rattle.std.specs.declared.alloc.Global.{Global}
+use Rattle.fab_base.specs.Seen.{Seen, SameFiles, Reads, Touches, Nothing, Rose, bytes_of}
+use Rattle.fab_base.specs.declared.values.Failed.{Failed}
+use Rattle.fab_config.specs.Settings.{Settings}
+use Rattle.pcap_file.specs.Capture.{HEAD}
+use Rattle.pcap_file.specs.declared.Budget.{Budget}
+use Rattle.fab_policy.specs.Journal.{Journal}
+use Rattle.fab_policy.specs.Looks.{Opened, all_records}
+use Rattle.fab_policy.specs.Standing.{Contents, Stands}
+use Rattle.fab_policy.specs.State.{tables_of}
+use Rattle.fab_gather.specs.declared.fault.LimitKind.TheVariants as kinds
+use Rattle.fab_gather.specs.declared.fault.RunFault.TheVariants as faults
+use Rattle.fab_migrate.specs.declared.old.OldError.{OldError}
+use Rattle.fab_migrate.specs.declared.old.OldError.TheVariants as olds
+use Rattle.fab_replay.specs.Check.{Matter, NamesRun, IsFirstOutput, IsFirstStop}
+use Rattle.fab_replay.specs.Exact.{AreSent}
+use Rattle.fab_replay.specs.Front.{IsFirstWrong}
+use Rattle.fab_replay.specs.Showing.{shown, shown_by}
+use Rattle.fab_replay.specs.declared.fault.CheckFault.{CheckFault}
+use Rattle.fab_replay.specs.declared.fault.CheckFault.TheVariants as checks
+use Rattle.fabric_tool.specs.Command.{RunNames, Command, Replay, Show, AnyRose, Among, ReadRose, count_of}
+use Rattle.fabric_tool.specs.declared.command.Width.{Width}
+use Rattle.fabric_tool.specs.declared.command.Width.TheVariants as widths
+use Rattle.fabric_tool.specs.Inputs.{HasConfig, HasFault, HasInputs, HasBadHead, MOST_BYTES, MOST_FRAMES}
+use Rattle.fabric_tool.specs.declared.outcome.Outcome.{Outcome}
+use Rattle.fabric_tool.specs.declared.outcome.Outcome.TheVariants as ends
+
+-- ---- what is checked
+
+-- What the limits leave for the captures behind their heads: the bytes of the journal and of all captures are within one.
+abbrev pub budget_of : List ℕ → ℕ → Budget
+budget_of journal ports = record { bytes = MOST_BYTES - length journal - HEAD * ports; frames = MOST_FRAMES }
+
+-- the bytes of an output, by its port counted from 0
+abbrev pub output_in : RunNames → Seen → ℕ → List ℕ
+output_in k d q = bytes_of (d.file (get_or k.outs q []))
+
+abbrev pub matter_of : RunNames → Seen → List Opened → List ℕ → Matter
+matter_of k d opened journal = record { ins = opened; journal = journal; outputs = length k.outs; found = output_in k d }
+
+-- The configuration has a value, each capture a head, and the journal and the heads are within the limit on bytes.
+pub record HasMatter (k : RunNames) (d : Seen) (c : Settings) (opened : List Opened) (journal : List ℕ) : Type 0 where
+  pub inputs : HasInputs k d c opened
+  pub lines : d.file k.journal ≡ Some journal
+  pub within : length journal + HEAD * length k.ins ≤ MOST_BYTES
+
+-- the files of a command are such, and this holds of them
+pub record Finds (k : RunNames) (d : Seen) (P : Settings → Budget → Matter → Type 0) : Type 0 where
+  pub settings : Settings
+  pub opened : List Opened
+  pub journal : List ℕ
+  pub matter : HasMatter k d settings opened journal
+  pub says : P settings (budget_of journal (length k.ins)) (matter_of k d opened journal)
+
+-- The journal names a run over whole captures, with so many entries, and each output is the capture of what it sends.
+pub record IsLegalJournal (entries : ℕ) (c : Settings) (budget : Budget) (m : Matter) : Type 0 where
+  pub entry_list : Journal
+  pub names : NamesRun c budget m entry_list
+  pub outputs : AreSent c m entry_list
+  pub count : entries ≡ length entry_list
+
+-- The journal, and 24 bytes for the head of each capture, pass the limit on bytes.
+pub record IsLongJournal (k : RunNames) (d : Seen) : Type 0 where
+  pub settings : Settings
+  pub config : HasConfig d k.config settings
+  pub journal : List ℕ
+  pub lines : d.file k.journal ≡ Some journal
+  pub above : MOST_BYTES < length journal + HEAD * length k.ins
+
+-- The journal names a run over whole captures, and this is what is shown of it.
+pub record IsShownJournal (text : List ℕ) (c : Settings) (budget : Budget) (m : Matter) : Type 0 where
+  pub entry_list : Journal
+  pub names : NamesRun c budget m entry_list
+  pub told : text ≡ shown c entry_list
+
+-- ---- how `replay` and `show` end
+
+-- what the files say where one of them ends so
+abbrev pub CheckSays : RunNames → Seen → Outcome → Type 0
+CheckSays k d (ends.Legal entries) = Finds k d (IsLegalJournal entries)
+CheckSays k d (ends.Shown text) = Finds k d (IsShownJournal text)
+CheckSays k d (ends.WrongLine line why) = Finds k d (λ c budget m. IsFirstWrong c (all_records m.ins) m.journal line why)
+CheckSays k d (ends.WrongOutput port at) = Finds k d (λ c budget m. IsFirstOutput c budget m port at)
+CheckSays k d (ends.Config fault) = HasFault d k.config fault
+CheckSays k d (ends.Capture port at why) = ((at ≡ 0) × HasBadHead k d port why) ⊎ Finds k d (λ c budget m. IsFirstStop c budget m (faults.Capture port at why))
+CheckSays k d (ends.Limit kind) = ((kind ≡ kinds.Bytes) × IsLongJournal k d) ⊎ Finds k d (λ c budget m. IsFirstStop c budget m (faults.Limit kind))
+CheckSays k d _ = ⊥
+
+-- what holds where one of them doesn't end with status 0: no file has changed
+abbrev pub CheckHolds : Command → RunNames → Seen → Seen → Outcome → Type 0
+CheckHolds command k old new (ends.WrongLine line why) = SameFiles old new × (IsTrue old.told → CheckSays k old (ends.WrongLine line why))
+CheckHolds command k old new (ends.WrongOutput port at) = SameFiles old new × (IsTrue old.told → CheckSays k old (ends.WrongOutput port at))
+CheckHolds command k old new (ends.Config fault) = SameFiles old new × (IsTrue old.told → CheckSays k old (ends.Config fault))
+CheckHolds command k old new (ends.Capture port at why) = SameFiles old new × (IsTrue old.told → CheckSays k old (ends.Capture port at why))
+CheckHolds command k old new (ends.Limit kind) = SameFiles old new × (IsTrue old.told → CheckSays k old (ends.Limit kind))
+CheckHolds command k old new ends.ReadFault = SameFiles old new × ReadRose command old new
+CheckHolds command k old new ends.Memory = SameFiles old new
+CheckHolds command k old new _ = ⊥
+
+-- What holds where `replay` ends so: no file has changed.
+abbrev pub ReplayHolds : RunNames → Seen → Seen → Outcome → Type 0
+ReplayHolds k old new (ends.Legal entries) = SameFiles old new × (IsTrue old.told → CheckSays k old (ends.Legal entries))
+ReplayHolds k old new o = CheckHolds (Replay k) k old new o
+
+-- The same of `show`, which has no outputs.
+abbrev pub ShowHolds : RunNames → Seen → Seen → Outcome → Type 0
+ShowHolds k old new (ends.Shown text) = SameFiles old new × (IsTrue old.told → CheckSays k old (ends.Shown text))
+ShowHolds k old new (ends.WrongOutput port at) = SameFiles old new × (IsTrue old.told → ⊥)
+ShowHolds k old new o = CheckHolds (Show k) k old new o
+
+-- ---- words of private contracts
+
+-- what a fault of a check ends the command with
+abbrev pub refused_by : CheckFault → Outcome
+refused_by (checks.Line line why) = ends.WrongLine line why
+refused_by (checks.Output port at) = ends.WrongOutput port at
+refused_by (checks.Capture port at why) = ends.Capture port at why
+refused_by (checks.Limit kind) = ends.Limit kind
+refused_by checks.Read = ends.ReadFault
+refused_by checks.Memory = ends.Memory
+
+-- what an error of reading a journal whole ends the command with; it has no fault at a line
+abbrev pub unread_by : OldError → Outcome
+unread_by (olds.Fault line why) = ends.ReadFault
+unread_by olds.Bytes = ends.Limit kinds.Bytes
+unread_by (olds.Read failed) = ends.ReadFault
+unread_by olds.Memory = ends.Memory
+
+-- what an outcome says of reading a journal
+abbrev pub JournalEnds : List ℕ → ℕ → Seen → Seen → Outcome → Type 0
+JournalEnds name limit old new (ends.Limit kind) = (kind ≡ kinds.Bytes) × (IsTrue old.told → (l : List ℕ) × (old.file name ≡ Some l) × (limit < length l))
+JournalEnds name limit old new ends.ReadFault = Rose (old.read_faults name) (new.read_faults name)
+JournalEnds name limit old new ends.Memory = Unit {0}
+JournalEnds name limit old new _ = ⊥
+
+-- a journal under a name, within a limit of bytes
+pub record JournalRead (name : List ℕ) (limit : ℕ) (old new : Seen) (result : Result (Vec ℕ Global) Outcome) : Type 0 where
+  pub reads : Reads name old new
+  pub ok : IsTrue old.told → IfOk result (λ v. old.file name ≡ Some v.items)
+  pub within : IfOk result (λ v. length v.items ≤ limit)
+  pub ended : IfErr result (JournalEnds name limit old new)
+
+-- slots that are open inputs of these names, of which nothing is given yet
+abbrev pub AreOpenInputs : Seen → Seen → List (List ℕ) → List ℕ → Type 0
+AreOpenInputs old d [] [] = Unit {0}
+AreOpenInputs old d [] (s ∷ slots) = ⊥
+AreOpenInputs old d (name ∷ names) [] = ⊥
+AreOpenInputs old d (name ∷ names) (s ∷ slots) = (IsTrue (d.input s) × (d.name s ≡ name) × (IsTrue old.told → old.file name ≡ Some (d.left s))) × AreOpenInputs old d names slots
+
+-- the outputs of `replay`, opened to be read
+pub record OutputsRead {T : Type 0} (items : T → List ℕ) (k : RunNames) (old new : Seen) (result : Result T Failed) : Type 0 where
+  pub touches : Touches Nothing (Among k.outs) old new
+  pub slots : IfOk result (λ o. AreOpenInputs old new k.outs (items o))
+  pub cause : OnErr result (AnyRose old.read_faults new.read_faults k.outs)
+
+-- how many bytes a journal may have
+abbrev pub room_for : Width → List (String Global) → ℕ
+room_for width words = MOST_BYTES - HEAD * count_of width words
+
+-- what an outcome says of reading the configuration and the journal
+abbrev pub GivenEnds : RunNames → ℕ → Seen → Seen → Outcome → Type 0
+GivenEnds k room old new (ends.Config fault) = IsTrue old.told → HasFault old k.config fault
+GivenEnds k room old new (ends.Limit kind) = (kind ≡ kinds.Bytes) × (IsTrue old.told → (c : Settings) × HasConfig old k.config c × (l : List ℕ) × (old.file k.journal ≡ Some l) × (room < length l))
+GivenEnds k room old new ends.ReadFault = AnyRose old.read_faults new.read_faults (k.config ∷ k.journal ∷ [])
+GivenEnds k room old new ends.Memory = Unit {0}
+GivenEnds k room old new _ = ⊥
+
+-- what stands when both were read
+pub record HasGiven (k : RunNames) (c : Settings) (journal : List ℕ) (old now : Seen) : Type 0 where
+  pub touches : Touches Nothing (Among (k.config ∷ k.journal ∷ [])) old now
+  pub config : IsTrue old.told → HasConfig old k.config c
+  pub lines : IsTrue old.told → old.file k.journal ≡ Some journal
+
+pub record GivenRead (k : RunNames) (room : ℕ) (old new : Seen) (result : Result (Settings × Vec ℕ Global) Outcome) : Type 0 where
+  pub touches : Touches Nothing (Among (k.config ∷ k.journal ∷ [])) old new
+  pub given : IfOk result (λ g. HasGiven k g.0 g.1.items old new)
+  pub within : IfOk result (λ g. length g.1.items ≤ room)
+  pub ended : IfErr result (GivenEnds k room old new)
+
+-- the command by how many names a port has
+abbrev pub command_of : Width → RunNames → Command
+command_of widths.One k = Show k
+command_of widths.Two k = Replay k
+
+-- The journal and the outputs are those of a run, with so many entries, and a fabric stands for it.
+pub record IsStanding (F : Contents) (entries : ℕ) (c : Settings) (budget : Budget) (m : Matter) : Type 0 where
+  pub entry_list : Journal
+  pub names : NamesRun c budget m entry_list
+  pub outputs : AreSent c m entry_list
+  pub count : entries ≡ length entry_list
+  pub stands : Stands F entry_list
+  pub settings : F.settings ≡ c
+
+-- how a check ends
+abbrev pub IsChecked : Width → RunNames → Seen → Seen → Result (Contents × ℕ) Outcome → Type 0
+IsChecked width k old new (Ok (F, entries)) = SameFiles old new × (IsTrue old.told → Finds k old (IsStanding F entries))
+IsChecked width k old new (Err outcome) = CheckHolds (command_of width k) k old new outcome
+
+-- what is told of a fabric that stands for a journal, or want of memory
+abbrev pub Tells : Contents → ℕ → Outcome → Type 0
+Tells F entries (ends.Shown text) = (J : Journal) → Stands F J → text ≡ shown_by entries (tables_of F.settings J)
+Tells F entries ends.Memory = Unit {0}
+Tells F entries _ = ⊥

@@ -1,0 +1,216 @@
+-- The command that words are.
+use Rattle.std.specs.Prelude.{◌≡◌, ℕ, ◌+◌, ◌-◌, ◌*◌, ◌/◌, ◌%◌, ◌^◌, ◌<◌, ◌⊎◌, Bool, true, false, not, ◌==◌, nat_lt, nat_le, ◌&&◌, if◌then◌else◌, IsTrue, List, [], ◌∷◌, ◌++◌, length, map, drop, Option, Some, None, is_some, unwrap_or, option_map, codes, decimal, String}
+use Rattle.std.specs.List.{list_any}
+use Rattle.std.specs.Str.{bytes_eq}
+use Rattle.std.specs.Str.Parse.{digits_value}
+use Rattle.std.specs.String.{string_bytes}
+use Rattle.std.specs.declared.alloc.Global.{Global}
+use Rattle.fab_base.specs.Places.{name_at}
+use Rattle.fab_base.specs.Seen.{Seen, Rose}
+use Rattle.fab_policy.specs.Logins.{counting}
+use Rattle.fabric_tool.specs.declared.command.Form.{Form}
+use Rattle.fabric_tool.specs.declared.command.Form.TheVariants as forms
+use Rattle.fabric_tool.specs.declared.command.Width.{Width}
+use Rattle.fabric_tool.specs.declared.command.Width.TheVariants as widths
+
+-- `run CONFIG JOURNAL IN OUT [IN OUT ..]`, the same of `replay`, and of `show` with no outputs: the names of the configuration, of the journal, and of the captures of each port
+pub record RunNames : Type 0 where
+  pub config : List ℕ
+  pub journal : List ℕ
+  pub ins : List (List ℕ)
+  pub outs : List (List ℕ)
+
+-- `convert IN OUT` and `migrate OLD NEW`: the names of the file that is read and of the one that is written
+pub record PairNames : Type 0 where
+  pub from : List ℕ
+  pub to : List ℕ
+
+-- `make NUMBER CONFIG IN1 .. IN8`: the number, and the names of the nine files, in their order
+pub record MakeNames : Type 0 where
+  pub number : ℕ
+  pub files : List (List ℕ)
+
+-- a command with its names; `--help` and `--version` have none
+pub data Command : Type 0 where
+  Run : (names : RunNames) → Command
+  Replay : (names : RunNames) → Command
+  Show : (names : RunNames) → Command
+  Convert : (names : PairNames) → Command
+  Migrate : (names : PairNames) → Command
+  Make : (names : MakeNames) → Command
+  Help : Command
+  Version : Command
+
+-- the words from a place on
+abbrev pub names_from : ℕ → List (String Global) → List (List ℕ)
+names_from place words = map (λ w. string_bytes w) (drop place words)
+
+-- no name is empty, and none is used twice
+abbrev pub are_names : List (List ℕ) → Bool
+are_names [] = true
+are_names (n ∷ names) = nat_lt 0 (length n) && not (list_any (λ m. bytes_eq n m) names) && are_names names
+
+-- 1 to 64 pairs of names behind the first three words
+abbrev pub has_pairs : List (String Global) → Bool
+has_pairs words = nat_le 5 (length words) && nat_le (length words) 131 && length words % 2 == 1
+
+abbrev pub are_pairs : List (String Global) → Bool
+are_pairs words = has_pairs words && are_names (names_from 1 words)
+
+-- the same, of which this is the first word
+abbrev pub is_over : List ℕ → List (String Global) → Bool
+is_over word words = are_pairs words && bytes_eq (name_at words 0) word
+
+-- 1 to 64 names behind the first three words
+abbrev pub are_singles : List (String Global) → Bool
+are_singles words = nat_le 4 (length words) && nat_le (length words) 67 && are_names (names_from 1 words)
+
+-- the same, of which this is the first word
+abbrev pub is_over_singles : List ℕ → List (String Global) → Bool
+is_over_singles word words = are_singles words && bytes_eq (name_at words 0) word
+
+-- so many names for each port
+abbrev pub are_ports : Width → List (String Global) → Bool
+are_ports widths.One words = are_singles words
+are_ports widths.Two words = are_pairs words
+
+-- two names behind this word
+abbrev pub is_pair : List ℕ → List (String Global) → Bool
+is_pair word words = length words == 3 && bytes_eq (name_at words 0) word && are_names (names_from 1 words)
+
+-- the number below 2 ^ 64 whose decimal text a word is, or none
+abbrev pub number_of : List ℕ → Option ℕ
+number_of word = let n = digits_value 10 word in if bytes_eq word (decimal n) && nat_lt n (2 ^ 64) then Some n else None
+
+-- `make`, a number, and nine names
+abbrev pub is_make : List (String Global) → Bool
+is_make words = length words == 11 && bytes_eq (name_at words 0) (codes "make") && is_some (number_of (name_at words 1)) && are_names (names_from 2 words)
+
+-- this word alone
+abbrev pub is_word : List ℕ → List (String Global) → Bool
+is_word word words = length words == 1 && bytes_eq (name_at words 0) word
+
+-- the form of words, or none
+abbrev pub form_of : List (String Global) → Option Form
+form_of words =
+    if is_over (codes "run") words then Some forms.Run
+    else if is_over (codes "replay") words then Some forms.Replay
+    else if is_over_singles (codes "show") words then Some forms.Show
+    else if is_pair (codes "convert") words then Some forms.Convert
+    else if is_pair (codes "migrate") words then Some forms.Migrate
+    else if is_make words then Some forms.Make
+    else if is_word (codes "--help") words then Some forms.Help
+    else if is_word (codes "--version") words then Some forms.Version
+    else None
+
+abbrev pub port_count : List (String Global) → ℕ
+port_count words = (length words - 3) / 2
+
+-- the input and the output of a port, which is counted from 0
+abbrev pub input_at : List (String Global) → ℕ → List ℕ
+input_at words port = name_at words (2 * port + 3)
+
+abbrev pub output_at : List (String Global) → ℕ → List ℕ
+output_at words port = name_at words (2 * port + 4)
+
+abbrev pub run_of : List (String Global) → RunNames
+run_of words = record {
+  config = name_at words 1;
+  journal = name_at words 2;
+  ins = map (input_at words) (counting 0 (port_count words));
+  outs = map (output_at words) (counting 0 (port_count words));
+}
+
+-- the same by how many names a port has
+abbrev pub count_of : Width → List (String Global) → ℕ
+count_of widths.One words = length words - 3
+count_of widths.Two words = port_count words
+
+abbrev pub place_of : Width → ℕ → ℕ
+place_of widths.One port = port + 3
+place_of widths.Two port = 2 * port + 3
+
+abbrev pub input_of : Width → List (String Global) → ℕ → List ℕ
+input_of width words port = name_at words (place_of width port)
+
+abbrev pub ins_of : Width → List (String Global) → List (List ℕ)
+ins_of width words = map (input_of width words) (counting 0 (count_of width words))
+
+abbrev pub show_of : List (String Global) → RunNames
+show_of words = record { config = name_at words 1; journal = name_at words 2; ins = ins_of widths.One words; outs = [] }
+
+-- the names of `show` and of `replay`
+abbrev pub names_of : Width → List (String Global) → RunNames
+names_of widths.One words = show_of words
+names_of widths.Two words = run_of words
+
+abbrev pub pair_of : List (String Global) → PairNames
+pair_of words = record { from = name_at words 1; to = name_at words 2 }
+
+-- a file of a load, which is counted from 0
+abbrev pub file_at : List (String Global) → ℕ → List ℕ
+file_at words place = name_at words (place + 2)
+
+abbrev pub make_of : List (String Global) → MakeNames
+make_of words = record { number = unwrap_or (number_of (name_at words 1)) 0; files = map (file_at words) (counting 0 9) }
+
+-- the command that words of a form are
+abbrev pub named : List (String Global) → Form → Command
+named words forms.Run = Run (run_of words)
+named words forms.Replay = Replay (run_of words)
+named words forms.Show = Show (show_of words)
+named words forms.Convert = Convert (pair_of words)
+named words forms.Migrate = Migrate (pair_of words)
+named words forms.Make = Make (make_of words)
+named words forms.Help = Help
+named words forms.Version = Version
+
+-- the command that words are, or none
+unfoldable pub command : List (String Global) → Option Command
+command words = option_map (named words) (form_of words)
+
+-- what a command reads, and what it writes
+abbrev pub inputs : Command → List (List ℕ)
+inputs (Run k) = k.config ∷ k.ins
+inputs (Replay k) = k.config ∷ k.journal ∷ k.ins ++ k.outs
+inputs (Show k) = k.config ∷ k.journal ∷ k.ins
+inputs (Convert k) = k.from ∷ []
+inputs (Migrate k) = k.from ∷ []
+inputs (Make k) = []
+inputs Help = []
+inputs Version = []
+
+abbrev pub outputs : Command → List (List ℕ)
+outputs (Run k) = k.journal ∷ k.outs
+outputs (Replay k) = []
+outputs (Show k) = []
+outputs (Convert k) = k.to ∷ []
+outputs (Migrate k) = k.to ∷ []
+outputs (Make k) = k.files
+outputs Help = []
+outputs Version = []
+
+-- every word but the first is known
+abbrev pub AllKnown : Seen → List (String Global) → Type 0
+AllKnown d words = (i : ℕ) → 0 < i → i < length words → IsTrue (d.knows (name_at words i))
+
+-- one of these names
+abbrev pub Among : List (List ℕ) → List ℕ → Type 0
+Among [] m = ⊥
+Among (n ∷ names) m = (m ≡ n) ⊎ Among names m
+
+-- the count of one of these names rose
+abbrev pub AnyRose : (List ℕ → ℕ) → (List ℕ → ℕ) → List (List ℕ) → Type 0
+AnyRose before now [] = ⊥
+AnyRose before now (n ∷ names) = Rose (before n) (now n) ⊎ AnyRose before now names
+
+-- a fault of reading an input, and of writing an output, was counted
+abbrev pub ReadRose : Command → Seen → Seen → Type 0
+ReadRose k old new = AnyRose old.read_faults new.read_faults (inputs k)
+
+abbrev pub WriteRose : Command → Seen → Seen → Type 0
+WriteRose k old new = AnyRose old.write_faults new.write_faults (outputs k)
+
+-- no file changes but the outputs
+abbrev pub KeepsOthers : Command → Seen → Seen → Type 0
+KeepsOthers k old new = (m : List ℕ) → list_any (λ n. bytes_eq n m) (outputs k) ≡ false → new.file m ≡ old.file m

@@ -1,0 +1,115 @@
+-- What `run` leaves in its outputs.
+use Rattle.std.specs.Prelude.{◌≡◌, ℕ, ◌⊎◌, List, [], ◌∷◌, length, map, Some, None, true, false, IsTrue}
+use Rattle.fab_base.specs.Seen.{Seen}
+use Rattle.fab_base.specs.declared.values.Caught.{Caught}
+use Rattle.fab_config.specs.Settings.{Settings, is_in_range}
+use Rattle.fab_policy.specs.Forwarding.{is_data_frame, forwards, IsForwardedTo, IsDroppedBy}
+use Rattle.fab_policy.specs.Heard.{decoded, d_id}
+use Rattle.fab_policy.specs.Journal.{Journal, followed, frame_count}
+use Rattle.fab_policy.specs.Legal.{Legal}
+use Rattle.fab_policy.specs.Looks.{Opened, all_records}
+use Rattle.fab_policy.specs.Rules.{rule_for}
+use Rattle.fab_policy.specs.Sound.{IsGrantable, HaveDifferentMacs}
+use Rattle.fab_policy.specs.State.{Tables, tables_of, port_at, overdue, now_of}
+use Rattle.fab_policy.specs.Steps.{InPool}
+use Rattle.fab_policy.specs.Text.{text}
+use Rattle.fab_policy.specs.Written.{IsPrefixOf, HaveDifferentNames, before, egresses}
+use Rattle.fab_policy.specs.declared.event.Event.{Event}
+use Rattle.fab_policy.specs.declared.event.Event.TheVariants.{Frame}
+use Rattle.fab_policy.specs.declared.verdict.Verdict.{Verdict}
+use Rattle.fab_policy.specs.declared.verdict.Verdict.TheVariants.{Granted}
+use Rattle.fab_gather.specs.declared.fault.RunFault.{RunFault}
+use Rattle.fab_windows.specs.Run.{IsRunOver}
+use Rattle.fabric_tool.specs.Command.{RunNames}
+use Rattle.fabric_tool.specs.Inputs.{AreCaptures, HasInputs, StopsBy, stop_of, kept_of}
+
+-- ---- files
+
+-- the journal's file holds the text of this journal, and each output its capture
+pub record HoldsAll (k : RunNames) (c : Settings) (d : Seen) (J : Journal) : Type 0 where
+  pub lines : d.file k.journal ≡ Some (text J)
+  pub captures : map (λ n. d.file n) k.outs ≡ map (λ l. Some l) (egresses c (length k.outs) J)
+
+-- a file is as it was, or holds bytes with which these begin
+abbrev pub IsOldOrFront : Seen → Seen → List ℕ → List ℕ → Type 0
+IsOldOrFront old new name whole = (new.file name ≡ old.file name) ⊎ ((bytes : List ℕ) × (new.file name ≡ Some bytes) × IsPrefixOf bytes whole)
+
+abbrev pub AreOldOrFront : Seen → Seen → List (List ℕ) → List (List ℕ) → Type 0
+AreOldOrFront old new [] [] = Unit {0}
+AreOldOrFront old new [] (whole ∷ wholes) = ⊥
+AreOldOrFront old new (name ∷ names) [] = ⊥
+AreOldOrFront old new (name ∷ names) (whole ∷ wholes) = IsOldOrFront old new name whole × AreOldOrFront old new names wholes
+
+-- each output is as it was, or holds a front of the text of this journal or of its capture
+pub record HoldsFronts (k : RunNames) (c : Settings) (old new : Seen) (J : Journal) : Type 0 where
+  pub lines : IsOldOrFront old new k.journal (text J)
+  pub captures : AreOldOrFront old new k.outs (egresses c (length k.outs) J)
+
+-- ---- a safe journal
+
+-- Live addresses ascend, and so differ; and live N_Ports have different port names and different granted MACs.
+pub record AreDistinct (c : Settings) (T : Tables) : Type 0 where
+  pub addresses : InPool c T.ports
+  pub names : HaveDifferentNames T.ports
+  pub macs : HaveDifferentMacs c T.ports
+
+-- What holds of a journal wherever it stands: `I` is what it was before some of its entries.
+pub record IsSafe (c : Settings) (J : Journal) : Type 0 where
+  pub legal : Legal c J
+  -- addresses, names and MACs are distinct
+  pub distinct : (I : Journal) (later : List Event) → J ≡ followed I later → AreDistinct c (tables_of c I)
+  -- an address is granted where nobody holds it, or given back to its own name by a new FLOGI of its ENode
+  pub grants : (I : Journal) (later : List Event) (port index a : ℕ) (caught : Caught) → J ≡ followed I (Frame port index caught (Granted a) ∷ later) → IsGrantable c I port caught a
+  -- a data frame goes on exactly where its source MAC, its port, both logins and a zone allow it, and else is dropped by the
+  -- first rule of the table
+  pub data_frames : (I : Journal) (later : List Event) (port index : ℕ) (caught : Caught) (verdict : Verdict) → J ≡ followed I (Frame port index caught verdict ∷ later) → is_data_frame c caught ≡ true →
+      (forwards c (tables_of c I) port caught ≡ true → IsForwardedTo (port_at (d_id caught) (tables_of c I).ports) verdict)
+      × (forwards c (tables_of c I) port caught ≡ false → IsDroppedBy (rule_for c (tables_of c I) port caught (decoded caught)) verdict)
+  -- nobody who is logged in is past the silence limit at the clock
+  pub quiet : (I : Journal) (later : List Event) → J ≡ followed I later → overdue c (tables_of c I) (now_of (tables_of c I)) ≡ []
+
+-- Each legal journal of a configuration is safe.
+abbrev pub LegalIsSafe : Type 0
+LegalIsSafe = (c : Settings) (J : Journal) → IsTrue (is_in_range c) → Legal c J → IsSafe c J
+
+-- ---- how `run` ends
+
+-- The headline. Of the files as the call found them, the configuration has a value and each input is a capture; and one
+-- journal is a run over all their records, each port's frames once and in order, whose text and captures stand in the outputs.
+-- This journal is legal, with distinct addresses, data that goes on exactly where it may, and nobody past the silence limit.
+pub record HasRun (k : RunNames) (frames entries : ℕ) (old new : Seen) : Type 0 where
+  pub settings : Settings
+  pub opened : List Opened
+  pub inputs : HasInputs k old settings opened
+  pub captures : AreCaptures old k.ins (all_records opened)
+  pub none : stop_of settings opened ≡ None
+  pub journal : Journal
+  pub run : IsRunOver settings (all_records opened) journal
+  pub safe : IsSafe settings journal
+  pub files : HoldsAll k settings new journal
+  pub frames_are : frames ≡ frame_count journal
+  pub entries_are : entries ≡ length journal
+
+-- The reading of the captures stops by this fault, and the outputs hold a run over the records that are kept.
+pub record HasStopped (k : RunNames) (fault : RunFault) (old new : Seen) : Type 0 where
+  pub stops : StopsBy k old fault
+  pub journal : Journal
+  pub run : IsRunOver stops.settings (kept_of stops.settings stops.opened) journal
+  pub files : HoldsAll k stops.settings new journal
+
+-- The outputs are told by a run over the kept records of windows that start before some moment.
+pub record HasPart (k : RunNames) (old : Seen) (Files : Settings → Journal → Type 0) : Type 0 where
+  pub settings : Settings
+  pub opened : List Opened
+  pub inputs : HasInputs k old settings opened
+  pub moment : ℕ
+  pub journal : Journal
+  pub run : IsRunOver settings (before settings moment (kept_of settings opened)) journal
+  pub files : Files settings journal
+
+-- whole, or in part
+abbrev pub HasWholePart : RunNames → Seen → Seen → Type 0
+HasWholePart k old new = HasPart k old (λ c J. HoldsAll k c new J)
+
+abbrev pub HasFrontPart : RunNames → Seen → Seen → Type 0
+HasFrontPart k old new = HasPart k old (λ c J. HoldsFronts k c old new J)

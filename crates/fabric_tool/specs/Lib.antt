@@ -1,0 +1,12 @@
+pub mod Command
+pub mod Inputs
+pub mod Reading
+pub mod Opening
+pub mod Help
+pub mod Outcome
+pub mod Left
+pub mod Checking
+pub mod Load
+pub mod Ends
+pub mod Statuses
+pub mod Rechecking

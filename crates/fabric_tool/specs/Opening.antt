@@ -1,0 +1,49 @@
+-- What opening the outputs of `run` does.
+use Rattle.std.specs.Prelude.{◌≡◌, ℕ, ◌⊎◌, IsTrue, List, [], ◌∷◌, Some, Ok, Err, Result, IfOk, OnErr}
+use Rattle.fab_base.specs.Seen.{Seen, Touches}
+use Rattle.fab_base.specs.declared.values.Failed.{Failed}
+use Rattle.fab_gather.specs.declared.fault.RunFault.{RunFault}
+use Rattle.fab_gather.specs.declared.fault.RunFault.TheVariants as faults
+use Rattle.fab_windows.specs.declared.Done.{Done}
+use Rattle.fabric_tool.specs.Command.{RunNames, MakeNames, AnyRose, Among}
+use Rattle.fabric_tool.specs.declared.making.LoadFiles.{LoadFiles}
+use Rattle.fabric_tool.specs.declared.outcome.Outcome.{Outcome}
+use Rattle.fabric_tool.specs.declared.outcome.Outcome.TheVariants as ends
+use Rattle.fabric_tool.specs.declared.outputs.Outputs.{Outputs}
+
+-- slots that are open outputs of these names, whose files are empty
+abbrev pub AreEmptyOutputs : Seen → List (List ℕ) → List ℕ → Type 0
+AreEmptyOutputs d [] [] = Unit {0}
+AreEmptyOutputs d [] (s ∷ slots) = ⊥
+AreEmptyOutputs d (name ∷ names) [] = ⊥
+AreEmptyOutputs d (name ∷ names) (s ∷ slots) = (IsTrue (d.output s) × (d.name s ≡ name) × (IsTrue d.told → d.file name ≡ Some [])) × AreEmptyOutputs d names slots
+
+-- Outputs were opened: each is as it was, or empty.
+pub record Opens (names : List (List ℕ)) (old new : Seen) : Type 0 where
+  pub touches : Touches (Among names) (Among names) old new
+  pub each : IsTrue old.told → (m : List ℕ) → (new.file m ≡ old.file m) ⊎ (new.file m ≡ Some [])
+
+-- the outputs of `run`
+pub record OutputsOpened (k : RunNames) (old new : Seen) (result : Result Outputs Failed) : Type 0 where
+  pub opens : Opens (k.journal ∷ k.outs) old new
+  pub slots : IfOk result (λ o. AreEmptyOutputs new (k.journal ∷ k.outs) (o.journal ∷ o.outs.items))
+  pub cause : OnErr result (AnyRose old.write_faults new.write_faults (k.journal ∷ k.outs))
+
+-- the files of `make`
+pub record FilesOpened (k : MakeNames) (old new : Seen) (result : Result LoadFiles Failed) : Type 0 where
+  pub opens : Opens k.files old new
+  pub slots : IfOk result (λ o. AreEmptyOutputs new k.files o.slots.items)
+  pub cause : OnErr result (AnyRose old.write_faults new.write_faults k.files)
+
+-- what a fault of the windows ends `run` with
+abbrev pub stopped_by : RunFault → Outcome
+stopped_by (faults.Capture port at why) = ends.Capture port at why
+stopped_by (faults.Limit kind) = ends.Limit kind
+stopped_by faults.Read = ends.ReadFault
+stopped_by faults.Write = ends.WriteFault
+stopped_by faults.Memory = ends.Memory
+
+-- what their end does
+abbrev pub ran_by : Result Done RunFault → Outcome
+ran_by (Ok done) = ends.Ran done.frames done.entries
+ran_by (Err fault) = stopped_by fault

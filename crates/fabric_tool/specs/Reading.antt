@@ -1,0 +1,113 @@
+-- What reading an input answers.
+use Rattle.std.specs.Prelude.{◌≡◌, ℕ, ◌+◌, ◌*◌, ◌⊎◌, IsTrue, List, [], ◌∷◌, length, Ok, Err, Result, IfOk, IfErr, IsErrOf, Vec}
+use Rattle.std.specs.declared.alloc.Global.{Global}
+use Rattle.fab_base.specs.Seen.{Seen, Reads, Rose, Touches, Nothing}
+use Rattle.fab_config.specs.Settings.{Settings}
+use Rattle.fab_config.specs.Text.{decoded}
+use Rattle.fab_config.specs.declared.ConfigFault.{ConfigFault}
+use Rattle.pcap_file.specs.Capture.{HEAD}
+use Rattle.pcap_file.specs.declared.Budget.{Budget}
+use Rattle.pcap_file.specs.declared.CapOpen.{CapOpen}
+use Rattle.pcap_file.specs.declared.CapOpen.TheVariants as opens
+use Rattle.pcapng_file.specs.declared.fault.NgError.{NgError}
+use Rattle.pcapng_file.specs.declared.fault.NgError.TheVariants as ng
+use Rattle.fab_gather.specs.First.{IsFresh, opened_by}
+use Rattle.fab_gather.specs.declared.shelf.Input.{Input}
+use Rattle.fab_gather.specs.declared.fault.LimitKind.TheVariants as kinds
+use Rattle.fab_migrate.specs.declared.old.OldError.{OldError}
+use Rattle.fab_migrate.specs.declared.old.OldError.TheVariants as olds
+use Rattle.fabric_tool.specs.Command.{AnyRose, Among}
+use Rattle.fabric_tool.specs.Inputs.{HasConfig, HasFault, IsOpened, HasNoHead, IsFirstWithout, why_of}
+use Rattle.fabric_tool.specs.Outcome.{kind_of}
+use Rattle.fabric_tool.specs.declared.outcome.Outcome.{Outcome}
+use Rattle.fabric_tool.specs.declared.outcome.Outcome.TheVariants as ends
+
+-- ---- a configuration
+
+-- the outcomes of reading a configuration
+abbrev pub IsConfigEnd : Outcome → Type 0
+IsConfigEnd o = ((fault : ConfigFault) × (o ≡ ends.Config fault)) ⊎ ((o ≡ ends.ReadFault) ⊎ (o ≡ ends.Memory))
+
+-- a configuration that is left of a slot
+pub record TextRead (s : ℕ) (old new : Seen) (result : Result Settings Outcome) : Type 0 where
+  pub reads : Reads (old.name s) old new
+  pub ok : IsTrue old.told → IfOk result (λ c. decoded (old.left s) ≡ Ok c)
+  pub fault : IsTrue old.told → IfErr result (λ o. (f : ConfigFault) → o ≡ ends.Config f → decoded (old.left s) ≡ Err f)
+  pub cause : IsErrOf result ends.ReadFault → Rose (old.read_faults (old.name s)) (new.read_faults (old.name s))
+  pub only : IfErr result IsConfigEnd
+
+-- a configuration under a name
+pub record ConfigRead (name : List ℕ) (old new : Seen) (result : Result Settings Outcome) : Type 0 where
+  pub reads : Reads name old new
+  pub ok : IsTrue old.told → IfOk result (λ c. HasConfig old name c)
+  pub fault : IsTrue old.told → IfErr result (λ o. (f : ConfigFault) → o ≡ ends.Config f → HasFault old name f)
+  pub cause : IsErrOf result ends.ReadFault → Rose (old.read_faults name) (new.read_faults name)
+  pub only : IfErr result IsConfigEnd
+
+-- ---- the heads of captures
+
+-- what an error of opening a port's capture ends a command with
+abbrev pub unopened_by : CapOpen → ℕ → Outcome
+unopened_by (opens.Head fault) port = ends.Capture port 0 (why_of fault)
+unopened_by (opens.Read failed) port = ends.ReadFault
+unopened_by opens.Bytes port = ends.Limit kinds.Bytes
+
+-- an input under a name, of which the head was read and nothing else is given yet
+pub record IsHead (old d : Seen) (name : List ℕ) (i : Input) : Type 0 where
+  pub slot : IsTrue (d.input i.slot)
+  pub name_ : d.name i.slot ≡ name
+  pub fresh : IsFresh i.reader
+  pub opened : IsTrue old.told → IsOpened old name (opened_by d i.slot i.reader)
+
+-- what an outcome says of reading the head of a port's capture
+abbrev pub HeadEnds : ℕ → List ℕ → Seen → Seen → Outcome → Type 0
+HeadEnds port name old new (ends.Capture p at reason) = (p ≡ port) × (at ≡ 0) × (IsTrue old.told → HasNoHead old name reason)
+HeadEnds port name old new ends.ReadFault = Rose (old.read_faults name) (new.read_faults name)
+HeadEnds port name old new _ = ⊥
+
+-- the head of a port's capture
+pub record HeadRead (port : ℕ) (name : List ℕ) (old new : Seen) (had left : Budget) (result : Result Input Outcome) : Type 0 where
+  pub reads : Reads name old new
+  pub head : IfOk result (λ i. IsHead old new name i)
+  pub taken : IfOk result (λ i. (left.bytes + HEAD ≡ had.bytes) × (left.frames ≡ had.frames))
+  pub ended : IfErr result (HeadEnds port name old new)
+
+-- ---- the heads of all captures
+
+-- inputs under these names
+abbrev pub AreHeads : Seen → Seen → List (List ℕ) → List Input → Type 0
+AreHeads old d [] [] = Unit {0}
+AreHeads old d [] (i ∷ ins) = ⊥
+AreHeads old d (name ∷ names) [] = ⊥
+AreHeads old d (name ∷ names) (i ∷ ins) = IsHead old d name i × AreHeads old d names ins
+
+-- what an outcome says of reading them
+abbrev pub HeadsEnd : List (List ℕ) → Seen → Seen → Outcome → Type 0
+HeadsEnd names old new (ends.Capture port at reason) = (at ≡ 0) × (IsTrue old.told → IsFirstWithout names old port reason)
+HeadsEnd names old new ends.ReadFault = AnyRose old.read_faults new.read_faults names
+HeadsEnd names old new ends.Memory = Unit {0}
+HeadsEnd names old new _ = ⊥
+
+-- the heads of the captures under these names, in their order
+pub record HeadsRead (names : List (List ℕ)) (old new : Seen) (had left : Budget) (result : Result (Vec Input Global) Outcome) : Type 0 where
+  pub touches : Touches Nothing (Among names) old new
+  pub heads : IfOk result (λ v. AreHeads old new names v.items)
+  pub taken : IfOk result (λ v. (left.bytes + HEAD * length names ≡ had.bytes) × (left.frames ≡ had.frames))
+  pub ended : IfErr result (HeadsEnd names old new)
+
+-- ---- a pcapng file
+
+-- what an error of its reading ends a command with
+abbrev pub unconverted_by : NgError → Outcome
+unconverted_by (ng.Fault at fault) = ends.BadBlock at fault
+unconverted_by (ng.Limit limit) = ends.Limit (kind_of limit)
+unconverted_by (ng.Read failed) = ends.ReadFault
+unconverted_by ng.Memory = ends.Memory
+
+-- ---- a journal to migrate
+
+abbrev pub unmigrated_by : OldError → Outcome
+unmigrated_by (olds.Fault line fault) = ends.BadLine line fault
+unmigrated_by olds.Bytes = ends.Limit kinds.Bytes
+unmigrated_by (olds.Read failed) = ends.ReadFault
+unmigrated_by olds.Memory = ends.Memory

@@ -1,0 +1,27 @@
+//! The number of a load.
+ghost use Rattle.std.specs.Prelude.{◌≡◌, MatchBool};
+ghost use Rattle.fab_policy.specs.Private.LineWords.{IsShortest};
+ghost use Rattle.fabric_tool.specs.Command as spec;
+
+/// The number below 2^64 that a word spells in decimal digits, without a sign or a needless zero.
+pub(crate) fn number_of(word: &str) -> Option<u64>
+    ensures { result ≡ spec.number_of word.now }
+{
+    if !is_shortest(word.as_bytes()) {
+        return None;
+    }
+    match word.parse::<u64>() {
+        Ok(number) => Some(number),
+        Err(_) => None,
+    }
+}
+
+// No sign is there, and no needless zero.
+fn is_shortest(word: &[u8]) -> bool
+    ensures { MatchBool result (IsShortest word.now) (IsShortest word.now → ⊥) }
+{
+    if word.is_empty() || word[0] == b'+' {
+        return false;
+    }
+    word[0] != b'0' || word.len() == 1
+}

@@ -1,0 +1,45 @@
+//! The journal and the outputs, as they are opened.
+ghost use Rattle.std.specs.Prelude.{◌≡◌, ◌<◌, ◌++◌, ◌∷◌, [], true, length};
+ghost use Rattle.fabric_tool.specs.Command as spec;
+ghost use Rattle.fabric_tool.specs.Opening.{OutputsOpened};
+
+use crate::command::{MOST_PORTS, output_at, port_count};
+use arrayvec::ArrayVec;
+use fab_base::{Depot, Failed, word_at};
+
+/// The slots of the journal and of the outputs, by port.
+#[derive(Debug, Drop)]
+pub(crate) struct Outputs {
+    pub(crate) journal: u32,
+    pub(crate) outs: ArrayVec<u32, MOST_PORTS>,
+}
+
+/// Opens the journal and the outputs of all ports, in port order; they are empty then. It takes no
+/// memory, so that none is emptied where memory is refused.
+pub(crate) fn open_outputs<D: Depot>(depot: &mut D, words: &[String]) -> Result<Outputs, Failed>
+    requires run { spec.are_pairs words.now ≡ true }
+    requires known { spec.AllKnown (D.seen depot.old) words.now }
+    ensures opens { OutputsOpened (spec.run_of words.now) (D.seen depot.old) (D.seen depot.new)
+        result }
+{
+    let journal = match depot.open_out(word_at(words, 2)) {
+        Ok(slot) => slot,
+        Err(failed) => return Err(failed),
+    };
+    let mut outs = ArrayVec::new();
+    for port in 0..port_count(words) {
+        match depot.open_out(output_at(words, port)) {
+            Ok(slot) => keep(&mut outs, slot),
+            Err(failed) => return Err(failed),
+        }
+    }
+    Ok(Outputs { journal, outs })
+}
+
+/// One slot more, of at most 64.
+pub(crate) fn keep(outs: &mut ArrayVec<u32, MOST_PORTS>, slot: u32)
+    requires { length outs.old.items < 64 }
+    ensures { outs.new.items ≡ outs.old.items ++ slot ∷ [] }
+{
+    outs.push(slot);
+}

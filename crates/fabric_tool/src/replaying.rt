@@ -1,0 +1,246 @@
+//! The commands `replay` and `show`.
+ghost use Rattle.std.specs.Prelude.{◌≡◌, ◌≤◌, true, length, IsTrue};
+ghost use Rattle.fab_base.specs.Seen.{Seen};
+ghost use Rattle.fabric_tool.specs.Checking.{GivenRead, HasGiven, IsChecked, JournalRead};
+ghost use Rattle.fabric_tool.specs.Checking.{OutputsRead, ReplayHolds, ShowHolds, Tells};
+ghost use Rattle.fabric_tool.specs.Checking.{refused_by, room_for, unread_by};
+ghost use Rattle.fabric_tool.specs.Command as spec;
+
+use crate::command::{MOST_PORTS, Width, count_of, output_at, port_count};
+use crate::heads::heads_of;
+use crate::inputs::config_of;
+use crate::limits::{MOST_BYTES, MOST_FRAMES};
+use crate::outcome::Outcome;
+use crate::outputs::keep;
+use crate::running::in_range;
+use arrayvec::ArrayVec;
+use fab_base::{Bytes, Depot, Failed, word_at};
+use fab_config::Config;
+use fab_migrate::{OldError, read_whole};
+use fab_replay::{CheckFault, check_captures, write_shown};
+use fab_windows::LimitKind;
+use forward_core::Fabric;
+use pcap_file::Budget;
+use std::alloc::Global;
+
+/// How many bytes the head of a capture has.
+const HEAD: u64 = 24;
+
+/// Checks a journal against the captures of all ports, and then the outputs.
+pub(crate) fn replay<D: Depot>(alloc: Global, words: &[String], depot: &mut D) -> Outcome
+    requires pairs { spec.are_pairs words.now ≡ true }
+    requires known { spec.AllKnown (D.seen depot.old) words.now }
+    ensures holds { ReplayHolds (spec.run_of words.now) (D.seen depot.old) (D.seen depot.new)
+        result }
+{
+    match checked(alloc, words, depot, Width::Two) {
+        Ok((_, entries)) => Outcome::Legal { entries },
+        Err(outcome) => outcome,
+    }
+}
+
+/// Checks a journal against the captures of all ports, and tells what stands at its end.
+pub(crate) fn show<D: Depot>(alloc: Global, words: &[String], depot: &mut D) -> Outcome
+    requires singles { spec.are_singles words.now ≡ true }
+    requires known { spec.AllKnown (D.seen depot.old) words.now }
+    ensures holds { ShowHolds (spec.show_of words.now) (D.seen depot.old) (D.seen depot.new)
+        result }
+{
+    match checked(alloc, words, depot, Width::One) {
+        Ok((fabric, entries)) => told(alloc, &fabric, entries),
+        Err(outcome) => outcome,
+    }
+}
+
+// What is told of a fabric after so many entries.
+fn told(alloc: Global, fabric: &Fabric, entries: u64) -> Outcome
+    ensures tells { Tells fabric.now entries result }
+{
+    let mut text = Vec::new(alloc);
+    match write_shown(alloc, fabric, entries, &mut text) {
+        Ok(()) => Outcome::Shown {
+            text: Bytes::from_vec(text),
+        },
+        Err(_) => Outcome::Memory,
+    }
+}
+
+// Checks the journal, and answers the fabric that stands for it with the number of its entries.
+fn checked<D: Depot>(
+    alloc: Global,
+    words: &[String],
+    depot: &mut D,
+    width: Width,
+) -> Result<(Fabric, u64), Outcome>
+    requires ports { spec.are_ports width words.now ≡ true }
+    requires known { spec.AllKnown (D.seen depot.old) words.now }
+    ensures checks { IsChecked width (spec.names_of width words.now) (D.seen depot.old)
+        (D.seen depot.new) result }
+{
+    let (config, journal) = match given(alloc, depot, words, width) {
+        Ok(given) => given,
+        Err(outcome) => return Err(outcome),
+    };
+    check(alloc, words, depot, width, config, &journal)
+}
+
+// The configuration, and behind it the journal, which is read whole. Its bytes and those of the
+// captures are within one limit.
+fn given<D: Depot>(
+    alloc: Global,
+    depot: &mut D,
+    words: &[String],
+    width: Width,
+) -> Result<(Config, Vec<u8>), Outcome>
+    requires ports { spec.are_ports width words.now ≡ true }
+    requires known { spec.AllKnown (D.seen depot.old) words.now }
+    ensures reads { GivenRead (spec.names_of width words.now) (room_for width words.now)
+        (D.seen depot.old) (D.seen depot.new) result }
+{
+    let config = match config_of(alloc, depot, word_at(words, 1)) {
+        Ok(config) => config,
+        Err(outcome) => return Err(outcome),
+    };
+    let room = MOST_BYTES - HEAD * count_of(words, width) as u64;
+    match journal_of(alloc, depot, word_at(words, 2), room) {
+        Ok(journal) => Ok((config, journal)),
+        Err(outcome) => Err(outcome),
+    }
+}
+
+// Checks a journal that was read.
+fn check<D: Depot>(
+    alloc: Global,
+    words: &[String],
+    depot: &mut D,
+    width: Width,
+    config: Config,
+    journal: &[u8],
+) -> Result<(Fabric, u64), Outcome>
+    requires ports { spec.are_ports width words.now ≡ true }
+    requires known { spec.AllKnown (D.seen depot.old) words.now }
+    requires room { length journal.now ≤ room_for width words.now }
+    ensures checks { (a : Seen) → HasGiven (spec.names_of width words.now) config journal.now a
+        (D.seen depot.old) → IsChecked width (spec.names_of width words.now) a (D.seen depot.new)
+        result }
+{
+    let mut budget = Budget {
+        bytes: MOST_BYTES - journal.len() as u64,
+        frames: MOST_FRAMES,
+    };
+    let mut ins = match heads_of(alloc, depot, words, width, &mut budget) {
+        Ok(ins) => ins,
+        Err(outcome) => return Err(outcome),
+    };
+    let outs = match outs_of(depot, words, width) {
+        Ok(outs) => outs,
+        Err(_) => return Err(Outcome::ReadFault),
+    };
+    in_range(&config);
+    let Ok(mut fabric) = Fabric::new(alloc, config, count_of(words, width) as u32) else {
+        return Err(Outcome::Memory);
+    };
+    match check_captures(
+        alloc,
+        depot,
+        &mut fabric,
+        journal,
+        &mut ins,
+        outs.as_slice(),
+        &mut budget,
+    ) {
+        Ok(entries) => Ok((fabric, entries)),
+        Err(fault) => Err(refused(&fault)),
+    }
+}
+
+// The outputs, opened to be read; of `show` there are none.
+fn outs_of<D: Depot>(
+    depot: &mut D,
+    words: &[String],
+    width: Width,
+) -> Result<ArrayVec<u32, MOST_PORTS>, Failed>
+    requires ports { spec.are_ports width words.now ≡ true }
+    requires known { spec.AllKnown (D.seen depot.old) words.now }
+    ensures reads { OutputsRead (λ o. o.items) (spec.names_of width words.now) (D.seen depot.old)
+        (D.seen depot.new) result }
+{
+    match width {
+        Width::One => Ok(ArrayVec::new()),
+        Width::Two => open_each(depot, words),
+    }
+}
+
+// A journal in a file, within a limit of bytes.
+fn journal_of<D: Depot>(
+    alloc: Global,
+    depot: &mut D,
+    name: &str,
+    limit: u64,
+) -> Result<Vec<u8>, Outcome>
+    requires known { IsTrue ((D.seen depot.old).knows name.now) }
+    ensures reads { JournalRead name.now limit (D.seen depot.old) (D.seen depot.new) result }
+{
+    let Ok(slot) = depot.open_in(name) else {
+        return Err(Outcome::ReadFault);
+    };
+    match read_whole(alloc, depot, slot, limit) {
+        Ok(journal) => Ok(journal),
+        Err(error) => Err(unread(error)),
+    }
+}
+
+// How an error of reading the journal ends the command. It has no fault at a line.
+fn unread(error: OldError) -> Outcome
+    ensures { result ≡ unread_by error }
+{
+    match error {
+        OldError::Bytes => Outcome::Limit {
+            kind: LimitKind::Bytes,
+        },
+        OldError::Memory => Outcome::Memory,
+        OldError::Read(_) => Outcome::ReadFault,
+        OldError::Fault { .. } => Outcome::ReadFault,
+    }
+}
+
+// Opens the outputs of all ports to be read, in port order.
+fn open_each<D: Depot>(depot: &mut D, words: &[String]) -> Result<ArrayVec<u32, MOST_PORTS>, Failed>
+    requires pairs { spec.are_pairs words.now ≡ true }
+    requires known { spec.AllKnown (D.seen depot.old) words.now }
+    ensures reads { OutputsRead (λ o. o.items) (spec.run_of words.now) (D.seen depot.old)
+        (D.seen depot.new) result }
+{
+    let mut outs = ArrayVec::new();
+    for port in 0..port_count(words) {
+        match depot.open_in(output_at(words, port)) {
+            Ok(slot) => keep(&mut outs, slot),
+            Err(failed) => return Err(failed),
+        }
+    }
+    Ok(outs)
+}
+
+// How a fault of a check ends the command.
+fn refused(fault: &CheckFault) -> Outcome
+    ensures { result ≡ refused_by fault.now }
+{
+    match fault {
+        CheckFault::Line { line, why } => Outcome::WrongLine {
+            line: *line,
+            why: *why,
+        },
+        CheckFault::Output { port, at } => Outcome::WrongOutput {
+            port: *port,
+            at: *at,
+        },
+        CheckFault::Capture { port, at, why } => Outcome::Capture {
+            port: *port,
+            at: *at,
+            why: *why,
+        },
+        CheckFault::Limit(kind) => Outcome::Limit { kind: *kind },
+        CheckFault::Read => Outcome::ReadFault,
+        CheckFault::Memory => Outcome::Memory,
+    }
+}

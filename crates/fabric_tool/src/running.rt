@@ -1,0 +1,116 @@
+//! The command `run`.
+ghost use Rattle.std.specs.Prelude.{◌≡◌, IsTrue, true};
+ghost use Rattle.fab_config.specs.Settings.{is_in_range};
+ghost use Rattle.fabric_tool.specs.Command as spec;
+ghost use Rattle.fabric_tool.specs.Ends.{RunHolds};
+ghost use Rattle.fabric_tool.specs.Left.{LegalIsSafe};
+ghost use Rattle.fabric_tool.specs.Opening.{ran_by, stopped_by};
+
+use crate::command::{Width, port_count};
+use crate::heads::heads_of;
+use crate::inputs::config_of;
+use crate::limits::{MOST_BYTES, MOST_FRAMES};
+use crate::outcome::Outcome;
+use crate::outputs::open_outputs;
+use fab_base::{Depot, Gate, word_at};
+use fab_config::Config;
+use fab_policy::{forwarding_rule, legal_journals, records_come_later};
+use fab_windows::{Done, RunFault, run_windows};
+use forward_core::Fabric;
+use pcap_file::Budget;
+use std::alloc::Global;
+use std::sync::Wait;
+use std::thread::Threads;
+
+/// Runs the forwarder over the captures. The configuration and all heads are read, and the fabric
+/// is made, before an output is opened.
+pub(crate) fn run<R: Threads + Wait + Sync, D: Depot, G: Gate + Sync>(
+    rt: &R,
+    alloc: Global,
+    words: &[String],
+    depot: &mut D,
+    gate: &G,
+) -> Outcome
+    requires run { spec.are_pairs words.now ≡ true }
+    requires known { spec.AllKnown (D.seen depot.old) words.now }
+    ensures holds { RunHolds (spec.run_of words.now) (D.seen depot.old) (D.seen depot.new) result }
+{
+    legal_is_safe();
+    records_come_later();
+    let config = match config_of(alloc, depot, word_at(words, 1)) {
+        Ok(config) => config,
+        Err(outcome) => return outcome,
+    };
+    let mut budget = Budget {
+        bytes: MOST_BYTES,
+        frames: MOST_FRAMES,
+    };
+    let mut ins = match heads_of(alloc, depot, words, Width::Two, &mut budget) {
+        Ok(ins) => ins,
+        Err(outcome) => return outcome,
+    };
+    in_range(&config);
+    let Ok(fabric) = Fabric::new(alloc, config, port_count(words) as u32) else {
+        return Outcome::Memory;
+    };
+    let outputs = match open_outputs(depot, words) {
+        Ok(outputs) => outputs,
+        Err(_) => return Outcome::WriteFault,
+    };
+    let journal = outputs.journal;
+    ran(run_windows(
+        rt,
+        alloc,
+        depot,
+        fabric,
+        &mut ins,
+        &mut budget,
+        journal,
+        outputs.outs.as_slice(),
+        gate,
+    ))
+}
+
+// How the end of the windows ends the command.
+fn ran(end: Result<Done, RunFault>) -> Outcome
+    ensures { result ≡ ran_by end }
+{
+    match end {
+        Ok(done) => Outcome::Ran {
+            frames: done.frames,
+            entries: done.entries,
+        },
+        Err(fault) => stopped(&fault),
+    }
+}
+
+fn stopped(fault: &RunFault) -> Outcome
+    ensures { result ≡ stopped_by fault.now }
+{
+    match fault {
+        RunFault::Capture { port, at, why } => Outcome::Capture {
+            port: *port,
+            at: *at,
+            why: *why,
+        },
+        RunFault::Limit(kind) => Outcome::Limit { kind: *kind },
+        RunFault::Read => Outcome::ReadFault,
+        RunFault::Write => Outcome::WriteFault,
+        RunFault::Memory => Outcome::Memory,
+    }
+}
+
+/// Each value of a configuration is in its range.
+pub(crate) fn in_range(config: &Config)
+    ensures { IsTrue (is_in_range config.now) }
+{
+    let _ = &config.window;
+}
+
+// What the laws of legal journals say of each state that a journal goes through.
+fn legal_is_safe()
+    ensures { LegalIsSafe }
+{
+    legal_journals();
+    forwarding_rule();
+}

@@ -1,7 +1,0 @@
-use Rattle.std.proofs.Common.{refl}
-use Rattle.fcoe_tool.specs.Help.{help_text}
-use Rattle.fcoe_tool.proofs.help.help.Goals as goal
-
-pub returns : goal.returns
-unfolding help_text
-returns c = refl

@@ -1,7 +1,0 @@
-use Rattle.std.proofs.Common.{refl}
-use Rattle.fcoe_tool.specs.Help.{version_text}
-use Rattle.fcoe_tool.proofs.help.version.Goals as goal
-
-pub returns : goal.returns
-unfolding version_text
-returns c = refl

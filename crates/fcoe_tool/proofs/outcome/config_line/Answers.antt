@@ -1,8 +1,0 @@
-use Rattle.std.proofs.Common.{◌≡◌, ◌++◌, IfOk, codes, append_assoc, subst}
-use Rattle.std.specs.Prelude.{decimal}
-use Rattle.std.specs.String.{string_bytes}
-use Rattle.fcoe_tool.proofs.outcome.config_line.Goals as goal
-
-pub returns : goal.returns
-returns c =
-    subst (λ w. IfOk c.format.result (λ s. string_bytes s ≡ codes "config " ++ decimal c.args.fault.line ++ codes " " ++ w ++ codes "\n")) c.why_word-why.ensures (simp append_assoc c.format.ensures.ok)

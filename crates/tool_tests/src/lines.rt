@@ -1,0 +1,212 @@
+//! Each line of a journal of thirteen entries left out, doubled, exchanged with the next one, and
+//! with one field changed; and what `run` wrote checked again.
+use crate::commands::runs;
+use crate::worked::{THREE, capture_of, depot_with, line_of, second_format};
+use fab_base::MemDepot;
+use std::alloc::Global;
+use std::process::Abort;
+use std::sync::Wait;
+use std::test::Fail;
+use std::thread::Threads;
+use worked_journals::initiators::{TWO_INITIATORS_AND_A_TARGET, TWO_ZONES};
+use worked_journals::logins::{LOGGED_IN, POOL_OF_TWO, QUARANTINE};
+use worked_journals::{Worked, worked_of};
+
+const SHOW: [&str; 6] = ["show", "K", "J", "A", "B", "C"];
+
+const REPLAY: [&str; 9] = ["replay", "K", "J", "A", "X", "B", "Y", "C", "Z"];
+
+const JOURNAL: &str = "\
+journal 2
+1000 tick
+1000 1 0 granted 010100
+1100 tick
+1100 2 0 granted 010101
+1200 tick
+1200 3 0 rejected 09 29
+5000 tick
+5000 1 1 logout 010100
+9000 tick
+15000 tick
+15000 3 1 rejected 09 29
+15100 tick
+15100 3 2 granted 010100
+";
+
+// What happens to a line.
+#[derive(Clone, Copy)]
+enum Change {
+    LeftOut,
+    Doubled,
+    Exchanged,
+    Changed,
+}
+
+// The number of a line, the line with one field changed, and the first line that is wrong, with
+// the reason, where it is left out, doubled, exchanged with the next one, and changed so.
+static ROWS: [(usize, &str, [&str; 4]); 13] = [
+    (2, "900 tick", ["2 tick", "3 tick", "2 tick", "2 tick"]),
+    (
+        3,
+        "1000 2 0 granted 010100",
+        ["3 tick", "4 tick", "3 tick", "3 frame"],
+    ),
+    (4, "1200 tick", ["4 tick", "5 tick", "4 tick", "4 tick"]),
+    (
+        5,
+        "1000 2 0 granted 010101",
+        ["5 tick", "6 tick", "5 tick", "5 frame"],
+    ),
+    (6, "1200 tock", ["6 tick", "7 tick", "6 tick", "6 text"]),
+    (
+        7,
+        "1200 3 0 rejected 03 29",
+        ["7 tick", "8 tick", "7 tick", "7 verdict"],
+    ),
+    (8, "4900 tick", ["8 tick", "9 tick", "8 tick", "8 tick"]),
+    (
+        9,
+        "5000 1 1 logout 010101",
+        ["9 tick", "10 tick", "9 tick", "9 verdict"],
+    ),
+    (
+        10,
+        "8000 tick",
+        ["10 tick", "11 tick", "10 tick", "10 tick"],
+    ),
+    (
+        11,
+        "15000 tick ",
+        ["11 tick", "12 tick", "11 tick", "11 text"],
+    ),
+    (
+        12,
+        "15000 3 2 rejected 09 29",
+        ["12 tick", "13 tick", "12 tick", "12 frame"],
+    ),
+    (
+        13,
+        "15100 tick 010101",
+        ["13 tick", "14 tick", "13 tick", "13 tick"],
+    ),
+    (
+        14,
+        "15100 3 2 granted 010101",
+        ["14 rest", "15 frame", "", "14 verdict"],
+    ),
+];
+
+// The journal with a line changed.
+fn changed(alloc: Global, place: usize, change: Change, other: &str) -> Result<String, Fail> {
+    let mut text = String::new(alloc);
+    let mut held = "";
+    let mut number = 0usize;
+    for line in JOURNAL.lines() {
+        number = number.saturating_add(1);
+        if number != place {
+            push(&mut text, line)?;
+            push(&mut text, held)?;
+            held = "";
+            continue;
+        }
+        match change {
+            Change::LeftOut => {}
+            Change::Doubled => {
+                push(&mut text, line)?;
+                push(&mut text, line)?;
+            }
+            Change::Exchanged => held = line,
+            Change::Changed => push(&mut text, other)?,
+        }
+    }
+    Ok(text)
+}
+
+fn push(text: &mut String, line: &str) -> Result<(), Fail> {
+    if !line.is_empty() {
+        text.push_str(line)?;
+        text.push_str("\n")?;
+    }
+    Ok(())
+}
+
+// What `show` tells of a journal.
+fn tells<R: Threads + Wait + Sync + Abort>(
+    rt: &R,
+    alloc: Global,
+    worked: &Worked,
+    journal: &str,
+    line: &str,
+) -> Result<(), Fail> {
+    let mut depot = depot_with(alloc, worked, &capture_of(alloc, 1, &worked.frames)?)?;
+    depot.store(alloc, "J", journal.as_bytes())?;
+    depot.know(alloc, "show")?;
+    let line = format!(in alloc; "journal {line}\n")?;
+    runs(rt, alloc, &SHOW, &mut depot, line.as_bytes(), 1)
+}
+
+fn each_is_told<R: Threads + Wait + Sync + Abort>(
+    rt: &R,
+    alloc: Global,
+    worked: &Worked,
+) -> Result<(), Fail> {
+    let changes = [
+        Change::LeftOut,
+        Change::Doubled,
+        Change::Exchanged,
+        Change::Changed,
+    ];
+    for (place, other, told) in &ROWS {
+        for (change, line) in changes.iter().zip(told.iter()) {
+            if !line.is_empty() {
+                let journal = changed(alloc, *place, *change, other)?;
+                tells(rt, alloc, worked, journal.as_str(), line)?;
+            }
+        }
+    }
+    Ok(())
+}
+
+#[test]
+fn each_line_of_a_journal(rt: HostRuntime) -> Result<(), Fail> {
+    let worked = worked_of(rt.alloc(), &[POOL_OF_TWO, LOGGED_IN, QUARANTINE])?;
+    each_is_told(&rt, rt.alloc(), &worked)
+}
+
+// `run`, and then `replay` of what it wrote, in both formats.
+fn is_legal<R: Threads + Wait + Sync + Abort>(
+    rt: &R,
+    alloc: Global,
+    worked: &Worked,
+) -> Result<(), Fail> {
+    let mut depot = depot_with(alloc, worked, &capture_of(alloc, 1, &worked.frames)?)?;
+    depot.know(alloc, "replay")?;
+    runs(
+        rt,
+        alloc,
+        &THREE,
+        &mut depot,
+        line_of(alloc, worked)?.as_bytes(),
+        0,
+    )?;
+    replays_both(rt, alloc, worked, &mut depot)
+}
+
+fn replays_both<R: Threads + Wait + Sync + Abort>(
+    rt: &R,
+    alloc: Global,
+    worked: &Worked,
+    depot: &mut MemDepot,
+) -> Result<(), Fail> {
+    let entries = worked.journal.lines().count();
+    let line = format!(in alloc; "legal {entries}\n")?;
+    runs(rt, alloc, &REPLAY, depot, line.as_bytes(), 0)?;
+    depot.store(alloc, "J", worked.journal.as_bytes())?;
+    runs(rt, alloc, &REPLAY, depot, line.as_bytes(), 0)
+}
+
+#[test]
+fn two_initiators_and_a_target(rt: HostRuntime) -> Result<(), Fail> {
+    let worked = worked_of(rt.alloc(), &[TWO_ZONES, TWO_INITIATORS_AND_A_TARGET])?;
+    is_legal(&rt, rt.alloc(), &worked)
+}
