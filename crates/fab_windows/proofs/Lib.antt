@@ -2,9 +2,7 @@ pub mod ResultLemmas
 pub mod FileLemmas
 pub mod EndLemmas
 pub mod StayLemmas
-pub mod FollowedLemmas
 pub mod TickLemmas
-pub mod FrameLemmas
 pub mod LeftLemmas
 pub mod TimedLemmas
 pub mod StepLemmas

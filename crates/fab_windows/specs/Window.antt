@@ -1,15 +1,12 @@
--- One window: the ticks up to it, and its frames.
-use Rattle.std.specs.Prelude.{◌≡◌, ◌≢◌, ℕ, ◌+◌, ◌-◌, ◌<◌, ◌≤◌, List, [], ◌∷◌, ◌++◌, length, map, Option, Some, None, IfSome, option_to_list}
+-- One window: the ticks up to it. What it is to handle its frames stands in fab_workers.
+use Rattle.std.specs.Prelude.{◌≡◌, ℕ, ◌<◌, ◌≤◌, List, [], ◌∷◌, ◌++◌, Some, IfSome}
 use Rattle.fab_config.specs.Settings.{Settings}
 use Rattle.fab_policy.specs.Journal.{Journal, followed, clock}
-use Rattle.fab_policy.specs.Legal.{Legal, IsNextTick, HasPorts, of_port, numbered_from}
-use Rattle.fab_policy.specs.Standing.{Contents, Stands, Grown}
+use Rattle.fab_policy.specs.Legal.{Legal, IsNextTick}
+use Rattle.fab_policy.specs.Standing.{Contents, Stands}
 use Rattle.fab_policy.specs.declared.event.Event.{Event}
 use Rattle.fab_policy.specs.declared.event.Event.TheVariants.{Tick, Frame}
-use Rattle.fab_policy.specs.declared.verdict.Verdict.{Verdict}
-use Rattle.fab_policy.specs.declared.verdict.Verdict.TheVariants.{Granted}
-use Rattle.pcap_file.specs.declared.Record.{Record}
-use Rattle.fab_gather.specs.declared.shelf.Shelf.{Shelf}
+pub use Rattle.fab_workers.specs.Handled.{granted_by, first_of, firsts_of, HandledPort, HoldBatches, Handled}
 
 -- ---- ticks
 
@@ -33,36 +30,3 @@ pub record Ticked (w : ℕ) (F G : Contents) : Type 0 where
   pub ticks : List Event
   pub events : G.events ≡ F.events ++ ticks
   pub stands : (J : Journal) → Legal F.settings J → Stands F J → AreTicksTo F.settings w J ticks × Legal F.settings (followed J ticks) × Stands G (followed J ticks)
-
--- ---- frames
-
--- the address that a verdict grants, if it grants one
-abbrev pub granted_by : Verdict → Option ℕ
-granted_by (Granted address) = Some address
-granted_by _ = None
-
--- how many records of a capture stand before those on its shelf
-abbrev pub first_of : Shelf → ℕ
-first_of s = s.count - length (option_to_list s.next) - length s.batch.items
-
-abbrev pub firsts_of : List Shelf → List ℕ
-firsts_of shelves = map first_of shelves
-
--- A fabric handled records of one port, numbered from one on, and nothing else.
-pub record HandledPort (port first : ℕ) (records : List Record) (F G : Contents) : Type 0 where
-  pub grown : Grown F G
-  pub ports : HasPorts F.count (followed [] grown.later)
-  pub own : of_port port (followed [] grown.later) ≡ numbered_from first records
-  pub others : (q : ℕ) → q ≢ port → of_port q (followed [] grown.later) ≡ []
-
--- the frames of each port from p on are these records with their numbers
-abbrev pub HoldBatches : List Event → ℕ → List ℕ → List (List Record) → Type 0
-HoldBatches frames p firsts [] = Unit {0}
-HoldBatches frames p [] (batch ∷ batches) = ⊥
-HoldBatches frames p (first ∷ firsts) (batch ∷ batches) = (of_port p (followed [] frames) ≡ numbered_from first batch) × HoldBatches frames (p + 1) firsts batches
-
--- A fabric handled the records of a window, those of each port in their order, whichever way those of different ports came.
-pub record Handled (firsts : List ℕ) (batches : List (List Record)) (F G : Contents) : Type 0 where
-  pub grown : Grown F G
-  pub ports : HasPorts F.count (followed [] grown.later)
-  pub held : HoldBatches grown.later 1 firsts batches

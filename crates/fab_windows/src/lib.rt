@@ -2,7 +2,6 @@
 #![tactic(auto)]
 
 mod files;
-mod frames;
 mod laws;
 mod pages;
 mod plan;

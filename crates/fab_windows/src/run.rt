@@ -25,7 +25,7 @@ use std::thread::Threads;
 /// returns, but where a write fails or memory is refused; `ins` and `outs` are in port order. The
 /// gate sees each frame before it is handled and after.
 pub fn run_windows<R: Threads + Wait + Sync, D: Depot, G: Gate + Sync>(
-    _rt: &R,
+    rt: &R,
     alloc: Global,
     depot: &mut D,
     fabric: Fabric,
@@ -51,7 +51,7 @@ pub fn run_windows<R: Threads + Wait + Sync, D: Depot, G: Gate + Sync>(
     let first = next_window(fabric.config(), &run.shelves).unwrap_or(0);
     'windows: while let Some(window) = next_window(fabric.config(), &run.shelves) {
         fabric = turn(
-            alloc, depot, fabric, first, window, ins, &mut run, budget, journal, outs, gate,
+            rt, alloc, depot, fabric, first, window, ins, &mut run, budget, journal, outs, gate,
         )?;
     }
     finish(depot, journal, outs, run)

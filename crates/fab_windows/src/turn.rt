@@ -15,7 +15,6 @@ ghost use Rattle.fab_gather.specs.declared.shelf.Input as of_gather;
 ghost use Rattle.pcap_file.specs.declared.Budget as of_captures;
 
 use crate::files::{flush, flush_for};
-use crate::frames::take_frames;
 use crate::laws::laws_of_runs;
 use crate::pages::Pages;
 use crate::plan::tick_to;
@@ -24,9 +23,12 @@ use fab_base::{Depot, Gate, Moment, NoMemory};
 use fab_config::Config;
 use fab_gather::{Shelf, gather};
 use fab_policy::Event;
+use fab_workers::take_frames;
 use forward_core::{Drained, EventList, Fabric};
 use pcap_file::Budget;
 use std::alloc::Global;
+use std::sync::Wait;
+use std::thread::Threads;
 
 /// What a run keeps from window to window.
 #[derive(Debug, Drop)]
@@ -38,7 +40,8 @@ pub(crate) struct Run {
 
 /// Takes the next window of all ports, handles its frames and adds what they made to the pages.
 /// Where the window can't be taken, the pages are written before the run ends.
-pub(crate) fn turn<D: Depot, G: Gate>(
+pub(crate) fn turn<R: Threads + Wait + Sync, D: Depot, G: Gate + Sync>(
+    rt: &R,
     alloc: Global,
     depot: &mut D,
     fabric: Fabric,
@@ -78,13 +81,14 @@ pub(crate) fn turn<D: Depot, G: Gate>(
         &mut run.shelves,
         budget,
     ) {
-        Ok(()) => answer(alloc, depot, fabric, window, run, journal, outs, gate),
+        Ok(()) => answer(rt, alloc, depot, fabric, window, run, journal, outs, gate),
         Err(fault) => Err(flush_for(depot, journal, outs, &mut run.pages, fault)),
     }
 }
 
 // Handles the frames on the shelves, adds what they made to the pages and counts it.
-fn answer<D: Depot, G: Gate>(
+fn answer<R: Threads + Wait + Sync, D: Depot, G: Gate + Sync>(
+    rt: &R,
     alloc: Global,
     depot: &mut D,
     fabric: Fabric,
@@ -114,7 +118,7 @@ fn answer<D: Depot, G: Gate>(
 {
     laws_of_runs();
     let clock = fabric.clock().unwrap_or(Moment(0));
-    let (fabric, drained) = handle(alloc, fabric, window, &run.shelves, gate)?;
+    let (fabric, drained) = handle(rt, alloc, fabric, window, &run.shelves, gate)?;
     publish(
         alloc,
         depot,
@@ -130,7 +134,8 @@ fn answer<D: Depot, G: Gate>(
 }
 
 // Makes the ticks up to a window and handles its frames.
-fn handle<G: Gate>(
+fn handle<R: Threads + Wait + Sync, G: Gate + Sync>(
+    rt: &R,
     alloc: Global,
     fabric: Fabric,
     window: u64,
@@ -147,7 +152,7 @@ fn handle<G: Gate>(
 {
     let mut fabric = fabric;
     tick_to(alloc, &mut fabric, window)?;
-    let mut fabric = take_frames(alloc, fabric, shelves, gate)?;
+    let mut fabric = take_frames(rt, alloc, fabric, shelves, gate)?;
     let drained = fabric.drain();
     Ok((fabric, drained))
 }

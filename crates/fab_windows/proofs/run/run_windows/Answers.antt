@@ -52,7 +52,7 @@ pub same-fabric-in-Some : goal.same-fabric-in-Some
 same-fabric-in-Some g c = refl
 
 pub turn-requires-clause-going : goal.turn-requires-clause-going
-turn-requires-clause-going g c =
+turn-requires-clause-going g c = λ κs within.
     let seen = g.D.Depot.seen in
     let s : Start = record { budget = c.args.budget.now; ins = c.args.ins.now; seen = seen c.args.depot.now } in
     let k = task_of s c.args.fabric.settings c.args.journal c.args.outs.now in
@@ -64,14 +64,14 @@ turn-requires-clause-going g c =
     )
 
 pub turn-requires-clause-next : goal.turn-requires-clause-next
-turn-requires-clause-next g c =
+turn-requires-clause-next g c = λ κs within.
     next_as c.config-in-windows.result.now c.windows.fabric.settings c.deref-in-windows.result.now c.windows.run.shelves.items (Some c.in-Some.window) c.config-in-windows.ensures c.deref-in-windows.ensures.value c.in-Some.ensures.least
 
 pub turn-requires-clause-start : goal.turn-requires-clause-start
-turn-requires-clause-start g c = ap (λ (x : Settings). c.in-Some.window % x.window) (sym c.config-in-windows.ensures) ∙ c.in-Some.ensures.start
+turn-requires-clause-start g c = λ κs within. ap (λ (x : Settings). c.in-Some.window % x.window) (sym c.config-in-windows.ensures) ∙ c.in-Some.ensures.start
 
 pub turn-requires-clause-range : goal.turn-requires-clause-range
-turn-requires-clause-range g c =
+turn-requires-clause-range g c = λ κs within.
     let seen = g.D.Depot.seen in
     let s : Start = record { budget = c.args.budget.now; ins = c.args.ins.now; seen = seen c.args.depot.now } in
     let k = task_of s c.args.fabric.settings c.args.journal c.args.outs.now in
@@ -80,7 +80,7 @@ turn-requires-clause-range g c =
     next_early c.laws_of_runs.ensures k l.invariant.v c.in-Some.window c.unwrap_or-first.result l.fabric (seen l.depot) l.ins l.run.shelves.items l.budget l.run.done (pending l.run.pages) l.invariant.going next
 
 pub turn-requires-clause-pages : goal.turn-requires-clause-pages
-turn-requires-clause-pages g c = c.windows.invariant.pages
+turn-requires-clause-pages g c = λ κs within. c.windows.invariant.pages
 
 pub returns-in_err-fabric : goal.returns-in_err-fabric
 returns-in_err-fabric g c =

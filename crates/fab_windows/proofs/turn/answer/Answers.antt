@@ -8,10 +8,10 @@ use Rattle.fab_windows.proofs.ResultLemmas.{told_on, not_ok}
 use Rattle.fab_windows.proofs.turn.answer.Goals as goal
 
 pub handle-requires-clause-order : goal.handle-requires-clause-order
-handle-requires-clause-order g c = c.requires.gathered.4.going.reached.clock
+handle-requires-clause-order g c = λ κs within. c.requires.gathered.4.going.reached.clock
 
 pub handle-requires-clause-ports : goal.handle-requires-clause-ports
-handle-requires-clause-ports g c =
+handle-requires-clause-ports g c = λ κs within.
     let x = c.requires.gathered.4 in
     let k = task_of c.requires.gathered.0 c.args.fabric.settings c.args.journal c.args.outs.now in
     x.going.reached.sofar.count
@@ -19,7 +19,7 @@ handle-requires-clause-ports g c =
     ∙ sym (ap length c.deref.ensures.value)
 
 pub handle-requires-clause-few : goal.handle-requires-clause-few
-handle-requires-clause-few g c =
+handle-requires-clause-few g c = λ κs within.
     let x = c.requires.gathered.4 in
     let k = task_of c.requires.gathered.0 c.args.fabric.settings c.args.journal c.args.outs.now in
     let ports = gathered_ports c.laws_of_runs.ensures k c.args.window c.requires.gathered.1 c.args.fabric (g.D.Depot.seen c.args.depot.now) c.requires.gathered.2 c.args.run.now.shelves.items c.requires.gathered.3 c.args.run.now.done (pending c.args.run.now.pages) x in

@@ -34,7 +34,7 @@ gather-requires-clause-next g c =
     (subst (λ s. IsNextWindow s c.args.run.now.shelves.items (Some c.args.window)) (sym c.config.ensures) c.requires.next)
 
 pub answer-requires-clause-gathered : goal.answer-requires-clause-gathered
-answer-requires-clause-gathered g c =
+answer-requires-clause-gathered g c = λ κs within.
     let k = task_of c.requires.going.0 c.args.fabric.settings c.args.journal c.args.outs.now in
     let seen = g.D.Depot.seen in (
       c.requires.going.0,
@@ -46,13 +46,13 @@ answer-requires-clause-gathered g c =
     )
 
 pub answer-requires-clause-start : goal.answer-requires-clause-start
-answer-requires-clause-start g c = c.requires.start
+answer-requires-clause-start g c = λ κs within. c.requires.start
 
 pub answer-requires-clause-range : goal.answer-requires-clause-range
-answer-requires-clause-range g c = c.requires.range
+answer-requires-clause-range g c = λ κs within. c.requires.range
 
 pub answer-requires-clause-pages : goal.answer-requires-clause-pages
-answer-requires-clause-pages g c = c.requires.pages
+answer-requires-clause-pages g c = λ κs within. c.requires.pages
 
 pub flush_for-requires-clause-count : goal.flush_for-requires-clause-count
 flush_for-requires-clause-count g c = sym c.requires.pages

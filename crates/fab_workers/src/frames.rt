@@ -1,8 +1,8 @@
-//! The frames of a window.
+//! The frames of a window, one port after another.
 ghost use Rattle.std.specs.Prelude.{◌≡◌, ◌+◌, ◌<◌, ◌≤◌, ◌^◌, ◌∷◌, [], IfOk, IsSome, OnOk, length};
 ghost use Rattle.fab_gather.specs.Reads.{batches_of};
-ghost use Rattle.fab_windows.specs.Window as spec;
-ghost use Rattle.fab_windows.specs.Window.{Handled, HandledPort, firsts_of};
+ghost use Rattle.fab_workers.specs.Handled as spec;
+ghost use Rattle.fab_workers.specs.Handled.{Handled, HandledPort, firsts_of};
 
 use fab_base::{FcId, Gate, NoMemory, PortNo};
 use fab_gather::Shelf;
@@ -12,7 +12,7 @@ use pcap_file::Record;
 use std::alloc::Global;
 
 /// Handles the records on the shelves, those of one port after those of another, under a gate.
-pub(crate) fn take_frames<G: Gate>(
+pub(crate) fn in_turn<G: Gate>(
     alloc: Global,
     fabric: Fabric,
     shelves: &[Shelf],
@@ -57,7 +57,7 @@ fn take_port<G: Gate>(
 }
 
 // The number of the first record on a shelf.
-fn first_of(shelf: &Shelf) -> u64
+pub(crate) fn first_of(shelf: &Shelf) -> u64
     ensures value { result ≡ spec.first_of shelf.now }
     ensures room { result + length shelf.now.batch.items < 2 ^ 64 }
 {
@@ -87,7 +87,7 @@ fn take_record(
 }
 
 // The address that a verdict grants.
-fn granted(verdict: &Verdict) -> Option<FcId>
+pub(crate) fn granted(verdict: &Verdict) -> Option<FcId>
     ensures { result ≡ spec.granted_by verdict.now }
 {
     match verdict {

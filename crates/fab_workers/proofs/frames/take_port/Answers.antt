@@ -1,6 +1,6 @@
 use Rattle.std.proofs.Common.{◌+◌, ◌∙◌, arith, ap, get_or, length, refl}
-use Rattle.fab_windows.proofs.FrameLemmas.{port_none, port_next, port_all}
-use Rattle.fab_windows.proofs.frames.take_port.Goals as goal
+use Rattle.fab_workers.proofs.FrameLemmas.{port_none, port_next, port_all}
+use Rattle.fab_workers.proofs.frames.take_port.Goals as goal
 
 pub loop-place-init : goal.loop-place-init
 loop-place-init g c = port_none c.args.port c.first_of-first.result c.args.fabric.now

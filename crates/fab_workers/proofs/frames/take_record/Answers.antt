@@ -1,5 +1,5 @@
-use Rattle.fab_windows.proofs.FrameLemmas.{port_one}
-use Rattle.fab_windows.proofs.frames.take_record.Goals as goal
+use Rattle.fab_workers.proofs.FrameLemmas.{port_one}
+use Rattle.fab_workers.proofs.frames.take_record.Goals as goal
 
 pub returns-in-Ok : goal.returns-in-Ok
 returns-in-Ok c =

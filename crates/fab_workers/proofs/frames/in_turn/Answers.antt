@@ -1,8 +1,8 @@
 use Rattle.std.proofs.Common.{arith, refl, subst, ℕ}
 use Rattle.std.proofs.lemmas.Option.{slice_get_read}
-use Rattle.fab_windows.specs.Window.{HandledPort, first_of}
-use Rattle.fab_windows.proofs.FrameLemmas.{handling_none, handling_more, handling_all}
-use Rattle.fab_windows.proofs.frames.take_frames.Goals as goal
+use Rattle.fab_workers.specs.Handled.{HandledPort, first_of}
+use Rattle.fab_workers.proofs.FrameLemmas.{handling_none, handling_more, handling_all}
+use Rattle.fab_workers.proofs.frames.in_turn.Goals as goal
 
 pub loop-place-init : goal.loop-place-init
 loop-place-init g c = handling_none c.args.shelves.now c.args.fabric

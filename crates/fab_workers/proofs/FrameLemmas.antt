@@ -15,8 +15,8 @@ use Rattle.fab_policy.specs.declared.event.Event.{Event}
 use Rattle.fab_policy.specs.declared.event.Event.TheVariants.{Frame}
 use Rattle.fab_policy.specs.declared.verdict.Verdict.{Verdict}
 use Rattle.pcap_file.specs.declared.Record.{Record}
-use Rattle.fab_windows.specs.Window.{HandledPort, HoldBatches, Handled, first_of, firsts_of}
-use Rattle.fab_windows.proofs.FollowedLemmas.{of_port-followed, ports-followed, frames-append}
+use Rattle.fab_workers.specs.Handled.{HandledPort, HoldBatches, Handled, first_of, firsts_of}
+use Rattle.fab_workers.proofs.FollowedLemmas.{of_port-followed, ports-followed, frames-append}
 
 -- records numbered in two parts
 pub numbered-append : (n : ℕ) (l m : List Record) → numbered_from n (l ++ m) ≡ numbered_from n l ++ numbered_from (n + length l) m
@@ -158,7 +158,7 @@ module _ (parts : FollowedByParts) (k : ℕ) (shelves : List Shelf) (s : Shelf) 
   }
 
 -- at the end each port has its records
-held_all : (es : List Event) (p : ℕ) (shelves : List Shelf) → ((q : ℕ) (s : Shelf) → slice_get shelves q ≡ Some s → of_port (p + q) (followed [] es) ≡ numbered_from (first_of s) s.batch.items) →
+pub held_all : (es : List Event) (p : ℕ) (shelves : List Shelf) → ((q : ℕ) (s : Shelf) → slice_get shelves q ≡ Some s → of_port (p + q) (followed [] es) ≡ numbered_from (first_of s) s.batch.items) →
     HoldBatches es p (firsts_of shelves) (batches_of shelves)
 held_all es p [] each = tt
 held_all es p (s ∷ shelves) each = (

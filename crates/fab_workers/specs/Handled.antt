@@ -1,0 +1,41 @@
+-- What it is to handle the frames of a window.
+use Rattle.std.specs.Prelude.{◌≡◌, ◌≢◌, ℕ, ◌+◌, ◌-◌, List, [], ◌∷◌, length, map, Option, Some, None, option_to_list}
+use Rattle.fab_policy.specs.Journal.{followed}
+use Rattle.fab_policy.specs.Legal.{HasPorts, of_port, numbered_from}
+use Rattle.fab_policy.specs.Standing.{Contents, Grown}
+use Rattle.fab_policy.specs.declared.event.Event.{Event}
+use Rattle.fab_policy.specs.declared.verdict.Verdict.{Verdict}
+use Rattle.fab_policy.specs.declared.verdict.Verdict.TheVariants.{Granted}
+use Rattle.pcap_file.specs.declared.Record.{Record}
+use Rattle.fab_gather.specs.declared.shelf.Shelf.{Shelf}
+
+-- the address that a verdict grants, if it grants one
+abbrev pub granted_by : Verdict → Option ℕ
+granted_by (Granted address) = Some address
+granted_by _ = None
+
+-- how many records of a capture stand before those on its shelf
+abbrev pub first_of : Shelf → ℕ
+first_of s = s.count - length (option_to_list s.next) - length s.batch.items
+
+abbrev pub firsts_of : List Shelf → List ℕ
+firsts_of shelves = map first_of shelves
+
+-- A fabric handled records of one port, numbered from one on, and nothing else.
+pub record HandledPort (port first : ℕ) (records : List Record) (F G : Contents) : Type 0 where
+  pub grown : Grown F G
+  pub ports : HasPorts F.count (followed [] grown.later)
+  pub own : of_port port (followed [] grown.later) ≡ numbered_from first records
+  pub others : (q : ℕ) → q ≢ port → of_port q (followed [] grown.later) ≡ []
+
+-- the frames of each port from p on are these records with their numbers
+abbrev pub HoldBatches : List Event → ℕ → List ℕ → List (List Record) → Type 0
+HoldBatches frames p firsts [] = Unit {0}
+HoldBatches frames p [] (batch ∷ batches) = ⊥
+HoldBatches frames p (first ∷ firsts) (batch ∷ batches) = (of_port p (followed [] frames) ≡ numbered_from first batch) × HoldBatches frames (p + 1) firsts batches
+
+-- A fabric handled the records of a window, those of each port in their order, whichever way those of different ports came.
+pub record Handled (firsts : List ℕ) (batches : List (List Record)) (F G : Contents) : Type 0 where
+  pub grown : Grown F G
+  pub ports : HasPorts F.count (followed [] grown.later)
+  pub held : HoldBatches grown.later 1 firsts batches
