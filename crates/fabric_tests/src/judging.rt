@@ -1,10 +1,10 @@
 //! Two live N_Ports, which a zone joins: the verdicts of their frames. The CRCs are by zlib.
 ghost use Rattle.std.specs.Prelude.{◌≡◌};
+ghost use Rattle.fab_roster.specs.Reaching.{zones_of};
 
-use crate::roster::{A, B, empty, grant};
-use crate::settings::settings;
-use fab_base::{Bytes, Caught, FcId, Moment, NoMemory, PortNo};
-use fab_config::{Config, NameList, Zone, ZoneList};
+use crate::roster::{A, B, empty, grant, tick};
+use fab_base::{Bytes, Caught, FcId, NoMemory, PortNo};
+use fab_config::{Config, read_config};
 use fab_judge::{Judged, judge};
 use fab_policy::{Verdict, hear};
 use fab_roster::Roster;
@@ -18,18 +18,9 @@ const FROM_PORT: [u8; 16] = [
     0x00, 0x05, 0x1E, 0x00, 0x00, 0x02, 0x0E, 0xFC, 0x00, 0x01, 0x01, 0x00, 0x81, 0x00, 0x00, 0x64,
 ];
 
-/// A zone of A and B.
-fn pair(alloc: Global, zones: &mut ZoneList) -> Result<(), NoMemory> {
-    let mut members = NameList::empty(alloc);
-    name_two(alloc, &mut members)?;
-    let name = Bytes::copy(alloc, b"z")?;
-    zones.push(alloc, Zone { name, members })
-}
-
-fn name_two(alloc: Global, members: &mut NameList) -> Result<(), NoMemory> {
-    members.push(alloc, A)?;
-    members.push(alloc, B)
-}
+/// Three addresses, two logins at most, and a zone of A and B.
+const CONFIG: &str = "fcf-mac 00:05:1e:00:00:02\nvlan 100\nswitch 10:00:00:05:1e:00:00:02\n\
+    pool 3\nlimit 2\nzone z 10:00:00:1b:21:00:00:0a 10:00:00:1b:21:00:00:0b\n";
 
 /// A on port 1 has 010100 and is logged in to the name server, B on port 2 has 010101.
 fn log_in(rt: &impl Abort, roster: &mut Roster, low: FcId)
@@ -38,7 +29,7 @@ fn log_in(rt: &impl Abort, roster: &mut Roster, low: FcId)
     let high = FcId::new(0x010101).expect(rt, "high");
     let one = PortNo::new(1).expect(rt, "one");
     let two = PortNo::new(2).expect(rt, "two");
-    roster.set_clock(Moment(1000));
+    tick(rt, roster, 1000);
     grant(rt, roster, low, A, one);
     grant(rt, roster, high, B, two);
     assert!(rt; roster.by_address(low).is_some());
@@ -51,10 +42,11 @@ fn verdict_of(
     alloc: Global,
     roster: &Roster,
     frame: Vec<u8>,
-) -> Result<Verdict, NoMemory> {
-    let mut config = settings(alloc);
-    pair(alloc, &mut config.zones)?;
-    verdict_in(rt, alloc, &config, roster, frame)
+) -> Result<Verdict, Fail> {
+    match &read_config(alloc, CONFIG.as_bytes()) {
+        Ok(config) => Ok(verdict_in(rt, alloc, config, roster, frame)?),
+        Err(_) => Err("the text is a configuration".into()),
+    }
 }
 
 fn verdict_in(
@@ -75,7 +67,9 @@ fn verdict_by(
     zones: &Zones,
     roster: &Roster,
     frame: Vec<u8>,
-) -> Result<Verdict, NoMemory> {
+) -> Result<Verdict, NoMemory>
+    requires zones { zones.now ≡ zones_of config.now }
+{
     let port = PortNo::new(1).expect(rt, "port");
     let caught = Caught {
         bytes: Bytes::from_vec(frame),

@@ -29,7 +29,7 @@ pub(crate) fn enode(port: PortNo) -> Enode {
     }
 }
 
-fn tick(rt: &impl Abort, roster: &mut Roster, moment: u64)
+pub(crate) fn tick(rt: &impl Abort, roster: &mut Roster, moment: u64)
     ensures limit { roster.new.limit ≡ roster.old.limit }
 {
     assert!(rt; moment < 1 << 63);

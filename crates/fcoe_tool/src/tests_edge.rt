@@ -133,9 +133,12 @@ fn no_file_is_emptied_without_room(rt: HostRuntime) -> Result<(), Fail> {
 fn outputs_are_as_they_were_or_fronts(rt: HostRuntime) -> Result<(), Fail> {
     let alloc = rt.alloc();
     fs::write(&rt, "K", &CONFIG)?;
-    for name in ["IN", "IN2"] {
-        fs::write(&rt, name, &REQUEST)?;
-    }
+    fs::write(&rt, "IN", &REQUEST)?;
+    // The second port's request comes in a later window, at 2000.
+    let (mut later, mut answer) = (REQUEST, NOTIFICATION);
+    later[24] = 2;
+    answer[24] = 2;
+    fs::write(&rt, "IN2", &later)?;
     for name in ["J", "OUT", "OUT2"] {
         fs::write(&rt, name, b"before")?;
     }
@@ -147,13 +150,13 @@ fn outputs_are_as_they_were_or_fronts(rt: HostRuntime) -> Result<(), Fail> {
     };
     status_of_process(&rt, alloc, Ok(words), &mut say);
     let (journal, capture) = (
-        b"journal 2\n1000 tick\n1000 1 0 vlans\n1000 2 0 vlans\n",
+        b"journal 2\n1000 tick\n1000 1 0 vlans\n2000 tick\n2000 2 0 vlans\n",
         NOTIFICATION,
     );
     let files = [
         ("J", journal.as_slice()),
         ("OUT", capture.as_slice()),
-        ("OUT2", capture.as_slice()),
+        ("OUT2", answer.as_slice()),
     ];
     for (name, whole) in files {
         let Ok(text) = fs::read(&rt, name) else {

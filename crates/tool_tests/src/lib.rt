@@ -23,3 +23,5 @@ mod rows;
 mod stores;
 #[cfg(test)]
 mod worked;
+#[cfg(test)]
+mod workers;

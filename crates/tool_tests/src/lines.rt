@@ -1,7 +1,7 @@
 //! Each line of a journal of thirteen entries left out, doubled, exchanged with the next one, and
 //! with one field changed; and what `run` wrote checked again.
 use crate::commands::runs;
-use crate::worked::{THREE, capture_of, depot_with, line_of, second_format};
+use crate::worked::{THREE, capture_of, depot_with, line_of};
 use fab_base::MemDepot;
 use std::alloc::Global;
 use std::process::Abort;
@@ -9,12 +9,17 @@ use std::sync::Wait;
 use std::test::Fail;
 use std::thread::Threads;
 use worked_journals::initiators::{TWO_INITIATORS_AND_A_TARGET, TWO_ZONES};
-use worked_journals::logins::{LOGGED_IN, POOL_OF_TWO, QUARANTINE};
+use worked_journals::logins::{LOGGED_IN, PLAIN, POOL_OF_TWO, QUARANTINE};
+use worked_journals::silence::{HEARD_ONCE, NODE_FALLS_SILENT};
 use worked_journals::{Worked, worked_of};
 
 const SHOW: [&str; 6] = ["show", "K", "J", "A", "B", "C"];
 
 const REPLAY: [&str; 9] = ["replay", "K", "J", "A", "X", "B", "Y", "C", "Z"];
+
+const REPLAY_NEW: [&str; 9] = ["replay", "K", "NEW", "A", "X", "B", "Y", "C", "Z"];
+
+const MIGRATE: [&str; 3] = ["migrate", "J", "NEW"];
 
 const JOURNAL: &str = "\
 journal 2
@@ -96,30 +101,53 @@ static ROWS: [(usize, &str, [&str; 4]); 13] = [
     ),
 ];
 
-// The journal with a line changed.
-fn changed(alloc: Global, place: usize, change: Change, other: &str) -> Result<String, Fail> {
-    let mut text = String::new(alloc);
-    let mut held = "";
+// A line of a journal, by its number.
+fn line_at(journal: &str, place: usize) -> &str {
     let mut number = 0usize;
-    for line in JOURNAL.lines() {
+    for line in journal.lines() {
         number = number.saturating_add(1);
-        if number != place {
-            push(&mut text, line)?;
-            push(&mut text, held)?;
-            held = "";
+        if number == place {
+            return line;
+        }
+    }
+    ""
+}
+
+// A journal with a line changed.
+fn changed(
+    alloc: Global,
+    journal: &str,
+    place: usize,
+    change: Change,
+    other: &str,
+) -> Result<String, Fail> {
+    let own = line_at(journal, place);
+    let mut text = String::new(alloc);
+    let mut number = 0usize;
+    for line in journal.lines() {
+        number = number.saturating_add(1);
+        if number == place {
+            put_changed(&mut text, change, line, other)?;
             continue;
         }
-        match change {
-            Change::LeftOut => {}
-            Change::Doubled => {
-                push(&mut text, line)?;
-                push(&mut text, line)?;
-            }
-            Change::Exchanged => held = line,
-            Change::Changed => push(&mut text, other)?,
+        push(&mut text, line)?;
+        if number == place.saturating_add(1) && matches!(change, Change::Exchanged) {
+            push(&mut text, own)?;
         }
     }
     Ok(text)
+}
+
+// What stands in the place of a line; one that is exchanged comes behind the next.
+fn put_changed(text: &mut String, change: Change, own: &str, other: &str) -> Result<(), Fail> {
+    match change {
+        Change::LeftOut | Change::Exchanged => Ok(()),
+        Change::Doubled => {
+            push(text, own)?;
+            push(text, own)
+        }
+        Change::Changed => push(text, other),
+    }
 }
 
 fn push(text: &mut String, line: &str) -> Result<(), Fail> {
@@ -159,7 +187,7 @@ fn each_is_told<R: Threads + Wait + Sync + Abort>(
     for (place, other, told) in &ROWS {
         for (change, line) in changes.iter().zip(told.iter()) {
             if !line.is_empty() {
-                let journal = changed(alloc, *place, *change, other)?;
+                let journal = changed(alloc, JOURNAL, *place, *change, other)?;
                 tells(rt, alloc, worked, journal.as_str(), line)?;
             }
         }
@@ -179,17 +207,23 @@ fn is_legal<R: Threads + Wait + Sync + Abort>(
     alloc: Global,
     worked: &Worked,
 ) -> Result<(), Fail> {
-    let mut depot = depot_with(alloc, worked, &capture_of(alloc, 1, &worked.frames)?)?;
-    depot.know(alloc, "replay")?;
-    runs(
-        rt,
-        alloc,
-        &THREE,
-        &mut depot,
-        line_of(alloc, worked)?.as_bytes(),
-        0,
-    )?;
+    let mut depot = after_run(rt, alloc, worked)?;
     replays_both(rt, alloc, worked, &mut depot)
+}
+
+// What `run` leaves over the three captures of a worked journal.
+fn after_run<R: Threads + Wait + Sync + Abort>(
+    rt: &R,
+    alloc: Global,
+    worked: &Worked,
+) -> Result<MemDepot, Fail> {
+    let mut depot = depot_with(alloc, worked, &capture_of(alloc, 1, &worked.frames)?)?;
+    for word in ["replay", "migrate", "NEW"] {
+        depot.know(alloc, word)?;
+    }
+    let line = line_of(alloc, worked)?;
+    runs(rt, alloc, &THREE, &mut depot, line.as_bytes(), 0)?;
+    Ok(depot)
 }
 
 fn replays_both<R: Threads + Wait + Sync + Abort>(
@@ -199,14 +233,42 @@ fn replays_both<R: Threads + Wait + Sync + Abort>(
     depot: &mut MemDepot,
 ) -> Result<(), Fail> {
     let entries = worked.journal.lines().count();
-    let line = format!(in alloc; "legal {entries}\n")?;
-    runs(rt, alloc, &REPLAY, depot, line.as_bytes(), 0)?;
+    let legal = format!(in alloc; "legal {entries}\n")?;
+    runs(rt, alloc, &REPLAY, depot, legal.as_bytes(), 0)?;
     depot.store(alloc, "J", worked.journal.as_bytes())?;
-    runs(rt, alloc, &REPLAY, depot, line.as_bytes(), 0)
+    runs(rt, alloc, &REPLAY, depot, legal.as_bytes(), 0)?;
+    let migrated = format!(in alloc; "migrated {entries}\n")?;
+    runs(rt, alloc, &MIGRATE, depot, migrated.as_bytes(), 0)?;
+    runs(rt, alloc, &REPLAY_NEW, depot, legal.as_bytes(), 0)
 }
 
 #[test]
 fn two_initiators_and_a_target(rt: HostRuntime) -> Result<(), Fail> {
     let worked = worked_of(rt.alloc(), &[TWO_ZONES, TWO_INITIATORS_AND_A_TARGET])?;
     is_legal(&rt, rt.alloc(), &worked)
+}
+
+#[test]
+fn migrate_then_replay_both(rt: HostRuntime) -> Result<(), Fail> {
+    let worked = worked_of(rt.alloc(), &[POOL_OF_TWO, LOGGED_IN, QUARANTINE])?;
+    is_legal(&rt, rt.alloc(), &worked)
+}
+
+// The second node's line grants the address that the first one holds.
+fn refuses_grant<R: Threads + Wait + Sync + Abort>(
+    rt: &R,
+    alloc: Global,
+    worked: &Worked,
+) -> Result<(), Fail> {
+    let mut depot = after_run(rt, alloc, worked)?;
+    let held = "1 1 granted 010100";
+    let journal = changed(alloc, worked.journal.as_str(), 4, Change::Changed, held)?;
+    depot.store(alloc, "J", journal.as_bytes())?;
+    runs(rt, alloc, &REPLAY, &mut depot, b"journal 4 verdict\n", 1)
+}
+
+#[test]
+fn replay_refuses_another_grant(rt: HostRuntime) -> Result<(), Fail> {
+    let worked = worked_of(rt.alloc(), &[PLAIN, HEARD_ONCE, NODE_FALLS_SILENT])?;
+    refuses_grant(&rt, rt.alloc(), &worked)
 }
