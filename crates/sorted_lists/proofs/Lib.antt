@@ -1,3 +1,5 @@
 pub mod SearchLemmas
 pub mod IndexLemmas
 pub mod EnodeLemmas
+pub mod OrderLemmas
+pub mod PlacingLemmas

@@ -5,10 +5,12 @@ ghost use Rattle.std.specs.Prelude.{◌≡◌, ◌==◌, ◌≤◌, nat_lt, nat_
 ghost use Rattle.fab_base.specs.Keyed.{item_at, AscendFrom};
 
 mod enode;
+mod orders;
 mod ranked;
 
 pub use enode::enode_number;
 use fab_base::{FcId, HasAddress};
+pub use orders::{Order, order_find, order_from, order_next, order_put, order_take};
 pub use ranked::{
     HasRank, rank_above, rank_at, rank_find, rank_from, rank_next, rank_put, rank_take,
 };
@@ -20,17 +22,16 @@ pub fn place_from<T: HasAddress>(items: &[T], from: u32) -> usize
         (length items.now) }
     ensures within { result ≤ length items.now }
 {
-    let mut low = 0;
-    let mut high = items.len();
-    while low < high {
-        let middle = low + (high - low) / 2;
-        if items[middle].address().value() < from {
-            low = middle + 1;
-        } else {
-            high = middle;
-        }
+    let mut start = 0;
+    let mut left = items.len();
+    while left > 0 {
+        let half = left / 2;
+        let middle = start + half;
+        let is_below = items[middle].address().value() < from;
+        start = if is_below { middle + 1 } else { start };
+        left = if is_below { left - half - 1 } else { half };
     }
-    low
+    start
 }
 
 /// The place of the first item above the address, or past the end.

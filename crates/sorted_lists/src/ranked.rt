@@ -20,17 +20,16 @@ pub fn rank_from<T: HasRank>(items: &[T], from: u128) -> usize
         (length items.now) }
     ensures within { result ≤ length items.now }
 {
-    let mut low = 0;
-    let mut high = items.len();
-    while low < high {
-        let middle = low + (high - low) / 2;
-        if items[middle].rank() < from {
-            low = middle + 1;
-        } else {
-            high = middle;
-        }
+    let mut start = 0;
+    let mut left = items.len();
+    while left > 0 {
+        let half = left / 2;
+        let middle = start + half;
+        let is_below = items[middle].rank() < from;
+        start = if is_below { middle + 1 } else { start };
+        left = if is_below { left - half - 1 } else { half };
     }
-    low
+    start
 }
 
 /// The place of the first item above the rank, or past the end.

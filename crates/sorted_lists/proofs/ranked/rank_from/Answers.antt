@@ -1,47 +1,52 @@
-use Rattle.std.proofs.Common.{◌≡◌, ◌∙◌, ◌+◌, ◌-◌, ◌/◌, ◌<◌, sym, ap, arith}
+use Rattle.std.proofs.Common.{◌≡◌, ◌∙◌, ◌+◌, ◌/◌, ◌<◌, sym, ap, arith}
 use Rattle.fab_base.proofs.SamenessLemmas.{unwrap_or-position}
 use Rattle.sorted_lists.proofs.SearchLemmas.{place_of, place-above, place-below, place-within}
 use Rattle.sorted_lists.proofs.ranked.rank_from.Goals as goal
+use Rattle.sorted_lists.proofs.ranked.rank_from.Goals.{then-is_below, else-is_below}
 
-pub loop-low-init : goal.loop-low-init
-loop-low-init g c = record {
-  order = omega arith;
+pub loop-left-init : goal.loop-left-init
+loop-left-init g c = record {
   within = omega arith;
-  from_low = omega arith;
-  to_high = place-within g.T.HasRank.rank_of c.args.from c.args.items.now;
+  from_start = omega arith;
+  to_end = omega (arith, place-within g.T.HasRank.rank_of c.args.from c.args.items.now);
 }
 
-pub loop-low-preserved-then-rank-from : goal.loop-low-preserved-then-rank-from
-loop-low-preserved-then-rank-from g c =
+pub loop-left-preserved-then-is_below-2 : goal.loop-left-preserved-then-is_below-2
+loop-left-preserved-then-is_below-2 g c =
     let key = g.T.HasRank.rank_of in
-    let middle = c.loop-low.low + (c.loop-low.high - c.loop-low.low) / 2 in
-    let h = c.loop-low.invariant in
-    let address = c.rank.ensures ∙ ap key c.index-items-middle.is in
-    let inside : middle < c.loop-low.high = omega (arith, c.loop-low-test.true) in
-    let above = place-above key c.args.from 0 c.args.items.now middle c.index-items-middle.result c.requires (omega (arith, h.within)) (omega (arith, address, c.if-rank-from.true)) in
-    record {
-      order = omega arith;
-      within = h.within;
-      from_low = omega (arith, above);
-      to_high = h.to_high;
-    }
+    let middle = c.loop-left.start + c.loop-left.left / 2 in
+    let h = c.loop-left.invariant in
+    let number = c.rank.ensures ∙ ap key c.index-items-middle.is in
+    let inside : middle < c.loop-left.start + c.loop-left.left = omega (arith, c.loop-left-test.true) in
+    let above = place-above key c.args.from 0 c.args.items.now middle c.index-items-middle.result c.requires (omega (arith, h.within, inside)) (omega (arith, number, c.if-is_below-2.true)) in
+    elim c.if-is_below.branch [
+      | then-is_below w ↦ record {
+        within = omega (arith, h.within, inside, w.start-is);
+        from_start = omega (arith, above, w.start-is);
+        to_end = omega (arith, h.to_end, inside, w.start-is);
+      }
+      | else-is_below w ↦ absurd (omega (arith, w.if-is_below, c.if-is_below-2.true))
+    ]
 
-pub loop-low-preserved : goal.loop-low-preserved
-loop-low-preserved g c =
+pub loop-left-preserved : goal.loop-left-preserved
+loop-left-preserved g c =
     let key = g.T.HasRank.rank_of in
-    let middle = c.loop-low.low + (c.loop-low.high - c.loop-low.low) / 2 in
-    let h = c.loop-low.invariant in
-    let address = c.rank.ensures ∙ ap key c.index-items-middle.is in
-    let inside : middle < c.loop-low.high = omega (arith, c.loop-low-test.true) in
-    record {
-      order = omega arith;
-      within = omega (arith, h.within);
-      from_low = h.from_low;
-      to_high = place-below key c.args.from c.args.items.now middle c.index-items-middle.result (omega (arith, h.within)) (omega (arith, address, c.if-rank-from.false));
-    }
+    let middle = c.loop-left.start + c.loop-left.left / 2 in
+    let h = c.loop-left.invariant in
+    let number = c.rank.ensures ∙ ap key c.index-items-middle.is in
+    let inside : middle < c.loop-left.start + c.loop-left.left = omega (arith, c.loop-left-test.true) in
+    let below = place-below key c.args.from c.args.items.now middle c.index-items-middle.result (omega (arith, h.within, inside)) (omega (arith, number, c.if-is_below-2.false)) in
+    elim c.if-is_below.branch [
+      | then-is_below w ↦ absurd (omega (arith, w.if-is_below, c.if-is_below-2.false))
+      | else-is_below w ↦ record {
+        within = omega (arith, h.within, inside, w.start-is);
+        from_start = omega (arith, h.from_start, w.start-is);
+        to_end = omega (arith, below, w.start-is);
+      }
+    ]
 
 pub returns-clause-place : goal.returns-clause-place
 returns-clause-place g c =
-    let h = c.loop-low.invariant in
-    let there : c.loop-low.low ≡ place_of g.T.HasRank.rank_of c.args.from c.args.items.now = omega (arith, h.order, h.from_low, h.to_high, c.loop-low-test.false) in
+    let h = c.loop-left.invariant in
+    let there : c.loop-left.start ≡ place_of g.T.HasRank.rank_of c.args.from c.args.items.now = omega (arith, h.from_start, h.to_end, c.loop-left-test.false) in
     there ∙ sym (unwrap_or-position _ c.args.items.now)

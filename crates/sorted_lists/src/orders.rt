@@ -1,0 +1,129 @@
+//! Lists of places of a slab, in the order of a number of the records there.
+ghost use Rattle.std.specs.Prelude.{◌≡◌, ◌==◌, ◌+◌, ◌<◌, ◌^◌, ◌≤◌, nat_le, length, position, unwrap_or, option_copied, None, Some, IfSome, IfNone, IsSome, IsTrue, vec_capacity, find};
+ghost use Rattle.fab_base.specs.Keyed.{item_at, added, without};
+ghost use Rattle.slab.specs.Slab.{get};
+ghost use Rattle.sorted_lists.specs.Orders.{seen, is_among, AreSorted, IsOrder, IsOrderBut};
+
+use slab::Slab;
+
+/// An order of records: the number by which they ascend.
+pub trait Order<T> {
+    ghost use Rattle.std.specs.Prelude.{◌≡◌, ℕ};
+
+    /// That number.
+    ghost number_of: { Self → T → ℕ };
+
+    fn number(&self, item: &T) -> u128
+        ensures { result ≡ number_of self.now item.now };
+}
+
+/// How many of the places have a record whose number is below the bound.
+pub fn order_from<T, O: Order<T>>(
+    order: &O,
+    records: &Slab<T>,
+    places: &[usize],
+    from: u128,
+) -> usize
+    requires { AreSorted (O.number_of order.now) records.now places.now }
+    ensures place { result
+        ≡ unwrap_or (position (λ x. nat_le from (O.number_of order.now x)) (seen records.now places.now))
+        (length places.now) }
+    ensures within { result ≤ length places.now }
+{
+    let mut start = 0;
+    let mut left = places.len();
+    while left > 0 {
+        let half = left / 2;
+        let middle = start + half;
+        let is_below = order.number(&records[places[middle]]) < from;
+        start = if is_below { middle + 1 } else { start };
+        left = if is_below { left - half - 1 } else { half };
+    }
+    start
+}
+
+/// The first record whose number isn't below the bound.
+pub fn order_next<'a, T, O: Order<T>>(
+    order: &O,
+    records: &'a Slab<T>,
+    places: &[usize],
+    from: u128,
+) -> Option<&'a T>
+    requires { AreSorted (O.number_of order.now) records.now places.now }
+    ensures { option_copied result
+        ≡ find (λ x. nat_le from (O.number_of order.now x)) (seen records.now places.now) }
+{
+    let start = order_from(order, records, places, from);
+    if start < places.len() {
+        Some(&records[places[start]])
+    } else {
+        None
+    }
+}
+
+/// The place of the record that has a number.
+pub fn order_find<T, O: Order<T>>(
+    order: &O,
+    records: &Slab<T>,
+    places: &[usize],
+    number: u128,
+) -> Option<usize>
+    requires { AreSorted (O.number_of order.now) records.now places.now }
+    ensures some { IfSome result (λ place. get records.now place
+        ≡ item_at (O.number_of order.now) number (seen records.now places.now)) }
+    ensures there { IfSome result (λ place. IsSome (get records.now place)) }
+    ensures among { IfSome result (λ place. IsTrue (is_among place places.now)) }
+    ensures none { IfNone result (item_at (O.number_of order.now) number (seen records.now places.now)
+        ≡ None) }
+{
+    let start = order_from(order, records, places, number);
+    if start == places.len() {
+        return None;
+    }
+    let place = places[start];
+    if order.number(&records[place]) != number {
+        return None;
+    }
+    Some(place)
+}
+
+/// Puts the place of a record in. Its number is new, and there is room for it.
+pub fn order_put<T, O: Order<T>>(
+    order: &O,
+    records: &Slab<T>,
+    places: &mut Vec<usize>,
+    place: usize,
+)
+    requires but { IsOrderBut (O.number_of order.now) place records.now places.old.items }
+    requires absent { (x : T) → get records.now place ≡ Some x
+        → item_at (O.number_of order.now) (O.number_of order.now x) (seen records.now places.old.items)
+        ≡ None }
+    requires room { length places.old.items < vec_capacity places.old }
+    ensures order { IsOrder (O.number_of order.now) records.now places.new.items }
+    ensures items { (x : T) → get records.now place ≡ Some x → seen records.now places.new.items
+        ≡ added (O.number_of order.now) x (seen records.now places.old.items) }
+    ensures capacity { vec_capacity places.new ≡ vec_capacity places.old }
+{
+    let start = order_from(order, records, places, order.number(&records[place]));
+    let Ok(()) = places.insert(start, place) else {
+        unreachable!()
+    };
+}
+
+/// Takes the place of a record out, and keeps its room.
+pub fn order_take<T, O: Order<T>>(
+    order: &O,
+    records: &Slab<T>,
+    places: &mut Vec<usize>,
+    place: usize,
+)
+    requires order { IsOrder (O.number_of order.now) records.now places.old.items }
+    requires there { IsSome (get records.now place) }
+    ensures but { IsOrderBut (O.number_of order.now) place records.now places.new.items }
+    ensures items { (x : T) → get records.now place ≡ Some x → seen records.now places.new.items
+        ≡ without (O.number_of order.now) (O.number_of order.now x) (seen records.now places.old.items) }
+    ensures capacity { vec_capacity places.new ≡ vec_capacity places.old }
+{
+    let start = order_from(order, records, places, order.number(&records[place]));
+    places.remove(start);
+}
