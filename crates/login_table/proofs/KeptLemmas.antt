@@ -1,22 +1,24 @@
--- What is found beside the logins is theirs, and stays so when a login comes, goes or changes.
-use Rattle.std.proofs.Common.{◌≡◌, ℕ, ◌+◌, ◌*◌, ◌^◌, ◌<◌, ◌≤◌, ◌==◌, ◌&&◌, nat_le, Bool, true, false, if◌then◌else◌, List, length, find, Option, Some, None, option_map, refl, sym, ◌∙◌, ap, subst, arith}
+-- What is found in an order of the logins is theirs, and what is kept of a table stays when a login comes, goes or changes.
+use Rattle.std.proofs.Common.{◌≡◌, ℕ, ◌+◌, ◌*◌, ◌^◌, ◌<◌, ◌≤◌, ◌==◌, ◌&&◌, nat_le, Bool, true, false, if◌then◌else◌, List, length, find, Option, Some, None, is_some, option_map, refl, sym, ◌∙◌, ap, subst, arith}
 use mathlib.Core.Bool.{false≢true}
 use Rattle.std.proofs.lemmas.Bool.Decides.{nat_tests}
-use Rattle.std.proofs.lemmas.List.Elements.{All-filter, All-map}
+use Rattle.std.proofs.lemmas.List.Elements.{All-map}
+use Rattle.slab.specs.Slab.{Slab, get, slab_len, Updates, with_value}
+use Rattle.slab.proofs.SlabLemmas.{Updates-with_value}
 use Rattle.fab_base.specs.Keyed as spec
 use Rattle.fab_base.specs.Fabric.{same_enode}
 use Rattle.fab_base.specs.declared.values.Enode.{Enode}
-use Rattle.fab_base.proofs.KeyedLemmas as keyed
 use Rattle.fab_base.proofs.SamenessLemmas.{found_passes}
 use Rattle.sorted_lists.specs.Enodes.{enode_number}
+use Rattle.sorted_lists.specs.Index.{IsIndex}
+use Rattle.sorted_lists.specs.Orders.{seen, IsOrderBut}
 use Rattle.sorted_lists.proofs.EnodeLemmas.{number-same, same_enode-refl, same_enode-true}
-use Rattle.sorted_lists.proofs.IndexLemmas.{IsIndex-without, IsIndex-added, IsIndex-changed, absent_entry, IsFresh, All-found, key_found, none_some, equal, find_by_key, first_least, none_from, find_least, find_nothing, none_passes}
-use Rattle.login_table.specs.Logins.{Logins, address_of, login_at, named, next_of, added, with_size, with_server, without}
-use Rattle.login_table.specs.Sound.{named_entry, named_number, behind_entry, behind_number, IsWholeEnode, Fits, address_behind, first_behind, IsKept}
+use Rattle.sorted_lists.proofs.IndexLemmas.{absent_entry, IsFresh, All-found, key_found, none_some, some_same, equal, find_by_key, first_least, none_from, find_least, find_nothing}
+use Rattle.sorted_lists.proofs.OrderLemmas.{IsIndex-orders, IsOrderBut-filled, IsOrder-changed, length-seen, seen-changed, seen-updates, slab_len-with_value}
+use Rattle.login_table.specs.Logins.{address_of, name_of, login_at, named, next_of, added, with_size, with_server, AscendFrom}
+use Rattle.login_table.specs.Sound.{behind_number, IsWholeEnode, Fits, address_behind, first_behind, IsKept}
 use Rattle.login_table.specs.declared.login.Login.{Login}
-use Rattle.login_table.specs.declared.indexes.Named.{Named}
-use Rattle.login_table.specs.declared.indexes.Behind.{Behind}
-use Rattle.login_table.proofs.LoginLemmas.{IsSound-added, IsSound-without, IsSound-with_server}
+use Rattle.login_table.proofs.LoginLemmas.{IsSound-with_server}
 
 is_same : (a b : ℕ) → a ≡ b → (a == b) ≡ true
 is_same a b e = grind (arith, nat_tests)
@@ -35,26 +37,42 @@ fails : (b : Bool) → (b ≡ true → ⊥) → b ≡ false
 fails true e = absurd (e refl)
 fails false e = refl
 
-module _ {t : Logins} {ns : List Named} {es : List Behind} {m n o : ℕ} (kept : IsKept t ns es m n o) where
+module _ {limit : ℕ} {slab : Slab Login} {ps ns es : List ℕ} {m n o : ℕ} (kept : IsKept limit slab ps ns es m n o) where
+  abbrev logins : List Login
+  logins = seen slab ps
+
+  ascending : AscendFrom 0 logins
+  ascending = kept.by_address.sorted.ascending
+
+  names : IsIndex address_of name_of (λ l. l) logins (seen slab ns)
+  names = IsIndex-orders address_of name_of slab ps ns kept.by_address kept.by_name
+
+  enodes : IsIndex address_of behind_number (λ l. l) logins (seen slab es)
+  enodes = IsIndex-orders address_of behind_number slab ps es kept.by_address kept.by_enode
+
+  pub count : length logins ≡ slab_len slab
+  count = length-seen slab ps kept.by_address.sorted.there ∙ kept.by_address.count
+
   -- ---- look-ups
 
-  -- the login of a name is at the address that is kept under it
-  pub named_found : (name : ℕ) (d : Named) → spec.item_at named_number name ns ≡ Some d → login_at d.address t.logins ≡ named name t.logins
-  named_found name d found =
-      let (k, x, there, e) = kept.by_name.made name d found in
-      let at : x.address ≡ k = key_found address_of k x t.logins there in
-      let here : x.name ≡ name = ap (λ (z : Named). z.name) e ∙ key_found named_number name d ns found in
-      let mine : login_at x.address t.logins ≡ Some x = ap (λ a. login_at a t.logins) at ∙ there in
-      ap (λ (z : Named). login_at z.address t.logins) (sym e) ∙ mine
-      ∙ sym (find_least address_of (λ (l : Login). l.name == name) 0 t.logins x kept.sound.ascending mine (is_same x.name name here) (λ j y other passes.
-      let same : k ≡ j = kept.by_name.apart k j x y there other (here ∙ sym (equal y.name name passes)) in
-      omega (arith, at, same)))
+  -- a name finds the same in both orders
+  pub named_found : (name : ℕ) → spec.item_at name_of name (seen slab ns) ≡ named name logins
+  named_found name = go (spec.item_at name_of name (seen slab ns)) refl
+    where
+      go : (o : Option Login) → spec.item_at name_of name (seen slab ns) ≡ o → o ≡ named name logins
+      go None none = sym (find_nothing address_of (λ (l : Login). l.name == name) 0 logins ascending (λ j y other. fails (y.name == name) (λ passes.
+          none_some y (sym none ∙ ap (λ a. spec.item_at name_of a (seen slab ns)) (sym (equal y.name name passes)) ∙ names.told j y other))))
+      go (Some d) found =
+          let (k, x, there, e) = names.made name d found in
+          let at : x.address ≡ k = key_found address_of k x logins there in
+          let here : x.name ≡ name = ap name_of e ∙ key_found name_of name d (seen slab ns) found in
+          let mine : login_at x.address logins ≡ Some x = ap (λ a. login_at a logins) at ∙ there in
+          ap (λ (z : Login). Some z) (sym e)
+          ∙ sym (find_least address_of (λ (l : Login). l.name == name) 0 logins x ascending mine (is_same x.name name here) (λ j y other passes.
+          let same : k ≡ j = names.apart k j x y there other (here ∙ sym (equal y.name name passes)) in
+          omega (arith, at, same)))
 
-  pub named_none : (name : ℕ) → spec.item_at named_number name ns ≡ None → None ≡ named name t.logins
-  named_none name none = sym (find_nothing address_of (λ (l : Login). l.name == name) 0 t.logins kept.sound.ascending (λ j y other. fails (y.name == name) (λ passes.
-      none_some (named_entry y) (sym none ∙ ap (λ a. spec.item_at named_number a ns) (sym (equal y.name name passes)) ∙ kept.by_name.told j y other))))
-
-  -- the first entry of an ENode is that of its first login
+  -- the first of an ENode in the order of ENodes is its first login
   module _ (enode : Enode) (whole : IsWholeEnode enode) (from : ℕ) where
     passes : Login → Bool
     passes l = nat_le from l.address && same_enode l.enode enode
@@ -62,124 +80,126 @@ module _ {t : Logins} {ns : List Named} {es : List Behind} {m n o : ℕ} (kept :
     number_is : (d x : ℕ) (k a b : ℕ) → a < 2 ^ 24 → b < 2 ^ 24 → k * 2 ^ 24 + from ≤ d * 2 ^ 24 + a → d * 2 ^ 24 + a ≤ k * 2 ^ 24 + b → d ≡ k
     number_is d x k a b low also from_d to_d = omega (arith, low, also, from_d, to_d)
 
-    told : (j : ℕ) (y : Login) → login_at j t.logins ≡ Some y → (nat_le from y.address && same_enode y.enode enode) ≡ true →
-        (spec.item_at behind_number (enode_number enode * 2 ^ 24 + y.address) es ≡ Some (behind_entry y)) × (from ≤ y.address)
+    told : (j : ℕ) (y : Login) → login_at j logins ≡ Some y → (nat_le from y.address && same_enode y.enode enode) ≡ true →
+        (spec.item_at behind_number (enode_number enode * 2 ^ 24 + y.address) (seen slab es) ≡ Some y) × (from ≤ y.address)
     told j y there pass =
         let both = two (nat_le from y.address) (same_enode y.enode enode) pass in
-        (subst (λ e. spec.item_at behind_number (enode_number e * 2 ^ 24 + y.address) es ≡ Some (behind_entry y)) (same_enode-true y.enode enode both.1) (kept.by_enode.told j y there), is_from from y.address both.0)
+        (subst (λ e. spec.item_at behind_number (enode_number e * 2 ^ 24 + y.address) (seen slab es) ≡ Some y) (same_enode-true y.enode enode both.1) (enodes.told j y there), is_from from y.address both.0)
 
-    high : nat_le (2 ^ 24) from ≡ true → None ≡ next_of (λ l. same_enode l.enode enode) from t.logins
-    high e = sym (ap (option_map address_of) (find_nothing address_of (λ (l : Login). nat_le from l.address && same_enode l.enode enode) 0 t.logins kept.sound.ascending (λ j y other. fails _ (λ pass.
+    high : nat_le (2 ^ 24) from ≡ true → None ≡ next_of (λ l. same_enode l.enode enode) from logins
+    high e = sym (ap (option_map address_of) (find_nothing address_of (λ (l : Login). nat_le from l.address && same_enode l.enode enode) 0 logins ascending (λ j y other. fails _ (λ pass.
         let at = told j y other pass in
-        absurd (omega (arith, at.1, is_from (2 ^ 24) from e, (All-found Fits _ t.logins y kept.fit other).1))))))
+        absurd (omega (arith, at.1, is_from (2 ^ 24) from e, (All-found Fits _ logins y kept.fit other).1))))))
 
-    low : (r : Option Behind) → find (λ d. nat_le (enode_number enode * 2 ^ 24 + from) (behind_number d)) es ≡ r → address_behind enode r ≡ next_of (λ l. same_enode l.enode enode) from t.logins
-    low None none = sym (ap (option_map address_of) (find_nothing address_of (λ (l : Login). nat_le from l.address && same_enode l.enode enode) 0 t.logins kept.sound.ascending (λ j y other. fails _ (λ pass.
+    low : (r : Option Login) → find (λ d. nat_le (enode_number enode * 2 ^ 24 + from) (behind_number d)) (seen slab es) ≡ r → address_behind enode r ≡ next_of (λ l. same_enode l.enode enode) from logins
+    low None none = sym (ap (option_map address_of) (find_nothing address_of (λ (l : Login). nat_le from l.address && same_enode l.enode enode) 0 logins ascending (λ j y other. fails _ (λ pass.
         let at = told j y other pass in
-        absurd (omega (arith, at.1, none_from behind_number (enode_number enode * 2 ^ 24 + from) es none (enode_number enode * 2 ^ 24 + y.address) (behind_entry y) at.0))))))
+        absurd (omega (arith, at.1, none_from behind_number (enode_number enode * 2 ^ 24 + from) (seen slab es) none (enode_number enode * 2 ^ 24 + y.address) y at.0))))))
     low (Some d) found = by (same_enode d.enode enode) refl
       where
-        mine : spec.item_at behind_number (behind_number d) es ≡ Some d
-        mine = find_by_key behind_number _ 0 es d kept.by_enode.ascending found
+        mine : spec.item_at behind_number (behind_number d) (seen slab es) ≡ Some d
+        mine = find_by_key behind_number _ 0 (seen slab es) d enodes.ascending found
 
         reached : enode_number enode * 2 ^ 24 + from ≤ behind_number d
-        reached = is_from _ (behind_number d) (found_passes (λ z. nat_le (enode_number enode * 2 ^ 24 + from) (behind_number z)) d es found)
+        reached = is_from _ (behind_number d) (found_passes (λ z. nat_le (enode_number enode * 2 ^ 24 + from) (behind_number z)) d (seen slab es) found)
 
-        least : (j : ℕ) (y : Login) → login_at j t.logins ≡ Some y → (nat_le from y.address && same_enode y.enode enode) ≡ true → behind_number d ≤ enode_number enode * 2 ^ 24 + y.address
+        least : (j : ℕ) (y : Login) → login_at j logins ≡ Some y → (nat_le from y.address && same_enode y.enode enode) ≡ true → behind_number d ≤ enode_number enode * 2 ^ 24 + y.address
         least j y other pass =
             let at = told j y other pass in
-            first_least behind_number (enode_number enode * 2 ^ 24 + from) 0 es d kept.by_enode.ascending found (enode_number enode * 2 ^ 24 + y.address) (behind_entry y) at.0 (omega (arith, at.1))
+            first_least behind_number (enode_number enode * 2 ^ 24 + from) 0 (seen slab es) d enodes.ascending found (enode_number enode * 2 ^ 24 + y.address) y at.0 (omega (arith, at.1))
 
-        fits : (x : Login) (k : ℕ) → login_at k t.logins ≡ Some x → behind_entry x ≡ d → IsWholeEnode d.enode × (d.address < 2 ^ 24)
-        fits x k there e = subst (λ (z : Behind). IsWholeEnode z.enode × (z.address < 2 ^ 24)) e (All-found Fits _ t.logins x kept.fit there)
+        -- it is among the logins
+        own : login_at d.address logins ≡ Some d
+        own =
+            let (k, x, there, e) = enodes.made (behind_number d) d mine in
+            subst (λ (z : Login). login_at z.address logins ≡ Some z) e (ap (λ a. login_at a logins) (key_found address_of k x logins there) ∙ there)
 
-        by : (b : Bool) → same_enode d.enode enode ≡ b → (if b then Some d.address else None) ≡ next_of (λ l. same_enode l.enode enode) from t.logins
+        fit : Fits d
+        fit = All-found Fits _ logins d kept.fit own
+
+        by : (b : Bool) → same_enode d.enode enode ≡ b → (if b then Some d.address else None) ≡ next_of (λ l. same_enode l.enode enode) from logins
         by true same =
-            let (k, x, there, e) = kept.by_enode.made (behind_number d) d mine in
-            let at : x.address ≡ k = key_found address_of k x t.logins there in
-            let own : login_at x.address t.logins ≡ Some x = ap (λ a. login_at a t.logins) at ∙ there in
-            let place : x.address ≡ d.address = ap (λ (z : Behind). z.address) e in
             let number : enode_number d.enode ≡ enode_number enode = ap enode_number (same_enode-true d.enode enode same) in
             let behind : from ≤ d.address = omega (arith, reached, number) in
-            let pass : (nat_le from x.address && same_enode x.enode enode) ≡ true = ap (λ b. b && same_enode x.enode enode) (from_is from x.address (omega (arith, behind, place))) ∙ ap (λ (z : Behind). same_enode z.enode enode) e ∙ same in
-            ap (λ (a : ℕ). Some a) (sym place)
-            ∙ sym (ap (option_map address_of) (find_least address_of (λ (l : Login). nat_le from l.address && same_enode l.enode enode) 0 t.logins x kept.sound.ascending own pass (λ j y other passes_too.
-            omega (arith, least j y other passes_too, number, place, key_found address_of j y t.logins other))))
+            let pass : (nat_le from d.address && same_enode d.enode enode) ≡ true = ap (λ b. b && same_enode d.enode enode) (from_is from d.address behind) ∙ same in
+            sym (ap (option_map address_of) (find_least address_of (λ (l : Login). nat_le from l.address && same_enode l.enode enode) 0 logins d ascending own pass (λ j y other passes_too.
+            omega (arith, least j y other passes_too, number, key_found address_of j y logins other))))
         by false other =
-            let (k, x, there, e) = kept.by_enode.made (behind_number d) d mine in
-            let fit = fits x k there e in
-            sym (ap (option_map address_of) (find_nothing address_of (λ (l : Login). nat_le from l.address && same_enode l.enode enode) 0 t.logins kept.sound.ascending (λ j y also. fails _ (λ pass.
-            let number : enode_number d.enode ≡ enode_number enode = number_is (enode_number d.enode) 0 (enode_number enode) d.address y.address fit.1 (All-found Fits _ t.logins y kept.fit also).1 reached (least j y also pass) in
+            sym (ap (option_map address_of) (find_nothing address_of (λ (l : Login). nat_le from l.address && same_enode l.enode enode) 0 logins ascending (λ j y also. fails _ (λ pass.
+            let number : enode_number d.enode ≡ enode_number enode = number_is (enode_number d.enode) 0 (enode_number enode) d.address y.address fit.1 (All-found Fits _ logins y kept.fit also).1 reached (least j y also pass) in
             false≢true (sym other ∙ subst (λ z. same_enode z enode ≡ true) (sym (number-same d.enode enode fit.0 whole number)) (same_enode-refl enode))))))
 
-    pub first_of_enode : first_behind enode from es ≡ next_of (λ l. same_enode l.enode enode) from t.logins
+    pub first_of_enode : first_behind enode from (seen slab es) ≡ next_of (λ l. same_enode l.enode enode) from logins
     first_of_enode = go (nat_le (2 ^ 24) from) refl
       where
-        go : (b : Bool) → nat_le (2 ^ 24) from ≡ b → (if b then None else address_behind enode (find (λ d. nat_le (enode_number enode * 2 ^ 24 + from) (behind_number d)) es)) ≡ next_of (λ l. same_enode l.enode enode) from t.logins
+        go : (b : Bool) → nat_le (2 ^ 24) from ≡ b → (if b then None else address_behind enode (find (λ d. nat_le (enode_number enode * 2 ^ 24 + from) (behind_number d)) (seen slab es))) ≡ next_of (λ l. same_enode l.enode enode) from logins
         go true e = high e
         go false e = low _ refl
 
-  -- ---- changes
+  -- ---- one more login
 
-  module _ (y : Login) (fits : Fits y) (absent : login_at y.address t.logins ≡ None) (unnamed : named y.name t.logins ≡ None) where
-    fresh_name : IsFresh address_of named_number named_entry y t.logins
-    fresh_name k x there e = false≢true (sym (none_passes address_of (λ (l : Login). l.name == y.name) t.logins k x unnamed there) ∙ is_same x.name y.name e)
-
-    fresh_entry : IsFresh address_of behind_number behind_entry y t.logins
-    fresh_entry k x there e =
-        let same : x.address ≡ y.address = apart (enode_number x.enode) (enode_number y.enode) x.address y.address (All-found Fits _ t.logins x kept.fit there).1 fits.1 e in
-        none_some x (sym absent ∙ ap (λ a. login_at a t.logins) (sym same ∙ key_found address_of k x t.logins there) ∙ there)
+  -- an address that is new in the other orders
+  module _ (y : Login) (fits : Fits y) (absent : login_at y.address logins ≡ None) where
+    fresh_enode : IsFresh address_of behind_number (λ l. l) y logins
+    fresh_enode k x there e =
+        let same : x.address ≡ y.address = apart (enode_number x.enode) (enode_number y.enode) x.address y.address (All-found Fits _ logins x kept.fit there).1 fits.1 e in
+        none_some x (sym absent ∙ ap (λ a. login_at a logins) (sym same ∙ key_found address_of k x logins there) ∙ there)
       where
         apart : (a b p q : ℕ) → p < 2 ^ 24 → q < 2 ^ 24 → a * 2 ^ 24 + p ≡ b * 2 ^ 24 + q → p ≡ q
         apart a b p q low also e = omega (arith, low, also, e)
 
-    pub absent_name : spec.item_at named_number y.name ns ≡ None
-    absent_name = absent_entry address_of named_number named_entry y t.logins ns kept.by_name fresh_name
+    pub absent_enode : spec.item_at behind_number (behind_number y) (seen slab es) ≡ None
+    absent_enode = absent_entry address_of behind_number (λ l. l) y logins (seen slab es) enodes fresh_enode
 
-    pub absent_behind : spec.item_at behind_number (behind_number (behind_entry y)) es ≡ None
-    absent_behind = absent_entry address_of behind_number behind_entry y t.logins es kept.by_enode fresh_entry
+  module _ (new : Slab Login) (p : ℕ) (y : Login) (vacant : get slab p ≡ None) (updates : Updates slab new p (Some y)) (more : slab_len new ≡ slab_len slab + 1) where
+    pub but_address : IsOrderBut address_of p new ps
+    but_address = IsOrderBut-filled address_of slab new p y ps kept.by_address vacant updates more
 
-    pub kept_added : length t.logins < t.limit →
-        IsKept (record { limit = t.limit; logins = added y t.logins }) (spec.added named_number (named_entry y) ns) (spec.added behind_number (behind_entry y) es) m n o
-    kept_added room = record {
-      sound = IsSound-added y t kept.sound room absent unnamed;
-      fit = keyed.All-added address_of Fits y t.logins kept.fit fits;
-      by_name = IsIndex-added address_of named_number named_entry y t.logins ns kept.sound.ascending kept.by_name absent fresh_name;
-      by_enode = IsIndex-added address_of behind_number behind_entry y t.logins es kept.sound.ascending kept.by_enode absent fresh_entry;
+    pub but_name : IsOrderBut name_of p new ns
+    but_name = IsOrderBut-filled name_of slab new p y ns kept.by_name vacant updates more
+
+    pub but_enode : IsOrderBut behind_number p new es
+    but_enode = IsOrderBut-filled behind_number slab new p y es kept.by_enode vacant updates more
+
+    -- a number that wasn't there isn't there yet
+    pub still_absent : (key : Login → ℕ) (places : List ℕ) → IsOrderBut key p new places → spec.item_at key (key y) (seen slab places) ≡ None
+        → (x : Login) → get new p ≡ Some x → spec.item_at key (key x) (seen new places) ≡ None
+    still_absent key places but none x is =
+        ap (λ l. spec.item_at key (key x) l) (seen-updates slab new p (Some y) places updates but.absent)
+        ∙ subst (λ (z : Login). spec.item_at key (key z) (seen slab places) ≡ None) (some_same y x (sym updates.changed ∙ is)) none
+
+    pub seen_added : (places : List ℕ) → ((x : Login) → get new p ≡ Some x → seen new places ≡ spec.added address_of x (seen new ps)) → seen new places ≡ added y logins
+    seen_added places put = put y updates.changed ∙ ap (added y) (seen-updates slab new p (Some y) ps updates but_address.absent)
+
+  -- ---- another receive size
+
+  module _ (size : Option ℕ) (p : ℕ) (x : Login) (here : get slab p ≡ Some x) where
+    updates_sized : Updates slab (with_value slab p (with_size size x)) p (Some (with_size size x))
+    updates_sized = Updates-with_value slab p (with_size size x) (ap is_some here)
+
+    same_len : slab_len (with_value slab p (with_size size x)) ≡ slab_len slab
+    same_len = slab_len-with_value slab p x (with_size size x) here
+
+    pub seen_sized : seen (with_value slab p (with_size size x)) ps ≡ with_server x.address size logins
+    seen_sized = seen-changed address_of slab _ p x ps (with_size size) (λ l. refl) kept.by_address here updates_sized
+
+    sized_fits : (l : Login) → Fits l → Fits (spec.changed_if address_of x.address (with_size size) l)
+    sized_fits l fits = go (l.address == x.address)
+      where
+        go : (b : Bool) → Fits (if b then with_size size l else l)
+        go true = fits
+        go false = fits
+
+    pub kept_sized : IsKept limit (with_value slab p (with_size size x)) ps ns es m n o
+    kept_sized = record {
+      sound = rw seen_sized (IsSound-with_server x.address size _ kept.sound);
+      fit = rw seen_sized (All-map Fits (spec.changed_if address_of x.address (with_size size)) logins (λ i d lt. sized_fits _ (kept.fit i d lt)));
+      by_address = IsOrder-changed address_of slab _ p x ps (with_size size) (λ l. refl) kept.by_address here updates_sized same_len;
+      by_name = IsOrder-changed name_of slab _ p x ns (with_size size) (λ l. refl) kept.by_name here updates_sized same_len;
+      by_enode = IsOrder-changed behind_number slab _ p x es (with_size size) (λ l. refl) kept.by_enode here updates_sized same_len;
       room = kept.room;
+      address_room = kept.address_room;
       name_room = kept.name_room;
-      entry_room = kept.entry_room;
+      enode_room = kept.enode_room;
       range = kept.range;
     }
-
-  pub kept_without : (a : ℕ) (x : Login) → login_at a t.logins ≡ Some x →
-      IsKept (record { limit = t.limit; logins = without a t.logins }) (spec.without named_number (named_number (named_entry x)) ns) (spec.without behind_number (behind_number (behind_entry x)) es) m n o
-  kept_without a x there = record {
-    sound = IsSound-without a t kept.sound;
-    fit = All-filter _ Fits t.logins kept.fit;
-    by_name = IsIndex-without address_of named_number named_entry a x t.logins ns kept.sound.ascending kept.by_name there;
-    by_enode = IsIndex-without address_of behind_number behind_entry a x t.logins es kept.sound.ascending kept.by_enode there;
-    room = kept.room;
-    name_room = kept.name_room;
-    entry_room = kept.entry_room;
-    range = kept.range;
-  }
-
-  pub kept_changed : (a : ℕ) (size : Option ℕ) → IsKept (record { limit = t.limit; logins = with_server a size t.logins }) ns es m n o
-  kept_changed a size = record {
-    sound = IsSound-with_server a size t kept.sound;
-    fit = All-map Fits (spec.changed_if address_of a (with_size size)) t.logins (λ i d lt. sized_fits _ (kept.fit i d lt));
-    by_name = IsIndex-changed address_of named_number named_entry (with_size size) (λ l. refl) (λ l. refl) a t.logins ns kept.by_name;
-    by_enode = IsIndex-changed address_of behind_number behind_entry (with_size size) (λ l. refl) (λ l. refl) a t.logins es kept.by_enode;
-    room = kept.room;
-    name_room = kept.name_room;
-    entry_room = kept.entry_room;
-    range = kept.range;
-  }
-    where
-      sized_fits : (l : Login) → Fits l → Fits (spec.changed_if address_of a (with_size size) l)
-      sized_fits l fits = go (l.address == a)
-        where
-          go : (b : Bool) → Fits (if b then with_size size l else l)
-          go true = fits
-          go false = fits

@@ -2,9 +2,8 @@
 //! by ENode.
 #![tactic(auto)]
 
-mod indexes;
 mod login;
-mod search;
+mod orders;
 mod table;
 
 pub use login::Login;

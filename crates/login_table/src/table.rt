@@ -1,13 +1,15 @@
-//! The table: its logins in ascending order of addresses.
+//! The table: each login at a place of its own, and the places in three orders.
 ghost use Rattle.std.specs.Prelude.{◌≡◌, ℕ, ◌<◌, if◌then◌else◌, ◌==◌, length, IfOk, Some, None, [], is_some, true, false, option_copied, option_map};
 ghost use Rattle.fab_base.specs.Fabric.{same_enode};
 ghost use Rattle.login_table.specs.Logins.{Logins, login_at, named, next_of, added, sized, with_server, without, IsSound};
 
 use crate::Login;
-use crate::indexes::{Behind, Named, first_behind};
-use crate::search::next;
+use crate::orders::{
+    ByAddress, ByEnode, ByName, first_behind, first_from, known, login_by, place_of,
+};
 use fab_base::{Enode, FcId, NoMemory, Wwn};
-use sorted_lists::{HasRank, find_at, place_above, place_at, rank_find, rank_put, rank_take};
+use slab::Slab;
+use sorted_lists::{order_put, order_take};
 use std::alloc::Global;
 use std::marker::Model;
 
@@ -15,28 +17,32 @@ use std::marker::Model;
 #[derive(Debug, Drop)]
 pub struct LoginTable {
     limit: u32,
-    logins: Vec<Login>,
-    // The addresses of their names, and those of their ENodes, in order.
-    names: Vec<Named>,
-    entries: Vec<Behind>,
+    logins: Slab<Login>,
+    // The places of the logins, in each of their orders.
+    by_address: Vec<usize>,
+    by_name: Vec<usize>,
+    by_enode: Vec<usize>,
 }
 
 impl Model for LoginTable {
     ghost use Rattle.std.specs.Prelude.{vec_capacity};
+    ghost use Rattle.sorted_lists.specs.Orders.{seen};
     ghost use Rattle.login_table.specs.Logins.{Logins};
 
     ghost Value = { Logins };
 
     ghost use Rattle.login_table.specs.Sound.{IsKept};
 
-    ghost view = { λ t. record { limit = t.limit; logins = t.logins.items } };
+    ghost view = { λ t. record { limit = t.limit; logins = seen t.logins t.by_address.items } };
 
-    ghost invariant = { λ t. IsKept (record { limit = t.limit; logins = t.logins.items })
-        t.names.items
-        t.entries.items
-        (vec_capacity t.logins)
-        (vec_capacity t.names)
-        (vec_capacity t.entries) };
+    ghost invariant = { λ t. IsKept t.limit
+        t.logins
+        t.by_address.items
+        t.by_name.items
+        t.by_enode.items
+        (vec_capacity t.by_address)
+        (vec_capacity t.by_name)
+        (vec_capacity t.by_enode) };
 }
 
 impl LoginTable {
@@ -45,14 +51,16 @@ impl LoginTable {
         ensures empty { IfOk result (λ t. t ≡ record { limit = limit; logins = [] }) }
         ensures sound { IfOk result IsSound }
     {
-        let logins = Vec::with_capacity(alloc, limit as usize)?;
-        let names = Vec::with_capacity(alloc, limit as usize)?;
-        let entries = Vec::with_capacity(alloc, limit as usize)?;
+        let logins = Slab::with_capacity(alloc, limit as usize)?;
+        let by_address = Vec::with_capacity(alloc, limit as usize)?;
+        let by_name = Vec::with_capacity(alloc, limit as usize)?;
+        let by_enode = Vec::with_capacity(alloc, limit as usize)?;
         Ok(LoginTable {
             limit,
             logins,
-            names,
-            entries,
+            by_address,
+            by_name,
+            by_enode,
         })
     }
 
@@ -68,14 +76,11 @@ impl LoginTable {
         ensures named { (name : ℕ) → named name self.new.logins
             ≡ (if login.name == name then Some login else named name self.old.logins) }
     {
-        let named = Named::new(&login);
-        let behind = Behind::new(&login);
-        rank_put(&mut self.names, named);
-        rank_put(&mut self.entries, behind);
-        let place = place_above(&self.logins, login.address);
-        let Ok(()) = self.logins.insert(place, login) else {
-            unreachable!()
-        };
+        known(&login);
+        let place = self.logins.insert_reserved(login);
+        order_put(&ByAddress, &self.logins, &mut self.by_address, place);
+        order_put(&ByName, &self.logins, &mut self.by_name, place);
+        order_put(&ByEnode, &self.logins, &mut self.by_enode, place);
     }
 
     /// The login of an address.
@@ -83,7 +88,12 @@ impl LoginTable {
         ensures login { option_copied result ≡ login_at address self.now.logins }
         ensures sound { IsSound self.now }
     {
-        find_at(&self.logins, address)
+        login_by(
+            &ByAddress,
+            &self.logins,
+            &self.by_address,
+            address.value() as u128,
+        )
     }
 
     /// The login of a port name.
@@ -91,10 +101,7 @@ impl LoginTable {
         ensures login { option_copied result ≡ named name self.now.logins }
         ensures sound { IsSound self.now }
     {
-        match rank_find(&self.names, name.0 as u128) {
-            Some(entry) => find_at(&self.logins, entry.address),
-            None => None,
-        }
+        login_by(&ByName, &self.logins, &self.by_name, name.0 as u128)
     }
 
     /// Sets the receive size at the name server. False where the address has no login.
@@ -107,7 +114,7 @@ impl LoginTable {
         ensures found { (a : ℕ) → login_at a self.new.logins
             ≡ option_map (sized address size) (login_at a self.old.logins) }
     {
-        match place_at(&self.logins, address) {
+        match place_of(&self.logins, &self.by_address, address) {
             Some(place) => {
                 self.logins[place].server_size = size;
                 true
@@ -121,7 +128,7 @@ impl LoginTable {
         ensures first { result ≡ next_of (λ l. same_enode l.enode enode.now) from self.now.logins }
         ensures sound { IsSound self.now }
     {
-        first_behind(&self.entries, enode, from)
+        first_behind(&self.logins, &self.by_enode, enode, from)
     }
 
     /// Removes the login of an address, and hands it out.
@@ -132,12 +139,12 @@ impl LoginTable {
         ensures found { (a : ℕ) → login_at a self.new.logins
             ≡ (if address == a then None else login_at a self.old.logins) }
     {
-        match place_at(&self.logins, address) {
+        match place_of(&self.logins, &self.by_address, address) {
             Some(place) => {
-                let login = self.logins.remove(place);
-                rank_take(&mut self.names, Named::new(&login).rank());
-                rank_take(&mut self.entries, Behind::new(&login).rank());
-                Some(login)
+                order_take(&ByAddress, &self.logins, &mut self.by_address, place);
+                order_take(&ByName, &self.logins, &mut self.by_name, place);
+                order_take(&ByEnode, &self.logins, &mut self.by_enode, place);
+                Some(self.logins.remove(place))
             }
             None => None,
         }
@@ -148,7 +155,7 @@ impl LoginTable {
         ensures first { result ≡ next_of (λ l. true) from self.now.logins }
         ensures sound { IsSound self.now }
     {
-        next(&self.logins, from)
+        first_from(&self.logins, &self.by_address, from)
     }
 
     /// How many logins there are.
@@ -156,6 +163,6 @@ impl LoginTable {
         ensures count { result ≡ length self.now.logins }
         ensures sound { IsSound self.now }
     {
-        self.logins.len() as u32
+        self.by_address.len() as u32
     }
 }

@@ -1,16 +1,15 @@
-use Rattle.std.proofs.Common.{◌∙◌, ℕ, ap, sym}
-use Rattle.login_table.specs.Logins.{login_at, named}
-use Rattle.login_table.proofs.KeptLemmas.{named_found, named_none}
+use Rattle.std.proofs.Common.{◌∙◌, ℕ, ap, sym, subst}
+use Rattle.fab_base.specs.Keyed.{item_at}
+use Rattle.sorted_lists.specs.Orders.{seen, AreSorted}
+use Rattle.login_table.specs.Logins.{name_of, named}
+use Rattle.login_table.proofs.KeptLemmas.{named_found}
 use Rattle.login_table.proofs.table.LoginTable.by_name.Goals as goal
 
-pub returns-in-Some-clause-login : goal.returns-in-Some-clause-login
-returns-in-Some-clause-login c =
-    let found = rw c.deref.ensures.value at (sym c.in-Some.ensures) in
-    rw (← c.self.view_is)
-    (c.find_at.ensures ∙ ap (λ l. login_at c.in-Some.entry.now.address l) c.deref-in-Some.ensures.value ∙ named_found c.self.invariant _ c.in-Some.entry.now found
-    ∙ ap (λ (k : ℕ). named k c.self.inside.logins.items) c.name.view_is)
+pub login_by-requires : goal.login_by-requires
+login_by-requires c = subst (λ l. AreSorted name_of c.self.inside.logins l) (sym c.deref.ensures.value) c.self.invariant.by_name.sorted
 
-pub returns-in-None-clause-login : goal.returns-in-None-clause-login
-returns-in-None-clause-login c =
-    let none = rw c.deref.ensures.value at (sym c.in-None.ensures) in
-    rw (← c.self.view_is) (named_none c.self.invariant _ none ∙ ap (λ (k : ℕ). named k c.self.inside.logins.items) c.name.view_is)
+pub returns-clause-login : goal.returns-clause-login
+returns-clause-login c =
+    rw (← c.self.view_is)
+    (c.login_by.ensures ∙ ap (λ l. item_at name_of c.name.inside.0 (seen c.self.inside.logins l)) c.deref.ensures.value ∙ named_found c.self.invariant _
+    ∙ ap (λ (k : ℕ). named k (seen c.self.inside.logins c.self.inside.by_address.items)) c.name.view_is)

@@ -1,0 +1,22 @@
+use Rattle.std.proofs.Common.{arith}
+use Rattle.std.proofs.lemmas.List.Elements.{All-nil}
+use Rattle.sorted_lists.proofs.OrderLemmas.{IsOrder-empty}
+use Rattle.login_table.specs.Logins.{address_of, name_of}
+use Rattle.login_table.specs.Sound.{behind_number, Fits}
+use Rattle.login_table.proofs.table.LoginTable.new.Goals as goal
+
+pub invariant_of-result : goal.invariant_of-result
+invariant_of-result c =
+    let empty = c.in_ok-logins.ensures.empty in
+    rw (c.in_ok-by_address.ensures.items, c.in_ok-by_name.ensures.items, c.in_ok-by_enode.ensures.items) record {
+      sound = record { ascending = tt; names = tt; bound = omega arith };
+      fit = All-nil Fits;
+      by_address = IsOrder-empty address_of c.in_ok-logins.logins empty;
+      by_name = IsOrder-empty name_of c.in_ok-logins.logins empty;
+      by_enode = IsOrder-empty behind_number c.in_ok-logins.logins empty;
+      room = c.in_ok-logins.ensures.capacity;
+      address_room = c.in_ok-by_address.ensures.capacity;
+      name_room = c.in_ok-by_name.ensures.capacity;
+      enode_room = c.in_ok-by_enode.ensures.capacity;
+      range = omega arith;
+    }
