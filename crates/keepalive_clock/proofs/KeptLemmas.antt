@@ -1,20 +1,24 @@
--- What holds of what a clock keeps: it is sound, it is searched by number, and it stays so when a voice goes or comes.
-use Rattle.std.proofs.Common.{◌≡◌, ℕ, ◌+◌, ◌-◌, ◌*◌, ◌^◌, ◌<◌, ◌≤◌, not, List, [], ◌∷◌, length, Some, None, is_some, IsTrue, IsPermutation, if◌then◌else◌, ◌⊎◌, nat_lt, sym, ◌∙◌, ap, subst, arith}
+-- What holds of what a clock keeps: it is sound, it is searched by number, and it stays so when a voice goes, comes, or is heard
+-- again.
+use Rattle.std.proofs.Common.{◌≡◌, ℕ, ◌+◌, ◌*◌, ◌^◌, ◌<◌, ◌==◌, ◌⊎◌, inl, inr, not, Bool, true, false, List, [], ◌∷◌, length, Option, Some, None, is_some, IsTrue, IsPermutation, if◌then◌else◌, nat_lt, option_map, refl, sym, ◌∙◌, ap, subst, arith}
 use Rattle.std.specs.List.{All, insert, position_or_len}
 use Rattle.std.proofs.lemmas.List.Sorted.{IsPermutation-insert}
 use Rattle.std.proofs.lemmas.List.Elements.{All-head, All-tail, All-filter}
+use Rattle.slab.specs.Slab.{Slab, get, slab_len, Updates}
 use Rattle.fab_base.specs.Keyed as keyed
 use Rattle.fab_base.proofs.KeyedLemmas as lemmas
 use Rattle.fab_base.proofs.SamenessLemmas as same
-use Rattle.sorted_lists.proofs.IndexLemmas.{IsIndex-without, IsIndex-added, absent_entry, IsFresh, All-found, find-alike, filter-alike, key_found, none_some}
+use Rattle.sorted_lists.specs.Index.{IsIndex}
+use Rattle.sorted_lists.specs.Orders.{seen, IsOrder, IsOrderBut}
+use Rattle.sorted_lists.proofs.IndexLemmas.{IsIndex-without, absent_entry, IsFresh, All-found, find-alike, filter-alike, key_found, none_some, some_same, equal, unequal, differs}
+use Rattle.sorted_lists.proofs.OrderLemmas.{itself, absent-vacant, seen-updates, length-seen, item-here, IsOrderBut-filled, IsOrder-vacated, seen-changed, IsOrder-changed, IsIndex-orders}
 use Rattle.keepalive_clock.specs.Voices.{same_voice}
-use Rattle.keepalive_clock.specs.Clock.{VoiceClock, voice_of, heard_of, last_of, count_with, without, HearsVoice, VoicesDiffer, IsSound}
-use Rattle.keepalive_clock.specs.Order.{number_of, IsWhole, Fits, voice_number, deadline_number, deadline_of, IsKept}
+use Rattle.keepalive_clock.specs.Clock.{voice_of, heard_of, last_of, count_with, without, HearsVoice, VoicesDiffer, IsSound}
+use Rattle.keepalive_clock.specs.Order.{number_of, IsWhole, Fits, voice_number, deadline_number, heard_again, IsKept}
 use Rattle.keepalive_clock.specs.declared.voice.Voice.{Voice}
 use Rattle.keepalive_clock.specs.declared.voice.LastHeard.{LastHeard}
-use Rattle.keepalive_clock.specs.declared.due.Deadline.{Deadline}
 use Rattle.keepalive_clock.proofs.VoiceLemmas.{voices_same, number-range, same_number}
-use Rattle.keepalive_clock.proofs.HeardLemmas.{last_of-insert, count_without, room_without}
+use Rattle.keepalive_clock.proofs.HeardLemmas.{last_of-insert, count_without, is_some-last}
 
 -- ---- by number
 
@@ -34,115 +38,224 @@ differ_numbers k (x ∷ xs) ascend fit = (
   differ_numbers (voice_number x + 1) xs ascend.1 (All-tail Fits x xs fit),
 )
 
-module _ {c : VoiceClock} {ds : List Deadline} {m n : ℕ} (kept : IsKept c ds m n) where
-  pub sound_kept : IsSound c
-  sound_kept = record { differ = differ_numbers 0 c.voices kept.ascending kept.fit; bound = kept.bound }
+-- ---- a voice is heard
 
-  -- a voice goes, and its deadline
-  pub kept_without : (v : Voice) (x : LastHeard) → keyed.item_at voice_number (number_of v) c.voices ≡ Some x →
-      IsKept (record {
-        node_period = c.node_period;
-        port_period = c.port_period;
-        room = c.room;
-        voices = keyed.without voice_number (number_of v) c.voices;
-      }) (keyed.without deadline_number (deadline_number (deadline_of c.node_period c.port_period x)) ds) m n
-  kept_without v x there = record {
-    ascending = lemmas.AscendFrom-filter voice_number _ 0 c.voices kept.ascending;
-    fit = All-filter _ Fits c.voices kept.fit;
-    index = IsIndex-without voice_number deadline_number (deadline_of c.node_period c.port_period) (number_of v) x c.voices ds kept.ascending kept.index there;
-    bound = omega (arith, kept.bound, lemmas.length-without voice_number (number_of v) c.voices);
-    room = kept.room;
-    deadline_room = kept.deadline_room;
-    node_range = kept.node_range;
-    port_range = kept.port_range;
-  }
+module _ (y : LastHeard) (fits : Fits y) (xs : List LastHeard) (ascend : keyed.AscendFrom voice_number 0 xs) (fit : All Fits xs) where
+  abbrev rest : List LastHeard
+  rest = without y.voice xs
 
-  -- deadlines of two voices have two numbers
-  pub fresh_deadline : (y : LastHeard) → Fits y → keyed.item_at voice_number (voice_number y) c.voices ≡ None → IsFresh voice_number deadline_number (deadline_of c.node_period c.port_period) y c.voices
-  fresh_deadline y fits absent k x found e =
-      let at : voice_number x ≡ k = key_found voice_number k x c.voices found in
-      let low = number-range x.voice (All-found Fits _ c.voices x kept.fit found).0 in
-      let also = number-range y.voice fits.0 in
-      let same : k ≡ voice_number y = sym at ∙ apart _ _ (number_of x.voice) (number_of y.voice) low also e in
-      none_some x (sym absent ∙ ap (λ i. keyed.item_at voice_number i c.voices) (sym same) ∙ found)
+  rest_ascends : keyed.AscendFrom voice_number 0 rest
+  rest_ascends = lemmas.AscendFrom-filter voice_number _ 0 xs ascend
+
+  absent_rest : keyed.item_at voice_number (voice_number y) rest ≡ None
+  absent_rest =
+      sym (found_number y.voice rest fits.0 (All-filter _ Fits xs fit))
+      ∙ same.item_of-all_but voice_of same_voice voices_same y.voice y.voice xs
+      ∙ ap (λ b. if b then None else heard_of y.voice xs) (voices_same.self y.voice)
+
+  abbrev place : ℕ
+  place = position_or_len (λ x. nat_lt (voice_number y) (voice_number x)) rest
+
+  inserted : insert rest place y ≡ keyed.added voice_number y rest
+  inserted = lemmas.insert-added voice_number y 0 rest rest_ascends absent_rest
+
+  pub voices_heard : IsPermutation (y ∷ rest) (keyed.added voice_number y rest)
+  voices_heard = subst (λ l. IsPermutation (y ∷ rest) l) inserted (IsPermutation-insert rest place y)
+
+  pub last_heard : HearsVoice y.voice y.last xs (keyed.added voice_number y rest)
+  last_heard w = ap (last_of w) (sym inserted) ∙ last_of-insert y.voice y.last xs rest place refl w
+
+  pub count_heard : length (keyed.added voice_number y rest) ≡ count_with y.voice xs
+  count_heard = lemmas.length-added voice_number y 0 rest rest_ascends absent_rest ∙ count_without y.voice xs (differ_numbers 0 xs ascend fit)
+
+  -- a voice that wasn't there is added to all of them
+  pub added_absent : keyed.item_at voice_number (voice_number y) xs ≡ None → keyed.added voice_number y xs ≡ keyed.added voice_number y rest
+  added_absent absent = ap (keyed.added voice_number y) (sym (without_number y.voice xs fits.0 fit ∙ lemmas.without-absent voice_number (voice_number y) xs absent))
+
+  -- and there was to be room for it
+  pub room_absent : (most : ℕ) → keyed.item_at voice_number (voice_number y) xs ≡ None → (IsTrue (is_some (last_of y.voice xs))) ⊎ (length xs < most) → length xs < most
+  room_absent most absent (inl there) =
+      let found = is_some-last (heard_of y.voice xs) ∙ ap is_some (found_number y.voice xs fits.0 fit ∙ absent) in
+      absurd (cc)
+  room_absent most absent (inr less) = less
+
+  -- one that was there has its new moment
+  pub changed_there : (x : LastHeard) → keyed.item_at voice_number (voice_number x) xs ≡ Some x → y.voice ≡ x.voice → keyed.changed voice_number (voice_number x) (heard_again y.last) xs ≡ keyed.added voice_number y rest
+  changed_there x there alike =
+      lemmas.equal_by_items voice_number 0 _ _ (lemmas.AscendFrom-changed voice_number change (λ z. refl) (voice_number x) 0 xs ascend) (lemmas.AscendFrom-added voice_number y 0 rest rest_ascends (omega arith))
+      (λ a. lemmas.item_at-changed voice_number change (λ z. refl) (voice_number x) a xs ∙ go a (voice_number x == a) refl ∙ sym (now a))
     where
-      apart : (a b p q : ℕ) → p < 2 ^ 56 → q < 2 ^ 56 → a * 2 ^ 64 + p ≡ b * 2 ^ 64 + q → p ≡ q
-      apart a b p q low also e = omega (arith, low, also, e)
+      change : LastHeard → LastHeard
+      change z = heard_again y.last z
 
-  -- a voice comes, and its deadline
-  pub kept_added : (y : LastHeard) → Fits y → keyed.item_at voice_number (voice_number y) c.voices ≡ None → length c.voices < c.room →
-      IsKept (record {
-        node_period = c.node_period;
-        port_period = c.port_period;
-        room = c.room;
-        voices = keyed.added voice_number y c.voices;
-      }) (keyed.added deadline_number (deadline_of c.node_period c.port_period y) ds) m n
-  kept_added y fits absent less = record {
-    ascending = lemmas.AscendFrom-added voice_number y 0 c.voices kept.ascending (omega arith);
-    fit = lemmas.All-added voice_number Fits y c.voices kept.fit fits;
-    index = IsIndex-added voice_number deadline_number (deadline_of c.node_period c.port_period) y c.voices ds kept.ascending kept.index absent (fresh_deadline y fits absent);
-    bound = omega (arith, less, lemmas.length-added voice_number y 0 c.voices kept.ascending absent);
-    room = kept.room;
-    deadline_room = kept.deadline_room;
-    node_range = kept.node_range;
-    port_range = kept.port_range;
+      number : voice_number x ≡ voice_number y
+      number = ap number_of (sym alike)
+
+      now : (a : ℕ) → keyed.item_at voice_number a (keyed.added voice_number y rest) ≡ (if voice_number x == a then Some y else keyed.item_at voice_number a xs)
+      now a =
+          ap (λ l. keyed.item_at voice_number a (keyed.added voice_number y l)) (without_number y.voice xs fits.0 fit)
+          ∙ ap (keyed.item_at voice_number a) (lemmas.added-without voice_number y xs)
+          ∙ lemmas.item_at-added voice_number y xs a
+          ∙ ap (λ (n : ℕ). if n == a then Some y else keyed.item_at voice_number a xs) (sym number)
+
+      this : change x ≡ y
+      this = ap (λ (v : Voice). record { voice = v; last = y.last }) (sym alike)
+
+      go : (a : ℕ) (b : Bool) → (voice_number x == a) ≡ b → option_map (keyed.changed_if voice_number (voice_number x) change) (keyed.item_at voice_number a xs) ≡ (if b then Some y else keyed.item_at voice_number a xs)
+      go a true e =
+          ap (λ (n : ℕ). option_map (keyed.changed_if voice_number (voice_number x) change) (keyed.item_at voice_number n xs)) (sym (equal (voice_number x) a e))
+          ∙ ap (option_map (keyed.changed_if voice_number (voice_number x) change)) there
+          ∙ ap (λ b. Some (if b then change x else x)) (itself (voice_number x))
+          ∙ ap (λ z. Some z) this
+      go a false e = stays (keyed.item_at voice_number a xs) refl
+        where
+          stays : (o : Option LastHeard) → keyed.item_at voice_number a xs ≡ o → option_map (keyed.changed_if voice_number (voice_number x) change) o ≡ o
+          stays None is = refl
+          stays (Some z) is =
+              let at = key_found voice_number a z xs is in
+              ap (λ b. Some (if b then change z else z)) (ap (λ (n : ℕ). n == voice_number x) at ∙ differs a (voice_number x) (λ f. unequal (voice_number x) a e (sym f)))
+
+-- ---- deadlines
+
+-- deadlines of two voices have two numbers
+absent_due : (node port : ℕ) (y : LastHeard) (xs ds : List LastHeard) → Fits y → All Fits xs → IsIndex voice_number (deadline_number node port) (λ x. x) xs ds → keyed.item_at voice_number (voice_number y) xs ≡ None
+    → keyed.item_at (deadline_number node port) (deadline_number node port y) ds ≡ None
+absent_due node port y xs ds fits fit index absent = absent_entry voice_number (deadline_number node port) (λ x. x) y xs ds index fresh
+  where
+    apart : (a b p q : ℕ) → p < 2 ^ 56 → q < 2 ^ 56 → a * 2 ^ 56 + p ≡ b * 2 ^ 56 + q → p ≡ q
+    apart a b p q low also e = omega (arith, low, also, e)
+
+    fresh : IsFresh voice_number (deadline_number node port) (λ x. x) y xs
+    fresh k x found e =
+        let at : voice_number x ≡ k = key_found voice_number k x xs found in
+        let low = number-range x.voice (All-found Fits _ xs x fit found).0 in
+        let also = number-range y.voice fits.0 in
+        let same : k ≡ voice_number y = sym at ∙ apart _ _ (number_of x.voice) (number_of y.voice) low also e in
+        none_some x (sym absent ∙ ap (λ i. keyed.item_at voice_number i xs) (sym same) ∙ found)
+
+module _ {node port most : ℕ} {s : Slab LastHeard} {vs ds : List ℕ} {m n : ℕ} (kept : IsKept node port most s vs ds m n) where
+  abbrev due : LastHeard → ℕ
+  due x = deadline_number node port x
+
+  pub length_kept : length (seen s vs) ≡ length vs
+  length_kept = length-seen s vs kept.voices.sorted.there
+
+  pub sound_kept : IsSound (record { node_period = node; port_period = port; room = most; voices = seen s vs })
+  sound_kept = record {
+    differ = differ_numbers 0 (seen s vs) kept.voices.sorted.ascending kept.fit;
+    bound = omega (arith, kept.bound, length_kept);
   }
 
-  -- and there is none of its number before
-  pub absent_deadline : (y : LastHeard) → Fits y → keyed.item_at voice_number (voice_number y) c.voices ≡ None →
-      keyed.item_at deadline_number (deadline_number (deadline_of c.node_period c.port_period y)) ds ≡ None
-  absent_deadline y fits absent = absent_entry voice_number deadline_number (deadline_of c.node_period c.port_period) y c.voices ds kept.index (fresh_deadline y fits absent)
+  pub index_kept : IsIndex voice_number (deadline_number node port) (λ x. x) (seen s vs) (seen s ds)
+  index_kept = IsIndex-orders voice_number (deadline_number node port) s vs ds kept.voices kept.deadlines
 
-  -- ---- a voice is heard that isn't there any more
+  -- the record at a place is found by its voice
+  pub found_here : (p : ℕ) (x : LastHeard) → get s p ≡ Some x → keyed.item_at voice_number (voice_number x) (seen s vs) ≡ Some x
+  found_here p x here = item-here voice_number s p vs x kept.voices here
 
-  module _ (y : LastHeard) (fits : Fits y) (xs : List LastHeard) (rest : c.voices ≡ without y.voice xs) where
-    pub absent_voice : keyed.item_at voice_number (voice_number y) c.voices ≡ None
-    absent_voice =
-        sym (found_number y.voice c.voices fits.0 kept.fit)
-        ∙ ap (λ l. heard_of y.voice l) rest
-        ∙ same.item_of-all_but voice_of same_voice voices_same y.voice y.voice xs
-        ∙ ap (λ b. if b then None else heard_of y.voice xs) (voices_same.self y.voice)
+  pub fits_here : (p : ℕ) (x : LastHeard) → get s p ≡ Some x → Fits x
+  fits_here p x here = All-found Fits _ (seen s vs) x kept.fit (found_here p x here)
 
-    pub absent_due : keyed.item_at deadline_number (deadline_number (deadline_of c.node_period c.port_period y)) ds ≡ None
-    absent_due = absent_deadline y fits absent_voice
+  -- ---- a voice goes
 
-    abbrev place : ℕ
-    place = position_or_len (λ x. nat_lt (voice_number y) (voice_number x)) c.voices
+  module _ (p : ℕ) (x : LastHeard) (new : Slab LastHeard) (others later : List ℕ) (voices : IsOrderBut voice_number p s others) (dues : IsOrderBut (deadline_number node port) p s later)
+      (gone : seen s others ≡ keyed.without voice_number (voice_number x) (seen s vs)) (updates : Updates s new p None) where
+    pub seen_without : seen new others ≡ keyed.without voice_number (voice_number x) (seen s vs)
+    seen_without = seen-updates s new p None others updates voices.absent ∙ gone
 
-    inserted : insert c.voices place y ≡ keyed.added voice_number y c.voices
-    inserted = lemmas.insert-added voice_number y 0 c.voices kept.ascending absent_voice
+    pub kept_without : slab_len new + 1 ≡ slab_len s → new.capacity ≡ s.capacity → IsKept node port most new others later m n
+    kept_without fewer capacity = record {
+      voices = IsOrder-vacated voice_number s new p others voices updates fewer;
+      deadlines = IsOrder-vacated (deadline_number node port) s new p later dues updates fewer;
+      fit = subst (All Fits) (sym seen_without) (All-filter _ Fits (seen s vs) kept.fit);
+      bound = omega (arith, kept.bound, voices.count, kept.voices.count);
+      room = omega (arith, kept.room, capacity);
+      voice_room = kept.voice_room;
+      due_room = kept.due_room;
+      node_range = kept.node_range;
+      port_range = kept.port_range;
+    }
 
-    pub voices_heard : IsPermutation (y ∷ without y.voice xs) (keyed.added voice_number y c.voices)
-    voices_heard = subst (λ l. IsPermutation (y ∷ without y.voice xs) l) inserted (subst (λ l. IsPermutation (y ∷ l) (insert c.voices place y)) rest (IsPermutation-insert c.voices place y))
+  -- ---- a voice comes
 
-    pub last_heard : HearsVoice y.voice y.last xs (keyed.added voice_number y c.voices)
-    last_heard w = ap (last_of w) (sym inserted) ∙ last_of-insert y.voice y.last xs c.voices place rest w
+  module _ (p : ℕ) (y : LastHeard) (new : Slab LastHeard) (fits : Fits y) (absent : keyed.item_at voice_number (voice_number y) (seen s vs) ≡ None) (vacant : get s p ≡ None) (updates : Updates s new p (Some y))
+      (more : slab_len new ≡ slab_len s + 1) where
+    pub voice_filled : IsOrderBut voice_number p new vs
+    voice_filled = IsOrderBut-filled voice_number s new p y vs kept.voices vacant updates more
 
-    pub count_heard : VoicesDiffer xs → length (keyed.added voice_number y c.voices) ≡ count_with y.voice xs
-    count_heard differ =
-        lemmas.length-added voice_number y 0 c.voices kept.ascending absent_voice ∙ ap (λ (l : List LastHeard). length l + 1) rest ∙ count_without y.voice xs differ
+    pub due_filled : IsOrderBut (deadline_number node port) p new ds
+    due_filled = IsOrderBut-filled (deadline_number node port) s new p y ds kept.deadlines vacant updates more
 
-    pub room_heard : (room : ℕ) → c.room ≡ room → (IsTrue (is_some (last_of y.voice xs))) ⊎ (length xs < room) → length xs ≤ room → length c.voices < c.room
-    room_heard room is there bound = omega (arith, is, ap (λ (l : List LastHeard). length l) rest, room_without y.voice xs room there bound)
+    pub voices_still : seen new vs ≡ seen s vs
+    voices_still = seen-updates s new p (Some y) vs updates (absent-vacant s p vs vacant kept.voices.sorted.there)
 
-    pub kept_heard : length c.voices < c.room →
-        IsKept (record {
-          node_period = c.node_period;
-          port_period = c.port_period;
-          room = c.room;
-          voices = keyed.added voice_number y c.voices;
-        }) (keyed.added deadline_number (deadline_of c.node_period c.port_period y) ds) m n
-    kept_heard less = kept_added y fits absent_voice less
+    dues_still : seen new ds ≡ seen s ds
+    dues_still = seen-updates s new p (Some y) ds updates (absent-vacant s p ds vacant kept.deadlines.sorted.there)
 
--- a number of a voice and that of a deadline have a next one
-pub voice-range : (y : LastHeard) → Fits y → voice_number y + 1 < 2 ^ 128
-voice-range y fits = omega (arith, number-range y.voice fits.0)
+    pub new_voice : (z : LastHeard) → get new p ≡ Some z → keyed.item_at voice_number (voice_number z) (seen new vs) ≡ None
+    new_voice z here =
+        let e = some_same y z (sym updates.changed ∙ here) in
+        ap (λ (w : LastHeard). keyed.item_at voice_number (voice_number w) (seen new vs)) (sym e) ∙ ap (keyed.item_at voice_number (voice_number y)) voices_still ∙ absent
 
-pub deadline-range : (d : Deadline) → 0 < d.due → number_of d.voice < 2 ^ 56 → deadline_number d + 1 < 2 ^ 128
-deadline-range d due low = go d.due (number_of d.voice) due low
-  where
-    go : (a p : ℕ) → 0 < a → p < 2 ^ 56 → (2 ^ 64 - 1 - a) * 2 ^ 64 + p + 1 < 2 ^ 128
-    go a p pos less = omega (arith, pos, less)
+    pub new_due : (z : LastHeard) → get new p ≡ Some z → keyed.item_at (deadline_number node port) (deadline_number node port z) (seen new ds) ≡ None
+    new_due z here =
+        let e = some_same y z (sym updates.changed ∙ here) in
+        ap (λ (w : LastHeard). keyed.item_at (deadline_number node port) (deadline_number node port w) (seen new ds)) (sym e)
+        ∙ ap (keyed.item_at (deadline_number node port) (deadline_number node port y)) dues_still
+        ∙ absent_due node port y (seen s vs) (seen s ds) fits kept.fit index_kept absent
 
-pub due-range : (node port : ℕ) (y : LastHeard) → Fits y → deadline_number (deadline_of node port y) + 1 < 2 ^ 128
-due-range node port y fits = deadline-range (deadline_of node port y) (omega arith) (number-range y.voice fits.0)
+    module _ (others later : List ℕ) (voices : IsOrder voice_number new others) (dues : IsOrder (deadline_number node port) new later) (put : seen new others ≡ keyed.added voice_number y (seen new vs)) where
+      put_there : seen new others ≡ keyed.added voice_number y (seen s vs)
+      put_there = put ∙ ap (keyed.added voice_number y) voices_still
+
+      pub seen_added : seen new others ≡ keyed.added voice_number y (without y.voice (seen s vs))
+      seen_added = put_there ∙ added_absent y fits (seen s vs) kept.voices.sorted.ascending kept.fit absent
+
+      pub kept_added : length vs < most → new.capacity ≡ s.capacity → IsKept node port most new others later m n
+      kept_added less capacity = record {
+        voices = voices;
+        deadlines = dues;
+        fit = subst (All Fits) (sym put_there) (lemmas.All-added voice_number Fits y (seen s vs) kept.fit fits);
+        bound = omega (arith, less, voices.count, kept.voices.count, more);
+        room = omega (arith, kept.room, capacity);
+        voice_room = kept.voice_room;
+        due_room = kept.due_room;
+        node_range = kept.node_range;
+        port_range = kept.port_range;
+      }
+
+  -- and there was room for it
+  pub room_kept : (y : LastHeard) → Fits y → keyed.item_at voice_number (voice_number y) (seen s vs) ≡ None → (IsTrue (is_some (last_of y.voice (seen s vs)))) ⊎ (length (seen s vs) < most) → length vs < most
+  room_kept y fits absent room = omega (arith, length_kept, room_absent y fits (seen s vs) kept.voices.sorted.ascending kept.fit most absent room)
+
+  -- ---- a voice is heard again
+
+  module _ (p now : ℕ) (x : LastHeard) (range : now < 2 ^ 63) (here : get s p ≡ Some x) where
+    fits_again : Fits (heard_again now x)
+    fits_again = ((fits_here p x here).0, range)
+
+    -- no other voice has its deadline
+    pub apart_again : keyed.item_at (deadline_number node port) (deadline_number node port (heard_again now x)) (keyed.without (deadline_number node port) (deadline_number node port x) (seen s ds)) ≡ None
+    apart_again =
+        absent_due node port (heard_again now x) _ _ fits_again (All-filter _ Fits (seen s vs) kept.fit)
+        (IsIndex-without voice_number (deadline_number node port) (λ w. w) (voice_number x) x (seen s vs) (seen s ds) kept.voices.sorted.ascending index_kept (found_here p x here))
+        (lemmas.item_at-without voice_number (voice_number x) (voice_number x) (seen s vs) ∙ ap (λ b. if b then None else keyed.item_at voice_number (voice_number x) (seen s vs)) (itself (voice_number x)))
+
+    module _ (new : Slab LastHeard) (updates : Updates s new p (Some (heard_again now x))) where
+      pub seen_again : (v : Voice) → x.voice ≡ v → seen new vs ≡ keyed.added voice_number (record { voice = v; last = now }) (without v (seen s vs))
+      seen_again v alike = subst (λ (w : Voice). seen new vs ≡ keyed.added voice_number (record { voice = w; last = now }) (without w (seen s vs))) alike
+          (seen-changed voice_number s new p x vs (heard_again now) (λ w. refl) kept.voices here updates
+          ∙ changed_there (heard_again now x) fits_again (seen s vs) kept.voices.sorted.ascending kept.fit x (found_here p x here) refl)
+
+      pub kept_again : (later : List ℕ) → IsOrder (deadline_number node port) new later → slab_len new ≡ slab_len s → new.capacity ≡ s.capacity → IsKept node port most new vs later m n
+      kept_again later order same_len capacity = record {
+        voices = IsOrder-changed voice_number s new p x vs (heard_again now) (λ w. refl) kept.voices here updates same_len;
+        deadlines = order;
+        fit = subst (All Fits) (sym (seen_again x.voice refl)) (lemmas.All-added voice_number Fits (heard_again now x) _ (All-filter _ Fits (seen s vs) kept.fit) fits_again);
+        bound = kept.bound;
+        room = omega (arith, kept.room, capacity);
+        voice_room = kept.voice_room;
+        due_room = kept.due_room;
+        node_range = kept.node_range;
+        port_range = kept.port_range;
+      }

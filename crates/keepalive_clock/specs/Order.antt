@@ -1,15 +1,15 @@
--- How a clock keeps its voices: in the order of a number that each has, and their deadlines beside them. No public clause
--- cites this module.
-use Rattle.std.specs.Prelude.{ℕ, ◌+◌, ◌-◌, ◌*◌, ◌/◌, ◌<◌, ◌≤◌, ◌^◌, List, length}
+-- How a clock keeps its voices: each with its last moment at a place of a slab, and the places in two orders, that of a number
+-- which each voice has, and that of the deadlines. No public clause cites this module.
+use Rattle.std.specs.Prelude.{◌≡◌, ℕ, ◌+◌, ◌-◌, ◌*◌, ◌/◌, ◌<◌, ◌≤◌, ◌^◌, List, length, Some, None}
 use Rattle.std.specs.List.{All}
-use Rattle.fab_base.specs.Keyed.{AscendFrom}
+use Rattle.slab.specs.Slab.{Slab, get}
+use Rattle.fab_base.specs.Keyed.{item_at, without}
 use Rattle.sorted_lists.specs.Enodes as enodes
-use Rattle.sorted_lists.specs.Index.{IsIndex}
-use Rattle.keepalive_clock.specs.Clock.{VoiceClock, period_of}
+use Rattle.sorted_lists.specs.Orders.{IsOrder, seen}
+use Rattle.keepalive_clock.specs.Clock.{period_of}
 use Rattle.keepalive_clock.specs.declared.voice.Voice.{Voice}
 use Rattle.keepalive_clock.specs.declared.voice.Voice.TheVariants.{Node, Port}
 use Rattle.keepalive_clock.specs.declared.voice.LastHeard.{LastHeard}
-use Rattle.keepalive_clock.specs.declared.due.Deadline.{Deadline}
 
 -- the number of a voice: that of an ENode, or the address
 abbrev pub number_of : Voice → ℕ
@@ -29,25 +29,32 @@ voice_number x = number_of x.voice
 abbrev pub due_of : ℕ → ℕ → LastHeard → ℕ
 due_of node port x = x.last + 5 * period_of node port x.voice / 2 + 1
 
--- that moment, and the voice
-abbrev pub deadline_of : ℕ → ℕ → LastHeard → Deadline
-deadline_of node port x = record { due = due_of node port x; voice = x.voice }
-
--- the number of a deadline: the earlier, the greater
-abbrev pub deadline_number : Deadline → ℕ
-deadline_number d = (2 ^ 64 - 1 - d.due) * 2 ^ 64 + number_of d.voice
+-- the number of its deadline: the earlier, the greater
+abbrev pub deadline_number : ℕ → ℕ → LastHeard → ℕ
+deadline_number node port x = (2 ^ 65 - due_of node port x) * 2 ^ 56 + number_of x.voice
 
 -- what is kept of each voice
 abbrev pub Fits : LastHeard → Type 0
 Fits x = IsWhole x.voice × (x.last < 2 ^ 63)
 
--- The voices ascend by their numbers, the deadlines are theirs, the first one last, and there is room for as many as there may be.
-pub record IsKept (c : VoiceClock) (deadlines : List Deadline) (capacity deadline_capacity : ℕ) : Type 0 where
-  pub ascending : AscendFrom voice_number 0 c.voices
-  pub fit : All Fits c.voices
-  pub index : IsIndex voice_number deadline_number (deadline_of c.node_period c.port_period) c.voices deadlines
-  pub bound : length c.voices ≤ c.room
-  pub room : c.room ≤ capacity
-  pub deadline_room : c.room ≤ deadline_capacity
-  pub node_range : c.node_period < 2 ^ 32
-  pub port_range : c.port_period < 2 ^ 32
+-- the same voice with another last moment
+abbrev pub heard_again : ℕ → LastHeard → LastHeard
+heard_again now x = record { voice = x.voice; last = now }
+
+-- the deadline that the voice at this place gets is that of no other
+abbrev pub HasOwnDue : ℕ → ℕ → ℕ → ℕ → Slab LastHeard → List ℕ → Type 0
+HasOwnDue node port place now records by_due =
+    (x : LastHeard) → get records place ≡ Some x
+    → item_at (deadline_number node port) (deadline_number node port (heard_again now x)) (without (deadline_number node port) (deadline_number node port x) (seen records by_due)) ≡ None
+
+-- The places stand in both orders, and there is room for as many as there may be.
+pub record IsKept (node port most : ℕ) (records : Slab LastHeard) (by_voice by_due : List ℕ) (voice_capacity due_capacity : ℕ) : Type 0 where
+  pub voices : IsOrder voice_number records by_voice
+  pub deadlines : IsOrder (deadline_number node port) records by_due
+  pub fit : All Fits (seen records by_voice)
+  pub bound : length by_voice ≤ most
+  pub room : most ≤ records.capacity
+  pub voice_room : most ≤ voice_capacity
+  pub due_room : most ≤ due_capacity
+  pub node_range : node < 2 ^ 32
+  pub port_range : port < 2 ^ 32

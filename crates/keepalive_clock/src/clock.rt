@@ -1,14 +1,16 @@
-//! The clock: voices with their last moments, and their deadlines, of which the first is the last.
+//! The clock: voices with their last moments, each at a place of its own, and the places by voice and
+//! by deadline.
 ghost use Rattle.std.specs.Prelude.{◌≡◌, ℕ, ◌+◌, ◌<◌, ◌≤◌, ◌^◌, ◌⊎◌, if◌then◌else◌, length, IfOk, IfSome, MatchOption, IfNone, Some, None, [], ◌∷◌, IsTrue, is_some, OnSome, ◌↔◌, IsPermutation};
 ghost use Rattle.keepalive_clock.specs.Voices.{same_voice};
 ghost use Rattle.keepalive_clock.specs.Clock.{last_of, count_with, without, HearsVoice, ForgetsVoice, KeepsLimits, IsSound};
 ghost use Rattle.keepalive_clock.specs.Order.{IsWhole};
 ghost use Rattle.keepalive_clock.specs.Clock.{is_silent_voice, has_silent, HasSilent, IsFirstSilence};
 
-use crate::due::{Deadline, deadline_of};
+use crate::orders::{ByDue, ByVoice, hear_again};
 use crate::{LastHeard, Steps, Voice};
 use fab_base::{Moment, NoMemory};
-use sorted_lists::{HasRank, rank_find, rank_put, rank_take};
+use slab::Slab;
+use sorted_lists::{order_find, order_put, order_take};
 use std::alloc::Global;
 use std::marker::Model;
 use std::sync::ledger::Ledger;
@@ -16,17 +18,18 @@ use std::sync::ledger::Ledger;
 /// When each voice was last heard. No voice comes twice.
 #[derive(Debug, Drop)]
 pub struct KeepClock {
-    node_period: u32,
-    port_period: u32,
+    order: ByDue,
     room: u32,
-    // By their numbers.
-    voices: Vec<LastHeard>,
-    // In descending order, so that the first one is the last.
-    deadlines: Vec<Deadline>,
+    records: Slab<LastHeard>,
+    // The places of the records, by their voices' numbers.
+    by_voice: Vec<usize>,
+    // Those places in descending order of the deadlines, so that the first one is the last.
+    by_due: Vec<usize>,
 }
 
 impl Model for KeepClock {
     ghost use Rattle.std.specs.Prelude.{vec_capacity};
+    ghost use Rattle.sorted_lists.specs.Orders.{seen};
     ghost use Rattle.keepalive_clock.specs.Clock.{VoiceClock};
 
     ghost Value = { VoiceClock };
@@ -34,21 +37,20 @@ impl Model for KeepClock {
     ghost use Rattle.keepalive_clock.specs.Order.{IsKept};
 
     ghost view = { λ c. record {
-      node_period = c.node_period;
-      port_period = c.port_period;
+      node_period = c.order.node_period;
+      port_period = c.order.port_period;
       room = c.room;
-      voices = c.voices.items;
+      voices = seen c.records c.by_voice.items;
     } };
 
-    ghost invariant = { λ c. IsKept (record {
-      node_period = c.node_period;
-      port_period = c.port_period;
-      room = c.room;
-      voices = c.voices.items;
-    })
-        c.deadlines.items
-        (vec_capacity c.voices)
-        (vec_capacity c.deadlines) };
+    ghost invariant = { λ c. IsKept c.order.node_period
+        c.order.port_period
+        c.room
+        c.records
+        c.by_voice.items
+        c.by_due.items
+        (vec_capacity c.by_voice)
+        (vec_capacity c.by_due) };
 }
 
 impl KeepClock {
@@ -66,14 +68,18 @@ impl KeepClock {
           voices = [];
         }) }
     {
-        let voices = Vec::with_capacity(alloc, room as usize)?;
-        let deadlines = Vec::with_capacity(alloc, room as usize)?;
+        let records = Slab::with_capacity(alloc, room as usize)?;
+        let by_voice = Vec::with_capacity(alloc, room as usize)?;
+        let by_due = Vec::with_capacity(alloc, room as usize)?;
         Ok(KeepClock {
-            node_period,
-            port_period,
+            order: ByDue {
+                node_period,
+                port_period,
+            },
             room,
-            voices,
-            deadlines,
+            records,
+            by_voice,
+            by_due,
         })
     }
 
@@ -89,11 +95,17 @@ impl KeepClock {
         ensures sound { IsSound self.new }
         ensures last { HearsVoice voice now self.old.voices self.new.voices }
     {
-        self.remove_voice(&voice);
-        let heard = LastHeard { voice, last: now };
-        let deadline = deadline_of(self.node_period, self.port_period, &heard);
-        rank_put(&mut self.voices, heard);
-        rank_put(&mut self.deadlines, deadline);
+        let number = voice.number() as u128;
+        match order_find(&ByVoice, &self.records, &self.by_voice, number) {
+            Some(place) => {
+                hear_again(&self.order, &mut self.records, &mut self.by_due, place, now);
+            }
+            None => {
+                let place = self.records.insert_reserved(LastHeard { voice, last: now });
+                order_put(&ByVoice, &self.records, &mut self.by_voice, place);
+                order_put(&self.order, &self.records, &mut self.by_due, place);
+            }
+        }
     }
 
     /// Forgets a voice. False where it isn't there.
@@ -112,8 +124,9 @@ impl KeepClock {
         ensures moment { result ≡ last_of voice.now self.now.voices }
         ensures sound { IsSound self.now }
     {
-        match rank_find(&self.voices, voice.number() as u128) {
-            Some(heard) => Some(heard.last),
+        let number = voice.number() as u128;
+        match order_find(&ByVoice, &self.records, &self.by_voice, number) {
+            Some(place) => Some(self.records[place].last),
             None => None,
         }
     }
@@ -125,8 +138,8 @@ impl KeepClock {
         ensures silent { (now : ℕ) → IsTrue (has_silent self.now now) ↔ HasSilent self.now now }
         ensures sound { IsSound self.now }
     {
-        match self.deadlines.last() {
-            Some(first) => Some(Moment(first.due)),
+        match self.by_due.last() {
+            Some(place) => Some(Moment(self.order.due(&self.records[*place]) as u64)),
             None => None,
         }
     }
@@ -144,17 +157,15 @@ impl KeepClock {
         ensures sound { IsSound self.new }
     {
         steps.tick();
-        match self.deadlines.last() {
-            Some(first) => {
-                if first.due > now.0 {
-                    return None;
-                }
-                let voice = first.voice;
-                self.remove_voice(&voice);
-                Some(voice)
-            }
-            None => None,
+        let Some(place) = self.by_due.last() else {
+            return None;
+        };
+        let first = self.records[*place];
+        if self.order.due(&first) > now.0 as u128 {
+            return None;
         }
+        self.remove_voice(&first.voice);
+        Some(first.voice)
     }
 
     fn remove_voice(&mut self, voice: &Voice) -> bool
@@ -164,10 +175,12 @@ impl KeepClock {
         ensures was_sound { IsSound self.old }
         ensures whole { IsWhole voice.now }
     {
-        match rank_take(&mut self.voices, voice.number() as u128) {
-            Some(heard) => {
-                let deadline = deadline_of(self.node_period, self.port_period, &heard);
-                rank_take(&mut self.deadlines, deadline.rank());
+        let number = voice.number() as u128;
+        match order_find(&ByVoice, &self.records, &self.by_voice, number) {
+            Some(place) => {
+                order_take(&self.order, &self.records, &mut self.by_due, place);
+                order_take(&ByVoice, &self.records, &mut self.by_voice, place);
+                self.records.remove(place);
                 true
             }
             None => false,

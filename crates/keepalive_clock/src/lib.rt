@@ -3,7 +3,7 @@
 #![tactic(auto)]
 
 mod clock;
-mod due;
+mod orders;
 mod steps;
 mod voice;
 
