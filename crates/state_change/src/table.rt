@@ -2,10 +2,12 @@
 ghost use Rattle.std.specs.Prelude.{◌≡◌, ℕ, ◌+◌, ◌<◌, ◌≤◌, if◌then◌else◌, ◌==◌, length, IfOk, IsTrue, Some, None, [], is_some, true, false};
 ghost use Rattle.state_change.specs.Watchers.{Watching, watcher_at, function_at, set_to, without, asked, after_ask, is_function, is_asking, HasPlace, recipients, changed, first_from, IsSound};
 
-use crate::watcher::CLEAR;
+use crate::search::place_of;
+use crate::watcher::{ByAddress, CLEAR};
 use crate::{Watcher, search};
 use fab_base::{FcId, Moment, NoMemory, Wwn};
-use sorted_lists::{find_at, place_above, place_at};
+use slab::Slab;
+use sorted_lists::{order_put, order_take};
 use std::alloc::Global;
 use std::marker::Model;
 use zone_rules::Zones;
@@ -14,7 +16,9 @@ use zone_rules::Zones;
 #[derive(Debug, Drop)]
 pub struct Watchers {
     room: u32,
-    watchers: Vec<Watcher>,
+    watchers: Slab<Watcher>,
+    // Their places, by address.
+    places: Vec<usize>,
 }
 
 impl Model for Watchers {
@@ -23,12 +27,12 @@ impl Model for Watchers {
 
     ghost Value = { Watching };
 
+    ghost use Rattle.sorted_lists.specs.Orders.{seen};
     ghost use Rattle.state_change.specs.Sound.{HasRoom};
 
-    ghost view = { λ t. record { room = t.room; watchers = t.watchers.items } };
+    ghost view = { λ t. record { room = t.room; watchers = seen t.watchers t.places.items } };
 
-    ghost invariant = { λ t. HasRoom (record { room = t.room; watchers = t.watchers.items })
-        (vec_capacity t.watchers) };
+    ghost invariant = { λ t. HasRoom t.room t.watchers t.places.items (vec_capacity t.places) };
 }
 
 impl Watchers {
@@ -37,8 +41,13 @@ impl Watchers {
         ensures empty { IfOk result (λ t. t ≡ record { room = room; watchers = [] }) }
         ensures sound { IfOk result IsSound }
     {
-        let watchers = Vec::with_capacity(alloc, room as usize)?;
-        Ok(Watchers { room, watchers })
+        let watchers = Slab::with_capacity(alloc, room as usize)?;
+        let places = Vec::with_capacity(alloc, room as usize)?;
+        Ok(Watchers {
+            room,
+            watchers,
+            places,
+        })
     }
 
     /// An N_Port asks with a function: 1, 2 or 3 for state changes, in the place of what it asked
@@ -76,10 +85,8 @@ impl Watchers {
         ensures found { (a : ℕ) → watcher_at a self.new.watchers
             ≡ (if watcher.address == a then Some watcher else watcher_at a self.old.watchers) }
     {
-        let place = place_above(&self.watchers, watcher.address);
-        let Ok(()) = self.watchers.insert(place, watcher) else {
-            unreachable!()
-        };
+        let place = self.watchers.insert_reserved(watcher);
+        order_put(&ByAddress, &self.watchers, &mut self.places, place);
     }
 
     /// Removes the watcher of an address. False where there is none.
@@ -94,8 +101,9 @@ impl Watchers {
         ensures found { (a : ℕ) → watcher_at a self.new.watchers
             ≡ (if address == a then None else watcher_at a self.old.watchers) }
     {
-        match place_at(&self.watchers, address) {
+        match place_of(&self.watchers, &self.places, address) {
             Some(place) => {
+                order_take(&ByAddress, &self.watchers, &mut self.places, place);
                 self.watchers.remove(place);
                 true
             }
@@ -108,8 +116,8 @@ impl Watchers {
         ensures function { result ≡ function_at address self.now.watchers }
         ensures sound { IsSound self.now }
     {
-        match find_at(&self.watchers, address) {
-            Some(watcher) => watcher.function,
+        match place_of(&self.watchers, &self.places, address) {
+            Some(place) => self.watchers[place].function,
             None => 0,
         }
     }
@@ -127,7 +135,7 @@ impl Watchers {
             (recipients zones.now at affected self.now.watchers) }
         ensures sound { IsSound self.now }
     {
-        search::next_recipient(&self.watchers, zones, at, affected, from)
+        search::next_recipient(&self.watchers, &self.places, zones, at, affected, from)
     }
 
     /// The least watcher that isn't below `from`, asked with function 1 or 3, and is joined with
@@ -144,6 +152,14 @@ impl Watchers {
             (changed zones.now before at affected self.now.watchers) }
         ensures sound { IsSound self.now }
     {
-        search::next_changed(&self.watchers, zones, before, at, affected, from)
+        search::next_changed(
+            &self.watchers,
+            &self.places,
+            zones,
+            before,
+            at,
+            affected,
+            from,
+        )
     }
 }

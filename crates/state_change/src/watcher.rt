@@ -2,7 +2,8 @@
 ghost use Rattle.std.specs.Prelude.{◌≡◌};
 ghost use Rattle.state_change.specs.Watchers as spec;
 
-use fab_base::{FcId, HasAddress, Moment, Wwn};
+use fab_base::{FcId, Moment, Wwn};
+use sorted_lists::Order;
 use zone_rules::Zones;
 
 /// The function that asks for nothing any more (FC-LS-2, "SCR", Clear registration).
@@ -24,11 +25,14 @@ pub struct Watcher {
     pub function: u8,
 }
 
-impl HasAddress for Watcher {
-    ghost address_of = { λ w. w.address };
+/// The order of watchers by address.
+pub(crate) struct ByAddress;
 
-    fn address(&self) -> FcId {
-        self.address
+impl Order<Watcher> for ByAddress {
+    ghost number_of = { λ order w. w.address };
+
+    fn number(&self, watcher: &Watcher) -> u128 {
+        watcher.address.value() as u128
     }
 }
 

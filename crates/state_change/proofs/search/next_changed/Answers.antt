@@ -1,13 +1,13 @@
-use Rattle.std.proofs.Common.{ℕ, ◌∙◌, ap, drop, find, option_map}
+use Rattle.std.proofs.Common.{ℕ, List, ◌∙◌, ap, find, option_map, refl}
 use Rattle.std.proofs.lemmas.List.{take_rest}
-use Rattle.fab_base.proofs.SamenessLemmas.{unwrap_or-position}
-use Rattle.sorted_lists.proofs.SearchLemmas.{find-from}
+use Rattle.sorted_lists.specs.Orders.{seen}
+use Rattle.sorted_lists.proofs.PlacingLemmas.{find-behind}
 use Rattle.state_change.specs.Watchers.{address_of, is_changed}
 use Rattle.state_change.proofs.search.next_changed.Goals as goal
 
 pub returns : goal.returns
 returns c =
-    let watchers = c.args.watchers.now in
-    let place = c.place_from.ensures.place ∙ unwrap_or-position _ watchers in
-    c.first_changed.ensures ∙ ap (λ l. option_map address_of (find (is_changed c.args.zones.now c.args.before c.args.at c.args.affected) l)) (take_rest watchers c.place_from.result)
-    ∙ ap (option_map address_of) (ap (λ (n : ℕ). find (is_changed c.args.zones.now c.args.before c.args.at c.args.affected) (drop n watchers)) place ∙ find-from address_of (is_changed c.args.zones.now c.args.before c.args.at c.args.affected) c.args.from 0 watchers c.requires)
+    let q = is_changed c.args.zones.now c.args.before c.args.at c.args.affected in
+    c.first_changed.ensures
+    ∙ ap (λ (l : List ℕ). option_map address_of (find q (seen c.args.watchers.now l))) (take_rest c.args.places.now c.order_from.result)
+    ∙ ap (option_map address_of) (find-behind address_of c.args.watchers.now c.args.places.now c.args.places.now c.args.from c.args.from c.order_from.result c.requires.there refl refl c.order_from.ensures.place q c.requires.ascending)

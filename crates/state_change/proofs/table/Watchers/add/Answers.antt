@@ -1,33 +1,42 @@
-use Rattle.std.proofs.Common.{◌≡◌, ap, arith, None}
+use Rattle.std.proofs.Common.{◌≡◌, ap}
 use Rattle.fab_base.proofs.KeyedLemmas as keyed
-use Rattle.state_change.specs.Watchers.{address_of, watcher_at, set_to, IsSound}
-use Rattle.state_change.proofs.WatcherLemmas.{IsSound-set_to}
+use Rattle.sorted_lists.specs.Orders.{seen}
+use Rattle.state_change.specs.Watchers.{address_of, set_to}
+use Rattle.state_change.proofs.WatcherLemmas.{room_for, room_in, order_filled, absent_filled, seen_put, HasRoom-put}
 use Rattle.state_change.proofs.table.Watchers.add.Goals as goal
 
-absent : (c : goal.In-Ok) → watcher_at c.args.watcher.address c.self.inside.watchers.items ≡ None
-absent c = rw (← c.self.view_is) at c.requires.address
+pub insert_reserved-place-requires : goal.insert_reserved-place-requires
+insert_reserved-place-requires c = room_for _ _ _ _ c.self.invariant (rw (← c.self.view_is) at c.requires.room)
 
-items : (c : goal.In-Ok) → c.insert.new.self.items ≡ set_to c.args.watcher c.self.inside.watchers.items
-items c = keyed.added-inserted address_of c.args.watcher 0 _ _ _ _ c.self.invariant.sound.ascending (absent c) c.deref.ensures.value c.place_above-place.ensures.place c.in-Ok.ensures.items
+pub order_put-requires-clause-but : goal.order_put-requires-clause-but
+order_put-requires-clause-but c =
+    order_filled _ _ _ _ c.self.invariant c.args.watcher c.insert_reserved-place.result c.insert_reserved-place.new.self c.insert_reserved-place.ensures.was_vacant c.insert_reserved-place.ensures.updates c.insert_reserved-place.ensures.len
 
-sound : (c : goal.In-Ok) → IsSound (record { room = c.self.inside.room; watchers = c.insert.new.self.items })
-sound c = rw (items c) (IsSound-set_to c.args.watcher _ c.self.invariant.sound (rw (← c.self.view_is) at c.requires.room) (absent c) c.requires.function)
+pub order_put-requires-clause-absent : goal.order_put-requires-clause-absent
+order_put-requires-clause-absent c =
+    absent_filled _ _ _ _ c.self.invariant c.args.watcher c.insert_reserved-place.result c.insert_reserved-place.new.self c.insert_reserved-place.ensures.was_vacant c.insert_reserved-place.ensures.updates (rw (← c.self.view_is) at c.requires.address)
+
+pub order_put-requires-clause-room : goal.order_put-requires-clause-room
+order_put-requires-clause-room c = room_in _ _ _ _ c.self.invariant (rw (← c.self.view_is) at c.requires.room)
+
+items : (c : goal.After-order_put) → seen c.insert_reserved-place.new.self c.order_put.new.places.items ≡ set_to c.args.watcher (seen c.self.inside.watchers c.self.inside.places.items)
+items c =
+    seen_put _ _ _ _ c.self.invariant c.args.watcher c.insert_reserved-place.result c.insert_reserved-place.new.self c.insert_reserved-place.ensures.was_vacant c.insert_reserved-place.ensures.updates c.order_put.new.places.items c.order_put.ensures.items
 
 pub invariant_of-self : goal.invariant_of-self
-invariant_of-self c = record {
-  sound = sound c;
-  room = omega (arith, c.self.invariant.room, c.in-Ok.ensures.capacity);
-  range = c.self.invariant.range;
-}
+invariant_of-self c =
+    HasRoom-put _ _ _ _ c.self.invariant c.args.watcher c.insert_reserved-place.result c.insert_reserved-place.new.self c.insert_reserved-place.ensures.was_vacant c.insert_reserved-place.ensures.updates c.order_put.new.places.items c.order_put.ensures.items
+    _ c.order_put.ensures.order (rw (← c.self.view_is) at c.requires.room) (rw (← c.self.view_is) at c.requires.address) c.requires.function c.insert_reserved-place.ensures.capacity c.order_put.ensures.capacity
 
 pub returns-clause-watchers : goal.returns-clause-watchers
 returns-clause-watchers c = rw (← c.self.view_is) (ap (λ l. record { room = c.self.inside.room; watchers = l }) (items c))
 
+pub returns-clause-count : goal.returns-clause-count
+returns-clause-count c =
+    rw (items c, ← c.self.view_is) (keyed.length-added address_of c.args.watcher 0 (seen c.self.inside.watchers c.self.inside.places.items) c.self.invariant.sound.ascending (rw (← c.self.view_is) at c.requires.address))
+
 pub returns-clause-sound : goal.returns-clause-sound
-returns-clause-sound c = sound c
+returns-clause-sound c = (invariant_of-self c).sound
 
 pub returns-clause-found : goal.returns-clause-found
-returns-clause-found c = rw (items c, ← c.self.view_is) (keyed.item_at-added address_of c.args.watcher c.self.inside.watchers.items)
-
-pub returns-clause-count : goal.returns-clause-count
-returns-clause-count c = rw (items c, ← c.self.view_is) (keyed.length-added address_of c.args.watcher 0 c.self.inside.watchers.items c.self.invariant.sound.ascending (absent c))
+returns-clause-found c = rw (items c, ← c.self.view_is) (keyed.item_at-added address_of c.args.watcher (seen c.self.inside.watchers c.self.inside.places.items))

@@ -1,55 +1,43 @@
-use Rattle.std.proofs.Common.{◌≡◌, ◌∙◌, ap, sym, arith, None, is_some}
+use Rattle.std.proofs.Common.{◌≡◌, ◌∙◌, ℕ, List, ap, sym, arith, Some, None}
 use Rattle.fab_base.proofs.KeyedLemmas as keyed
-use Rattle.state_change.specs.Watchers.{address_of, watcher_at, without, IsSound}
-use Rattle.state_change.proofs.WatcherLemmas.{IsSound-without}
+use Rattle.sorted_lists.specs.Orders.{seen}
+use Rattle.state_change.specs.Watchers.{address_of, watcher_at, without}
+use Rattle.state_change.proofs.WatcherLemmas.{seen_taken, HasRoom-taken}
 use Rattle.state_change.proofs.table.Watchers.forget.Goals as goal
 
-place : (c : goal.After-remove) → keyed.IsPlace address_of c.args.address c.self.inside.watchers.items c.in-Some.place
-place c = keyed.IsPlace-found address_of c.args.address 0 _ _ _ _ c.self.invariant.sound.ascending c.place_at.ensures c.deref.ensures.value c.in-Some.is
+found : (c : goal.After-remove) → watcher_at c.args.address (seen c.self.inside.watchers c.self.inside.places.items) ≡ Some c.remove.result
+found c = ap (λ (l : List ℕ). watcher_at c.args.address (seen c.self.inside.watchers l)) (sym c.deref.ensures.value) ∙ sym c.in-Some.ensures.some ∙ c.remove.ensures.value
 
-items : (c : goal.After-remove) → c.remove.new.self.items ≡ without c.args.address c.self.inside.watchers.items
-items c = c.remove.ensures.items ∙ (place c).removal
+items : (c : goal.After-remove) → seen c.remove.new.self c.order_take.new.places.items ≡ without c.args.address (seen c.self.inside.watchers c.self.inside.places.items)
+items c =
+    seen_taken _ _ _ _ c.self.invariant c.remove.result c.in-Some.place c.remove.new.self c.order_take.new.places.items c.args.address (found c) c.remove.ensures.value c.remove.ensures.updates c.order_take.ensures.but c.order_take.ensures.items
 
-sound : (c : goal.After-remove) → IsSound (record { room = c.self.inside.room; watchers = c.remove.new.self.items })
-sound c = rw (items c) (IsSound-without c.args.address _ c.self.invariant.sound)
+none : (c : goal.In-None) → watcher_at c.args.address (seen c.self.inside.watchers c.self.inside.places.items) ≡ None
+none c = ap (λ (l : List ℕ). watcher_at c.args.address (seen c.self.inside.watchers l)) (sym c.deref.ensures.value) ∙ c.in-None.ensures.none
 
-none : (c : goal.In-None) → watcher_at c.args.address c.self.inside.watchers.items ≡ None
-none c = keyed.item_at-not_found address_of c.args.address _ _ _ c.place_at.ensures c.deref.ensures.value c.in-None.is
-
-stays : (c : goal.In-None) → c.self.inside.watchers.items ≡ without c.args.address c.self.inside.watchers.items
+stays : (c : goal.In-None) → seen c.self.inside.watchers c.self.inside.places.items ≡ without c.args.address (seen c.self.inside.watchers c.self.inside.places.items)
 stays c = sym (keyed.without-absent address_of c.args.address _ (none c))
 
 pub invariant_of-self : goal.invariant_of-self
-invariant_of-self c = record {
-  sound = sound c;
-  room = omega (arith, c.self.invariant.room, c.remove.ensures.capacity);
-  range = c.self.invariant.range;
-}
-
-pub returns-in-Some-clause-there : goal.returns-in-Some-clause-there
-returns-in-Some-clause-there c = rw (← c.self.view_is) (sym (ap is_some ((place c).item c.remove.result)))
+invariant_of-self c =
+    HasRoom-taken _ _ _ _ c.self.invariant c.remove.result c.in-Some.place c.remove.new.self c.order_take.new.places.items c.args.address (found c) c.remove.ensures.value c.remove.ensures.updates c.order_take.ensures.but c.order_take.ensures.items
+    _ c.remove.ensures.len c.remove.ensures.capacity c.order_take.ensures.capacity
 
 pub returns-in-Some-clause-count : goal.returns-in-Some-clause-count
-returns-in-Some-clause-count c = rw (items c, ← c.self.view_is) (keyed.length-without address_of c.args.address c.self.inside.watchers.items)
+returns-in-Some-clause-count c = rw (items c, ← c.self.view_is) (keyed.length-without address_of c.args.address (seen c.self.inside.watchers c.self.inside.places.items))
 
 pub returns-in-Some-clause-room : goal.returns-in-Some-clause-room
 returns-in-Some-clause-room c = λ gone.
-    rw (items c) (omega (arith, c.self.invariant.sound.bound, keyed.length-without_there address_of c.args.address c.self.inside.watchers.items _ ((place c).item c.remove.result)))
+    rw (items c) (omega (arith, c.self.invariant.sound.bound, keyed.length-without_there address_of c.args.address (seen c.self.inside.watchers c.self.inside.places.items) _ (found c)))
 
 pub returns-in-Some-clause-watchers : goal.returns-in-Some-clause-watchers
 returns-in-Some-clause-watchers c = rw (← c.self.view_is) (ap (λ l. record { room = c.self.inside.room; watchers = l }) (items c))
 
 pub returns-in-Some-clause-sound : goal.returns-in-Some-clause-sound
-returns-in-Some-clause-sound c = sound c
+returns-in-Some-clause-sound c = (invariant_of-self c).sound
 
 pub returns-in-Some-clause-found : goal.returns-in-Some-clause-found
-returns-in-Some-clause-found c = rw (items c, ← c.self.view_is) (λ a. keyed.item_at-without address_of c.args.address a c.self.inside.watchers.items)
-
-pub returns-in-None-clause-there : goal.returns-in-None-clause-there
-returns-in-None-clause-there c = rw (← c.self.view_is) (sym (ap is_some (none c)))
+returns-in-Some-clause-found c = rw (items c, ← c.self.view_is) (λ a. keyed.item_at-without address_of c.args.address a (seen c.self.inside.watchers c.self.inside.places.items))
 
 pub returns-in-None-clause-watchers : goal.returns-in-None-clause-watchers
 returns-in-None-clause-watchers c = rw (← c.self.view_is) (ap (λ l. record { room = c.self.inside.room; watchers = l }) (stays c))
-
-pub returns-in-None-clause-found : goal.returns-in-None-clause-found
-returns-in-None-clause-found c = rw (← c.self.view_is) (λ a. ap (λ l. watcher_at a l) (stays c) ∙ keyed.item_at-without address_of c.args.address a c.self.inside.watchers.items)

@@ -1,4 +1,5 @@
-use Rattle.std.proofs.Common.{◌∙◌, ap}
+use Rattle.std.proofs.Common.{◌∙◌, ℕ, List, ap}
+use Rattle.sorted_lists.specs.Orders.{seen}
 use Rattle.state_change.specs.Watchers.{Watching, changed, is_changed, first_from}
 use Rattle.state_change.proofs.WatcherLemmas.{first_from-filter}
 use Rattle.state_change.proofs.table.Watchers.next_changed.Goals as goal
@@ -6,6 +7,6 @@ use Rattle.state_change.proofs.table.Watchers.next_changed.Goals as goal
 pub returns-clause-first : goal.returns-clause-first
 returns-clause-first c =
     c.next_changed.ensures
-    ∙ first_from-filter c.args.from (is_changed c.args.zones.now c.args.before c.args.at c.args.affected) c.deref.result.now
-    ∙ ap (λ l. first_from c.args.from (changed c.args.zones.now c.args.before c.args.at c.args.affected l)) c.deref.ensures.value
+    ∙ first_from-filter c.args.from (is_changed c.args.zones.now c.args.before c.args.at c.args.affected) (seen c.self.inside.watchers c.deref.result.now)
+    ∙ ap (λ (l : List ℕ). first_from c.args.from (changed c.args.zones.now c.args.before c.args.at c.args.affected (seen c.self.inside.watchers l))) c.deref.ensures.value
     ∙ ap (λ (t : Watching). first_from c.args.from (changed c.args.zones.now c.args.before c.args.at c.args.affected t.watchers)) c.self.view_is
