@@ -1,56 +1,11 @@
 //! Captures as bytes in a depot of one input, whose fetches give a few bytes each.
-ghost use Rattle.std.specs.Prelude.{ℕ, List, [], false, true, None, ◌^◌, ◌-◌, ◌≡◌, IfOk, vec_len};
-ghost use Rattle.fab_base.specs.Seen.{Seen};
+ghost use Rattle.std.specs.Prelude.{◌≡◌, IfOk, vec_len};
 
-use fab_base::{Depot, Failed, Moment};
+use crate::one_file::{AMPLE, OneFile};
+use fab_base::{Depot, Moment};
 use pcap_file::*;
 use std::alloc::{AllocError, Global};
 use std::test::Fail;
-
-// A depot whose every slot is open, of which it tells nothing, and whose counts stand at their end.
-#[derive(Drop)]
-struct OneFile<'a> {
-    bytes: &'a [u8],
-    step: usize,
-    fetches: u64,
-}
-
-impl<'a> Depot for OneFile<'a> {
-    ghost seen = { λ _. record {
-      told = false;
-      knows = λ _. true;
-      input = λ _. true;
-      output = λ _. true;
-      name = λ _. [];
-      file = λ _. None;
-      left = λ _. [];
-      read_faults = λ _. 2 ^ 64 - 1;
-      write_faults = λ _. 2 ^ 64 - 1;
-    } };
-
-    fn open_in(&mut self, _name: &str) -> Result<u32, Failed> {
-        Err(Failed)
-    }
-
-    fn open_out(&mut self, _name: &str) -> Result<u32, Failed> {
-        Err(Failed)
-    }
-
-    fn fetch(&mut self, _slot: u32, into: &mut [u8]) -> Result<usize, Failed> {
-        self.fetches = self.fetches.saturating_add(1);
-        let mut count = self.step.min(into.len());
-        if self.bytes.len() < count {
-            count = self.bytes.len();
-        }
-        into[..count].copy_from_slice(&self.bytes[..count]);
-        self.bytes = &self.bytes[count..];
-        Ok(count)
-    }
-
-    fn put(&mut self, _slot: u32, _from: &[u8]) -> Result<usize, Failed> {
-        Err(Failed)
-    }
-}
 
 const LITTLE: [u8; 24] = [
     0xd4, 0xc3, 0xb2, 0xa1, 2, 0, 4, 0, 0, 0, 0, 0, 0, 0, 0, 0, 0xff, 0xff, 0, 0, 1, 0, 0, 0,
@@ -59,11 +14,6 @@ const LITTLE: [u8; 24] = [
 const BIG_NANO: [u8; 24] = [
     0xa1, 0xb2, 0x3c, 0x4d, 0, 2, 0, 4, 9, 9, 9, 9, 8, 8, 8, 8, 0, 0, 0, 0, 0, 0, 0, 1,
 ];
-
-const AMPLE: Budget = Budget {
-    bytes: 1_073_741_824,
-    frames: 200_000,
-};
 
 fn with_head(head: [u8; 4], rest: [u8; 20]) -> [u8; 24] {
     let mut bytes = [0u8; 24];

@@ -1,61 +1,11 @@
 //! Files as bytes in a depot of one input, whose fetches give a few bytes each.
-ghost use Rattle.std.specs.Prelude.{ℕ, List, [], false, true, None, ◌^◌, ◌-◌};
-ghost use Rattle.fab_base.specs.Seen.{Seen};
-
-use fab_base::{Depot, Failed, MemDepot, Moment, word_at};
+use crate::one_file::{AMPLE, OneFile};
+use fab_base::{MemDepot, Moment, word_at};
 use pcap_file::Budget;
 use pcapng_file::*;
 use std::alloc::{AllocError, Global};
 use std::process::Abort;
 use std::test::Fail;
-
-// A depot whose every slot is open, of which it tells nothing, and whose counts stand at their end.
-#[derive(Drop)]
-struct OneFile<'a> {
-    bytes: &'a [u8],
-    step: usize,
-}
-
-impl<'a> Depot for OneFile<'a> {
-    ghost seen = { λ _. record {
-      told = false;
-      knows = λ _. true;
-      input = λ _. true;
-      output = λ _. true;
-      name = λ _. [];
-      file = λ _. None;
-      left = λ _. [];
-      read_faults = λ _. 2 ^ 64 - 1;
-      write_faults = λ _. 2 ^ 64 - 1;
-    } };
-
-    fn open_in(&mut self, _name: &str) -> Result<u32, Failed> {
-        Err(Failed)
-    }
-
-    fn open_out(&mut self, _name: &str) -> Result<u32, Failed> {
-        Err(Failed)
-    }
-
-    fn fetch(&mut self, _slot: u32, into: &mut [u8]) -> Result<usize, Failed> {
-        let mut count = self.step.min(into.len());
-        if self.bytes.len() < count {
-            count = self.bytes.len();
-        }
-        into[..count].copy_from_slice(&self.bytes[..count]);
-        self.bytes = &self.bytes[count..];
-        Ok(count)
-    }
-
-    fn put(&mut self, _slot: u32, _from: &[u8]) -> Result<usize, Failed> {
-        Err(Failed)
-    }
-}
-
-const AMPLE: Budget = Budget {
-    bytes: 1_073_741_824,
-    frames: 200_000,
-};
 
 // A VLAN request of 60 bytes at 1 s, in microseconds.
 const LITTLE_HEADS: [u8; 76] = [
@@ -98,7 +48,11 @@ fn read(
     step: usize,
     budget: &mut Budget,
 ) -> Result<NgRecords, NgError> {
-    let mut depot = OneFile { bytes, step };
+    let mut depot = OneFile {
+        bytes,
+        step,
+        fetches: 0,
+    };
     read_ng(alloc, &mut depot, 0, budget)
 }
 

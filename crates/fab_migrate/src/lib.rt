@@ -4,8 +4,6 @@
 mod migrating;
 mod old;
 mod old_laws;
-#[cfg(test)]
-mod tests_old;
 mod whole;
 
 pub use migrating::migrate;

@@ -4,6 +4,8 @@
 #[cfg(test)]
 mod clock;
 #[cfg(test)]
+mod frames;
+#[cfg(test)]
 mod heard;
 #[cfg(test)]
 mod judging;

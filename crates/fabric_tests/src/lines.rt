@@ -1,7 +1,8 @@
 //! Lines of journals, written and read.
 ghost use Rattle.std.specs.Prelude.{◌≡◌, ◌∷◌, [], IfOk};
 
-use fab_base::{Bytes, Caught, FcId, IdList, Moment, PortNo};
+use crate::frames::whole;
+use fab_base::{FcId, IdList, Moment, PortNo};
 use fab_policy::*;
 use std::alloc::Global;
 use std::test::Fail;
@@ -27,13 +28,6 @@ fn dropped(rule: Rule, number: Option<u32>) -> Result<Verdict, Fail> {
         Some(dropped) => Ok(Verdict::Dropped(dropped)),
         None => Err("the rule has no such number".into()),
     }
-}
-
-fn caught(alloc: Global) -> Result<Caught, Fail> {
-    Ok(Caught {
-        bytes: Bytes::copy(alloc, &[])?,
-        whole: true,
-    })
 }
 
 // The verdict of a line of format 1 that ends so.
@@ -173,7 +167,7 @@ fn lines_of_both_formats_are_written(rt: HostRuntime) -> Result<(), Fail> {
     let frame = Event::Frame {
         port: port(3)?,
         index: 2,
-        caught: caught(alloc)?,
+        caught: whole(alloc, &[])?,
         verdict: Verdict::Granted(address(0x010100)?),
     };
     let mut line = Vec::new(alloc);
@@ -192,7 +186,7 @@ fn a_journal_of_format_2_is_written(rt: HostRuntime) -> Result<(), Fail> {
     let frame = Event::Frame {
         port: port(1)?,
         index: 0,
-        caught: caught(alloc)?,
+        caught: whole(alloc, &[])?,
         verdict: Verdict::Vlans,
     };
     let mut out = Vec::new(alloc);

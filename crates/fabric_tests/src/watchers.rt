@@ -1,5 +1,6 @@
 //! Three watchers over two zones, of which a zone set has one from moment 1000 on and another has
 //! the other from 5000 on.
+use crate::roster::{A, B};
 use fab_base::{Bytes, FcId, Moment, NoMemory, Wwn};
 use fab_config::{
     Activation, ActivationList, NameList, PlaceList, SetList, Zone, ZoneList, ZoneSet,
@@ -8,10 +9,6 @@ use state_change::Watchers;
 use std::alloc::Global;
 use std::test::Fail;
 use zone_rules::Zones;
-
-const A: Wwn = Wwn(0x1000_001B_2100_000A);
-
-const B: Wwn = Wwn(0x1000_001B_2100_000B);
 
 const C: Wwn = Wwn(0x1000_001B_2100_000C);
 

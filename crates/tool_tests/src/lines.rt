@@ -21,7 +21,8 @@ const REPLAY_NEW: [&str; 9] = ["replay", "K", "NEW", "A", "X", "B", "Y", "C", "Z
 
 const MIGRATE: [&str; 3] = ["migrate", "J", "NEW"];
 
-const JOURNAL: &str = "\
+/// The journal of a pool of two addresses, of which one is taken again after its quarantine.
+pub(crate) const JOURNAL: &str = "\
 journal 2
 1000 tick
 1000 1 0 granted 010100

@@ -1,5 +1,6 @@
 //! `migrate` over stores in memory.
 use crate::commands::{CONFIG, HEAD, REQUEST, depot_of, refused, runs};
+use crate::lines::JOURNAL;
 use fab_base::{MemDepot, NoMemory};
 use std::alloc::Global;
 use std::test::Fail;
@@ -23,23 +24,6 @@ tick 15100
 3 2 granted 010100
 ";
 
-const NEW: &str = "\
-journal 2
-1000 tick
-1000 1 0 granted 010100
-1100 tick
-1100 2 0 granted 010101
-1200 tick
-1200 3 0 rejected 09 29
-5000 tick
-5000 1 1 logout 010100
-9000 tick
-15000 tick
-15000 3 1 rejected 09 29
-15100 tick
-15100 3 2 granted 010100
-";
-
 // A depot with this journal, which knows the words of `migrate` too.
 fn depot_with(alloc: Global, journal: &[u8]) -> Result<MemDepot, NoMemory> {
     let mut depot = depot_of(alloc, &CONFIG, journal, &HEAD)?;
@@ -59,8 +43,13 @@ fn holds(depot: &MemDepot, name: &str, text: &str) -> bool {
 fn each_line_gets_the_clock(rt: HostRuntime) -> Result<(), Fail> {
     let alloc = rt.alloc();
     let rows = [
-        (OLD, NEW, b"migrated 13\n".as_slice()),
+        (OLD, JOURNAL, b"migrated 13\n".as_slice()),
         ("tick 0\n", "journal 2\n0 tick\n", b"migrated 1\n"),
+        (
+            "tick 5 010100 010101\n64 18446744073709551615 dropped fip-length 7\n",
+            "journal 2\n5 tick 010100 010101\n5 64 18446744073709551615 dropped fip-length 7\n",
+            b"migrated 2\n",
+        ),
     ];
     for (old, new, line) in rows {
         let mut depot = depot_with(alloc, old.as_bytes())?;
@@ -86,10 +75,17 @@ fn journals_that_are_not_migrated(rt: HostRuntime) -> Result<(), Fail> {
     let rows = [
         ("\n", b"journal 1 text\n".as_slice()),
         ("tick 1000", b"journal 1 text\n"),
-        (NEW, b"journal 1 text\n"),
+        ("tick 1000 \n", b"journal 1 text\n"),
+        ("tick 01000\n", b"journal 1 text\n"),
+        (JOURNAL, b"journal 1 text\n"),
         ("1 0 vlans\n", b"journal 1 tick\n"),
-        ("tick 1000\n1 0 vlans\ntick 1000\n", b"journal 3 tick\n"),
+        ("tick 1000\n1 0 vlans\n1 1 vlans", b"journal 3 text\n"),
         ("tick 1000\n1 0 vlans\n1 1 vlan\n", b"journal 3 text\n"),
+        ("tick 1000\n1000 1 0 vlans\n", b"journal 2 text\n"),
+        ("tick 1000\n1 0 vlans\ntick 1000\n", b"journal 3 tick\n"),
+        ("tick 1000\ntick 999\n65 0 vlans\n", b"journal 2 tick\n"),
+        ("tick 1000\n65 0 vlans\ntick 999\n", b"journal 2 text\n"),
+        ("tick 1000 010101 010100\n", b"journal 1 text\n"),
     ];
     for (old, line) in rows {
         let depot = depot_with(alloc, old.as_bytes())?;
