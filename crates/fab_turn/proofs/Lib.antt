@@ -14,3 +14,4 @@ pub mod Opening
 pub mod Closing
 pub mod CompareKept
 pub mod Joining
+pub mod Pausing

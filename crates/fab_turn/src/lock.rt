@@ -3,7 +3,7 @@ ghost use Rattle.std.specs.Prelude.{◌≡◌, ◌++◌, ◌∷◌, [], ℕ, Lis
 ghost use mathlib.Core.List.{IsPrefix};
 ghost use Rattle.fab_turn.specs.Views.{has_port, kept_list, of_port};
 ghost use Rattle.fab_turn.specs.Steps.{longer};
-ghost use Rattle.fab_turn.specs.Lock.{first_of, taken, seen, own, given, kept, IsPassOf, IsRootOf, IsIdle, InTurn, IsSamePass, IsInSameTurn, AllJoined};
+ghost use Rattle.fab_turn.specs.Lock.{first_of, taken, seen, own, given, kept, IsPassOf, IsRootOf, IsIdle, InTurn, IsSamePass, IsInSameTurn, AllJoined, Moved};
 
 use crate::board::{Pass, TurnLock};
 use crate::rule::Chronicle;
@@ -14,6 +14,15 @@ use std::marker::Brand;
 use std::snapshot::Snapshot;
 use std::sync::Wait;
 use std::thread;
+
+/// How often a thread looks for a pause between turns before it draws a ticket all the same.
+const PAUSE_LOOKS: u32 = 3200;
+
+/// After so many of these looks it yields its processor.
+const YIELD_EVERY: u32 = 32;
+
+/// How often a thread with a ticket looks before it yields its processor at each look.
+const TICKET_LOOKS: u32 = 300;
 
 impl<V: Chronicle> Pass<V> {
     /// None for the root pass.
@@ -69,8 +78,8 @@ impl<V: Chronicle> TurnLock<V> {
         self.give::<Brand>(root, port)
     }
 
-    /// Draws a ticket, waits until those before it are over, and hands out the value. It yields the
-    /// processor while it waits, and nothing is said of how long that is.
+    /// Waits some time for a pause between turns, draws a ticket, waits until those before it are
+    /// over, and hands out the value. Nothing is said of how long that is.
     pub fn turn(&self, rt: &impl Wait, pass: &mut Pass<V>) -> V
         requires { IsPassOf self.now pass.old × IsIdle pass.old }
         ensures pass { IsPassOf self.now pass.new × InTurn pass.new × IsSamePass pass.old pass.new }
@@ -79,12 +88,46 @@ impl<V: Chronicle> TurnLock<V> {
         ensures own { own pass.new ≡ own pass.old }
         ensures grown { V.grown (first_of self.now) result }
     {
+        self.wait_for_pause(pass);
+        self.turn_by_ticket(rt, pass)
+    }
+
+    // Waits, at most some time, until nobody has or awaits a turn. A thread that waits with a
+    // ticket and has no processor holds up all behind it, one that waits here holds up nobody.
+    fn wait_for_pause(&self, pass: &mut Pass<V>)
+        requires { IsPassOf self.now pass.old }
+        ensures { Moved pass.old pass.new pass.old.seat.me }
+    {
+        for looks in 0..PAUSE_LOOKS {
+            if self.seems_free(pass) {
+                return;
+            }
+            if looks % YIELD_EVERY == 0 {
+                thread::yield_now();
+            }
+        }
+    }
+
+    // A turn in the order of the tickets.
+    fn turn_by_ticket(&self, rt: &impl Wait, pass: &mut Pass<V>) -> V
+        requires { IsPassOf self.now pass.old × IsIdle pass.old }
+        ensures pass { IsPassOf self.now pass.new × InTurn pass.new × IsSamePass pass.old pass.new }
+        ensures history { V.entries result ≡ taken pass.new }
+        ensures seen { IsPrefix (seen pass.old) (V.entries result) }
+        ensures own { own pass.new ≡ own pass.old }
+        ensures grown { V.grown (first_of self.now) result }
+    {
         let ticket = self.draw(pass);
+        let mut looks = 0u32;
         for _ in rt.forever() {
             if self.look(pass) == ticket {
                 return self.take(pass);
             }
-            thread::yield_now();
+            if looks < TICKET_LOOKS {
+                looks += 1;
+            } else {
+                thread::yield_now();
+            }
         }
         unreachable!()
     }

@@ -63,8 +63,8 @@ impl<V, E> Join<View<V, E>> for TakeIn {
     ghost spent = { spent };
 }
 
-/// Load of word 0: the root learns that, of the two lists of its last join, the shorter begins the
-/// longer.
+/// Load of a word: nothing changes, and the root learns that, of the two lists of its last join,
+/// the shorter begins the longer.
 pub(crate) struct Compare;
 
 impl<V, E> Play<Option<V>, View<V, E>> for Compare {

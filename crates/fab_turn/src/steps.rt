@@ -104,7 +104,27 @@ impl<V: Chronicle> TurnLock<V> {
         ensures same { Moved root.old root.new root.old.seat.me }
         ensures met { IsPrefix (view root.old).met (seen root.old) }
     {
-        self.table.shared.load::<Compare>(&mut root.seat, TICKETS);
+        self.read(root, TICKETS);
+    }
+
+    // Whether nobody has or awaits a turn, as far as two words tell that are read one after the
+    // other.
+    pub(crate) fn seems_free(&self, pass: &mut Pass<V>) -> bool
+        requires { IsPassOf self.now pass.old }
+        ensures { Moved pass.old pass.new pass.old.seat.me }
+    {
+        let serving = self.read(pass, SERVING);
+        serving == self.read(pass, TICKETS)
+    }
+
+    // A word, by a step that changes nothing.
+    fn read(&self, pass: &mut Pass<V>, word: usize) -> u64
+        requires pass { IsPassOf self.now pass.old }
+        requires word { word < 2 }
+        ensures same { Moved pass.old pass.new pass.old.seat.me }
+        ensures met { IsPrefix (view pass.old).met (seen pass.old) }
+    {
+        self.table.shared.load::<Compare>(&mut pass.seat, word)
     }
 
     // Takes a pass in.
