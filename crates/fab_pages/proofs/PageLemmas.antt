@@ -16,13 +16,13 @@ use Rattle.fab_pages.specs.Pages.{Adds, AreEarly, items_in, piece_at}
 
 -- ---- what is sent on a port
 
-records-append : (p : ℕ) (l m : List Sent) → records_to p (l ++ m) ≡ records_to p l ++ records_to p m
+pub records-append : (p : ℕ) (l m : List Sent) → records_to p (l ++ m) ≡ records_to p l ++ records_to p m
 records-append p l m = ap (flat_map sent_bytes) (filter-append (λ (s : Sent). eqb s.port p) l m) ∙ flat_map-append sent_bytes (filter (λ s. eqb s.port p) l) (filter (λ s. eqb s.port p) m)
 
-own_record : (p : ℕ) (s : Sent) → s.port ≡ p → records_to p (s ∷ []) ≡ sent_bytes s
+pub own_record : (p : ℕ) (s : Sent) → s.port ≡ p → records_to p (s ∷ []) ≡ sent_bytes s
 own_record p s is = ap (λ (b : Bool). flat_map sent_bytes (cond b (s ∷ []) [])) (eq-eqb s.port p is) ∙ append-nil (sent_bytes s)
 
-other_record : (p : ℕ) (s : Sent) → s.port ≢ p → records_to p (s ∷ []) ≡ []
+pub other_record : (p : ℕ) (s : Sent) → s.port ≢ p → records_to p (s ∷ []) ≡ []
 other_record p s ne = ap (λ (b : Bool). flat_map sent_bytes (cond b (s ∷ []) [])) (ne_eqb s.port p ne)
 
 -- ---- pages
@@ -55,7 +55,7 @@ piece-item [] i v lt is = absurd (omega arith)
 piece-item (x ∷ l) zero v lt is = ap (λ (y : Vec ℕ Global). y.items) is
 piece-item (x ∷ l) (suc i) v lt is = piece-item l i v (omega arith) is
 
-length_set : (l : List (Vec ℕ Global)) (k : ℕ) (v : Vec ℕ Global) → length (items_in (slice_set l k v)) ≡ length (items_in l)
+pub length_set : (l : List (Vec ℕ Global)) (k : ℕ) (v : Vec ℕ Global) → length (items_in (slice_set l k v)) ≡ length (items_in l)
 length_set [] k v = refl
 length_set (x ∷ l) zero v = refl
 length_set (x ∷ l) (suc k) v = ap suc (length_set l k v)

@@ -1,6 +1,8 @@
 //! The records of the frames that a fabric sends, behind the page of the port that each goes to.
 #![tactic(auto)]
 
+mod encoders;
 mod pages;
 
+pub use encoders::write_records_at_once;
 pub use pages::{clear_all, head_records, write_records};

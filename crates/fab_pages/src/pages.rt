@@ -86,7 +86,7 @@ fn write_to_port(
 
 // Appends the record of a frame that is sent. Its lengths are set once the frame stands there, so
 // that no byte of a frame is copied twice.
-fn write_sent(
+pub(crate) fn write_sent(
     alloc: Global,
     config: &Config,
     events: &EventList,

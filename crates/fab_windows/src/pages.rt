@@ -11,10 +11,11 @@ ghost use Rattle.fab_windows.specs.Pages.{IsNothing, pending};
 
 use fab_base::{Moment, NoMemory};
 use fab_config::Config;
-use fab_pages::{clear_all, head_records, write_records};
+use fab_pages::{clear_all, head_records, write_records_at_once};
 use fab_policy::{Event, write_head_line, write_line};
 use forward_core::{Drained, EventList};
 use std::alloc::Global;
+use std::thread::Threads;
 
 /// The bytes of a page from which on it is written.
 const FULL: usize = 65536;
@@ -41,8 +42,9 @@ impl Pages {
     }
 
     /// Adds the lines of entries, from a clock on, and the records of what they sent on each port.
-    pub(crate) fn add(
+    pub(crate) fn add<R: Threads + Sync>(
         &mut self,
+        rt: &R,
         alloc: Global,
         config: &Config,
         clock: Moment,
@@ -61,7 +63,7 @@ impl Pages {
             drained.now.outs)) }
     {
         write_lines(alloc, clock, &drained.events, &mut self.lines)?;
-        write_records(alloc, config, drained, &mut self.records)?;
+        write_records_at_once(rt, alloc, config, drained, &mut self.records)?;
         Ok(())
     }
 

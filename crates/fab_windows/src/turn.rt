@@ -120,6 +120,7 @@ fn answer<R: Threads + Wait + Sync, D: Depot, G: Gate + Sync>(
     let clock = fabric.clock().unwrap_or(Moment(0));
     let (fabric, drained) = handle(rt, alloc, fabric, window, &run.shelves, gate)?;
     publish(
+        rt,
         alloc,
         depot,
         fabric.config(),
@@ -159,7 +160,8 @@ fn handle<R: Threads + Wait + Sync, G: Gate + Sync>(
 
 // Adds the lines of entries, from a clock on, and the records of what they sent to the pages, which
 // are written where they are full.
-fn publish<D: Depot>(
+fn publish<R: Threads + Sync, D: Depot>(
+    rt: &R,
     alloc: Global,
     depot: &mut D,
     config: &Config,
@@ -178,7 +180,7 @@ fn publish<D: Depot>(
         (pending pages.new) (D.seen depot.old) (D.seen depot.new) result }
     ensures count { OnOk result (length pages.new.records.items ≡ length outs.now) }
 {
-    pages.add(alloc, config, clock, drained)?;
+    pages.add(rt, alloc, config, clock, drained)?;
     if !pages.are_full() {
         return Ok(());
     }

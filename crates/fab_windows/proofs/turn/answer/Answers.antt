@@ -26,19 +26,19 @@ handle-requires-clause-few g c = λ κs within.
     omega (arith, ap length c.deref.ensures.value, ports, x.going.reached.ports.1)
 
 pub publish-requires-clause-files : goal.publish-requires-clause-files
-publish-requires-clause-files g c =
+publish-requires-clause-files g c = λ κs within.
     let x = c.requires.gathered.4 in
     let k = task_of c.requires.gathered.0 c.args.fabric.settings c.args.journal c.args.outs.now in
     gathered_files c.laws_of_runs.ensures k c.args.window c.requires.gathered.1 c.args.fabric (g.D.Depot.seen c.args.depot.now) c.requires.gathered.2 c.args.run.now.shelves.items c.requires.gathered.3 c.args.run.now.done (pending c.args.run.now.pages) x
 
 pub publish-requires-clause-count : goal.publish-requires-clause-count
-publish-requires-clause-count g c = c.requires.pages
+publish-requires-clause-count g c = λ κs within. c.requires.pages
 
 pub publish-requires-clause-ranged : goal.publish-requires-clause-ranged
-publish-requires-clause-ranged g c = c.in_ok-fabric.ensures.handles.ranged
+publish-requires-clause-ranged g c = λ κs within. c.in_ok-fabric.ensures.handles.ranged
 
 pub publish-requires-clause-early : goal.publish-requires-clause-early
-publish-requires-clause-early g c =
+publish-requires-clause-early g c = λ κs within.
     let x = c.requires.gathered.4 in
     let k = task_of c.requires.gathered.0 c.args.fabric.settings c.args.journal c.args.outs.now in
     let shelves = c.args.run.now.shelves.items in

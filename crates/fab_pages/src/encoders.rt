@@ -1,0 +1,250 @@
+//! The records of several ports at once, those of each port in a thread of its own.
+ghost use Rattle.std.specs.Prelude.{◌≡◌, ℕ, ◌+◌, ◌<◌, ◌≤◌, ◌^◌, ◌++◌, ◌∷◌, [], false, List, length, map, IsTrue, OnOk, vec_capacity, vec_len, slice_index_or, slice_set};
+ghost use Rattle.fab_policy.specs.Growing.{records_to};
+ghost use Rattle.fab_replies.specs.Message.{can_send, sent_of};
+ghost use Rattle.fab_pages.specs.Pages.{Adds, AreEarly, items_in, piece_at};
+ghost use Rattle.fab_pages.specs.Encoders.{AreBelow, AreOut, IsEncoded, NoneFor, NoneRefused, page_in};
+ghost use Rattle.fab_pages.specs.declared.encoders.Encoder as of_pages;
+
+use crate::pages::{write_records, write_sent};
+use fab_base::NoMemory;
+use fab_config::Config;
+use fab_policy::Event;
+use forward_core::{Drained, EventList, Out, OutMessage};
+use std::alloc::Global;
+use std::thread::Threads;
+use std::{mem, thread};
+
+/// From so many bytes on threads are worth their start.
+const MANY: usize = 262144;
+
+/// What a message without a frame or a size of its own counts as.
+const SHORT: usize = 64;
+
+/// The page of a port while its records are appended, and whether memory was refused.
+#[derive(Drop)]
+pub(crate) struct Encoder {
+    pub(crate) place: usize,
+    pub(crate) page: Vec<u8>,
+    pub(crate) refused: bool,
+}
+
+/// As `write_records`; where there are many bytes, a thread for each port that has a record.
+pub fn write_records_at_once<R: Threads + Sync>(
+    rt: &R,
+    alloc: Global,
+    config: &Config,
+    drained: &Drained,
+    pages: &mut [Vec<u8>],
+) -> Result<(), NoMemory>
+    requires early { AreEarly drained.now.outs }
+    ensures adds { OnOk result (Adds (map (sent_of config.now drained.now.events) drained.now.outs)
+        (items_in pages.old) (items_in pages.new)) }
+    ensures count { length pages.new ≡ length pages.old }
+{
+    if are_few(drained) {
+        return write_records(alloc, config, drained, pages);
+    }
+    let Ok(mut encoders) = Vec::with_capacity(alloc, pages.len()) else {
+        return Err(NoMemory);
+    };
+    take_pages(alloc, drained, pages, &mut encoders);
+    encode_all(rt, alloc, config, drained, encoders.as_mut_slice());
+    if put_back(encoders, pages) {
+        Err(NoMemory)
+    } else {
+        Ok(())
+    }
+}
+
+// Whether what is sent has less than many bytes.
+fn are_few(drained: &Drained) -> bool {
+    let mut bytes = 0usize;
+    for index in 0..drained.outs.len() {
+        let Some(out) = drained.outs.at(index) else {
+            unreachable!()
+        };
+        bytes = bytes.saturating_add(size_of(&drained.events, &out.message));
+    }
+    bytes < MANY
+}
+
+// About how many bytes a message has.
+fn size_of(events: &EventList, message: &OutMessage) -> usize {
+    match message {
+        OutMessage::Solicited { size, .. } => usize::from(*size),
+        OutMessage::Forwarded { entry, .. } => match events.at(*entry) {
+            Some(Event::Frame { caught, .. }) => caught.bytes.view().len(),
+            _ => SHORT,
+        },
+        _ => SHORT,
+    }
+}
+
+// Takes the page of each port that has a record out.
+fn take_pages(alloc: Global, drained: &Drained, pages: &mut [Vec<u8>], encoders: &mut Vec<Encoder>)
+    requires empty { encoders.old.items ≡ [] }
+    requires room { length pages.old ≤ vec_capacity encoders.old }
+    ensures count { length pages.new ≡ length pages.old }
+    ensures out { AreOut (length pages.old) drained.now.outs encoders.new.items
+        (items_in pages.old) (items_in pages.new) }
+{
+    for place in 0..pages.len() {
+        take_own(alloc, drained, place, pages, encoders);
+    }
+}
+
+// Takes the page at a place out, where its port has a record.
+fn take_own(
+    alloc: Global,
+    drained: &Drained,
+    place: usize,
+    pages: &mut [Vec<u8>],
+    encoders: &mut Vec<Encoder>,
+)
+    requires place { place < length pages.old }
+    requires room { vec_len encoders.old < vec_capacity encoders.old }
+    ensures count { length pages.new ≡ length pages.old }
+    ensures capacity { vec_capacity encoders.new ≡ vec_capacity encoders.old }
+    ensures more { vec_len encoders.new ≤ vec_len encoders.old + 1 }
+    ensures out { (old : List (List ℕ)) → AreOut place drained.now.outs encoders.old.items old
+        (items_in pages.old) → AreOut (place + 1) drained.now.outs encoders.new.items old
+        (items_in pages.new) }
+{
+    if !has_record(drained, place) {
+        return;
+    }
+    let page = mem::replace(&mut pages[place], Vec::new(alloc));
+    encoders.push_reserved(Encoder {
+        place,
+        page,
+        refused: false,
+    });
+}
+
+// Whether a frame is sent on the port at a place.
+fn has_record(drained: &Drained, place: usize) -> bool
+    ensures { result ≡ false → NoneFor place drained.now.outs }
+{
+    for index in 0..drained.outs.len() {
+        let Some(out) = drained.outs.at(index) else {
+            unreachable!()
+        };
+        if out.port.index() == place {
+            return true;
+        }
+    }
+    false
+}
+
+// Has each encoder append the records of its port, in a thread of its own.
+fn encode_all<R: Threads + Sync>(
+    rt: &R,
+    alloc: Global,
+    config: &Config,
+    drained: &Drained,
+    encoders: &mut [Encoder],
+)
+    requires early { AreEarly drained.now.outs }
+    ensures each { (k : ℕ) (d : of_pages.Encoder) → k < length encoders.old → IsEncoded
+        (map (sent_of config.now drained.now.events) drained.now.outs)
+        (slice_index_or encoders.old k d) (slice_index_or encoders.new k d) }
+{
+    if encoders.is_empty() {
+        return;
+    }
+    let threads = encoders.len();
+    thread::for_each_mut(
+        rt,
+        encoders,
+        threads,
+        &|_: usize, encoder: &mut Encoder|
+            requires { AreEarly drained.now.outs }
+            ensures { IsEncoded (map (sent_of config.entry.now drained.entry.now.events)
+                drained.entry.now.outs) encoder.old encoder.new }
+        { encode(alloc, config, drained, encoder) },
+    );
+}
+
+// Appends the records of an encoder's port.
+fn encode(alloc: Global, config: &Config, drained: &Drained, encoder: &mut Encoder)
+    requires early { AreEarly drained.now.outs }
+    ensures { IsEncoded (map (sent_of config.now drained.now.events) drained.now.outs)
+        encoder.old encoder.new }
+{
+    let place = encoder.place;
+    let written = write_port(alloc, config, drained, place, &mut encoder.page);
+    encoder.refused = written.is_err();
+}
+
+// Appends the records of the frames that are sent on the port at a place.
+fn write_port(
+    alloc: Global,
+    config: &Config,
+    drained: &Drained,
+    place: usize,
+    page: &mut Vec<u8>,
+) -> Result<(), NoMemory>
+    requires early { AreEarly drained.now.outs }
+    ensures { OnOk result (page.new.items ≡ page.old.items ++ records_to (place + 1)
+        (map (sent_of config.now drained.now.events) drained.now.outs)) }
+{
+    for index in 0..drained.outs.len() {
+        let Some(out) = drained.outs.at(index) else {
+            unreachable!()
+        };
+        write_own(alloc, config, &drained.events, out, place, page)?;
+    }
+    Ok(())
+}
+
+// Appends the record of a frame that is sent, where it is of the port at a place.
+fn write_own(
+    alloc: Global,
+    config: &Config,
+    events: &EventList,
+    out: &Out,
+    place: usize,
+    page: &mut Vec<u8>,
+) -> Result<(), NoMemory>
+    requires can { IsTrue (can_send events.now out.now.message) }
+    requires early { out.now.moment < 2 ^ 53 }
+    ensures { OnOk result (page.new.items ≡ page.old.items ++ records_to (place + 1)
+        (sent_of config.now events.now out.now ∷ [])) }
+{
+    if out.port.index() != place {
+        return Ok(());
+    }
+    write_sent(alloc, config, events, out, page)?;
+    Ok(())
+}
+
+// Puts all pages back. Whether memory was refused for one.
+fn put_back(encoders: Vec<Encoder>, pages: &mut [Vec<u8>]) -> bool
+    requires within { AreBelow (length pages.old) encoders.items }
+    ensures count { length pages.new ≡ length pages.old }
+    ensures pages { (q : ℕ) → q < length pages.old → piece_at (items_in pages.new) q
+        ≡ page_in q encoders.items (piece_at (items_in pages.old) q) }
+    ensures refused { result ≡ false → NoneRefused encoders.items }
+{
+    let mut encoders = encoders;
+    let mut refused = false;
+    while let Some(encoder) = encoders.pop() {
+        let Encoder {
+            place,
+            page,
+            refused: by_this,
+        } = encoder;
+        put_page(pages, place, page);
+        refused = refused | by_this;
+    }
+    refused
+}
+
+// Puts a page back at its place.
+fn put_page(pages: &mut [Vec<u8>], place: usize, page: Vec<u8>)
+    requires place { place < length pages.old }
+    ensures { pages.new ≡ slice_set pages.old place page }
+{
+    pages[place] = page;
+}
