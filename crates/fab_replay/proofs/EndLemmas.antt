@@ -1,19 +1,19 @@
 -- The place behind the last frame of the captures, where a journal ends.
-use Rattle.std.proofs.Common.{◌≡◌, ℕ, ◌+◌, ◌≤◌, inr, Bool, true, false, eqb, MatchBool, List, [], length, drop, Option, refl, sym, ◌∙◌, arith}
+use Rattle.std.proofs.Common.{◌≡◌, ℕ, ◌+◌, ◌≤◌, inr, Bool, true, false, eqb, MatchBool, List, [], length, drop, Option, None, refl, sym, ◌∙◌, arith}
 use Rattle.std.proofs.lemmas.Bool.{eqb-true, eqb-false}
 use Rattle.fab_policy.specs.Journal.{Journal}
 use Rattle.fab_policy.specs.Standing.{Contents}
 use Rattle.fab_policy.specs.declared.line.Line.TheVariants.{Tick, Frame}
 use Rattle.fab_policy.specs.declared.verdict.Verdict.{Verdict}
 use Rattle.pcap_file.specs.declared.Record.{Record}
-use Rattle.fab_replay.specs.Front.{IsFirstWrong, IsNextFrame, expects_tick, has_left}
+use Rattle.fab_replay.specs.Front.{IsFirstWrong, IsGatheredTo, IsNextFrame, expects_tick, has_left}
 use Rattle.fab_replay.specs.Lines.{IsLineAt, IsUnread, number_behind}
 use Rattle.fab_replay.specs.Steps.{IsFound, IsReached, Scene}
 use Rattle.fab_replay.specs.declared.fault.CheckFault.{CheckFault}
 use Rattle.fab_replay.specs.declared.fault.CheckFault.TheVariants as fault
 use Rattle.fab_replay.specs.declared.fault.LineWhy.TheVariants as why
 use Rattle.fab_replay.specs.declared.lines.Place.{Place}
-use Rattle.fab_replay.proofs.LeftLemmas.{left_some}
+use Rattle.fab_replay.proofs.LeftLemmas.{gathered_all, left_some}
 use Rattle.fab_replay.proofs.ListLemmas.{none_long, rest_none}
 use Rattle.fab_replay.proofs.StepLemmas.{wrong_here}
 
@@ -27,10 +27,13 @@ end_case bytes at le = go (eqb at (length bytes)) refl
         let long = none_long bytes at none in
         eqb-false at (length bytes) e (omega (arith, le, long))
 
-module _ (x : Scene) (J : Journal) (F : Contents) (p : Place) (h : IsReached x J F p) where
+module _ (x : Scene) (J : Journal) (F : Contents) (p : Place) (h : IsReached x J F p) (none : x.stop ≡ None) where
+  all_gathered : IsGatheredTo x.settings x.records x.stop J
+  all_gathered = gathered_all x.settings x.records x.stop J none
+
   module _ (left : has_left x.settings x.records J ≡ false) (unexpected : expects_tick x.settings x.records J ≡ false) where
-    pub tick_behind : (n : ℕ) (q : Place) (m : ℕ) (ended : List ℕ) → n ≡ number_behind p.format p.entries → IsLineAt x.bytes p q (Tick m ended) → IsFirstWrong x.settings x.records x.bytes n why.Tick
-    tick_behind n q m ended number at = wrong_here x J F p h n why.Tick number (Tick m ended, at.spells, inr (unexpected, refl))
+    pub tick_behind : (n : ℕ) (q : Place) (m : ℕ) (ended : List ℕ) → n ≡ number_behind p.format p.entries → IsLineAt x.bytes p q (Tick m ended) → IsFirstWrong x.settings x.records x.stop x.bytes n why.Tick
+    tick_behind n q m ended number at = wrong_here x J F p h all_gathered n why.Tick number (Tick m ended, at.spells, inr (unexpected, refl))
 
     none_next : (port index : ℕ) (told : Option ℕ) (r : Record) → IsNextFrame x.settings x.records J port index told r → ⊥
     none_next port index told r n =
@@ -39,13 +42,13 @@ module _ (x : Scene) (J : Journal) (F : Contents) (p : Place) (h : IsReached x J
         let both : true ≡ false = sym (left_some x.settings (λ w. true) 1 x.records J n.place port n.records r n.later n.are own n.next refl) ∙ left in
         cc
 
-    pub frame_behind : (n : ℕ) (q : Place) (port index : ℕ) (verdict : Verdict) (told : Option ℕ) → n ≡ number_behind p.format p.entries → IsLineAt x.bytes p q (Frame port index verdict told) → IsFirstWrong x.settings x.records x.bytes n why.Frame
-    frame_behind n q port index verdict told number at = wrong_here x J F p h n why.Frame number (port, index, told, (verdict, at.spells), unexpected, none_next port index told)
+    pub frame_behind : (n : ℕ) (q : Place) (port index : ℕ) (verdict : Verdict) (told : Option ℕ) → n ≡ number_behind p.format p.entries → IsLineAt x.bytes p q (Frame port index verdict told) → IsFirstWrong x.settings x.records x.stop x.bytes n why.Frame
+    frame_behind n q port index verdict told number at = wrong_here x J F p h all_gathered n why.Frame number (port, index, told, (verdict, at.spells), unexpected, none_next port index told)
 
   -- what stands there can't be read
   pub text_behind : (e : CheckFault) → (drop p.at x.bytes ≡ [] → ⊥) → IsUnread x.bytes p e → IsFound x e
   text_behind (fault.Line n why.Rest) ne u = absurd (ne u.1)
-  text_behind (fault.Line n why.Text) ne u = wrong_here x J F p h n why.Text u.0 (u.1, u.2)
+  text_behind (fault.Line n why.Text) ne u = wrong_here x J F p h all_gathered n why.Text u.0 (u.1, u.2)
   text_behind (fault.Line n why.Tick) ne u = absurd u
   text_behind (fault.Line n why.Frame) ne u = absurd u
   text_behind (fault.Line n (why.Verdict found made)) ne u = absurd u

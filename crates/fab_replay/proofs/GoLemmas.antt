@@ -9,7 +9,7 @@ use Rattle.fab_base.proofs.SeenLemmas.{touches_refl, touches_trans, touches_wide
 use Rattle.fab_config.specs.Settings.{Settings}
 use Rattle.fab_policy.specs.Growing.{with_more}
 use Rattle.fab_policy.specs.Journal.{Journal, followed}
-use Rattle.fab_policy.specs.Keeping.{Splits}
+use Rattle.fab_policy.specs.Keeping.{IsAhead, Splits}
 use Rattle.fab_policy.specs.Legal.{HoldsFrames, left_of, numbered_from, of_port, window_start}
 use Rattle.fab_policy.specs.Looks.{Opened, Stop, all_records, first_window, in_order, records_in, stop}
 use Rattle.fab_policy.specs.Outputs.{State, state_of}
@@ -264,7 +264,9 @@ module _ (laws : Laws) (k : Task) (w first : ℕ) (F : Contents) (p : Place) (d 
       gathered_now told =
           let moved = laws.moves k.settings w d b ins ins' shelves shelves' left left' g.count same_ins t.count next t.took t.ready t.spent in
           let splits = laws.read_splits k.settings (w + 1) (captures_in k) taken' ins' shelves' b left' (told_b told) read_on t.ready in
-          gathered k.settings w (captures_in k) g.taken ins' shelves' b width_on read_on (g.lines told).0 k.bytes (t.count ∙ g.count ∙ opened_width) splits moved.batches moved.some (g.lines told).2
+          let stops = g.stops told ∙ t.looks (told_on told) in
+          let ahead = subst (IsAhead (w + 1)) (sym stops) (laws.looks_ahead k.settings first (w + 1) b ins' shelves' left' t.ready) in
+          gathered k.settings w (captures_in k) g.taken ins' shelves' b width_on read_on (g.lines told).0 (scene_of k).stop k.bytes ahead (t.count ∙ g.count ∙ opened_width) splits moved.batches moved.some (g.lines told).2
 
       -- ---- and checking its lines
 
@@ -353,6 +355,9 @@ module _ (laws : Laws) (k : Task) (w first : ℕ) (F : Contents) (p : Place) (d 
         let n = (g.lines told).2 q records (ap (λ l. slice_get l q) all.0 ∙ at) in
         rest_none records (length (of_port (q + 1) J)) (omega (arith, n))
 
+    pub no_stop : (scene_of k).stop ≡ None
+    no_stop = g.stops told ∙ laws.none_left k.settings first d ins shelves left none
+
     pub nothing_left : (has_left k.settings (scene_of k).records J ≡ false) × (expects_tick k.settings (scene_of k).records J ≡ false)
     nothing_left =
         tick_never k.settings (scene_of k).records J
@@ -374,7 +379,7 @@ module _ (laws : Laws) (k : Task) (w first : ℕ) (F : Contents) (p : Place) (d 
             frames = run.frames;
           };
           run = run;
-          none = g.stops told ∙ laws.none_left k.settings first d ins shelves left none;
+          none = no_stop;
           whole = all.1;
         }
 
@@ -393,19 +398,19 @@ module _ (laws : Laws) (k : Task) (w first : ℕ) (F : Contents) (p : Place) (d 
 
   -- no line is behind the last frame
   abbrev pub Ends : Type 0
-  Ends = (x : Scene) (J : Journal) (E : Contents) → x.bytes ≡ k.bytes → IsReached x J E p → has_left x.settings x.records J ≡ false → expects_tick x.settings x.records J ≡ false → drop p.at k.bytes ≡ []
+  Ends = (x : Scene) (J : Journal) (E : Contents) → x.bytes ≡ k.bytes → x.stop ≡ None → IsReached x J E p → has_left x.settings x.records J ≡ false → expects_tick x.settings x.records J ≡ false → drop p.at k.bytes ≡ []
 
   pub ended_behind : IsNextWindow k.settings shelves None → (e : CheckFault) → IsOfLine e →
-      ((x : Scene) (J : Journal) (E : Contents) → x.bytes ≡ k.bytes → IsReached x J E p → has_left x.settings x.records J ≡ false → expects_tick x.settings x.records J ≡ false → IsFound x e) → Ended k d e
+      ((x : Scene) (J : Journal) (E : Contents) → x.bytes ≡ k.bytes → x.stop ≡ None → IsReached x J E p → has_left x.settings x.records J ≡ false → expects_tick x.settings x.records J ≡ false → IsFound x e) → Ended k d e
   ended_behind none e only found =
-      ended_line k d e g.touches (λ is. absurd (not_read e only is)) (λ told. let n = nothing_left none told in found (scene_of k) (g.lines told).0 F refl (g.lines told).1 n.0 n.1)
+      ended_line k d e g.touches (λ is. absurd (not_read e only is)) (λ told. let n = nothing_left none told in found (scene_of k) (g.lines told).0 F refl (no_stop none told) (g.lines told).1 n.0 n.1)
 
   pub outputs_now : AreInputs d k.outs
   outputs_now = inputs_back xs k.outs d all_inputs
 
   module _ (none : IsNextWindow k.settings shelves None) (ends : Ends) (e : Seen) where
     end_now : (told : IsTrue k.start.seen.told) → drop p.at k.bytes ≡ []
-    end_now told = let n = nothing_left none told in ends (scene_of k) (g.lines told).0 F refl (g.lines told).1 n.0 n.1
+    end_now told = let n = nothing_left none told in ends (scene_of k) (g.lines told).0 F refl (no_stop none told) (g.lines told).1 n.0 n.1
 
     touches_out : Touches Nothing (NameIn d k.outs) d e → Touches Nothing (OfTask k) k.start.seen e
     touches_out t =
@@ -437,11 +442,13 @@ module _ (laws : Laws) (k : Task) (w first : ℕ) (F : Contents) (p : Place) (d 
     ended_well r = record {
       touches = touches_out r.touches;
       says = λ told. record {
-        entry_list = (g.lines told).0;
-        names = names none told (end_now told);
-        outputs = outputs_first none told e (Ok tt) r None (λ found wanted h. h);
+        legal = record {
+          entry_list = (g.lines told).0;
+          names = names none told (end_now told);
+          outputs = outputs_first none told e (Ok tt) r None (λ found wanted h. h);
+          count = (g.lines told).1.behind.entries;
+        };
         stands = (g.lines told).1.stands;
-        count = (g.lines told).1.behind.entries;
       };
       read = λ is. absurd (cc);
     }

@@ -6,9 +6,11 @@ use Rattle.std.proofs.lemmas.List.Folds.{list_any-append, list_all-append}
 use Rattle.fab_config.specs.Settings.{Settings}
 use Rattle.fab_policy.specs.Growing.{AreFrom}
 use Rattle.fab_policy.specs.Journal.{Journal, clock}
+use Rattle.fab_policy.specs.Keeping.{IsAhead}
 use Rattle.fab_policy.specs.Legal.{IsLeastOf, left_of, window_start, windows_left}
+use Rattle.fab_policy.specs.Looks.{Stop}
 use Rattle.pcap_file.specs.declared.Record.{Record}
-use Rattle.fab_replay.specs.Front.{expects_tick, has_left, is_at}
+use Rattle.fab_replay.specs.Front.{IsGatheredTo, expects_tick, has_left, is_at}
 use Rattle.fab_replay.specs.Steps.{HoldSame}
 use Rattle.fab_replay.proofs.ListLemmas.{none_below, none_any, or_first, or_then, both_true, and_not}
 
@@ -78,3 +80,15 @@ tick_unexpected c ins J is = and_not (has_left c ins J) _ is
 -- none is, where no frame is left
 pub tick_never : (c : Settings) (ins : List (List Record)) (J : Journal) → windows_left c 1 ins J ≡ [] → (has_left c ins J ≡ false) × (expects_tick c ins J ≡ false)
 tick_never c ins J none = (ap (list_any (λ w. true)) none, ap (λ l. list_any (λ w. true) l && not (list_any (is_at (clock J)) l)) none)
+
+-- ---- windows that were gathered
+
+-- that of the next frames was, where each stop comes behind it
+pub gathered_next : (c : Settings) (ins : List (List Record)) (s : Option Stop) (J : Journal) (w : ℕ) → IsLeastOf (windows_left c 1 ins J) w → IsAhead (w + 1) s → IsGatheredTo c ins s J
+gathered_next c ins None J w least ahead = tt
+gathered_next c ins (Some s) J w least ahead = (w, least, ahead)
+
+-- each was, where nothing stops
+pub gathered_all : (c : Settings) (ins : List (List Record)) (s : Option Stop) (J : Journal) → s ≡ None → IsGatheredTo c ins s J
+gathered_all c ins None J none = tt
+gathered_all c ins (Some s) J none = absurd (cc)

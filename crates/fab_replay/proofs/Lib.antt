@@ -2,6 +2,7 @@ pub mod EachLemmas
 pub mod EndLemmas
 pub mod ExactLemmas
 pub mod FeedLemmas
+pub mod FirstLemmas
 pub mod FrontLemmas
 pub mod GoLemmas
 pub mod LeftLemmas

@@ -3,7 +3,7 @@ use Rattle.std.proofs.Common.{◌≡◌, ℕ, zero, suc, ◌+◌, ◌-◌, ◌%�
 use Rattle.std.specs.Prelude.{◌==◌, ◌&&◌, ◌||◌, unwrap_or, option_and_then, if◌then◌else◌}
 use Rattle.std.specs.List.{list_any, list_all}
 use Rattle.std.proofs.lemmas.Bool.{eq-eqb, eqb-true, leb-true}
-use Rattle.std.proofs.lemmas.List.{append-nil, append_cancel_left}
+use Rattle.std.proofs.lemmas.List.{append-nil}
 use Rattle.std.proofs.lemmas.Slice.Eq.{bytes_eq-Decides}
 use Rattle.fab_base.specs.declared.values.Caught.{Caught}
 use Rattle.fab_config.specs.Settings.{Settings}
@@ -13,6 +13,7 @@ use Rattle.fab_policy.proofs.WordLemmas.{AreWords, and_left, and_right, text_of}
 use Rattle.fab_policy.specs.Private.LineWords.{IsWord, is_inside, rest_of, verdict_words}
 use Rattle.fab_policy.specs.Journal.{Journal, clock, followed, now}
 use Rattle.fab_policy.specs.Legal.{HasPorts, HoldsFrames, IsLeastOf, IsNextTick, IsTickTime, Legal, Run, is_owed_after, left_of, numbered_from, of_port, record_of, window_start, windows_left}
+use Rattle.fab_policy.specs.Looks.{Stop}
 use Rattle.fab_policy.specs.Ranged.{IsRanged}
 use Rattle.fab_policy.specs.Spelling.{IsRangedLine, Spells, line_of, line_text}
 use Rattle.fab_policy.specs.State.{addresses, overdue, tables_of}
@@ -28,7 +29,7 @@ use Rattle.fab_policy.specs.declared.line.Line.TheVariants.{Tick, Frame}
 use Rattle.fab_policy.specs.declared.verdict.Verdict.{Verdict}
 use Rattle.pcap_file.proofs.lemmas.Numbers.{le_or_lt}
 use Rattle.pcap_file.specs.declared.Record.{Record}
-use Rattle.fab_replay.specs.Front.{IsFirstWrong, IsFront, IsNextFrame, IsWrong, expects_tick, has_left, is_at, is_tick}
+use Rattle.fab_replay.specs.Front.{AreRightLines, IsFirstWrong, IsFront, IsNextFrame, IsWrong, expects_tick, has_left, is_at, is_tick}
 use Rattle.fab_replay.specs.Lines.{behind_line, first_line, format_of, text_in}
 use Rattle.fab_replay.specs.declared.fault.LineWhy.{LineWhy}
 use Rattle.fab_replay.specs.declared.fault.LineWhy.TheVariants as why
@@ -36,7 +37,7 @@ use Rattle.fab_replay.proofs.FrontLemmas.{of_port_other}
 use Rattle.fab_replay.proofs.LeftLemmas.{left_none, left_some, start_of, tick_expected, tick_never, tick_unexpected}
 use Rattle.fab_replay.proofs.LineLemmas.{line_split}
 use Rattle.fab_replay.proofs.ListLemmas.{inside_at, next_of, rest_none, take_front}
-use Rattle.fab_replay.proofs.WalkLemmas.{OwnRecord, entries_of, front_before, line_ranged, line_some, lines_after, own_record, text_after, walk}
+use Rattle.fab_replay.proofs.WalkLemmas.{OwnRecord, front_before, line_ranged, line_some, lines_after, one_goes_on, own_record}
 
 -- ---- the format of a journal's text
 
@@ -85,7 +86,7 @@ named_text c J bytes legal (inr e) = elim (text1_head c J legal) [
 
 -- ---- a run is a beginning of itself
 
-holds_at : (J : Journal) (p q port : ℕ) (ins : List (List Record)) (records : List Record) → HoldsFrames J p ins → slice_get ins q ≡ Some records → port ≡ p + q → of_port port J ≡ numbered_from 0 records
+pub holds_at : (J : Journal) (p q port : ℕ) (ins : List (List Record)) (records : List Record) → HoldsFrames J p ins → slice_get ins q ≡ Some records → port ≡ p + q → of_port port J ≡ numbered_from 0 records
 holds_at J p q port [] records h at e = absurd (cc)
 holds_at J p zero port (rs ∷ ins) records h at e =
     let same : rs ≡ records = cc in
@@ -93,7 +94,7 @@ holds_at J p zero port (rs ∷ ins) records h at e =
     ap (λ (n : ℕ). of_port n J) here ∙ h.0 ∙ ap (numbered_from 0) same
 holds_at J p (suc q) port (rs ∷ ins) records h at e = holds_at J (p + 1) q port ins records h.1 at (let f : port ≡ p + 1 + q = omega (arith, e) in f)
 
-length-numbered : (n : ℕ) (records : List Record) → length (numbered_from n records) ≡ length records
+pub length-numbered : (n : ℕ) (records : List Record) → length (numbered_from n records) ≡ length records
 length-numbered n [] = refl
 length-numbered n (r ∷ records) = ap suc (length-numbered (n + 1) records)
 
@@ -123,7 +124,7 @@ module _ (c : Settings) (ins : List (List Record)) where
 
 -- ---- the next tick is one
 
-below : (l : List ℕ) (v w : ℕ) → IsTrue (list_all (λ m. leb v m) l) → IsTrue (list_any (λ m. eqb m w) l) → v ≤ w
+pub below : (l : List ℕ) (v w : ℕ) → IsTrue (list_all (λ m. leb v m) l) → IsTrue (list_any (λ m. eqb m w) l) → v ≤ w
 below [] v w all any = absurd (cc)
 below (m ∷ l) v w all any = go (leb v m) refl (eqb m w) refl all any (λ x y. below l v w x y)
   where
@@ -207,18 +208,15 @@ line_first Two (Frame port index v at) more ranged =
 
 module _ (c : Settings) (ins : List (List Record)) (f : Format) (I : Journal) (rest : List ℕ) where
   -- the end of the text
-  wrong_at_end : (y : LineWhy) → has_left c ins I ≡ false → rest ≡ [] → IsWrong c ins I f rest y → ⊥
-  wrong_at_end y left none w = go y w
-    where
-      no_line : (l : Line) → Spells f (first_line rest) l → ⊥
-      no_line l s = line_some c ins f l [] (append-nil (line_text f l) ∙ sym s.spelled ∙ ap first_line none)
+  pub no_line : rest ≡ [] → (l : Line) → Spells f (first_line rest) l → ⊥
+  no_line none l s = line_some c ins f l [] (append-nil (line_text f l) ∙ sym s.spelled ∙ ap first_line none)
 
-      go : (y : LineWhy) → IsWrong c ins I f rest y → ⊥
-      go why.Text w = w.0 none
-      go why.Tick w = no_line w.0 w.1
-      go why.Frame w = no_line _ w.3.1
-      go (why.Verdict found made) w = no_line _ w.4
-      go why.Rest w = let both : true ≡ false = sym w.1 ∙ left in cc
+  wrong_at_end : (y : LineWhy) → has_left c ins I ≡ false → rest ≡ [] → IsWrong c ins I f rest y → ⊥
+  wrong_at_end why.Text left none w = w.0 none
+  wrong_at_end why.Tick left none w = no_line none w.0 w.1
+  wrong_at_end why.Frame left none w = no_line none _ w.3.1
+  wrong_at_end (why.Verdict found made) left none w = no_line none _ w.4
+  wrong_at_end why.Rest left none w = let both : true ≡ false = sym w.1 ∙ left in cc
 
   module _ (e : Event) (behind : List ℕ) (front : IsFront c ins (e ∷ I)) (text_is : line_text f (line_of f (now (e ∷ I)) e) ++ behind ≡ rest) where
     abbrev here : Line
@@ -344,27 +342,32 @@ module _ (c : Settings) (ins : List (List Record)) (f : Format) (I : Journal) (r
   wrong_entry (event.Tick m ended) behind front text_is y w = wrong_tick m ended behind front text_is y w
   wrong_entry (event.Frame port index caught v) behind front text_is y w = wrong_frame port index caught v behind front text_is y w
 
-  wrong_behind : (more : List Event) → IsFront c ins (followed I more) → (more ≡ [] → has_left c ins I ≡ false) → lines_after f I more ≡ rest → (y : LineWhy) → IsWrong c ins I f rest y → ⊥
-  wrong_behind [] front left is y w = wrong_at_end y (left refl) (sym is) w
-  wrong_behind (e ∷ more) front left is y w = wrong_entry e (lines_after f (e ∷ I) more) (front_before c ins (e ∷ I) more front) is y w
+  -- nor is the line where another journal goes on
+  pub not_behind : (J : Journal) (e : Event) (more : List Event) (b : List ℕ) → IsFront c ins J → J ≡ followed I (e ∷ more) → lines_after f I (e ∷ more) ++ b ≡ rest → (y : LineWhy) → IsWrong c ins I f rest y → ⊥
+  not_behind J e more b front whole is y w =
+      wrong_entry e (lines_after f (e ∷ I) more ++ b) (front_before c ins (e ∷ I) more (subst (IsFront c ins) whole front)) (sym (append_assoc (line_text f (line_of f (now (e ∷ I)) e)) (lines_after f (e ∷ I) more) b) ∙ is) y w
 
 -- ---- no line of a run's text is wrong
 
-pub nothing_wrong : (c : Settings) (ins : List (List Record)) (bytes : List ℕ) (J : Journal) (line : ℕ) (y : LineWhy) → IsNamed ins J bytes → Run c ins J → IsFirstWrong c ins bytes line y → ⊥
-nothing_wrong c ins bytes J line y named run w =
-    let f = format_of bytes in
-    let I = w.entry_list in
-    let rest = w.before.rest in
+module _ (c : Settings) (ins : List (List Record)) (bytes : List ℕ) (I J : Journal) (before : AreRightLines c ins bytes I) (y : LineWhy) (wrong : IsWrong c ins I (format_of bytes) before.rest y) (run : Run c ins J) where
+  goes_behind : (more : List Event) → IsFront c ins J → J ≡ followed I more → lines_after (format_of bytes) I more ++ [] ≡ before.rest → ⊥
+  goes_behind [] front whole is = wrong_at_end c ins (format_of bytes) I before.rest y (nothing_left c ins I (subst (Run c ins) whole run)) (sym is) wrong
+  goes_behind (e ∷ more) front whole is = not_behind c ins (format_of bytes) I before.rest J e more [] front whole is y wrong
+
+  goes_before : (more : List Event) → I ≡ followed J more → lines_after (format_of bytes) J more ++ before.rest ≡ [] → ⊥
+  goes_before [] whole is = wrong_at_end c ins (format_of bytes) I before.rest y (nothing_left c ins I (subst (Run c ins) (sym whole) run)) is wrong
+  goes_before (e ∷ more) whole is =
+      let l = line_of (format_of bytes) (now (e ∷ J)) e in
+      line_some c ins (format_of bytes) l (lines_after (format_of bytes) (e ∷ J) more ++ before.rest) (sym (append_assoc (line_text (format_of bytes) l) (lines_after (format_of bytes) (e ∷ J) more) before.rest) ∙ is)
+
+pub nothing_wrong : (c : Settings) (ins : List (List Record)) (stop : Option Stop) (bytes : List ℕ) (J : Journal) (line : ℕ) (y : LineWhy) → IsNamed ins J bytes → Run c ins J → IsFirstWrong c ins stop bytes line y → ⊥
+nothing_wrong c ins stop bytes J line y named run w =
     let front = front_of_run c ins J named.ranged run in
-    let es = entries_of J in
-    let ds = entries_of I in
-    let text_is = named_text c J bytes run.legal named.lines in
-    let lines : lines_after f [] es.0 ≡ lines_after f [] ds.0 ++ rest = append_cancel_left (text_in f []) (lines_after f [] es.0) (lines_after f [] ds.0 ++ rest)
-    (sym (text_after f [] es.0) ∙ ap (text_in f) es.1 ∙ sym text_is ∙ w.before.lines ∙ ap (λ (K : Journal). text_in f K ++ rest) (sym ds.1) ∙ ap (λ (l : List ℕ). l ++ rest) (text_after f [] ds.0)
-    ∙ append_assoc (text_in f []) (lines_after f [] ds.0) rest) in
-    let h = walk c ins f [] es.0 ds.0 rest (subst (IsFront c ins) (sym es.1) front) (subst (IsFront c ins) (sym ds.1) w.before.front) lines in
-    let whole : J ≡ followed I h.0 = sym es.1 ∙ h.1 ∙ ap (λ (K : Journal). followed K h.0) ds.1 in
-    wrong_behind c ins f I rest h.0 (subst (IsFront c ins) whole front) (λ none. nothing_left c ins I (subst (Run c ins) (whole ∙ ap (followed I) none) run)) (ap (λ (K : Journal). lines_after f K h.0) (sym ds.1) ∙ h.2) y w.wrong
+    let right : AreRightLines c ins bytes J = record { rest = []; lines = named_text c J bytes run.legal named.lines ∙ sym (append-nil (text_in (format_of bytes) J)); front = front } in
+    elim (one_goes_on c ins bytes w.entry_list J w.before right) [
+      | inl g ↦ goes_behind c ins bytes w.entry_list J w.before y w.wrong run g.more front g.whole g.rest
+      | inr g ↦ goes_before c ins bytes w.entry_list J w.before y w.wrong run g.more g.whole g.rest
+    ]
 
 -- ---- one run
 

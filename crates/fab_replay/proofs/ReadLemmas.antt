@@ -1,14 +1,14 @@
 -- What was read of the captures, port by port.
-use Rattle.std.proofs.Common.{◌≡◌, ℕ, zero, suc, ◌+◌, List, [], ◌∷◌, ◌++◌, length, length-append, drop, slice_get, Some, refl, sym, ap, ◌∙◌, subst, arith, append_assoc}
+use Rattle.std.proofs.Common.{◌≡◌, ℕ, zero, suc, ◌+◌, List, [], ◌∷◌, ◌++◌, length, length-append, drop, slice_get, Option, Some, refl, sym, ap, ◌∙◌, subst, arith, append_assoc}
 use Rattle.std.specs.Prelude.{option_map, option_to_list}
 use Rattle.std.proofs.lemmas.Option.{slice_get-map}
 use Rattle.fab_base.specs.Seen.{Seen}
 use Rattle.fab_config.specs.Settings.{Settings}
 use Rattle.fab_policy.specs.Growing.{AreFrom, with_more}
 use Rattle.fab_policy.specs.Journal.{Journal}
-use Rattle.fab_policy.specs.Keeping.{Splits}
+use Rattle.fab_policy.specs.Keeping.{IsAhead, Splits}
 use Rattle.fab_policy.specs.Legal.{of_port}
-use Rattle.fab_policy.specs.Looks.{Opened, all_records, records_in}
+use Rattle.fab_policy.specs.Looks.{Opened, Stop, all_records, records_in}
 use Rattle.fab_gather.specs.Laws.{AllIn, HasSome}
 use Rattle.fab_gather.specs.Port.{AreIn}
 use Rattle.fab_gather.specs.Reads.{HasRead, HaveRead, batches_of}
@@ -136,10 +136,11 @@ module _ (c : Settings) (w : ℕ) (opened : List Opened) (taken : List (List Rec
         length-more (t ∷ ts) (b ∷ bs) = ap suc (length-more ts bs)
 
     -- what is on the shelves stands behind the lines so far
-    pub gathered : (bytes : List ℕ) → length shelves ≡ length opened → Splits c (w + 1) opened (with_more taken (batches_of shelves)) → AllIn c w (batches_of shelves) → HasSome (batches_of shelves) → HaveLines J taken →
-        IsGathered (record { settings = c; records = all_records opened; bytes = bytes }) w J shelves
-    gathered bytes ports splits own some lines = record {
+    pub gathered : (stop : Option Stop) (bytes : List ℕ) → IsAhead (w + 1) stop → length shelves ≡ length opened → Splits c (w + 1) opened (with_more taken (batches_of shelves)) → AllIn c w (batches_of shelves) → HasSome (batches_of shelves) → HaveLines J taken →
+        IsGathered (record { settings = c; records = all_records opened; stop = stop; bytes = bytes }) w J shelves
+    gathered stop bytes ahead ports splits own some lines = record {
       width = ports ∙ sym (length-records opened);
+      ahead = ahead;
       ports = λ q s at.
           let p = port_at q s at in
           let later = splits_at c (w + 1) q opened (with_more taken (batches_of shelves)) p.capture (p.before ++ s.batch.items) splits p.opened_ p.all in

@@ -1,10 +1,11 @@
 -- What the line at a place makes of the lines before it: one more entry, or the first fault.
-use Rattle.std.proofs.Common.{◌≡◌, ℕ, ◌<◌, ◌≤◌, inl, inr, Bool, true, List, [], ◌∷◌, ◌++◌, length, drop, Option, Some, None, IfSome, refl, sym, ap, ◌∙◌, subst, arith}
+use Rattle.std.proofs.Common.{◌≡◌, ℕ, ◌+◌, ◌<◌, ◌≤◌, inl, inr, Bool, true, List, [], ◌∷◌, ◌++◌, length, drop, Option, Some, None, IfSome, refl, sym, ap, ◌∙◌, subst, arith}
 use Rattle.std.specs.Prelude.{unwrap_or}
 use Rattle.std.specs.List.{list_any}
 use Rattle.fab_base.specs.declared.values.Caught.{Caught}
 use Rattle.fab_config.specs.Settings.{Settings}
 use Rattle.fab_policy.specs.Journal.{Journal, clock, now}
+use Rattle.fab_policy.specs.Keeping.{IsAhead}
 use Rattle.fab_policy.specs.Legal.{IsLeastOf, IsNextTick, Legal, windows_left}
 use Rattle.fab_policy.specs.Ranged.{IsRangedEvent}
 use Rattle.fab_policy.specs.Spelling.{HasClockOf, Spells, line_of}
@@ -20,7 +21,7 @@ use Rattle.fab_policy.specs.declared.line.Line.TheVariants.{Tick, Frame}
 use Rattle.fab_policy.specs.declared.verdict.Verdict.{Verdict}
 use Rattle.fab_gather.specs.declared.shelf.Shelf.{Shelf}
 use Rattle.pcap_file.specs.declared.Record.{Record}
-use Rattle.fab_replay.specs.Front.{IsFirstWrong, IsNextFrame, IsWrong, expects_tick, has_left, is_at}
+use Rattle.fab_replay.specs.Front.{IsFirstWrong, IsGatheredTo, IsNextFrame, IsWrong, expects_tick, has_left, is_at}
 use Rattle.fab_replay.specs.Lines.{IsLineAt, IsUnread, first_line, number_behind, text_in}
 use Rattle.fab_replay.specs.Steps.{HasLeft, HoldSame, IsFound, IsOnShelf, IsReached, IsRefused, IsTickOf, IsWindow, Scene, refusal}
 use Rattle.fab_replay.specs.declared.fault.CheckFault.{CheckFault}
@@ -32,39 +33,40 @@ use Rattle.fab_replay.specs.declared.lines.Place.{Place}
 use Rattle.fab_replay.specs.declared.verdicts.Misjudged.{Misjudged}
 use Rattle.fab_replay.specs.declared.verdicts.Misjudged.TheVariants.{Wrong, Memory}
 use Rattle.fab_replay.proofs.FrontLemmas.{front_frame, front_tick, same_clock, same_tables}
-use Rattle.fab_replay.proofs.LeftLemmas.{left_same, tick_expected}
+use Rattle.fab_replay.proofs.LeftLemmas.{gathered_next, left_same, tick_expected}
 use Rattle.fab_replay.proofs.LineLemmas.{behind_more}
-use Rattle.fab_replay.proofs.WindowLemmas.{any_left, from_next, left_here, next_from, no_tick_here}
+use Rattle.fab_replay.proofs.WindowLemmas.{any_left, from_next, least_window, left_here, next_from, no_tick_here}
 
 module _ (x : Scene) (J : Journal) (F : Contents) (p : Place) (h : IsReached x J F p) where
   abbrev c : Settings
   c = x.settings
 
-  -- what is wrong with the line at the place is the first fault
-  pub wrong_here : (n : ℕ) (y : LineWhy) → n ≡ number_behind p.format p.entries → IsWrong c x.records J p.format (drop p.at x.bytes) y → IsFirstWrong c x.records x.bytes n y
-  wrong_here n y number wrong = record {
+  -- what is wrong with the line at the place is the first fault, where the windows up to it were gathered
+  pub wrong_here : IsGatheredTo c x.records x.stop J → (n : ℕ) (y : LineWhy) → n ≡ number_behind p.format p.entries → IsWrong c x.records J p.format (drop p.at x.bytes) y → IsFirstWrong c x.records x.stop x.bytes n y
+  wrong_here gathered n y number wrong = record {
     entry_list = J;
     before = record {
       rest = drop p.at x.bytes;
       lines = h.behind.lines ∙ ap (λ (f : Format). text_in f J ++ drop p.at x.bytes) h.behind.format;
       front = h.front;
     };
+    gathered = gathered;
     number = number ∙ ap (number_behind p.format) h.behind.entries ∙ ap (λ (f : Format). number_behind f (length J)) h.behind.format;
     wrong = subst (λ (f : Format). IsWrong c x.records J f (drop p.at x.bytes) y) h.behind.format wrong;
   }
 
   -- a line that can't be read, or isn't there
-  pub unread_here : (e : CheckFault) → has_left c x.records J ≡ true → IsUnread x.bytes p e → IsFound x e
-  unread_here (fault.Line n why.Rest) left u = wrong_here n why.Rest u.0 (u.1, left)
-  unread_here (fault.Line n why.Text) left u = wrong_here n why.Text u.0 (u.1, u.2)
-  unread_here (fault.Line n why.Tick) left u = absurd u
-  unread_here (fault.Line n why.Frame) left u = absurd u
-  unread_here (fault.Line n (why.Verdict found made)) left u = absurd u
-  unread_here (fault.Output port at) left u = absurd u
-  unread_here (fault.Capture port at w) left u = absurd u
-  unread_here (fault.Limit kind) left u = absurd u
-  unread_here fault.Read left u = absurd u
-  unread_here fault.Memory left u = tt
+  pub unread_here : IsGatheredTo c x.records x.stop J → (e : CheckFault) → has_left c x.records J ≡ true → IsUnread x.bytes p e → IsFound x e
+  unread_here gathered (fault.Line n why.Rest) left u = wrong_here gathered n why.Rest u.0 (u.1, left)
+  unread_here gathered (fault.Line n why.Text) left u = wrong_here gathered n why.Text u.0 (u.1, u.2)
+  unread_here gathered (fault.Line n why.Tick) left u = absurd u
+  unread_here gathered (fault.Line n why.Frame) left u = absurd u
+  unread_here gathered (fault.Line n (why.Verdict found made)) left u = absurd u
+  unread_here gathered (fault.Output port at) left u = absurd u
+  unread_here gathered (fault.Capture port at w) left u = absurd u
+  unread_here gathered (fault.Limit kind) left u = absurd u
+  unread_here gathered fault.Read left u = absurd u
+  unread_here gathered fault.Memory left u = tt
 
   -- ---- a tick
 
@@ -75,8 +77,8 @@ module _ (x : Scene) (J : Journal) (F : Contents) (p : Place) (h : IsReached x J
     abbrev ends : List ℕ
     ends = addresses (overdue F.settings F.state.tables m)
 
-    pub other_tick : (n : ℕ) (q : Place) (l : Line) → n ≡ number_behind p.format p.entries → IsLineAt x.bytes p q l → (l ≡ Tick m ends → ⊥) → IsFirstWrong c x.records x.bytes n why.Tick
-    other_tick n q l number at ne = wrong_here n why.Tick number (
+    pub other_tick : IsAhead (w + 1) x.stop → (n : ℕ) (q : Place) (l : Line) → n ≡ number_behind p.format p.entries → IsLineAt x.bytes p q l → (l ≡ Tick m ends → ⊥) → IsFirstWrong c x.records x.stop x.bytes n why.Tick
+    other_tick ahead n q l number at ne = wrong_here (gathered_next c x.records x.stop J w least ahead) n why.Tick number (
       l,
       at.spells,
       inl (
@@ -108,7 +110,10 @@ module _ (x : Scene) (J : Journal) (F : Contents) (p : Place) (h : IsReached x J
 
   -- ---- a frame
 
-  module _ (w : ℕ) (shelves : List Shelf) (done : List ℕ) (win : IsWindow x w J shelves done) (left : HasLeft shelves done) where
+  module _ (w : ℕ) (shelves : List Shelf) (done : List ℕ) (win : IsWindow x w J shelves done) (left : HasLeft shelves done) (width : length done ≡ length shelves) where
+    pub gathered_here : IsGatheredTo c x.records x.stop J
+    gathered_here = gathered_next c x.records x.stop J w (least_window x w J shelves done win width left) win.ahead
+
     pub has_left_here : has_left c x.records J ≡ true
     has_left_here = any_is (is_at (clock J)) (windows_left c 1 x.records J) (left_here x w J shelves done win left)
       where
@@ -117,14 +122,14 @@ module _ (x : Scene) (J : Journal) (F : Contents) (p : Place) (h : IsReached x J
         any_is test (v ∷ l) e = refl
 
     -- a tick where none is expected
-    pub tick_here : (n : ℕ) (q : Place) (m : ℕ) (ended : List ℕ) → n ≡ number_behind p.format p.entries → IsLineAt x.bytes p q (Tick m ended) → IsFirstWrong c x.records x.bytes n why.Tick
-    tick_here n q m ended number at = wrong_here n why.Tick number (Tick m ended, at.spells, inr (no_tick_here x w J shelves done win left, refl))
+    pub tick_here : (n : ℕ) (q : Place) (m : ℕ) (ended : List ℕ) → n ≡ number_behind p.format p.entries → IsLineAt x.bytes p q (Tick m ended) → IsFirstWrong c x.records x.stop x.bytes n why.Tick
+    tick_here n q m ended number at = wrong_here gathered_here n why.Tick number (Tick m ended, at.spells, inr (no_tick_here x w J shelves done win left, refl))
 
     module _ (q : Place) (port index : ℕ) (verdict : Verdict) (told : Option ℕ) (at : IsLineAt x.bytes p q (Frame port index verdict told)) where
       -- no next frame
-      pub other_frame : (n : ℕ) → n ≡ number_behind p.format p.entries → length done ≡ length shelves → ((r : Record) → IsOnShelf shelves done w port index told r → ⊥) → IsFirstWrong c x.records x.bytes n why.Frame
-      other_frame n number width none =
-          wrong_here n why.Frame number (port, index, told, (verdict, at.spells), no_tick_here x w J shelves done win left, λ r next. none r (from_next x w J shelves done win width port index told r next))
+      pub other_frame : (n : ℕ) → n ≡ number_behind p.format p.entries → ((r : Record) → IsOnShelf shelves done w port index told r → ⊥) → IsFirstWrong c x.records x.stop x.bytes n why.Frame
+      other_frame n number none =
+          wrong_here gathered_here n why.Frame number (port, index, told, (verdict, at.spells), no_tick_here x w J shelves done win left, λ r next. none r (from_next x w J shelves done win width port index told r next))
 
       module _ (r : Record) (on : IsOnShelf shelves done w port index told r) where
         abbrev e : Event
@@ -142,7 +147,7 @@ module _ (x : Scene) (J : Journal) (F : Contents) (p : Place) (h : IsReached x J
         -- a verdict that isn't right
         pub refused_here : (f : CheckFault) → IsRefused F.settings F.state.tables p port r.caught verdict f → IsFound x f
         refused_here (fault.Line n (why.Verdict found made)) u =
-            wrong_here n (why.Verdict found made) u.0 (
+            wrong_here gathered_here n (why.Verdict found made) u.0 (
               port,
               index,
               told,

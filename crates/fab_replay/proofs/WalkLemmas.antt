@@ -1,7 +1,7 @@
--- The entries of a text, of which another journal's are the first.
-use Rattle.std.proofs.Common.{◌≡◌, ℕ, zero, suc, ◌+◌, ◌-◌, ◌<◌, ◌^◌, List, [], ◌∷◌, ◌++◌, length, take, drop, slice_get, Option, Some, None, refl, sym, ap, ◌∙◌, subst, arith, append_assoc, codes, decimal}
+-- The entries of one text, told by two journals: the one goes on behind the other.
+use Rattle.std.proofs.Common.{◌≡◌, ℕ, zero, suc, ◌+◌, ◌-◌, ◌<◌, ◌^◌, ◌⊎◌, inl, inr, List, [], ◌∷◌, ◌++◌, length, take, drop, slice_get, Option, Some, None, refl, sym, ap, ◌∙◌, subst, arith, append_assoc, codes, decimal}
 use Rattle.std.specs.Prelude.{unwrap_or}
-use Rattle.std.proofs.lemmas.List.{append-nil}
+use Rattle.std.proofs.lemmas.List.{append-nil, append_cancel_left}
 use Rattle.fab_base.specs.declared.values.Caught.{Caught}
 use Rattle.fab_config.specs.Settings.{Settings}
 use Rattle.fab_policy.proofs.NamedLemmas.{lines_spell_entries}
@@ -19,8 +19,8 @@ use Rattle.fab_policy.specs.declared.line.Line.{Line}
 use Rattle.fab_policy.specs.declared.line.Line.TheVariants.{Tick, Frame}
 use Rattle.fab_policy.specs.declared.verdict.Verdict.{Verdict}
 use Rattle.pcap_file.specs.declared.Record.{Record}
-use Rattle.fab_replay.specs.Front.{IsFront}
-use Rattle.fab_replay.specs.Lines.{text_in}
+use Rattle.fab_replay.specs.Front.{AreRightLines, IsFront}
+use Rattle.fab_replay.specs.Lines.{format_of, text_in}
 use Rattle.fab_replay.proofs.FrontLemmas.{of_port_own}
 use Rattle.fab_replay.proofs.LineLemmas.{text_more}
 use Rattle.fab_replay.proofs.ListLemmas.{inside_at}
@@ -32,7 +32,7 @@ abbrev pub lines_after : Format → Journal → List Event → List ℕ
 lines_after f K [] = []
 lines_after f K (e ∷ es) = line_text f (line_of f (now (e ∷ K)) e) ++ lines_after f (e ∷ K) es
 
-pub text_after : (f : Format) (K : Journal) (es : List Event) → text_in f (followed K es) ≡ text_in f K ++ lines_after f K es
+text_after : (f : Format) (K : Journal) (es : List Event) → text_in f (followed K es) ≡ text_in f K ++ lines_after f K es
 text_after f K [] = sym (append-nil (text_in f K))
 text_after f K (e ∷ es) =
     text_after f (e ∷ K) es ∙ ap (λ (l : List ℕ). l ++ lines_after f (e ∷ K) es) (text_more f K e)
@@ -42,8 +42,15 @@ followed-push : (K : Journal) (es : List Event) (e : Event) → followed K (es +
 followed-push K [] e = refl
 followed-push K (d ∷ es) e = followed-push (d ∷ K) es e
 
+-- The entries of a journal go on behind those of another one: what is behind the text of the one is their lines, and then what
+-- is behind the text of the other.
+pub record GoesOn (f : Format) (I J : Journal) (a b : List ℕ) : Type 0 where
+  pub more : List Event
+  pub whole : J ≡ followed I more
+  pub rest : lines_after f I more ++ b ≡ a
+
 -- the entries of a journal in their order
-pub entries_of : (J : Journal) → (es : List Event) × (followed [] es ≡ J)
+entries_of : (J : Journal) → (es : List Event) × (followed [] es ≡ J)
 entries_of [] = ([], refl)
 entries_of (e ∷ J) = let h = entries_of J in (h.0 ++ e ∷ [], followed-push [] h.0 e ∙ ap (λ (I : Journal). e ∷ I) h.1)
 
@@ -182,17 +189,34 @@ module _ (c : Settings) (ins : List (List Record)) where
 
   -- ---- the walk
 
-  -- Entries whose lines begin with those of others begin with these.
-  pub walk : (f : Format) (K : Journal) (es ds : List Event) (rest : List ℕ) → IsFront c ins (followed K es) → IsFront c ins (followed K ds) → lines_after f K es ≡ lines_after f K ds ++ rest →
-      (more : List Event) × (followed K es ≡ followed (followed K ds) more) × (lines_after f (followed K ds) more ≡ rest)
-  walk f K es [] rest one two e = (es, refl, e)
-  walk f K [] (d ∷ ds) rest one two e =
-      absurd (line_some f (line_of f (now (d ∷ K)) d) (lines_after f (d ∷ K) ds ++ rest) (sym (append_assoc (line_text f (line_of f (now (d ∷ K)) d)) (lines_after f (d ∷ K) ds) rest) ∙ sym e))
-  walk f K (e ∷ es) (d ∷ ds) rest one two same =
+  -- Of entries whose lines begin one text some go on behind the others.
+  walk : (f : Format) (K : Journal) (es ds : List Event) (a b : List ℕ) → IsFront c ins (followed K es) → IsFront c ins (followed K ds) → lines_after f K es ++ a ≡ lines_after f K ds ++ b →
+      GoesOn f (followed K es) (followed K ds) a b ⊎ GoesOn f (followed K ds) (followed K es) b a
+  walk f K es [] a b one two e = inr (record { more = es; whole = refl; rest = e })
+  walk f K [] (d ∷ ds) a b one two e = inl (record { more = d ∷ ds; whole = refl; rest = sym e })
+  walk f K (e ∷ es) (d ∷ ds) a b one two same =
       let front_e = front_before (e ∷ K) es one in
       let front_d = front_before (d ∷ K) ds two in
-      let cut = line_once f (line_of f (now (e ∷ K)) e) (line_of f (now (d ∷ K)) d) (lines_after f (e ∷ K) es) (lines_after f (d ∷ K) ds ++ rest) (line_ranged f e K front_e.ranged) (line_ranged f d K front_d.ranged)
-      (same ∙ append_assoc (line_text f (line_of f (now (d ∷ K)) d)) (lines_after f (d ∷ K) ds) rest) in
+      let line_e = line_text f (line_of f (now (e ∷ K)) e) in
+      let line_d = line_text f (line_of f (now (d ∷ K)) d) in
+      let cut = line_once f (line_of f (now (e ∷ K)) e) (line_of f (now (d ∷ K)) d) (lines_after f (e ∷ K) es ++ a) (lines_after f (d ∷ K) ds ++ b) (line_ranged f e K front_e.ranged) (line_ranged f d K front_d.ranged)
+      (sym (append_assoc line_e (lines_after f (e ∷ K) es) a) ∙ same ∙ append_assoc line_d (lines_after f (d ∷ K) ds) b) in
       let first : e ≡ d = same_entry f (now (e ∷ K)) (now (d ∷ K)) e d K front_e front_d cut.0 in
-      let h = walk f (d ∷ K) es ds rest (subst (λ (x : Event). IsFront c ins (followed (x ∷ K) es)) first one) two (sym (ap (λ (x : Event). lines_after f (x ∷ K) es) first) ∙ cut.1) in
-      (h.0, ap (λ (x : Event). followed (x ∷ K) es) first ∙ h.1, h.2)
+      subst (λ (x : Event). GoesOn f (followed (x ∷ K) es) (followed (d ∷ K) ds) a b ⊎ GoesOn f (followed (d ∷ K) ds) (followed (x ∷ K) es) b a) (sym first)
+      (walk f (d ∷ K) es ds a b (subst (λ (x : Event). IsFront c ins (followed (x ∷ K) es)) first one) two (sym (ap (λ (x : Event). lines_after f (x ∷ K) es ++ a) first) ∙ cut.1))
+
+  text_then : (f : Format) (J : Journal) (rest : List ℕ) → text_in f J ++ rest ≡ text_in f [] ++ (lines_after f [] (entries_of J).0 ++ rest)
+  text_then f J rest =
+      let es = entries_of J in
+      ap (λ (K : Journal). text_in f K ++ rest) (sym es.1) ∙ ap (λ (l : List ℕ). l ++ rest) (text_after f [] es.0) ∙ append_assoc (text_in f []) (lines_after f [] es.0) rest
+
+  -- of two journals with the right lines of one text the one goes on behind the other
+  pub one_goes_on : (text : List ℕ) (I J : Journal) (a : AreRightLines c ins text I) (b : AreRightLines c ins text J) → GoesOn (format_of text) I J a.rest b.rest ⊎ GoesOn (format_of text) J I b.rest a.rest
+  one_goes_on text I J a b =
+      let f = format_of text in
+      let es = entries_of I in
+      let ds = entries_of J in
+      let same = append_cancel_left (text_in f []) (lines_after f [] es.0 ++ a.rest) (lines_after f [] ds.0 ++ b.rest) (sym (text_then f I a.rest) ∙ sym a.lines ∙ b.lines ∙ text_then f J b.rest) in
+      subst (λ (K : Journal). GoesOn f K J a.rest b.rest ⊎ GoesOn f J K b.rest a.rest) es.1
+      (subst (λ (K : Journal). GoesOn f (followed [] es.0) K a.rest b.rest ⊎ GoesOn f K (followed [] es.0) b.rest a.rest) ds.1
+      (walk f [] es.0 ds.0 a.rest b.rest (subst (IsFront c ins) (sym es.1) a.front) (subst (IsFront c ins) (sym ds.1) b.front) same))

@@ -141,6 +141,7 @@ module _ (x : Scene) (w : ℕ) (J : Journal) (shelves : List Shelf) (done : List
     pub window_more : (done' : List ℕ) → done' ≡ set done o.place (o.done_ + 1) → IsWindow x w K shelves done'
     window_more done' is = record {
       width = win.width;
+      ahead = win.ahead;
       ports = λ q s k at. go q s k at (eqb q o.place) refl;
       clock_ = win.clock_;
     }
@@ -185,32 +186,52 @@ pub any_left : (l : List ℕ) (w : ℕ) → list_any (λ m. eqb m w) l ≡ true 
 any_left [] w h = absurd (cc)
 any_left (m ∷ l) w h = refl
 
--- ---- a window that was gathered
+-- ---- the window of the next frames
 
-module _ (x : Scene) (w : ℕ) (J : Journal) (shelves : List Shelf) (g : IsGathered x w J shelves) where
+in_drop : (c : Settings) (w k : ℕ) (batch : List Record) → AreIn c w batch → AreIn c w (drop k batch)
+in_drop c w zero batch own = own
+in_drop c w (suc k) [] own = tt
+in_drop c w (suc k) (r ∷ batch) own = in_drop c w k batch own.1
+
+-- each port's records behind those that have lines are of the window or later ones, and some port has one of the window
+module _ (x : Scene) (w : ℕ) (J : Journal) (shelves : List Shelf) (width : length shelves ≡ length x.records) (ports : (q : ℕ) (s : Shelf) → slice_get shelves q ≡ Some s → (k : ℕ) × IsPortIn x w J q s k) where
   batch_from : (batch later : List Record) → AreIn x.settings w batch → AreFrom x.settings (w + 1) later → AreFrom x.settings w (batch ++ later)
   batch_from [] [] own from = tt
   batch_from [] (r ∷ later) own from = (let h = from.0 in omega (arith, h), batch_from [] later tt from.1)
   batch_from (r ∷ batch) later own from = (let h = own.0 in omega (arith, h), batch_from batch later own.1 from)
 
-  pub least_gathered : IsLeastOf (windows_left x.settings 1 x.records J) w
-  least_gathered = (
-    let q = g.some.0 in
-        let s = g.some.1 in
-        let i = g.ports q s g.some.2 in
-        let r = inside_at s.batch.items 0 g.some.3 in
-        let left : left_of (q + 1) i.records J ≡ r.0 ∷ (drop 1 s.batch.items ++ i.later) = i.left ∙ ap (λ l. l ++ i.later) (rest_at s.batch.items 0 r.0 r.1) in
-        left_some x.settings (λ m. eqb m w) 1 x.records J q (q + 1) i.records r.0 (drop 1 s.batch.items ++ i.later) i.are (let e : q + 1 ≡ 1 + q = omega arith in e) left
-        (eq-eqb (start_of x.settings r.0) w (in_at x.settings w s.batch.items 0 r.0 i.own r.1)),
-    left_all x.settings w 1 x.records J (λ q port records at e.
-        let lt = at_inside x.records q records at in
-        let s = inside_at shelves q (omega (arith, lt, g.width)) in
-        let i = g.ports q s.0 s.1 in
-        let some : Some i.records ≡ Some records = sym i.are ∙ at in
-        let same : i.records ≡ records = cc in
-        let here : q + 1 ≡ port = omega (arith, e) in
-        subst (AreFrom x.settings w) (sym i.left ∙ ap (λ l. left_of (q + 1) l J) same ∙ ap (λ (p : ℕ). left_of p records J) here) (batch_from s.0.batch.items i.later i.own i.from)),
+  least_of : (q : ℕ) (s : Shelf) (k : ℕ) → IsPortIn x w J q s k → k < length s.batch.items → IsLeastOf (windows_left x.settings 1 x.records J) w
+  least_of q s k i more = (
+    let r = inside_at s.batch.items k more in
+        let left : left_of (q + 1) i.records J ≡ r.0 ∷ (drop (suc k) s.batch.items ++ i.later) = i.left ∙ ap (λ l. l ++ i.later) (rest_at s.batch.items k r.0 r.1) in
+        left_some x.settings (λ m. eqb m w) 1 x.records J q (q + 1) i.records r.0 (drop (suc k) s.batch.items ++ i.later) i.are (let e : q + 1 ≡ 1 + q = omega arith in e) left
+        (eq-eqb (start_of x.settings r.0) w (in_at x.settings w s.batch.items k r.0 i.own r.1)),
+    left_all x.settings w 1 x.records J (λ p port records at e.
+        let lt = at_inside x.records p records at in
+        let t = inside_at shelves p (omega (arith, lt, width)) in
+        let o = ports p t.0 t.1 in
+        let some : Some o.1.records ≡ Some records = sym o.1.are ∙ at in
+        let same : o.1.records ≡ records = cc in
+        let here : p + 1 ≡ port = omega (arith, e) in
+        subst (AreFrom x.settings w) (sym o.1.left ∙ ap (λ l. left_of (p + 1) l J) same ∙ ap (λ (n : ℕ). left_of n records J) here)
+        (batch_from (drop o.0 t.0.batch.items) o.1.later (in_drop x.settings w o.0 t.0.batch.items o.1.own) o.1.from)),
   )
+
+-- it is the window whose lines are checked, while some frame on the shelves has none
+pub least_window : (x : Scene) (w : ℕ) (J : Journal) (shelves : List Shelf) (done : List ℕ) → IsWindow x w J shelves done → length done ≡ length shelves → HasLeft shelves done → IsLeastOf (windows_left x.settings 1 x.records J) w
+least_window x w J shelves done win width h =
+    least_of x w J shelves win.width
+    (λ q s at.
+    let lt = at_inside shelves q s at in
+    let k = inside_at done q (omega (arith, lt, width)) in
+    (k.0, win.ports q s k.0 (record { shelf = at; done_ = k.1 })))
+    h.port h.shelf h.done_ (win.ports h.port h.shelf h.done_ h.at) h.more
+
+-- ---- a window that was gathered
+
+module _ (x : Scene) (w : ℕ) (J : Journal) (shelves : List Shelf) (g : IsGathered x w J shelves) where
+  pub least_gathered : IsLeastOf (windows_left x.settings 1 x.records J) w
+  least_gathered = least_of x w J shelves g.width (λ q s at. (0, g.ports q s at)) g.some.0 g.some.1 0 (g.ports g.some.0 g.some.1 g.some.2) g.some.3
 
   zeros_at : (n q k : ℕ) → slice_get (replicate n 0) q ≡ Some k → k ≡ 0
   zeros_at zero q k at = absurd (cc)
@@ -220,6 +241,7 @@ module _ (x : Scene) (w : ℕ) (J : Journal) (shelves : List Shelf) (g : IsGathe
   pub window_first : (K : Journal) (n : ℕ) → HoldSame J K → clock K ≡ Some w → IsWindow x w K shelves (replicate n 0)
   window_first K n same at = record {
     width = g.width;
+    ahead = g.ahead;
     ports = λ q s k here.
         let i = g.ports q s here.shelf in
         let none : k ≡ 0 = zeros_at n q k here.done_ in

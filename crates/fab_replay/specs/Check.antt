@@ -21,6 +21,7 @@ use Rattle.fab_replay.specs.AllOutputs.{IsFirst, OneRose}
 use Rattle.fab_replay.specs.Front.{AreRightLines, IsFirstWrong}
 use Rattle.fab_replay.specs.declared.fault.CheckFault.{CheckFault}
 use Rattle.fab_replay.specs.declared.fault.CheckFault.TheVariants as fault
+use Rattle.fab_replay.specs.declared.fault.LineWhy.{LineWhy}
 
 -- ---- what is checked
 
@@ -48,13 +49,20 @@ pub record NamesRun (c : Settings) (budget : Budget) (m : Matter) (J : Journal) 
   pub none : stop c budget.bytes budget.frames m.ins ≡ None
   pub whole : All IsWhole m.ins
 
--- It names a run whose captures the outputs are, and a fabric stands for it.
-pub record IsAccepted (c : Settings) (budget : Budget) (m : Matter) (F : Contents) (entries : ℕ) : Type 0 where
+-- each output is the capture of its port
+abbrev pub AreSent : Settings → Matter → Journal → Type 0
+AreSent c m J = (q : ℕ) → q < m.outputs → m.found q ≡ sent_on c m J q
+
+-- It names a run of so many entries, whose captures the outputs are.
+pub record IsLegal (c : Settings) (budget : Budget) (m : Matter) (entries : ℕ) : Type 0 where
   pub entry_list : Journal
   pub names : NamesRun c budget m entry_list
-  pub outputs : (q : ℕ) → q < m.outputs → m.found q ≡ sent_on c m entry_list q
-  pub stands : Stands F entry_list
+  pub outputs : AreSent c m entry_list
   pub count : entries ≡ length entry_list
+
+-- A line is wrong, it is the first, and no stop of the captures comes before it.
+abbrev pub IsFirstLine : Settings → Budget → Matter → ℕ → LineWhy → Type 0
+IsFirstLine c budget m line why = IsFirstWrong c (all_records m.ins) (stop c budget.bytes budget.frames m.ins) m.journal line why
 
 -- It names a run, and an output isn't the capture of its port, the first in port order: there is the first byte that differs, is
 -- missing or is too many.
@@ -72,16 +80,28 @@ pub record IsFirstStop (c : Settings) (budget : Budget) (m : Matter) (e : RunFau
   pub before : AreRightLines c (all_records m.ins) m.journal entry_list
   pub all : HoldsFrames entry_list 1 (all_kept c at (all_records m.ins))
 
--- What the check of a journal says where the depot tells: the first fault, in the order in which windows and lines come, and
--- the outputs last.
+-- What holds of a journal, of its captures and of its outputs where an answer tells of them: the number of entries of a run, or
+-- the first fault, in the order in which windows and lines come, and the outputs last.
+abbrev pub IsAnswer : Settings → Budget → Matter → Result ℕ CheckFault → Type 0
+IsAnswer c budget m (Ok entries) = IsLegal c budget m entries
+IsAnswer c budget m (Err (fault.Line line why)) = IsFirstLine c budget m line why
+IsAnswer c budget m (Err (fault.Output port at)) = IsFirstOutput c budget m port at
+IsAnswer c budget m (Err (fault.Capture port at w)) = IsFirstStop c budget m (run_fault.Capture port at w)
+IsAnswer c budget m (Err (fault.Limit kind)) = IsFirstStop c budget m (run_fault.Limit kind)
+IsAnswer c budget m (Err fault.Read) = ⊥
+IsAnswer c budget m (Err fault.Memory) = ⊥
+
+-- A fabric stands for the run.
+pub record IsAccepted (c : Settings) (budget : Budget) (m : Matter) (F : Contents) (entries : ℕ) : Type 0 where
+  pub legal : IsLegal c budget m entries
+  pub stands : Stands F legal.entry_list
+
+-- What the check of a journal says where the depot tells.
 abbrev pub Says : Settings → Budget → Matter → Contents → Result ℕ CheckFault → Type 0
 Says c budget m F (Ok entries) = IsAccepted c budget m F entries
-Says c budget m F (Err (fault.Line line why)) = IsFirstWrong c (all_records m.ins) m.journal line why
-Says c budget m F (Err (fault.Output port at)) = IsFirstOutput c budget m port at
-Says c budget m F (Err (fault.Capture port at w)) = IsFirstStop c budget m (run_fault.Capture port at w)
-Says c budget m F (Err (fault.Limit kind)) = IsFirstStop c budget m (run_fault.Limit kind)
 Says c budget m F (Err fault.Read) = Unit {0}
 Says c budget m F (Err fault.Memory) = Unit {0}
+Says c budget m F r = IsAnswer c budget m r
 
 -- The check of a journal: it changes no file, and it ends by a fault of reading only where a count of a capture or of an output
 -- rose.

@@ -4,7 +4,9 @@ use Rattle.std.specs.List.{list_any}
 use Rattle.fab_config.specs.Settings.{Settings}
 use Rattle.pcap_file.specs.declared.Record.{Record}
 use Rattle.fab_policy.specs.Journal.{Journal, clock}
+use Rattle.fab_policy.specs.Keeping.{IsAhead}
 use Rattle.fab_policy.specs.Legal.{HasPorts, IsLeastOf, IsNextTick, Legal, Timed, left_of, numbered_from, of_port, window_start, windows_left}
+use Rattle.fab_policy.specs.Looks.{Stop}
 use Rattle.fab_policy.specs.Ranged.{IsRanged}
 use Rattle.fab_policy.specs.Spelling.{Spells}
 use Rattle.fab_policy.specs.State.{addresses, overdue, tables_of}
@@ -96,9 +98,16 @@ pub record AreRightLines (c : Settings) (ins : List (List Record)) (text : List 
   pub lines : text ≡ text_in (format_of text) J ++ rest
   pub front : IsFront c ins J
 
--- A line is wrong, and it is the first.
-pub record IsFirstWrong (c : Settings) (ins : List (List Record)) (text : List ℕ) (line : ℕ) (why : LineWhy) : Type 0 where
+-- The window of the next frames, and each before it, was gathered: where the captures stop, they stop in a later one. Where no
+-- frames are left, each window was gathered, and they stop nowhere.
+abbrev pub IsGatheredTo : Settings → List (List Record) → Option Stop → Journal → Type 0
+IsGatheredTo c ins None J = Unit {0}
+IsGatheredTo c ins (Some s) J = (w : ℕ) × IsLeastOf (windows_left c 1 ins J) w × IsAhead (w + 1) (Some s)
+
+-- A line is wrong, it is the first, and no stop of the captures comes before it.
+pub record IsFirstWrong (c : Settings) (ins : List (List Record)) (stop : Option Stop) (text : List ℕ) (line : ℕ) (why : LineWhy) : Type 0 where
   pub entry_list : Journal
   pub before : AreRightLines c ins text entry_list
+  pub gathered : IsGatheredTo c ins stop entry_list
   pub number : line ≡ number_behind (format_of text) (length entry_list)
   pub wrong : IsWrong c ins entry_list (format_of text) before.rest why

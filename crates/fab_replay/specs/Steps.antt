@@ -5,7 +5,9 @@ use Rattle.fab_config.specs.Settings.{Settings}
 use Rattle.pcap_file.specs.declared.Record.{Record}
 use Rattle.fab_policy.specs.Growing.{AreFrom}
 use Rattle.fab_policy.specs.Journal.{Journal, clock}
+use Rattle.fab_policy.specs.Keeping.{IsAhead}
 use Rattle.fab_policy.specs.Legal.{IsNextTick, left_of, of_port}
+use Rattle.fab_policy.specs.Looks.{Stop}
 use Rattle.fab_policy.specs.Standing.{Contents, Stands}
 use Rattle.fab_policy.specs.State.{Tables}
 use Rattle.fab_policy.specs.Verdicts.{IsRight}
@@ -21,10 +23,11 @@ use Rattle.fab_replay.specs.declared.lines.Place.{Place}
 use Rattle.fab_replay.specs.declared.verdicts.Misjudged.{Misjudged}
 use Rattle.fab_replay.specs.declared.verdicts.Misjudged.TheVariants as misjudged
 
--- What a journal is checked against, and its text.
+-- What a journal is checked against, with where the reading of the captures stops, and its text.
 pub record Scene : Type 0 where
   pub settings : Settings
   pub records : List (List Record)
+  pub stop : Option Stop
   pub bytes : List ℕ
 
 -- The lines before a place are right, and a fabric stands for their entries.
@@ -37,7 +40,7 @@ pub record IsReached (x : Scene) (J : Journal) (F : Contents) (p : Place) : Type
 
 -- A fault of a line is the first; none of another kind comes here but one of reading and want of memory.
 abbrev pub IsFound : Scene → CheckFault → Type 0
-IsFound x (fault.Line line why) = IsFirstWrong x.settings x.records x.bytes line why
+IsFound x (fault.Line line why) = IsFirstWrong x.settings x.records x.stop x.bytes line why
 IsFound x fault.Read = Unit {0}
 IsFound x fault.Memory = Unit {0}
 IsFound x _ = ⊥
@@ -81,9 +84,10 @@ pub record At (q : ℕ) (shelves : List Shelf) (done : List ℕ) (s : Shelf) (k 
   pub shelf : slice_get shelves q ≡ Some s
   pub done_ : slice_get done q ≡ Some k
 
--- the same of each port
+-- the same of each port, in a window before any stop
 pub record IsWindow (x : Scene) (w : ℕ) (J : Journal) (shelves : List Shelf) (done : List ℕ) : Type 0 where
   pub width : length shelves ≡ length x.records
+  pub ahead : IsAhead (w + 1) x.stop
   pub ports : (q : ℕ) (s : Shelf) (k : ℕ) → At q shelves done s k → IsPortIn x w J q s k
   pub clock_ : clock J ≡ Some w
 
@@ -138,6 +142,7 @@ refusal p found misjudged.Memory = fault.Memory
 -- What is on the shelves when a window was gathered, of which no frame has a line yet: some record of the window is there.
 pub record IsGathered (x : Scene) (w : ℕ) (J : Journal) (shelves : List Shelf) : Type 0 where
   pub width : length shelves ≡ length x.records
+  pub ahead : IsAhead (w + 1) x.stop
   pub ports : (q : ℕ) (s : Shelf) → slice_get shelves q ≡ Some s → IsPortIn x w J q s 0
   pub some : (q : ℕ) × (s : Shelf) × (slice_get shelves q ≡ Some s) × (0 < length s.batch.items)
 

@@ -57,7 +57,12 @@ abbrev pub captures_in : Task → List Opened
 captures_in k = opened_in k.start.seen k.start.ins
 
 abbrev pub scene_of : Task → Scene
-scene_of k = record { settings = k.settings; records = all_records (captures_in k); bytes = k.bytes }
+scene_of k = record {
+  settings = k.settings;
+  records = all_records (captures_in k);
+  stop = stop k.settings k.start.budget.bytes k.start.budget.frames (captures_in k);
+  bytes = k.bytes;
+}
 
 abbrev pub matter_of : Task → Matter
 matter_of k = matter_in k.start.seen k.start.ins k.bytes k.outs

@@ -1,5 +1,5 @@
 //! A journal checked against captures whose heads were read, and against outputs.
-ghost use Rattle.std.specs.Prelude.{◌≡◌, ◌++◌, ◌+◌, ◌<◌, ◌≤◌, ◌^◌, ℕ, IfErr, MatchBool, MatchResult, length, [], false};
+ghost use Rattle.std.specs.Prelude.{◌≡◌, ◌++◌, ◌+◌, ◌<◌, ◌≤◌, ◌^◌, ℕ, IfErr, MatchBool, MatchResult, None, length, [], false};
 ghost use Rattle.fab_gather.specs.First.{AreFresh};
 ghost use Rattle.fab_gather.specs.Ports.{AreInputs, slots_of};
 ghost use Rattle.fab_policy.specs.Journal.{Journal};
@@ -150,7 +150,7 @@ fn check_begun<D: Depot>(
 fn check_end(alloc: Global, journal: &[u8], place: &Place) -> Result<(), CheckFault>
     requires inside { IsInside journal.now place.now }
     ensures checks { (x : Scene) (J : Journal) (F : Contents) → x.bytes ≡ journal.now
-        → IsReached x J F place.now → has_left x.settings x.records J ≡ false
+        → x.stop ≡ None → IsReached x J F place.now → has_left x.settings x.records J ≡ false
         → expects_tick x.settings x.records J ≡ false
         → MatchResult result (λ _. drop place.now.at journal.now ≡ []) (λ e. IsFound x e) }
     ensures only { IfErr result IsOfLine }

@@ -1,7 +1,7 @@
 //! The laws of the layers below on which a check rests, and those of its answers.
 //!
 //! The functions do nothing: their contracts are the laws.
-ghost use Rattle.fab_replay.specs.Exact.{OutputDiffers, RunIsAccepted, RunIsOne};
+ghost use Rattle.fab_replay.specs.Exact.{AnswerIsOne, OutputDiffers, RunIsAccepted, RunIsOne};
 ghost use Rattle.fab_replay.specs.Laws.{Laws};
 
 use fab_gather::{looks_to_come, records_are_read, windows_move_on};
@@ -17,10 +17,12 @@ pub(crate) fn laws_of_windows()
     records_are_read();
 }
 
-/// The answers of a check exclude each other: where a text names a run over whole captures and the
-/// outputs are what the run sends, no fault of a line, of a capture, of a limit or of an output is
-/// told, and the text names no other run.
+/// The answers of a check exclude each other: at most one holds of a text, its captures and its
+/// outputs, so the fault that is told is the first. Where a text names a run over whole captures and
+/// the outputs are what the run sends, no fault of a line, of a capture, of a limit or of an output
+/// is told, and the text names no other run.
 pub fn faults_are_exact()
+    ensures exact { AnswerIsOne }
     ensures one { RunIsOne }
     ensures accepted { RunIsAccepted }
     ensures differs { OutputDiffers }

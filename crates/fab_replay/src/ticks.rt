@@ -1,6 +1,7 @@
 //! The lines of ticks.
-ghost use Rattle.std.specs.Prelude.{IfErr, ◌≡◌, ◌<◌, ◌≤◌, ◌%◌, ◌^◌, ◌∷◌, [], ℕ, List, IfSome, MatchOption, MatchResult, MatchBool, OnOk, Some, length, true};
+ghost use Rattle.std.specs.Prelude.{IfErr, ◌≡◌, ◌+◌, ◌<◌, ◌≤◌, ◌%◌, ◌^◌, ◌∷◌, [], ℕ, List, IfSome, MatchOption, MatchResult, MatchBool, OnOk, Some, length, true};
 ghost use Rattle.fab_policy.specs.Journal.{Journal};
+ghost use Rattle.fab_policy.specs.Keeping.{IsAhead};
 ghost use Rattle.fab_policy.specs.Legal.{IsLeastOf, IsNextTick, windows_left};
 ghost use Rattle.fab_policy.specs.declared.event.Event.TheVariants as event;
 ghost use Rattle.fab_policy.specs.declared.line.Line.TheVariants as line_;
@@ -35,7 +36,7 @@ pub(crate) fn check_ticks(
     ensures checks { (x : Scene) (J : Journal) → x.bytes ≡ journal.now
         → IsReached x J fabric.old place.old
         → IsLeastOf (windows_left x.settings 1 x.records J) window
-        → MatchResult result
+        → IsAhead (window + 1) x.stop → MatchResult result
         (λ _. (K : Journal) × IsReached x K fabric.new place.new × HoldSame J K
         × PagesGrow x.settings (length x.records) J K (items_in pages.old) (items_in pages.new))
         (λ e. IsFound x e) }
@@ -71,7 +72,7 @@ fn check_tick(
     ensures checks { (x : Scene) (J : Journal) (w : ℕ) → x.bytes ≡ journal.now
         → IsReached x J fabric.old place.old
         → IsLeastOf (windows_left x.settings 1 x.records J) w → IsNextTick x.settings J w moment
-        → expects_tick x.settings x.records J ≡ true
+        → expects_tick x.settings x.records J ≡ true → IsAhead (w + 1) x.stop
         → MatchResult result
         (λ _. (ended : List ℕ) × IsReached x (event.Tick moment ended ∷ J) fabric.new place.new
         × PagesGrow x.settings (length x.records) J (event.Tick moment ended ∷ J)

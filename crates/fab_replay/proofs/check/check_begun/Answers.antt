@@ -85,7 +85,7 @@ returns-in_err-read_out-clause-checks g c = λ k same going.
     let d = seen c.read_out.new.depot in
     let e = c.in_err-read_out.field-0.0 in
     subst (Checks k.settings k.start.budget k.start.ins k.outs k.bytes k.start.seen d n.fabric) (err_is c.from_residual-in_err-read_out.result e c.from_residual-in_err-read_out.ensures.1)
-    (ended_out c.laws_of_windows.ensures k t.0 b.first n.fabric n.place (seen n.depot) n.ins n.shelves n.budget n.owed t.1 t.2 (λ x J F is h left tick. subst (λ l. drop n.place.at l ≡ []) (sym same.journal) (c.in_ok-check_end.ensures.checks x J F (is ∙ same.journal) h left tick)) d e
+    (ended_out c.laws_of_windows.ensures k t.0 b.first n.fabric n.place (seen n.depot) n.ins n.shelves n.budget n.owed t.1 t.2 (λ x J F is stop h left tick. subst (λ l. drop n.place.at l ≡ []) (sym same.journal) (c.in_ok-check_end.ensures.checks x J F (is ∙ same.journal) stop h left tick)) d e
     (subst (λ l. ReadsOut l (seen n.depot) d n.owed (Err e)) (sym same.outputs) c.in_err-read_out.ensures.reads) n.fabric)
 
 pub returns-clause-checks : goal.returns-clause-checks
@@ -96,5 +96,5 @@ returns-clause-checks g c = λ k same going.
     let t = c.in_ok-check_windows.ensures.turns k same now in
     let n = c.check_windows.new in
     let d = seen c.read_out.new.depot in
-    ended_well c.laws_of_windows.ensures k t.0 b.first n.fabric n.place (seen n.depot) n.ins n.shelves n.budget n.owed t.1 t.2 (λ x J F is h left tick. subst (λ l. drop n.place.at l ≡ []) (sym same.journal) (c.in_ok-check_end.ensures.checks x J F (is ∙ same.journal) h left tick)) d
+    ended_well c.laws_of_windows.ensures k t.0 b.first n.fabric n.place (seen n.depot) n.ins n.shelves n.budget n.owed t.1 t.2 (λ x J F is stop h left tick. subst (λ l. drop n.place.at l ≡ []) (sym same.journal) (c.in_ok-check_end.ensures.checks x J F (is ∙ same.journal) stop h left tick)) d
     (subst (λ l. ReadsOut l (seen n.depot) d n.owed (Ok tt)) (sym same.outputs) c.in_ok-read_out.ensures.reads)

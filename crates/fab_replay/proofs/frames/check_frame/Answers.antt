@@ -6,7 +6,7 @@ use Rattle.fab_replay.specs.Steps.{IsFound}
 use Rattle.fab_replay.proofs.ListLemmas.{at_inside}
 use Rattle.fab_replay.proofs.ResultLemmas.{told_on}
 use Rattle.fab_replay.proofs.SentLemmas.{grow_reached, legal_there}
-use Rattle.fab_replay.proofs.StepLemmas.{frame_reached, has_left_here, other_frame, refused_here, tick_here, unread_here}
+use Rattle.fab_replay.proofs.StepLemmas.{frame_reached, gathered_here, has_left_here, other_frame, refused_here, tick_here, unread_here}
 use Rattle.fab_replay.proofs.WindowLemmas.{count_fits, counts_more, window_more}
 use Rattle.fab_replay.proofs.frames.check_frame.Goals as goal
 
@@ -20,7 +20,7 @@ returns-in_err-line-clause-checks c = λ x J same h win.
     let q = c.next_line.new.place in
     let e = c.in_err-line.field-0.0 in
     told_on c.from_residual.result e _ _ c.from_residual.ensures.1
-    (unread_here x J F p h e (has_left_here x J F p h w shelves done win c.requires.left) (subst (λ b. IsUnread b p e) (sym same) c.in_err-line.ensures.unread.0))
+    (unread_here x J F p h (gathered_here x J F p h w shelves done win c.requires.left c.requires.count.1) e (has_left_here x J F p h w shelves done win c.requires.left c.requires.count.1) (subst (λ b. IsUnread b p e) (sym same) c.in_err-line.ensures.unread.0))
 
 pub returns-in_default-clause-checks : goal.returns-in_default-clause-checks
 returns-in_default-clause-checks c = λ x J same h win.
@@ -31,7 +31,7 @@ returns-in_default-clause-checks c = λ x J same h win.
     let done = c.args.done.now in
     let q = c.next_line.new.place in
     subst (IsFound x) (sym c.fault_at.ensures)
-    (tick_here x J F p h w shelves done win c.requires.left (number_behind p.format p.entries) q c.in_default.field-0 c.in_default.field-1 refl
+    (tick_here x J F p h w shelves done win c.requires.left c.requires.count.1 (number_behind p.format p.entries) q c.in_default.field-0 c.in_default.field-1 refl
     (subst (IsLineAt x.bytes p q) c.in_default.is (subst (λ b. IsLineAt b p q c.in_ok-line.line) (sym same) c.in_ok-line.ensures.line)))
 
 pub returns-in_default-next_on_shelf-clause-checks : goal.returns-in_default-next_on_shelf-clause-checks
@@ -44,7 +44,7 @@ returns-in_default-next_on_shelf-clause-checks c = λ x J same h win.
     let q = c.next_line.new.place in
     let at = subst (IsLineAt x.bytes p q) c.in-Frame.is (subst (λ b. IsLineAt b p q c.in_ok-line.line) (sym same) c.in_ok-line.ensures.line) in
     subst (IsFound x) (sym c.fault_at-in_default-next_on_shelf.ensures)
-    (other_frame x J F p h w shelves done win c.requires.left q c.in-Frame.port c.in-Frame.index c.in-Frame.verdict c.in-Frame.clock at (number_behind p.format p.entries) refl c.requires.count.1 c.in_default-next_on_shelf.ensures.named)
+    (other_frame x J F p h w shelves done win c.requires.left c.requires.count.1 q c.in-Frame.port c.in-Frame.index c.in-Frame.verdict c.in-Frame.clock at (number_behind p.format p.entries) refl c.in_default-next_on_shelf.ensures.named)
 
 pub returns-in_err-take_frame-clause-checks : goal.returns-in_err-take_frame-clause-checks
 returns-in_err-take_frame-clause-checks c = λ x J same h win.
@@ -57,7 +57,7 @@ returns-in_err-take_frame-clause-checks c = λ x J same h win.
     let at = subst (IsLineAt x.bytes p q) c.in-Frame.is (subst (λ b. IsLineAt b p q c.in_ok-line.line) (sym same) c.in_ok-line.ensures.line) in
     let e = c.in_err-take_frame.field-0.0 in
     told_on c.from_residual-in_err-take_frame.result e _ _ c.from_residual-in_err-take_frame.ensures.1
-    (refused_here x J F p h w shelves done win c.requires.left q c.in-Frame.port c.in-Frame.index c.in-Frame.verdict c.in-Frame.clock at c.in-Some.found.now c.in-Some.ensures.named e c.in_err-take_frame.ensures.refused)
+    (refused_here x J F p h w shelves done win c.requires.left c.requires.count.1 q c.in-Frame.port c.in-Frame.index c.in-Frame.verdict c.in-Frame.clock at c.in-Some.found.now c.in-Some.ensures.named e c.in_err-take_frame.ensures.refused)
 
 pub bounds-done-index : goal.bounds-done-index
 bounds-done-index c =
@@ -90,7 +90,7 @@ returns-clause-checks c = λ x J same h win.
     let value = c.index.ensures.value in
     let place : c.index.result ≡ on.place = omega (arith, is, value) in (
       event.Frame c.in-Frame.port c.in-Frame.index r.caught c.in-Frame.verdict ∷ J,
-      frame_reached x J F p h w shelves done win c.requires.left q c.in-Frame.port c.in-Frame.index c.in-Frame.verdict c.in-Frame.clock at r on c.take_frame.new.fabric (λ l s. let j = c.in_ok-take_frame.ensures.journal J l s in (j.0, j.1)) c.in_ok-take_frame.ensures.ranged c.in_ok-take_frame.ensures.settings.0 c.in_ok-take_frame.ensures.settings.1,
+      frame_reached x J F p h w shelves done win c.requires.left c.requires.count.1 q c.in-Frame.port c.in-Frame.index c.in-Frame.verdict c.in-Frame.clock at r on c.take_frame.new.fabric (λ l s. let j = c.in_ok-take_frame.ensures.journal J l s in (j.0, j.1)) c.in_ok-take_frame.ensures.ranged c.in_ok-take_frame.ensures.settings.0 c.in_ok-take_frame.ensures.settings.1,
       window_more x w J shelves done win c.in-Frame.port c.in-Frame.index c.in-Frame.clock r c.in-Frame.verdict on _ (counts_more done c.index.result on.place on.done_ place on.at.done_),
       grow_reached x J _ F p (items_in c.args.pages.now) (items_in c.take_frame.new.pages) h (c.in_ok-take_frame.ensures.journal J (legal_there x J F p h) h.stands).2,
     )

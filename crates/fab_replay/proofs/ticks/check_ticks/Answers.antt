@@ -8,7 +8,7 @@ use Rattle.fab_replay.proofs.ticks.check_ticks.Goals as goal
 
 pub ticks-init : goal.ticks-init
 ticks-init c = record {
-  checks = λ x J same h least. (J, h, λ port. refl, grow_none x.settings (length x.records) J (items_in c.args.pages.now));
+  checks = λ x J same h least ahead. (J, h, λ port. refl, grow_none x.settings (length x.records) J (items_in c.args.pages.now));
   inside = c.requires.inside;
   order = c.requires.order;
   settings = refl;
@@ -19,14 +19,14 @@ ticks-init c = record {
 
 pub ticks-preserved : goal.ticks-preserved
 ticks-preserved c = record {
-  checks = λ x J same h least.
+  checks = λ x J same h least ahead.
       let F = c.ticks.fabric in
       let p = c.ticks.place in
       let w = c.args.window in
       let m = c.in-Some.moment in
       let t = c.in-Some.ensures in
-      let at = c.ticks.invariant.checks x J same h least in
-      let step = c.in_ok-check_tick.ensures.checks x at.0 w same at.1 (least_then x J at.0 F p at.1 w m at.2 least t) (next_then x J at.0 F p at.1 w m at.2 least t) (expected_then x J at.0 F p at.1 w m at.2 least t) in
+      let at = c.ticks.invariant.checks x J same h least ahead in
+      let step = c.in_ok-check_tick.ensures.checks x at.0 w same at.1 (least_then x J at.0 F p at.1 w m at.2 least t) (next_then x J at.0 F p at.1 w m at.2 least t) (expected_then x J at.0 F p at.1 w m at.2 least t) ahead in
       (event.Tick m step.0 ∷ at.0, step.1, at.2, grow_more x.settings (length x.records) J at.0 (event.Tick m step.0 ∷ at.0) (items_in c.args.pages.now) (items_in c.ticks.pages) (items_in c.check_tick.new.pages) at.3 step.2);
   inside = c.in_ok-check_tick.ensures.inside;
   order = subst (λ o. IfSome o (λ k. k ≤ c.args.window)) (sym c.in_ok-check_tick.ensures.clock) c.in-Some.ensures.within;
@@ -37,13 +37,13 @@ ticks-preserved c = record {
 }
 
 pub returns-in_err-check_tick-clause-checks : goal.returns-in_err-check_tick-clause-checks
-returns-in_err-check_tick-clause-checks c = λ x J same h least.
+returns-in_err-check_tick-clause-checks c = λ x J same h least ahead.
     let F = c.ticks.fabric in
     let p = c.ticks.place in
     let w = c.args.window in
     let m = c.in-Some.moment in
     let t = c.in-Some.ensures in
     let e = c.in_err-check_tick.field-0.0 in
-    let at = c.ticks.invariant.checks x J same h least in
+    let at = c.ticks.invariant.checks x J same h least ahead in
     told_on c.from_residual.result e _ _ c.from_residual.ensures.1
-    (c.in_err-check_tick.ensures.checks x at.0 w same at.1 (least_then x J at.0 F p at.1 w m at.2 least t) (next_then x J at.0 F p at.1 w m at.2 least t) (expected_then x J at.0 F p at.1 w m at.2 least t))
+    (c.in_err-check_tick.ensures.checks x at.0 w same at.1 (least_then x J at.0 F p at.1 w m at.2 least t) (next_then x J at.0 F p at.1 w m at.2 least t) (expected_then x J at.0 F p at.1 w m at.2 least t) ahead)

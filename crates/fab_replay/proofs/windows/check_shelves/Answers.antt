@@ -17,7 +17,7 @@ pub returns-in_err-check_ticks-clause-checks : goal.returns-in_err-check_ticks-c
 returns-in_err-check_ticks-clause-checks c = λ x J same h gathered.
     let e = c.in_err-check_ticks.field-0.0 in
     told_on c.from_residual-in_err-check_ticks.result e _ _ c.from_residual-in_err-check_ticks.ensures.1
-    (c.in_err-check_ticks.ensures.checks x J same h (least_gathered x c.args.window J c.args.shelves.now gathered))
+    (c.in_err-check_ticks.ensures.checks x J same h (least_gathered x c.args.window J c.args.shelves.now gathered) gathered.ahead)
 
 pub check_frames-requires-clause-count : goal.check_frames-requires-clause-count
 check_frames-requires-clause-count c = (
@@ -30,7 +30,7 @@ returns-clause-checks c = λ x J same h gathered.
     let w = c.args.window in
     let shelves = c.args.shelves.now in
     let t = c.in_ok-check_ticks.ensures in
-    let at = t.checks x J same h (least_gathered x w J shelves gathered) in
+    let at = t.checks x J same h (least_gathered x w J shelves gathered) gathered.ahead in
     let width = ap length c.deref_mut.ensures.value ∙ ap length c.in_ok-done.ensures.zeros ∙ length-zeros (length c.args.shelves.now) in
     let zeros = c.deref_mut.ensures.value ∙ c.in_ok-done.ensures.zeros in
     let clock = sym (same_clock c.check_ticks.new.fabric at.0 at.1.stands) ∙ t.clock in
