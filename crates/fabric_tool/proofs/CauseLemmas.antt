@@ -27,7 +27,7 @@ use Rattle.fabric_tool.specs.declared.outcome.Outcome.TheVariants as ends
 use Rattle.fabric_tool.proofs.OutcomeCases.{run_cases, convert_cases, migrate_cases, make_cases, replay_files, show_files, whole_front, whole_journal, whole_load}
 use Rattle.fabric_tool.proofs.PartLemmas.{ran_part, stopped_part, part_front}
 use Rattle.fabric_tool.proofs.LegalLemmas.{legal_end, shown_end}
-use Rattle.fabric_tool.proofs.FaultLemmas.{replay_named, show_named}
+use Rattle.fabric_tool.proofs.FaultLemmas.{PrintsAlike, alike, replay_said, show_said}
 use Rattle.fabric_tool.proofs.FoundLemmas.{run_completed, ends_as_said}
 
 -- ---- the outcomes of a status
@@ -235,18 +235,18 @@ load_end k old new before after quiet o holds = make_cases k old new (λ o. (o �
     o holds
 
 -- a command ends as its inputs say, where nothing fails
-pub said_end : (k : Command) (old new : Seen) (before after : Sunk) (p : Outcome) → IsTrue old.told → Says k old p → IsQuiet k old new before after → (o : Outcome) → Holds k old new o → (o ≡ p) ⊎ (o ≡ ends.Memory)
-said_end (Run k) old new before after p told says quiet o holds = ends_as_said k old new before after told quiet o p holds says
-said_end (Replay k) old new before after p told says quiet o holds = replay_named k old new before after told quiet o p holds says
-said_end (Show k) old new before after p told says quiet o holds = show_named k old new before after told quiet o p holds says
-said_end (Convert k) old new before after p told says quiet o holds = elim (quiet_end k old new before after says.0 told says.1 quiet o holds) [ inl is ↦ inl (is ∙ sym says.2) | inr memory ↦ inr memory ]
+pub said_end : (k : Command) (old new : Seen) (before after : Sunk) (p : Outcome) → IsTrue old.told → Says k old p → IsQuiet k old new before after → (o : Outcome) → Holds k old new o → PrintsAlike o p ⊎ (o ≡ ends.Memory)
+said_end (Run k) old new before after p told says quiet o holds = elim (ends_as_said k old new before after told quiet o p holds says) [ inl is ↦ inl (alike o p is) | inr memory ↦ inr memory ]
+said_end (Replay k) old new before after p told says quiet o holds = replay_said k old new before after told quiet o p holds says
+said_end (Show k) old new before after p told says quiet o holds = show_said k old new before after told quiet o p holds says
+said_end (Convert k) old new before after p told says quiet o holds = elim (quiet_end k old new before after says.0 told says.1 quiet o holds) [ inl is ↦ inl (alike o p (is ∙ sym says.2)) | inr memory ↦ inr memory ]
 said_end (Migrate k) old new before after p told says quiet o holds = elim (moved_end k old new before after says.0 told says.1 quiet o holds) [
-  | inl is ↦ inl (one_end says.0 o p is says.2)
+  | inl is ↦ inl (alike o p (one_end says.0 o p is says.2))
   | inr memory ↦ inr memory
 ]
-said_end (Make k) old new before after p told says quiet o holds = elim (load_end k old new before after quiet o holds) [ inl is ↦ inl (is ∙ sym says) | inr memory ↦ inr memory ]
-said_end Help old new before after p told says quiet o holds = inl (holds.0 ∙ sym says)
-said_end Version old new before after p told says quiet o holds = inl (holds.0 ∙ sym says)
+said_end (Make k) old new before after p told says quiet o holds = elim (load_end k old new before after quiet o holds) [ inl is ↦ inl (alike o p (is ∙ sym says)) | inr memory ↦ inr memory ]
+said_end Help old new before after p told says quiet o holds = inl (alike o p (holds.0 ∙ sym says))
+said_end Version old new before after p told says quiet o holds = inl (alike o p (holds.0 ∙ sym says))
 
 -- inputs of the right forms are taken, where nothing fails
 pub done_or_memory : (k : Command) (old new : Seen) (before after : Sunk) → HasForms k old → IsQuiet k old new before after → (o : Outcome) → Holds k old new o → (0 ≡ status_of o) ⊎ (5 ≡ status_of o)
@@ -266,7 +266,7 @@ done_or_memory (Convert k) old new before after forms quiet o holds = convert_ca
 done_or_memory (Migrate k) old new before after forms quiet o holds =
     let p = ends.Migrated (length forms.lines) in
     elim (said_end (Migrate k) old new before after p forms.told (forms.bytes, forms.file, (forms.within, forms.lines, forms.is, refl)) quiet o holds) [
-      | inl is ↦ inl (sym (ap status_of is))
+      | inl is ↦ inl (sym is.status)
       | inr memory ↦ inr (sym (ap status_of memory))
     ]
 done_or_memory (Make k) old new before after forms quiet o holds = elim (load_end k old new before after quiet o holds) [ inl is ↦ inl (sym (ap status_of is)) | inr memory ↦ inr (sym (ap status_of memory)) ]

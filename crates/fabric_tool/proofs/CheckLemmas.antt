@@ -47,7 +47,7 @@ module _ (c : Settings) (budget : Budget) (m : Matter) (found : ℕ → List ℕ
   names_on J n = record { named = n.named; run = n.run; none = n.none; whole = n.whole }
 
   pub standing_on : (F : Contents) (entries : ℕ) → F.settings ≡ c → IsAccepted c budget m F entries → IsStanding F entries c budget (record { ins = m.ins; journal = m.journal; outputs = m.outputs; found = found })
-  standing_on F entries settings x = record { entry_list = x.entry_list; names = names_on x.entry_list x.names; outputs = λ q lt. same q lt ∙ x.outputs q lt; count = x.count; stands = x.stands; settings = settings }
+  standing_on F entries settings x = let l = x.legal in record { entry_list = l.entry_list; names = names_on l.entry_list l.names; outputs = λ q lt. same q lt ∙ l.outputs q lt; count = l.count; stands = x.stands; settings = settings }
 
   pub output_on : (port at : ℕ) → IsFirstOutput c budget m port at → IsFirstOutput c budget (record { ins = m.ins; journal = m.journal; outputs = m.outputs; found = found }) port at
   output_on port at x =
@@ -112,9 +112,15 @@ module _ (w : Width) (words : List (String Global)) (run : are_ports w words ≡
   files_b : SameFiles a b
   files_b m = given.touches.files m (λ x. x)
 
+  names_count : length (names_of w words).ins ≡ count_of w words
+  names_count = ap (λ (l : List (List ℕ)). length l) (ins_named w words) ∙ length-counted (input_of w words) 0 (count_of w words)
+
+  within : length journal ≤ room_for w words → length journal + HEAD * length (names_of w words).ins ≤ MOST_BYTES
+  within room = let n = names_count in let few = (ports w words run).few in omega arith
+
   -- a head can't be read
-  pub heads_ended : (z : Seen) (had left : Budget) (x : Outcome) → HeadsRead (ins_of w words) b z had left (Err x) → IsChecked w (names_of w words) a z (Err x)
-  heads_ended z had left x read = go x read.ended
+  pub heads_ended : length journal ≤ room_for w words → (z : Seen) (had left : Budget) (x : Outcome) → HeadsRead (ins_of w words) b z had left (Err x) → IsChecked w (names_of w words) a z (Err x)
+  heads_ended room z had left x read = go x read.ended
     where
       same : SameFiles a z
       same m = read.touches.files m (λ y. y) ∙ files_b m
@@ -127,18 +133,23 @@ module _ (w : Width) (words : List (String Global)) (run : are_ports w words ≡
             inl (
               e.0,
               record {
-                settings = c;
-                config = given.config told;
-                first = record {
-                  before = f.before;
-                  name = f.name;
-                  behind = f.behind;
-                  are = ins_named w words ∙ f.are;
-                  number = f.number;
-                  opened = f.opened;
-                  heads = opened_since a b files_b f.before f.opened f.heads;
-                  without = record { bytes = f.without.bytes; file = sym (files_b f.name) ∙ f.without.file; fault = f.without.fault; says = f.without.says; word = f.without.word };
+                head = record {
+                  settings = c;
+                  config = given.config told;
+                  first = record {
+                    before = f.before;
+                    name = f.name;
+                    behind = f.behind;
+                    are = ins_named w words ∙ f.are;
+                    number = f.number;
+                    opened = f.opened;
+                    heads = opened_since a b files_b f.before f.opened f.heads;
+                    without = record { bytes = f.without.bytes; file = sym (files_b f.name) ∙ f.without.file; fault = f.without.fault; says = f.without.says; word = f.without.word };
+                  };
                 };
+                journal = journal;
+                lines = given.lines told;
+                within = within room;
               },
             ),
       )
@@ -181,14 +192,11 @@ module _ (w : Width) (words : List (String Global)) (run : are_ports w words ≡
       outs_a : AreOpenInputs a o (names_of w words).outs slots
       outs_a = outs_since a m o files_m told_m (names_of w words).outs slots outs
 
-      names_count : length (names_of w words).ins ≡ count_of w words
-      names_count = ap (λ (l : List (List ℕ)). length l) (ins_named w words) ∙ length-counted (input_of w words) 0 (count_of w words)
-
       matter : IsTrue a.told → HasMatter (names_of w words) a c (opened_in o ins) journal
       matter told = record {
         inputs = record { config = given.config told; heads = subst (λ l. AreOpened a l (opened_in o ins)) (sym (ins_named w words)) (heads_opened a o (ins_of w words) ins told heads_a) };
         lines = given.lines told;
-        within = let n = names_count in let few = (ports w words run).few in omega arith;
+        within = within room;
       }
 
       same_budget : left ≡ budget_of journal (length (names_of w words).ins)

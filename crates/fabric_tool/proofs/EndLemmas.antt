@@ -5,7 +5,7 @@ use Rattle.std.specs.declared.alloc.Global.{Global}
 use Rattle.fab_base.specs.Seen.{Seen, Rose}
 use Rattle.fab_base.specs.Sunk.{Sunk}
 use Rattle.fabric_tool.specs.Command.{Command, KeepsOthers, command}
-use Rattle.fabric_tool.specs.Ends.{Holds, HoldsFor, Prints, Ends}
+use Rattle.fabric_tool.specs.Ends.{Holds, HoldsFor, Prints, Puts, Ends}
 use Rattle.fabric_tool.specs.Outcome.{status_of, line_of}
 use Rattle.fabric_tool.specs.Rechecking.{IsRechecked}
 use Rattle.fabric_tool.specs.Statuses.{Done, OfCommand, IsRefused, IsPastLimit, HasFront, IsComplete, IsNamed, Printed}
@@ -98,7 +98,7 @@ module _ (words : List (String Global)) (old new : Seen) (before after : Sunk) (
 
   pub exactly : (p : Outcome) → IsNamed words p old new before after → Prints p before after status ⊎ (status ≡ 5)
   exactly p x = elim (said_end x.k old new before after p x.told x.says x.quiet e.outcome (of_command x.k x.is)) [
-    | inl is ↦ inl (subst (λ o. Prints o before after status) is e.prints)
+    | inl is ↦ inl (subst (λ l. Puts l (status_of p) before after status) is.line (subst (λ (n : ℕ). Puts (line_of e.outcome) n before after status) is.status e.prints))
     | inr memory ↦ elim (status_is e.outcome before after status e.prints) [
       | inl five ↦ inr (five ∙ ap status_of memory)
       | inr sink ↦ absurd (x.quiet.sink sink.1)

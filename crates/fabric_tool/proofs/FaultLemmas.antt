@@ -1,83 +1,189 @@
--- Where the configuration or the head of a capture is at fault, `replay` and `show` end so.
-use Rattle.std.proofs.Common.{◌≡◌, ℕ, ◌+◌, ◌*◌, ◌≤◌, ◌⊎◌, List, length, Some, IsTrue, refl, ap, ◌∙◌, sym, inl, inr}
-use Rattle.fab_base.specs.Seen.{Seen}
+-- The first fault of what `replay` and `show` are handed is one, so they end by it where nothing fails.
+use Rattle.std.proofs.Common.{◌≡◌, ℕ, ◌+◌, ◌*◌, ◌≤◌, ◌⊎◌, inl, inr, List, length, Some, Err, IsTrue, refl, sym, ap, ◌∙◌, subst}
+use Rattle.std.specs.Prelude.{Result}
+use Rattle.fab_base.specs.Seen.{Seen, SameFiles}
 use Rattle.fab_base.specs.Sunk.{Sunk}
-use Rattle.fab_config.specs.Settings.{Settings}
 use Rattle.fab_config.specs.declared.ConfigFault.{ConfigFault}
 use Rattle.fab_gather.specs.declared.fault.CapWhy.{CapWhy}
-use Rattle.fab_replay.specs.Check.{Matter}
+use Rattle.fab_gather.specs.declared.fault.LimitKind.TheVariants as kinds
+use Rattle.fab_policy.specs.declared.verdict.Verdict.{Verdict}
 use Rattle.pcap_file.specs.Capture.{HEAD}
-use Rattle.pcap_file.specs.declared.Budget.{Budget}
+use Rattle.fab_replay.specs.Check.{IsAnswer}
+use Rattle.fab_replay.specs.Exact.{IsSameAnswer, IsSameWhy}
+use Rattle.fab_replay.specs.declared.fault.CheckFault.{CheckFault}
+use Rattle.fab_replay.specs.declared.fault.CheckFault.TheVariants as checks
+use Rattle.fab_replay.specs.declared.fault.LineWhy.{LineWhy}
+use Rattle.fab_replay.specs.declared.fault.LineWhy.TheVariants as lines
+use Rattle.fab_replay.proofs.ExactLemmas.{answer_is_one}
 use Rattle.fabric_tool.specs.Command.{RunNames, Replay, Show}
-use Rattle.fabric_tool.specs.Checking.{CheckSays, Finds, ReplayHolds, ShowHolds}
-use Rattle.fabric_tool.specs.Inputs.{HasFault, HasBadHead, MOST_BYTES}
-use Rattle.fabric_tool.specs.Statuses.{IsQuiet, ReplayNames, ShowNames}
+use Rattle.fabric_tool.specs.Checking.{CheckSays, Finds, IsHeadRefused, IsLongJournal, ReplayHolds, ShowHolds, budget_of, matter_of, refused_by}
+use Rattle.fabric_tool.specs.Inputs.{HasFault, MOST_BYTES}
+use Rattle.fabric_tool.specs.Outcome.{line_of, status_of}
+use Rattle.fabric_tool.specs.Statuses.{IsQuiet, ReplaySays, ShowSays}
 use Rattle.fabric_tool.specs.declared.outcome.Outcome.{Outcome}
 use Rattle.fabric_tool.specs.declared.outcome.Outcome.TheVariants as ends
 use Rattle.fabric_tool.proofs.FoundLemmas.{same_text, no_fault, one_fault, no_bad, one_bad}
-use Rattle.fabric_tool.proofs.LegalLemmas.{above, legal_end, shown_end}
-use Rattle.fabric_tool.proofs.OutcomeCases.{replay_cases, show_cases}
+use Rattle.fabric_tool.proofs.LegalLemmas.{above, in_one, legal_end, only_legal, only_shown, shown_end}
+
+-- ---- outcomes that print the same
+
+pub record PrintsAlike (o p : Outcome) : Type 0 where
+  pub line : line_of o ≡ line_of p
+  pub status : status_of o ≡ status_of p
+
+pub alike : (o p : Outcome) → o ≡ p → PrintsAlike o p
+alike o p is = record { line = ap line_of is; status = ap status_of is }
+
+-- a wrong line is printed without the verdict that is told as right
+other_verdict : (line : ℕ) (found made other : Verdict) → PrintsAlike (ends.WrongLine line (lines.Verdict found made)) (ends.WrongLine line (lines.Verdict found other))
+unfolding line_of
+other_verdict line found made other = record { line = refl; status = refl }
+
+same_line : (line : ℕ) (x y : LineWhy) → IsSameWhy x y → PrintsAlike (ends.WrongLine line x) (ends.WrongLine line y)
+same_line line lines.Text y is = alike _ _ (ap (λ (w : LineWhy). ends.WrongLine line w) (sym is))
+same_line line lines.Tick y is = alike _ _ (ap (λ (w : LineWhy). ends.WrongLine line w) (sym is))
+same_line line lines.Frame y is = alike _ _ (ap (λ (w : LineWhy). ends.WrongLine line w) (sym is))
+same_line line (lines.Verdict found made) y is = subst (λ (w : LineWhy). PrintsAlike (ends.WrongLine line (lines.Verdict found made)) (ends.WrongLine line w)) (sym is.1) (other_verdict line found made is.0)
+same_line line lines.Rest y is = alike _ _ (ap (λ (w : LineWhy). ends.WrongLine line w) (sym is))
+
+same_fault : (e f : CheckFault) → (let r : Result ℕ CheckFault = Err f in r) ≡ Err e → PrintsAlike (refused_by e) (refused_by f)
+same_fault e f is = let same : f ≡ e = cc in alike (refused_by e) (refused_by f) (ap refused_by (sym same))
+
+same_refusal : (e f : CheckFault) → IsSameAnswer (Err e) (Err f) → PrintsAlike (refused_by e) (refused_by f)
+same_refusal (checks.Line line x) f is =
+    let same : f ≡ checks.Line line is.0 = (let e = is.2 in cc) in
+    subst (λ (g : CheckFault). PrintsAlike (ends.WrongLine line x) (refused_by g)) (sym same) (same_line line x is.0 is.1)
+same_refusal (checks.Output port at) f is = same_fault (checks.Output port at) f is
+same_refusal (checks.Capture port at why) f is = same_fault (checks.Capture port at why) f is
+same_refusal (checks.Limit kind) f is = same_fault (checks.Limit kind) f is
+same_refusal checks.Read f is = same_fault checks.Read f is
+same_refusal checks.Memory f is = same_fault checks.Memory f is
+
+-- ---- one refusal
+
+abbrev IsRefusal : Outcome → Type 0
+IsRefusal (ends.WrongLine line why) = Unit {0}
+IsRefusal (ends.WrongOutput port at) = Unit {0}
+IsRefusal (ends.Config fault) = Unit {0}
+IsRefusal (ends.Capture port at why) = Unit {0}
+IsRefusal (ends.Limit kind) = Unit {0}
+IsRefusal o = ⊥
+
+-- a fault of the configuration, a journal that is too long, a bad head, or a fault of the check
+abbrev Refused : RunNames → Seen → Outcome → Type 0
+Refused k d o =
+    ((fault : ConfigFault) × HasFault d k.config fault × (o ≡ ends.Config fault))
+    ⊎ ((IsLongJournal k d × (o ≡ ends.Limit kinds.Bytes))
+    ⊎ (((port : ℕ) × (reason : CapWhy) × IsHeadRefused k d port reason × (o ≡ ends.Capture port 0 reason)) ⊎ ((e : CheckFault) × Finds k d (λ c b m. IsAnswer c b m (Err e)) × (o ≡ refused_by e))))
 
 module _ (k : RunNames) (d : Seen) where
-  -- the configuration has this first fault
-  module _ (fault : ConfigFault) (has : HasFault d k.config fault) where
-    none_found : (P : Settings → Budget → Matter → Type 0) → Finds k d P → ⊥
-    none_found P f = no_fault d k.config f.settings fault f.matter.inputs.config has
+  refused : (o : Outcome) → IsRefusal o → CheckSays k d o → Refused k d o
+  refused (ends.WrongLine line why) is says = inr (inr (inr (checks.Line line why, says, refl)))
+  refused (ends.WrongOutput port at) is says = inr (inr (inr (checks.Output port at, says, refl)))
+  refused (ends.Config fault) is says = inl (fault, says, refl)
+  refused (ends.Capture port at why) is (inl head) = inr (inr (inl (port, why, head.1, ap (λ (n : ℕ). ends.Capture port n why) head.0)))
+  refused (ends.Capture port at why) is (inr stop) = inr (inr (inr (checks.Capture port at why, stop, refl)))
+  refused (ends.Limit kind) is (inl long) = inr (inl (long.1, ap ends.Limit long.0))
+  refused (ends.Limit kind) is (inr stop) = inr (inr (inr (checks.Limit kind, stop, refl)))
+  refused o is says = absurd is
 
-    only_config : (o : Outcome) → CheckSays k d o → o ≡ ends.Config fault
-    only_config (ends.Legal entries) f = absurd (none_found _ f)
-    only_config (ends.Shown text) f = absurd (none_found _ f)
-    only_config (ends.WrongLine line why) f = absurd (none_found _ f)
-    only_config (ends.WrongOutput port at) f = absurd (none_found _ f)
-    only_config (ends.Config other) says = ap ends.Config (one_fault d k.config other fault says has)
-    only_config (ends.Capture port at why) says = absurd (elim says [ inl bad ↦ no_fault d k.config bad.1.settings fault bad.1.config has | inr f ↦ none_found _ f ])
-    only_config (ends.Limit kind) says = absurd (elim says [ inl long ↦ no_fault d k.config long.1.settings fault long.1.config has | inr f ↦ none_found _ f ])
-    only_config o says = absurd says
+  one_check : (e f : CheckFault) → Finds k d (λ c b m. IsAnswer c b m (Err e)) → Finds k d (λ c b m. IsAnswer c b m (Err f)) → PrintsAlike (refused_by e) (refused_by f)
+  one_check e f x y =
+      same_refusal e f (answer_is_one y.settings (budget_of y.journal (length k.ins)) (matter_of k d y.opened y.journal) (Err e) (Err f) (in_one k d (λ c b m. IsAnswer c b m (Err e)) (λ c b m. IsAnswer c b m (Err f)) x y) y.says)
 
-  -- this port's capture is the first without a head, and the journal is within the limit
-  module _ (port : ℕ) (why : CapWhy) (bad : HasBadHead k d port why) (journal : List ℕ) (lines : d.file k.journal ≡ Some journal) (within : length journal + HEAD * length k.ins ≤ MOST_BYTES) where
-    no_heads : (P : Settings → Budget → Matter → Type 0) → Finds k d P → ⊥
-    no_heads P f = no_bad k d f.settings f.opened port why f.matter.inputs bad
+  -- a journal that is too long isn't within the limit
+  too_long : (l : IsLongJournal k d) (journal : List ℕ) → d.file k.journal ≡ Some journal → length journal + HEAD * length k.ins ≤ MOST_BYTES → ⊥
+  too_long l journal lines within = above journal l.journal (length k.ins) (same_text d k.journal journal l.journal lines l.lines) within l.above
 
-    only_head : (o : Outcome) → CheckSays k d o → o ≡ ends.Capture port 0 why
-    only_head (ends.Legal entries) f = absurd (no_heads _ f)
-    only_head (ends.Shown text) f = absurd (no_heads _ f)
-    only_head (ends.WrongLine line reason) f = absurd (no_heads _ f)
-    only_head (ends.WrongOutput p at) f = absurd (no_heads _ f)
-    only_head (ends.Config fault) has = absurd (no_fault d k.config bad.settings fault bad.config has)
-    only_head (ends.Capture p at reason) says = elim says [
-      | inl other ↦
-          let one = one_bad k d p port reason why other.1 bad in
-          ap (λ (n : ℕ). ends.Capture p n reason) other.0 ∙ ap (λ (n : ℕ). ends.Capture n 0 reason) one.0 ∙ ap (λ (w : CapWhy). ends.Capture port 0 w) one.1
-      | inr f ↦ absurd (no_heads _ f)
-    ]
-    only_head (ends.Limit kind) says = absurd (elim says [
-      | inl long ↦ above journal long.1.journal (length k.ins) (same_text d k.journal journal long.1.journal lines long.1.lines) within long.1.above
-      | inr f ↦ no_heads _ f
-    ])
-    only_head o says = absurd says
+  refused_once : (o p : Outcome) → Refused k d o → Refused k d p → PrintsAlike o p
+  refused_once o p (inl a) (inl b) = alike o p (a.2 ∙ ap (λ (f : ConfigFault). ends.Config f) (one_fault d k.config a.0 b.0 a.1 b.1) ∙ sym b.2)
+  refused_once o p (inl a) (inr (inl b)) = absurd (no_fault d k.config b.0.settings a.0 b.0.config a.1)
+  refused_once o p (inl a) (inr (inr (inl b))) = absurd (no_fault d k.config b.2.head.settings a.0 b.2.head.config a.1)
+  refused_once o p (inl a) (inr (inr (inr b))) = absurd (no_fault d k.config b.1.settings a.0 b.1.matter.inputs.config a.1)
+  refused_once o p (inr (inl a)) (inl b) = absurd (no_fault d k.config a.0.settings b.0 a.0.config b.1)
+  refused_once o p (inr (inl a)) (inr (inl b)) = alike o p (a.1 ∙ sym b.1)
+  refused_once o p (inr (inl a)) (inr (inr (inl b))) = absurd (too_long a.0 b.2.journal b.2.lines b.2.within)
+  refused_once o p (inr (inl a)) (inr (inr (inr b))) = absurd (too_long a.0 b.1.journal b.1.matter.lines b.1.matter.within)
+  refused_once o p (inr (inr (inl a))) (inl b) = absurd (no_fault d k.config a.2.head.settings b.0 a.2.head.config b.1)
+  refused_once o p (inr (inr (inl a))) (inr (inl b)) = absurd (too_long b.0 a.2.journal a.2.lines a.2.within)
+  refused_once o p (inr (inr (inl a))) (inr (inr (inl b))) =
+      let same = one_bad k d a.0 b.0 a.1 b.1 a.2.head b.2.head in
+      alike o p (a.3 ∙ ap (λ (n : ℕ). ends.Capture n 0 a.1) same.0 ∙ ap (λ (w : CapWhy). ends.Capture b.0 0 w) same.1 ∙ sym b.3)
+  refused_once o p (inr (inr (inl a))) (inr (inr (inr b))) = absurd (no_bad k d b.1.settings b.1.opened a.0 a.1 b.1.matter.inputs a.2.head)
+  refused_once o p (inr (inr (inr a))) (inl b) = absurd (no_fault d k.config a.1.settings b.0 a.1.matter.inputs.config b.1)
+  refused_once o p (inr (inr (inr a))) (inr (inl b)) = absurd (too_long b.0 a.1.journal a.1.matter.lines a.1.matter.within)
+  refused_once o p (inr (inr (inr a))) (inr (inr (inl b))) = absurd (no_bad k d a.1.settings a.1.opened b.0 b.1 a.1.matter.inputs b.2.head)
+  refused_once o p (inr (inr (inr a))) (inr (inr (inr b))) =
+      subst (λ (x : Outcome). PrintsAlike x p) (sym a.2) (subst (λ (x : Outcome). PrintsAlike (refused_by a.0) x) (sym b.2) (one_check a.0 b.0 a.1 b.1))
+
+  one_refusal : (o p : Outcome) → IsRefusal o → IsRefusal p → CheckSays k d o → CheckSays k d p → PrintsAlike o p
+  one_refusal o p i j a b = refused_once o p (refused o i a) (refused p j b)
+
+  -- ---- how a command ends where nothing fails
 
   module _ (new : Seen) (before after : Sunk) (told : IsTrue d.told) where
-    -- how `replay` ends where nothing fails, if the files say one thing
-    replay_only : IsQuiet (Replay k) d new before after → (p : Outcome) → ((o : Outcome) → CheckSays k d o → o ≡ p) → (o : Outcome) → ReplayHolds k d new o → (o ≡ p) ⊎ (o ≡ ends.Memory)
-    replay_only quiet p only o holds = replay_cases k d new (λ x. (x ≡ p) ⊎ (x ≡ ends.Memory)) (λ x files says. inl (only x (says told))) (λ h. absurd (quiet.reads h.1)) (λ h. inr refl) o holds
+    -- a refusal beside a run
+    replay_refused : (p : Outcome) → IsRefusal p → SameFiles d new → CheckSays k d p → ReplayHolds k d new p
+    replay_refused (ends.WrongLine line why) is files says = (files, λ told. says)
+    replay_refused (ends.WrongOutput port at) is files says = (files, λ told. says)
+    replay_refused (ends.Config fault) is files says = (files, λ told. says)
+    replay_refused (ends.Capture port at why) is files says = (files, λ told. says)
+    replay_refused (ends.Limit kind) is files says = (files, λ told. says)
+    replay_refused p is files says = absurd is
 
-    pub replay_named : IsQuiet (Replay k) d new before after → (o p : Outcome) → ReplayHolds k d new o → ReplayNames k d p → (o ≡ p) ⊎ (o ≡ ends.Memory)
-    replay_named quiet o (ends.Legal entries) holds f = legal_end k d entries f new before after told quiet o holds
-    replay_named quiet o (ends.Config fault) holds has = replay_only quiet (ends.Config fault) (only_config fault has) o holds
-    replay_named quiet o (ends.Capture port at why) holds says =
-        let is : ends.Capture port 0 why ≡ ends.Capture port at why = ap (λ (n : ℕ). ends.Capture port n why) (sym says.0) in
-        replay_only quiet (ends.Capture port at why) (λ x h. only_head port why says.1 says.2 says.3 says.4 x h ∙ is) o holds
-    replay_named quiet o p holds says = absurd says
+    no_refusal : (p q : Outcome) → IsRefusal p → (p ≡ q) ⊎ (p ≡ ends.Memory) → (IsRefusal q → ⊥) → ⊥
+    no_refusal p q is (inl same) none = none (subst IsRefusal same is)
+    no_refusal p q is (inr memory) none = subst IsRefusal memory is
 
-    -- the same of `show`
-    show_only : IsQuiet (Show k) d new before after → (p : Outcome) → ((o : Outcome) → CheckSays k d o → o ≡ p) → (o : Outcome) → ShowHolds k d new o → (o ≡ p) ⊎ (o ≡ ends.Memory)
-    show_only quiet p only o holds = show_cases k d new (λ x. (x ≡ p) ⊎ (x ≡ ends.Memory)) (λ x files says. inl (only x (says told))) (λ h. absurd (quiet.reads h.1)) (λ h. inr refl) o holds
+    replay_ends : IsQuiet (Replay k) d new before after → (o p : Outcome) → IsRefusal p → CheckSays k d p → ReplayHolds k d new o → PrintsAlike o p ⊎ (o ≡ ends.Memory)
+    replay_ends quiet (ends.Legal entries) p is says h = absurd (no_refusal p (ends.Legal entries) is (only_legal k d entries (h.1 told) new told p (replay_refused p is h.0 says) quiet.reads) (λ x. x))
+    replay_ends quiet (ends.WrongLine line why) p is says h = inl (one_refusal (ends.WrongLine line why) p tt is (h.1 told) says)
+    replay_ends quiet (ends.WrongOutput port at) p is says h = inl (one_refusal (ends.WrongOutput port at) p tt is (h.1 told) says)
+    replay_ends quiet (ends.Config fault) p is says h = inl (one_refusal (ends.Config fault) p tt is (h.1 told) says)
+    replay_ends quiet (ends.Capture port at why) p is says h = inl (one_refusal (ends.Capture port at why) p tt is (h.1 told) says)
+    replay_ends quiet (ends.Limit kind) p is says h = inl (one_refusal (ends.Limit kind) p tt is (h.1 told) says)
+    replay_ends quiet ends.ReadFault p is says h = absurd (quiet.reads h.1)
+    replay_ends quiet ends.Memory p is says h = inr refl
+    replay_ends quiet o p is says h = absurd h
 
-    pub show_named : IsQuiet (Show k) d new before after → (o p : Outcome) → ShowHolds k d new o → ShowNames k d p → (o ≡ p) ⊎ (o ≡ ends.Memory)
-    show_named quiet o (ends.Shown text) holds f = shown_end k d text f new before after told quiet o holds
-    show_named quiet o (ends.Config fault) holds has = show_only quiet (ends.Config fault) (only_config fault has) o holds
-    show_named quiet o (ends.Capture port at why) holds says =
-        let is : ends.Capture port 0 why ≡ ends.Capture port at why = ap (λ (n : ℕ). ends.Capture port n why) (sym says.0) in
-        show_only quiet (ends.Capture port at why) (λ x h. only_head port why says.1 says.2 says.3 says.4 x h ∙ is) o holds
-    show_named quiet o p holds says = absurd says
+    pub replay_said : IsQuiet (Replay k) d new before after → (o p : Outcome) → ReplayHolds k d new o → ReplaySays k d p → PrintsAlike o p ⊎ (o ≡ ends.Memory)
+    replay_said quiet o (ends.Legal entries) holds says = elim (legal_end k d entries says new before after told quiet o holds) [ inl is ↦ inl (alike o (ends.Legal entries) is) | inr memory ↦ inr memory ]
+    replay_said quiet o (ends.WrongLine line why) holds says = replay_ends quiet o (ends.WrongLine line why) tt says holds
+    replay_said quiet o (ends.WrongOutput port at) holds says = replay_ends quiet o (ends.WrongOutput port at) tt says holds
+    replay_said quiet o (ends.Config fault) holds says = replay_ends quiet o (ends.Config fault) tt says holds
+    replay_said quiet o (ends.Capture port at why) holds says = replay_ends quiet o (ends.Capture port at why) tt says holds
+    replay_said quiet o (ends.Limit kind) holds says = replay_ends quiet o (ends.Limit kind) tt says holds
+    replay_said quiet o p holds says = absurd says
+
+    -- the same of `show`, to which no output is told
+    abbrev IsShowRefusal : Outcome → Type 0
+    IsShowRefusal (ends.WrongOutput port at) = ⊥
+    IsShowRefusal o = IsRefusal o
+
+    show_refused : (p : Outcome) → IsShowRefusal p → SameFiles d new → CheckSays k d p → IsRefusal p × ShowHolds k d new p
+    show_refused (ends.WrongLine line why) is files says = (tt, (files, λ told. says))
+    show_refused (ends.Config fault) is files says = (tt, (files, λ told. says))
+    show_refused (ends.Capture port at why) is files says = (tt, (files, λ told. says))
+    show_refused (ends.Limit kind) is files says = (tt, (files, λ told. says))
+    show_refused p is files says = absurd is
+
+    show_ends : IsQuiet (Show k) d new before after → (o p : Outcome) → IsShowRefusal p → CheckSays k d p → ShowHolds k d new o → PrintsAlike o p ⊎ (o ≡ ends.Memory)
+    show_ends quiet (ends.Shown text) p is says h =
+        let r = show_refused p is h.0 says in
+        absurd (no_refusal p (ends.Shown text) r.0 (only_shown k d text (h.1 told) new told p r.1 quiet.reads) (λ x. x))
+    show_ends quiet (ends.WrongLine line why) p is says h = inl (one_refusal (ends.WrongLine line why) p tt (show_refused p is h.0 says).0 (h.1 told) says)
+    show_ends quiet (ends.WrongOutput port at) p is says h = absurd (h.1 told)
+    show_ends quiet (ends.Config fault) p is says h = inl (one_refusal (ends.Config fault) p tt (show_refused p is h.0 says).0 (h.1 told) says)
+    show_ends quiet (ends.Capture port at why) p is says h = inl (one_refusal (ends.Capture port at why) p tt (show_refused p is h.0 says).0 (h.1 told) says)
+    show_ends quiet (ends.Limit kind) p is says h = inl (one_refusal (ends.Limit kind) p tt (show_refused p is h.0 says).0 (h.1 told) says)
+    show_ends quiet ends.ReadFault p is says h = absurd (quiet.reads h.1)
+    show_ends quiet ends.Memory p is says h = inr refl
+    show_ends quiet o p is says h = absurd h
+
+    pub show_said : IsQuiet (Show k) d new before after → (o p : Outcome) → ShowHolds k d new o → ShowSays k d p → PrintsAlike o p ⊎ (o ≡ ends.Memory)
+    show_said quiet o (ends.Shown text) holds says = elim (shown_end k d text says new before after told quiet o holds) [ inl is ↦ inl (alike o (ends.Shown text) is) | inr memory ↦ inr memory ]
+    show_said quiet o (ends.WrongLine line why) holds says = show_ends quiet o (ends.WrongLine line why) tt says holds
+    show_said quiet o (ends.Config fault) holds says = show_ends quiet o (ends.Config fault) tt says holds
+    show_said quiet o (ends.Capture port at why) holds says = show_ends quiet o (ends.Capture port at why) tt says holds
+    show_said quiet o (ends.Limit kind) holds says = show_ends quiet o (ends.Limit kind) tt says holds
+    show_said quiet o p holds says = absurd says

@@ -23,7 +23,7 @@ above l m n e within over = let same : length l ≡ length m = ap (λ (x : List 
 
 module _ (k : RunNames) (d : Seen) where
   -- the files of a command are one matter
-  in_one : (P Q : Settings → Budget → Matter → Type 0) → Finds k d P → (g : Finds k d Q) → P g.settings (budget_of g.journal (length k.ins)) (matter_of k d g.opened g.journal)
+  pub in_one : (P Q : Settings → Budget → Matter → Type 0) → Finds k d P → (g : Finds k d Q) → P g.settings (budget_of g.journal (length k.ins)) (matter_of k d g.opened g.journal)
   in_one P Q f g =
       let config = one_value d k.config f.settings g.settings f.matter.inputs.config g.matter.inputs.config in
       let heads = all_one d k.ins f.opened g.opened f.matter.inputs.heads g.matter.inputs.heads in
@@ -49,7 +49,7 @@ module _ (k : RunNames) (d : Seen) where
 
   -- where the journal and the outputs are those of a run, the files say nothing else to `replay`
   module _ (entries : ℕ) (f : Finds k d (IsLegalJournal entries)) where
-    only_legal : (new : Seen) → IsTrue d.told → (o : Outcome) → ReplayHolds k d new o → (ReadRose (Replay k) d new → ⊥) → (o ≡ ends.Legal entries) ⊎ (o ≡ ends.Memory)
+    pub only_legal : (new : Seen) → IsTrue d.told → (o : Outcome) → ReplayHolds k d new o → (ReadRose (Replay k) d new → ⊥) → (o ≡ ends.Legal entries) ⊎ (o ≡ ends.Memory)
     only_legal new told (ends.Legal n) h quiet =
         let g = h.1 told in
         let mine = in_one (IsLegalJournal entries) (IsLegalJournal n) f g in
@@ -59,7 +59,7 @@ module _ (k : RunNames) (d : Seen) where
     only_legal new told (ends.WrongOutput port at) h quiet = absurd (excluded (IsLegalJournal entries) _ (λ c b m x wrong. output_differs c b m port at x.entry_list wrong x.names x.outputs) f (h.1 told))
     only_legal new told (ends.Config fault) h quiet = absurd (no_config (IsLegalJournal entries) f fault (h.1 told))
     only_legal new told (ends.Capture port at why) h quiet = absurd (elim (h.1 told) [
-      | inl bad ↦ no_head (IsLegalJournal entries) f port why bad.1
+      | inl bad ↦ no_head (IsLegalJournal entries) f port why bad.1.head
       | inr g ↦ excluded (IsLegalJournal entries) _ (λ c b m x stop. (run_is_one c b m x.entry_list x.names).2 _ stop) f g
     ])
     only_legal new told (ends.Limit kind) h quiet = absurd (elim (h.1 told) [
@@ -75,7 +75,7 @@ module _ (k : RunNames) (d : Seen) where
 
   -- the same of `show`, to which no output is told
   module _ (text : List ℕ) (f : Finds k d (IsShownJournal text)) where
-    only_shown : (new : Seen) → IsTrue d.told → (o : Outcome) → ShowHolds k d new o → (ReadRose (Show k) d new → ⊥) → (o ≡ ends.Shown text) ⊎ (o ≡ ends.Memory)
+    pub only_shown : (new : Seen) → IsTrue d.told → (o : Outcome) → ShowHolds k d new o → (ReadRose (Show k) d new → ⊥) → (o ≡ ends.Shown text) ⊎ (o ≡ ends.Memory)
     only_shown new told (ends.Shown n) h quiet =
         let g = h.1 told in
         let mine = in_one (IsShownJournal text) (IsShownJournal n) f g in
@@ -85,7 +85,7 @@ module _ (k : RunNames) (d : Seen) where
     only_shown new told (ends.WrongOutput port at) h quiet = absurd (h.1 told)
     only_shown new told (ends.Config fault) h quiet = absurd (no_config (IsShownJournal text) f fault (h.1 told))
     only_shown new told (ends.Capture port at why) h quiet = absurd (elim (h.1 told) [
-      | inl bad ↦ no_head (IsShownJournal text) f port why bad.1
+      | inl bad ↦ no_head (IsShownJournal text) f port why bad.1.head
       | inr g ↦ excluded (IsShownJournal text) _ (λ c b m x stop. (run_is_one c b m x.entry_list x.names).2 _ stop) f g
     ])
     only_shown new told (ends.Limit kind) h quiet = absurd (elim (h.1 told) [

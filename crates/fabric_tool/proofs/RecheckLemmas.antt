@@ -6,8 +6,7 @@ use Rattle.fab_base.specs.Sunk.{Sunk}
 use Rattle.fab_policy.specs.Logins.{counting}
 use Rattle.fab_policy.specs.Looks.{Opened, all_records}
 use Rattle.fab_policy.specs.Text.{egress, text}
-use Rattle.fab_replay.specs.Check.{NamesRun}
-use Rattle.fab_replay.specs.Exact.{AreSent}
+use Rattle.fab_replay.specs.Check.{AreSent, NamesRun}
 use Rattle.fab_replay.specs.Showing.{shown}
 use Rattle.fabric_tool.specs.Checking.{CheckSays, budget_of, matter_of}
 use Rattle.fabric_tool.specs.Command.{RunNames, Command, Replay, Show, Among}

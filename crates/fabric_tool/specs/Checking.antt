@@ -7,16 +7,15 @@ use Rattle.fab_config.specs.Settings.{Settings}
 use Rattle.pcap_file.specs.Capture.{HEAD}
 use Rattle.pcap_file.specs.declared.Budget.{Budget}
 use Rattle.fab_policy.specs.Journal.{Journal}
-use Rattle.fab_policy.specs.Looks.{Opened, all_records}
+use Rattle.fab_policy.specs.Looks.{Opened}
 use Rattle.fab_policy.specs.Standing.{Contents, Stands}
 use Rattle.fab_policy.specs.State.{tables_of}
+use Rattle.fab_gather.specs.declared.fault.CapWhy.{CapWhy}
 use Rattle.fab_gather.specs.declared.fault.LimitKind.TheVariants as kinds
 use Rattle.fab_gather.specs.declared.fault.RunFault.TheVariants as faults
 use Rattle.fab_migrate.specs.declared.old.OldError.{OldError}
 use Rattle.fab_migrate.specs.declared.old.OldError.TheVariants as olds
-use Rattle.fab_replay.specs.Check.{Matter, NamesRun, IsFirstOutput, IsFirstStop}
-use Rattle.fab_replay.specs.Exact.{AreSent}
-use Rattle.fab_replay.specs.Front.{IsFirstWrong}
+use Rattle.fab_replay.specs.Check.{Matter, NamesRun, AreSent, IsLegal, IsFirstLine, IsFirstOutput, IsFirstStop}
 use Rattle.fab_replay.specs.Showing.{shown, shown_by}
 use Rattle.fab_replay.specs.declared.fault.CheckFault.{CheckFault}
 use Rattle.fab_replay.specs.declared.fault.CheckFault.TheVariants as checks
@@ -55,11 +54,8 @@ pub record Finds (k : RunNames) (d : Seen) (P : Settings → Budget → Matter �
   pub says : P settings (budget_of journal (length k.ins)) (matter_of k d opened journal)
 
 -- The journal names a run over whole captures, with so many entries, and each output is the capture of what it sends.
-pub record IsLegalJournal (entries : ℕ) (c : Settings) (budget : Budget) (m : Matter) : Type 0 where
-  pub entry_list : Journal
-  pub names : NamesRun c budget m entry_list
-  pub outputs : AreSent c m entry_list
-  pub count : entries ≡ length entry_list
+abbrev pub IsLegalJournal : ℕ → Settings → Budget → Matter → Type 0
+IsLegalJournal entries c budget m = IsLegal c budget m entries
 
 -- The journal, and 24 bytes for the head of each capture, pass the limit on bytes.
 pub record IsLongJournal (k : RunNames) (d : Seen) : Type 0 where
@@ -69,6 +65,14 @@ pub record IsLongJournal (k : RunNames) (d : Seen) : Type 0 where
   pub lines : d.file k.journal ≡ Some journal
   pub above : MOST_BYTES < length journal + HEAD * length k.ins
 
+-- That port's capture is the first without a head, and the journal, with 24 bytes for the head of each capture, is within the
+-- limit on bytes.
+pub record IsHeadRefused (k : RunNames) (d : Seen) (port : ℕ) (reason : CapWhy) : Type 0 where
+  pub head : HasBadHead k d port reason
+  pub journal : List ℕ
+  pub lines : d.file k.journal ≡ Some journal
+  pub within : length journal + HEAD * length k.ins ≤ MOST_BYTES
+
 -- The journal names a run over whole captures, and this is what is shown of it.
 pub record IsShownJournal (text : List ℕ) (c : Settings) (budget : Budget) (m : Matter) : Type 0 where
   pub entry_list : Journal
@@ -77,14 +81,15 @@ pub record IsShownJournal (text : List ℕ) (c : Settings) (budget : Budget) (m 
 
 -- ---- how `replay` and `show` end
 
--- what the files say where one of them ends so
+-- What the files say where one of them ends so: the first fault in the order configuration, bytes of the journal, heads of the
+-- captures, then window by window a stop of the captures and the lines, and then the outputs.
 abbrev pub CheckSays : RunNames → Seen → Outcome → Type 0
 CheckSays k d (ends.Legal entries) = Finds k d (IsLegalJournal entries)
 CheckSays k d (ends.Shown text) = Finds k d (IsShownJournal text)
-CheckSays k d (ends.WrongLine line why) = Finds k d (λ c budget m. IsFirstWrong c (all_records m.ins) m.journal line why)
+CheckSays k d (ends.WrongLine line why) = Finds k d (λ c budget m. IsFirstLine c budget m line why)
 CheckSays k d (ends.WrongOutput port at) = Finds k d (λ c budget m. IsFirstOutput c budget m port at)
 CheckSays k d (ends.Config fault) = HasFault d k.config fault
-CheckSays k d (ends.Capture port at why) = ((at ≡ 0) × HasBadHead k d port why) ⊎ Finds k d (λ c budget m. IsFirstStop c budget m (faults.Capture port at why))
+CheckSays k d (ends.Capture port at why) = ((at ≡ 0) × IsHeadRefused k d port why) ⊎ Finds k d (λ c budget m. IsFirstStop c budget m (faults.Capture port at why))
 CheckSays k d (ends.Limit kind) = ((kind ≡ kinds.Bytes) × IsLongJournal k d) ⊎ Finds k d (λ c budget m. IsFirstStop c budget m (faults.Limit kind))
 CheckSays k d _ = ⊥
 

@@ -1,9 +1,8 @@
 -- What each status says, of a command and of what was printed.
-use Rattle.std.specs.Prelude.{◌≡◌, ℕ, ◌+◌, ◌*◌, ◌<◌, ◌≤◌, ◌⊎◌, ◌↔◌, IsTrue, List, ◌++◌, length, take, Some, None, Result, Ok, Err, String}
+use Rattle.std.specs.Prelude.{◌≡◌, ℕ, ◌<◌, ◌≤◌, ◌⊎◌, ◌↔◌, IsTrue, List, ◌++◌, length, take, Some, None, Result, Ok, Err, String}
 use Rattle.std.specs.declared.alloc.Global.{Global}
 use Rattle.fab_base.specs.Seen.{Seen, Rose, SameFiles}
 use Rattle.fab_base.specs.Sunk.{Sunk}
-use Rattle.pcap_file.specs.Capture.{HEAD}
 use Rattle.pcap_file.specs.declared.Record.{Record}
 use Rattle.pcapng_file.specs.declared.NgRecord.{NgRecord}
 use Rattle.pcapng_file.specs.declared.fault.NgWhy.{NgWhy}
@@ -211,27 +210,22 @@ MigrateSays bytes (ends.BadLine line fault) = (length bytes ≤ MOST_BYTES) × H
 MigrateSays bytes (ends.Limit kind) = (MOST_BYTES < length bytes) × (kind ≡ kinds.Bytes)
 MigrateSays bytes _ = ⊥
 
--- What `replay` and `show` are refused for before a line is checked: the configuration's fault, or the first bad head, where the
--- journal is within the limit on bytes.
-abbrev pub CheckNames : RunNames → Seen → Outcome → Type 0
-CheckNames k d (ends.Config fault) = HasFault d k.config fault
-CheckNames k d (ends.Capture port at why) = (at ≡ 0) × HasBadHead k d port why × (journal : List ℕ) × (d.file k.journal ≡ Some journal) × (length journal + HEAD * length k.ins ≤ MOST_BYTES)
-CheckNames k d _ = ⊥
+-- how `replay` ends by its inputs: the journal and the outputs are those of a run, or there is a first fault
+abbrev pub ReplaySays : RunNames → Seen → Outcome → Type 0
+ReplaySays k d (ends.Shown text) = ⊥
+ReplaySays k d o = CheckSays k d o
 
--- what their inputs name: that, or a journal that is that of a run, with its entries or with what is shown of it
-abbrev pub ReplayNames : RunNames → Seen → Outcome → Type 0
-ReplayNames k d (ends.Legal entries) = CheckSays k d (ends.Legal entries)
-ReplayNames k d o = CheckNames k d o
-
-abbrev pub ShowNames : RunNames → Seen → Outcome → Type 0
-ShowNames k d (ends.Shown text) = CheckSays k d (ends.Shown text)
-ShowNames k d o = CheckNames k d o
+-- the same of `show`, which has no outputs
+abbrev pub ShowSays : RunNames → Seen → Outcome → Type 0
+ShowSays k d (ends.Legal entries) = ⊥
+ShowSays k d (ends.WrongOutput port at) = ⊥
+ShowSays k d o = CheckSays k d o
 
 -- the outcome that the inputs of a command name
 abbrev pub Says : Command → Seen → Outcome → Type 0
 Says (Run k) d outcome = RunSays k d outcome
-Says (Replay k) d outcome = ReplayNames k d outcome
-Says (Show k) d outcome = ShowNames k d outcome
+Says (Replay k) d outcome = ReplaySays k d outcome
+Says (Show k) d outcome = ShowSays k d outcome
 Says (Convert k) d outcome = (bytes : List ℕ) × (d.file k.from ≡ Some bytes) × (outcome ≡ ended_by (ng_read LIMITS bytes))
 Says (Migrate k) d outcome = (bytes : List ℕ) × (d.file k.from ≡ Some bytes) × MigrateSays bytes outcome
 Says (Make k) d outcome = outcome ≡ ends.Made LOAD

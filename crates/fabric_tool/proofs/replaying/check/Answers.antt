@@ -16,7 +16,7 @@ heads_of-requires-clause-bytes g c = let r = c.requires.room in let few = (ports
 pub returns-in-Err : goal.returns-in-Err
 returns-in-Err g c =
     let seen = g.D.Depot.seen in
-    record { checks = λ a given. heads_ended c.args.width c.args.words.now c.requires.ports c.args.config c.args.journal.now a (seen c.args.depot.now) given (seen c.heads_of.new.depot) _ _ c.in-Err.outcome c.in-Err.ensures.reads }
+    record { checks = λ a given. heads_ended c.args.width c.args.words.now c.requires.ports c.args.config c.args.journal.now a (seen c.args.depot.now) given c.requires.room (seen c.heads_of.new.depot) _ _ c.in-Err.outcome c.in-Err.ensures.reads }
 
 pub returns-in-Err-outs_of : goal.returns-in-Err-outs_of
 returns-in-Err-outs_of g c =
