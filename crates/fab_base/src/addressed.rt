@@ -1,7 +1,4 @@
 //! Items that have an address.
-ghost use Rattle.std.specs.Prelude.{◌≡◌, option_copied};
-ghost use Rattle.fab_base.specs.Keyed.{item_at};
-
 use crate::FcId;
 
 /// What has an address, by which a list may ascend.
@@ -13,11 +10,4 @@ pub trait HasAddress {
 
     fn address(&self) -> FcId
         ensures { result ≡ address_of self.now };
-}
-
-/// The first item at an address, in a list in any order.
-pub fn find_at<T: HasAddress>(items: &[T], address: FcId) -> Option<&T>
-    ensures { option_copied result ≡ item_at T.address_of address items.now }
-{
-    items.iter().find(|item| item.address() == address)
 }

@@ -15,7 +15,7 @@ mod texts;
 mod values;
 mod whole;
 
-pub use addressed::{HasAddress, find_at};
+pub use addressed::HasAddress;
 pub use append::{append_made, append_reserved, put};
 pub use depot::Depot;
 pub use desk::{Desk, DeskSlot, word_at};
