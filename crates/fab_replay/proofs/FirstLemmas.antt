@@ -20,11 +20,9 @@ use Rattle.fab_policy.specs.declared.line.Line.TheVariants.{Frame}
 use Rattle.fab_policy.specs.declared.verdict.Verdict.{Verdict}
 use Rattle.fab_policy.proofs.SpellingLemmas.{line_once}
 use Rattle.fab_gather.proofs.WindowLemmas.{window_start-mono}
-use Rattle.pcap_file.proofs.lemmas.Chains.{found_stands, go_on}
+use Rattle.pcap_file.proofs.lemmas.Chains.{ascends_on}
 use Rattle.pcap_file.proofs.lemmas.Numbers.{le_or_lt}
-use Rattle.pcap_file.specs.Capture.{Next, Found, End, CutHead, TooLong, CutBytes, next, records_from}
 use Rattle.pcap_file.specs.Records.{Ascends}
-use Rattle.pcap_file.specs.declared.CaptureHead.{CaptureHead}
 use Rattle.pcap_file.specs.declared.Record.{Record}
 use Rattle.fab_replay.specs.AllOutputs.{IsFirst}
 use Rattle.fab_replay.specs.Exact.{IsSameWhy}
@@ -119,18 +117,6 @@ module _ (c : Settings) (ins : List (List Record)) (stop : Option Stop) (text : 
 
 -- ---- the frames behind all that a stop keeps
 
--- the moments of a capture don't go back
-ascends_found : (n : ℕ) (h : CaptureHead) (g : ℕ) (l : List ℕ) (x : Next) → ((m : ℕ) (k : List ℕ) → Ascends m (records_from n h m k)) → next h g l ≡ x → Ascends g (go_on n h x)
-ascends_found n h g l (Found moment caught rest) more e = ((found_stands h g l moment caught rest e).onward, more moment rest)
-ascends_found n h g l End more e = tt
-ascends_found n h g l CutHead more e = tt
-ascends_found n h g l (TooLong len) more e = tt
-ascends_found n h g l (CutBytes len) more e = tt
-
-ascends_from : (n : ℕ) (h : CaptureHead) (g : ℕ) (l : List ℕ) → Ascends g (records_from n h g l)
-ascends_from zero h g l = tt
-ascends_from (suc n) h g l = ascends_found n h g l (next h g l) (λ m k. ascends_from n h m k) refl
-
 module _ (c : Settings) (v : ℕ) where
   abbrev is_early : Record → Bool
   is_early r = nat_lt (window_start c r.moment) v
@@ -182,7 +168,7 @@ module _ (c : Settings) (opened : List Opened) (at : Stop) (J : Journal) (all : 
       let held = holds_at J 1 q port (all_kept c at (all_records opened)) (kept c (Some at) records) all (slice_get-map (kept c (Some at)) (all_records opened) q ∙ ap (option_map (kept c (Some at))) there) e in
       let size : length (of_port port J) ≡ length (filter (is_early c v) records) = ap length held ∙ length-numbered 0 (kept c (Some at) records) ∙ ap (λ (w : Option ℕ). length (kept_in c w records)) is in
       let on = more_frames port J more in
-      from_early c v records 0 (length (of_port port (followed J more))) (subst (Ascends 0) o.1 (ascends_from (suc (length o.0.body)) o.0.head 0 o.0.body)) (omega (arith, size, on))
+      from_early c v records 0 (length (of_port port (followed J more))) (subst (Ascends 0) o.1 (ascends_on (suc (length o.0.body)) o.0.head 0 o.0.body)) (omega (arith, size, on))
 
   -- none of a window before the stop is left
   none_early : (w : ℕ) → IsTrue (list_any (λ m. eqb m w) (windows_left c 1 (all_records opened) (followed J more))) → IsFrom (w + 1) at.window → ⊥

@@ -161,7 +161,7 @@ ascends_go n h g l CutHead more e = tt
 ascends_go n h g l (TooLong len) more e = tt
 ascends_go n h g l (CutBytes len) more e = tt
 
-ascends_on : (n : ℕ) (h : CaptureHead) (g : ℕ) (l : List ℕ) → Ascends g (records_from n h g l)
+pub ascends_on : (n : ℕ) (h : CaptureHead) (g : ℕ) (l : List ℕ) → Ascends g (records_from n h g l)
 ascends_on zero h g l = tt
 ascends_on (suc n) h g l = ascends_go n h g l (next h g l) (λ m k. ascends_on n h m k) refl
 
