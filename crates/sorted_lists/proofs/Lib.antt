@@ -3,3 +3,4 @@ pub mod IndexLemmas
 pub mod EnodeLemmas
 pub mod OrderLemmas
 pub mod PlacingLemmas
+pub mod ReachLemmas

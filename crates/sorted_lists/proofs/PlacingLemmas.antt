@@ -13,7 +13,8 @@ use Rattle.fab_base.proofs.SamenessLemmas.{unwrap_or-position, position_or_len-h
 use Rattle.sorted_lists.specs.Orders.{seen, is_among, AreThere, AreSorted, IsOrder, IsOrderBut}
 use Rattle.sorted_lists.proofs.IndexLemmas.{none_some, some_same, equal, unequal, differs}
 use Rattle.sorted_lists.proofs.OrderLemmas.{or_left, or_right, itself, some_is, is_some_of, length-seen, seen-drop, seen-at, seen-head, among-from, absent-item}
-use Rattle.sorted_lists.proofs.SearchLemmas.{place_of, position-there, position-past, position-other, place-within, find-from}
+use Rattle.sorted_lists.specs.Reach.{place_of}
+use Rattle.sorted_lists.proofs.SearchLemmas.{position-there, position-past, position-other, place-within, find-from}
 
 among_at : (places : List ℕ) (i : ℕ) → i < length places → IsTrue (is_among (get_or places i 0) places)
 among_at places i within = list_any_at (λ q. q == get_or places i 0) places i 0 within (itself (get_or places i 0))

@@ -1,3 +1,4 @@
 pub mod Index
 pub mod Enodes
 pub mod Orders
+pub mod Reach

@@ -1,16 +1,19 @@
 //! Lists that ascend by address: where an item stands, or would stand, by halving.
 #![tactic(auto)]
 
-ghost use Rattle.std.specs.Prelude.{◌≡◌, ◌==◌, ◌≤◌, nat_lt, nat_le, length, position, option_copied, unwrap_or};
+ghost use Rattle.std.specs.Prelude.{◌≡◌, ◌==◌, ◌<◌, ◌≤◌, nat_lt, nat_le, length, position, option_copied, unwrap_or};
 ghost use Rattle.fab_base.specs.Keyed.{item_at, AscendFrom};
+ghost use Rattle.sorted_lists.specs.Reach.{place_of};
 
 mod enode;
 mod orders;
+mod quarters;
 mod ranked;
 
 pub use enode::enode_number;
 use fab_base::{FcId, HasAddress};
 pub use orders::{Order, order_find, order_from, order_next, order_put, order_take};
+use quarters::reach;
 pub use ranked::{
     HasRank, rank_above, rank_at, rank_find, rank_from, rank_next, rank_put, rank_take,
 };
@@ -22,16 +25,21 @@ pub fn place_from<T: HasAddress>(items: &[T], from: u32) -> usize
         (length items.now) }
     ensures within { result ≤ length items.now }
 {
-    let mut start = 0;
-    let mut left = items.len();
-    while left > 0 {
-        let half = left / 2;
-        let middle = start + half;
-        let is_below = items[middle].address().value() < from;
-        start = if is_below { middle + 1 } else { start };
-        left = if is_below { left - half - 1 } else { half };
-    }
-    start
+    reach(
+        items.len(),
+        |at|
+            requires { AscendFrom T.address_of 0 items.now × at < length items.now }
+        { is_below(items, from, at) },
+    )
+}
+
+// The item at a place is below the bound.
+fn is_below<T: HasAddress>(items: &[T], from: u32, at: usize) -> bool
+    requires ascend { AscendFrom T.address_of 0 items.now }
+    requires inside { at < length items.now }
+    ensures { result ≡ nat_lt at (place_of T.address_of from items.now) }
+{
+    items[at].address().value() < from
 }
 
 /// The place of the first item above the address, or past the end.

@@ -1,9 +1,11 @@
 //! Lists of places of a slab, in the order of a number of the records there.
-ghost use Rattle.std.specs.Prelude.{◌≡◌, ◌==◌, ◌+◌, ◌<◌, ◌^◌, ◌≤◌, nat_le, length, position, unwrap_or, option_copied, None, Some, IfSome, IfNone, IsSome, IsTrue, vec_capacity, find};
+ghost use Rattle.std.specs.Prelude.{◌≡◌, ◌==◌, ◌+◌, ◌<◌, ◌^◌, ◌≤◌, nat_le, nat_lt, length, position, unwrap_or, option_copied, None, Some, IfSome, IfNone, IsSome, IsTrue, vec_capacity, find};
 ghost use Rattle.fab_base.specs.Keyed.{item_at, added, without};
 ghost use Rattle.slab.specs.Slab.{get};
+ghost use Rattle.sorted_lists.specs.Reach.{place_of};
 ghost use Rattle.sorted_lists.specs.Orders.{seen, is_among, AreSorted, IsOrder, IsOrderBut};
 
+use crate::quarters::reach;
 use slab::Slab;
 
 /// An order of records: the number by which they ascend.
@@ -30,16 +32,29 @@ pub fn order_from<T, O: Order<T>>(
         (length places.now) }
     ensures within { result ≤ length places.now }
 {
-    let mut start = 0;
-    let mut left = places.len();
-    while left > 0 {
-        let half = left / 2;
-        let middle = start + half;
-        let is_below = order.number(&records[places[middle]]) < from;
-        start = if is_below { middle + 1 } else { start };
-        left = if is_below { left - half - 1 } else { half };
-    }
-    start
+    reach(
+        places.len(),
+        |at|
+            requires { AreSorted (O.number_of order.now) records.now places.now
+                × at < length places.now }
+        { is_below(order, records, places, from, at) },
+    )
+}
+
+// The record at a place of the list is below the bound.
+fn is_below<T, O: Order<T>>(
+    order: &O,
+    records: &Slab<T>,
+    places: &[usize],
+    from: u128,
+    at: usize,
+) -> bool
+    requires sorted { AreSorted (O.number_of order.now) records.now places.now }
+    requires inside { at < length places.now }
+    ensures { result
+        ≡ nat_lt at (place_of (O.number_of order.now) from (seen records.now places.now)) }
+{
+    order.number(&records[places[at]]) < from
 }
 
 /// The first record whose number isn't below the bound.

@@ -1,6 +1,9 @@
 //! Lists that ascend by a number of their items, where it isn't an address.
 ghost use Rattle.std.specs.Prelude.{◌≡◌, ◌==◌, ◌+◌, ◌<◌, ◌^◌, ◌≤◌, nat_lt, nat_le, length, position, unwrap_or, option_copied, None, vec_capacity, find};
 ghost use Rattle.fab_base.specs.Keyed.{AscendFrom, item_at, added, without};
+ghost use Rattle.sorted_lists.specs.Reach.{place_of};
+
+use crate::quarters::reach;
 
 /// What has a number by which it is sorted.
 pub trait HasRank {
@@ -20,16 +23,21 @@ pub fn rank_from<T: HasRank>(items: &[T], from: u128) -> usize
         (length items.now) }
     ensures within { result ≤ length items.now }
 {
-    let mut start = 0;
-    let mut left = items.len();
-    while left > 0 {
-        let half = left / 2;
-        let middle = start + half;
-        let is_below = items[middle].rank() < from;
-        start = if is_below { middle + 1 } else { start };
-        left = if is_below { left - half - 1 } else { half };
-    }
-    start
+    reach(
+        items.len(),
+        |at|
+            requires { AscendFrom T.rank_of 0 items.now × at < length items.now }
+        { is_below(items, from, at) },
+    )
+}
+
+// The item at a place is below the bound.
+fn is_below<T: HasRank>(items: &[T], from: u128, at: usize) -> bool
+    requires ascend { AscendFrom T.rank_of 0 items.now }
+    requires inside { at < length items.now }
+    ensures { result ≡ nat_lt at (place_of T.rank_of from items.now) }
+{
+    items[at].rank() < from
 }
 
 /// The place of the first item above the rank, or past the end.

@@ -1,6 +1,7 @@
 use Rattle.std.proofs.Common.{◌≡◌, ℕ, ◌∙◌, ◌==◌, Bool, true, false, not, ap, sym, refl, arith}
 use Rattle.fab_base.proofs.SamenessLemmas.{unwrap_or-position}
-use Rattle.sorted_lists.proofs.SearchLemmas.{place_of, position-there, position-past, position-other}
+use Rattle.sorted_lists.specs.Reach.{place_of}
+use Rattle.sorted_lists.proofs.SearchLemmas.{position-there, position-past, position-other}
 use Rattle.sorted_lists.proofs.place_at.Goals as goal
 
 is_not : (b : Bool) → not b ≡ true → b ≡ false
