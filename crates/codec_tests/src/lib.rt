@@ -20,8 +20,6 @@ mod fip;
 #[cfg(test)]
 mod frames;
 #[cfg(test)]
-mod one_file;
-#[cfg(test)]
 mod pcap;
 #[cfg(test)]
 mod pcapng;

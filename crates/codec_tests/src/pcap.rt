@@ -1,11 +1,17 @@
 //! Captures as bytes in a depot of one input, whose fetches give a few bytes each.
 ghost use Rattle.std.specs.Prelude.{◌≡◌, IfOk, vec_len};
 
-use crate::one_file::{AMPLE, OneFile};
 use fab_base::{Depot, Moment};
+use open_files::OpenFiles;
 use pcap_file::*;
 use std::alloc::{AllocError, Global};
 use std::test::Fail;
+
+/// More than any file here has.
+pub(crate) const AMPLE: Budget = Budget {
+    bytes: 1_073_741_824,
+    frames: 200_000,
+};
 
 const LITTLE: [u8; 24] = [
     0xd4, 0xc3, 0xb2, 0xa1, 2, 0, 4, 0, 0, 0, 0, 0, 0, 0, 0, 0, 0xff, 0xff, 0, 0, 1, 0, 0, 0,
@@ -68,11 +74,7 @@ fn big_endian_nanoseconds(rt: HostRuntime) -> Result<(), Fail> {
     ])?;
     bytes.extend_from_slice(&[0, 0, 1, 1, 0, 0, 0, 0, 0, 0, 0, 1, 0, 0, 0, 100, 5])?;
     for step in [1, 7, 5000] {
-        let mut depot = OneFile {
-            bytes: &bytes,
-            step,
-            fetches: 0,
-        };
+        let mut depot = OpenFiles::one(&bytes, step);
         let mut budget = AMPLE;
         let mut reader = Reader::open(&mut depot, 0, &mut budget)?;
         let first = reader
@@ -114,11 +116,7 @@ fn the_longest_record_is_read(rt: HostRuntime) -> Result<(), Fail> {
     bytes.extend_from_slice(&LITTLE)?;
     bytes.extend_from_slice(&[1, 0, 0, 0, 0, 0, 0, 0, 255, 255, 0, 0, 255, 255, 0, 0])?;
     bytes.extend_from_slice(&stored)?;
-    let mut depot = OneFile {
-        bytes: &bytes,
-        step: 5000,
-        fetches: 0,
-    };
+    let mut depot = OpenFiles::one(&bytes, 5000);
     let mut budget = AMPLE;
     let mut reader = Reader::open(&mut depot, 0, &mut budget)?;
     let record = reader
@@ -167,11 +165,7 @@ fn the_first_fault_is_told_and_kept(rt: HostRuntime) -> Result<(), Fail> {
         let mut capture = Vec::new(alloc);
         capture.extend_from_slice(&LITTLE)?;
         capture.extend_from_slice(tail.get(..given).ok_or("short")?)?;
-        let mut depot = OneFile {
-            bytes: &capture,
-            step: 5000,
-            fetches: 0,
-        };
+        let mut depot = OpenFiles::one(&capture, 5000);
         let mut budget = Budget {
             bytes: 24 + bytes,
             frames,
@@ -181,12 +175,12 @@ fn the_first_fault_is_told_and_kept(rt: HostRuntime) -> Result<(), Fail> {
             reader.next(alloc, &mut depot, 0, &mut budget).err(),
             Some(want)
         );
-        let fetches = depot.fetches;
+        let fetches = depot.made();
         assert_eq!(rt;
             reader.next(alloc, &mut depot, 0, &mut budget).err(),
             Some(want)
         );
-        assert_eq!(rt; depot.fetches, fetches);
+        assert_eq!(rt; depot.made(), fetches);
         assert_eq!(rt; budget, Budget { bytes, frames });
     }
     Ok(())
@@ -194,11 +188,7 @@ fn the_first_fault_is_told_and_kept(rt: HostRuntime) -> Result<(), Fail> {
 
 #[test]
 fn a_small_budget_is_told_before_a_fetch(rt: HostRuntime) {
-    let mut depot = OneFile {
-        bytes: &LITTLE,
-        step: 5000,
-        fetches: 0,
-    };
+    let mut depot = OpenFiles::one(&LITTLE, 5000);
     let mut budget = Budget {
         bytes: 23,
         frames: 1,
@@ -207,9 +197,9 @@ fn a_small_budget_is_told_before_a_fetch(rt: HostRuntime) {
         Reader::open(&mut depot, 0, &mut budget).err(),
         Some(CapOpen::Bytes)
     );
-    assert_eq!(rt; depot.fetches, 0);
+    assert_eq!(rt; depot.made(), 0);
     budget.bytes = 24;
-    depot.bytes = &LITTLE[1..];
+    depot.first = &LITTLE[1..];
     assert_eq!(rt;
         Reader::open(&mut depot, 0, &mut budget).err(),
         Some(CapOpen::Head(CapFault::Short))
@@ -231,11 +221,7 @@ fn one_fetch_serves_many_records(rt: HostRuntime) -> Result<(), Fail> {
     for second in 0..100 {
         write_record(alloc, Moment(second * 1000), &[1, 2, 3], &mut bytes)?;
     }
-    let mut depot = OneFile {
-        bytes: &bytes,
-        step: 5000,
-        fetches: 0,
-    };
+    let mut depot = OpenFiles::one(&bytes, 5000);
     let mut budget = AMPLE;
     let mut reader = Reader::open(&mut depot, 0, &mut budget)?;
     for second in 0..100 {
@@ -245,7 +231,7 @@ fn one_fetch_serves_many_records(rt: HostRuntime) -> Result<(), Fail> {
         assert_eq!(rt; record.moment, Moment(second * 1000));
     }
     assert!(rt; reader.next(alloc, &mut depot, 0, &mut budget)?.is_none());
-    assert_eq!(rt; depot.fetches, 2);
+    assert_eq!(rt; depot.made(), 2);
     Ok(())
 }
 

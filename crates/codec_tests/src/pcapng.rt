@@ -1,6 +1,7 @@
 //! Files as bytes in a depot of one input, whose fetches give a few bytes each.
-use crate::one_file::{AMPLE, OneFile};
+use crate::pcap::AMPLE;
 use fab_base::{MemDepot, Moment, word_at};
+use open_files::OpenFiles;
 use pcap_file::Budget;
 use pcapng_file::*;
 use std::alloc::{AllocError, Global};
@@ -48,11 +49,7 @@ fn read(
     step: usize,
     budget: &mut Budget,
 ) -> Result<NgRecords, NgError> {
-    let mut depot = OneFile {
-        bytes,
-        step,
-        fetches: 0,
-    };
+    let mut depot = OpenFiles::one(bytes, step);
     read_ng(alloc, &mut depot, 0, budget)
 }
 

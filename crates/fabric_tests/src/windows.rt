@@ -1,66 +1,16 @@
 //! Two captures in a depot whose fetches give a few bytes each, taken window by window.
-ghost use Rattle.std.specs.Prelude.{◌≡◌, [], ◌∷◌, false, true, None, ◌^◌, ◌-◌, ◌+◌, ◌<◌, ◌≤◌, length};
+ghost use Rattle.std.specs.Prelude.{◌≡◌, [], ◌∷◌, ◌^◌, ◌+◌, ◌<◌, ◌≤◌, length};
 ghost use Rattle.fab_gather.specs.First.{IsFresh};
 ghost use Rattle.fab_gather.specs.Ports.{AreReady, slots_of};
 
 use crate::settings::settings;
-use fab_base::{Bytes, Depot, Failed, Moment, NoMemory, PortNo};
+use fab_base::{Bytes, Moment, NoMemory, PortNo};
 use fab_config::Config;
 use fab_gather::*;
+use open_files::OpenFiles;
 use pcap_file::{Budget, Reader, write_head, write_record};
 use std::alloc::Global;
 use std::test::Fail;
-
-// Captures on slots 0 and 1, all open, of which the depot tells nothing. A fetch fails once so many
-// were made.
-#[derive(Drop)]
-struct Captures<'a> {
-    first: &'a [u8],
-    second: &'a [u8],
-    fetches: usize,
-}
-
-impl<'a> Depot for Captures<'a> {
-    ghost seen = { λ _. record {
-      told = false;
-      knows = λ _. true;
-      input = λ _. true;
-      output = λ _. true;
-      name = λ s. s ∷ [];
-      file = λ _. None;
-      left = λ _. [];
-      read_faults = λ _. 2 ^ 64 - 1;
-      write_faults = λ _. 2 ^ 64 - 1;
-    } };
-
-    fn open_in(&mut self, _name: &str) -> Result<u32, Failed> {
-        Err(Failed)
-    }
-
-    fn open_out(&mut self, _name: &str) -> Result<u32, Failed> {
-        Err(Failed)
-    }
-
-    fn fetch(&mut self, slot: u32, into: &mut [u8]) -> Result<usize, Failed> {
-        if self.fetches == 0 {
-            return Err(Failed);
-        }
-        self.fetches -= 1;
-        let bytes = if slot == 0 { self.first } else { self.second };
-        let count = into.len().min(7).min(bytes.len());
-        into[..count].copy_from_slice(&bytes[..count]);
-        if slot == 0 {
-            self.first = &bytes[count..];
-        } else {
-            self.second = &bytes[count..];
-        }
-        Ok(count)
-    }
-
-    fn put(&mut self, _slot: u32, _from: &[u8]) -> Result<usize, Failed> {
-        Err(Failed)
-    }
-}
 
 // A capture with one byte at each of these moments.
 fn capture(alloc: Global, moments: &[u32]) -> Result<Vec<u8>, NoMemory> {
@@ -78,7 +28,7 @@ type Come = (u64, usize, u64);
 // The records of two captures as their windows come.
 fn windows(
     alloc: Global,
-    depot: &mut Captures<'_>,
+    depot: &mut OpenFiles<'_>,
     config: &Config,
     first: Reader,
     second: Reader,
@@ -104,7 +54,7 @@ fn windows(
 // The same behind the first looks.
 fn all_windows(
     alloc: Global,
-    depot: &mut Captures<'_>,
+    depot: &mut OpenFiles<'_>,
     config: &Config,
     ins: &mut [Input],
     shelves: &mut [Shelf],
@@ -140,13 +90,14 @@ fn gathered(
     alloc: Global,
     first: &[u8],
     second: &[u8],
-    fetches: usize,
+    fetches: u64,
     frames: u64,
 ) -> Result<Result<Vec<Come>, RunFault>, Fail> {
     let config = settings(alloc);
-    let mut depot = Captures {
+    let mut depot = OpenFiles {
         first,
         second,
+        step: 7,
         fetches: 8,
     };
     let mut budget = Budget {

@@ -1,53 +1,13 @@
 //! Rows as they are printed, and outputs whose depot gives a few bytes at once.
-ghost use Rattle.std.specs.Prelude.{◌∷◌, [], None, false, true, ◌^◌, ◌-◌};
-
 use ct_messages::TypeMap;
-use fab_base::{Depot, Enode, Failed, FcId, Mac, Moment, PortNo, Wwn};
+use fab_base::{Enode, Failed, FcId, Mac, Moment, PortNo, Wwn};
 use fab_replay::{Compared, Row, write_row};
+use open_files::OpenFiles;
 use std::test::Fail;
-
-// One open output, of which the depot tells nothing.
-#[derive(Drop)]
-struct Output<'a> {
-    left: &'a [u8],
-}
-
-impl<'a> Depot for Output<'a> {
-    ghost seen = { λ _. record {
-      told = false;
-      knows = λ _. true;
-      input = λ _. true;
-      output = λ _. true;
-      name = λ s. s ∷ [];
-      file = λ _. None;
-      left = λ _. [];
-      read_faults = λ _. 2 ^ 64 - 1;
-      write_faults = λ _. 2 ^ 64 - 1;
-    } };
-
-    fn open_in(&mut self, _name: &str) -> Result<u32, Failed> {
-        Err(Failed)
-    }
-
-    fn open_out(&mut self, _name: &str) -> Result<u32, Failed> {
-        Err(Failed)
-    }
-
-    fn fetch(&mut self, _slot: u32, into: &mut [u8]) -> Result<usize, Failed> {
-        let count = into.len().min(3).min(self.left.len());
-        into[..count].copy_from_slice(&self.left[..count]);
-        self.left = &self.left[count..];
-        Ok(count)
-    }
-
-    fn put(&mut self, _slot: u32, _from: &[u8]) -> Result<usize, Failed> {
-        Err(Failed)
-    }
-}
 
 // An output against two pieces.
 fn compared(found: &[u8], first: &[u8], second: &[u8]) -> Result<Option<u64>, Failed> {
-    let mut depot = Output { left: found };
+    let mut depot = OpenFiles::one(found, 3);
     let mut output = Compared::new();
     output.feed(&mut depot, 0, first)?;
     output.feed(&mut depot, 0, second)?;
