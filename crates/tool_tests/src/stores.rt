@@ -278,14 +278,14 @@ impl Depot for Counter {
     }
 }
 
-// A capture of so many solicitations, one in each window. Each answer has 2176 bytes.
-fn solicitations(alloc: Global, count: u64) -> Result<Vec<u8>, Fail> {
+/// A capture of so many solicitations, so many milliseconds apart. Each answer has 2176 bytes.
+pub(crate) fn solicitations(alloc: Global, count: u64, apart: u64) -> Result<Vec<u8>, Fail> {
     let worked = worked_of(alloc, &["> 1000 1 solicitation 0a"])?;
     let frame = worked.frames.first().ok_or("a frame")?;
     let mut capture = Vec::new(alloc);
     capture.extend_from_slice(&HEAD)?;
-    for window in 0..count {
-        put_record(&mut capture, window.saturating_mul(100), &frame.bytes)?;
+    for index in 0..count {
+        put_record(&mut capture, index.saturating_mul(apart), &frame.bytes)?;
     }
     Ok(capture)
 }
@@ -293,7 +293,7 @@ fn solicitations(alloc: Global, count: u64) -> Result<Vec<u8>, Fail> {
 #[test]
 fn windows_are_read_as_they_come(rt: HostRuntime) -> Result<(), Fail> {
     let alloc = rt.alloc();
-    let capture = solicitations(alloc, 300)?;
+    let capture = solicitations(alloc, 300, 100)?;
     let mut depot = MemDepot::new(alloc)?;
     depot.store(alloc, "K", &CONFIG)?;
     depot.store(alloc, "A", &capture)?;

@@ -1,5 +1,7 @@
-//! Two ports in one window, each with a worker of its own, under gates that hold them.
-use crate::commands::{CONFIG, REQUEST, TWO_PORTS, depot_of, words_in};
+//! Two ports in one window, each with a worker of its own under gates that hold them, and with an
+//! encoder of its own where much is sent.
+use crate::commands::{CONFIG, HEAD, REQUEST, TWO_PORTS, depot_of, runs, words_in};
+use crate::stores::solicitations;
 use crate::worked::capture_of;
 use fab_base::{FcId, Gate, MemDepot, MemSink, PortNo};
 use fabric_tool::fabric_tool;
@@ -194,4 +196,27 @@ fn second_of_the_other_port(rt: HostRuntime) -> Result<(), Fail> {
     let journal = "journal 2\n1000 tick\n1000 1 0 granted 010100\n\
         1000 2 0 granted 010101\n1000 2 1 vlans\n1000 1 1 vlans\n";
     is_forced(&rt, rt.alloc(), 1, journal, [0x010100, 0x010101])
+}
+
+// A hundred solicitations on each of two ports, in one window.
+fn two_hundred(alloc: Global) -> Result<MemDepot, Fail> {
+    let capture = solicitations(alloc, 100, 0)?;
+    Ok(depot_of(alloc, &CONFIG, &capture, &capture)?)
+}
+
+// What the window sends is more than 262,144 bytes, so a thread encodes the records of each port.
+#[test]
+fn records_of_two_ports_at_once(rt: HostRuntime) -> Result<(), Fail> {
+    let alloc = rt.alloc();
+    let mut depot = two_hundred(alloc)?;
+    depot.know(alloc, "replay")?;
+    let line = b"frames 200 entries 201\n";
+    runs(&rt, alloc, &TWO_PORTS, &mut depot, line, 0)?;
+    for name in ["OUT", "OUT2"] {
+        let length = depot.content(name).unwrap_or(&[]).len();
+        assert_eq!(rt; length, HEAD.len() + 100 * (16 + 2176));
+    }
+    let replay = ["replay", "K", "J", "IN", "OUT", "IN2", "OUT2"];
+    runs(&rt, alloc, &replay, &mut depot, b"legal 201\n", 0)?;
+    Ok(())
 }
