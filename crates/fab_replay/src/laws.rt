@@ -18,9 +18,9 @@ pub(crate) fn laws_of_windows()
 }
 
 /// The answers of a check exclude each other: at most one holds of a text, its captures and its
-/// outputs, so the fault that is told is the first. Where a text names a run over whole captures and
-/// the outputs are what the run sends, no fault of a line, of a capture, of a limit or of an output
-/// is told, and the text names no other run.
+/// outputs, so the fault that is told is the first. Where a text names a run over whole captures
+/// and the outputs are what the run sends, no fault of a line, of a capture, of a limit or of an
+/// output is told, and the text names no other run.
 pub fn faults_are_exact()
     ensures exact { AnswerIsOne }
     ensures one { RunIsOne }

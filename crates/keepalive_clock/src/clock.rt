@@ -1,5 +1,5 @@
-//! The clock: voices with their last moments, each at a place of its own, and the places by voice and
-//! by deadline.
+//! The clock: voices with their last moments, each at a place of its own, and the places by voice
+//! and by deadline.
 ghost use Rattle.std.specs.Prelude.{◌≡◌, ℕ, ◌+◌, ◌<◌, ◌≤◌, ◌^◌, ◌⊎◌, if◌then◌else◌, length, IfOk, IfSome, MatchOption, IfNone, Some, None, [], ◌∷◌, IsTrue, is_some, OnSome, ◌↔◌, IsPermutation};
 ghost use Rattle.keepalive_clock.specs.Voices.{same_voice};
 ghost use Rattle.keepalive_clock.specs.Clock.{last_of, count_with, without, HearsVoice, ForgetsVoice, KeepsLimits, IsSound};

@@ -66,13 +66,13 @@ pub(crate) fn hear_again(
     place: usize,
     now: Moment,
 )
-    requires order { IsOrder (deadline_number order.now.node_period order.now.port_period) records.old
-        by_due.old.items }
+    requires order { IsOrder (deadline_number order.now.node_period order.now.port_period)
+        records.old by_due.old.items }
     requires there { IsSome (get records.old place) }
     requires apart { HasOwnDue order.now.node_period order.now.port_period place now records.old
         by_due.old.items }
-    ensures order { IsOrder (deadline_number order.now.node_period order.now.port_period) records.new
-        by_due.new.items }
+    ensures order { IsOrder (deadline_number order.now.node_period order.now.port_period)
+        records.new by_due.new.items }
     ensures updates { (x : LastHeard) → get records.old place ≡ Some x
         → Updates records.old records.new place (Some (heard_again now x)) }
     ensures len { slab_len records.new ≡ slab_len records.old }
@@ -91,8 +91,8 @@ fn take_out(
     place: usize,
     now: Moment,
 )
-    requires order { IsOrder (deadline_number order.now.node_period order.now.port_period) records.old
-        by_due.old.items }
+    requires order { IsOrder (deadline_number order.now.node_period order.now.port_period)
+        records.old by_due.old.items }
     requires there { IsSome (get records.old place) }
     requires apart { HasOwnDue order.now.node_period order.now.port_period place now records.old
         by_due.old.items }

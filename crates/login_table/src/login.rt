@@ -1,5 +1,5 @@
 //! One login.
-use fab_base::{Enode, FcId, HasAddress, Wwn};
+use fab_base::{Enode, FcId, Wwn};
 
 /// A live login: the N_Port_ID that was granted, the names of the N_Port and its node, and the
 /// ENode behind which it is.
@@ -11,12 +11,4 @@ pub struct Login {
     pub enode: Enode,
     /// The receive size at the name server, in bytes; none while there is no login to it.
     pub server_size: Option<u16>,
-}
-
-impl HasAddress for Login {
-    ghost address_of = { λ l. l.address };
-
-    fn address(&self) -> FcId {
-        self.address
-    }
 }

@@ -28,8 +28,8 @@ pub fn order_from<T, O: Order<T>>(
 ) -> usize
     requires { AreSorted (O.number_of order.now) records.now places.now }
     ensures place { result
-        ≡ unwrap_or (position (λ x. nat_le from (O.number_of order.now x)) (seen records.now places.now))
-        (length places.now) }
+        ≡ unwrap_or (position (λ x. nat_le from (O.number_of order.now x))
+        (seen records.now places.now)) (length places.now) }
     ensures within { result ≤ length places.now }
 {
     reach(
@@ -88,8 +88,8 @@ pub fn order_find<T, O: Order<T>>(
         ≡ item_at (O.number_of order.now) number (seen records.now places.now)) }
     ensures there { IfSome result (λ place. IsSome (get records.now place)) }
     ensures among { IfSome result (λ place. IsTrue (is_among place places.now)) }
-    ensures none { IfNone result (item_at (O.number_of order.now) number (seen records.now places.now)
-        ≡ None) }
+    ensures none { IfNone result (item_at (O.number_of order.now) number
+        (seen records.now places.now) ≡ None) }
 {
     let start = order_from(order, records, places, number);
     if start == places.len() {
@@ -111,8 +111,8 @@ pub fn order_put<T, O: Order<T>>(
 )
     requires but { IsOrderBut (O.number_of order.now) place records.now places.old.items }
     requires absent { (x : T) → get records.now place ≡ Some x
-        → item_at (O.number_of order.now) (O.number_of order.now x) (seen records.now places.old.items)
-        ≡ None }
+        → item_at (O.number_of order.now) (O.number_of order.now x)
+        (seen records.now places.old.items) ≡ None }
     requires room { length places.old.items < vec_capacity places.old }
     ensures order { IsOrder (O.number_of order.now) records.now places.new.items }
     ensures items { (x : T) → get records.now place ≡ Some x → seen records.now places.new.items
@@ -136,7 +136,8 @@ pub fn order_take<T, O: Order<T>>(
     requires there { IsSome (get records.now place) }
     ensures but { IsOrderBut (O.number_of order.now) place records.now places.new.items }
     ensures items { (x : T) → get records.now place ≡ Some x → seen records.now places.new.items
-        ≡ without (O.number_of order.now) (O.number_of order.now x) (seen records.now places.old.items) }
+        ≡ without (O.number_of order.now) (O.number_of order.now x)
+        (seen records.now places.old.items) }
     ensures capacity { vec_capacity places.new ≡ vec_capacity places.old }
 {
     let start = order_from(order, records, places, order.number(&records[place]));

@@ -27,7 +27,8 @@ fn skip_quarters<F: Fn(usize) -> bool>(holds: &F, start: usize, step: usize) -> 
     ensures from { (count n : ℕ) → HoldsUpTo (F.post holds.now) count n → start + 3 * step < count
         → start ≤ n → result ≤ n }
     ensures to { (count n left : ℕ) → HoldsUpTo (F.post holds.now) count n
-        → start + 3 * step < count → 4 * step ≤ left → n ≤ start + left → n + 3 * step ≤ result + left }
+        → start + 3 * step < count → 4 * step ≤ left → n ≤ start + left
+        → n + 3 * step ≤ result + left }
 {
     let first = holds(start + step);
     let second = holds(start + 2 * step);

@@ -89,7 +89,8 @@ fn first_changed(
     affected: Wwn,
 ) -> Option<FcId>
     ensures { result ≡ option_map (λ w. w.address)
-        (find (λ w. spec.is_changed zones.now before at affected w) (seen watchers.now places.now)) }
+        (find (λ w. spec.is_changed zones.now before at affected w)
+        (seen watchers.now places.now)) }
 {
     for place in places {
         if let Some(watcher) = watchers.get(*place) {
