@@ -1,4 +1,4 @@
-//! Lists that ascend by address: where an item stands, or would stand, by halving.
+//! Lists that ascend by address: where an item stands, or would stand, by quarters.
 #![tactic(auto)]
 
 ghost use Rattle.std.specs.Prelude.{◌≡◌, ◌==◌, ◌<◌, ◌≤◌, nat_lt, nat_le, length, position, option_copied, unwrap_or};
