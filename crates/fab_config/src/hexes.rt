@@ -47,8 +47,9 @@ fn octet(word: &[u8], at: usize) -> Option<u8>
     }
 }
 
-/// The worldwide name that a word spells.
-pub(crate) fn read_name(word: &[u8]) -> Option<Wwn>
+/// The worldwide name that a word spells: eight pairs of hexadecimal digits with colons between
+/// them, in either case.
+pub fn read_name(word: &[u8]) -> Option<Wwn>
     ensures { result ≡ spec.name word.now }
 {
     let mut bytes = [0; 8];
@@ -66,15 +67,24 @@ pub(crate) fn only_station(values: &[u8]) -> Option<Mac>
     read_station(only_word(values)?)
 }
 
-fn read_station(word: &[u8]) -> Option<Mac>
-    ensures { result ≡ spec.station word.now }
+/// The MAC that a word spells, of a station or not: six pairs of hexadecimal digits with colons
+/// between them, in either case.
+pub fn read_mac(word: &[u8]) -> Option<Mac>
+    ensures { result ≡ spec.octets_of 6 word.now }
 {
     let mut bytes = [0; 6];
-    if read_octets(word, &mut bytes) && is_station(&bytes) {
+    if read_octets(word, &mut bytes) {
         Some(Mac(bytes))
     } else {
         None
     }
+}
+
+fn read_station(word: &[u8]) -> Option<Mac>
+    ensures { result ≡ spec.station word.now }
+{
+    let mac = read_mac(word)?;
+    if is_station(&mac.0) { Some(mac) } else { None }
 }
 
 // The MAC of one station.

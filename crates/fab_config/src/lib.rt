@@ -13,6 +13,7 @@ mod words;
 mod writing;
 
 use fab_base::{Bytes, Mac, Moment, OwnedList, Wwn};
+pub use hexes::{read_mac, read_name};
 pub use laws::a_written_configuration_is_read_back;
 pub use reading::{ConfigError, read_config};
 use std::marker::Model;

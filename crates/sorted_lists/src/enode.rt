@@ -13,7 +13,8 @@ pub fn enode_number(enode: &Enode) -> u64
     enode.port.value() as u64 * (1 << 48) + mac_number(&enode.mac)
 }
 
-fn mac_number(mac: &Mac) -> u64
+/// A number of 48 bits that no other MAC has.
+pub fn mac_number(mac: &Mac) -> u64
     ensures value { result ≡ big_endian mac.now }
     ensures range { result < 2 ^ 48 }
     ensures length { length mac.now ≡ 6 }

@@ -10,7 +10,7 @@ mod orders;
 mod quarters;
 mod ranked;
 
-pub use enode::enode_number;
+pub use enode::{enode_number, mac_number};
 use fab_base::{FcId, HasAddress};
 pub use orders::{Order, order_find, order_from, order_next, order_put, order_take};
 use quarters::reach;
