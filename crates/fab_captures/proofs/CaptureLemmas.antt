@@ -1,0 +1,253 @@
+-- A capture is read whole, record by record.
+use Rattle.std.proofs.Common.{◌≡◌, ◌≢◌, ℕ, zero, suc, ◌+◌, ◌-◌, ◌^◌, ◌<◌, ◌≤◌, min, cond, inl, inr, drop, length-drop, List, [], ◌∷◌, ◌++◌, length, length-append, append_assoc, append-nil, Option, Some, None, Ok, Err, IsTrue, refl, sym, ◌∙◌, ap, subst, arith}
+use Rattle.std.specs.Prelude.{Result, IsErrOf, IfOk, IfErr}
+use Rattle.std.proofs.lemmas.Bool.{le-ltb, lt-ltb}
+use Rattle.pcap_file.proofs.lemmas.Numbers.{le_or_lt}
+use Rattle.fab_base.specs.Seen.{Seen, Reads, Rose}
+use Rattle.fab_base.specs.declared.values.Caught.{Caught}
+use Rattle.fab_base.proofs.SeenLemmas.{reads_refl, reads_trans, input_stays, input_name, told_stays, rose_later}
+use Rattle.pcap_file.specs.declared.Budget.{Budget}
+use Rattle.pcap_file.specs.declared.CaptureHead.{CaptureHead}
+use Rattle.pcap_file.specs.declared.CapError.{CapError}
+use Rattle.pcap_file.specs.declared.CapFault.{CapFault}
+use Rattle.pcap_file.specs.declared.CapOpen.{CapOpen}
+use Rattle.pcap_file.specs.declared.CapOpen.TheVariants as opens
+use Rattle.pcap_file.specs.declared.CapError.TheVariants as errors
+use Rattle.pcap_file.specs.declared.Record.{Record}
+use Rattle.pcap_file.specs.Capture.{RECORD_HEAD, next, head_decoded}
+use Rattle.pcap_file.specs.Reading.{Reading, to_come, Step, Gives, Ends, Stops, step_of, Says, NextReads, OpensReader}
+use Rattle.pcap_file.specs.Records.{Ascends}
+use Rattle.pcap_file.proofs.lemmas.Steps.{gives_found}
+use Rattle.pcap_file.proofs.lemmas.Chains.{found_stands, last-push, ascends-push}
+use Rattle.fab_gather.specs.declared.fault.LimitKind.TheVariants as limit
+use Rattle.fab_gather.specs.declared.fault.RunFault.{RunFault}
+use Rattle.fab_gather.specs.declared.fault.RunFault.TheVariants as faults
+use Rattle.fab_gather.specs.Port.{fault_by, IsStopped}
+use Rattle.fab_gather.proofs.PortLemmas.{read_of}
+use Rattle.fab_captures.specs.Captures.{Taken, unless_stopped, without_head, without_record, body_by, capture_by, unopened_by, with_record, by_step, records_by, AreFit, in_front, to_take, ReadsCapture, ReadsRecords, SoFar}
+
+in_front_none : (t : Result Taken RunFault) → in_front [] t ≡ t
+in_front_none (Err e) = refl
+in_front_none (Ok t) = refl
+
+in_front_more : (records : List Record) (x : Record) (t : Result Taken RunFault) → in_front records (unless_stopped t (with_record x)) ≡ in_front (records ++ x ∷ []) t
+in_front_more records x (Err e) = refl
+in_front_more records x (Ok t) = ap (λ rs. Ok (record { records = rs; left = t.left })) (sym (append_assoc records (x ∷ []) t.records))
+
+fit_push : (records : List Record) (x : Record) → AreFit records → x.moment < 2 ^ 43 → length x.caught.bytes ≤ 65535 → AreFit (records ++ x ∷ [])
+fit_push [] x fit range stored = (range, stored, tt)
+fit_push (r ∷ records) x fit range stored = (fit.0, fit.1, fit_push records x fit.2 range stored)
+
+same_budget : (x y : Budget) → x.bytes ≡ y.bytes → x.frames ≡ y.frames → x ≡ y
+same_budget x y bytes frames = ap (λ n. record { bytes = n; frames = x.frames }) bytes ∙ ap (λ n. record { bytes = y.bytes; frames = n }) frames
+
+-- a step that stops, of an error that stands in the capture
+stops_by : (step : Step) (rest : List ℕ) (e : CapError) (port : ℕ) → Says step rest (Err e) → IsStopped (fault_by e port) → step ≡ Stops e
+stops_by step rest (errors.Cut at) port says stopped = says
+stops_by step rest (errors.TooLong at len) port says stopped = says
+stops_by step rest errors.Bytes port says stopped = says
+stops_by step rest errors.Frames port says stopped = says
+stops_by step rest (errors.Read failed) port says stopped = absurd stopped
+stops_by step rest errors.Memory port says stopped = absurd stopped
+
+is_read : (x : RunFault) → IsErrOf {T = List Record} (Err x) faults.Read → x ≡ faults.Read
+is_read x e = cc
+
+never_write : (e : CapError) (port : ℕ) → fault_by e port ≢ faults.Write
+never_write (errors.Cut at) port e = cc
+never_write (errors.TooLong at len) port e = cc
+never_write errors.Bytes port e = cc
+never_write errors.Frames port e = cc
+never_write (errors.Read failed) port e = cc
+never_write errors.Memory port e = cc
+
+module _ (port slot : ℕ) (a : Seen) (r : Reading) (had : Budget) where
+  pub so_far_none : IsTrue (a.input slot) → r.kept ≡ None → r.at + had.bytes < 2 ^ 64 → SoFar port slot a a r r had had []
+  so_far_none input fresh place = record {
+    reads = reads_refl (a.name slot) a;
+    input = input;
+    name = refl;
+    fresh = fresh;
+    place = place;
+    fit = tt;
+    frames = omega arith;
+    ascends = tt;
+    last = refl;
+    taken = λ told n less. (n, less, sym (in_front_none (to_take n port r slot a had)));
+  }
+
+  module _ (b c : Seen) (s t : Reading) (left now : Budget) (records : List Record) (f : SoFar port slot a b r s had left records) where
+    told_b : IsTrue a.told → IsTrue b.told
+    told_b told = told_stays (a.name slot) a b f.reads.keeps told
+
+    reads_c : {x : Result (Option Record) CapError} → NextReads slot b c s t left now x → Reads (a.name slot) a c
+    reads_c n = reads_trans (a.name slot) a b c f.reads (subst (λ m. Reads m b c) f.name n.reads)
+
+    -- the step that the next call answers
+    abbrev step_b : Step
+    step_b = step_of left s.at (next s.head s.greatest (to_come s b slot))
+
+    abbrev more_b : ℕ → ℕ → Caught → List ℕ → Result Taken RunFault
+    more_b m moment caught rest = records_by m port s.head (s.at + (RECORD_HEAD + length caught.bytes)) moment (without_record left caught) rest
+
+    stepped : (x : Record) (whole : Result Taken RunFault) (rest : List ℕ) (t : Reading) (now : Budget) → step_b ≡ Gives x.moment x.caught (to_come t c slot) → length (to_come s b slot) ≡ 16 + length x.caught.bytes + length (to_come t c slot)
+        → ((q : ℕ) → more_b q x.moment x.caught (to_come t c slot) ≡ to_take q port t slot c now)
+        → (q : ℕ) → length (to_come s b slot) < q → whole ≡ in_front records (to_take q port s slot b left)
+        → (q : ℕ) × (length (to_come t c slot) < q) × (whole ≡ in_front (records ++ x ∷ []) (to_take q port t slot c now))
+    stepped x whole rest t now gives size same zero less e = absurd (omega (arith, less))
+    stepped x whole rest t now gives size same (suc q) less e = (
+      q,
+      omega (arith, less, size),
+      e ∙ ap (λ z. in_front records (by_step (more_b q) port left z)) gives ∙ in_front_more records x (more_b q x.moment x.caught (to_come t c slot)) ∙ ap (in_front (records ++ x ∷ [])) (same q),
+    )
+
+    -- one record more
+    pub so_far_more : (x : Record) → NextReads slot b c s t left now (Ok (Some x)) → SoFar port slot a c r t had now (records ++ x ∷ [])
+    so_far_more x n =
+        let k = n.taken in
+        let at : t.at ≡ min (s.at + (16 + length x.caught.bytes)) (2 ^ 64 - 1) = ap (λ (q : Reading). q.at) k.moved in
+        let greatest : t.greatest ≡ x.moment = ap (λ (q : Reading). q.greatest) k.moved in
+        let head : t.head ≡ s.head = ap (λ (q : Reading). q.head) k.moved in
+        let kept = subst (λ m. Reads m b c) f.name n.reads in
+        record {
+          reads = reads_c n;
+          input = input_stays (a.name slot) b c kept.keeps slot f.input;
+          name = input_name (a.name slot) b c kept.keeps slot f.input ∙ f.name;
+          fresh = ap (λ (q : Reading). q.kept) k.moved ∙ k.fresh;
+          place = omega (arith, f.place, k.bytes, at);
+          fit = fit_push records x f.fit k.range k.stored;
+          frames = let more = length-append records (x ∷ []) in let was = f.frames in omega (arith, k.frames);
+          ascends = ascends-push r.greatest records x f.ascends (subst (λ m. m ≤ x.moment) f.last k.onward);
+          last = greatest ∙ sym (last-push r.greatest records x);
+          taken = λ told m less.
+              let h = f.taken told m less in
+              let gives : step_b ≡ Gives x.moment x.caught (to_come t c slot) = n.says (told_b told) f.fresh in
+              let size = (found_stands s.head s.greatest (to_come s b slot) x.moment x.caught (to_come t c slot) (gives_found left s.at (next s.head s.greatest (to_come s b slot)) x.moment x.caught (to_come t c slot) gives)).size in
+              let place : s.at + (16 + length x.caught.bytes) ≡ t.at = omega (arith, f.place, k.bytes, at) in
+              let budget : without_record left x.caught ≡ now = same_budget (without_record left x.caught) now (omega (arith, k.bytes)) (omega (arith, k.frames)) in
+              let same : (q : ℕ) → more_b q x.moment x.caught (to_come t c slot) ≡ to_take q port t slot c now = λ q.
+              ap (λ (z : CaptureHead). records_by q port z (s.at + (RECORD_HEAD + length x.caught.bytes)) x.moment (without_record left x.caught) (to_come t c slot)) (sym head)
+              ∙ ap (λ z. records_by q port t.head z x.moment (without_record left x.caught) (to_come t c slot)) place
+              ∙ ap (λ z. records_by q port t.head t.at z (without_record left x.caught) (to_come t c slot)) (sym greatest)
+              ∙ ap (λ z. records_by q port t.head t.at t.greatest z (to_come t c slot)) budget in
+              stepped x (to_take m port r slot a had) (to_come t c slot) t now gives size same h.0 h.1 h.2;
+        }
+
+    -- the last step
+    last_step : (step : Step) → step_b ≡ step → (whole : Result Taken RunFault) (q : ℕ) → length (to_come s b slot) < q → whole ≡ in_front records (to_take q port s slot b left)
+        → (m : ℕ) × (whole ≡ in_front records (by_step (more_b m) port left step))
+    last_step step is whole zero less e = absurd (omega (arith, less))
+    last_step step is whole (suc q) less e = (q, e ∙ ap (λ z. in_front records (by_step (more_b q) port left z)) is)
+
+    pub so_far_ended : NextReads slot b c s t left now (Ok None) → ReadsRecords port slot a c r had now (Ok records)
+    so_far_ended n = record {
+      reads = reads_c n;
+      fit = (f.fit, f.ascends);
+      frames = ap (λ (z : Budget). z.frames + length records) n.taken.budget ∙ f.frames;
+      taken = λ told m less.
+          let h = f.taken told m less in
+          let end = last_step Ends (n.says (told_b told) f.fresh).0 (to_take m port r slot a had) h.0 h.1 h.2 in
+          end.1 ∙ ap (λ rs. Ok (record { records = rs; left = left })) (append-nil records) ∙ ap (λ z. Ok (record { records = records; left = z })) (sym n.taken.budget);
+      stops = λ told m less. tt;
+      cause = λ e. absurd (cc);
+      only = tt;
+    }
+
+    pub so_far_failed : (e : CapError) → NextReads slot b c s t left now (Err e) → ReadsRecords port slot a c r had now (Err (fault_by e port))
+    so_far_failed e n = record {
+      reads = reads_c n;
+      fit = tt;
+      frames = tt;
+      taken = λ told m less. tt;
+      stops = λ told m less stopped.
+          let h = f.taken told m less in
+          (last_step (Stops e) (stops_by step_b (to_come t c slot) e port (n.says (told_b told) f.fresh) stopped) (to_take m port r slot a had) h.0 h.1 h.2).1;
+      cause = λ is.
+          let failed = read_of port e (is_read (fault_by e port) is) in
+          let rose = n.cause f.fresh failed.0 (ap Err failed.1) in
+          rose_later (a.read_faults (a.name slot)) (b.read_faults (a.name slot)) (c.read_faults (a.name slot)) f.reads.keeps.reads_rise
+          (subst (λ m. Rose (b.read_faults m) (c.read_faults m)) f.name rose);
+      only = never_write e port;
+    }
+
+-- ---- with the head
+
+module _ (port slot : ℕ) (a b : Seen) (had left : Budget) (input : IsTrue (a.input slot)) where
+  pub whole_place : (r : Reading) → OpensReader slot a b had left (Ok r) → had.bytes < 2 ^ 64 → r.at + left.bytes < 2 ^ 64
+  whole_place r o range = let at : r.at ≡ 24 = o.begins.0 in let bytes : left.bytes + 24 ≡ had.bytes = o.taken.0 in omega (arith, at, bytes, range)
+
+  -- the capture is what is taken behind its head
+  whole_is : (r : Reading) → OpensReader slot a b had left (Ok r) → IsTrue a.told → capture_by port had (a.left slot) ≡ to_take (suc (length (a.left slot))) port r slot b left
+  unfolding capture_by
+  whole_is r o told =
+      let bytes : left.bytes + 24 ≡ had.bytes = o.taken.0 in
+      let frames : left.frames ≡ had.frames = o.taken.1 in
+      let h = o.head told in
+      let budget : without_head had ≡ left = same_budget (without_head had) left (omega (arith, bytes)) (sym frames) in
+      let l = a.left slot in
+      ap (λ t. cond t (Err (faults.Limit limit.Bytes)) (body_by port had l (head_decoded l))) (le-ltb had.bytes 24 (omega (arith, bytes)))
+      ∙ ap (body_by port had l) h.0
+      ∙ ap (λ z. records_by (suc (length l)) port r.head 24 0 z (drop 24 l)) budget
+      ∙ ap (λ z. records_by (suc (length l)) port r.head 24 0 left z) (sym h.1)
+      ∙ ap (λ z. records_by (suc (length l)) port r.head z 0 left (to_come r b slot)) (sym o.begins.0)
+      ∙ ap (λ z. records_by (suc (length l)) port r.head r.at z left (to_come r b slot)) (sym o.begins.1)
+
+  whole_less : (r : Reading) → OpensReader slot a b had left (Ok r) → IsTrue a.told → length (to_come r b slot) < suc (length (a.left slot))
+  whole_less r o told = omega (arith, ap length (o.head told).1, length-drop 24 (a.left slot))
+
+  pub whole_read : (c : Seen) (r : Reading) (now : Budget) (result : Result (List Record) RunFault) → OpensReader slot a b had left (Ok r) → ReadsRecords port slot b c r left now result → ReadsCapture port slot a c had now result
+  whole_read c r now result o k =
+      let name = input_name (a.name slot) a b o.reads.keeps slot input in
+      record {
+        reads = reads_trans (a.name slot) a b c o.reads (subst (λ m. Reads m b c) name k.reads);
+        fit = subst (λ g. IfOk result (λ rs. AreFit rs × Ascends g rs)) o.begins.1 k.fit;
+        frames = subst (λ (n : ℕ). IfOk result (λ rs. now.frames + length rs ≡ n)) o.taken.1 k.frames;
+        taken = λ told. taken_as result (whole_is r o told) (k.taken (told_stays (a.name slot) a b o.reads.keeps told) (suc (length (a.left slot))) (whole_less r o told));
+        stops = λ told. stops_as result (whole_is r o told) (k.stops (told_stays (a.name slot) a b o.reads.keeps told) (suc (length (a.left slot))) (whole_less r o told));
+        cause = λ e. rose_later (a.read_faults (a.name slot)) (b.read_faults (a.name slot)) (c.read_faults (a.name slot)) o.reads.keeps.reads_rise
+            (subst (λ m. Rose (b.read_faults m) (c.read_faults m)) name (k.cause e));
+        only = k.only;
+      }
+    where
+      taken_as : {x y : Result Taken RunFault} (result : Result (List Record) RunFault) → x ≡ y → IfOk result (λ rs. y ≡ Ok (record { records = rs; left = now })) → IfOk result (λ rs. x ≡ Ok (record { records = rs; left = now }))
+      taken_as (Ok rs) e h = e ∙ h
+      taken_as (Err f) e h = tt
+
+      stops_as : {x y : Result Taken RunFault} (result : Result (List Record) RunFault) → x ≡ y → IfErr result (λ f. IsStopped f → y ≡ Err f) → IfErr result (λ f. IsStopped f → x ≡ Err f)
+      stops_as (Ok rs) e h = tt
+      stops_as (Err f) e h = λ stopped. e ∙ h stopped
+
+  -- a head that isn't taken
+  not_opened : (e : CapOpen) → OpensReader slot a b had left (Err e) → IsTrue a.told → IsStopped (unopened_by e port) → capture_by port had (a.left slot) ≡ Err (unopened_by e port)
+  unfolding capture_by
+  not_opened (opens.Head fault) o told stopped =
+      let l = a.left slot in
+      let enough : 24 ≤ had.bytes = elim (le_or_lt 24 had.bytes) [ inl le ↦ le | inr less ↦ absurd (head_no_bytes fault (o.bytes.1 less)) ] in
+      ap (λ t. cond t (Err (faults.Limit limit.Bytes)) (body_by port had l (head_decoded l))) (le-ltb had.bytes 24 enough) ∙ ap (body_by port had l) (o.refused told)
+    where
+      head_no_bytes : (fault : CapFault) → IsErrOf {T = Reading} (Err (opens.Head fault)) opens.Bytes → ⊥
+      head_no_bytes fault e = cc
+  not_opened (opens.Read failed) o told stopped = absurd stopped
+  not_opened opens.Bytes o told stopped =
+      ap (λ t. cond t (Err (faults.Limit limit.Bytes)) (body_by port had (a.left slot) (head_decoded (a.left slot)))) (lt-ltb had.bytes 24 (o.bytes.0 refl))
+
+  pub whole_refused : (e : CapOpen) → OpensReader slot a b had left (Err e) → ReadsCapture port slot a b had left (Err (unopened_by e port))
+  whole_refused e o = record {
+    reads = o.reads;
+    fit = tt;
+    frames = tt;
+    taken = λ told. tt;
+    stops = λ told stopped. not_opened e o told stopped;
+    cause = λ is. caused e o is;
+    only = never e;
+  }
+    where
+      never : (e : CapOpen) → unopened_by e port ≢ faults.Write
+      never (opens.Head fault) e = cc
+      never (opens.Read failed) e = cc
+      never opens.Bytes e = cc
+
+      caused : (e : CapOpen) → OpensReader slot a b had left (Err e) → IsErrOf {T = List Record} (Err (unopened_by e port)) faults.Read → Rose (a.read_faults (a.name slot)) (b.read_faults (a.name slot))
+      caused (opens.Head fault) o is = absurd (cc)
+      caused (opens.Read failed) o is = o.refused
+      caused opens.Bytes o is = absurd (cc)

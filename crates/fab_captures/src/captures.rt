@@ -1,0 +1,106 @@
+//! Reading a capture whole.
+ghost use Rattle.std.specs.Prelude.{◌≡◌, ◌+◌, ◌<◌, ◌^◌, IsTrue, None};
+ghost use Rattle.fab_gather.specs.Port.{fault_by};
+ghost use Rattle.fab_captures.specs.Captures.{ReadsCapture, ReadsRecords, unopened_by, why_of};
+
+use fab_base::{Depot, OwnedList, PortNo};
+use fab_gather::{CapWhy, LimitKind, RunFault};
+use pcap_file::{Budget, CapError, CapFault, CapOpen, Reader, Record};
+use std::alloc::Global;
+
+/// The records of a capture, in its order.
+pub type RecordList = OwnedList<Record>;
+
+/// Reads the capture of a port from an open input to its end. The head and the records are taken
+/// from the budget.
+pub fn read_capture<D: Depot>(
+    alloc: Global,
+    depot: &mut D,
+    port: PortNo,
+    slot: u32,
+    budget: &mut Budget,
+) -> Result<RecordList, RunFault>
+    requires input { IsTrue ((D.seen depot.old).input slot) }
+    ensures reads { ReadsCapture port slot (D.seen depot.old) (D.seen depot.new)
+        budget.old budget.new result }
+{
+    let _bytes = budget.bytes;
+    match Reader::open(depot, slot, budget) {
+        Ok(mut reader) => records_of(alloc, depot, port, slot, &mut reader, budget),
+        Err(error) => Err(unopened(error, port)),
+    }
+}
+
+// The records behind a head.
+fn records_of<D: Depot>(
+    alloc: Global,
+    depot: &mut D,
+    port: PortNo,
+    slot: u32,
+    reader: &mut Reader,
+    budget: &mut Budget,
+) -> Result<RecordList, RunFault>
+    requires input { IsTrue ((D.seen depot.old).input slot) }
+    requires fresh { reader.old.kept ≡ None }
+    requires place { reader.old.at + budget.old.bytes < 2 ^ 64 }
+    ensures reads { ReadsRecords port slot (D.seen depot.old) (D.seen depot.new) reader.old
+        budget.old budget.new result }
+{
+    let mut records = OwnedList::empty(alloc);
+    loop {
+        match reader.next(alloc, depot, slot, budget) {
+            Ok(Some(record)) => match records.push(alloc, record) {
+                Ok(()) => {}
+                Err(_) => return Err(RunFault::Memory),
+            },
+            Ok(None) => return Ok(records),
+            Err(error) => return Err(fault_of(error, port)),
+        }
+    }
+}
+
+fn unopened(error: CapOpen, port: PortNo) -> RunFault
+    ensures { result ≡ unopened_by error port }
+{
+    match error {
+        CapOpen::Head(fault) => RunFault::Capture {
+            port,
+            at: 0,
+            why: why(fault),
+        },
+        CapOpen::Read(_) => RunFault::Read,
+        CapOpen::Bytes => RunFault::Limit(LimitKind::Bytes),
+    }
+}
+
+fn why(fault: CapFault) -> CapWhy
+    ensures { result ≡ why_of fault }
+{
+    match fault {
+        CapFault::Short => CapWhy::Short,
+        CapFault::BadMagic => CapWhy::Magic,
+        CapFault::BadVersion => CapWhy::Version,
+        CapFault::NotEthernet => CapWhy::Link,
+    }
+}
+
+fn fault_of(error: CapError, port: PortNo) -> RunFault
+    ensures { result ≡ fault_by error port }
+{
+    match error {
+        CapError::Cut { at } => RunFault::Capture {
+            port,
+            at,
+            why: CapWhy::Cut,
+        },
+        CapError::TooLong { at, .. } => RunFault::Capture {
+            port,
+            at,
+            why: CapWhy::Long,
+        },
+        CapError::Bytes => RunFault::Limit(LimitKind::Bytes),
+        CapError::Frames => RunFault::Limit(LimitKind::Frames),
+        CapError::Read(_) => RunFault::Read,
+        CapError::Memory => RunFault::Memory,
+    }
+}
