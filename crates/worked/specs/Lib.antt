@@ -48,3 +48,4 @@ pub mod WholeRun
 pub mod SilenceEdges
 pub mod Words
 pub mod FipMissing
+pub mod Snooping

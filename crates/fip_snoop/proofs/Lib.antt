@@ -1,0 +1,16 @@
+pub mod ListLemmas
+pub mod SameLemmas
+pub mod NumberLemmas
+pub mod KeyLemmas
+pub mod HomeLemmas
+pub mod BindingLemmas
+pub mod EndLemmas
+pub mod BoundLemmas
+pub mod KeptLemmas
+pub mod MovedLemmas
+pub mod FrameLemmas
+pub mod LawLemmas
+pub mod QueueLemmas
+pub mod BridgeLemmas
+pub mod HeadLemmas
+pub mod MergeLemmas
