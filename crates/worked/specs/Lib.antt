@@ -49,3 +49,4 @@ pub mod SilenceEdges
 pub mod Words
 pub mod FipMissing
 pub mod Snooping
+pub mod NodeRun

@@ -1,0 +1,10 @@
+pub mod Frames
+pub mod Machine
+pub mod Runs
+pub mod Laws
+pub mod Sound
+pub mod Acts
+pub mod Phases
+pub mod Goes
+pub mod RunLaws
+pub mod Course
