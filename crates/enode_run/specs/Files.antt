@@ -1,0 +1,67 @@
+-- What a node does with files: a capture that its port receives, and the capture of what it sends.
+use Rattle.std.specs.Prelude.{◌≡◌, ◌≢◌, ℕ, if◌then◌else◌, IsTrue, List, take, Some, Result, Ok, Err}
+use Rattle.fab_base.specs.Seen.{Seen, SameFiles, Rose}
+use Rattle.pcap_file.specs.declared.Budget.{Budget}
+use Rattle.pcap_file.specs.declared.Record.{Record}
+use Rattle.fab_gather.specs.declared.fault.LimitKind.TheVariants as limit
+use Rattle.fab_gather.specs.declared.fault.RunFault.{RunFault}
+use Rattle.fab_gather.specs.declared.fault.RunFault.TheVariants as faults
+use Rattle.fab_captures.specs.Captures.{unless_stopped, capture_by}
+use Rattle.enode_core.specs.declared.node.Identity.{Identity}
+use Rattle.enode_core.specs.declared.node.Phase.{Phase}
+use Rattle.enode_core.specs.Phases.{phase_of}
+use Rattle.enode_core.specs.Runs.{Input, IsRun, is_too_long, stands, all_sent, capture}
+use Rattle.enode_core.specs.RunLaws.{IsGrantedBy}
+
+-- ---- the input
+
+-- a capture that reaches too far isn't taken
+abbrev pub unless_too_long : ℕ → List Record → Result (List Record) RunFault
+unless_too_long start records = if is_too_long start records then Err (faults.Limit limit.Span) else Ok records
+
+-- What a file is to a node that starts at a moment: the records of its capture, which counts as that of port 1, or why it isn't
+-- taken. How far it reaches is tested last.
+abbrev pub taken_by : Budget → ℕ → List ℕ → Result (List Record) RunFault
+taken_by budget start l = unless_stopped (capture_by 1 budget l) (λ t. unless_too_long start t.records)
+
+-- the input isn't taken for this reason
+pub record IsUntaken (start : ℕ) (from : List ℕ) (budget : Budget) (d : Seen) (fault : RunFault) : Type 0 where
+  pub bytes : List ℕ
+  pub found : d.file from ≡ Some bytes
+  pub says : taken_by budget start bytes ≡ Err fault
+
+-- ---- the output
+
+-- The input that was found is a capture within the limits, the node was given all its records from the start on, the output is the
+-- capture of what it sent, and this is its phase in the end. Where a forwarder has sent all these records, the node was granted the
+-- address that it is up with.
+pub record Played (own : Identity) (start : ℕ) (from to : List ℕ) (budget : Budget) (old new : Seen) (phase : Phase) : Type 0 where
+  pub bytes : List ℕ
+  pub records : List Record
+  pub inputs : List Input
+  pub found : old.file from ≡ Some bytes
+  pub taken : taken_by budget start bytes ≡ Ok records
+  pub run : IsRun own start records inputs
+  pub output : new.file to ≡ Some (capture (all_sent own start inputs))
+  pub stands_so : phase ≡ phase_of (stands own start inputs)
+  pub granted : IsGrantedBy own start records inputs
+
+-- The output is as it was, or it holds a front of the capture of what the node sends over the input that was found.
+pub data IsFront (own : Identity) (start : ℕ) (from to : List ℕ) (budget : Budget) (old new : Seen) : Type 0 where
+  Same : new.file to ≡ old.file to → IsFront own start from to budget old new
+  Front : (bytes : List ℕ) (records : List Record) (inputs : List Input) (n : ℕ) → old.file from ≡ Some bytes → taken_by budget start bytes ≡ Ok records → IsRun own start records inputs →
+      new.file to ≡ Some (take n (capture (all_sent own start inputs))) → IsFront own start from to budget old new
+
+-- How running a node over files ends. The output is opened only behind the whole input and all that is sent for it: only where it
+-- couldn't be written, a front of it may stand.
+abbrev pub RunsNode : Identity → ℕ → List ℕ → List ℕ → Budget → Seen → Seen → Result Phase RunFault → Type 0
+RunsNode own start from to budget old new (Ok phase) = IsTrue old.told → Played own start from to budget old new phase
+RunsNode own start from to budget old new (Err (faults.Capture port at why)) = SameFiles old new × (IsTrue old.told → IsUntaken start from budget old (faults.Capture port at why))
+RunsNode own start from to budget old new (Err (faults.Limit kind)) = SameFiles old new × (IsTrue old.told → IsUntaken start from budget old (faults.Limit kind))
+RunsNode own start from to budget old new (Err faults.Read) = SameFiles old new × Rose (old.read_faults from) (new.read_faults from)
+RunsNode own start from to budget old new (Err faults.Write) = Rose (old.write_faults to) (new.write_faults to) × (IsTrue old.told → IsFront own start from to budget old new)
+RunsNode own start from to budget old new (Err faults.Memory) = SameFiles old new
+
+-- no file changes but the output
+abbrev pub KeepsBut : List ℕ → Seen → Seen → Type 0
+KeepsBut to old new = (m : List ℕ) → m ≢ to → new.file m ≡ old.file m

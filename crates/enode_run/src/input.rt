@@ -1,0 +1,83 @@
+//! The capture that a node's port receives.
+ghost use Rattle.std.specs.Prelude.{◌≡◌, ◌≤◌, ◌+◌, ◌<◌, IsTrue, nat_lt, slice_get};
+ghost use Rattle.std.specs.List.{list_any};
+ghost use Rattle.enode_core.specs.Acts.{option_holds};
+ghost use Rattle.enode_core.specs.Runs as runs;
+ghost use Rattle.enode_run.specs.Files as files;
+ghost use Rattle.enode_run.specs.Steps.{ReadsInput};
+
+use fab_base::{Depot, Moment, PortNo};
+use fab_captures::{RecordList, read_capture};
+use fab_gather::{LimitKind, RunFault};
+use pcap_file::Budget;
+use std::alloc::Global;
+
+/// How far the last record may lie behind the start, in milliseconds.
+const MOST_SPAN: u64 = 21_600_000;
+
+// Reads the capture of a name whole, and tests last how far it reaches.
+pub(crate) fn read_input<D: Depot>(
+    alloc: Global,
+    depot: &mut D,
+    from: &str,
+    start: Moment,
+    budget: Budget,
+) -> Result<RecordList, RunFault>
+    requires known { IsTrue ((D.seen depot.old).knows from.now) }
+    requires start { start ≤ 4294967295999 }
+    ensures reads { ReadsInput start from.now budget (D.seen depot.old) (D.seen depot.new)
+        result }
+{
+    let slot = match depot.open_in(from) {
+        Ok(slot) => slot,
+        Err(_) => return Err(RunFault::Read),
+    };
+    let mut left = budget;
+    match read_capture(alloc, depot, first_port(), slot, &mut left) {
+        Ok(records) => unless_too_long(start, records),
+        Err(fault) => Err(fault),
+    }
+}
+
+fn first_port() -> PortNo
+    ensures { result ≡ 1 }
+{
+    match PortNo::new(1) {
+        Some(port) => port,
+        None => unreachable!(),
+    }
+}
+
+// Records, unless one lies too far behind the start.
+fn unless_too_long(start: Moment, records: RecordList) -> Result<RecordList, RunFault>
+    requires { start ≤ 4294967295999 }
+    ensures { result ≡ files.unless_too_long start records }
+{
+    if is_too_long(start, &records) {
+        return Err(RunFault::Limit(LimitKind::Span));
+    }
+    Ok(records)
+}
+
+fn is_too_long(start: Moment, records: &RecordList) -> bool
+    requires { start ≤ 4294967295999 }
+    ensures { result ≡ runs.is_too_long start records.now }
+{
+    for place in 0..records.len() {
+        if is_too_far(start, records, place) {
+            return true;
+        }
+    }
+    false
+}
+
+// Whether the record at a place lies too far behind the start.
+fn is_too_far(start: Moment, records: &RecordList, place: usize) -> bool
+    requires { start ≤ 4294967295999 }
+    ensures { result ≡ option_holds (runs.is_too_far start) (slice_get records.now place) }
+{
+    match records.at(place) {
+        Some(record) => start.0 + MOST_SPAN < record.moment.0,
+        None => false,
+    }
+}

@@ -1,0 +1,73 @@
+//! A node over files.
+ghost use Rattle.std.specs.Prelude.{◌≡◌, ◌≤◌, ◌<◌, ◌^◌, IsTrue, length};
+ghost use Rattle.enode_core.specs.Laws.{IsTyped};
+ghost use Rattle.enode_core.specs.Phases.{phase_of};
+ghost use Rattle.enode_run.specs.Files.{KeepsBut, RunsNode};
+
+use crate::input::read_input;
+use crate::output::write_file;
+use enode_core::laws::runs_are_one;
+use enode_core::{Course, Identity, Phase, play};
+use fab_base::{Depot, Moment};
+use fab_gather::RunFault;
+use pcap_file::Budget;
+use std::alloc::Global;
+
+/// Runs a node over the frames of a capture, from a moment on, and writes the capture of what it
+/// sends. The capture counts as that of port 1. Answers the node's phase in the end.
+///
+/// The input is read whole, and all that is sent for it is made, before the output is opened.
+pub fn run_node<D: Depot>(
+    alloc: Global,
+    depot: &mut D,
+    from: &str,
+    to: &str,
+    start: Moment,
+    own: Identity,
+    budget: Budget,
+) -> Result<Phase, RunFault>
+    requires from { IsTrue ((D.seen depot.old).knows from.now) }
+    requires to { IsTrue ((D.seen depot.old).knows to.now) }
+    requires start { start ≤ 4294967295999 }
+    ensures plays { RunsNode own start from.now to.now budget (D.seen depot.old)
+        (D.seen depot.new) result }
+    ensures others { KeepsBut to.now (D.seen depot.old) (D.seen depot.new) }
+{
+    know(&own);
+    runs_are_one();
+    let records = match read_input(alloc, depot, from, start, budget) {
+        Ok(records) => records,
+        Err(fault) => return Err(fault),
+    };
+    let course = match play(alloc, start, own, &records) {
+        Ok(course) => course,
+        Err(_) => return Err(RunFault::Memory),
+    };
+    match write_file(depot, to, &course.capture) {
+        Ok(()) => Ok(last_phase(&course)),
+        Err(_) => Err(RunFault::Write),
+    }
+}
+
+fn last_phase(course: &Course) -> Phase
+    ensures { result ≡ phase_of course.now.node.state }
+{
+    course.node.phase()
+}
+
+// What an identity has by its types.
+fn know(own: &Identity)
+    ensures { IsTyped own.now }
+{
+    know_mac(&own.mac.0);
+    know_name(own.name.0);
+    know_name(own.node.0);
+}
+
+fn know_mac(bytes: &[u8; 6])
+    ensures { length bytes.now ≡ 6 }
+{}
+
+fn know_name(name: u64)
+    ensures { name < 2 ^ 64 }
+{}
