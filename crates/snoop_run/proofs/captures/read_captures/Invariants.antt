@@ -1,0 +1,10 @@
+use Rattle.std.specs.Prelude.{map}
+use Rattle.fab_policy.specs.Logins.{counting}
+use Rattle.snoop_run.specs.Sides.{input_at}
+use Rattle.snoop_run.proofs.InputLemmas.{InputsSoFar}
+use Rattle.snoop_run.proofs.captures.read_captures.Given as goal
+
+abbrev pub invariant-loop-port : goal.invariant-loop-port
+invariant-loop-port g l =
+    let seen = g.D.Depot.seen in
+    InputsSoFar (map (input_at l.sides) (counting 0 l.port)) (seen l.fn.depot) (seen l.depot) l.ins.items l.fn.budget l.budget

@@ -1,0 +1,10 @@
+use Rattle.std.specs.Prelude.{map}
+use Rattle.fab_policy.specs.Logins.{counting}
+use Rattle.snoop_run.specs.Sides.{output_at}
+use Rattle.snoop_run.proofs.OpenLemmas.{OpenedSoFar}
+use Rattle.snoop_run.proofs.outputs.open_outputs.Given as goal
+
+abbrev pub invariant-loop-port : goal.invariant-loop-port
+invariant-loop-port g l =
+    let seen = g.D.Depot.seen in
+    OpenedSoFar (map (output_at l.sides) (counting 0 l.port)) (seen l.fn.depot) (seen l.depot) l.outs.items

@@ -1,0 +1,100 @@
+-- What a bridge leaves in its outputs, by how it ends.
+use Rattle.std.specs.Prelude.{◌≡◌, ℕ, ◌⊎◌, true, false, IsTrue, List, [], ◌∷◌, length, map, Some, Result, Ok, Err}
+use Rattle.fab_base.specs.Seen.{Seen, Rose, SameFiles, Touches}
+use Rattle.fab_config.specs.Settings.{Settings}
+use Rattle.fab_policy.specs.Written.{IsPrefixOf}
+use Rattle.pcap_file.specs.declared.Budget.{Budget}
+use Rattle.pcap_file.specs.declared.Record.{Record}
+use Rattle.fab_gather.specs.declared.fault.LimitKind.TheVariants as limit
+use Rattle.fab_gather.specs.declared.fault.RunFault.{RunFault}
+use Rattle.fab_gather.specs.declared.fault.RunFault.TheVariants as faults
+use Rattle.fab_captures.specs.Captures.{captures_by}
+use Rattle.fip_snoop.specs.Bridge.{Arrival, arrivals, is_too_long, history, passed, dropped}
+use Rattle.fip_snoop.specs.Messages.{forwarder_of}
+use Rattle.snoop_run.specs.Crossing.{crossing, captures}
+use Rattle.snoop_run.specs.declared.run.Crossed.{Crossed}
+
+-- ---- names
+
+-- one of these names
+abbrev pub Among : List (List ℕ) → List ℕ → Type 0
+Among [] m = ⊥
+Among (n ∷ names) m = (m ≡ n) ⊎ Among names m
+
+-- one of either
+abbrev pub AmongBoth : List (List ℕ) → List (List ℕ) → List ℕ → Type 0
+AmongBoth ins outs m = Among ins m ⊎ Among outs m
+
+-- the count of one of these names rose
+abbrev pub AnyRose : (List ℕ → ℕ) → (List ℕ → ℕ) → List (List ℕ) → Type 0
+AnyRose before now [] = ⊥
+AnyRose before now (n ∷ names) = Rose (before n) (now n) ⊎ AnyRose before now names
+
+-- ---- files
+
+-- a file is as it was, or holds bytes with which these begin
+abbrev pub IsOldOrFront : Seen → Seen → List ℕ → List ℕ → Type 0
+IsOldOrFront old new name whole = (new.file name ≡ old.file name) ⊎ ((bytes : List ℕ) × (new.file name ≡ Some bytes) × IsPrefixOf bytes whole)
+
+abbrev pub AreOldOrFront : Seen → Seen → List (List ℕ) → List (List ℕ) → Type 0
+AreOldOrFront old new [] [] = Unit {0}
+AreOldOrFront old new [] (whole ∷ wholes) = ⊥
+AreOldOrFront old new (name ∷ names) [] = ⊥
+AreOldOrFront old new (name ∷ names) (whole ∷ wholes) = IsOldOrFront old new name whole × AreOldOrFront old new names wholes
+
+-- The headline. The inputs, as the call found them, are captures within the limits; and each output is the head and, in the
+-- order in which the frames of all captures are handled, a record of each frame whose way leads to its port, the ways being
+-- those of the table over what was handled before. The two numbers are of the frames that passed and of those that didn't.
+pub record HasBridged (ins outs : List (List ℕ)) (budget : Budget) (c : Settings) (old new : Seen) (done : Crossed) : Type 0 where
+  pub records : List (List Record)
+  pub taken : captures_by 1 budget (map (λ n. old.file n) ins) ≡ Ok records
+  pub crosses : crossing budget (map (λ n. old.file n) ins) ≡ Ok (arrivals records)
+  pub outputs : map (λ n. new.file n) outs ≡ map (λ l. Some l) (captures c (length outs) (arrivals records))
+  pub passed_ : done.passed ≡ passed (history (forwarder_of c) [] (arrivals records))
+  pub dropped_ : done.dropped ≡ dropped (history (forwarder_of c) [] (arrivals records))
+
+-- The inputs are taken, and each output is as it was, or holds a front of what it would hold.
+pub record HasFronts (ins outs : List (List ℕ)) (budget : Budget) (c : Settings) (old new : Seen) : Type 0 where
+  pub came : List Arrival
+  pub crosses : crossing budget (map (λ n. old.file n) ins) ≡ Ok came
+  pub outputs : AreOldOrFront old new outs (captures c (length outs) came)
+
+-- the inputs aren't taken, for this reason
+abbrev pub HasStop : List (List ℕ) → Budget → Seen → RunFault → Type 0
+HasStop ins budget old fault = crossing budget (map (λ n. old.file n) ins) ≡ Err fault
+
+-- ---- how it ends
+
+-- What holds where a bridge over these inputs and outputs ends so. What is said of bytes needs a depot that tells them.
+abbrev pub Ends : List (List ℕ) → List (List ℕ) → Budget → Settings → Seen → Seen → Result Crossed RunFault → Type 0
+Ends ins outs budget c old new (Ok done) = IsTrue old.told → HasBridged ins outs budget c old new done
+Ends ins outs budget c old new (Err (faults.Capture port at why)) = SameFiles old new × (IsTrue old.told → HasStop ins budget old (faults.Capture port at why))
+Ends ins outs budget c old new (Err (faults.Limit kind)) = SameFiles old new × (IsTrue old.told → HasStop ins budget old (faults.Limit kind))
+Ends ins outs budget c old new (Err faults.Read) = SameFiles old new × AnyRose old.read_faults new.read_faults ins
+Ends ins outs budget c old new (Err faults.Write) = AnyRose old.write_faults new.write_faults outs × (IsTrue old.told → HasFronts ins outs budget c old new)
+Ends ins outs budget c old new (Err faults.Memory) = IsTrue old.told → SameFiles old new ⊎ HasFronts ins outs budget c old new
+
+-- However it ends, no file changes but the outputs, and no count rises but those of inputs and outputs.
+pub record Bridges (ins outs : List (List ℕ)) (budget : Budget) (c : Settings) (old new : Seen) (result : Result Crossed RunFault) : Type 0 where
+  pub touches : Touches (Among outs) (AmongBoth ins outs) old new
+  pub ends : Ends ins outs budget c old new result
+
+-- ---- inside the crate
+
+-- The same over captures that were read, before which no output was opened.
+abbrev pub OverEnds : List (List ℕ) → List (List Record) → Settings → Seen → Seen → Result Crossed RunFault → Type 0
+OverEnds outs ins c old new (Ok done) =
+    (is_too_long (arrivals ins) ≡ false)
+    × (IsTrue old.told → map (λ n. new.file n) outs ≡ map (λ l. Some l) (captures c (length outs) (arrivals ins)))
+    × (done.passed ≡ passed (history (forwarder_of c) [] (arrivals ins)))
+    × (done.dropped ≡ dropped (history (forwarder_of c) [] (arrivals ins)))
+OverEnds outs ins c old new (Err (faults.Limit limit.Span)) = SameFiles old new × (is_too_long (arrivals ins) ≡ true)
+OverEnds outs ins c old new (Err faults.Write) =
+    (is_too_long (arrivals ins) ≡ false) × AnyRose old.write_faults new.write_faults outs × (IsTrue old.told → AreOldOrFront old new outs (captures c (length outs) (arrivals ins)))
+OverEnds outs ins c old new (Err faults.Memory) =
+    SameFiles old new ⊎ ((is_too_long (arrivals ins) ≡ false) × (IsTrue old.told → AreOldOrFront old new outs (captures c (length outs) (arrivals ins))))
+OverEnds outs ins c old new (Err fault) = ⊥
+
+pub record RunsOver (outs : List (List ℕ)) (ins : List (List Record)) (c : Settings) (old new : Seen) (result : Result Crossed RunFault) : Type 0 where
+  pub touches : Touches (Among outs) (Among outs) old new
+  pub ends : OverEnds outs ins c old new result

@@ -1,0 +1,76 @@
+-- What stands of a bridge between two frames.
+use Rattle.std.specs.Prelude.{◌≡◌, ℕ, ◌+◌, ◌<◌, ◌⊎◌, IsTrue, List, [], ◌∷◌, ◌++◌, length, replicate, Some, Result, IfOk, IfErr, OnOk}
+use Rattle.fab_base.specs.Seen.{Seen, Rose, Touches}
+use Rattle.fab_base.specs.declared.values.Failed.{Failed}
+use Rattle.fab_policy.specs.Written.{IsPrefixOf}
+use Rattle.pcap_file.specs.Capture.{head_bytes}
+use Rattle.pcap_file.specs.declared.Record.{Record}
+use Rattle.fab_gather.specs.Ports.{name_of, NameIn}
+use Rattle.fab_gather.specs.declared.fault.RunFault.{RunFault}
+use Rattle.fab_gather.specs.declared.fault.RunFault.TheVariants as faults
+use Rattle.fip_snoop.specs.Bridge.{Arrival, arrival, arrivals, handled, history, records_to, capture, passed, dropped}
+use Rattle.fip_snoop.specs.History.{History}
+use Rattle.fip_snoop.specs.Queue.{least, left_in}
+use Rattle.fip_snoop.specs.Snoop.{Remembers}
+use Rattle.fip_snoop.specs.declared.forwarder.Forwarder.{Forwarder}
+use Rattle.snoop_run.specs.Files.{items_in, piece_at, PutsEach}
+use Rattle.snoop_run.specs.declared.bridge.Bridge.{Bridge}
+use Rattle.snoop_run.specs.declared.run.Crossed.{Crossed}
+
+-- A bridge of so many ports that handled nothing: each page has the head of a capture.
+pub record IsNew (w : Forwarder) (ports : ℕ) (b : Bridge) : Type 0 where
+  pub kept : Remembers w [] b.snoop
+  pub places : b.places.items ≡ replicate ports 0
+  pub pages : items_in b.pages.items ≡ replicate ports head_bytes
+  pub passed_ : b.passed ≡ 0
+  pub dropped_ : b.dropped ≡ 0
+
+-- The next frame of all stands in the capture at a place, of each of which so many were handled.
+pub record IsNext (place : ℕ) (ins : List (List Record)) (places : List ℕ) : Type 0 where
+  pub count : length places ≡ length ins
+  pub within : place < length ins
+  pub frame_ : Arrival
+  pub is : least 1 (left_in ins places) ≡ Some frame_
+  pub port_ : frame_.port ≡ place + 1
+
+-- These frames were handled, and the others of all captures are to come.
+pub record Stands (w : Forwarder) (ins : List (List Record)) (done : List Arrival) (b : Bridge) : Type 0 where
+  pub count : length b.places.items ≡ length ins
+  pub order : done ++ arrivals (left_in ins b.places.items) ≡ arrivals ins
+  pub kept : Remembers w (history w [] done) b.snoop
+  pub passed_ : b.passed ≡ passed (history w [] done)
+  pub dropped_ : b.dropped ≡ dropped (history w [] done)
+
+-- what a frame adds to each page
+abbrev pub Adds : Forwarder → History → Arrival → Bridge → Bridge → Type 0
+Adds w L a old new = (q : ℕ) → q < length old.pages.items → piece_at (items_in new.pages.items) q ≡ piece_at (items_in old.pages.items) q ++ records_to w (q + 1) L (a ∷ [])
+
+-- What handling a record of a port does behind any history.
+pub record Passes (port : ℕ) (r : Record) (old new : Bridge) : Type 0 where
+  pub places : new.places ≡ old.places
+  pub count : length new.pages.items ≡ length old.pages.items
+  pub kept : (w : Forwarder) (L : History) → Remembers w L old.snoop → Remembers w (handled w L (arrival port r) ∷ L) new.snoop
+  pub passed_ : (w : Forwarder) (L : History) → Remembers w L old.snoop → new.passed ≡ passed (handled w L (arrival port r) ∷ []) + old.passed
+  pub dropped_ : (w : Forwarder) (L : History) → Remembers w L old.snoop → new.dropped ≡ dropped (handled w L (arrival port r) ∷ []) + old.dropped
+  pub adds : (w : Forwarder) (L : History) → Remembers w L old.snoop → Adds w L (arrival port r) old new
+
+-- What handling the next frame does: it is the next of all, and each page has its record where its way leads there.
+pub record Handles (ins : List (List Record)) (old new : Bridge) : Type 0 where
+  pub count : length new.pages.items ≡ length old.pages.items
+  pub next : (w : Forwarder) (done : List Arrival) → Stands w ins done old → (a : Arrival) × Stands w ins (done ++ a ∷ []) new × Adds w (history w [] done) a old new
+
+-- What writing the pages does to the outputs: they grow by what the pages hold, and then the pages are empty.
+pub record Writes (outs : List ℕ) (old new : Bridge) (a b : Seen) (result : Result (Unit {0}) Failed) : Type 0 where
+  pub puts : PutsEach outs (items_in old.pages.items) a b result
+  pub nothing : OnOk result ((q : ℕ) → piece_at (items_in new.pages.items) q ≡ [])
+  pub count : OnOk result (length new.pages.items ≡ length old.pages.items)
+  pub same : OnOk result ((new.snoop ≡ old.snoop) × (new.places ≡ old.places) × (new.passed ≡ old.passed) × (new.dropped ≡ old.dropped))
+
+-- What handling all frames does: each output holds the capture of its port, or, where it ends early, a front of it.
+pub record Crosses (w : Forwarder) (ins : List (List Record)) (outs : List ℕ) (old new : Seen) (result : Result Crossed RunFault) : Type 0 where
+  pub touches : Touches (NameIn old outs) (NameIn old outs) old new
+  pub whole : IsTrue old.told → (q : ℕ) → q < length outs → IfOk result (λ done. new.file (name_of old outs q) ≡ Some (capture w (q + 1) (arrivals ins)))
+  pub front : IsTrue old.told → (q : ℕ) → q < length outs → (bytes : List ℕ) × (new.file (name_of old outs q) ≡ Some bytes) × IsPrefixOf bytes (capture w (q + 1) (arrivals ins))
+  pub passed_ : IfOk result (λ done. done.passed ≡ passed (history w [] (arrivals ins)))
+  pub dropped_ : IfOk result (λ done. done.dropped ≡ dropped (history w [] (arrivals ins)))
+  pub cause : IfErr result (λ e. (e ≡ faults.Memory) ⊎ ((e ≡ faults.Write) × ((q : ℕ) × (q < length outs) × Rose (old.write_faults (name_of old outs q)) (new.write_faults (name_of old outs q)))))

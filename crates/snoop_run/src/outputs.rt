@@ -1,0 +1,37 @@
+//! The outputs, as they are opened.
+ghost use Rattle.std.specs.Prelude.{◌≡◌, ◌<◌, ◌≤◌, ◌++◌, ◌∷◌, [], length};
+ghost use Rattle.snoop_run.specs.Opening.{OpensOutputs};
+ghost use Rattle.snoop_run.specs.Sides.{AreDifferent, AreKnown, outs_of};
+
+use crate::sides::{MOST_PORTS, output_at, side_count};
+use arrayvec::ArrayVec;
+use fab_base::{Depot, Failed};
+
+/// Opens the outputs of all ports, in port order; they are empty then. It takes no memory, so that
+/// none is emptied where memory is refused.
+pub(crate) fn open_outputs<D: Depot>(
+    depot: &mut D,
+    sides: &[String],
+) -> Result<ArrayVec<u32, MOST_PORTS>, Failed>
+    requires few { length sides.now ≤ 128 }
+    requires known { AreKnown (D.seen depot.old) sides.now }
+    requires different { AreDifferent sides.now }
+    ensures opens { OpensOutputs (outs_of sides.now) (D.seen depot.old) (D.seen depot.new) result }
+{
+    let mut outs = ArrayVec::new();
+    for port in 0..side_count(sides) {
+        match depot.open_out(output_at(sides, port)) {
+            Ok(slot) => keep(&mut outs, slot),
+            Err(failed) => return Err(failed),
+        }
+    }
+    Ok(outs)
+}
+
+// One slot more, of at most 64.
+fn keep(outs: &mut ArrayVec<u32, MOST_PORTS>, slot: u32)
+    requires { length outs.old.items < 64 }
+    ensures { outs.new.items ≡ outs.old.items ++ slot ∷ [] }
+{
+    outs.push(slot);
+}
