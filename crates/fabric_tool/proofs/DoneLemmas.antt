@@ -7,16 +7,20 @@ use Rattle.pcap_file.specs.declared.Record.{Record}
 use Rattle.pcap_file.specs.Capture.{IsCapture}
 use Rattle.pcap_file.proofs.lemmas.Chains.{one_capture}
 use Rattle.pcapng_file.specs.Classic.{Converted, classic_bytes, timed, written}
-use Rattle.fabric_tool.specs.Command.{RunNames, PairNames, MakeNames, Command, Run, Replay, Show, Convert, Migrate, Make, Help, Version}
+use Rattle.fabric_tool.specs.Command.{RunNames, PairNames, MakeNames, Command, Run, Replay, Show, Convert, Migrate, Make, SnoopNames, EnodeNames, Snoop, Enode, Help, Version}
 use Rattle.fabric_tool.specs.Ends.{RunHolds, ConvertHolds, MigrateHolds, Holds}
 use Rattle.fabric_tool.specs.Inputs.{HasCapture, LIMITS}
 use Rattle.fabric_tool.specs.Checking.{ReplayHolds, ShowHolds}
 use Rattle.fabric_tool.specs.Load.{MakeHolds}
+use Rattle.fabric_tool.specs.Snooping.{SnoopHolds}
+use Rattle.fabric_tool.specs.Enode.{EnodeHolds}
 use Rattle.fabric_tool.specs.Outcome.{status_of, line_of, made_text}
 use Rattle.fabric_tool.specs.Statuses.{Done, ReplayEnded, ShowEnded}
 use Rattle.fabric_tool.specs.declared.outcome.Outcome.{Outcome}
 use Rattle.fabric_tool.specs.declared.outcome.Outcome.TheVariants as ends
 use Rattle.fabric_tool.proofs.OutcomeCases.{run_cases, convert_cases, migrate_cases, make_cases}
+use Rattle.fabric_tool.proofs.SnoopLemmas.{snoop_cases}
+use Rattle.fabric_tool.proofs.EnodeLemmas.{enode_cases}
 
 -- the records of the capture that was written, and no others
 taken : (k : PairNames) (old new : Seen) (records : ℕ) (c : Converted k.from k.to LIMITS old new records) (rs : List Record) → HasCapture new k.to rs ↔ (rs ≡ timed 0 c.packets)
@@ -98,6 +102,29 @@ make_done k old new before after status none o holds = make_cases k old new (λ 
     (λ h w. let five = w.0 in absurd (omega arith))
     o holds
 
+snoop_done : (k : SnoopNames) (old new : Seen) (before after : Sunk) (status : ℕ) → status ≡ 0 → (o : Outcome) → SnoopHolds k old new o → Whole o before after status → Done (Snoop k) old new before after
+unfolding line_of
+snoop_done k old new before after status none o holds = snoop_cases k old new (λ o. Whole o before after status → Done (Snoop k) old new before after)
+    (λ passed dropped h w told. record { passes = passed; drops = dropped; done = h.1 told; printed = w.1 })
+    (λ fault h w. let one = w.0 in absurd (omega arith))
+    (λ port at reason h w. let one = w.0 in absurd (omega arith))
+    (λ kind h w. let six = w.0 in absurd (omega arith))
+    (λ h w. let three = w.0 in absurd (omega arith))
+    (λ h w. let four = w.0 in absurd (omega arith))
+    (λ h w. let five = w.0 in absurd (omega arith))
+    o holds
+
+enode_done : (k : EnodeNames) (old new : Seen) (before after : Sunk) (status : ℕ) → status ≡ 0 → (o : Outcome) → EnodeHolds k old new o → Whole o before after status → Done (Enode k) old new before after
+unfolding line_of
+enode_done k old new before after status none o holds = enode_cases k old new (λ o. Whole o before after status → Done (Enode k) old new before after)
+    (λ last h w told. record { last = last; done = h.1 told; printed = w.1 })
+    (λ port at reason h w. let one = w.0 in absurd (omega arith))
+    (λ kind h w. let six = w.0 in absurd (omega arith))
+    (λ h w. let three = w.0 in absurd (omega arith))
+    (λ h w. let four = w.0 in absurd (omega arith))
+    (λ h w. let five = w.0 in absurd (omega arith))
+    o holds
+
 help_done : (old new : Seen) (before after : Sunk) (status : ℕ) (o : Outcome) → Holds Help old new o → Whole o before after status → Done Help old new before after
 unfolding line_of
 help_done old new before after status o holds w = record { files = holds.1; printed = λ told. w.1 told ∙ ap (λ o. before.written ++ line_of o) holds.0 }
@@ -113,5 +140,7 @@ command_done (Show k) old new before after status none o holds w = show_done k o
 command_done (Convert k) old new before after status none o holds w = convert_done k old new before after status none o holds w
 command_done (Migrate k) old new before after status none o holds w = migrate_done k old new before after status none o holds w
 command_done (Make k) old new before after status none o holds w = make_done k old new before after status none o holds w
+command_done (Snoop k) old new before after status none o holds w = snoop_done k old new before after status none o holds w
+command_done (Enode k) old new before after status none o holds w = enode_done k old new before after status none o holds w
 command_done Help old new before after status none o holds w = help_done old new before after status o holds w
 command_done Version old new before after status none o holds w = version_done old new before after status o holds w

@@ -22,7 +22,8 @@ use Rattle.fabric_tool.specs.Outcome.{line_of, status_of}
 use Rattle.fabric_tool.specs.Statuses.{IsQuiet, ReplaySays, ShowSays}
 use Rattle.fabric_tool.specs.declared.outcome.Outcome.{Outcome}
 use Rattle.fabric_tool.specs.declared.outcome.Outcome.TheVariants as ends
-use Rattle.fabric_tool.proofs.FoundLemmas.{same_text, no_fault, one_fault, no_bad, one_bad}
+use Rattle.fabric_tool.proofs.ConfigLemmas.{same_text, no_fault, one_fault}
+use Rattle.fabric_tool.proofs.FoundLemmas.{no_bad, one_bad}
 use Rattle.fabric_tool.proofs.LegalLemmas.{above, in_one, legal_end, only_legal, only_shown, shown_end}
 
 -- ---- outcomes that print the same

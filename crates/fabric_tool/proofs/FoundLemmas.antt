@@ -4,7 +4,6 @@ use Rattle.std.specs.Prelude.{Result, drop}
 use Rattle.fab_base.specs.Seen.{Seen}
 use Rattle.fab_base.specs.Sunk.{Sunk}
 use Rattle.fab_config.specs.Settings.{Settings}
-use Rattle.fab_config.specs.Text.{decoded}
 use Rattle.fab_config.specs.declared.ConfigFault.{ConfigFault}
 use Rattle.pcap_file.specs.Capture.{HEAD, head_decoded}
 use Rattle.pcap_file.specs.declared.CapFault.{CapFault}
@@ -16,36 +15,16 @@ use Rattle.fab_gather.specs.declared.fault.RunFault.{RunFault}
 use Rattle.fab_gather.specs.declared.fault.RunFault.TheVariants as faults
 use Rattle.fabric_tool.specs.Command.{RunNames, Run}
 use Rattle.fabric_tool.specs.Ends.{RunHolds}
-use Rattle.fabric_tool.specs.Inputs.{HasConfig, HasFault, IsOpened, AreOpened, HasInputs, HasNoHead, HasBadHead, StopsBy, stop_of, why_of}
+use Rattle.fabric_tool.specs.Inputs.{HasFault, IsOpened, AreOpened, HasInputs, HasNoHead, HasBadHead, StopsBy, stop_of, why_of}
 use Rattle.fabric_tool.specs.Opening.{ran_by}
 use Rattle.fabric_tool.specs.Outcome.{status_of}
 use Rattle.fabric_tool.specs.Statuses.{IsQuiet, RunSays, RunForms}
 use Rattle.fabric_tool.specs.declared.outcome.Outcome.{Outcome}
 use Rattle.fabric_tool.specs.declared.outcome.Outcome.TheVariants as ends
+use Rattle.fabric_tool.proofs.ConfigLemmas.{same_text, one_value, one_fault, no_fault}
 use Rattle.fabric_tool.proofs.OutcomeCases.{run_cases}
 
--- ---- a file says one thing
-
-pub same_text : (d : Seen) (name : List ℕ) (x y : List ℕ) → d.file name ≡ Some x → d.file name ≡ Some y → x ≡ y
-same_text d name x y is other = let e : Some x ≡ Some y = sym is ∙ other in cc
-
-pub one_value : (d : Seen) (name : List ℕ) (a b : Settings) → HasConfig d name a → HasConfig d name b → a ≡ b
-one_value d name a b one other =
-    let same = same_text d name one.text other.text one.file other.file in
-    let both : (let r : Result Settings ConfigFault = Ok a in r) ≡ Ok b = sym one.value ∙ ap decoded same ∙ other.value in
-    cc
-
-pub one_fault : (d : Seen) (name : List ℕ) (a b : ConfigFault) → HasFault d name a → HasFault d name b → a ≡ b
-one_fault d name a b one other =
-    let same = same_text d name one.text other.text one.file other.file in
-    let both : (let r : Result Settings ConfigFault = Err a in r) ≡ Err b = sym one.value ∙ ap decoded same ∙ other.value in
-    cc
-
-pub no_fault : (d : Seen) (name : List ℕ) (a : Settings) (fault : ConfigFault) → HasConfig d name a → HasFault d name fault → ⊥
-no_fault d name a fault one other =
-    let same = same_text d name one.text other.text one.file other.file in
-    let both : (let r : Result Settings ConfigFault = Ok a in r) ≡ Err fault = sym one.value ∙ ap decoded same ∙ other.value in
-    absurd (cc)
+-- ---- heads
 
 same_opened : (x y : Opened) → x.head ≡ y.head → x.body ≡ y.body → x ≡ y
 same_opened x y e f = ap (λ (h : CaptureHead). let o : Opened = record { head = h; body = x.body } in o) e ∙ ap (λ (b : List ℕ). let o : Opened = record { head = y.head; body = b } in o) f

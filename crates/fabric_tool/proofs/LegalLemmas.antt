@@ -16,7 +16,8 @@ use Rattle.fabric_tool.specs.Inputs.{HasFault, HasBadHead, MOST_BYTES}
 use Rattle.fabric_tool.specs.Statuses.{IsQuiet}
 use Rattle.fabric_tool.specs.declared.outcome.Outcome.{Outcome}
 use Rattle.fabric_tool.specs.declared.outcome.Outcome.TheVariants as ends
-use Rattle.fabric_tool.proofs.FoundLemmas.{same_text, one_value, no_fault, all_one, no_bad}
+use Rattle.fabric_tool.proofs.ConfigLemmas.{same_text, one_value, no_fault}
+use Rattle.fabric_tool.proofs.FoundLemmas.{all_one, no_bad}
 
 pub above : (l m : List ℕ) (n : ℕ) → l ≡ m → length l + HEAD * n ≤ MOST_BYTES → MOST_BYTES < length m + HEAD * n → ⊥
 above l m n e within over = let same : length l ≡ length m = ap (λ (x : List ℕ). length x) e in omega (arith, same, within, over)

@@ -19,6 +19,10 @@ pub mod OutcomeLemmas
 pub mod FileLemmas
 pub mod NumberTextLemmas
 pub mod MakeLemmas
+pub mod SideLemmas
+pub mod ConfigLemmas
+pub mod SnoopLemmas
+pub mod EnodeLemmas
 pub mod OutcomeCases
 pub mod FoundLemmas
 pub mod LegalLemmas

@@ -13,7 +13,7 @@ use Rattle.pcapng_file.specs.Classic.{Converted, IsFront, Same, Front, classic_b
 use Rattle.fab_migrate.specs.Migrating.{Migrated, IsNewFront, Untouched, Begun}
 use Rattle.fab_migrate.specs.Old.{new_text}
 use Rattle.fab_migrate.specs.declared.old.OldWhy.{OldWhy}
-use Rattle.fabric_tool.specs.Command.{RunNames, PairNames, MakeNames, Command, Run, Replay, Show, Convert, Migrate, Make, Help, Version, command}
+use Rattle.fabric_tool.specs.Command.{RunNames, PairNames, MakeNames, Command, Run, Replay, Show, Convert, Migrate, Make, Snoop, Enode, Help, Version, command}
 use Rattle.fabric_tool.specs.Ends.{RunHolds, ConvertHolds, MigrateHolds, Holds, HoldsFor, TakesMemory, Reports, Ends}
 use Rattle.fabric_tool.specs.Checking.{ReplayHolds, ShowHolds, CheckSays}
 use Rattle.fabric_tool.specs.Inputs.{LIMITS}
@@ -23,6 +23,8 @@ use Rattle.fabric_tool.specs.declared.limits.TheConstants.{MOST_BYTES}
 use Rattle.fabric_tool.specs.declared.outcome.Outcome.{Outcome}
 use Rattle.fabric_tool.specs.declared.outcome.Outcome.TheVariants as ends
 use Rattle.fabric_tool.proofs.PartLemmas.{ran_part, stopped_part}
+use Rattle.fabric_tool.proofs.SnoopLemmas.{snoop_memory}
+use Rattle.fabric_tool.proofs.EnodeLemmas.{enode_memory}
 
 -- `run` ends so, and not otherwise
 pub run_cases : (k : RunNames) (old new : Seen) (P : Outcome → Type 0) →
@@ -163,6 +165,8 @@ memory_holds (Make k) old new o holds takes = make_cases k old new (λ o. TakesM
     (λ h takes. absurd takes)
     (λ h takes. absurd takes)
     o holds takes
+memory_holds (Snoop k) old new o holds takes = snoop_memory k old new o holds
+memory_holds (Enode k) old new o holds takes = enode_memory k old new o holds takes
 memory_holds Help old new o holds takes = absurd (subst TakesMemory holds.0 takes)
 memory_holds Version old new o holds takes = absurd (subst TakesMemory holds.0 takes)
 

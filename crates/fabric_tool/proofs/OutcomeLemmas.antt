@@ -6,13 +6,14 @@ use Rattle.std.specs.declared.alloc.Global.{Global}
 use Rattle.std.specs.declared.alloc.AllocError.{AllocError}
 use Rattle.fab_base.specs.Sunk.{Sunk}
 use Rattle.fab_config.specs.declared.ConfigFault.{ConfigFault}
-use Rattle.fabric_tool.specs.Outcome.{status_of, line_of, run_text, capture_text, config_text, converted_text, block_text, migrated_text, made_text, legal_text, wrong_text, output_text, journal_text, limit_text}
+use Rattle.fabric_tool.specs.Outcome.{status_of, line_of, run_text, capture_text, config_text, converted_text, block_text, migrated_text, made_text, bridged_text, phase_text, legal_text, wrong_text, output_text, journal_text, limit_text}
 use Rattle.fabric_tool.specs.Help.{help_text, version_text}
 use Rattle.pcapng_file.specs.declared.fault.NgWhy.{NgWhy}
 use Rattle.fab_gather.specs.declared.fault.CapWhy.{CapWhy}
 use Rattle.fab_gather.specs.declared.fault.LimitKind.{LimitKind}
 use Rattle.fab_migrate.specs.declared.old.OldWhy.{OldWhy}
 use Rattle.fab_replay.specs.declared.fault.LineWhy.{LineWhy}
+use Rattle.enode_core.specs.declared.node.Phase.{Phase}
 use Rattle.fabric_tool.specs.Ends.{Puts, Prints, Reports, TakesMemory}
 use Rattle.fabric_tool.specs.declared.outcome.Outcome.{Outcome}
 use Rattle.fabric_tool.specs.declared.outcome.Outcome.TheVariants as ends
@@ -88,6 +89,14 @@ line_output port at = refl
 pub line_made : (frames : ℕ) → made_text frames ≡ line_of (ends.Made frames)
 unfolding line_of
 line_made frames = refl
+
+pub line_bridged : (passed dropped : ℕ) → bridged_text passed dropped ≡ line_of (ends.Bridged passed dropped)
+unfolding line_of
+line_bridged passed dropped = refl
+
+pub line_stood : (last : Phase) → phase_text last ≡ line_of (ends.Stood last)
+unfolding line_of
+line_stood last = refl
 
 pub line_journal : (line : ℕ) (why : OldWhy) → journal_text line why ≡ line_of (ends.BadLine line why)
 unfolding line_of

@@ -44,7 +44,7 @@ all_below c t (records ∷ ins) le = let first = kept_below c t records (omega a
 
 -- ---- whole files are fronts
 
-all_fronts : (old new : Seen) (names wholes : List (List ℕ)) → map (λ n. new.file n) names ≡ map (λ l. Some l) wholes → AreOldOrFront old new names wholes
+pub all_fronts : (old new : Seen) (names wholes : List (List ℕ)) → map (λ n. new.file n) names ≡ map (λ l. Some l) wholes → AreOldOrFront old new names wholes
 all_fronts old new [] [] are = tt
 all_fronts old new [] (whole ∷ wholes) are = absurd (cc)
 all_fronts old new (name ∷ names) [] are = absurd (cc)

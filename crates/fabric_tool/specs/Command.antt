@@ -1,5 +1,5 @@
 -- The command that words are.
-use Rattle.std.specs.Prelude.{◌≡◌, ℕ, ◌+◌, ◌-◌, ◌*◌, ◌/◌, ◌%◌, ◌^◌, ◌<◌, ◌⊎◌, Bool, true, false, not, ◌==◌, nat_lt, nat_le, ◌&&◌, if◌then◌else◌, IsTrue, List, [], ◌∷◌, ◌++◌, length, map, drop, Option, Some, None, is_some, unwrap_or, option_map, codes, decimal, String}
+use Rattle.std.specs.Prelude.{◌≡◌, ℕ, ◌+◌, ◌-◌, ◌*◌, ◌/◌, ◌%◌, ◌^◌, ◌<◌, ◌⊎◌, Bool, true, false, not, ◌==◌, nat_lt, nat_le, ◌&&◌, if◌then◌else◌, IsTrue, List, [], ◌∷◌, ◌++◌, length, map, drop, Option, Some, None, is_some, unwrap_or, option_map, option_and_then, codes, decimal, String}
 use Rattle.std.specs.List.{list_any}
 use Rattle.std.specs.Str.{bytes_eq}
 use Rattle.std.specs.Str.Parse.{digits_value}
@@ -7,7 +7,11 @@ use Rattle.std.specs.String.{string_bytes}
 use Rattle.std.specs.declared.alloc.Global.{Global}
 use Rattle.fab_base.specs.Places.{name_at}
 use Rattle.fab_base.specs.Seen.{Seen, Rose}
+use Rattle.fab_config.specs.Values.{octets_of, name}
 use Rattle.fab_policy.specs.Logins.{counting}
+use Rattle.enode_core.specs.declared.node.Identity.{Identity}
+pub use Rattle.snoop_run.specs.Bridged.{Among, AnyRose}
+use Rattle.snoop_run.specs.Sides as sides
 use Rattle.fabric_tool.specs.declared.command.Form.{Form}
 use Rattle.fabric_tool.specs.declared.command.Form.TheVariants as forms
 use Rattle.fabric_tool.specs.declared.command.Width.{Width}
@@ -30,6 +34,20 @@ pub record MakeNames : Type 0 where
   pub number : ℕ
   pub files : List (List ℕ)
 
+-- `snoop CONFIG IN OUT IN OUT [IN OUT ..]`: the names of the configuration, and of the captures of each port
+pub record SnoopNames : Type 0 where
+  pub config : List ℕ
+  pub ins : List (List ℕ)
+  pub outs : List (List ℕ)
+
+-- `enode START MAC PORTNAME NODENAME IN OUT`: when a node starts, who it is, and the names of the capture that its port receives and
+-- of the one of what it sends
+pub record EnodeNames : Type 0 where
+  pub start : ℕ
+  pub own : Identity
+  pub from : List ℕ
+  pub to : List ℕ
+
 -- a command with its names; `--help` and `--version` have none
 pub data Command : Type 0 where
   Run : (names : RunNames) → Command
@@ -38,6 +56,8 @@ pub data Command : Type 0 where
   Convert : (names : PairNames) → Command
   Migrate : (names : PairNames) → Command
   Make : (names : MakeNames) → Command
+  Snoop : (names : SnoopNames) → Command
+  Enode : (names : EnodeNames) → Command
   Help : Command
   Version : Command
 
@@ -86,6 +106,25 @@ number_of word = let n = digits_value 10 word in if bytes_eq word (decimal n) &&
 abbrev pub is_make : List (String Global) → Bool
 is_make words = length words == 11 && bytes_eq (name_at words 0) (codes "make") && is_some (number_of (name_at words 1)) && are_names (names_from 2 words)
 
+-- 2 to 64 pairs of names behind the first two words
+abbrev pub has_sides : List (String Global) → Bool
+has_sides words = nat_le 6 (length words) && nat_le (length words) 130 && length words % 2 == 0
+
+abbrev pub is_snoop : List (String Global) → Bool
+is_snoop words = has_sides words && are_names (names_from 1 words) && bytes_eq (name_at words 0) (codes "snoop")
+
+-- the moment that a word is, no later than the last millisecond that a capture can name, or none
+abbrev pub start_of : List ℕ → Option ℕ
+start_of word = option_and_then (λ n. if nat_le n 4294967295999 then Some n else None) (number_of word)
+
+-- a moment, a MAC of any six bytes, and the names of a port and of a node
+abbrev pub is_node : List (String Global) → Bool
+is_node words = is_some (start_of (name_at words 1)) && is_some (octets_of 6 (name_at words 2)) && is_some (name (name_at words 3)) && is_some (name (name_at words 4))
+
+-- `enode`, these, and the names of two files
+abbrev pub is_enode : List (String Global) → Bool
+is_enode words = length words == 7 && bytes_eq (name_at words 0) (codes "enode") && is_node words && are_names (names_from 5 words)
+
 -- this word alone
 abbrev pub is_word : List ℕ → List (String Global) → Bool
 is_word word words = length words == 1 && bytes_eq (name_at words 0) word
@@ -99,6 +138,8 @@ form_of words =
     else if is_pair (codes "convert") words then Some forms.Convert
     else if is_pair (codes "migrate") words then Some forms.Migrate
     else if is_make words then Some forms.Make
+    else if is_snoop words then Some forms.Snoop
+    else if is_enode words then Some forms.Enode
     else if is_word (codes "--help") words then Some forms.Help
     else if is_word (codes "--version") words then Some forms.Version
     else None
@@ -154,6 +195,17 @@ file_at words place = name_at words (place + 2)
 abbrev pub make_of : List (String Global) → MakeNames
 make_of words = record { number = unwrap_or (number_of (name_at words 1)) 0; files = map (file_at words) (counting 0 9) }
 
+abbrev pub snoop_of : List (String Global) → SnoopNames
+snoop_of words = record { config = name_at words 1; ins = sides.ins_of (drop 2 words); outs = sides.outs_of (drop 2 words) }
+
+abbrev pub enode_of : List (String Global) → EnodeNames
+enode_of words = record {
+  start = unwrap_or (start_of (name_at words 1)) 0;
+  own = record { mac = unwrap_or (octets_of 6 (name_at words 2)) []; name = unwrap_or (name (name_at words 3)) 0; node = unwrap_or (name (name_at words 4)) 0 };
+  from = name_at words 5;
+  to = name_at words 6;
+}
+
 -- the command that words of a form are
 abbrev pub named : List (String Global) → Form → Command
 named words forms.Run = Run (run_of words)
@@ -162,6 +214,8 @@ named words forms.Show = Show (show_of words)
 named words forms.Convert = Convert (pair_of words)
 named words forms.Migrate = Migrate (pair_of words)
 named words forms.Make = Make (make_of words)
+named words forms.Snoop = Snoop (snoop_of words)
+named words forms.Enode = Enode (enode_of words)
 named words forms.Help = Help
 named words forms.Version = Version
 
@@ -177,6 +231,8 @@ inputs (Show k) = k.config ∷ k.journal ∷ k.ins
 inputs (Convert k) = k.from ∷ []
 inputs (Migrate k) = k.from ∷ []
 inputs (Make k) = []
+inputs (Snoop k) = k.config ∷ k.ins
+inputs (Enode k) = k.from ∷ []
 inputs Help = []
 inputs Version = []
 
@@ -187,22 +243,14 @@ outputs (Show k) = []
 outputs (Convert k) = k.to ∷ []
 outputs (Migrate k) = k.to ∷ []
 outputs (Make k) = k.files
+outputs (Snoop k) = k.outs
+outputs (Enode k) = k.to ∷ []
 outputs Help = []
 outputs Version = []
 
 -- every word but the first is known
 abbrev pub AllKnown : Seen → List (String Global) → Type 0
 AllKnown d words = (i : ℕ) → 0 < i → i < length words → IsTrue (d.knows (name_at words i))
-
--- one of these names
-abbrev pub Among : List (List ℕ) → List ℕ → Type 0
-Among [] m = ⊥
-Among (n ∷ names) m = (m ≡ n) ⊎ Among names m
-
--- the count of one of these names rose
-abbrev pub AnyRose : (List ℕ → ℕ) → (List ℕ → ℕ) → List (List ℕ) → Type 0
-AnyRose before now [] = ⊥
-AnyRose before now (n ∷ names) = Rose (before n) (now n) ⊎ AnyRose before now names
 
 -- a fault of reading an input, and of writing an output, was counted
 abbrev pub ReadRose : Command → Seen → Seen → Type 0

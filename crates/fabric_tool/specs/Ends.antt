@@ -11,10 +11,12 @@ use Rattle.fab_gather.specs.declared.fault.LimitKind.TheVariants as kinds
 use Rattle.fab_gather.specs.declared.fault.RunFault.TheVariants as faults
 use Rattle.fab_migrate.specs.Migrating.{Migrated, IsNewFront, SaysOld}
 use Rattle.fab_migrate.specs.declared.old.OldError.TheVariants as olds
-use Rattle.fabric_tool.specs.Command.{RunNames, PairNames, Command, Run, Replay, Show, Convert, Migrate, Make, Help, Version, command, ReadRose, WriteRose, KeepsOthers}
+use Rattle.fabric_tool.specs.Command.{RunNames, PairNames, Command, Run, Replay, Show, Convert, Migrate, Make, Snoop, Enode, Help, Version, command, ReadRose, WriteRose, KeepsOthers}
 use Rattle.fabric_tool.specs.Inputs.{HasFault, HasBadHead, LIMITS}
 use Rattle.fabric_tool.specs.Checking.{ReplayHolds, ShowHolds}
 use Rattle.fabric_tool.specs.Load.{MakeHolds}
+use Rattle.fabric_tool.specs.Snooping.{SnoopHolds}
+use Rattle.fabric_tool.specs.Enode.{EnodeHolds}
 use Rattle.fabric_tool.specs.Left.{HasRun, HasStopped, HasWholePart, HasFrontPart}
 use Rattle.fabric_tool.specs.Outcome.{status_of, line_of, kind_of}
 use Rattle.fabric_tool.specs.declared.limits.TheConstants.{MOST_BYTES}
@@ -68,6 +70,8 @@ Holds (Show k) old new outcome = ShowHolds k old new outcome
 Holds (Convert k) old new outcome = ConvertHolds k old new outcome
 Holds (Migrate k) old new outcome = MigrateHolds k old new outcome
 Holds (Make k) old new outcome = MakeHolds k old new outcome
+Holds (Snoop k) old new outcome = SnoopHolds k old new outcome
+Holds (Enode k) old new outcome = EnodeHolds k old new outcome
 Holds Help old new outcome = (outcome ≡ ends.Help) × SameFiles old new
 Holds Version old new outcome = (outcome ≡ ends.Version) × SameFiles old new
 
@@ -95,6 +99,8 @@ TakesMemory (ends.Capture port at why) = Unit {0}
 TakesMemory (ends.Converted records) = Unit {0}
 TakesMemory (ends.Migrated entries) = Unit {0}
 TakesMemory (ends.Made frames) = Unit {0}
+TakesMemory (ends.Bridged passed dropped) = Unit {0}
+TakesMemory (ends.Stood last) = ⊥
 TakesMemory (ends.Legal entries) = Unit {0}
 TakesMemory (ends.Shown text) = ⊥
 TakesMemory (ends.WrongLine line why) = Unit {0}

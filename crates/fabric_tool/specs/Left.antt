@@ -20,6 +20,7 @@ use Rattle.fab_policy.specs.declared.verdict.Verdict.{Verdict}
 use Rattle.fab_policy.specs.declared.verdict.Verdict.TheVariants.{Granted}
 use Rattle.fab_gather.specs.declared.fault.RunFault.{RunFault}
 use Rattle.fab_windows.specs.Run.{IsRunOver}
+pub use Rattle.snoop_run.specs.Bridged.{IsOldOrFront, AreOldOrFront}
 use Rattle.fabric_tool.specs.Command.{RunNames}
 use Rattle.fabric_tool.specs.Inputs.{AreCaptures, HasInputs, StopsBy, stop_of, kept_of}
 
@@ -29,16 +30,6 @@ use Rattle.fabric_tool.specs.Inputs.{AreCaptures, HasInputs, StopsBy, stop_of, k
 pub record HoldsAll (k : RunNames) (c : Settings) (d : Seen) (J : Journal) : Type 0 where
   pub lines : d.file k.journal ≡ Some (text J)
   pub captures : map (λ n. d.file n) k.outs ≡ map (λ l. Some l) (egresses c (length k.outs) J)
-
--- a file is as it was, or holds bytes with which these begin
-abbrev pub IsOldOrFront : Seen → Seen → List ℕ → List ℕ → Type 0
-IsOldOrFront old new name whole = (new.file name ≡ old.file name) ⊎ ((bytes : List ℕ) × (new.file name ≡ Some bytes) × IsPrefixOf bytes whole)
-
-abbrev pub AreOldOrFront : Seen → Seen → List (List ℕ) → List (List ℕ) → Type 0
-AreOldOrFront old new [] [] = Unit {0}
-AreOldOrFront old new [] (whole ∷ wholes) = ⊥
-AreOldOrFront old new (name ∷ names) [] = ⊥
-AreOldOrFront old new (name ∷ names) (whole ∷ wholes) = IsOldOrFront old new name whole × AreOldOrFront old new names wholes
 
 -- each output is as it was, or holds a front of the text of this journal or of its capture
 pub record HoldsFronts (k : RunNames) (c : Settings) (old new : Seen) (J : Journal) : Type 0 where

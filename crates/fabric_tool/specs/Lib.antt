@@ -7,6 +7,8 @@ pub mod Outcome
 pub mod Left
 pub mod Checking
 pub mod Load
+pub mod Snooping
+pub mod Enode
 pub mod Ends
 pub mod Statuses
 pub mod Rechecking

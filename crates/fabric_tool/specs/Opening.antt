@@ -5,6 +5,8 @@ use Rattle.fab_base.specs.declared.values.Failed.{Failed}
 use Rattle.fab_gather.specs.declared.fault.RunFault.{RunFault}
 use Rattle.fab_gather.specs.declared.fault.RunFault.TheVariants as faults
 use Rattle.fab_windows.specs.declared.Done.{Done}
+use Rattle.enode_core.specs.declared.node.Phase.{Phase}
+use Rattle.snoop_run.specs.declared.run.Crossed.{Crossed}
 use Rattle.fabric_tool.specs.Command.{RunNames, MakeNames, AnyRose, Among}
 use Rattle.fabric_tool.specs.declared.making.LoadFiles.{LoadFiles}
 use Rattle.fabric_tool.specs.declared.outcome.Outcome.{Outcome}
@@ -47,3 +49,13 @@ stopped_by faults.Memory = ends.Memory
 abbrev pub ran_by : Result Done RunFault → Outcome
 ran_by (Ok done) = ends.Ran done.frames done.entries
 ran_by (Err fault) = stopped_by fault
+
+-- what the end of a node's run ends `enode` with
+abbrev pub stood_by : Result Phase RunFault → Outcome
+stood_by (Ok last) = ends.Stood last
+stood_by (Err fault) = stopped_by fault
+
+-- what the end of a bridge ends `snoop` with
+abbrev pub crossed_by : Result Crossed RunFault → Outcome
+crossed_by (Ok done) = ends.Bridged done.passed done.dropped
+crossed_by (Err fault) = stopped_by fault

@@ -1,5 +1,6 @@
 -- How a command ends, its status, and the line that it prints.
 use Rattle.std.specs.Prelude.{ℕ, List, ◌++◌, codes, decimal}
+use Rattle.fab_base.specs.Texts.{hex, hex_bytes}
 use Rattle.fab_config.specs.declared.ConfigFault.{ConfigFault}
 use Rattle.fab_config.specs.declared.ConfigWhy.{ConfigWhy}
 use Rattle.fab_config.specs.declared.ConfigWhy.TheVariants as why
@@ -17,15 +18,19 @@ use Rattle.fab_replay.specs.declared.fault.LineWhy.{LineWhy}
 use Rattle.fab_replay.specs.declared.fault.LineWhy.TheVariants as lines
 use Rattle.fab_migrate.specs.declared.old.OldWhy.{OldWhy}
 use Rattle.fab_migrate.specs.declared.old.OldWhy.TheVariants as olds
+use Rattle.enode_core.specs.declared.node.Phase.{Phase}
+use Rattle.enode_core.specs.declared.node.Phase.TheVariants as phase
 use Rattle.fabric_tool.specs.declared.limits.TheConstants.{MOST_BYTES, MOST_FRAMES}
 use Rattle.fabric_tool.specs.declared.outcome.Outcome.{Outcome}
-use Rattle.fabric_tool.specs.declared.outcome.Outcome.TheVariants.{Ran, Converted, Migrated, Legal, Shown, WrongLine, WrongOutput, Made, Help, Version, Words, Config, Capture, BadBlock, BadLine, Limit, ReadFault, WriteFault, Memory}
+use Rattle.fabric_tool.specs.declared.outcome.Outcome.TheVariants.{Ran, Converted, Migrated, Legal, Shown, WrongLine, WrongOutput, Made, Bridged, Stood, Help, Version, Words, Config, Capture, BadBlock, BadLine, Limit, ReadFault, WriteFault, Memory}
 
 abbrev pub status_of : Outcome → ℕ
 status_of (Ran frames entries) = 0
 status_of (Converted records) = 0
 status_of (Migrated entries) = 0
 status_of (Made frames) = 0
+status_of (Bridged passed dropped) = 0
+status_of (Stood last) = 0
 status_of (Legal entries) = 0
 status_of (Shown text) = 0
 status_of (WrongLine line reason) = 1
@@ -130,6 +135,17 @@ old_word olds.Tick = codes "tick"
 abbrev pub journal_text : ℕ → OldWhy → List ℕ
 journal_text line fault = codes "journal " ++ decimal line ++ codes " " ++ old_word fault ++ codes "\n"
 
+-- the line of a bridge
+abbrev pub bridged_text : ℕ → ℕ → List ℕ
+bridged_text passed dropped = codes "passed " ++ decimal passed ++ codes " dropped " ++ decimal dropped ++ codes "\n"
+
+-- the line of a node's last phase: an address of six digits, and a MAC of twelve
+abbrev pub phase_text : Phase → List ℕ
+phase_text phase.Asking = codes "asking\n"
+phase_text phase.Looking = codes "looking\n"
+phase_text (phase.Logging ox_id) = codes "logging\n"
+phase_text (phase.Up address mac) = codes "up " ++ hex 6 address ++ codes " " ++ hex_bytes mac ++ codes "\n"
+
 -- the line of inputs past a limit
 abbrev pub limit_text : LimitKind → List ℕ
 limit_text kinds.Bytes = codes "limit bytes " ++ decimal MOST_BYTES ++ codes "\n"
@@ -144,6 +160,8 @@ line_of (Capture port at reason) = capture_text port at reason
 line_of (Converted records) = converted_text records
 line_of (Migrated entries) = migrated_text entries
 line_of (Made frames) = made_text frames
+line_of (Bridged passed dropped) = bridged_text passed dropped
+line_of (Stood last) = phase_text last
 line_of (Legal entries) = legal_text entries
 line_of (Shown text) = text
 line_of (WrongLine line reason) = wrong_text line reason

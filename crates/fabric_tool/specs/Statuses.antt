@@ -20,13 +20,15 @@ use Rattle.fab_policy.specs.declared.line.Line.{Line}
 use Rattle.fab_migrate.specs.Migrating.{Migrated, IsNewFront}
 use Rattle.fab_migrate.specs.Old.{IsOld, HasFirstFault}
 use Rattle.fab_migrate.specs.declared.old.OldWhy.{OldWhy}
-use Rattle.fabric_tool.specs.Command.{RunNames, PairNames, MakeNames, Command, Run, Replay, Show, Convert, Migrate, Make, Help, Version, command, ReadRose, WriteRose}
+use Rattle.fabric_tool.specs.Command.{RunNames, PairNames, MakeNames, Command, Run, Replay, Show, Convert, Migrate, Make, Snoop, Enode, Help, Version, command, ReadRose, WriteRose}
 use Rattle.fabric_tool.specs.Ends.{RunHolds, ConvertHolds, MigrateHolds, Holds, HoldsFor}
 use Rattle.fabric_tool.specs.Help.{help_text, version_text}
 use Rattle.fabric_tool.specs.Inputs.{HasFault, HasCapture, HasInputs, HasBadHead, StopsBy, HasPackets, LIMITS, stop_of}
 use Rattle.fabric_tool.specs.Left.{HasRun, HasFrontPart}
 use Rattle.fabric_tool.specs.Checking.{ReplayHolds, ShowHolds, CheckSays}
 use Rattle.fabric_tool.specs.Load.{LOAD, HasLoad, HasLoadFront}
+use Rattle.fabric_tool.specs.Snooping.{SnoopEnded, IsSnoopRefused, HasSnoopFront, SnoopForms, SnoopSays}
+use Rattle.fabric_tool.specs.Enode.{EnodeEnded, IsEnodeRefused, HasEnodeFront, EnodeForms, EnodeSays}
 use Rattle.fabric_tool.specs.Outcome.{status_of, line_of, run_text, converted_text, migrated_text, legal_text, made_text}
 use Rattle.fabric_tool.specs.Reading.{unconverted_by}
 use Rattle.fabric_tool.specs.declared.limits.TheConstants.{MOST_BYTES}
@@ -107,6 +109,8 @@ Done (Show k) old new before after = IsTrue old.told → ShowEnded k old new bef
 Done (Convert k) old new before after = IsTrue old.told → ConvertEnded k old new before after
 Done (Migrate k) old new before after = IsTrue old.told → MigrateEnded k old new before after
 Done (Make k) old new before after = IsTrue old.told → MakeEnded k new before after
+Done (Snoop k) old new before after = IsTrue old.told → SnoopEnded k old new before after
+Done (Enode k) old new before after = IsTrue old.told → EnodeEnded k old new before after
 Done Help old new before after = TextEnded help_text old new before after
 Done Version old new before after = TextEnded version_text old new before after
 
@@ -119,7 +123,7 @@ pub record OfCommand (words : List (String Global)) (P : Command → Type 0) : T
 -- ---- refused
 
 -- Status 1: of `run`, the configuration has a fault, or a capture can't be taken; of `convert`, the pcapng file has a fault at a
--- block; of `migrate`, the journal has one at a line.
+-- block; of `migrate`, the journal has one at a line; of `snoop` and `enode`, the configuration has a fault, or a capture can't be taken.
 abbrev pub IsRefused : Command → Seen → Seen → Type 0
 IsRefused (Run k) old new = ((fault : ConfigFault) × RunHolds k old new (ends.Config fault)) ⊎ ((port : ℕ) × (at : ℕ) × (why : CapWhy) × RunHolds k old new (ends.Capture port at why))
 IsRefused (Replay k) old new = (o : Outcome) × (status_of o ≡ 1) × ReplayHolds k old new o
@@ -127,6 +131,8 @@ IsRefused (Show k) old new = (o : Outcome) × (status_of o ≡ 1) × ShowHolds k
 IsRefused (Convert k) old new = (at : ℕ) × (fault : NgWhy) × ConvertHolds k old new (ends.BadBlock at fault)
 IsRefused (Migrate k) old new = (line : ℕ) × (fault : OldWhy) × MigrateHolds k old new (ends.BadLine line fault)
 IsRefused (Make k) old new = ⊥
+IsRefused (Snoop k) old new = IsSnoopRefused k old new
+IsRefused (Enode k) old new = IsEnodeRefused k old new
 IsRefused Help old new = ⊥
 IsRefused Version old new = ⊥
 
@@ -144,6 +150,8 @@ HasFront (Show k) old new = SameFiles old new
 HasFront (Convert k) old new = IsFront k.from k.to LIMITS old new
 HasFront (Migrate k) old new = IsNewFront k.from k.to MOST_BYTES old new
 HasFront (Make k) old new = HasLoadFront k old new
+HasFront (Snoop k) old new = HasSnoopFront k old new
+HasFront (Enode k) old new = HasEnodeFront k old new
 HasFront Help old new = SameFiles old new
 HasFront Version old new = SameFiles old new
 
@@ -181,6 +189,8 @@ HasForms (Show k) d = IsTrue d.told × (text : List ℕ) × CheckSays k d (ends.
 HasForms (Convert k) d = ConvertForms k d
 HasForms (Migrate k) d = MigrateForms k d
 HasForms (Make k) d = Unit {0}
+HasForms (Snoop k) d = SnoopForms k d
+HasForms (Enode k) d = EnodeForms k d
 HasForms Help d = Unit {0}
 HasForms Version d = Unit {0}
 
@@ -229,6 +239,8 @@ Says (Show k) d outcome = ShowSays k d outcome
 Says (Convert k) d outcome = (bytes : List ℕ) × (d.file k.from ≡ Some bytes) × (outcome ≡ ended_by (ng_read LIMITS bytes))
 Says (Migrate k) d outcome = (bytes : List ℕ) × (d.file k.from ≡ Some bytes) × MigrateSays bytes outcome
 Says (Make k) d outcome = outcome ≡ ends.Made LOAD
+Says (Snoop k) d outcome = SnoopSays k d outcome
+Says (Enode k) d outcome = EnodeSays k d outcome
 Says Help d outcome = outcome ≡ ends.Help
 Says Version d outcome = outcome ≡ ends.Version
 

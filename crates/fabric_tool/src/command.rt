@@ -1,12 +1,15 @@
 //! The words of the command line.
-ghost use Rattle.std.specs.Prelude.{◌≡◌, ◌+◌, ◌*◌, ◌<◌, ◌≤◌, length, true};
+ghost use Rattle.std.specs.Prelude.{◌≡◌, ◌+◌, ◌*◌, ◌<◌, ◌≤◌, length, drop, true};
 ghost use Rattle.std.specs.Str.{bytes_eq};
 ghost use Rattle.std.specs.List.{list_any};
 ghost use Rattle.fab_base.specs.Places.{name_at};
+ghost use Rattle.snoop_run.specs.Sides.{AreDifferent};
 ghost use Rattle.fabric_tool.specs.Command as spec;
 
-use crate::number::number_of;
-use fab_base::word_at;
+use crate::number::{number_of, start_of};
+use enode_core::Identity;
+use fab_base::{Mac, Moment, Wwn, word_at};
+use fab_config::{read_mac, read_name};
 
 /// The most ports of a forwarder.
 pub(crate) const MOST_PORTS: usize = 64;
@@ -26,6 +29,10 @@ pub(crate) enum Form {
     Migrate,
     /// `make NUMBER CONFIG IN1 .. IN8`. No name is empty or used twice.
     Make,
+    /// `snoop CONFIG IN OUT IN OUT [IN OUT ..]` with 2 to 64 pairs. No name is empty or used twice.
+    Snoop,
+    /// `enode START MAC PORTNAME NODENAME IN OUT`. No file name is empty, and they differ.
+    Enode,
     /// `--help`
     Help,
     /// `--version`
@@ -55,6 +62,10 @@ pub(crate) fn form_of(words: &[String]) -> Option<Form>
         Some(Form::Migrate)
     } else if is_make(words) {
         Some(Form::Make)
+    } else if is_snoop(words) {
+        Some(Form::Snoop)
+    } else if is_enode(words) {
+        Some(Form::Enode)
     } else if is_word(words, "--help") {
         Some(Form::Help)
     } else if is_word(words, "--version") {
@@ -93,6 +104,37 @@ fn is_make(words: &[String]) -> bool
         && word_at(words, 0) == "make"
         && number_of(word_at(words, 1)).is_some()
         && are_names(words, 2)
+}
+
+// Whether these are `snoop`, a name, and 2 to 64 pairs of names.
+fn is_snoop(words: &[String]) -> bool
+    ensures { result ≡ spec.is_snoop words.now }
+{
+    has_sides(words) && are_names(words, 1) && word_at(words, 0) == "snoop"
+}
+
+fn has_sides(words: &[String]) -> bool
+    ensures sides { result ≡ spec.has_sides words.now }
+    ensures some { result ≡ true → 0 < length words.now }
+{
+    words.len() >= 6 && words.len() <= 2 + 2 * MOST_PORTS && words.len() % 2 == 0
+}
+
+// Whether these are `enode`, a moment, a MAC, two names of ports, and two of files.
+fn is_enode(words: &[String]) -> bool
+    ensures { result ≡ spec.is_enode words.now }
+{
+    words.len() == 7 && word_at(words, 0) == "enode" && is_node(words) && are_names(words, 5)
+}
+
+fn is_node(words: &[String]) -> bool
+    requires { length words.now ≡ 7 }
+    ensures { result ≡ spec.is_node words.now }
+{
+    start_of(word_at(words, 1)).is_some()
+        && read_mac(word_at(words, 2).as_bytes()).is_some()
+        && read_name(word_at(words, 3).as_bytes()).is_some()
+        && read_name(word_at(words, 4).as_bytes()).is_some()
 }
 
 // Whether this is the only word.
@@ -165,6 +207,40 @@ pub(crate) fn file_at(words: &[String], place: usize) -> &str
     ensures { result.now ≡ spec.file_at words.now place }
 {
     word_at(words, place + 2)
+}
+
+/// The names of a bridge's ports: an input and an output for each.
+pub(crate) fn sides_of(words: &[String]) -> &[String]
+    requires { spec.is_snoop words.now ≡ true }
+    ensures value { result.now ≡ drop 2 words.now }
+    ensures few { length result.now ≤ 128 }
+    ensures different { AreDifferent result.now }
+{
+    &words[2..]
+}
+
+/// When a node starts.
+pub(crate) fn start_at(words: &[String]) -> Moment
+    requires { spec.is_enode words.now ≡ true }
+    ensures value { result ≡ (spec.enode_of words.now).start }
+    ensures range { result ≤ 4294967295999 }
+{
+    match start_of(word_at(words, 1)) {
+        Some(start) => Moment(start),
+        None => Moment(0),
+    }
+}
+
+/// Who a node is.
+pub(crate) fn node_of(words: &[String]) -> Identity
+    requires { spec.is_enode words.now ≡ true }
+    ensures { result ≡ (spec.enode_of words.now).own }
+{
+    Identity {
+        mac: read_mac(word_at(words, 2).as_bytes()).unwrap_or(Mac([0; 6])),
+        name: read_name(word_at(words, 3).as_bytes()).unwrap_or(Wwn(0)),
+        node: read_name(word_at(words, 4).as_bytes()).unwrap_or(Wwn(0)),
+    }
 }
 
 /// How many ports the command has.

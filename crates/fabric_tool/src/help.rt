@@ -22,13 +22,22 @@ fcoe_tool 0.1.0: an FCoE forwarder, run over captures
   fcoe_tool make NUMBER CONFIG IN1 IN2 IN3 IN4 IN5 IN6 IN7 IN8
       writes a configuration and the captures of 8 ports, all drawn from this
       number, and prints: made 20000
+  fcoe_tool snoop CONFIG IN OUT IN OUT [IN OUT ..]
+      lets the frames of 2 to 64 ports cross a FIP snooping bridge, of which
+      port 1 is the forwarder's; writes a capture of what each port gets, and
+      prints: passed N dropped M
+  fcoe_tool enode START MAC PORTNAME NODENAME IN OUT
+      runs a node, from this moment on, over the capture of what its port
+      receives; writes the capture of what it sends, and prints where it stands
+      in the end: asking, looking, logging, or up ADDRESS MAC
   fcoe_tool --help
       prints this text
   fcoe_tool --version
       prints the version
 
-No name is empty, and none is used twice. NUMBER is decimal and below 2 to the
-64, with no sign and no leading zero. The statuses, with what is printed:
+No file name is empty, and none is used twice. NUMBER is decimal and below 2 to
+the 64, START is at most 4294967295999 (in milliseconds); neither has a sign or
+a leading zero. The statuses, with what is printed:
 
   0  as above: all was done
   1  config LINE WHY: the first fault of the configuration
@@ -44,8 +53,8 @@ No name is empty, and none is used twice. NUMBER is decimal and below 2 to the
 
 After status 1 or 6 of run the journal and the captures hold what came before
 that place. No file has changed after status 2, nor where the configuration or
-the head of a capture is at fault, nor after statuses 1, 3 and 6 of convert and
-migrate.
+the head of a capture is at fault, nor after statuses 1, 3 and 6 of convert,
+migrate, snoop and enode.
 ";
 
 /// The commands, what they print, and the statuses.

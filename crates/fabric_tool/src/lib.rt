@@ -9,11 +9,13 @@ mod inputs;
 mod limits;
 mod making;
 mod migrating;
+mod node;
 mod number;
 mod outcome;
 mod outputs;
 mod replaying;
 mod running;
+mod snooping;
 mod tool;
 
 pub use outcome::{Outcome, report};

@@ -1,7 +1,23 @@
-//! The number of a load.
-ghost use Rattle.std.specs.Prelude.{◌≡◌, MatchBool};
+//! The number of a load, and the moment that a node starts at.
+ghost use Rattle.std.specs.Prelude.{◌≡◌, ◌≤◌, IfSome, MatchBool};
 ghost use Rattle.fab_policy.specs.Private.LineWords.{IsShortest};
 ghost use Rattle.fabric_tool.specs.Command as spec;
+
+/// The last millisecond that a capture can name.
+const LAST_START: u64 = 4_294_967_295_999;
+
+/// The moment that a word spells as a number, no later than a capture can name.
+pub(crate) fn start_of(word: &str) -> Option<u64>
+    ensures start { result ≡ spec.start_of word.now }
+    ensures range { IfSome result (λ n. n ≤ 4294967295999) }
+{
+    let number = number_of(word)?;
+    if number <= LAST_START {
+        Some(number)
+    } else {
+        None
+    }
+}
 
 /// The number below 2^64 that a word spells in decimal digits, without a sign or a needless zero.
 pub(crate) fn number_of(word: &str) -> Option<u64>

@@ -1,12 +1,15 @@
 //! How a command ends.
 ghost use Rattle.std.specs.Prelude.{◌≡◌, IfOk, IfErr, codes};
 ghost use Rattle.std.specs.String.{string_bytes};
+ghost use Rattle.enode_core.specs.declared.node.Phase.TheVariants.{Up};
 ghost use Rattle.fabric_tool.specs.Outcome as spec;
 ghost use Rattle.fabric_tool.specs.Ends.{Puts, Reports};
 
 use crate::help::{help, version};
 use crate::limits::{MOST_BYTES, MOST_FRAMES};
-use fab_base::{Bytes, PortNo, Sink, say_all};
+use arrayvec::ArrayVec;
+use enode_core::Phase;
+use fab_base::{Bytes, FcId, Mac, PortNo, Sink, address_text, mac_text, put, say_all};
 use fab_config::{ConfigFault, ConfigWhy};
 use fab_migrate::OldWhy;
 use fab_policy::MOST_SPAN;
@@ -14,6 +17,9 @@ use fab_replay::LineWhy;
 use fab_windows::{CapWhy, LimitKind};
 use pcapng_file::NgWhy;
 use std::alloc::{AllocError, Global};
+
+/// The bytes of the line of a node that is up.
+const UP_LINE: usize = 23;
 
 /// How a command ended. The status and the printed line are two tables over it.
 #[derive(Debug, Drop)]
@@ -28,6 +34,10 @@ pub enum Outcome {
     Legal { entries: u64 },
     /// A load was made, with so many frames.
     Made { frames: u64 },
+    /// A bridge handled all frames: so many passed, and so many were dropped.
+    Bridged { passed: u64, dropped: u64 },
+    /// A node ran over its capture, and stood so in the end.
+    Stood { phase: Phase },
     /// `--help`
     Help,
     /// `--version`
@@ -76,6 +86,10 @@ pub fn report<K: Sink>(alloc: Global, outcome: Outcome, say: &mut K) -> u8
         Outcome::WrongLine { line, why } => put_made(say, wrong_line(alloc, line, why), 1),
         Outcome::WrongOutput { port, at } => put_made(say, output_line(alloc, port, at), 1),
         Outcome::Made { frames } => put_made(say, made_line(alloc, frames), 0),
+        Outcome::Bridged { passed, dropped } => {
+            put_made(say, bridged_line(alloc, passed, dropped), 0)
+        }
+        Outcome::Stood { phase } => put_phase(say, &phase),
         Outcome::BadLine { line, why } => put_made(say, journal_line(alloc, line, why), 1),
         Outcome::Limit { kind } => put_made(say, limit_line(alloc, kind), 6),
         Outcome::Shown { text } => put_line(say, text.view(), 0),
@@ -209,6 +223,37 @@ fn made_line(alloc: Global, frames: u64) -> Result<String, AllocError>
     ensures { IfOk result (λ s. string_bytes s ≡ spec.made_text frames) }
 {
     format!(in alloc; "made {frames}\n")
+}
+
+fn bridged_line(alloc: Global, passed: u64, dropped: u64) -> Result<String, AllocError>
+    ensures { IfOk result (λ s. string_bytes s ≡ spec.bridged_text passed dropped) }
+{
+    format!(in alloc; "passed {passed} dropped {dropped}\n")
+}
+
+// Puts the line of a node's last phase.
+fn put_phase<K: Sink>(say: &mut K, phase: &Phase) -> u8
+    ensures { Puts (spec.phase_text phase.now) 0 (K.sunk say.old) (K.sunk say.new) result }
+{
+    match phase {
+        Phase::Asking => put_line(say, b"asking\n", 0),
+        Phase::Looking => put_line(say, b"looking\n", 0),
+        Phase::Logging { .. } => put_line(say, b"logging\n", 0),
+        Phase::Up { address, mac } => put_line(say, up_line(address, mac).as_slice(), 0),
+    }
+}
+
+// The line of a node that is up.
+fn up_line(address: &FcId, mac: &Mac) -> ArrayVec<u8, UP_LINE>
+    ensures { result.items ≡ spec.phase_text (Up address.now mac.now) }
+{
+    let mut line = ArrayVec::new();
+    put(&mut line, b"up ");
+    put(&mut line, &address_text(address));
+    put(&mut line, b" ");
+    put(&mut line, &mac_text(mac));
+    put(&mut line, b"\n");
+    line
 }
 
 fn journal_line(alloc: Global, line: u64, why: OldWhy) -> Result<String, AllocError>

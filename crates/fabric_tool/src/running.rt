@@ -84,7 +84,8 @@ fn ran(end: Result<Done, RunFault>) -> Outcome
     }
 }
 
-fn stopped(fault: &RunFault) -> Outcome
+/// What a fault of a run ends a command with.
+pub(crate) fn stopped(fault: &RunFault) -> Outcome
     ensures { result ≡ stopped_by fault.now }
 {
     match fault {

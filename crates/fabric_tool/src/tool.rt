@@ -11,9 +11,11 @@ use crate::command::{Form, form_of};
 use crate::converting::convert_file;
 use crate::making::make;
 use crate::migrating::migrate_file;
+use crate::node::enode;
 use crate::outcome::{Outcome, report};
 use crate::replaying::{replay, show};
 use crate::running::run;
+use crate::snooping::snoop;
 use fab_base::{Depot, Gate, Sink};
 use std::alloc::Global;
 use std::sync::Wait;
@@ -33,7 +35,10 @@ pub fn fabric_tool<R: Threads + Wait + Sync, D: Depot, K: Sink, G: Gate + Sync>(
     requires { spec.AllKnown (D.seen depot.old) words.now }
     // The command was done. The headline, of `run`: one journal that is a run over the captures as
     // they were found, legal and safe, stands in the outputs, and its line was printed. Of
-    // `convert`: the output is the capture of the input's packets. The two texts were printed.
+    // `convert`: the output is the capture of the input's packets. Of `snoop`: each output has the
+    // frames whose way leads to it, and data goes up from an ENode's port exactly where its login
+    // allows it. Of `enode`: the output is what the machine sends, and a forwarder that sent all
+    // of the input has granted the address that the node is up with. The two texts were printed.
     ensures done { result ≡ 0 → OfCommand words.now (λ k. Done k (D.seen depot.old)
         (D.seen depot.new) (K.sunk say.old) (K.sunk say.new)) }
     // The configuration has a fault, or an input can't be taken from a place on; of `run`, the
@@ -63,7 +68,8 @@ pub fn fabric_tool<R: Threads + Wait + Sync, D: Depot, K: Sink, G: Gate + Sync>(
     ensures others { (k : spec.Command) → spec.command words.now ≡ Some k →
         spec.KeepsOthers k (D.seen depot.old) (D.seen depot.new) }
     // The output of `convert` is as it was, or a front of the capture of the input's packets; that
-    // of `migrate` is as it was, or a front of the input's journal in format 2.
+    // of `migrate` is as it was, or a front of the input's journal in format 2; those of `snoop`
+    // and `enode` are as they were, or fronts of what status 0 leaves.
     ensures front { IsTrue (D.seen depot.old).told → (k : spec.Command) →
         spec.command words.now ≡ Some k → HasFront k (D.seen depot.old) (D.seen depot.new) }
     // Inputs of the right forms are taken, where nothing fails and memory is there.
@@ -141,6 +147,8 @@ fn outcome_by<R: Threads + Wait + Sync, D: Depot, G: Gate + Sync>(
         Form::Convert => convert_file(alloc, words, depot),
         Form::Migrate => migrate_file(alloc, words, depot),
         Form::Make => make(alloc, words, depot),
+        Form::Snoop => snoop(alloc, words, depot),
+        Form::Enode => enode(alloc, words, depot),
         Form::Help => Outcome::Help,
         Form::Version => Outcome::Version,
     }

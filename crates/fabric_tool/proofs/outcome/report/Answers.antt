@@ -1,6 +1,7 @@
 use Rattle.std.proofs.Common.{refl, ◌∙◌, codes}
+use Rattle.fabric_tool.specs.Outcome.{phase_text}
 use Rattle.fabric_tool.specs.declared.outcome.Outcome.TheVariants as ends
-use Rattle.fabric_tool.proofs.OutcomeLemmas.{reports, reports_made, line_config, line_words, line_read_fault, line_write_fault, line_memory, line_ran, line_capture, line_converted, line_block, line_migrated, line_made, line_legal, line_shown, line_wrong, line_output, line_journal, line_limit, line_help, line_version}
+use Rattle.fabric_tool.proofs.OutcomeLemmas.{reports, reports_made, line_config, line_words, line_read_fault, line_write_fault, line_memory, line_ran, line_capture, line_converted, line_block, line_migrated, line_made, line_bridged, line_stood, line_legal, line_shown, line_wrong, line_output, line_journal, line_limit, line_help, line_version}
 use Rattle.fabric_tool.proofs.outcome.report.Goals as goal
 
 pub returns-in-Ran : goal.returns-in-Ran
@@ -44,6 +45,12 @@ returns-in-Migrated g c = record { reports = reports_made _ _ (g.K.Sink.sunk c.a
 
 pub returns-in-Made : goal.returns-in-Made
 returns-in-Made g c = record { reports = reports_made _ _ (g.K.Sink.sunk c.args.say.now) (g.K.Sink.sunk c.put_made-in-Made.new.say) c.put_made-in-Made.result c.args.outcome (ends.Made c.in-Made.frames) 0 c.in-Made.is (line_made c.in-Made.frames) refl tt c.made_line.ensures c.put_made-in-Made.ensures.ok c.put_made-in-Made.ensures.err }
+
+pub returns-in-Bridged : goal.returns-in-Bridged
+returns-in-Bridged g c = record { reports = reports_made _ _ (g.K.Sink.sunk c.args.say.now) (g.K.Sink.sunk c.put_made-in-Bridged.new.say) c.put_made-in-Bridged.result c.args.outcome (ends.Bridged c.in-Bridged.passed c.in-Bridged.dropped) 0 c.in-Bridged.is (line_bridged c.in-Bridged.passed c.in-Bridged.dropped) refl tt c.bridged_line.ensures c.put_made-in-Bridged.ensures.ok c.put_made-in-Bridged.ensures.err }
+
+pub returns-in-Stood : goal.returns-in-Stood
+returns-in-Stood g c = record { reports = reports (phase_text c.in-Stood.phase) (g.K.Sink.sunk c.args.say.now) (g.K.Sink.sunk c.put_phase.new.say) c.put_phase.result c.args.outcome (ends.Stood c.in-Stood.phase) 0 c.in-Stood.is (line_stood c.in-Stood.phase) refl c.put_phase.ensures }
 
 pub returns-in-Legal : goal.returns-in-Legal
 returns-in-Legal g c = record { reports = reports_made _ _ (g.K.Sink.sunk c.args.say.now) (g.K.Sink.sunk c.put_made-in-Legal.new.say) c.put_made-in-Legal.result c.args.outcome (ends.Legal c.in-Legal.entries) 0 c.in-Legal.is (line_legal c.in-Legal.entries) refl tt c.legal_line.ensures c.put_made-in-Legal.ensures.ok c.put_made-in-Legal.ensures.err }

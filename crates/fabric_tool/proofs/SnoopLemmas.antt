@@ -1,0 +1,263 @@
+-- What follows from how `snoop` ended.
+use Rattle.std.proofs.Common.{◌≡◌, ◌≢◌, ℕ, suc, ◌+◌, ◌-◌, ◌<◌, ◌≤◌, ◌%◌, List, [], ◌∷◌, length, drop, true, ◌&&◌, ◌⊎◌, Ok, Err, IsTrue, refl, sym, ap, ◌∙◌, subst, arith, inl, inr}
+use Rattle.std.specs.Prelude.{Result, String, map}
+use Rattle.std.specs.declared.alloc.Global.{Global}
+use Rattle.fab_base.specs.Seen.{Seen, SameFiles, Touches, Nothing, Only}
+use Rattle.fab_base.specs.Sunk.{Sunk}
+use Rattle.fab_base.proofs.SeenLemmas.{reads_touches}
+use Rattle.fab_config.specs.Settings.{Settings}
+use Rattle.fab_config.specs.declared.ConfigFault.{ConfigFault}
+use Rattle.fab_captures.specs.Captures.{captures_by}
+use Rattle.fab_gather.specs.declared.fault.CapWhy.{CapWhy}
+use Rattle.fab_gather.specs.declared.fault.LimitKind.{LimitKind}
+use Rattle.fab_gather.specs.declared.fault.RunFault.{RunFault}
+use Rattle.fab_gather.specs.declared.fault.RunFault.TheVariants as faults
+use Rattle.fip_snoop.specs.Bridge.{Arrival, arrivals, history, passed, dropped}
+use Rattle.fip_snoop.specs.Laws.{DataGoesUp}
+use Rattle.fip_snoop.specs.Messages.{forwarder_of}
+use Rattle.snoop_run.specs.Bridged.{IsOldOrFront, AreOldOrFront, HasBridged, HasFronts, HasStop, Ends, Bridges}
+use Rattle.snoop_run.specs.Crossing.{crossing, captures}
+use Rattle.snoop_run.specs.Sides.{ins_of, outs_of}
+use Rattle.snoop_run.specs.declared.run.Crossed.{Crossed}
+use Rattle.fabric_tool.specs.Command.{SnoopNames, Snoop, KeepsOthers}
+use Rattle.fabric_tool.specs.Inputs.{HasConfig, HasFault, LIMITS}
+use Rattle.fabric_tool.specs.Opening.{stopped_by, crossed_by}
+use Rattle.fabric_tool.specs.Outcome.{status_of}
+use Rattle.fabric_tool.specs.Reading.{ConfigRead}
+use Rattle.fabric_tool.specs.Snooping.{HasSnooped, HasSnoopedFront, HasSnoopFront, IsStopped, SnoopHolds, IsSnoopRefused, SnoopForms, SnoopSays, crossing_of}
+use Rattle.fabric_tool.specs.Statuses.{IsQuiet}
+use Rattle.fabric_tool.specs.declared.outcome.Outcome.{Outcome}
+use Rattle.fabric_tool.specs.declared.outcome.Outcome.TheVariants as ends
+use Rattle.fabric_tool.proofs.AmongLemmas.{none_among, rose_since}
+use Rattle.fabric_tool.proofs.ConfigLemmas.{one_value, one_fault, no_fault}
+use Rattle.fabric_tool.proofs.PartLemmas.{all_fronts}
+
+-- `snoop` ends so, and not otherwise
+pub snoop_cases : (k : SnoopNames) (old new : Seen) (P : Outcome → Type 0) →
+    ((passes drops : ℕ) → SnoopHolds k old new (ends.Bridged passes drops) → P (ends.Bridged passes drops)) →
+    ((fault : ConfigFault) → SnoopHolds k old new (ends.Config fault) → P (ends.Config fault)) →
+    ((port at : ℕ) (reason : CapWhy) → SnoopHolds k old new (ends.Capture port at reason) → P (ends.Capture port at reason)) →
+    ((kind : LimitKind) → SnoopHolds k old new (ends.Limit kind) → P (ends.Limit kind)) →
+    (SnoopHolds k old new ends.ReadFault → P ends.ReadFault) → (SnoopHolds k old new ends.WriteFault → P ends.WriteFault) → (SnoopHolds k old new ends.Memory → P ends.Memory) →
+    (o : Outcome) → SnoopHolds k old new o → P o
+snoop_cases k old new P bridged config capture limit read write memory (ends.Bridged passes drops) holds = bridged passes drops holds
+snoop_cases k old new P bridged config capture limit read write memory (ends.Config fault) holds = config fault holds
+snoop_cases k old new P bridged config capture limit read write memory (ends.Capture port at reason) holds = capture port at reason holds
+snoop_cases k old new P bridged config capture limit read write memory (ends.Limit kind) holds = limit kind holds
+snoop_cases k old new P bridged config capture limit read write memory ends.ReadFault holds = read holds
+snoop_cases k old new P bridged config capture limit read write memory ends.WriteFault holds = write holds
+snoop_cases k old new P bridged config capture limit read write memory ends.Memory holds = memory holds
+snoop_cases k old new P bridged config capture limit read write memory o holds = absurd holds
+
+-- no file but the outputs has changed
+pub snoop_others : (k : SnoopNames) (old new : Seen) (o : Outcome) → SnoopHolds k old new o → KeepsOthers (Snoop k) old new
+snoop_others k old new = snoop_cases k old new (λ o. KeepsOthers (Snoop k) old new)
+    (λ passes drops h. h.0)
+    (λ fault h m other. h.0 m)
+    (λ port at reason h m other. h.0 m)
+    (λ kind h m other. h.0 m)
+    (λ h m other. h.0 m)
+    (λ h. h.0)
+    (λ h. h.0)
+
+-- whole captures are fronts
+whole_captures : (k : SnoopNames) (passes drops : ℕ) (old new : Seen) → HasSnooped k passes drops old new → HasSnoopedFront k old new
+whole_captures k passes drops old new h =
+    let b = h.bridged in
+    record {
+      settings = h.settings;
+      config = h.config;
+      fronts = record { came = arrivals b.records; crosses = b.crosses; outputs = all_fronts old new k.outs (captures h.settings (length k.outs) (arrivals b.records)) b.outputs };
+    }
+
+-- whatever the outcome, each output is as it was or a front
+pub snoop_front : (k : SnoopNames) (old new : Seen) → IsTrue old.told → (o : Outcome) → SnoopHolds k old new o → HasSnoopFront k old new
+snoop_front k old new told = snoop_cases k old new (λ o. HasSnoopFront k old new)
+    (λ passes drops h. inr (whole_captures k passes drops old new (h.1 told)))
+    (λ fault h. inl h.0)
+    (λ port at reason h. inl h.0)
+    (λ kind h. inl h.0)
+    (λ h. inl h.0)
+    (λ h. inr (h.2 told))
+    (λ h. h.1 told)
+
+-- want of memory for the line of an outcome says less
+pub snoop_memory : (k : SnoopNames) (old new : Seen) (o : Outcome) → SnoopHolds k old new o → SnoopHolds k old new ends.Memory
+snoop_memory k old new o holds = (snoop_others k old new o holds, λ told. snoop_front k old new told o holds)
+
+-- status 1 is of two kinds
+pub snoop_refused : (k : SnoopNames) (old new : Seen) (o : Outcome) → SnoopHolds k old new o → 1 ≡ status_of o → IsSnoopRefused k old new
+snoop_refused k old new = snoop_cases k old new (λ o. 1 ≡ status_of o → IsSnoopRefused k old new)
+    (λ passes drops h is. absurd (omega arith))
+    (λ fault h is. inl (fault, h))
+    (λ port at reason h is. inr (port, at, reason, h))
+    (λ kind h is. absurd (omega arith))
+    (λ h is. absurd (omega arith))
+    (λ h is. absurd (omega arith))
+    (λ h is. absurd (omega arith))
+
+-- ---- where nothing fails
+
+-- how a crossing ends, and how a refusal does
+abbrev EndsBy : Settings → Result (List Arrival) RunFault → Outcome → Type 0
+EndsBy c (Ok came) o = let L = history (forwarder_of c) [] came in o ≡ ends.Bridged (passed L) (dropped L)
+EndsBy c (Err fault) o = o ≡ stopped_by fault
+
+-- the configuration has a value, and the captures name this outcome
+record Crosses (k : SnoopNames) (d : Seen) (o : Outcome) : Type 0 where
+  settings : Settings
+  config : HasConfig d k.config settings
+  result : Result (List Arrival) RunFault
+  crosses : crossing_of k d ≡ result
+  ends_so : EndsBy settings result o
+
+abbrev Finds : SnoopNames → Seen → Outcome → Type 0
+Finds k d o = ((fault : ConfigFault) × HasFault d k.config fault × (o ≡ ends.Config fault)) ⊎ Crosses k d o
+
+two_numbers : (a b x y : ℕ) → a ≡ x → b ≡ y → ends.Bridged a b ≡ ends.Bridged x y
+two_numbers a b x y e f = ap (λ (n : ℕ). ends.Bridged n b) e ∙ ap (λ (n : ℕ). ends.Bridged x n) f
+
+module _ (k : SnoopNames) (d : Seen) where
+  ended_once : (c : Settings) (r s : Result (List Arrival) RunFault) (o p : Outcome) → r ≡ s → EndsBy c r o → EndsBy c s p → o ≡ p
+  ended_once c (Ok xs) (Ok ys) o p e one other =
+      let same : xs ≡ ys = cc in
+      one ∙ ap (λ (came : List Arrival). ends.Bridged (passed (history (forwarder_of c) [] came)) (dropped (history (forwarder_of c) [] came))) same ∙ sym other
+  ended_once c (Ok xs) (Err f) o p e one other = absurd (cc)
+  ended_once c (Err f) (Ok ys) o p e one other = absurd (cc)
+  ended_once c (Err f) (Err g) o p e one other = let same : f ≡ g = cc in one ∙ ap stopped_by same ∙ sym other
+
+  found_once : (o p : Outcome) → Finds k d o → Finds k d p → o ≡ p
+  found_once o p (inl one) (inl other) = one.2 ∙ ap (λ (f : ConfigFault). ends.Config f) (one_fault d k.config one.0 other.0 one.1 other.1) ∙ sym other.2
+  found_once o p (inl one) (inr other) = absurd (no_fault d k.config other.settings one.0 other.config one.1)
+  found_once o p (inr one) (inl other) = absurd (no_fault d k.config one.settings other.0 one.config other.1)
+  found_once o p (inr one) (inr other) =
+      let same = one_value d k.config one.settings other.settings one.config other.config in
+      ended_once other.settings one.result other.result o p (sym one.crosses ∙ other.crosses) (subst (λ (c : Settings). EndsBy c one.result o) same one.ends_so) other.ends_so
+
+  refusal : (fault : RunFault) → IsStopped k d fault → Finds k d (stopped_by fault)
+  refusal fault s = inr (record { settings = s.settings; config = s.config; result = Err fault; crosses = s.stops; ends_so = refl })
+
+  said : (p : Outcome) → SnoopSays k d p → Finds k d p
+  said (ends.Bridged passes drops) says = inr (record {
+    settings = says.settings;
+    config = says.config;
+    result = Ok says.came;
+    crosses = says.crosses;
+    ends_so = let L = history (forwarder_of says.settings) [] says.came in two_numbers passes drops (passed L) (dropped L) says.passed_ says.dropped_;
+  })
+  said (ends.Config fault) says = inl (fault, says, refl)
+  said (ends.Capture port at why) says = refusal (faults.Capture port at why) says
+  said (ends.Limit kind) says = refusal (faults.Limit kind) says
+  said p says = absurd says
+
+  crossed : (passes drops : ℕ) (new : Seen) → HasSnooped k passes drops d new → Finds k d (ends.Bridged passes drops)
+  crossed passes drops new h =
+      let b = h.bridged in
+      inr (record {
+        settings = h.settings;
+        config = h.config;
+        result = Ok (arrivals b.records);
+        crosses = b.crosses;
+        ends_so = let L = history (forwarder_of h.settings) [] (arrivals b.records) in two_numbers passes drops (passed L) (dropped L) b.passed_ b.dropped_;
+      })
+
+  module _ (new : Seen) (before after : Sunk) (told : IsTrue d.told) (quiet : IsQuiet (Snoop k) d new before after) where
+    -- an outcome is what the inputs name, or want of memory
+    ended : (o : Outcome) → SnoopHolds k d new o → Finds k d o ⊎ (o ≡ ends.Memory)
+    ended = snoop_cases k d new (λ o. Finds k d o ⊎ (o ≡ ends.Memory))
+        (λ passes drops h. inl (crossed passes drops new (h.1 told)))
+        (λ fault h. inl (inl (fault, h.1 told, refl)))
+        (λ port at why h. inl (refusal (faults.Capture port at why) (h.1 told)))
+        (λ kind h. inl (refusal (faults.Limit kind) (h.1 told)))
+        (λ h. absurd (quiet.reads h.1))
+        (λ h. absurd (quiet.writes h.1))
+        (λ h. inr refl)
+
+    pub snoop_said : (o p : Outcome) → SnoopHolds k d new o → SnoopSays k d p → (o ≡ p) ⊎ (o ≡ ends.Memory)
+    snoop_said o p holds says = elim (ended o holds) [ inl finds ↦ inl (found_once o p finds (said p says)) | inr memory ↦ inr memory ]
+
+    -- inputs of the right form end with status 0
+    pub snoop_completed : SnoopForms k d → (o : Outcome) → SnoopHolds k d new o → (0 ≡ status_of o) ⊎ (5 ≡ status_of o)
+    snoop_completed forms o holds =
+        let L = history (forwarder_of forms.settings) [] forms.came in
+        let p = ends.Bridged (passed L) (dropped L) in
+        elim (ended o holds) [
+          | inl finds ↦ inl (sym (ap status_of (found_once o p finds (inr (record { settings = forms.settings; config = forms.config; result = Ok forms.came; crosses = forms.crosses; ends_so = refl })))))
+          | inr memory ↦ inr (sym (ap status_of memory))
+        ]
+
+-- ---- the call
+
+-- the configuration can't be taken
+pub not_configured : (k : SnoopNames) (old new : Seen) (x : Outcome) → ConfigRead k.config old new (Err x) → SnoopHolds k old new x
+not_configured k old new x read = elim read.only [
+  | inl fault ↦ subst (SnoopHolds k old new) (sym fault.1) (read.reads.files, λ told. read.fault told fault.0 fault.1)
+  | inr other ↦ elim other [
+    | inl failed ↦ subst (SnoopHolds k old new) (sym failed) (read.reads.files, inl (read.cause (ap (λ (o : Outcome). let r : Result Settings Outcome = Err o in r) failed)))
+    | inr memory ↦ subst (SnoopHolds k old new) (sym memory) ((λ m none. read.reads.files m), λ told. inl read.reads.files)
+  ]
+]
+
+-- the names of the ports, as words
+pub bridges_as : {x y : List (String Global)} {c : Settings} {b z : Seen} {r : Result Crossed RunFault} → x ≡ y → Bridges (ins_of x) (outs_of x) LIMITS c b z r → Bridges (ins_of y) (outs_of y) LIMITS c b z r
+bridges_as {x} {y} {c} {b} {z} {r} e h = subst (λ l. Bridges (ins_of l) (outs_of l) LIMITS c b z r) e h
+
+-- files that are as they were before
+files_since : (a b : Seen) → SameFiles a b → (names : List (List ℕ)) → map (λ n. b.file n) names ≡ map (λ n. a.file n) names
+files_since a b same [] = refl
+files_since a b same (n ∷ names) = let first = same n in let rest = files_since a b same names in cc
+
+fronts_since : (a b z : Seen) → SameFiles a b → (names wholes : List (List ℕ)) → AreOldOrFront b z names wholes → AreOldOrFront a z names wholes
+fronts_since a b z same [] [] are = tt
+fronts_since a b z same [] (w ∷ wholes) are = absurd are
+fronts_since a b z same (n ∷ names) [] are = absurd are
+fronts_since a b z same (n ∷ names) (w ∷ wholes) are = (elim are.0 [ inl still ↦ inl (still ∙ same n) | inr front ↦ inr front ], fronts_since a b z same names wholes are.1)
+
+module _ (k : SnoopNames) (c : Settings) (a b z : Seen) (config : ConfigRead k.config a b (Ok c)) (law : DataGoesUp) where
+  same : SameFiles a b
+  same = config.reads.files
+
+  told_b : IsTrue a.told → IsTrue b.told
+  told_b told = subst IsTrue (sym config.reads.keeps.told) told
+
+  touched : Touches Nothing (Only k.config) a b
+  touched = reads_touches k.config a b config.reads
+
+  bridged_since : (done : Crossed) → HasBridged k.ins k.outs LIMITS c b z done → IsTrue a.told → HasSnooped k done.passed done.dropped a z
+  bridged_since done h told = record {
+    settings = c;
+    config = config.ok told;
+    bridged = record {
+      records = h.records;
+      taken = sym (ap (captures_by 1 LIMITS) (files_since a b same k.ins)) ∙ h.taken;
+      crosses = sym (ap (crossing LIMITS) (files_since a b same k.ins)) ∙ h.crosses;
+      outputs = h.outputs;
+      passed_ = h.passed_;
+      dropped_ = h.dropped_;
+    };
+    data_ = λ before later x f read is other reads. law (forwarder_of c) (history (forwarder_of c) [] before) x.port x.caught f read other reads;
+  }
+
+  stopped_since : (fault : RunFault) → HasStop k.ins LIMITS b fault → IsTrue a.told → IsStopped k a fault
+  stopped_since fault h told = record { settings = c; config = config.ok told; stops = sym (ap (crossing LIMITS) (files_since a b same k.ins)) ∙ h }
+
+  front_since : HasFronts k.ins k.outs LIMITS c b z → IsTrue a.told → HasSnoopedFront k a z
+  front_since h told = record {
+    settings = c;
+    config = config.ok told;
+    fronts = record { came = h.came; crosses = sym (ap (crossing LIMITS) (files_since a b same k.ins)) ∙ h.crosses; outputs = fronts_since a b z same k.outs (captures c (length k.outs) h.came) h.outputs };
+  }
+
+  pub bridge_ended : (r : Result Crossed RunFault) → Bridges k.ins k.outs LIMITS c b z r → SnoopHolds k a z (crossed_by r)
+  bridge_ended r h = go r h.ends
+    where
+      others : KeepsOthers (Snoop k) a z
+      others m none = h.touches.files m (none_among k.outs m none) ∙ same m
+
+      go : (r : Result Crossed RunFault) → Ends k.ins k.outs LIMITS c b z r → SnoopHolds k a z (crossed_by r)
+      go (Ok done) e = (others, λ told. bridged_since done (e (told_b told)) told)
+      go (Err (faults.Capture port at why)) e = ((λ m. e.0 m ∙ same m), λ told. stopped_since (faults.Capture port at why) (e.1 (told_b told)) told)
+      go (Err (faults.Limit kind)) e = ((λ m. e.0 m ∙ same m), λ told. stopped_since (faults.Limit kind) (e.1 (told_b told)) told)
+      go (Err faults.Read) e = ((λ m. e.0 m ∙ same m), inr (rose_since a.read_faults b.read_faults z.read_faults touched.reads_rise k.ins e.1))
+      go (Err faults.Write) e = (others, rose_since a.write_faults b.write_faults z.write_faults touched.writes_rise k.outs e.0, λ told. front_since (e.1 (told_b told)) told)
+      go (Err faults.Memory) e = (others, λ told. elim (e (told_b told)) [ inl still ↦ inl (λ m. still m ∙ same m) | inr front ↦ inr (front_since front told) ])

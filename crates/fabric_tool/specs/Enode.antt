@@ -1,0 +1,78 @@
+-- How `enode` ends: a node is run over the frames of one capture, and what it sends is written as another.
+use Rattle.std.specs.Prelude.{◌≡◌, ℕ, IsTrue, List, ◌++◌, Some, Ok}
+use Rattle.fab_base.specs.Seen.{Seen, SameFiles}
+use Rattle.fab_base.specs.Sunk.{Sunk}
+use Rattle.pcap_file.specs.declared.Record.{Record}
+use Rattle.fab_gather.specs.declared.fault.CapWhy.{CapWhy}
+use Rattle.fab_gather.specs.declared.fault.RunFault.TheVariants as faults
+use Rattle.enode_core.specs.declared.node.Phase.{Phase}
+use Rattle.enode_core.specs.Phases.{phase_of}
+use Rattle.enode_core.specs.Runs.{Input, IsRun, stands}
+use Rattle.enode_run.specs.Files.{Played, IsUntaken, IsFront, taken_by}
+use Rattle.fabric_tool.specs.Command.{EnodeNames, Command, Enode, ReadRose, WriteRose, KeepsOthers}
+use Rattle.fabric_tool.specs.Inputs.{LIMITS}
+use Rattle.fabric_tool.specs.Outcome.{phase_text}
+use Rattle.fabric_tool.specs.declared.outcome.Outcome.{Outcome}
+use Rattle.fabric_tool.specs.declared.outcome.Outcome.TheVariants as ends
+
+-- ---- what holds where it ends so
+
+-- The headline. The input as the call found it is a capture within the limits, of which all was read; the output is the capture of
+-- what the machine of a node sends over its records from the start on, and this is its phase in the end. Whenever the node is up
+-- by what it was given, a forwarder that sent all these records has granted its address (`granted` of `Played`).
+abbrev pub HasPlayed : EnodeNames → Seen → Seen → Phase → Type 0
+HasPlayed k old new last = Played k.own k.start k.from k.to LIMITS old new last
+
+-- Whatever the end: the output is as it was, or holds a front of what it would hold.
+abbrev pub HasEnodeFront : EnodeNames → Seen → Seen → Type 0
+HasEnodeFront k old new = IsFront k.own k.start k.from k.to LIMITS old new
+
+-- What holds where `enode` ends so. The output is opened only behind the whole input and all that is sent for it, and the line of a
+-- phase takes no memory. What is said of bytes needs a depot that tells them.
+abbrev pub EnodeHolds : EnodeNames → Seen → Seen → Outcome → Type 0
+EnodeHolds k old new (ends.Stood last) = KeepsOthers (Enode k) old new × (IsTrue old.told → HasPlayed k old new last)
+EnodeHolds k old new (ends.Capture port at why) = SameFiles old new × (IsTrue old.told → IsUntaken k.start k.from LIMITS old (faults.Capture port at why))
+EnodeHolds k old new (ends.Limit kind) = SameFiles old new × (IsTrue old.told → IsUntaken k.start k.from LIMITS old (faults.Limit kind))
+EnodeHolds k old new ends.ReadFault = SameFiles old new × ReadRose (Enode k) old new
+EnodeHolds k old new ends.WriteFault = KeepsOthers (Enode k) old new × WriteRose (Enode k) old new × (IsTrue old.told → HasEnodeFront k old new)
+EnodeHolds k old new ends.Memory = SameFiles old new
+EnodeHolds k old new _ = ⊥
+
+-- ---- by status
+
+-- Status 0: the node ran over its input, and its last phase was printed.
+pub record EnodeEnded (k : EnodeNames) (old new : Seen) (before after : Sunk) : Type 0 where
+  pub last : Phase
+  pub done : HasPlayed k old new last
+  pub printed : IsTrue before.told → after.written ≡ before.written ++ phase_text last
+
+-- Status 1: the capture can't be taken from a place on.
+abbrev pub IsEnodeRefused : EnodeNames → Seen → Seen → Type 0
+IsEnodeRefused k old new = (port : ℕ) × (at : ℕ) × (why : CapWhy) × EnodeHolds k old new (ends.Capture port at why)
+
+-- ---- where nothing fails
+
+-- the input has its form: a capture within the limits that doesn't reach too far
+pub record EnodeForms (k : EnodeNames) (d : Seen) : Type 0 where
+  pub told : IsTrue d.told
+  pub bytes : List ℕ
+  pub records : List Record
+  pub file : d.file k.from ≡ Some bytes
+  pub taken : taken_by LIMITS k.start bytes ≡ Ok records
+
+-- the input is such a capture, and the node stands so in the end of its run
+pub record HasStood (k : EnodeNames) (d : Seen) (last : Phase) : Type 0 where
+  pub bytes : List ℕ
+  pub records : List Record
+  pub file : d.file k.from ≡ Some bytes
+  pub taken : taken_by LIMITS k.start bytes ≡ Ok records
+  pub inputs : List Input
+  pub run : IsRun k.own k.start records inputs
+  pub is : last ≡ phase_of (stands k.own k.start inputs)
+
+-- the outcome that the input names: the end of its run, or why it isn't taken
+abbrev pub EnodeSays : EnodeNames → Seen → Outcome → Type 0
+EnodeSays k d (ends.Stood last) = HasStood k d last
+EnodeSays k d (ends.Capture port at why) = IsUntaken k.start k.from LIMITS d (faults.Capture port at why)
+EnodeSays k d (ends.Limit kind) = IsUntaken k.start k.from LIMITS d (faults.Limit kind)
+EnodeSays k d _ = ⊥

@@ -1,0 +1,119 @@
+-- How `snoop` ends: the frames of all captures cross a bridge, and each port's are written.
+use Rattle.std.specs.Prelude.{◌≡◌, ◌≢◌, ℕ, ◌⊎◌, ◌↔◌, IsTrue, List, [], ◌∷◌, ◌++◌, map, Result, Ok, Err}
+use Rattle.fab_base.specs.Seen.{Seen, SameFiles}
+use Rattle.fab_base.specs.Sunk.{Sunk}
+use Rattle.fab_config.specs.Settings.{Settings}
+use Rattle.fab_config.specs.declared.ConfigFault.{ConfigFault}
+use Rattle.eth_frames.specs.Ethernet as eth
+use Rattle.fcoe_codec.specs.Fcoe as capsule
+use Rattle.fcoe_codec.specs.declared.FcoeFault.{FcoeFault}
+use Rattle.fab_policy.specs.Heard.{Fcoe, decoded}
+use Rattle.fab_gather.specs.declared.fault.CapWhy.{CapWhy}
+use Rattle.fab_gather.specs.declared.fault.RunFault.{RunFault}
+use Rattle.fab_gather.specs.declared.fault.RunFault.TheVariants as faults
+use Rattle.fip_snoop.specs.Bridge.{Arrival, arrivals, history, passed, dropped}
+use Rattle.fip_snoop.specs.Laws.{IsOfLogin}
+use Rattle.fip_snoop.specs.Messages.{forwarder_of}
+use Rattle.fip_snoop.specs.Ways.{FORWARDER_PORT, way_of}
+use Rattle.fip_snoop.specs.declared.forwarder.Forwarder.{Forwarder}
+use Rattle.fip_snoop.specs.declared.way.Way.TheVariants.{Up}
+use Rattle.snoop_run.specs.Bridged.{HasBridged, HasFronts, HasStop}
+use Rattle.snoop_run.specs.Crossing.{crossing}
+use Rattle.snoop_run.specs.declared.run.Crossed.{Crossed}
+use Rattle.fabric_tool.specs.Command.{SnoopNames, Command, Snoop, ReadRose, WriteRose, KeepsOthers}
+use Rattle.fabric_tool.specs.Inputs.{HasConfig, HasFault, LIMITS}
+use Rattle.fabric_tool.specs.Outcome.{bridged_text}
+use Rattle.fabric_tool.specs.declared.outcome.Outcome.{Outcome}
+use Rattle.fabric_tool.specs.declared.outcome.Outcome.TheVariants as ends
+
+-- what the captures of the ports are to a bridge: the frames in the order in which they are handled, or why they aren't
+abbrev pub crossing_of : SnoopNames → Seen → Result (List Arrival) RunFault
+crossing_of k d = crossing LIMITS (map (λ n. d.file n) k.ins)
+
+-- Of each frame of FCoE that came in on the port of an ENode, what was handled before it decides: it goes up exactly where its body
+-- has no fault, it is on the VLAN and to the forwarder, and the last grant of its source MAC that passed down went to that port and
+-- was to its S_ID, and nothing ended it since.
+abbrev pub DataGoesByLogins : Forwarder → List Arrival → Type 0
+DataGoesByLogins w came =
+    (before later : List Arrival) (a : Arrival) (f : eth.Eth) (read : Result capsule.Fcoe FcoeFault) → came ≡ before ++ a ∷ later → a.port ≢ FORWARDER_PORT → decoded a.caught ≡ Fcoe f read →
+    let L = history w [] before in (way_of w L a.port a.caught ≡ Up) ↔ ((x : capsule.Fcoe) × (read ≡ Ok x) × IsOfLogin w L a.port f x)
+
+-- ---- what holds where it ends so
+
+-- The headline. Of the files as the call found them, the configuration has a value and each input is a capture within the limits;
+-- each output is the head and, in the order in which the frames of all captures are handled, a record of the unchanged bytes of each
+-- frame whose way leads to its port, the ways being those of the table over what was handled before; and data goes up by logins.
+pub record HasSnooped (k : SnoopNames) (passes drops : ℕ) (old new : Seen) : Type 0 where
+  pub settings : Settings
+  pub config : HasConfig old k.config settings
+  pub bridged : HasBridged k.ins k.outs LIMITS settings old new (record { passed = passes; dropped = drops })
+  pub data_ : DataGoesByLogins (forwarder_of settings) (arrivals bridged.records)
+
+-- The inputs are taken, and each output is as it was, or holds a front of what it would hold.
+pub record HasSnoopedFront (k : SnoopNames) (old new : Seen) : Type 0 where
+  pub settings : Settings
+  pub config : HasConfig old k.config settings
+  pub fronts : HasFronts k.ins k.outs LIMITS settings old new
+
+-- The configuration has a value, and the captures aren't taken for this reason: the first of them, in port order, that isn't, or
+-- the span of all.
+pub record IsStopped (k : SnoopNames) (d : Seen) (fault : RunFault) : Type 0 where
+  pub settings : Settings
+  pub config : HasConfig d k.config settings
+  pub stops : HasStop k.ins LIMITS d fault
+
+-- What holds where `snoop` ends so. The outputs are opened only behind the whole inputs. What is said of bytes needs a depot that
+-- tells them.
+abbrev pub SnoopHolds : SnoopNames → Seen → Seen → Outcome → Type 0
+SnoopHolds k old new (ends.Bridged passes drops) = KeepsOthers (Snoop k) old new × (IsTrue old.told → HasSnooped k passes drops old new)
+SnoopHolds k old new (ends.Config fault) = SameFiles old new × (IsTrue old.told → HasFault old k.config fault)
+SnoopHolds k old new (ends.Capture port at why) = SameFiles old new × (IsTrue old.told → IsStopped k old (faults.Capture port at why))
+SnoopHolds k old new (ends.Limit kind) = SameFiles old new × (IsTrue old.told → IsStopped k old (faults.Limit kind))
+SnoopHolds k old new ends.ReadFault = SameFiles old new × ReadRose (Snoop k) old new
+SnoopHolds k old new ends.WriteFault = KeepsOthers (Snoop k) old new × WriteRose (Snoop k) old new × (IsTrue old.told → HasSnoopedFront k old new)
+SnoopHolds k old new ends.Memory = KeepsOthers (Snoop k) old new × (IsTrue old.told → SameFiles old new ⊎ HasSnoopedFront k old new)
+SnoopHolds k old new _ = ⊥
+
+-- ---- by status
+
+-- Status 0: the outputs are so, and the line with the two numbers was printed.
+pub record SnoopEnded (k : SnoopNames) (old new : Seen) (before after : Sunk) : Type 0 where
+  pub passes : ℕ
+  pub drops : ℕ
+  pub done : HasSnooped k passes drops old new
+  pub printed : IsTrue before.told → after.written ≡ before.written ++ bridged_text passes drops
+
+-- Status 1: the configuration has a fault, or a capture can't be taken.
+abbrev pub IsSnoopRefused : SnoopNames → Seen → Seen → Type 0
+IsSnoopRefused k old new = ((fault : ConfigFault) × SnoopHolds k old new (ends.Config fault)) ⊎ ((port : ℕ) × (at : ℕ) × (why : CapWhy) × SnoopHolds k old new (ends.Capture port at why))
+
+-- Whatever the end: every file is as it was, or each output is as it was or holds a front of what it would hold.
+abbrev pub HasSnoopFront : SnoopNames → Seen → Seen → Type 0
+HasSnoopFront k old new = SameFiles old new ⊎ HasSnoopedFront k old new
+
+-- ---- where nothing fails
+
+-- the inputs have their forms
+pub record SnoopForms (k : SnoopNames) (d : Seen) : Type 0 where
+  pub told : IsTrue d.told
+  pub settings : Settings
+  pub config : HasConfig d k.config settings
+  pub came : List Arrival
+  pub crosses : crossing_of k d ≡ Ok came
+
+-- the inputs have their forms, and so many frames pass and are dropped
+pub record HasCrossed (k : SnoopNames) (d : Seen) (passes drops : ℕ) : Type 0 where
+  pub settings : Settings
+  pub config : HasConfig d k.config settings
+  pub came : List Arrival
+  pub crosses : crossing_of k d ≡ Ok came
+  pub passed_ : passes ≡ passed (history (forwarder_of settings) [] came)
+  pub dropped_ : drops ≡ dropped (history (forwarder_of settings) [] came)
+
+-- the outcome that the inputs name: the fault of the configuration, why the captures aren't taken, or the two numbers
+abbrev pub SnoopSays : SnoopNames → Seen → Outcome → Type 0
+SnoopSays k d (ends.Bridged passes drops) = HasCrossed k d passes drops
+SnoopSays k d (ends.Config fault) = HasFault d k.config fault
+SnoopSays k d (ends.Capture port at why) = IsStopped k d (faults.Capture port at why)
+SnoopSays k d (ends.Limit kind) = IsStopped k d (faults.Limit kind)
+SnoopSays k d _ = ⊥
