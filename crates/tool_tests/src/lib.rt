@@ -16,9 +16,13 @@ mod make;
 #[cfg(test)]
 mod migrate;
 #[cfg(test)]
+mod node;
+#[cfg(test)]
 mod replay;
 #[cfg(test)]
 mod rows;
+#[cfg(test)]
+mod snoop;
 #[cfg(test)]
 mod stores;
 #[cfg(test)]
