@@ -1,5 +1,5 @@
 -- The outputs of a bridge while frames cross it.
-use Rattle.std.proofs.Common.{◌≡◌, ℕ, zero, suc, ◌+◌, ◌-◌, ◌^◌, ◌<◌, ◌≤◌, inl, inr, List, [], ◌∷◌, ◌++◌, length, take, drop, get_or, append_assoc, append-nil, Some, None, Ok, Err, IsTrue, refl, sym, ◌∙◌, ap, subst, arith}
+use Rattle.std.proofs.Common.{◌≡◌, ℕ, zero, suc, ◌+◌, ◌-◌, ◌^◌, ◌<◌, inl, inr, List, [], ◌∷◌, ◌++◌, length, take, drop, get_or, append_assoc, append-nil, Some, None, Ok, Err, IsTrue, refl, sym, ◌∙◌, ap, subst, arith}
 use Rattle.std.specs.Prelude.{Result, Vec, replicate, slice_set}
 use Rattle.std.specs.declared.alloc.Global.{Global}
 use Rattle.std.proofs.lemmas.List.{take-append-drop}
@@ -10,19 +10,17 @@ use Rattle.fab_base.proofs.SeenLemmas.{rose_later, touches_refl, touches_trans, 
 use Rattle.fab_policy.specs.Written.{IsPrefixOf}
 use Rattle.pcap_file.specs.Capture.{head_bytes}
 use Rattle.pcap_file.specs.declared.Record.{Record}
-use Rattle.fab_gather.specs.Ports.{slot_at, name_of, NameIn}
-use Rattle.fab_gather.specs.declared.fault.RunFault.{RunFault}
+use Rattle.fab_gather.specs.Ports.{name_of, NameIn}
 use Rattle.fab_gather.specs.declared.fault.RunFault.TheVariants as faults
 use Rattle.fip_snoop.specs.Bridge.{Arrival, arrivals, history, records_to, capture, passed, dropped}
 use Rattle.fip_snoop.specs.Queue.{AllAscend, least, left_in}
 use Rattle.fip_snoop.specs.Snoop.{Remembers}
 use Rattle.fip_snoop.specs.declared.forwarder.Forwarder.{Forwarder}
 use Rattle.fip_snoop.proofs.BridgeLemmas.{records_go_on}
-use Rattle.snoop_run.specs.Files.{items_in, piece_at, AreOutputs, PutsEach}
+use Rattle.snoop_run.specs.Files.{items_in, piece_at, AreOutputs}
 use Rattle.snoop_run.specs.Records.{count_in}
 use Rattle.snoop_run.specs.State.{Stands, Handles, IsNew, IsNext, Writes, Crosses}
 use Rattle.snoop_run.specs.declared.bridge.Bridge.{Bridge}
-use Rattle.snoop_run.specs.declared.run.Crossed.{Crossed}
 use Rattle.snoop_run.proofs.FileLemmas.{same_name, outputs_stay}
 use Rattle.snoop_run.proofs.NextLemmas.{all_left, next_order, none_next}
 use Rattle.snoop_run.proofs.PageLemmas.{page_of, length-items}
@@ -205,10 +203,13 @@ module _ (w : Forwarder) (ins : List (List Record)) (outs : List ℕ) (a d : See
           );
       passed_ = tt;
       dropped_ = tt;
-      cause = inr
-          (refl,
-          (wr.puts.cause.0,
+      cause = inr (
+        refl,
+        (
+          wr.puts.cause.0,
           wr.puts.cause.1,
           rose_later _ _ _ (c.touches.writes_rise (name_of a outs wr.puts.cause.0))
-              (subst (λ n. Rose (d.write_faults n) (d'.write_faults n)) (name_is wr.puts.cause.0 wr.puts.cause.1) wr.puts.cause.2)));
+              (subst (λ n. Rose (d.write_faults n) (d'.write_faults n)) (name_is wr.puts.cause.0 wr.puts.cause.1) wr.puts.cause.2),
+        ),
+      );
     }

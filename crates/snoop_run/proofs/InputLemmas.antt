@@ -1,6 +1,6 @@
 -- The captures of the ports, read one after another.
-use Rattle.std.proofs.Common.{◌≡◌, ◌≢◌, ℕ, zero, suc, ◌+◌, ◌≤◌, inl, inr, List, [], ◌∷◌, ◌++◌, length, length-append, append_assoc, append-nil, Option, Some, Ok, Err, IsTrue, refl, sym, ◌∙◌, ap, subst, arith}
-use Rattle.std.specs.Prelude.{Result, Vec, map, IfOk, IfErr, IsErrOf}
+use Rattle.std.proofs.Common.{◌≡◌, ℕ, ◌+◌, inl, List, [], ◌∷◌, ◌++◌, length, length-append, append_assoc, append-nil, Option, Some, Ok, Err, IsTrue, refl, sym, ◌∙◌, ap, subst, arith}
+use Rattle.std.specs.Prelude.{Result, Vec, map, IfOk, IfErr}
 use Rattle.std.specs.declared.alloc.Global.{Global}
 use Rattle.fab_base.specs.Seen.{Seen, Reads, Rose, OpensIn, Touches, Nothing, Only}
 use Rattle.fab_base.specs.declared.values.Failed.{Failed}
@@ -13,7 +13,7 @@ use Rattle.fab_gather.specs.declared.fault.RunFault.{RunFault}
 use Rattle.fab_gather.specs.declared.fault.RunFault.TheVariants as faults
 use Rattle.fab_captures.specs.Captures.{AreFit, Taken, unless_stopped, capture_by, captures_by, ReadsCapture}
 use Rattle.fip_snoop.specs.Queue.{AllAscend}
-use Rattle.snoop_run.specs.Bridged.{Among, AnyRose}
+use Rattle.snoop_run.specs.Bridged.{Among}
 use Rattle.snoop_run.specs.Opening.{in_front, ReadsInput, AreRead, ReadsInputs}
 use Rattle.snoop_run.specs.Records.{AllFit, count_in}
 use Rattle.snoop_run.proofs.NameLemmas.{among_front, among_back, among_all, rose_among, rose_since}

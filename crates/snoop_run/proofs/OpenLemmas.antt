@@ -1,5 +1,5 @@
 -- The outputs as they are opened, one after another.
-use Rattle.std.proofs.Common.{◌≡◌, ◌≢◌, ℕ, zero, suc, ◌+◌, ◌<◌, ◌≤◌, List, [], ◌∷◌, ◌++◌, ◌⊎◌, length, Some, Ok, Err, IsTrue, refl, sym, ◌∙◌, ap, subst, inl, inr, arith}
+use Rattle.std.proofs.Common.{◌≡◌, ◌≢◌, ℕ, zero, suc, ◌+◌, ◌<◌, List, [], ◌∷◌, ◌++◌, ◌⊎◌, length, Some, Ok, Err, IsTrue, refl, sym, ◌∙◌, ap, subst, inl, inr, arith}
 use Rattle.std.specs.Prelude.{map}
 use Rattle.std.specs.Str.{bytes_eq}
 use Rattle.std.proofs.lemmas.Bool.{cases_Bool}
@@ -8,8 +8,8 @@ use Rattle.fab_base.specs.Seen.{Seen, OpensOut, Touches, Only}
 use Rattle.fab_base.specs.declared.values.Failed.{Failed}
 use Rattle.fab_base.proofs.SeenLemmas.{touches_refl, touches_trans, touches_wider, keeps_touches}
 use Rattle.fab_policy.specs.Logins.{counting}
-use Rattle.fab_gather.specs.Ports.{slot_at, name_of}
-use Rattle.snoop_run.specs.Bridged.{Among, AnyRose}
+use Rattle.fab_gather.specs.Ports.{slot_at}
+use Rattle.snoop_run.specs.Bridged.{Among}
 use Rattle.snoop_run.specs.Files.{AreOutputs}
 use Rattle.snoop_run.specs.Opening.{AreEmptyOutputs, OpensOutputs}
 use Rattle.snoop_run.proofs.NameLemmas.{differs, among_front, among_back, among_all, rose_among, rose_since, length-counted}

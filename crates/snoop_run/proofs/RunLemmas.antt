@@ -1,11 +1,11 @@
 -- A bridge over files, from its steps.
-use Rattle.std.proofs.Common.{◌≡◌, ℕ, zero, suc, ◌+◌, ◌^◌, ◌<◌, ◌≤◌, ◌⊎◌, Bool, true, false, cond, inl, inr, List, [], ◌∷◌, ◌++◌, length, Some, Ok, Err, IsTrue, refl, sym, ◌∙◌, ap, subst, arith}
+use Rattle.std.proofs.Common.{◌≡◌, ℕ, zero, suc, ◌+◌, ◌<◌, true, false, cond, inl, inr, List, [], ◌∷◌, length, Some, Ok, Err, IsTrue, refl, sym, ◌∙◌, ap, subst, arith}
 use Rattle.std.specs.Prelude.{String, Result, Vec, map}
 use Rattle.std.specs.declared.alloc.Global.{Global}
 use Rattle.arrayvec.specs.ArrayVec.{ArrayVec}
 use Rattle.fab_base.specs.Seen.{Seen, Rose, SameFiles, Touches, Nothing}
 use Rattle.fab_base.specs.declared.values.Failed.{Failed}
-use Rattle.fab_base.proofs.SeenLemmas.{rose_later, touches_refl, touches_trans, touches_wider}
+use Rattle.fab_base.proofs.SeenLemmas.{touches_refl, touches_trans, touches_wider}
 use Rattle.fab_config.specs.Settings.{Settings}
 use Rattle.fab_policy.specs.Logins.{counting}
 use Rattle.fab_policy.specs.Written.{IsPrefixOf}
@@ -16,13 +16,13 @@ use Rattle.fab_gather.specs.declared.fault.LimitKind.TheVariants as limit
 use Rattle.fab_gather.specs.declared.fault.RunFault.{RunFault}
 use Rattle.fab_gather.specs.declared.fault.RunFault.TheVariants as faults
 use Rattle.fab_captures.specs.Captures.{unless_stopped, captures_by}
-use Rattle.fip_snoop.specs.Bridge.{Arrival, arrivals, is_too_long, history, capture, passed, dropped}
+use Rattle.fip_snoop.specs.Bridge.{Arrival, arrivals, is_too_long, capture}
 use Rattle.fip_snoop.specs.Messages.{forwarder_of}
 use Rattle.fip_snoop.specs.declared.forwarder.Forwarder.{Forwarder}
-use Rattle.snoop_run.specs.Bridged.{Among, AmongBoth, AnyRose, IsOldOrFront, AreOldOrFront, HasBridged, HasFronts, HasStop, Ends, Bridges, OverEnds, RunsOver}
+use Rattle.snoop_run.specs.Bridged.{Among, AmongBoth, AnyRose, IsOldOrFront, AreOldOrFront, HasFronts, HasStop, Ends, Bridges, OverEnds, RunsOver}
 use Rattle.snoop_run.specs.Crossing.{unless_too_long, crossing, captures}
 use Rattle.snoop_run.specs.Files.{AreOutputs}
-use Rattle.snoop_run.specs.Opening.{AreEmptyOutputs, OpensOutputs, ReadsInputs}
+use Rattle.snoop_run.specs.Opening.{OpensOutputs, ReadsInputs}
 use Rattle.snoop_run.specs.Sides.{side_count, output_at, outs_of, AreDifferent}
 use Rattle.snoop_run.specs.State.{IsNew, Crosses}
 use Rattle.snoop_run.specs.declared.bridge.Bridge.{Bridge}
@@ -49,8 +49,8 @@ fronts_by a d f g k j (suc n) are =
     let jz : j + 0 ≡ j = omega arith in (
       subst (λ (i : ℕ). IsOldOrFront a d (f k) (g i)) jz (subst (λ (i : ℕ). IsOldOrFront a d (f i) (g (j + 0))) kz (are 0 (omega arith))),
       fronts_by a d f g (k + 1) (j + 1) n (λ q lt.
-      subst (λ (i : ℕ). IsOldOrFront a d (f (k + 1 + q)) (g i)) (let e : j + suc q ≡ j + 1 + q = omega arith in e)
-      (subst (λ (i : ℕ). IsOldOrFront a d (f i) (g (j + suc q))) (let e : k + suc q ≡ k + 1 + q = omega arith in e) (are (suc q) (omega (arith, lt))))),
+          subst (λ (i : ℕ). IsOldOrFront a d (f (k + 1 + q)) (g i)) (let e : j + suc q ≡ j + 1 + q = omega arith in e)
+          (subst (λ (i : ℕ). IsOldOrFront a d (f i) (g (j + suc q))) (let e : k + suc q ≡ k + 1 + q = omega arith in e) (are (suc q) (omega (arith, lt))))),
     )
 
 -- the same with what was before as an earlier moment has it
@@ -93,8 +93,8 @@ module _ (sides : List (String Global)) (ins : List (List Record)) (c : Settings
       o.cause,
       λ told.
           subst (AreOldOrFront a b outs) (sym wholes_are)
-              (fronts_by a b (output_at sides) (λ q. capture (forwarder_of c) q came) 0 1 n (λ q lt.
-              elim (o.each told (output_at sides (0 + q))) [ inl same ↦ inl same | inr empty ↦ inr ([], empty, (capture (forwarder_of c) (1 + q) came, refl)) ])),
+          (fronts_by a b (output_at sides) (λ q. capture (forwarder_of c) q came) 0 1 n (λ q lt.
+          elim (o.each told (output_at sides (0 + q))) [ inl same ↦ inl same | inr empty ↦ inr ([], empty, (capture (forwarder_of c) (1 + q) came, refl)) ])),
     );
   }
 
@@ -151,7 +151,7 @@ module _ (sides : List (String Global)) (ins : List (List Record)) (c : Settings
     pub over_crossed : (r : Result Crossed RunFault) → is_too_long came ≡ false → Crosses (forwarder_of c) ins slots.items b d r → RunsOver outs ins c a d r
     over_crossed (Ok done) short x = record { touches = touches_on x; ends = (short, whole_on done x, x.passed_, x.dropped_) }
     over_crossed (Err e) short x =
-        record { touches = touches_on x; ends = elim x.cause [ | inl memory ↦ subst (λ f. OverEnds outs ins c a d (Err f)) (sym memory) (inr (short, fronts_on x)) | inr write ↦ subst (λ f. OverEnds outs ins c a d (Err f)) (sym write.0) (short, rose_on x write.1.0 write.1.1 write.1.2, fronts_on x) ] }
+        record { touches = touches_on x; ends = elim x.cause [ inl memory ↦ subst (λ f. OverEnds outs ins c a d (Err f)) (sym memory) (inr (short, fronts_on x)) | inr write ↦ subst (λ f. OverEnds outs ins c a d (Err f)) (sym write.0) (short, rose_on x write.1.0 write.1.1 write.1.2, fronts_on x) ] }
 
 -- a new bridge is one of its own forwarder
 pub own_new : (w : Forwarder) (n : ℕ) (b : Bridge) → IsNew w n b → IsNew b.snoop.forwarder n b

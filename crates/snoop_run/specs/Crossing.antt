@@ -1,5 +1,5 @@
 -- What files are to a bridge, and what its outputs hold then.
-use Rattle.std.specs.Prelude.{ℕ, if◌then◌else◌, List, length, map, Option, Result, Ok, Err}
+use Rattle.std.specs.Prelude.{ℕ, if◌then◌else◌, List, map, Option, Result, Ok, Err}
 use Rattle.fab_config.specs.Settings.{Settings}
 use Rattle.fab_policy.specs.Logins.{counting}
 use Rattle.pcap_file.specs.declared.Budget.{Budget}

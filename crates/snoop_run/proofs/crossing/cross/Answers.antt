@@ -1,8 +1,7 @@
-use Rattle.std.proofs.Common.{◌∙◌, ◌-◌, ap, sym, option_map, length, subst}
-use Rattle.fip_snoop.specs.Bridge.{arrivals}
+use Rattle.std.proofs.Common.{◌∙◌, ◌-◌, ap, sym, option_map}
 use Rattle.fip_snoop.specs.Queue.{least, left_in, head_of}
 use Rattle.snoop_run.proofs.NextLemmas.{next_is, no_head}
-use Rattle.snoop_run.proofs.CrossLemmas.{crossing_none, crossing_more, room_for, fewer, outputs_now, crosses_memory, crossing_written, crosses_all, crosses_failed}
+use Rattle.snoop_run.proofs.CrossLemmas.{crossing_none, crossing_more, room_for, fewer, crosses_memory, crossing_written, crosses_all, crosses_failed}
 use Rattle.snoop_run.proofs.crossing.cross.Goals as goal
 
 pub loop-head-init : goal.loop-head-init

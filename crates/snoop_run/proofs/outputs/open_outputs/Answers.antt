@@ -1,4 +1,4 @@
-use Rattle.std.proofs.Common.{◌≡◌, ◌+◌, ◌<◌, ℕ, [], Ok, sym, subst, arith}
+use Rattle.std.proofs.Common.{◌+◌, ◌<◌, [], sym, subst, arith}
 use Rattle.std.specs.Prelude.{map}
 use Rattle.fab_policy.specs.Logins.{counting}
 use Rattle.snoop_run.specs.Sides.{side_count, output_at}

@@ -1,6 +1,5 @@
 use Rattle.std.proofs.Common.{◌∙◌, ◌+◌, min, max, nat_lt, length, drop, refl, sym, ap}
 use Rattle.std.proofs.lemmas.Option.{slice_get_read}
-use Rattle.pcap_file.specs.Records.{last_moment}
 use Rattle.fip_snoop.specs.Bridge.{arrivals_from}
 use Rattle.snoop_run.proofs.SpanLemmas.{spread, spread_next, spread_end, span_is}
 use Rattle.snoop_run.proofs.span.is_too_long.Goals as goal
