@@ -15,7 +15,7 @@ use Rattle.enode_core.specs.declared.node.Phase.{Phase}
 use Rattle.enode_core.specs.Phases.{phase_of}
 use Rattle.enode_core.specs.Runs.{Input, IsRun, stands, all_sent, capture}
 use Rattle.enode_core.proofs.RunLemmas.{runs_are_one}
-use Rattle.enode_run.specs.Files.{Played, IsUntaken, IsFront, Same, Front, KeepsBut, RunsNode, taken_by}
+use Rattle.enode_run.specs.Files.{IsUntaken, Same, Front, KeepsBut, RunsNode, taken_by}
 use Rattle.fabric_tool.specs.Command.{EnodeNames, Enode, KeepsOthers}
 use Rattle.fabric_tool.specs.Ends.{TakesMemory}
 use Rattle.fabric_tool.specs.Enode.{HasPlayed, HasEnodeFront, EnodeHolds, IsEnodeRefused, EnodeForms, EnodeSays}

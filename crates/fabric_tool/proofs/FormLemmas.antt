@@ -1,6 +1,6 @@
 -- The command that words of a form are, and what a form says of them.
 use Rattle.std.proofs.Common.{◌≡◌, Bool, true, false, if◌then◌else◌, Option, Some, None, codes, refl, ap, subst}
-use Rattle.std.specs.Prelude.{List, String, option_map, ◌&&◌}
+use Rattle.std.specs.Prelude.{List, String, option_map}
 use Rattle.std.specs.Str.{bytes_eq}
 use Rattle.std.specs.declared.alloc.Global.{Global}
 use Rattle.fab_base.specs.Places.{name_at}

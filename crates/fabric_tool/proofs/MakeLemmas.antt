@@ -1,26 +1,26 @@
 -- The nine files of `make`: opened one after another, and written.
-use Rattle.std.proofs.Common.{◌≡◌, ◌≢◌, ℕ, zero, suc, ◌+◌, ◌-◌, ◌<◌, ◌≤◌, List, [], ◌∷◌, ◌++◌, length, get_or, true, ◌&&◌, codes, Some, Ok, Err, IsTrue, refl, sym, ap, ◌∙◌, subst, arith, inl, inr}
+use Rattle.std.proofs.Common.{◌≡◌, ◌≢◌, ℕ, suc, ◌+◌, ◌-◌, ◌<◌, ◌≤◌, List, [], ◌∷◌, ◌++◌, length, true, ◌&&◌, codes, Ok, Err, IsTrue, refl, sym, ap, ◌∙◌, subst, arith, inl, inr}
 use Rattle.std.specs.Prelude.{String, Result, map, slice_index, is_some, ◌==◌}
 use Rattle.std.proofs.lemmas.Bool.{eqb-true}
 use Rattle.std.specs.Str.{bytes_eq}
 use Rattle.std.specs.declared.alloc.Global.{Global}
 use Rattle.fab_base.specs.Places.{name_at}
-use Rattle.fab_base.specs.Seen.{Seen, OpensOut, Rose}
+use Rattle.fab_base.specs.Seen.{Seen, OpensOut}
 use Rattle.fab_base.specs.declared.values.Failed.{Failed}
 use Rattle.fab_policy.specs.Logins.{counting}
 use Rattle.pcap_file.proofs.lemmas.Numbers.{le_or_lt}
 use Rattle.fab_vectors.specs.Making.{AreNine, IsNamed, Makes, file_text}
 use Rattle.fab_vectors.specs.declared.MakeFault.{MakeFault}
 use Rattle.fab_vectors.specs.declared.MakeFault.TheVariants as faults
-use Rattle.fabric_tool.specs.Command.{Make, is_make, make_of, file_at, names_from, are_names, number_of, Among, AnyRose, KeepsOthers, WriteRose}
-use Rattle.fabric_tool.specs.Load.{LOAD, HasLoad, HasLoadFront, MakeHolds, file_name}
+use Rattle.fabric_tool.specs.Command.{Make, is_make, make_of, file_at, names_from, are_names, number_of, Among, AnyRose, KeepsOthers}
+use Rattle.fabric_tool.specs.Load.{HasLoadFront, MakeHolds, file_name}
 use Rattle.fabric_tool.specs.Opening.{AreEmptyOutputs, Opens, FilesOpened}
 use Rattle.fabric_tool.specs.declared.making.LoadFiles.{LoadFiles}
 use Rattle.fabric_tool.specs.declared.outcome.Outcome.TheVariants as ends
 use Rattle.fabric_tool.proofs.AmongLemmas.{among_counted, counted_among, none_among, rose_among, rose_since}
 use Rattle.fabric_tool.proofs.GivenLemmas.{IsOut, output_named, outputs_count}
 use Rattle.fabric_tool.proofs.NameLemmas.{and_true, words_differ, split_names, push_name, name_counted, length-counted}
-use Rattle.fabric_tool.proofs.OpenLemmas.{OpenedSoFar, opened_none, opened_more, opened_failed}
+use Rattle.fabric_tool.proofs.OpenLemmas.{OpenedSoFar, opened_more, opened_failed}
 
 -- ---- the words
 

@@ -1,5 +1,5 @@
 -- The names of a bridge's ports, which stand behind the first two words.
-use Rattle.std.proofs.Common.{◌≡◌, ℕ, suc, ◌+◌, ◌-◌, ◌<◌, ◌≤◌, ◌%◌, List, [], ◌∷◌, length, take, drop, true, ◌&&◌, refl, sym, ◌∙◌, subst, arith, IsTrue, length-drop}
+use Rattle.std.proofs.Common.{◌≡◌, ℕ, suc, ◌-◌, ◌<◌, ◌≤◌, ◌%◌, List, [], ◌∷◌, length, take, drop, true, ◌&&◌, refl, sym, ◌∙◌, subst, arith, IsTrue, length-drop}
 use Rattle.std.specs.Prelude.{String, nat_le, ◌==◌, codes}
 use Rattle.std.specs.Str.{bytes_eq}
 use Rattle.std.proofs.lemmas.Bool.{leb-true}

@@ -1,5 +1,5 @@
 -- What follows from how `snoop` ended.
-use Rattle.std.proofs.Common.{◌≡◌, ◌≢◌, ℕ, suc, ◌+◌, ◌-◌, ◌<◌, ◌≤◌, ◌%◌, List, [], ◌∷◌, length, drop, true, ◌&&◌, ◌⊎◌, Ok, Err, IsTrue, refl, sym, ap, ◌∙◌, subst, arith, inl, inr}
+use Rattle.std.proofs.Common.{◌≡◌, ℕ, List, [], ◌∷◌, length, ◌⊎◌, Ok, Err, IsTrue, refl, sym, ap, ◌∙◌, subst, arith, inl, inr}
 use Rattle.std.specs.Prelude.{Result, String, map}
 use Rattle.std.specs.declared.alloc.Global.{Global}
 use Rattle.fab_base.specs.Seen.{Seen, SameFiles, Touches, Nothing, Only}
@@ -15,7 +15,7 @@ use Rattle.fab_gather.specs.declared.fault.RunFault.TheVariants as faults
 use Rattle.fip_snoop.specs.Bridge.{Arrival, arrivals, history, passed, dropped}
 use Rattle.fip_snoop.specs.Laws.{DataGoesUp}
 use Rattle.fip_snoop.specs.Messages.{forwarder_of}
-use Rattle.snoop_run.specs.Bridged.{IsOldOrFront, AreOldOrFront, HasBridged, HasFronts, HasStop, Ends, Bridges}
+use Rattle.snoop_run.specs.Bridged.{AreOldOrFront, HasBridged, HasFronts, HasStop, Ends, Bridges}
 use Rattle.snoop_run.specs.Crossing.{crossing, captures}
 use Rattle.snoop_run.specs.Sides.{ins_of, outs_of}
 use Rattle.snoop_run.specs.declared.run.Crossed.{Crossed}

@@ -9,7 +9,7 @@ use Rattle.enode_core.specs.declared.node.Phase.{Phase}
 use Rattle.enode_core.specs.Phases.{phase_of}
 use Rattle.enode_core.specs.Runs.{Input, IsRun, stands}
 use Rattle.enode_run.specs.Files.{Played, IsUntaken, IsFront, taken_by}
-use Rattle.fabric_tool.specs.Command.{EnodeNames, Command, Enode, ReadRose, WriteRose, KeepsOthers}
+use Rattle.fabric_tool.specs.Command.{EnodeNames, Enode, ReadRose, WriteRose, KeepsOthers}
 use Rattle.fabric_tool.specs.Inputs.{LIMITS}
 use Rattle.fabric_tool.specs.Outcome.{phase_text}
 use Rattle.fabric_tool.specs.declared.outcome.Outcome.{Outcome}

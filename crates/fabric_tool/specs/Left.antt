@@ -1,5 +1,5 @@
 -- What `run` leaves in its outputs.
-use Rattle.std.specs.Prelude.{◌≡◌, ℕ, ◌⊎◌, List, [], ◌∷◌, length, map, Some, None, true, false, IsTrue}
+use Rattle.std.specs.Prelude.{◌≡◌, ℕ, List, [], ◌∷◌, length, map, Some, None, true, false, IsTrue}
 use Rattle.fab_base.specs.Seen.{Seen}
 use Rattle.fab_base.specs.declared.values.Caught.{Caught}
 use Rattle.fab_config.specs.Settings.{Settings, is_in_range}
@@ -13,7 +13,7 @@ use Rattle.fab_policy.specs.Sound.{IsGrantable, HaveDifferentMacs}
 use Rattle.fab_policy.specs.State.{Tables, tables_of, port_at, overdue, now_of}
 use Rattle.fab_policy.specs.Steps.{InPool}
 use Rattle.fab_policy.specs.Text.{text}
-use Rattle.fab_policy.specs.Written.{IsPrefixOf, HaveDifferentNames, before, egresses}
+use Rattle.fab_policy.specs.Written.{HaveDifferentNames, before, egresses}
 use Rattle.fab_policy.specs.declared.event.Event.{Event}
 use Rattle.fab_policy.specs.declared.event.Event.TheVariants.{Frame}
 use Rattle.fab_policy.specs.declared.verdict.Verdict.{Verdict}

@@ -1,5 +1,5 @@
 -- How `snoop` ends: the frames of all captures cross a bridge, and each port's are written.
-use Rattle.std.specs.Prelude.{◌≡◌, ◌≢◌, ℕ, ◌⊎◌, ◌↔◌, IsTrue, List, [], ◌∷◌, ◌++◌, map, Result, Ok, Err}
+use Rattle.std.specs.Prelude.{◌≡◌, ◌≢◌, ℕ, ◌⊎◌, ◌↔◌, IsTrue, List, [], ◌∷◌, ◌++◌, map, Result, Ok}
 use Rattle.fab_base.specs.Seen.{Seen, SameFiles}
 use Rattle.fab_base.specs.Sunk.{Sunk}
 use Rattle.fab_config.specs.Settings.{Settings}
@@ -19,8 +19,7 @@ use Rattle.fip_snoop.specs.declared.forwarder.Forwarder.{Forwarder}
 use Rattle.fip_snoop.specs.declared.way.Way.TheVariants.{Up}
 use Rattle.snoop_run.specs.Bridged.{HasBridged, HasFronts, HasStop}
 use Rattle.snoop_run.specs.Crossing.{crossing}
-use Rattle.snoop_run.specs.declared.run.Crossed.{Crossed}
-use Rattle.fabric_tool.specs.Command.{SnoopNames, Command, Snoop, ReadRose, WriteRose, KeepsOthers}
+use Rattle.fabric_tool.specs.Command.{SnoopNames, Snoop, ReadRose, WriteRose, KeepsOthers}
 use Rattle.fabric_tool.specs.Inputs.{HasConfig, HasFault, LIMITS}
 use Rattle.fabric_tool.specs.Outcome.{bridged_text}
 use Rattle.fabric_tool.specs.declared.outcome.Outcome.{Outcome}

@@ -9,3 +9,4 @@ pub mod InputLemmas
 pub mod OpenLemmas
 pub mod PortLoops
 pub mod RunLemmas
+pub mod TakenLemmas

@@ -5,3 +5,4 @@ pub mod Bridged
 pub mod Files
 pub mod Opening
 pub mod State
+pub mod Laws

@@ -6,9 +6,11 @@ mod bridge;
 mod captures;
 mod crossing;
 mod files;
+mod laws;
 mod outputs;
 mod run;
 mod sides;
 mod span;
 
+pub use laws::what_is_taken_are_captures;
 pub use run::{Crossed, run_bridge};

@@ -1,4 +1,4 @@
-use Rattle.std.proofs.Common.{◌+◌, ◌<◌, sym, subst, arith}
+use Rattle.std.proofs.Common.{◌+◌, sym, subst, arith}
 use Rattle.fabric_tool.proofs.MakeLemmas.{file_names, file_more, file_failed, files_count, files_opened}
 use Rattle.fabric_tool.proofs.OpenLemmas.{OpenedSoFar, opened_none}
 use Rattle.fabric_tool.proofs.PortLoops.{out_as}

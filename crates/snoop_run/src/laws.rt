@@ -1,0 +1,12 @@
+//! What the definitions imply. The function does nothing; its contract is the law.
+ghost use Rattle.snoop_run.specs.Laws.{TakenAreCaptures};
+
+use pcap_file::the_end_makes_a_capture;
+
+/// What is taken of files are their captures: each is one, from its head to its end, and its
+/// records are those that are taken.
+pub fn what_is_taken_are_captures()
+    ensures { TakenAreCaptures }
+{
+    the_end_makes_a_capture();
+}
