@@ -1,0 +1,403 @@
+"""What the switch of the captures answered, beside what the forwarder answered to the same frames."""
+from collections import Counter
+from dataclasses import dataclass, field
+from typing import Optional
+
+from .configs import Config, is_advertisement
+from .fabric import ANSWERED, Sent, Walk
+from .fields import Fields, fields_of
+from .frames import ADVERTISE, ALL_ENODES, CLEAR, Heard, colons, fcid, number
+from .inputs import Port
+from .journals import Frame, counted
+from .pairs import SERVICES, asks, replies_of
+from .runs import Run
+from .windows import ends_of, is_otherwise, otherwise
+
+PROFILE = "this project's profile (docs/DECISIONS.md)"
+# fields in which a right switch may differ, and why
+CHOICES = {
+    "priority (802.1Q)": f"IEEE 802.1Q leaves it to the sender; {PROFILE} writes 3",
+    "F_CTL": "FC-FS-3 leaves sequence initiative and the like to the responder; the profile writes 980000 on a last frame",
+    "SEQ_ID": "FC-FS-3: the sender chooses it",
+    "RX_ID": "FC-FS-3: the responder chooses it, FFFF says none",
+    "CS_CTL": "FC-FS-3: a priority that the sender chooses",
+    "Parameter": "FC-FS-3: has no meaning here",
+    "B-B credit": "not used on a virtual link (FC-BB-5)",
+    "versions": "FC-LS-2: any that both ports support",
+    "R_A_TOV": f"FC-LS-2: the fabric's time-out, which hosts take over; {PROFILE} says 10,000 ms",
+    "E_D_TOV": f"FC-LS-2: the fabric's time-out, which hosts take over; {PROFILE} says 2,000 ms",
+    "receive size": "FC-LS-2: what the port takes, at least 256",
+    "WWPN": f"the name of the fabric's port; {PROFILE} makes it of the switch name",
+    "WWNN": "the switch name: `switch` in the configuration",
+    "fabric port name": "the name of the fabric's port",
+    "class 1": "classes that the fabric offers; the profile offers class 3 alone",
+    "class 2": "classes that the fabric offers; the profile offers class 3 alone",
+    "class 3": "FC-LS-2: further parameters of class 3 are the fabric's choice; that it is offered is not",
+    "auxiliary class": "FC-LS-2: optional",
+    "vendor": "FC-LS-2: the vendor's",
+    "reason": f"FC-LS-2 and FC-GS-6 let several codes stand for one refusal; {PROFILE}: docs/JOURNAL.md, Codes of rejects",
+    "explanation": f"FC-LS-2 and FC-GS-6 let several codes stand for one refusal; {PROFILE}: docs/JOURNAL.md, Codes of rejects",
+    "CT revision": "FC-GS-6: 01 to 03 stand for editions",
+    "CT size": "FC-GS-6: how much is left, optional",
+    "order of N_Ports": f"FC-GS-6 has no order; {PROFILE} lists them by address",
+    "class of service": "FC-GS-6: as the login had it",
+    "FIP priority": "the administrator's: `priority` in the configuration",
+    "VF_ID": "virtual fabrics aren't in the profile, which writes 0",
+    "fabric name": f"the fabric's name; {PROFILE} takes the switch name",
+}
+FLAGS_OFFERED = "FC-BB-5 has FP and SP by what the fabric offers; the profile offers FP alone"
+# differences that the profile makes in the list of descriptors
+NO_MAC = f"{PROFILE}: rejects and the accept of a LOGO have no MAC descriptor"
+
+
+@dataclass
+class Difference:
+    """A field that differs; `note` says why that may be, and is empty where it must not be. Where the captures or the run don't tell
+    enough to say which is right, `is_open`."""
+
+    field: str
+    switch: str
+    forwarder: str
+    note: str = ""
+    is_open: bool = False
+
+
+@dataclass
+class Answer:
+    """A request of a host with both answers."""
+
+    port: int
+    frame: int
+    index: int
+    clock: int
+    request: str
+    switch: str
+    forwarder: str
+    differences: list[Difference] = field(default_factory=list)
+
+    @property
+    def state(self) -> str:
+        """equal, choice, open or different."""
+        if not self.differences:
+            return "equal"
+        if not all(it.note for it in self.differences):
+            return "different"
+        return "open" if any(it.is_open for it in self.differences) else "choice"
+
+
+@dataclass
+class Comparison:
+    """All that was compared."""
+
+    answers: list[Answer] = field(default_factory=list)
+    forwarded: Counter[str] = field(default_factory=Counter)
+    forwards: list[Answer] = field(default_factory=list)
+    notices: list[Answer] = field(default_factory=list)
+    advertisements: list[Answer] = field(default_factory=list)
+    others: Counter[str] = field(default_factory=Counter)
+
+    def all(self) -> list[Answer]:
+        return [*self.answers, *self.forwards, *self.notices, *self.advertisements]
+
+
+def note_of(name: str, kind: str, switch: str, forwarder: str) -> str:
+    if name == "class 3" and (switch[:1] in "01234567") != (forwarder[:1] in "01234567"):
+        return ""
+    if name == "FIP flags":
+        apart = {it for it in switch.split() if it not in forwarder.split()} | {it for it in forwarder.split() if it not in switch.split()}
+        return FLAGS_OFFERED if apart <= {"FP", "SP"} else ""
+    if name in ("descriptors", "FIP MAC") and ("reject" in kind or kind.startswith("LOGO")):
+        return NO_MAC
+    return CHOICES.get(name, "")
+
+
+def differing(switch: Fields, forwarder: Fields, kind: str) -> list[Difference]:
+    """The fields in which two frames differ."""
+    found = []
+    for name in [*switch, *(it for it in forwarder if it not in switch)]:
+        a, b = switch.get(name, "isn't there"), forwarder.get(name, "isn't there")
+        if a != b:
+            found.append(Difference(name, a, b, note_of(name, kind, a, b)))
+    if any(it.field == "message" for it in found):
+        return [Difference(it.field, it.switch, it.forwarder) for it in found if it.field in ("message", "reason", "explanation")]
+    listed = [it for it in found if it.field == "N_Ports"]
+    return [it for it in found if not (listed and it.field == "order of N_Ports")]
+
+
+def parts(port: Port, at: int) -> list[Heard]:
+    """The frames of a reply of the switch that begins there: the further ones count up."""
+    first = port.heard[at]
+    found = [first]
+    if first.fc is None or not first.is_fcoe or first.fc.kind != 0x20 or first.fc.f_ctl & 0x100000:
+        return found
+    key = (first.fc.s_id, first.fc.d_id, first.fc.ox_id)
+    for heard in (port.heard[it] for it in port.replies if it > at):
+        fc = heard.fc
+        if heard.is_fcoe and fc and (fc.s_id, fc.d_id, fc.ox_id) == key and fc.seq_cnt == len(found):
+            found.append(heard)
+            if fc.f_ctl & 0x100000:
+                break
+    return found
+
+
+def read_reply(frames: list[Heard], asked: Optional[int]) -> Fields:
+    """The fields of a reply of one frame or several."""
+    first, last = frames[0], frames[-1]
+    payload = b"".join(it.fc.payload for it in frames if it.fc) if len(frames) > 1 else None
+    fields = fields_of(first, asked, payload)
+    if len(frames) > 1 and last.fc is not None:
+        fields["frames"], fields["F_CTL"], fields["EOF"] = str(len(frames)), f"{last.fc.f_ctl:06x}", "of the last"
+        for name in ("check sequence", "SOF"):
+            fields.pop(name, None)
+    if first.operation == ADVERTISE:
+        fields["bytes after the Ethertype"] = str(len(first.data) - first.at)
+    return fields
+
+
+def compared(port: Port, at: int, reply: Optional[int], sent: list[Sent], entry: Frame) -> Answer:
+    """A request's two answers."""
+    heard, record = port.heard[at], port.records[at]
+    asked = heard.fc.command if heard.is_fcoe and heard.fc else None
+    real = parts(port, reply) if reply is not None else []
+    ours = [it.heard for it in sent]
+    answer = Answer(port.number, record.number, entry.index, record.milliseconds, heard.kind, real[0].kind if real else "no answer", ours[0].kind if ours else f"no answer ({entry.verdict})")
+    if real and ours:
+        answer.differences = differing(read_reply(real, asked), read_reply(ours, asked), answer.switch)
+    elif real or ours:
+        answer.differences = [Difference("answer", answer.switch, answer.forwarder)]
+    return answer
+
+
+def explain(answer: Answer, cause: tuple[str, bool]) -> None:
+    """Says of each difference that isn't a choice of its own why it may be, and whether that leaves it open."""
+    for it in answer.differences:
+        if not it.note:
+            it.note, it.is_open = cause
+
+
+def cause_of(run: Run, walk: Walk, place: int) -> tuple[str, bool]:
+    """Why the forwarder's answer to a frame may differ from that of a right switch: the profile, the window, or logins that weren't captured."""
+    entry = run.entries[place]
+    if not isinstance(entry, Frame):
+        return "", False
+    heard = run.ports[entry.port - 1].host(entry.index)
+    known = {it.address for it in walk.fabric.logins}
+    ends = {role: address for role, address in ends_of(heard) if address < 0xFF0000}
+    lost = {"dropped source-login": "source", "dropped dest-login": "destination", "refused 09 01": "asked for"}.get(entry.verdict)
+    if lost in ends and ends[lost] not in known:
+        return f"{fcid(ends[lost])} wasn't seen to log in: before the capture began, or on a port that wasn't captured", True
+    if is_otherwise(run, walk, entry, place):
+        return f"by the window: {otherwise(run.config.window)} decides otherwise", True
+    return profile_note(entry, heard), False
+
+
+def profile_note(entry: Frame, heard: Heard) -> str:
+    """What a switch may offer that isn't in the profile."""
+    if entry.verdict == "dropped service-address":
+        return f"{PROFILE}: the services at FFFFFC and FFFFFD alone answer"
+    if heard.is_fcoe and entry.verdict in ("rejected 0b 2c", "refused 0b 00"):
+        return f"{PROFILE}: further link services and name server commands aren't supported"
+    return ""
+
+
+def compare_answers(run: Run, walk: Walk, found: Comparison) -> set[tuple[int, int]]:
+    """Each request to the switch; gives the places of the switch's frames that are replies."""
+    pairs = {port.number: replies_of(port, run.config.mac) for port in run.ports}
+    used: set[tuple[int, int]] = set()
+    for place, entry in enumerate(run.entries):
+        if not isinstance(entry, Frame):
+            continue
+        port = run.ports[entry.port - 1]
+        at = port.hosts[entry.index]
+        if not port.replies or asks(port.heard[at]) is None:
+            continue
+        reply = pairs[entry.port].get(at)
+        sent = [it for it in walk.sent[place] if it.port == entry.port and it.heard.kind != "RSCN"] if entry.word in ANSWERED else []
+        if reply is not None:
+            used.add((entry.port, reply))
+        answer = compared(port, at, reply, sent, entry)
+        if answer.differences:
+            explain(answer, cause_of(run, walk, place))
+        found.answers.append(answer)
+    return used
+
+
+def data_key(heard: Heard) -> Optional[bytes]:
+    """What stays the same of a data frame that goes on: header and payload."""
+    fc = heard.fc
+    return heard.data[fc.at : fc.end] if heard.is_fcoe and fc is not None and fc.d_id < 0xFF0000 and fc.s_id < 0xFF0000 else None
+
+
+def forwarding(port: Port, at: int, was_sent: bool, entry: Frame) -> Answer:
+    """A data frame that one of the two sent on."""
+    record, words = port.records[at], ("sent on" if was_sent else "not sent on", entry.verdict)
+    return Answer(entry.port, record.number, entry.index, record.milliseconds, port.heard[at].kind, *words, [Difference("forwarding", *words)])
+
+
+def compare_forwards(run: Run, walk: Walk, found: Comparison, used: set[tuple[int, int]]) -> None:
+    """Each data frame: whether the switch sent it on, where the capture can show that."""
+    gone: dict[bytes, list[tuple[int, int]]] = {}
+    for port in run.ports:
+        for at in port.replies:
+            key = data_key(port.heard[at])
+            if key is not None:
+                gone.setdefault(key, []).append((port.number, at))
+    can_show = {port.number for port in run.ports if port.replies}
+    for place, entry in enumerate(run.entries):
+        if not isinstance(entry, Frame) or not can_show:
+            continue
+        port = run.ports[entry.port - 1]
+        at = port.hosts[entry.index]
+        key = data_key(port.heard[at])
+        if key is None:
+            continue
+        there = gone.get(key, [])
+        was_sent = bool(there)
+        if there:
+            used.add(there.pop(0))
+        target = int(entry.words[1]) if entry.word == "forwarded" else None
+        if target is not None and not was_sent and target not in can_show:
+            found.forwarded["can't be told: no frames of the switch in that port's capture"] += 1
+        elif was_sent == (target is not None):
+            found.forwarded["sent on by both" if was_sent else "by neither"] += 1
+        else:
+            found.forwarded["by the switch alone" if was_sent else "by the forwarder alone"] += 1
+            found.forwards.append(forwarding(port, at, was_sent, entry))
+            explain(found.forwards[-1], cause_of(run, walk, place))
+            explain(found.forwards[-1], (zone_note(run.config, entry), True))
+
+
+def zone_note(config: Config, entry: Frame) -> str:
+    """A frame that our zones let pass may have met others on the switch."""
+    return "the switch may have other zones: --zone or --config names them" if entry.word == "forwarded" and len(config.zones) == 1 else ""
+
+
+def affected(heard: Heard) -> list[int]:
+    payload = heard.fc.payload if heard.fc else b""
+    return [number(payload[at + 1 : at + 4]) for at in range(4, len(payload) - 3, 4)]
+
+
+Told = tuple[int, int, int]  # port, who is told, of which address
+
+
+def notice(told: Told) -> str:
+    return f"RSCN to {fcid(told[1])} of {fcid(told[2])}"
+
+
+def told_by_switch(run: Run, used: set[tuple[int, int]]) -> dict[Told, list[tuple[int, int]]]:
+    """The state changes of the switch: moment and frame number."""
+    told: dict[Told, list[tuple[int, int]]] = {}
+    for port in run.ports:
+        for at in port.replies:
+            heard = port.heard[at]
+            if heard.kind == "RSCN" and heard.fc:
+                used.add((port.number, at))
+                for address in affected(heard):
+                    told.setdefault((port.number, heard.fc.d_id, address), []).append((port.records[at].milliseconds, port.records[at].number))
+    return told
+
+
+def nearest(moments: list[tuple[int, int]], clock: int, within: int = 10_000) -> Optional[int]:
+    """The place of the moment that is nearest to a clock."""
+    best = min(range(len(moments)), key=lambda it: abs(moments[it][0] - clock), default=None)
+    return best if best is not None and abs(moments[best][0] - clock) <= within else None
+
+
+def compare_notices(run: Run, walk: Walk, found: Comparison, used: set[tuple[int, int]]) -> None:
+    """State changes: those that are missing, and those that are too many."""
+    told = told_by_switch(run, used)
+    for sent in [it for some in walk.sent for it in some if it.heard.kind == "RSCN" and it.heard.fc]:
+        port, fc = run.ports[sent.port - 1], sent.heard.fc
+        if fc is None or not port.replies:
+            continue
+        key = (sent.port, fc.d_id, affected(sent.heard)[0])
+        place = nearest(told.get(key, []), sent.record.milliseconds)
+        answer = Answer(sent.port, 0, -1, sent.record.milliseconds, notice(key), "sent", "sent")
+        if place is None:
+            answer.switch, answer.differences = "missing", [Difference("RSCN", "missing", "sent")]
+        else:
+            answer.frame = told[key].pop(place)[1]
+        found.notices.append(answer)
+    for key, rest in told.items():
+        found.notices += [Answer(key[0], frame, -1, moment, notice(key), "sent", "none", [Difference("RSCN", "too many", "none")]) for moment, frame in rest]
+
+
+def cleared(port: Port, at: int, left: list[Sent]) -> Answer:
+    """A clear link message of the switch, beside the forwarder's to the same ENode, which is taken from what is left."""
+    heard, record = port.heard[at], port.records[at]
+    what = f"Clear links to {colons(heard.destination)}"
+    same = next((it for it in left if it.heard.destination == heard.destination), None)
+    if same is None:
+        return Answer(port.number, record.number, -1, record.milliseconds, what, "sent", "none", [Difference("Clear links", "sent", "none")])
+    left.remove(same)
+    apart = differing(read_reply([heard], None), read_reply([same.heard], None), what)
+    return Answer(port.number, record.number, -1, record.milliseconds, what, "sent", "sent", apart)
+
+
+def compare_clears(run: Run, walk: Walk, found: Comparison, used: set[tuple[int, int]]) -> None:
+    """Clear virtual links, by ENode."""
+    ours = [it for some in walk.sent for it in some if it.heard.operation == CLEAR]
+    for port in run.ports:
+        real = [at for at in port.replies if port.heard[at].operation == CLEAR]
+        used.update((port.number, at) for at in real)
+        left = [it for it in ours if it.port == port.number]
+        found.notices += [cleared(port, at, left) for at in real]
+        for it in left if port.replies else []:
+            what = f"Clear links to {colons(it.heard.destination)}"
+            found.notices.append(Answer(port.number, 0, -1, it.record.milliseconds, what, "missing", "sent", [Difference("Clear links", "missing", "sent")]))
+
+
+def compare_advertisements(run: Run, walk: Walk, found: Comparison, used: set[tuple[int, int]]) -> None:
+    """Advertisements to all ENodes: each spelling of the switch once, beside the forwarder's."""
+    ours = next((it.heard for some in walk.sent for it in some if is_advertisement(it.heard) and it.heard.destination == ALL_ENODES), None)
+    for port in run.ports:
+        seen: set[bytes] = set()
+        for at in port.replies:
+            heard = port.heard[at]
+            if not is_advertisement(heard) or heard.destination != ALL_ENODES:
+                continue
+            used.add((port.number, at))
+            if heard.data in seen or heard.source != run.config.mac:
+                continue
+            seen.add(heard.data)
+            record = port.records[at]
+            answer = Answer(port.number, record.number, -1, record.milliseconds, "Advertisement to all", "sent", "sent" if ours else "none yet (no period passed)")
+            answer.differences = differing(read_reply([heard], None), read_reply([ours], None), "Advertisement") if ours else []
+            found.advertisements.append(answer)
+
+
+def compare(run: Run, walk: Walk) -> Optional[Comparison]:
+    """The comparison, where the captures hold frames of the switch."""
+    if not any(port.replies for port in run.ports):
+        return None
+    found = Comparison()
+    used = compare_answers(run, walk, found)
+    compare_forwards(run, walk, found, used)
+    compare_notices(run, walk, found, used)
+    compare_clears(run, walk, found, used)
+    compare_advertisements(run, walk, found, used)
+    for port in run.ports:
+        for at in port.replies:
+            heard, fc = port.heard[at], port.heard[at].fc
+            if (port.number, at) not in used and heard.is_fabric and not (fc and heard.is_fcoe and fc.s_id in SERVICES and fc.seq_cnt):
+                found.others[heard.kind] += 1
+    return found
+
+
+# the states in words, from good to bad
+STATES = {"equal": "equal", "choice": "differ where a choice is left open", "open": "can't be told from these captures", "different": "differ"}
+
+
+def totals(found: Comparison) -> Counter[str]:
+    return Counter(it.state for it in found.all())
+
+
+def by_kind(found: Comparison) -> dict[str, Counter[str]]:
+    """How many of each state for each kind of request."""
+    kinds: dict[str, Counter[str]] = {}
+    for it in found.all():
+        kinds.setdefault(it.request.split(" to ")[0], Counter())[it.state] += 1
+    return kinds
+
+
+__all__ = ["STATES", "Answer", "Comparison", "Difference", "by_kind", "compare", "counted", "totals"]

@@ -1,0 +1,288 @@
+"""What a journal says of the fabric, entry by entry: who is logged in, what is registered, who watches, and which frames an entry sends."""
+from collections import deque
+from dataclasses import dataclass, field
+from typing import Iterator, Optional
+
+from .captures import Record
+from .configs import Config
+from .errors import Refused
+from .frames import ALL_ENODES, Heard, fcid, hear, login_names, number
+from .journals import Entry, Frame, Tick
+from .runs import Run
+
+PORT_PERIOD = 90000  # a VN_Port's keep alives, in milliseconds (FC-BB-5)
+ANSWERED = {"vlans", "advertised", "granted", "rejected", "logout", "ns-login", "ns-logout", "watching", "registered", "refused", "answered"}
+NO_TYPES = bytes(32)
+
+
+@dataclass
+class Login:
+    """A login of an N_Port from its grant to its end."""
+
+    address: int
+    port: int
+    enode: bytes
+    name: bytes
+    node: bytes
+    since: int
+    granted_by: int
+    granted_frame: tuple[int, int]
+    is_fdisc: bool
+    parent: Optional[int] = None
+    until: Optional[int] = None
+    why: str = ""
+    ended_by: Optional[int] = None
+    node_heard: int = 0
+    port_heard: int = 0
+    server: Optional[int] = None
+    watch: int = 0
+    node_name: bytes = b""
+    types: bytes = NO_TYPES
+    features: dict[int, int] = field(default_factory=dict)
+    symbol: bytes = b""
+    node_symbol: bytes = b""
+
+    def mac(self, config: Config) -> bytes:
+        """The granted MAC (FPMA)."""
+        return config.fc_map + self.address.to_bytes(3, "big")
+
+    @property
+    def type_numbers(self) -> list[int]:
+        words = [number(self.types[at : at + 4]) for at in range(0, 32, 4)]
+        return [32 * at + bit for at, word in enumerate(words) for bit in range(32) if word >> bit & 1]
+
+    def is_live(self, clock: int) -> bool:
+        return self.since <= clock and (self.until is None or clock < self.until)
+
+
+def erase(login: Login) -> None:
+    login.node_name, login.types, login.features, login.symbol, login.node_symbol = login.node, NO_TYPES, {}, b"", b""
+
+
+def register(login: Login, command: int, body: bytes) -> None:
+    """A registration that the name server took (FC-GS-6); `body` is what stands behind the preamble."""
+    if command == 0x0213:
+        login.node_name = body[4:12]
+    elif command == 0x0217:
+        login.types = body[4:36]
+    elif command == 0x0218:
+        login.symbol = body[5 : 5 + body[4]]
+    elif command == 0x021F:
+        login.features = {**login.features, body[7]: body[6] & 0x0F}
+    elif command == 0x0239:
+        login.node_symbol = body[9 : 9 + body[8]]
+    elif command == 0x0300:
+        erase(login)
+
+
+class Fabric:
+    """The logins of a journal, as they stand behind the entries that were taken."""
+
+    def __init__(self, config: Config) -> None:
+        self.config = config
+        self.clock: Optional[int] = None
+        self.live: dict[int, Login] = {}
+        self.logins: list[Login] = []
+        self.lists: dict[bytes, set[str]] = {}
+        for zone, members in config.zones.items():
+            for name in members:
+                self.lists.setdefault(name, set()).add(zone)
+
+    def joined(self, clock: int, one: bytes, other: bytes) -> bool:
+        both = self.lists.get(one, set()) & self.lists.get(other, set())
+        return one != other and bool(both and both & set(self.config.active(clock)[1]))
+
+    def watchers(self) -> list[Login]:
+        return [self.live[it] for it in sorted(self.live) if self.live[it].watch in (1, 3)]
+
+    def end(self, login: Login, clock: int, why: str, entry: int) -> Login:
+        login.until, login.why, login.ended_by = clock, why, entry
+        return self.live.pop(login.address)
+
+    def grant(self, entry: Frame, heard: Heard, place: int) -> list[Login]:
+        """Takes a grant; gives the logins that it affects, ended ones first."""
+        address, names = entry.address, login_names(heard)
+        if address is None or names is None:
+            raise Refused(f"port {entry.port}, index {entry.index}: the journal grants an address to what is no login: these files aren't of one run")
+        own = [self.live[it] for it in sorted(self.live) if (self.live[it].port, self.live[it].enode) == (entry.port, heard.source)]
+        is_fdisc = heard.login_kind == "FDISC"
+        ended = [] if is_fdisc else [self.end(it, entry.clock, "its ENode logged in again (FLOGI)", place) for it in own]
+        login = Login(address, entry.port, heard.source, *names, entry.clock, place, (entry.port, entry.index), is_fdisc)
+        login.parent = next((it.address for it in own if not it.is_fdisc), None) if is_fdisc else None
+        login.port_heard, login.node_name = entry.clock, names[1]
+        self.live[address] = login
+        self.logins.append(login)
+        for it in self.live.values():
+            if (it.port, it.enode) == (entry.port, heard.source):
+                it.node_heard = entry.clock
+        return ended + [login]
+
+    def silence(self, login: Login, clock: int) -> str:
+        """Why a tick ended a login."""
+        node, port = clock - login.node_heard, clock - login.port_heard
+        if 2 * node > 5 * self.config.period:
+            return f"silent: no keep alive of its ENode for {node / 1000:.1f} s"
+        return f"silent: no keep alive of its VN_Port for {port / 1000:.1f} s"
+
+    def heard_again(self, entry: Frame, heard: Heard) -> None:
+        if entry.address is not None and entry.address in self.live:
+            self.live[entry.address].port_heard = entry.clock
+        elif entry.address is None:
+            for it in self.live.values():
+                if (it.port, it.enode) == (entry.port, heard.source):
+                    it.node_heard = entry.clock
+
+    def serve(self, entry: Frame, heard: Heard) -> list[Login]:
+        """What a service took; gives the login whose types or features it changed."""
+        login = self.live.get(heard.fc.s_id) if heard.fc else None
+        if login is None or heard.fc is None:
+            return []
+        before = (login.types, {it: value for it, value in login.features.items() if value})
+        if entry.word == "ns-login":
+            login.server = min(number(heard.fc.payload[10:12]) & 0xFFF, 2112) // 4 * 4
+        elif entry.word == "ns-logout":
+            login.server = None
+        elif entry.word == "watching":
+            login.watch = int(entry.words[1]) % 255
+        elif entry.word == "registered":
+            register(login, heard.fc.command or 0, heard.fc.payload[16:])
+        after = (login.types, {it: value for it, value in login.features.items() if value})
+        return [login] if entry.word == "registered" and before != after else []
+
+    def take(self, entry: Entry, heard: Optional[Heard], place: int) -> list[Login]:
+        """Takes an entry; gives the logins whose state it changed, in the order in which others are told."""
+        self.clock = entry.clock
+        if isinstance(entry, Tick):
+            gone = [self.live[it] for it in entry.ended if it in self.live]
+            return [self.end(it, entry.clock, self.silence(it, entry.clock), place) for it in gone]
+        if heard is None:
+            return []
+        if entry.word == "granted":
+            return self.grant(entry, heard, place)
+        if entry.word == "logout" and entry.address in self.live:
+            return [self.end(self.live[entry.address], entry.clock, "LOGO", place)]
+        if entry.word == "alive":
+            self.heard_again(entry, heard)
+        return self.serve(entry, heard)
+
+    def notices(self, before: Optional[int], affected: list[Login], is_tick: bool) -> Iterator[tuple[int, int, int]]:
+        """Port, address and affected address of each state change, in order; `before` is the clock in front of the entry."""
+        watchers = self.watchers()
+        for it in affected:
+            yield from ((w.port, w.address, it.address) for w in watchers if self.joined(before or 0, w.name, it.name))
+        if not is_tick or before is None or self.clock is None or not any(before < moment <= self.clock for _, moment in self.config.activations):
+            return
+        for address in sorted(self.live):
+            name = self.live[address].name
+            yield from ((w.port, w.address, address) for w in watchers if self.joined(before, w.name, name) != self.joined(self.clock, w.name, name))
+
+
+# ---- which frames an entry sends
+
+
+@dataclass
+class Sent:
+    """A frame that was sent, and by which entry."""
+
+    port: int
+    place: int
+    record: Record
+    heard: Heard
+    entry: int
+
+
+class Sender:
+    """Takes the sent frames of all ports apart, entry by entry, in the order in which they were written."""
+
+    def __init__(self, run: Run) -> None:
+        self.queues = [deque((at, it, hear(it.data)) for at, it in enumerate(records)) for records in run.outputs]
+
+    def front(self, port: int, clock: int) -> Optional[Heard]:
+        queue = self.queues[port - 1] if 0 < port <= len(self.queues) else deque()
+        return queue[0][2] if queue and queue[0][1].milliseconds == clock else None
+
+    def pop(self, port: int, entry: int) -> Sent:
+        place, record, heard = self.queues[port - 1].popleft()
+        return Sent(port, place, record, heard, entry)
+
+    def one(self, port: int, clock: int, entry: int, wanted: str) -> Sent:
+        if self.front(port, clock) is None:
+            raise Refused(f"output of port {port}: lacks {wanted} at {clock}: these files aren't of one run; `fcoe_tool replay` tells the first byte")
+        return self.pop(port, entry)
+
+    def answer(self, entry: Frame, place: int) -> list[Sent]:
+        """What answers a frame on its port, or goes on to another."""
+        if entry.word == "forwarded":
+            return [self.one(int(entry.words[1]), entry.clock, place, "a forwarded frame")]
+        if entry.word not in ANSWERED:
+            return []
+        sent = [self.one(entry.port, entry.clock, place, f"the reply to index {entry.index}")]
+        while entry.word == "answered" and sent[-1].heard.fc and not sent[-1].heard.fc.f_ctl & 0x100000:
+            sent.append(self.one(entry.port, entry.clock, place, f"a part of the reply to index {entry.index}"))
+        return sent
+
+    def all_like(self, clock: int, place: int, kind: str, most: int) -> list[Sent]:
+        """The frames of a kind that stand next on each port."""
+        sent = []
+        for port in range(1, len(self.queues) + 1):
+            left = most
+            while left:
+                front = self.front(port, clock)
+                if front is None or front.kind != kind or kind == "Advertisement" and front.destination != ALL_ENODES:
+                    break
+                sent.append(self.pop(port, place))
+                left -= 1
+        return sent
+
+    def told(self, clock: int, place: int, notices: Iterator[tuple[int, int, int]]) -> list[Sent]:
+        sent = []
+        for port, watcher, affected in notices:
+            it = self.one(port, clock, place, f"a state change for {fcid(watcher)}")
+            if it.heard.kind != "RSCN" or it.heard.fc is None or (it.heard.fc.d_id, number(it.heard.fc.payload[5:8])) != (watcher, affected):
+                raise Refused(f"output of port {port}: record {it.place} isn't the state change of {fcid(affected)}: these files aren't of one run")
+            sent.append(it)
+        return sent
+
+    def check_end(self) -> None:
+        for port, queue in enumerate(self.queues, 1):
+            if queue:
+                raise Refused(f"output of port {port}: {len(queue)} frames too many, from record {queue[0][0]} on: these files aren't of one run")
+
+
+def step(fabric: Fabric, sender: Sender, run: Run, place: int) -> list[Sent]:
+    """Takes an entry, and gives the frames that it sends."""
+    entry, before = run.entries[place], fabric.clock
+    if isinstance(entry, Tick):
+        affected = fabric.take(entry, None, place)
+        sent = sender.all_like(entry.clock, place, "Clear links", -1)
+        sent += sender.told(entry.clock, place, fabric.notices(before, affected, True))
+        return sent + sender.all_like(entry.clock, place, "Advertisement", 1)
+    heard = run.ports[entry.port - 1].host(entry.index)
+    sent = sender.answer(entry, place)
+    affected = fabric.take(entry, heard, place)
+    return sent + sender.told(entry.clock, place, fabric.notices(before, affected, False))
+
+
+@dataclass
+class Walk:
+    """A run walked from its begin to its end."""
+
+    fabric: Fabric
+    sent: list[list[Sent]]
+
+
+def walk(run: Run) -> Walk:
+    """Which frames each entry sends; refuses files that aren't of one run."""
+    fabric, sender = Fabric(run.config), Sender(run)
+    sent = [step(fabric, sender, run, place) for place in range(len(run.entries))]
+    sender.check_end()
+    return Walk(fabric, sent)
+
+
+def fabric_at(run: Run, last: int) -> Fabric:
+    """The fabric behind so many entries."""
+    fabric = Fabric(run.config)
+    for place, entry in enumerate(run.entries[:last]):
+        heard = run.ports[entry.port - 1].host(entry.index) if isinstance(entry, Frame) else None
+        fabric.take(entry, heard, place)
+    return fabric

@@ -1,0 +1,234 @@
+"""A run as a picture, time downwards: one line for each ENode, the forwarder in the middle."""
+from collections import Counter
+from dataclasses import dataclass
+from html import escape
+from typing import Iterator, Optional, Union
+
+from .fabric import Login, Sent
+from .frames import Heard, fcid
+from .journals import Entry, Frame, Tick
+from .looking import Look
+from .moments import stamp
+
+COLUMN, ROW, TOP, LEFT = 300, 26, 140, 170
+COLOURS = {"dropped": "#b3261e", "rejected": "#b35900", "refused": "#b35900", "sent": "#1a5fb4", "taken": "#26a269", "tick": "#6b3fa0"}
+LEGEND = (
+    ("taken", "heard, and taken", ""),
+    ("sent", "sent by the forwarder", ""),
+    ("rejected", "rejected, refused", ""),
+    ("dropped", "dropped, with its rule", "3 3"),
+    ("tick", "logins ended by silence", "5 4"),
+)
+Node = tuple[int, bytes]  # port, MAC of the ENode
+
+
+@dataclass
+class Arrow:
+    """Frames of one kind that follow each other."""
+
+    clock: int
+    node: Node
+    inward: bool
+    text: str
+    why: str = ""
+    count: int = 1
+
+    def like(self, other: "Row") -> bool:
+        return isinstance(other, Arrow) and (self.node, self.inward, self.text, self.why) == (other.node, other.inward, other.text, other.why)
+
+
+Row = Union[Arrow, Tick]
+
+
+def label(heard: Heard, inward: bool) -> str:
+    """The kind of a frame, and the other end of one between N_Ports."""
+    fc = heard.fc
+    other = (fc.d_id if inward else fc.s_id) if fc is not None and heard.is_fcoe else 0xFFFFFF
+    return heard.kind if other >= 0xFF0000 else f"{heard.kind} {'to' if inward else 'from'} {fcid(other)}"
+
+
+class Picture:
+    """The rows of a picture."""
+
+    def __init__(self, look: Look) -> None:
+        self.look = look
+        self.owner: dict[Node, Node] = {}  # port and granted MAC: the ENode that holds it
+        self.nodes: list[Node] = []
+        self.rows: list[Row] = []
+        self.ended: dict[int, list[Login]] = {}
+        for login in look.walk.fabric.logins:
+            if login.ended_by is not None:
+                self.ended.setdefault(login.ended_by, []).append(login)
+        self.granted = {it.granted_by: it for it in look.walk.fabric.logins}
+
+    def node(self, port: int, mac: bytes) -> Node:
+        """The ENode of a MAC behind a port: itself, or who holds it as a granted MAC."""
+        found = self.owner.get((port, mac), (port, mac))
+        if found not in self.nodes:
+            self.nodes.append(found)
+        return found
+
+    def add(self, arrow: Arrow) -> None:
+        last = self.rows[-1] if self.rows else None
+        if isinstance(last, Arrow) and last.like(arrow):
+            last.count += 1
+        else:
+            self.rows.append(arrow)
+
+    def heard(self, entry: Frame) -> None:
+        heard = self.look.ports[entry.port - 1].host(entry.index)
+        node = self.node(entry.port, heard.source)
+        self.add(Arrow(entry.clock, node, True, label(heard, True), "" if entry.word == "forwarded" else entry.verdict))
+
+    def sent(self, it: Sent, clock: int) -> None:
+        if it.heard.destination[0] % 2:
+            for node in [node for node in self.nodes if node[0] == it.port]:
+                self.add(Arrow(clock, node, False, label(it.heard, False)))
+        else:
+            self.add(Arrow(clock, self.node(it.port, it.heard.destination), False, label(it.heard, False)))
+
+    def change(self, place: int) -> None:
+        """Takes the logins that an entry makes and ends."""
+        config = self.look.run.config
+        for login in self.ended.get(place, []):
+            self.owner.pop((login.port, login.mac(config)), None)
+        login_made = self.granted.get(place)
+        if login_made is not None:
+            self.owner[(login_made.port, login_made.mac(config))] = (login_made.port, login_made.enode)
+
+    def take(self, place: int, entry: Entry) -> None:
+        if isinstance(entry, Tick):
+            if entry.ended:
+                self.rows.append(entry)
+        else:
+            self.heard(entry)
+        for it in self.look.walk.sent[place]:
+            self.sent(it, entry.clock)
+        self.change(place)
+
+
+def merged(rows: list[Row], noise: "Counter[str]") -> list[Row]:
+    """The rows without other traffic, whose number is counted; like rows that are neighbours then are one."""
+    found: list[Row] = []
+    for row in rows:
+        if isinstance(row, Arrow) and row.why == "dropped ethertype":
+            noise[row.why] += row.count
+        elif found and isinstance(row, Arrow) and row.like(found[-1]):
+            last = found[-1]
+            assert isinstance(last, Arrow)
+            last.count += row.count
+        else:
+            found.append(row)
+    return found
+
+
+def clock_text(clock: int, first: int) -> str:
+    """Clock time, and seconds since the first arrow."""
+    day = stamp(clock)
+    return f"{day[11:22] if len(day) > 12 else day}  +{(clock - first) / 1000:.2f} s"
+
+
+def ordered(nodes: list[Node], rows: list[Row]) -> list[Optional[Node]]:
+    """The lines from left to right; none is the forwarder."""
+    used = {row.node for row in rows if isinstance(row, Arrow)}
+    heard = [it for it in nodes if it in used]
+    ports = sorted({port for port, _ in heard})
+    half = ports[: (len(ports) + 1) // 2]
+    if len(ports) == 1:
+        left, right = heard[: (len(heard) + 1) // 2], heard[(len(heard) + 1) // 2 :]
+    else:
+        left, right = [it for it in heard if it[0] in half], [it for it in heard if it[0] not in half]
+    return [*reversed(left), None, *right]
+
+
+def heads(look: Look, order: list[Optional[Node]], place: dict[Optional[Node], int], height: int) -> Iterator[str]:
+    names: dict[Node, str] = {}
+    for login in look.walk.fabric.logins:
+        names.setdefault((login.port, login.enode), login.name.hex(":"))
+    for node in order:
+        x, title = place[node], "forwarder" if node is None else f"port {node[0]} · {node[1].hex(':')}"
+        yield f'<line x1="{x}" y1="{TOP - 24}" x2="{x}" y2="{height - ROW}" stroke="#9a9996" stroke-width="{3 if node is None else 1.5}"/>'
+        yield f'<text x="{x}" y="{TOP - 48}" text-anchor="middle" font-weight="bold">{escape(title)}</text>'
+        if node in names and node is not None:
+            yield f'<text x="{x}" y="{TOP - 32}" text-anchor="middle" fill="#5e5c64" font-size="11">{names[node]}</text>'
+
+
+def legend(width: int, said: str) -> Iterator[str]:
+    """What the colours mean, and what isn't drawn."""
+    x, y = 10, 22
+    for word, text, dash in LEGEND:
+        size = 44 + 7 * len(text)
+        if x + size > width and x > 10:
+            x, y = 10, y + 18
+        yield f'<line x1="{x}" y1="{y - 4}" x2="{x + 26}" y2="{y - 4}" stroke="{COLOURS[word]}" stroke-width="2" stroke-dasharray="{dash}"/>'
+        yield f'<text x="{x + 32}" y="{y}" fill="{COLOURS[word]}" font-size="11">{escape(text)}</text>'
+        x += size
+    yield f'<text x="10" y="{y + 22}" fill="#5e5c64" font-size="11">{escape(said)}</text>'
+
+
+def chosen(rows: list[Row], begin: float, end: float, most: Optional[int]) -> tuple[list[Row], int]:
+    """The rows between two seconds behind the first arrow, at most so many; and how many more there are."""
+    first = rows[0].clock if rows else 0
+    found = [row for row in rows if begin * 1000 <= row.clock - first <= end * 1000]
+    return found[:most], len(found) - len(found[:most])
+
+
+def about(look: Look, first: int, noise: "Counter[str]", left_out: int) -> str:
+    """When the picture begins, and what it leaves out."""
+    said = f"begins {stamp(first)}{' UTC' if first >= 10**11 else ''}; times are those of the windows ({look.run.config.window} ms)"
+    said += "".join(f"; not drawn: {count} {why}" for why, count in noise.items())
+    return said + (f"; {left_out} further rows are left out" if left_out else "")
+
+
+def framed(width: int, height: int) -> Iterator[str]:
+    yield f'<svg xmlns="http://www.w3.org/2000/svg" viewBox="0 0 {width} {height}" width="{width}" height="{height}" font-family="DejaVu Sans, Helvetica, sans-serif" font-size="12">'
+    yield f'<rect width="{width}" height="{height}" fill="#ffffff"/>'
+    yield '<defs><marker id="head" viewBox="0 0 8 8" refX="8" refY="4" markerWidth="8" markerHeight="8" orient="auto"><path d="M0 0 L8 4 L0 8 z" fill="context-stroke"/></marker></defs>'
+
+
+def drawing(look: Look, begin: float = 0.0, end: float = float("inf"), most: Optional[int] = None) -> Iterator[str]:
+    """The lines of the picture, from so many seconds behind the first arrow to so many; at most so many rows."""
+    picture, noise = Picture(look), Counter[str]()
+    for at, entry in enumerate(look.run.entries):
+        picture.take(at, entry)
+    merged_rows = merged(picture.rows, noise)
+    first = merged_rows[0].clock if merged_rows else 0
+    rows, left_out = chosen(merged_rows, begin, end, most)
+    order = ordered(picture.nodes, rows)
+    place: dict[Optional[Node], int] = {node: LEFT + COLUMN // 2 + COLUMN * at for at, node in enumerate(order)}
+    width, height = LEFT + COLUMN * len(order), TOP + ROW * (len(rows) + 2)
+    yield from framed(width, height)
+    yield from legend(width, about(look, first, noise, left_out))
+    yield from heads(look, order, place, height)
+    yield from body(rows, first, place, width)
+    yield "</svg>"
+
+
+def body(rows: list[Row], first: int, place: dict[Optional[Node], int], width: int) -> Iterator[str]:
+    """The rows, each clock at the left of its first."""
+    shown = None
+    for at, row in enumerate(rows):
+        y = TOP + ROW * at
+        if row.clock != shown:
+            yield f'<text x="10" y="{y + 4}" fill="#5e5c64" font-size="11" xml:space="preserve">{clock_text(row.clock, first)}</text>'
+            shown = row.clock
+        yield from ended(row, y, place, width) if isinstance(row, Tick) else drawn(row, y, place)
+
+
+def ended(tick: Tick, y: int, place: dict[Optional[Node], int], width: int) -> Iterator[str]:
+    colour = COLOURS["tick"]
+    yield f'<line x1="{LEFT}" y1="{y}" x2="{width - 20}" y2="{y}" stroke="{colour}" stroke-dasharray="5 4"/>'
+    said = " ".join(fcid(it) for it in tick.ended[:8]) + (f" and {len(tick.ended) - 8} more" if len(tick.ended) > 8 else "")
+    yield f'<text x="{place[None] + 8}" y="{y - 4}" fill="{colour}" font-weight="bold">silent: {said}</text>'
+
+
+def drawn(row: Arrow, y: int, place: dict[Optional[Node], int]) -> Iterator[str]:
+    word = row.why.split(" ")[0]
+    colour = COLOURS.get(word, COLOURS["taken"]) if row.inward else COLOURS["sent"]
+    ends = (place[row.node], place[None]) if row.inward else (place[None], place[row.node])
+    times = f" ×{row.count}" if row.count > 1 else ""
+    text = escape(f"{row.text}{times}" + (f" · {row.why}" if row.why else ""))
+    dash = ' stroke-dasharray="3 3"' if word == "dropped" else ""
+    yield f'<line x1="{ends[0]}" y1="{y}" x2="{ends[1]}" y2="{y}" stroke="{colour}" stroke-width="1.5"{dash} marker-end="url(#head)"/>'
+    near = place[None] + (COLUMN // 2 if place[row.node] > place[None] else -COLUMN // 2)
+    yield f'<text x="{near}" y="{y - 5}" text-anchor="middle" fill="{colour}" stroke="#ffffff" stroke-width="3" paint-order="stroke">{text}</text>'

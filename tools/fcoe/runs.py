@@ -1,0 +1,125 @@
+"""The program, run in a folder of its own and checked by its own `replay`."""
+import os
+import pathlib
+import shutil
+import subprocess
+from dataclasses import dataclass
+from typing import Optional
+
+from .captures import Record, classic, write_classic
+from .configs import Config
+from .errors import Refused
+from .inputs import Inputs, Port
+from .journals import Entry, Frame, frames_of, read_journal
+
+TOP = pathlib.Path(__file__).resolve().parent.parent.parent
+BUILT = TOP / "crates" / "fcoe_tool" / "out" / "fcoe_tool"
+LIMITS = {
+    "limit span": "the captures span more than six hours: cut them with `editcap -A START -B STOP`",
+    "limit frames": "more than 4,000,000 frames: keep FIP and FCoE alone, `tshark -r IN -Y 'fip or fcoe' -w OUT`",
+    "limit bytes": "more than 1 GiB: cut data frames, `editcap -A START -B STOP`",
+}
+
+
+@dataclass
+class Run:
+    """What the program did with the frames of hosts."""
+
+    config: Config
+    ports: list[Port]
+    entries: list[Entry]
+    outputs: list[list[Record]]
+    printed: str = ""
+    checked: str = ""
+    folder: str = ""
+
+    def frames(self) -> list[Frame]:
+        return frames_of(self.entries)
+
+
+def program_of(named: Optional[str]) -> str:
+    """The program: as named, by FCOE_TOOL, on PATH, or where `rt run` leaves it."""
+    for word in (named, os.environ.get("FCOE_TOOL")):
+        if word:
+            if not os.access(word, os.X_OK) or os.path.isdir(word):
+                raise Refused(f"{word}: no program: build one with `bench/build crates/fcoe_tool ~/bin/fcoe_tool`")
+            return os.path.realpath(word)
+    found = shutil.which("fcoe_tool") or (str(BUILT) if BUILT.exists() else None)
+    if not found:
+        raise Refused("no fcoe_tool on PATH: build it with `bench/build crates/fcoe_tool ~/bin/fcoe_tool`, or name it with --program or FCOE_TOOL")
+    return os.path.realpath(found)
+
+
+def say(words: list[str], folder: str) -> "subprocess.CompletedProcess[str]":
+    return subprocess.run(words, cwd=folder, capture_output=True, text=True, check=False)
+
+
+def why_refused(printed: str, inputs: Inputs, folder: str) -> str:
+    """A refusal of the program with its file and the next step."""
+    words = printed.split()
+    if words[:1] == ["capture"] and len(words) == 4:
+        return f"{inputs.ports[int(words[1]) - 1].label}: capture {' '.join(words[2:])}: cut it before that byte"
+    if words[:1] == ["config"] and len(words) == 3:
+        line = (inputs.text.split("\n") + [""])[int(words[1]) - 1] if words[1] != "0" else ""
+        return f"configuration, line {words[1]} ({line.strip()[:60]}): {words[2]}: the table of keys is in crates/fab_config/README.md"
+    for word, next_step in LIMITS.items():
+        if printed.startswith(word):
+            return f"{inputs.ports[0].file}: {printed}: {next_step}"
+    return f"{folder}: the program printed '{printed}': look whether the disk is full"
+
+
+def names_of(count: int, with_outputs: bool = True) -> list[str]:
+    pairs = [(f"in{it}.pcap", f"out{it}.pcap") for it in range(1, count + 1)]
+    return [name for pair in pairs for name in (pair if with_outputs else pair[:1])]
+
+
+def run_program(program: str, inputs: Inputs, folder: str) -> Run:
+    """Runs the program over the ports' frames of hosts, and has `replay` check what it wrote."""
+    with open(os.path.join(folder, "fabric.conf"), "w", encoding="latin-1") as file:
+        file.write(inputs.text)
+    for port in inputs.ports:
+        write_classic(os.path.join(folder, f"in{port.number}.pcap"), port.inputs())
+    names = names_of(len(inputs.ports))
+    ran = say([program, "run", "fabric.conf", "journal", *names], folder)
+    printed = ran.stdout.strip()
+    if ran.returncode:
+        raise Refused(why_refused(printed, inputs, folder))
+    checked = say([program, "replay", "fabric.conf", "journal", *names], folder)
+    if checked.returncode or checked.stdout.strip() != f"legal {printed.split()[-1]}":
+        raise Refused(f"{folder}: `replay` says '{checked.stdout.strip()}' of this run: keep its files with --keep and report it")
+    outputs = [classic(os.path.join(folder, f"out{port.number}.pcap")).records for port in inputs.ports]
+    entries = read_journal(os.path.join(folder, "journal"))
+    return Run(inputs.config, inputs.ports, entries, outputs, printed, checked.stdout.strip(), folder)
+
+
+def shown_at_end(program: str, run: Run) -> list[str]:
+    """The lines of `show`."""
+    ran = say([program, "show", "fabric.conf", "journal", *names_of(len(run.ports), False)], run.folder)
+    if ran.returncode:
+        raise Refused(f"{run.folder}: `show` says '{ran.stdout.strip()}'")
+    return ran.stdout.splitlines()
+
+
+def fits(frames: list[Frame], moments: list[int], window: int) -> bool:
+    """The frames of a port are these records, by number and time (milliseconds that don't go back)."""
+    if len(frames) != len(moments):
+        return False
+    greatest = 0
+    for place, (frame, moment) in enumerate(zip(frames, moments)):
+        greatest = max(greatest, moment)
+        if frame.index != place or frame.clock != greatest - greatest % window:
+            return False
+    return True
+
+
+def check_fits(run: Run, names: list[str]) -> None:
+    """Refuses files that don't belong together."""
+    by_port: dict[int, list[Frame]] = {}
+    for it in run.frames():
+        by_port.setdefault(it.port, []).append(it)
+    wrong = [it for it in by_port if it > len(run.ports)]
+    if wrong:
+        raise Refused(f"{names[0]}: has frames of port {min(wrong)}, of which no capture is named: name the captures as for `run`")
+    for port in run.ports:
+        if not fits(by_port.get(port.number, []), [it.milliseconds for it in port.inputs()], run.config.window):
+            raise Refused(f"{names[0]}: is no journal of {port.label} as port {port.number}: name the files in the order of `run`; `fcoe_tool replay` tells the line")

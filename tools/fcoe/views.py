@@ -1,0 +1,260 @@
+"""Views of a run: logins, names, zones and counts, as values that become text or JSON."""
+from collections import Counter
+from typing import Any, Optional
+
+from .errors import Refused
+from .errors import counted as plural
+from .fabric import Fabric, Login, fabric_at
+from .frames import colons, fcid
+from .journals import Entry, Frame, code_rows, counted, row_of
+from .looking import Look
+from .places import place_of
+from .runs import shown_at_end
+from .windows import is_otherwise, otherwise
+
+Row = dict[str, Any]
+
+
+def first_clock(look: Look) -> int:
+    """When the captures begin, in milliseconds."""
+    return min((port.records[0].milliseconds for port in look.ports if port.records), default=0)
+
+
+def entries_until(look: Look, clock: Optional[int]) -> int:
+    """How many entries there are up to a moment."""
+    if clock is None:
+        return len(look.run.entries)
+    return sum(1 for it in look.run.entries if it.clock <= clock)
+
+
+def number_of(look: Look, entry: Optional[Entry]) -> Optional[int]:
+    """A frame's number as Wireshark shows it in the user's file."""
+    return look.ports[entry.port - 1].record(entry.index).number if isinstance(entry, Frame) else None
+
+
+def switch_address(look: Look, login: Login) -> Optional[int]:
+    """What the switch of the capture granted to this login."""
+    port, index = login.granted_frame
+    found = look.grants.get((port, look.ports[port - 1].hosts[index]))
+    return found[0] if found else None
+
+
+def login_row(look: Look, login: Login) -> Row:
+    first = look.run.entries[login.granted_by]
+    last = look.run.entries[login.ended_by] if login.ended_by is not None else None
+    return {
+        "port": login.port,
+        "fcid": fcid(login.address),
+        "wwpn": colons(login.name),
+        "wwnn": colons(login.node),
+        "fpma": colons(login.mac(look.run.config)),
+        "enode": colons(login.enode),
+        "kind": "FDISC" if login.is_fdisc else "FLOGI",
+        "parent": fcid(login.parent) if login.parent is not None else None,
+        "switch_fcid": fcid(it) if (it := switch_address(look, login)) is not None else None,
+        "from": login.since,
+        "from_frame": number_of(look, first),
+        "to": login.until,
+        "to_frame": number_of(look, last),
+        "why": login.why or "logged in at the end",
+    }
+
+
+def logins(look: Look, clock: Optional[int]) -> list[Row]:
+    """All logins over time, or those at a moment."""
+    return [login_row(look, it) for it in look.walk.fabric.logins if clock is None or it.is_live(clock)]
+
+
+def refused_logins(look: Look) -> list[Row]:
+    """Logins that were rejected."""
+    found = []
+    for entry in look.run.frames():
+        heard = look.ports[entry.port - 1].host(entry.index)
+        if entry.word == "rejected" and heard.is_fip and heard.fc is not None:
+            payload = heard.fc.payload
+            name = colons(payload[20:28]) if heard.kind != "LOGO" else colons(payload[8:16])
+            found.append({"port": entry.port, "frame": number_of(look, entry), "request": heard.kind, "wwpn": name, "clock": entry.clock, "verdict": entry.verdict})
+    return found
+
+
+def name_row(login: Login) -> Row:
+    return {
+        "fcid": fcid(login.address),
+        "port": login.port,
+        "wwpn": colons(login.name),
+        "wwnn": colons(login.node_name),
+        "types": login.type_numbers,
+        "features": {str(it): value for it, value in sorted(login.features.items()) if value},
+        "symbolic_port_name": login.symbol.decode("latin-1"),
+        "symbolic_node_name": login.node_symbol.decode("latin-1"),
+        "receive_size": login.server or 0,
+        "watching": login.watch,
+        "enode": colons(login.enode),
+        "node": colons(login.node),
+        "node_heard": login.node_heard,
+        "port_heard": login.port_heard,
+        "map": login.types.hex(),
+    }
+
+
+def fabric_of(look: Look, clock: Optional[int]) -> Fabric:
+    return look.walk.fabric if clock is None else fabric_at(look.run, entries_until(look, clock))
+
+
+def names(look: Look, clock: Optional[int]) -> list[Row]:
+    """The name server's entries at a moment, or at the end."""
+    live = fabric_of(look, clock).live
+    return [name_row(live[it]) for it in sorted(live)]
+
+
+def busiest(look: Look) -> int:
+    """The first moment at which most N_Ports were logged in."""
+    changes = sorted([(it.since, 1) for it in look.walk.fabric.logins] + [(it.until, -1) for it in look.walk.fabric.logins if it.until is not None])
+    live, most, found = 0, 0, 0
+    for clock, change in changes:
+        live += change
+        if live > most:
+            most, found = live, clock
+    return found
+
+
+def zones(look: Look, clock: Optional[int]) -> Row:
+    """The active zones at a moment, or at the end; of each member the address under which it is logged in."""
+    last = look.run.entries[-1].clock if look.run.entries else 0
+    moment = clock if clock is not None else last
+    held = {it.name: it for it in fabric_of(look, clock).live.values()}
+    active, found = look.run.config.active(moment)
+    had = {it.name: fcid(it.address) for it in look.walk.fabric.logins if it.since <= moment}
+    rows: list[Row] = []
+    for name, members in found.items():
+        rows.append({"zone": name, "members": [{"wwpn": colons(it), "fcid": fcid(held[it].address) if it in held else None, "had": had.get(it)} for it in members]})
+    return {"at": moment, "set": active, "zones": rows}
+
+
+def show_lines(look: Look) -> list[str]:
+    """The lines of `show`, told by these views: both must agree."""
+    found = [f"entries {len(look.run.entries)}"]
+    if look.run.entries:
+        found.append(f"clock {look.run.entries[-1].clock}")
+    for row in names(look, None):
+        words = [row["fcid"], row["wwpn"], row["node"], row["port"], row["enode"], row["node_heard"], row["port_heard"], row["receive_size"], row["watching"]]
+        found.append("login " + " ".join(str(it).replace(":", "") for it in words))
+        if row["types"]:
+            found.append(f"types {row['fcid']} {row['map']}")
+    return found
+
+
+def check_with_show(look: Look) -> None:
+    """These views say what `show` says of the run, word by word."""
+    own, said = show_lines(look), shown_at_end(look.program, look.run)
+    if own != said:
+        apart = next((b for a, b in zip(own, said) if a != b), "its end")
+        raise Refused(f"{look.ports[0].file}: `show` has '{apart}', which these views have otherwise: keep the run with --keep and report it")
+
+
+# ---- summary
+
+
+def counts(look: Look) -> dict[int, dict[str, int]]:
+    """How often each verdict stands, by port."""
+    found: dict[int, Counter[str]] = {port.number: Counter() for port in look.ports}
+    for entry in look.run.frames():
+        found[entry.port][counted(entry.verdict)] += 1
+    return {port: dict(some.most_common()) for port, some in found.items()}
+
+
+def is_trouble(verdict: str) -> bool:
+    return verdict.split(" ")[0] in ("dropped", "rejected", "refused")
+
+
+def troubles(look: Look) -> list[Row]:
+    """Each kind of drop, reject and refusal: rule, place in the frame, how often, where, and what to look at next."""
+    found: dict[str, list[Frame]] = {}
+    places: dict[tuple[int, int], int] = {}
+    for at, entry in enumerate(look.run.entries):
+        if isinstance(entry, Frame) and is_trouble(entry.verdict):
+            found.setdefault(entry.verdict, []).append(entry)
+            places[(entry.port, entry.index)] = at
+    rows = []
+    for verdict, frames in sorted(found.items(), key=lambda it: (it[0].split(" ")[0], -len(it[1]), it[0])):
+        row = row_of(verdict)
+        heard = look.ports[frames[0].port - 1].host(frames[0].index)
+        rows.append(
+            {
+                "verdict": verdict,
+                "count": len(frames),
+                "ports": sorted({it.port for it in frames}),
+                "kinds": dict(Counter(look.ports[it.port - 1].host(it.index).kind for it in frames).most_common(4)),
+                "frames": [[it.port, number_of(look, it)] for it in frames[:8]],
+                "meaning": row.meaning if row else "",
+                "standard": row.standard if row else "",
+                "look": row.look if row and verdict.startswith("dropped") else "docs/JOURNAL.md, Codes of rejects",
+                "place": place_of(verdict, heard),
+                "hints": code_rows(verdict, heard.kind) + hints(look, verdict, frames) + window_hints(look, frames, places),
+            }
+        )
+    return rows
+
+
+def hints(look: Look, verdict: str, frames: list[Frame]) -> list[str]:
+    """What these captures tell beside the rule."""
+    found = []
+    if verdict in ("dropped source-login", "dropped dest-login"):
+        ever = {it.address for it in look.walk.fabric.logins}
+        held = [port.host(it.index).fc for it in frames for port in [look.ports[it.port - 1]]]
+        ids = {(fc.s_id if verdict == "dropped source-login" else fc.d_id) for fc in held if fc is not None}
+        never = sorted(ids - ever)
+        if never:
+            found.append(f"no login in these captures was granted {', '.join(fcid(it) for it in never[:4])}: it logged in before the capture began, or on a port that wasn't captured")
+    if verdict == "dropped zone":
+        found += zone_hints(look, frames)
+    if verdict == "dropped vlan":
+        tags = sorted({look.ports[it.port - 1].host(it.index).vlan for it in frames})
+        found.append(f"the frames have the VLAN {', '.join(map(str, tags))}; the fabric's is {look.run.config.vlan}")
+    return found
+
+
+def zone_hints(look: Look, frames: list[Frame]) -> list[str]:
+    """The pairs of port names that no zone joins, the most frequent first."""
+    known = {it.address: colons(it.name) for it in look.walk.fabric.logins}
+    pairs: Counter[str] = Counter()
+    for it in frames:
+        fc = look.ports[it.port - 1].host(it.index).fc
+        if fc is not None:
+            pairs[f"{known.get(fc.s_id, fcid(fc.s_id))} to {known.get(fc.d_id, fcid(fc.d_id))}"] += 1
+    return [f"{pair}: {plural(count, 'frame')}" for pair, count in pairs.most_common(3)] + ([f"and {len(pairs) - 3} more pairs"] if len(pairs) > 3 else [])
+
+
+def window_hints(look: Look, frames: list[Frame], places: dict[tuple[int, int], int]) -> list[str]:
+    """How many of these frames another order within their window would judge otherwise."""
+    window_rules = ("source-login", "dest-login", "keepalive-unknown")
+    if not any(rule in frames[0].verdict for rule in window_rules) and not frames[0].verdict.startswith("refused"):
+        return []
+    own = [it for it in frames if is_otherwise(look.run, look.walk, it, places[(it.port, it.index)])]
+    if not own:
+        return []
+    where = ", ".join(f"{it.port}/{number_of(look, it)}" for it in own[:8])
+    return [f"{len(own)} by the window: the grant or the end stands in the same window on another port ({where}): {otherwise(look.run.config.window)} decides otherwise"]
+
+
+def summary(look: Look) -> Row:
+    """What a person reads first."""
+    run = look.run
+    clocks = [it.clock for it in run.entries]
+    return {
+        "ports": [{"port": it.number, "file": it.label, "hosts": len(it.hosts), "switch": len(it.replies)} for it in look.ports],
+        "from": first_clock(look),
+        "to": max((it.milliseconds for port in look.ports for it in port.records), default=0),
+        "clock": clocks[-1] if clocks else None,
+        "switch": colons(run.config.mac),
+        "vlan": run.config.vlan,
+        "printed": run.printed,
+        "checked": run.checked,
+        "runs": look.turns,
+        "assumed": look.inputs.remarks,
+        "logins": logins(look, None),
+        "rejected_logins": refused_logins(look),
+        "zones": zones(look, None),
+        "verdicts": counts(look),
+        "troubles": troubles(look),
+    }
