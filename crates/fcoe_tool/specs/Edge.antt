@@ -1,5 +1,5 @@
 -- A depot that knows its names and counts its faults, and tells no content.
-use Rattle.std.specs.Prelude.{◌≡◌, ◌≢◌, ◌⊎◌, ℕ, ◌<◌, IsTrue, List, length, false, [], ◌∷◌, ◌++◌, String, Option, Some, Result, slice_get}
+use Rattle.std.specs.Prelude.{◌≡◌, ◌≢◌, ℕ, ◌<◌, IsTrue, List, length, false, [], ◌∷◌, ◌++◌, String, Option, Some, Result, slice_get}
 use Rattle.std.specs.Io.KnownBytes.{ReadConsumes, WriteAppends}
 use Rattle.std.specs.declared.alloc.Global.{Global}
 use Rattle.fab_base.specs.Seen.{Seen}
@@ -9,8 +9,6 @@ use Rattle.fab_base.specs.Desk.{knows, at_of}
 use Rattle.fab_base.specs.Places.{name_at}
 use Rattle.fab_base.specs.MemDepot.{seen_of}
 use Rattle.fab_base.specs.declared.desk.Desk.{Desk}
-use Rattle.fabric_tool.specs.Ends.{Ends, Prints}
-use Rattle.fabric_tool.specs.declared.outcome.Outcome.TheVariants as ends
 
 abbrev pub untold : Desk → Seen
 untold d = record (seen_of d []) { told = false }
@@ -45,10 +43,3 @@ pub record ReadsAt {F : Type 0} (remaining : F → Option (List ℕ)) (at : ℕ)
 pub record WritesAt {F : Type 0} (contents : F → Option (List ℕ)) (at : ℕ) (old new : List F) (from : List ℕ) (result : Result ℕ Failed) : Type 0 where
   pub same : SameOthers at old new
   pub adds : (f g : F) → slice_get old at ≡ Some f → slice_get new at ≡ Some g → WriteAppends (contents f) (contents g) result from
-
--- How a command ended over real files, of which nothing is told but the names and the counts of faults; or memory was
--- refused before it began.
-abbrev pub EndsOverFiles : List (String Global) → Sunk → Sunk → ℕ → Type 0
-EndsOverFiles words before after status =
-    ((old : Desk) × (new : Desk) × KnowsAll old words × Ends words (untold old) (untold new) before after status)
-    ⊎ Prints ends.Memory before after status

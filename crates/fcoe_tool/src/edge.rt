@@ -4,24 +4,29 @@ ghost use Rattle.fab_base.specs.Desk.{knows};
 ghost use Rattle.fcoe_tool.specs.Edge.{KnowsAll, ReadsAt, WritesAt};
 ghost use Rattle.std.specs.Io.KnownBytes.{ReadConsumes, WriteAppends};
 
+use crate::same::{Spot, look, two_are_one};
 use fab_base::{Depot, Desk, Failed, NoMemory, Sink, word_at};
 use std::alloc::Global;
 use std::io::{Read, Write};
 use std::rt::Files;
 use std::{fs, io};
 
-/// Real files under the words of a command.
+/// Real files under the words of a command. Where two of the names are one regular file, no output
+/// is opened, since that would empty what another name is to read or to hold.
 #[derive(Drop)]
 pub struct FileDepot<'a, R: Files> {
     rt: &'a R,
     alloc: Global,
     desk: Desk,
     files: Vec<R::File>,
+    // room for where each name's file lies, which is looked at before the first output is opened
+    spots: Vec<Spot>,
+    mixed: Option<bool>,
 }
 
 impl<'a, R: Files> FileDepot<'a, R> {
     ghost use Rattle.std.specs.Prelude.{◌≡◌, ◌<◌, ℕ, List, Some, IfSome, IfOk, IfErr, length};
-    ghost use Rattle.std.specs.Prelude.{slice_get, IsTrue, true, ◌≤◌};
+    ghost use Rattle.std.specs.Prelude.{slice_get, IsTrue, true, false, ◌≤◌};
     ghost use Rattle.fab_base.specs.Desk.{place_of, Stays, KeepsCounts};
     ghost use Rattle.fcoe_tool.specs.Edge.{KnowsAll, AddsFile};
 
@@ -30,12 +35,50 @@ impl<'a, R: Files> FileDepot<'a, R> {
         ensures knows { IfOk result (λ d. KnowsAll d.desk words.now) }
     {
         let desk = desk_of(alloc, words)?;
+        let spots = Vec::from_elem(alloc, Spot::Other, words.len())?;
         Ok(FileDepot {
             rt,
             alloc,
             desk,
             files: Vec::new(alloc),
+            spots,
+            mixed: None,
         })
+    }
+
+    // Whether two of the names are one file, as the first look found. The first word, that of the
+    // command, is no name.
+    fn has_mixed_names(&mut self) -> bool
+        ensures desk { self.new.desk ≡ self.old.desk }
+        ensures files { self.new.files ≡ self.old.files }
+    {
+        match self.mixed {
+            Some(mixed) => mixed,
+            None => {
+                let desk = &self.desk;
+                look(self.rt, &desk.names, &mut self.spots);
+                let mixed = two_are_one(&desk.names, &self.spots, 1);
+                self.mixed = Some(mixed);
+                mixed
+            }
+        }
+    }
+
+    // Opens an output, unless two names are one file.
+    fn try_output(&mut self, name: &str, place: usize) -> Option<u32>
+        requires { place_of self.old.desk name.now ≡ Some place }
+        ensures stays { Stays place self.old.desk self.new.desk }
+        ensures counts { KeepsCounts self.old.desk self.new.desk }
+        ensures fresh { IfSome result (λ s. (s ≡ length self.old.desk.slots.items)
+            × (slice_get self.new.desk.slots.items s
+            ≡ Some (record { file = place; at = length self.old.files.items; input = false }))) }
+        ensures file { IfSome result (λ s. AddsFile s self.old.files.items self.new.files.items
+            self.new.desk) }
+    {
+        if self.has_mixed_names() {
+            return None;
+        }
+        self.try_open(name, place, false)
     }
 
     // Opens a file; the number at its slot is its place among the files. There is a number and room
@@ -101,7 +144,7 @@ impl<R: Files> Depot for FileDepot<'_, R> {
             self.new.desk) }
     {
         let place = self.desk.place(name).unwrap();
-        match self.try_open(name, place, false) {
+        match self.try_output(name, place) {
             Some(slot) => Ok(slot),
             None => {
                 self.desk.write_failed(place);

@@ -1,13 +1,12 @@
-//! The command of a process, over real files.
-ghost use Rattle.std.specs.Prelude.{◌≡◌, ◌⊎◌, IfOk, IfErr};
-ghost use Rattle.fabric_tool.specs.Ends.{Reports};
-ghost use Rattle.fcoe_tool.specs.Edge.{EndsOverFiles};
+//! The command of a process.
+ghost use Rattle.std.specs.Prelude.{◌≡◌, ◌⊎◌, IfErr};
+ghost use Rattle.fabric_tool.specs.Command.{AllKnown};
+ghost use Rattle.fabric_tool.specs.Ends.{Ends};
 
-use crate::edge::FileDepot;
-use fab_base::{NoMemory, OpenGate, Sink};
-use fabric_tool::{Outcome, fabric_tool, report};
+use fab_base::{Depot, OpenGate, Sink};
+use fabric_tool::{Outcome, fabric_tool};
 use std::alloc::{AllocGlobal, Global};
-use std::rt::{Env, Files};
+use std::rt::Env;
 use std::sync::Wait;
 use std::thread::Threads;
 use std::{env, io};
@@ -30,34 +29,18 @@ pub(crate) fn words_of<R: Env + AllocGlobal>(rt: &R) -> Result<Vec<String>, Outc
     }
 }
 
-/// Runs the command that words are over real files, prints its line, and answers its status. Where
-/// there are no words, that is an outcome of its own.
-pub(crate) fn status_of_process<R: Threads + Wait + Sync + Files, K: Sink>(
-    rt: &R,
-    alloc: Global,
-    words: Result<Vec<String>, Outcome>,
-    say: &mut K,
-) -> u8
-    ensures ends { IfOk words (λ w. EndsOverFiles w.items (K.sunk say.old)
-        (K.sunk say.new) result) }
-    ensures reports { IfErr words (λ o. Reports o (K.sunk say.old) (K.sunk say.new) result) }
-{
-    match words {
-        Ok(words) => over_files(rt, alloc, &words, say),
-        Err(outcome) => report(alloc, outcome, say),
-    }
-}
-
-fn over_files<R: Threads + Wait + Sync + Files, K: Sink>(
+/// Runs the command that words are over a depot that knows them, prints its line, and answers its
+/// status. No test holds a worker.
+pub(crate) fn status_of_process<R: Threads + Wait + Sync, D: Depot, K: Sink>(
     rt: &R,
     alloc: Global,
     words: &[String],
+    depot: &mut D,
     say: &mut K,
 ) -> u8
-    ensures { EndsOverFiles words.now (K.sunk say.old) (K.sunk say.new) result }
+    requires { AllKnown (D.seen depot.old) words.now }
+    ensures ends { Ends words.now (D.seen depot.old) (D.seen depot.new) (K.sunk say.old)
+        (K.sunk say.new) result }
 {
-    match FileDepot::new(rt, alloc, words) {
-        Ok(mut depot) => fabric_tool(rt, alloc, words, &mut depot, say, &OpenGate),
-        Err(NoMemory) => report(alloc, Outcome::Memory, say),
-    }
+    fabric_tool(rt, alloc, words, depot, say, &OpenGate)
 }

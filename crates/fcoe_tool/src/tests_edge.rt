@@ -2,10 +2,14 @@
 use crate::edge::FileDepot;
 use crate::process::{status_of_process, words_of};
 use fab_base::{Depot, MemSink, word_at};
-use fabric_tool::Outcome;
-use std::alloc::{AllocError, Global};
-use std::fs;
+use std::alloc::{AllocError, AllocGlobal, Global};
+use std::os::unix::fs::symlink;
+use std::process::Abort;
+use std::rt::Files;
+use std::sync::Wait;
 use std::test::Fail;
+use std::thread::Threads;
+use std::{env, fs};
 
 const CONFIG: [u8; 35] = *b"fcf-mac 00:05:1e:00:00:02\nvlan 100\n";
 
@@ -43,6 +47,23 @@ fn words_in(alloc: Global, words: &[&str]) -> Result<Vec<String>, AllocError> {
     Ok(list)
 }
 
+// Runs a command over real files, which prints this line and answers this status.
+fn ends<R: Threads + Wait + Sync + Files + Abort>(
+    rt: &R,
+    alloc: Global,
+    words: &[&str],
+    line: &[u8],
+    wanted: u8,
+) -> Result<(), Fail> {
+    let words = words_in(alloc, words)?;
+    let mut say = MemSink::new(alloc, 100)?;
+    let mut depot = FileDepot::new(rt, alloc, &words)?;
+    let status = status_of_process(rt, alloc, &words, &mut depot, &mut say);
+    assert_eq!(rt; say.content(), line);
+    assert_eq!(rt; status, wanted);
+    Ok(())
+}
+
 #[test]
 fn real_files(rt: HostRuntime) -> Result<(), Fail> {
     let alloc = rt.alloc();
@@ -52,11 +73,7 @@ fn real_files(rt: HostRuntime) -> Result<(), Fail> {
     let before = Vec::from_elem(alloc, 0u8, 200)?;
     fs::write(&rt, "J", &before)?;
     fs::write(&rt, "OUT", &before)?;
-    let words = words_in(alloc, &ONE_PORT)?;
-    let mut say = MemSink::new(alloc, 100)?;
-    let status = status_of_process(&rt, alloc, Ok(words), &mut say);
-    assert_eq!(rt; say.content(), b"frames 1 entries 2\n".as_slice());
-    assert_eq!(rt; status, 0);
+    ends(&rt, alloc, &ONE_PORT, b"frames 1 entries 2\n", 0)?;
     let (journal, capture) = (b"journal 2\n1000 tick\n1000 1 0 vlans\n", NOTIFICATION);
     assert_eq!(rt; fs::read(&rt, "J")?.as_slice(), journal.as_slice());
     assert_eq!(rt; fs::read(&rt, "OUT")?.as_slice(), capture.as_slice());
@@ -78,32 +95,82 @@ fn statuses_of_a_process(rt: HostRuntime) -> Result<(), Fail> {
         (&["run", "MISSING", "NONE", "IN", "OUT"], b"read fault\n", 3),
     ];
     for (words, line, wanted) in rows {
-        let words = words_in(alloc, words)?;
-        let mut say = MemSink::new(alloc, 100)?;
-        let status = status_of_process(&rt, alloc, Ok(words), &mut say);
-        assert_eq!(rt; say.content(), line);
-        assert_eq!(rt; status, wanted);
+        ends(&rt, alloc, words, line, wanted)?;
     }
     assert!(rt; !fs::exists(&rt, "NONE")?);
     Ok(())
 }
 
+// The words of a test's own process can be read.
 #[test]
-fn words_that_cannot_be_read(rt: HostRuntime) -> Result<(), Fail> {
-    let alloc = rt.alloc();
-    let rows = [
-        (Outcome::Words, b"words\n".as_slice(), 2),
-        (Outcome::Memory, b"no memory\n".as_slice(), 5),
-    ];
-    for (outcome, line, wanted) in rows {
-        let mut say = MemSink::new(alloc, 100)?;
-        let status = status_of_process(&rt, alloc, Err(outcome), &mut say);
-        assert_eq!(rt; say.content(), line);
-        assert_eq!(rt; status, wanted);
-    }
-    // The words of a test's own process can be read.
+fn words_of_a_process(rt: HostRuntime) -> Result<(), Fail> {
     assert!(rt; words_of(&rt).is_ok());
     Ok(())
+}
+
+// A pcapng file without packets: a section header of version 1.0 and unknown length.
+const SECTION: [u8; 28] = [
+    10, 13, 13, 10, 28, 0, 0, 0, 0x4d, 0x3c, 0x2b, 0x1a, 1, 0, 0, 0, //
+    255, 255, 255, 255, 255, 255, 255, 255, 28, 0, 0, 0,
+];
+
+// A command over two names of one file opens no output, and the file is as it was.
+fn is_kept<R: Threads + Wait + Sync + Files + AllocGlobal + Abort>(
+    rt: &R,
+    words: &[&str],
+    bytes: &[u8],
+) -> Result<(), Fail> {
+    fs::write(rt, "TWICE", bytes)?;
+    ends(rt, rt.alloc(), words, b"write fault\n", 4)?;
+    assert_eq!(rt; fs::read(rt, "TWICE")?.as_slice(), bytes);
+    assert!(rt; !fs::exists(rt, "NEW")?);
+    Ok(())
+}
+
+// The commands over TWICE and another name of it.
+fn commands_keep_it<R: Threads + Wait + Sync + Files + AllocGlobal + Abort>(
+    rt: &R,
+    other: &str,
+) -> Result<(), Fail> {
+    let load = [
+        "make", "1", "NEW", "1", "TWICE", "3", "4", other, "6", "7", "8",
+    ];
+    is_kept(rt, &["run", "SET", "NEW", "TWICE", other], &REQUEST)?;
+    is_kept(rt, &["run", "SET", other, "TWICE", "NEW"], &REQUEST)?;
+    is_kept(rt, &["run", "TWICE", "NEW", "ASKED", other], &CONFIG)?;
+    is_kept(rt, &["convert", "TWICE", other], &SECTION)?;
+    is_kept(rt, &["migrate", "TWICE", other], b"")?;
+    is_kept(rt, &load, &REQUEST)
+}
+
+// The names are of this test's own, since all tests write into one folder.
+#[test]
+fn two_names_of_one_file(rt: HostRuntime) -> Result<(), Fail> {
+    fs::write(&rt, "SET", &CONFIG)?;
+    fs::write(&rt, "ASKED", &REQUEST)?;
+    fs::write(&rt, "TWICE", b"")?;
+    fs::create_dir_all(&rt, "folder")?;
+    symlink(&rt, "TWICE", "SOFT")?;
+    fs::hard_link(&rt, "TWICE", "HARD")?;
+    let absolute = env::current_dir(&rt)?.join(rt.alloc(), "TWICE")?;
+    for other in [
+        "./TWICE",
+        absolute.as_str(),
+        "folder/../TWICE",
+        "SOFT",
+        "HARD",
+    ] {
+        commands_keep_it(&rt, other)?;
+    }
+    // a file that isn't there yet
+    is_kept(
+        &rt,
+        &["run", "SET", "NEW", "TWICE", "folder/../NEW"],
+        &REQUEST,
+    )?;
+    // a device may stand twice
+    let words = ["run", "SET", "/dev/null", "ASKED", "/dev/./null"];
+    ends(&rt, rt.alloc(), &words, b"frames 1 entries 2\n", 0)
 }
 
 // Holds whichever allocation is refused (`rt try --test --fail-alloc N`): an output that can't be
@@ -148,7 +215,10 @@ fn outputs_are_as_they_were_or_fronts(rt: HostRuntime) -> Result<(), Fail> {
     let Ok(mut say) = MemSink::new(alloc, 100) else {
         return Ok(());
     };
-    status_of_process(&rt, alloc, Ok(words), &mut say);
+    let Ok(mut depot) = FileDepot::new(&rt, alloc, &words) else {
+        return Ok(());
+    };
+    status_of_process(&rt, alloc, &words, &mut depot, &mut say);
     let (journal, capture) = (
         b"journal 2\n1000 tick\n1000 1 0 vlans\n2000 tick\n2000 2 0 vlans\n",
         NOTIFICATION,

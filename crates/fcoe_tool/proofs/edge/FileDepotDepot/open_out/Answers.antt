@@ -7,13 +7,13 @@ use Rattle.fcoe_tool.proofs.edge.FileDepotDepot.open_out.Goals as goal
 pub returns-in-Some : goal.returns-in-Some
 returns-in-Some g c =
     let e = c.in-Some.ensures in
-    record { opens = untold_opens_out c.args.name.now c.unwrap-place.result c.args.self.now.desk c.try_open.new.self.desk (sym c.place.ensures.found ∙ c.unwrap-place.ensures) e.stays c.in-Some.slot (length c.args.self.now.files.items) e.fresh.0 e.fresh.1; file = e.file }
+    record { opens = untold_opens_out c.args.name.now c.unwrap-place.result c.args.self.now.desk c.try_output.new.self.desk (sym c.place.ensures.found ∙ c.unwrap-place.ensures) e.stays c.in-Some.slot (length c.args.self.now.files.items) e.fresh.0 e.fresh.1; file = e.file }
 
 pub returns-in-None : goal.returns-in-None
 returns-in-None g c =
     let e = c.in-None.ensures in
     let at : place_of c.args.self.now.desk c.args.name.now ≡ Some c.unwrap-place.result = sym c.place.ensures.found ∙ c.unwrap-place.ensures in
-    let stays = stays_trans c.unwrap-place.result c.args.self.now.desk c.try_open.new.self.desk c.write_failed.new.self e.stays c.write_failed.ensures.stays in
+    let stays = stays_trans c.unwrap-place.result c.args.self.now.desk c.try_output.new.self.desk c.write_failed.new.self e.stays c.write_failed.ensures.stays in
     record {
       opens = record {
         keeps = untold_keeps c.args.name.now c.unwrap-place.result c.args.self.now.desk c.write_failed.new.self at stays;
