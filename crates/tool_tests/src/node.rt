@@ -76,7 +76,8 @@ fn a_node_without_and_with_answers(rt: HostRuntime) -> Result<(), Fail> {
     let answers = capture_of(alloc, 1, &worked_of(alloc, &[ANSWERS])?.sent)?;
     let (output, line) = (sent(alloc)?, b"up 010100 0efc00010100\n");
     stands(&rt, alloc, &answers, line, 0, Some(&output))?;
-    let asked = joined(alloc, &[&HEAD, &output[100..]])?;
+    let behind = output.get(100..).unwrap_or(&[]);
+    let asked = joined(alloc, &[&HEAD, behind])?;
     stands(&rt, alloc, &asked, b"asking\n", 0, Some(&request))
 }
 
