@@ -198,7 +198,7 @@ def silent(folder: pathlib.Path) -> None:
 
 def two_forwarders(folder: pathlib.Path) -> None:
     """A second forwarder on the wire, which advertises itself with a worse priority, in front of each advertisement of the first."""
-    other, made = bytes.fromhex("000dec000009"), []
+    other, both = bytes.fromhex("000dec000009"), []
     for record in classic(str(folder / "one.pcap")).records:
         heard = hear(record.data)
         if heard.kind == "Advertisement":
@@ -207,9 +207,9 @@ def two_forwarders(folder: pathlib.Path) -> None:
             for number, at, new in ((1, 3, b"\xc8"), (2, 2, other), (4, 6, other), (5, 10, other)):
                 place = descriptor(number, at)(heard)
                 data[place : place + len(new)] = new
-            made.append(Record(record.moment, bytes(data), len(data), 0))
-        made.append(record)
-    write_classic(str(folder / "two_forwarders.pcap"), made)
+            both.append(Record(record.moment, bytes(data), len(data), 0))
+        both.append(record)
+    write_classic(str(folder / "two_forwarders.pcap"), both)
 
 
 def late(folder: pathlib.Path) -> None:

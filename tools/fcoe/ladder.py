@@ -186,11 +186,17 @@ def framed(width: int, height: int) -> Iterator[str]:
     yield '<defs><marker id="head" viewBox="0 0 8 8" refX="8" refY="4" markerWidth="8" markerHeight="8" orient="auto"><path d="M0 0 L8 4 L0 8 z" fill="context-stroke"/></marker></defs>'
 
 
-def drawing(look: Look, begin: float = 0.0, end: float = float("inf"), most: Optional[int] = None) -> Iterator[str]:
-    """The lines of the picture, from so many seconds behind the first arrow to so many; at most so many rows."""
-    picture, noise = Picture(look), Counter[str]()
+def pictured(look: Look) -> Picture:
+    """All entries of the run."""
+    picture = Picture(look)
     for at, entry in enumerate(look.run.entries):
         picture.take(at, entry)
+    return picture
+
+
+def drawing(look: Look, begin: float = 0.0, end: float = float("inf"), most: Optional[int] = None) -> Iterator[str]:
+    """The lines of the picture, from so many seconds behind the first arrow to so many; at most so many rows."""
+    picture, noise = pictured(look), Counter[str]()
     merged_rows = merged(picture.rows, noise)
     first = merged_rows[0].clock if merged_rows else 0
     rows, left_out = chosen(merged_rows, begin, end, most)
