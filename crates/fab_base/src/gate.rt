@@ -3,6 +3,9 @@ use crate::{FcId, PortNo};
 
 /// Called by a worker round each of its frames. It promises nothing, and may wait.
 pub trait Gate {
+    /// Whether a worker may be held here, or is told anything that matters.
+    const HOLDS: bool = true;
+
     /// Before the frame of that index is submitted.
     fn pass(&self, port: PortNo, index: u64);
 
@@ -15,6 +18,8 @@ pub trait Gate {
 pub struct OpenGate;
 
 impl Gate for OpenGate {
+    const HOLDS: bool = false;
+
     fn pass(&self, _port: PortNo, _index: u64) {}
 
     fn done(&self, _port: PortNo, _index: u64, _granted: Option<FcId>) {}
