@@ -35,9 +35,10 @@ fcoe_tool 0.1.0: an FCoE forwarder, run over captures
   fcoe_tool --version
       prints the version
 
-No file name is empty, and none is used twice. NUMBER is decimal and below 2 to
-the 64, START is at most 4294967295999 (in milliseconds); neither has a sign or
-a leading zero. The statuses, with what is printed:
+No file name is empty, and none is used twice. Where two names lead to one file
+on disk no output is opened, and the status is 4. NUMBER is decimal and below 2
+to the 64, START is at most 4294967295999 (in milliseconds); neither has a sign
+or a leading zero. The statuses, with what is printed:
 
   0  as above: all was done
   1  config LINE WHY: the first fault of the configuration
