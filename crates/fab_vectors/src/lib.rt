@@ -14,8 +14,6 @@ mod parts;
 mod plan;
 mod records;
 mod settings;
-#[cfg(test)]
-mod tests;
 
 pub use laws::each_capture_has_2500_frames;
 pub use making::make_load;
