@@ -1,5 +1,5 @@
 //! Clear link messages (FC-BB-5, "FIP Clear Virtual Links").
-ghost use Rattle.std.specs.Prelude.{◌≡◌, ◌++◌, ◌≤◌, List, IfOk, IsSome, OnOk, length};
+ghost use Rattle.std.specs.Prelude.{◌≡◌, ◌++◌, ◌≤◌, List, IfOk, IsSome, OnErr, OnOk, length};
 ghost use Rattle.std.specs.List.{All};
 ghost use Rattle.fab_policy.specs.Logins as logins;
 ghost use Rattle.fab_policy.specs.Outputs as spec;
@@ -47,7 +47,8 @@ pub(crate) fn clears(
     Ok(outs)
 }
 
-/// Appends the clear link messages to an ENode that name these N_Ports, a hundred in each.
+/// Appends the clear link messages to an ENode that name these N_Ports, a hundred in each. Where
+/// memory is refused none is appended.
 pub fn clear(
     alloc: Global,
     moment: Moment,
@@ -55,9 +56,24 @@ pub fn clear(
     ports: &[VxPort],
     outs: &mut OutList,
 ) -> Result<(), NoMemory>
-    ensures { OnOk result (
+    ensures ok { OnOk result (
         outs.new ≡ outs.old ++ at_moment moment (in_hundreds enode.now ports.now)) }
+    ensures err { OnErr result (outs.new ≡ outs.old) }
 {
+    let messages = by_hundreds(alloc, moment, enode, ports)?;
+    outs.append(messages)
+}
+
+// The clear link messages to an ENode that name these N_Ports, a hundred in each.
+fn by_hundreds(
+    alloc: Global,
+    moment: Moment,
+    enode: &Enode,
+    ports: &[VxPort],
+) -> Result<OutList, NoMemory>
+    ensures { IfOk result (λ outs. outs ≡ at_moment moment (in_hundreds enode.now ports.now)) }
+{
+    let mut outs = OutList::empty(alloc);
     let mut done = 0;
     while done < ports.len() {
         let end = done + HUNDRED.min(ports.len() - done);
@@ -74,7 +90,7 @@ pub fn clear(
         outs.push(alloc, out)?;
         done = end;
     }
-    Ok(())
+    Ok(outs)
 }
 
 // The N_Ports of an ENode among these addresses.

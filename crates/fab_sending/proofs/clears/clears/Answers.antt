@@ -20,7 +20,7 @@ loop-enode-preserved c =
     c.deref-enode-items.result.now c.loop-enode.enode-index c.enode-item.result _ c.in_ok-ports.ports.items c.loop-enode.outs _
     (found_filter (is_overdue c.args.config.now c.args.moment) (c.args.config.now.domain * 65536 + 256) c.args.roster.now.tables.ports c.requires.pool.0) c.requires.ended
     c.loop-enode-test.true c.enode-item.is c.loop-enode.invariant c.in_ok-ports.ensures
-    (c.in_ok-clear.ensures ∙ ap (λ l. c.loop-enode.outs ++ at_moment c.args.moment (in_hundreds c.enode-item.result l)) c.as_slice.ensures.value)
+    (c.in_ok-clear.ensures.ok ∙ ap (λ l. c.loop-enode.outs ++ at_moment c.args.moment (in_hundreds c.enode-item.result l)) c.as_slice.ensures.value)
 
 pub returns-clause-made : goal.returns-clause-made
 returns-clause-made c =

@@ -4,7 +4,7 @@ use Rattle.fab_replies.specs.declared.message.OutMessage.TheVariants as out
 use Rattle.fip_codec.specs.declared.message.VxPort.{VxPort}
 use Rattle.std.proofs.Common.{List}
 use Rattle.fab_sending.proofs.ClearMade.{group_more, groups_done}
-use Rattle.fab_sending.proofs.clears.clear.Goals as goal
+use Rattle.fab_sending.proofs.clears.by_hundreds.Goals as goal
 
 pub loop-done-preserved : goal.loop-done-preserved
 loop-done-preserved c =
