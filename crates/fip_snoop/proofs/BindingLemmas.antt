@@ -24,7 +24,7 @@ use Rattle.fip_snoop.proofs.SameLemmas.{same_is, is_same}
 
 -- ---- by MAC
 
-one_number : (mac : List ℕ) (b c : Binding) → is_binding_of mac b ≡ true → is_binding_of mac c ≡ true → mac_number b ≡ mac_number c
+pub one_number : (mac : List ℕ) (b c : Binding) → is_binding_of mac b ≡ true → is_binding_of mac c ≡ true → mac_number b ≡ mac_number c
 one_number mac b c e f = ap big_endian (same_is b.mac mac e ∙ sym (same_is c.mac mac f))
 
 module _ (bindings : List Binding) (whole : All IsWhole bindings) (mac : List ℕ) (is : IsMac mac) where

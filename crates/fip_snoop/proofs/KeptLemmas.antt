@@ -54,11 +54,11 @@ homes_put mac h homes o e =
 -- ---- bindings
 
 module _ (mac own : List ℕ) (bindings : List Binding) where
-  other_bindings : (same_bytes own mac ≡ true → ⊥) → filter (is_binding_of mac) (without_binding own bindings) ≡ filter (is_binding_of mac) bindings
+  pub other_bindings : (same_bytes own mac ≡ true → ⊥) → filter (is_binding_of mac) (without_binding own bindings) ≡ filter (is_binding_of mac) bindings
   other_bindings differ = filter-kept (is_binding_of mac) (λ b. not (is_binding_of own b)) bindings
       (λ b is. not_false (same_bytes b.mac own) (λ own_too. differ (is_same own mac (sym (same_is b.mac own own_too) ∙ same_is b.mac mac is))))
 
-  own_bindings : own ≡ mac → filter (is_binding_of mac) (without_binding own bindings) ≡ []
+  pub own_bindings : own ≡ mac → filter (is_binding_of mac) (without_binding own bindings) ≡ []
   own_bindings e = filter-gone (is_binding_of mac) (λ b. not (is_binding_of own b)) bindings
       (λ b is. not_true (same_bytes b.mac own) (is_same b.mac own (same_is b.mac mac is ∙ sym e)))
 

@@ -7,6 +7,7 @@ pub mod BindingLemmas
 pub mod EndLemmas
 pub mod BoundLemmas
 pub mod KeptLemmas
+pub mod AloneLemmas
 pub mod MovedLemmas
 pub mod FrameLemmas
 pub mod LawLemmas

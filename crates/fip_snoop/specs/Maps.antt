@@ -1,6 +1,6 @@
 -- How a bridge keeps homes and bindings, so that none is looked for one by one: homes in the order of their MACs, and bindings at
 -- places of a slab with two orders, by MAC and by ENode. No public clause cites this module.
-use Rattle.std.specs.Prelude.{◌≡◌, ℕ, ◌+◌, ◌*◌, ◌<◌, ◌≤◌, ◌^◌, ◌⊎◌, Bool, true, nat_le, nat_lt, ◌&&◌, if◌then◌else◌, List, length, Option, None, Some, slice_index, find}
+use Rattle.std.specs.Prelude.{◌≡◌, ℕ, ◌+◌, ◌*◌, ◌<◌, ◌≤◌, ◌^◌, ◌⊎◌, Bool, true, nat_le, nat_lt, ◌&&◌, if◌then◌else◌, List, [], ◌∷◌, length, Option, None, Some, slice_index, find}
 use Rattle.std.specs.List.{All, filter}
 use Rattle.slab.specs.Slab.{Slab}
 use Rattle.fab_base.specs.Keyed.{AscendFrom}
@@ -106,6 +106,14 @@ pub record IsFirst (enode : List ℕ) (from : ℕ) (bindings : List Binding) (x 
   pub from_ : from ≤ enode_number x
   pub first : All (λ b. IsOf enode b → (enode_number b < from) ⊎ ((enode_number x < enode_number b) ⊎ (b ≡ x))) bindings
   pub alone : All (λ b. is_binding_of x.mac b ≡ true → b ≡ x) bindings
+
+-- a binding is the one of its MAC
+abbrev pub IsBound : Binding → List Binding → Type 0
+IsBound x bindings = filter (is_binding_of x.mac) bindings ≡ x ∷ []
+
+-- an ENode has no binding but this
+abbrev pub IsOnly : Binding → List Binding → Type 0
+IsOnly x bindings = All (λ b. IsOf x.enode b → b ≡ x) bindings
 
 -- ---- all that is kept
 

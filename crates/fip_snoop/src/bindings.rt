@@ -1,6 +1,6 @@
 //! Which MACs are bound to which ports: each binding at a place of its own, and the places by MAC
 //! and by ENode.
-ghost use Rattle.std.specs.Prelude.{◌≡◌};
+ghost use Rattle.std.specs.Prelude.{◌≡◌, true};
 ghost use Rattle.fip_codec.specs.Message.{view as fip_view};
 ghost use Rattle.fip_snoop.specs.Messages as messages;
 ghost use Rattle.fip_snoop.specs.Snoop as kept;
@@ -111,11 +111,39 @@ impl Bindings {
                 Ok(())
             }
             Some(grant) => {
+                let binding = bound_by(forwarder, port, enode, &grant);
+                if self.is_bound(&binding) && self.is_only(&binding) {
+                    return Ok(());
+                }
                 self.reserve()?;
                 self.end(enode, message, grant.first, &released);
-                self.put(bound_by(forwarder, port, enode, &grant));
+                self.put(binding);
                 Ok(())
             }
+        }
+    }
+
+    // Whether a binding is there.
+    fn is_bound(&self, binding: &Binding) -> bool
+        ensures { result ≡ true → maps.IsBound binding.now self.now.bindings }
+    {
+        let _ = &self.records;
+        match self.at(&binding.mac) {
+            Some(found) => are_same(&found, binding),
+            None => false,
+        }
+    }
+
+    // Whether its ENode has no binding but this.
+    fn is_only(&self, binding: &Binding) -> bool
+        ensures { result ≡ true → maps.IsOnly binding.now self.now.bindings }
+    {
+        let enode = &binding.enode;
+        match self.next_of(enode, number_from(enode, 0)) {
+            Some(first) if are_same(&first, binding) => {
+                self.next_of(enode, ByEnode.number(&first) + 1).is_none()
+            }
+            _ => false,
         }
     }
 
@@ -213,6 +241,12 @@ impl Bindings {
         order_put(&ByMac, &self.records, &mut self.by_mac, place);
         order_put(&ByEnode, &self.records, &mut self.by_enode, place);
     }
+}
+
+fn are_same(one: &Binding, other: &Binding) -> bool
+    ensures { result ≡ true → one.now ≡ other.now }
+{
+    *one == *other
 }
 
 // The binding that a grant makes which goes down to a port.
