@@ -1,7 +1,8 @@
 //! The run of a node over records, and the capture of what it sends.
-ghost use Rattle.std.specs.Prelude.{◌≡◌, ◌≤◌, ◌<◌, ◌^◌, ◌++◌, ◌∷◌, [], ℕ, List, false, length, slice_index_or, IfOk, OnOk};
+ghost use Rattle.std.specs.Prelude.{◌≡◌, ◌≤◌, ◌<◌, ◌^◌, ◌++◌, ◌∷◌, [], ℕ, List, false, length};
+ghost use Rattle.std.specs.Prelude.{slice_index_or, IfOk, OnOk};
 ghost use Rattle.pcap_file.specs.declared.Record.{Record as Row};
-ghost use Rattle.enode_core.specs.Course.{AreFar, IsAt, turn_bytes};
+ghost use Rattle.enode_core.specs.Course.{AreFar, IsAt, Takes, turn_bytes};
 ghost use Rattle.enode_core.specs.Goes.{AreSmall};
 ghost use Rattle.enode_core.specs.Machine as spec;
 ghost use Rattle.enode_core.specs.Runs.{from};
@@ -58,11 +59,8 @@ fn hear_one(alloc: Global, course: &mut Course, row: &Record) -> Result<(), NoMe
     requires due { row.now.moment < spec.due course.old.node.state.stage }
     requires far { row.now.moment < 2 ^ 53 }
     ensures own { course.new.node.own ≡ course.old.node.own }
-    ensures goes { OnOk result ((start : ℕ) (ins left : List Row) →
-        IsAt course.old.node.own start ins (row.now ∷ left) course.old.node.state
-        course.old.capture.items →
-        IsAt course.old.node.own start ins left course.new.node.state
-        course.new.capture.items) }
+    ensures goes { OnOk result (Takes course.old.node.own row.now course.old.node.state
+        course.old.capture.items course.new.node.state course.new.capture.items) }
 {
     let mut frames = Vec::new(alloc);
     course
@@ -75,11 +73,8 @@ fn hear_one(alloc: Global, course: &mut Course, row: &Record) -> Result<(), NoMe
 fn take(alloc: Global, course: &mut Course, row: &Record) -> Result<(), NoMemory>
     requires { row.now.moment < 2 ^ 53 }
     ensures own { course.new.node.own ≡ course.old.node.own }
-    ensures goes { OnOk result ((start : ℕ) (ins left : List Row) →
-        IsAt course.old.node.own start ins (row.now ∷ left) course.old.node.state
-        course.old.capture.items →
-        IsAt course.old.node.own start ins left course.new.node.state
-        course.new.capture.items) }
+    ensures goes { OnOk result (Takes course.old.node.own row.now course.old.node.state
+        course.old.capture.items course.new.node.state course.new.capture.items) }
 {
     while course.node.due().0 <= row.moment.0 {
         tick(alloc, course)?;
