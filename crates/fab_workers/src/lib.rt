@@ -3,6 +3,7 @@
 
 mod crew;
 mod frames;
+mod sizes;
 mod window;
 mod worker;
 

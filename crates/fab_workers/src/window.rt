@@ -6,6 +6,7 @@ ghost use Rattle.fab_workers.specs.Handled.{Handled, firsts_of};
 
 use crate::crew::at_once;
 use crate::frames::in_turn;
+use crate::sizes::lacking;
 use fab_base::{Gate, NoMemory};
 use fab_gather::Shelf;
 use forward_core::Fabric;
@@ -13,8 +14,12 @@ use std::alloc::Global;
 use std::sync::Wait;
 use std::thread::Threads;
 
-/// Handles the records on the shelves under a gate, those of each port in their order: by a worker
-/// a port where several ports have any.
+/// From so many bytes of frames on a window goes by workers under any gate.
+const WORTH_WORKERS: u64 = 8 << 20;
+
+/// Handles the records on the shelves under a gate, those of each port in their order. Where
+/// several ports have any, it is by a worker a port if the gate may hold one or the frames are
+/// worth the threads, and else one port after another.
 pub fn take_frames<R: Threads + Wait + Sync, G: Gate + Sync>(
     rt: &R,
     alloc: Global,
@@ -28,10 +33,10 @@ pub fn take_frames<R: Threads + Wait + Sync, G: Gate + Sync>(
     ensures handled { IfOk result (λ f.
         Handled (firsts_of shelves.now) (batches_of shelves.now) fabric f) }
 {
-    if busy(shelves) < 2 {
-        in_turn(alloc, fabric, shelves, gate)
-    } else {
+    if busy(shelves) > 1 && (G::HOLDS || lacking(shelves, WORTH_WORKERS) == 0) {
         at_once(rt, alloc, fabric, shelves, gate)
+    } else {
+        in_turn(alloc, fabric, shelves, gate)
     }
 }
 
