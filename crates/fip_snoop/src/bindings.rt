@@ -51,7 +51,8 @@ impl Model for Bindings {
 }
 
 impl Bindings {
-    ghost use Rattle.std.specs.Prelude.{◌≡◌, ◌≤◌, ◌++◌, ◌∷◌, OnOk, OnErr, IfSome, IfNone, [], None, true, false};
+    ghost use Rattle.std.specs.Prelude.{◌≡◌, ◌≤◌, ◌++◌, ◌∷◌, [], None, true, false};
+    ghost use Rattle.std.specs.Prelude.{OnOk, OnErr, IfSome, IfNone};
     ghost use Rattle.fab_base.specs.Keyed.{item_at};
     ghost use Rattle.fab_base.specs.Layout.{big_endian};
     ghost use Rattle.fip_codec.specs.Message.{view as fip_view};

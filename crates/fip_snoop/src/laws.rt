@@ -1,5 +1,6 @@
 //! What the definitions imply. Each function does nothing: its contract is the law.
-ghost use Rattle.fip_snoop.specs.Bridge.{HistoryGoesOn, RecordsGoOn, AllAreCounted, ArrivalsAreInOrder};
+ghost use Rattle.fip_snoop.specs.Bridge.{HistoryGoesOn, RecordsGoOn};
+ghost use Rattle.fip_snoop.specs.Bridge.{AllAreCounted, ArrivalsAreInOrder};
 ghost use Rattle.fip_snoop.specs.Laws.{HomeGrows, BoundGrows, BoundIs, MovedIs, DataGoesUp};
 ghost use Rattle.fip_snoop.specs.Queue.{LeastIsNext, NoneIsEnd, PortsKeepTheirOrder};
 

@@ -37,7 +37,11 @@ impl Model for Snoop {
 
     ghost Value = { Contents };
 
-    ghost view = { λ s. record { forwarder = s.forwarder; homes = s.homes; bindings = s.bindings.bindings } };
+    ghost view = { λ s. record {
+      forwarder = s.forwarder;
+      homes = s.homes;
+      bindings = s.bindings.bindings;
+    } };
 }
 
 impl Snoop {
@@ -63,7 +67,8 @@ impl Snoop {
     }
 
     /// Handles a frame that came on a port, and says where it goes. Where memory is refused nothing
-    /// changes.
+    /// changes. The allocator is handed in as to every call that may take memory; the lists that
+    /// grow here keep their own.
     pub fn frame(&mut self, _alloc: Global, port: PortNo, caught: &Caught) -> Result<Way, NoMemory>
         ensures way { IfOk result (λ way. (w : of_bridge.Forwarder) (L : History)
             → Remembers w L self.old → way ≡ ways.way_of w L port caught.now) }
@@ -112,7 +117,8 @@ fn way_for(
     port: PortNo,
     what: &What<'_>,
 ) -> Way
-    ensures { result ≡ kept.way_for forwarder.now homes.now bindings.now.bindings port (view what.now) }
+    ensures { result ≡ kept.way_for forwarder.now homes.now bindings.now.bindings port
+        (view what.now) }
 {
     match what {
         What::Bad { rule, .. } => Way::Dropped(rule_of(*rule)),
