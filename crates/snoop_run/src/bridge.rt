@@ -1,5 +1,6 @@
 //! A bridge between captures and pages: which frames were handled, and what they left.
-ghost use Rattle.std.specs.Prelude.{◌≡◌, ℕ, ◌+◌, ◌-◌, ◌<◌, ◌≤◌, ◌^◌, ◌++◌, length, replicate, Some, IfOk, OnOk, if◌then◌else◌, slice_index, slice_set};
+ghost use Rattle.std.specs.Prelude.{◌≡◌, ℕ, ◌+◌, ◌-◌, ◌<◌, ◌≤◌, ◌^◌, ◌++◌, if◌then◌else◌, Some};
+ghost use Rattle.std.specs.Prelude.{IfOk, OnOk, length, replicate, slice_index, slice_set};
 ghost use Rattle.pcap_file.specs.Capture.{head_bytes};
 ghost use Rattle.fip_snoop.specs.Bridge.{Arrival, arrival};
 ghost use Rattle.fip_snoop.specs.Bridge as bridging;
