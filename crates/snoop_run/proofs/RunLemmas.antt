@@ -22,6 +22,7 @@ use Rattle.fip_snoop.specs.declared.forwarder.Forwarder.{Forwarder}
 use Rattle.snoop_run.specs.Bridged.{Among, AmongBoth, AnyRose, IsOldOrFront, AreOldOrFront, HasFronts, HasStop, Ends, Bridges, OverEnds, RunsOver}
 use Rattle.snoop_run.specs.Crossing.{unless_too_long, crossing, captures}
 use Rattle.snoop_run.specs.Files.{AreOutputs}
+use Rattle.snoop_run.specs.Laws.{TakenAreCaptures}
 use Rattle.snoop_run.specs.Opening.{OpensOutputs, ReadsInputs}
 use Rattle.snoop_run.specs.Sides.{side_count, output_at, outs_of, AreDifferent}
 use Rattle.snoop_run.specs.State.{IsNew, Crosses}
@@ -179,7 +180,7 @@ module _ (inn outs : List (List ℕ)) (budget : Budget) (c : Settings) (a b : Se
       ended faults.Write r = absurd (r.only refl)
       ended faults.Memory r = λ told. inl (λ m. r.touches.files m (λ x. x))
 
-  module _ (v : Vec (List Record) Global) (read : ReadsInputs inn a b budget (Ok v)) (d : Seen) where
+  module _ (law : TakenAreCaptures) (v : Vec (List Record) Global) (read : ReadsInputs inn a b budget (Ok v)) (d : Seen) where
     abbrev frames : List Arrival
     frames = arrivals v.items
 
@@ -203,7 +204,7 @@ module _ (inn outs : List (List ℕ)) (budget : Budget) (c : Settings) (a b : Se
     fronts told short are = record { came = frames; crosses = crosses told short; outputs = fronts_since a b d same_b outs (captures c (length outs) frames) (are (told_read told)) }
 
     ended : (r : Result Crossed RunFault) → OverEnds outs v.items c b d r → Ends inn outs budget c a d r
-    ended (Ok done) e = λ told. record { records = v.items; taken = read.taken told; crosses = crosses told e.0; outputs = e.1 (told_read told); passed_ = e.2; dropped_ = e.3 }
+    ended (Ok done) e = λ told. record { records = v.items; captures_ = law 1 budget (map (λ n. a.file n) inn) v.items (read.taken told); taken = read.taken told; crosses = crosses told e.0; outputs = e.1 (told_read told); passed_ = e.2; dropped_ = e.3 }
     ended (Err (faults.Capture port at why)) e = absurd e
     ended (Err (faults.Limit limit.Bytes)) e = absurd e
     ended (Err (faults.Limit limit.Frames)) e = absurd e

@@ -12,6 +12,7 @@ use Rattle.fab_captures.specs.Captures.{captures_by}
 use Rattle.fip_snoop.specs.Bridge.{Arrival, arrivals, is_too_long, history, passed, dropped}
 use Rattle.fip_snoop.specs.Messages.{forwarder_of}
 use Rattle.snoop_run.specs.Crossing.{crossing, captures}
+use Rattle.snoop_run.specs.Laws.{AreCaptures}
 use Rattle.snoop_run.specs.declared.run.Crossed.{Crossed}
 
 -- ---- names
@@ -42,11 +43,12 @@ AreOldOrFront old new [] (whole ∷ wholes) = ⊥
 AreOldOrFront old new (name ∷ names) [] = ⊥
 AreOldOrFront old new (name ∷ names) (whole ∷ wholes) = IsOldOrFront old new name whole × AreOldOrFront old new names wholes
 
--- The headline. The inputs, as the call found them, are captures within the limits; and each output is the head and, in the
+-- The headline. The inputs, as the call found them, are captures of these records, within the limits; and each output is the head and, in the
 -- order in which the frames of all captures are handled, a record of each frame whose way leads to its port, the ways being
 -- those of the table over what was handled before. The two numbers are of the frames that passed and of those that didn't.
 pub record HasBridged (ins outs : List (List ℕ)) (budget : Budget) (c : Settings) (old new : Seen) (done : Crossed) : Type 0 where
   pub records : List (List Record)
+  pub captures_ : AreCaptures (map (λ n. old.file n) ins) records
   pub taken : captures_by 1 budget (map (λ n. old.file n) ins) ≡ Ok records
   pub crosses : crossing budget (map (λ n. old.file n) ins) ≡ Ok (arrivals records)
   pub outputs : map (λ n. new.file n) outs ≡ map (λ l. Some l) (captures c (length outs) (arrivals records))

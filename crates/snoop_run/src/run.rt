@@ -8,6 +8,7 @@ ghost use Rattle.snoop_run.specs.Sides.{AreDifferent, AreKnown, ins_of, outs_of,
 use crate::bridge::Bridge;
 use crate::captures::read_captures;
 use crate::crossing::cross;
+use crate::laws::what_is_taken_are_captures;
 use crate::outputs::open_outputs;
 use crate::span::is_too_long;
 use fab_base::{Depot, OwnedList};
@@ -44,6 +45,7 @@ pub fn run_bridge<D: Depot>(
     ensures bridges { Bridges (ins_of sides.now) (outs_of sides.now) budget config.now
         (D.seen depot.old) (D.seen depot.new) result }
 {
+    what_is_taken_are_captures();
     let mut left = budget;
     let ins = match read_captures(alloc, depot, sides, &mut left) {
         Ok(ins) => ins,

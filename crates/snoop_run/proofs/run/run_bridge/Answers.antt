@@ -16,6 +16,6 @@ returns g c =
     let d = seen c.run_over.new.depot in
     let outs = outs_of c.args.sides.now in
     record {
-      bridges = bridges_over (ins_of c.args.sides.now) outs c.args.budget c.args.config.now a b c.in-Ok.ins c.in-Ok.ensures.reads d c.run_over.result
+      bridges = bridges_over (ins_of c.args.sides.now) outs c.args.budget c.args.config.now a b c.what_is_taken_are_captures.ensures c.in-Ok.ins c.in-Ok.ensures.reads d c.run_over.result
           (subst (λ l. RunsOver outs l c.args.config.now b d c.run_over.result) c.as_slice.ensures.value c.run_over.ensures);
     }
