@@ -17,6 +17,7 @@ use Rattle.fip_snoop.specs.Laws.{DataGoesUp}
 use Rattle.fip_snoop.specs.Messages.{forwarder_of}
 use Rattle.snoop_run.specs.Bridged.{AreOldOrFront, HasBridged, HasFronts, HasStop, Ends, Bridges}
 use Rattle.snoop_run.specs.Crossing.{crossing, captures}
+use Rattle.snoop_run.specs.Laws.{AreCaptures}
 use Rattle.snoop_run.specs.Sides.{ins_of, outs_of}
 use Rattle.snoop_run.specs.declared.run.Crossed.{Crossed}
 use Rattle.fabric_tool.specs.Command.{SnoopNames, Snoop, KeepsOthers}
@@ -229,6 +230,7 @@ module _ (k : SnoopNames) (c : Settings) (a b z : Seen) (config : ConfigRead k.c
     config = config.ok told;
     bridged = record {
       records = h.records;
+      captures_ = subst (λ files. AreCaptures files h.records) (files_since a b same k.ins) h.captures_;
       taken = sym (ap (captures_by 1 LIMITS) (files_since a b same k.ins)) ∙ h.taken;
       crosses = sym (ap (crossing LIMITS) (files_since a b same k.ins)) ∙ h.crosses;
       outputs = h.outputs;
