@@ -14,8 +14,9 @@ use std::alloc::Global;
 use std::sync::Wait;
 use std::thread::Threads;
 
-/// From so many bytes of frames on a window goes by workers under any gate.
-const WORTH_WORKERS: u64 = 8 << 20;
+/// From so many bytes of frames on a window goes by workers under any gate. In none that is smaller
+/// were they found to save anything over one port after another (bench/workers).
+const WORTH_WORKERS: u64 = 64 << 20;
 
 /// Handles the records on the shelves under a gate, those of each port in their order. Where
 /// several ports have any, it is by a worker a port if the gate may hold one or the frames are
