@@ -49,8 +49,92 @@ pub(crate) const ACCEPT: &str = "001b2100000a00051e00000281006064 8914\
 00000000000000000000000000000000 02020efc00010100";
 
 /// The node's keep alive.
-pub(crate) const KEEP: &str = "00051e000002001b2100000a81000064 8914\
+const KEEP: &str = "00051e000002001b2100000a81000064 8914\
 10000003000100020000 0202001b2100000a";
+
+/// The keep alive of its N_Port.
+const PORT_KEEP: &str = "00051e0000020efc00010100 81000064 8914\
+10000003000100070000 0202001b2100000a 0b050efc00010100000101002000001b2100000a";
+
+/// A clear link message that names the node's grant, and one that names nothing.
+const CLEAR: &str = "001b2100000a00051e00000281006064 8914\
+100000030002000a0000 020200051e000002 04030000100000051e000002\
+0b050efc00010100000101002000001b2100000a";
+
+const CLEAR_ALL: &str = "001b2100000a00051e00000281006064 8914\
+10000003000200050000 020200051e000002 04030000100000051e000002";
+
+/// Frames that differ from others in some bytes: the name, the frame that it differs from, and up
+/// to six places, each with what stands there.
+const CHANGED: &str = "\
+notification_b notification 5 11
+notification_all notification 0 1 1 16 2 24 3 1 5 1
+notification_without notification 35 0
+advertise_all advertisement 0 1 1 16 2 24 3 1 5 1 27 5
+advertisement_vlan advertisement 15 101
+advertisement_quiet advertisement 71 1
+advertisement_short advertisement 74 0 75 249
+advertisement_long advertisement 73 1 74 95 75 145
+advertisement_slow advertisement 73 1 74 95 75 144
+advertisement_named advertisement 39 3
+advertisement_a advertisement 27 3
+advertisement_s advertisement 27 5
+advertisement_f advertisement 27 6
+advertisement_fp advertisement 26 0
+flogi2 flogi 49 2
+accept2 accept 49 2
+accept2_mac accept 49 2 179 1
+accept2_b accept 49 2 5 11
+accept2_from accept 49 2 11 3
+accept2_vlan accept 49 2 15 101
+clear_mac clear 55 1
+clear_address clear 59 1
+clear_name clear 67 11
+clear_from clear 11 3
+clear_vlan clear 15 101
+clear_all_b clear_all 5 11";
+
+/// The bytes of the frame of a name.
+pub(crate) fn bytes_named(alloc: Global, name: &str) -> Result<Vec<u8>, Fail> {
+    for line in CHANGED.lines() {
+        let mut words = line.split_whitespace();
+        if words.next() == Some(name) {
+            let mut bytes = unchanged(alloc, words.next().ok_or("a frame")?)?;
+            for _ in 0..6 {
+                change(&mut bytes, words.next(), words.next());
+            }
+            return Ok(bytes);
+        }
+    }
+    unchanged(alloc, name)
+}
+
+fn unchanged(alloc: Global, name: &str) -> Result<Vec<u8>, Fail> {
+    match name {
+        "request" => frame_of(alloc, REQUEST, 60),
+        "notification" => frame_of(alloc, NOTIFICATION, 60),
+        "solicitation" => frame_of(alloc, SOLICITATION, 60),
+        "advertisement" => frame_of(alloc, ADVERTISEMENT, 2176),
+        "flogi" => frame_of(alloc, FLOGI, 180),
+        "accept" => frame_of(alloc, ACCEPT, 180),
+        "keep" => frame_of(alloc, KEEP, 60),
+        "port_keep" => frame_of(alloc, PORT_KEEP, 60),
+        "clear" => frame_of(alloc, CLEAR, 68),
+        "clear_all" => frame_of(alloc, CLEAR_ALL, 60),
+        _ => Err("a frame".into()),
+    }
+}
+
+// Puts a number at a place, where both are there.
+fn change(bytes: &mut [u8], place: Option<&str>, value: Option<&str>) {
+    if let (Some(place), Some(value)) = (place, value) {
+        if let (Ok(place), Ok(value)) = (place.parse::<usize>(), value.parse::<u8>()) {
+            if let Some(byte) = bytes.get_mut(place) {
+                *byte = value;
+            }
+        }
+    }
+}
 
 /// The bytes of a frame, with zeros behind them up to its length.
 pub(crate) fn frame_of(alloc: Global, text: &str, length: usize) -> Result<Vec<u8>, Fail> {
