@@ -165,21 +165,56 @@ fn is_phase(node: &Node, word: &str) -> bool {
     }
 }
 
+/// What a line says.
+#[derive(Clone, Copy)]
+struct Line<'a> {
+    now: u64,
+    given: &'a str,
+    sent: &'a str,
+    phase: &'a str,
+    due: u64,
+}
+
+fn line_of(text: &str) -> Option<Line<'_>> {
+    let mut words = text.split_whitespace();
+    let now = words.next().and_then(number)?;
+    let given = words.next()?;
+    let sent = words.next()?;
+    let phase = words.next()?;
+    let due = words.next().and_then(number)?;
+    Some(Line {
+        now,
+        given,
+        sent,
+        phase,
+        due,
+    })
+}
+
+// Makes the timer, or hands in the frame, of a line.
+fn is_given(
+    alloc: Global,
+    node: &mut Node,
+    line: &Line<'_>,
+    sent: &mut Vec<Bytes>,
+) -> Result<bool, Fail> {
+    if line.given == "timer" {
+        return times_out(alloc, node, line.now, sent);
+    }
+    let caught = caught_of(alloc, line.given)?;
+    hears(alloc, node, line.now, &caught, sent)
+}
+
 // Whether the node does what a line says.
-fn does(alloc: Global, node: &mut Node, line: &str) -> Result<bool, Fail> {
-    let mut words = line.split_whitespace();
-    let now = words.next().and_then(number).ok_or("a moment")?;
-    let given = words.next().ok_or("a frame")?;
+fn does(alloc: Global, node: &mut Node, line: &Line<'_>) -> Result<bool, Fail> {
     let mut sent = Vec::new(alloc);
-    let made = if given == "timer" {
-        times_out(alloc, node, now, &mut sent)?
-    } else {
-        hears(alloc, node, now, &caught_of(alloc, given)?, &mut sent)?
-    };
-    let named = are_named(alloc, &sent, words.next().ok_or("frames")?)?;
-    let phase = words.next().ok_or("a phase")?;
-    let due = words.next().and_then(number).ok_or("a timer")?;
-    Ok(made && named && is_phase(node, phase) && node.due().0 == due)
+    if !is_given(alloc, node, line, &mut sent)? {
+        return Ok(false);
+    }
+    if !is_phase(node, line.phase) || node.due().0 != line.due {
+        return Ok(false);
+    }
+    are_named(alloc, &sent, line.sent)
 }
 
 // The first line that isn't so, counted from 1; 0 where all are.
@@ -187,7 +222,10 @@ fn first_wrong(alloc: Global, node: &mut Node, lines: &str) -> Result<usize, Fai
     let mut number = 0usize;
     for line in lines.lines() {
         number = number.saturating_add(1);
-        if !does(alloc, node, line)? {
+        let Some(line) = line_of(line) else {
+            return Ok(number);
+        };
+        if !does(alloc, node, &line)? {
             return Ok(number);
         }
     }
