@@ -18,6 +18,8 @@ mod migrate;
 #[cfg(test)]
 mod node;
 #[cfg(test)]
+mod quiet;
+#[cfg(test)]
 mod replay;
 #[cfg(test)]
 mod rows;
