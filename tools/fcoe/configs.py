@@ -70,7 +70,7 @@ def read_config(name: str) -> Config:
             if key in said:
                 setattr(config, key, int(said[key][0]))
     except (KeyError, ValueError, IndexError):
-        raise Refused(f"{name}: no configuration: `fcoe_tool run` tells the line; README has an example") from None
+        raise Refused(f"{name}: no configuration: `fcoe_tool run` tells the line; docs/COMMANDS.md has an example") from None
     return config
 
 
