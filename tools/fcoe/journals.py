@@ -99,7 +99,7 @@ def rows() -> dict[str, Row]:
         section = re.search(rf"^## {title}$(.*?)(?=^## |\Z)", page, re.M | re.S)
         for line in section[1].splitlines() if section else []:
             cells = [it.strip() for it in line.strip().strip("|").split("|")]
-            if cells and cells[0].startswith("`"):
+            if len(cells) >= 4 and cells[0].startswith("`"):
                 word = before + cells[0].strip("`").split(" ")[0]
                 found[word] = Row(cells[1], cells[2], cells[-1])
     return found
