@@ -1,0 +1,170 @@
+//! Captures, as pcap and as pcapng, read from a depot of one file whose fetches give a few bytes.
+use crate::keys;
+use case_lines::{bytes_of, number_of, put, word_at};
+use fab_base::{Caught, Moment, NoMemory};
+use open_files::OpenFiles;
+use pcap_file::{Budget, CaptureHead, Reader, write_head, write_record};
+use pcapng_file::{NgRecords, classic_capture, read_ng};
+use std::alloc::{AllocError, Global};
+
+/// The greatest moment of a record that is written.
+const LAST: u64 = 4_294_967_295_999;
+
+/// Adds the head of a capture, or a record of this moment and these bytes.
+pub(crate) fn add_record(alloc: Global, line: &[u8], held: &mut Vec<u8>) -> Result<(), AllocError> {
+    let made = match number_of(word_at(line, 1)) {
+        None => write_head(alloc, held),
+        Some(moment) => match bytes_of(alloc, word_at(line, 2)) {
+            Ok(bytes) => add_frame(alloc, moment.min(LAST), &bytes, held),
+            Err(_) => Ok(()),
+        },
+    };
+    match made {
+        Ok(()) => Ok(()),
+        Err(NoMemory) => Err(AllocError),
+    }
+}
+
+fn add_frame(alloc: Global, moment: u64, bytes: &[u8], held: &mut Vec<u8>) -> Result<(), NoMemory> {
+    if bytes.len() > 65535 || moment > LAST {
+        return Ok(());
+    }
+    write_record(alloc, Moment(moment), bytes, held)
+}
+
+pub(crate) fn head(alloc: Global, bytes: &[u8], out: &mut Vec<u8>) -> Result<(), AllocError> {
+    match CaptureHead::read(bytes) {
+        Ok(head) => {
+            keys::flag(out, b"head big=", head.big)?;
+            keys::flag(out, b" nano=", head.nano)?;
+            put(out, b"\n")
+        }
+        Err(why) => keys::fault(alloc, out, why),
+    }
+}
+
+fn budget_of(line: &[u8]) -> Budget {
+    Budget {
+        bytes: number_of(word_at(line, 3)).unwrap_or(0),
+        frames: number_of(word_at(line, 4)).unwrap_or(0),
+    }
+}
+
+fn step_of(line: &[u8]) -> usize {
+    number_of(word_at(line, 2)).unwrap_or(5000) as usize
+}
+
+/// Each record of a capture, and how it ends. After a fault the reader is asked once more.
+pub(crate) fn pcap(
+    alloc: Global,
+    line: &[u8],
+    bytes: &[u8],
+    out: &mut Vec<u8>,
+) -> Result<(), AllocError> {
+    let mut depot = OpenFiles::one(bytes, step_of(line));
+    let mut budget = budget_of(line);
+    match Reader::open(&mut depot, 0, &mut budget) {
+        Ok(mut reader) => say_records(alloc, &mut reader, &mut depot, &mut budget, out)?,
+        Err(why) => keys::fault(alloc, out, why)?,
+    }
+    say_rest(&depot, &budget, out)
+}
+
+fn say_records(
+    alloc: Global,
+    reader: &mut Reader,
+    depot: &mut OpenFiles<'_>,
+    budget: &mut Budget,
+    out: &mut Vec<u8>,
+) -> Result<(), AllocError> {
+    for _ in 0..u64::MAX {
+        match reader.next(alloc, depot, 0, budget) {
+            Ok(Some(record)) => say_record(&record.moment, &record.caught, out)?,
+            Ok(None) => return Ok(()),
+            Err(why) => {
+                keys::fault(alloc, out, why)?;
+                return say_again(alloc, reader, depot, budget, out);
+            }
+        }
+    }
+    Ok(())
+}
+
+// What a reader answers after its fault, and how many fetches that took.
+fn say_again(
+    alloc: Global,
+    reader: &mut Reader,
+    depot: &mut OpenFiles<'_>,
+    budget: &mut Budget,
+    out: &mut Vec<u8>,
+) -> Result<(), AllocError> {
+    let before = depot.made();
+    match reader.next(alloc, depot, 0, budget) {
+        Ok(_) => put(out, b"again: no fault\n")?,
+        Err(why) => {
+            put(out, b"again: ")?;
+            keys::fault(alloc, out, why)?;
+        }
+    }
+    keys::number(
+        out,
+        b"fetches for it: ",
+        depot.made().saturating_sub(before),
+    )?;
+    put(out, b"\n")
+}
+
+fn say_record(moment: &Moment, caught: &Caught, out: &mut Vec<u8>) -> Result<(), AllocError> {
+    keys::number(out, b"record moment=", moment.0)?;
+    keys::flag(out, b" whole=", caught.whole)?;
+    keys::bytes(out, b" bytes=", caught.bytes.view())?;
+    put(out, b"\n")
+}
+
+fn say_rest(depot: &OpenFiles<'_>, budget: &Budget, out: &mut Vec<u8>) -> Result<(), AllocError> {
+    keys::number(out, b"left bytes=", budget.bytes)?;
+    keys::number(out, b" frames=", budget.frames)?;
+    keys::number(out, b" fetches=", depot.made())?;
+    put(out, b"\n")
+}
+
+/// Each packet of a file, and what is left of the limits.
+pub(crate) fn pcapng(
+    alloc: Global,
+    line: &[u8],
+    bytes: &[u8],
+    out: &mut Vec<u8>,
+) -> Result<(), AllocError> {
+    let mut depot = OpenFiles::one(bytes, step_of(line));
+    let mut budget = budget_of(line);
+    match &read_ng(alloc, &mut depot, 0, &mut budget) {
+        Ok(records) => {
+            say_packets(records, out)?;
+            say_classic(alloc, records, out)?;
+        }
+        Err(why) => keys::fault(alloc, out, *why)?,
+    }
+    say_rest(&depot, &budget, out)
+}
+
+fn say_packets(records: &NgRecords, out: &mut Vec<u8>) -> Result<(), AllocError> {
+    for index in 0..records.len() {
+        if let Some(record) = records.at(index) {
+            keys::number(out, b"original=", u64::from(record.original))?;
+            put(out, b" ")?;
+            say_record(&record.moment, &record.caught, out)?;
+        }
+    }
+    Ok(())
+}
+
+// The same packets as a pcap file.
+fn say_classic(alloc: Global, records: &NgRecords, out: &mut Vec<u8>) -> Result<(), AllocError> {
+    match classic_capture(alloc, records) {
+        Ok(bytes) => {
+            keys::bytes(out, b"as pcap ", &bytes)?;
+            put(out, b"\n")
+        }
+        Err(NoMemory) => Err(AllocError),
+    }
+}
