@@ -1,68 +1,15 @@
-//! Happy paths of what takes memory, and the texts.
+//! Happy paths of what takes memory, and stores that refuse.
 ghost use Rattle.std.specs.Prelude.{IfOk, IsTrue};
 ghost use Rattle.fab_base.specs.MemDepot.{mem_seen};
 
 use arrayvec::ArrayVec;
-use fab_base::fields::{address_at, mac_at, name_at, u16_at, u24_at, u32_at};
 use fab_base::{
-    Bytes, Depot, Failed, FcId, IdList, Mac, MemDepot, MemSink, NoMemory, OwnedList, PortNo, Sink,
-    Wwn, address_text, append_made, append_reserved, mac_text, put, put_all, say_all, word_at,
-    wwn_text,
+    Bytes, Depot, Failed, FcId, IdList, MemDepot, MemSink, NoMemory, OwnedList, Sink, append_made,
+    append_reserved, put, put_all, say_all, word_at,
 };
 use std::alloc::Global;
 use std::process::Abort;
 use std::test::Fail;
-
-#[test]
-fn names_are_spelled_in_lower_case(rt: HostRuntime) -> Result<(), Fail> {
-    for (mac, want) in [
-        (Mac([0x00, 0x1b, 0x21, 0x00, 0x00, 0x0a]), b"001b2100000a"),
-        (Mac([0x01, 0x23, 0x45, 0x67, 0x89, 0xaf]), b"0123456789af"),
-        (Mac([0xff; 6]), b"ffffffffffff"),
-    ] {
-        assert_eq!(rt; mac_text(&mac).as_slice(), want.as_slice());
-    }
-    for (name, want) in [
-        (0x2000_001b_2100_000a, b"2000001b2100000a"),
-        (0, b"0000000000000000"),
-        (0xfedc_ba98_7654_3210, b"fedcba9876543210"),
-    ] {
-        assert_eq!(rt; wwn_text(&Wwn(name)).as_slice(), want.as_slice());
-    }
-    for (number, want) in [
-        (0x01_0100, b"010100"),
-        (0xff_fffe, b"fffffe"),
-        (0x0a_bcde, b"0abcde"),
-    ] {
-        let address = FcId::new(number).ok_or("an address")?;
-        assert_eq!(rt; address_text(&address).as_slice(), want.as_slice());
-    }
-    Ok(())
-}
-
-#[test]
-fn ports_are_1_to_64(rt: HostRuntime) -> Result<(), Fail> {
-    for (number, want) in [(0, None), (1, Some(1)), (64, Some(64)), (65, None)] {
-        assert_eq!(rt; PortNo::new(number).map(|port| port.value()), want);
-    }
-    for (place, number) in [(0, 1), (7, 8), (63, 64)] {
-        assert_eq!(rt; PortNo::at(place).value(), number);
-        assert_eq!(rt; PortNo::at(place).index(), place);
-    }
-    Ok(())
-}
-
-#[test]
-fn fields_are_read_high_byte_first(rt: HostRuntime) -> Result<(), Fail> {
-    let bytes = [0, 1, 0xab, 0xcd, 0xef, 0x23, 0x45, 0x67, 0x89, 0x10];
-    assert_eq!(rt; u16_at(&bytes, 1), 0x01ab);
-    assert_eq!(rt; u24_at(&bytes, 1), 0x01_abcd);
-    assert_eq!(rt; u32_at(&bytes, 1), 0x01ab_cdef);
-    assert_eq!(rt; address_at(&bytes, 2).value(), 0xab_cdef);
-    assert_eq!(rt; mac_at(&bytes, 1), Mac([1, 0xab, 0xcd, 0xef, 0x23, 0x45]));
-    assert_eq!(rt; name_at(&bytes, 2), Wwn(0xabcd_ef23_4567_8910));
-    Ok(())
-}
 
 #[test]
 fn bytes_are_appended_where_they_were_made(rt: HostRuntime) -> Result<(), Fail> {
@@ -77,18 +24,6 @@ fn bytes_are_appended_where_they_were_made(rt: HostRuntime) -> Result<(), Fail> 
     put(&mut list, b"g");
     put(&mut list, b"hi");
     assert_eq!(rt; list.as_slice(), b"ghi".as_slice());
-    Ok(())
-}
-
-#[test]
-fn addresses_have_24_bits(rt: HostRuntime) -> Result<(), Fail> {
-    for (number, want) in [
-        (0, Some(0)),
-        (0xff_ffff, Some(0xff_ffff)),
-        (0x100_0000, None),
-    ] {
-        assert_eq!(rt; FcId::new(number).map(|address| address.value()), want);
-    }
     Ok(())
 }
 
