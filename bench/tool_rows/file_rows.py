@@ -8,7 +8,7 @@ import tempfile
 from typing import Union
 
 from .book import HEAD, Book
-from .common import ASKED, CONFIG, JOURNAL, NOTIFICATION, POOL, POOL_OLD, REQUEST, inputs, record, untouched
+from .common import ASKED, JOURNAL, NOTIFICATION, POOL, POOL_OLD, REQUEST, inputs, record, untouched
 from .worked import named
 
 TOP = pathlib.Path(__file__).resolve().parent.parent.parent
@@ -249,4 +249,3 @@ def texts(book: Book) -> None:
 def all_rows(book: Book) -> None:
     for part in (replays, shows, converts, migrates, makes, texts):
         part(book)
-    assert CONFIG

@@ -7,14 +7,14 @@ import re
 import struct
 import sys
 from types import ModuleType
-from typing import Optional
+from typing import Callable, Optional
 
 TOP = pathlib.Path(__file__).resolve().parent.parent.parent
 sys.path.insert(0, str(TOP / "bench"))
 import models  # noqa: E402
 from captures import Fault, read  # noqa: E402
 
-from .book import HEAD, Book, records
+from .book import Book, records
 from .common import ONE_PORT, inputs, untouched
 from .worked import worked
 from .worked_rows import ROWS, WORDS, outputs, stored
@@ -113,7 +113,7 @@ def forms(book: Book) -> None:
             book.see(**outputs(made, ports))
 
 
-def _journal(made: int) -> object:
+def _journal(made: int) -> Callable[[Optional[bytes]], bool]:
     """Whether a file is a journal of format 2 with so many frames, whose clock doesn't go back."""
 
     def fits(data: Optional[bytes]) -> bool:
@@ -139,7 +139,7 @@ def demo(book: Book) -> None:
         book.case("demo", " and ".join(ports))
         book.given(K="fabric", **{f"IN{port}": name for port, name in enumerate(ports, 1)})
         book.run_told(["run"] + words, lambda said, status, count=count: status == 0 and re.fullmatch(rb"frames %d entries \d+\n" % count, said) is not None)
-        book.see_told("J", _journal(count))  # type: ignore[arg-type]
+        book.see_told("J", _journal(count))
         for port in range(len(ports)):
             book.see_told(f"OUT{port + 1}", lambda data: records(data or b"") is not None)
         book.run_told(["replay"] + words, lambda said, status: status == 0 and re.fullmatch(rb"legal \d+\n", said) is not None)
@@ -204,4 +204,3 @@ def all_rows(book: Book) -> None:
     forms(book)
     demo(book)
     drawn(book, 12, 24)
-    assert HEAD

@@ -2,7 +2,7 @@
 import struct
 
 from .book import HEAD, Book
-from .common import ADVERTISEMENT, ASKED, CONFIG, JOURNAL, NOTIFICATION, ONE_PORT, REQUEST, SOLICITATION, TO_ALL
+from .common import ADVERTISEMENT, ASKED, JOURNAL, NOTIFICATION, ONE_PORT, REQUEST, SOLICITATION, TO_ALL
 from .common import TO_FORWARDER, TOLD, TWO_PORTS, inputs, record, untouched
 from .worked import named
 
@@ -214,4 +214,3 @@ def descriptors(book: Book) -> None:
 def all_rows(book: Book) -> None:
     for part in (discovery, drops, ports, configuration, failing, heads, records, descriptors):
         part(book)
-    assert CONFIG == book.shelf["plain"]

@@ -1,17 +1,10 @@
-"""`snoop` and `enode`; beside the rows that are written out, captures whose answers are those of the models of bench/models.py."""
-import pathlib
-import sys
+"""`snoop` and `enode`: the rows that are written out."""
 from typing import Optional, Union
 
-sys.path.insert(0, str(pathlib.Path(__file__).resolve().parent.parent))
-import models  # noqa: E402
-from captures import Fault, forwarder_of  # noqa: E402
-
 from .book import HEAD, Book
-from .common import ASKED, CONFIG, REQUEST, record
+from .common import ASKED, REQUEST, record
 from .worked import Worked, named, worked
 
-TOP = pathlib.Path(__file__).resolve().parent.parent.parent
 SNOOP = "snoop K F X A Y B Z".split()
 
 # A node logs in on port 2 and sends data there. On port 3 the same data is of no login.
@@ -36,29 +29,14 @@ def bridged(book: Book, made: Worked, **more: Union[str, bytes]) -> None:
     book.given(**files)
 
 
-def modelled(book: Book, config: bytes, files: dict[str, bytes], outputs: list[str]) -> None:
-    """A bridge over these captures: what the model says."""
-    words = ["snoop", "K"] + [name for pair in zip(files, outputs) for name in pair]
-    book.given(K=config, **files)
-    try:
-        line, left = models.snoop(forwarder_of(config.decode()), list(files.values()))
-    except Fault as fault:
-        book.run(words, f"{fault.line}\n", fault.status)
-        book.see(**{name: None for name in outputs})
-        return
-    book.run(words, f"{line}\n", 0)
-    book.see(**dict(zip(outputs, left)))
-
-
 def bridges(book: Book) -> None:
     book.title("snoop: which way frames go (FC-BB-5, FIP snooping bridges)")
-    for texts, up, line in ((("plain", LOGGED_IN), 1, "passed 3 dropped 1"), (("plain", LOGGED_IN, CLEARED), 2, "passed 4 dropped 2")):
+    for texts, line in ((("plain", LOGGED_IN), "passed 3 dropped 1"), (("plain", LOGGED_IN, CLEARED), "passed 4 dropped 2")):
         book.case("data_goes_by_logins", "the forwarder's side gets what the node sends, the node all that the forwarder sends, the other port nothing")
         made = worked(*texts)
         bridged(book, made)
         book.run(SNOOP, f"{line}\n", 0)
         book.see(X=worked("plain", LOGGED_IN).came(2), Y=made.left(1), Z=HEAD)
-        assert up
     first = "> 1000 2 vlan-request 0a\n"
     for moment, line, status in ((21_601_000, "passed 2 dropped 0", 0), (21_601_001, "limit span 21600000", 6)):
         book.case("span_of_all_captures")
@@ -132,4 +110,3 @@ def nodes(book: Book) -> None:
 def all_rows(book: Book) -> None:
     bridges(book)
     nodes(book)
-    assert CONFIG and TOP

@@ -198,7 +198,7 @@ WISHES = [
 def wishes(book: Book) -> None:
     book.title("show and replay of a login that is granted another address than run would give")
     for name, moment, port, node, address, granted, shows in WISHES:
-        ticks = f"tick 9000\n< 9000 1 advertisement\n< 9000 2 advertisement\n< 9000 3 advertisement\n" if moment > 9000 else ""
+        ticks = "tick 9000\n< 9000 1 advertisement\n< 9000 2 advertisement\n< 9000 3 advertisement\n" if moment > 9000 else ""
         login = f"> {moment} {port} flogi {node:02x}\n{ticks}tick {moment}\n"
         index = 2 if port == 2 else 1 if port == 1 else 0
         made = worked("plain", "logged-in", "logged-out", login + f"{port} {index} granted {address}\n< {moment} {port} accept {node:02x} {address[4:]}\n")

@@ -1,5 +1,5 @@
 //! The calls of a gate.
-use crate::commands::{CONFIG, HEAD, REQUEST, TWO_PORTS, depot_of, joined, words_in};
+use crate::inputs::{CONFIG, HEAD, REQUEST, TWO_PORTS, depot_of, joined, words_in};
 use fab_base::{FcId, Gate, MemSink, PortNo};
 use fabric_tool::fabric_tool;
 use std::sync::atomic::{AtomicU64, Ordering};

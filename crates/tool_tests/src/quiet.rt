@@ -1,7 +1,6 @@
 //! Windows of two ports under gates that hold nobody: few bytes go in turn, ports ascending, and
 //! 64 MiB by a worker a port.
-use crate::commands::{CONFIG, HEAD, REQUEST, TWO_PORTS, depot_of, runs, words_in};
-use crate::worked::put_record;
+use crate::inputs::{CONFIG, HEAD, REQUEST, TWO_PORTS, depot_of, put_record, runs, words_in};
 use fab_base::{FcId, Gate, MemDepot, MemSink, PortNo};
 use fabric_tool::fabric_tool;
 use std::alloc::Global;

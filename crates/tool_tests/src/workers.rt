@@ -1,8 +1,5 @@
-//! Two ports in one window, each with a worker of its own under gates that hold them, and with an
-//! encoder of its own where much is sent.
-use crate::commands::{CONFIG, HEAD, REQUEST, TWO_PORTS, depot_of, runs, words_in};
-use crate::stores::solicitations;
-use crate::worked::capture_of;
+//! Two ports in one window, each with a worker of its own under gates that hold them.
+use crate::inputs::{CONFIG, REQUEST, TWO_PORTS, depot_of, joined, words_in};
 use fab_base::{FcId, Gate, MemDepot, MemSink, PortNo};
 use fabric_tool::fabric_tool;
 use std::alloc::Global;
@@ -11,8 +8,6 @@ use std::sync::Wait;
 use std::sync::atomic::{AtomicU64, Ordering};
 use std::test::Fail;
 use std::thread::Threads;
-use worked_journals::logins::PLAIN;
-use worked_journals::worked_of;
 
 // For how many turns a worker waits at most.
 const TURNS: u64 = 10_000_000;
@@ -153,17 +148,45 @@ fn two_ports_at_once(rt: HostRuntime) -> Result<(), Fail> {
     Ok(())
 }
 
-// A login and a VLAN request of a node on each of two ports, in one window.
-const LOGINS: &str = "
-> 1000 1 flogi 0a
-> 1000 2 flogi 0b
-> 1010 1 vlan-request 0a 00
-> 1010 2 vlan-request 0b 01\n";
+// A FLOGI of 00:1b:21:00:00:0a on VLAN 100, at 1000 ms.
+const LOGIN: [u8; 220] = [
+    0xd4, 0xc3, 0xb2, 0xa1, 2, 0, 4, 0, 0, 0, 0, 0, 0, 0, 0, 0, 0xff, 0xff, 0, 0, 1, 0, 0, 0, //
+    1, 0, 0, 0, 0, 0, 0, 0, 0xb4, 0, 0, 0, 0xb4, 0, 0, 0, //
+    0, 5, 0x1e, 0, 0, 2, 0, 0x1b, 0x21, 0, 0, 0x0a, 0x81, 0, 0, 0x64, 0x89, 0x14, //
+    0x10, 0, 0, 2, 0, 1, 0, 0x26, 0x80, 0, //
+    7, 0x24, 0, 0, //
+    0x22, 0xff, 0xff, 0xfe, 0, 0, 0, 0, 1, 0x29, 0, 0, 0, 0, 0, 0, 0, 1, 0xff, 0xff, 0, 0, 0, 0, //
+    4, 0, 0, 0, 0x20, 0x20, 0, 0, 0x80, 0, 8, 0x40, 0, 0, 0, 0, 0, 0, 0, 0, //
+    0x20, 0, 0, 0x1b, 0x21, 0, 0, 0x0a, 0x10, 0, 0, 0x1b, 0x21, 0, 0, 0x0a, //
+    0, 0, 0, 0, 0, 0, 0, 0, 0, 0, 0, 0, 0, 0, 0, 0, //
+    0, 0, 0, 0, 0, 0, 0, 0, 0, 0, 0, 0, 0, 0, 0, 0, //
+    0x80, 0, 0, 0, 0, 0, 0, 0, 0, 0, 0, 0, 0, 0, 0, 0, //
+    0, 0, 0, 0, 0, 0, 0, 0, 0, 0, 0, 0, 0, 0, 0, 0, //
+    0, 0, 0, 0, 0, 0, 0, 0, 0, 0, 0, 0, 0, 0, 0, 0, //
+    2, 2, 0, 0, 0, 0, 0, 0,
+];
+
+// A login and a VLAN request of a node on a port, in one window.
+fn login_and_request(alloc: Global) -> Result<Vec<u8>, Fail> {
+    let at_1010 = [1, 0, 0, 0, 0x10, 0x27, 0, 0];
+    Ok(joined(alloc, &[&LOGIN, &at_1010, &REQUEST[32..]])?)
+}
+
+// The same of the node 00:1b:21:00:00:0b: its MAC and its names end otherwise.
+fn of_other_node(alloc: Global) -> Result<Vec<u8>, Fail> {
+    let mut capture = login_and_request(alloc)?;
+    for place in [51, 123, 131, 247, 267] {
+        match capture.get_mut(place) {
+            Some(byte) => *byte = 0x0b,
+            None => return Err("a place of the capture".into()),
+        }
+    }
+    Ok(capture)
+}
 
 fn two_logins(alloc: Global) -> Result<MemDepot, Fail> {
-    let worked = worked_of(alloc, &[PLAIN, LOGINS])?;
-    let first = capture_of(alloc, 1, &worked.frames)?;
-    let second = capture_of(alloc, 2, &worked.frames)?;
+    let first = login_and_request(alloc)?;
+    let second = of_other_node(alloc)?;
     Ok(depot_of(alloc, &CONFIG, &first, &second)?)
 }
 
@@ -196,27 +219,4 @@ fn second_of_the_other_port(rt: HostRuntime) -> Result<(), Fail> {
     let journal = "journal 2\n1000 tick\n1000 1 0 granted 010100\n\
         1000 2 0 granted 010101\n1000 2 1 vlans\n1000 1 1 vlans\n";
     is_forced(&rt, rt.alloc(), 1, journal, [0x010100, 0x010101])
-}
-
-// A hundred solicitations on each of two ports, in one window.
-fn two_hundred(alloc: Global) -> Result<MemDepot, Fail> {
-    let capture = solicitations(alloc, 100, 0)?;
-    Ok(depot_of(alloc, &CONFIG, &capture, &capture)?)
-}
-
-// What the window sends is more than 262,144 bytes, so a thread encodes the records of each port.
-#[test]
-fn records_of_two_ports_at_once(rt: HostRuntime) -> Result<(), Fail> {
-    let alloc = rt.alloc();
-    let mut depot = two_hundred(alloc)?;
-    depot.know(alloc, "replay")?;
-    let line = b"frames 200 entries 201\n";
-    runs(&rt, alloc, &TWO_PORTS, &mut depot, line, 0)?;
-    for name in ["OUT", "OUT2"] {
-        let length = depot.content(name).unwrap_or(&[]).len();
-        assert_eq!(rt; length, HEAD.len() + 100 * (16 + 2176));
-    }
-    let replay = ["replay", "K", "J", "IN", "OUT", "IN2", "OUT2"];
-    runs(&rt, alloc, &replay, &mut depot, b"legal 201\n", 0)?;
-    Ok(())
 }
