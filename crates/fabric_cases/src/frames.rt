@@ -1,0 +1,123 @@
+//! What is read of a frame and sent in answer to it by the configuration alone (FC-BB-5, "FIP VLAN
+//! discovery", "FIP discovery").
+use crate::say::{end, end_hex};
+use crate::words::{CaseFault, hex, mac, name_at, short};
+use case_lines::{put, word_at};
+use fab_base::{Bytes, Caught, PortNo};
+use fab_config::{Config, ConfigError, read_config};
+use fab_policy::{
+    Verdict, frame_rule, hear, write_advertisement, write_advertisement_to, write_frame_line,
+    write_notice_to,
+};
+use std::alloc::Global;
+
+/// The text of a configuration so far, and the configuration.
+#[derive(Drop)]
+pub(crate) struct Settings {
+    pub(crate) text: Vec<u8>,
+    pub(crate) config: Option<Config>,
+}
+
+impl Settings {
+    /// `config` alone reads the lines before it; else it is one more line of the text.
+    pub(crate) fn call(
+        &mut self,
+        alloc: Global,
+        line: &[u8],
+        out: &mut Vec<u8>,
+    ) -> Result<(), CaseFault> {
+        match name_at(line, 1) {
+            "" => self.read(alloc, out),
+            "new" => {
+                self.text.clear();
+                end(out, "new")
+            }
+            _ => {
+                put(&mut self.text, line.get(7..).unwrap_or(&[]))?;
+                put(&mut self.text, b"\n")?;
+                end(out, "noted")
+            }
+        }
+    }
+
+    fn read(&mut self, alloc: Global, out: &mut Vec<u8>) -> Result<(), CaseFault> {
+        match read_config(alloc, &self.text) {
+            Ok(config) => {
+                self.config = Some(config);
+                end(out, "read")
+            }
+            Err(ConfigError::Memory) => Err(CaseFault::Memory),
+            Err(_) => Err(CaseFault::Refused),
+        }
+    }
+
+    /// The configuration that was read last.
+    pub(crate) fn config(&self) -> Result<&Config, CaseFault> {
+        match &self.config {
+            Some(config) => Ok(config),
+            None => Err(CaseFault::Closed),
+        }
+    }
+}
+
+/// A frame that was captured, whole or not.
+pub(crate) fn caught(alloc: Global, line: &[u8], place: usize) -> Result<Caught, CaseFault> {
+    let whole = word_at(line, place) != b"cut".as_slice();
+    let bytes = hex(alloc, line, place + 1)?;
+    Ok(Caught { bytes, whole })
+}
+
+/// `rule whole|cut FRAME`: the verdict by the rules on the frame itself, or `none`.
+pub(crate) fn rule_call(
+    alloc: Global,
+    config: &Config,
+    line: &[u8],
+    out: &mut Vec<u8>,
+) -> Result<(), CaseFault> {
+    let caught = caught(alloc, line, 1)?;
+    match frame_rule(config, &hear(&caught)) {
+        Some(cause) => {
+            write_frame_line(alloc, PortNo::at(0), 0, &Verdict::Dropped(cause), out)?;
+            Ok(())
+        }
+        None => end(out, "none"),
+    }
+}
+
+/// `reply notice MAC tagged|untagged`, `reply solicited MAC SIZE`, `reply advertisement`, and
+/// `reply twice`, two advertisements one behind the other. They stand behind a byte 07.
+pub(crate) fn reply_call(
+    alloc: Global,
+    config: &Config,
+    line: &[u8],
+    out: &mut Vec<u8>,
+) -> Result<(), CaseFault> {
+    let mut bytes = Vec::new(alloc);
+    bytes.push(7)?;
+    replied(alloc, config, line, &mut bytes)?;
+    end_hex(out, &bytes)
+}
+
+fn replied(
+    alloc: Global,
+    config: &Config,
+    line: &[u8],
+    bytes: &mut Vec<u8>,
+) -> Result<(), CaseFault> {
+    match name_at(line, 1) {
+        "notice" => {
+            let untagged = name_at(line, 3) == "untagged";
+            write_notice_to(alloc, config, mac(line, 2)?, untagged, bytes)?;
+        }
+        "solicited" => {
+            write_advertisement_to(alloc, config, mac(line, 2)?, short(line, 3)?, bytes)?;
+        }
+        "advertisement" => write_advertisement(alloc, config, bytes)?,
+        "twice" => {
+            write_advertisement(alloc, config, bytes)?;
+            write_advertisement(alloc, config, bytes)?;
+        }
+        _ => return Err(CaseFault::Words),
+    }
+    Ok(())
+}

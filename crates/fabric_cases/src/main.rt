@@ -1,0 +1,36 @@
+//! Cases of the tables and the fabric: one call a line, each answered on the lines behind.
+#![tactic(auto)]
+
+mod cases;
+mod fabric;
+mod frames;
+mod logins;
+mod messages;
+mod pool;
+mod registry;
+mod replay;
+mod roster;
+mod say;
+mod sending;
+mod sent;
+mod text;
+mod voices;
+mod words;
+mod zoning;
+
+use case_lines::{next_line, read_input, write_output};
+use cases::{Cases, answer};
+use std::io;
+
+fn main(rt: HostRuntime) -> io::Result<()> {
+    let text = read_input(&rt)?;
+    let mut cases = Cases::new(rt.alloc());
+    let mut rest: &[u8] = &text;
+    while let Some((line, behind)) = next_line(rest) {
+        let mut out = Vec::new(rt.alloc());
+        answer(rt.alloc(), &mut cases, line, &mut out)?;
+        write_output(&rt, &out)?;
+        rest = behind;
+    }
+    Ok(())
+}

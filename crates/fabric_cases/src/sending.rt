@@ -1,0 +1,172 @@
+//! What is sent where no roster is needed: replies, pieces of an answer, advertisements, clear link
+//! messages.
+ghost use Rattle.std.specs.Prelude.{◌≡◌, ◌≢◌, ◌≤◌, ◌%◌};
+ghost use Rattle.fab_policy.specs.Heard.{What as Decoded};
+ghost use Rattle.fab_policy.specs.declared.verdict.Verdict.TheVariants.{Answered};
+ghost use Rattle.fab_sending.specs.Replies.{IsBody, Suits};
+
+use crate::frames::caught;
+use crate::sent::said_outs;
+use crate::words::{
+    CaseFault, address, code, enode, moment, name, name_at, port, short, small, some_moment,
+};
+use ct_messages::{CtTell, NextPort, TypeMap};
+use fab_base::{Bytes, FcId, Mac, Moment, NoMemory, PortNo, Wwn};
+use fab_config::Config;
+use fab_policy::{Heard, Verdict, What, hear};
+use fab_replies::{Asker, OutList};
+use fab_sending::replies::replies;
+use fab_sending::{advertise, answer, clear};
+use fip_codec::VxPort;
+use std::alloc::Global;
+
+/// `sends CALL ..`: the messages that are sent.
+pub(crate) fn send_call(
+    alloc: Global,
+    config: &Config,
+    line: &[u8],
+    out: &mut Vec<u8>,
+) -> Result<(), CaseFault> {
+    match name_at(line, 1) {
+        "advertisements" => {
+            let ports = small(line, 2)?;
+            if ports > 64 {
+                return Err(CaseFault::Refused);
+            }
+            let last = some_moment(line, 3)?;
+            said_outs(
+                &advertise(alloc, config, ports, last, moment(line, 4)?)?,
+                out,
+            )
+        }
+        "next" => pieces(alloc, line, out),
+        "clear" => cleared(alloc, line, out),
+        "reply" => replied(alloc, line, out),
+        _ => Err(CaseFault::Words),
+    }
+}
+
+// `next ADDRESS PORT-NAME NODE-NAME FABRIC-PORT-NAME SIZE`: an answer to GA_NXT, in frames of a
+// receive size.
+fn pieces(alloc: Global, line: &[u8], out: &mut Vec<u8>) -> Result<(), CaseFault> {
+    let size = short(line, 6)?;
+    if size < 256 || size > 2112 || size % 4 != 0 {
+        return Err(CaseFault::Refused);
+    }
+    let address = address(line, 2)?;
+    let to = Asker {
+        mac: Mac([0; 6]),
+        d_id: address,
+        s_id: address,
+        ox_id: 9,
+    };
+    let next = next_port(
+        alloc,
+        address,
+        name(line, 3)?,
+        name(line, 4)?,
+        name(line, 5)?,
+    );
+    said_outs(
+        &answer(alloc, Moment(5), PortNo::at(0), to, &next, size)?,
+        out,
+    )
+}
+
+fn next_port(
+    alloc: Global,
+    address: FcId,
+    port_name: Wwn,
+    node_name: Wwn,
+    fabric_port: Wwn,
+) -> CtTell {
+    CtTell::Next(NextPort {
+        address,
+        port_name,
+        symbol: Bytes::from_vec(Vec::new(alloc)),
+        node_name,
+        node_symbol: Bytes::from_vec(Vec::new(alloc)),
+        types: TypeMap([0; 8]),
+        fabric_port,
+    })
+}
+
+// `clear PORT MAC COUNT AT`: so many N_Ports of an ENode, from 010100 on.
+fn cleared(alloc: Global, line: &[u8], out: &mut Vec<u8>) -> Result<(), CaseFault> {
+    let enode = enode(line, 2)?;
+    let now = moment(line, 5)?;
+    let mut ports = Vec::new(alloc);
+    counted(small(line, 4)?, &mut ports)?;
+    let mut outs = OutList::empty(alloc);
+    clear(alloc, now, &enode, ports.as_slice(), &mut outs)?;
+    said_outs(&outs, out)
+}
+
+fn counted(count: u32, ports: &mut Vec<VxPort>) -> Result<(), CaseFault> {
+    for number in 0..count {
+        let low = number % 256;
+        let Some(address) = FcId::new(0x010100 + low) else {
+            return Err(CaseFault::Refused);
+        };
+        let mac = Mac([0x0e, 0xfc, 0x00, 0x01, 0x01, low as u8]);
+        let name = Wwn(1);
+        ports.push(VxPort { mac, address, name })?;
+    }
+    Ok(())
+}
+
+// `reply PORT ENTRY AT VERDICT.. whole FRAME`: what a frame's verdict sends back or on.
+fn replied(alloc: Global, line: &[u8], out: &mut Vec<u8>) -> Result<(), CaseFault> {
+    let caught = caught(alloc, line, 7)?;
+    let heard = hear(&caught);
+    let outs = made(alloc, line, &heard)?;
+    said_outs(&outs, out)
+}
+
+fn made(alloc: Global, line: &[u8], heard: &Heard<'_>) -> Result<OutList, CaseFault> {
+    let port = port(line, 2)?;
+    let now = moment(line, 3)?;
+    match name_at(line, 4) {
+        "vlans" => in_fip(alloc, now, port, heard),
+        "forwarded" => {
+            let to = crate::words::port(line, 5)?;
+            to_body(alloc, now, port, heard, Verdict::Forwarded(to))
+        }
+        "ns-logout" => to_body(alloc, now, port, heard, Verdict::NsLogout),
+        "refused" => {
+            let verdict = Verdict::Refused(code(line, 5)?, code(line, 6)?);
+            to_body(alloc, now, port, heard, verdict)
+        }
+        _ => Err(CaseFault::Words),
+    }
+}
+
+// What a VLAN request sends.
+fn in_fip(
+    alloc: Global,
+    now: Moment,
+    port: PortNo,
+    heard: &Heard<'_>,
+) -> Result<OutList, CaseFault> {
+    match &heard.what {
+        What::Fip { .. } => Ok(replies(alloc, now, port, 3, heard, Verdict::Vlans)?),
+        _ => Err(CaseFault::Refused),
+    }
+}
+
+// What a body of FCoE sends, in the entry at place 3.
+fn to_body(
+    alloc: Global,
+    now: Moment,
+    port: PortNo,
+    heard: &Heard<'_>,
+    verdict: Verdict,
+) -> Result<OutList, CaseFault>
+    requires suits { (what : Decoded) → IsBody what → Suits what verdict }
+    requires other { verdict ≢ Answered }
+{
+    match &heard.what {
+        What::Fcoe { read: Ok(_), .. } => Ok(replies(alloc, now, port, 3, heard, verdict)?),
+        _ => Err(CaseFault::Refused),
+    }
+}

@@ -1,0 +1,240 @@
+//! Zones (FC-SW, "zone set"), and whom a state change reaches (FC-LS-2, "SCR" and "RSCN").
+ghost use Rattle.std.specs.Prelude.{◌≡◌, ◌≤◌, length, IsTrue};
+ghost use Rattle.state_change.specs.Watchers as spec;
+
+use crate::say::{end, end_address, end_bool, end_moment, end_number};
+use crate::words::{
+    CaseFault, address, has_word, hexadecimal, moment, name, name_at, octet, small,
+};
+use case_lines::word_at;
+use fab_base::{Bytes, FcId, NoMemory, Wwn};
+use fab_config::{
+    Activation, ActivationList, NameList, PlaceList, SetList, Zone, ZoneList, ZoneSet,
+};
+use state_change::Watchers;
+use std::alloc::Global;
+use zone_rules::Zones;
+
+/// The zones, zone sets and activations so far.
+#[derive(Drop)]
+pub(crate) struct Drawn {
+    zones: ZoneList,
+    sets: SetList,
+    activations: ActivationList,
+}
+
+/// Watchers, with how many there may be, and are at most.
+#[derive(Drop)]
+pub(crate) struct Watched {
+    watchers: Watchers,
+    room: u32,
+    used: u32,
+    ghost roomy: { watchers.room ≡ room },
+    ghost few: { length watchers.watchers ≤ used },
+}
+
+/// Zones as they are drawn, and as they are built.
+#[derive(Drop)]
+pub(crate) struct Zoning {
+    drawn: Drawn,
+    built: Zones,
+}
+
+/// A call of zones.
+pub(crate) fn zone_call(
+    alloc: Global,
+    held: &mut Option<Zoning>,
+    line: &[u8],
+    out: &mut Vec<u8>,
+) -> Result<(), CaseFault> {
+    if name_at(line, 1) == "open" {
+        *held = Some(opened(alloc)?);
+        return end(out, "open");
+    }
+    match held {
+        Some(zoning) => zoning.asked(alloc, line, out),
+        None => Err(CaseFault::Closed),
+    }
+}
+
+fn opened(alloc: Global) -> Result<Zoning, NoMemory> {
+    let drawn = Drawn {
+        zones: ZoneList::empty(alloc),
+        sets: SetList::empty(alloc),
+        activations: ActivationList::empty(alloc),
+    };
+    let built = drawn.built(alloc)?;
+    Ok(Zoning { drawn, built })
+}
+
+impl Drawn {
+    fn built(&self, alloc: Global) -> Result<Zones, NoMemory> {
+        Zones::build(alloc, &self.zones, &self.sets, &self.activations)
+    }
+}
+
+impl Zoning {
+    fn asked(&mut self, alloc: Global, line: &[u8], out: &mut Vec<u8>) -> Result<(), CaseFault> {
+        match name_at(line, 1) {
+            "zone" => self.drawn.zones.push(alloc, zone(alloc, line)?)?,
+            "set" => self.drawn.sets.push(alloc, set(alloc, line)?)?,
+            "activation" => self.drawn.activations.push(alloc, activation(line)?)?,
+            "build" => self.built = self.drawn.built(alloc)?,
+            _ => return self.found(line, out),
+        }
+        end(out, "drawn")
+    }
+
+    // `joined AT NAME NAME`, `next AFTER`.
+    fn found(&self, line: &[u8], out: &mut Vec<u8>) -> Result<(), CaseFault> {
+        match name_at(line, 1) {
+            "joined" => end_bool(
+                out,
+                self.built
+                    .joined(moment(line, 2)?, name(line, 3)?, name(line, 4)?),
+            ),
+            "next" => end_moment(out, self.built.next_change(moment(line, 2)?)),
+            _ => Err(CaseFault::Words),
+        }
+    }
+}
+
+// `zone NAME MEMBER..`.
+fn zone(alloc: Global, line: &[u8]) -> Result<Zone, CaseFault> {
+    let members = members(alloc, line)?;
+    let name = Bytes::copy(alloc, word_at(line, 2))?;
+    Ok(Zone { name, members })
+}
+
+fn members(alloc: Global, line: &[u8]) -> Result<NameList, CaseFault> {
+    let mut members = NameList::new(alloc)?;
+    for place in 3..1000 {
+        if !has_word(line, place) {
+            break;
+        }
+        members.push(alloc, name(line, place)?)?;
+    }
+    Ok(members)
+}
+
+// `set NAME PLACE..`.
+fn set(alloc: Global, line: &[u8]) -> Result<ZoneSet, CaseFault> {
+    let places = places(alloc, line)?;
+    let name = Bytes::copy(alloc, word_at(line, 2))?;
+    Ok(ZoneSet { name, places })
+}
+
+fn places(alloc: Global, line: &[u8]) -> Result<PlaceList, CaseFault> {
+    let mut places = PlaceList::new(alloc)?;
+    for place in 3..1000 {
+        if !has_word(line, place) {
+            break;
+        }
+        places.push(alloc, small(line, place)?)?;
+    }
+    Ok(places)
+}
+
+// `activation PLACE AT`.
+fn activation(line: &[u8]) -> Result<Activation, CaseFault> {
+    Ok(Activation {
+        set: small(line, 2)?,
+        moment: moment(line, 3)?,
+    })
+}
+
+/// A call of watchers, over these zones.
+pub(crate) fn watcher_call(
+    alloc: Global,
+    held: &mut Option<Watched>,
+    zoning: &Option<Zoning>,
+    line: &[u8],
+    out: &mut Vec<u8>,
+) -> Result<(), CaseFault> {
+    if name_at(line, 1) == "open" {
+        *held = Some(watchers_opened(alloc, small(line, 2)?)?);
+        return end(out, "open");
+    }
+    match held {
+        Some(watched) => watched.asked(zoning, line, out),
+        None => Err(CaseFault::Closed),
+    }
+}
+
+fn watchers_opened(alloc: Global, room: u32) -> Result<Watched, NoMemory> {
+    let watchers = Watchers::new(alloc, room)?;
+    let used = 0;
+    Ok(Watched {
+        watchers,
+        room,
+        used,
+    })
+}
+
+impl Watched {
+    fn asked(
+        &mut self,
+        zoning: &Option<Zoning>,
+        line: &[u8],
+        out: &mut Vec<u8>,
+    ) -> Result<(), CaseFault> {
+        match name_at(line, 1) {
+            "set" => {
+                self.set(address(line, 2)?, name(line, 3)?, octet(line, 4)?)?;
+                end(out, "set")
+            }
+            "forget" => end_bool(out, self.watchers.forget(address(line, 2)?)),
+            "function" => end_number(out, u64::from(self.watchers.function_of(address(line, 2)?))),
+            _ => match zoning {
+                Some(zoning) => told(&self.watchers, &zoning.built, line, out),
+                None => Err(CaseFault::Closed),
+            },
+        }
+    }
+
+    fn set(&mut self, address: FcId, name: Wwn, function: u8) -> Result<(), CaseFault> {
+        if !is_function(function) || self.used >= self.room {
+            return Err(CaseFault::Refused);
+        }
+        self.watchers.set(address, name, function);
+        self.used += 1;
+        Ok(())
+    }
+}
+
+pub(crate) fn is_function(function: u8) -> bool
+    ensures { result ≡ spec.is_function function }
+{
+    function == 1 || function == 2 || function == 3 || function == 255
+}
+
+// `told AT AFFECTED FROM`, `changed BEFORE AT AFFECTED FROM`: the first watcher from an address on.
+fn told(
+    watchers: &Watchers,
+    zones: &Zones,
+    line: &[u8],
+    out: &mut Vec<u8>,
+) -> Result<(), CaseFault> {
+    match name_at(line, 1) {
+        "told" => end_address(
+            out,
+            watchers.next_recipient(
+                zones,
+                moment(line, 2)?,
+                name(line, 3)?,
+                hexadecimal(line, 4)?,
+            ),
+        ),
+        "changed" => end_address(
+            out,
+            watchers.next_changed(
+                zones,
+                moment(line, 2)?,
+                moment(line, 3)?,
+                name(line, 4)?,
+                hexadecimal(line, 5)?,
+            ),
+        ),
+        _ => Err(CaseFault::Words),
+    }
+}
