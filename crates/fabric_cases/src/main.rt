@@ -20,17 +20,27 @@ mod zoning;
 
 use case_lines::{next_line, read_input, write_output};
 use cases::{Cases, answer};
+use std::alloc::AllocGlobal;
 use std::io;
 
 fn main(rt: HostRuntime) -> io::Result<()> {
     let text = read_input(&rt)?;
     let mut cases = Cases::new(rt.alloc());
-    let mut rest: &[u8] = &text;
+    answer_all(&rt, &mut cases, &text)
+}
+
+// Answers each line of a text.
+fn answer_all<R: Print + AllocGlobal>(rt: &R, cases: &mut Cases, text: &[u8]) -> io::Result<()> {
+    let mut rest = text;
     while let Some((line, behind)) = next_line(rest) {
-        let mut out = Vec::new(rt.alloc());
-        answer(rt.alloc(), &mut cases, line, &mut out)?;
-        write_output(&rt, &out)?;
+        answer_line(rt, cases, line)?;
         rest = behind;
     }
     Ok(())
+}
+
+fn answer_line<R: Print + AllocGlobal>(rt: &R, cases: &mut Cases, line: &[u8]) -> io::Result<()> {
+    let mut out = Vec::new(rt.alloc());
+    answer(rt.alloc(), cases, line, &mut out)?;
+    write_output(rt, &out)
 }
