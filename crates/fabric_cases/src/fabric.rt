@@ -101,17 +101,17 @@ fn until(
     now: Moment,
     out: &mut Vec<u8>,
 ) -> Result<(), CaseFault> {
-    let mut ticks = 0;
+    let mut ticks: u64 = 0;
     for _ in 0..1000 {
         match fabric.due() {
             Some(due) if due <= now => tick(alloc, fabric, due)?,
             _ => break,
         };
-        ticks += 1;
+        ticks = u64::saturating_add(ticks, 1);
     }
     if fabric.clock() != Some(now) {
         tick(alloc, fabric, now)?;
-        ticks += 1;
+        ticks = u64::saturating_add(ticks, 1);
     }
     say(out, "ticks")?;
     end_number(out, ticks)

@@ -1,5 +1,7 @@
 //! What is read of a frame and sent in answer to it by the configuration alone (FC-BB-5, "FIP VLAN
 //! discovery", "FIP discovery").
+ghost use Rattle.std.specs.Prelude.{◌<◌};
+
 use crate::say::{end, end_hex};
 use crate::words::{CaseFault, hex, mac, name_at, short};
 use case_lines::{put, word_at};
@@ -61,7 +63,9 @@ impl Settings {
 }
 
 /// A frame that was captured, whole or not.
-pub(crate) fn caught(alloc: Global, line: &[u8], place: usize) -> Result<Caught, CaseFault> {
+pub(crate) fn caught(alloc: Global, line: &[u8], place: usize) -> Result<Caught, CaseFault>
+    requires { place < 1000 }
+{
     let whole = word_at(line, place) != b"cut".as_slice();
     let bytes = hex(alloc, line, place + 1)?;
     Ok(Caught { bytes, whole })

@@ -32,7 +32,7 @@ fn main(rt: HostRuntime) -> io::Result<()> {
 // Answers each line of a text.
 fn answer_all<R: Print + AllocGlobal>(rt: &R, cases: &mut Cases, text: &[u8]) -> io::Result<()> {
     let mut rest = text;
-    while let Some((line, behind)) = next_line(rest) {
+    'lines: while let Some((line, behind)) = next_line(rest) {
         answer_line(rt, cases, line)?;
         rest = behind;
     }

@@ -1,6 +1,6 @@
 //! Each kind of message that a forwarder sends, byte by byte (FC-BB-5 "FIP messages", FC-LS-2,
 //! FC-GS-6).
-ghost use Rattle.std.specs.Prelude.{◌≡◌, ◌≤◌, ◌%◌, length, IsTrue, [], IfOk, Some};
+ghost use Rattle.std.specs.Prelude.{◌≡◌, ◌<◌, IsTrue, [], IfOk, Some};
 ghost use Rattle.fab_replies.specs.Message.{can_send, frame_at};
 
 use crate::frames::caught;
@@ -87,7 +87,9 @@ fn reply(line: &[u8]) -> Result<OutMessage, CaseFault>
 }
 
 // A MAC, D_ID, S_ID and OX_ID.
-fn asker(line: &[u8], place: usize) -> Result<Asker, CaseFault> {
+fn asker(line: &[u8], place: usize) -> Result<Asker, CaseFault>
+    requires { place < 1000 }
+{
     let mac = mac(line, place)?;
     let d_id = address(line, place + 1)?;
     let s_id = address(line, place + 2)?;
@@ -118,7 +120,9 @@ fn kind(line: &[u8], place: usize) -> Result<LoginKind, CaseFault> {
 }
 
 // `accept`, `server-login` or `reject REASON EXPLANATION`.
-fn answer(line: &[u8], place: usize) -> Result<Answer, CaseFault> {
+fn answer(line: &[u8], place: usize) -> Result<Answer, CaseFault>
+    requires { place < 1000 }
+{
     match name_at(line, place) {
         "accept" => Ok(Answer::Accept),
         "server-login" => Ok(Answer::ServerLogin),

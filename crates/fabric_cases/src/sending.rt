@@ -1,6 +1,8 @@
 //! What is sent where no roster is needed: replies, pieces of an answer, advertisements, clear link
 //! messages.
-ghost use Rattle.std.specs.Prelude.{◌≡◌, ◌≢◌, ◌≤◌, ◌%◌};
+ghost use Rattle.std.specs.Prelude.{◌≢◌, ◌≤◌, ◌^◌};
+ghost use Rattle.ct_messages.specs.CanWrite.{CanTell};
+ghost use Rattle.ct_messages.specs.Answer.{size_of};
 ghost use Rattle.fab_policy.specs.Heard.{What as Decoded};
 ghost use Rattle.fab_policy.specs.declared.verdict.Verdict.TheVariants.{Answered};
 ghost use Rattle.fab_sending.specs.Replies.{IsBody, Suits};
@@ -79,7 +81,10 @@ fn next_port(
     port_name: Wwn,
     node_name: Wwn,
     fabric_port: Wwn,
-) -> CtTell {
+) -> CtTell
+    ensures writable { CanTell result }
+    ensures short { size_of result ≤ 2 ^ 20 }
+{
     CtTell::Next(NextPort {
         address,
         port_name,

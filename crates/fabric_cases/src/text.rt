@@ -1,11 +1,12 @@
 //! Lines of journals, read and written.
-ghost use Rattle.std.specs.Prelude.{◌≡◌};
-ghost use Rattle.fab_policy.specs.Spelling.{Spells};
+ghost use Rattle.std.specs.Prelude.{ℕ};
+ghost use Rattle.fab_policy.specs.Spelling.{IsRangedLine, IsClockOf, EndsAscend};
+ghost use Rattle.fab_policy.specs.declared.line.Format.TheVariants.{One};
 
 use crate::say::say_number;
 use crate::words::{CaseFault, moment};
 use case_lines::{put, put_line};
-use fab_base::{Bytes, Caught, FcId, Moment};
+use fab_base::{Bytes, Caught, Moment, PortNo};
 use fab_policy::{
     Event, Format, Line, LineError, Verdict, read_line, write_frame_line, write_head_line,
     write_line, write_line1, write_tick_line,
@@ -111,35 +112,45 @@ fn said_fault(alloc: Global, fault: LineError, out: &mut Vec<u8>) -> Result<(), 
     }
 }
 
-// An entry in the second format.
-fn clocked(alloc: Global, clock: Moment, line: Line, out: &mut Vec<u8>) -> Result<(), CaseFault> {
-    let now = match &line {
-        Line::Tick { moment, .. } => *moment,
-        Line::Frame { .. } => clock,
-    };
-    let event = entry(alloc, line);
-    write_line1(alloc, &event, out)?;
-    write_line(alloc, now, &event, out)?;
-    Ok(())
-}
-
-// The entry of a line, whose frame isn't told.
-fn entry(alloc: Global, line: Line) -> Event {
+// An entry of a line in both formats.
+fn clocked(alloc: Global, clock: Moment, line: Line, out: &mut Vec<u8>) -> Result<(), CaseFault>
+    requires { IsRangedLine One line }
+{
     match line {
-        Line::Tick { moment, ended } => Event::Tick { moment, ended },
+        Line::Tick { moment, ended } => {
+            let event = Event::Tick { moment, ended };
+            in_both(alloc, moment, &event, out)
+        }
         Line::Frame {
             port,
             index,
             verdict,
             ..
-        } => Event::Frame {
-            port,
-            index,
-            caught: Caught {
-                bytes: Bytes::from_vec(Vec::new(alloc)),
-                whole: true,
-            },
-            verdict,
+        } => in_both(alloc, clock, &framed(alloc, port, index, verdict), out),
+    }
+}
+
+fn in_both(alloc: Global, clock: Moment, event: &Event, out: &mut Vec<u8>) -> Result<(), CaseFault>
+    requires clock { IsClockOf clock event.now }
+    requires ascending { EndsAscend event.now }
+{
+    write_line1(alloc, event, out)?;
+    write_line(alloc, clock, event, out)?;
+    Ok(())
+}
+
+// The entry of a frame, which isn't told.
+fn framed(alloc: Global, port: PortNo, index: u64, verdict: Verdict) -> Event
+    ensures clock { (t : ℕ) → IsClockOf t result }
+    ensures ascending { EndsAscend result }
+{
+    Event::Frame {
+        port,
+        index,
+        caught: Caught {
+            bytes: Bytes::from_vec(Vec::new(alloc)),
+            whole: true,
         },
+        verdict,
     }
 }

@@ -1,9 +1,8 @@
 //! Who was heard when, and who is silent too long (FC-BB-5, "FIP keep alive").
 ghost use Rattle.std.specs.Prelude.{◌≡◌, ◌<◌, ◌≤◌, length};
 
-use crate::say::{end, end_bool, end_moment, say, say_enode};
+use crate::say::{end, end_bool, end_moment, say, say_address, say_enode};
 use crate::words::{CaseFault, address, enode, moment, name_at, small};
-use case_lines::put_address;
 use fab_base::{Moment, NoMemory};
 use keepalive_clock::{KeepClock, Steps, Voice};
 use std::alloc::Global;
@@ -96,7 +95,9 @@ fn popped<L: Ledger>(clock: &mut KeepClock, now: Moment, blank: Blank) -> Option
 }
 
 // `node PORT MAC` or `port ADDRESS`.
-fn voice(line: &[u8], place: usize) -> Result<Voice, CaseFault> {
+fn voice(line: &[u8], place: usize) -> Result<Voice, CaseFault>
+    requires { place < 900 }
+{
     match name_at(line, place) {
         "node" => Ok(Voice::Node(enode(line, place + 1)?)),
         "port" => Ok(Voice::Port(address(line, place + 1)?)),
@@ -106,16 +107,21 @@ fn voice(line: &[u8], place: usize) -> Result<Voice, CaseFault> {
 
 fn said(out: &mut Vec<u8>, voice: Option<Voice>) -> Result<(), CaseFault> {
     match voice {
-        Some(Voice::Node(enode)) => {
-            say(out, "node")?;
-            say_enode(out, &enode)?;
-            end(out, "is silent")
-        }
-        Some(Voice::Port(address)) => {
-            say(out, "port")?;
-            put_address(out, &address)?;
-            end(out, " is silent")
-        }
+        Some(voice) => said_voice(out, &voice),
         None => end(out, "none"),
     }
+}
+
+fn said_voice(out: &mut Vec<u8>, voice: &Voice) -> Result<(), CaseFault> {
+    match voice {
+        Voice::Node(enode) => {
+            say(out, "node")?;
+            say_enode(out, enode)?;
+        }
+        Voice::Port(address) => {
+            say(out, "port")?;
+            say_address(out, *address)?;
+        }
+    }
+    end(out, "is silent")
 }

@@ -1,4 +1,6 @@
 //! The words of a case's line, read as the field's values.
+ghost use Rattle.std.specs.Prelude.{◌<◌};
+
 use case_lines::{bytes_of, number_of, word_at};
 use fab_base::{Bytes, Enode, FcId, Mac, Moment, NoMemory, PortNo, Wwn};
 use fab_config::{read_mac, read_name};
@@ -124,7 +126,9 @@ pub(crate) fn name(line: &[u8], place: usize) -> Result<Wwn, CaseFault> {
 }
 
 /// A port and a MAC.
-pub(crate) fn enode(line: &[u8], place: usize) -> Result<Enode, CaseFault> {
+pub(crate) fn enode(line: &[u8], place: usize) -> Result<Enode, CaseFault>
+    requires { place < 1000 }
+{
     let port = port(line, place)?;
     let mac = mac(line, place + 1)?;
     Ok(Enode { port, mac })
