@@ -24,9 +24,17 @@ use std::alloc::AllocGlobal;
 use std::io;
 
 fn main(rt: HostRuntime) -> io::Result<()> {
-    let text = read_input(&rt)?;
+    run(&rt)
+}
+
+fn run<R: Input + Print + AllocGlobal>(rt: &R) -> io::Result<()> {
+    let text = read_input(rt)?;
+    answer_text(rt, &text)
+}
+
+fn answer_text<R: Print + AllocGlobal>(rt: &R, text: &[u8]) -> io::Result<()> {
     let mut cases = Cases::new(rt.alloc());
-    answer_all(&rt, &mut cases, &text)
+    answer_all(rt, &mut cases, text)
 }
 
 // Answers each line of a text.
