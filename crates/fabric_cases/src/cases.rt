@@ -18,11 +18,10 @@ use fc_addresses::Pool;
 use forward_core::Fabric;
 use name_server::Registry;
 use std::alloc::{AllocError, Global};
-use std::marker::Model;
 
-/// One table of each kind and one forwarder, where they were opened.
+/// One table of each kind, where it was opened.
 #[derive(Drop)]
-pub(crate) struct Cases {
+pub(crate) struct Tables {
     settings: Settings,
     pool: Option<Pool>,
     logins: Option<Logins>,
@@ -30,23 +29,12 @@ pub(crate) struct Cases {
     registry: Option<Registry>,
     zoning: Option<Zoning>,
     watched: Option<Watched>,
-    roll: Option<Roll>,
-    fabric: Option<Fabric>,
-    lines: u64,
 }
 
-impl Model for Cases {
-    ghost use Rattle.std.specs.Prelude.{ℕ};
-
-    ghost Value = { ℕ };
-
-    ghost view = { λ c. c.lines };
-}
-
-impl Cases {
+impl Tables {
     /// Nothing is open.
-    pub(crate) fn new(alloc: Global) -> Cases {
-        Cases {
+    pub(crate) fn new(alloc: Global) -> Tables {
+        Tables {
             settings: Settings {
                 text: Vec::new(alloc),
                 config: None,
@@ -57,9 +45,6 @@ impl Cases {
             registry: None,
             zoning: None,
             watched: None,
-            roll: None,
-            fabric: None,
-            lines: 0,
         }
     }
 
@@ -72,8 +57,6 @@ impl Cases {
             "registry" => registry_call(alloc, &mut self.registry, line, out),
             "zones" => zone_call(alloc, &mut self.zoning, line, out),
             "watchers" => watcher_call(alloc, &mut self.watched, &self.zoning, line, out),
-            "roster" => roster_call(alloc, &mut self.roll, &self.settings.text, line, out),
-            "fabric" => fabric_call(alloc, &mut self.fabric, &self.settings.text, line, out),
             _ => self.by_settings(alloc, line, out),
         }
     }
@@ -108,14 +91,21 @@ fn plain_call(alloc: Global, line: &[u8], out: &mut Vec<u8>) -> Result<(), CaseF
 /// Appends the answer of a line; of a remark itself.
 pub(crate) fn answer(
     alloc: Global,
-    cases: &mut Cases,
+    tables: &mut Tables,
+    roll: &mut Option<Roll>,
+    fabric: &mut Option<Fabric>,
     line: &[u8],
     out: &mut Vec<u8>,
 ) -> Result<(), AllocError> {
     if is_remark(line) {
         return put_line(out, line);
     }
-    match cases.call(alloc, line, out) {
+    let answered = match name_at(line, 0) {
+        "roster" => roster_call(alloc, roll, &tables.settings.text, line, out),
+        "fabric" => fabric_call(alloc, fabric, &tables.settings.text, line, out),
+        _ => tables.call(alloc, line, out),
+    };
+    match answered {
         Ok(()) => Ok(()),
         Err(fault) => put_line(out, text_of(fault)),
     }
