@@ -7,9 +7,10 @@ use std::process::Abort;
 use std::sync::Wait;
 use std::sync::atomic::{AtomicU64, Ordering};
 use std::test::Fail;
+use std::thread;
 use std::thread::Threads;
 
-// For how many turns a worker waits at most.
+// How often a worker looks and yields at most: seconds, or more where others have the processors.
 const TURNS: u64 = 10_000_000;
 
 // What has happened, a bit for each port and index, and whether somebody waited in vain.
@@ -46,6 +47,7 @@ impl Board {
             if self.bits.load(Ordering::SeqCst) & bit != 0 {
                 return;
             }
+            thread::yield_now();
         }
         self.late.store(1, Ordering::SeqCst);
     }
