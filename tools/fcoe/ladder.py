@@ -145,18 +145,23 @@ def heads(look: Look, order: list[Optional[Node]], place: dict[Optional[Node], i
     names: dict[Node, str] = {}
     for login in look.walk.fabric.logins:
         names.setdefault((login.port, login.enode), login.name.hex(":"))
+    yield from titles(order, place, height, "forwarder", names)
+
+
+def titles(order: list[Optional[Node]], place: dict[Optional[Node], int], height: int, middle: str, names: dict[Node, str]) -> Iterator[str]:
+    """A line for each ENode and one for the middle, with their names."""
     for node in order:
-        x, title = place[node], "forwarder" if node is None else f"port {node[0]} · {node[1].hex(':')}"
+        x, title = place[node], middle if node is None else f"port {node[0]} · {node[1].hex(':')}"
         yield f'<line x1="{x}" y1="{TOP - 24}" x2="{x}" y2="{height - ROW}" stroke="#9a9996" stroke-width="{3 if node is None else 1.5}"/>'
         yield f'<text x="{x}" y="{TOP - 48}" text-anchor="middle" font-weight="bold">{escape(title)}</text>'
         if node in names and node is not None:
             yield f'<text x="{x}" y="{TOP - 32}" text-anchor="middle" fill="#5e5c64" font-size="11">{names[node]}</text>'
 
 
-def legend(width: int, said: str) -> Iterator[str]:
+def legend(width: int, said: str, words: tuple[tuple[str, str, str], ...] = LEGEND) -> Iterator[str]:
     """What the colours mean, and what isn't drawn."""
     x, y = 10, 22
-    for word, text, dash in LEGEND:
+    for word, text, dash in words:
         size = 44 + 7 * len(text)
         if x + size > width and x > 10:
             x, y = 10, y + 18
@@ -230,7 +235,7 @@ def ended(tick: Tick, y: int, place: dict[Optional[Node], int], width: int) -> I
 
 def drawn(row: Arrow, y: int, place: dict[Optional[Node], int]) -> Iterator[str]:
     word = row.why.split(" ")[0]
-    colour = COLOURS.get(word, COLOURS["taken"]) if row.inward else COLOURS["sent"]
+    colour = COLOURS.get(word, COLOURS["taken"]) if row.inward or word else COLOURS["sent"]
     ends = (place[row.node], place[None]) if row.inward else (place[None], place[row.node])
     times = f" ×{row.count}" if row.count > 1 else ""
     text = escape(f"{row.text}{times}" + (f" · {row.why}" if row.why else ""))
