@@ -31,8 +31,12 @@ def bridged(book: Book, made: Worked, **more: Union[str, bytes]) -> None:
 
 def bridges(book: Book) -> None:
     book.title("snoop: which way frames go (FC-BB-5, FIP snooping bridges)")
-    for texts, line in ((("plain", LOGGED_IN), "passed 3 dropped 1"), (("plain", LOGGED_IN, CLEARED), "passed 4 dropped 2")):
-        book.case("data_goes_by_logins", "the forwarder's side gets what the node sends, the node all that the forwarder sends, the other port nothing")
+    rows_of_logins = (
+        ("bridge_binds_at_the_answer", ("plain", LOGGED_IN), "passed 3 dropped 1"),
+        ("bridge_forgets_at_clear", ("plain", LOGGED_IN, CLEARED), "passed 4 dropped 2"),
+    )
+    for name, texts, line in rows_of_logins:
+        book.case(name, "the forwarder's side gets what the node sends, the node all that the forwarder sends, the other port nothing")
         made = worked(*texts)
         bridged(book, made)
         book.run(SNOOP, f"{line}\n", 0)
@@ -84,13 +88,13 @@ def stands(book: Book, one: Union[str, bytes], line: str, status: int, output: O
 
 def nodes(book: Book) -> None:
     book.title("enode: where a node stands (FC-BB-5, ENode)")
-    book.case("a_node_without_and_with_answers", "without an answer it asks once")
+    book.case("node_without_answers", "it asks once")
     stands(book, "head", "asking", 0, REQUEST)
-    book.case("a_node_without_and_with_answers", "with them it is up; its solicitation has zeros behind it")
+    book.case("node_logs_in", "with answers it is up; its solicitation has zeros behind it")
     answers = worked("< 1100 1 vlans 0a\n< 1200 1 solicited 0a\n< 1300 1 accept 0a 00\n").left(1)
     sent = REQUEST + record(1, 100_000, named("solicitation", 0x0A) + bytes(8)) + record(1, 200_000, named("flogi", 0x0A))
     stands(book, answers, "up 010100 0efc00010100", 0, sent)
-    book.case("a_node_without_and_with_answers", "what it sent itself is no answer")
+    book.case("node_without_answers", "what it sent itself is no answer")
     stands(book, HEAD + sent[100:], "asking", 0, REQUEST)
     rows: list[tuple[Union[str, bytes], str, int]] = [(HEAD + record(21_601, 1000, ASKED), "limit span 21600000", 6)]
     rows += [("request-99", "capture 1 24 cut", 1), ("request-23", "capture 1 0 short", 1)]
