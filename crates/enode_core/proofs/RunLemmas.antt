@@ -1,12 +1,12 @@
 -- A run over records is one, and what it hears are those records from the start on.
-use Rattle.std.proofs.Common.{◌≡◌, ℕ, ◌+◌, ◌<◌, ◌≤◌, Bool, true, false, cond, List, [], ◌∷◌, ◌++◌, filter, nat_le, ◌⊎◌, inl, inr, refl, sym, ap, subst, ◌∙◌, arith}
+use Rattle.std.proofs.Common.{◌≡◌, ℕ, ◌<◌, ◌≤◌, Bool, true, false, cond, List, [], ◌∷◌, ◌++◌, nat_le, refl, sym, ap, subst, ◌∙◌, arith}
 use Rattle.fab_config.specs.Settings.{Settings}
 use Rattle.fab_policy.specs.Journal.{Journal}
 use Rattle.pcap_file.specs.declared.Record.{Record}
 use Rattle.enode_core.specs.declared.node.Identity.{Identity}
 use Rattle.enode_core.specs.declared.node.State.{State}
 use Rattle.enode_core.specs.Machine.{due, timer, frame, begun}
-use Rattle.enode_core.specs.Runs.{Input, Timer, Heard, Plays, heard, from, IsRun, turn, after, sent, sendings, moment_of, Sending, all_sent}
+use Rattle.enode_core.specs.Runs.{Input, Timer, Heard, Plays, heard, from, all_sent}
 use Rattle.enode_core.specs.Laws.{AreOutputs, AreFrom}
 use Rattle.enode_core.specs.RunLaws.{RunsAreOne, RunsAreGranted}
 use Rattle.enode_core.proofs.Granted.{up_is_granted}

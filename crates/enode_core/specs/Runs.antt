@@ -1,5 +1,5 @@
 -- The run of a node over the frames that its port receives.
-use Rattle.std.specs.Prelude.{◌≡◌, ℕ, ◌+◌, ◌<◌, ◌≤◌, Bool, nat_le, nat_lt, ◌⊎◌, List, [], ◌∷◌, ◌++◌, filter, map, flat_map}
+use Rattle.std.specs.Prelude.{◌≡◌, ℕ, ◌+◌, ◌<◌, ◌≤◌, Bool, nat_le, nat_lt, List, [], ◌∷◌, ◌++◌, filter, map, flat_map}
 use Rattle.std.specs.List.{list_any}
 use Rattle.pcap_file.specs.Capture.{head_bytes, record_bytes}
 use Rattle.pcap_file.specs.declared.Record.{Record}

@@ -1,9 +1,8 @@
 -- What is taken of files are their captures.
-use Rattle.std.proofs.Common.{◌≡◌, ℕ, zero, suc, ◌+◌, ◌<◌, ◌≤◌, Bool, true, false, cond, nat_lt, List, [], ◌∷◌, length, length-drop, drop, Option, Some, None, Ok, Err, refl, sym, ◌∙◌, ap, subst, arith}
+use Rattle.std.proofs.Common.{◌≡◌, ℕ, zero, suc, ◌+◌, ◌<◌, Bool, true, false, cond, nat_lt, List, [], ◌∷◌, length, length-drop, drop, Some, None, Ok, Err, refl, subst, arith}
 use Rattle.std.specs.Prelude.{Result}
 use Rattle.fab_base.specs.declared.values.Caught.{Caught}
 use Rattle.pcap_file.specs.declared.Budget.{Budget}
-use Rattle.pcap_file.specs.declared.CapError.{CapError}
 use Rattle.pcap_file.specs.declared.CapFault.{CapFault}
 use Rattle.pcap_file.specs.declared.CaptureHead.{CaptureHead}
 use Rattle.pcap_file.specs.declared.Record.{Record}

@@ -1,4 +1,4 @@
-use Rattle.enode_run.proofs.FileLemmas.{read, refused}
+use Rattle.enode_run.proofs.FileLemmas.{read}
 use Rattle.enode_run.proofs.input.read_input.Goals as goal
 
 pub returns-in-Ok-read_capture : goal.returns-in-Ok-read_capture
