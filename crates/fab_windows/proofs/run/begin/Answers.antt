@@ -87,7 +87,7 @@ returns-clause-begins g c = λ s.
     let pieces = items_in c.in_ok-pages.pages.records.items in
     begun c.laws_of_runs.ensures k c.requires.given pieces c.in_ok-pages.ensures.records (seen c.flush.new.depot)
     (subst (λ l. Writes c.args.journal c.args.outs.now l pieces (seen c.args.depot.now) (seen c.flush.new.depot) (Ok tt)) c.in_ok-pages.ensures.lines c.in_ok-flush.ensures.writes)
-    (seen c.first_looks.new.depot) c.first_looks.new.ins c.first_looks.new.budget c.in_ok-shelves.shelves c.requires.ports c.requires.outputs c.bytes_left.ensures (c.in_ok-shelves.ensures.looks s)
+    (seen c.first_looks.new.depot) c.first_looks.new.ins c.first_looks.new.budget c.in_ok-shelves.shelves c.requires.ports c.requires.outputs c.bytes_left-few.ensures (c.in_ok-shelves.ensures.looks s)
 
 pub returns-clause-pages : goal.returns-clause-pages
 returns-clause-pages g c = c.in_ok-flush.ensures.count ∙ c.in_ok-pages.ensures.count
