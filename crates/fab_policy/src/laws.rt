@@ -8,6 +8,7 @@ ghost use Rattle.fab_policy.specs.Carried.{SourcesAreRead, LoginsAreCarried, Bod
 ghost use Rattle.fab_policy.specs.Carried.{ParmsAreAsked, AnswersAreAsked};
 ghost use Rattle.fab_policy.specs.Due.{DueIsOne, NextTickIsLesser};
 ghost use Rattle.fab_policy.specs.Forwarding.{ForwardsExactly, LegalForwards};
+ghost use Rattle.fab_policy.specs.Live.{LegalNamesTheLive};
 ghost use Rattle.fab_policy.specs.Laws.{RequestsAreAnswered, SolicitationsAreAnswered};
 ghost use Rattle.fab_policy.specs.Right.{RightIsOne};
 ghost use Rattle.fab_policy.specs.Written.{TablesAscend, LegalIsQuiet, LegalIsSound};
@@ -112,7 +113,9 @@ pub fn verdicts_are_one()
 /// The live addresses of each journal ascend, and their granted MACs differ. After each legal
 /// journal the names of live N_Ports differ too, there are at most as many as the limit, and nobody
 /// is overdue at the clock. An address is granted only where nobody holds it, or where it is given
-/// back to its ENode.
+/// back to its ENode. Whom a forwarder names in what it sends is logged in: who asks the name server
+/// and whom the answer is about, both ends of a frame that goes on, and who is told of a state
+/// change and of whom, but for those whose login the entry ends.
 pub fn legal_journals()
     ensures ascend { TablesAscend }
     ensures quiet { LegalIsQuiet }
@@ -120,4 +123,5 @@ pub fn legal_journals()
     ensures addresses { MacsTellAddresses }
     ensures macs { LiveMacsDiffer }
     ensures grants { GrantsAreFree }
+    ensures named { LegalNamesTheLive }
 {}
