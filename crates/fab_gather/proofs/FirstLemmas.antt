@@ -4,7 +4,7 @@ use Rattle.std.specs.Prelude.{nat_lt, ◌==◌, Result, option_to_list, Vec}
 use Rattle.std.specs.declared.alloc.Global.{Global}
 use Rattle.std.proofs.lemmas.Bool.{lt-ltb}
 use Rattle.std.proofs.lemmas.Option.{slice_get_within, slice_get-get_or}
-use Rattle.fab_base.specs.Seen.{Seen, Touches, Nothing}
+use Rattle.fab_base.specs.Seen.{Seen, Reads, Touches, Nothing}
 use Rattle.fab_base.proofs.SeenLemmas.{touches_refl}
 use Rattle.fab_config.specs.Settings.{Settings}
 use Rattle.fab_policy.specs.Keeping.{IsFrom}
@@ -12,7 +12,7 @@ use Rattle.fab_policy.specs.Legal.{window_start}
 use Rattle.fab_policy.specs.Looks.{Opened, Look, found_at, is_found, behind, looks, looks_of, first_spot, window_before, comes_before, in_order, first_window, stop_in, Stop, stop, LooksFound, LooksEnd}
 use Rattle.pcap_file.specs.Capture.{Next, Found, End, CutHead, TooLong, CutBytes}
 use Rattle.pcap_file.specs.Reading.{Reading, to_come}
-use Rattle.pcap_file.specs.Records.{Chain}
+use Rattle.pcap_file.specs.Records.{Chain, last_moment}
 use Rattle.pcap_file.specs.declared.Budget.{Budget}
 use Rattle.pcap_file.specs.declared.Record.{Record}
 use Rattle.pcap_file.proofs.lemmas.Numbers.{le_or_lt}
@@ -20,11 +20,12 @@ use Rattle.fab_gather.specs.declared.shelf.Input.{Input}
 use Rattle.fab_gather.specs.declared.shelf.Shelf.{Shelf}
 use Rattle.fab_gather.specs.declared.fault.RunFault.{RunFault}
 use Rattle.fab_gather.specs.declared.fault.RunFault.TheVariants as fault
-use Rattle.fab_gather.specs.First.{IsFresh, AreFresh, opened_by, opened_in, first_look, Looked, StopsFirst, LooksOnce, LooksFirst}
-use Rattle.fab_gather.specs.Port.{IsReady, Spends, to_look, ending}
-use Rattle.fab_gather.specs.Ports.{AreInputs, At, slots_of, NameIn, rests, joined, counts_of}
+use Rattle.fab_gather.specs.First.{IsFresh, AreFresh, opened_by, opened_in, first_look, Looked, StopsFirst, LeavesFirst, LooksOnce, LooksFirst}
+use Rattle.fab_gather.specs.Port.{IsReady, Spends, Gave, to_look, ending}
+use Rattle.fab_gather.specs.Ports.{AreInputs, At, slots_of, NameIn, TakesFrom, rests, joined, counts_of}
 use Rattle.fab_gather.specs.Reads.{HasRead, HaveRead}
 use Rattle.fab_gather.proofs.OrderLemmas.{After, AllNotBefore, TakesAt, taken_at, Later, ordered, later_looks, before_by}
+use Rattle.fab_gather.proofs.LeavesLemmas.{gave_none, gave_between, gave_first}
 use Rattle.fab_gather.proofs.PortsLemmas.{same_looks, smaller}
 use Rattle.fab_gather.proofs.SlotLemmas.{some_is, item_at, push_last, push_before, get_set_same, get_set_other, slots_set, same_length, open_now, touches_on, others_left, rose_on}
 
@@ -227,14 +228,9 @@ seeing_as {c} {k} {a} {b} {ins} {ins'} {l} {m} {had} {left} e h = subst (λ q. S
 pub once_as : {c : Settings} {m n slot : ℕ} {a b : Seen} {r r' : Reading} {had left : Budget} {result : Result Shelf RunFault} → m ≡ n → LooksOnce c m slot a b r r' had left result → LooksOnce c n slot a b r r' had left result
 once_as {c} {m} {n} {slot} {a} {b} {r} {r'} {had} {left} {result} e h = subst (λ (q : ℕ). LooksOnce c q slot a b r r' had left result) e h
 
--- the limits that are left have room
-pub look_room : (c : Settings) (k : ℕ) (a b : Seen) (ins ins' : List Input) (shelves : List Shelf) (had left : Budget) → Seeing c k a b ins ins' shelves had left → (had.bytes + 24 < 2 ^ 64) × (had.frames < 2 ^ 64) → (left.bytes + 24 < 2 ^ 64) × (left.frames < 2 ^ 64)
-look_room c k a b ins ins' shelves had left see room =
-    let spent = see.spent in
-    let f = spent.frames in
-    let m = spent.bytes in
-    let most = room.0 in
-    let more = room.1 in (omega arith, omega arith)
+-- the same slots, and not more of the limits
+taken_from : (ins ins' : List Input) (had left : Budget) (found : ℕ) → slots_of ins' ≡ slots_of ins → Spends had left 0 found → TakesFrom ins ins' had left
+taken_from ins ins' had left found slots s = let f = s.frames in let b = s.bytes in record { slots = slots; bytes = omega arith; frames = omega arith }
 
 -- some configuration, for what is said with any
 pub any : Settings
@@ -298,6 +294,68 @@ module _ (found_law : LooksFound) (end_law : LooksEnd) (c : Settings) (k : ℕ) 
       slots_on : slots_of (set ins' k i2) ≡ slots_of ins
       slots_on = slots_set ins' k i1 i2 at slot ∙ see.slots
 
+      spent_on : (s : Shelf) → Looked c (k + 1) i1.slot b d i1.reader i2.reader s mid left → Spends had left 0 (counts_of shelves + s.count)
+      spent_on s l =
+          let own = l.spent in
+          let so_far = see.spent in
+          let f = own.frames in
+          let g = so_far.frames in
+          let m = own.bytes in
+          let n = so_far.bytes in
+          record { frames = omega arith; bytes = omega arith }
+
+      -- what is left of each port, where the one whose turn it is gave this
+      module _ (given : Option Record) (gave : Gave i1.slot b d i1.reader i2.reader (option_to_list given)) (reads : Reads (b.name i1.slot) b d) where
+        own_left : LeavesFirst a d i i2
+        own_left = record {
+          slot = slot ∙ ap (λ (y : Input). y.slot) still.input;
+          given = given;
+          gave = gave_between i.slot a b d d i.reader i2.reader (option_to_list given) told_b still.rest refl (subst (λ (y : Input). Gave y.slot b d y.reader i2.reader (option_to_list given)) still.input gave);
+        }
+
+        same_left : (q : ℕ) (j : Input) → q ≢ k → slice_get ins' q ≡ Some j → d.left j.slot ≡ b.left j.slot
+        same_left = others_left a b ins ins' are see.touches see.slots k i1 at d reads
+
+        earlier_left : (q : ℕ) (j j' : Input) → q < k → slice_get ins q ≡ Some j → slice_get ins' q ≡ Some j' → LeavesFirst a d j j'
+        earlier_left q j j' less first now =
+            let u = item_at shelves q (let n = see.count in omega arith) in
+            let g = see.done q j j' u.0 first (record { input = now; shelf = u.1 }) in
+            let zero = (fresh_at ins q j fresh first).greatest in
+            record {
+              slot = g.slot;
+              given = u.0.next;
+              gave = record {
+                head = g.read.head;
+                greatest = g.read.greatest ∙ ap (λ (n : ℕ). last_moment n (option_to_list u.0.next)) (sym zero);
+                rest = to_come j'.reader b j'.slot;
+                chain = λ told. subst (λ (n : ℕ). Chain j.reader.head n (option_to_list u.0.next) (to_come j.reader a j.slot) (to_come j'.reader b j'.slot)) (sym zero) (g.read.chain (told_b told));
+                stands = λ told none. ap (λ (l : List ℕ). j'.reader.held ++ l) (sym (same_left q j' (λ e. omega arith) now)) ∙ ap (λ (n : ℕ). j'.reader.held ++ d.left n) g.slot;
+              };
+            }
+
+        later_left : (q : ℕ) (j j' : Input) → k < q → slice_get ins q ≡ Some j → slice_get ins' q ≡ Some j' → LeavesFirst a d j j'
+        later_left q j j' more first now =
+            let h = see.waits q j j' (omega arith) first now in
+            let same = subst (λ (y : Input). d.left y.slot ≡ b.left y.slot) h.input (same_left q j' (λ e. omega arith) now) in
+            record {
+              slot = ap (λ (y : Input). y.slot) h.input;
+              given = None;
+              gave = subst (λ (y : Input). Gave j.slot a d j.reader y.reader []) (sym h.input) (gave_none j.slot a d j.reader (same ∙ h.rest));
+            }
+
+        left_first : (q : ℕ) (j j' : Input) → slice_get ins q ≡ Some j → slice_get (set ins' k i2) q ≡ Some j' → LeavesFirst a d j j'
+        left_first q j j' first now = elim (le_or_lt k q) [
+          | inl le ↦ elim (le_or_lt q k) [
+            | inl back ↦
+                let same : k ≡ q = omega arith in
+                let is_j = some_is (slice_get ins k) i j at_begin (ap (slice_get ins) same ∙ first) in
+                let is_j' = some_is (slice_get (set ins' k i2) k) i2 j' (get_set_same ins' k i2 (let e = long in omega arith)) (ap (slice_get (set ins' k i2)) same ∙ now) in
+                subst (λ (y : Input). LeavesFirst a d j y) is_j' (subst (λ (y : Input). LeavesFirst a d y i2) is_j own_left)
+            | inr more ↦ later_left q j j' more first (sym (get_set_other ins' k q i2 (λ e. omega arith)) ∙ now)
+          ]
+          | inr less ↦ earlier_left q j j' less first (sym (get_set_other ins' k q i2 (λ e. omega arith)) ∙ now)
+        ]
+
       pub look_failed : (f : RunFault) → LooksOnce c (k + 1) i1.slot b d i1.reader i2.reader mid left (Err f) → LooksFirst c a d ins (set ins' k i2) had left (Err f)
       look_failed f t = record {
         touches = touches_on a b ins ins' are see.touches see.slots k i1 at d t.reads;
@@ -306,6 +364,9 @@ module _ (found_law : LooksFound) (end_law : LooksEnd) (c : Settings) (k : ℕ) 
         ready = tt;
         read = tt;
         spent = tt;
+        leaves = left_first None t.leaves.0 t.reads;
+        found = (counts_of shelves, subst (λ (x : Budget). Spends had x 0 (counts_of shelves)) (sym t.leaves.1) see.spent);
+        takes = taken_from ins (set ins' k i2) had left (counts_of shelves) slots_on (subst (λ (x : Budget). Spends had x 0 (counts_of shelves)) (sym t.leaves.1) see.spent);
         looks_ = λ told. tt;
         stops = λ told stopped. stop_is told (t.stops (told_b told) stopped);
         cause = λ is. (k, lt, rose_on a b ins ins' are see.touches see.slots k i1 at d (t.cause (let same : f ≡ fault.Read = cc in ap Err same)));
@@ -335,6 +396,9 @@ module _ (found_law : LooksFound) (end_law : LooksEnd) (c : Settings) (k : ℕ) 
         ready = tt;
         read = tt;
         spent = tt;
+        leaves = left_first s.next (gave_first c (k + 1) i1.slot b d i1.reader i2.reader s mid left look_fresh.greatest t.looked) t.reads;
+        found = (counts_of shelves + s.count, spent_on s t.looked);
+        takes = taken_from ins (set ins' k i2) had left (counts_of shelves + s.count) slots_on (spent_on s t.looked);
         looks_ = λ told. tt;
         stops = λ told stopped. absurd stopped;
         cause = λ is. absurd (cc);
@@ -423,10 +487,9 @@ module _ (found_law : LooksFound) (end_law : LooksEnd) (c : Settings) (k : ℕ) 
               let same = others_left a b ins ins' are see.touches see.slots k i1 at d t.reads q j' ne h in
               let own = t.looked.spent in
               let f = own.frames in
-              let m = own.bytes in
               record {
                 slot = g.slot;
-                ready = smaller j'.reader u.next u.count mid left (omega arith) (omega arith) g.ready;
+                ready = smaller j'.reader u.next u.count mid left (omega arith) g.ready;
                 read = record {
                   head = g.read.head;
                   greatest = g.read.greatest;
@@ -481,6 +544,9 @@ looks_all c k a b ins ins' v had left all see =
           ∙ ap (λ (n : ℕ). stop_in n left.bytes left.frames (in_order (joined (fronts c 1 b ins' v.items)))) (see.first_is told)
           ∙ ap (λ ls. stop_in (first_window (in_order (joined ls))) left.bytes left.frames (in_order (joined ls))) (fronts_all c 1 b ins' v.items (omega arith));
       stops = λ told. tt;
+      leaves = tt;
+      found = (counts_of v.items, see.spent);
+      takes = taken_from ins ins' had left (counts_of v.items) see.slots see.spent;
       cause = λ e. absurd (cc);
       only = tt;
     }

@@ -1,10 +1,10 @@
 -- A window that is gathered, which may start too long after the first.
-use Rattle.std.proofs.Common.{◌≡◌, ℕ, ◌-◌, List, length, Some, Result, Ok, Err, refl, true, false}
+use Rattle.std.proofs.Common.{◌≡◌, ℕ, ◌-◌, List, length, slice_get, Some, Result, Ok, Err, refl, sym, ap, ◌∙◌, arith, true, false}
 use Rattle.std.specs.Prelude.{nat_lt}
 use Rattle.fab_base.specs.Seen.{Seen, Nothing}
 use Rattle.fab_base.proofs.SeenLemmas.{touches_refl}
 use Rattle.fab_config.specs.Settings.{Settings}
-use Rattle.fab_policy.specs.declared.looks.TheConstants.{MOST_SPAN}
+use Rattle.fab_policy.specs.Looks.{MOST_SPAN}
 use Rattle.pcap_file.specs.declared.Budget.{Budget}
 use Rattle.fab_gather.specs.declared.shelf.Input.{Input}
 use Rattle.fab_gather.specs.declared.shelf.Shelf.{Shelf}
@@ -15,6 +15,8 @@ use Rattle.fab_gather.specs.First.{IsNextWindow}
 use Rattle.fab_gather.specs.Laws.{LateEnds}
 use Rattle.fab_gather.specs.Ports.{NameIn, slots_of, AreReady, TakesAll}
 use Rattle.fab_gather.specs.Gather.{Gathers}
+use Rattle.fab_gather.proofs.LeavesLemmas.{waits_leaves}
+use Rattle.fab_gather.proofs.SlotLemmas.{some_is}
 
 module _ (c : Settings) (first w : ℕ) where
   pub gathers_late : (late : LateEnds) (d : Seen) (ins : List Input) (shelves : List Shelf) (left : Budget) → length shelves ≡ length ins → AreReady c w ins shelves left →
@@ -25,11 +27,17 @@ module _ (c : Settings) (first w : ℕ) where
     count = refl;
     ready = tt;
     took = tt;
-    spent = tt;
+    spent = record { frames = omega arith; bytes = omega arith };
+    takes = record { slots = refl; bytes = omega arith; frames = omega arith };
+    leaves = λ q i i' s s' first now.
+        let input = some_is (slice_get ins q) i' i now.input first.input in
+        (ap (λ (x : Input). x.slot) input, waits_leaves c w d d i i' s s' input (some_is (slice_get shelves q) s' s now.shelf first.shelf) refl);
     looks = λ told. tt;
     stops = λ told stops. late c first w w d ins shelves left count ready next is;
     cause = λ x. absurd (cc);
     only = λ x. absurd (cc);
+    late = (λ x. is, λ x. refl);
+    same = λ x. (refl, refl, refl, refl);
   }
 
   pub gathers_all : (a b : Seen) (ins ins' : List Input) (shelves shelves' : List Shelf) (had left : Budget) (r : Result (Unit {0}) RunFault) → nat_lt MOST_SPAN (w - first) ≡ false →
@@ -41,10 +49,14 @@ module _ (c : Settings) (first w : ℕ) where
     ready = t.ready;
     took = t.took;
     spent = t.spent;
+    leaves = tt;
+    takes = t.takes;
     looks = λ told. t.looks told first in_time;
     stops = λ told. tt;
     cause = t.cause;
     only = tt;
+    late = (λ x. absurd (cc), λ x. let both : true ≡ false = sym x ∙ in_time in absurd (cc));
+    same = λ x. absurd (cc);
   }
   gathers_all a b ins ins' shelves shelves' had left (Err e) in_time t = record {
     touches = t.touches;
@@ -52,9 +64,13 @@ module _ (c : Settings) (first w : ℕ) where
     count = t.count;
     ready = tt;
     took = tt;
-    spent = tt;
+    spent = t.spent;
+    leaves = t.leaves;
+    takes = t.takes;
     looks = λ told. tt;
     stops = λ told stops. t.stops told stops first in_time;
     cause = t.cause;
     only = t.only;
+    late = (λ x. absurd (t.in_span (let same : e ≡ fault.Limit limit.Span = cc in same)), λ x. let both : true ≡ false = sym x ∙ in_time in absurd (cc));
+    same = λ x. absurd (t.in_span (let same : e ≡ fault.Limit limit.Span = cc in same));
   }

@@ -3,6 +3,7 @@ pub mod SlotLemmas
 pub mod OrderLemmas
 pub mod PortLemmas
 pub mod PortsLemmas
+pub mod LeavesLemmas
 pub mod LookLemmas
 pub mod FirstLemmas
 pub mod NextLemmas

@@ -1,5 +1,5 @@
 -- The look at the first record of a port.
-use Rattle.std.proofs.Common.{◌≡◌, ℕ, ◌+◌, ◌-◌, ◌^◌, ◌<◌, min, Bool, ◌∷◌, length, Option, Some, None, IfSome, Ok, Err, IsTrue, refl, sym, ap, ◌∙◌, subst, arith}
+use Rattle.std.proofs.Common.{◌≡◌, ℕ, ◌+◌, ◌-◌, ◌^◌, ◌<◌, Bool, ◌∷◌, length, Option, Some, None, IfSome, Ok, Err, IsTrue, refl, sym, ap, ◌∙◌, subst, arith}
 use Rattle.std.specs.Prelude.{option_to_list, is_some}
 use Rattle.std.specs.Int.{from_bool}
 use Rattle.fab_base.specs.Seen.{Seen}
@@ -7,7 +7,7 @@ use Rattle.fab_config.specs.Settings.{Settings}
 use Rattle.fab_policy.specs.Legal.{window_start}
 use Rattle.fab_policy.specs.Looks.{Opened, Look, found_at, is_found, behind, looks, first_spot, stop_in, stop_at, Fails, record_size, LooksFound, LooksEnd, StepsFindStop}
 use Rattle.pcap_file.specs.Capture.{HEAD, Found, End, next}
-use Rattle.pcap_file.specs.Reading.{Reading, Step, Gives, Ends, Stops, step_of, to_come, NextReads}
+use Rattle.pcap_file.specs.Reading.{Reading, Step, Gives, Ends, Stops, step_of, to_come, place_after, NextReads}
 use Rattle.pcap_file.specs.Records.{Chain, last_moment}
 use Rattle.pcap_file.specs.declared.Budget.{Budget}
 use Rattle.pcap_file.specs.declared.CapError.{CapError}
@@ -18,6 +18,7 @@ use Rattle.fab_gather.specs.declared.shelf.Shelf.{Shelf}
 use Rattle.fab_gather.specs.declared.fault.RunFault.TheVariants as fault
 use Rattle.fab_gather.specs.First.{IsFresh, opened_by, first_look, Looked, LooksOnce}
 use Rattle.fab_gather.specs.Port.{to_look, spot_of, fault_by}
+use Rattle.fab_gather.proofs.LeavesLemmas.{gave_failed}
 use Rattle.fab_gather.proofs.PortLemmas.{some_look, says_at, own_of, read_of, never_write}
 
 -- one record is looked at, or none
@@ -27,7 +28,7 @@ count_is (Some x) some n e f = f ∙ ap from_bool e
 
 -- ---- one port
 
-module _ (found_law : LooksFound) (end_law : LooksEnd) (steps : StepsFindStop) (c : Settings) (port slot : ℕ) (a b : Seen) (r r' : Reading) (had left : Budget) (is_fresh : IsFresh r) (room : (had.bytes + 24 < 2 ^ 64) × (had.frames < 2 ^ 64)) where
+module _ (found_law : LooksFound) (end_law : LooksEnd) (steps : StepsFindStop) (c : Settings) (port slot : ℕ) (a b : Seen) (r r' : Reading) (had left : Budget) (is_fresh : IsFresh r) (room : had.frames < 2 ^ 64) where
   abbrev o : Opened
   o = opened_by a slot r
 
@@ -46,13 +47,8 @@ module _ (found_law : LooksFound) (end_law : LooksEnd) (steps : StepsFindStop) (
     greatest_on : r'.greatest ≡ y.moment
     greatest_on = ap (λ (q : Reading). q.greatest) n.taken.moved
 
-    at_on : r'.at ≡ HEAD + record_size y.caught
-    at_on =
-        let moved : r'.at ≡ min (r.at + (16 + length y.caught.bytes)) (2 ^ 64 - 1) = ap (λ (q : Reading). q.at) n.taken.moved in
-        let begin = is_fresh.at in
-        let takes = n.taken.bytes in
-        let most = room.0 in
-        omega arith
+    at_on : r'.at ≡ place_after HEAD (record_size y.caught)
+    at_on = ap (λ (q : Reading). q.at) n.taken.moved ∙ ap (λ (p : ℕ). place_after p (record_size y.caught)) is_fresh.at
 
     step_is : IsTrue a.told → step_of had x.at x.found ≡ Gives y.moment y.caught (to_come r' b slot)
     step_is told = at_first (Gives y.moment y.caught (to_come r' b slot)) (n.says told n.taken.fresh)
@@ -76,8 +72,7 @@ module _ (found_law : LooksFound) (end_law : LooksEnd) (steps : StepsFindStop) (
         fresh = ap (λ (q : Reading). q.kept) n.taken.moved ∙ n.taken.fresh;
         last = subst (λ z. IfSome z (λ v. r'.greatest ≡ v.moment)) (sym is_next) greatest_on;
         early = subst (λ z. IfSome z (λ v. v.moment < 2 ^ 43)) (sym is_next) n.taken.range;
-        place = let takes = n.taken.bytes in let at = at_on in let most = room.0 in omega arith;
-        few = let takes = n.taken.frames in let most = room.1 in omega arith;
+        few = let takes = n.taken.frames in omega (arith, takes, room);
       };
       spent = let takes = n.taken.bytes in let fewer = n.taken.frames in record { frames = omega arith; bytes = omega arith };
       count = count ∙ ap (λ z. length (option_to_list z)) (sym is_next);
@@ -117,8 +112,7 @@ module _ (found_law : LooksFound) (end_law : LooksEnd) (steps : StepsFindStop) (
             fresh = ap (λ (q : Reading). q.kept) same ∙ n.taken.fresh;
             last = subst (λ z. IfSome z (λ v. r'.greatest ≡ v.moment)) (sym is_next) tt;
             early = subst (λ z. IfSome z (λ v. v.moment < 2 ^ 43)) (sym is_next) tt;
-            place = let at : r'.at ≡ r.at = ap (λ (q : Reading). q.at) same in let begin = is_fresh.at in let most = room.0 in omega arith;
-            few = let most = room.1 in omega arith;
+            few = omega (arith, fewer, count, room);
           };
           spent = record { frames = omega arith; bytes = omega arith };
           count = count ∙ ap (λ z. length (option_to_list z)) (sym is_next);
@@ -134,7 +128,7 @@ module _ (found_law : LooksFound) (end_law : LooksEnd) (steps : StepsFindStop) (
         }
 
   pub looked : (next : Option Record) (s : Shelf) → s.next ≡ next → s.count ≡ length (option_to_list next) → NextReads slot a b r r' had left (Ok next) → LooksOnce c port slot a b r r' had left (Ok s)
-  looked next s is count n = record { reads = n.reads; looked = by_next next is count n; stops = λ told. tt; cause = λ e. absurd (cc); only = tt }
+  looked next s is count n = record { reads = n.reads; looked = by_next next is count n; stops = λ told. tt; leaves = tt; cause = λ e. absurd (cc); only = tt }
     where
       by_next : (next : Option Record) → s.next ≡ next → s.count ≡ length (option_to_list next) → NextReads slot a b r r' had left (Ok next) → Looked c port slot a b r r' s had left
       by_next None is count n = looked_end s is count n
@@ -145,6 +139,7 @@ module _ (found_law : LooksFound) (end_law : LooksEnd) (steps : StepsFindStop) (
   looked_failed e n = record {
     reads = n.reads;
     looked = tt;
+    leaves = (gave_failed slot a b r r' had left e n.kept, n.kept.budget);
     stops = λ told st.
         let is = at_first (Stops e) (says_at _ (to_come r' b slot) e (own_of port e st) (n.says told is_fresh.kept)) in
         let more = some_look found_law end_law c port (first_spot o) (found_at (first_spot o)) refl in

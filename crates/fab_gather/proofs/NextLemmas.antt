@@ -6,8 +6,7 @@ use Rattle.fab_base.specs.Seen.{Seen}
 use Rattle.fab_config.specs.Settings.{Settings}
 use Rattle.fab_policy.specs.Keeping.{IsFrom, AllAhead, StopsAhead}
 use Rattle.fab_policy.specs.Legal.{window_start}
-use Rattle.fab_policy.specs.Looks.{Spot, Look, looks, comes_before, with_look, in_order, first_window, is_too_late, stop_in, Stop, Span, stop_at, LateIsStop}
-use Rattle.fab_policy.specs.declared.looks.TheConstants.{MOST_SPAN}
+use Rattle.fab_policy.specs.Looks.{Spot, Look, looks, comes_before, with_look, in_order, first_window, is_too_late, stop_in, Stop, Span, stop_at, LateIsStop, MOST_SPAN}
 use Rattle.pcap_file.specs.Reading.{Reading}
 use Rattle.pcap_file.specs.declared.Budget.{Budget}
 use Rattle.pcap_file.specs.declared.Record.{Record}

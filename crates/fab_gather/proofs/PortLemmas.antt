@@ -1,5 +1,5 @@
 -- The records of a window of one port, taken one after another.
-use Rattle.std.proofs.Common.{◌≡◌, ◌≢◌, ℕ, ◌+◌, ◌-◌, ◌*◌, ◌^◌, ◌<◌, min, true, false, List, [], ◌∷◌, ◌++◌, length, length-append, Option, Some, None, IfSome, Ok, Err, IsTrue, refl, sym, ap, ◌∙◌, subst, arith, append_assoc}
+use Rattle.std.proofs.Common.{◌≡◌, ◌≢◌, ℕ, ◌+◌, ◌-◌, ◌*◌, ◌^◌, ◌<◌, ◌≤◌, inr, true, false, List, [], ◌∷◌, ◌++◌, length, length-append, Option, Some, None, IfSome, Ok, Err, IsTrue, refl, sym, ap, ◌∙◌, subst, arith, append_assoc}
 use Rattle.std.specs.Prelude.{Result, nat_lt, option_to_list}
 use Rattle.std.proofs.lemmas.List.{append-nil}
 use Rattle.std.proofs.lemmas.Bool.{eqb-true}
@@ -8,10 +8,9 @@ use Rattle.fab_base.specs.declared.values.Failed.{Failed}
 use Rattle.fab_base.proofs.SeenLemmas.{reads_refl, reads_trans, input_name, rose_later}
 use Rattle.fab_config.specs.Settings.{Settings}
 use Rattle.fab_policy.specs.Legal.{window_start}
-use Rattle.fab_policy.specs.Looks.{Spot, Look, look_at, found_at, is_found, behind, looks, stop_in, stop_at, Fails, record_size, LooksFound, LooksEnd, StepsFindStop}
-use Rattle.fab_policy.specs.declared.looks.TheConstants.{MOST_SPAN}
+use Rattle.fab_policy.specs.Looks.{Spot, Look, look_at, found_at, is_found, behind, looks, stop_in, stop_at, Fails, record_size, LooksFound, LooksEnd, StepsFindStop, MOST_SPAN}
 use Rattle.pcap_file.specs.Capture.{Next, Found, End, CutHead, TooLong, CutBytes, next}
-use Rattle.pcap_file.specs.Reading.{Reading, Step, Gives, Ends, Stops, step_of, to_come, Says, NextReads}
+use Rattle.pcap_file.specs.Reading.{Reading, Step, Gives, Ends, Stops, step_of, to_come, place_after, Says, NextReads}
 use Rattle.pcap_file.specs.Records.{Chain}
 use Rattle.pcap_file.specs.declared.Budget.{Budget}
 use Rattle.pcap_file.specs.declared.CapError.{CapError}
@@ -20,8 +19,10 @@ use Rattle.pcap_file.specs.declared.Record.{Record}
 use Rattle.pcap_file.proofs.lemmas.Chains.{chain_push, last-push, end_is}
 use Rattle.pcap_file.proofs.lemmas.Steps.{gives_found, ends_end}
 use Rattle.fab_gather.specs.declared.shelf.Shelf.{Shelf}
+use Rattle.fab_gather.specs.declared.fault.LimitKind.TheVariants as limit
 use Rattle.fab_gather.specs.declared.fault.RunFault.TheVariants as fault
-use Rattle.fab_gather.specs.Port.{IsReady, Spends, Taking, TakesWindow, StopsIn, AreOf, AreIn, Pass, is_in, spot_of, to_look, fault_by, IsStopped}
+use Rattle.fab_gather.specs.Port.{IsReady, Spends, Taking, TakesWindow, StopsIn, AreOf, AreIn, Pass, is_in, spot_of, to_look, fault_by, IsStopped, LeavesPort}
+use Rattle.fab_gather.proofs.LeavesLemmas.{gave_more, gave_end, gave_broken}
 
 -- ---- lists
 
@@ -86,6 +87,14 @@ never_write port errors.Bytes same = absurd (cc)
 never_write port errors.Frames same = absurd (cc)
 never_write port (errors.Read f) same = absurd (cc)
 never_write port errors.Memory same = absurd (cc)
+
+pub never_span : (port : ℕ) (q : CapError) → fault_by q port ≢ fault.Limit limit.Span
+never_span port (errors.Cut at) same = absurd (cc)
+never_span port (errors.TooLong at len) same = absurd (cc)
+never_span port errors.Bytes same = absurd (cc)
+never_span port errors.Frames same = absurd (cc)
+never_span port (errors.Read f) same = absurd (cc)
+never_span port errors.Memory same = absurd (cc)
 
 -- ---- before the first
 
@@ -173,12 +182,8 @@ module _ (found_law : LooksFound) (end_law : LooksEnd) (steps : StepsFindStop) (
       greatest_on : r2.greatest ≡ y.moment
       greatest_on = ap (λ (q : Reading). q.greatest) n.taken.moved
 
-      at_on : r2.at ≡ r1.at + (16 + length y.caught.bytes)
-      at_on =
-          let moved : r2.at ≡ min (r1.at + (16 + length y.caught.bytes)) (2 ^ 64 - 1) = ap (λ (q : Reading). q.at) n.taken.moved in
-          let fits = t.ready.place in
-          let takes = n.taken.bytes in
-          omega arith
+      at_on : r2.at ≡ place_after r1.at (record_size y.caught)
+      at_on = ap (λ (q : Reading). q.at) n.taken.moved
 
       found : IsTrue a.told → next r1.head r1.greatest (to_come r1 b slot) ≡ Found y.moment y.caught (to_come r2 d slot)
       found told = gives_found mid r1.at (next r1.head r1.greatest (to_come r1 b slot)) y.moment y.caught (to_come r2 d slot) (n.says (told_b told) n.taken.fresh)
@@ -215,7 +220,6 @@ module _ (found_law : LooksFound) (end_law : LooksEnd) (steps : StepsFindStop) (
           fresh = ap (λ (q : Reading). q.kept) n.taken.moved ∙ n.taken.fresh;
           last = subst (λ o. IfSome o (λ v. r2.greatest ≡ v.moment)) (sym is_next) greatest_on;
           early = subst (λ o. IfSome o (λ v. v.moment < 2 ^ 43)) (sym is_next) n.taken.range;
-          place = let p = t.ready.place in let takes = n.taken.bytes in let at = at_on in omega arith;
           few = let p = t.ready.few in let takes = n.taken.frames in omega arith;
         };
         spent = let p = t.spent in let takes = n.taken.bytes in let fewer = n.taken.frames in record { frames = let f = p.frames in omega arith; bytes = let f = p.bytes in omega arith };
@@ -266,7 +270,6 @@ module _ (found_law : LooksFound) (end_law : LooksEnd) (steps : StepsFindStop) (
               fresh = ap (λ (q : Reading). q.kept) same ∙ n.taken.fresh;
               last = subst (λ o. IfSome o (λ v. r2.greatest ≡ v.moment)) (sym is_next) tt;
               early = subst (λ o. IfSome o (λ v. v.moment < 2 ^ 43)) (sym is_next) tt;
-              place = let p = t.ready.place in let f = ap (λ (q : Budget). q.bytes) same_budget in let at : r2.at ≡ r1.at = ap (λ (q : Reading). q.at) same in omega arith;
               few = let p = t.ready.few in let f = ap (λ (q : Budget). q.frames) same_budget in omega arith;
             };
             spent = subst (λ q. Spends had q s.count s2.count) (sym same_budget) (subst (λ (k : ℕ). Spends had mid s.count k) (sym count) t.spent);
@@ -311,8 +314,64 @@ module _ (found_law : LooksFound) (end_law : LooksEnd) (steps : StepsFindStop) (
       by_next None n is = let f = ap (λ (q : Budget). q.frames) n.taken.budget in omega arith
       by_next (Some y) n is = let k = n.taken.frames in omega arith
 
+  -- memory is refused for the record that was looked at
+  pub taking_lost : (o : Option Record) (s2 : Shelf) → s2.batch.items ≡ s1.batch.items → s2.next ≡ o → s2.count ≡ s1.count + length (option_to_list o) →
+      NextReads slot b d r1 r2 mid left (Ok o) → TakesWindow c port w slot a d r r2 s s2 had left (Err fault.Memory)
+  taking_lost o s2 batch next count n = record {
+    reads = reads_on n.reads;
+    taking = tt;
+    beyond = tt;
+    stops = λ told st. absurd st;
+    leaves = by_next o next count n;
+    in_span = λ same. absurd (cc);
+    cause = λ same. absurd (cc);
+    only = λ same. absurd (cc);
+  }
+    where
+      one : length (own.r ∷ []) ≤ 1
+      one = omega arith
+
+      by_next : (o : Option Record) → s2.next ≡ o → s2.count ≡ s1.count + length (option_to_list o) → NextReads slot b d r1 r2 mid left (Ok o) → LeavesPort c w slot a d r r2 s s2 × Spends had left s.count s2.count
+      by_next None next count n = (
+        record {
+          given = t.given;
+          gave = gave_end slot a b d r r1 r2 t.given mid left told_b t.head t.greatest t.chain n;
+          count = let k = t.count in omega arith;
+          shelf = inr (record {
+            in_window = subst (AreIn c w) (sym batch) t.in_window;
+            lost = own.r ∷ [];
+            order = t.order ∙ sym (append-nil (s1.batch.items ++ option_to_list s1.next)) ∙ (λ i. (sym batch i ++ option_to_list (own.is i)) ++ option_to_list (sym next i));
+            last = one;
+          });
+        },
+        let p = t.spent in
+        let f = ap (λ (q : Budget). q.frames) n.taken.budget in
+        let g = ap (λ (q : Budget). q.bytes) n.taken.budget in
+        record { frames = let x = p.frames in omega arith; bytes = let x = p.bytes in omega arith },
+      )
+      by_next (Some y) next count n = (
+        record {
+          given = t.given ++ y ∷ [];
+          gave = gave_more slot a b d r r1 r2 t.given mid left told_b t.head t.greatest t.chain y n;
+          count = let k = t.count in let l = length-append t.given (y ∷ []) in omega arith;
+          shelf = inr (record {
+            in_window = subst (AreIn c w) (sym batch) t.in_window;
+            lost = own.r ∷ [];
+            order =
+                sym (append_assoc (option_to_list s.next) t.given (y ∷ []))
+                ∙ ap (λ l. l ++ y ∷ []) t.order
+                ∙ (λ i. (sym batch i ++ option_to_list (own.is i)) ++ option_to_list (sym next i));
+            last = one;
+          });
+        },
+        let p = t.spent in
+        let takes = n.taken.bytes in
+        let fewer = n.taken.frames in
+        record { frames = let x = p.frames in omega arith; bytes = let x = p.bytes in omega arith },
+      )
+
   -- an error
-  module _ (s' : Shelf) (r' : Reading) (e : CapError) (n : NextReads slot b d r1 r' mid left (Err e)) where
+  module _ (r' : Reading) (e : CapError) (n : NextReads slot b d r1 r' mid left (Err e)) where
     fresh : r1.kept ≡ None
     fresh = t.ready.fresh
 
@@ -340,7 +399,7 @@ module _ (found_law : LooksFound) (end_law : LooksEnd) (steps : StepsFindStop) (
         let f = read_of port e same in
         rose_later _ _ _ t.reads.keeps.reads_rise (subst (λ m. Rose (b.read_faults m) (d.read_faults m)) name_is (n.cause fresh f.0 (ap Err f.1)))
 
-    pub taking_failed : TakesWindow c port w slot a d r r' s s' had left (Err (fault_by e port))
+    pub taking_failed : TakesWindow c port w slot a d r r' s s1 had left (Err (fault_by e port))
     taking_failed = record {
       reads = reads_on n.reads;
       taking = tt;
@@ -348,6 +407,21 @@ module _ (found_law : LooksFound) (end_law : LooksEnd) (steps : StepsFindStop) (
       stops = λ told st. stops_with told (says_at (step_of mid r1.at (found_at spot)) (to_come r' d slot) e (own_of port e st) (n.says (told_b told) fresh));
       cause = λ same. caused (let same' : fault_by e port ≡ fault.Read = cc in same');
       only = never_write port e;
+      leaves = (
+        record {
+          given = t.given;
+          gave = gave_broken slot a b d r r1 r' t.given mid left told_b t.head t.greatest t.chain e n;
+          count = t.count;
+          shelf = inr (record {
+            in_window = t.in_window;
+            lost = [];
+            order = t.order ∙ ap (λ l. l ++ option_to_list s1.next) (sym (append-nil s1.batch.items));
+            last = omega arith;
+          });
+        },
+        subst (λ q. Spends had q s.count s1.count) (sym n.kept.budget) t.spent,
+      );
+      in_span = never_span port e;
     }
 
 pub next_at : {s t : ℕ} {a b : Seen} {r r' : Reading} {had left : Budget} {x : Result (Option Record) CapError} → s ≡ t → NextReads s a b r r' had left x → NextReads t a b r r' had left x

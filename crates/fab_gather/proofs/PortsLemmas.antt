@@ -7,8 +7,7 @@ use Rattle.fab_base.specs.Seen.{Seen, Touches, Nothing}
 use Rattle.fab_base.proofs.SeenLemmas.{touches_refl}
 use Rattle.fab_config.specs.Settings.{Settings}
 use Rattle.fab_policy.specs.Legal.{window_start}
-use Rattle.fab_policy.specs.Looks.{Look, looks, in_order, stop_in}
-use Rattle.fab_policy.specs.declared.looks.TheConstants.{MOST_SPAN}
+use Rattle.fab_policy.specs.Looks.{Look, looks, in_order, stop_in, MOST_SPAN}
 use Rattle.pcap_file.specs.Reading.{Reading, to_come}
 use Rattle.pcap_file.specs.Records.{Chain}
 use Rattle.pcap_file.specs.declared.Budget.{Budget}
@@ -17,9 +16,10 @@ use Rattle.pcap_file.proofs.lemmas.Numbers.{le_or_lt}
 use Rattle.fab_gather.specs.declared.shelf.Input.{Input}
 use Rattle.fab_gather.specs.declared.shelf.Shelf.{Shelf}
 use Rattle.fab_gather.specs.declared.fault.RunFault.{RunFault}
-use Rattle.fab_gather.specs.Port.{IsReady, Spends, AreOf, Taking, TakesWindow, to_look}
+use Rattle.fab_gather.specs.Port.{IsReady, Spends, AreOf, Taking, TakesWindow, LeavesPort, to_look}
 use Rattle.fab_gather.specs.Ports.{AreInputs, AreReady, At, Took, TakesAll, slots_of, NameIn, rests, joined, stop_from, counts_of}
 use Rattle.fab_gather.proofs.OrderLemmas.{TakesAt, taken_at, Sorted, AllNotBefore, Leads, EachBefore, each-append, each-nil, leads_more, sorted_leads, sorted_looks, later_looks, later_not_before, made_before}
+use Rattle.fab_gather.proofs.LeavesLemmas.{took_leaves, waits_leaves, leaves_from}
 use Rattle.fab_gather.proofs.PortLemmas.{are_of-push}
 use Rattle.fab_gather.proofs.SlotLemmas.{some_is, get_set_same, get_set_other, slots_set, same_length, open_now, touches_on, others_left, rose_on}
 use Rattle.fab_gather.proofs.WindowLemmas.{window_start-mono}
@@ -46,6 +46,8 @@ pub record Round (c : Settings) (w k : ℕ) (a b : Seen) (ins ins' : List Input)
   pub done : (q : ℕ) (i i' : Input) (s s' : Shelf) → q < k → At q ins shelves i s → At q ins' shelves' i' s' → Done c w a b i i' s s' left
   pub waits : (q : ℕ) (i i' : Input) (s s' : Shelf) → k ≤ q → At q ins shelves i s → At q ins' shelves' i' s' → Waits c w a b i i' s s' left
   pub spent : Spends had left (counts_of shelves) (counts_of shelves')
+  pub bytes : left.bytes ≤ had.bytes
+  pub frames : left.frames ≤ had.frames
   pub looks : IsTrue a.told → (first : ℕ) → nat_lt MOST_SPAN (w - first) ≡ false → stop_from c first a ins shelves had ≡ stop_from c first b ins' shelves' left
 
 -- ---- counts
@@ -119,8 +121,8 @@ rests_set c (suc k) p d (x ∷ ins) (y ∷ shelves) i s l lt count e = ap (λ ls
 
 -- ---- one port's turn
 
-pub smaller : (r : Reading) (next : Option Record) (count : ℕ) (mid left : Budget) → left.bytes ≤ mid.bytes → left.frames ≤ mid.frames → IsReady r next count mid → IsReady r next count left
-smaller r next count mid left bytes frames h = record { fresh = h.fresh; last = h.last; early = h.early; place = let f = h.place in omega arith; few = let f = h.few in omega arith }
+pub smaller : (r : Reading) (next : Option Record) (count : ℕ) (mid left : Budget) → left.frames ≤ mid.frames → IsReady r next count mid → IsReady r next count left
+smaller r next count mid left frames h = record { fresh = h.fresh; last = h.last; early = h.early; few = let f = h.few in omega arith }
 
 -- the window of the record behind those of a window is a later one
 beyond_is : (c : Settings) (w g g' : ℕ) (next next' : Option Record) → IfSome next (λ x. g ≡ x.moment) → IfSome next (λ x. w ≤ window_start c x.moment) → IfSome next' (λ x. g' ≡ x.moment) → IfSome next' (λ x. window_start c x.moment ≢ w) → g ≤ g' → (next ≡ None → next' ≡ None) → IfSome next' (λ x. w + 1 ≤ window_start c x.moment)
@@ -207,7 +209,34 @@ module _ (c : Settings) (w k : ℕ) (a b : Seen) (ins ins' : List Input) (shelve
         count = count_on;
         ready = tt;
         took = tt;
-        spent = tt;
+        spent =
+            let own = t.leaves.1 in
+            let so_far = round.spent in
+            let f = own.frames in
+            let g = so_far.frames in
+            let m = own.bytes in
+            let n = so_far.bytes in
+            let sum = counts_set shelves' k s1 s2 at.shelf in
+            record { frames = omega arith; bytes = omega arith };
+        takes =
+            let own = t.leaves.1 in
+            let more = t.leaves.0.count in
+            let f = own.frames in
+            let m = own.bytes in
+            record { slots = slots_on; bytes = let h = round.bytes in omega arith; frames = let h = round.frames in omega arith };
+        leaves = λ q j j' u u' first now. elim (le_or_lt k q) [
+          | inl le ↦ elim (le_or_lt q k) [
+            | inl back ↦
+                let same : k ≡ q = omega arith in
+                let is_j = some_is (slice_get ins k) i j (first_at k i1 s1 at).input (ap (slice_get ins) same ∙ first.input) in
+                let is_u = some_is (slice_get shelves k) s u (first_at k i1 s1 at).shelf (ap (slice_get shelves) same ∙ first.shelf) in
+                let is_j' = some_is (slice_get (set ins' k i2) k) i2 j' (get_set_same ins' k i2 (let l = long in omega arith)) (ap (slice_get (set ins' k i2)) same ∙ now.input) in
+                let is_u' = some_is (slice_get (set shelves' k s2) k) s2 u' (get_set_same shelves' k s2 (let l = long in let m = wide in omega arith)) (ap (slice_get (set shelves' k s2)) same ∙ now.shelf) in
+                coe_left is_j is_j' is_u is_u' own_left
+            | inr more ↦ later_left q j j' u u' more first (others_at q j' u' (λ e. omega arith) now)
+          ]
+          | inr less ↦ earlier_left q j j' u u' less first (others_at q j' u' (λ e. omega arith) now)
+        ];
         looks = λ told. tt;
         stops = λ told stopped first late.
             let st = t.stops (told_b told) stopped in
@@ -225,7 +254,32 @@ module _ (c : Settings) (w k : ℕ) (a b : Seen) (ins ins' : List Input) (shelve
             );
         cause = λ is. (k, lt, rose_on a b ins ins' are round.touches round.slots k i1 at.input d (t.cause is));
         only = t.only;
+        in_span = t.in_span;
       }
+        where
+          Left : Input → Input → Shelf → Shelf → Type 0
+          Left j j' u u' = (j'.slot ≡ j.slot) × LeavesPort c w j.slot a d j.reader j'.reader u u'
+
+          coe_left : {x y x' y' : Input} {v z v' z' : Shelf} → x ≡ y → x' ≡ y' → v ≡ z → v' ≡ z' → Left x x' v v' → Left y y' z z'
+          coe_left {x} {y} {x'} {y'} {v} {z} {v'} {z'} e f g h l = subst (λ q. Left y y' z q) h (subst (λ q. Left y y' q v') g (subst (λ q. Left y q v v') f (subst (λ q. Left q x' v v') e l)))
+
+          own_left : Left i i2 s s2
+          own_left =
+              let from_i = subst (λ (x : Input). LeavesPort c w x.slot b d x.reader i2.reader s1 s2) waits.input t.leaves.0 in
+              let from_s = subst (λ (y : Shelf). LeavesPort c w i.slot b d i.reader i2.reader y s2) waits.shelf from_i in
+              (slot ∙ ap (λ (x : Input). x.slot) waits.input, leaves_from c w i.slot a b d i.reader i2.reader s s2 told_b waits.rest from_s)
+
+          earlier_left : (q : ℕ) (j j' : Input) (u u' : Shelf) → q < k → At q ins shelves j u → At q ins' shelves' j' u' → Left j j' u u'
+          earlier_left q j j' u u' less first now =
+              let h = round.done q j j' u u' less first now in
+              let same = others_left a b ins ins' are round.touches round.slots k i1 at.input d t.reads q j' (λ e. omega arith) now.input in
+              (h.took.slot, took_leaves c w a b d j j' u u' (subst (λ (n : ℕ). d.left n ≡ b.left n) h.took.slot same) h.took)
+
+          later_left : (q : ℕ) (j j' : Input) (u u' : Shelf) → k < q → At q ins shelves j u → At q ins' shelves' j' u' → Left j j' u u'
+          later_left q j j' u u' more first now =
+              let h = round.waits q j j' u u' (omega arith) first now in
+              let same = others_left a b ins ins' are round.touches round.slots k i1 at.input d t.reads q j' (λ e. omega arith) now.input in
+              (ap (λ (x : Input). x.slot) h.input, waits_leaves c w a d j j' u u' h.input h.shelf (subst (λ (x : Input). d.left x.slot ≡ b.left x.slot) h.input same ∙ h.rest))
 
       pub turn_taken : TakesWindow c (k + 1) w i1.slot b d i1.reader i2.reader s1 s2 mid left (Ok tt) → Round c w (k + 1) a d ins (set ins' k i2) shelves (set shelves' k s2) had left
       turn_taken t =
@@ -254,6 +308,8 @@ module _ (c : Settings) (w k : ℕ) (a b : Seen) (ins ins' : List Input) (shelve
                 let n = so_far.bytes in
                 let sum = counts_set shelves' k s1 s2 at.shelf in
                 record { frames = omega arith; bytes = omega arith };
+            bytes = let own = t.taking.spent in let m = own.bytes in let n = t.taking.count in let h = round.bytes in omega arith;
+            frames = let own = t.taking.spent in let m = own.frames in let n = t.taking.count in let h = round.frames in omega arith;
             looks = λ told first late.
                 let l = t.taking.looks (told_b told) in
                 let one = one_takes d l.0 (to_look c (k + 1) d i1.slot i2.reader s2.count s2.next) (λ q j u ne h. others_left a b ins ins' are round.touches round.slots k i1 at.input d t.reads q j ne h.input) l.1 l.2 in
@@ -288,12 +344,11 @@ module _ (c : Settings) (w k : ℕ) (a b : Seen) (ins ins' : List Input) (shelve
             beyond = beyond_is c w i.reader.greatest i2.reader.greatest s.next s2.next waits.ready.last waits.from g.ready.last t.beyond g.onward g.still;
           }
 
-          less_is : TakesWindow c (k + 1) w i1.slot b d i1.reader i2.reader s1 s2 mid left (Ok tt) → (left.bytes ≤ mid.bytes) × (left.frames ≤ mid.frames)
+          less_is : TakesWindow c (k + 1) w i1.slot b d i1.reader i2.reader s1 s2 mid left (Ok tt) → left.frames ≤ mid.frames
           less_is t =
               let own = t.taking.spent in
               let f = own.frames in
-              let m = own.bytes in
-              let n = t.taking.count in (omega arith, omega arith)
+              let n = t.taking.count in omega arith
 
           others_done : (q : ℕ) (j j' : Input) (u u' : Shelf) → q < k → At q ins shelves j u → At q ins' shelves' j' u' → TakesWindow c (k + 1) w i1.slot b d i1.reader i2.reader s1 s2 mid left (Ok tt) → Done c w a d j j' u u' left
           others_done q j j' u u' less first now t =
@@ -313,7 +368,7 @@ module _ (c : Settings) (w k : ℕ) (a b : Seen) (ins ins' : List Input) (shelve
                   chain = λ told. subst (λ (l : List ℕ). Chain j.reader.head j.reader.greatest h.took.given (to_come j.reader a j.slot) (j'.reader.held ++ l)) (sym at_j) (h.took.chain told);
                   ended = λ told some none. ap (λ (l : List ℕ). j'.reader.held ++ l) at_j ∙ h.took.ended told some none;
                 };
-                ready = smaller j'.reader u'.next u'.count mid left fewer.0 fewer.1 h.ready;
+                ready = smaller j'.reader u'.next u'.count mid left fewer h.ready;
                 beyond = h.beyond;
               }
 
@@ -326,7 +381,7 @@ module _ (c : Settings) (w k : ℕ) (a b : Seen) (ins ins' : List Input) (shelve
                 input = h.input;
                 shelf = h.shelf;
                 rest = subst (λ (x : Input). d.left x.slot ≡ b.left x.slot) h.input same ∙ h.rest;
-                ready = smaller j.reader u.next u.count mid left fewer.0 fewer.1 h.ready;
+                ready = smaller j.reader u.next u.count mid left fewer h.ready;
                 from = h.from;
               }
 
@@ -341,6 +396,8 @@ round_none c w a ins shelves had ready = record {
       let h = ready q i s first in
       record { input = some_is (slice_get ins q) i' i now.input first.input; shelf = some_is (slice_get shelves q) s' s now.shelf first.shelf; rest = refl; ready = h.0; from = h.1 };
   spent = record { frames = omega arith; bytes = omega arith };
+  bytes = omega arith;
+  frames = omega arith;
   looks = λ told first late. refl;
 }
 
@@ -356,10 +413,13 @@ round_all c w k a b ins ins' shelves shelves' had left le count r = record {
       let h = r.done q (get_or ins q i') i' (get_or shelves q s') s' (omega arith) (record { input = slice_get-get_or ins q i' (omega arith); shelf = slice_get-get_or shelves q s' (omega arith) }) now in (h.ready, h.beyond);
   took = λ q i i' s s' first now. let less = slice_get_within ins q i first.input in (r.done q i i' s s' (omega arith) first now).took;
   spent = r.spent;
+  leaves = tt;
+  takes = record { slots = r.slots; bytes = r.bytes; frames = r.frames };
   looks = λ told first late. r.looks told first late;
   stops = λ told. tt;
   cause = λ e. absurd (cc);
   only = tt;
+  in_span = tt;
 }
 
 pub taken_as : {c : Settings} {m n w slot : ℕ} {a b : Seen} {r r' : Reading} {s s' : Shelf} {had left : Budget} {result : Result (Unit {0}) RunFault} → n ≡ m → TakesWindow c m w slot a b r r' s s' had left result → TakesWindow c n w slot a b r r' s s' had left result

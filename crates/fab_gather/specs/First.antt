@@ -1,5 +1,5 @@
 -- The looks at the first records, and which window comes next.
-use Rattle.std.specs.Prelude.{◌≡◌, ◌≢◌, ℕ, ◌≤◌, ◌<◌, IsTrue, List, [], ◌∷◌, length, map, Option, Some, None, IfSome, Result, IfOk, IfErr, IsErrOf, option_to_list, slice_get, Vec}
+use Rattle.std.specs.Prelude.{◌≡◌, ◌≢◌, ℕ, ◌≤◌, ◌<◌, IsTrue, List, [], ◌∷◌, length, map, Option, Some, None, IfSome, Result, IfOk, OnErr, IfErr, IsErrOf, option_to_list, slice_get, Vec}
 use Rattle.std.specs.declared.alloc.Global.{Global}
 use Rattle.fab_base.specs.Seen.{Seen, Reads, Rose, Touches, Nothing}
 use Rattle.fab_config.specs.Settings.{Settings}
@@ -14,8 +14,8 @@ use Rattle.fab_gather.specs.declared.shelf.Input.{Input}
 use Rattle.fab_gather.specs.declared.shelf.Shelf.{Shelf}
 use Rattle.fab_gather.specs.declared.fault.RunFault.{RunFault}
 use Rattle.fab_gather.specs.declared.fault.RunFault.TheVariants as fault
-use Rattle.fab_gather.specs.Port.{IsReady, Spends, to_look, ending, IsStopped}
-use Rattle.fab_gather.specs.Ports.{slots_of, name_of, NameIn, rests, joined, stop_from, AreReady, counts_of}
+use Rattle.fab_gather.specs.Port.{IsReady, Spends, Gave, to_look, ending, IsStopped}
+use Rattle.fab_gather.specs.Ports.{slots_of, name_of, NameIn, TakesFrom, rests, joined, stop_from, AreReady, counts_of}
 use Rattle.fab_gather.specs.Reads.{HaveRead}
 
 -- ---- the captures that are handed in
@@ -61,11 +61,18 @@ pub record StopsFirst (c : Settings) (port : ℕ) (o : Opened) (had : Budget) (e
   pub are : looks c port (first_spot o) ≡ first_look port o ∷ behind
   pub says : (first : ℕ) (rest : List Look) → (s : Stop) × (stop_in first had.bytes had.frames (first_look port o ∷ rest) ≡ Some s) × (ending s ≡ e) × (s.window ≡ None)
 
+-- What a refusal leaves of each port: its reader gave the first record, or none.
+pub record LeavesFirst (a b : Seen) (i i' : Input) : Type 0 where
+  pub slot : i'.slot ≡ i.slot
+  pub given : Option Record
+  pub gave : Gave i.slot a b i.reader i'.reader (option_to_list given)
+
 -- What looking at the first record of one port does.
 pub record LooksOnce (c : Settings) (port slot : ℕ) (a b : Seen) (r r' : Reading) (had left : Budget) (result : Result Shelf RunFault) : Type 0 where
   pub reads : Reads (a.name slot) a b
   pub looked : IfOk result (λ s. Looked c port slot a b r r' s had left)
   pub stops : IsTrue a.told → IfErr result (λ e. IsStopped e → StopsFirst c port (opened_by a slot r) had e)
+  pub leaves : OnErr result (Gave slot a b r r' [] × (left ≡ had))
   pub cause : IsErrOf result fault.Read → Rose (a.read_faults (a.name slot)) (b.read_faults (a.name slot))
   pub only : IfErr result (λ e. e ≢ fault.Write)
 
@@ -80,6 +87,9 @@ pub record LooksFirst (c : Settings) (a b : Seen) (ins ins' : List Input) (had l
   pub spent : IfOk result (λ v. Spends had left 0 (counts_of v.items))
   pub looks_ : IsTrue a.told → IfOk result (λ v. stop c had.bytes had.frames (opened_in a ins) ≡ stop_from c (first_window (in_order (joined (rests c 1 b ins' v.items)))) b ins' v.items left)
   pub stops : IsTrue a.told → IfErr result (λ e. IsStopped e → (s : Stop) × (stop c had.bytes had.frames (opened_in a ins) ≡ Some s) × (ending s ≡ e) × (s.window ≡ None))
+  pub leaves : OnErr result ((q : ℕ) (i i' : Input) → slice_get ins q ≡ Some i → slice_get ins' q ≡ Some i' → LeavesFirst a b i i')
+  pub found : (found : ℕ) × Spends had left 0 found
+  pub takes : TakesFrom ins ins' had left
   pub cause : IsErrOf result fault.Read → (q : ℕ) × (q < length ins) × Rose (a.read_faults (name_of a (slots_of ins) q)) (b.read_faults (name_of a (slots_of ins) q))
   pub only : IfErr result (λ e. e ≢ fault.Write)
 

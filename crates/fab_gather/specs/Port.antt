@@ -1,10 +1,9 @@
 -- The records of a window, taken of one port's capture.
-use Rattle.std.specs.Prelude.{◌≡◌, ◌≢◌, ℕ, ◌+◌, ◌-◌, ◌*◌, ◌^◌, ◌≤◌, ◌<◌, Bool, false, IsTrue, List, [], ◌∷◌, ◌++◌, length, Option, Some, None, IfSome, Result, OnOk, IfErr, IsErrOf, option_to_list, nat_lt, ◌==◌}
+use Rattle.std.specs.Prelude.{◌≡◌, ◌≢◌, ℕ, ◌+◌, ◌-◌, ◌*◌, ◌^◌, ◌≤◌, ◌<◌, ◌⊎◌, Bool, false, IsTrue, List, [], ◌∷◌, ◌++◌, length, Option, Some, None, IfSome, Result, OnOk, OnErr, IfErr, IsErrOf, option_to_list, nat_lt, ◌==◌}
 use Rattle.fab_base.specs.Seen.{Seen, Reads, Rose}
 use Rattle.fab_config.specs.Settings.{Settings}
 use Rattle.fab_policy.specs.Legal.{window_start}
-use Rattle.fab_policy.specs.Looks.{Spot, Look, looks, stop_in, Stop, Reason, Fails, Span}
-use Rattle.fab_policy.specs.declared.looks.TheConstants.{MOST_SPAN}
+use Rattle.fab_policy.specs.Looks.{Spot, Look, looks, stop_in, Stop, Reason, Fails, Span, MOST_SPAN}
 use Rattle.pcap_file.specs.Capture.{RECORD_HEAD}
 use Rattle.pcap_file.specs.Reading.{Reading, to_come, error_of}
 use Rattle.pcap_file.specs.Records.{Chain, last_moment}
@@ -57,12 +56,11 @@ to_look c port d slot r count None = []
 to_look c port d slot r count (Some x) = looks c port (spot_of d slot r count (Some (window_start c x.moment)))
 
 -- What stands for a port's reader and shelf while no look failed: the record that was looked at last is the last that was
--- found, and neither places nor counts come to their types' ends.
+-- found, and counts don't come to their types' ends.
 pub record IsReady (r : Reading) (ahead : Option Record) (found : ℕ) (budget : Budget) : Type 0 where
   pub fresh : r.kept ≡ None
   pub last : IfSome ahead (λ x. r.greatest ≡ x.moment)
   pub early : IfSome ahead (λ x. x.moment < 2 ^ 43)
-  pub place : r.at + budget.bytes < 2 ^ 64
   pub few : found + budget.frames < 2 ^ 64
 
 -- What records take of the limits, of which so many were found before and so many now.
@@ -118,11 +116,37 @@ pub record StopsIn (port w : ℕ) (had : Budget) (looks : List Look) (e : RunFau
   pub says : (first : ℕ) (rest : List Look) → nat_lt MOST_SPAN (w - first) ≡ false →
       (s : Stop) × (stop_in first had.bytes had.frames (made ++ failing ∷ rest) ≡ Some s) × (ending s ≡ e) × (s.window ≡ Some w)
 
+-- These records a reader gave, however it ended: they stand next in its capture, and what is to come stands behind them. Where it
+-- keeps an error, what it fetched behind them may be lost.
+pub record Gave (slot : ℕ) (a b : Seen) (r r' : Reading) (given : List Record) : Type 0 where
+  pub head : r'.head ≡ r.head
+  pub greatest : r'.greatest ≡ last_moment r.greatest given
+  pub rest : List ℕ
+  pub chain : IsTrue a.told → Chain r.head r.greatest given (to_come r a slot) rest
+  pub stands : IsTrue a.told → r'.kept ≡ None → rest ≡ to_come r' b slot
+
+-- A shelf has records of the window, those that were there to take; the last of them may be lost where memory is refused.
+pub record HasSome (c : Settings) (w : ℕ) (given : List Record) (s s' : Shelf) : Type 0 where
+  pub in_window : AreIn c w s'.batch.items
+  pub lost : List Record
+  pub order : option_to_list s.next ++ given ≡ s'.batch.items ++ lost ++ option_to_list s'.next
+  pub last : length lost ≤ 1
+
+-- What a refusal leaves of one port: its reader gave some records, which are counted, and its shelf is as it was, or has those of
+-- the window that came first.
+pub record LeavesPort (c : Settings) (w slot : ℕ) (a b : Seen) (r r' : Reading) (s s' : Shelf) : Type 0 where
+  pub given : List Record
+  pub gave : Gave slot a b r r' given
+  pub count : s'.count ≡ s.count + length given
+  pub shelf : ((s' ≡ s) × (given ≡ [])) ⊎ HasSome c w given s s'
+
 -- What taking the records of a window of one port does.
 pub record TakesWindow (c : Settings) (port w slot : ℕ) (a b : Seen) (r r' : Reading) (s s' : Shelf) (had left : Budget) (result : Result (Unit {0}) RunFault) : Type 0 where
   pub reads : Reads (a.name slot) a b
   pub taking : OnOk result (Taking c port w slot a b r r' s s' had left)
   pub beyond : OnOk result (IfSome s'.next (λ x. window_start c x.moment ≢ w))
   pub stops : IsTrue a.told → IfErr result (λ e. IsStopped e → StopsIn port w had (to_look c port a slot r s.count s.next) e)
+  pub leaves : OnErr result (LeavesPort c w slot a b r r' s s' × Spends had left s.count s'.count)
+  pub in_span : IfErr result (λ e. e ≢ fault.Limit limit.Span)
   pub cause : IsErrOf result fault.Read → Rose (a.read_faults (a.name slot)) (b.read_faults (a.name slot))
   pub only : IfErr result (λ e. e ≢ fault.Write)

@@ -1,19 +1,19 @@
 -- The records of a window, taken of all ports in their order.
-use Rattle.std.specs.Prelude.{◌≡◌, ◌≢◌, ℕ, ◌+◌, ◌-◌, ◌≤◌, ◌<◌, false, IsTrue, List, [], ◌∷◌, ◌++◌, length, map, Option, Some, None, IfSome, Result, OnOk, IfErr, IsErrOf, option_to_list, nat_lt, slice_get, slice_index}
+use Rattle.std.specs.Prelude.{◌≡◌, ◌≢◌, ℕ, ◌+◌, ◌-◌, ◌≤◌, ◌<◌, false, IsTrue, List, [], ◌∷◌, ◌++◌, length, map, Option, Some, None, IfSome, Result, OnOk, OnErr, IfErr, IsErrOf, option_to_list, nat_lt, slice_get, slice_index}
 use Rattle.fab_base.specs.Seen.{Seen, Rose, Touches, Nothing}
 use Rattle.fab_config.specs.Settings.{Settings}
 use Rattle.fab_policy.specs.Legal.{window_start}
-use Rattle.fab_policy.specs.Looks.{Look, in_order, stop_in, Stop}
-use Rattle.fab_policy.specs.declared.looks.TheConstants.{MOST_SPAN}
+use Rattle.fab_policy.specs.Looks.{Look, in_order, stop_in, Stop, MOST_SPAN}
 use Rattle.pcap_file.specs.Reading.{to_come}
 use Rattle.pcap_file.specs.Records.{Chain, last_moment}
 use Rattle.pcap_file.specs.declared.Budget.{Budget}
 use Rattle.pcap_file.specs.declared.Record.{Record}
 use Rattle.fab_gather.specs.declared.shelf.Input.{Input}
 use Rattle.fab_gather.specs.declared.shelf.Shelf.{Shelf}
+use Rattle.fab_gather.specs.declared.fault.LimitKind.TheVariants as limit
 use Rattle.fab_gather.specs.declared.fault.RunFault.{RunFault}
 use Rattle.fab_gather.specs.declared.fault.RunFault.TheVariants as fault
-use Rattle.fab_gather.specs.Port.{IsReady, Spends, AreIn, to_look, ending, IsStopped}
+use Rattle.fab_gather.specs.Port.{IsReady, Spends, AreIn, to_look, ending, IsStopped, LeavesPort}
 
 -- ---- slots
 
@@ -35,6 +35,12 @@ NameIn d slots m = (q : ℕ) × (q < length slots) × (m ≡ name_of d slots q)
 pub record AreInputs (d : Seen) (slots : List ℕ) : Type 0 where
   pub inputs : (q : ℕ) → q < length slots → IsTrue (d.input (slot_at slots q))
   pub differ : (p q : ℕ) → p < length slots → q < length slots → name_of d slots p ≡ name_of d slots q → p ≡ q
+
+-- What captures and limits are after they were read, however that ended: the same slots, and no more of each limit.
+pub record TakesFrom (ins ins' : List Input) (had left : Budget) : Type 0 where
+  pub slots : slots_of ins' ≡ slots_of ins
+  pub bytes : left.bytes ≤ had.bytes
+  pub frames : left.frames ≤ had.frames
 
 -- ---- the looks to come
 
@@ -83,6 +89,10 @@ pub record Took (c : Settings) (w : ℕ) (a b : Seen) (i i' : Input) (s s' : She
 abbrev pub TookAll : Settings → ℕ → Seen → Seen → List Input → List Input → List Shelf → List Shelf → Type 0
 TookAll c w a b ins ins' shelves shelves' = (q : ℕ) (i i' : Input) (s s' : Shelf) → At q ins shelves i s → At q ins' shelves' i' s' → Took c w a b i i' s s'
 
+-- What a refusal leaves of each port.
+abbrev pub LeavesAll : Settings → ℕ → Seen → Seen → List Input → List Input → List Shelf → List Shelf → Type 0
+LeavesAll c w a b ins ins' shelves shelves' = (q : ℕ) (i i' : Input) (s s' : Shelf) → At q ins shelves i s → At q ins' shelves' i' s' → (i'.slot ≡ i.slot) × LeavesPort c w i.slot a b i.reader i'.reader s s'
+
 -- What taking the records of a window of all ports does: after it the looks to come stop where they stopped before it, or it
 -- ends as the first stop among them says.
 pub record TakesAll (c : Settings) (w : ℕ) (a b : Seen) (ins ins' : List Input) (shelves shelves' : List Shelf) (had left : Budget) (result : Result (Unit {0}) RunFault) : Type 0 where
@@ -91,8 +101,11 @@ pub record TakesAll (c : Settings) (w : ℕ) (a b : Seen) (ins ins' : List Input
   pub count : length shelves' ≡ length shelves
   pub ready : OnOk result (AreReady c (w + 1) ins' shelves' left)
   pub took : OnOk result (TookAll c w a b ins ins' shelves shelves')
-  pub spent : OnOk result (Spends had left (counts_of shelves) (counts_of shelves'))
+  pub spent : Spends had left (counts_of shelves) (counts_of shelves')
+  pub leaves : OnErr result (LeavesAll c w a b ins ins' shelves shelves')
+  pub takes : TakesFrom ins ins' had left
   pub looks : IsTrue a.told → OnOk result ((first : ℕ) → nat_lt MOST_SPAN (w - first) ≡ false → stop_from c first a ins shelves had ≡ stop_from c first b ins' shelves' left)
   pub stops : IsTrue a.told → IfErr result (λ e. IsStopped e → (first : ℕ) → nat_lt MOST_SPAN (w - first) ≡ false → (s : Stop) × (stop_from c first a ins shelves had ≡ Some s) × (ending s ≡ e) × (s.window ≡ Some w))
   pub cause : IsErrOf result fault.Read → (q : ℕ) × (q < length ins) × Rose (a.read_faults (name_of a (slots_of ins) q)) (b.read_faults (name_of a (slots_of ins) q))
   pub only : IfErr result (λ e. e ≢ fault.Write)
+  pub in_span : IfErr result (λ e. e ≢ fault.Limit limit.Span)

@@ -1,5 +1,5 @@
 //! The look at the first record of each port's capture.
-ghost use Rattle.std.specs.Prelude.{◌≡◌, ◌+◌, ◌≤◌, ◌<◌, ◌^◌, IsTrue, length};
+ghost use Rattle.std.specs.Prelude.{◌≡◌, ◌≤◌, ◌<◌, ◌^◌, IsTrue, length};
 ghost use Rattle.fab_config.specs.Settings.{Settings};
 ghost use Rattle.fab_gather.specs.First.{AreFresh, IsFresh, LooksFirst, LooksOnce};
 ghost use Rattle.fab_gather.specs.Ports.{AreInputs, slots_of};
@@ -21,7 +21,6 @@ pub fn first_looks<D: Depot>(
     requires ports { length ins.old ≤ 64 }
     requires inputs { AreInputs (D.seen depot.old) (slots_of ins.old) }
     requires fresh { AreFresh ins.old }
-    requires budget { (budget.old.bytes + 24 < 2 ^ 64) × (budget.old.frames < 2 ^ 64) }
     ensures looks { (c : Settings) → LooksFirst c (D.seen depot.old) (D.seen depot.new) ins.old
         ins.new budget.old budget.new result }
 {
@@ -49,13 +48,13 @@ fn look<D: Depot>(
 ) -> Result<Shelf, RunFault>
     requires input { IsTrue ((D.seen depot.old).input input.old.slot) }
     requires fresh { IsFresh input.old.reader }
-    requires budget { (budget.old.bytes + 24 < 2 ^ 64) × (budget.old.frames < 2 ^ 64) }
     ensures slot { input.new.slot ≡ input.old.slot }
     ensures looks { (c : Settings) → LooksOnce c port input.old.slot (D.seen depot.old)
         (D.seen depot.new) input.old.reader input.new.reader budget.old budget.new result }
 {
     looks_go_on();
     steps_find_the_stop();
+    let _few = frames_left(budget);
     match input.reader.next(alloc, depot, input.slot, budget) {
         Ok(next) => Ok(Shelf {
             batch: Vec::new(alloc),
@@ -64,4 +63,11 @@ fn look<D: Depot>(
         }),
         Err(error) => Err(fault_of(error, port)),
     }
+}
+
+// The frames that are left, a number of 64 bits.
+fn frames_left(budget: &Budget) -> u64
+    ensures { budget.now.frames < 2 ^ 64 }
+{
+    budget.frames
 }

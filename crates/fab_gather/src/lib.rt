@@ -12,7 +12,7 @@ mod window;
 
 pub use fault::{CapWhy, LimitKind, RunFault};
 pub use first::first_looks;
-pub use gathering::gather;
+pub use gathering::{MOST_SPAN, gather};
 pub use laws::{looks_to_come, records_are_read, windows_move_on};
 pub use ports::take_windows;
 pub use shelf::{Input, Shelf};

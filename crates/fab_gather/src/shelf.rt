@@ -1,5 +1,5 @@
 //! What stands of one port while its capture is taken.
-ghost use Rattle.std.specs.Prelude.{◌≡◌, ◌+◌, ◌^◌, ◌<◌, ◌++◌, OnOk, option_to_list, length};
+ghost use Rattle.std.specs.Prelude.{◌≡◌, ◌≢◌, ◌+◌, ◌^◌, ◌<◌, ◌++◌, None, OnOk, OnErr, option_to_list, length};
 
 use fab_base::NoMemory;
 use pcap_file::{Reader, Record};
@@ -22,16 +22,18 @@ pub struct Shelf {
 }
 
 impl Shelf {
-    ghost use Rattle.std.specs.Prelude.{◌≡◌, ◌+◌, ◌^◌, ◌<◌, ◌++◌, OnOk, option_to_list, length};
+    ghost use Rattle.std.specs.Prelude.{◌≡◌, ◌≢◌, ◌+◌, ◌^◌, ◌<◌, ◌++◌, None, OnOk, OnErr, option_to_list, length};
 
     // Puts the record that was looked at into the batch, and the next one, or none, into its place.
+    // Where memory is refused it is lost.
     pub(crate) fn turn(&mut self, next: Option<Record>) -> Result<(), NoMemory>
         requires { self.old.count + length (option_to_list next) < 2 ^ 64 }
         ensures batch { OnOk result
             (self.new.batch.items ≡ self.old.batch.items ++ option_to_list self.old.next) }
-        ensures next { OnOk result (self.new.next ≡ next) }
-        ensures count { OnOk result
-            (self.new.count ≡ self.old.count + length (option_to_list next)) }
+        ensures kept { OnErr result (self.new.batch.items ≡ self.old.batch.items) }
+        ensures lost { OnErr result (self.old.next ≢ None) }
+        ensures next { self.new.next ≡ next }
+        ensures count { self.new.count ≡ self.old.count + length (option_to_list next) }
     {
         if next.is_some() {
             self.count += 1;

@@ -4,11 +4,10 @@ use Rattle.fab_base.specs.declared.values.Caught.{Caught}
 use Rattle.fab_config.specs.Settings.{Settings}
 use Rattle.fab_policy.specs.Legal.{window_start}
 use Rattle.pcap_file.specs.Capture.{HEAD, RECORD_HEAD, Next, Found, next, records_from}
-use Rattle.pcap_file.specs.Reading.{Why, failure, error_of, Step, Gives, Ends, Stops, step_of}
+use Rattle.pcap_file.specs.Reading.{Why, failure, error_of, Step, Gives, Ends, Stops, step_of, place_after}
 use Rattle.pcap_file.specs.declared.Budget.{Budget}
 use Rattle.pcap_file.specs.declared.CaptureHead.{CaptureHead}
 use Rattle.pcap_file.specs.declared.Record.{Record}
-use Rattle.fab_policy.specs.declared.looks.TheConstants.{MOST_SPAN}
 
 -- ---- looks
 
@@ -46,9 +45,9 @@ found_at s = next s.head s.greatest s.bytes
 abbrev pub look_at : ℕ → Spot → Look
 look_at port s = record { port = port; index = s.index; at = s.at; window = s.window; found = found_at s }
 
--- behind a record; the look there belongs to the record's window
+-- behind a record; the look there belongs to the record's window, and places stay at the last number of 64 bits
 abbrev pub behind : Settings → Spot → ℕ → Caught → List ℕ → Spot
-behind c s moment caught rest = record { head = s.head; index = s.index + 1; at = s.at + record_size caught; window = Some (window_start c moment); greatest = moment; bytes = rest }
+behind c s moment caught rest = record { head = s.head; index = s.index + 1; at = place_after s.at (record_size caught); window = Some (window_start c moment); greatest = moment; bytes = rest }
 
 -- the looks from a spot on, of which there are at most n
 abbrev pub looks_from : Settings → ℕ → ℕ → Spot → List Look
@@ -100,6 +99,10 @@ pub record Stop : Type 0 where
   pub port : ℕ
   pub at : ℕ
   pub window : Option ℕ
+
+-- the most milliseconds from the first window of a run to its last: six hours
+abbrev pub MOST_SPAN : ℕ
+MOST_SPAN = 21600000
 
 -- a look's window starts too long after the first window
 abbrev pub is_too_late : ℕ → Option ℕ → Bool

@@ -29,7 +29,7 @@ pub use laws::{
 };
 pub use line::{Format, Line};
 pub use lines::{write_frame_line, write_head_line, write_line, write_line1, write_tick_line};
-pub use looks::{MOST_SPAN, looks_go_on, steps_find_the_stop, stops_keep_what_is_before};
+pub use looks::{looks_go_on, steps_find_the_stop, stops_keep_what_is_before};
 pub use named::journal_is_named;
 pub use ranged::{known, known_verdict};
 pub use reading::{LineError, read_line};

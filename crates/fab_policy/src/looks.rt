@@ -1,9 +1,6 @@
-//! How far captures may reach in time, and the laws of the looks at them.
+//! The laws of the looks at captures.
 ghost use Rattle.fab_policy.specs.Keeping.{StopsAhead, KeepsBefore, KeepsJust, KeepsAll};
 ghost use Rattle.fab_policy.specs.Looks.{LooksFound, LooksEnd, StepsFindStop, LateIsStop};
-
-/// The most milliseconds from the first window of a run to its last, six hours.
-pub const MOST_SPAN: u64 = 21_600_000;
 
 /// Behind a record the looks at a capture go on, and elsewhere they end.
 pub fn looks_go_on()

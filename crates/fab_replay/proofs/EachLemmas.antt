@@ -2,12 +2,14 @@
 use Rattle.std.proofs.Common.{◌≡◌, ◌≢◌, ℕ, zero, suc, ◌+◌, ◌<◌, ◌≤◌, ◌⊎◌, inl, inr, List, [], ◌∷◌, ◌++◌, length, set, slice_get, get_or, Option, None, Some, Ok, Err, IsTrue, refl, sym, ◌∙◌, ap, subst, arith}
 use Rattle.std.specs.Prelude.{Vec}
 use Rattle.std.specs.declared.alloc.Global.{Global}
+use Rattle.std.proofs.lemmas.List.{append-nil}
 use Rattle.std.proofs.lemmas.Option.{slice_get_within}
 use Rattle.fab_base.specs.Seen.{Seen, Reads, Rose, Touches, Nothing, Only}
 use Rattle.fab_base.specs.declared.values.Failed.{Failed}
 use Rattle.fab_base.proofs.SeenLemmas.{rose_later, touches_refl, touches_trans, touches_wider, reads_touches}
 use Rattle.fab_replay.specs.AllOutputs.{page_at, AreRead, OneRose, FeedsEach, FinishesEach}
-use Rattle.fab_replay.specs.Outputs.{IsRead, Feeds, Finishes}
+use Rattle.fab_replay.specs.Outputs.{IsRead, GoesPart, Feeds, Finishes}
+use Rattle.fab_replay.proofs.OutputLemmas.{part_none}
 use Rattle.fab_gather.specs.Ports.{AreInputs, slot_at, name_of, NameIn}
 use Rattle.fab_replay.specs.declared.outputs.Compared.{Compared}
 
@@ -118,13 +120,51 @@ module _ (slots : List ℕ) (pages : List (Vec ℕ Global)) (k : ℕ) (a b d : S
       own : IsTrue a.told → (q : ℕ) → q ≡ k → (c c' : Compared) → slice_get all q ≡ Some c → slice_get (set all' k y) q ≡ Some c' → (found wanted : List ℕ) → IsRead c found (a.left (slot_at slots q)) wanted → IsRead c' found (d.left (slot_at slots q)) (wanted ++ page_at pages q)
       own told q e = subst (λ (n : ℕ). (c c' : Compared) → slice_get all n ≡ Some c → slice_get (set all' k y) n ≡ Some c' → (found wanted : List ℕ) → IsRead c found (a.left (slot_at slots n)) wanted → IsRead c' found (d.left (slot_at slots n)) (wanted ++ page_at pages n)) (sym e) (at_own told)
 
-  pub feed_failed : (page : List ℕ) (e : Failed) → Feeds (slot_at slots k) page b d x y (Err e) → FeedsEach slots pages a d all (set all' k y) (Err e)
-  feed_failed page e feeds = record {
+  pub feed_failed : (page : List ℕ) (e : Failed) → page ≡ page_at pages k → Feeds (slot_at slots k) page b d x y (Err e) → FeedsEach slots pages a d all (set all' k y) (Err e)
+  feed_failed page e is feeds = record {
     touches = touches_on slots k a b d are lt f.touches feeds.reads;
     count = length-set all' k y ∙ f.count;
     read = λ told. tt;
+    part = λ q c c' at at'. elim (less_or_more q k) [
+      | inl before ↦ earlier q c c' before at (sym (get_set_other all' k q y (λ e. omega arith)) ∙ at')
+      | inr (inl here) ↦ own q here c c' at at'
+      | inr (inr behind) ↦
+          let same_c : c ≡ c' = some_is (slice_get all q) c c' at (sym (f.rest q (omega arith)) ∙ (sym (get_set_other all' k q y (λ e. omega arith)) ∙ at')) in
+          subst (GoesPart (slot_at slots q) (page_at pages q) a c) same_c (part_none (slot_at slots q) (page_at pages q) a c)
+    ];
     cause = rose_on slots k a b d are lt f.touches feeds.cause;
   }
+    where
+      less_or_more : (q n : ℕ) → (q < n) ⊎ ((q ≡ n) ⊎ (n < q))
+      less_or_more q n = grind arith
+
+      earlier : (q : ℕ) (c c' : Compared) → q < k → slice_get all q ≡ Some c → slice_get all' q ≡ Some c' → GoesPart (slot_at slots q) (page_at pages q) a c c'
+      earlier q c c' before at at' = record {
+        front = page_at pages q;
+        rest = [];
+        parts = sym (append-nil (page_at pages q));
+        left = b.left (slot_at slots q);
+        read = λ told found wanted r. f.done told q before (omega arith) c c' at at' found wanted r;
+      }
+
+      at_own : (c c' : Compared) → slice_get all k ≡ Some c → slice_get (set all' k y) k ≡ Some c' → GoesPart (slot_at slots k) (page_at pages k) a c c'
+      at_own c c' at at' =
+          let was : c ≡ x = some_is (slice_get all' k) c x (f.rest k (omega arith) ∙ at) at_k in
+          let now : y ≡ c' = some_is (slice_get (set all' k y) k) y c' (get_set_same all' k y (let n = f.count in omega arith)) at' in
+          let p = feeds.part in
+          record {
+            front = p.front;
+            rest = p.rest;
+            parts = sym is ∙ p.parts;
+            left = p.left;
+            read = λ told found wanted r.
+                subst (λ z. IsRead z found p.left (wanted ++ p.front)) now
+                (p.read (told_on slots k a b d are lt f.touches told) found wanted
+                (subst (λ z. IsRead z found (b.left (slot_at slots k)) wanted) was (subst (λ l. IsRead c found l wanted) (sym (f.left k (omega arith) lt)) r)));
+          }
+
+      own : (q : ℕ) → q ≡ k → (c c' : Compared) → slice_get all q ≡ Some c → slice_get (set all' k y) q ≡ Some c' → GoesPart (slot_at slots q) (page_at pages q) a c c'
+      own q e = subst (λ (n : ℕ). (c c' : Compared) → slice_get all n ≡ Some c → slice_get (set all' k y) n ≡ Some c' → GoesPart (slot_at slots n) (page_at pages n) a c c') (sym e) at_own
 
 pub feed_all_of : (slots : List ℕ) (pages : List (Vec ℕ Global)) (k : ℕ) (a b : Seen) (all all' : List Compared) → length slots ≡ length all → length slots ≤ k → Feeding slots pages k a b all all' → FeedsEach slots pages a b all all' (Ok tt)
 feed_all_of slots pages k a b all all' same le f = record {
@@ -135,6 +175,7 @@ feed_all_of slots pages k a b all all' same le f = record {
       let first : q < length all = let n = f.count in omega arith in
       let was = item_at all q first in
       f.done told q (omega arith) (omega arith) was.0 c' was.1 at' (found q) (wanted q) (are q was.0 was.1);
+  part = tt;
   cause = tt;
 }
   where

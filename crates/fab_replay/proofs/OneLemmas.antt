@@ -377,7 +377,7 @@ outside n p (event.Tick m ended ∷ J) h out = outside n p J h out
 outside n p (event.Frame port index caught v ∷ J) h out =
     of_port_other port index p caught v J (λ e. elim out [ inl zero_is ↦ let one = h.1 in omega (arith, e, zero_is, one) | inr far ↦ let most = h.2 in omega (arith, e, far, most) ]) ∙ outside n p J h.0 out
 
-same_frames : (ins : List (List Record)) (I J : Journal) → HasPorts (length ins) I → HasPorts (length ins) J → HoldsFrames I 1 ins → HoldsFrames J 1 ins → (p : ℕ) → of_port p I ≡ of_port p J
+pub same_frames : (ins : List (List Record)) (I J : Journal) → HasPorts (length ins) I → HasPorts (length ins) J → HoldsFrames I 1 ins → HoldsFrames J 1 ins → (p : ℕ) → of_port p I ≡ of_port p J
 same_frames ins I J a b x y zero = outside (length ins) 0 I a (inl refl) ∙ sym (outside (length ins) 0 J b (inl refl))
 same_frames ins I J a b x y (suc q) = elim (le_or_lt (length ins) q) [
   | inl far ↦

@@ -1,11 +1,11 @@
 -- A file against wanted bytes, one piece after another.
 use Rattle.std.proofs.Common.{◌≡◌, ℕ, zero, suc, ◌+◌, false, is_some, drop, Ok, ◌-◌, ◌^◌, ◌<◌, ◌≤◌, ◌⊎◌, inl, inr, min, List, [], ◌∷◌, ◌++◌, length, length-append, take, slice_get, Option, None, Some, IsTrue, refl, sym, ◌∙◌, ap, subst, arith, append_assoc}
-use Rattle.std.proofs.lemmas.List.{append-nil, take-append-le, length-take-le}
+use Rattle.std.proofs.lemmas.List.{append-nil, take-append-drop, take-append-le, length-take-le}
 use Rattle.std.proofs.Math.Seq.{take-append-add, take-append_seam}
 use Rattle.fab_base.specs.Seen.{Seen, Reads, Fills}
 use Rattle.fab_base.specs.declared.values.Failed.{Failed}
 use Rattle.fab_base.proofs.Depots.{input_name, reads_trans, reads_refl, take-sum}
-use Rattle.fab_replay.specs.Outputs.{IsFirstDifference, told_place, IsCompared, IsReadAt, IsRead, GoesOn, Feeds, Finishes}
+use Rattle.fab_replay.specs.Outputs.{IsFirstDifference, told_place, IsCompared, IsReadAt, IsRead, GoesOn, GoesPart, Feeds, Finishes}
 use Rattle.fab_replay.specs.declared.outputs.Compared.{Compared}
 
 -- ---- places in lists
@@ -90,6 +90,25 @@ goes_further s xs ys a b d c c' c'' is_open g h = record {
       subst (λ w. IsRead c'' found (d.left s) w) (append_assoc wanted xs ys) (h.read told_b found (wanted ++ xs) (g.read told found wanted r));
 }
 
+-- nothing was read, or only the first pieces of them
+pub part_none : (s : ℕ) (bytes : List ℕ) (a : Seen) (c : Compared) → GoesPart s bytes a c c
+part_none s bytes a c = record {
+  front = [];
+  rest = bytes;
+  parts = refl;
+  left = a.left s;
+  read = λ told found wanted r. subst (λ w. IsRead c found (a.left s) w) (sym (append-nil wanted)) r;
+}
+
+pub part_on : (s done : ℕ) (all : List ℕ) (a b : Seen) (c c' c'' : Compared) → GoesOn s (take done all) a b c c' → c'' ≡ c' → GoesPart s all a c c''
+part_on s done all a b c c' c'' g same = subst (GoesPart s all a c) (sym same) (record {
+  front = take done all;
+  rest = drop done all;
+  parts = sym (take-append-drop done all);
+  left = b.left s;
+  read = λ told found wanted r. g.read told found wanted r;
+})
+
 -- a difference that was found stays the first
 pub differs_still : (place at : ℕ) (found left left' wanted more : List ℕ) → IsReadAt (Some place) at found left wanted → IsReadAt (Some place) at found left' (wanted ++ more)
 differs_still place at found left left' wanted more r = (r.0, r.1, omega (arith, r.2, length-append wanted more), difference_before found wanted more r.0 r.2 r.3)
@@ -154,6 +173,7 @@ meets_difference s got k place into piece a b c none f room is d lt = record {
         (differs_now c.at k found (a.left s) (b.left s) wanted (take got into) piece (subst (λ first. IsReadAt first c.at found (a.left s) wanted) (none_there c.first none) r)
         (subst (λ l. l ++ b.left s ≡ a.left s) front (f.taken told)) (λ less. f.ended told (omega (arith, less, size, long))) (omega (arith, f.bound, size, long)) lt d);
   };
+  part = tt;
   cause = tt;
 }
   where

@@ -5,7 +5,7 @@ use Rattle.fab_base.specs.Seen.{Seen, Rose, Touches, Nothing}
 use Rattle.fab_base.specs.declared.values.Failed.{Failed}
 use Rattle.fab_pages.specs.Pages.{items_in, piece_at}
 use Rattle.fab_gather.specs.Ports.{slot_at, name_of, NameIn}
-use Rattle.fab_replay.specs.Outputs.{IsCompared, IsRead}
+use Rattle.fab_replay.specs.Outputs.{IsCompared, IsRead, GoesPart}
 use Rattle.fab_replay.specs.declared.outputs.Compared.{Compared}
 
 -- the bytes of the page at a place, and nothing past the last
@@ -25,6 +25,7 @@ pub record FeedsEach (slots : List ℕ) (pages : List (Vec ℕ Global)) (a b : S
   pub touches : Touches Nothing (NameIn a slots) a b
   pub count : length all' ≡ length all
   pub read : IsTrue a.told → OnOk result ((found wanted : ℕ → List ℕ) → AreRead a slots all found wanted → AreRead b slots all' found (λ q. wanted q ++ page_at pages q))
+  pub part : OnErr result ((q : ℕ) (c c' : Compared) → slice_get all q ≡ Some c → slice_get all' q ≡ Some c' → GoesPart (slot_at slots q) (page_at pages q) a c c')
   pub cause : OnErr result (OneRose slots a b)
 
 -- The first of so many outputs that isn't as it should be is that of this port, and it first differs at this place; or each is

@@ -34,10 +34,19 @@ pub record GoesOn (s : ℕ) (bytes : List ℕ) (old new : Seen) (c c' : Compared
   pub reads : Reads (old.name s) old new
   pub read : IsTrue old.told → (found wanted : List ℕ) → IsRead c found (old.left s) wanted → IsRead c' found (new.left s) (wanted ++ bytes)
 
+-- One comparison went on to another by a front of these bytes, however much of the file was lost behind it.
+pub record GoesPart (s : ℕ) (bytes : List ℕ) (old : Seen) (c c' : Compared) : Type 0 where
+  pub front : List ℕ
+  pub rest : List ℕ
+  pub parts : bytes ≡ front ++ rest
+  pub left : List ℕ
+  pub read : IsTrue old.told → (found wanted : List ℕ) → IsRead c found (old.left s) wanted → IsRead c' found left (wanted ++ front)
+
 -- Reading a file on against further bytes. It fails only where a fault of reading was counted.
 pub record Feeds (s : ℕ) (bytes : List ℕ) (old new : Seen) (c c' : Compared) (result : Result (Unit {0}) Failed) : Type 0 where
   pub reads : Reads (old.name s) old new
   pub goes_on : OnOk result (GoesOn s bytes old new c c')
+  pub part : OnErr result (GoesPart s bytes old c c')
   pub cause : OnErr result (Rose (old.read_faults (old.name s)) (new.read_faults (old.name s)))
 
 -- The end of the wanted bytes: what the file is against all of them.

@@ -1,7 +1,7 @@
 //! A journal checked against captures whose heads were read, and against outputs.
 ghost use Rattle.std.specs.Prelude.{◌≡◌, ◌++◌, ◌+◌, ◌<◌, ◌≤◌, ◌^◌, ℕ, IfErr, MatchBool, MatchResult, None, length, [], false};
 ghost use Rattle.fab_gather.specs.First.{AreFresh};
-ghost use Rattle.fab_gather.specs.Ports.{AreInputs, slots_of};
+ghost use Rattle.fab_gather.specs.Ports.{AreInputs, TakesFrom, slots_of};
 ghost use Rattle.fab_policy.specs.Journal.{Journal};
 ghost use Rattle.fab_policy.specs.Outputs.{state_of};
 ghost use Rattle.fab_replay.specs.Check.{Checks};
@@ -37,7 +37,7 @@ struct Begun {
 /// first ports, and answers how many entries it has; without outputs none is compared. A window of
 /// the captures is read before its lines are checked, and an output that differs is told only where
 /// all lines are right. The fabric, which is new, stands for the journal then; on Err it stands for
-/// some of it.
+/// some of it. However it ends, `ins` keep their slots, and the budget isn't raised.
 pub fn check_captures<D: Depot>(
     alloc: Global,
     depot: &mut D,
@@ -54,10 +54,10 @@ pub fn check_captures<D: Depot>(
     requires count { fabric.old.count ≡ length ins.old }
     requires state { fabric.old.state ≡ state_of fabric.old.settings [] }
     requires nothing { (fabric.old.events ≡ []) × (fabric.old.outs ≡ []) }
-    requires budget { (budget.old.bytes + 24 < 2 ^ 64) × (budget.old.frames + 1 < 2 ^ 64) }
     ensures checks { Checks fabric.old.settings budget.old ins.old outs.now journal.now
         (D.seen depot.old) (D.seen depot.new) fabric.new result }
     ensures settings { fabric.new.settings ≡ fabric.old.settings }
+    ensures takes { TakesFrom ins.old ins.new budget.old budget.new }
 {
     let _verdicts: &[Verdict] = &[];
     let _whys: &[LineWhy] = &[];
@@ -82,11 +82,11 @@ fn begin<D: Depot>(
     requires count { fabric.now.count ≡ length ins.old }
     requires state { fabric.now.state ≡ state_of fabric.now.settings [] }
     requires nothing { (fabric.now.events ≡ []) × (fabric.now.outs ≡ []) }
-    requires budget { (budget.old.bytes + 24 < 2 ^ 64) × (budget.old.frames + 1 < 2 ^ 64) }
     ensures begins { let k = task_of fabric.now.settings budget.old ins.old (D.seen depot.old)
         journal.now outs.now in MatchResult result
         (λ b. Going k 0 b.first fabric.now b.place (D.seen depot.new) ins.new b.shelves.items
         budget.new b.owed) (λ e. Ended k (D.seen depot.new) e) }
+    ensures takes { TakesFrom ins.old ins.new budget.old budget.new }
 {
     laws_of_windows();
     let place = first_place(journal);
@@ -123,6 +123,7 @@ fn check_begun<D: Depot>(
         begun.old.owed → Checks k.settings k.start.budget k.start.ins k.outs k.bytes k.start.seen
         (D.seen depot.new) fabric.new result }
     ensures settings { fabric.new.settings ≡ fabric.old.settings }
+    ensures takes { TakesFrom ins.old ins.new budget.old budget.new }
 {
     laws_of_windows();
     let _verdicts: &[Verdict] = &[];

@@ -1,5 +1,5 @@
 //! An output file against the bytes that it should have, which come piece by piece.
-ghost use Rattle.std.specs.Prelude.{◌≡◌, ◌≤◌, ◌<◌, ◌++◌, [], List, ℕ, IsTrue, IfSome, IfNone, length, take};
+ghost use Rattle.std.specs.Prelude.{◌≡◌, ◌≤◌, ◌<◌, ◌++◌, [], List, ℕ, IsTrue, IfSome, IfNone, OnErr, length, take};
 ghost use Rattle.fab_base.specs.Seen.{Fills};
 ghost use Rattle.fab_replay.specs.Outputs.{IsFirstDifference, IsRead, Feeds, Finishes};
 
@@ -27,7 +27,7 @@ impl Compared {
     }
 
     /// Reads on against the bytes that come next. Once a difference was found it reads nothing.
-    /// After an error nothing is known of the place.
+    /// After an error it was compared with a front of them, and bytes of the file may be lost.
     pub fn feed<D: Depot>(&mut self, depot: &mut D, slot: u32, wanted: &[u8]) -> Result<(), Failed>
         requires input { IsTrue ((D.seen depot.old).input slot) }
         ensures feeds { Feeds slot wanted.now (D.seen depot.old) (D.seen depot.new) self.old
@@ -65,6 +65,7 @@ impl Compared {
         requires few { length wanted.now ≤ 4096 }
         ensures feeds { Feeds slot wanted.now (D.seen depot.old) (D.seen depot.new) self.old
             self.new result }
+        ensures stays { OnErr result (self.new ≡ self.old) }
     {
         if self.first.is_some() {
             return Ok(());

@@ -2,7 +2,7 @@
 ghost use Rattle.std.specs.Prelude.{◌≡◌, ◌≢◌, ◌+◌, ◌<◌, ◌≤◌, ◌^◌, ◌%◌, ℕ, IfErr, IfOk, IfSome, IsErrOf, IsTrue, MatchResult, OnOk, None, Some, length, replicate};
 ghost use Rattle.fab_base.specs.Seen.{Nothing, Seen, Touches};
 ghost use Rattle.fab_gather.specs.First.{IsNextWindow};
-ghost use Rattle.fab_gather.specs.Ports.{AreInputs, NameIn};
+ghost use Rattle.fab_gather.specs.Ports.{AreInputs, NameIn, TakesFrom};
 ghost use Rattle.fab_pages.specs.Pages.{items_in};
 ghost use Rattle.fab_gather.specs.declared.fault.RunFault.TheVariants as of_gather;
 ghost use Rattle.fab_policy.specs.Journal.{Journal};
@@ -47,6 +47,7 @@ pub(crate) fn check_windows<D: Depot>(
         shelves.new budget.new owed.new × IsNextWindow k.settings shelves.new None)
         (λ e. Ended k (D.seen depot.new) e) }
     ensures settings { fabric.new.settings ≡ fabric.old.settings }
+    ensures takes { TakesFrom ins.old ins.new budget.old budget.new }
 {
     laws_of_windows();
     let _verdicts: &[Verdict] = &[];
@@ -85,6 +86,7 @@ fn check_window<D: Depot>(
         shelves.new budget.new owed.new) (λ e. Ended k (D.seen depot.new) e) }
     ensures settings { fabric.new.settings ≡ fabric.old.settings }
     ensures clock { OnOk result (fabric.new.state.tables.clock ≡ Some window) }
+    ensures takes { TakesFrom ins.old ins.new budget.old budget.new }
 {
     laws_of_windows();
     let _verdicts: &[Verdict] = &[];

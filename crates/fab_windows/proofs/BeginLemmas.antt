@@ -118,7 +118,7 @@ module _ (laws : Laws) (k : Task) (given : AreGiven k.seen k.ins k.journal k.out
             λ x. absurd (f.only x),
           )
 
-      pub begun : (shelves : Vec Shelf Global) → (1 ≤ length k.ins) × (length k.ins ≤ 64) → length k.outs ≡ length k.ins → k.budget.bytes + 24 < 2 ^ 64 →
+      pub begun : (shelves : Vec Shelf Global) → (1 ≤ length k.ins) × (length k.ins ≤ 64) → length k.outs ≡ length k.ins → k.budget.bytes < 2 ^ 64 →
           LooksFirst k.settings a d k.ins ins k.budget left (Ok shelves) → Begun k d ins shelves.items left
       begun shelves ports outputs limits f = record {
         given = given;

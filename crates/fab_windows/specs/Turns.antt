@@ -95,7 +95,7 @@ pub record Reached (k : Task) (w first : ℕ) (F : Contents) (d : Seen) (ins : L
   pub given : AreGiven k.seen k.ins k.journal k.outs
   pub ports : (1 ≤ length k.ins) × (length k.ins ≤ 64)
   pub outputs : length k.outs ≡ length k.ins
-  pub limits : k.budget.bytes + 24 < 2 ^ 64
+  pub limits : k.budget.bytes < 2 ^ 64
   pub touches : Touches (Written k.seen k.journal k.outs) (Touched k) k.seen d
   pub slots : slots_of ins ≡ slots_of k.ins
   pub count : length shelves ≡ length ins
@@ -120,7 +120,7 @@ pub record Begun (k : Task) (d : Seen) (ins : List Input) (shelves : List Shelf)
   pub given : AreGiven k.seen k.ins k.journal k.outs
   pub ports : (1 ≤ length k.ins) × (length k.ins ≤ 64)
   pub outputs : length k.outs ≡ length k.ins
-  pub limits : k.budget.bytes + 24 < 2 ^ 64
+  pub limits : k.budget.bytes < 2 ^ 64
   pub touches : Touches (Written k.seen k.journal k.outs) (Touched k) k.seen d
   pub slots : slots_of ins ≡ slots_of k.ins
   pub count : length shelves ≡ length ins

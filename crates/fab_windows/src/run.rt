@@ -2,6 +2,7 @@
 ghost use Rattle.std.specs.Prelude.{◌≡◌, ◌+◌, ◌<◌, ◌≤◌, ◌^◌, length, [], IfOk, MatchResult};
 ghost use Rattle.fab_policy.specs.Outputs.{state_of};
 ghost use Rattle.fab_config.specs.Settings.{Settings};
+ghost use Rattle.fab_gather.specs.Ports.{TakesFrom};
 ghost use Rattle.fab_windows.specs.Files.{AreFiles};
 ghost use Rattle.fab_windows.specs.Pages.{IsNothing, pending};
 ghost use Rattle.fab_windows.specs.Run.{AreGiven, Runs};
@@ -23,7 +24,8 @@ use std::thread::Threads;
 /// Runs a new fabric over captures whose heads were read, window by window. The journal and the
 /// outputs, which are empty, are written in pieces of some 64 KiB, and wholly before the call
 /// returns, but where a write fails or memory is refused; `ins` and `outs` are in port order. The
-/// gate sees each frame before it is handled and after.
+/// gate sees each frame before it is handled and after. However it ends, `ins` keep their slots, and
+/// the budget isn't raised.
 pub fn run_windows<R: Threads + Wait + Sync, D: Depot, G: Gate + Sync>(
     rt: &R,
     alloc: Global,
@@ -41,9 +43,9 @@ pub fn run_windows<R: Threads + Wait + Sync, D: Depot, G: Gate + Sync>(
     requires count { fabric.count ≡ length ins.old }
     requires state { fabric.state ≡ state_of fabric.settings [] }
     requires nothing { (fabric.events ≡ []) × (fabric.outs ≡ []) }
-    requires budget { (budget.old.bytes + 24 < 2 ^ 64) × (budget.old.frames + 1 < 2 ^ 64) }
     ensures runs { Runs fabric.settings budget.old ins.old (D.seen depot.old) (D.seen depot.new)
         journal outs.now result }
+    ensures takes { TakesFrom ins.old ins.new budget.old budget.new }
 {
     let mut fabric = fabric;
     laws_of_runs();
@@ -82,7 +84,6 @@ fn begin<D: Depot>(
     requires ports { (1 ≤ length ins.old) × (length ins.old ≤ 64) }
     requires outputs { length outs.now ≡ length ins.old }
     requires given { AreGiven (D.seen depot.old) ins.old journal outs.now }
-    requires budget { (budget.old.bytes + 24 < 2 ^ 64) × (budget.old.frames < 2 ^ 64) }
     ensures begins { (c : Settings) → let k = task_of (record {
       budget = budget.old;
       ins = ins.old;
@@ -93,8 +94,10 @@ fn begin<D: Depot>(
     ensures pages { IfOk result (λ r. length r.pages.records.items ≡ length outs.now) }
     ensures nothing { IfOk result (λ r. IsNothing (pending r.pages)) }
     ensures done { IfOk result (λ r. (r.done.frames ≡ 0) × (r.done.entries ≡ 0)) }
+    ensures takes { TakesFrom ins.old ins.new budget.old budget.new }
 {
     laws_of_runs();
+    let _few = bytes_left(budget);
     let mut pages = Pages::heads(alloc, outs.len())?;
     flush(depot, journal, outs, &mut pages)?;
     let shelves = first_looks(alloc, depot, ins, budget)?;
@@ -107,4 +110,11 @@ fn begin<D: Depot>(
         pages,
         done,
     })
+}
+
+// The bytes that are left, a number of 64 bits.
+fn bytes_left(budget: &Budget) -> u64
+    ensures { budget.now.bytes < 2 ^ 64 }
+{
+    budget.bytes
 }

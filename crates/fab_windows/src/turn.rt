@@ -6,6 +6,7 @@ ghost use Rattle.fab_policy.specs.Journal.{frame_count};
 ghost use Rattle.fab_policy.specs.Ranged.{IsRangedEvent};
 ghost use Rattle.fab_replies.specs.Message.{sent_of};
 ghost use Rattle.fab_gather.specs.First.{IsNextWindow};
+ghost use Rattle.fab_gather.specs.Ports.{TakesFrom};
 ghost use Rattle.fab_pages.specs.Pages.{AreEarly};
 ghost use Rattle.fab_windows.specs.Files.{AreFiles};
 ghost use Rattle.fab_windows.specs.Pages.{pending};
@@ -69,6 +70,7 @@ pub(crate) fn turn<R: Threads + Wait + Sync, D: Depot, G: Gate + Sync>(
     ensures pages { OnOk result (length run.new.pages.records.items ≡ length outs.now) }
     ensures settings { IfOk result (λ f. f.settings ≡ fabric.settings) }
     ensures clock { IfOk result (λ f. f.state.tables.clock ≡ Some window) }
+    ensures takes { TakesFrom ins.old ins.new budget.old budget.new }
 {
     laws_of_runs();
     match gather(

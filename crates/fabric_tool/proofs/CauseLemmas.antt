@@ -17,11 +17,10 @@ use Rattle.fab_migrate.proofs.OldReadingLemmas.{one_reading}
 use Rattle.fabric_tool.specs.Command.{PairNames, MakeNames, Command, Run, Replay, Show, Convert, Migrate, Make, Snoop, Enode, Help, Version, KeepsOthers}
 use Rattle.fab_gather.specs.declared.fault.LimitKind.{LimitKind}
 use Rattle.fabric_tool.specs.Ends.{ConvertHolds, MigrateHolds, Holds}
-use Rattle.fabric_tool.specs.Inputs.{HasPackets, LIMITS}
+use Rattle.fabric_tool.specs.Inputs.{HasPackets, LIMITS, MOST_BYTES}
 use Rattle.fabric_tool.specs.Load.{LOAD, HasLoadFront, MakeHolds}
 use Rattle.fabric_tool.specs.Outcome.{status_of}
 use Rattle.fabric_tool.specs.Statuses.{IsRefused, HasFront, HasForms, IsQuiet, MigrateSays, Says, ended_by}
-use Rattle.fabric_tool.specs.declared.limits.TheConstants.{MOST_BYTES}
 use Rattle.fabric_tool.specs.declared.outcome.Outcome.{Outcome}
 use Rattle.fabric_tool.specs.declared.outcome.Outcome.TheVariants as ends
 use Rattle.fabric_tool.proofs.OutcomeCases.{run_cases, convert_cases, migrate_cases, make_cases, replay_files, show_files, whole_front, whole_journal, whole_load}

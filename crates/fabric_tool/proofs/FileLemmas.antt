@@ -12,8 +12,7 @@ use Rattle.fab_migrate.specs.declared.old.MigrateError.{MigrateError}
 use Rattle.fab_migrate.specs.declared.old.MigrateError.TheVariants as moves
 use Rattle.fabric_tool.specs.Command.{PairNames, Convert, KeepsOthers}
 use Rattle.fabric_tool.specs.Ends.{ConvertHolds, MigrateHolds}
-use Rattle.fabric_tool.specs.Inputs.{LIMITS}
-use Rattle.fabric_tool.specs.declared.limits.TheConstants.{MOST_BYTES}
+use Rattle.fabric_tool.specs.Inputs.{LIMITS, MOST_BYTES}
 use Rattle.fabric_tool.specs.declared.outcome.Outcome.TheVariants as ends
 use Rattle.fabric_tool.proofs.AmongLemmas.{differs, or_false}
 

@@ -16,10 +16,9 @@ use Rattle.fab_migrate.specs.declared.old.OldWhy.{OldWhy}
 use Rattle.fabric_tool.specs.Command.{RunNames, PairNames, MakeNames, Command, Run, Replay, Show, Convert, Migrate, Make, Snoop, Enode, Help, Version, command}
 use Rattle.fabric_tool.specs.Ends.{RunHolds, ConvertHolds, MigrateHolds, Holds, HoldsFor, TakesMemory, Reports, Ends}
 use Rattle.fabric_tool.specs.Checking.{ReplayHolds, ShowHolds, CheckSays}
-use Rattle.fabric_tool.specs.Inputs.{LIMITS}
+use Rattle.fabric_tool.specs.Inputs.{LIMITS, MOST_BYTES}
 use Rattle.fabric_tool.specs.Load.{HasLoad, HasLoadFront, MakeHolds}
 use Rattle.fab_vectors.specs.Making.{file_text}
-use Rattle.fabric_tool.specs.declared.limits.TheConstants.{MOST_BYTES}
 use Rattle.fabric_tool.specs.declared.outcome.Outcome.{Outcome}
 use Rattle.fabric_tool.specs.declared.outcome.Outcome.TheVariants as ends
 use Rattle.fabric_tool.proofs.PartLemmas.{ran_part, stopped_part}

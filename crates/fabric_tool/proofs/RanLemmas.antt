@@ -11,8 +11,9 @@ use Rattle.fab_policy.specs.Growing.{NothingIsRun}
 use Rattle.fab_policy.specs.Journal.{Journal}
 use Rattle.fab_policy.specs.Logins.{counting}
 use Rattle.fab_policy.specs.Looks.{Opened, stop, kept, all_records}
-use Rattle.fab_policy.specs.Text.{egress}
+use Rattle.fab_policy.specs.Text.{text, egress}
 use Rattle.fab_policy.specs.Written.{before, IsPrefixOf}
+use Rattle.fab_policy.proofs.NamedLemmas.{text_names_journal}
 use Rattle.fab_gather.specs.First.{opened_in}
 use Rattle.fab_gather.specs.Ports.{slots_of, name_of, NameIn}
 use Rattle.fab_gather.specs.declared.shelf.Input.{Input}
@@ -21,6 +22,7 @@ use Rattle.fab_gather.specs.declared.fault.RunFault.TheVariants as faults
 use Rattle.fab_windows.specs.Files.{Written, Wholes, Fronts}
 use Rattle.fab_windows.specs.Run.{AreGiven, IsRunOver, Runs, Finished, Stopped, Interrupted, keeps}
 use Rattle.fab_windows.specs.declared.Done.{Done}
+use Rattle.fab_replay.proofs.OneLemmas.{same_frames}
 use Rattle.fabric_tool.specs.Command.{RunNames, Run, are_pairs, run_of, port_count, Among, AnyRose, KeepsOthers}
 use Rattle.fabric_tool.specs.Ends.{RunHolds}
 use Rattle.fabric_tool.specs.Inputs.{HasConfig, HasInputs, AreOpened, stop_of, kept_of, MOST_BYTES, MOST_FRAMES}
@@ -294,6 +296,9 @@ module _ (words : List (String Global)) (run : are_pairs words ≡ true) (c : Se
       none = sym same_stop ∙ f.none;
       journal = f.entry_list;
       run = f.run;
+      one = λ I run is.
+          let one_text : text I ≡ text f.entry_list = let both = sym is ∙ (holds_all f.entry_list f.files).lines in cc in
+          (text_names_journal I f.entry_list run.ranged f.run.ranged (same_frames (all_records opened) I f.entry_list run.run.ports f.run.run.ports run.run.frames f.run.run.frames)).0 one_text;
       safe = safe c f.entry_list range f.run.run.legal;
       files = holds_all f.entry_list f.files;
       frames_are = f.frames;

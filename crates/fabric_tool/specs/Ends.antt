@@ -12,14 +12,13 @@ use Rattle.fab_gather.specs.declared.fault.RunFault.TheVariants as faults
 use Rattle.fab_migrate.specs.Migrating.{Migrated, IsNewFront, SaysOld}
 use Rattle.fab_migrate.specs.declared.old.OldError.TheVariants as olds
 use Rattle.fabric_tool.specs.Command.{RunNames, PairNames, Command, Run, Replay, Show, Convert, Migrate, Make, Snoop, Enode, Help, Version, command, ReadRose, WriteRose, KeepsOthers}
-use Rattle.fabric_tool.specs.Inputs.{HasFault, HasBadHead, LIMITS}
+use Rattle.fabric_tool.specs.Inputs.{HasFault, HasBadHead, LIMITS, MOST_BYTES}
 use Rattle.fabric_tool.specs.Checking.{ReplayHolds, ShowHolds}
 use Rattle.fabric_tool.specs.Load.{MakeHolds}
 use Rattle.fabric_tool.specs.Snooping.{SnoopHolds}
 use Rattle.fabric_tool.specs.Enode.{EnodeHolds}
 use Rattle.fabric_tool.specs.Left.{HasRun, HasStopped, HasWholePart, HasFrontPart}
 use Rattle.fabric_tool.specs.Outcome.{status_of, line_of, kind_of}
-use Rattle.fabric_tool.specs.declared.limits.TheConstants.{MOST_BYTES}
 use Rattle.fabric_tool.specs.declared.outcome.Outcome.{Outcome}
 use Rattle.fabric_tool.specs.declared.outcome.Outcome.TheVariants as ends
 

@@ -19,7 +19,13 @@ use Rattle.pcapng_file.specs.declared.NgRecord.{NgRecord}
 use Rattle.pcapng_file.specs.File.{IsNg}
 use Rattle.pcapng_file.specs.Laws.{Within}
 use Rattle.fabric_tool.specs.Command.{RunNames}
-pub use Rattle.fabric_tool.specs.declared.limits.TheConstants.{MOST_BYTES, MOST_FRAMES}
+
+-- the most bytes of all captures together, 1 GiB, and the most frames
+abbrev pub MOST_BYTES : ℕ
+MOST_BYTES = 1073741824
+
+abbrev pub MOST_FRAMES : ℕ
+MOST_FRAMES = 4000000
 
 -- the limits on the bytes of all captures and on their frames
 abbrev pub LIMITS : Budget

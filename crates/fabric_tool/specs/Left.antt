@@ -70,7 +70,8 @@ LegalIsSafe = (c : Settings) (J : Journal) → IsTrue (is_in_range c) → Legal 
 -- ---- how `run` ends
 
 -- The headline. Of the files as the call found them, the configuration has a value and each input is a capture; and one
--- journal is a run over all their records, each port's frames once and in order, whose text and captures stand in the outputs.
+-- journal, the only one with that text, is a run over all their records, each port's frames once and in order, whose text and
+-- captures stand in the outputs.
 -- This journal is legal, with distinct addresses, data that goes on exactly where it may, and nobody past the silence limit.
 pub record HasRun (k : RunNames) (frames entries : ℕ) (old new : Seen) : Type 0 where
   pub settings : Settings
@@ -80,6 +81,7 @@ pub record HasRun (k : RunNames) (frames entries : ℕ) (old new : Seen) : Type 
   pub none : stop_of settings opened ≡ None
   pub journal : Journal
   pub run : IsRunOver settings (all_records opened) journal
+  pub one : (I : Journal) → IsRunOver settings (all_records opened) I → new.file k.journal ≡ Some (text I) → I ≡ journal
   pub safe : IsSafe settings journal
   pub files : HoldsAll k settings new journal
   pub frames_are : frames ≡ frame_count journal

@@ -9,7 +9,7 @@ use Rattle.pcapng_file.specs.declared.fault.NgWhy.TheVariants as ng
 use Rattle.pcapng_file.specs.declared.fault.NgLimit.{NgLimit}
 use Rattle.pcapng_file.specs.declared.fault.NgLimit.TheVariants as limits
 use Rattle.fabric_tool.specs.Help.{help_text, version_text}
-use Rattle.fab_policy.specs.declared.looks.TheConstants.{MOST_SPAN}
+use Rattle.fab_policy.specs.Looks.{MOST_SPAN}
 use Rattle.fab_gather.specs.declared.fault.CapWhy.{CapWhy}
 use Rattle.fab_gather.specs.declared.fault.CapWhy.TheVariants as caps
 use Rattle.fab_gather.specs.declared.fault.LimitKind.{LimitKind}
@@ -20,7 +20,7 @@ use Rattle.fab_migrate.specs.declared.old.OldWhy.{OldWhy}
 use Rattle.fab_migrate.specs.declared.old.OldWhy.TheVariants as olds
 use Rattle.enode_core.specs.declared.node.Phase.{Phase}
 use Rattle.enode_core.specs.declared.node.Phase.TheVariants as phase
-use Rattle.fabric_tool.specs.declared.limits.TheConstants.{MOST_BYTES, MOST_FRAMES}
+use Rattle.fabric_tool.specs.Inputs.{MOST_BYTES, MOST_FRAMES}
 use Rattle.fabric_tool.specs.declared.outcome.Outcome.{Outcome}
 use Rattle.fabric_tool.specs.declared.outcome.Outcome.TheVariants.{Ran, Converted, Migrated, Legal, Shown, WrongLine, WrongOutput, Made, Bridged, Stood, Help, Version, Words, Config, Capture, BadBlock, BadLine, Limit, ReadFault, WriteFault, Memory}
 

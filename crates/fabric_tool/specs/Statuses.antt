@@ -23,7 +23,7 @@ use Rattle.fab_migrate.specs.declared.old.OldWhy.{OldWhy}
 use Rattle.fabric_tool.specs.Command.{RunNames, PairNames, MakeNames, Command, Run, Replay, Show, Convert, Migrate, Make, Snoop, Enode, Help, Version, command, ReadRose, WriteRose}
 use Rattle.fabric_tool.specs.Ends.{RunHolds, ConvertHolds, MigrateHolds, Holds, HoldsFor}
 use Rattle.fabric_tool.specs.Help.{help_text, version_text}
-use Rattle.fabric_tool.specs.Inputs.{HasFault, HasCapture, HasInputs, HasBadHead, StopsBy, HasPackets, LIMITS, stop_of}
+use Rattle.fabric_tool.specs.Inputs.{HasFault, HasCapture, HasInputs, HasBadHead, StopsBy, HasPackets, LIMITS, stop_of, MOST_BYTES}
 use Rattle.fabric_tool.specs.Left.{HasRun, HasFrontPart}
 use Rattle.fabric_tool.specs.Checking.{ReplayHolds, ShowHolds, CheckSays}
 use Rattle.fabric_tool.specs.Load.{LOAD, HasLoad, HasLoadFront}
@@ -31,7 +31,6 @@ use Rattle.fabric_tool.specs.Snooping.{SnoopEnded, IsSnoopRefused, HasSnoopFront
 use Rattle.fabric_tool.specs.Enode.{EnodeEnded, IsEnodeRefused, HasEnodeFront, EnodeForms, EnodeSays}
 use Rattle.fabric_tool.specs.Outcome.{status_of, line_of, run_text, converted_text, migrated_text, legal_text, made_text}
 use Rattle.fabric_tool.specs.Reading.{unconverted_by}
-use Rattle.fabric_tool.specs.declared.limits.TheConstants.{MOST_BYTES}
 use Rattle.fabric_tool.specs.declared.outcome.Outcome.{Outcome}
 use Rattle.fabric_tool.specs.declared.outcome.Outcome.TheVariants as ends
 

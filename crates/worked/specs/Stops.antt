@@ -6,7 +6,7 @@ use Rattle.pcap_file.specs.declared.CaptureHead.{CaptureHead}
 use Rattle.pcap_file.specs.declared.CapFault.TheVariants.{Short, BadMagic, BadVersion, NotEthernet}
 use Rattle.pcap_file.specs.Reading as reader
 use Rattle.fab_policy.specs.Looks as looks
-use Rattle.fab_policy.specs.declared.looks.TheConstants.{MOST_SPAN}
+use Rattle.fab_policy.specs.Looks.{MOST_SPAN}
 use Rattle.fab_policy.specs.Written as written
 use Rattle.worked.specs.Given.{K}
 

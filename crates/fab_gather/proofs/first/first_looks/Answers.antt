@@ -1,6 +1,6 @@
 use Rattle.std.proofs.Common.{◌<◌, sym, arith, length, slice_index_or}
 use Rattle.std.proofs.lemmas.Option.{slice_get-get_or}
-use Rattle.fab_gather.proofs.FirstLemmas.{any, seeing_as, seeing_none, looks_all, look_open, look_fresh, look_room, look_lost, look_failed, looked_on, once_as}
+use Rattle.fab_gather.proofs.FirstLemmas.{any, seeing_as, seeing_none, looks_all, look_open, look_fresh, look_lost, look_failed, looked_on, once_as}
 use Rattle.fab_gather.proofs.first.first_looks.Goals as goal
 
 pub loop-port-init : goal.loop-port-init
@@ -21,11 +21,6 @@ look-requires-clause-fresh g c =
     let first : c.loop-port.port < length c.args.ins.now = let a = c.loop-port.auto.ins in omega arith in
     look_fresh c.looks_go_on.ensures.found c.looks_go_on.ensures.end any c.loop-port.port (seen c.args.depot.now) (seen c.loop-port.depot) c.args.ins.now c.loop-port.ins c.loop-port.shelves.items c.args.budget.now c.loop-port.budget c.requires.inputs c.requires.fresh first (c.loop-port.invariant any)
     (slice_index_or c.loop-port.ins c.loop-port.port c.index-ins-port.result) (slice_get-get_or c.loop-port.ins c.loop-port.port c.index-ins-port.result within)
-
-pub look-requires-clause-budget : goal.look-requires-clause-budget
-look-requires-clause-budget g c =
-    let seen = g.D.Depot.seen in
-    look_room any c.loop-port.port (seen c.args.depot.now) (seen c.loop-port.depot) c.args.ins.now c.loop-port.ins c.loop-port.shelves.items c.args.budget.now c.loop-port.budget (c.loop-port.invariant any) c.requires.budget
 
 pub returns-in-Err-push : goal.returns-in-Err-push
 returns-in-Err-push g c =

@@ -7,11 +7,11 @@ pub returns-in-Ok-clause-looks : goal.returns-in-Ok-clause-looks
 returns-in-Ok-clause-looks g c = λ s.
     let seen = g.D.Depot.seen in
     looked c.looks_go_on.ensures.found c.looks_go_on.ensures.end c.steps_find_the_stop.ensures.steps s c.args.port c.args.input.now.slot (seen c.args.depot.now) (seen c.next.new.depot) c.args.input.now.reader c.next.new.self c.args.budget.now c.next.new.budget
-    c.requires.fresh c.requires.budget c.in-Ok.next _ refl (count_is c.in-Ok.next c.is_some.result c.from.result c.is_some.ensures c.from.ensures) c.in-Ok.ensures.next
+    c.requires.fresh c.frames_left.ensures c.in-Ok.next _ refl (count_is c.in-Ok.next c.is_some.result c.from.result c.is_some.ensures c.from.ensures) c.in-Ok.ensures.next
 
 pub returns-in-Err-clause-looks : goal.returns-in-Err-clause-looks
 returns-in-Err-clause-looks g c = λ s.
     let seen = g.D.Depot.seen in
     subst (λ e. LooksOnce s c.args.port c.args.input.now.slot (seen c.args.depot.now) (seen c.next.new.depot) c.args.input.now.reader c.next.new.self c.args.budget.now c.next.new.budget (Err e)) (sym c.fault_of.ensures)
     (looked_failed c.looks_go_on.ensures.found c.looks_go_on.ensures.end c.steps_find_the_stop.ensures.steps s c.args.port c.args.input.now.slot (seen c.args.depot.now) (seen c.next.new.depot) c.args.input.now.reader c.next.new.self c.args.budget.now c.next.new.budget
-    c.requires.fresh c.requires.budget c.in-Err.error c.in-Err.ensures.next)
+    c.requires.fresh c.frames_left.ensures c.in-Err.error c.in-Err.ensures.next)

@@ -1,6 +1,6 @@
 use Rattle.std.proofs.Common.{sym, subst, refl, Err}
 use Rattle.fab_gather.specs.Port.{TakesWindow}
-use Rattle.fab_gather.proofs.PortLemmas.{taking_none, taking_turn, turn_fits, taking_failed, there, next_at}
+use Rattle.fab_gather.proofs.PortLemmas.{taking_none, taking_turn, taking_lost, turn_fits, taking_failed, there, next_at}
 use Rattle.fab_gather.proofs.port.take_window.Goals as goal
 
 pub records-init : goal.records-init
@@ -31,5 +31,13 @@ returns-in-Err-clause-takes g c =
     let i = c.records.invariant in
     let failed = taking_failed c.looks_go_on.ensures.found c.looks_go_on.ensures.end c.steps_find_the_stop.ensures.steps c.args.config.now c.args.port c.args.window c.args.input.now.slot (seen c.args.depot.now) (seen c.records.depot) (seen c.next.new.depot) c.args.input.now.reader c.records.input.reader c.next.new.self
     c.args.shelf.now c.records.shelf c.args.budget.now c.records.budget c.next.new.budget c.requires.input i.taking (there c.args.config.now c.args.window c.records.shelf.next (sym c.records-test.ensures))
-    c.records.shelf c.next.new.self c.in-Err.error (next_at i.slot c.in-Err.ensures.next) in
+    c.next.new.self c.in-Err.error (next_at i.slot c.in-Err.ensures.next) in
     subst (λ e. TakesWindow c.args.config.now c.args.port c.args.window c.args.input.now.slot (seen c.args.depot.now) (seen c.next.new.depot) c.args.input.now.reader c.next.new.self c.args.shelf.now c.records.shelf c.args.budget.now c.next.new.budget (Err e)) (sym c.fault_of.ensures) failed
+
+pub returns-in-Err-turn-clause-takes : goal.returns-in-Err-turn-clause-takes
+returns-in-Err-turn-clause-takes g c =
+    let seen = g.D.Depot.seen in
+    let i = c.records.invariant in
+    taking_lost c.looks_go_on.ensures.found c.looks_go_on.ensures.end c.steps_find_the_stop.ensures.steps c.args.config.now c.args.port c.args.window c.args.input.now.slot (seen c.args.depot.now) (seen c.records.depot) (seen c.next.new.depot) c.args.input.now.reader c.records.input.reader c.next.new.self
+    c.args.shelf.now c.records.shelf c.args.budget.now c.records.budget c.next.new.budget c.requires.input i.taking (there c.args.config.now c.args.window c.records.shelf.next (sym c.records-test.ensures))
+    c.in-Ok.next c.turn.new.self c.in-Err-turn.ensures.kept c.in-Err-turn.ensures.next c.in-Err-turn.ensures.count (next_at i.slot c.in-Ok.ensures.next)

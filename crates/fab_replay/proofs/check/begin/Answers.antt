@@ -1,5 +1,6 @@
 use Rattle.std.proofs.Common.{refl, sym, subst, arith}
 use Rattle.fab_gather.specs.Ports.{slots_of}
+use Rattle.fab_gather.proofs.LeavesLemmas.{takes_none}
 use Rattle.fab_replay.specs.Windows.{Ended, task_of}
 use Rattle.fab_replay.specs.declared.fault.CheckFault.TheVariants as fault
 use Rattle.fab_replay.proofs.GoLemmas.{ended_looks, ended_refused, going_begin}
@@ -11,7 +12,10 @@ pub returns-in_err-owed : goal.returns-in_err-owed
 returns-in_err-owed g c =
     let seen = g.D.Depot.seen in
     let k = task_of c.args.fabric.now.settings c.args.budget.now c.args.ins.now (seen c.args.depot.now) c.args.journal.now c.args.outs.now in
-    record { begins = told_on c.from_residual.result fault.Memory _ _ c.from_residual.ensures.1 (ended_refused k) }
+    record {
+      begins = told_on c.from_residual.result fault.Memory _ _ c.from_residual.ensures.1 (ended_refused k);
+      takes = takes_none c.args.ins.now c.args.budget.now;
+    }
 
 pub first_looks-requires-clause-ports : goal.first_looks-requires-clause-ports
 first_looks-requires-clause-ports g c = c.requires.ports.1
@@ -21,9 +25,6 @@ first_looks-requires-clause-inputs g c = inputs_front (slots_of c.args.ins.now) 
 
 pub first_looks-requires-clause-fresh : goal.first_looks-requires-clause-fresh
 first_looks-requires-clause-fresh g c = c.requires.fresh
-
-pub first_looks-requires-clause-budget : goal.first_looks-requires-clause-budget
-first_looks-requires-clause-budget g c = (c.requires.budget.0, let b = c.requires.budget.1 in omega (arith, b))
 
 pub fault_of-requires : goal.fault_of-requires
 fault_of-requires g c = (c.in-Err.ensures.looks c.args.fabric.now.settings).only
@@ -37,6 +38,7 @@ returns-in-Err g c =
       begins = subst (Ended k (seen c.first_looks.new.depot)) (sym c.fault_of.ensures)
           (ended_looks c.laws_of_windows.ensures k (seen c.first_looks.new.depot) c.first_looks.new.ins c.first_looks.new.budget F c.first_place-place.result c.requires.inputs c.requires.ports.1
           c.in-Err.fault (c.in-Err.ensures.looks F.settings) c.first_place-place.ensures.behind);
+      takes = (c.in-Err.ensures.looks F.settings).takes;
     }
 
 pub returns : goal.returns
@@ -49,4 +51,5 @@ returns g c =
           c.in_ok-owed.owed c.in_ok-owed.ensures c.requires.outputs c.in-Ok.shelves c.next_window.result c.config.result.now c.deref.result.now c.unwrap_or-first.result (c.in-Ok.ensures.looks F.settings)
           c.next_window.ensures.least c.config.ensures c.deref.ensures.value c.unwrap_or-first.ensures
           refl c.requires.count c.requires.state c.requires.nothing.0 c.requires.nothing.1 c.first_place-place.ensures.behind c.first_place-place.ensures.inside;
+      takes = (c.in-Ok.ensures.looks F.settings).takes;
     }

@@ -1,13 +1,14 @@
 use Rattle.std.proofs.Common.{◌∙◌, ◌+◌, ◌%◌, ◌^◌, Some, None, refl, sym, ap, subst}
 use Rattle.fab_config.specs.Settings.{Settings}
 use Rattle.fab_gather.proofs.ClockLemmas.{nearer}
+use Rattle.fab_gather.proofs.LeavesLemmas.{takes_none, takes_then}
 use Rattle.fab_gather.specs.First.{IsNextWindow}
 use Rattle.fab_replay.proofs.GoLemmas.{going_next, next_early, next_here}
 use Rattle.fab_replay.proofs.ResultLemmas.{told_on}
 use Rattle.fab_replay.proofs.windows.check_windows.Goals as goal
 
 pub windows-init : goal.windows-init
-windows-init g c = record { turns = λ k same going. (0, going); settings = refl }
+windows-init g c = record { turns = λ k same going. (0, going); settings = refl; takes = takes_none c.args.ins.now c.args.budget.now }
 
 pub check_window-requires-clause-going : goal.check_window-requires-clause-going
 check_window-requires-clause-going g c =
@@ -69,6 +70,7 @@ windows-preserved g c =
           let next = next_here c.laws_of_windows.ensures k at.0 c.args.first l.fabric l.place d l.ins l.shelves l.budget l.owed at.1 c.config.result.now c.config.ensures (Some w) c.in-Some.ensures.least in
           (w + 1, c.in_ok-check_window.ensures.turns k same (going_next c.laws_of_windows.ensures k at.0 c.args.first l.fabric l.place d l.ins l.shelves l.budget l.owed at.1 w next));
       settings = c.in_ok-check_window.ensures.settings ∙ l.invariant.settings;
+      takes = takes_then c.args.ins.now l.ins c.check_window.new.ins c.args.budget.now l.budget c.check_window.new.budget l.invariant.takes c.in_ok-check_window.ensures.takes;
     }
 
 pub returns-clause-turns : goal.returns-clause-turns
@@ -77,3 +79,11 @@ returns-clause-turns g c = λ k same start.
     let at = l.invariant.turns k same start in
     let d = g.D.Depot.seen l.depot in
     (at.0, at.1, next_here c.laws_of_windows.ensures k at.0 c.args.first l.fabric l.place d l.ins l.shelves l.budget l.owed at.1 c.config.result.now c.config.ensures None c.in_default.ensures.least)
+
+pub returns-in_err-check_window-clause-takes : goal.returns-in_err-check_window-clause-takes
+returns-in_err-check_window-clause-takes g c =
+    let l = c.windows in
+    takes_then c.args.ins.now l.ins c.check_window.new.ins c.args.budget.now l.budget c.check_window.new.budget l.invariant.takes c.in_err-check_window.ensures.takes
+
+pub returns-clause-takes : goal.returns-clause-takes
+returns-clause-takes g c = c.windows.invariant.takes

@@ -1,5 +1,6 @@
 use Rattle.std.proofs.Common.{ℕ, ◌≡◌, ◌^◌}
 use Rattle.fab_gather.proofs.ClockLemmas.{distance}
+use Rattle.fab_gather.specs.Ports.{TakesFrom}
 use Rattle.fab_replay.specs.Windows.{Going, IsOf, Task}
 use Rattle.fab_replay.proofs.windows.check_windows.Given as goal
 
@@ -10,6 +11,7 @@ invariant-windows g l =
       turns : (k : Task) → IsOf k l.journal l.outs → Going k 0 l.first l.fn.fabric l.fn.place (seen l.fn.depot) l.fn.ins l.fn.shelves l.fn.budget l.fn.owed →
           (v : ℕ) × Going k v l.first l.fabric l.place (seen l.depot) l.ins l.shelves l.budget l.owed;
       settings : l.fabric.settings ≡ l.fn.fabric.settings;
+      takes : TakesFrom l.fn.ins l.ins l.fn.budget l.budget;
     }
 
 abbrev pub decreases-windows : goal.decreases-windows

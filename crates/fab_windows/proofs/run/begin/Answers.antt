@@ -1,6 +1,8 @@
 use Rattle.std.proofs.Common.{◌≡◌, ◌∙◌, sym, subst, Ok, Err, refl}
 use Rattle.std.specs.Result.{IsErrAnd}
 use Rattle.fab_gather.specs.declared.fault.RunFault.TheVariants as fault
+use Rattle.fab_gather.proofs.FirstLemmas.{any}
+use Rattle.fab_gather.proofs.LeavesLemmas.{takes_none}
 use Rattle.fab_pages.specs.Pages.{items_in}
 use Rattle.fab_windows.specs.Files.{Writes}
 use Rattle.fab_windows.specs.Turns.{task_of}
@@ -24,9 +26,6 @@ first_looks-requires-clause-inputs g c =
 
 pub first_looks-requires-clause-fresh : goal.first_looks-requires-clause-fresh
 first_looks-requires-clause-fresh g c = c.requires.given.fresh
-
-pub first_looks-requires-clause-budget : goal.first_looks-requires-clause-budget
-first_looks-requires-clause-budget g c = c.requires.budget
 
 pub returns-in_err-pages-clause-begins : goal.returns-in_err-pages-clause-begins
 returns-in_err-pages-clause-begins g c = λ s.
@@ -88,7 +87,7 @@ returns-clause-begins g c = λ s.
     let pieces = items_in c.in_ok-pages.pages.records.items in
     begun c.laws_of_runs.ensures k c.requires.given pieces c.in_ok-pages.ensures.records (seen c.flush.new.depot)
     (subst (λ l. Writes c.args.journal c.args.outs.now l pieces (seen c.args.depot.now) (seen c.flush.new.depot) (Ok tt)) c.in_ok-pages.ensures.lines c.in_ok-flush.ensures.writes)
-    (seen c.first_looks.new.depot) c.first_looks.new.ins c.first_looks.new.budget c.in_ok-shelves.shelves c.requires.ports c.requires.outputs c.requires.budget.0 (c.in_ok-shelves.ensures.looks s)
+    (seen c.first_looks.new.depot) c.first_looks.new.ins c.first_looks.new.budget c.in_ok-shelves.shelves c.requires.ports c.requires.outputs c.bytes_left.ensures (c.in_ok-shelves.ensures.looks s)
 
 pub returns-clause-pages : goal.returns-clause-pages
 returns-clause-pages g c = c.in_ok-flush.ensures.count ∙ c.in_ok-pages.ensures.count
@@ -98,3 +97,15 @@ returns-clause-nothing g c = c.in_ok-flush.ensures.nothing
 
 pub returns-clause-done : goal.returns-clause-done
 returns-clause-done g c = (refl, refl)
+
+pub returns-in_err-pages-clause-takes : goal.returns-in_err-pages-clause-takes
+returns-in_err-pages-clause-takes g c = takes_none c.args.ins.now c.args.budget.now
+
+pub returns-in_err-flush-clause-takes : goal.returns-in_err-flush-clause-takes
+returns-in_err-flush-clause-takes g c = takes_none c.args.ins.now c.args.budget.now
+
+pub returns-in_err-shelves-clause-takes : goal.returns-in_err-shelves-clause-takes
+returns-in_err-shelves-clause-takes g c = (c.in_err-shelves.ensures.looks any).takes
+
+pub returns-clause-takes : goal.returns-clause-takes
+returns-clause-takes g c = (c.in_ok-shelves.ensures.looks any).takes

@@ -1,6 +1,7 @@
 use Rattle.std.proofs.Common.{◌∙◌, ◌+◌, ◌%◌, ◌^◌, ℕ, Some, None, Err, refl, sym, ap, subst, arith}
 use Rattle.fab_config.specs.Settings.{Settings}
 use Rattle.fab_gather.proofs.ClockLemmas.{nearer}
+use Rattle.fab_gather.proofs.LeavesLemmas.{takes_then}
 use Rattle.fab_windows.specs.Pages.{pending}
 use Rattle.fab_windows.specs.Run.{Runs}
 use Rattle.fab_windows.specs.Turns.{Start, task_of, Going, Ended}
@@ -18,15 +19,13 @@ begin-requires-clause-outputs g c = c.requires.outputs
 pub begin-requires-clause-given : goal.begin-requires-clause-given
 begin-requires-clause-given g c = c.requires.given
 
-pub begin-requires-clause-budget : goal.begin-requires-clause-budget
-begin-requires-clause-budget g c = (c.requires.budget.0, omega (arith, c.requires.budget.1))
-
 pub returns-in_err-run : goal.returns-in_err-run
 returns-in_err-run g c =
     let seen = g.D.Depot.seen in
     record {
       runs = subst (λ r. Runs c.args.fabric.settings c.args.budget.now c.args.ins.now (seen c.args.depot.now) (seen c.begin.new.depot) c.args.journal c.args.outs.now r)
           (err_is c.from_residual.result c.in_err-run.field-0.0 c.from_residual.ensures.1) (c.in_err-run.ensures.begins c.args.fabric.settings);
+      takes = c.in_err-run.ensures.takes;
     }
 
 pub same-fabric : goal.same-fabric
@@ -46,6 +45,7 @@ windows-init g c =
           refl c.requires.count c.requires.state c.requires.nothing.0 c.requires.nothing.1 next c.in_ok-run.ensures.done.0 c.in_ok-run.ensures.done.1);
       settings = refl;
       pages = c.in_ok-run.ensures.pages;
+      takes = c.in_ok-run.ensures.takes;
     }
 
 pub same-fabric-in-Some : goal.same-fabric-in-Some
@@ -96,6 +96,7 @@ returns-in_err-fabric g c =
       runs = subst (λ r. Runs c.args.fabric.settings c.args.budget.now c.args.ins.now (seen c.args.depot.now) (seen c.turn.new.depot) c.args.journal c.args.outs.now r)
           (err_is c.from_residual-in_err-fabric.result e c.from_residual-in_err-fabric.ensures.1)
           (subst (λ (x : Settings). Ended (task_of s x c.args.journal c.args.outs.now) (seen c.turn.new.depot) e) l.invariant.settings (c.in_err-fabric.ensures.turns s going));
+      takes = takes_then c.args.ins.now l.ins c.turn.new.ins c.args.budget.now l.budget c.turn.new.budget l.invariant.takes c.in_err-fabric.ensures.takes;
     }
 
 pub windows-smaller : goal.windows-smaller
@@ -124,6 +125,7 @@ windows-preserved g c =
           (c.in_ok-fabric.ensures.turns s going);
       settings = c.in_ok-fabric.ensures.settings ∙ l.invariant.settings;
       pages = c.in_ok-fabric.ensures.pages;
+      takes = takes_then c.args.ins.now l.ins c.turn.new.ins c.args.budget.now l.budget c.turn.new.budget l.invariant.takes c.in_ok-fabric.ensures.takes;
     }
 
 pub finish-requires-clause-count : goal.finish-requires-clause-count
@@ -146,4 +148,5 @@ returns g c =
     let next = next_as c.config-in-windows.result.now c.args.fabric.settings c.deref-in-windows.result.now l.run.shelves.items None (c.config-in-windows.ensures ∙ l.invariant.settings) c.deref-in-windows.ensures.value c.in_default.ensures.least in
     record {
       runs = ended_by c.laws_of_runs.ensures k l.invariant.v c.unwrap_or-first.result l.fabric (seen l.depot) l.ins l.run.shelves.items l.budget l.run.done (pending l.run.pages) l.invariant.going next (seen c.finish.new.depot) c.finish.result c.finish.ensures;
+      takes = l.invariant.takes;
     }

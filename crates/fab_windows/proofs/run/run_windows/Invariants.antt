@@ -1,4 +1,5 @@
 use Rattle.std.proofs.Common.{ℕ, ◌≡◌, ◌^◌, length}
+use Rattle.fab_gather.specs.Ports.{TakesFrom}
 use Rattle.fab_windows.specs.Pages.{pending}
 use Rattle.fab_windows.specs.Turns.{Start, task_of, Going}
 use Rattle.fab_gather.proofs.ClockLemmas.{distance}
@@ -13,6 +14,7 @@ invariant-windows g l =
       going : Going (task_of s l.fn.fabric.settings l.journal l.outs) v l.first l.fabric (seen l.depot) l.ins l.run.shelves.items l.budget l.run.done (pending l.run.pages);
       settings : l.fabric.settings ≡ l.fn.fabric.settings;
       pages : length l.run.pages.records.items ≡ length l.outs;
+      takes : TakesFrom l.fn.ins l.ins l.fn.budget l.budget;
     }
 
 abbrev pub decreases-windows : goal.decreases-windows

@@ -60,7 +60,6 @@ check_captures-requires g c =
       count = new.settings.1 ∙ c.count_of.ensures.value ∙ sym h.count;
       state = new.state ∙ ap (λ s. state_of s []) (sym new.settings.0);
       nothing = new.nothing;
-      budget = (omega arith, omega arith);
     }
 
 pub returns-in-Ok-check_captures : goal.returns-in-Ok-check_captures
