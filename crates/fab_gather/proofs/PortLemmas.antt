@@ -345,9 +345,9 @@ module _ (found_law : LooksFound) (end_law : LooksEnd) (steps : StepsFindStop) (
           });
         },
         let p = t.spent in
-        let f = ap (λ (q : Budget). q.frames) n.taken.budget in
-        let g = ap (λ (q : Budget). q.bytes) n.taken.budget in
-        record { frames = let x = p.frames in omega arith; bytes = let x = p.bytes in omega arith },
+            let f = ap (λ (q : Budget). q.frames) n.taken.budget in
+            let g = ap (λ (q : Budget). q.bytes) n.taken.budget in
+            record { frames = let x = p.frames in omega arith; bytes = let x = p.bytes in omega arith },
       )
       by_next (Some y) next count n = (
         record {
@@ -365,9 +365,9 @@ module _ (found_law : LooksFound) (end_law : LooksEnd) (steps : StepsFindStop) (
           });
         },
         let p = t.spent in
-        let takes = n.taken.bytes in
-        let fewer = n.taken.frames in
-        record { frames = let x = p.frames in omega arith; bytes = let x = p.bytes in omega arith },
+            let takes = n.taken.bytes in
+            let fewer = n.taken.frames in
+            record { frames = let x = p.frames in omega arith; bytes = let x = p.bytes in omega arith },
       )
 
   -- an error
