@@ -1,9 +1,11 @@
 -- A file against wanted bytes, one piece after another.
-use Rattle.std.proofs.Common.{◌≡◌, ℕ, zero, suc, ◌+◌, false, is_some, drop, Ok, ◌-◌, ◌^◌, ◌<◌, ◌≤◌, ◌⊎◌, inl, inr, min, List, [], ◌∷◌, ◌++◌, length, length-append, take, slice_get, Option, None, Some, IsTrue, refl, sym, ◌∙◌, ap, subst, arith, append_assoc}
+use Rattle.std.proofs.Common.{◌≡◌, ℕ, zero, suc, ◌+◌, false, is_some, drop, Ok, Err, Result, ◌-◌, ◌^◌, ◌<◌, ◌≤◌, ◌⊎◌, inl, inr, min, List, [], ◌∷◌, ◌++◌, length, length-append, take, slice_get, Option, None, Some, IsTrue, refl, sym, ◌∙◌, ap, subst, arith, append_assoc}
 use Rattle.std.proofs.lemmas.List.{append-nil, take-append-drop, take-append-le, length-take-le}
 use Rattle.std.proofs.Math.Seq.{take-append-add, take-append_seam}
-use Rattle.fab_base.specs.Seen.{Seen, Reads, Fills}
+use Rattle.std.specs.Result.{IsErrAnd}
+use Rattle.fab_base.specs.Seen.{Seen, Reads, Rose, Fills}
 use Rattle.fab_base.specs.declared.values.Failed.{Failed}
+use Rattle.fab_base.proofs.SeenLemmas.{rose_later}
 use Rattle.fab_base.proofs.Depots.{input_name, reads_trans, reads_refl, take-sum}
 use Rattle.fab_replay.specs.Outputs.{IsFirstDifference, told_place, IsCompared, IsReadAt, IsRead, GoesOn, GoesPart, Feeds, Finishes}
 use Rattle.fab_replay.specs.declared.outputs.Compared.{Compared}
@@ -190,3 +192,20 @@ meets_difference s got k place into piece a b c none f room is d lt = record {
 pub goes_on_by : (s done count n : ℕ) (all : List ℕ) (a b d : Seen) (c c' c'' : Compared) → IsTrue (a.input s) → GoesOn s (take done all) a b c c' → n ≡ count → Feeds s (take n (drop done all)) b d c' c'' (Ok tt) → GoesOn s (take (done + count) all) a d c c''
 goes_on_by s done count n all a b d c c' c'' is_open g same f =
     subst (λ l. GoesOn s l a d c c'') (sym (take-sum all done count)) (goes_further s (take done all) (take count (drop done all)) a b d c c' c'' is_open g (subst (λ k. GoesOn s (take k (drop done all)) b d c' c'') same f.goes_on))
+
+-- a fault of reading: nothing more was compared
+pub meets_fault : (s : ℕ) (piece : List ℕ) (a b : Seen) (c : Compared) (r : Result (Unit {0}) Failed) (f : Failed) → IsErrAnd r (λ x. x ≡ f) → Reads (a.name s) a b → Rose (a.read_faults (a.name s)) (b.read_faults (a.name s)) → Feeds s piece a b c c r
+meets_fault s piece a b c (Ok t) f h reads rose = absurd h
+meets_fault s piece a b c (Err e) f h reads rose = record { reads = reads; goes_on = tt; part = part_none s piece a c; cause = rose }
+
+pub feeds_fault : (s done : ℕ) (all piece : List ℕ) (a b d : Seen) (c c' c'' : Compared) (r : Result (Unit {0}) Failed) (f : Failed) → IsErrAnd r (λ x. x ≡ f) → IsTrue (a.input s) → GoesOn s (take done all) a b c c' → Feeds s piece b d c' c'' (Err f) → c'' ≡ c' → Feeds s all a d c c'' r
+feeds_fault s done all piece a b d c c' c'' (Ok t) f h is_open g x same = absurd h
+feeds_fault s done all piece a b d c c' c'' (Err e) f h is_open g x same = record {
+  reads = reads_trans (a.name s) a b d g.reads (subst (λ m. Reads m b d) name x.reads);
+  goes_on = tt;
+  part = part_on s done all a b c c' c'' g same;
+  cause = rose_later _ _ _ g.reads.keeps.reads_rise (subst (λ m. Rose (b.read_faults m) (d.read_faults m)) name x.cause);
+}
+  where
+    name : b.name s ≡ a.name s
+    name = input_name (a.name s) a b g.reads.keeps s is_open
