@@ -1,5 +1,5 @@
 //! Two passes take turns with one fabric, in one thread.
-ghost use Rattle.std.specs.Prelude.{IfSome, IsSome};
+ghost use Rattle.std.specs.Prelude.{◌≡◌, IfSome, IsNone, IsSome, true};
 
 use crate::*;
 use fab_base::{Bytes, Caught, Mac, Moment, NoMemory, PortNo, Wwn};
@@ -18,8 +18,8 @@ const ASK: [u8; 60] = [
     0x00, 0x00, 0x00, 0x00, 0x00, 0x00, 0x00, 0x00, 0x00, 0x00, 0x00, 0x00,
 ];
 
-fn settings(alloc: Global) -> Result<Config, NoMemory> {
-    Ok(Config {
+fn settings(alloc: Global) -> Config {
+    Config {
         switch: Wwn(0x1000_0005_1e00_0002),
         fcf_mac: Mac([0x00, 0x05, 0x1e, 0x00, 0x00, 0x02]),
         fc_map: 0x0efc00,
@@ -30,20 +30,33 @@ fn settings(alloc: Global) -> Result<Config, NoMemory> {
         period: 8000,
         window: 100,
         limit: 256,
-        zones: ZoneList::new(alloc)?,
-        sets: SetList::new(alloc)?,
-        activations: ActivationList::new(alloc)?,
-    })
+        zones: ZoneList::empty(alloc),
+        sets: SetList::empty(alloc),
+        activations: ActivationList::empty(alloc),
+    }
 }
 
 // A fabric of two ports that was drained after its first tick.
 pub(crate) fn ticked(alloc: Global) -> Option<Fabric>
     ensures { IfSome result (λ f. IsSome f.state.tables.clock) }
 {
-    let mut fabric = Fabric::new(alloc, settings(alloc).ok()?, 2).ok()?;
-    fabric.tick(alloc, Moment(1000)).ok()?;
+    match Fabric::new(alloc, settings(alloc), 2) {
+        Ok(mut fabric) => match starts(alloc, &mut fabric) {
+            true => Some(fabric),
+            false => None,
+        },
+        Err(_) => None,
+    }
+}
+
+// Whether a new fabric had its first tick.
+fn starts(alloc: Global, fabric: &mut Fabric) -> bool
+    requires { IsNone fabric.old.state.tables.clock }
+    ensures { result ≡ true → IsSome fabric.new.state.tables.clock }
+{
+    let is_ticked = fabric.tick(alloc, Moment(1000)).is_ok();
     fabric.drain();
-    Some(fabric)
+    is_ticked
 }
 
 pub(crate) fn request(alloc: Global) -> Result<Caught, NoMemory> {
