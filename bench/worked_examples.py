@@ -63,8 +63,8 @@ def of_login():
     yield from begun(2)
     yield tick(1000)
     yield steps.right(login, flogi_of(1), "granted 010100")
-    accept = "001b2100000a00051e0000028100606489141000000200020026800007240000" "230101000" "0fffffe01980000000000000001ffff00000000" "0200000020200000300008400000271000"
-    accept += "0007d0200100051e000002100000051e000002" + "00" * 32 + "88" + "00" * 47 + "02020efc00010100"
+    accept = "001b2100000a00051e0000028100606489141000000200020026800007240000" + "2301010000fffffe01980000000000000001ffff00000000"
+    accept += "02000000202000003000084000002710000007d0200100051e000002100000051e000002" + "00" * 32 + "88" + "00" * 47 + "02020efc00010100"
     yield drained(["tick 1000", "1 0 granted 010100"], "1 1000 " + accept)
     yield "fabric login 010100", ["= login 010100 2000001b2100000a 1000001b2100000a 1 00:1b:21:00:00:0a -"]
 
@@ -82,11 +82,12 @@ def of_silence():
     for moment in (9000, 17000, 25000, 28000):
         yield tick(moment)
     yield steps.right(solicit, {**OVER_FIP, "port": 2, "src": mac_of(2), "mac": mac_of(2), "node": node_name(2)}, "advertised")
-    before = ["tick 1000", "1 0 granted 010100", "tick 1100", "1 1 granted 010101", "tick 8000", "1 2 alive", "tick 9000", "tick 17000", "tick 25000", "tick 28000", "2 0 advertised"]
+    before = ["tick 1000", "1 0 granted 010100", "tick 1100", "1 1 granted 010101", "tick 8000", "1 2 alive"]
+    before += ["tick 9000", "tick 17000", "tick 25000", "tick 28000", "2 0 advertised"]
     told = [f"{port} {moment} {advertisement(8000)}" for moment in (9000, 17000, 25000) for port in (1, 2)]
     yield drained(before, "1 1000 ..", "1 1100 ..", *told, "2 28000 ..")
     yield tick(28100, 2)
-    clear = "001b2100000a00051e0000028100606489141000000300020" "00f0000020200051e00000204030000100000051e000002"
+    clear = "001b2100000a00051e0000028100606489141000000300" + "02000f0000020200051e00000204030000100000051e000002"
     clear += "0b050efc00010100000101002000001b2100000a0b050efc00010101000101012000001b2100001a"
     yield drained(["tick 28100 010100 010101"], "1 28100 " + clear)
     yield steps.right(alive, alive_of(1, False), "dropped keepalive-unknown")
@@ -100,9 +101,9 @@ def of_silence_edges():
         yield Steps().right(login, flogi_of(1), "granted 010100")
         yield tick(last)
         yield tick(last + 1, 1)
-    for vx, verdict, says in ((False, "alive", "the ENode was heard at 200000, its N_Port at 1000 alone"), (True, "alive 010100", "the N_Port was heard at 200000, its ENode at 1000 alone")):
+    for vx, verdict, heard, silent in ((False, "alive", "ENode", "N_Port"), (True, "alive 010100", "N_Port", "ENode")):
         steps = Steps()
-        yield remark(f"Worked: SilenceEdges; {says}.")
+        yield remark(f"Worked: SilenceEdges. The {heard} was heard at 200000, its {silent} at 1000 alone.")
         yield from begun(1, "pool 1", "period 90000")
         yield tick(1000)
         yield steps.right(login, flogi_of(1), "granted 010100")
@@ -166,7 +167,8 @@ def of_zones():
     yield steps.right(fcoe, data(1, 3), "dropped zone")
     entries = ["tick 1000", "1 0 granted 010100", "tick 1100", "2 0 granted 010101", "tick 1200", "3 0 granted 010102", "tick 1300", "2 1 watching 3", "tick 1400", "3 1 watching 3"]
     front = in_vlan({"dst": granted(address_of(2)), "vlan": 100}, FORWARDER, b"\x89\x06", fcoe(data(1, 2))[0][18:])
-    yield drained([*entries, "tick 1500", "1 1 forwarded 2", "1 2 dropped zone"], "1 1000 ..", "2 1100 ..", "3 1200 ..", "2 1300 ..", "3 1400 ..", "2 1500 " + front.hex())
+    entries += ["tick 1500", "1 1 forwarded 2", "1 2 dropped zone"]
+    yield drained(entries, "1 1000 ..", "2 1100 ..", "3 1200 ..", "2 1300 ..", "3 1400 ..", "2 1500 " + front.hex())
     yield tick(5000)
     yield drained(["tick 5000"], *[f"{watcher} 5000 {(granted(address_of(watcher)) + FORWARDER + TAG).hex()}.." for watcher in (2, 3)])
     yield tick(6000)
@@ -233,7 +235,7 @@ def of_two_ports():
     yield from begun(2)
     yield tick(1000)
     ask = bytes.fromhex("011018010002001b2100000a8914100000040001000200000202001b2100000a") + bytes(28)
-    tell = "001b2100000a00051e0000028914100000040002000300000202" "00051e0000020e010064" + "00" * 24
+    tell = "001b2100000a00051e000002891410000004000200030000" + "020200051e0000020e010064" + "00" * 24
     yield f"fabric step 1 0 whole {ask.hex()}", ["= 1 0 vlans"]
     yield drained(["tick 1000", "1 0 vlans"], "1 1000 " + tell)
     for moment in (9000, 17000):
