@@ -172,10 +172,10 @@ extended_by : (sents : List Sent) (q : ℕ) (e f : Encoder) (page more : List �
     ((has ≡ false → records_to (q + 1) sents ≡ []) → more ≡ page ++ records_to (q + 1) sents) → (b : Bool) → eqb e.place q ≡ b → cond (eqb f.place q) f.page.items more ≡ cond (eqb e.place q) e.page.items page ++ records_to (q + 1) sents
 extended_by sents q e f page more has mine fine nothing later true at =
     let same : e.place ≡ q = eqb-true e.place q at in
-    ap (λ (b : Bool). cond b f.page.items more) (ap (λ (n : ℕ). eqb n q) mine.0 ∙ at) ∙ mine.1 fine ∙ ap (λ (n : ℕ). e.page.items ++ records_to (n + 1) sents) same
+    ap (λ (b : Bool). cond b f.page.items more) (ap (λ (n : ℕ). eqb n q) mine.place ∙ at) ∙ mine.records fine ∙ ap (λ (n : ℕ). e.page.items ++ records_to (n + 1) sents) same
     ∙ ap (λ (b : Bool). cond b e.page.items page ++ records_to (q + 1) sents) (sym at)
 extended_by sents q e f page more has mine fine nothing later false at =
-    ap (λ (b : Bool). cond b f.page.items more) (ap (λ (n : ℕ). eqb n q) mine.0 ∙ at) ∙ later (λ away. nothing (ap (λ (b : Bool). b || has) at ∙ away))
+    ap (λ (b : Bool). cond b f.page.items more) (ap (λ (n : ℕ). eqb n q) mine.place ∙ at) ∙ later (λ away. nothing (ap (λ (b : Bool). b || has) at ∙ away))
     ∙ ap (λ (b : Bool). cond b e.page.items page ++ records_to (q + 1) sents) (sym at)
 
 pub extended : (sents : List Sent) (q : ℕ) (es more : List Encoder) (d : List ℕ) → length more ≡ length es → ((k : ℕ) (x : Encoder) → k < length es → IsEncoded sents (get_or es k x) (get_or more k x)) → NoneRefused more
@@ -193,7 +193,7 @@ below_encoded n sents [] [] len each h = tt
 below_encoded n sents [] (f ∷ more) len each h = absurd (omega (arith, len))
 below_encoded n sents (e ∷ es) [] len each h = absurd (omega (arith, len))
 below_encoded n sents (e ∷ es) (f ∷ more) len each h = (
-  subst (λ (k : ℕ). k < n) (sym (each 0 e (omega arith)).0) h.0,
+  subst (λ (k : ℕ). k < n) (sym (each 0 e (omega arith)).place) h.0,
   below_encoded n sents es more (let l : suc (length more) ≡ suc (length es) = len in omega (arith, l)) (λ k x lt. each (suc k) x (omega (arith, lt))) h.1,
 )
 

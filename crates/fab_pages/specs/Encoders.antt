@@ -4,7 +4,7 @@ use Rattle.std.specs.List.{filter}
 use Rattle.fab_policy.specs.Growing.{records_to}
 use Rattle.fab_policy.specs.Outputs.{Sent}
 use Rattle.fab_replies.specs.declared.message.Out.{Out}
-use Rattle.fab_pages.specs.Pages.{piece_at}
+use Rattle.fab_pages.specs.Pages.{GoesOn, piece_at}
 use Rattle.fab_pages.specs.declared.encoders.Encoder.{Encoder}
 
 -- an encoder has the page of this place
@@ -37,6 +37,8 @@ pub record AreOut (k : ℕ) (outs : List Out) (es : List Encoder) (old new : Lis
   pub pages : (q : ℕ) → q < length old → page_in q es (piece_at new q) ≡ piece_at old q
   pub others : (q : ℕ) → q < k → has_place q es ≡ false → NoneFor q outs
 
--- An encoder appended the records of its port, where it was refused no memory.
-abbrev pub IsEncoded : List Sent → Encoder → Encoder → Type 0
-IsEncoded sents old new = (new.place ≡ old.place) × (new.refused ≡ false → new.page.items ≡ old.page.items ++ records_to (old.place + 1) sents)
+-- An encoder appended the records of its port, or some of them where it was refused memory.
+pub record IsEncoded (sents : List Sent) (old new : Encoder) : Type 0 where
+  pub place : new.place ≡ old.place
+  pub records : new.refused ≡ false → new.page.items ≡ old.page.items ++ records_to (old.place + 1) sents
+  pub front : GoesOn old.page.items new.page.items

@@ -24,3 +24,12 @@ AreEarly (out ∷ outs) = (out.moment < 2 ^ 53) × AreEarly outs
 pub record Adds (sents : List Sent) (old new : List (List ℕ)) : Type 0 where
   pub count : length new ≡ length old
   pub pages : (q : ℕ) → q < length old → piece_at new q ≡ piece_at old q ++ records_to (q + 1) sents
+
+-- bytes that were there and perhaps more behind them
+abbrev pub GoesOn : List ℕ → List ℕ → Type 0
+GoesOn old new = (more : List ℕ) × (new ≡ old ++ more)
+
+-- in front of each page stands what it had
+pub record GoOn (old new : List (List ℕ)) : Type 0 where
+  pub count : length new ≡ length old
+  pub pages : (q : ℕ) → q < length old → GoesOn (piece_at old q) (piece_at new q)

@@ -1,12 +1,13 @@
 //! The records of several ports at once, those of each port in a thread of its own.
-ghost use Rattle.std.specs.Prelude.{◌≡◌, ℕ, ◌+◌, ◌<◌, ◌≤◌, ◌^◌, ◌++◌, ◌∷◌, [], false, List, length, map, IsTrue, OnOk, vec_capacity, vec_len, slice_index_or, slice_set};
+ghost use Rattle.std.specs.Prelude.{◌≡◌, ℕ, ◌+◌, ◌<◌, ◌≤◌, ◌^◌, ◌++◌, ◌∷◌, [], false, List, length, map, IsTrue, OnOk, OnErr, vec_capacity, vec_len, slice_index_or, slice_set};
 ghost use Rattle.fab_policy.specs.Growing.{records_to};
 ghost use Rattle.fab_replies.specs.Message.{can_send, sent_of};
-ghost use Rattle.fab_pages.specs.Pages.{Adds, AreEarly, items_in, piece_at};
+ghost use Rattle.fab_pages.specs.Pages.{Adds, AreEarly, GoOn, GoesOn, items_in, piece_at};
 ghost use Rattle.fab_pages.specs.Encoders.{AreBelow, AreOut, IsEncoded, NoneFor, NoneRefused, page_in};
 ghost use Rattle.fab_pages.specs.declared.encoders.Encoder as of_pages;
 
-use crate::pages::{write_records, write_sent};
+use crate::cuts::{cut_all, lengths_of};
+use crate::pages::{write_each, write_sent};
 use fab_base::NoMemory;
 use fab_config::Config;
 use fab_policy::Event;
@@ -40,10 +41,32 @@ pub fn write_records_at_once<R: Threads + Sync>(
     requires early { AreEarly drained.now.outs }
     ensures adds { OnOk result (Adds (map (sent_of config.now drained.now.events) drained.now.outs)
         (items_in pages.old) (items_in pages.new)) }
+    ensures err { OnErr result (items_in pages.new ≡ items_in pages.old) }
     ensures count { length pages.new ≡ length pages.old }
 {
+    let lengths = lengths_of(alloc, pages)?;
+    let written = write_each_at_once(rt, alloc, config, drained, pages);
+    if written.is_err() {
+        cut_all(&lengths, pages);
+    }
+    written
+}
+
+// The same; where memory is refused, behind the pages stands some of it.
+fn write_each_at_once<R: Threads + Sync>(
+    rt: &R,
+    alloc: Global,
+    config: &Config,
+    drained: &Drained,
+    pages: &mut [Vec<u8>],
+) -> Result<(), NoMemory>
+    requires early { AreEarly drained.now.outs }
+    ensures adds { OnOk result (Adds (map (sent_of config.now drained.now.events) drained.now.outs)
+        (items_in pages.old) (items_in pages.new)) }
+    ensures fronts { GoOn (items_in pages.old) (items_in pages.new) }
+{
     if are_few(drained) {
-        return write_records(alloc, config, drained, pages);
+        return write_each(alloc, config, drained, pages);
     }
     let Ok(mut encoders) = Vec::with_capacity(alloc, pages.len()) else {
         return Err(NoMemory);
@@ -186,8 +209,9 @@ fn write_port(
     page: &mut Vec<u8>,
 ) -> Result<(), NoMemory>
     requires early { AreEarly drained.now.outs }
-    ensures { OnOk result (page.new.items ≡ page.old.items ++ records_to (place + 1)
+    ensures ok { OnOk result (page.new.items ≡ page.old.items ++ records_to (place + 1)
         (map (sent_of config.now drained.now.events) drained.now.outs)) }
+    ensures front { GoesOn page.old.items page.new.items }
 {
     for index in 0..drained.outs.len() {
         let Some(out) = drained.outs.at(index) else {
@@ -209,8 +233,9 @@ fn write_own(
 ) -> Result<(), NoMemory>
     requires can { IsTrue (can_send events.now out.now.message) }
     requires early { out.now.moment < 2 ^ 53 }
-    ensures { OnOk result (page.new.items ≡ page.old.items ++ records_to (place + 1)
+    ensures ok { OnOk result (page.new.items ≡ page.old.items ++ records_to (place + 1)
         (sent_of config.now events.now out.now ∷ [])) }
+    ensures front { GoesOn page.old.items page.new.items }
 {
     if out.port.index() != place {
         return Ok(());

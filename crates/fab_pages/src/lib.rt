@@ -1,6 +1,7 @@
 //! The records of the frames that a fabric sends, behind the page of the port that each goes to.
 #![tactic(auto)]
 
+mod cuts;
 mod encoders;
 mod pages;
 

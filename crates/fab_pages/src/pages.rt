@@ -1,11 +1,12 @@
 //! Pages: for each port the bytes that its output grows by next.
-ghost use Rattle.std.specs.Prelude.{◌≡◌, ℕ, ◌+◌, ◌-◌, ◌<◌, ◌≤◌, ◌^◌, ◌++◌, ◌∷◌, [], length, map, replicate, take, drop, IfOk, OnOk, IsTrue};
+ghost use Rattle.std.specs.Prelude.{◌≡◌, ℕ, ◌+◌, ◌-◌, ◌<◌, ◌≤◌, ◌^◌, ◌++◌, ◌∷◌, [], length, map, replicate, take, drop, IfOk, OnOk, OnErr, IsTrue};
 ghost use Rattle.fab_base.specs.Layout.{spelled_low};
 ghost use Rattle.pcap_file.specs.Capture.{head_bytes};
 ghost use Rattle.fab_policy.specs.Text.{sent_bytes};
 ghost use Rattle.fab_replies.specs.Message.{can_send, sent_of};
-ghost use Rattle.fab_pages.specs.Pages.{Adds, AreEarly, items_in, piece_at};
+ghost use Rattle.fab_pages.specs.Pages.{Adds, AreEarly, GoOn, GoesOn, items_in, piece_at};
 
+use crate::cuts::{cut_all, lengths_of};
 use fab_base::NoMemory;
 use fab_config::Config;
 use forward_core::{Drained, EventList, Out, write_out};
@@ -42,7 +43,8 @@ pub fn clear_all(pages: &mut [Vec<u8>])
 }
 
 /// Appends the record of each frame that is sent to the page of its port, pages being in port
-/// order. A frame's bytes are copied once, from its entry into the page.
+/// order. A frame's bytes are copied once, from its entry into the page. Where memory is refused
+/// the pages have what they had.
 pub fn write_records(
     alloc: Global,
     config: &Config,
@@ -52,7 +54,28 @@ pub fn write_records(
     requires early { AreEarly drained.now.outs }
     ensures adds { OnOk result (Adds (map (sent_of config.now drained.now.events) drained.now.outs)
         (items_in pages.old) (items_in pages.new)) }
+    ensures err { OnErr result (items_in pages.new ≡ items_in pages.old) }
     ensures count { length pages.new ≡ length pages.old }
+{
+    let lengths = lengths_of(alloc, pages)?;
+    let written = write_each(alloc, config, drained, pages);
+    if written.is_err() {
+        cut_all(&lengths, pages);
+    }
+    written
+}
+
+// The same; where memory is refused, behind the pages stands some of it.
+pub(crate) fn write_each(
+    alloc: Global,
+    config: &Config,
+    drained: &Drained,
+    pages: &mut [Vec<u8>],
+) -> Result<(), NoMemory>
+    requires early { AreEarly drained.now.outs }
+    ensures adds { OnOk result (Adds (map (sent_of config.now drained.now.events) drained.now.outs)
+        (items_in pages.old) (items_in pages.new)) }
+    ensures fronts { GoOn (items_in pages.old) (items_in pages.new) }
 {
     for index in 0..drained.outs.len() {
         let Some(out) = drained.outs.at(index) else {
@@ -73,8 +96,9 @@ fn write_to_port(
 ) -> Result<(), NoMemory>
     requires can { IsTrue (can_send events.now out.now.message) }
     requires early { out.now.moment < 2 ^ 53 }
-    ensures { OnOk result (Adds (sent_of config.now events.now out.now ∷ []) (items_in pages.old)
-        (items_in pages.new)) }
+    ensures adds { OnOk result (Adds (sent_of config.now events.now out.now ∷ [])
+        (items_in pages.old) (items_in pages.new)) }
+    ensures fronts { GoOn (items_in pages.old) (items_in pages.new) }
 {
     let port = out.port.index();
     if port >= pages.len() {
@@ -95,8 +119,9 @@ pub(crate) fn write_sent(
 ) -> Result<(), NoMemory>
     requires can { IsTrue (can_send events.now out.now.message) }
     requires early { out.now.moment < 2 ^ 53 }
-    ensures { OnOk result (page.new.items
+    ensures ok { OnOk result (page.new.items
         ≡ page.old.items ++ sent_bytes (sent_of config.now events.now out.now)) }
+    ensures front { GoesOn page.old.items page.new.items }
 {
     let begin = page.len();
     write_record(alloc, out.moment, &[], page)?;

@@ -78,18 +78,16 @@ fn sent(
     ensures sendable { IfOk result (λ outs. (events : List Entry)
         → IfSome told (λ x. can_send events x.1 ≡ true) → AreSendable events outs) }
 {
-    let mut outs = OutList::empty(alloc);
-    if let Some((port, message)) = told {
-        outs.push(
-            alloc,
-            Out {
-                port,
-                moment,
-                message,
-            },
-        )?;
-    }
-    Ok(outs)
+    let Some((port, message)) = told else {
+        return Ok(OutList::empty(alloc));
+    };
+    let mut outs = Vec::with_capacity(alloc, 1)?;
+    outs.push_reserved(Out {
+        port,
+        moment,
+        message,
+    });
+    Ok(OutList::from_vec(outs))
 }
 
 // The message of a verdict that has one at most, with the port that it goes to.

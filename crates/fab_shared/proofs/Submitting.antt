@@ -1,5 +1,5 @@
 -- A frame that a fabric took in a turn is a step of the history.
-use Rattle.std.proofs.Common.{◌≡◌, ℕ, List, [], ◌∷◌, ◌++◌, sym, ap, ◌∙◌, subst}
+use Rattle.std.proofs.Common.{◌≡◌, ℕ, List, [], ◌∷◌, ◌++◌, sym, ap, ◌∙◌, subst, append_assoc}
 use mathlib.Core.List.{IsPrefix}
 use Rattle.fab_base.specs.declared.values.Caught.{Caught}
 use Rattle.fab_config.specs.Settings.{Settings}
@@ -15,6 +15,10 @@ use Rattle.fab_shared.specs.Frames.{frames_of}
 use Rattle.fab_shared.specs.Shared.{IsStep}
 use Rattle.fab_shared.specs.declared.locked.LockedFabric.{LockedFabric}
 use Rattle.fab_shared.proofs.Entries.{frames_grown, frames_taken}
+
+-- what begins a list begins one that goes on from it
+pub begins_more : (xs ys zs more : List Event) → IsPrefix xs ys → zs ≡ ys ++ more → IsPrefix xs zs
+begins_more xs ys zs more p e = (p.0 ++ more, sym (append_assoc xs p.0 more) ∙ ap (λ (l : List Event). l ++ more) p.1 ∙ sym e)
 
 module _ (first F G : Contents) (port index : ℕ) (caught : Caught) (v : Verdict) (old mid new : Pass LockedFabric Event)
     (g : Grown first F) (took : Takes F (Frame port index caught v) G)

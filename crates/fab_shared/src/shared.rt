@@ -70,6 +70,7 @@ impl SharedFabric {
             × IsSamePass pass.old pass.new }
         ensures step { IfOk result (λ v. (port : ℕ) → pass.old.port ≡ Some port → IsStep
             (opened self.now) (Frame port index heard.now.caught.now v) pass.old pass.new) }
+        ensures seen { IsPrefix (seen pass.old) (seen pass.new) }
         ensures refused { OnErr result (own pass.new ≡ own pass.old) }
     {
         fabric_steps();

@@ -29,6 +29,11 @@ pub record AddsFile {F : Type 0} (s : ℕ) (old new : List F) (now : Desk) : Typ
   pub files : new ≡ old ++ file ∷ []
   pub at : at_of now s ≡ length old
 
+-- no file came and no slot, and each has what it had
+pub record HasSame {F : Type 0} (old new : Desk) (before after : List F) : Type 0 where
+  pub slots : new.slots.items ≡ old.slots.items
+  pub files : after ≡ before
+
 -- the other files are as they were
 pub record SameOthers {F : Type 0} (at : ℕ) (old new : List F) : Type 0 where
   pub count : length new ≡ length old

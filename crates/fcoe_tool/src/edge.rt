@@ -25,10 +25,10 @@ pub struct FileDepot<'a, R: Files> {
 }
 
 impl<'a, R: Files> FileDepot<'a, R> {
-    ghost use Rattle.std.specs.Prelude.{◌≡◌, ◌<◌, ℕ, List, Some, IfSome, IfOk, IfErr, length};
+    ghost use Rattle.std.specs.Prelude.{◌≡◌, ◌<◌, ℕ, List, Some, IfSome, IfNone, IfOk, IfErr, length};
     ghost use Rattle.std.specs.Prelude.{slice_get, IsTrue, true, false, ◌≤◌};
     ghost use Rattle.fab_base.specs.Desk.{place_of, Stays, KeepsCounts};
-    ghost use Rattle.fcoe_tool.specs.Edge.{KnowsAll, AddsFile};
+    ghost use Rattle.fcoe_tool.specs.Edge.{KnowsAll, AddsFile, HasSame};
 
     /// A depot that knows these words.
     pub fn new(rt: &'a R, alloc: Global, words: &[String]) -> Result<FileDepot<'a, R>, NoMemory>
@@ -74,6 +74,8 @@ impl<'a, R: Files> FileDepot<'a, R> {
             ≡ Some (record { file = place; at = length self.old.files.items; input = false }))) }
         ensures file { IfSome result (λ s. AddsFile s self.old.files.items self.new.files.items
             self.new.desk) }
+        ensures none { IfNone result (HasSame self.old.desk self.new.desk self.old.files.items
+            self.new.files.items) }
     {
         if self.has_mixed_names() {
             return None;
@@ -92,6 +94,8 @@ impl<'a, R: Files> FileDepot<'a, R> {
             ≡ Some (record { file = place; at = length self.old.files.items; input = input }))) }
         ensures file { IfSome result (λ s. AddsFile s self.old.files.items self.new.files.items
             self.new.desk) }
+        ensures none { IfNone result (HasSame self.old.desk self.new.desk self.old.files.items
+            self.new.files.items) }
     {
         if self.desk.slots.len() > u32::MAX as usize {
             return None;
@@ -114,10 +118,10 @@ impl<'a, R: Files> FileDepot<'a, R> {
 }
 
 impl<R: Files> Depot for FileDepot<'_, R> {
-    ghost use Rattle.std.specs.Prelude.{◌<◌, IsTrue, IfOk, length};
+    ghost use Rattle.std.specs.Prelude.{◌≡◌, ◌<◌, IsTrue, IfOk, OnErr, length};
     ghost use Rattle.fab_base.specs.Desk.{at_of};
     ghost use Rattle.fab_base.specs.Seen.{OpensIn, OpensOut, Fetches, Puts};
-    ghost use Rattle.fcoe_tool.specs.Edge.{untold, AddsFile, ReadsAt, WritesAt};
+    ghost use Rattle.fcoe_tool.specs.Edge.{untold, AddsFile, HasSame, ReadsAt, WritesAt};
 
     ghost seen = { λ d. untold d.desk };
 
@@ -126,6 +130,8 @@ impl<R: Files> Depot for FileDepot<'_, R> {
         ensures opens { OpensIn name.now (untold self.old.desk) (untold self.new.desk) result }
         ensures file { IfOk result (λ s. AddsFile s self.old.files.items self.new.files.items
             self.new.desk) }
+        ensures err { OnErr result (HasSame self.old.desk self.new.desk self.old.files.items
+            self.new.files.items) }
     {
         let place = self.desk.place(name).unwrap();
         match self.try_open(name, place, true) {
@@ -142,6 +148,8 @@ impl<R: Files> Depot for FileDepot<'_, R> {
         ensures opens { OpensOut name.now (untold self.old.desk) (untold self.new.desk) result }
         ensures file { IfOk result (λ s. AddsFile s self.old.files.items self.new.files.items
             self.new.desk) }
+        ensures err { OnErr result (HasSame self.old.desk self.new.desk self.old.files.items
+            self.new.files.items) }
     {
         let place = self.desk.place(name).unwrap();
         match self.try_output(name, place) {
@@ -160,6 +168,7 @@ impl<R: Files> Depot for FileDepot<'_, R> {
             (untold self.new.desk) result }
         ensures reads { ReadsAt R.File.remaining
             (at_of self.old.desk slot) self.old.files.items self.new.files.items into.new result }
+        ensures err { OnErr result (self.new.desk.slots.items ≡ self.old.desk.slots.items) }
     {
         let source = self.desk.file(slot);
         let at = self.desk.at(slot);
@@ -178,6 +187,7 @@ impl<R: Files> Depot for FileDepot<'_, R> {
         ensures puts { Puts slot from.now (untold self.old.desk) (untold self.new.desk) result }
         ensures writes { WritesAt R.File.contents
             (at_of self.old.desk slot) self.old.files.items self.new.files.items from.now result }
+        ensures err { OnErr result (self.new.desk.slots.items ≡ self.old.desk.slots.items) }
     {
         let target = self.desk.file(slot);
         let at = self.desk.at(slot);

@@ -1,17 +1,16 @@
-use Rattle.std.proofs.Common.{◌≡◌, ◌∙◌, ap, sym, Some, slice_get}
-use Rattle.std.specs.Option.{option_copied}
-use Rattle.fab_replies.specs.Message.{sent_of}
+use Rattle.std.proofs.Common.{◌∙◌, ℕ, ◌<◌, sym, ap, subst}
 use Rattle.fab_pages.specs.Pages.{items_in}
-use Rattle.fab_pages.proofs.PageLemmas.{early_at, adds_next}
+use Rattle.fab_pages.proofs.PageLemmas.{length-items}
+use Rattle.fab_pages.proofs.FrontLemmas.{err_holds, no_err, pages_back}
 use Rattle.fab_pages.proofs.pages.write_records.Goals as goal
+use Rattle.fab_pages.proofs.pages.write_records.Goals.{then-is_err, else-is_err}
 
-pub write_to_port-requires-clause-early : goal.write_to_port-requires-clause-early
-write_to_port-requires-clause-early c =
-    let at : slice_get c.args.drained.now.outs c.loop-index.index ≡ Some c.in-Some.out.now = sym c.at.ensures ∙ ap option_copied c.in-Some.is in
-    early_at c.args.drained.now.outs c.loop-index.index c.in-Some.out.now c.requires.early at
-
-pub loop-index-preserved : goal.loop-index-preserved
-loop-index-preserved c =
-    let at : slice_get c.args.drained.now.outs c.loop-index.index ≡ Some c.in-Some.out.now = sym c.at.ensures ∙ ap option_copied c.in-Some.is in
-    adds_next (sent_of c.args.config.now c.args.drained.now.events) c.args.drained.now.outs c.loop-index.index c.in-Some.out.now (items_in c.args.pages.now) (items_in c.loop-index.pages) (items_in c.write_to_port.new.pages)
-    at c.loop-index.invariant c.in_ok-write_to_port.ensures
+pub returns-clause-err : goal.returns-clause-err
+returns-clause-err c = elim c.if-is_err.branch [
+  | then-is_err w ↦ err_holds c.write_each-written.result _
+      (ap items_in w.pages-is
+      ∙ pages_back w.deref.result.now (items_in c.args.pages.now) (items_in c.write_each-written.new.pages) (items_in w.cut_all.new.pages) (w.deref.ensures.value ∙ c.in_ok-lengths.ensures) c.write_each-written.ensures.fronts
+      (length-items w.cut_all.new.pages ∙ w.cut_all.ensures.count ∙ sym (length-items c.write_each-written.new.pages))
+      (λ q lt. w.cut_all.ensures.pages q (subst (λ (n : ℕ). q < n) (length-items c.write_each-written.new.pages) lt)))
+  | else-is_err w ↦ no_err c.write_each-written.result _ (sym c.is_err.ensures.value ∙ w.if-is_err.false)
+]

@@ -1,4 +1,4 @@
-use Rattle.std.proofs.Common.{length, ◌≡◌, ◌∙◌, Some, sym}
+use Rattle.std.proofs.Common.{length, ◌≡◌, ◌∙◌, Some, sym, ap}
 use Rattle.fab_base.specs.Desk.{place_of}
 use Rattle.fab_base.proofs.MemLemmas.{stays_trans, counted_later}
 use Rattle.fcoe_tool.proofs.EdgeLemmas.{untold_opens_out, untold_keeps, untold_write_rose, untold_reads}
@@ -7,7 +7,7 @@ use Rattle.fcoe_tool.proofs.edge.FileDepotDepot.open_out.Goals as goal
 pub returns-in-Some : goal.returns-in-Some
 returns-in-Some g c =
     let e = c.in-Some.ensures in
-    record { opens = untold_opens_out c.args.name.now c.unwrap-place.result c.args.self.now.desk c.try_output.new.self.desk (sym c.place.ensures.found ∙ c.unwrap-place.ensures) e.stays c.in-Some.slot (length c.args.self.now.files.items) e.fresh.0 e.fresh.1; file = e.file }
+    record { opens = untold_opens_out c.args.name.now c.unwrap-place.result c.args.self.now.desk c.try_output.new.self.desk (sym c.place.ensures.found ∙ c.unwrap-place.ensures) e.stays c.in-Some.slot (length c.args.self.now.files.items) e.fresh.0 e.fresh.1; file = e.file; err = tt }
 
 pub returns-in-None : goal.returns-in-None
 returns-in-None g c =
@@ -24,4 +24,5 @@ returns-in-None g c =
         cause = untold_write_rose c.args.name.now c.unwrap-place.result c.args.self.now.desk c.write_failed.new.self at stays (counted_later c.unwrap-place.result _ _ _ e.counts.writes c.write_failed.ensures.counted);
       };
       file = tt;
+      err = record { slots = ap (λ v. v.items) c.write_failed.ensures.slots ∙ e.none.slots; files = e.none.files };
     }
