@@ -179,6 +179,18 @@ def _load(number: int) -> list[bytes]:
         return [(pathlib.Path(room) / name).read_bytes() for name in ["config"] + [f"in{port}" for port in range(1, 9)]]
 
 
+def _shown() -> str:
+    """What `show` prints of a load: its 240 logins, each of which registers type 08, watches, and is heard when it is granted; their nodes' last keep
+    alive comes at 32000."""
+    text = "entries 20281\nclock 33400\n"
+    for k in range(240):
+        port, login = k // 30 + 1, k % 30
+        names = f"{0x2000001B21000000 + 256 * port + login:016x} {0x1000001B21000000 + 256 * port:016x}"
+        text += f"login {0x010100 + k:06x} {names} {port} 001b2100010{port} 32000 {1000 + 10 * k // 100 * 100} 2112 3\n"
+        text += f"types {0x010100 + k:06x} 00000100{56 * '0'}\n"
+    return text
+
+
 def makes(book: Book) -> None:
     book.title("make: loads, whose files are those of another generator")
     known = {1: {"IN1": (2_713_608, 0x0FF3_FEBE), "IN8": (2_706_676, 0xCE9A_D940)}, MOST: {"IN1": (2_698_108, 0xAF05_8314)}}
@@ -199,7 +211,8 @@ def makes(book: Book) -> None:
             pairs = [word for port in range(1, 9) for word in (f"IN{port}", f"OUT{port}")]
             book.run(["run", "K", "J"] + pairs, "frames 20000 entries 20281\n", 0)
             book.run(["replay", "K", "J"] + pairs, "legal 20281\n", 0)
-            book.run(["show", "K", "J"] + pairs[::2], "", 4)
+            book.room(100_000)
+            book.run(["show", "K", "J"] + pairs[::2], _shown(), 0)
     for _ in range(2):
         book.case("generated_load_is_reproducible", "up to the capture of port 2, whose head can't be put")
         book.fail(53)
