@@ -122,8 +122,11 @@ class Book:
         """A file that later cases take, by its bytes; by pieces where that is shorter."""
         if self.shelf.get(name) == data:
             return name
-        kind, plain = pieces_of(data)
-        self.lines += [f"file {name}"] + pieces if pieces is not None else [f"{kind} {name}"] + plain
+        if pieces is None:
+            kind, plain = pieces_of(data)
+            self.lines += [f"{kind} {name}"] + plain
+        else:
+            self.lines += [f"file {name}"] + pieces
         self._shelve(name, data)
         return name
 

@@ -1,4 +1,5 @@
 """`replay` and `show` of small journals, `convert`, `migrate`, `make`, `--help` and `--version`."""
+import functools
 import pathlib
 import re
 import struct
@@ -51,11 +52,6 @@ def replays(book: Book) -> None:
         book.case("output_changed_in_its_last_byte", "changed, cut, and without its record")
         checked(book, "vlans", output=output)
         book.run(REPLAY, f"output 1 {place}\n", 1)
-    for call in range(10):
-        book.case("a_call_of_replay_fails", "the calls are: open and fetch twice K, open and fetch twice the journal, open IN, ..")
-        checked(book, "vlans")
-        book.fail(call)
-        book.run(REPLAY, "read fault\n", 3)
     for length, line in ((23, "0 short"), (99, "24 cut")):
         book.case("captures_that_stop", f"a capture of {length} bytes")
         checked(book, "vlans", one=book.part(f"request-{length}", "request", 0, length))
@@ -98,7 +94,7 @@ def shows(book: Book) -> None:
 
 
 # A section header, an interface at 28, and at 48 what a packet has before its 60 bytes, in microseconds; in both byte orders.
-def _pcapng(order: str, interface: int = 0) -> bytes:
+def pcapng(order: str, interface: int = 0) -> bytes:
     section = struct.pack(order + "IIIHHq", 0x0A0D0D0A, 28, 0x1A2B3C4D, 1, 0, -1) + struct.pack(order + "I", 28)
     described = struct.pack(order + "IIHHII", 1, 20, 1, 0, 0, 20)
     packet = struct.pack(order + "IIIIIII", 6, 92, interface, 0, 1_000_000, 60, 60)
@@ -112,7 +108,7 @@ def converts(book: Book) -> None:
     book.title("convert: pcapng")
     for order, name in (("<", "little"), (">", "big")):
         book.case("pcapng_of_one_vlan_request", f"{name} end first")
-        inputs(book, one=book.file(f"pcapng-{name}", _pcapng(order)))
+        inputs(book, one=book.file(f"pcapng-{name}", pcapng(order)))
         book.run(CONVERT, "records 1\n", 0)
         book.see(OUT=REQUEST)
     book.case("the_capture_is_run")
@@ -120,9 +116,9 @@ def converts(book: Book) -> None:
     book.run(CONVERT, "records 1\n", 0)
     book.run("run K J OUT OUT2".split(), "frames 1 entries 2\n", 0)
     book.see(J=JOURNAL, OUT2=NOTIFICATION)
-    long = bytearray(_pcapng("<")[:76])
+    long = bytearray(pcapng("<")[:76])
     long[4:8] = bytes([4, 0, 0, 0x40])
-    rows = [(book.file("pcapng-unknown", _pcapng("<", 1)), "capture 1 48 interface", 1, "a packet of interface 1, which isn't there")]
+    rows = [(book.file("pcapng-unknown", pcapng("<", 1)), "capture 1 48 interface", 1, "a packet of interface 1, which isn't there")]
     rows += [("empty", "capture 1 0 cut", 1, "no byte"), ("request", "capture 1 0 section", 1, "a classic capture")]
     rows += [(book.file("pcapng-long", bytes(long)), "limit bytes 1073741824", 6, "a section header of more bytes than are taken")]
     for one, line, status, what in rows:
@@ -130,13 +126,6 @@ def converts(book: Book) -> None:
         inputs(book, one=one)
         book.run(CONVERT, f"{line}\n", status)
         untouched(book)
-    for call in range(5):
-        book.case("a_call_fails", "the calls are: open and fetch twice IN, open and put OUT")
-        inputs(book, one="pcapng-little")
-        book.fail(call)
-        book.run(CONVERT, "read fault\n" if call < 3 else "write fault\n", 3 if call < 3 else 4)
-        if call < 3:
-            untouched(book)
     for row in ("convert IN", "convert IN IN", "convert IN OUT J", "IN IN OUT"):
         book.case("words_that_convert_nothing")
         inputs(book)
@@ -170,13 +159,6 @@ def migrates(book: Book) -> None:
         inputs(book, one=text.encode())
         book.run(MIGRATE, f"journal {line}\n", 1)
         untouched(book)
-    for call in range(5):
-        book.case("a_call_of_migrate_fails", "the calls are: open and fetch twice IN, open and put OUT")
-        inputs(book, one="pool-journal-1")
-        book.fail(call)
-        book.run(MIGRATE, "read fault\n" if call < 3 else "write fault\n", 3 if call < 3 else 4)
-        if call < 3:
-            untouched(book)
     for row in ("migrate IN", "migrate IN IN", "migrate IN OUT J"):
         book.case("words_that_migrate_nothing")
         inputs(book)
@@ -189,6 +171,7 @@ MOST = 2**64 - 1
 K_SUM = (6166, 0xC7A2_A536)
 
 
+@functools.cache
 def _load(number: int) -> list[bytes]:
     """The nine files of another generator."""
     with tempfile.TemporaryDirectory() as room:
@@ -196,17 +179,40 @@ def _load(number: int) -> list[bytes]:
         return [(pathlib.Path(room) / name).read_bytes() for name in ["config"] + [f"in{port}" for port in range(1, 9)]]
 
 
+def _shown() -> str:
+    """What `show` prints of a load: its 240 logins, each of which registers type 08, watches, and is heard when it is granted; their nodes' last keep
+    alive comes at 32000."""
+    text = "entries 20281\nclock 33400\n"
+    for k in range(240):
+        port, login = k // 30 + 1, k % 30
+        names = f"{0x2000001B21000000 + 256 * port + login:016x} {0x1000001B21000000 + 256 * port:016x}"
+        text += f"login {0x010100 + k:06x} {names} {port} 001b2100010{port} 32000 {1000 + 10 * k // 100 * 100} 2112 3\n"
+        text += f"types {0x010100 + k:06x} 00000100{56 * '0'}\n"
+    return text
+
+
 def makes(book: Book) -> None:
     book.title("make: loads, whose files are those of another generator")
     known = {1: {"IN1": (2_713_608, 0x0FF3_FEBE), "IN8": (2_706_676, 0xCE9A_D940)}, MOST: {"IN1": (2_698_108, 0xAF05_8314)}}
-    for number in (1, 0, MOST):
-        book.case("generated_load" if number == 1 else "generated_load_is_reproducible", f"the load of {number}")
+    for number, name, shows in (
+        (1, "generated_load", "the load of 1, over which a forwarder is run; the nine files are those of another generator"),
+        (1, "generated_load_is_reproducible", "the load of 1 a second time"),
+        (0, "generated_load_is_reproducible", "the load of 0"),
+        (MOST, "generated_load_is_reproducible", f"the load of {MOST}"),
+    ):
+        book.case(name, shows)
         book.run(["make", str(number)] + NINE, "made 20000\n", 0)
         files = dict(zip(NINE, _load(number)))
-        for name, (length, _) in {"K": K_SUM, **known.get(number, {})}.items():
-            assert len(files[name]) == length
+        for file, (length, _) in {"K": K_SUM, **known.get(number, {})}.items():
+            assert len(files[file]) == length
         book.sum(**files)
         book.sum(K=K_SUM, **known.get(number, {}))
+        if name == "generated_load":
+            pairs = [word for port in range(1, 9) for word in (f"IN{port}", f"OUT{port}")]
+            book.run(["run", "K", "J"] + pairs, "frames 20000 entries 20281\n", 0)
+            book.run(["replay", "K", "J"] + pairs, "legal 20281\n", 0)
+            book.room(100_000)
+            book.run(["show", "K", "J"] + pairs[::2], _shown(), 0)
     for _ in range(2):
         book.case("generated_load_is_reproducible", "up to the capture of port 2, whose head can't be put")
         book.fail(53)

@@ -165,13 +165,6 @@ def records(book: Book) -> None:
     book.run(ONE_PORT, DONE, 0)
     book.see(J=JOURNAL, OUT=NOTIFICATION)
 
-    book.case("many_short_frames", "20,001 records without a byte in one window; the journal by its sum")
-    nothing = book.file("nothing", record(1, 0, b""))
-    inputs(book, one=book.file("many", HEAD + 20_001 * record(1, 0, b""), [" < head", f" * 20001 {nothing}"]))
-    book.run(ONE_PORT, "frames 20001 entries 20002\n", 0)
-    lines = [b"1000 1 %d dropped eth-short\n" % index for index in range(20_001)]
-    book.sum(J=b"journal 2\n1000 tick\n" + b"".join(lines))
-
 
 def _logins(book: Book, name: str, places: list[dict[int, int]], told: list[str]) -> None:
     """Logins with other bytes at places of their FIP messages, and what the journal tells of each."""

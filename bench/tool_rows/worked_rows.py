@@ -1,5 +1,4 @@
-"""The worked journals: `run` over their captures, `replay` and `show` of what it wrote, wishes, captures that are cut and stores that fail."""
-import re
+"""The worked journals: `run` over their captures, `replay` and `show` of what it wrote, wishes, and stores that fail."""
 from typing import Optional
 
 from .book import Book, digits, records
@@ -214,29 +213,6 @@ def wishes(book: Book) -> None:
             book.run(["replay"] + WORDS[3], said, 1)
 
 
-def cuts(book: Book) -> None:
-    book.title("run over two initiators and a target, of whose captures the first is cut")
-    made = worked("two-zones-and-a-target", "two-initiators-and-a-target")
-    first = made.came(1)
-    stored(book, made, 3)
-    whole = book.names[first]
-    ends = [24]
-    for _, _, frame in records(first) or []:
-        ends.append(ends[-1] + 16 + len(frame))
-    lengths = [0, 1, 23, 24]
-    for at, end in zip(ends, ends[1:]):
-        lengths += [at + 15, at + 40, end]
-    for length in lengths:
-        book.case("cut_capture_table", f"cut to {length} bytes")
-        stored(book, made, 3, A=book.part("cut-capture", whole, 0, length))
-        if length < 24:
-            book.run(["run"] + WORDS[3], "capture 1 0 short\n", 1)
-        elif length in ends:
-            book.run_told(["run"] + WORDS[3], lambda said, status: status == 0 and re.fullmatch(rb"frames \d+ entries \d+\n", said) is not None)
-        else:
-            book.run(["run"] + WORDS[3], f"capture 1 {max(end for end in ends if end <= length)} cut\n", 1)
-
-
 def _told_before(made: Worked, fronts: dict[str, Optional[int]], name: str, port: int) -> bool:
     """Whether the journal has the tick of the last whole record of an output."""
     if fronts["J"] is None or fronts[name] is None:
@@ -300,5 +276,4 @@ def all_rows(book: Book) -> None:
     legal(book)
     wishes(book)
     cut_journals(book)
-    cuts(book)
     stores(book)
