@@ -92,9 +92,22 @@ impl Fabric {
         ensures stands { (J : Journal) → Stands self.old J → Stands self.new J }
     {
         fabric_steps();
-        let events = mem::replace(&mut self.events, OwnedList::empty(self.alloc));
-        let outs = mem::replace(&mut self.outs, OwnedList::empty(self.alloc));
+        let events = with_room(self.alloc, self.events.len());
+        let outs = with_room(self.alloc, self.outs.len());
+        let events = mem::replace(&mut self.events, events);
+        let outs = mem::replace(&mut self.outs, outs);
         Drained { events, outs }
+    }
+}
+
+// An empty list with room for so many items, or with none where memory is refused: what is put into
+// it asks for room again.
+fn with_room<T: Drop>(alloc: Global, most: usize) -> OwnedList<T>
+    ensures { result ≡ [] }
+{
+    match Vec::with_capacity(alloc, most) {
+        Ok(items) => OwnedList::from_vec(items),
+        Err(_) => OwnedList::empty(alloc),
     }
 }
 

@@ -1,5 +1,5 @@
 //! What a turn puts behind the entries and the frames since the last drain.
-ghost use Rattle.std.specs.Prelude.{◌≡◌, ◌<◌, ◌≤◌, List, [], ◌∷◌, ◌++◌, length, OnOk, OnErr, Some};
+ghost use Rattle.std.specs.Prelude.{◌≡◌, ◌<◌, ◌≤◌, List, [], ◌∷◌, ◌++◌, length, IfOk, OnOk, OnErr, Some};
 ghost use Rattle.fab_policy.specs.Steps.{InPool};
 ghost use Rattle.fab_policy.specs.Ranged.{IsRangedEvent};
 ghost use Rattle.fab_policy.specs.declared.event.Event.{Event as Entry};
@@ -74,7 +74,7 @@ impl Fabric {
             (Keeps self.old (Frame port index heard.now.caught.now verdict) sends self.new) }
         ensures err { OnErr result (self.new ≡ self.old) }
     {
-        let bytes = Bytes::copy(alloc, heard.caught.bytes.view())?;
+        let bytes = copied(alloc, heard.caught.bytes.view())?;
         let whole = heard.caught.whole;
         let entry = Event::Frame {
             port,
@@ -86,4 +86,13 @@ impl Fabric {
         self.keep(alloc, entry, sends)?;
         Ok(())
     }
+}
+
+// A copy of bytes, in one move.
+fn copied(alloc: Global, from: &[u8]) -> Result<Bytes, NoMemory>
+    ensures { IfOk result (λ b. b ≡ from.now) }
+{
+    let mut items = Vec::with_capacity(alloc, from.len())?;
+    items.extend_from_slice(from)?;
+    Ok(Bytes::from_vec(items))
 }
