@@ -1,7 +1,7 @@
 //! Rows of bits, one for each place of a list, in words of 64.
 #![tactic(auto)]
 
-ghost use Rattle.std.specs.Prelude.{◌≡◌, ◌==◌, ◌&&◌, ◌||◌, ◌<◌, ◌≤◌, ◌^◌, ◌/◌, not, ℕ, ◌+◌, true, false, length, OnOk, IfOk};
+ghost use Rattle.std.specs.Prelude.{◌≡◌, ◌==◌, ◌&&◌, ◌||◌, ◌<◌, ◌≤◌, ◌^◌, ◌/◌, not, ℕ, ◌+◌, true, false, length, OnOk, OnErr, IfOk};
 ghost use Rattle.std.specs.Bool.{OnTrue, OnFalse};
 ghost use Rattle.bit_rows.specs.Row.{has, IsCommon, HasNone, IsNextBit};
 
@@ -14,7 +14,8 @@ pub type Row = Vec<u64>;
 
 /// Sets the bit of a place.
 pub fn set_bit(row: &mut Row, place: usize) -> Result<(), AllocError>
-    ensures { OnOk result ((q : ℕ) → has row.new.items q ≡ (place == q || has row.old.items q)) }
+    ensures ok { OnOk result ((q : ℕ) → has row.new.items q ≡ (place == q || has row.old.items q)) }
+    ensures err { OnErr result (row.new.items ≡ row.old.items) }
 {
     let word = place / 64;
     if row.len() <= word {

@@ -1,4 +1,5 @@
 pub mod LineLemmas
+pub mod Live
 pub mod WordLemmas
 pub mod SpellingLemmas
 pub mod NamedLemmas

@@ -1,15 +1,19 @@
 -- In a legal journal an address is granted where nobody holds it, or is given back.
-use Rattle.std.proofs.Common.{◌≡◌, ℕ, zero, suc, ◌+◌, ◌*◌, ◌<◌, ◌≤◌, ◌⊎◌, inl, inr, Bool, true, false, ◌&&◌, ◌==◌, cond, Option, Some, None, refl, sym, ap, subst, ◌∙◌, arith, IsTrue, map, option_map, unwrap_or}
+use Rattle.std.proofs.Common.{◌≡◌, ℕ, zero, suc, ◌+◌, ◌*◌, ◌<◌, ◌≤◌, ◌⊎◌, inl, inr, Bool, true, false, ◌&&◌, ◌==◌, cond, Option, Some, None, refl, sym, ap, subst, ◌∙◌, arith, IsTrue, [], ◌∷◌, if◌then◌else◌, map, option_and_then, option_map, unwrap_or}
 use Rattle.std.proofs.lemmas.Bool.{and_parts, eqb-true}
 use Rattle.fab_base.specs.Fabric.{Past, past_at, may_have, same_enode}
 use Rattle.fab_base.specs.declared.values.Caught.{Caught}
 use Rattle.fab_config.specs.Settings.{Settings}
 use Rattle.fab_policy.specs.Journal.{Journal}
-use Rattle.fab_policy.specs.Logins.{NPort, counting, login, last_grant, is_live, end_clock}
+use Rattle.fab_policy.specs.Legal.{Legal}
+use Rattle.fab_policy.specs.Logins.{NPort, counting, ends, grants, n_port, login, last_grant, is_live, end_clock}
+use Rattle.fab_policy.specs.declared.event.Event.{Event}
+use Rattle.fab_policy.specs.declared.event.Event.TheVariants.{Frame}
+use Rattle.fab_policy.specs.declared.verdict.Verdict.TheVariants.{Granted}
 use Rattle.fab_policy.specs.State.{LivePort, tables_of, live_port, with_all, past_of, port_at, now_of}
 use Rattle.fab_policy.specs.Free.{Request, is_free, is_open}
-use Rattle.fab_policy.specs.Sound.{GrantsAreFree, IsGrantable, IsGivenBack}
-use Rattle.fab_policy.proofs.Steps.{live_addressed, past_address, present}
+use Rattle.fab_policy.specs.Sound.{GrantsAreFree, IsGrantable, IsGivenBack, LoginsAreInPool}
+use Rattle.fab_policy.proofs.Steps.{live_addressed, past_address, present, steps_login}
 use Rattle.fab_policy.proofs.SoundGrants.{IsAllowed, granted_allowed}
 
 -- a past that is found stands for its address, which is one of those counted
@@ -76,3 +80,27 @@ grants_are_free c J port index a caught l = by_past (past_at a (tables_of c J).p
     by_past (Some x) e t =
         let at = counted J a x c.pool (c.domain * 65536 + 256) e in
         record { least = at.least; most = at.most; holder = held c J port caught granted.0 a x granted.1 at.least at.most at.address t }
+
+-- ---- the pool
+
+-- an entry that grants an address is a frame with that grant
+granted_there : (c : Settings) (J : Journal) (a : ℕ) (e : Event) → Legal c (e ∷ J) → grants a e ≡ true → (c.domain * 65536 + 256 ≤ a) × (a < c.domain * 65536 + 256 + c.pool)
+granted_there c J a (Frame port index caught (Granted b)) legal g =
+    let there = grants_are_free c J port index b caught legal in
+    let same : b ≡ a = sym (eqb-true a b g) in
+    (subst (λ x. c.domain * 65536 + 256 ≤ x) same there.least, subst (λ x. x < c.domain * 65536 + 256 + c.pool) same there.most)
+granted_there c J a e legal g = absurd cc
+
+pub logins_are_in_pool : LoginsAreInPool
+logins_are_in_pool c [] a p legal e = absurd cc
+logins_are_in_pool c (e ∷ J) a p legal is = by_grant (grants a e) refl (λ q. logins_are_in_pool c J a q legal.0) (sym (steps_login a e J) ∙ is)
+  where
+    by_login : (o : Option NPort) → ((q : NPort) → o ≡ Some q → (c.domain * 65536 + 256 ≤ a) × (a < c.domain * 65536 + 256 + c.pool)) →
+        option_and_then (λ q. if ends a q.enode e then None else Some q) o ≡ Some p → (c.domain * 65536 + 256 ≤ a) × (a < c.domain * 65536 + 256 + c.pool)
+    by_login None before t = absurd cc
+    by_login (Some q) before t = before q refl
+
+    by_grant : (b : Bool) → grants a e ≡ b → ((q : NPort) → login a J ≡ Some q → (c.domain * 65536 + 256 ≤ a) × (a < c.domain * 65536 + 256 + c.pool)) →
+        (if b then Some (n_port e) else option_and_then (λ q. if ends a q.enode e then None else Some q) (login a J)) ≡ Some p → (c.domain * 65536 + 256 ≤ a) × (a < c.domain * 65536 + 256 + c.pool)
+    by_grant true g before t = granted_there c J a e legal g
+    by_grant false g before t = by_login (login a J) before t

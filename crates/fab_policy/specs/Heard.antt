@@ -72,9 +72,6 @@ decoded caught =
 
 -- ---- parts of a frame
 
-abbrev pub destination : Caught → List ℕ
-destination caught = field caught.bytes 0 6
-
 abbrev pub source : Caught → List ℕ
 source caught = field caught.bytes 6 6
 

@@ -13,6 +13,7 @@ pub mod Replies
 pub mod Outputs
 pub mod Carried
 pub mod Legal
+pub mod Live
 pub mod Due
 pub mod Right
 pub mod Text

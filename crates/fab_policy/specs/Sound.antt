@@ -47,3 +47,7 @@ pub record IsGrantable (c : Settings) (J : Journal) (port : ℕ) (caught : Caugh
 -- Each grant of a legal journal is of an address that may be granted there.
 abbrev pub GrantsAreFree : Type 0
 GrantsAreFree = (c : Settings) (J : Journal) (port index a : ℕ) (caught : Caught) → Legal c (Frame port index caught (Granted a) ∷ J) → IsGrantable c J port caught a
+
+-- Whoever is logged in after a legal journal has an address of the pool.
+abbrev pub LoginsAreInPool : Type 0
+LoginsAreInPool = (c : Settings) (J : Journal) (a : ℕ) (p : NPort) → Legal c J → login a J ≡ Some p → (c.domain * 65536 + 256 ≤ a) × (a < c.domain * 65536 + 256 + c.pool)

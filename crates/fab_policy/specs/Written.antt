@@ -5,7 +5,7 @@ use Rattle.pcap_file.specs.declared.Record.{Record}
 use Rattle.fab_policy.specs.Journal.{Journal}
 use Rattle.fab_policy.specs.Logins.{counting}
 use Rattle.fab_policy.specs.State.{Tables, LivePort, tables_of, overdue, now_of}
-use Rattle.fab_policy.specs.Legal.{Legal, Run, HasPorts, HoldsFrames, window_start}
+use Rattle.fab_policy.specs.Legal.{Legal, HasPorts, HoldsFrames, window_start}
 use Rattle.fab_policy.specs.Text.{text, text1, egress}
 use Rattle.fab_policy.specs.Ranged.{IsRanged}
 use Rattle.fab_policy.specs.Steps.{InPool}
@@ -14,13 +14,6 @@ use Rattle.fab_policy.specs.Looks.{Stop, kept}
 -- the captures that a journal sends, for ports 1 to n
 abbrev pub egresses : Settings → ℕ → Journal → List (List ℕ)
 egresses c n J = map (λ p. egress c n p J) (counting 1 n)
-
--- A run over these records wrote the journal's text and a capture for each port.
-pub record IsWritten (c : Settings) (ins : List (List Record)) (J : Journal) (journal : List ℕ) (outs : List (List ℕ)) : Type 0 where
-  pub ranged : IsRanged J
-  pub run : Run c ins J
-  pub lines : journal ≡ text J
-  pub captures : outs ≡ egresses c (length ins) J
 
 -- bytes with which others begin
 abbrev pub IsPrefixOf : List ℕ → List ℕ → Type 0

@@ -8,10 +8,12 @@ ghost use Rattle.fab_policy.specs.Carried.{SourcesAreRead, LoginsAreCarried, Bod
 ghost use Rattle.fab_policy.specs.Carried.{ParmsAreAsked, AnswersAreAsked};
 ghost use Rattle.fab_policy.specs.Due.{DueIsOne, NextTickIsLesser};
 ghost use Rattle.fab_policy.specs.Forwarding.{ForwardsExactly, LegalForwards};
+ghost use Rattle.fab_policy.specs.Live.{LegalNamesTheLive};
 ghost use Rattle.fab_policy.specs.Laws.{RequestsAreAnswered, SolicitationsAreAnswered};
 ghost use Rattle.fab_policy.specs.Right.{RightIsOne};
 ghost use Rattle.fab_policy.specs.Written.{TablesAscend, LegalIsQuiet, LegalIsSound};
 ghost use Rattle.fab_policy.specs.Sound.{MacsTellAddresses, LiveMacsDiffer, GrantsAreFree};
+ghost use Rattle.fab_policy.specs.Sound.{LoginsAreInPool};
 ghost use Rattle.fab_policy.specs.Fits.{RegistrationsFit, LoginsFit, FeaturesAreAll};
 ghost use Rattle.fab_policy.specs.Standing.{StandsNew, StandsOlder, DueAfter, StandsAfter};
 ghost use Rattle.fab_policy.specs.Standing.{StandsDrained, LegalAfter, GrowsByFrames};
@@ -112,7 +114,9 @@ pub fn verdicts_are_one()
 /// The live addresses of each journal ascend, and their granted MACs differ. After each legal
 /// journal the names of live N_Ports differ too, there are at most as many as the limit, and nobody
 /// is overdue at the clock. An address is granted only where nobody holds it, or where it is given
-/// back to its ENode.
+/// back to its ENode, and whoever is logged in has one of the pool. Whom a forwarder names in what it sends is logged in: who asks the name server
+/// and whom the answer is about, both ends of a frame that goes on, and who is told of a state
+/// change and of whom, but for those whose login the entry ends.
 pub fn legal_journals()
     ensures ascend { TablesAscend }
     ensures quiet { LegalIsQuiet }
@@ -120,4 +124,6 @@ pub fn legal_journals()
     ensures addresses { MacsTellAddresses }
     ensures macs { LiveMacsDiffer }
     ensures grants { GrantsAreFree }
+    ensures pool { LoginsAreInPool }
+    ensures named { LegalNamesTheLive }
 {}

@@ -6,6 +6,7 @@ use Rattle.fab_config.specs.Settings.{Settings, is_in_range}
 use Rattle.fab_policy.specs.Forwarding.{is_data_frame, forwards, IsForwardedTo, IsDroppedBy}
 use Rattle.fab_policy.specs.Heard.{decoded, d_id}
 use Rattle.fab_policy.specs.Journal.{Journal, followed, frame_count}
+use Rattle.fab_policy.specs.Live.{NamesTheLive}
 use Rattle.fab_policy.specs.Legal.{Legal}
 use Rattle.fab_policy.specs.Looks.{Opened, all_records}
 use Rattle.fab_policy.specs.Rules.{rule_for}
@@ -56,6 +57,9 @@ pub record IsSafe (c : Settings) (J : Journal) : Type 0 where
   pub data_frames : (I : Journal) (later : List Event) (port index : ℕ) (caught : Caught) (verdict : Verdict) → J ≡ followed I (Frame port index caught verdict ∷ later) → is_data_frame c caught ≡ true →
       (forwards c (tables_of c I) port caught ≡ true → IsForwardedTo (port_at (d_id caught) (tables_of c I).ports) verdict)
       × (forwards c (tables_of c I) port caught ≡ false → IsDroppedBy (rule_for c (tables_of c I) port caught (decoded caught)) verdict)
+  -- whom an entry names in what it sends is logged in: who asks and is answered of, both ends of a frame that goes on, who is told of a
+  -- state change and of whom, but for those whose login the entry ends
+  pub named : (I : Journal) (e : Event) (later : List Event) → J ≡ followed I (e ∷ later) → NamesTheLive c I e
   -- nobody who is logged in is past the silence limit at the clock
   pub quiet : (I : Journal) (later : List Event) → J ≡ followed I later → overdue c (tables_of c I) (now_of (tables_of c I)) ≡ []
 

@@ -108,12 +108,9 @@ vlan_number content = number content 0 2 % 4096
 abbrev pub items : {X : Type 0} → ℕ → (List ℕ → X) → List ℕ → List X
 items kind value list = map (λ d. value d.content) (of_kind kind (descriptors_from (length list) HEADER list))
 
--- the Vx_Port descriptors, and the VLAN numbers
+-- the Vx_Port descriptors
 abbrev pub vx_ports : List ℕ → List VxPort
 vx_ports list = items 11 vx_port list
-
-abbrev pub vlan_numbers : List ℕ → List ℕ
-vlan_numbers list = items 14 vlan_number list
 
 -- ---- messages
 

@@ -1,6 +1,7 @@
 mod HeadLemmas
 mod NextLemmas
 mod PullLemmas
+mod CollectLemmas
 mod StepLemmas
 mod StopLemmas
 mod WrittenLemmas

@@ -2,7 +2,7 @@
 use Rattle.std.specs.Prelude.{unwrap_or}
 use Rattle.std.proofs.Common.{◌≡◌, ◌≢◌, inl, inr, subst, ◌^◌, IsTrue, Some, None, Ok, Err, ℕ, ◌+◌, ◌<◌, ◌≤◌, max, leb, ltb, nat_lt, not, List, [], ◌++◌, length, take, drop, sym, ap, ◌∙◌, arith}
 use Rattle.std.proofs.lemmas.Bool.{le-ltb, lt-ltb, le-leb, lt-leb}
-use Rattle.std.proofs.lemmas.List.{length-take-le, take-append-drop, append-nil, take_all}
+use Rattle.std.proofs.lemmas.List.{length-take-le, take-append-drop, append-nil}
 use Rattle.fab_base.specs.Seen.{Seen, Reads}
 use Rattle.pcap_file.proofs.lemmas.Numbers.{none_is, le_or_lt}
 use Rattle.pcap_file.proofs.lemmas.Buffers.{front_is, short_is}
@@ -13,7 +13,7 @@ use Rattle.pcap_file.specs.declared.Budget.{Budget}
 use Rattle.pcap_file.specs.declared.CaptureHead.{CaptureHead}
 use Rattle.pcap_file.specs.declared.CapError.TheVariants as errors
 use Rattle.pcap_file.specs.Capture.{at_place, milliseconds, stored, Found, next}
-use Rattle.pcap_file.specs.Reading.{Pulls, RecordRead, Why, Cut, NoBytes, NoFrames, limit_of, error_of, Gives, Stops, step_by, step_of}
+use Rattle.pcap_file.specs.Reading.{Pulls, Collects, RecordRead, Why, Cut, NoBytes, NoFrames, limit_of, error_of, Gives, Stops, step_by, step_of}
 use Rattle.pcap_file.proofs.NextLemmas.{next_end, next_short, front_long, front_cut, front_whole}
 
 pub leb_not : (a b : ℕ) → leb a b ≡ not (ltb b a)
@@ -88,31 +88,30 @@ module _ (s : ℕ) (a b : Seen) (held rest front : List ℕ) (n : ℕ) (h : Capt
       cause = λ f e. absurd (cc);
     }
 
-    module _ (c : Seen) (more body : List ℕ) (k : ℕ) (is_in : IsTrue (a.input s)) (second : Pulls s body rest more b c (Ok k)) (sized_body : length body ≡ len) (room : 16 + len ≤ budget.bytes) (frame : budget.frames ≢ 0) where
+    module _ (c : Seen) (more body : List ℕ) (is_in : IsTrue (a.input s)) (second : Collects {T = Unit {0}} s len body rest more b c (Ok tt)) (room : 16 + len ≤ budget.bytes) (frame : budget.frames ≢ 0) where
       both : Reads (a.name s) a c
       both = reads_trans (a.name s) a b c first.reads (subst (λ m. Reads m b c) (input_name (a.name s) a b first.reads.keeps s is_in) second.reads)
 
       told_b : IsTrue a.told → IsTrue b.told
       told_b told = told_stays (a.name s) a b first.reads.keeps told
 
-      pub read_cut : k < length body → RecordRead s a c held more h at g budget (Err (errors.Cut at))
+      pub read_cut : length body < len → RecordRead s a c held more h at g budget (Err (errors.Cut at))
       read_cut lt = record {
         reads = both;
         says = λ told.
             let empty : more ++ c.left s ≡ [] = second.ended (told_b told) lt in
-            let all : length (rest ++ b.left s) ≡ k = short_is body (more ++ c.left s) (rest ++ b.left s) k second.bound empty (second.taken (told_b told)) in
+            let all : length (rest ++ b.left s) ≡ length body = sym (ap length (second.taken (told_b told))) ∙ ap (λ l. length (body ++ l)) empty ∙ ap length (append-nil body) in
             ap (λ l. step_of budget at (next h g l)) (whole_front le told) ∙ ap (step_of budget at) (front_cut h g front (rest ++ b.left s) sized (omega arith) (omega arith))
             ∙ ap (λ o. Stops (error_of (unwrap_or o Cut) at)) (no_limit budget.bytes budget.frames (stored h front) (omega arith) (omega arith));
         fits = tt;
         cause = λ f e. absurd (cc);
       }
 
-      pub read_given : (r : Record) → length body ≤ k → g < 2 ^ 43 → milliseconds h front < 2 ^ 43 → r.moment ≡ max (milliseconds h front) g → r.caught.bytes ≡ body → r.caught.whole ≡ not (nat_lt len (at_place h.big front 12 4)) → RecordRead s a c held more h at g budget (Ok (Some r))
-      read_given r full below range moment bytes whole = record {
+      pub read_given : (r : Record) → length body ≡ len → g < 2 ^ 43 → milliseconds h front < 2 ^ 43 → r.moment ≡ max (milliseconds h front) g → r.caught.bytes ≡ body → r.caught.whole ≡ not (nat_lt len (at_place h.big front 12 4)) → RecordRead s a c held more h at g budget (Ok (Some r))
+      read_given r sized_body below range moment bytes whole = record {
         reads = both;
         says = λ told.
-            let all : rest ++ b.left s ≡ body ++ (more ++ c.left s) =
-            front_is body (more ++ c.left s) (rest ++ b.left s) k (omega (arith, second.bound)) (second.taken (told_b told)) in
+            let all : rest ++ b.left s ≡ body ++ (more ++ c.left s) = sym (second.taken (told_b told)) in
             let same : record { bytes = body; whole = not (nat_lt (stored h front) (at_place h.big front 12 4)) } ≡ r.caught = (λ i. record { bytes = sym bytes i; whole = (ap (λ (k : ℕ). not (nat_lt k (at_place h.big front 12 4))) (sym is) ∙ sym whole) i }) in
             let time : max g (milliseconds h front) ≡ r.moment = omega arith in
             ap (λ l. step_of budget at (next h g l)) (whole_front le told)

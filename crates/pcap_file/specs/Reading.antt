@@ -144,6 +144,14 @@ pub record Pulls (s : ℕ) (buffer held rest : List ℕ) (old new : Seen) (resul
   pub ended : IsTrue old.told → IfOk result (λ n. n < length buffer → rest ++ new.left s ≡ [])
   pub cause : OnErr result (Rose (old.read_faults (old.name s)) (new.read_faults (old.name s)))
 
+-- So many bytes from what is held and then from a slot, put into an empty buffer: fewer only at the end.
+pub record Collects {T : Type 0} (s count : ℕ) (buffer held rest : List ℕ) (old new : Seen) (result : Result T Failed) : Type 0 where
+  pub reads : Reads (old.name s) old new
+  pub bound : length buffer ≤ count
+  pub taken : IsTrue old.told → OnOk result (buffer ++ (rest ++ new.left s) ≡ held ++ old.left s)
+  pub ended : IsTrue old.told → OnOk result (length buffer < count → rest ++ new.left s ≡ [])
+  pub cause : OnErr result (Rose (old.read_faults (old.name s)) (new.read_faults (old.name s)))
+
 -- One fetch where nothing is held; nothing is held then only where nothing is left.
 pub record Refills {T : Type 0} (s : ℕ) (held rest : List ℕ) (old new : Seen) (result : Result T Failed) : Type 0 where
   pub reads : Reads (old.name s) old new

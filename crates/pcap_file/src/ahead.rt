@@ -1,7 +1,8 @@
 //! Bytes that were fetched and not given yet.
-ghost use Rattle.std.specs.Prelude.{◌≡◌, ◌≤◌, ◌<◌, ◌-◌, List, ℕ, [], IsTrue, length, take, drop};
-ghost use Rattle.std.specs.Prelude.{min, IfOk, OnErr};
-ghost use Rattle.pcap_file.specs.Reading.{Pulls, Refills};
+ghost use Rattle.std.specs.Prelude.{◌≡◌, ◌≤◌, ◌<◌, ◌+◌, ◌-◌, List, ℕ, [], ◌++◌, IsTrue};
+ghost use Rattle.std.specs.Prelude.{length, take, drop, min, IfOk, OnErr};
+ghost use Rattle.std.specs.Prelude.{vec_len, vec_capacity};
+ghost use Rattle.pcap_file.specs.Reading.{Pulls, Collects, Refills};
 
 use fab_base::{Depot, Failed};
 use std::marker::Model;
@@ -61,6 +62,30 @@ impl Ahead {
         Ok(got)
     }
 
+    /// Puts so many bytes into an empty buffer that has room for them, from what is held and then
+    /// from the slot: fewer only at the end. Nothing is written there before its bytes.
+    pub fn collect<D: Depot>(
+        &mut self,
+        depot: &mut D,
+        slot: u32,
+        count: usize,
+        into: &mut Vec<u8>,
+    ) -> Result<(), Failed>
+        requires input { IsTrue ((D.seen depot.old).input slot) }
+        requires empty { vec_len into.old ≡ 0 }
+        requires room { count ≤ vec_capacity into.old }
+        ensures collects { Collects slot count into.new.items self.old self.new
+            (D.seen depot.old) (D.seen depot.new) result }
+    {
+        while into.len() < count {
+            self.ready(depot, slot)?;
+            if self.hand(count - into.len(), into) == 0 {
+                break;
+            }
+        }
+        Ok(())
+    }
+
     // Fetches once where nothing is held.
     fn ready<D: Depot>(&mut self, depot: &mut D, slot: u32) -> Result<(), Failed>
         requires { IsTrue ((D.seen depot.old).input slot) }
@@ -74,6 +99,25 @@ impl Ahead {
         self.from = 0;
         self.to = count;
         Ok(())
+    }
+
+    // Appends the first bytes that are held where there is room, and answers how many.
+    fn hand(&mut self, most: usize, into: &mut Vec<u8>) -> usize
+        requires room { vec_len into.old + most ≤ vec_capacity into.old }
+        ensures count { result ≡ min (length self.old) most }
+        ensures front { into.new.items ≡ into.old.items ++ take result self.old }
+        ensures rest { self.new ≡ drop result self.old }
+        ensures len { vec_len into.new ≡ vec_len into.old + result }
+        ensures capacity { vec_capacity into.old ≤ vec_capacity into.new }
+    {
+        let held = self.to - self.from;
+        let count = if held < most { held } else { most };
+        let piece = &self.bytes[self.from..self.from + count];
+        if into.extend_from_slice(piece).is_err() {
+            unreachable!();
+        }
+        self.from += count;
+        count
     }
 
     // Moves the first bytes that are held, and answers how many.

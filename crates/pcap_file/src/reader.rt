@@ -152,12 +152,12 @@ fn read_record<D: Depot>(
     if budget.frames == 0 {
         return Err(CapError::Frames);
     }
-    let Ok(mut stored) = vec![in alloc; 0u8; len as usize] else {
+    let Ok(mut stored) = Vec::with_capacity(alloc, len as usize) else {
         return Err(CapError::Memory);
     };
-    match ahead.pull(depot, slot, &mut stored) {
-        Ok(got) => {
-            if got < stored.len() {
+    match ahead.collect(depot, slot, len as usize, &mut stored) {
+        Ok(()) => {
+            if stored.len() < len as usize {
                 return Err(CapError::Cut { at });
             }
         }

@@ -14,8 +14,8 @@ use Rattle.fab_policy.specs.Journal.{Journal}
 use Rattle.fab_policy.specs.Legal.{HoldsFrames}
 use Rattle.fab_policy.specs.Spelling.{IsClockOf, EndsAscend}
 use Rattle.fab_policy.specs.Standing.{AreFrames}
-use Rattle.fab_policy.specs.Text.{text, text1, egress}
-use Rattle.fab_policy.specs.Written.{IsWritten, IsNamed, IsPrefixOf}
+use Rattle.fab_policy.specs.Text.{text, text1}
+use Rattle.fab_policy.specs.Written.{IsNamed, IsPrefixOf}
 use Rattle.fab_policy.specs.declared.event.Event.TheVariants.{Tick, Frame}
 use Rattle.fab_policy.specs.declared.verdict.Verdict.TheVariants.{Vlans, Granted, Logout, Registered, Noted}
 use Rattle.worked.specs.Given.{vlan_request}
@@ -73,11 +73,6 @@ begins_otherwise h = absurd (omega (arith, ap first h.1))
     first : List ℕ → ℕ
     first [] = 0
     first (x ∷ l) = x
-
--- a run over the records of one port writes the journal's text, and what the journal sends on that port
-pub written : (c : Settings) (records : List Record) (J : Journal) (journal : List ℕ) (outs : List (List ℕ)) → IsWritten c (records ∷ []) J journal outs →
-    (journal ≡ text J) × (outs ≡ egress c 1 1 J ∷ [])
-written c records J journal outs w = (w.lines, w.captures)
 
 -- a journal file names the journal by its text in one of two formats, over the frames of the port
 pub named : (records : List Record) (J : Journal) (journal : List ℕ) → IsNamed (records ∷ []) J journal → ((journal ≡ text J) ⊎ (journal ≡ text1 J)) × HoldsFrames J 1 (records ∷ [])

@@ -3,8 +3,8 @@ use Rattle.bit_rows.proofs.RowLemmas.{has-set, padded}
 use Rattle.bit_rows.proofs.set_bit.Goals as goal
 use Rattle.bit_rows.proofs.set_bit.Goals.{then-len-word+in_ok-resize, else-len-word}
 
-pub returns : goal.returns
-returns c = elim c.if-len-word.branch [
+pub returns-clause-ok : goal.returns-clause-ok
+returns-clause-ok c = elim c.if-len-word.branch [
   | then-len-word+in_ok-resize w ↦ λ q.
       let wide : c.if-len-word.row.items ≡ _ = ap (λ v. v.items) w.row-is ∙ w.in_ok-resize.ensures.items in
       let len = ap vec_len w.row-is ∙ w.in_ok-resize.ensures.len in

@@ -1,5 +1,4 @@
-use Rattle.std.proofs.Common.{arith, sym, ap, ◌∙◌, max, ℕ, not, nat_lt}
-use Rattle.std.proofs.lemmas.List.{take_at}
+use Rattle.std.proofs.Common.{◌≡◌, arith, ap, ◌∙◌, max, ℕ, not, nat_lt, length, vec_len}
 use Rattle.pcap_file.proofs.StepLemmas.{leb_not, read_end, read_short, read_long, read_bytes, read_frames, read_cut, read_given}
 use Rattle.pcap_file.proofs.reader.read_record.Goals as goal
 
@@ -28,18 +27,19 @@ returns-then-budget-eq0 g c = record {
   reads = read_frames c.args.slot _ _ _ _ c.pull.new.into c.in-Ok.got c.args.place.head c.args.place.at c.args.place.greatest c.args.budget c.pull.auto.into c.in-Ok.ensures.pulls _ c.number_at-len.ensures (omega arith) (omega arith) (omega arith) (omega arith);
 }
 
-pub returns-then-got-len : goal.returns-then-got-len
-returns-then-got-len g c =
-    let sized = c.pull-2.auto.into ∙ c.deref_mut.ensures.len ∙ c.in-Ok-vec.ensures.len in
+pub returns-then-len : goal.returns-then-len
+returns-then-len g c =
+    let sized : vec_len c.collect.new.into ≡ length c.collect.new.into.items = c.collect.new.into.ok.0 in
     record {
-      reads = read_cut c.args.slot _ _ _ _ c.pull.new.into c.in-Ok.got c.args.place.head c.args.place.at c.args.place.greatest c.args.budget c.pull.auto.into c.in-Ok.ensures.pulls _ c.number_at-len.ensures (omega arith) (omega arith) _ c.pull-2.new.self c.pull-2.new.into c.in-Ok-pull.got c.requires.input
-          c.in-Ok-pull.ensures.pulls sized (omega arith) c.if-budget-eq0.false (omega (arith, sized, c.len.ensures, c.in-Ok-vec.ensures.len));
+      reads = read_cut c.args.slot _ _ _ _ c.pull.new.into c.in-Ok.got c.args.place.head c.args.place.at c.args.place.greatest c.args.budget c.pull.auto.into c.in-Ok.ensures.pulls c.number_at-len.result c.number_at-len.ensures (omega arith) (omega arith) _ c.collect.new.self c.collect.new.into.items c.requires.input
+          c.in-Ok-collect.ensures.collects (omega arith) c.if-budget-eq0.false (omega (arith, sized, c.len.ensures, c.if-len.true));
     }
 
 pub returns : goal.returns
 returns g c =
-    let sized = c.pull-2.auto.into ∙ c.deref_mut.ensures.len ∙ c.in-Ok-vec.ensures.len in
+    let sized : vec_len c.collect.new.into ≡ length c.collect.new.into.items = c.collect.new.into.ok.0 in
     record {
-      reads = read_given c.args.slot _ _ _ _ c.pull.new.into c.in-Ok.got c.args.place.head c.args.place.at c.args.place.greatest c.args.budget c.pull.auto.into c.in-Ok.ensures.pulls _ c.number_at-len.ensures (omega arith) (omega arith) _ c.pull-2.new.self c.pull-2.new.into c.in-Ok-pull.got c.requires.input
-          c.in-Ok-pull.ensures.pulls sized (omega arith) c.if-budget-eq0.false c.record_of.result (omega (arith, sized, c.len.ensures, c.in-Ok-vec.ensures.len)) c.requires.greatest (omega (arith, c.moment_in.ensures.value, c.moment_in.ensures.range)) (c.record_of.ensures.moment ∙ c.max.ensures ∙ ap (λ (m : ℕ). max m c.args.place.greatest) c.moment_in.ensures.value) (c.record_of.ensures.bytes ∙ take_at c.pull-2.new.into _ _ (sized ∙ sym c.in-Ok-vec.ensures.len)) (c.record_of.ensures.whole ∙ leb_not c.number_at.result c.number_at-len.result ∙ ap (λ (n : ℕ). not (nat_lt c.number_at-len.result n)) c.number_at.ensures);
+      reads = read_given c.args.slot _ _ _ _ c.pull.new.into c.in-Ok.got c.args.place.head c.args.place.at c.args.place.greatest c.args.budget c.pull.auto.into c.in-Ok.ensures.pulls c.number_at-len.result c.number_at-len.ensures (omega arith) (omega arith) _ c.collect.new.self c.collect.new.into.items c.requires.input
+          c.in-Ok-collect.ensures.collects (omega arith) c.if-budget-eq0.false c.record_of.result (omega (arith, sized, c.len.ensures, c.if-len.false, c.in-Ok-collect.ensures.collects.bound)) c.requires.greatest (omega (arith, c.moment_in.ensures.value, c.moment_in.ensures.range)) (c.record_of.ensures.moment ∙ c.max.ensures ∙ ap (λ (m : ℕ). max m c.args.place.greatest) c.moment_in.ensures.value) c.record_of.ensures.bytes
+          (c.record_of.ensures.whole ∙ leb_not c.number_at.result c.number_at-len.result ∙ ap (λ (n : ℕ). not (nat_lt c.number_at-len.result n)) c.number_at.ensures);
     }

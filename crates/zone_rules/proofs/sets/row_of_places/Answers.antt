@@ -17,6 +17,6 @@ pub loop-index-preserved : goal.loop-index-preserved
 loop-index-preserved c =
     let there = sym c.at.ensures ∙ ap option_copied c.unwrap.ensures in
     elim c.if-place-zones.branch [
-      | then-place-zones+in_ok-set_bit w ↦ λ q lt. place_in q c.loop-index.index c.unwrap.result.now c.args.places.now _ _ there (c.loop-index.invariant q lt) (ap (λ v. has v.items q) w.row-is ∙ w.in_ok-set_bit.ensures q)
+      | then-place-zones+in_ok-set_bit w ↦ λ q lt. place_in q c.loop-index.index c.unwrap.result.now c.args.places.now _ _ there (c.loop-index.invariant q lt) (ap (λ v. has v.items q) w.row-is ∙ w.in_ok-set_bit.ensures.ok q)
       | else-place-zones w ↦ λ q lt. ap (λ v. has v.items q) w.row-is ∙ place_out c.args.zones q c.loop-index.index c.unwrap.result.now c.args.places.now _ there lt w.if-place-zones.false (c.loop-index.invariant q lt)
     ]
