@@ -1,17 +1,16 @@
 -- Bindings whose places stand in rows.
-use Rattle.std.proofs.Common.{◌≡◌, ℕ, suc, [], ◌∷◌, ◌+◌, ◌*◌, ◌/◌, ◌^◌, ◌<◌, ◌≤◌, Bool, true, false, cond, ◌&&◌, nat_le, nat_lt, List, length, Option, Some, None, refl, sym, ◌∙◌, ap, subst, arith}
-use mathlib.Core.Bool.{false≢true}
+use Rattle.std.proofs.Common.{◌≡◌, ℕ, suc, [], ◌∷◌, ◌+◌, ◌*◌, ◌/◌, ◌^◌, ◌<◌, ◌≤◌, Bool, true, false, cond, ◌&&◌, nat_le, nat_lt, List, length, Some, None, refl, sym, ◌∙◌, ap, subst, arith}
 use Rattle.std.specs.Prelude.{Vec}
 use Rattle.std.specs.declared.alloc.Global.{Global}
-use Rattle.std.specs.List.{All, list_any}
+use Rattle.std.specs.List.{list_any}
 use Rattle.std.proofs.lemmas.Bool.Decides.{nat_tests}
-use Rattle.slab.specs.Slab.{Slab, Updates}
+use Rattle.slab.specs.Slab.{Slab}
 use Rattle.fab_base.specs.Keyed.{item_at}
 use Rattle.fab_base.specs.Layout.{big_endian}
 use Rattle.fab_config.specs.Settings.{same_bytes}
-use Rattle.sorted_lists.specs.Orders.{seen, is_among, AreSorted}
+use Rattle.sorted_lists.specs.Orders.{seen, AreSorted}
 use Rattle.fip_snoop.specs.Rows.{lists, flat, row_at, AreFrom, AreRows}
-use Rattle.fip_snoop.specs.Maps.{IsMac, placed, mac_number, number_from, enode_number, IsWhole, AreKept, AreHeld, is_between, if_its, first_of}
+use Rattle.fip_snoop.specs.Maps.{IsMac, placed, mac_number, number_from, enode_number, IsWhole, AreHeld, is_between, if_its, first_of}
 use Rattle.fip_snoop.specs.declared.bindings.Binding.{Binding}
 use Rattle.fip_snoop.proofs.BindingLemmas.{whole_behind, AreKept-room, AreKept-empty, kept_as}
 use Rattle.fip_snoop.proofs.NumberLemmas.{mac_range}

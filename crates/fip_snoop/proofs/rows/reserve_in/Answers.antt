@@ -1,4 +1,4 @@
-use Rattle.std.proofs.Common.{◌<◌, ℕ, sym, ap, subst, arith}
+use Rattle.std.proofs.Common.{◌<◌, ℕ, subst, arith}
 use Rattle.std.specs.Prelude.{slice_index, slice_set}
 use Rattle.fip_snoop.specs.Rows.{rooms}
 use Rattle.fip_snoop.proofs.RowLemmas.{list-same, room-set}

@@ -1,5 +1,5 @@
-use Rattle.std.proofs.Common.{◌≡◌, ◌∙◌, ◌/◌, ◌<◌, ◌^◌, ℕ, List, length, sym, ap, subst, arith}
-use Rattle.fip_snoop.specs.Rows.{lists, flat, row_at}
+use Rattle.std.proofs.Common.{◌≡◌, ◌∙◌, ◌<◌, ◌^◌, ℕ, sym, subst, arith}
+use Rattle.fip_snoop.specs.Rows.{lists, flat}
 use Rattle.sorted_lists.specs.Orders.{seen}
 use Rattle.fab_base.specs.Keyed.{without}
 use Rattle.sorted_lists.proofs.IndexLemmas.{some_same}
