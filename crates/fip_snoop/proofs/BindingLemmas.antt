@@ -1,44 +1,43 @@
 -- Bindings at places of a slab, in two orders.
-use Rattle.std.proofs.Common.{◌≡◌, ℕ, ◌+◌, ◌<◌, ◌≤◌, ◌^◌, ◌==◌, nat_le, Bool, true, false, not, cond, ◌&&◌, ◌||◌, List, [], ◌∷◌, ◌++◌, length, filter, find, Option, Some, None, IfSome, IfNone, ◌⊎◌, inl, inr, refl, sym, ◌∙◌, ap, subst, arith}
+use Rattle.std.proofs.Common.{◌≡◌, ℕ, ◌+◌, ◌<◌, ◌≤◌, ◌/◌, ◌^◌, ◌==◌, nat_le, Bool, true, false, not, cond, ◌&&◌, ◌||◌, List, [], ◌∷◌, ◌++◌, length, filter, find, Option, Some, None, IfSome, IfNone, ◌⊎◌, inl, inr, refl, sym, ◌∙◌, ap, subst, arith}
 use mathlib.Core.Bool.{false≢true}
 use Rattle.std.specs.List.{All, list_any}
 use Rattle.std.proofs.lemmas.Bool.{cases_lt}
 use Rattle.std.proofs.lemmas.Bool.Decides.{nat_tests}
 use Rattle.std.proofs.lemmas.List.Elements.{All-nil, All-filter}
 use Rattle.slab.specs.Slab.{Slab, get, slab_len, Updates}
-use Rattle.fab_base.specs.Layout.{big_endian}
 use Rattle.fab_base.specs.Keyed.{item_at, added, without}
 use Rattle.fab_base.proofs.KeyedLemmas as keyed
 use Rattle.fab_base.proofs.SamenessLemmas.{found_passes}
 use Rattle.fab_config.specs.Settings.{same_bytes}
 use Rattle.sorted_lists.specs.Orders.{seen, IsOrder, IsOrderBut}
 use Rattle.sorted_lists.proofs.IndexLemmas.{none_some, some_same, first_least, none_from, key_found, All-found, IsFresh, absent_entry}
-use Rattle.sorted_lists.proofs.OrderLemmas.{IsOrder-empty, IsOrder-vacated, IsOrderBut-filled, IsIndex-orders, length-seen, seen-updates}
+use Rattle.sorted_lists.proofs.OrderLemmas.{IsOrder-empty, IsOrder-vacated, IsOrderBut-filled, IsIndex-orders, length-seen, seen-updates, item-here}
 use Rattle.fip_snoop.specs.Snoop.{is_binding_of, binding_in, without_binding, is_moved_in}
-use Rattle.fip_snoop.specs.Maps.{IsMac, mac_number, number_from, enode_number, IsWhole, Kept, HasRoom, KeepsRoom, AreKept, SameBindings, is_between, if_its, first_of, IsOf, AreBelow, IsFirst}
+use Rattle.fip_snoop.specs.Maps.{IsMac, number_of, mac_number, number_from, enode_number, IsWhole, Kept, HasRoom, KeepsRoom, AreKept, SameBindings, is_between, if_its, first_of, IsOf, AreBelow, IsFirst}
 use Rattle.fip_snoop.specs.declared.bindings.Binding.{Binding}
 use Rattle.fip_snoop.proofs.ListLemmas.{Among}
-use Rattle.fip_snoop.proofs.NumberLemmas.{itself, same_number, moved_number, enode_number_is, enode_between}
+use Rattle.fip_snoop.proofs.NumberLemmas.{itself, same_mac, moved_number, enode_number_is, enode_between, mac_number_range, enode_number_range}
 use Rattle.fip_snoop.proofs.KeyLemmas.{find-alike, filter-alike, any-alike, any-or, All-among, All-from_among, found-among, item-among, one-among, length-filter, filter-put, other-among, All-other, any-orders}
 use Rattle.fip_snoop.proofs.SameLemmas.{same_is, is_same}
 
 -- ---- by MAC
 
 pub one_number : (mac : List ℕ) (b c : Binding) → is_binding_of mac b ≡ true → is_binding_of mac c ≡ true → mac_number b ≡ mac_number c
-one_number mac b c e f = ap big_endian (same_is b.mac mac e ∙ sym (same_is c.mac mac f))
+one_number mac b c e f = ap (λ l. number_of l) (same_is b.mac mac e ∙ sym (same_is c.mac mac f))
 
 module _ (bindings : List Binding) (whole : All IsWhole bindings) (mac : List ℕ) (is : IsMac mac) where
   -- the binding of a MAC is that of its number
-  pub binding_found : binding_in bindings mac ≡ item_at mac_number (big_endian mac) bindings
-  binding_found = find-alike IsWhole (is_binding_of mac) (λ b. mac_number b == big_endian mac) (λ b w. same_number b.mac mac w.0 is) bindings whole
+  pub binding_found : binding_in bindings mac ≡ item_at mac_number (number_of mac) bindings
+  binding_found = find-alike IsWhole (is_binding_of mac) (λ b. mac_number b == number_of mac) (λ b w. same_mac b.mac mac w.0 is) bindings whole
 
-  pub without_is : without_binding mac bindings ≡ without mac_number (big_endian mac) bindings
-  without_is = filter-alike IsWhole (λ b. not (is_binding_of mac b)) (λ b. not (mac_number b == big_endian mac)) (λ b w. ap not (same_number b.mac mac w.0 is)) bindings whole
+  pub without_is : without_binding mac bindings ≡ without mac_number (number_of mac) bindings
+  without_is = filter-alike IsWhole (λ b. not (is_binding_of mac b)) (λ b. not (mac_number b == number_of mac)) (λ b w. ap not (same_mac b.mac mac w.0 is)) bindings whole
 
-  pub none_left : item_at mac_number (big_endian mac) (without_binding mac bindings) ≡ None
+  pub none_left : item_at mac_number (number_of mac) (without_binding mac bindings) ≡ None
   none_left =
-      ap (item_at mac_number (big_endian mac)) without_is
-      ∙ keyed.item_at-without mac_number (big_endian mac) (big_endian mac) bindings ∙ ap (λ b. cond b None (item_at mac_number (big_endian mac) bindings)) (itself (big_endian mac))
+      ap (item_at mac_number (number_of mac)) without_is
+      ∙ keyed.item_at-without mac_number (number_of mac) (number_of mac) bindings ∙ ap (λ b. cond b None (item_at mac_number (number_of mac) bindings)) (itself (number_of mac))
 
 -- ---- by ENode
 
@@ -51,6 +50,17 @@ module _ (slab : Slab Binding) (macs enodes : List ℕ) (kept : AreKept slab mac
 
   pub whole_behind : All IsWhole behind
   whole_behind = All-other enode_number mac_number slab enodes macs kept.by_enode kept.by_mac IsWhole kept.whole
+
+  -- the numbers of what is kept
+  module _ (p : ℕ) (x : Binding) (here : get slab p ≡ Some x) where
+    whole_at : IsWhole x
+    whole_at = All-found IsWhole _ bindings x kept.whole (item-here mac_number slab p macs x kept.by_mac here)
+
+    pub mac_range_at : mac_number x < 2 ^ 112
+    mac_range_at = mac_number_range x whole_at
+
+    pub enode_range_at : enode_number x < 2 ^ 112
+    enode_range_at = enode_number_range x whole_at
 
   -- an ENode has moved where a number of it is below its port or above
   pub moved_is : (enode : List ℕ) (port : ℕ) → IsMac enode → port < 2 ^ 16 →
@@ -73,7 +83,7 @@ module _ (slab : Slab Binding) (macs enodes : List ℕ) (kept : AreKept slab mac
         | inl less ↦ inl less
         | inr more ↦ inr (not_least b here (first_least enode_number from 0 behind x kept.by_enode.sorted.ascending found (enode_number b) b (numbered b here) more))
       ]);
-      alone = All-from_among (λ b. is_binding_of x.mac b ≡ true → b ≡ x) bindings (λ b here same. one_among b here (ap big_endian (same_is b.mac x.mac same)));
+      alone = All-from_among (λ b. is_binding_of x.mac b ≡ true → b ≡ x) bindings (λ b here same. one_among b here (ap (λ l. number_of l) (same_is b.mac x.mac same)));
     }
       where
         among : Among x bindings
@@ -124,12 +134,12 @@ module _ (slab : Slab Binding) (macs enodes : List ℕ) (kept : AreKept slab mac
 
 module _ (slab : Slab Binding) (macs enodes shown : List ℕ) (kept : AreKept slab macs enodes) where
   -- what was found for a MAC
-  pub found_at : (mac : List ℕ) (o : Option Binding) → IsMac mac → shown ≡ macs → o ≡ item_at mac_number (big_endian mac) (seen slab shown) → o ≡ binding_in (seen slab macs) mac
-  found_at mac o is e found = found ∙ ap (λ (l : List ℕ). item_at mac_number (big_endian mac) (seen slab l)) e ∙ sym (binding_found (seen slab macs) kept.whole mac is)
+  pub found_at : (mac : List ℕ) (o : Option Binding) → IsMac mac → shown ≡ macs → o ≡ item_at mac_number (number_of mac) (seen slab shown) → o ≡ binding_in (seen slab macs) mac
+  found_at mac o is e found = found ∙ ap (λ (l : List ℕ). item_at mac_number (number_of mac) (seen slab l)) e ∙ sym (binding_found (seen slab macs) kept.whole mac is)
 
-  pub nothing_taken : (mac : List ℕ) → IsMac mac → shown ≡ macs → item_at mac_number (big_endian mac) (seen slab shown) ≡ None → seen slab macs ≡ without_binding mac (seen slab macs)
+  pub nothing_taken : (mac : List ℕ) → IsMac mac → shown ≡ macs → item_at mac_number (number_of mac) (seen slab shown) ≡ None → seen slab macs ≡ without_binding mac (seen slab macs)
   nothing_taken mac is e none =
-      sym (without_is (seen slab macs) kept.whole mac is ∙ keyed.without-absent mac_number (big_endian mac) (seen slab macs) (ap (λ (l : List ℕ). item_at mac_number (big_endian mac) (seen slab l)) (sym e) ∙ none))
+      sym (without_is (seen slab macs) kept.whole mac is ∙ keyed.without-absent mac_number (number_of mac) (seen slab macs) (ap (λ (l : List ℕ). item_at mac_number (number_of mac) (seen slab l)) (sym e) ∙ none))
 
 pub between_as : (slab : Slab Binding) (shown places : List ℕ) (from to m n : ℕ) → shown ≡ places → from ≡ m → to ≡ n → list_any (is_between from to) (seen slab shown) ≡ list_any (is_between m n) (seen slab places)
 between_as slab shown places from to m n e f g =
@@ -146,14 +156,14 @@ else_is r false b m s e t g f = g ∙ f
 
 -- ---- changes
 
-pub HasRoom-fewer : (p : Binding → Bool) (old new : Kept) → HasRoom old → KeepsRoom old new → new.bindings ≡ filter p old.bindings → HasRoom new
-HasRoom-fewer p old new room keeps e =
+pub HasRoom-fewer : (b : Binding) (p : Binding → Bool) (old new : Kept) → HasRoom b old → KeepsRoom old new → new.bindings ≡ filter p old.bindings → HasRoom b new
+HasRoom-fewer b p old new room keeps e =
     let fewer = length-filter p old.bindings in
     let long = ap (λ (l : List Binding). length l) e in
     record {
       slab = omega (arith, room.slab, keeps.slab, fewer, long);
-      mac = omega (arith, room.mac, keeps.mac, fewer, long);
-      enode = omega (arith, room.enode, keeps.enode, fewer, long);
+      mac = omega (arith, room.mac, keeps.mac (mac_number b / 2 ^ 104));
+      enode = omega (arith, room.enode, keeps.enode (enode_number b / 2 ^ 104));
     }
 
 -- a binding is taken out
@@ -170,9 +180,9 @@ module _ (slab new : Slab Binding) (macs enodes ps qs : List ℕ) (kept : AreKep
     by_enode = IsOrder-vacated enode_number slab new p qs but_enode updates fewer;
   }
 
-  pub seen_taken : (mac : List ℕ) → IsMac mac → item_at mac_number (big_endian mac) (seen slab macs) ≡ Some x → seen new ps ≡ without_binding mac (seen slab macs)
+  pub seen_taken : (mac : List ℕ) → IsMac mac → item_at mac_number (number_of mac) (seen slab macs) ≡ Some x → seen new ps ≡ without_binding mac (seen slab macs)
   seen_taken mac is found =
-      seen_left ∙ ap (λ (n : ℕ). without mac_number n (seen slab macs)) (key_found mac_number (big_endian mac) x (seen slab macs) found)
+      seen_left ∙ ap (λ (n : ℕ). without mac_number n (seen slab macs)) (key_found mac_number (number_of mac) x (seen slab macs) found)
       ∙ sym (without_is (seen slab macs) kept.whole mac is)
 
 -- a binding is put in

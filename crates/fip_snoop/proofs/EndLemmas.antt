@@ -8,7 +8,7 @@ use Rattle.fab_config.specs.Settings.{same_bytes}
 use Rattle.fip_codec.specs.Message as fip
 use Rattle.fip_snoop.specs.Messages.{is_at, clears}
 use Rattle.fip_snoop.specs.Snoop.{is_binding_of, without_binding, is_ended, unended_by}
-use Rattle.fip_snoop.specs.Maps.{IsMac, number_from, enode_number, Kept, KeepsRoom, IsOf, AreBelow, IsFirst}
+use Rattle.fip_snoop.specs.Maps.{IsMac, placed, number_from, enode_number, Kept, KeepsRoom, IsOf, AreBelow, IsFirst}
 use Rattle.fip_snoop.specs.declared.bindings.Binding.{Binding}
 use Rattle.fip_snoop.proofs.ListLemmas.{Among}
 use Rattle.fip_snoop.proofs.KeyLemmas.{All-among, All-from_among, filter-within, filter-all, filter-among-all}
@@ -42,8 +42,8 @@ module _ (enode : List ℕ) (m : fip.Fip) (first : Bool) (released : Option ℕ)
     low = omega (arith, e);
     high = high;
     same = refl;
-    past = All-from_among (λ b. IsEnded b → from ≤ enode_number b) old.bindings (λ b here ended. above (big_endian enode) (big_endian b.enode) b.port (big_endian b.mac) e (ap big_endian (same_is enode b.enode (ended_own b ended))));
-    room = record { slab = refl; mac = refl; enode = refl };
+    past = All-from_among (λ b. IsEnded b → from ≤ enode_number b) old.bindings (λ b here ended. above (placed enode) (placed b.enode) b.port (big_endian b.mac) e (ap (λ l. placed l) (same_is enode b.enode (ended_own b ended))));
+    room = record { slab = refl; mac = λ i. omega arith; enode = λ i. omega arith };
   }
     where
       above : (e x p n : ℕ) → from ≡ (e * 2 ^ 16 + 0) * 2 ^ 48 → e ≡ x → from ≤ (x * 2 ^ 16 + p) * 2 ^ 48 + n
@@ -70,7 +70,7 @@ module _ (enode : List ℕ) (m : fip.Fip) (first : Bool) (released : Option ℕ)
             | inl more ↦ more
             | inr same ↦ absurd (false≢true (sym kept ∙ ap (is_ended enode m first released) (sym same) ∙ ended))
           ]));
-      room = record { slab = room.slab ∙ walked.room.slab; mac = room.mac ∙ walked.room.mac; enode = room.enode ∙ walked.room.enode };
+      room = record { slab = room.slab ∙ walked.room.slab; mac = λ i. omega (arith, room.mac i, walked.room.mac i); enode = λ i. omega (arith, room.enode i, walked.room.enode i) };
     }
 
     pub walk_taken : (new : Kept) → IsEnded x → new.bindings ≡ without_binding x.mac cur.bindings → KeepsRoom cur new → Walked old new (enode_number x + 1)
@@ -83,7 +83,7 @@ module _ (enode : List ℕ) (m : fip.Fip) (first : Bool) (released : Option ℕ)
           ∙ walked.same;
       past = subst (λ l. All (λ b. IsEnded b → enode_number x + 1 ≤ enode_number b) l) (sym e)
           (All-from_among (λ b. IsEnded b → enode_number x + 1 ≤ enode_number b) (without_binding x.mac cur.bindings) (λ b here ended. passed b (filter-among-all (λ b. not (is_binding_of x.mac b)) b cur.bindings here) ended));
-      room = record { slab = room.slab ∙ walked.room.slab; mac = room.mac ∙ walked.room.mac; enode = room.enode ∙ walked.room.enode };
+      room = record { slab = room.slab ∙ walked.room.slab; mac = λ i. omega (arith, room.mac i, walked.room.mac i); enode = λ i. omega (arith, room.enode i, walked.room.enode i) };
     }
       where
         other : (b : Binding) → Among b cur.bindings → not (is_ended enode m first released b) ≡ true → (t : Bool) → is_binding_of x.mac b ≡ t → not t ≡ true

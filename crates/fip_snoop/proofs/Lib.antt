@@ -1,9 +1,11 @@
 pub mod ListLemmas
 pub mod SameLemmas
 pub mod NumberLemmas
+pub mod RowLemmas
 pub mod KeyLemmas
 pub mod HomeLemmas
 pub mod BindingLemmas
+pub mod HeldLemmas
 pub mod EndLemmas
 pub mod BoundLemmas
 pub mod KeptLemmas

@@ -1,12 +1,14 @@
 -- How a bridge keeps homes and bindings, so that none is looked for one by one: homes in the order of their MACs, and bindings at
--- places of a slab with two orders, by MAC and by ENode. No public clause cites this module.
-use Rattle.std.specs.Prelude.{◌≡◌, ℕ, ◌+◌, ◌*◌, ◌<◌, ◌≤◌, ◌^◌, ◌⊎◌, Bool, true, nat_le, nat_lt, ◌&&◌, if◌then◌else◌, List, [], ◌∷◌, length, Option, None, Some, slice_index, find}
+-- places of a slab with two orders, by MAC and by ENode, each in rows. No public clause cites this module.
+use Rattle.std.specs.Prelude.{◌≡◌, ℕ, ◌+◌, ◌*◌, ◌/◌, ◌%◌, ◌<◌, ◌≤◌, ◌^◌, ◌⊎◌, Bool, true, nat_le, nat_lt, ◌&&◌, if◌then◌else◌, List, [], ◌∷◌, length, Option, None, Some, slice_index, find, Vec}
+use Rattle.std.specs.declared.alloc.Global.{Global}
 use Rattle.std.specs.List.{All, filter}
 use Rattle.slab.specs.Slab.{Slab}
 use Rattle.fab_base.specs.Keyed.{AscendFrom}
 use Rattle.fab_base.specs.Layout.{big_endian}
 use Rattle.fab_config.specs.Settings.{same_bytes}
 use Rattle.sorted_lists.specs.Orders.{seen, IsOrder}
+use Rattle.fip_snoop.specs.Rows.{AreRows, lists, flat}
 use Rattle.fip_snoop.specs.Snoop.{Contents, is_home_of, is_binding_of}
 use Rattle.fip_snoop.specs.declared.bindings.Binding.{Binding}
 use Rattle.fip_snoop.specs.declared.home.Home.{Home}
@@ -34,13 +36,20 @@ SameHomes hs ks = (mac : List ℕ) → filter (is_home_of mac) hs ≡ filter (is
 
 -- ---- bindings
 
--- the number of a binding by its MAC
+-- a number that no other MAC has, its last byte on top: MACs of one maker differ there
+abbrev pub placed : List ℕ → ℕ
+placed mac = (big_endian mac % 256) * 2 ^ 40 + big_endian mac / 256
+
+-- the number of the binding of a MAC
+abbrev pub number_of : List ℕ → ℕ
+number_of mac = placed mac * 2 ^ 64
+
 abbrev pub mac_number : Binding → ℕ
-mac_number b = big_endian b.mac
+mac_number b = number_of b.mac
 
 -- the least number of the bindings of an ENode from a port on
 abbrev pub number_from : List ℕ → ℕ → ℕ
-number_from enode port = (big_endian enode * 2 ^ 16 + port) * 2 ^ 48
+number_from enode port = (placed enode * 2 ^ 16 + port) * 2 ^ 48
 
 -- the number of a binding by its ENode, then its port, then its MAC
 abbrev pub enode_number : Binding → ℕ
@@ -49,30 +58,36 @@ enode_number b = number_from b.enode b.port + big_endian b.mac
 abbrev pub IsWhole : Binding → Type 0
 IsWhole b = IsMac b.mac × IsMac b.enode × (b.port < 2 ^ 16)
 
--- What contracts see of the bindings: the list, and how many there is room for in each of its parts.
+-- What contracts see of the bindings: the list, how many the slab has room for, and how many more each row has room for.
 pub record Kept : Type 0 where
   pub bindings : List Binding
   pub slab_room : ℕ
-  pub mac_room : ℕ
-  pub enode_room : ℕ
+  pub mac_room : List ℕ
+  pub enode_room : List ℕ
 
--- there is room for one more
-pub record HasRoom (k : Kept) : Type 0 where
+-- there is room for a binding
+pub record HasRoom (b : Binding) (k : Kept) : Type 0 where
   pub slab : length k.bindings < k.slab_room
-  pub mac : length k.bindings < k.mac_room
-  pub enode : length k.bindings < k.enode_room
+  pub mac : 0 < slice_index k.mac_room (mac_number b / 2 ^ 104)
+  pub enode : 0 < slice_index k.enode_room (enode_number b / 2 ^ 104)
 
 -- the room stays
 pub record KeepsRoom (old new : Kept) : Type 0 where
   pub slab : new.slab_room ≡ old.slab_room
-  pub mac : new.mac_room ≡ old.mac_room
-  pub enode : new.enode_room ≡ old.enode_room
+  pub mac : (i : ℕ) → slice_index old.mac_room i ≤ slice_index new.mac_room i
+  pub enode : (i : ℕ) → slice_index old.enode_room i ≤ slice_index new.enode_room i
 
 -- Each binding has its place in both orders.
 pub record AreKept (slab : Slab Binding) (macs enodes : List ℕ) : Type 0 where
   pub whole : All IsWhole (seen slab macs)
   pub by_mac : IsOrder mac_number slab macs
   pub by_enode : IsOrder enode_number slab enodes
+
+-- The places are in rows.
+pub record AreHeld (slab : Slab Binding) (macs enodes : List (Vec ℕ Global)) : Type 0 where
+  pub kept : AreKept slab (flat (lists macs)) (flat (lists enodes))
+  pub mac_rows : AreRows mac_number slab (lists macs)
+  pub enode_rows : AreRows enode_number slab (lists enodes)
 
 -- for each MAC both have the same bindings
 abbrev pub SameBindings : List Binding → List Binding → Type 0

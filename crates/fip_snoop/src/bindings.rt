@@ -7,11 +7,12 @@ ghost use Rattle.fip_snoop.specs.Snoop as kept;
 
 use crate::forwarder::{Forwarder, is_same};
 use crate::grant::{Grant, clears, grant_in, released_in};
-use crate::orders::{ByEnode, ByMac, first_of, has_between, number_from, place_of};
+use crate::orders::{ByEnode, ByMac, first_of, has_between, mac_rank, number_from, place_of};
+use crate::rows::{new_rows, reserve_in, row_for, row_put, row_take};
 use fab_base::{FcId, Mac, NoMemory, PortNo};
 use fip_codec::FipMessage;
 use slab::Slab;
-use sorted_lists::{Order, order_put, order_take};
+use sorted_lists::Order;
 use std::alloc::Global;
 use std::marker::Model;
 
@@ -28,52 +29,55 @@ pub struct Binding {
 #[derive(Debug, Drop)]
 pub(crate) struct Bindings {
     records: Slab<Binding>,
-    // The places of the bindings, in each of their orders.
-    by_mac: Vec<usize>,
-    by_enode: Vec<usize>,
+    // The places of the bindings in each of their orders, in rows.
+    by_mac: Vec<Vec<usize>>,
+    by_enode: Vec<Vec<usize>>,
 }
 
 impl Model for Bindings {
-    ghost use Rattle.std.specs.Prelude.{vec_capacity};
     ghost use Rattle.sorted_lists.specs.Orders.{seen};
-    ghost use Rattle.fip_snoop.specs.Maps.{Kept, AreKept};
+    ghost use Rattle.fip_snoop.specs.Rows.{lists, rooms, flat};
+    ghost use Rattle.fip_snoop.specs.Maps.{Kept, AreHeld};
 
     ghost Value = { Kept };
 
     ghost view = { λ t. record {
-      bindings = seen t.records t.by_mac.items;
+      bindings = seen t.records (flat (lists t.by_mac.items));
       slab_room = t.records.capacity;
-      mac_room = vec_capacity t.by_mac;
-      enode_room = vec_capacity t.by_enode;
+      mac_room = rooms t.by_mac.items;
+      enode_room = rooms t.by_enode.items;
     } };
 
-    ghost invariant = { λ t. AreKept t.records t.by_mac.items t.by_enode.items };
+    ghost invariant = { λ t. AreHeld t.records t.by_mac.items t.by_enode.items };
 }
 
 impl Bindings {
     ghost use Rattle.std.specs.Prelude.{◌≡◌, ◌≤◌, ◌++◌, ◌∷◌, [], None, true, false};
-    ghost use Rattle.std.specs.Prelude.{OnOk, OnErr, IfSome, IfNone};
+    ghost use Rattle.std.specs.Prelude.{OnOk, OnErr, IfOk, IfSome, IfNone};
     ghost use Rattle.fab_base.specs.Keyed.{item_at};
-    ghost use Rattle.fab_base.specs.Layout.{big_endian};
     ghost use Rattle.fip_codec.specs.Message.{view as fip_view};
     ghost use Rattle.fip_snoop.specs.Snoop as kept;
     ghost use Rattle.fip_snoop.specs.Maps as maps;
 
-    pub(crate) fn new(alloc: Global) -> Bindings
-        ensures { result.bindings ≡ [] }
+    pub(crate) fn new(alloc: Global) -> Result<Bindings, NoMemory>
+        ensures { IfOk result (λ b. b.bindings ≡ []) }
     {
-        Bindings {
+        let by_mac = new_rows(alloc)?;
+        let by_enode = new_rows(alloc)?;
+        Ok(Bindings {
             records: Slab::new(alloc),
-            by_mac: Vec::new(alloc),
-            by_enode: Vec::new(alloc),
-        }
+            by_mac,
+            by_enode,
+        })
     }
 
     // The binding of a MAC.
     pub(crate) fn at(&self, mac: &Mac) -> Option<Binding>
         ensures { result ≡ kept.binding_in self.now.bindings mac.now }
     {
-        match place_of(&self.records, &self.by_mac, mac) {
+        let number = mac_rank(mac);
+        let row = row_for(&self.by_mac, number);
+        match place_of(&self.records, row, mac) {
             Some(place) => Some(self.records[place]),
             None => None,
         }
@@ -89,8 +93,9 @@ impl Bindings {
         let before = number_from(enode, own);
         let behind = number_from(enode, own + 1);
         let last = number_from(enode, 1 << 16);
-        has_between(&self.records, &self.by_enode, first, before)
-            || has_between(&self.records, &self.by_enode, behind, last)
+        let row = row_for(&self.by_enode, first);
+        has_between(&self.records, row, first, before)
+            || has_between(&self.records, row, behind, last)
     }
 
     // Keeps what stands behind a message that goes down to a port.
@@ -116,7 +121,7 @@ impl Bindings {
                 if self.is_bound(&binding) && self.is_only(&binding) {
                     return Ok(());
                 }
-                self.reserve()?;
+                self.reserve(&binding)?;
                 self.end(enode, message, grant.first, &released);
                 self.put(binding);
                 Ok(())
@@ -148,14 +153,14 @@ impl Bindings {
         }
     }
 
-    // Makes room for one more.
-    fn reserve(&mut self) -> Result<(), NoMemory>
-        ensures room { OnOk result (maps.HasRoom self.new) }
+    // Makes room for a binding.
+    fn reserve(&mut self, binding: &Binding) -> Result<(), NoMemory>
+        ensures room { OnOk result (maps.HasRoom binding.now self.new) }
         ensures bindings { self.new.bindings ≡ self.old.bindings }
     {
         self.records.reserve(1)?;
-        self.by_mac.reserve(1)?;
-        self.by_enode.reserve(1)?;
+        reserve_in(&mut self.by_mac, ByMac.number(binding))?;
+        reserve_in(&mut self.by_enode, ByEnode.number(binding))?;
         Ok(())
     }
 
@@ -201,12 +206,14 @@ impl Bindings {
         ensures some { IfSome result (λ x. maps.IsFirst enode.now from self.now.bindings x) }
         ensures none { IfNone result (maps.AreBelow enode.now from self.now.bindings) }
     {
-        first_of(&self.records, &self.by_enode, enode, from)
+        let number = number_from(enode, 0);
+        let row = row_for(&self.by_enode, number);
+        first_of(&self.records, row, enode, from)
     }
 
     // Keeps a binding in place of the one of its MAC.
     fn put(&mut self, binding: Binding)
-        requires { maps.HasRoom self.old }
+        requires { maps.HasRoom binding self.old }
         ensures { maps.SameBindings self.new.bindings
             (kept.with_one binding self.old.bindings) }
     {
@@ -217,13 +224,15 @@ impl Bindings {
     // Takes out the binding of a MAC.
     fn take(&mut self, mac: &Mac)
         ensures bindings { self.new.bindings ≡ kept.without_binding mac.now self.old.bindings }
-        ensures absent { item_at maps.mac_number (big_endian mac.now) self.new.bindings ≡ None }
+        ensures absent { item_at maps.mac_number (maps.number_of mac.now) self.new.bindings ≡ None }
         ensures room { maps.KeepsRoom self.old self.new }
     {
-        match place_of(&self.records, &self.by_mac, mac) {
+        let number = mac_rank(mac);
+        let row = row_for(&self.by_mac, number);
+        match place_of(&self.records, row, mac) {
             Some(place) => {
-                order_take(&ByMac, &self.records, &mut self.by_mac, place);
-                order_take(&ByEnode, &self.records, &mut self.by_enode, place);
+                row_take(&ByMac, &self.records, &mut self.by_mac, place);
+                row_take(&ByEnode, &self.records, &mut self.by_enode, place);
                 self.records.remove(place);
             }
             None => {}
@@ -232,15 +241,15 @@ impl Bindings {
 
     // Adds a binding of a MAC that has none.
     fn insert(&mut self, binding: Binding)
-        requires room { maps.HasRoom self.old }
+        requires room { maps.HasRoom binding self.old }
         requires absent { item_at maps.mac_number (maps.mac_number binding) self.old.bindings
             ≡ None }
         ensures { maps.SameBindings self.new.bindings (self.old.bindings ++ binding ∷ []) }
     {
         ByEnode.number(&binding);
         let place = self.records.insert_reserved(binding);
-        order_put(&ByMac, &self.records, &mut self.by_mac, place);
-        order_put(&ByEnode, &self.records, &mut self.by_enode, place);
+        row_put(&ByMac, &self.records, &mut self.by_mac, place);
+        row_put(&ByEnode, &self.records, &mut self.by_enode, place);
     }
 }
 

@@ -11,6 +11,7 @@ mod laws;
 mod orders;
 mod pages;
 mod queue;
+mod rows;
 mod snoop;
 mod up;
 mod way;

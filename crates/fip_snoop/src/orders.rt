@@ -2,7 +2,6 @@
 ghost use Rattle.std.specs.Prelude.{◌≡◌, ◌<◌, ◌≤◌, ◌^◌, IfSome, IfNone, IsSome, None};
 ghost use Rattle.std.specs.List.{list_any};
 ghost use Rattle.fab_base.specs.Keyed.{item_at};
-ghost use Rattle.fab_base.specs.Layout.{big_endian};
 ghost use Rattle.slab.specs.Slab.{get};
 ghost use Rattle.sorted_lists.specs.Orders.{seen, IsOrder, AreSorted};
 ghost use Rattle.fip_snoop.specs.Snoop as kept;
@@ -23,12 +22,16 @@ pub(crate) struct ByMac;
 pub(crate) struct ByEnode;
 
 impl Order<Binding> for ByMac {
+    ghost use Rattle.std.specs.Prelude.{◌≡◌, ◌<◌, ◌^◌};
     ghost use Rattle.fip_snoop.specs.Maps as maps;
 
     ghost number_of = { λ _ b. maps.mac_number b };
 
-    fn number(&self, binding: &Binding) -> u128 {
-        mac_number(&binding.mac) as u128
+    fn number(&self, binding: &Binding) -> u128
+        ensures value { result ≡ maps.mac_number binding.now }
+        ensures range { result < 2 ^ 112 }
+    {
+        mac_rank(&binding.mac)
     }
 }
 
@@ -54,20 +57,40 @@ pub(crate) fn number_from(enode: &Mac, port: u32) -> u128
     ensures range { result ≤ 2 ^ 112 }
     ensures mac { maps.IsMac enode.now }
 {
-    (mac_number(enode) as u128 * (1 << 16) + port as u128) * (1 << 48)
+    (placed(enode) as u128 * (1 << 16) + port as u128) * (1 << 48)
+}
+
+// A number that no other MAC has. The last byte is on top of it, so that the MACs of one maker
+// don't stand together.
+fn placed(mac: &Mac) -> u64
+    ensures value { result ≡ maps.placed mac.now }
+    ensures range { result < 2 ^ 48 }
+    ensures mac { maps.IsMac mac.now }
+{
+    let number = mac_number(mac);
+    number % 256 * (1 << 40) + number / 256
+}
+
+/// The number of a binding of a MAC.
+pub(crate) fn mac_rank(mac: &Mac) -> u128
+    ensures value { result ≡ maps.number_of mac.now }
+    ensures range { result < 2 ^ 112 }
+    ensures mac { maps.IsMac mac.now }
+{
+    placed(mac) as u128 * (1 << 64)
 }
 
 /// The place of the binding of a MAC, over the places by MAC.
 pub(crate) fn place_of(records: &Slab<Binding>, places: &[usize], mac: &Mac) -> Option<usize>
     requires { AreSorted maps.mac_number records.now places.now }
     ensures some { IfSome result (λ place. get records.now place
-        ≡ item_at maps.mac_number (big_endian mac.now) (seen records.now places.now)) }
+        ≡ item_at maps.mac_number (maps.number_of mac.now) (seen records.now places.now)) }
     ensures there { IfSome result (λ place. IsSome (get records.now place)) }
-    ensures none { IfNone result (item_at maps.mac_number (big_endian mac.now)
+    ensures none { IfNone result (item_at maps.mac_number (maps.number_of mac.now)
         (seen records.now places.now) ≡ None) }
     ensures mac { maps.IsMac mac.now }
 {
-    order_find(&ByMac, records, places, mac_number(mac) as u128)
+    order_find(&ByMac, records, places, mac_rank(mac))
 }
 
 /// Whether the number of some binding is in a range, over the places by ENode.

@@ -62,7 +62,7 @@ impl Snoop {
         Ok(Snoop {
             forwarder: Forwarder::of(config),
             homes: Homes::new(alloc),
-            bindings: Bindings::new(alloc),
+            bindings: Bindings::new(alloc)?,
         })
     }
 

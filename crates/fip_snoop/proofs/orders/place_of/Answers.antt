@@ -7,4 +7,4 @@ use Rattle.fip_snoop.proofs.orders.place_of.Goals as goal
 
 pub returns-clause-some : goal.returns-clause-some
 returns-clause-some c =
-    subst (λ (n : ℕ). IfSome c.order_find.result (λ place. get c.args.records.now place ≡ item_at mac_number n (seen c.args.records.now c.args.places.now))) c.mac_number.ensures.value c.order_find.ensures.some
+    subst (λ (n : ℕ). IfSome c.order_find.result (λ place. get c.args.records.now place ≡ item_at mac_number n (seen c.args.records.now c.args.places.now))) c.mac_rank.ensures.value c.order_find.ensures.some
