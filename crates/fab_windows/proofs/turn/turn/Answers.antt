@@ -83,3 +83,9 @@ returns-in-Ok-clause-turns g c = λ s going.
     c.answer.ensures.turns s c.args.first c.gather.new.ins c.gather.new.budget
     (gathered_by k c.args.window c.args.first c.args.fabric (seen c.args.depot.now) c.args.ins.now shelves c.args.budget.now (seen c.gather.new.depot) c.gather.new.ins c.gather.new.shelves c.gather.new.budget
     c.config.result.now c.config.ensures c.deref_mut.result.now c.deref_mut.ensures.value c.args.run.now.done (pending c.args.run.now.pages) going c.requires.next c.args.run.now.shelves.len c.args.run.now.shelves.ok.0 c.in-Ok.ensures.gathers)
+
+pub returns-in-Ok-clause-takes : goal.returns-in-Ok-clause-takes
+returns-in-Ok-clause-takes g c = c.in-Ok.ensures.gathers.takes
+
+pub returns-in-Err-clause-takes : goal.returns-in-Err-clause-takes
+returns-in-Err-clause-takes g c = c.in-Err.ensures.gathers.takes
