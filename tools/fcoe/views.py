@@ -137,7 +137,7 @@ def show_lines(look: Look) -> list[str]:
     if look.run.entries:
         found.append(f"clock {look.run.entries[-1].clock}")
     for row in names(look, None):
-        words = [row["fcid"], row["wwpn"], row["node"], row["port"], row["enode"], row["node_heard"], row["port_heard"], row["receive_size"], row["watching"]]
+        words = [row["fcid"], row["wwpn"], row["wwnn"], row["port"], row["enode"], row["node_heard"], row["port_heard"], row["receive_size"], row["watching"]]
         found.append("login " + " ".join(str(it).replace(":", "") for it in words))
         if row["types"]:
             found.append(f"types {row['fcid']} {row['map']}")
