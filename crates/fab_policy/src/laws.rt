@@ -114,9 +114,10 @@ pub fn verdicts_are_one()
 /// The live addresses of each journal ascend, and their granted MACs differ. After each legal
 /// journal the names of live N_Ports differ too, there are at most as many as the limit, and nobody
 /// is overdue at the clock. An address is granted only where nobody holds it, or where it is given
-/// back to its ENode, and whoever is logged in has one of the pool. Whom a forwarder names in what it sends is logged in: who asks the name server
-/// and whom the answer is about, both ends of a frame that goes on, and who is told of a state
-/// change and of whom, but for those whose login the entry ends.
+/// back to its ENode, and whoever is logged in has one of the pool. Whom a forwarder names in what
+/// it sends is logged in: who asks the name server and whom the answer is about, both ends of a
+/// frame that goes on, and who is told of a state change and of whom, but for those whose login the
+/// entry ends.
 pub fn legal_journals()
     ensures ascend { TablesAscend }
     ensures quiet { LegalIsQuiet }
