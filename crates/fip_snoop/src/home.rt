@@ -1,4 +1,4 @@
-//! On which ports ENodes are.
+//! On which ports the ENodes of a row are.
 ghost use Rattle.std.specs.Prelude.{◌≡◌, ◌<◌, true, length, vec_capacity};
 ghost use Rattle.fab_base.specs.Keyed.{added};
 ghost use Rattle.fip_snoop.specs.Maps.{home_number, IsWholeHome, AreHomes};
@@ -30,13 +30,13 @@ impl HasRank for Home {
     }
 }
 
-/// The homes of ENodes, in the order of their MACs.
+/// The homes of some ENodes, in the order of their MACs.
 #[derive(Debug, Drop)]
-pub(crate) struct Homes {
+pub(crate) struct HomeRow {
     homes: Vec<Home>,
 }
 
-impl Model for Homes {
+impl Model for HomeRow {
     ghost use Rattle.std.specs.Prelude.{List};
     ghost use Rattle.fip_snoop.specs.declared.home.Home.{Home};
     ghost use Rattle.fip_snoop.specs.Maps.{AreHomes};
@@ -48,15 +48,15 @@ impl Model for Homes {
     ghost invariant = { λ h. AreHomes h.homes.items };
 }
 
-impl Homes {
+impl HomeRow {
     ghost use Rattle.std.specs.Prelude.{◌≡◌, [], OnOk, OnErr};
     ghost use Rattle.fip_snoop.specs.Snoop as kept;
     ghost use Rattle.fip_snoop.specs.Maps.{SameHomes};
 
-    pub(crate) fn new(alloc: Global) -> Homes
+    pub(crate) fn new(alloc: Global) -> HomeRow
         ensures { result ≡ [] }
     {
-        Homes {
+        HomeRow {
             homes: Vec::new(alloc),
         }
     }
