@@ -65,6 +65,10 @@ module _ (h : Home) (homes : List Home) (are : AreHomes homes) (whole : IsWholeH
 pub kept_same : (h : Home) (homes now new : List Home) → AreHomes homes → IsWholeHome h → homes ≡ now → new ≡ added home_number h homes → SameHomes new (with_home h now)
 kept_same h homes now new are whole e is mac = ap (filter (is_home_of mac)) is ∙ same_put h homes are whole mac ∙ ap (λ l. filter (is_home_of mac) (with_home h l)) e
 
+-- what is found for a home that is known
+pub known_found : (h : Home) (homes : List Home) (o : Option Home) → AreHomes homes → IsWholeHome h → o ≡ item_at home_number (home_number h) homes → home_in homes h.mac ≡ Some h.port → option_map (λ (k : Home). k.port) o ≡ Some h.port
+known_found h homes o are whole e known = ap (option_map (λ (k : Home). k.port)) (e ∙ sym (home_found homes h.mac are whole)) ∙ known
+
 -- the port that was found for a MAC
 pub port_found : (homes now : List Home) (mac : List ℕ) (o : Option Home) → AreHomes homes → IsMac mac → homes ≡ now → o ≡ item_at home_number (big_endian mac) homes → option_map (λ (h : Home). h.port) o ≡ home_in now mac
 port_found homes now mac o are is e found = ap (option_map (λ (h : Home). h.port)) (found ∙ sym (home_found homes mac are is)) ∙ ap (λ l. home_in l mac) e

@@ -29,7 +29,7 @@ impl Model for Homes {
 }
 
 impl Homes {
-    ghost use Rattle.std.specs.Prelude.{◌≡◌, [], IfOk, OnOk, OnErr};
+    ghost use Rattle.std.specs.Prelude.{◌≡◌, [], Some, IfOk, OnOk, OnErr, IsOk};
     ghost use Rattle.fip_snoop.specs.Snoop as kept;
     ghost use Rattle.fip_snoop.specs.Maps.{SameHomes};
 
@@ -51,10 +51,11 @@ impl Homes {
         self.rows[row].at(mac)
     }
 
-    // Keeps a home in place of the one of its MAC.
+    // Keeps a home in place of the one of its MAC. A known one is never refused memory.
     pub(crate) fn put(&mut self, home: Home) -> Result<(), NoMemory>
         ensures ok { OnOk result (SameHomes self.new (kept.with_home home self.old)) }
         ensures err { OnErr result (self.new ≡ self.old) }
+        ensures known { kept.home_in self.old home.mac ≡ Some home.port → IsOk result }
     {
         let row = row_of(&home.mac);
         self.rows[row].put(home)
