@@ -1,6 +1,7 @@
 pub mod ListLemmas
 pub mod SameLemmas
 pub mod NumberLemmas
+pub mod FlatLemmas
 pub mod RowLemmas
 pub mod KeyLemmas
 pub mod HomeLemmas

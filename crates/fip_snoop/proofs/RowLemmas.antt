@@ -1,11 +1,11 @@
 -- Places in rows, and the records there.
-use Rattle.std.proofs.Common.{append_assoc, append-nil, ◌≡◌, ◌≢◌, ℕ, zero, suc, ◌+◌, ◌-◌, ◌*◌, ◌/◌, ◌^◌, ◌<◌, ◌≤◌, ◌==◌, ◌||◌, Bool, true, false, cond, List, [], ◌∷◌, ◌++◌, length, get_or, take, drop, find, position, unwrap_or, Option, Some, None, nat_le, refl, sym, ◌∙◌, ap, subst, arith}
+use Rattle.std.proofs.Common.{append_assoc, ◌≡◌, ◌≢◌, ℕ, zero, suc, ◌+◌, ◌-◌, ◌*◌, ◌/◌, ◌^◌, ◌<◌, ◌≤◌, ◌==◌, ◌||◌, Bool, true, false, cond, List, [], ◌∷◌, ◌++◌, length, get_or, take, drop, find, position, unwrap_or, Option, Some, None, nat_le, refl, sym, ◌∙◌, ap, subst, arith}
 use Rattle.std.specs.Prelude.{Vec, slice_set, slice_index, vec_capacity}
 use Rattle.std.specs.declared.alloc.Global.{Global}
 use Rattle.std.specs.Option.{option_or}
 use Rattle.std.specs.List.{All, list_any, insert, remove}
 use Rattle.std.proofs.lemmas.Bool.Decides.{nat_tests}
-use Rattle.std.proofs.lemmas.List.{length-set, take-append-drop}
+use Rattle.std.proofs.lemmas.List.{length-set, map-append, take-append-drop}
 use Rattle.std.proofs.lemmas.List.Edits.{insert-append_left, insert-append_right, remove-append_left, remove-append_right}
 use Rattle.std.proofs.lemmas.List.Elements.{All-nil, All-cons, All-head, All-tail, All-append, All-weaker, filter_map-append}
 use Rattle.std.proofs.lemmas.List.Folds.{find-append, list_any-append}
@@ -20,6 +20,7 @@ use Rattle.sorted_lists.proofs.OrderLemmas.{seen-updates, length-seen, seen-head
 use Rattle.sorted_lists.proofs.PlacingLemmas.{start-is, seen-put, IsOrder-put, seen-taken, IsOrderBut-taken}
 use Rattle.sorted_lists.proofs.SearchLemmas.{place-within}
 use Rattle.fip_snoop.specs.Rows.{lists, rooms, flat, row_at, IsIn, AreFrom, AreRows}
+use Rattle.fip_snoop.proofs.FlatLemmas.{flat-pushed, each-row, each-set, each-nil}
 
 -- ---- lists end to end
 
@@ -246,17 +247,6 @@ module _ {T : Type 0} (number : T → ℕ) (slab : Slab T) where
 
   -- ---- rows after a change
 
-  own_row : (k i : ℕ) (rows : List (List ℕ)) → AreFrom number k slab rows → All (IsIn number (k + i)) (seen slab (row_at rows i))
-  own_row k i [] own = All-nil (IsIn number (k + i))
-  own_row k zero (r ∷ rs) own = All-weaker (IsIn number k) (IsIn number (k + 0)) (λ x is. (omega (arith, is.0), omega (arith, is.1))) (seen slab r) own.0
-  own_row k (suc i) (r ∷ rs) own = All-weaker (IsIn number (suc k + i)) (IsIn number (k + suc i)) (λ x is. (omega (arith, is.0), omega (arith, is.1))) (seen slab (row_at rs i)) (own_row (suc k) i rs own.1)
-
-  own_set : (k i : ℕ) (rows : List (List ℕ)) (new : List ℕ) → AreFrom number k slab rows → All (IsIn number (k + i)) (seen slab new) → AreFrom number k slab (slice_set rows i new)
-  own_set k i [] new own all = tt
-  own_set k zero (r ∷ rs) new own all = (All-weaker (IsIn number (k + 0)) (IsIn number k) (λ x is. (omega (arith, is.0), omega (arith, is.1))) (seen slab new) all, own.1)
-  own_set k (suc i) (r ∷ rs) new own all =
-      (own.0, own_set (suc k) i rs new own.1 (All-weaker (IsIn number (k + suc i)) (IsIn number (suc k + i)) (λ x is. (omega (arith, is.0), omega (arith, is.1))) (seen slab new) all))
-
   own_updates : (new : Slab T) (p : ℕ) (slot : Option T) (k : ℕ) (rows : List (List ℕ)) → Updates slab new p slot → is_among p (flat rows) ≡ false → AreFrom number k slab rows → AreFrom number k new rows
   own_updates new p slot k [] updates absent own = tt
   own_updates new p slot k (r ∷ rs) updates absent own =
@@ -326,10 +316,10 @@ module _ {T : Type 0} (number : T → ℕ) (slab : Slab T) where
         (s.shown_is ∙ ap (λ k. row_at rows (k / 2 ^ 104)) s.number_is) s.number_is s.search
 
     here_in : All (IsIn number (0 + number x / 2 ^ 104)) (seen slab (row_at rows (number x / 2 ^ 104)))
-    here_in = own_row 0 (number x / 2 ^ 104) rows are.own
+    here_in = each-row (λ i r. All (IsIn number i) (seen slab r)) (λ j. All-nil (IsIn number j)) 0 (number x / 2 ^ 104) rows are.own
 
     rows_with : (new : List ℕ) → All (IsIn number (0 + number x / 2 ^ 104)) (seen slab new) → AreRows number slab (slice_set rows (number x / 2 ^ 104) new)
-    rows_with new all = record { own = own_set 0 (number x / 2 ^ 104) rows new are.own all; count = length-set rows (number x / 2 ^ 104) new ∙ are.count }
+    rows_with new all = record { own = each-set (λ i r. All (IsIn number i) (seen slab r)) 0 (number x / 2 ^ 104) rows new are.own all; count = length-set rows (number x / 2 ^ 104) new ∙ are.count }
 
     module _ (p : ℕ) (but : IsOrderBut number p slab (flat rows)) (here : get slab p ≡ Some x) (none : item_at number (number x) (seen slab (flat rows)) ≡ None)
         (new : List (List ℕ)) (put : new ≡ slice_set rows i (insert (row_at rows i) start p)) where
@@ -440,23 +430,15 @@ list-same (x ∷ l) zero v w lt is e = ap (λ m. m ∷ lists l) (e ∙ ap (λ (y
 list-same (x ∷ l) (suc i) v w lt is e = ap (λ m. x.items ∷ m) (list-same l i v w (omega (arith, lt)) is e)
 
 -- one more row
-pub flat-pushed : (l : List (Vec ℕ Global)) (v : Vec ℕ Global) → flat (lists (l ++ v ∷ [])) ≡ flat (lists l) ++ v.items
-flat-pushed [] v = append-nil v.items
-flat-pushed (x ∷ l) v = ap (λ m. x.items ++ m) (flat-pushed l v) ∙ sym (append_assoc x.items (flat (lists l)) v.items)
+pub lists-pushed : (l : List (Vec ℕ Global)) (v : Vec ℕ Global) → flat (lists (l ++ v ∷ [])) ≡ flat (lists l) ++ v.items
+lists-pushed l v = ap flat (map-append (λ (y : Vec ℕ Global). y.items) l (v ∷ [])) ∙ flat-pushed (lists l) v.items
 
 -- rows without a place
 pub AreRows-empty : {T : Type 0} (number : T → ℕ) (slab : Slab T) (rows : List (Vec ℕ Global)) → flat (lists rows) ≡ [] → length rows ≡ 256 → AreRows number slab (lists rows)
-AreRows-empty {T} number slab rows none count = record { own = own 0 (lists rows) none; count = length-lists rows ∙ count }
-  where
-    nil_left : (xs ys : List ℕ) → xs ++ ys ≡ [] → (xs ≡ []) × (ys ≡ [])
-    nil_left [] ys e = (refl, e)
-    nil_left (x ∷ xs) ys e = absurd (cc)
-
-    own : (k : ℕ) (rs : List (List ℕ)) → flat rs ≡ [] → AreFrom number k slab rs
-    own k [] e = tt
-    own k (r ∷ rs) e =
-        let parts = nil_left r (flat rs) e in
-        (subst (λ (l : List ℕ). All (IsIn number k) (seen slab l)) (sym parts.0) (All-nil (IsIn number k)), own (suc k) rs parts.1)
+AreRows-empty {T} number slab rows none count = record {
+  own = each-nil (λ i r. All (IsIn number i) (seen slab r)) (λ j. All-nil (IsIn number j)) 0 (lists rows) none;
+  count = length-lists rows ∙ count;
+}
 
 -- what a search in a row of the code found
 module _ {T : Type 0} (number : T → ℕ) (slab : Slab T) (rows looked : List (Vec ℕ Global)) (x : T) (m i start : ℕ) (shown : List ℕ) where

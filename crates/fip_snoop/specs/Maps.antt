@@ -1,5 +1,5 @@
--- How a bridge keeps homes and bindings, so that none is looked for one by one: homes in the order of their MACs, and bindings at
--- places of a slab with two orders, by MAC and by ENode, each in rows. No public clause cites this module.
+-- How a bridge keeps homes and bindings, so that none is looked for one by one: homes in rows, each in the order of its MACs, and
+-- bindings at places of a slab with two orders, by MAC and by ENode, each in rows. No public clause cites this module.
 use Rattle.std.specs.Prelude.{◌≡◌, ℕ, ◌+◌, ◌*◌, ◌/◌, ◌%◌, ◌<◌, ◌≤◌, ◌^◌, ◌⊎◌, Bool, true, nat_le, nat_lt, ◌&&◌, if◌then◌else◌, List, [], ◌∷◌, length, Option, None, Some, slice_index, find, Vec}
 use Rattle.std.specs.declared.alloc.Global.{Global}
 use Rattle.std.specs.List.{All, filter}
@@ -8,7 +8,7 @@ use Rattle.fab_base.specs.Keyed.{AscendFrom}
 use Rattle.fab_base.specs.Layout.{big_endian}
 use Rattle.fab_config.specs.Settings.{same_bytes}
 use Rattle.sorted_lists.specs.Orders.{seen, IsOrder}
-use Rattle.fip_snoop.specs.Rows.{AreRows, lists, flat}
+use Rattle.fip_snoop.specs.Rows.{AreRows, EachFrom, lists, flat}
 use Rattle.fip_snoop.specs.Snoop.{Contents, is_home_of, is_binding_of}
 use Rattle.fip_snoop.specs.declared.bindings.Binding.{Binding}
 use Rattle.fip_snoop.specs.declared.home.Home.{Home}
@@ -25,10 +25,22 @@ home_number h = big_endian h.mac
 abbrev pub IsWholeHome : Home → Type 0
 IsWholeHome h = IsMac h.mac
 
--- Homes ascend by MAC.
+-- Homes of a row ascend by MAC.
 pub record AreHomes (homes : List Home) : Type 0 where
   pub ascending : AscendFrom home_number 0 homes
   pub whole : All IsWholeHome homes
+
+-- the row of a MAC is its last byte: MACs of one maker differ there
+abbrev pub row_of : List ℕ → ℕ
+row_of mac = slice_index mac 5
+
+-- the homes of a row are its own
+abbrev pub AreOwn : ℕ → List Home → Type 0
+AreOwn i homes = All (λ h. row_of h.mac ≡ i) homes
+
+pub record AreHomeRows (rows : List (List Home)) : Type 0 where
+  pub own : EachFrom AreOwn 0 rows
+  pub count : length rows ≡ 256
 
 -- for each MAC both have the same homes
 abbrev pub SameHomes : List Home → List Home → Type 0

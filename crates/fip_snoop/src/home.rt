@@ -1,6 +1,7 @@
-//! On which ports ENodes are.
-ghost use Rattle.std.specs.Prelude.{◌≡◌, ◌<◌, true, length, vec_capacity};
+//! On which ports the ENodes of a row are.
+ghost use Rattle.std.specs.Prelude.{◌≡◌, ◌<◌, Some, true, length, vec_capacity};
 ghost use Rattle.fab_base.specs.Keyed.{added};
+ghost use Rattle.fip_snoop.specs.Snoop.{home_in};
 ghost use Rattle.fip_snoop.specs.Maps.{home_number, IsWholeHome, AreHomes};
 
 use fab_base::{Mac, NoMemory, PortNo};
@@ -30,13 +31,13 @@ impl HasRank for Home {
     }
 }
 
-/// The homes of ENodes, in the order of their MACs.
+/// The homes of some ENodes, in the order of their MACs.
 #[derive(Debug, Drop)]
-pub(crate) struct Homes {
+pub(crate) struct HomeRow {
     homes: Vec<Home>,
 }
 
-impl Model for Homes {
+impl Model for HomeRow {
     ghost use Rattle.std.specs.Prelude.{List};
     ghost use Rattle.fip_snoop.specs.declared.home.Home.{Home};
     ghost use Rattle.fip_snoop.specs.Maps.{AreHomes};
@@ -48,15 +49,15 @@ impl Model for Homes {
     ghost invariant = { λ h. AreHomes h.homes.items };
 }
 
-impl Homes {
-    ghost use Rattle.std.specs.Prelude.{◌≡◌, [], OnOk, OnErr};
+impl HomeRow {
+    ghost use Rattle.std.specs.Prelude.{◌≡◌, [], Some, OnOk, OnErr, IsOk};
     ghost use Rattle.fip_snoop.specs.Snoop as kept;
     ghost use Rattle.fip_snoop.specs.Maps.{SameHomes};
 
-    pub(crate) fn new(alloc: Global) -> Homes
+    pub(crate) fn new(alloc: Global) -> HomeRow
         ensures { result ≡ [] }
     {
-        Homes {
+        HomeRow {
             homes: Vec::new(alloc),
         }
     }
@@ -75,6 +76,7 @@ impl Homes {
     pub(crate) fn put(&mut self, home: Home) -> Result<(), NoMemory>
         ensures ok { OnOk result (SameHomes self.new (kept.with_home home self.old)) }
         ensures err { OnErr result (self.new ≡ self.old) }
+        ensures known { kept.home_in self.old home.mac ≡ Some home.port → IsOk result }
     {
         if is_there(&self.homes, &home) {
             return Ok(());
@@ -89,6 +91,7 @@ impl Homes {
 fn is_there(homes: &[Home], home: &Home) -> bool
     requires { AreHomes homes.now }
     ensures kept { result ≡ true → added home_number home.now homes.now ≡ homes.now }
+    ensures known { home_in homes.now home.now.mac ≡ Some home.now.port → result ≡ true }
     ensures whole { IsWholeHome home.now }
 {
     match rank_find(homes, home.rank()) {

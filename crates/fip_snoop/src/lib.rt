@@ -7,6 +7,7 @@ mod down;
 mod forwarder;
 mod grant;
 mod home;
+mod homes;
 mod laws;
 mod orders;
 mod pages;

@@ -15,7 +15,7 @@ use sorted_lists::{Order, order_from};
 use std::alloc::Global;
 
 /// How many rows there are.
-const ROWS: usize = 256;
+pub(crate) const ROWS: usize = 256;
 
 /// Rows without a place.
 pub(crate) fn new_rows(alloc: Global) -> Result<Vec<Vec<usize>>, NoMemory>

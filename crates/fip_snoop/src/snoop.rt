@@ -13,7 +13,8 @@ ghost use Rattle.fip_snoop.specs.Maps.{IsLike};
 use crate::bindings::Bindings;
 use crate::down::{data_down, down};
 use crate::forwarder::Forwarder;
-use crate::home::{Home, Homes};
+use crate::home::Home;
+use crate::homes::Homes;
 use crate::up::{data_up, is_port_alive, up};
 use crate::way::{SnoopRule, Way};
 use eth_frames::EthFrame;
@@ -61,7 +62,7 @@ impl Snoop {
     {
         Ok(Snoop {
             forwarder: Forwarder::of(config),
-            homes: Homes::new(alloc),
+            homes: Homes::new(alloc)?,
             bindings: Bindings::new(alloc)?,
         })
     }

@@ -4,7 +4,7 @@ use Rattle.fab_base.specs.Layout.{big_endian}
 use Rattle.fab_base.specs.Keyed.{item_at, AscendFrom}
 use Rattle.fip_snoop.specs.Maps.{home_number}
 use Rattle.fip_snoop.proofs.HomeLemmas.{port_found}
-use Rattle.fip_snoop.proofs.home.Homes.at.Goals as goal
+use Rattle.fip_snoop.proofs.home.HomeRow.at.Goals as goal
 
 pub rank_find-requires : goal.rank_find-requires
 rank_find-requires c = subst (AscendFrom home_number 0) (sym c.deref.ensures.value) c.self.invariant.ascending

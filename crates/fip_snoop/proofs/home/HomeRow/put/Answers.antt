@@ -2,7 +2,7 @@ use Rattle.std.proofs.Common.{◌≡◌, ◌∙◌, sym, ap, subst}
 use Rattle.fab_base.specs.Keyed.{added}
 use Rattle.fip_snoop.specs.Maps.{home_number}
 use Rattle.fip_snoop.proofs.HomeLemmas.{kept_same}
-use Rattle.fip_snoop.proofs.home.Homes.put.Goals as goal
+use Rattle.fip_snoop.proofs.home.HomeRow.put.Goals as goal
 
 pub returns-then-is_there-clause-ok : goal.returns-then-is_there-clause-ok
 returns-then-is_there-clause-ok c =
