@@ -1,22 +1,25 @@
 //! Pages: for each port the bytes that its output grows by next.
 ghost use Rattle.std.specs.Prelude.{◌≡◌, ℕ, ◌+◌, ◌-◌, ◌<◌, ◌≤◌, ◌^◌, ◌++◌, ◌∷◌, [], length, map, replicate, take, drop, IfOk, OnOk, OnErr, IsTrue};
 ghost use Rattle.fab_base.specs.Layout.{spelled_low};
-ghost use Rattle.pcap_file.specs.Capture.{head_bytes};
+ghost use Rattle.pcap_file.specs.Capture.{head_bytes, record_bytes};
 ghost use Rattle.fab_policy.specs.Text.{sent_bytes};
 ghost use Rattle.fab_replies.specs.Message.{can_send, sent_of};
 ghost use Rattle.fab_pages.specs.Pages.{Adds, AreEarly, GoOn, GoesOn, items_in, piece_at};
 
 use crate::cuts::{cut_all, lengths_of};
-use fab_base::NoMemory;
+use fab_base::{Moment, NoMemory};
 use fab_config::Config;
 use forward_core::{Drained, EventList, Out, write_out};
-use pcap_file::{write_head, write_record};
+use pcap_file::write_head;
 use std::alloc::Global;
 
 /// Where the first of the two lengths of a record stands in it, and where its frame begins.
 const LENGTH_AT: usize = 8;
 
 const RECORD_HEAD: usize = 16;
+
+/// The last second that a record can name. A later moment has the rest in its fraction.
+const LAST_SECOND: u64 = 4_294_967_295;
 
 /// A page for each of so many ports, with the head of a capture.
 pub fn head_records(alloc: Global, ports: usize) -> Result<Vec<Vec<u8>>, NoMemory>
@@ -124,10 +127,34 @@ pub(crate) fn write_sent(
     ensures front { GoesOn page.old.items page.new.items }
 {
     let begin = page.len();
-    write_record(alloc, out.moment, &[], page)?;
+    write_front(out.moment, page)?;
     write_out(alloc, config, events, out, page)?;
     set_length(&mut page[begin..]);
     Ok(())
+}
+
+// Appends what stands before a frame that is sent at a moment: its time, and lengths of 0. Where
+// memory is refused nothing is appended.
+fn write_front(moment: Moment, page: &mut Vec<u8>) -> Result<(), NoMemory>
+    requires { moment < 2 ^ 53 }
+    ensures ok { OnOk result (page.new.items ≡ page.old.items ++ record_bytes moment []) }
+    ensures err { OnErr result (page.new.items ≡ page.old.items) }
+{
+    page.extend_from_slice(&front_of(moment))?;
+    Ok(())
+}
+
+// The record of a frame without bytes at a moment.
+fn front_of(moment: Moment) -> [u8; RECORD_HEAD]
+    requires { moment < 2 ^ 53 }
+    ensures { result ≡ record_bytes moment [] }
+{
+    let seconds = (moment.0 / 1000).min(LAST_SECOND);
+    let micros = (moment.0 - seconds * 1000) * 1000;
+    let mut front = [0; RECORD_HEAD];
+    front[..4].copy_from_slice(&seconds.to_le_bytes()[..4]);
+    front[4..LENGTH_AT].copy_from_slice(&micros.to_le_bytes()[..4]);
+    front
 }
 
 // Sets both lengths of a record to that of the frame in it.

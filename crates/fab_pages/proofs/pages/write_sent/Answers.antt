@@ -10,7 +10,7 @@ returns-clause-ok c =
     let b = c.len-begin.result in
     let bytes = bytes_of c.args.config.now c.args.events.now c.args.out.now.message in
     sent_made c.args.page.now.items P (take (length P - b) (drop b P)) c.set_length.new.stored _ b c.write_out.new.into.len c.args.out.now.moment bytes (c.len-begin.ensures ∙ c.args.page.now.ok.0)
-    (c.deref_mut.ensures.value ∙ c.in_ok-write_out.ensures.ok ∙ ap (λ l. l ++ bytes) c.in_ok-write_record.ensures.ok) refl c.set_length.ensures (c.write_out.new.into.ok.0 ∙ ap length (sym c.deref_mut.ensures.value))
+    (c.deref_mut.ensures.value ∙ c.in_ok-write_out.ensures.ok ∙ ap (λ l. l ++ bytes) c.in_ok-write_front.ensures.ok) refl c.set_length.ensures (c.write_out.new.into.ok.0 ∙ ap length (sym c.deref_mut.ensures.value))
 
 pub returns-clause-front : goal.returns-clause-front
 returns-clause-front c = (sent_bytes (sent_of c.args.config.now c.args.events.now c.args.out.now), returns-clause-ok c)
