@@ -1,6 +1,6 @@
 -- The division as a register of 32 bits that is fed bit by bit.
-use Rattle.std.proofs.Common.{◌≡◌, ℕ, zero, suc, ◌*◌, ◌≤◌, Bool, true, false, not, cond, List, [], ◌∷◌, ◌++◌, length, length-append, append_assoc, map, flat_map, replicate, refl, sym, ap, ◌∙◌, arith}
-use Rattle.std.proofs.lemmas.List.{append-nil}
+use Rattle.std.proofs.Common.{◌≡◌, ℕ, zero, suc, ◌+◌, ◌*◌, ◌≤◌, Bool, true, false, not, cond, List, [], ◌∷◌, ◌++◌, length, length-append, append_assoc, map, flat_map, replicate, refl, sym, ap, ◌∙◌, arith}
+use Rattle.std.proofs.lemmas.List.{append-nil, replicate-append-replicate}
 use Rattle.fc_check.specs.Crc.{bits_of, plus, added, POLYNOMIAL, remainder, number_of, crc}
 
 -- the register after one more bit
@@ -80,6 +80,14 @@ added_behind (p ∷ a) (b ∷ bs) le = ap (λ l. plus p b ∷ l) (added_behind a
 pub added_none : (a : List Bool) → added a (none (length a)) ≡ a
 added_none [] = refl
 added_none (p ∷ a) = ap (λ x. x ∷ added a (none (length a))) (plus_none p) ∙ ap (λ l. p ∷ l) (added_none a)
+
+-- bits that are added to none are the front of it
+pub added_front : (a : List Bool) (n : ℕ) → added a (none (length a + n)) ≡ a ++ none n
+added_front [] n = ap none (let e : 0 + n ≡ n = omega arith in e)
+added_front (p ∷ a) n =
+    ap (λ (k : ℕ). added (p ∷ a) (none k)) (let e : suc (length a) + n ≡ suc (length a + n) = omega arith in e)
+    ∙ ap (λ x. x ∷ added a (none (length a + n))) (plus_none p)
+    ∙ ap (λ l. p ∷ l) (added_front a n)
 
 -- ---- the register
 
@@ -184,7 +192,7 @@ fed-shift (suc count) r =
     ap (λ q. fed q (none count)) (append_assoc (none count) r (false ∷ []))
     ∙ fed-shift count (r ++ false ∷ []) ∙ append_assoc r (false ∷ []) (none count)
 
-none_added : (count : ℕ) (r : List Bool) → added (none count) r ≡ r
+pub none_added : (count : ℕ) (r : List Bool) → added (none count) r ≡ r
 none_added zero r = refl
 none_added (suc count) [] = refl
 none_added (suc count) (b ∷ r) = ap (λ l. b ∷ l) (none_added count r)
@@ -208,6 +216,15 @@ fed-apart front back is_front is_back =
 abbrev pub past : ℕ → List Bool → List Bool
 past zero r = r
 past (suc k) r = past k (fed r (none 8))
+
+-- it is that of as many bits
+pub fed-zeros : (k : ℕ) (r : List Bool) → fed r (none (8 * k)) ≡ past k r
+fed-zeros zero r = refl
+fed-zeros (suc k) r =
+    ap (λ (n : ℕ). fed r (none n)) (let e : 8 * suc k ≡ 8 + 8 * k = omega arith in e)
+    ∙ ap (fed r) (sym (replicate-append-replicate 8 (8 * k) false))
+    ∙ fed-append r (none 8) (none (8 * k))
+    ∙ fed-zeros k (fed r (none 8))
 
 pub length-past : (k : ℕ) (r : List Bool) → length r ≡ 32 → length (past k r) ≡ 32
 length-past zero r is = is

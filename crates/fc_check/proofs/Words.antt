@@ -1,16 +1,16 @@
 -- The words of the tables, a byte and sixteen bytes at once.
-use Rattle.std.proofs.Common.{◌≡◌, ℕ, zero, suc, ◌+◌, ◌*◌, ◌/◌, ◌%◌, ◌^◌, ◌<◌, ◌≤◌, Bool, List, [], ◌∷◌, ◌++◌, length, take, drop, map, get_or, bit_xor, bit_and, not, flat_map, refl, sym, ap, subst, ◌∙◌, arith, length-drop, length-append, append_assoc, drop-cons, ◌-◌}
+use Rattle.std.proofs.Common.{◌≡◌, ℕ, zero, suc, ◌+◌, ◌*◌, ◌/◌, ◌%◌, ◌^◌, ◌<◌, ◌≤◌, Bool, List, [], ◌∷◌, ◌++◌, length, take, drop, map, get_or, bit_xor, bit_and, not, flat_map, refl, sym, ap, subst, ◌∙◌, arith, false, length-drop, length-append, append_assoc, drop-cons, ◌-◌}
 use Rattle.std.specs.List.{range_with_len}
 use Rattle.std.proofs.Math.Seq.{take-add}
 use Rattle.std.specs.Int.Bits.{xor_assoc, xor_zero_r}
-use Rattle.std.proofs.lemmas.List.{length-take-le, take-append-drop, take_more, length-map, get_or-map}
+use Rattle.std.proofs.lemmas.List.{length-take-le, take-append-drop, take_more, length-map, length-replicate, replicate-append-replicate, get_or-map}
 use Rattle.std.proofs.lemmas.List.FromFn.{get_or-map-range_with_len}
 use Rattle.std.proofs.lemmas.Grind.{flat_map-append}
 use Rattle.std.proofs.lemmas.Nat.{xor_shr, xor_comm, and_mask}
-use Rattle.fc_check.specs.Crc.{bits_of, added, number_of, crc}
+use Rattle.fc_check.specs.Crc.{bits_of, added, number_of, remainder, crc}
 use Rattle.fc_check.specs.Tables.{four_of, four_at, entry, words_of}
 use Rattle.fc_check.specs.declared.table.TheConstants.{AFTER}
-use Rattle.fc_check.proofs.Register.{fed, past, none, ones, fed-append, crc-is, length-added, length-fed, fed-before, fed-apart, fed-past, past-sum, length-past, added_none}
+use Rattle.fc_check.proofs.Register.{fed, past, none, ones, fed-append, fed-zeros, crc-is, length-added, length-fed, fed-before, fed-apart, fed-past, past-sum, length-past, added_none, none_added, added_front, remainder-added}
 use Rattle.fc_check.proofs.Numbers.{low, low-number_of, number_of-lt, number_of-append, number_of-not, number_of-added, number_of-bits_of}
 
 -- the register that eight bits leave behind in an empty one
@@ -86,13 +86,31 @@ in-tables (suc n) zero i t w len lt is in_n = is
 in-tables (suc n) (suc k) i t w len lt is in_n =
     in-tables n k i (map next t) (next w) (length-map t next ∙ len) lt (get_or-map next t i 0 0 (omega arith) ∙ ap next is) (omega arith)
 
--- each word is what eight bits leave behind after the bytes of zeros of its table
-entry-is : (k i : ℕ) → k < 16 → i < 256 → entry k i ≡ number_of (past (suc k) (low 8 i ++ none 24))
+-- a word is what eight bits leave behind after the bytes of zeros behind them
+entry-is : (k i : ℕ) → i < 256 → entry k i ≡ number_of (past (suc k) (low 8 i ++ none 24))
 unfolding entry
-entry-is k i in_k in_i =
+entry-is k i lt =
+    let bits : List Bool = bits_of i in
+    let zeros : List Bool = none (8 * k) in
+    let left : List Bool = fed (none 32) (bits ++ zeros) in
+    let left_len : length left ≡ 32 = length-fed 32 (none 32) (bits ++ zeros) refl in
+    let count : 8 * k + 8 ≡ length (bits ++ zeros) = omega (arith, length-append bits zeros, length-replicate (8 * k) false) in
+    let behind : bits ++ none (8 * k + 32) ≡ added (none 32) ((bits ++ zeros) ++ none 32) =
+    ap (λ l. bits ++ l) (sym (replicate-append-replicate (8 * k) 32 false)) ∙ sym (append_assoc bits zeros (none 32)) ∙ sym (none_added 32 ((bits ++ zeros) ++ none 32)) in
+    let whole : added left (none 32) ≡ left = ap (λ (n : ℕ). added left (none n)) (sym left_len) ∙ added_none left in
+    let front : fed (none 32) bits ≡ fed (bits ++ none 24) (none 8) = fed-before bits (none 32) (omega arith) ∙ ap (λ q. fed q (none 8)) (added_front bits 24) in
+    let low_is : low 8 i ≡ bits = ap (low 8) (sym (number_of-bits_of i lt)) ∙ low-number_of bits in
+    ap (λ l. number_of (remainder (8 * k + 8) l)) behind
+    ∙ ap number_of (remainder-added (8 * k + 8) (none 32) (bits ++ zeros) (none 32) refl count ∙ whole ∙ fed-append (none 32) bits zeros ∙ ap (λ q. fed q zeros) front ∙ fed-zeros k (fed (bits ++ none 24) (none 8)))
+    ∙ ap (λ q. number_of (past (suc k) (q ++ none 24))) (sym low_is)
+
+-- each table has these words
+table-is : (k i : ℕ) → k < 16 → i < 256 → get_or (get_or AFTER k []) i 0 ≡ entry k i
+table-is k i in_k in_i =
     ap (λ l. get_or (get_or l k []) i 0) words
     ∙ in-tables 16 k i (map word (range_with_len 0 256)) (word i) (length-map (range_with_len 0 256) word) in_i (get_or-map-range_with_len word 0 256 i i 0 in_i (omega arith)) in_k
     ∙ after-is k (fed (low 8 i ++ none 24) (none 8)) (length-fed 32 (low 8 i ++ none 24) (none 8) refl)
+    ∙ sym (entry-is k i in_i)
 
 -- ---- four bytes at once
 
@@ -102,38 +120,38 @@ bits_back front is_front = subst (λ (k : ℕ). low k (number_of front) ≡ fron
 byte_lt : (front : List Bool) → length front ≡ 8 → number_of front < 256
 byte_lt front is_front = subst (λ (n : ℕ). number_of front < 2 ^ n) is_front (number_of-lt front)
 
-entry-front : (k : ℕ) (front : List Bool) → k < 16 → length front ≡ 8 → number_of (past (suc k) (front ++ none 24)) ≡ entry k (number_of front)
-entry-front k front in_k is_front =
+entry-front : (k : ℕ) (front : List Bool) → length front ≡ 8 → number_of (past (suc k) (front ++ none 24)) ≡ entry k (number_of front)
+entry-front k front is_front =
     ap (λ q. number_of (past (suc k) (q ++ none 24))) (sym (bits_back front is_front))
-    ∙ sym (entry-is k (number_of front) in_k (byte_lt front is_front))
+    ∙ sym (entry-is k (number_of front) (byte_lt front is_front))
 
-past-front : (k : ℕ) (front back : List Bool) → k < 16 → length front ≡ 8 → length back ≡ 24 → number_of (past (suc k) (front ++ back)) ≡ bit_xor (entry k (number_of front)) (number_of (past k (back ++ none 8)))
-past-front k front back in_k is_front is_back =
+past-front : (k : ℕ) (front back : List Bool) → length front ≡ 8 → length back ≡ 24 → number_of (past (suc k) (front ++ back)) ≡ bit_xor (entry k (number_of front)) (number_of (past k (back ++ none 8)))
+past-front k front back is_front is_back =
     let left : List Bool = fed (front ++ none 24) (none 8) in
     let left_len : length left ≡ 32 = length-fed 32 (front ++ none 24) (none 8) (omega (arith, length-append front (none 24))) in
     let right_len : length (back ++ none 8) ≡ 32 = omega (arith, length-append back (none 8)) in
     ap (λ q. number_of (past k q)) (fed-apart front back is_front is_back)
     ∙ ap number_of (past-sum k left (back ++ none 8) left_len right_len)
     ∙ number_of-added (past k left) (past k (back ++ none 8)) (omega (arith, length-past k left left_len, length-past k (back ++ none 8) right_len))
-    ∙ ap (λ (n : ℕ). bit_xor n (number_of (past k (back ++ none 8)))) (entry-front k front in_k is_front)
+    ∙ ap (λ (n : ℕ). bit_xor n (number_of (past k (back ++ none 8)))) (entry-front k front is_front)
 
 -- a register that is all shifted out is the sum of four words
-past-four : (k : ℕ) (p q s t : List Bool) → k < 13 → length p ≡ 8 → length q ≡ 8 → length s ≡ 8 → length t ≡ 8 → number_of (past (suc (suc (suc (suc k)))) (p ++ (q ++ (s ++ t)))) ≡ bit_xor (entry (suc (suc (suc k))) (number_of p)) (bit_xor (entry (suc (suc k)) (number_of q)) (bit_xor (entry (suc k) (number_of s)) (entry k (number_of t))))
-past-four k p q s t in_k is_p is_q is_s is_t =
-    past-front (suc (suc (suc k))) p (q ++ (s ++ t)) (omega arith) is_p (omega (arith, length-append q (s ++ t), length-append s t))
+past-four : (k : ℕ) (p q s t : List Bool) → length p ≡ 8 → length q ≡ 8 → length s ≡ 8 → length t ≡ 8 → number_of (past (suc (suc (suc (suc k)))) (p ++ (q ++ (s ++ t)))) ≡ bit_xor (entry (suc (suc (suc k))) (number_of p)) (bit_xor (entry (suc (suc k)) (number_of q)) (bit_xor (entry (suc k) (number_of s)) (entry k (number_of t))))
+past-four k p q s t is_p is_q is_s is_t =
+    past-front (suc (suc (suc k))) p (q ++ (s ++ t)) is_p (omega (arith, length-append q (s ++ t), length-append s t))
     ∙ ap (bit_xor (entry (suc (suc (suc k))) (number_of p)))
     (ap (λ l. number_of (past (suc (suc (suc k))) l)) (append_assoc q (s ++ t) (none 8))
-    ∙ past-front (suc (suc k)) q ((s ++ t) ++ none 8) (omega arith) is_q (omega (arith, length-append (s ++ t) (none 8), length-append s t))
+    ∙ past-front (suc (suc k)) q ((s ++ t) ++ none 8) is_q (omega (arith, length-append (s ++ t) (none 8), length-append s t))
     ∙ ap (bit_xor (entry (suc (suc k)) (number_of q)))
     (ap (λ l. number_of (past (suc (suc k)) l)) (ap (λ l. l ++ none 8) (append_assoc s t (none 8)) ∙ append_assoc s (t ++ none 8) (none 8))
-    ∙ past-front (suc k) s ((t ++ none 8) ++ none 8) (omega arith) is_s (omega (arith, length-append (t ++ none 8) (none 8), length-append t (none 8)))
+    ∙ past-front (suc k) s ((t ++ none 8) ++ none 8) is_s (omega (arith, length-append (t ++ none 8) (none 8), length-append t (none 8)))
     ∙ ap (bit_xor (entry (suc k) (number_of s)))
     (ap (λ l. number_of (past (suc k) l)) (append_assoc (t ++ none 8) (none 8) (none 8) ∙ append_assoc t (none 8) (none 16))
-    ∙ entry-front k t (omega arith) is_t)))
+    ∙ entry-front k t is_t)))
 
-words_of-is : (k m : ℕ) (r : List Bool) → k < 13 → length r ≡ 32 → number_of r ≡ m → number_of (past (suc (suc (suc (suc k)))) r) ≡ words_of k m
+words_of-is : (k m : ℕ) (r : List Bool) → length r ≡ 32 → number_of r ≡ m → number_of (past (suc (suc (suc (suc k)))) r) ≡ words_of k m
 unfolding words_of
-words_of-is k m r in_k len is_m =
+words_of-is k m r len is_m =
     let x = parts_of 24 r len in
     let y = parts_of 16 x.back x.back_len in
     let z = parts_of 8 y.back y.back_len in
@@ -150,7 +168,7 @@ words_of-is k m r in_k len is_m =
     let e2 : ℕ = entry (suc (suc k)) (m / 256 % 256) in
     let e3 : ℕ = entry (suc (suc (suc k))) (m % 256) in
     ap (λ q. number_of (past (suc (suc (suc (suc k)))) q)) whole
-    ∙ past-four k x.front y.front z.front z.back in_k x.front_len y.front_len z.front_len z.back_len
+    ∙ past-four k x.front y.front z.front z.back x.front_len y.front_len z.front_len z.back_len
     ∙ ap (λ (n : ℕ). bit_xor (entry (suc (suc (suc k))) n) (bit_xor (entry (suc (suc k)) (number_of y.front)) (bit_xor (entry (suc k) (number_of z.front)) (entry k (number_of z.back))))) first
     ∙ ap (bit_xor e3)
     (ap (λ (n : ℕ). bit_xor (entry (suc (suc k)) n) (bit_xor (entry (suc k) (number_of z.front)) (entry k (number_of z.back)))) second
@@ -158,13 +176,24 @@ words_of-is k m r in_k len is_m =
     (ap (λ (n : ℕ). bit_xor (entry (suc k) n) (entry k (number_of z.back))) third ∙ ap (λ (n : ℕ). bit_xor e1 (entry k n)) fourth))
     ∙ sym (xor_assoc (bit_xor e3 e2) e1 e0 ∙ xor_assoc e3 e2 (bit_xor e1 e0))
 
--- the same by indices that the code masks
-pub words_of-masked : (k m : ℕ) → bit_xor (bit_xor (bit_xor (get_or (get_or AFTER (k + 3) []) (bit_and m 255) 0) (get_or (get_or AFTER (k + 2) []) (bit_and (m / 256) 255) 0)) (get_or (get_or AFTER (k + 1) []) (bit_and (m / 65536) 255) 0)) (get_or (get_or AFTER k []) (bit_and (m / 16777216) 255) 0) ≡ words_of k m
-unfolding words_of entry
-words_of-masked k m = masked (λ (j i : ℕ). get_or (get_or AFTER j []) i 0) (suc (suc (suc k))) (suc (suc k)) (suc k) (k + 3) (k + 2) (k + 1) (omega arith) (omega arith) (omega arith) (and_mask m 8) (and_mask (m / 256) 8) (and_mask (m / 65536) 8) (and_mask (m / 16777216) 8)
+-- the same by tables and indices that the code masks
+pub words_of-masked : (k m : ℕ) → k ≤ 12 → bit_xor (bit_xor (bit_xor (get_or (get_or AFTER (k + 3) []) (bit_and m 255) 0) (get_or (get_or AFTER (k + 2) []) (bit_and (m / 256) 255) 0)) (get_or (get_or AFTER (k + 1) []) (bit_and (m / 65536) 255) 0)) (get_or (get_or AFTER k []) (bit_and (m / 16777216) 255) 0) ≡ words_of k m
+unfolding words_of
+words_of-masked k m few =
+    let three : suc (suc (suc k)) ≡ k + 3 = omega arith in
+    let two : suc (suc k) ≡ k + 2 = omega arith in
+    let one : suc k ≡ k + 1 = omega arith in
+    four_words
+    (found (k + 3) m (omega (arith, few)) ∙ ap (λ (n : ℕ). entry n (m % 256)) (sym three))
+    (found (k + 2) (m / 256) (omega (arith, few)) ∙ ap (λ (n : ℕ). entry n (m / 256 % 256)) (sym two))
+    (found (k + 1) (m / 65536) (omega (arith, few)) ∙ ap (λ (n : ℕ). entry n (m / 65536 % 256)) (sym one))
+    (found k (m / 16777216) (omega (arith, few)))
   where
-    masked : (f : ℕ → ℕ → ℕ) (j3 j2 j1 k3 k2 k1 : ℕ) {i3 i2 i1 i0 m3 m2 m1 m0 : ℕ} → k3 ≡ j3 → k2 ≡ j2 → k1 ≡ j1 → i3 ≡ m3 → i2 ≡ m2 → i1 ≡ m1 → i0 ≡ m0 → bit_xor (bit_xor (bit_xor (f k3 i3) (f k2 i2)) (f k1 i1)) (f k i0) ≡ bit_xor (bit_xor (bit_xor (f j3 m3) (f j2 m2)) (f j1 m1)) (f k m0)
-    masked f j3 j2 j1 k3 k2 k1 a b c d e g h = cc
+    found : (j n : ℕ) → j < 16 → get_or (get_or AFTER j []) (bit_and n 255) 0 ≡ entry j (n % 256)
+    found j n in_j = ap (λ (i : ℕ). get_or (get_or AFTER j []) i 0) (and_mask n 8) ∙ table-is j (n % 256) in_j (omega arith)
+
+    four_words : {a b c d p q r s : ℕ} → a ≡ p → b ≡ q → c ≡ r → d ≡ s → bit_xor (bit_xor (bit_xor a b) c) d ≡ bit_xor (bit_xor (bit_xor p q) r) s
+    four_words e f g h = cc
 
 number_of-four : (a b c d : ℕ) → a < 256 → b < 256 → c < 256 → d < 256 → number_of (bits_of a ++ (bits_of b ++ (bits_of c ++ bits_of d))) ≡ four_of a b c d
 number_of-four a b c d fa fb fc fd =
@@ -187,8 +216,8 @@ take_four k l i le =
     ∙ ap (λ (n : ℕ). get_or l i 0 ∷ get_or l (i + 1) 0 ∷ get_or l (i + 2) 0 ∷ get_or l (i + 3) 0 ∷ take k (drop n l)) five
 
 -- four bytes turn the register by four words, and those behind them an empty one
-four-fed : (r : List Bool) (a b c d m : ℕ) (rest : List ℕ) → length rest < 13 → length r ≡ 32 → a < 256 → b < 256 → c < 256 → d < 256 → m ≡ bit_xor (number_of r) (four_of a b c d) → number_of (fed r (flat_map bits_of (a ∷ b ∷ c ∷ d ∷ rest))) ≡ bit_xor (words_of (length rest) m) (number_of (fed (none 32) (flat_map bits_of rest)))
-four-fed r a b c d m rest few len fa fb fc fd is_m =
+four-fed : (r : List Bool) (a b c d m : ℕ) (rest : List ℕ) → length r ≡ 32 → a < 256 → b < 256 → c < 256 → d < 256 → m ≡ bit_xor (number_of r) (four_of a b c d) → number_of (fed r (flat_map bits_of (a ∷ b ∷ c ∷ d ∷ rest))) ≡ bit_xor (words_of (length rest) m) (number_of (fed (none 32) (flat_map bits_of rest)))
+four-fed r a b c d m rest len fa fb fc fd is_m =
     let bits : List Bool = bits_of a ++ (bits_of b ++ (bits_of c ++ bits_of d)) in
     let behind : List Bool = flat_map bits_of rest in
     let sum : List Bool = added bits r in
@@ -201,7 +230,7 @@ four-fed r a b c d m rest few len fa fb fc fd is_m =
     ∙ ap (λ q. number_of (fed q behind)) (fed-before bits r (omega arith) ∙ whole)
     ∙ ap number_of (fed-past turned (none 32) rest turned_len refl)
     ∙ number_of-added (past (length rest) turned) (fed (none 32) behind) (omega (arith, length-past (length rest) turned turned_len, length-fed 32 (none 32) behind refl))
-    ∙ ap (λ (n : ℕ). bit_xor n (number_of (fed (none 32) behind))) (words_of-is (length rest) m sum few sum_len is_sum)
+    ∙ ap (λ (n : ℕ). bit_xor n (number_of (fed (none 32) behind))) (words_of-is (length rest) m sum sum_len is_sum)
 
 -- ---- the register as a number
 
@@ -243,29 +272,29 @@ register_of-take l i register b lt is_byte fits is_register =
 
 -- ---- sixteen turns at once
 
-block : (k : ℕ) (r : List Bool) (l : List ℕ) (i : ℕ) → k < 13 → length r ≡ 32 → ((j : ℕ) → get_or l j 0 < 256) → i + 4 + k ≤ length l → number_of (fed r (flat_map bits_of (take (suc (suc (suc (suc k)))) (drop i l)))) ≡ bit_xor (words_of k (bit_xor (number_of r) (four_at l i))) (number_of (fed (none 32) (flat_map bits_of (take k (drop (i + 4) l)))))
+block : (k : ℕ) (r : List Bool) (l : List ℕ) (i : ℕ) → length r ≡ 32 → ((j : ℕ) → get_or l j 0 < 256) → i + 4 + k ≤ length l → number_of (fed r (flat_map bits_of (take (suc (suc (suc (suc k)))) (drop i l)))) ≡ bit_xor (words_of k (bit_xor (number_of r) (four_at l i))) (number_of (fed (none 32) (flat_map bits_of (take k (drop (i + 4) l)))))
 unfolding four_at
-block k r l i few len fits le =
+block k r l i len fits le =
     let rest : List ℕ = take k (drop (i + 4) l) in
     let rest_len : length rest ≡ k = length-take-le k (drop (i + 4) l) (omega (arith, length-drop (i + 4) l)) in
     ap (λ q. number_of (fed r (flat_map bits_of q))) (take_four k l i (omega arith))
-    ∙ four-fed r (get_or l i 0) (get_or l (i + 1) 0) (get_or l (i + 2) 0) (get_or l (i + 3) 0) (bit_xor (number_of r) (four_at l i)) rest (omega arith) len (fits i) (fits (i + 1)) (fits (i + 2)) (fits (i + 3)) refl
+    ∙ four-fed r (get_or l i 0) (get_or l (i + 1) 0) (get_or l (i + 2) 0) (get_or l (i + 3) 0) (bit_xor (number_of r) (four_at l i)) rest len (fits i) (fits (i + 1)) (fits (i + 2)) (fits (i + 3)) refl
     ∙ ap (λ (n : ℕ). bit_xor (words_of n (bit_xor (number_of r) (four_at l i))) (number_of (fed (none 32) (flat_map bits_of rest)))) rest_len
 
 -- the last of them, behind which there is nothing
 last_block : (l : List ℕ) (i : ℕ) → ((j : ℕ) → get_or l j 0 < 256) → i + 4 ≤ length l → number_of (fed (none 32) (flat_map bits_of (take 4 (drop i l)))) ≡ words_of 0 (four_at l i)
-last_block l i fits le = block 0 (none 32) l i (omega arith) refl fits (omega arith) ∙ xor_zero_r (words_of 0 (four_at l i))
+last_block l i fits le = block 0 (none 32) l i refl fits (omega arith) ∙ xor_zero_r (words_of 0 (four_at l i))
 
 sixteen : (r : List Bool) (l : List ℕ) (i : ℕ) → length r ≡ 32 → ((j : ℕ) → get_or l j 0 < 256) → i + 16 ≤ length l → number_of (fed r (flat_map bits_of (take 16 (drop i l)))) ≡ bit_xor (words_of 12 (bit_xor (number_of r) (four_at l i))) (bit_xor (words_of 8 (four_at l (i + 4))) (bit_xor (words_of 4 (four_at l (i + 8))) (words_of 0 (four_at l (i + 12)))))
 sixteen r l i len fits le =
     let eight : i + 4 + 4 ≡ i + 8 = omega arith in
     let twelve : i + 8 + 4 ≡ i + 12 = omega arith in
-    block 12 r l i (omega arith) len fits (omega arith)
+    block 12 r l i len fits (omega arith)
     ∙ ap (bit_xor (words_of 12 (bit_xor (number_of r) (four_at l i))))
-    (block 8 (none 32) l (i + 4) (omega arith) refl fits (omega arith)
+    (block 8 (none 32) l (i + 4) refl fits (omega arith)
     ∙ ap (bit_xor (words_of 8 (four_at l (i + 4))))
     (ap (λ (n : ℕ). number_of (fed (none 32) (flat_map bits_of (take 8 (drop n l))))) eight
-    ∙ block 4 (none 32) l (i + 8) (omega arith) refl fits (omega arith)
+    ∙ block 4 (none 32) l (i + 8) refl fits (omega arith)
     ∙ ap (bit_xor (words_of 4 (four_at l (i + 8))))
     (ap (λ (n : ℕ). number_of (fed (none 32) (flat_map bits_of (take 4 (drop n l))))) twelve ∙ last_block l (i + 12) fits (omega arith))))
 
