@@ -16,7 +16,7 @@ use Rattle.fab_replay.specs.Outputs.{IsCompared}
 use Rattle.fab_replay.specs.Check.{Matter, NamesRun, IsAccepted, IsFirstOutput, IsFirstStop, Says, Checks, matter_in, sent_on}
 use Rattle.fab_replay.specs.declared.fault.CheckFault.{CheckFault}
 use Rattle.fab_replay.specs.declared.fault.CheckFault.TheVariants as checks
-use Rattle.fabric_tool.specs.Checking.{budget_of, output_in, matter_of, HasMatter, HasGiven, Finds, IsStanding, IsChecked, AreOpenInputs, command_of, refused_by, room_for}
+use Rattle.fabric_tool.specs.Checking.{budget_of, output_in, matter_of, HasMatter, HasGiven, Finds, IsStanding, IsChecked, AreOpenInputs, command_of, refused_by}
 use Rattle.fabric_tool.specs.Command.{Among, AnyRose, ReadRose, are_ports, names_of, ins_of, count_of, input_of}
 use Rattle.fabric_tool.specs.Inputs.{AreOpened, MOST_BYTES, MOST_FRAMES}
 use Rattle.fabric_tool.specs.Reading.{AreHeads, HeadsRead, HeadsEnd}
@@ -27,7 +27,7 @@ use Rattle.fabric_tool.specs.declared.outcome.Outcome.TheVariants as ends
 use Rattle.fabric_tool.proofs.AmongLemmas.{rose_among, rose_since}
 use Rattle.fabric_tool.proofs.HeadLemmas.{heads_opened, heads_since}
 use Rattle.fabric_tool.proofs.JournalLemmas.{outs_count}
-use Rattle.fabric_tool.proofs.NameLemmas.{ports, length-counted}
+use Rattle.fabric_tool.proofs.NameLemmas.{length-counted}
 use Rattle.fabric_tool.proofs.RanLemmas.{opened_since}
 use Rattle.fabric_tool.proofs.SlotLemmas.{heads_on, all_named, slots_among}
 pub use Rattle.fabric_tool.proofs.SlotLemmas.{ins_named}
@@ -115,21 +115,18 @@ module _ (w : Width) (words : List (String Global)) (run : are_ports w words ≡
   names_count : length (names_of w words).ins ≡ count_of w words
   names_count = ap (λ (l : List (List ℕ)). length l) (ins_named w words) ∙ length-counted (input_of w words) 0 (count_of w words)
 
-  within : length journal ≤ room_for w words → length journal + HEAD * length (names_of w words).ins ≤ MOST_BYTES
-  within room = let n = names_count in let few = (ports w words run).few in omega arith
-
   -- a head can't be read
-  pub heads_ended : length journal ≤ room_for w words → (z : Seen) (had left : Budget) (x : Outcome) → HeadsRead (ins_of w words) b z had left (Err x) → IsChecked w (names_of w words) a z (Err x)
-  heads_ended room z had left x read = go x read.ended
+  pub heads_ended : length journal ≤ MOST_BYTES → (z : Seen) (frames : ℕ) (left : Budget) (x : Outcome) → HeadsRead (ins_of w words) b z (record { bytes = MOST_BYTES - length journal; frames = frames }) left (Err x) → IsChecked w (names_of w words) a z (Err x)
+  heads_ended room z frames left x read = go x read.ended
     where
       same : SameFiles a z
       same m = read.touches.files m (λ y. y) ∙ files_b m
 
-      go : (x : Outcome) → HeadsEnd (ins_of w words) b z x → IsChecked w (names_of w words) a z (Err x)
+      go : (x : Outcome) → HeadsEnd (ins_of w words) (MOST_BYTES - length journal) b z x → IsChecked w (names_of w words) a z (Err x)
       go (ends.Capture port at reason) e = (
         same,
         λ told.
-            let f = e.1 (told_b told) in
+            let f = e.2 (told_b told) in
             inl (
               e.0,
               record {
@@ -149,7 +146,30 @@ module _ (w : Width) (words : List (String Global)) (run : are_ports w words ≡
                 };
                 journal = journal;
                 lines = given.lines told;
-                within = within room;
+                within = (let up_to = e.1 in omega arith);
+              },
+            ),
+      )
+      go (ends.Limit kind) e = (
+        same,
+        λ told.
+            let f = e.2 (told_b told) in
+            inl (
+              e.0,
+              record {
+                settings = c;
+                config = given.config told;
+                journal = journal;
+                lines = given.lines told;
+                heads = record {
+                  before = f.before;
+                  name = f.name;
+                  behind = f.behind;
+                  are = ins_named w words ∙ f.are;
+                  opened = f.opened;
+                  heads = opened_since a b files_b f.before f.opened f.heads;
+                  above = f.above;
+                };
               },
             ),
       )
@@ -158,7 +178,7 @@ module _ (w : Width) (words : List (String Global)) (run : are_ports w words ≡
       go x e = absurd e
 
   module _ (m : Seen) (ins : List Input) (had left : Budget) (heads : AreHeads b m (ins_of w words) ins) (touched : Touches Nothing (Among (ins_of w words)) b m)
-      (taken : (left.bytes + HEAD * length (ins_of w words) ≡ had.bytes) × (left.frames ≡ had.frames)) (had_bytes : had.bytes ≡ MOST_BYTES - length journal) (had_frames : had.frames ≡ MOST_FRAMES) (room : length journal ≤ room_for w words) where
+      (taken : (left.bytes + HEAD * length (ins_of w words) ≡ had.bytes) × (left.frames ≡ had.frames)) (had_bytes : had.bytes ≡ MOST_BYTES - length journal) (had_frames : had.frames ≡ MOST_FRAMES) (room : length journal ≤ MOST_BYTES) where
     files_m : SameFiles a m
     files_m n = touched.files n (λ x. x) ∙ files_b n
 
@@ -192,11 +212,14 @@ module _ (w : Width) (words : List (String Global)) (run : are_ports w words ≡
       outs_a : AreOpenInputs a o (names_of w words).outs slots
       outs_a = outs_since a m o files_m told_m (names_of w words).outs slots outs
 
+      within : length journal + HEAD * length (names_of w words).ins ≤ MOST_BYTES
+      within = let n = names_count in let l = length-counted (input_of w words) 0 (count_of w words) in let t = taken.0 in omega arith
+
       matter : IsTrue a.told → HasMatter (names_of w words) a c (opened_in o ins) journal
       matter told = record {
         inputs = record { config = given.config told; heads = subst (λ l. AreOpened a l (opened_in o ins)) (sym (ins_named w words)) (heads_opened a o (ins_of w words) ins told heads_a) };
         lines = given.lines told;
-        within = within room;
+        within = within;
       }
 
       same_budget : left ≡ budget_of journal (length (names_of w words).ins)

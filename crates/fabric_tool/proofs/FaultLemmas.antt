@@ -1,5 +1,5 @@
 -- The first fault of what `replay` and `show` are handed is one, so they end by it where nothing fails.
-use Rattle.std.proofs.Common.{◌≡◌, ℕ, ◌+◌, ◌*◌, ◌≤◌, ◌⊎◌, inl, inr, List, length, Some, Err, IsTrue, refl, sym, ap, ◌∙◌, subst}
+use Rattle.std.proofs.Common.{◌≡◌, ℕ, ◌+◌, ◌*◌, ◌<◌, ◌≤◌, ◌⊎◌, inl, inr, List, length, Some, Err, IsTrue, refl, sym, ap, ◌∙◌, subst, arith}
 use Rattle.std.specs.Prelude.{Result}
 use Rattle.fab_base.specs.Seen.{Seen, SameFiles}
 use Rattle.fab_base.specs.Sunk.{Sunk}
@@ -23,8 +23,8 @@ use Rattle.fabric_tool.specs.Statuses.{IsQuiet, ReplaySays, ShowSays}
 use Rattle.fabric_tool.specs.declared.outcome.Outcome.{Outcome}
 use Rattle.fabric_tool.specs.declared.outcome.Outcome.TheVariants as ends
 use Rattle.fabric_tool.proofs.ConfigLemmas.{same_text, no_fault, one_fault}
-use Rattle.fabric_tool.proofs.FoundLemmas.{no_bad, one_bad}
-use Rattle.fabric_tool.proofs.LegalLemmas.{above, in_one, legal_end, only_legal, only_shown, shown_end}
+use Rattle.fabric_tool.proofs.FoundLemmas.{no_bad, one_bad, opened_before}
+use Rattle.fabric_tool.proofs.LegalLemmas.{have_room, in_one, legal_end, only_legal, only_shown, shown_end}
 
 -- ---- outcomes that print the same
 
@@ -94,7 +94,18 @@ module _ (k : RunNames) (d : Seen) where
 
   -- a journal that is too long isn't within the limit
   too_long : (l : IsLongJournal k d) (journal : List ℕ) → d.file k.journal ≡ Some journal → length journal + HEAD * length k.ins ≤ MOST_BYTES → ⊥
-  too_long l journal lines within = above journal l.journal (length k.ins) (same_text d k.journal journal l.journal lines l.lines) within l.above
+  too_long l journal lines within = have_room k.ins d journal l.journal (same_text d k.journal journal l.journal lines l.lines) within l.heads
+
+  -- a head without room stands before no bad head, and behind none
+  no_room : (port : ℕ) (reason : CapWhy) → IsLongJournal k d → IsHeadRefused k d port reason → ⊥
+  no_room port reason l r =
+      let f = r.head.first in
+      let n = l.heads in
+      let same = ap (λ (x : List ℕ). length x) (same_text d k.journal l.journal r.journal l.lines r.lines) in
+      let over = n.above in
+      let up_to = r.within in
+      let number = f.number in
+      opened_before d f.before n.before f.name n.name f.behind n.behind n.opened reason (sym f.are ∙ n.are) n.heads f.without (let e : length f.before < length n.before = omega arith in e)
 
   refused_once : (o p : Outcome) → Refused k d o → Refused k d p → PrintsAlike o p
   refused_once o p (inl a) (inl b) = alike o p (a.2 ∙ ap (λ (f : ConfigFault). ends.Config f) (one_fault d k.config a.0 b.0 a.1 b.1) ∙ sym b.2)
@@ -103,10 +114,10 @@ module _ (k : RunNames) (d : Seen) where
   refused_once o p (inl a) (inr (inr (inr b))) = absurd (no_fault d k.config b.1.settings a.0 b.1.matter.inputs.config a.1)
   refused_once o p (inr (inl a)) (inl b) = absurd (no_fault d k.config a.0.settings b.0 a.0.config b.1)
   refused_once o p (inr (inl a)) (inr (inl b)) = alike o p (a.1 ∙ sym b.1)
-  refused_once o p (inr (inl a)) (inr (inr (inl b))) = absurd (too_long a.0 b.2.journal b.2.lines b.2.within)
+  refused_once o p (inr (inl a)) (inr (inr (inl b))) = absurd (no_room b.0 b.1 a.0 b.2)
   refused_once o p (inr (inl a)) (inr (inr (inr b))) = absurd (too_long a.0 b.1.journal b.1.matter.lines b.1.matter.within)
   refused_once o p (inr (inr (inl a))) (inl b) = absurd (no_fault d k.config a.2.head.settings b.0 a.2.head.config b.1)
-  refused_once o p (inr (inr (inl a))) (inr (inl b)) = absurd (too_long b.0 a.2.journal a.2.lines a.2.within)
+  refused_once o p (inr (inr (inl a))) (inr (inl b)) = absurd (no_room a.0 a.1 b.0 a.2)
   refused_once o p (inr (inr (inl a))) (inr (inr (inl b))) =
       let same = one_bad k d a.0 b.0 a.1 b.1 a.2.head b.2.head in
       alike o p (a.3 ∙ ap (λ (n : ℕ). ends.Capture n 0 a.1) same.0 ∙ ap (λ (w : CapWhy). ends.Capture b.0 0 w) same.1 ∙ sym b.3)

@@ -1,5 +1,5 @@
 -- What the inputs of `run` say is one thing: a fault of the configuration, a first bad head, or where the reading stops.
-use Rattle.std.proofs.Common.{◌≡◌, ℕ, ◌+◌, List, [], ◌∷◌, ◌++◌, ◌⊎◌, length, Option, Some, None, Ok, Err, IsTrue, refl, sym, ap, ◌∙◌, subst, arith, inl, inr}
+use Rattle.std.proofs.Common.{◌≡◌, ℕ, ◌+◌, ◌<◌, List, [], ◌∷◌, ◌++◌, ◌⊎◌, length, Option, Some, None, Ok, Err, IsTrue, refl, sym, ap, ◌∙◌, subst, arith, inl, inr}
 use Rattle.std.specs.Prelude.{Result, drop}
 use Rattle.fab_base.specs.Seen.{Seen}
 use Rattle.fab_base.specs.Sunk.{Sunk}
@@ -75,6 +75,14 @@ one_first d (x ∷ xs) (y ∷ ys) n m bs cs (o ∷ os) (q ∷ qs) w v e one othe
     let h = one_first d xs ys n m bs cs os qs w v rest one.1 other.1 without again in
     let count = h.0 in
     (omega arith, h.1)
+
+-- of captures that are opened up to some name, none before it is without a head
+pub opened_before : (d : Seen) (xs ys : List (List ℕ)) (n m : List ℕ) (bs cs : List (List ℕ)) (qs : List Opened) (w : CapWhy) → xs ++ n ∷ bs ≡ ys ++ m ∷ cs → AreOpened d ys qs → HasNoHead d n w → length xs < length ys → ⊥
+opened_before d xs [] n m bs cs qs w e other without lt = absurd (omega arith)
+opened_before d [] (y ∷ ys) n m bs cs [] w e other without lt = absurd other
+opened_before d [] (y ∷ ys) n m bs cs (q ∷ qs) w e other without lt = let same : y ≡ n = cc in absurd (no_head d n q w (subst (λ x. IsOpened d x q) same other.0) without)
+opened_before d (x ∷ xs) (y ∷ ys) n m bs cs [] w e other without lt = absurd other
+opened_before d (x ∷ xs) (y ∷ ys) n m bs cs (q ∷ qs) w e other without lt = let rest : xs ++ n ∷ bs ≡ ys ++ m ∷ cs = cc in opened_before d xs ys n m bs cs qs w rest other.1 without (omega arith)
 
 pub one_bad : (k : RunNames) (d : Seen) (p q : ℕ) (w v : CapWhy) → HasBadHead k d p w → HasBadHead k d q v → (p ≡ q) × (w ≡ v)
 one_bad k d p q w v one other =

@@ -1,14 +1,17 @@
 -- The heads of the captures, one port after another.
-use Rattle.std.proofs.Common.{◌≡◌, ℕ, ◌+◌, ◌*◌, ◌≤◌, List, [], ◌∷◌, ◌++◌, length, length-append, Ok, Err, IsTrue, refl, sym, ap, ◌∙◌, subst, arith, inl, inr}
-use Rattle.std.specs.Prelude.{Vec}
+use Rattle.std.proofs.Common.{◌≡◌, ℕ, ◌+◌, ◌*◌, ◌<◌, ◌≤◌, List, [], ◌∷◌, ◌++◌, length, length-append, Ok, Err, IsTrue, refl, sym, ap, ◌∙◌, subst, arith, inl, inr}
+use Rattle.std.specs.Prelude.{Vec, Result}
 use Rattle.std.specs.declared.alloc.Global.{Global}
 use Rattle.fab_base.specs.Seen.{Seen, Reads, Rose, OpensIn, Touches, Nothing, Only}
 use Rattle.fab_base.specs.declared.values.Failed.{Failed}
 use Rattle.fab_base.proofs.SeenLemmas.{reads_trans, rose_later, told_stays, touches_refl, touches_trans, touches_wider, reads_touches}
-use Rattle.pcap_file.specs.Reading.{OpensReader, to_come}
+use Rattle.pcap_file.specs.Capture.{HEAD}
+use Rattle.pcap_file.specs.Reading.{Reading, OpensReader, to_come}
 use Rattle.pcap_file.specs.declared.Budget.{Budget}
+use Rattle.pcap_file.specs.declared.CapFault.{CapFault}
 use Rattle.pcap_file.specs.declared.CapOpen.{CapOpen}
 use Rattle.pcap_file.specs.declared.CapOpen.TheVariants as opens
+use Rattle.pcap_file.proofs.lemmas.Numbers.{le_or_lt}
 use Rattle.fab_gather.specs.First.{opened_in}
 use Rattle.fab_gather.specs.declared.shelf.Input.{Input}
 use Rattle.fabric_tool.specs.Command.{Among}
@@ -50,17 +53,24 @@ module _ (port : ℕ) (name : List ℕ) (s : ℕ) (a b c : Seen) (had left : Bud
         ended = tt;
       }
 
-  failed_as : (e : CapOpen) → 24 ≤ had.bytes → OpensReader s b c had left (Err e) → HeadEnds port name a c (unopened_by e port)
-  failed_as (opens.Head fault) enough r = (refl, refl, λ told. record { bytes = b.left s; file = o.left told; fault = fault; says = r.refused (told_b told); word = refl })
-  failed_as (opens.Read f) enough r = rose_later _ _ _ o.reads.keeps.reads_rise (subst (λ n. Rose (b.read_faults n) (c.read_faults n)) o.opened.2 r.refused)
-  failed_as opens.Bytes enough r = let few = (r.bytes).0 refl in absurd (omega arith)
+  -- a fault of the head isn't told where the budget has no room for it
+  enough : (fault : CapFault) → (had.bytes < HEAD → (let r : Result Reading CapOpen = Err (opens.Head fault) in r) ≡ Err opens.Bytes) → HEAD ≤ had.bytes
+  enough fault none = elim (le_or_lt HEAD had.bytes) [
+    | inl le ↦ le
+    | inr lt ↦ absurd (let same = none lt in cc)
+  ]
 
-  pub head_failed : (e : CapOpen) (x : Outcome) → x ≡ unopened_by e port → 24 ≤ had.bytes → OpensReader s b c had left (Err e) → HeadRead port name a c had left (Err x)
-  head_failed e x is enough r = record {
+  failed_as : (e : CapOpen) → OpensReader s b c had left (Err e) → HeadEnds port name had.bytes a c (unopened_by e port)
+  failed_as (opens.Head fault) r = (refl, refl, enough fault (r.bytes).1, λ told. record { bytes = b.left s; file = o.left told; fault = fault; says = r.refused (told_b told); word = refl })
+  failed_as (opens.Read f) r = rose_later _ _ _ o.reads.keeps.reads_rise (subst (λ n. Rose (b.read_faults n) (c.read_faults n)) o.opened.2 r.refused)
+  failed_as opens.Bytes r = (refl, (r.bytes).0 refl)
+
+  pub head_failed : (e : CapOpen) (x : Outcome) → x ≡ unopened_by e port → OpensReader s b c had left (Err e) → HeadRead port name a c had left (Err x)
+  head_failed e x is r = record {
     reads = all_reads r.reads;
     head = tt;
     taken = tt;
-    ended = subst (HeadEnds port name a c) (sym is) (failed_as e enough r);
+    ended = subst (HeadEnds port name had.bytes a c) (sym is) (failed_as e r);
   }
 
 -- ---- all captures
@@ -164,9 +174,10 @@ module _ (names : List (List ℕ)) (a b : Seen) (ins : List Input) (had left : B
       touch_all : Reads name b d → Touches Nothing (Among all) a d
       touch_all reads = touches_wider Nothing (Among (names ++ name ∷ [])) Nothing (Among all) a d (λ m x. x) among_all (touch reads)
 
-      ended_as : port ≡ length names + 1 → (x : Outcome) → HeadEnds port name b d x → HeadsEnd all a d x
+      ended_as : port ≡ length names + 1 → (x : Outcome) → HeadEnds port name left.bytes b d x → HeadsEnd all had.bytes a d x
       ended_as number (ends.Capture p at reason) e = (
         e.1,
+        (let was = h.bytes in let is = e.0 in let room = e.2 in omega arith),
         λ told. record {
           before = names;
           name = name;
@@ -175,9 +186,16 @@ module _ (names : List (List ℕ)) (a b : Seen) (ins : List Input) (had left : B
           number = e.0 ∙ number;
           opened = opened_in b ins;
           heads = heads_opened a b names ins told h.heads;
-          without = let no = e.2 (told_now told) in record { bytes = no.bytes; file = sym (same_files name) ∙ no.file; fault = no.fault; says = no.says; word = no.word };
+          without = let no = e.3 (told_now told) in record { bytes = no.bytes; file = sym (same_files name) ∙ no.file; fault = no.fault; says = no.says; word = no.word };
         },
       )
+      ended_as number (ends.Limit kind) e =
+          let was = h.bytes in
+          let few = e.1 in (
+            e.0,
+            (let count = ap (λ (l : List (List ℕ)). length l) are in omega (arith, length-append names (name ∷ behind), count)),
+            λ told. record { before = names; name = name; behind = behind; are = are; opened = opened_in b ins; heads = heads_opened a b names ins told h.heads; above = omega arith },
+          )
       ended_as number ends.ReadFault e =
           rose_since a.read_faults b.read_faults d.read_faults h.touches.reads_rise all (rose_among b.read_faults d.read_faults all name (subst (λ l. Among l name) (sym are) (among_back names (name ∷ behind) name (inl refl))) e)
       ended_as number x e = absurd e

@@ -13,6 +13,7 @@ use Rattle.fab_config.specs.Settings.{Settings}
 use Rattle.fab_policy.specs.Logins.{counting}
 use Rattle.fabric_tool.specs.Checking.{JournalRead, JournalEnds, AreOpenInputs, OutputsRead, unread_by, GivenRead, GivenEnds}
 use Rattle.fabric_tool.specs.Command.{RunNames, are_pairs, run_of, show_of, names_of, port_count, output_at, Among, AnyRose}
+use Rattle.fabric_tool.specs.Inputs.{MOST_BYTES}
 use Rattle.fabric_tool.specs.Reading.{ConfigRead}
 use Rattle.fabric_tool.specs.declared.command.Width.{Width}
 use Rattle.fabric_tool.specs.declared.command.Width.TheVariants as widths
@@ -150,21 +151,21 @@ in_as {m} {n} {b} {d} {r} e o = subst (λ l. OpensIn {E = Failed} l b d r) e o
 
 -- ---- the configuration, and behind it the journal
 
-pub given_no_config : (k : RunNames) (room : ℕ) (a b : Seen) (x : Outcome) → ConfigRead k.config a b (Err x) → GivenRead k room a b (Err x)
-given_no_config k room a b x r = record {
+pub given_no_config : (k : RunNames) (a b : Seen) (x : Outcome) → ConfigRead k.config a b (Err x) → GivenRead k a b (Err x)
+given_no_config k a b x r = record {
   touches = touches_wider Nothing (Only k.config) Nothing (Among (k.config ∷ k.journal ∷ [])) a b (λ m y. y) (λ m y. inl y) (reads_touches k.config a b r.reads);
   given = tt;
   within = tt;
   ended = elim r.only [
-    | inl fault ↦ subst (GivenEnds k room a b) (sym fault.1) (λ told. r.fault told fault.0 fault.1)
+    | inl fault ↦ subst (GivenEnds k a b) (sym fault.1) (λ told. r.fault told fault.0 fault.1)
     | inr other ↦ elim other [
-      | inl failed ↦ subst (GivenEnds k room a b) (sym failed) (inl (r.cause (ap (λ (o : Outcome). let e : Result Settings Outcome = Err o in e) failed)))
-      | inr memory ↦ subst (GivenEnds k room a b) (sym memory) tt
+      | inl failed ↦ subst (GivenEnds k a b) (sym failed) (inl (r.cause (ap (λ (o : Outcome). let e : Result Settings Outcome = Err o in e) failed)))
+      | inr memory ↦ subst (GivenEnds k a b) (sym memory) tt
     ]
   ];
 }
 
-module _ (k : RunNames) (room : ℕ) (a b d : Seen) (c : Settings) (config : ConfigRead k.config a b (Ok c)) where
+module _ (k : RunNames) (a b d : Seen) (c : Settings) (config : ConfigRead k.config a b (Ok c)) where
   told_on : IsTrue a.told → IsTrue b.told
   told_on = told_stays k.config a b config.reads.keeps
 
@@ -173,7 +174,7 @@ module _ (k : RunNames) (room : ℕ) (a b d : Seen) (c : Settings) (config : Con
       (touches_wider Nothing (Only k.config) Nothing (Among (k.config ∷ k.journal ∷ [])) a b (λ m y. y) (λ m y. inl y) (reads_touches k.config a b config.reads))
       (touches_wider Nothing (Only k.journal) Nothing (Among (k.config ∷ k.journal ∷ [])) b d (λ m y. y) (λ m y. inr (inl y)) (reads_touches k.journal b d reads))
 
-  pub given_whole : (v : Vec ℕ Global) → JournalRead k.journal room b d (Ok v) → GivenRead k room a d (Ok (c, v))
+  pub given_whole : (v : Vec ℕ Global) → JournalRead k.journal MOST_BYTES b d (Ok v) → GivenRead k a d (Ok (c, v))
   given_whole v r = record {
     touches = touch_both r.reads;
     given = record { touches = touch_both r.reads; config = λ told. config.ok told; lines = λ told. sym (config.reads.files k.journal) ∙ r.ok (told_on told) };
@@ -181,10 +182,10 @@ module _ (k : RunNames) (room : ℕ) (a b d : Seen) (c : Settings) (config : Con
     ended = tt;
   }
 
-  pub given_unread : (x : Outcome) → JournalRead k.journal room b d (Err x) → GivenRead k room a d (Err x)
+  pub given_unread : (x : Outcome) → JournalRead k.journal MOST_BYTES b d (Err x) → GivenRead k a d (Err x)
   given_unread x r = record { touches = touch_both r.reads; given = tt; within = tt; ended = go x r.ended }
     where
-      go : (x : Outcome) → JournalEnds k.journal room b d x → GivenEnds k room a d x
+      go : (x : Outcome) → JournalEnds k.journal MOST_BYTES b d x → GivenEnds k a d x
       go (ends.Limit kind) e = (e.0, λ told. let l = e.1 (told_on told) in (c, config.ok told, l.0, sym (config.reads.files k.journal) ∙ l.1, l.2))
       go ends.ReadFault e = inr (inl (rose_later _ _ _ ((reads_touches k.config a b config.reads).reads_rise k.journal) e))
       go ends.Memory e = tt
@@ -203,5 +204,5 @@ pub outs_as : {T : Type 0} (items : T → List ℕ) (w v : Width) (words : List 
 outs_as {T} items w v words a b r e read = subst (λ (x : Width). OutputsRead {T = T} items (names_of x words) a b r) (sym e) read
 
 -- names that are words
-pub journal_as : {m n : List ℕ} {l limit : ℕ} {a b : Seen} {r : Result (Vec ℕ Global) Outcome} → m ≡ n → l ≡ limit → JournalRead m l a b r → JournalRead n limit a b r
-journal_as {m} {n} {l} {limit} {a} {b} {r} e f read = subst (λ (x : ℕ). JournalRead n x a b r) f (subst (λ x. JournalRead x l a b r) e read)
+pub journal_as : {m n : List ℕ} {a b : Seen} {r : Result (Vec ℕ Global) Outcome} → m ≡ n → JournalRead m MOST_BYTES a b r → JournalRead n MOST_BYTES a b r
+journal_as {m} {n} {a} {b} {r} e read = subst (λ x. JournalRead x MOST_BYTES a b r) e read

@@ -1,5 +1,5 @@
 -- A journal that names a run excludes each refusal of `replay` and of `show`.
-use Rattle.std.proofs.Common.{◌≡◌, ℕ, ◌+◌, ◌*◌, ◌<◌, ◌≤◌, ◌⊎◌, List, length, IsTrue, refl, sym, ap, ◌∙◌, subst, arith, inl, inr}
+use Rattle.std.proofs.Common.{◌≡◌, ℕ, ◌+◌, ◌-◌, ◌*◌, ◌≤◌, ◌⊎◌, List, ◌∷◌, length, length-append, IsTrue, refl, sym, ap, ◌∙◌, subst, arith, inl, inr}
 use Rattle.fab_base.specs.Seen.{Seen}
 use Rattle.fab_base.specs.Sunk.{Sunk}
 use Rattle.fab_config.specs.Settings.{Settings}
@@ -12,15 +12,20 @@ use Rattle.fab_replay.specs.Showing.{shown}
 use Rattle.fab_replay.proofs.ExactLemmas.{run_is_one, output_differs}
 use Rattle.fabric_tool.specs.Command.{RunNames, Replay, Show, ReadRose}
 use Rattle.fabric_tool.specs.Checking.{budget_of, matter_of, Finds, IsLegalJournal, IsShownJournal, IsLongJournal, ReplayHolds, ShowHolds}
-use Rattle.fabric_tool.specs.Inputs.{HasFault, HasBadHead, MOST_BYTES}
+use Rattle.fabric_tool.specs.Inputs.{HasFault, HasBadHead, HaveNoRoom, MOST_BYTES}
 use Rattle.fabric_tool.specs.Statuses.{IsQuiet}
 use Rattle.fabric_tool.specs.declared.outcome.Outcome.{Outcome}
 use Rattle.fabric_tool.specs.declared.outcome.Outcome.TheVariants as ends
 use Rattle.fabric_tool.proofs.ConfigLemmas.{same_text, one_value, no_fault}
 use Rattle.fabric_tool.proofs.FoundLemmas.{all_one, no_bad}
 
-pub above : (l m : List ℕ) (n : ℕ) → l ≡ m → length l + HEAD * n ≤ MOST_BYTES → MOST_BYTES < length m + HEAD * n → ⊥
-above l m n e within over = let same : length l ≡ length m = ap (λ (x : List ℕ). length x) e in omega (arith, same, within, over)
+-- where all heads have room, that of no port has none
+pub have_room : (names : List (List ℕ)) (d : Seen) (l m : List ℕ) → l ≡ m → length l + HEAD * length names ≤ MOST_BYTES → HaveNoRoom names d (MOST_BYTES - length m) → ⊥
+have_room names d l m e within no =
+    let same : length l ≡ length m = ap (λ (x : List ℕ). length x) e in
+    let count = ap (λ (x : List (List ℕ)). length x) no.are in
+    let over = no.above in
+    omega (arith, same, within, over, count, length-append no.before (no.name ∷ no.behind))
 
 module _ (k : RunNames) (d : Seen) where
   -- the files of a command are one matter
@@ -46,7 +51,7 @@ module _ (k : RunNames) (d : Seen) where
     no_head port why bad = no_bad k d f.settings f.opened port why f.matter.inputs bad
 
     no_long : IsLongJournal k d → ⊥
-    no_long l = above f.journal l.journal (length k.ins) (same_text d k.journal f.journal l.journal f.matter.lines l.lines) f.matter.within l.above
+    no_long l = have_room k.ins d f.journal l.journal (same_text d k.journal f.journal l.journal f.matter.lines l.lines) f.matter.within l.heads
 
   -- where the journal and the outputs are those of a run, the files say nothing else to `replay`
   module _ (entries : ℕ) (f : Finds k d (IsLegalJournal entries)) where

@@ -23,9 +23,9 @@ use Rattle.fab_windows.specs.Files.{Written, Wholes, Fronts}
 use Rattle.fab_windows.specs.Run.{AreGiven, IsRunOver, Runs, Finished, Stopped, Interrupted, keeps}
 use Rattle.fab_windows.specs.declared.Done.{Done}
 use Rattle.fab_replay.proofs.OneLemmas.{same_frames}
-use Rattle.fabric_tool.specs.Command.{RunNames, Run, are_pairs, run_of, port_count, Among, AnyRose, KeepsOthers}
+use Rattle.fabric_tool.specs.Command.{RunNames, Run, are_pairs, run_of, port_count, input_at, Among, AnyRose, KeepsOthers}
 use Rattle.fabric_tool.specs.Ends.{RunHolds}
-use Rattle.fabric_tool.specs.Inputs.{HasConfig, HasInputs, AreOpened, stop_of, kept_of, MOST_BYTES, MOST_FRAMES}
+use Rattle.fabric_tool.specs.Inputs.{HasConfig, HasInputs, AreOpened, stop_of, kept_of, LIMITS, MOST_BYTES, MOST_FRAMES}
 use Rattle.fabric_tool.specs.Left.{HoldsAll, HoldsFronts, AreOldOrFront, HasRun, HasStopped, HasPart, LegalIsSafe}
 use Rattle.fabric_tool.specs.Opening.{AreEmptyOutputs, Opens, ran_by}
 use Rattle.fabric_tool.specs.Reading.{AreHeads, ConfigRead, HeadsRead, HeadsEnd}
@@ -35,7 +35,7 @@ use Rattle.fabric_tool.proofs.AmongLemmas.{none_among, rose_among, rose_since}
 use Rattle.fabric_tool.proofs.CaptureLemmas.{whole_captures}
 use Rattle.fabric_tool.proofs.GivenLemmas.{outputs_count, written_among, read_among, slots_length, ins_count, outs_count, given}
 use Rattle.fabric_tool.proofs.HeadLemmas.{heads_still, heads_since, heads_count, heads_opened}
-use Rattle.fabric_tool.proofs.NameLemmas.{pairs, inputs_apart}
+use Rattle.fabric_tool.proofs.NameLemmas.{pairs, inputs_apart, length-counted}
 use Rattle.fabric_tool.proofs.PartLemmas.{empty_part}
 
 le_trans : {x y z : ℕ} → x ≤ y → y ≤ z → x ≤ z
@@ -66,6 +66,10 @@ opened_since old b same (n ∷ names) [] are = absurd are
 opened_since old b same (n ∷ names) (o ∷ opened) are =
     (record { bytes = are.0.bytes; file = sym (same n) ∙ are.0.file; head = are.0.head; body = are.0.body }, opened_since old b same names opened are.1)
 
+-- the heads of all ports are within the limit
+pub room_in : (words : List (String Global)) → are_pairs words ≡ true → HEAD * length (run_of words).ins ≤ MOST_BYTES
+room_in words run = let n = length-counted (input_at words) 0 (port_count words) in let few = (pairs words run).few in omega arith
+
 -- the configuration was read, and a head can't be
 module _ (k : RunNames) (c : Settings) (old b new : Seen) (config : ConfigRead k.config old b (Ok c)) where
   told_b : IsTrue old.told → IsTrue b.told
@@ -74,17 +78,17 @@ module _ (k : RunNames) (c : Settings) (old b new : Seen) (config : ConfigRead k
   touched : Touches Nothing (Only k.config) old b
   touched = reads_touches k.config old b config.reads
 
-  pub heads_ended : (had left : Budget) (x : Outcome) → HeadsRead k.ins b new had left (Err x) → RunHolds k old new x
-  heads_ended had left x read = go x read.ended
+  pub heads_ended : HEAD * length k.ins ≤ MOST_BYTES → (left : Budget) (x : Outcome) → HeadsRead k.ins b new LIMITS left (Err x) → RunHolds k old new x
+  heads_ended room left x read = go x read.ended
     where
       same : SameFiles old new
       same m = read.touches.files m (λ y. y) ∙ config.reads.files m
 
-      go : (x : Outcome) → HeadsEnd k.ins b new x → RunHolds k old new x
+      go : (x : Outcome) → HeadsEnd k.ins MOST_BYTES b new x → RunHolds k old new x
       go (ends.Capture port at reason) e = (
         λ m none. same m,
         λ told.
-            let f = e.1 (told_b told) in
+            let f = e.2 (told_b told) in
             inl (
               same,
               e.0,
@@ -104,6 +108,7 @@ module _ (k : RunNames) (c : Settings) (old b new : Seen) (config : ConfigRead k
               },
             ),
       )
+      go (ends.Limit kind) e = let few = e.1 in absurd (omega arith)
       go ends.ReadFault e = (λ m none. same m, inr (rose_since old.read_faults b.read_faults new.read_faults touched.reads_rise k.ins e), λ told. inl same)
       go ends.Memory e = (λ m none. same m, λ told. inl same)
       go x e = absurd e

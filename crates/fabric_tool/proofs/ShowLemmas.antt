@@ -1,19 +1,18 @@
 -- How `replay` and `show` end, by how their check ended.
-use Rattle.std.proofs.Common.{◌≡◌, ℕ, ◌+◌, ◌-◌, ◌*◌, ◌<◌, ◌≤◌, List, [], ◌++◌, length, true, Ok, Err, ap, ◌∙◌, arith, inl}
+use Rattle.std.proofs.Common.{◌≡◌, ℕ, ◌+◌, ◌-◌, ◌*◌, ◌<◌, ◌≤◌, List, [], ◌∷◌, ◌++◌, length, true, Ok, Err, refl, ap, ◌∙◌, arith, inl}
 use Rattle.std.specs.Prelude.{String}
 use Rattle.std.specs.declared.alloc.Global.{Global}
 use Rattle.fab_base.specs.Seen.{Seen, SameFiles}
 use Rattle.fab_config.specs.Settings.{Settings}
-use Rattle.pcap_file.specs.Capture.{HEAD}
 use Rattle.pcap_file.specs.declared.Budget.{Budget}
 use Rattle.fab_policy.specs.Journal.{Journal}
 use Rattle.fab_policy.specs.Standing.{Contents, Stands}
 use Rattle.fab_policy.specs.State.{tables_of}
 use Rattle.fab_replay.specs.Check.{Matter}
 use Rattle.fab_replay.specs.Showing.{shown_by}
-use Rattle.fabric_tool.specs.Checking.{Finds, IsStanding, IsLegalJournal, IsShownJournal, IsChecked, CheckHolds, ReplayHolds, ShowHolds, GivenRead, GivenEnds, Tells, room_for}
+use Rattle.fabric_tool.specs.Checking.{Finds, IsStanding, IsLegalJournal, IsShownJournal, IsChecked, CheckHolds, ReplayHolds, ShowHolds, GivenRead, GivenEnds, Tells}
 use Rattle.fabric_tool.specs.Command.{RunNames, Replay, Show, are_ports, names_of, show_of, input_of, count_of}
-use Rattle.fabric_tool.specs.Inputs.{MOST_BYTES}
+use Rattle.fabric_tool.specs.Inputs.{HaveNoRoom, MOST_BYTES}
 use Rattle.fabric_tool.specs.declared.command.Width.{Width}
 use Rattle.fabric_tool.specs.declared.command.Width.TheVariants as widths
 use Rattle.fabric_tool.specs.declared.outcome.Outcome.{Outcome}
@@ -23,26 +22,32 @@ use Rattle.fabric_tool.proofs.NameLemmas.{ports, length-counted}
 
 -- ---- before the check
 
-long_journal : (n length_ count : ℕ) → count ≤ 64 → n ≡ count → MOST_BYTES - HEAD * count < length_ → MOST_BYTES < length_ + HEAD * n
-long_journal n length_ count few is above = omega arith
+-- a journal that is too long alone leaves no room for the first head
+long_journal : (d : Seen) (names : List (List ℕ)) (journal : List ℕ) → 1 ≤ length names → MOST_BYTES < length journal → HaveNoRoom names d (MOST_BYTES - length journal)
+long_journal d [] journal some above = absurd (omega arith)
+long_journal d (name ∷ names) journal some above = record { before = []; name = name; behind = names; are = refl; opened = []; heads = tt; above = omega arith }
 
 -- the configuration or the journal can't be read
-pub given_ended : (w : Width) (words : List (String Global)) → are_ports w words ≡ true → (a z : Seen) (x : Outcome) → GivenRead (names_of w words) (room_for w words) a z (Err x) → IsChecked w (names_of w words) a z (Err x)
+pub given_ended : (w : Width) (words : List (String Global)) → are_ports w words ≡ true → (a z : Seen) (x : Outcome) → GivenRead (names_of w words) a z (Err x) → IsChecked w (names_of w words) a z (Err x)
 given_ended w words run a z x r = go x r.ended
   where
     same : SameFiles a z
     same m = r.touches.files m (λ y. y)
 
-    names_count : length (names_of w words).ins ≡ count_of w words
-    names_count = ap (λ (l : List (List ℕ)). length l) (ins_named w words) ∙ length-counted (input_of w words) 0 (count_of w words)
+    some : 1 ≤ length (names_of w words).ins
+    some =
+        let named = ap (λ (l : List (List ℕ)). length l) (ins_named w words) in
+        let count = length-counted (input_of w words) 0 (count_of w words) in
+        let ports_some = (ports w words run).some in
+        omega arith
 
-    go : (x : Outcome) → GivenEnds (names_of w words) (room_for w words) a z x → IsChecked w (names_of w words) a z (Err x)
+    go : (x : Outcome) → GivenEnds (names_of w words) a z x → IsChecked w (names_of w words) a z (Err x)
     go (ends.Config fault) e = (same, λ told. e told)
     go (ends.Limit kind) e = (
       same,
       λ told.
           let l = e.1 told in
-          inl (e.0, record { settings = l.0; config = l.1; journal = l.2; lines = l.3; above = long_journal (length (names_of w words).ins) (length l.2) (count_of w words) (ports w words run).few names_count l.4 }),
+          inl (e.0, record { settings = l.0; config = l.1; journal = l.2; lines = l.3; heads = long_journal a (names_of w words).ins l.2 some l.4 }),
     )
     go ends.ReadFault e = (same, rose_given w words a z e)
     go ends.Memory e = same

@@ -19,10 +19,10 @@ use Rattle.fab_replay.specs.Check.{Matter, NamesRun, AreSent, IsLegal, IsFirstLi
 use Rattle.fab_replay.specs.Showing.{shown, shown_by}
 use Rattle.fab_replay.specs.declared.fault.CheckFault.{CheckFault}
 use Rattle.fab_replay.specs.declared.fault.CheckFault.TheVariants as checks
-use Rattle.fabric_tool.specs.Command.{RunNames, Command, Replay, Show, AnyRose, Among, ReadRose, count_of}
+use Rattle.fabric_tool.specs.Command.{RunNames, Command, Replay, Show, AnyRose, Among, ReadRose}
 use Rattle.fabric_tool.specs.declared.command.Width.{Width}
 use Rattle.fabric_tool.specs.declared.command.Width.TheVariants as widths
-use Rattle.fabric_tool.specs.Inputs.{HasConfig, HasFault, HasInputs, HasBadHead, MOST_BYTES, MOST_FRAMES}
+use Rattle.fabric_tool.specs.Inputs.{HasConfig, HasFault, HasInputs, HasBadHead, HaveNoRoom, MOST_BYTES, MOST_FRAMES}
 use Rattle.fabric_tool.specs.declared.outcome.Outcome.{Outcome}
 use Rattle.fabric_tool.specs.declared.outcome.Outcome.TheVariants as ends
 
@@ -57,21 +57,22 @@ pub record Finds (k : RunNames) (d : Seen) (P : Settings → Budget → Matter �
 abbrev pub IsLegalJournal : ℕ → Settings → Budget → Matter → Type 0
 IsLegalJournal entries c budget m = IsLegal c budget m entries
 
--- The journal, and 24 bytes for the head of each capture, pass the limit on bytes.
+-- The journal and the heads of the captures, which are read in port order, pass the limit on bytes at a head before which no
+-- capture is without one.
 pub record IsLongJournal (k : RunNames) (d : Seen) : Type 0 where
   pub settings : Settings
   pub config : HasConfig d k.config settings
   pub journal : List ℕ
   pub lines : d.file k.journal ≡ Some journal
-  pub above : MOST_BYTES < length journal + HEAD * length k.ins
+  pub heads : HaveNoRoom k.ins d (MOST_BYTES - length journal)
 
--- That port's capture is the first without a head, and the journal, with 24 bytes for the head of each capture, is within the
--- limit on bytes.
+-- That port's capture is the first without a head, and the journal, with 24 bytes for each head up to its own, is within the limit
+-- on bytes.
 pub record IsHeadRefused (k : RunNames) (d : Seen) (port : ℕ) (reason : CapWhy) : Type 0 where
   pub head : HasBadHead k d port reason
   pub journal : List ℕ
   pub lines : d.file k.journal ≡ Some journal
-  pub within : length journal + HEAD * length k.ins ≤ MOST_BYTES
+  pub within : length journal + HEAD * port ≤ MOST_BYTES
 
 -- The journal names a run over whole captures, and this is what is shown of it.
 pub record IsShownJournal (text : List ℕ) (c : Settings) (budget : Budget) (m : Matter) : Type 0 where
@@ -81,8 +82,8 @@ pub record IsShownJournal (text : List ℕ) (c : Settings) (budget : Budget) (m 
 
 -- ---- how `replay` and `show` end
 
--- What the files say where one of them ends so: the first fault in the order configuration, bytes of the journal, heads of the
--- captures, then window by window a stop of the captures and the lines, and then the outputs.
+-- What the files say where one of them ends so: the first fault in the order configuration, bytes of the journal, port by port the
+-- bytes of the head and the head, then window by window a stop of the captures and the lines, and then the outputs.
 abbrev pub CheckSays : RunNames → Seen → Outcome → Type 0
 CheckSays k d (ends.Legal entries) = Finds k d (IsLegalJournal entries)
 CheckSays k d (ends.Shown text) = Finds k d (IsShownJournal text)
@@ -160,17 +161,13 @@ pub record OutputsRead {T : Type 0} (items : T → List ℕ) (k : RunNames) (old
   pub slots : IfOk result (λ o. AreOpenInputs old new k.outs (items o))
   pub cause : OnErr result (AnyRose old.read_faults new.read_faults k.outs)
 
--- how many bytes a journal may have
-abbrev pub room_for : Width → List (String Global) → ℕ
-room_for width words = MOST_BYTES - HEAD * count_of width words
-
 -- what an outcome says of reading the configuration and the journal
-abbrev pub GivenEnds : RunNames → ℕ → Seen → Seen → Outcome → Type 0
-GivenEnds k room old new (ends.Config fault) = IsTrue old.told → HasFault old k.config fault
-GivenEnds k room old new (ends.Limit kind) = (kind ≡ kinds.Bytes) × (IsTrue old.told → (c : Settings) × HasConfig old k.config c × (l : List ℕ) × (old.file k.journal ≡ Some l) × (room < length l))
-GivenEnds k room old new ends.ReadFault = AnyRose old.read_faults new.read_faults (k.config ∷ k.journal ∷ [])
-GivenEnds k room old new ends.Memory = Unit {0}
-GivenEnds k room old new _ = ⊥
+abbrev pub GivenEnds : RunNames → Seen → Seen → Outcome → Type 0
+GivenEnds k old new (ends.Config fault) = IsTrue old.told → HasFault old k.config fault
+GivenEnds k old new (ends.Limit kind) = (kind ≡ kinds.Bytes) × (IsTrue old.told → (c : Settings) × HasConfig old k.config c × (l : List ℕ) × (old.file k.journal ≡ Some l) × (MOST_BYTES < length l))
+GivenEnds k old new ends.ReadFault = AnyRose old.read_faults new.read_faults (k.config ∷ k.journal ∷ [])
+GivenEnds k old new ends.Memory = Unit {0}
+GivenEnds k old new _ = ⊥
 
 -- what stands when both were read
 pub record HasGiven (k : RunNames) (c : Settings) (journal : List ℕ) (old now : Seen) : Type 0 where
@@ -178,11 +175,11 @@ pub record HasGiven (k : RunNames) (c : Settings) (journal : List ℕ) (old now 
   pub config : IsTrue old.told → HasConfig old k.config c
   pub lines : IsTrue old.told → old.file k.journal ≡ Some journal
 
-pub record GivenRead (k : RunNames) (room : ℕ) (old new : Seen) (result : Result (Settings × Vec ℕ Global) Outcome) : Type 0 where
+pub record GivenRead (k : RunNames) (old new : Seen) (result : Result (Settings × Vec ℕ Global) Outcome) : Type 0 where
   pub touches : Touches Nothing (Among (k.config ∷ k.journal ∷ [])) old new
   pub given : IfOk result (λ g. HasGiven k g.0 g.1.items old new)
-  pub within : IfOk result (λ g. length g.1.items ≤ room)
-  pub ended : IfErr result (GivenEnds k room old new)
+  pub within : IfOk result (λ g. length g.1.items ≤ MOST_BYTES)
+  pub ended : IfErr result (GivenEnds k old new)
 
 -- the command by how many names a port has
 abbrev pub command_of : Width → RunNames → Command

@@ -1,5 +1,5 @@
 -- What a command finds in its inputs.
-use Rattle.std.specs.Prelude.{◌≡◌, ℕ, ◌+◌, ◌-◌, ◌*◌, List, [], ◌∷◌, ◌++◌, length, map, drop, Option, Some, Ok, Err}
+use Rattle.std.specs.Prelude.{◌≡◌, ℕ, ◌+◌, ◌-◌, ◌*◌, ◌<◌, List, [], ◌∷◌, ◌++◌, length, map, drop, Option, Some, Ok, Err}
 use Rattle.fab_base.specs.Seen.{Seen}
 use Rattle.pcap_file.specs.declared.Budget.{Budget}
 use Rattle.pcap_file.specs.declared.CapFault.{CapFault}
@@ -112,6 +112,17 @@ pub record IsFirstWithout (names : List (List ℕ)) (d : Seen) (port : ℕ) (rea
   pub opened : List Opened
   pub heads : AreOpened d before opened
   pub without : HasNoHead d name reason
+
+-- Of captures whose heads are read in their order, those before some name have heads, and the heads up to its own are more than so
+-- many bytes.
+pub record HaveNoRoom (names : List (List ℕ)) (d : Seen) (bytes : ℕ) : Type 0 where
+  pub before : List (List ℕ)
+  pub name : List ℕ
+  pub behind : List (List ℕ)
+  pub are : names ≡ before ++ name ∷ behind
+  pub opened : List Opened
+  pub heads : AreOpened d before opened
+  pub above : bytes < HEAD * (length before + 1)
 
 -- The configuration has a value, and that port's capture is the first without a head.
 pub record HasBadHead (k : RunNames) (d : Seen) (port : ℕ) (reason : CapWhy) : Type 0 where

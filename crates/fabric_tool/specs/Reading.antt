@@ -1,5 +1,5 @@
 -- What reading an input answers.
-use Rattle.std.specs.Prelude.{◌≡◌, ℕ, ◌+◌, ◌*◌, ◌⊎◌, IsTrue, List, [], ◌∷◌, length, Ok, Err, Result, IfOk, IfErr, IsErrOf, Vec}
+use Rattle.std.specs.Prelude.{◌≡◌, ℕ, ◌+◌, ◌*◌, ◌<◌, ◌≤◌, ◌⊎◌, IsTrue, List, [], ◌∷◌, length, Ok, Err, Result, IfOk, IfErr, IsErrOf, Vec}
 use Rattle.std.specs.declared.alloc.Global.{Global}
 use Rattle.fab_base.specs.Seen.{Seen, Reads, Rose, Touches, Nothing}
 use Rattle.fab_config.specs.Settings.{Settings}
@@ -17,7 +17,7 @@ use Rattle.fab_gather.specs.declared.fault.LimitKind.TheVariants as kinds
 use Rattle.fab_migrate.specs.declared.old.OldError.{OldError}
 use Rattle.fab_migrate.specs.declared.old.OldError.TheVariants as olds
 use Rattle.fabric_tool.specs.Command.{AnyRose, Among}
-use Rattle.fabric_tool.specs.Inputs.{HasConfig, HasFault, IsOpened, HasNoHead, IsFirstWithout, why_of}
+use Rattle.fabric_tool.specs.Inputs.{HasConfig, HasFault, IsOpened, HasNoHead, IsFirstWithout, HaveNoRoom, why_of}
 use Rattle.fabric_tool.specs.Outcome.{kind_of}
 use Rattle.fabric_tool.specs.declared.outcome.Outcome.{Outcome}
 use Rattle.fabric_tool.specs.declared.outcome.Outcome.TheVariants as ends
@@ -59,18 +59,19 @@ pub record IsHead (old d : Seen) (name : List ℕ) (i : Input) : Type 0 where
   pub fresh : IsFresh i.reader
   pub opened : IsTrue old.told → IsOpened old name (opened_by d i.slot i.reader)
 
--- what an outcome says of reading the head of a port's capture
-abbrev pub HeadEnds : ℕ → List ℕ → Seen → Seen → Outcome → Type 0
-HeadEnds port name old new (ends.Capture p at reason) = (p ≡ port) × (at ≡ 0) × (IsTrue old.told → HasNoHead old name reason)
-HeadEnds port name old new ends.ReadFault = Rose (old.read_faults name) (new.read_faults name)
-HeadEnds port name old new _ = ⊥
+-- what an outcome says of reading the head of a port's capture within so many bytes
+abbrev pub HeadEnds : ℕ → List ℕ → ℕ → Seen → Seen → Outcome → Type 0
+HeadEnds port name bytes old new (ends.Capture p at reason) = (p ≡ port) × (at ≡ 0) × (HEAD ≤ bytes) × (IsTrue old.told → HasNoHead old name reason)
+HeadEnds port name bytes old new (ends.Limit kind) = (kind ≡ kinds.Bytes) × (bytes < HEAD)
+HeadEnds port name bytes old new ends.ReadFault = Rose (old.read_faults name) (new.read_faults name)
+HeadEnds port name bytes old new _ = ⊥
 
 -- the head of a port's capture
 pub record HeadRead (port : ℕ) (name : List ℕ) (old new : Seen) (had left : Budget) (result : Result Input Outcome) : Type 0 where
   pub reads : Reads name old new
   pub head : IfOk result (λ i. IsHead old new name i)
   pub taken : IfOk result (λ i. (left.bytes + HEAD ≡ had.bytes) × (left.frames ≡ had.frames))
-  pub ended : IfErr result (HeadEnds port name old new)
+  pub ended : IfErr result (HeadEnds port name had.bytes old new)
 
 -- ---- the heads of all captures
 
@@ -81,19 +82,20 @@ AreHeads old d [] (i ∷ ins) = ⊥
 AreHeads old d (name ∷ names) [] = ⊥
 AreHeads old d (name ∷ names) (i ∷ ins) = IsHead old d name i × AreHeads old d names ins
 
--- what an outcome says of reading them
-abbrev pub HeadsEnd : List (List ℕ) → Seen → Seen → Outcome → Type 0
-HeadsEnd names old new (ends.Capture port at reason) = (at ≡ 0) × (IsTrue old.told → IsFirstWithout names old port reason)
-HeadsEnd names old new ends.ReadFault = AnyRose old.read_faults new.read_faults names
-HeadsEnd names old new ends.Memory = Unit {0}
-HeadsEnd names old new _ = ⊥
+-- what an outcome says of reading them within so many bytes
+abbrev pub HeadsEnd : List (List ℕ) → ℕ → Seen → Seen → Outcome → Type 0
+HeadsEnd names bytes old new (ends.Capture port at reason) = (at ≡ 0) × (HEAD * port ≤ bytes) × (IsTrue old.told → IsFirstWithout names old port reason)
+HeadsEnd names bytes old new (ends.Limit kind) = (kind ≡ kinds.Bytes) × (bytes < HEAD * length names) × (IsTrue old.told → HaveNoRoom names old bytes)
+HeadsEnd names bytes old new ends.ReadFault = AnyRose old.read_faults new.read_faults names
+HeadsEnd names bytes old new ends.Memory = Unit {0}
+HeadsEnd names bytes old new _ = ⊥
 
 -- the heads of the captures under these names, in their order
 pub record HeadsRead (names : List (List ℕ)) (old new : Seen) (had left : Budget) (result : Result (Vec Input Global) Outcome) : Type 0 where
   pub touches : Touches Nothing (Among names) old new
   pub heads : IfOk result (λ v. AreHeads old new names v.items)
   pub taken : IfOk result (λ v. (left.bytes + HEAD * length names ≡ had.bytes) × (left.frames ≡ had.frames))
-  pub ended : IfErr result (HeadsEnd names old new)
+  pub ended : IfErr result (HeadsEnd names had.bytes old new)
 
 -- ---- a pcapng file
 

@@ -1,5 +1,5 @@
 //! The heads of the captures.
-ghost use Rattle.std.specs.Prelude.{◌≡◌, ◌≤◌, ◌*◌, IsTrue, true};
+ghost use Rattle.std.specs.Prelude.{◌≡◌, IsTrue, true};
 ghost use Rattle.fabric_tool.specs.Command as spec;
 ghost use Rattle.fabric_tool.specs.Inputs.{why_of};
 ghost use Rattle.fabric_tool.specs.Reading.{HeadRead, HeadsRead, unopened_by};
@@ -11,7 +11,8 @@ use fab_windows::{CapWhy, Input, LimitKind};
 use pcap_file::{Budget, CapFault, CapOpen, Reader};
 use std::alloc::Global;
 
-/// Opens the captures of all ports, in port order, and reads their heads.
+/// Opens the captures of all ports, in port order, and reads their heads. Each takes 24 bytes from
+/// the budget, and is told as past it before it is looked at.
 pub(crate) fn heads_of<D: Depot>(
     alloc: Global,
     depot: &mut D,
@@ -21,7 +22,6 @@ pub(crate) fn heads_of<D: Depot>(
 ) -> Result<Vec<Input>, Outcome>
     requires ports { spec.are_ports width words.now ≡ true }
     requires known { spec.AllKnown (D.seen depot.old) words.now }
-    requires bytes { 24 * spec.count_of width words.now ≤ budget.old.bytes }
     ensures reads { HeadsRead (spec.ins_of width words.now) (D.seen depot.old) (D.seen depot.new)
         budget.old budget.new result }
 {
@@ -47,7 +47,6 @@ fn head_of<D: Depot>(
     budget: &mut Budget,
 ) -> Result<Input, Outcome>
     requires known { IsTrue ((D.seen depot.old).knows name.now) }
-    requires bytes { 24 ≤ budget.old.bytes }
     ensures reads { HeadRead port name.now (D.seen depot.old) (D.seen depot.new)
         budget.old budget.new result }
 {

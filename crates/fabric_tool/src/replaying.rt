@@ -3,8 +3,9 @@ ghost use Rattle.std.specs.Prelude.{◌≡◌, ◌≤◌, true, length, IsTrue};
 ghost use Rattle.fab_base.specs.Seen.{Seen};
 ghost use Rattle.fabric_tool.specs.Checking.{GivenRead, HasGiven, IsChecked, JournalRead};
 ghost use Rattle.fabric_tool.specs.Checking.{OutputsRead, ReplayHolds, ShowHolds, Tells};
-ghost use Rattle.fabric_tool.specs.Checking.{refused_by, room_for, unread_by};
+ghost use Rattle.fabric_tool.specs.Checking.{refused_by, unread_by};
 ghost use Rattle.fabric_tool.specs.Command as spec;
+ghost use Rattle.fabric_tool.specs.Inputs as limits;
 
 use crate::command::{MOST_PORTS, Width, count_of, output_at, port_count};
 use crate::heads::heads_of;
@@ -22,9 +23,6 @@ use fab_windows::LimitKind;
 use forward_core::Fabric;
 use pcap_file::Budget;
 use std::alloc::Global;
-
-/// How many bytes the head of a capture has.
-const HEAD: u64 = 24;
 
 /// Checks a journal against the captures of all ports, and then the outputs.
 pub(crate) fn replay<D: Depot>(alloc: Global, words: &[String], depot: &mut D) -> Outcome
@@ -84,8 +82,7 @@ fn checked<D: Depot>(
     check(alloc, words, depot, width, config, &journal)
 }
 
-// The configuration, and behind it the journal, which is read whole. Its bytes and those of the
-// captures are within one limit.
+// The configuration, and behind it the journal, which is read whole.
 fn given<D: Depot>(
     alloc: Global,
     depot: &mut D,
@@ -94,21 +91,20 @@ fn given<D: Depot>(
 ) -> Result<(Config, Vec<u8>), Outcome>
     requires ports { spec.are_ports width words.now ≡ true }
     requires known { spec.AllKnown (D.seen depot.old) words.now }
-    ensures reads { GivenRead (spec.names_of width words.now) (room_for width words.now)
-        (D.seen depot.old) (D.seen depot.new) result }
+    ensures reads { GivenRead (spec.names_of width words.now) (D.seen depot.old)
+        (D.seen depot.new) result }
 {
     let config = match config_of(alloc, depot, word_at(words, 1)) {
         Ok(config) => config,
         Err(outcome) => return Err(outcome),
     };
-    let room = MOST_BYTES - HEAD * count_of(words, width) as u64;
-    match journal_of(alloc, depot, word_at(words, 2), room) {
+    match journal_of(alloc, depot, word_at(words, 2), MOST_BYTES) {
         Ok(journal) => Ok((config, journal)),
         Err(outcome) => Err(outcome),
     }
 }
 
-// Checks a journal that was read.
+// Checks a journal that was read. Its bytes and those of the captures are within one limit.
 fn check<D: Depot>(
     alloc: Global,
     words: &[String],
@@ -119,7 +115,7 @@ fn check<D: Depot>(
 ) -> Result<(Fabric, u64), Outcome>
     requires ports { spec.are_ports width words.now ≡ true }
     requires known { spec.AllKnown (D.seen depot.old) words.now }
-    requires room { length journal.now ≤ room_for width words.now }
+    requires room { length journal.now ≤ limits.MOST_BYTES }
     ensures checks { (a : Seen) → HasGiven (spec.names_of width words.now) config journal.now a
         (D.seen depot.old) → IsChecked width (spec.names_of width words.now) a (D.seen depot.new)
         result }

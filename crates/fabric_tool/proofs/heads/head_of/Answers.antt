@@ -6,4 +6,4 @@ pub returns-in-Ok-open : goal.returns-in-Ok-open
 returns-in-Ok-open g c = record { reads = head_opened c.args.port c.args.name.now c.in-Ok.slot _ _ _ _ _ c.in-Ok.ensures.opens _ refl c.in-Ok-open.ensures.opens }
 
 pub returns-in-Err : goal.returns-in-Err
-returns-in-Err g c = record { reads = head_failed c.args.port c.args.name.now c.in-Ok.slot _ _ _ c.args.budget.now _ c.in-Ok.ensures.opens c.in-Err.error c.unopened.result c.unopened.ensures c.requires.bytes c.in-Err.ensures.opens }
+returns-in-Err g c = record { reads = head_failed c.args.port c.args.name.now c.in-Ok.slot _ _ _ c.args.budget.now _ c.in-Ok.ensures.opens c.in-Err.error c.unopened.result c.unopened.ensures c.in-Err.ensures.opens }

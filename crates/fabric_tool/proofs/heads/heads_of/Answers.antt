@@ -1,20 +1,9 @@
 use Rattle.std.proofs.Common.{◌+◌, ◌<◌, List, sym, subst, arith}
 use Rattle.fab_gather.specs.declared.shelf.Input.{Input}
-use Rattle.fabric_tool.specs.Command.{count_of, input_of}
+use Rattle.fabric_tool.specs.Command.{count_of}
 use Rattle.fabric_tool.proofs.HeadLemmas.{HeadsSoFar}
-use Rattle.fabric_tool.proofs.NameLemmas.{length-counted}
 use Rattle.fabric_tool.proofs.PortLoops.{input_names, head_as, head_more, head_ended, head_no_room}
 use Rattle.fabric_tool.proofs.heads.heads_of.Goals as goal
-
-pub head_of-requires-clause-bytes : goal.head_of-requires-clause-bytes
-head_of-requires-clause-bytes g c =
-    let count = length-counted (input_of c.args.width c.args.words.now) 0 c.loop-port.port in
-    let t = c.loop-port-test.true in
-    let v = c.count_of-port-end.ensures.value in
-    let r = c.count_of-port-end.ensures.range.1 in
-    let b = c.loop-port.invariant.bytes in
-    let e = c.requires.bytes in
-    omega arith
 
 pub returns-in-Err : goal.returns-in-Err
 returns-in-Err g c =

@@ -1,17 +1,12 @@
-use Rattle.std.proofs.Common.{◌-◌, length, [], Err, refl, sym, ap, ◌∙◌, subst, arith}
+use Rattle.std.proofs.Common.{◌-◌, length, [], Err, refl, sym, ap, ◌∙◌, subst}
 use Rattle.pcap_file.specs.declared.Budget.{Budget}
 use Rattle.fab_policy.specs.Outputs.{state_of}
 use Rattle.fabric_tool.specs.Command.{names_of}
 use Rattle.fabric_tool.specs.Checking.{IsChecked}
 use Rattle.fabric_tool.specs.Inputs.{MOST_BYTES, MOST_FRAMES}
 use Rattle.fabric_tool.proofs.CheckLemmas.{heads_ended, outs_ended, no_fabric, checks_as, check_done, check_refused}
-use Rattle.fabric_tool.proofs.NameLemmas.{ports}
 use Rattle.fabric_tool.proofs.SlotLemmas.{handed}
 use Rattle.fabric_tool.proofs.replaying.check.Goals as goal
-
--- heads_of wants 24 bytes a port: the room that the journal leaves
-pub heads_of-requires-clause-bytes : goal.heads_of-requires-clause-bytes
-heads_of-requires-clause-bytes g c = let r = c.requires.room in let few = (ports c.args.width c.args.words.now c.requires.ports).few in omega arith
 
 pub returns-in-Err : goal.returns-in-Err
 returns-in-Err g c =

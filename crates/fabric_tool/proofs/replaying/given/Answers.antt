@@ -1,8 +1,5 @@
-use Rattle.std.proofs.Common.{ℕ, ◌-◌, ◌*◌, sym, ap, ◌∙◌}
-use Rattle.pcap_file.specs.Capture.{HEAD}
-use Rattle.fabric_tool.specs.Checking.{room_for}
+use Rattle.std.proofs.Common.{sym, ◌∙◌}
 use Rattle.fabric_tool.specs.Command.{names_of}
-use Rattle.fabric_tool.specs.Inputs.{MOST_BYTES}
 use Rattle.fabric_tool.proofs.JournalLemmas.{given_no_config, given_whole, given_unread, journal_as, config_named, journal_named}
 use Rattle.fabric_tool.proofs.RanLemmas.{config_as}
 use Rattle.fabric_tool.proofs.replaying.given.Goals as goal
@@ -12,17 +9,16 @@ returns-in-Err g c =
     let seen = g.D.Depot.seen in
     let w = c.args.width in
     let words = c.args.words.now in
-    record { reads = given_no_config (names_of w words) (room_for w words) (seen c.args.depot.now) (seen c.config_of.new.depot) c.in-Err.outcome (config_as (c.word_at.ensures ∙ sym (config_named w words)) c.in-Err.ensures.reads) }
+    record { reads = given_no_config (names_of w words) (seen c.args.depot.now) (seen c.config_of.new.depot) c.in-Err.outcome (config_as (c.word_at.ensures ∙ sym (config_named w words)) c.in-Err.ensures.reads) }
 
 pub returns-in-Ok-journal_of : goal.returns-in-Ok-journal_of
 returns-in-Ok-journal_of g c =
     let seen = g.D.Depot.seen in
     let w = c.args.width in
     let words = c.args.words.now in
-    let room = ap (λ (n : ℕ). MOST_BYTES - HEAD * n) c.count_of.ensures.value in
     record {
-      reads = given_whole (names_of w words) (room_for w words) (seen c.args.depot.now) (seen c.config_of.new.depot) (seen c.journal_of.new.depot) c.in-Ok.config (config_as (c.word_at.ensures ∙ sym (config_named w words)) c.in-Ok.ensures.reads)
-          c.in-Ok-journal_of.journal (journal_as (c.word_at-2.ensures ∙ sym (journal_named w words)) room c.in-Ok-journal_of.ensures.reads);
+      reads = given_whole (names_of w words) (seen c.args.depot.now) (seen c.config_of.new.depot) (seen c.journal_of.new.depot) c.in-Ok.config (config_as (c.word_at.ensures ∙ sym (config_named w words)) c.in-Ok.ensures.reads)
+          c.in-Ok-journal_of.journal (journal_as (c.word_at-2.ensures ∙ sym (journal_named w words)) c.in-Ok-journal_of.ensures.reads);
     }
 
 pub returns-in-Err-journal_of : goal.returns-in-Err-journal_of
@@ -30,8 +26,7 @@ returns-in-Err-journal_of g c =
     let seen = g.D.Depot.seen in
     let w = c.args.width in
     let words = c.args.words.now in
-    let room = ap (λ (n : ℕ). MOST_BYTES - HEAD * n) c.count_of.ensures.value in
     record {
-      reads = given_unread (names_of w words) (room_for w words) (seen c.args.depot.now) (seen c.config_of.new.depot) (seen c.journal_of.new.depot) c.in-Ok.config (config_as (c.word_at.ensures ∙ sym (config_named w words)) c.in-Ok.ensures.reads)
-          c.in-Err-journal_of.outcome (journal_as (c.word_at-2.ensures ∙ sym (journal_named w words)) room c.in-Err-journal_of.ensures.reads);
+      reads = given_unread (names_of w words) (seen c.args.depot.now) (seen c.config_of.new.depot) (seen c.journal_of.new.depot) c.in-Ok.config (config_as (c.word_at.ensures ∙ sym (config_named w words)) c.in-Ok.ensures.reads)
+          c.in-Err-journal_of.outcome (journal_as (c.word_at-2.ensures ∙ sym (journal_named w words)) c.in-Err-journal_of.ensures.reads);
     }

@@ -1,20 +1,16 @@
-use Rattle.std.proofs.Common.{IsTrue, sym, ◌∙◌, subst, arith}
+use Rattle.std.proofs.Common.{IsTrue, sym, ◌∙◌, subst}
 use Rattle.fab_base.specs.Places.{name_at}
 use Rattle.fabric_tool.specs.Command.{run_of}
 use Rattle.fabric_tool.specs.Ends.{RunHolds}
-use Rattle.fabric_tool.proofs.RanLemmas.{config_as, heads_ended, inputs_touched, inputs_read, no_fabric, not_opened, some_ports, same_count, one_a_port, given_as, runs_as, windows_ended}
-use Rattle.fabric_tool.proofs.NameLemmas.{pairs}
+use Rattle.fabric_tool.proofs.RanLemmas.{config_as, room_in, heads_ended, inputs_touched, inputs_read, no_fabric, not_opened, some_ports, same_count, one_a_port, given_as, runs_as, windows_ended}
 use Rattle.fabric_tool.proofs.running.run.Goals as goal
-
-pub heads_of-requires-clause-bytes : goal.heads_of-requires-clause-bytes
-heads_of-requires-clause-bytes g c = let few = (pairs c.args.words.now c.requires.run).few in omega arith
 
 pub returns-in-Err-heads_of : goal.returns-in-Err-heads_of
 returns-in-Err-heads_of g c =
     let seen = g.D.Depot.seen in
     let k = run_of c.args.words.now in
     let read = config_as c.word_at.ensures c.in-Ok.ensures.reads in
-    record { holds = heads_ended k c.in-Ok.config (seen c.args.depot.now) (seen c.config_of.new.depot) (seen c.heads_of.new.depot) read _ _ c.in-Err-heads_of.outcome c.in-Err-heads_of.ensures.reads }
+    record { holds = heads_ended k c.in-Ok.config (seen c.args.depot.now) (seen c.config_of.new.depot) (seen c.heads_of.new.depot) read (room_in c.args.words.now c.requires.run) _ c.in-Err-heads_of.outcome c.in-Err-heads_of.ensures.reads }
 
 pub returns-in_default : goal.returns-in_default
 returns-in_default g c =
