@@ -6,7 +6,6 @@ mod converting;
 mod heads;
 pub mod help;
 mod inputs;
-mod laws;
 mod limits;
 mod making;
 mod migrating;
@@ -19,6 +18,5 @@ mod running;
 mod snooping;
 mod tool;
 
-pub use laws::nothing_is_refused_that_reads_nothing;
 pub use outcome::{Outcome, report};
 pub use tool::fabric_tool;
