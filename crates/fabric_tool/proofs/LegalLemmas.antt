@@ -21,11 +21,11 @@ use Rattle.fabric_tool.proofs.FoundLemmas.{all_one, no_bad}
 
 -- where all heads have room, that of no port has none
 pub have_room : (names : List (List ℕ)) (d : Seen) (l m : List ℕ) → l ≡ m → length l + HEAD * length names ≤ MOST_BYTES → HaveNoRoom names d (MOST_BYTES - length m) → ⊥
-have_room names d l m e within no =
+have_room names d l m e within lack =
     let same : length l ≡ length m = ap (λ (x : List ℕ). length x) e in
-    let count = ap (λ (x : List (List ℕ)). length x) no.are in
-    let over = no.above in
-    omega (arith, same, within, over, count, length-append no.before (no.name ∷ no.behind))
+    let count = ap (λ (x : List (List ℕ)). length x) lack.are in
+    let over = lack.above in
+    omega (arith, same, within, over, count, length-append lack.before (lack.name ∷ lack.behind))
 
 module _ (k : RunNames) (d : Seen) where
   -- the files of a command are one matter
