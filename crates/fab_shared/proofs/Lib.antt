@@ -2,3 +2,11 @@ pub mod Entries
 pub mod Submitting
 pub mod Closing
 pub mod Crossing
+pub mod FollowedLemmas
+pub mod FrameLemmas
+pub mod EntryLemmas
+pub mod WorkerLemmas
+pub mod HiringLemmas
+pub mod JoiningLemmas
+pub mod ClosingLemmas
+pub mod WorkerCrossing

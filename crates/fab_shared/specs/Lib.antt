@@ -1,2 +1,5 @@
 pub mod Frames
 pub mod Shared
+pub mod Handled
+pub mod Sizes
+pub mod Workers

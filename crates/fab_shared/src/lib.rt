@@ -1,12 +1,15 @@
-//! A fabric that threads take turns with: each turn is one frame of one port.
+//! A fabric that threads take turns with: each turn is one frame of one port. Above it the frames
+//! of a window: one port after another, or a worker a port.
 #![tactic(auto)]
 
+mod crew;
+mod frames;
 mod locked;
 mod shared;
-#[cfg(test)]
-mod tests;
-#[cfg(test)]
-mod tests_of_threads;
+mod sizes;
+mod window;
+mod worker;
 
 pub use locked::{LockedFabric, Pass};
 pub use shared::SharedFabric;
+pub use window::take_frames;

@@ -12,7 +12,7 @@ use Rattle.fab_policy.specs.Legal.{HoldsFrames, IsLeastOf, numbered_from, of_por
 use Rattle.fab_policy.specs.declared.event.Event.{Event}
 use Rattle.pcap_file.specs.declared.Record.{Record}
 use Rattle.fab_windows.specs.Window.{HoldBatches}
-use Rattle.fab_workers.proofs.FrameLemmas.{numbered-append}
+use Rattle.fab_shared.proofs.FrameLemmas.{numbered-append}
 
 -- ---- records of a window, behind earlier ones
 

@@ -18,7 +18,7 @@ use Rattle.forward_core.specs.Fabric.{AreRanged}
 use Rattle.pcap_file.specs.declared.Record.{Record}
 use Rattle.fab_windows.specs.Steps.{Sofar, FirstsAreTaken}
 use Rattle.fab_windows.specs.Window.{AreTicksTo, Ticked, Handled, first_of}
-use Rattle.fab_workers.proofs.FollowedLemmas.{of_port-followed, ports-followed}
+use Rattle.fab_shared.proofs.FollowedLemmas.{of_port-followed, ports-followed}
 use Rattle.fab_windows.proofs.LeftLemmas.{all_below_more, all_from_window, length-with_more, holds_more, least_left}
 use Rattle.fab_windows.proofs.TimedLemmas.{ticks_hold, ticks_ports, timed_ticks, timed_frames, AllAbove, AreBehind, held_behind, frames_of}
 

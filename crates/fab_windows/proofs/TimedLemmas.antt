@@ -14,7 +14,7 @@ use Rattle.fab_policy.specs.declared.event.Event.{Event}
 use Rattle.fab_policy.specs.declared.event.Event.TheVariants.{Tick, Frame}
 use Rattle.pcap_file.specs.declared.Record.{Record}
 use Rattle.fab_windows.specs.Window.{AreTicksTo, HoldBatches}
-use Rattle.fab_workers.proofs.FollowedLemmas.{of_port-followed, ports-first}
+use Rattle.fab_shared.proofs.FollowedLemmas.{of_port-followed, ports-first}
 
 -- ---- ticks
 

@@ -1,4 +1,4 @@
--- One window: the ticks up to it. What it is to handle its frames stands in fab_workers.
+-- One window: the ticks up to it. What it is to handle its frames stands in fab_shared.
 use Rattle.std.specs.Prelude.{◌≡◌, ℕ, ◌<◌, ◌≤◌, List, [], ◌∷◌, ◌++◌, Some, IfSome}
 use Rattle.fab_config.specs.Settings.{Settings}
 use Rattle.fab_policy.specs.Journal.{Journal, followed, clock}
@@ -6,7 +6,7 @@ use Rattle.fab_policy.specs.Legal.{Legal, IsNextTick}
 use Rattle.fab_policy.specs.Standing.{Contents, Stands}
 use Rattle.fab_policy.specs.declared.event.Event.{Event}
 use Rattle.fab_policy.specs.declared.event.Event.TheVariants.{Tick, Frame}
-pub use Rattle.fab_workers.specs.Handled.{granted_by, first_of, firsts_of, HandledPort, HoldBatches, Handled}
+pub use Rattle.fab_shared.specs.Handled.{granted_by, first_of, firsts_of, HandledPort, HoldBatches, Handled}
 
 -- ---- ticks
 

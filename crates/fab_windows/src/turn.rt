@@ -24,7 +24,7 @@ use fab_base::{Depot, Gate, Moment, NoMemory};
 use fab_config::Config;
 use fab_gather::{Shelf, gather};
 use fab_policy::Event;
-use fab_workers::take_frames;
+use fab_shared::take_frames;
 use forward_core::{Drained, EventList, Fabric};
 use pcap_file::Budget;
 use std::alloc::Global;

@@ -1,0 +1,97 @@
+//! The frames of a window, one port after another.
+ghost use Rattle.std.specs.Prelude.{◌≡◌, ◌+◌, ◌<◌, ◌≤◌, ◌^◌, ◌∷◌, [], IfOk, IsSome, OnOk, length};
+ghost use Rattle.fab_gather.specs.Reads.{batches_of};
+ghost use Rattle.fab_shared.specs.Handled as spec;
+ghost use Rattle.fab_shared.specs.Handled.{Handled, HandledPort, firsts_of};
+
+use fab_base::{FcId, Gate, NoMemory, PortNo};
+use fab_gather::Shelf;
+use fab_policy::{Verdict, entries_come_in_parts, fabric_steps, hear};
+use forward_core::{Fabric, StepFault};
+use pcap_file::Record;
+use std::alloc::Global;
+
+/// Handles the records on the shelves, those of one port after those of another, under a gate.
+pub(crate) fn in_turn<G: Gate>(
+    alloc: Global,
+    fabric: Fabric,
+    shelves: &[Shelf],
+    gate: &G,
+) -> Result<Fabric, NoMemory>
+    requires clock { IsSome fabric.state.tables.clock }
+    requires ports { fabric.count ≡ length shelves.now }
+    requires few { length shelves.now ≤ 64 }
+    ensures handled { IfOk result (λ f.
+        Handled (firsts_of shelves.now) (batches_of shelves.now) fabric f) }
+{
+    entries_come_in_parts();
+    let mut fabric = fabric;
+    for (place, shelf) in shelves.iter().enumerate() {
+        take_port(alloc, &mut fabric, PortNo::at(place), shelf, gate)?;
+    }
+    Ok(fabric)
+}
+
+// Handles the records on a port's shelf in their order.
+fn take_port<G: Gate>(
+    alloc: Global,
+    fabric: &mut Fabric,
+    port: PortNo,
+    shelf: &Shelf,
+    gate: &G,
+) -> Result<(), NoMemory>
+    requires clock { IsSome fabric.old.state.tables.clock }
+    requires port { (1 ≤ port) × (port ≤ fabric.old.count) }
+    ensures handled { OnOk result (HandledPort port (spec.first_of shelf.now)
+        shelf.now.batch.items fabric.old fabric.new) }
+{
+    entries_come_in_parts();
+    let first = first_of(shelf);
+    for (place, record) in shelf.batch.iter().enumerate() {
+        let index = first + place as u64;
+        gate.pass(port, index);
+        let verdict = take_record(alloc, fabric, port, index, record)?;
+        gate.done(port, index, granted(&verdict));
+    }
+    Ok(())
+}
+
+// The number of the first record on a shelf.
+pub(crate) fn first_of(shelf: &Shelf) -> u64
+    ensures value { result ≡ spec.first_of shelf.now }
+    ensures room { result + length shelf.now.batch.items < 2 ^ 64 }
+{
+    let ahead = u64::from(shelf.next.is_some());
+    let found = shelf.count.saturating_sub(ahead);
+    found.saturating_sub(shelf.batch.len() as u64)
+}
+
+// Hears the frame of a record, and has the fabric handle it.
+fn take_record(
+    alloc: Global,
+    fabric: &mut Fabric,
+    port: PortNo,
+    index: u64,
+    found: &Record,
+) -> Result<Verdict, NoMemory>
+    requires clock { IsSome fabric.old.state.tables.clock }
+    requires port { (1 ≤ port) × (port ≤ fabric.old.count) }
+    ensures handled { OnOk result (HandledPort port index (found.now ∷ []) fabric.old fabric.new) }
+{
+    fabric_steps();
+    match fabric.step(alloc, port, index, &hear(&found.caught), None) {
+        Ok(verdict) => Ok(verdict),
+        Err(StepFault::Memory) => Err(NoMemory),
+        Err(StepFault::WishTaken) => unreachable!(),
+    }
+}
+
+// The address that a verdict grants.
+pub(crate) fn granted(verdict: &Verdict) -> Option<FcId>
+    ensures { result ≡ spec.granted_by verdict.now }
+{
+    match verdict {
+        Verdict::Granted(address) => Some(*address),
+        _ => None,
+    }
+}

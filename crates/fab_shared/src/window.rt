@@ -1,0 +1,52 @@
+//! The frames of a window.
+ghost use Rattle.std.specs.Prelude.{◌≡◌, ◌≤◌, IfOk, IsSome, length, nat_lt};
+ghost use Rattle.std.specs.List.{filter};
+ghost use Rattle.fab_gather.specs.Reads.{batches_of};
+ghost use Rattle.fab_shared.specs.Handled.{Handled, firsts_of};
+
+use crate::crew::at_once;
+use crate::frames::in_turn;
+use crate::sizes::lacking;
+use fab_base::{Gate, NoMemory};
+use fab_gather::Shelf;
+use forward_core::Fabric;
+use std::alloc::Global;
+use std::sync::Wait;
+use std::thread::Threads;
+
+/// From so many bytes of frames on a window goes by workers under any gate. In none that is smaller
+/// were they found to save anything over one port after another (bench/workers).
+const WORTH_WORKERS: u64 = 64 << 20;
+
+/// Handles the records on the shelves under a gate, those of each port in their order. Where
+/// several ports have any, it is by a worker a port if the gate may hold one or the frames are
+/// worth the threads, and else one port after another.
+pub fn take_frames<R: Threads + Wait + Sync, G: Gate + Sync>(
+    rt: &R,
+    alloc: Global,
+    fabric: Fabric,
+    shelves: &[Shelf],
+    gate: &G,
+) -> Result<Fabric, NoMemory>
+    requires clock { IsSome fabric.state.tables.clock }
+    requires ports { fabric.count ≡ length shelves.now }
+    requires few { length shelves.now ≤ 64 }
+    ensures handled { IfOk result (λ f.
+        Handled (firsts_of shelves.now) (batches_of shelves.now) fabric f) }
+{
+    if busy(shelves) > 1 && (G::HOLDS || lacking(shelves, WORTH_WORKERS) == 0) {
+        at_once(rt, alloc, fabric, shelves, gate)
+    } else {
+        in_turn(alloc, fabric, shelves, gate)
+    }
+}
+
+// How many ports have a record on their shelf.
+fn busy(shelves: &[Shelf]) -> usize
+    ensures { result ≡ length (filter (λ s. nat_lt 0 (length s.batch.items)) shelves.now) }
+{
+    shelves
+        .iter()
+        .filter(|shelf| !shelf.batch.is_empty())
+        .count()
+}

@@ -1,7 +1,0 @@
-use Rattle.std.proofs.Common.{◌≤◌, length}
-use Rattle.std.specs.Prelude.{vec_capacity}
-use Rattle.fab_workers.specs.Workers.{AreHired}
-use Rattle.fab_workers.proofs.crew.hire.Given as goal
-
-abbrev pub invariant-loop-place : goal.invariant-loop-place
-invariant-loop-place l = AreHired l.shared l.shelves l.place l.root l.workers.items × (length l.shelves ≤ vec_capacity l.workers)

@@ -1,6 +1,0 @@
-use Rattle.std.proofs.Common.{take}
-use Rattle.fab_workers.specs.Handled.{HandledPort}
-use Rattle.fab_workers.proofs.frames.take_port.Given as goal
-
-abbrev pub invariant-loop-place : goal.invariant-loop-place
-invariant-loop-place g l = HandledPort l.port l.first (take l.place l.shelf.batch.items) l.fn.fabric l.fabric

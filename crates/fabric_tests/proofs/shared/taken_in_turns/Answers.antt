@@ -1,0 +1,16 @@
+use Rattle.std.proofs.Common.{◌≡◌, ◌∙◌, ◌==◌, ◌||◌, ap, sym}
+use Rattle.fab_turn.specs.Views.{has_port, has_kept}
+use Rattle.fabric_tests.proofs.shared.taken_in_turns.Goals as goal
+
+-- each port that was given out was kept, the first and then the second
+pub close-fabric-requires-clause-joined : goal.close-fabric-requires-clause-joined
+close-fabric-requires-clause-joined g c port has =
+    let one = c.at.result in
+    let other = c.at-2.result in
+    let none_given = ap (has_port port) c.in-Ok.ensures.lists.1 in
+    let none_kept = ap (has_kept port) (c.split-second.ensures.lists.2 ∙ c.split-first.ensures.lists.2 ∙ c.in-Ok.ensures.lists.2) in
+    let given_one = ap (has_port port) c.split-first.ensures.lists.1 ∙ ap (λ b. (one == port) || b) none_given in
+    let kept_one = ap (has_kept port) (c.join.ensures.kept one (c.submit-last.ensures.pass.2.0 ∙ c.split-first.ensures.pass.2)) ∙ ap (λ b. (one == port) || b) none_kept in
+    let given_both = ap (has_port port) (c.join-2.ensures.given ∙ c.join.ensures.given ∙ c.split-second.ensures.lists.1) ∙ ap (λ b. (other == port) || b) given_one in
+    let kept_both = ap (has_kept port) (c.join-2.ensures.kept other (c.submit-later.ensures.pass.2.0 ∙ c.split-second.ensures.pass.2)) ∙ ap (λ b. (other == port) || b) kept_one in
+    kept_both ∙ sym given_both ∙ has

@@ -1,0 +1,101 @@
+//! Two threads submit the frames of their ports to one fabric.
+ghost use Rattle.std.specs.Prelude.{◌≡◌, IsSome, Some};
+ghost use Rattle.fab_turn.specs.Lock.{IsPassOf, IsIdle};
+ghost use Rattle.fab_shared.specs.Shared.{opened};
+
+use crate::shared::{is_answered, request, ticked};
+use fab_base::{Caught, PortNo};
+use fab_policy::hear;
+use fab_shared::{Pass, SharedFabric};
+use forward_core::{EventList, Fabric};
+use std::alloc::Global;
+use std::process::Abort;
+use std::sync::Wait;
+use std::test::*;
+use std::thread;
+use std::thread::Threads;
+
+/// How many frames each thread submits.
+const FRAMES: u64 = 50;
+
+// Submits a frame again and again, with the indices from 0 on.
+fn submit_all<R: Wait>(
+    rt: &R,
+    alloc: Global,
+    shared: &SharedFabric,
+    mut pass: Pass,
+    port: PortNo,
+    frame: &Caught,
+) -> Pass
+    requires pass { IsPassOf shared.now.lock pass × IsIdle pass × (pass.port ≡ Some port) }
+    requires clock { IsSome (opened shared.now).state.tables.clock }
+    ensures { IsPassOf shared.now.lock result × IsIdle result × (result.port ≡ Some port) }
+{
+    let heard = hear(frame);
+    for index in 0..FRAMES {
+        let _verdict = shared.submit(rt, alloc, &mut pass, index, &heard);
+    }
+    pass
+}
+
+// What a fabric did of which two threads have a port each.
+fn by_two_threads<R: Threads + Wait + Sync>(
+    rt: &R,
+    alloc: Global,
+    fabric: Fabric,
+    frame: &Caught,
+) -> Option<EventList>
+    requires clock { IsSome fabric.state.tables.clock }
+{
+    let Ok((shared, mut root)) = SharedFabric::open(alloc, fabric) else {
+        return None;
+    };
+    let one = PortNo::at(0);
+    let other = PortNo::at(1);
+    let first = shared.split(&mut root, one);
+    let second = shared.split(&mut root, other);
+    let lent = &shared;
+    let (first, second) = thread::join(
+        rt,
+        move || -> Pass
+            requires pass { IsPassOf lent.now.lock first × IsIdle first
+                × (first.port ≡ Some one) }
+            requires clock { IsSome (opened lent.now).state.tables.clock }
+            ensures { IsPassOf lent.entry.now.lock result × IsIdle result
+                × (result.port ≡ Some one) }
+        { submit_all(rt, alloc, lent, first, one, frame) },
+        move || -> Pass
+            requires pass { IsPassOf lent.now.lock second × IsIdle second
+                × (second.port ≡ Some other) }
+            requires clock { IsSome (opened lent.now).state.tables.clock }
+            ensures { IsPassOf lent.entry.now.lock result × IsIdle result
+                × (result.port ≡ Some other) }
+        { submit_all(rt, alloc, lent, second, other, frame) },
+    );
+    shared.join(&mut root, first);
+    shared.join(&mut root, second);
+    let mut fabric = shared.close(root);
+    Some(fabric.drain().events)
+}
+
+// Whether the frames of a port stand among these entries, all of them and in order.
+fn has_all(events: &EventList, port: PortNo) -> bool {
+    let mut next = 0u64;
+    for place in 0..events.len() {
+        if is_answered(events, place, port, next) {
+            next = next.wrapping_add(1);
+        }
+    }
+    next == FRAMES
+}
+
+#[test]
+fn two_threads_submit_fifty_frames_each(rt: HostRuntime) -> Result<(), Fail> {
+    let alloc = rt.alloc();
+    let frame = request(alloc)?;
+    let fabric = ticked(alloc).ok_or("memory")?;
+    let events = by_two_threads(&rt, alloc, fabric, &frame).ok_or("memory")?;
+    assert_eq!(rt; events.len(), 100);
+    assert!(rt; has_all(&events, PortNo::at(0)) && has_all(&events, PortNo::at(1)));
+    Ok(())
+}
