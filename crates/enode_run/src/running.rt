@@ -33,7 +33,9 @@ pub fn run_node<D: Depot>(
         (D.seen depot.new) result }
     ensures others { KeepsBut to.now (D.seen depot.old) (D.seen depot.new) }
 {
+    // For the proof: the MAC and the names of the identity are in their ranges.
     know(&own);
+    // Law: what each run over records keeps of its grant; the clause plays says it of this one.
     runs_are_one();
     let records = match read_input(alloc, depot, from, start, budget) {
         Ok(records) => records,
@@ -59,6 +61,7 @@ fn last_phase(course: &Course) -> Phase
 fn know(own: &Identity)
     ensures { IsTyped own.now }
 {
+    // For the proof: a MAC has six bytes, and a name is a number of 64 bits.
     know_mac(&own.mac.0);
     know_name(own.name.0);
     know_name(own.node.0);

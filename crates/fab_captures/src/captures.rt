@@ -24,6 +24,7 @@ pub fn read_capture<D: Depot>(
     ensures reads { ReadsCapture port slot (D.seen depot.old) (D.seen depot.new)
         budget.old budget.new result }
 {
+    // For the proof: the bytes that are left are a number of 64 bits.
     let _bytes = budget.bytes;
     match Reader::open(depot, slot, budget) {
         Ok(mut reader) => records_of(alloc, depot, port, slot, &mut reader, budget),

@@ -24,6 +24,7 @@ pub fn first_looks<D: Depot>(
     ensures looks { (c : Settings) → LooksFirst c (D.seen depot.old) (D.seen depot.new) ins.old
         ins.new budget.old budget.new result }
 {
+    // Law: where the looks at a capture go on and where they end; the clause looks counts in them.
     looks_go_on();
     let mut shelves = Vec::new(alloc);
     for port in 0..ins.len() {
@@ -52,8 +53,11 @@ fn look<D: Depot>(
     ensures looks { (c : Settings) → LooksOnce c port input.old.slot (D.seen depot.old)
         (D.seen depot.new) input.old.reader input.new.reader budget.old budget.new result }
 {
+    // Law: where the looks at a capture go on, and which stop a reader's step at one finds; the
+    // clause looks counts in them.
     looks_go_on();
     steps_find_the_stop();
+    // For the proof: the frames that are left are a number of 64 bits.
     let _few = frames_left(budget);
     match input.reader.next(alloc, depot, input.slot, budget) {
         Ok(next) => Ok(Shelf {

@@ -33,6 +33,7 @@ pub fn gather<D: Depot>(
     ensures gathers { Gathers config.now first window (D.seen depot.old) (D.seen depot.new) ins.old
         ins.new shelves.old shelves.new budget.old budget.new result }
 {
+    // Law: where the next window is too late, the looks to come stop there, as the refusal says.
     looks_to_come();
     if window.saturating_sub(first) > MOST_SPAN {
         return Err(RunFault::Limit(LimitKind::Span));

@@ -24,6 +24,7 @@ pub fn looks_to_come()
     ensures late { LateEnds }
     ensures none { NoneIsLeft }
 {
+    // Law: which look is a stop, and which looks stop later; the clauses late and ahead follow.
     steps_find_the_stop();
     stops_keep_what_is_before();
 }

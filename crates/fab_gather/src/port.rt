@@ -30,6 +30,8 @@ pub(crate) fn take_window<D: Depot>(
         (D.seen depot.new) input.old.reader input.new.reader shelf.old shelf.new budget.old
         budget.new result }
 {
+    // Law: where the looks at a capture go on, and which stop a reader's step at one finds; the
+    // clause takes counts in looks.
     looks_go_on();
     steps_find_the_stop();
     shelf.batch.clear();

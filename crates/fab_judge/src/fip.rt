@@ -49,6 +49,7 @@ pub(crate) fn judge_fip(
             frame,
             mac,
         } => {
+            // Law: what a decoded frame says is what a journal reads from its bytes.
             frames_are_carried();
             judge_login(config, roster, from, *kind, *fp, frame, mac)
         }

@@ -58,6 +58,7 @@ pub fn judge(
     if let Some(cause) = frame_rule(config, heard) {
         return Ok(Judged::Must(Verdict::Dropped(cause)));
     }
+    // Law: what a decoded frame says is what a journal reads from its bytes.
     frames_are_carried();
     match &heard.what {
         What::Bad { .. } => unreachable!(),

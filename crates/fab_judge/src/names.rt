@@ -145,6 +145,7 @@ fn judge_query(
     ensures grounds { IfOk result (λ j. (x : Enode) (flogi : Bool)
         → Rests config.now roster.now.tables x flogi (fc_view frame.now) j) }
 {
+    // Law: the answer to a query is never a reject, so none stands behind a judged Answered.
     a_query_is_no_reject();
     match roster.answer(alloc, config, zones, frame.head.s_id, ask) {
         Ok(tell) => Ok(answered(tell)),

@@ -10,6 +10,7 @@ use fab_base::Moment;
 pub fn known_verdict(verdict: &Verdict)
     ensures { IsRangedVerdict verdict.now }
 {
+    // For the proof: the range of a number is known once it is read.
     match verdict {
         Verdict::Granted(address) => {
             let _ = address.value();
@@ -44,6 +45,7 @@ pub fn known(event: &Event)
     requires { EndsAscend event.now }
     ensures { IsRangedEvent event.now }
 {
+    // For the proof: the range of a number is known once it is read.
     match event {
         Event::Tick { moment, .. } => {
             let Moment(number) = moment;

@@ -120,7 +120,7 @@ fn notification(alloc: Global, config: &Config) -> Result<Vec<u8>, NoMemory>
         v.items ≡ fip.written (fip.VlanTell config.now.fcf_mac (config.now.vlan ∷ []))) }
     ensures size { IfOk result (λ v. vec_len v ≤ 2030) }
 {
-    // The check wants the type named whose lists a message may hold.
+    // For the checker: the lists of a message may hold VxPort.
     let _ports: &[VxPort] = &[];
     let vlans = [config.vlan];
     let message = FipOut::VlanTell {
@@ -136,6 +136,7 @@ fn advertisement(alloc: Global, config: &Config, solicited: bool) -> Result<Vec<
         v.items ≡ fip.written (spec.advertisement config.now solicited)) }
     ensures size { IfOk result (λ v. vec_len v ≤ 2030) }
 {
+    // For the checker: the lists of a message may hold VxPort.
     let _ports: &[VxPort] = &[];
     let message = FipOut::Advertise {
         solicited,

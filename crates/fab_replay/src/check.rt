@@ -59,6 +59,7 @@ pub fn check_captures<D: Depot>(
     ensures settings { fabric.new.settings ≡ fabric.old.settings }
     ensures takes { TakesFrom ins.old ins.new budget.old budget.new }
 {
+    // For the checker: a fault that is handed on by `?` holds these enums.
     let _verdicts: &[Verdict] = &[];
     let _whys: &[LineWhy] = &[];
     let mut begun = begin(alloc, depot, fabric, journal, ins, outs, budget)?;
@@ -88,6 +89,7 @@ fn begin<D: Depot>(
         budget.new b.owed) (λ e. Ended k (D.seen depot.new) e) }
     ensures takes { TakesFrom ins.old ins.new budget.old budget.new }
 {
+    // Law: what the looks to come are, what was read and what a stop keeps; Going begins with them.
     laws_of_windows();
     let place = first_place(journal);
     let owed = Owed::new(alloc, outs.len())?;
@@ -125,7 +127,9 @@ fn check_begun<D: Depot>(
     ensures settings { fabric.new.settings ≡ fabric.old.settings }
     ensures takes { TakesFrom ins.old ins.new budget.old budget.new }
 {
+    // Law: what the looks to come are, what was read and what a stop keeps; Checks ends with them.
     laws_of_windows();
+    // For the checker: a fault that is handed on by `?` holds these enums.
     let _verdicts: &[Verdict] = &[];
     let _whys: &[LineWhy] = &[];
     let first = begun.first;
@@ -156,6 +160,7 @@ fn check_end(alloc: Global, journal: &[u8], place: &Place) -> Result<(), CheckFa
         → MatchResult result (λ _. drop place.now.at journal.now ≡ []) (λ e. IsFound x e) }
     ensures only { IfErr result IsOfLine }
 {
+    // For the checker: the fault of a line holds this enum.
     let _verdicts: &[Verdict] = &[];
     if is_end(journal, place) {
         return Ok(());

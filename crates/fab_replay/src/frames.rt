@@ -62,6 +62,7 @@ pub(crate) fn check_frames(
     ensures only { IfErr result IsOfLine }
     ensures width { length done.new ≡ length done.old }
 {
+    // For the checker: a fault that is handed on by `?` holds these enums.
     let _verdicts: &[Verdict] = &[];
     let _whys: &[LineWhy] = &[];
     'lines: while has_left(shelves, done) {

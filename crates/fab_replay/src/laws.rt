@@ -11,6 +11,7 @@ use fab_policy::stops_keep_what_is_before;
 pub(crate) fn laws_of_windows()
     ensures { Laws }
 {
+    // Law: what a stop keeps, which looks are to come, and that what was read grows to all of it.
     stops_keep_what_is_before();
     looks_to_come();
     windows_move_on();

@@ -29,6 +29,7 @@ pub fn write_shown(
         ≡ out.old.items ++ shown_by entries (tables_of fabric.now.settings J)) }
     ensures err { OnErr result (out.new.items ≡ out.old.items) }
 {
+    // Law: in the tables of a legal journal the N_Ports ascend, as the lines want them.
     legal_journals();
     append_made(lines_of(alloc, fabric, entries), out)
 }

@@ -48,6 +48,7 @@ pub(crate) fn check_ticks(
     ensures pages { length pages.new ≡ length pages.old }
     ensures only { IfErr result IsOfLine }
 {
+    // For the checker: a fault that is handed on by `?` holds these enums.
     let _verdicts: &[Verdict] = &[];
     let _whys: &[LineWhy] = &[];
     'ticks: while let Some(moment) = next_tick(fabric, window) {
@@ -143,6 +144,7 @@ fn next_tick(fabric: &Fabric, window: u64) -> Option<Moment>
     ensures { MatchOption result (fabric.now.state.tables.clock ≡ Some window)
         (λ m. IsTickOf window fabric.now m) }
 {
+    // Law: one moment at most is due, and the next tick is the lesser of it and of the window.
     ticks_are_due();
     let Some(clock) = fabric.clock() else {
         return Some(Moment(window));

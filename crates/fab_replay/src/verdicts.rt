@@ -62,6 +62,7 @@ pub fn step_as(
     ensures settings { (fabric.new.settings ≡ fabric.old.settings)
         × (fabric.new.count ≡ fabric.old.count) }
 {
+    // Law: a frame has one right verdict but for a granted address; so another one is wrong.
     verdicts_are_one();
     match fabric.step(alloc, port, index, heard, wish_of(&found)) {
         Ok(made) => compared(found, made),

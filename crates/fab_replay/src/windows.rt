@@ -49,7 +49,9 @@ pub(crate) fn check_windows<D: Depot>(
     ensures settings { fabric.new.settings ≡ fabric.old.settings }
     ensures takes { TakesFrom ins.old ins.new budget.old budget.new }
 {
+    // Law: what the looks to come are, what was read and what a stop keeps; Going goes on by them.
     laws_of_windows();
+    // For the checker: a fault that is handed on by `?` holds these enums.
     let _verdicts: &[Verdict] = &[];
     let _whys: &[LineWhy] = &[];
     'windows: while let Some(window) = next_window(fabric.config(), shelves) {
@@ -88,7 +90,9 @@ fn check_window<D: Depot>(
     ensures clock { OnOk result (fabric.new.state.tables.clock ≡ Some window) }
     ensures takes { TakesFrom ins.old ins.new budget.old budget.new }
 {
+    // Law: what the looks to come are, what was read and what a stop keeps; Going goes on by them.
     laws_of_windows();
+    // For the checker: a fault that is handed on by `?` holds these enums.
     let _verdicts: &[Verdict] = &[];
     let _whys: &[LineWhy] = &[];
     match gather(
@@ -164,6 +168,7 @@ fn check_gathered<D: Depot>(
     ensures cause { IsErrOf result CheckFault.Read
         → OneRose outs.now (D.seen depot.old) (D.seen depot.new) }
 {
+    // For the checker: a fault that is handed on by `?` holds these enums.
     let _verdicts: &[Verdict] = &[];
     let _whys: &[LineWhy] = &[];
     check_shelves(
@@ -210,6 +215,7 @@ fn check_shelves(
     ensures pages { length pages.new ≡ length pages.old }
     ensures only { IfErr result IsOfLine }
 {
+    // For the checker: a fault that is handed on by `?` holds these enums.
     let _verdicts: &[Verdict] = &[];
     let _whys: &[LineWhy] = &[];
     let mut done = zeros(alloc, shelves.len())?;

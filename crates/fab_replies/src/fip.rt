@@ -80,7 +80,7 @@ fn write_reply(
         (spec.made_fip config.now dst (fip.LoginReply kind true frame.now mac)) ≤ 65535) }
     ensures err { OnErr result (into.new.items ≡ into.old.items) }
 {
-    // The check wants the type named whose lists a message may hold.
+    // For the checker: the lists of a message may hold VxPort.
     let _ports: &[VxPort] = &[];
     let message = FipOut::LoginReply {
         kind,

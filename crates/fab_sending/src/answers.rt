@@ -32,6 +32,7 @@ pub fn answer(
         (fc.pieces (length (ct.written tell.now)) size (ct.written tell.now))))) }
     ensures sendable { IfOk result (λ outs. (events : List Entry) → AreSendable events outs) }
 {
+    // Law: ranges that cut a payload have its pieces; the clause made counts in pieces.
     ranges_have_the_pieces();
     let mut bytes = Vec::new(alloc);
     write_tell(alloc, tell, &mut bytes)?;

@@ -19,6 +19,7 @@ pub fn asker(heard: &Heard<'_>) -> Asker
     requires { CarriesFrame (decoded heard.now.caught.now) }
     ensures { result ≡ asker_of heard.now.caught.now }
 {
+    // Law: what a decoded frame says is what a journal reads from its bytes.
     frames_are_carried();
     match &heard.what {
         What::Fip { eth, message } => login_asker(&eth.src, message),

@@ -58,8 +58,11 @@ pub fn frame_sends(
         → frame_at entry events ≡ Some heard.now.caught.now → AreSendable events s.outs) }
     ensures few { IfOk result (λ s. s.rscns < 65535) }
 {
+    // Law: the messages of a frame are what it sends, and its state changes follow from the tables
+    // before it; the clause sent counts in messages.
     frames_send();
     frames_tell();
+    // For the proof: the roster is sound, so its N_Ports ascend by their addresses.
     let _ = before.roster.len();
     let changes = plain_changes(alloc, before, &verdict)?;
     let frames = replies(alloc, now(before.roster), port, entry, heard, verdict)?;
@@ -89,8 +92,11 @@ pub fn grant_sends(
         → frame_at entry events ≡ Some heard.now.caught.now → AreSendable events s.outs) }
     ensures few { IfOk result (λ s. s.rscns < 65535) }
 {
+    // Law: the messages of a frame are what it sends, and its state changes follow from the tables
+    // before it; the clause sent counts in messages.
     frames_send();
     frames_tell();
+    // For the proof: the roster is sound, so its N_Ports ascend by their addresses.
     let _ = before.roster.len();
     let accept = accept(alloc, now(before.roster), port, heard, address)?;
     let changes = grant_changes(alloc, before, request, address)?;
@@ -123,8 +129,11 @@ pub fn registration_sends(
         → frame_at entry events ≡ Some heard.now.caught.now → AreSendable events s.outs) }
     ensures few { IfOk result (λ s. s.rscns < 65535) }
 {
+    // Law: the messages of a frame are what it sends, and its state changes follow from the tables
+    // before it; the clause sent counts in messages.
     frames_send();
     frames_tell();
+    // For the proof: the roster is sound, so its N_Ports ascend by their addresses.
     let _ = before.roster.len();
     let to = asker(heard);
     let accept = answer(alloc, now(before.roster), port, to, &CtTell::Done, WHOLE)?;
@@ -165,8 +174,11 @@ pub fn answer_sends(
         → frame_at entry events ≡ Some heard.now.caught.now → AreSendable events s.outs) }
     ensures few { IfOk result (λ s. s.rscns < 65535) }
 {
+    // Law: the messages of a frame are what it sends, and its state changes follow from the tables
+    // before it; the clause sent counts in messages.
     frames_send();
     frames_tell();
+    // For the proof: the roster is sound, so its N_Ports ascend by their addresses.
     let _ = before.roster.len();
     let frames = answer(alloc, now(before.roster), port, asker(heard), tell, size)?;
     let changes = OutList::empty(alloc);

@@ -9,6 +9,7 @@ use fab_replies::replies_fit;
 pub fn ticks_tell()
     ensures { TicksTell }
 {
+    // Law: the tables after an entry, found address by address, are those that a tick changes so.
     journal_steps();
     tables_change();
 }
@@ -17,6 +18,7 @@ pub fn ticks_tell()
 pub fn frames_tell()
     ensures { FramesTell }
 {
+    // Law: the tables after an entry, found address by address, are those that a frame changes so.
     journal_steps();
     tables_change();
 }
@@ -25,6 +27,7 @@ pub fn frames_tell()
 pub fn ticks_send()
     ensures { TicksSend }
 {
+    // Law: the state changes are among the messages.
     ticks_tell();
 }
 
@@ -32,6 +35,7 @@ pub fn ticks_send()
 pub fn frames_send()
     ensures { FramesSend }
 {
+    // Law: the state changes are among the messages, and the replies are bytes of messages.
     frames_tell();
     replies_fit();
 }

@@ -124,6 +124,7 @@ fn vlans(heard: &Heard<'_>) -> OutMessage
     requires { IsFip (decoded heard.now.caught.now) }
     ensures { result ≡ out.Vlans (source heard.now.caught.now) (is_untagged heard.now.caught.now) }
 {
+    // Law: what a decoded frame says is what a journal reads from its bytes.
     frames_are_carried();
     match &heard.what {
         What::Fip { eth, .. } => OutMessage::Vlans {
@@ -140,6 +141,7 @@ fn solicited(heard: &Heard<'_>) -> OutMessage
     ensures { result
         ≡ out.Solicited (source heard.now.caught.now) (size_asked heard.now.caught.now) }
 {
+    // Law: what a decoded frame says is what a journal reads from its bytes.
     frames_are_carried();
     match &heard.what {
         What::Fip { eth, message } => match message {
@@ -216,6 +218,7 @@ fn forwarded(entry: usize, heard: &Heard<'_>) -> OutMessage
     ensures sendable { (events : List Entry) → frame_at entry events ≡ Some heard.now.caught.now
         → can_send events result ≡ true }
 {
+    // Law: a frame with a body of FCoE can go on, by its size; the clause sendable says so.
     data_frames_go_on();
     OutMessage::Forwarded {
         entry,
@@ -228,6 +231,7 @@ fn login_kind(heard: &Heard<'_>) -> Option<LoginKind>
     requires { CarriesFrame (decoded heard.now.caught.now) }
     ensures { result ≡ option_map (λ login. login.0) (login_of heard.now.caught.now) }
 {
+    // Law: what a decoded frame says is what a journal reads from its bytes.
     frames_are_carried();
     match &heard.what {
         What::Fip { message, .. } => match message {
@@ -243,6 +247,7 @@ fn asks_several(heard: &Heard<'_>) -> bool
     requires { InFip AsksAddress (decoded heard.now.caught.now) }
     ensures { result ≡ spec.has_feature 0x8000 (asked heard.now.caught.now) }
 {
+    // Law: what a decoded frame says is what a journal reads from its bytes.
     frames_are_carried();
     match &heard.what {
         What::Fip { message, .. } => match message {
@@ -269,6 +274,7 @@ fn parms_want_several(payload: &[u8]) -> bool
     ensures { (caught : Caught) → (carried caught).payload ≡ payload.now
         → result ≡ spec.has_feature 0x8000 (asked caught) }
 {
+    // Law: what a decoded frame says is what a journal reads from its bytes.
     frames_are_carried();
     match read_els(payload) {
         Ok(els) => asks_for_several(&els),

@@ -29,8 +29,11 @@ pub fn tick_sends(
         (Tick moment ended.now) events s) }
     ensures few { IfOk result (λ s. s.rscns < 65535) }
 {
+    // Law: the messages of a tick are what it sends, and its state changes follow from the tables
+    // before it; the clause sent counts in messages.
     ticks_send();
     ticks_tell();
+    // For the proof: the roster is sound, so its N_Ports ascend by their addresses.
     let _ = before.roster.len();
     let mut outs = clears(alloc, before.config, before.roster, moment, ended)?;
     let changes = tick_changes(alloc, before, moment, ended)?;

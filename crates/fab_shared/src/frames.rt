@@ -24,6 +24,7 @@ pub(crate) fn in_turn<G: Gate>(
     ensures handled { IfOk result (λ f.
         Handled (firsts_of shelves.now) (batches_of shelves.now) fabric f) }
 {
+    // Law: entries may come in two parts; each port's come behind those of the ports before it.
     entries_come_in_parts();
     let mut fabric = fabric;
     for (place, shelf) in shelves.iter().enumerate() {
@@ -45,6 +46,7 @@ fn take_port<G: Gate>(
     ensures handled { OnOk result (HandledPort port (spec.first_of shelf.now)
         shelf.now.batch.items fabric.old fabric.new) }
 {
+    // Law: entries may come in two parts; a record's comes behind those of the records before it.
     entries_come_in_parts();
     let first = first_of(shelf);
     for (place, record) in shelf.batch.iter().enumerate() {
@@ -78,6 +80,7 @@ fn take_record(
     requires port { (1 ≤ port) × (port ≤ fabric.old.count) }
     ensures handled { OnOk result (HandledPort port index (found.now ∷ []) fabric.old fabric.new) }
 {
+    // Law: a fabric grows by each frame that it takes with a right verdict, as handled wants it.
     fabric_steps();
     match fabric.step(alloc, port, index, &hear(&found.caught), None) {
         Ok(verdict) => Ok(verdict),

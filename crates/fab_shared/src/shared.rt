@@ -73,6 +73,7 @@ impl SharedFabric {
         ensures seen { IsPrefix (seen pass.old) (seen pass.new) }
         ensures refused { OnErr result (own pass.new ≡ own pass.old) }
     {
+        // Law: a fabric grows by a frame that it takes with a right verdict, as a turn's end wants.
         fabric_steps();
         let Some(port) = pass.port() else {
             unreachable!()

@@ -90,6 +90,7 @@ impl<V: Chronicle> TurnLock<V> {
         ensures pass { IsPassOf self.now result × (result.port ≡ Some port)
             × (result.seat.me ≡ (worker port (view root.old), [])) }
     {
+        // For the proof: the range of the port's number is known once it is read.
         let _number = port.value();
         let seat = self.table.shared.split_seat::<Give<N>>(&mut root.seat);
         Pass {

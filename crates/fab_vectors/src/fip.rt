@@ -33,6 +33,7 @@ pub(crate) fn write_vlan_request(
     ensures ok { OnOk result (out.new.items ≡ out.old.items ++ spec.vlan_request port) }
     ensures size { OnOk result (length (spec.vlan_request port) ≤ 65535) }
 {
+    // For the checker: the lists of a message may hold VxPort.
     let _ports: &[VxPort] = &[];
     let message = FipOut::VlanAsk {
         mac: node_mac(port),
@@ -50,6 +51,7 @@ pub(crate) fn write_solicitation(
     ensures ok { OnOk result (out.new.items ≡ out.old.items ++ spec.solicitation port) }
     ensures size { OnOk result (length (spec.solicitation port) ≤ 65535) }
 {
+    // For the checker: the lists of a message may hold VxPort.
     let _ports: &[VxPort] = &[];
     let message = FipOut::Solicit {
         from_fcf: false,
@@ -70,6 +72,7 @@ pub(crate) fn write_keep_alive(
     ensures ok { OnOk result (out.new.items ≡ out.old.items ++ spec.keep_alive port) }
     ensures size { OnOk result (length (spec.keep_alive port) ≤ 65535) }
 {
+    // For the checker: the lists of a message may hold VxPort.
     let _ports: &[VxPort] = &[];
     let message = FipOut::Keep {
         mac: node_mac(port),
@@ -88,6 +91,7 @@ pub(crate) fn write_fabric_login(
     ensures ok { OnOk result (out.new.items ≡ out.old.items ++ spec.fabric_login port login) }
     ensures size { OnOk result (length (spec.fabric_login port login) ≤ 65535) }
 {
+    // For the checker: the lists of a message may hold VxPort.
     let _ports: &[VxPort] = &[];
     let frame = carried(alloc, port, login)?;
     let message = FipOut::Login {

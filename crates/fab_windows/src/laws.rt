@@ -13,6 +13,8 @@ use fab_policy::{
 pub(crate) fn laws_of_runs()
     ensures { Laws }
 {
+    // Law: what further entries add to journal and files, what later windows leave as it is, what a
+    // stop keeps, and that what was read grows to all of it.
     entries_come_in_parts();
     entries_add_to_files();
     records_come_later();

@@ -14,6 +14,7 @@ pub(crate) fn tick_to(alloc: Global, fabric: &mut Fabric, window: u64) -> Result
     requires order { IfSome fabric.old.state.tables.clock (λ t. t ≤ window) }
     ensures ticked { OnOk result (Ticked window fabric.old fabric.new) }
 {
+    // Law: entries may come in two parts; the next tick comes behind those before it.
     entries_come_in_parts();
     'ticks: while let Some(moment) = next_tick(fabric, window) {
         fabric.tick(alloc, moment)?;
@@ -28,6 +29,7 @@ fn next_tick(fabric: &Fabric, window: u64) -> Option<Moment>
     ensures { MatchOption result (fabric.now.state.tables.clock ≡ Some window)
         (λ m. IsTickOf window fabric.now m) }
 {
+    // Law: one moment at most is due, and the next tick is the lesser of it and of the window.
     ticks_are_due();
     let Some(clock) = fabric.clock() else {
         return Some(Moment(window));

@@ -48,6 +48,7 @@ pub fn run_windows<R: Threads + Wait + Sync, D: Depot, G: Gate + Sync>(
     ensures takes { TakesFrom ins.old ins.new budget.old budget.new }
 {
     let mut fabric = fabric;
+    // Law: what further entries and records change, and where reading stops; Going goes on by them.
     laws_of_runs();
     let mut run = begin(alloc, depot, ins, budget, journal, outs)?;
     let first = next_window(fabric.config(), &run.shelves).unwrap_or(0);
@@ -96,7 +97,9 @@ fn begin<D: Depot>(
     ensures done { IfOk result (λ r. (r.done.frames ≡ 0) × (r.done.entries ≡ 0)) }
     ensures takes { TakesFrom ins.old ins.new budget.old budget.new }
 {
+    // Law: what further entries and records change, and where reading stops; Begun rests on it.
     laws_of_runs();
+    // For the proof: the bytes that are left are a number of 64 bits.
     let _few = bytes_left(budget);
     let mut pages = Pages::heads(alloc, outs.len())?;
     flush(depot, journal, outs, &mut pages)?;

@@ -11,6 +11,8 @@ pub(crate) fn windows_are_runs()
     ensures firsts { FirstsAreTaken }
     ensures run { WindowIsRun }
 {
+    // Law: entries may come in two parts, later records leave the time of earlier ones, and a right
+    // entry leaves a journal legal; so a window's entries make a run longer.
     entries_come_in_parts();
     records_come_later();
     fabric_steps();

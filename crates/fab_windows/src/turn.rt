@@ -72,6 +72,7 @@ pub(crate) fn turn<R: Threads + Wait + Sync, D: Depot, G: Gate + Sync>(
     ensures clock { IfOk result (λ f. f.state.tables.clock ≡ Some window) }
     ensures takes { TakesFrom ins.old ins.new budget.old budget.new }
 {
+    // Law: what further entries and records change, and where reading stops; Going goes on by them.
     laws_of_runs();
     match gather(
         alloc,
@@ -118,6 +119,7 @@ fn answer<R: Threads + Wait + Sync, D: Depot, G: Gate + Sync>(
     ensures settings { IfOk result (λ f. f.settings ≡ fabric.settings) }
     ensures clock { IfOk result (λ f. f.state.tables.clock ≡ Some window) }
 {
+    // Law: what further entries and records change, and where reading stops; Going goes on by them.
     laws_of_runs();
     let clock = fabric.clock().unwrap_or(Moment(0));
     let (fabric, drained) = handle(rt, alloc, fabric, window, &run.shelves, gate)?;

@@ -65,6 +65,7 @@ fn all_windows(
     requires slots { slots_of ins.old ≡ 0 ∷ 1 ∷ [] }
     requires ready { AreReady config.now 0 ins.old shelves.old budget.old }
 {
+    // Law: the ports are ready for the next window, and it leaves fewer records; so the loop ends.
     looks_to_come();
     windows_move_on();
     let mut come = Vec::new(alloc);

@@ -132,6 +132,7 @@ fn check<D: Depot>(
         Ok(outs) => outs,
         Err(_) => return Err(Outcome::ReadFault),
     };
+    // For the proof: the values of the configuration are in their ranges.
     in_range(&config);
     let Ok(mut fabric) = Fabric::new(alloc, config, count_of(words, width) as u32) else {
         return Err(Outcome::Memory);

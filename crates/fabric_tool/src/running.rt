@@ -35,6 +35,8 @@ pub(crate) fn run<R: Threads + Wait + Sync, D: Depot, G: Gate + Sync>(
     requires known { spec.AllKnown (D.seen depot.old) words.now }
     ensures holds { RunHolds (spec.run_of words.now) (D.seen depot.old) (D.seen depot.new) result }
 {
+    // Law: what a legal journal says of each state that it goes through, and that without records
+    // there is a run without entries; what holds after a run and before one says so.
     legal_is_safe();
     records_come_later();
     let config = match config_of(alloc, depot, word_at(words, 1)) {
@@ -49,6 +51,7 @@ pub(crate) fn run<R: Threads + Wait + Sync, D: Depot, G: Gate + Sync>(
         Ok(ins) => ins,
         Err(outcome) => return outcome,
     };
+    // For the proof: the values of the configuration are in their ranges.
     in_range(&config);
     let Ok(fabric) = Fabric::new(alloc, config, port_count(words) as u32) else {
         return Outcome::Memory;
@@ -105,6 +108,7 @@ pub(crate) fn stopped(fault: &RunFault) -> Outcome
 pub(crate) fn in_range(config: &Config)
     ensures { IsTrue (is_in_range config.now) }
 {
+    // For the proof: the configuration's invariant is known once a field is read.
     let _ = &config.window;
 }
 
@@ -112,6 +116,7 @@ pub(crate) fn in_range(config: &Config)
 fn legal_is_safe()
     ensures { LegalIsSafe }
 {
+    // Law: the laws of journals and of forwarding, which LegalIsSafe says as one.
     legal_journals();
     forwarding_rule();
 }

@@ -24,6 +24,7 @@ pub(crate) fn snoop<D: Depot>(alloc: Global, words: &[String], depot: &mut D) ->
     ensures holds { SnoopHolds (spec.snoop_of words.now) (D.seen depot.old) (D.seen depot.new)
         result }
 {
+    // Law: from a node's port data goes up exactly where it is of a login; SnoopHolds says so too.
     data_goes_up();
     let config = match config_of(alloc, depot, word_at(words, 1)) {
         Ok(config) => config,

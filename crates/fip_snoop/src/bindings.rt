@@ -133,6 +133,7 @@ impl Bindings {
     fn is_bound(&self, binding: &Binding) -> bool
         ensures { result ≡ true → maps.IsBound binding.now self.now.bindings }
     {
+        // For the proof: the table's invariant is known once a field is read.
         let _ = &self.records;
         match self.at(&binding.mac) {
             Some(found) => are_same(&found, binding),

@@ -30,6 +30,7 @@ pub(crate) fn carry_out(roster: &mut Roster, port: PortNo, heard: &Heard<'_>, ve
         (carried heard.now.caught.now) verdict }
     ensures { CarriesOut port heard.now.caught.now verdict roster.old roster.new }
 {
+    // Law: tables that change as a verdict says are the tables after its entry.
     tables_change();
     match verdict {
         Verdict::AliveNode => roster.hear_node(&enode_of(port, heard)),
@@ -47,6 +48,7 @@ pub(crate) fn log_in_to_server(roster: &mut Roster, heard: &Heard<'_>, size: u16
     requires rests { ServerRests roster.old.tables (carried heard.now.caught.now) size }
     ensures { (port : ℕ) → CarriesOut port heard.now.caught.now NsLogin roster.old roster.new }
 {
+    // Law: tables that change as a verdict says are the tables after its entry.
     tables_change();
     roster.set_server(asker(heard).s_id, Some(size));
 }
@@ -59,6 +61,7 @@ pub(crate) fn register(roster: &mut Roster, heard: &Heard<'_>, ask: &CtAsk<'_>)
     requires ask { view ask.now ≡ ask_of heard.now.caught.now }
     ensures { (port : ℕ) → CarriesOut port heard.now.caught.now Registered roster.old roster.new }
 {
+    // Law: tables that change as a verdict says are the tables after its entry.
     tables_change();
     roster.register(asker(heard).s_id, ask);
 }
@@ -92,6 +95,7 @@ pub(crate) fn grant(
         → CarriesOut port caught (Granted address) roster.old roster.new }
     ensures live { IsSome (port_at address roster.new.tables.ports) }
 {
+    // Law: tables that change as a grant says are the tables after its entry.
     tables_change();
     roster.end_all(ended);
     roster.grant(Login {
@@ -108,6 +112,7 @@ fn enode_of(port: PortNo, heard: &Heard<'_>) -> Enode
     requires { IsDecoded (decoded heard.now.caught.now) }
     ensures { result ≡ sender port heard.now.caught.now }
 {
+    // Law: what a decoded frame says is what a journal reads from its bytes.
     frames_are_carried();
     match &heard.what {
         What::Fip { eth, .. } | What::Fcoe { eth, .. } => Enode { port, mac: eth.src },

@@ -23,6 +23,7 @@ impl Fabric {
         ensures journal { IfSome result (λ m. (J : Journal) → Stands self.now J
             → IsDue self.now.settings J m) }
     {
+        // Law: a tick that is due by the tables is due by the journal; the clause journal says so.
         fabric_steps();
         let clock = self.roster.clock()?;
         let first = self.first_owed(clock);
@@ -36,6 +37,7 @@ impl Fabric {
             self.now.state.advertised k ≡ reaches (Some result) k }
         ensures range { result < 2 ^ 63 + 90000 }
     {
+        // For the proof: the values of the configuration are in their ranges.
         in_range(&self.config);
         let advertised = advertisement_owed(&self.config, self.advertised);
         let first = sooner(advertised, self.overdue_from());
@@ -61,6 +63,7 @@ fn advertisement_owed(config: &Config, last: Option<Moment>) -> Option<Moment>
     ensures some { is_some result ≡ is_some last }
     ensures range { IsWithin (2 ^ 63 + 90000) result }
 {
+    // For the proof: the values of the configuration are in their ranges.
     in_range(config);
     match last {
         Some(last) => Some(Moment(last.0 + u64::from(config.period))),
@@ -75,6 +78,7 @@ fn window_from(config: &Config, moment: u64) -> Moment
     ensures from { moment ≤ result }
     ensures least { (k : ℕ) → k % config.now.window ≡ 0 → moment ≤ k → result ≤ k }
 {
+    // For the proof: the values of the configuration are in their ranges.
     in_range(config);
     let window = u64::from(config.window);
     let over = moment % window;
@@ -102,5 +106,6 @@ pub(crate) fn in_range(config: &Config)
     ensures range { IsTrue (is_in_range config.now) }
     ensures ranges { Ranges config.now }
 {
+    // For the proof: the configuration's invariant is known once a field is read.
     let _ = &config.window;
 }

@@ -58,6 +58,7 @@ impl Fabric {
         ensures stands { IfOk result (λ f. Stands f []) }
         ensures back { IfErr result (λ e. e.0 ≡ config) }
     {
+        // Law: before anything happened a fabric stands for the empty journal, as stands says.
         fabric_steps();
         let Ok((zones, roster)) = empty_tables(alloc, &config) else {
             return Err((config, NoMemory));
@@ -91,6 +92,7 @@ impl Fabric {
         ensures ranged { AreRanged self.old.events }
         ensures stands { (J : Journal) → Stands self.old J → Stands self.new J }
     {
+        // Law: after a drain a fabric stands for the same journals, as the clause stands says.
         fabric_steps();
         let events = with_room(self.alloc, self.events.len());
         let outs = with_room(self.alloc, self.outs.len());
@@ -117,6 +119,7 @@ fn empty_tables(alloc: Global, config: &Config) -> Result<(Zones, Roster), NoMem
     ensures roster { IfOk result (λ t. t.1 ≡ empty_roll config.now) }
     ensures sound { IfOk result (λ t. IsSoundRoll t.1) }
 {
+    // For the proof: the values of the configuration are in their ranges.
     in_range(config);
     let zones = Zones::build(alloc, &config.zones, &config.sets, &config.activations)?;
     let Some(lowest) = FcId::new(u32::from(config.domain) * 65536 + 256) else {

@@ -25,6 +25,7 @@ impl Fabric {
         ensures few { length self.now.state.tables.ports ≤ 65535 }
         ensures pool { InPool self.now.settings self.now.state.tables.ports }
     {
+        // For the proof: the values of the configuration are in their ranges.
         in_range(&self.config);
         Before {
             config: &self.config,
@@ -44,6 +45,7 @@ impl Fabric {
         ensures ok { OnOk result (Keeps self.old entry sends self.new) }
         ensures err { OnErr result (self.new ≡ self.old) }
     {
+        // Law: what can be sent stays so, with the same bytes, when an entry is added behind.
         messages_are_kept();
         let rscns = sends.rscns;
         self.events.push(alloc, entry)?;
@@ -82,6 +84,7 @@ impl Fabric {
             caught: Caught { bytes, whole },
             verdict,
         };
+        // For the proof: the numbers of the entry are in range, as keep wants it.
         known(&entry);
         self.keep(alloc, entry, sends)?;
         Ok(())

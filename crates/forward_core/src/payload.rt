@@ -10,6 +10,7 @@ pub(crate) fn payload_of<'a>(heard: &'a Heard<'_>) -> &'a [u8]
     requires { IsBody (decoded heard.now.caught.now) }
     ensures { result.now ≡ (carried heard.now.caught.now).payload }
 {
+    // Law: what a decoded frame says is what a journal reads from its bytes.
     frames_are_carried();
     match &heard.what {
         What::Fcoe { read: Ok(body), .. } => body.frame.payload,

@@ -63,11 +63,14 @@ impl Fabric {
             heard.now.caught.now wish → ⊥) }
         ensures err { OnErr result (self.new ≡ self.old) }
     {
+        // Law: with an entry that is right by its tables a fabric stands for the longer journal,
+        // which is legal if the one before was; the clause journal says so.
         fabric_steps();
         let judged = judge(alloc, &self.config, &self.zones, &self.roster, port, heard)?;
         match judged {
             Judged::Must(verdict) => {
                 self.settle(alloc, port, index, heard, &verdict)?;
+                // For the proof: the numbers of the verdict are in range.
                 known_verdict(&verdict);
                 Ok(verdict)
             }

@@ -34,6 +34,8 @@ impl Fabric {
             Legal self.old.settings K × Stands self.new K) }
         ensures err { OnErr result (self.new ≡ self.old) }
     {
+        // Law: with a right tick a fabric stands for the longer journal, and which tables are after
+        // a tick; the clauses journal and takes rest on them.
         fabric_steps();
         tables_change();
         let ended = self.ended_at(alloc, moment)?;
@@ -62,7 +64,9 @@ impl Fabric {
         ensures ascending { IfOk result (λ l. AscendFrom 0 l) }
         ensures few { IfOk result (λ l. length l ≤ 1000) }
     {
+        // Law: which logins a tick ends; they are those that are overdue.
         tables_change();
+        // For the proof: the values of the configuration are in their ranges.
         in_range(&self.config);
         let ids = self.roster.overdue(alloc, moment)?;
         Ok(ids)

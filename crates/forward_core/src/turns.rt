@@ -112,6 +112,7 @@ impl Fabric {
             (Takes self.old (Frame port index heard.now.caught.now Registered) self.new) }
         ensures err { OnErr result (self.new ≡ self.old) }
     {
+        // Law: a right verdict suits what the frame was decoded as: here a registration.
         right_frames_suit();
         let Ok(ask) = read_ask(payload_of(heard)) else {
             unreachable!()
@@ -139,6 +140,8 @@ impl Fabric {
             (Takes self.old (Frame port index heard.now.caught.now Answered) self.new) }
         ensures err { OnErr result (self.new ≡ self.old) }
     {
+        // Law: an answer leaves the tables as they are, and a right verdict suits what the frame is
+        // decoded as: here a query.
         tables_change();
         right_frames_suit();
         let size = self.size_of(heard);

@@ -76,6 +76,7 @@ impl LoginTable {
         ensures named { (name : ℕ) → named name self.new.logins
             ≡ (if login.name == name then Some login else named name self.old.logins) }
     {
+        // For the proof: the numbers of the ENode and the address are in their ranges.
         known(&login);
         let place = self.logins.insert_reserved(login);
         order_put(&ByAddress, &self.logins, &mut self.by_address, place);

@@ -218,6 +218,7 @@ impl Registry {
         ensures writable { IfOk result CanTell }
         ensures sound { IsSound self.now }
     {
+        // For the proof: the table's invariant is known once a field is read.
         let _ = &self.room;
         answer_of(alloc, self, seen.ports(), ask)
     }

@@ -8,5 +8,6 @@ use pcap_file::the_end_makes_a_capture;
 pub fn what_is_taken_are_captures()
     ensures { TakenAreCaptures }
 {
+    // Law: behind its last record a capture is at its end; so what was taken is all of it.
     the_end_makes_a_capture();
 }

@@ -45,6 +45,7 @@ pub fn run_bridge<D: Depot>(
     ensures bridges { Bridges (ins_of sides.now) (outs_of sides.now) budget config.now
         (D.seen depot.old) (D.seen depot.new) result }
 {
+    // Law: what is taken of files are whole captures; the clause bridges says it of the inputs.
     what_is_taken_are_captures();
     let mut left = budget;
     let ins = match read_captures(alloc, depot, sides, &mut left) {
