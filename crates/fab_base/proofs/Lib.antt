@@ -1,5 +1,6 @@
 pub mod SeenLemmas
 pub mod Depots
+pub mod WholeLemmas
 pub mod LayoutLemmas
 pub mod PlaceLemmas
 pub mod MemLemmas

@@ -1,8 +1,9 @@
--- Rules of a fabric that its journals and its tables say alike: who an ENode is, when a voice is silent, which addresses a
--- name may have, and who is told of changes.
-use Rattle.std.specs.Prelude.{ℕ, ◌-◌, ◌*◌, Bool, true, false, ◌==◌, nat_lt, ◌&&◌, ◌||◌, List, Option, None, Some}
+-- Rules of a fabric that its journals and its tables say alike: who an ENode is, which MAC comes with an address, which of
+-- two moments is earlier, when a voice is silent, which addresses a name may have, and who is told of changes.
+use Rattle.std.specs.Prelude.{ℕ, ◌-◌, ◌*◌, Bool, true, false, ◌==◌, nat_lt, ◌&&◌, ◌||◌, min, List, ◌++◌, Option, None, Some}
 use Rattle.std.specs.Str.{bytes_eq}
 use Rattle.fab_base.specs.Keyed.{item_at}
+use Rattle.fab_base.specs.Layout.{spelled}
 use Rattle.fab_base.specs.declared.values.Enode.{Enode}
 
 -- ---- ENodes (FC-BB-5, "ENode")
@@ -10,6 +11,20 @@ use Rattle.fab_base.specs.declared.values.Enode.{Enode}
 -- an ENode is a MAC behind a port
 abbrev pub same_enode : Enode → Enode → Bool
 same_enode x y = x.port == y.port && bytes_eq x.mac y.mac
+
+-- ---- MACs that a fabric provides (FC-BB-5, "Fabric Provided MAC Address (FPMA)")
+
+-- the FC-MAP in the upper 24 bits, the N_Port_ID in the lower
+abbrev pub fpma : ℕ → ℕ → List ℕ
+fpma fc_map address = spelled 3 fc_map ++ spelled 3 address
+
+-- ---- moments
+
+-- the earlier of two moments, either of which may be missing
+abbrev pub earlier : Option ℕ → Option ℕ → Option ℕ
+earlier None other = other
+earlier (Some one) None = Some one
+earlier (Some one) (Some other) = Some (min one other)
 
 -- ---- silence (FC-BB-5, "FIP keep alive")
 

@@ -3,6 +3,7 @@ pub mod Fabric
 pub mod Keyed
 pub mod Texts
 pub mod Seen
+pub mod Whole
 pub mod Sunk
 pub mod Places
 pub mod Desk

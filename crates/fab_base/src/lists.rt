@@ -116,6 +116,13 @@ impl<T: Drop> OwnedList<T> {
         self.items.pop()
     }
 
+    /// The items.
+    pub fn items(&self) -> &[T]
+        ensures { result.now ≡ self.now }
+    {
+        self.items.as_slice()
+    }
+
     /// How many items there are.
     pub fn len(&self) -> usize
         ensures { result ≡ length self.now }
