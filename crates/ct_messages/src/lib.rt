@@ -7,7 +7,9 @@ mod command;
 mod fields;
 mod laws;
 mod maps;
+pub mod ports;
 mod reading;
+pub mod reject;
 mod telling;
 mod writing;
 
@@ -132,7 +134,7 @@ pub enum CtTell {
 }
 
 /// The bytes of the preamble.
-const PREAMBLE: usize = 16;
+pub const PREAMBLE: usize = 16;
 
 /// The type of a directory service.
 const DIRECTORY: u8 = 0xfc;

@@ -6,6 +6,7 @@ ghost use Rattle.ct_messages.specs.CanWrite.{CanTell, IsSymbol};
 ghost use Rattle.ct_messages.specs.Answer as answer;
 
 use crate::bytes::{preamble, put_address, put_marked, put_name, put_text, put_words, put_zeros};
+use crate::ports::N_PORT;
 use crate::{CtTell, Named, NamedList, NextPort, PREAMBLE};
 use fab_base::{Bytes, IdList, NoMemory};
 use std::alloc::{AllocError, Global};
@@ -17,9 +18,6 @@ const REJECT: u16 = 0x8001;
 
 /// The control byte of the last entry of a list.
 const LAST: u8 = 0x80;
-
-/// The port type of an N_Port.
-const PORT_TYPE: u8 = 1;
 
 /// The class of service word of class 3, in its last byte.
 const CLASS_3: u8 = 8;
@@ -170,7 +168,7 @@ fn put_port(bytes: &mut Vec<u8>, port: &NextPort) -> Result<(), AllocError>
     ensures bytes { OnOk result (bytes.new.items ≡ bytes.old.items ++ answer.port_bytes port.now) }
     ensures size { OnOk result (vec_len bytes.new ≡ vec_len bytes.old + 532) }
 {
-    put_marked(bytes, PORT_TYPE, port.address)?;
+    put_marked(bytes, N_PORT, port.address)?;
     put_name(bytes, port.port_name)?;
     put_symbol(bytes, &port.symbol)?;
     put_name(bytes, port.node_name)?;

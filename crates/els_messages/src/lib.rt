@@ -4,13 +4,16 @@
 mod laws;
 mod parms;
 mod reading;
+pub mod reject;
+pub mod scr;
 mod table;
 mod writing;
 
 use fab_base::{FcId, Wwn};
 pub use laws::{els_is_written, els_reads_back, els_stands_once};
-pub use parms::Feature;
+pub use parms::{CLASS_3, Feature};
 pub use reading::read_els;
+pub use table::{FDISC, FLOGI, LOGO};
 use thiserror::Error;
 pub use writing::write_els;
 

@@ -3,6 +3,7 @@ ghost use Rattle.std.specs.Prelude.{◌≡◌, ◌%◌, ◌≤◌};
 ghost use Rattle.els_messages.specs.Els as spec;
 
 use crate::LoginParms;
+use fc_frames::MOST_PAYLOAD;
 
 /// A bit of the common features.
 #[derive(Clone, Copy, Debug, PartialEq, Eq)]
@@ -28,15 +29,15 @@ impl Feature {
     }
 }
 
-/// The greatest payload of a frame.
-const MOST_PAYLOAD: u16 = 2112;
+/// The first byte of class 3 parameters that say that the class is valid, and nothing else.
+pub const CLASS_3: u8 = 0x80;
 
 impl LoginParms {
     /// Whether class 3 is offered.
     pub fn offers_class3(&self) -> bool
         ensures { result ≡ spec.offers_class3 self.now }
     {
-        self.class3[0] >= 0x80
+        self.class3[0] >= CLASS_3
     }
 
     /// Whether this feature is set.

@@ -2,9 +2,11 @@
 ghost use Rattle.std.specs.Prelude.{◌≡◌};
 ghost use Rattle.els_messages.specs.Els as spec;
 
-pub(crate) const FLOGI: u8 = 0x04;
+/// The command of FLOGI.
+pub const FLOGI: u8 = 0x04;
 
-pub(crate) const FDISC: u8 = 0x51;
+/// The command of FDISC.
+pub const FDISC: u8 = 0x51;
 
 pub(crate) const PLOGI: u8 = 0x03;
 
@@ -12,7 +14,8 @@ pub(crate) const LS_ACC: u8 = 0x02;
 
 pub(crate) const LS_RJT: u8 = 0x01;
 
-pub(crate) const LOGO: u8 = 0x05;
+/// The command of LOGO.
+pub const LOGO: u8 = 0x05;
 
 pub(crate) const SCR: u8 = 0x62;
 

@@ -4,10 +4,12 @@
 ghost use Rattle.std.specs.Prelude.{◌≡◌};
 ghost use Rattle.eth_frames.specs.Ethernet.{vlan_of_tag};
 
+mod assigned;
 mod laws;
 mod reading;
 mod writing;
 
+pub use assigned::{ALL_ENODES, ALL_FCFS, FCOE, FIP};
 use fab_base::Mac;
 pub use laws::{eth_is_written, eth_reads_back, eth_stands_once};
 pub use reading::read_eth;

@@ -1,13 +1,20 @@
 //! FC frames (FC-FS-3): the header of 24 bytes, the payload, and the pieces of a long payload.
 #![tactic(auto)]
 
+mod assigned;
 mod cutting;
+mod kind;
 mod laws;
 mod reading;
 mod writing;
 
+pub use assigned::{
+    CONTROLLER, F_CTL_EARLIER, F_CTL_LAST, F_CTL_REQUEST, FABRIC_PORT, MOST_PAYLOAD, NAME_SERVER,
+    SERVICES, UNASSIGNED,
+};
 pub use cutting::pieces;
 use fab_base::FcId;
+pub use kind::{FCP, Kind};
 pub use laws::{
     frame_is_written, frame_reads_back, frame_stands_once, ranges_have_the_pieces,
     the_last_range_is_marked,
@@ -66,5 +73,5 @@ pub struct Piece {
 /// The bytes of a header.
 const HEADER: usize = 24;
 
-/// The most bytes of payload in a frame.
-const MOST_PAYLOAD: usize = 2112;
+/// The most bytes of payload in a frame, as a length.
+const MOST: usize = MOST_PAYLOAD as usize;

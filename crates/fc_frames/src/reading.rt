@@ -2,7 +2,7 @@
 ghost use Rattle.std.specs.Prelude.{◌≡◌, MatchResult, IfOk, Ok, Err, ◌≤◌, length};
 ghost use Rattle.fc_frames.specs.Frame.{IsFrame, decoded, header_of, view};
 
-use crate::{FcFault, FcFrame, FcHeader, HEADER, MOST_PAYLOAD};
+use crate::{FcFault, FcFrame, FcHeader, HEADER, MOST};
 use fab_base::fields::{address_at, u16_at, u24_at, u32_at};
 
 /// The frame that these bytes are.
@@ -18,7 +18,7 @@ pub fn read_frame(bytes: &[u8]) -> Result<FcFrame<'_>, FcFault>
     if bytes.len() % 4 != 0 {
         return Err(FcFault::Odd);
     }
-    if bytes.len() - HEADER > MOST_PAYLOAD {
+    if bytes.len() - HEADER > MOST {
         return Err(FcFault::Long);
     }
     Ok(FcFrame {

@@ -1,5 +1,5 @@
 -- The body of an FCoE frame (FC-BB-5, "FCoE frame format"; delimiters of FC-FS-3).
-use Rattle.std.specs.Prelude.{◌≡◌, ℕ, ◌+◌, ◌-◌, ◌/◌, ◌%◌, Bool, true, false, ◌==◌, nat_le, ◌&&◌, if◌then◌else◌, IsTrue, List, [], ◌∷◌, ◌++◌, length, drop, Result, Ok, Err}
+use Rattle.std.specs.Prelude.{◌≡◌, ℕ, ◌+◌, ◌-◌, ◌/◌, ◌%◌, Bool, true, false, ◌==◌, nat_le, ◌&&◌, ◌||◌, if◌then◌else◌, IsTrue, List, [], ◌∷◌, ◌++◌, length, drop, Result, Ok, Err}
 use Rattle.std.specs.List.{list_any}
 use Rattle.fab_base.specs.Layout.{field, byte, little_endian, zeros}
 use Rattle.fc_check.specs.Crc.{crc, crc_bytes}
@@ -52,6 +52,14 @@ is_sof code = list_any (λ c. c == code) (SOF_I3 ∷ SOF_N3 ∷ SOF_I2 ∷ SOF_N
 -- EOFn, EOFt, EOFni and EOFa
 abbrev pub is_eof : ℕ → Bool
 is_eof code = list_any (λ c. c == code) (EOF_N ∷ EOF_T ∷ EOF_NI ∷ EOF_A ∷ [])
+
+-- delimiters of class 3, of a first or later frame
+abbrev pub is_class3 : Fcoe → Bool
+is_class3 f = (f.sof == SOF_I3 || f.sof == SOF_N3) && (f.eof == EOF_N || f.eof == EOF_T)
+
+-- delimiters of a frame that is a whole sequence of class 3
+abbrev pub is_sequence : Fcoe → Bool
+is_sequence f = f.sof == SOF_I3 && f.eof == EOF_T
 
 -- the places of the SOF and of the header; behind the payload stand the CRC, the EOF and three reserved bytes
 abbrev pub SOF_AT : ℕ

@@ -1,6 +1,7 @@
 //! The body of an FCoE frame (FC-BB-5): an FC frame between its delimiters, with its CRC.
 #![tactic(auto)]
 
+mod class;
 mod delimiters;
 mod laws;
 mod reading;
@@ -53,5 +54,8 @@ const TAIL: usize = 8;
 /// The length of a body without payload.
 const LEAST: usize = 46;
 
-/// The length of a body with the longest payload.
-const MOST: usize = 2158;
+/// The bytes of a body with the longest payload, the greatest size of FCoE.
+pub const MOST_BODY: u16 = 2158;
+
+/// The same as a length.
+const MOST: usize = MOST_BODY as usize;
