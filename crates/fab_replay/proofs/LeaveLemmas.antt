@@ -58,6 +58,7 @@ left_stopped k J F p h run_fault.Memory kept = record { remains = stays_refused 
 pub along_none : (k : Task) (F : Contents) (p : Place) → F.settings ≡ k.settings → F.state ≡ state_of F.settings [] → F.events ≡ [] → F.outs ≡ [] → IsBehind k.bytes p [] → IsAlong (scene_of k) k.start.seen.told [] F p
 along_none k F p settings state events outs behind = record {
   behind = behind;
+  ranged = tt;
   legal = tt;
   stands = record { state = state; older = []; events = sym (ap (followed []) events); outs = outs ∙ sym (ap (sent_after F.settings F.count []) events) };
   settings = settings;

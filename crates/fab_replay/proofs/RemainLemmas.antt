@@ -6,6 +6,7 @@ use Rattle.fab_config.specs.Settings.{Settings}
 use Rattle.fab_policy.proofs.Standing.{legal_after, stands_after}
 use Rattle.fab_policy.specs.Journal.{Journal, clock, now}
 use Rattle.fab_policy.specs.Legal.{IsLeastOf, IsNextTick, Legal, windows_left}
+use Rattle.fab_policy.specs.Ranged.{IsRangedEvent}
 use Rattle.fab_policy.specs.Spelling.{Spells, line_of}
 use Rattle.fab_policy.specs.Standing.{Contents, Stands}
 use Rattle.fab_policy.specs.State.{Tables}
@@ -48,6 +49,7 @@ module _ (x : Scene) (told : Bool) (J : Journal) (F : Contents) (p : Place) (h :
     entry_list = J;
     rest = rest;
     lines = h.behind.lines ∙ ap (λ (f : Format). text_in f J ++ rest) h.behind.format;
+    ranged = h.ranged;
     more = more;
     taken = taken;
     legal = legal;
@@ -111,6 +113,7 @@ module _ (x : Scene) (told : Bool) (J : Journal) (F : Contents) (p : Place) (h :
     pub along_tick : (q : Place) (l : Line) → IsLineAt x.bytes p q l → l ≡ Tick m ended → G.settings ≡ F.settings → IsAlong x told (event.Tick m ended ∷ J) G q
     along_tick q l at is settings = record {
       behind = behind_more x.bytes p q J (event.Tick m ended) l h.behind at is;
+      ranged = (h.ranged, (subst (Spells p.format (first_line rest)) is at.spells).ranged);
       legal = legal_tick;
       stands = stands_tick;
       settings = settings ∙ h.settings;
@@ -153,14 +156,15 @@ module _ (x : Scene) (told : Bool) (J : Journal) (F : Contents) (p : Place) (h :
     left_frame T G (fault.Limit kind) u t = absurd u
     left_frame T G fault.Read u t = absurd u
 
-    pub along_frame : (G : Contents) → (Legal F.settings J → Stands F J → Legal F.settings (event.Frame port index r.caught verdict ∷ J) × Stands G (event.Frame port index r.caught verdict ∷ J)) → G.settings ≡ F.settings →
+    pub along_frame : (G : Contents) → (Legal F.settings J → Stands F J → Legal F.settings (event.Frame port index r.caught verdict ∷ J) × Stands G (event.Frame port index r.caught verdict ∷ J)) → IsRangedEvent (event.Frame port index r.caught verdict) → G.settings ≡ F.settings →
         IsAlong x told (event.Frame port index r.caught verdict ∷ J) G q
-    along_frame G goes settings =
+    along_frame G goes ranged settings =
         let both = goes legal_old h.stands in
         let e = event.Frame port index r.caught verdict in
         let t : w ≡ now (e ∷ J) = sym (ap (λ (o : Option ℕ). unwrap_or o 0) (sym (same_clock F J h.stands) ∙ clock_)) in
         record {
           behind = behind_more x.bytes p q J e (Frame port index verdict o) h.behind at (frame_line port index r.caught verdict p.format w o at.spells.ranged.4 on.clock_ ∙ ap (λ (n : ℕ). line_of p.format n e) t);
+          ranged = (h.ranged, ranged);
           legal = subst (λ (s : Settings). Legal s (e ∷ J)) h.settings both.0;
           stands = both.1;
           settings = settings ∙ h.settings;

@@ -5,6 +5,7 @@ use Rattle.fab_config.specs.Settings.{Settings}
 use Rattle.pcap_file.specs.declared.Record.{Record}
 use Rattle.fab_policy.specs.Journal.{Journal}
 use Rattle.fab_policy.specs.Legal.{HasPorts, Legal, Timed}
+use Rattle.fab_policy.specs.Ranged.{IsRanged}
 use Rattle.fab_policy.specs.Spelling.{Spells}
 use Rattle.fab_policy.specs.Standing.{Contents, Stands}
 use Rattle.fab_policy.specs.declared.event.Event.{Event}
@@ -64,6 +65,7 @@ pub record Remains (c : Settings) (ins : List (List Record)) (told : Bool) (text
   pub entry_list : Journal
   pub rest : List ℕ
   pub lines : text ≡ text_in (format_of text) entry_list ++ rest
+  pub ranged : IsRanged entry_list
   pub more : List Event
   pub taken : IsTaken (format_of text) entry_list rest more result
   pub legal : Legal c (more ++ entry_list)

@@ -8,6 +8,7 @@ use Rattle.fab_policy.specs.Journal.{Journal, clock}
 use Rattle.fab_policy.specs.Keeping.{IsAhead}
 use Rattle.fab_policy.specs.Legal.{IsLeastOf, IsNextTick, Legal, left_of, of_port, windows_left}
 use Rattle.fab_policy.specs.Looks.{Stop}
+use Rattle.fab_policy.specs.Ranged.{IsRanged}
 use Rattle.fab_policy.specs.Standing.{Contents, Stands}
 use Rattle.fab_policy.specs.State.{Tables}
 use Rattle.fab_policy.specs.Verdicts.{IsRight}
@@ -44,6 +45,7 @@ pub record IsReached (x : Scene) (J : Journal) (F : Contents) (p : Place) : Type
 -- are theirs.
 pub record IsAlong (x : Scene) (told : Bool) (J : Journal) (F : Contents) (p : Place) : Type 0 where
   pub behind : IsBehind x.bytes p J
+  pub ranged : IsRanged J
   pub legal : Legal x.settings J
   pub stands : Stands F J
   pub settings : F.settings ≡ x.settings

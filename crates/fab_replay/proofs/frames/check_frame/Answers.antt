@@ -151,6 +151,6 @@ returns-clause-left c = λ x told J same h win.
     let value = c.index.ensures.value in
     let place : c.index.result ≡ on.place = omega (arith, is, value) in (
       event.Frame c.in-Frame.port c.in-Frame.index r.caught c.in-Frame.verdict ∷ J,
-      along_frame x told J F p h w c.requires.clock shelves done win q c.in-Frame.port c.in-Frame.index c.in-Frame.verdict c.in-Frame.clock at r on c.take_frame.new.fabric (λ l s. let j = c.in_ok-take_frame.ensures.journal J l s in (j.0, j.1)) c.in_ok-take_frame.ensures.settings.0,
+      along_frame x told J F p h w c.requires.clock shelves done win q c.in-Frame.port c.in-Frame.index c.in-Frame.verdict c.in-Frame.clock at r on c.take_frame.new.fabric (λ l s. let j = c.in_ok-take_frame.ensures.journal J l s in (j.0, j.1)) c.in_ok-take_frame.ensures.ranged c.in_ok-take_frame.ensures.settings.0,
       λ t. window_more x w J shelves done (win t) c.in-Frame.port c.in-Frame.index c.in-Frame.clock r c.in-Frame.verdict on _ (counts_more done c.index.result on.place on.done_ place on.at.done_),
     )
