@@ -17,6 +17,7 @@ use Rattle.fab_policy.specs.declared.verdict.Verdict.{Verdict}
 use Rattle.forward_core.specs.Fabric.{AreRanged}
 use Rattle.pcap_file.specs.declared.Record.{Record}
 use Rattle.fab_replay.specs.Front.{HoldsFronts, IsFront, IsNextFrame}
+use Rattle.fab_replay.specs.Remains.{IsBegun}
 use Rattle.fab_replay.proofs.ListLemmas.{NextOf, next_of, at_inside, front_all}
 
 -- a fabric's clock and tables are those of its journals
@@ -64,7 +65,7 @@ of_port_own port index q caught v J e = ap (λ (b : Bool). of_port q J ++ added 
 pub of_port_other : (port index q : ℕ) (caught : Caught) (v : Verdict) (J : Journal) → (port ≡ q → ⊥) → of_port q (Frame port index caught v ∷ J) ≡ of_port q J
 of_port_other port index q caught v J e = ap (λ (b : Bool). of_port q J ++ added b index caught) (ne_eqb port q e) ∙ append-nil (of_port q J)
 
-module _ (c : Settings) (ins : List (List Record)) (J : Journal) (port index : ℕ) (told : Option ℕ) (r : Record) (v : Verdict) (h : IsFront c ins J) (n : IsNextFrame c ins J port index told r) where
+module _ (c : Settings) (ins : List (List Record)) (J : Journal) (port index : ℕ) (told : Option ℕ) (r : Record) (v : Verdict) (h : IsBegun c ins J) (n : IsNextFrame c ins J port index told r) where
   abbrev e : Event
   e = Frame port index r.caught v
 
@@ -91,14 +92,18 @@ module _ (c : Settings) (ins : List (List Record)) (J : Journal) (port index : �
           (held_more records (of_port (q + 1) J) r n.later index (ap (λ (p : ℕ). drop (length (of_port p J)) records) (sym own) ∙ ap (drop (length (of_port port J))) (sym same) ∙ n.next) (n.number ∙ ap (λ (p : ℕ). length (of_port p J)) own) (h.frames q records at))
       go false is = subst (AreFirst records) (sym (of_port_other port index (q + 1) r.caught v J (eqb-false port (q + 1) is))) (h.frames q records at)
 
-  pub front_frame : Legal c (e ∷ J) → IsRangedEvent e → IsFront c ins (e ∷ J)
-  front_frame legal ranged = record {
-    ranged = (h.ranged, ranged);
+  pub begun_frame : IsBegun c ins (e ∷ J)
+  begun_frame = record {
     ports = (h.ports, (let i = n.is in omega arith), (let i = n.is in omega (arith, at_inside ins n.place n.records n.are)));
     frames = frames_more;
-    legal = legal;
     timed = (h.timed, subst (λ o. IfSome o (λ (s : Record). clock J ≡ Some (window_start c s.moment))) (sym record_is) n.time);
   }
+
+pub front_frame : (c : Settings) (ins : List (List Record)) (J : Journal) (port index : ℕ) (told : Option ℕ) (r : Record) (v : Verdict) → IsFront c ins J → IsNextFrame c ins J port index told r →
+    Legal c (Frame port index r.caught v ∷ J) → IsRangedEvent (Frame port index r.caught v) → IsFront c ins (Frame port index r.caught v ∷ J)
+front_frame c ins J port index told r v h n legal ranged =
+    let b = begun_frame c ins J port index told r v (record { ports = h.ports; frames = h.frames; timed = h.timed }) n in
+    record { ranged = (h.ranged, ranged); ports = b.ports; frames = b.frames; legal = legal; timed = b.timed }
 
 -- ---- all frames
 

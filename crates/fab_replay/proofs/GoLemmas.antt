@@ -1,6 +1,6 @@
 -- How a check begins, goes on from window to window, and ends.
-use Rattle.std.proofs.Common.{◌≡◌, ◌≢◌, ℕ, zero, suc, ◌+◌, ◌^◌, ◌<◌, ◌≤◌, ◌⊎◌, inl, inr, false, List, [], ◌∷◌, ◌++◌, length, map, take, drop, slice_get, Option, Some, None, IfSome, IsTrue, Result, Ok, Err, OnOk, MatchResult, refl, sym, ap, ◌∙◌, subst, arith}
-use Rattle.std.specs.Prelude.{unwrap_or, nat_lt, filter, Vec}
+use Rattle.std.proofs.Common.{◌≡◌, ◌≢◌, ℕ, zero, suc, ◌+◌, ◌^◌, ◌<◌, ◌≤◌, ◌⊎◌, inl, inr, false, List, [], ◌∷◌, ◌++◌, length, map, take, drop, slice_get, Option, Some, None, IfSome, IsTrue, Result, Ok, Err, IfErr, OnOk, MatchResult, refl, sym, ap, ◌∙◌, subst, arith}
+use Rattle.std.specs.Prelude.{unwrap_or, Vec}
 use Rattle.std.specs.declared.alloc.Global.{Global}
 use Rattle.std.specs.List.{All}
 use Rattle.std.proofs.lemmas.List.{append-nil}
@@ -8,12 +8,12 @@ use Rattle.fab_base.specs.Seen.{Seen, Touches, Nothing}
 use Rattle.fab_base.proofs.SeenLemmas.{touches_refl, touches_trans, touches_wider}
 use Rattle.fab_config.specs.Settings.{Settings}
 use Rattle.fab_policy.specs.Growing.{with_more}
-use Rattle.fab_policy.specs.Journal.{Journal, followed}
+use Rattle.fab_policy.specs.Journal.{Journal}
 use Rattle.fab_policy.specs.Keeping.{IsAhead, Splits}
-use Rattle.fab_policy.specs.Legal.{HoldsFrames, left_of, numbered_from, of_port, window_start}
+use Rattle.fab_policy.specs.Legal.{HoldsFrames, left_of, numbered_from, of_port}
 use Rattle.fab_policy.specs.Looks.{Opened, Stop, all_records, first_window, in_order, records_in, stop}
 use Rattle.fab_policy.specs.Outputs.{State, state_of}
-use Rattle.fab_policy.specs.Standing.{Contents, sent_after}
+use Rattle.fab_policy.specs.Standing.{Contents}
 use Rattle.fab_policy.specs.Text.{egress, text, text1}
 use Rattle.fab_policy.specs.Written.{all_kept}
 use Rattle.fab_policy.specs.declared.line.Format.{Format}
@@ -31,21 +31,23 @@ use Rattle.fab_gather.specs.Ports.{AreInputs, AreReady, NameIn, joined, rests, s
 use Rattle.fab_gather.specs.Reads.{HaveRead, IsWhole, batches_of}
 use Rattle.fab_replay.specs.AllOutputs.{IsFirst, OneRose, page_at}
 use Rattle.fab_replay.specs.Check.{Checks, IsFirstStop, NamesRun, Says, sent_on}
-use Rattle.fab_replay.specs.Front.{AreRightLines, expects_tick, has_left}
+use Rattle.fab_replay.specs.Front.{AreRightLines, HoldsFronts, expects_tick, has_left}
 use Rattle.fab_replay.specs.Laws.{Laws}
 use Rattle.fab_replay.specs.Lines.{IsBehind, IsInside, IsOfLine, text_in}
-use Rattle.fab_replay.specs.Owed.{AreMany, AreNew, IsOwed, ReadsOut, Tells}
-use Rattle.fab_replay.specs.Steps.{AreCounted, IsFound, IsGathered, IsIdle, IsReached, Scene}
-use Rattle.fab_replay.specs.Windows.{Ended, Going, IsOf, OfTask, Task, captures_in, check_fault, matter_of, scene_of, slots_in}
+use Rattle.fab_replay.specs.Owed.{AreMany, AreNew, IsOfOutput, IsOwed, ReadsOut, Tells}
+use Rattle.fab_replay.specs.Steps.{AreCounted, IsAlong, IsFound, IsGathered, IsIdle, IsReached, Left, Scene}
+use Rattle.fab_replay.specs.Windows.{Ended, Going, HaveLines, IsOf, LeftBy, OfTask, RemainsOf, Task, captures_in, check_fault, matter_of, scene_of, slots_in}
 use Rattle.fab_replay.specs.declared.fault.CheckFault.{CheckFault}
 use Rattle.fab_replay.specs.declared.fault.CheckFault.TheVariants as fault
 use Rattle.fab_replay.specs.declared.lines.Place.{Place}
 use Rattle.fab_replay.specs.declared.owed.Owed.{Owed}
 use Rattle.fab_replay.proofs.FrontLemmas.{front_run}
 use Rattle.fab_replay.proofs.LeftLemmas.{left_none, tick_never}
+use Rattle.fab_replay.proofs.LeaveLemmas.{all_found, along_none, holds_nothing, left_stopped}
 use Rattle.fab_replay.proofs.ListLemmas.{rest_none, take_front}
 use Rattle.fab_replay.proofs.OwedLemmas.{first_as, owed_first, owed_stays}
 use Rattle.fab_replay.proofs.ReadLemmas.{gathered, length-records, lines_on}
+use Rattle.fab_replay.proofs.RemainLemmas.{stays}
 use Rattle.fab_replay.proofs.SlotsLemmas.{in_back, in_front, inputs_back, inputs_front, inputs_stay, left_back, left_front, name_in, rose_back, rose_front, rose_in_all}
 use Rattle.fab_replay.proofs.StayLemmas.{SameLeft, read_stays, same_left, stop_stays}
 
@@ -137,12 +139,6 @@ holds_taken c w p (o ∷ opened) (records ∷ taken) J s front lines =
           (λ q port rs at e. lines (suc q) port rs at (let f : port ≡ p + suc q = omega (arith, e) in f)),
     )
 
--- a stop at a first look keeps nothing
-holds_nothing : (c : Settings) (s : Stop) (p : ℕ) (ins : List (List Record)) → s.window ≡ None → HoldsFrames [] p (all_kept c s ins)
-holds_nothing c s p [] none = tt
-holds_nothing c s p (records ∷ ins) none =
-    (sym (ap (numbered_from 0) (ap (λ (x : Option ℕ). elim x as (λ _. List Record) [ None ↦ [] | Some v ↦ filter (λ r. nat_lt (window_start c r.moment) v) records ]) none)), holds_nothing c s (p + 1) ins none)
-
 -- the same window, by the code's own configuration
 pub gathers_as : (c s : Settings) → c ≡ s → (first w : ℕ) (a b : Seen) (ins ins' : List Input) (shelves shelves' : List Shelf) (had left : Budget) (r : Result (Unit {0}) RunFault) →
     Gathers c first w a b ins ins' shelves shelves' had left r → Gathers s first w a b ins ins' shelves shelves' had left r
@@ -178,6 +174,20 @@ module _ (laws : Laws) (k : Task) (w first : ℕ) (F : Contents) (p : Place) (d 
   opened_width : length ins ≡ length (captures_in k)
   opened_width = ports_now ∙ sym (length-opened k.start.seen k.start.ins)
 
+  -- a journal of all records that were taken
+  module _ (J : Journal) (told : IsTrue k.start.seen.told) (fronts : HoldsFronts J (scene_of k).records) (own : HaveLines J g.taken) where
+    splits_here : Splits k.settings w (captures_in k) g.taken
+    splits_here = laws.read_splits k.settings w (captures_in k) g.taken ins shelves d left (told_on told) g.read g.ready
+
+    taken_held : HoldsFrames J 1 g.taken
+    taken_held =
+        holds_taken k.settings w 1 (captures_in k) g.taken J splits_here
+        (λ q port records at is. let f : q + 1 ≡ port = omega (arith, is) in subst (λ (n : ℕ). of_port n J ≡ numbered_from 0 (take (length (of_port n J)) records)) f (fronts q records at))
+        (λ q port records at is. let f : q + 1 ≡ port = omega (arith, is) in subst (λ (n : ℕ). length (of_port n J) ≡ length records) f (own q records at))
+
+    kept_held : (s : Stop) → s.window ≡ Some w → HoldsFrames J 1 (all_kept k.settings s (all_records (captures_in k)))
+    kept_held s at = subst (HoldsFrames J 1) (sym (laws.keeps_just k.settings w s (captures_in k) g.taken at splits_here)) taken_held
+
   -- ---- its next window
 
   pub next_here : (c : Settings) → c ≡ F.settings → (o : Option ℕ) → IsNextWindow c shelves o → IsNextWindow k.settings shelves o
@@ -203,6 +213,7 @@ module _ (laws : Laws) (k : Task) (w first : ℕ) (F : Contents) (p : Place) (d 
         clock = clock_then F.state.tables.clock g.clock;
         idle = g.idle;
         inside = g.inside;
+        stood = g.stood;
         lines = g.lines;
       }
     where
@@ -224,22 +235,24 @@ module _ (laws : Laws) (k : Task) (w first : ℕ) (F : Contents) (p : Place) (d 
         let J = (g.lines told).0 in
         let h = (g.lines told).1 in
         let own = (g.lines told).2 in
-        let splits = laws.read_splits k.settings w (captures_in k) g.taken ins shelves d left (told_on told) g.read g.ready in
         record {
           at = s.0;
           is = g.stops told ∙ s.1;
           says = s.2;
           entry_list = J;
           before = right_lines (scene_of k) J F p h;
-          all = subst (HoldsFrames J 1) (sym (laws.keeps_just k.settings w s.0 (captures_in k) g.taken s.3 splits))
-              (holds_taken k.settings w 1 (captures_in k) g.taken J splits
-              (λ q port records at is. let f : q + 1 ≡ port = omega (arith, is) in subst (λ (n : ℕ). of_port n J ≡ numbered_from 0 (take (length (of_port n J)) records)) f (h.front.frames q records at))
-              (λ q port records at is. let f : q + 1 ≡ port = omega (arith, is) in subst (λ (n : ℕ). length (of_port n J) ≡ length records) f (own q records at)));
+          all = kept_held J told h.front.frames own s.0 s.3;
         })
         (λ is.
         let cause = t.cause (ap (λ y. Err y) is) in
         let rose : OneRose (slots_of ins) d b = (cause.0, (let lt = cause.1 in omega (arith, lt, length-slots ins)), cause.2) in
         rose_in_all (OfTask k) k.start.seen d g.touches (slots_in k) g.inputs b (rose_front xs k.outs d b (subst (λ s. OneRose s d b) g.slots rose)))
+
+    -- what the fabric stands for where that ends the check
+    pub left_gathering : (e : RunFault) → Gathers k.settings first w d b ins ins' shelves shelves' left left' (Err e) → LeftBy k F (check_fault e)
+    left_gathering e t = left_stopped k g.stood.0 F p g.stood.1 e (λ told stopped.
+        let s = t.stops (told_on told) stopped in
+        record { at = s.0; is = g.stops told ∙ s.1; all = kept_held g.stood.0 told (g.stood.1.begun told).frames (g.stood.2 told) s.0 s.3 })
 
     module _ (t : Gathers k.settings first w d b ins ins' shelves shelves' left left' (Ok tt)) (next : IsNextWindow k.settings shelves (Some w)) where
       abbrev taken' : List (List Record)
@@ -260,13 +273,19 @@ module _ (laws : Laws) (k : Task) (w first : ℕ) (F : Contents) (p : Place) (d 
       pub shelves_width : length shelves' ≡ length k.start.ins
       shelves_width = t.count ∙ g.count ∙ ports_now
 
-      pub gathered_now : (told : IsTrue k.start.seen.told) → IsGathered (scene_of k) w (g.lines told).0 shelves'
-      gathered_now told =
+      gathered_for : (told : IsTrue k.start.seen.told) (J : Journal) → HaveLines J g.taken → IsGathered (scene_of k) w J shelves'
+      gathered_for told J own =
           let moved = laws.moves k.settings w d b ins ins' shelves shelves' left left' g.count same_ins t.count next t.took t.ready t.spent in
           let splits = laws.read_splits k.settings (w + 1) (captures_in k) taken' ins' shelves' b left' (told_b told) read_on t.ready in
           let stops = g.stops told ∙ t.looks (told_on told) in
           let ahead = subst (IsAhead (w + 1)) (sym stops) (laws.looks_ahead k.settings first (w + 1) b ins' shelves' left' t.ready) in
-          gathered k.settings w (captures_in k) g.taken ins' shelves' b width_on read_on (g.lines told).0 (scene_of k).stop k.bytes ahead (t.count ∙ g.count ∙ opened_width) splits moved.batches moved.some (g.lines told).2
+          gathered k.settings w (captures_in k) g.taken ins' shelves' b width_on read_on J (scene_of k).stop k.bytes ahead (t.count ∙ g.count ∙ opened_width) splits moved.batches moved.some own
+
+      pub gathered_now : (told : IsTrue k.start.seen.told) → IsGathered (scene_of k) w (g.lines told).0 shelves'
+      gathered_now told = gathered_for told (g.lines told).0 (g.lines told).2
+
+      pub left_now : IsTrue k.start.seen.told → IsGathered (scene_of k) w g.stood.0 shelves'
+      left_now told = gathered_for told g.stood.0 (g.stood.2 told)
 
       -- ---- and checking its lines
 
@@ -313,9 +332,17 @@ module _ (laws : Laws) (k : Task) (w first : ℕ) (F : Contents) (p : Place) (d 
         same_e : Touches Nothing (NameIn b k.outs) b e → SameLeft b e ins'
         same_e touched = same_left b e ins' (subst (λ s. (q : ℕ) → q < length s → e.left (slot_at s q) ≡ b.left (slot_at s q)) (sym (t.slots ∙ g.slots)) (left_front xs k.outs b inputs_b e touched))
 
-        pub turn_ends : (r : Result (Unit {0}) CheckFault) → Lines r → Touches Nothing (NameIn b k.outs) b e → (r ≡ Err fault.Read → OneRose k.outs b e) → OnOk r (AreMany (length k.outs) o') → OnOk r (IsInside k.bytes q) →
+        -- what the fabric stands for then
+        abbrev pub Leave : Result (Unit {0}) CheckFault → Type 0
+        Leave r = MatchResult r (λ _. (K : Journal) × IsAlong (scene_of k) k.start.seen.told K G q × (IsTrue k.start.seen.told → AreCounted K shelves')) (λ f. Left (scene_of k) k.start.seen.told G f)
+
+        pub turn_left : (r : Result (Unit {0}) CheckFault) → Lines r → Leave r → IfErr r (λ f. LeftBy k G f)
+        turn_left (Ok u) lines leave = tt
+        turn_left (Err f) lines leave = record { remains = leave; all = λ told. all_found k.settings k.start.budget (matter_of k) leave.entry_list (scene_of k) f (lines told) }
+
+        pub turn_ends : (r : Result (Unit {0}) CheckFault) → Lines r → Leave r → Touches Nothing (NameIn b k.outs) b e → (r ≡ Err fault.Read → OneRose k.outs b e) → OnOk r (AreMany (length k.outs) o') → OnOk r (IsInside k.bytes q) →
             OnOk r (G.state.tables.clock ≡ Some w) → G.settings ≡ k.settings → G.count ≡ F.count → OnOk r (IsIdle G) → MatchResult r (λ _. Going k (w + 1) first G q e ins' shelves' left' o') (λ f. Ended k e f)
-        turn_ends (Ok u) lines touched cause many inside clock settings count idle = record {
+        turn_ends (Ok u) lines leave touched cause many inside clock settings count idle = record {
           inputs = g.inputs;
           ports = g.ports;
           outputs = g.outputs;
@@ -332,11 +359,12 @@ module _ (laws : Laws) (k : Task) (w first : ℕ) (F : Contents) (p : Place) (d 
           clock = subst (λ o. IfSome o (λ n. n < w + 1)) (sym clock) (omega arith);
           idle = idle;
           inside = inside;
+          stood = (leave.0, leave.1, λ told. lines_on k.settings w (captures_in k) g.taken ins' shelves' b width_on read_on leave.0 (leave.2 told));
           lines = λ told.
               let l = lines told in
               (l.0, l.1, lines_on k.settings w (captures_in k) g.taken ins' shelves' b width_on read_on l.0 l.2, l.3);
         }
-        turn_ends (Err f) lines touched cause many inside clock settings count idle =
+        turn_ends (Err f) lines leave touched cause many inside clock settings count idle =
             ended_line k e f (touches_e touched)
             (λ is. rose_in_all (OfTask k) k.start.seen b touches_b (slots_in k) g.inputs e (rose_back xs k.outs b e (cause (ap (λ y. Err y) is))))
             lines
@@ -350,18 +378,31 @@ module _ (laws : Laws) (k : Task) (w first : ℕ) (F : Contents) (p : Place) (d 
     all : (g.taken ≡ all_records (captures_in k)) × All IsWhole (captures_in k)
     all = laws.read_all k.settings w (captures_in k) g.taken ins shelves d (told_on told) g.read none
 
+    none_for : (K : Journal) → HaveLines K g.taken → (q : ℕ) (records : List Record) → slice_get (scene_of k).records q ≡ Some records → left_of (q + 1) records K ≡ []
+    none_for K own q records at =
+        let n = own q records (ap (λ l. slice_get l q) all.0 ∙ at) in
+        rest_none records (length (of_port (q + 1) K)) (omega (arith, n))
+
     none_of : (q : ℕ) (records : List Record) → slice_get (scene_of k).records q ≡ Some records → left_of (q + 1) records J ≡ []
-    none_of q records at =
-        let n = (g.lines told).2 q records (ap (λ l. slice_get l q) all.0 ∙ at) in
-        rest_none records (length (of_port (q + 1) J)) (omega (arith, n))
+    none_of = none_for J (g.lines told).2
 
     pub no_stop : (scene_of k).stop ≡ None
     no_stop = g.stops told ∙ laws.none_left k.settings first d ins shelves left none
 
+    nothing_for : (K : Journal) → HaveLines K g.taken → (has_left k.settings (scene_of k).records K ≡ false) × (expects_tick k.settings (scene_of k).records K ≡ false)
+    nothing_for K own =
+        tick_never k.settings (scene_of k).records K
+        (left_none k.settings 1 (scene_of k).records K (λ q port records at e. let f : q + 1 ≡ port = omega (arith, e) in ap (λ (n : ℕ). left_of n records K) (sym f) ∙ none_for K own q records at))
+
     pub nothing_left : (has_left k.settings (scene_of k).records J ≡ false) × (expects_tick k.settings (scene_of k).records J ≡ false)
-    nothing_left =
-        tick_never k.settings (scene_of k).records J
-        (left_none k.settings 1 (scene_of k).records J (λ q port records at e. let f : q + 1 ≡ port = omega (arith, e) in ap (λ (n : ℕ). left_of n records J) (sym f) ∙ none_of q records at))
+    nothing_left = nothing_for J (g.lines told).2
+
+    -- no tick is expected behind what the fabric stands for, which has all frames
+    pub left_ends : expects_tick k.settings (scene_of k).records g.stood.0 ≡ false
+    left_ends = (nothing_for g.stood.0 (g.stood.2 told)).1
+
+    left_all : HoldsFrames g.stood.0 1 (scene_of k).records
+    left_all = subst (HoldsFrames g.stood.0 1) all.0 (taken_held g.stood.0 told (g.stood.1.begun told).frames (g.stood.2 told))
 
     by_format : (f : Format) → k.bytes ≡ text_in f J ++ [] → (k.bytes ≡ text J) ⊎ (k.bytes ≡ text1 J)
     by_format One e = inr (e ∙ append-nil (text1 J))
@@ -404,6 +445,19 @@ module _ (laws : Laws) (k : Task) (w first : ℕ) (F : Contents) (p : Place) (d 
       ((x : Scene) (J : Journal) (E : Contents) → x.bytes ≡ k.bytes → x.stop ≡ None → IsReached x J E p → has_left x.settings x.records J ≡ false → expects_tick x.settings x.records J ≡ false → IsFound x e) → Ended k d e
   ended_behind none e only found =
       ended_line k d e g.touches (λ is. absurd (not_read e only is)) (λ told. let n = nothing_left none told in found (scene_of k) (g.lines told).0 F refl (no_stop none told) (g.lines told).1 n.0 n.1)
+
+  -- what the fabric stands for where an output differs, and where the check accepts
+  pub left_out : IsNextWindow k.settings shelves None → (e : CheckFault) → IsOfOutput e → LeftBy k F e
+  left_out none (fault.Output port at) only =
+      record { remains = stays (scene_of k) k.start.seen.told g.stood.0 F p g.stood.1 (Err (fault.Output port at)) refl (λ told. tt); all = λ told. left_all none told }
+  left_out none fault.Read only = record { remains = stays (scene_of k) k.start.seen.told g.stood.0 F p g.stood.1 (Err fault.Read) refl (λ told. tt); all = λ told. tt }
+  left_out none (fault.Line n y) only = absurd only
+  left_out none (fault.Capture port at w) only = absurd only
+  left_out none (fault.Limit kind) only = absurd only
+  left_out none fault.Memory only = absurd only
+
+  pub left_well : RemainsOf k F (Ok p.entries)
+  left_well = record { remains = stays (scene_of k) k.start.seen.told g.stood.0 F p g.stood.1 (Ok p.entries) (g.stood.1.behind.entries, refl) (λ told. tt); all = λ told. tt }
 
   pub outputs_now : AreInputs d k.outs
   outputs_now = inputs_back xs k.outs d all_inputs
@@ -481,6 +535,9 @@ module _ (laws : Laws) (k : Task) (d : Seen) (ins : List Input) (left : Budget) 
       let cause = f.cause (ap (λ y. Err y) is) in
       rose_front (slots_of k.start.ins) k.outs k.start.seen d (cause.0, (let lt = cause.1 in omega (arith, lt, length-slots k.start.ins)), cause.2))
 
+  pub left_looks : (e : RunFault) → LooksFirst k.settings k.start.seen d k.start.ins ins k.start.budget left (Err e) → IsAlong (scene_of k) k.start.seen.told [] F p → LeftBy k F (check_fault e)
+  left_looks e f along = left_stopped k [] F p along e (λ told stopped. let s = f.stops told stopped in record { at = s.0; is = s.1; all = holds_nothing k.settings s.0 1 (all_records (captures_in k)) s.3 })
+
   module _ (o : Owed) (new : AreNew (length k.outs) o) (outputs : length k.outs ≤ length k.start.ins) (shelves : List Shelf) (count : length shelves ≡ length k.start.ins) (ready : AreReady k.settings 0 ins shelves left) (read : HaveRead k.settings 0 (captures_in k) (map (λ i. []) k.start.ins) ins shelves d)
       (touches : Touches Nothing (NameIn k.start.seen (slots_of k.start.ins)) k.start.seen d) (slots : slots_of ins ≡ slots_of k.start.ins)
       (looks : IsTrue k.start.seen.told → stop k.settings k.start.budget.bytes k.start.budget.frames (captures_in k) ≡ stop_from k.settings (first_window (in_order (joined (rests k.settings 1 d ins shelves)))) d ins shelves left) where
@@ -512,12 +569,13 @@ module _ (laws : Laws) (k : Task) (d : Seen) (ins : List Input) (left : Budget) 
       clock = subst (λ x. IfSome x (λ t. t < 0)) (sym clock) tt;
       idle = record { events = events; outs = outs };
       inside = inside;
+      stood = ([], along_none k F p settings state events outs behind, λ told q records at. lines_none k.start.ins q records at);
       lines = λ told. (
         [],
         record {
           front = record { ranged = tt; ports = tt; frames = λ q records at. refl; legal = tt; timed = tt };
           behind = behind;
-          stands = record { state = state; older = []; events = sym (ap (followed []) events); outs = outs ∙ sym (ap (sent_after F.settings F.count []) events) };
+          stands = (along_none k F p settings state events outs behind).stands;
           settings = settings;
           count = counted ∙ sym (length-scene k);
         },

@@ -5,6 +5,7 @@ pub mod FeedLemmas
 pub mod FirstLemmas
 pub mod FrontLemmas
 pub mod GoLemmas
+pub mod LeaveLemmas
 pub mod LeftLemmas
 pub mod LineLemmas
 pub mod ListLemmas
@@ -12,6 +13,7 @@ pub mod OneLemmas
 pub mod OutputLemmas
 pub mod OwedLemmas
 pub mod ReadLemmas
+pub mod RemainLemmas
 pub mod ResultLemmas
 pub mod RowLemmas
 pub mod SameLemmas

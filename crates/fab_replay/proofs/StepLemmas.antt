@@ -37,6 +37,13 @@ use Rattle.fab_replay.proofs.LeftLemmas.{gathered_next, left_same, tick_expected
 use Rattle.fab_replay.proofs.LineLemmas.{behind_more}
 use Rattle.fab_replay.proofs.WindowLemmas.{any_left, from_next, least_window, left_here, next_from, no_tick_here}
 
+-- the line of a frame, which tells the clock where its format does
+pub frame_line : (port index : ℕ) (caught : Caught) (v : Verdict) (f : Format) (t : ℕ) (o : Option ℕ) → HasClockOf f o → IfSome o (λ k. k ≡ t) → Frame port index v o ≡ line_of f t (event.Frame port index caught v)
+frame_line port index caught v One t None has is = refl
+frame_line port index caught v One t (Some k) has is = absurd has
+frame_line port index caught v Two t None has is = absurd has
+frame_line port index caught v Two t (Some k) has is = ap (λ (n : ℕ). Frame port index v (Some n)) is
+
 module _ (x : Scene) (J : Journal) (F : Contents) (p : Place) (h : IsReached x J F p) where
   abbrev c : Settings
   c = x.settings
@@ -168,19 +175,13 @@ module _ (x : Scene) (J : Journal) (F : Contents) (p : Place) (h : IsReached x J
         refused_here fault.Read u = absurd u
         refused_here fault.Memory u = tt
 
-        line_is : (f : Format) (t : ℕ) (o : Option ℕ) → HasClockOf f o → IfSome o (λ k. k ≡ t) → Frame port index verdict o ≡ line_of f t e
-        line_is One t None has is = refl
-        line_is One t (Some k) has is = absurd has
-        line_is Two t None has is = absurd has
-        line_is Two t (Some k) has is = ap (λ (n : ℕ). Frame port index verdict (Some n)) is
-
         pub frame_reached : (G : Contents) → (Legal F.settings J → Stands F J → Legal F.settings (e ∷ J) × Stands G (e ∷ J)) → IsRangedEvent e → G.settings ≡ F.settings → G.count ≡ F.count → IsReached x (e ∷ J) G q
         frame_reached G goes ranged settings count =
             let both = goes (subst (λ (s : Settings). Legal s J) (sym h.settings) h.front.legal) h.stands in
             let t : w ≡ now (e ∷ J) = sym (ap (λ (o : Option ℕ). unwrap_or o 0) win.clock_) in
             record {
               front = front_frame c x.records J port index told r verdict h.front next_is (subst (λ (s : Settings). Legal s (e ∷ J)) h.settings both.0) ranged;
-              behind = behind_more x.bytes p q J e (Frame port index verdict told) h.behind at (line_is p.format w told at.spells.ranged.4 on.clock_ ∙ ap (λ (n : ℕ). line_of p.format n e) t);
+              behind = behind_more x.bytes p q J e (Frame port index verdict told) h.behind at (frame_line port index r.caught verdict p.format w told at.spells.ranged.4 on.clock_ ∙ ap (λ (n : ℕ). line_of p.format n e) t);
               stands = both.1;
               settings = settings ∙ h.settings;
               count = count ∙ h.count;
@@ -188,7 +189,7 @@ module _ (x : Scene) (J : Journal) (F : Contents) (p : Place) (h : IsReached x J
 
 -- ---- the next tick
 
-before_window : (o : Option ℕ) (m w : ℕ) → IfSome o (λ t. t < m) → m ≤ w → IfSome o (λ t. t < w)
+pub before_window : (o : Option ℕ) (m w : ℕ) → IfSome o (λ t. t < m) → m ≤ w → IfSome o (λ t. t < w)
 before_window None m w h le = tt
 before_window (Some t) m w h le = omega (arith, h, le)
 

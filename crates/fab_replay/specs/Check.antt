@@ -1,5 +1,5 @@
 -- What the check of a journal answers: all of it is right, or what is the first fault.
-use Rattle.std.specs.Prelude.{◌≡◌, ℕ, ◌+◌, ◌<◌, IsTrue, List, ◌++◌, length, Some, None, Result, Ok, Err, IsErrOf}
+use Rattle.std.specs.Prelude.{◌≡◌, ℕ, ◌+◌, ◌<◌, Bool, IsTrue, List, ◌++◌, length, Some, None, Result, Ok, Err, IsErrOf}
 use Rattle.std.specs.List.{All}
 use Rattle.fab_base.specs.Seen.{Seen, Touches, Nothing}
 use Rattle.fab_config.specs.Settings.{Settings}
@@ -19,6 +19,7 @@ use Rattle.fab_gather.specs.Ports.{slots_of, slot_at, NameIn}
 use Rattle.fab_gather.specs.Reads.{IsWhole}
 use Rattle.fab_replay.specs.AllOutputs.{IsFirst, OneRose}
 use Rattle.fab_replay.specs.Front.{AreRightLines, IsFirstWrong}
+use Rattle.fab_replay.specs.Remains.{Remains}
 use Rattle.fab_replay.specs.declared.fault.CheckFault.{CheckFault}
 use Rattle.fab_replay.specs.declared.fault.CheckFault.TheVariants as fault
 use Rattle.fab_replay.specs.declared.fault.LineWhy.{LineWhy}
@@ -109,3 +110,23 @@ pub record Checks (c : Settings) (budget : Budget) (ins : List Input) (outs jour
   pub touches : Touches Nothing (NameIn a (slots_of ins ++ outs)) a b
   pub says : IsTrue a.told → Says c budget (matter_in a ins journal outs) F result
   pub read : IsErrOf result fault.Read → OneRose (slots_of ins ++ outs) a b
+
+-- ---- what the fabric is then
+
+-- the frames of a journal are those before the stop of the captures
+pub record HasKept (c : Settings) (budget : Budget) (m : Matter) (J : Journal) : Type 0 where
+  pub at : Stop
+  pub is : stop c budget.bytes budget.frames m.ins ≡ Some at
+  pub all : HoldsFrames J 1 (all_kept c at (all_records m.ins))
+
+-- Where the captures stop, the lines of all frames before that were checked, and where an output differs, those of all frames.
+abbrev pub HasAll : Settings → Budget → Matter → Journal → Result ℕ CheckFault → Type 0
+HasAll c budget m J (Err (fault.Capture port at w)) = HasKept c budget m J
+HasAll c budget m J (Err (fault.Limit kind)) = HasKept c budget m J
+HasAll c budget m J (Err (fault.Output port at)) = HoldsFrames J 1 (all_records m.ins)
+HasAll c budget m J r = Unit {0}
+
+-- What a fabric stands for after the check of a journal, however it ended; where the captures are known, how far it came.
+pub record Leaves (c : Settings) (budget : Budget) (m : Matter) (told : Bool) (F : Contents) (result : Result ℕ CheckFault) : Type 0 where
+  pub remains : Remains c (all_records m.ins) told m.journal F result
+  pub all : IsTrue told → HasAll c budget m remains.entry_list result

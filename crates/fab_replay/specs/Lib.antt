@@ -6,6 +6,7 @@ pub mod Laws
 pub mod Lines
 pub mod Outputs
 pub mod Owed
+pub mod Remains
 pub mod Rows
 pub mod Showing
 pub mod Steps

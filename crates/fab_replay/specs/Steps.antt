@@ -1,21 +1,24 @@
 -- What stands between two lines of a journal, while a window of the captures is checked. No public clause cites this module.
-use Rattle.std.specs.Prelude.{◌≡◌, ℕ, ◌+◌, ◌-◌, ◌≤◌, ◌<◌, IfSome, List, [], ◌++◌, length, drop, Option, Some, option_to_list, slice_get}
+use Rattle.std.specs.Prelude.{◌≡◌, ℕ, ◌+◌, ◌-◌, ◌≤◌, ◌<◌, ◌⊎◌, Bool, true, IfSome, IsTrue, List, [], ◌∷◌, ◌++◌, length, drop, Option, Some, option_to_list, slice_get, Err}
 use Rattle.fab_base.specs.declared.values.Caught.{Caught}
 use Rattle.fab_config.specs.Settings.{Settings}
 use Rattle.pcap_file.specs.declared.Record.{Record}
 use Rattle.fab_policy.specs.Growing.{AreFrom}
 use Rattle.fab_policy.specs.Journal.{Journal, clock}
 use Rattle.fab_policy.specs.Keeping.{IsAhead}
-use Rattle.fab_policy.specs.Legal.{IsNextTick, left_of, of_port}
+use Rattle.fab_policy.specs.Legal.{IsLeastOf, IsNextTick, Legal, left_of, of_port, windows_left}
 use Rattle.fab_policy.specs.Looks.{Stop}
+use Rattle.fab_policy.specs.Ranged.{IsRanged}
 use Rattle.fab_policy.specs.Standing.{Contents, Stands}
 use Rattle.fab_policy.specs.State.{Tables}
 use Rattle.fab_policy.specs.Verdicts.{IsRight}
+use Rattle.fab_policy.specs.declared.event.Event.TheVariants.{Frame}
 use Rattle.fab_policy.specs.declared.verdict.Verdict.{Verdict}
 use Rattle.fab_gather.specs.Port.{AreIn}
 use Rattle.fab_gather.specs.declared.shelf.Shelf.{Shelf}
-use Rattle.fab_replay.specs.Front.{IsFront, IsFirstWrong}
+use Rattle.fab_replay.specs.Front.{IsFront, IsFirstWrong, expects_tick}
 use Rattle.fab_replay.specs.Lines.{IsBehind, number_behind}
+use Rattle.fab_replay.specs.Remains.{IsBegun, Remains}
 use Rattle.fab_replay.specs.declared.fault.CheckFault.{CheckFault}
 use Rattle.fab_replay.specs.declared.fault.CheckFault.TheVariants as fault
 use Rattle.fab_replay.specs.declared.fault.LineWhy.TheVariants as why
@@ -37,6 +40,20 @@ pub record IsReached (x : Scene) (J : Journal) (F : Contents) (p : Place) : Type
   pub stands : Stands F J
   pub settings : F.settings ≡ x.settings
   pub count : F.count ≡ length x.records
+
+-- The lines before a place are those of a legal journal for which a fabric stands; where the captures are known, its frames
+-- are theirs.
+pub record IsAlong (x : Scene) (told : Bool) (J : Journal) (F : Contents) (p : Place) : Type 0 where
+  pub behind : IsBehind x.bytes p J
+  pub ranged : IsRanged J
+  pub legal : Legal x.settings J
+  pub stands : Stands F J
+  pub settings : F.settings ≡ x.settings
+  pub begun : IsTrue told → IsBegun x.settings x.records J
+
+-- a fabric after a fault
+abbrev pub Left : Scene → Bool → Contents → CheckFault → Type 0
+Left x told F e = Remains x.settings x.records told x.bytes F (Err e)
 
 -- A fault of a line is the first; none of another kind comes here but one of reading and want of memory.
 abbrev pub IsFound : Scene → CheckFault → Type 0
@@ -61,6 +78,13 @@ pub record IsTickOf (w : ℕ) (F : Contents) (m : ℕ) : Type 0 where
   pub above : IfSome F.state.tables.clock (λ t. t < m)
   pub within : m ≤ w
   pub next : (J : Journal) → Stands F J → IsNextTick F.settings J w m
+
+-- a moment is the next tick, and one is expected
+pub record IsTickNow (x : Scene) (J : Journal) (m : ℕ) : Type 0 where
+  pub window : ℕ
+  pub least : IsLeastOf (windows_left x.settings 1 x.records J) window
+  pub next : IsNextTick x.settings J window m
+  pub expected : expects_tick x.settings x.records J ≡ true
 
 -- ---- frames
 
@@ -131,6 +155,12 @@ IsRefused c T p port caught verdict (fault.Line n (why.Verdict found made)) =
     (n ≡ number_behind p.format p.entries) × (found ≡ verdict) × (IsRight c T port caught found → ⊥) × IsRight c T port caught made
 IsRefused c T p port caught verdict fault.Memory = Unit {0}
 IsRefused c T p port caught verdict _ = ⊥
+
+-- What a fabric stands for then: the frame is taken with the verdict that is right; where memory is refused, maybe with one.
+abbrev pub HasTurned : Settings → Contents → Journal → ℕ → ℕ → Caught → CheckFault → Type 0
+HasTurned c G J port index caught (fault.Line n (why.Verdict found made)) = Legal c (Frame port index caught made ∷ J) × Stands G (Frame port index caught made ∷ J)
+HasTurned c G J port index caught fault.Memory = Stands G J ⊎ ((v : Verdict) × Legal c (Frame port index caught v ∷ J) × Stands G (Frame port index caught v ∷ J))
+HasTurned c G J port index caught _ = ⊥
 
 -- what it is refused with
 abbrev pub refusal : Place → Verdict → Misjudged → CheckFault

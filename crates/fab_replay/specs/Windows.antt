@@ -1,5 +1,5 @@
 -- What stands between the windows of a check. No public clause cites this module.
-use Rattle.std.specs.Prelude.{◌≡◌, ℕ, ◌+◌, ◌<◌, ◌≤◌, IsTrue, IfSome, List, ◌++◌, length, Some, Err, slice_get}
+use Rattle.std.specs.Prelude.{◌≡◌, ℕ, ◌+◌, ◌<◌, ◌≤◌, IsTrue, IfSome, List, ◌++◌, length, Some, Result, Err, slice_get}
 use Rattle.fab_base.specs.Seen.{Seen, Touches, Nothing}
 use Rattle.fab_config.specs.Settings.{Settings}
 use Rattle.pcap_file.specs.declared.Budget.{Budget}
@@ -15,10 +15,10 @@ use Rattle.fab_gather.specs.declared.fault.RunFault.TheVariants as run_fault
 use Rattle.fab_gather.specs.First.{opened_in}
 use Rattle.fab_gather.specs.Ports.{slots_of, NameIn, AreInputs, AreReady, stop_from}
 use Rattle.fab_gather.specs.Reads.{HaveRead}
-use Rattle.fab_replay.specs.Check.{Checks, Matter, matter_in}
+use Rattle.fab_replay.specs.Check.{Checks, Leaves, Matter, matter_in}
 use Rattle.fab_replay.specs.Lines.{IsInside}
 use Rattle.fab_replay.specs.Owed.{AreMany, IsOwed}
-use Rattle.fab_replay.specs.Steps.{Scene, IsIdle, IsReached}
+use Rattle.fab_replay.specs.Steps.{Scene, IsAlong, IsIdle, IsReached}
 use Rattle.fab_replay.specs.declared.fault.CheckFault.{CheckFault}
 use Rattle.fab_replay.specs.declared.fault.CheckFault.TheVariants as fault
 use Rattle.fab_replay.specs.declared.lines.Place.{Place}
@@ -95,11 +95,19 @@ pub record Going (k : Task) (w first : ℕ) (F : Contents) (p : Place) (d : Seen
   pub clock : IfSome F.state.tables.clock (λ t. t < w)
   pub idle : IsIdle F
   pub inside : IsInside k.bytes p
+  pub stood : (J : Journal) × IsAlong (scene_of k) k.start.seen.told J F p × (IsTrue k.start.seen.told → HaveLines J taken)
   pub lines : IsTrue k.start.seen.told → (J : Journal) × IsReached (scene_of k) J F p × HaveLines J taken × IsOwed k.settings (length (scene_of k).records) k.start.seen d k.outs J o
 
 -- the check of a task ended with this fault
 abbrev pub Ended : Task → Seen → CheckFault → Type 0
 Ended k d e = (F : Contents) → Checks k.settings k.start.budget k.start.ins k.outs k.bytes k.start.seen d F (Err e)
+
+-- what a fabric stands for then
+abbrev pub RemainsOf : Task → Contents → Result ℕ CheckFault → Type 0
+RemainsOf k F r = Leaves k.settings k.start.budget (matter_of k) k.start.seen.told F r
+
+abbrev pub LeftBy : Task → Contents → CheckFault → Type 0
+LeftBy k F e = RemainsOf k F (Err e)
 
 -- ---- one window
 

@@ -1,14 +1,14 @@
 //! A journal checked against captures whose heads were read, and against outputs.
-ghost use Rattle.std.specs.Prelude.{◌≡◌, ◌++◌, ◌+◌, ◌<◌, ◌≤◌, ◌^◌, ℕ, IfErr, MatchBool, MatchResult, None, length, [], false};
+ghost use Rattle.std.specs.Prelude.{◌≡◌, ◌++◌, ◌+◌, ◌<◌, ◌≤◌, ◌^◌, ℕ, Bool, IfErr, IsTrue, MatchBool, MatchResult, None, length, [], false};
 ghost use Rattle.fab_gather.specs.First.{AreFresh};
 ghost use Rattle.fab_gather.specs.Ports.{AreInputs, TakesFrom, slots_of};
 ghost use Rattle.fab_policy.specs.Journal.{Journal};
 ghost use Rattle.fab_policy.specs.Outputs.{state_of};
-ghost use Rattle.fab_replay.specs.Check.{Checks};
+ghost use Rattle.fab_replay.specs.Check.{Checks, Leaves, matter_in};
 ghost use Rattle.fab_replay.specs.Front.{expects_tick, has_left};
 ghost use Rattle.fab_replay.specs.Lines.{IsInside, IsOfLine};
-ghost use Rattle.fab_replay.specs.Steps.{IsFound, IsReached, Scene};
-ghost use Rattle.fab_replay.specs.Windows.{Ended, Going, IsOf, Task, task_of};
+ghost use Rattle.fab_replay.specs.Steps.{IsAlong, IsFound, IsReached, Left, Scene};
+ghost use Rattle.fab_replay.specs.Windows.{Ended, Going, IsOf, LeftBy, RemainsOf, Task, task_of};
 ghost use Rattle.fab_policy.specs.Standing.{Contents};
 ghost use Rattle.std.specs.Prelude.{drop};
 
@@ -37,7 +37,8 @@ struct Begun {
 /// first ports, and answers how many entries it has; without outputs none is compared. A window of
 /// the captures is read before its lines are checked, and an output that differs is told only where
 /// all lines are right. The fabric, which is new, stands for the journal then; on Err it stands for
-/// some of it. However it ends, `ins` keep their slots, and the budget isn't raised.
+/// the entries of the lines before the fault, and at most one more: the frame or the tick that
+/// should stand there. However it ends, `ins` keep their slots, and the budget isn't raised.
 pub fn check_captures<D: Depot>(
     alloc: Global,
     depot: &mut D,
@@ -56,6 +57,8 @@ pub fn check_captures<D: Depot>(
     requires nothing { (fabric.old.events ≡ []) × (fabric.old.outs ≡ []) }
     ensures checks { Checks fabric.old.settings budget.old ins.old outs.now journal.now
         (D.seen depot.old) (D.seen depot.new) fabric.new result }
+    ensures leaves { let a = D.seen depot.old in Leaves fabric.old.settings budget.old
+        (matter_in a ins.old journal.now outs.now) a.told fabric.new result }
     ensures settings { fabric.new.settings ≡ fabric.old.settings }
     ensures takes { TakesFrom ins.old ins.new budget.old budget.new }
 {
@@ -86,7 +89,7 @@ fn begin<D: Depot>(
     ensures begins { let k = task_of fabric.now.settings budget.old ins.old (D.seen depot.old)
         journal.now outs.now in MatchResult result
         (λ b. Going k 0 b.first fabric.now b.place (D.seen depot.new) ins.new b.shelves.items
-        budget.new b.owed) (λ e. Ended k (D.seen depot.new) e) }
+        budget.new b.owed) (λ e. Ended k (D.seen depot.new) e × LeftBy k fabric.now e) }
     ensures takes { TakesFrom ins.old ins.new budget.old budget.new }
 {
     // Law: what the looks to come are, what was read and what a stop keeps; Going begins with them.
@@ -124,6 +127,9 @@ fn check_begun<D: Depot>(
         begun.old.place (D.seen depot.old) ins.old begun.old.shelves.items budget.old
         begun.old.owed → Checks k.settings k.start.budget k.start.ins k.outs k.bytes k.start.seen
         (D.seen depot.new) fabric.new result }
+    ensures leaves { (k : Task) → IsOf k journal.now outs.now → Going k 0 begun.old.first
+        fabric.old begun.old.place (D.seen depot.old) ins.old begun.old.shelves.items budget.old
+        begun.old.owed → RemainsOf k fabric.new result }
     ensures settings { fabric.new.settings ≡ fabric.old.settings }
     ensures takes { TakesFrom ins.old ins.new budget.old budget.new }
 {
@@ -158,6 +164,10 @@ fn check_end(alloc: Global, journal: &[u8], place: &Place) -> Result<(), CheckFa
         → x.stop ≡ None → IsReached x J F place.now → has_left x.settings x.records J ≡ false
         → expects_tick x.settings x.records J ≡ false
         → MatchResult result (λ _. drop place.now.at journal.now ≡ []) (λ e. IsFound x e) }
+    ensures left { (x : Scene) (told : Bool) (J : Journal) (F : Contents) → x.bytes ≡ journal.now
+        → IsAlong x told J F place.now
+        → (IsTrue told → expects_tick x.settings x.records J ≡ false)
+        → IfErr result (λ e. Left x told F e) }
     ensures only { IfErr result IsOfLine }
 {
     // For the checker: the fault of a line holds this enum.

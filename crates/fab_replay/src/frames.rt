@@ -1,5 +1,5 @@
 //! The lines of the frames of a window.
-ghost use Rattle.std.specs.Prelude.{◌≡◌, ◌+◌, ◌<◌, ◌≤◌, ◌^◌, ◌∷◌, ℕ, List, IsSome, IfSome, MatchOption, MatchResult, MatchBool, OnOk, IfErr, Some, length, drop, option_copied, slice_get, [], false, true};
+ghost use Rattle.std.specs.Prelude.{◌≡◌, ◌+◌, ◌<◌, ◌≤◌, ◌^◌, ◌∷◌, ℕ, Bool, IsTrue, List, IsSome, IfSome, MatchOption, MatchResult, MatchBool, OnOk, IfErr, Some, length, drop, option_copied, slice_get, [], false, true};
 ghost use Rattle.fab_base.specs.declared.values.Caught.{Caught};
 ghost use Rattle.fab_policy.specs.Journal.{Journal};
 ghost use Rattle.fab_policy.specs.Legal.{Legal, of_port};
@@ -12,7 +12,7 @@ ghost use Rattle.fab_pages.specs.Pages.{items_in};
 ghost use Rattle.fab_replay.specs.Lines.{IsInside, IsOfLine};
 ghost use Rattle.fab_replay.specs.Steps as spec;
 ghost use Rattle.fab_replay.specs.Owed.{PagesGrow};
-ghost use Rattle.fab_replay.specs.Steps.{AllDone, At, HasLeft, IsFound, IsIdle, IsOnShelf, IsReached, IsRefused, IsWindow, Scene};
+ghost use Rattle.fab_replay.specs.Steps.{AllDone, At, HasLeft, HasTurned, IsAlong, IsFound, IsIdle, IsOnShelf, IsReached, IsRefused, IsWindow, Left, Scene};
 ghost use Rattle.pcap_file.specs.declared.Record.{Record as of_captures};
 
 use crate::lines::{fault_at, next_line};
@@ -52,6 +52,12 @@ pub(crate) fn check_frames(
         × IsWindow x window K shelves.now done.new
         × PagesGrow x.settings (length x.records) J K (items_in pages.old) (items_in pages.new))
         (λ e. IsFound x e) }
+    ensures left { (x : Scene) (told : Bool) (J : Journal) → x.bytes ≡ journal.now
+        → IsAlong x told J fabric.old place.old
+        → (IsTrue told → IsWindow x window J shelves.now done.old) → MatchResult result
+        (λ _. (K : Journal) × IsAlong x told K fabric.new place.new
+        × (IsTrue told → IsWindow x window K shelves.now done.new))
+        (λ e. Left x told fabric.new e) }
     ensures all { OnOk result (AllDone shelves.now done.new) }
     ensures inside { OnOk result (IsInside journal.now place.new) }
     ensures clock { OnOk result (fabric.new.state.tables.clock ≡ Some window) }
@@ -97,6 +103,12 @@ fn check_frame(
         × IsWindow x window K shelves.now done.new
         × PagesGrow x.settings (length x.records) J K (items_in pages.old) (items_in pages.new))
         (λ e. IsFound x e) }
+    ensures left { (x : Scene) (told : Bool) (J : Journal) → x.bytes ≡ journal.now
+        → IsAlong x told J fabric.old place.old
+        → (IsTrue told → IsWindow x window J shelves.now done.old) → MatchResult result
+        (λ _. (K : Journal) × IsAlong x told K fabric.new place.new
+        × (IsTrue told → IsWindow x window K shelves.now done.new))
+        (λ e. Left x told fabric.new e) }
     ensures inside { OnOk result (IsInside journal.now place.new) }
     ensures onward { OnOk result (place.old.at < place.new.at) }
     ensures clock { OnOk result (fabric.new.state.tables.clock ≡ Some window) }
@@ -150,6 +162,9 @@ fn take_frame(
         (IsRangedEvent (event.Frame port index found.now.caught verdict.now)) }
     ensures refused { IfErr result (λ e. IsRefused fabric.old.settings fabric.old.state.tables
         place.now port found.now.caught verdict.now e) }
+    ensures left { IfErr result (λ e. (J : Journal) → Legal fabric.old.settings J
+        → Stands fabric.old J
+        → HasTurned fabric.old.settings fabric.new J port index found.now.caught e) }
     ensures clock { OnOk result
         (fabric.new.state.tables.clock ≡ fabric.old.state.tables.clock) }
     ensures settings { (fabric.new.settings ≡ fabric.old.settings)

@@ -1,5 +1,5 @@
 //! The lines of ticks.
-ghost use Rattle.std.specs.Prelude.{IfErr, ◌≡◌, ◌+◌, ◌<◌, ◌≤◌, ◌%◌, ◌^◌, ◌∷◌, [], ℕ, List, IfSome, MatchOption, MatchResult, MatchBool, OnOk, Some, length, true};
+ghost use Rattle.std.specs.Prelude.{IfErr, Bool, IsTrue, ◌≡◌, ◌+◌, ◌<◌, ◌≤◌, ◌%◌, ◌^◌, ◌∷◌, [], ℕ, List, IfSome, MatchOption, MatchResult, MatchBool, OnOk, Some, length, true};
 ghost use Rattle.fab_policy.specs.Journal.{Journal};
 ghost use Rattle.fab_policy.specs.Keeping.{IsAhead};
 ghost use Rattle.fab_policy.specs.Legal.{IsLeastOf, IsNextTick, windows_left};
@@ -9,7 +9,7 @@ ghost use Rattle.fab_pages.specs.Pages.{items_in};
 ghost use Rattle.fab_replay.specs.Front.{expects_tick};
 ghost use Rattle.fab_replay.specs.Lines.{IsInside, IsOfLine};
 ghost use Rattle.fab_replay.specs.Owed.{PagesGrow};
-ghost use Rattle.fab_replay.specs.Steps.{HoldSame, IsFound, IsIdle, IsReached, IsTickOf, Scene};
+ghost use Rattle.fab_replay.specs.Steps.{HoldSame, IsAlong, IsFound, IsIdle, IsReached, IsTickNow, IsTickOf, Left, Scene};
 
 use crate::lines::{fault_at, next_line};
 use crate::sent::take_sent;
@@ -40,6 +40,12 @@ pub(crate) fn check_ticks(
         (λ _. (K : Journal) × IsReached x K fabric.new place.new × HoldSame J K
         × PagesGrow x.settings (length x.records) J K (items_in pages.old) (items_in pages.new))
         (λ e. IsFound x e) }
+    ensures left { (x : Scene) (told : Bool) (J : Journal) → x.bytes ≡ journal.now
+        → IsAlong x told J fabric.old place.old
+        → (IsTrue told → IsLeastOf (windows_left x.settings 1 x.records J) window)
+        → MatchResult result
+        (λ _. (K : Journal) × IsAlong x told K fabric.new place.new × HoldSame J K)
+        (λ e. Left x told fabric.new e) }
     ensures inside { OnOk result (IsInside journal.now place.new) }
     ensures clock { OnOk result (fabric.new.state.tables.clock ≡ Some window) }
     ensures settings { (fabric.new.settings ≡ fabric.old.settings)
@@ -79,6 +85,11 @@ fn check_tick(
         × PagesGrow x.settings (length x.records) J (event.Tick moment ended ∷ J)
         (items_in pages.old) (items_in pages.new))
         (λ e. IsFound x e) }
+    ensures left { (x : Scene) (told : Bool) (J : Journal) → x.bytes ≡ journal.now
+        → IsAlong x told J fabric.old place.old → (IsTrue told → IsTickNow x J moment)
+        → MatchResult result
+        (λ _. (ended : List ℕ) × IsAlong x told (event.Tick moment ended ∷ J) fabric.new place.new)
+        (λ e. Left x told fabric.new e) }
     ensures inside { OnOk result (IsInside journal.now place.new) }
     ensures onward { OnOk result (place.old.at < place.new.at) }
     ensures clock { OnOk result (fabric.new.state.tables.clock ≡ Some moment) }

@@ -1,5 +1,5 @@
 //! The windows of the captures: each is gathered, and then its lines checked.
-ghost use Rattle.std.specs.Prelude.{◌≡◌, ◌≢◌, ◌+◌, ◌<◌, ◌≤◌, ◌^◌, ◌%◌, ℕ, IfErr, IfOk, IfSome, IsErrOf, IsTrue, MatchResult, OnOk, None, Some, length, replicate};
+ghost use Rattle.std.specs.Prelude.{◌≡◌, ◌≢◌, ◌+◌, ◌<◌, ◌≤◌, ◌^◌, ◌%◌, ℕ, Bool, IfErr, IfOk, IfSome, IsErrOf, IsTrue, MatchResult, OnOk, None, Some, length, replicate};
 ghost use Rattle.fab_base.specs.Seen.{Nothing, Seen, Touches};
 ghost use Rattle.fab_gather.specs.First.{IsNextWindow};
 ghost use Rattle.fab_gather.specs.Ports.{AreInputs, NameIn, TakesFrom};
@@ -9,9 +9,9 @@ ghost use Rattle.fab_policy.specs.Journal.{Journal};
 ghost use Rattle.fab_replay.specs.Lines.{IsInside, IsOfLine};
 ghost use Rattle.fab_replay.specs.AllOutputs.{OneRose};
 ghost use Rattle.fab_replay.specs.Owed.{AreMany, IsOwed, PagesGrow};
-ghost use Rattle.fab_replay.specs.Steps.{AreCounted, IsFound, IsGathered, IsIdle, IsReached, Scene};
+ghost use Rattle.fab_replay.specs.Steps.{AreCounted, IsAlong, IsFound, IsGathered, IsIdle, IsReached, Left, Scene};
 ghost use Rattle.fab_replay.specs.Windows as spec;
-ghost use Rattle.fab_replay.specs.Windows.{Ended, Going, IsOf, Task};
+ghost use Rattle.fab_replay.specs.Windows.{Ended, Going, IsOf, LeftBy, Task};
 
 use crate::frames::check_frames;
 use crate::laws::laws_of_windows;
@@ -46,6 +46,9 @@ pub(crate) fn check_windows<D: Depot>(
         (λ _. (w : ℕ) × Going k w first fabric.new place.new (D.seen depot.new) ins.new
         shelves.new budget.new owed.new × IsNextWindow k.settings shelves.new None)
         (λ e. Ended k (D.seen depot.new) e) }
+    ensures left { (k : Task) → IsOf k journal.now outs.now → Going k 0 first fabric.old
+        place.old (D.seen depot.old) ins.old shelves.old budget.old owed.old
+        → IfErr result (λ e. LeftBy k fabric.new e) }
     ensures settings { fabric.new.settings ≡ fabric.old.settings }
     ensures takes { TakesFrom ins.old ins.new budget.old budget.new }
 {
@@ -86,6 +89,9 @@ fn check_window<D: Depot>(
         place.old (D.seen depot.old) ins.old shelves.old budget.old owed.old → MatchResult result
         (λ _. Going k (window + 1) first fabric.new place.new (D.seen depot.new) ins.new
         shelves.new budget.new owed.new) (λ e. Ended k (D.seen depot.new) e) }
+    ensures left { (k : Task) → IsOf k journal.now outs.now → Going k window first fabric.old
+        place.old (D.seen depot.old) ins.old shelves.old budget.old owed.old
+        → IfErr result (λ e. LeftBy k fabric.new e) }
     ensures settings { fabric.new.settings ≡ fabric.old.settings }
     ensures clock { OnOk result (fabric.new.state.tables.clock ≡ Some window) }
     ensures takes { TakesFrom ins.old ins.new budget.old budget.new }
@@ -157,6 +163,11 @@ fn check_gathered<D: Depot>(
         (λ _. (K : Journal) × IsReached x K fabric.new place.new × AreCounted K shelves.now
         × IsOwed x.settings (length x.records) start (D.seen depot.new) outs.now K owed.new)
         (λ e. IsFound x e) }
+    ensures left { (x : Scene) (told : Bool) (J : Journal) → x.bytes ≡ journal.now
+        → IsAlong x told J fabric.old place.old
+        → (IsTrue told → IsGathered x window J shelves.now) → MatchResult result
+        (λ _. (K : Journal) × IsAlong x told K fabric.new place.new
+        × (IsTrue told → AreCounted K shelves.now)) (λ e. Left x told fabric.new e) }
     ensures inside { OnOk result (IsInside journal.now place.new) }
     ensures clock { OnOk result (fabric.new.state.tables.clock ≡ Some window) }
     ensures settings { (fabric.new.settings ≡ fabric.old.settings)
@@ -207,6 +218,11 @@ fn check_shelves(
         (λ _. (K : Journal) × IsReached x K fabric.new place.new × AreCounted K shelves.now
         × PagesGrow x.settings (length x.records) J K (items_in pages.old) (items_in pages.new))
         (λ e. IsFound x e) }
+    ensures left { (x : Scene) (told : Bool) (J : Journal) → x.bytes ≡ journal.now
+        → IsAlong x told J fabric.old place.old
+        → (IsTrue told → IsGathered x window J shelves.now) → MatchResult result
+        (λ _. (K : Journal) × IsAlong x told K fabric.new place.new
+        × (IsTrue told → AreCounted K shelves.now)) (λ e. Left x told fabric.new e) }
     ensures inside { OnOk result (IsInside journal.now place.new) }
     ensures clock { OnOk result (fabric.new.state.tables.clock ≡ Some window) }
     ensures settings { (fabric.new.settings ≡ fabric.old.settings)

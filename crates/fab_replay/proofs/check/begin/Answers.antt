@@ -1,9 +1,11 @@
-use Rattle.std.proofs.Common.{refl, sym, subst, arith}
+use Rattle.std.proofs.Common.{[], refl, sym, subst}
 use Rattle.fab_gather.specs.Ports.{slots_of}
 use Rattle.fab_gather.proofs.LeavesLemmas.{takes_none}
-use Rattle.fab_replay.specs.Windows.{Ended, task_of}
+use Rattle.fab_replay.specs.Windows.{Ended, LeftBy, scene_of, task_of}
 use Rattle.fab_replay.specs.declared.fault.CheckFault.TheVariants as fault
-use Rattle.fab_replay.proofs.GoLemmas.{ended_looks, ended_refused, going_begin}
+use Rattle.fab_replay.proofs.GoLemmas.{ended_looks, ended_refused, going_begin, left_looks}
+use Rattle.fab_replay.proofs.LeaveLemmas.{along_none, left_line}
+use Rattle.fab_replay.proofs.RemainLemmas.{stays_refused}
 use Rattle.fab_replay.proofs.ResultLemmas.{told_on}
 use Rattle.fab_replay.proofs.SlotsLemmas.{inputs_front}
 use Rattle.fab_replay.proofs.check.begin.Goals as goal
@@ -11,9 +13,11 @@ use Rattle.fab_replay.proofs.check.begin.Goals as goal
 pub returns-in_err-owed : goal.returns-in_err-owed
 returns-in_err-owed g c =
     let seen = g.D.Depot.seen in
+    let F = c.args.fabric.now in
     let k = task_of c.args.fabric.now.settings c.args.budget.now c.args.ins.now (seen c.args.depot.now) c.args.journal.now c.args.outs.now in
     record {
-      begins = told_on c.from_residual.result fault.Memory _ _ c.from_residual.ensures.1 (ended_refused k);
+      begins = told_on c.from_residual.result fault.Memory _ _ c.from_residual.ensures.1
+          (ended_refused k, left_line k F fault.Memory tt (stays_refused (scene_of k) k.start.seen.told [] F c.first_place-place.result (along_none k F c.first_place-place.result refl c.requires.state c.requires.nothing.0 c.requires.nothing.1 c.first_place-place.ensures.behind)));
       takes = takes_none c.args.ins.now c.args.budget.now;
     }
 
@@ -35,9 +39,12 @@ returns-in-Err g c =
     let F = c.args.fabric.now in
     let k = task_of F.settings c.args.budget.now c.args.ins.now (seen c.args.depot.now) c.args.journal.now c.args.outs.now in
     record {
-      begins = subst (Ended k (seen c.first_looks.new.depot)) (sym c.fault_of.ensures)
-          (ended_looks c.laws_of_windows.ensures k (seen c.first_looks.new.depot) c.first_looks.new.ins c.first_looks.new.budget F c.first_place-place.result c.requires.inputs c.requires.ports.1
-          c.in-Err.fault (c.in-Err.ensures.looks F.settings) c.first_place-place.ensures.behind);
+      begins = subst (λ e. Ended k (seen c.first_looks.new.depot) e × LeftBy k F e) (sym c.fault_of.ensures) (
+        ended_looks c.laws_of_windows.ensures k (seen c.first_looks.new.depot) c.first_looks.new.ins c.first_looks.new.budget F c.first_place-place.result c.requires.inputs c.requires.ports.1
+            c.in-Err.fault (c.in-Err.ensures.looks F.settings) c.first_place-place.ensures.behind,
+        left_looks c.laws_of_windows.ensures k (seen c.first_looks.new.depot) c.first_looks.new.ins c.first_looks.new.budget F c.first_place-place.result c.requires.inputs c.requires.ports.1
+            c.in-Err.fault (c.in-Err.ensures.looks F.settings) (along_none k F c.first_place-place.result refl c.requires.state c.requires.nothing.0 c.requires.nothing.1 c.first_place-place.ensures.behind),
+      );
       takes = (c.in-Err.ensures.looks F.settings).takes;
     }
 

@@ -3,8 +3,9 @@ use Rattle.fab_gather.specs.Ports.{AreInputs}
 use Rattle.fab_replay.specs.Check.{Checks}
 use Rattle.fab_replay.specs.Lines.{IsInside}
 use Rattle.fab_replay.specs.Owed.{AreMany, ReadsOut}
-use Rattle.fab_replay.specs.Windows.{Going}
-use Rattle.fab_replay.proofs.GoLemmas.{ended_behind, ended_out, ended_well, outputs_now}
+use Rattle.fab_replay.specs.Windows.{Going, RemainsOf, scene_of}
+use Rattle.fab_replay.proofs.GoLemmas.{ended_behind, ended_out, ended_well, left_ends, left_out, left_well, outputs_now}
+use Rattle.fab_replay.proofs.LeaveLemmas.{left_line}
 use Rattle.fab_replay.proofs.ResultLemmas.{err_is}
 use Rattle.fab_replay.proofs.check.check_begun.Goals as goal
 
@@ -98,3 +99,45 @@ returns-clause-checks g c = λ k same going.
     let d = seen c.read_out.new.depot in
     ended_well c.laws_of_windows.ensures k t.0 b.first n.fabric n.place (seen n.depot) n.ins n.shelves n.budget n.owed t.1 t.2 (λ x J F is stop h left tick. subst (λ l. drop n.place.at l ≡ []) (sym same.journal) (c.in_ok-check_end.ensures.checks x J F (is ∙ same.journal) stop h left tick)) d
     (subst (λ l. ReadsOut l (seen n.depot) d n.owed (Ok tt)) (sym same.outputs) c.in_ok-read_out.ensures.reads)
+
+-- ---- what the fabric stands for
+
+pub returns-in_err-check_windows-clause-leaves : goal.returns-in_err-check_windows-clause-leaves
+returns-in_err-check_windows-clause-leaves g c = λ k same going.
+    let seen = g.D.Depot.seen in
+    let b = c.args.begun.now in
+    let now = subst (λ l. Going k 0 b.first c.args.fabric.now b.place (seen c.args.depot.now) c.args.ins.now l c.args.budget.now b.owed) (sym c.deref_mut.ensures.value) going in
+    subst (RemainsOf k c.check_windows.new.fabric) (err_is c.from_residual.result c.in_err-check_windows.field-0.0 c.from_residual.ensures.1) (c.in_err-check_windows.ensures.left k same now)
+
+pub returns-in_err-check_end-clause-leaves : goal.returns-in_err-check_end-clause-leaves
+returns-in_err-check_end-clause-leaves g c = λ k same going.
+    let seen = g.D.Depot.seen in
+    let b = c.args.begun.now in
+    let now = subst (λ l. Going k 0 b.first c.args.fabric.now b.place (seen c.args.depot.now) c.args.ins.now l c.args.budget.now b.owed) (sym c.deref_mut.ensures.value) going in
+    let t = c.in_ok-check_windows.ensures.turns k same now in
+    let n = c.check_windows.new in
+    let e = c.in_err-check_end.field-0.0 in
+    let along = t.1.stood in
+    subst (RemainsOf k n.fabric) (err_is c.from_residual-in_err-check_end.result e c.from_residual-in_err-check_end.ensures.1)
+    (left_line k n.fabric e c.in_err-check_end.ensures.only (c.in_err-check_end.ensures.left (scene_of k) k.start.seen.told along.0 n.fabric same.journal along.1
+    (λ told. left_ends c.laws_of_windows.ensures k t.0 b.first n.fabric n.place (seen n.depot) n.ins n.shelves n.budget n.owed t.1 t.2 told)))
+
+pub returns-in_err-read_out-clause-leaves : goal.returns-in_err-read_out-clause-leaves
+returns-in_err-read_out-clause-leaves g c = λ k same going.
+    let seen = g.D.Depot.seen in
+    let b = c.args.begun.now in
+    let now = subst (λ l. Going k 0 b.first c.args.fabric.now b.place (seen c.args.depot.now) c.args.ins.now l c.args.budget.now b.owed) (sym c.deref_mut.ensures.value) going in
+    let t = c.in_ok-check_windows.ensures.turns k same now in
+    let n = c.check_windows.new in
+    let e = c.in_err-read_out.field-0.0 in
+    subst (RemainsOf k n.fabric) (err_is c.from_residual-in_err-read_out.result e c.from_residual-in_err-read_out.ensures.1)
+    (left_out c.laws_of_windows.ensures k t.0 b.first n.fabric n.place (seen n.depot) n.ins n.shelves n.budget n.owed t.1 t.2 e c.in_err-read_out.ensures.reads.only)
+
+pub returns-clause-leaves : goal.returns-clause-leaves
+returns-clause-leaves g c = λ k same going.
+    let seen = g.D.Depot.seen in
+    let b = c.args.begun.now in
+    let now = subst (λ l. Going k 0 b.first c.args.fabric.now b.place (seen c.args.depot.now) c.args.ins.now l c.args.budget.now b.owed) (sym c.deref_mut.ensures.value) going in
+    let t = c.in_ok-check_windows.ensures.turns k same now in
+    let n = c.check_windows.new in
+    left_well c.laws_of_windows.ensures k t.0 b.first n.fabric n.place (seen n.depot) n.ins n.shelves n.budget n.owed t.1

@@ -1,6 +1,6 @@
 use Rattle.std.proofs.Common.{refl, subst}
 use Rattle.fab_replay.specs.Check.{Checks}
-use Rattle.fab_replay.specs.Windows.{task_of}
+use Rattle.fab_replay.specs.Windows.{RemainsOf, task_of}
 use Rattle.fab_replay.proofs.ResultLemmas.{err_is}
 use Rattle.fab_replay.proofs.check.check_captures.Goals as goal
 
@@ -9,7 +9,7 @@ returns-in_err-begun-clause-checks g c =
     let seen = g.D.Depot.seen in
     let F = c.args.fabric.now in
     subst (Checks F.settings c.args.budget.now c.args.ins.now c.args.outs.now c.args.journal.now (seen c.args.depot.now) (seen c.begin.new.depot) F)
-    (err_is c.from_residual.result c.in_err-begun.field-0.0 c.from_residual.ensures.1) (c.in_err-begun.ensures.begins F)
+    (err_is c.from_residual.result c.in_err-begun.field-0.0 c.from_residual.ensures.1) (c.in_err-begun.ensures.begins.0 F)
 
 pub check_begun-requires : goal.check_begun-requires
 check_begun-requires g c =
@@ -22,3 +22,15 @@ returns-clause-checks g c =
     let F = c.args.fabric.now in
     let k = task_of F.settings c.args.budget.now c.args.ins.now (g.D.Depot.seen c.args.depot.now) c.args.journal.now c.args.outs.now in
     c.check_begun.ensures.checks k (record { journal = refl; outputs = refl }) c.in_ok-begun.ensures.begins
+
+pub returns-in_err-begun-clause-leaves : goal.returns-in_err-begun-clause-leaves
+returns-in_err-begun-clause-leaves g c =
+    let F = c.args.fabric.now in
+    let k = task_of F.settings c.args.budget.now c.args.ins.now (g.D.Depot.seen c.args.depot.now) c.args.journal.now c.args.outs.now in
+    subst (RemainsOf k F) (err_is c.from_residual.result c.in_err-begun.field-0.0 c.from_residual.ensures.1) c.in_err-begun.ensures.begins.1
+
+pub returns-clause-leaves : goal.returns-clause-leaves
+returns-clause-leaves g c =
+    let F = c.args.fabric.now in
+    let k = task_of F.settings c.args.budget.now c.args.ins.now (g.D.Depot.seen c.args.depot.now) c.args.journal.now c.args.outs.now in
+    c.check_begun.ensures.leaves k (record { journal = refl; outputs = refl }) c.in_ok-begun.ensures.begins

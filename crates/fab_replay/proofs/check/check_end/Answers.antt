@@ -1,7 +1,8 @@
 use Rattle.std.proofs.Common.{◌≡◌, [], drop, refl, sym, subst}
 use Rattle.fab_replay.specs.Lines.{IsLineAt, IsUnread, number_behind}
-use Rattle.fab_replay.specs.Steps.{IsFound}
+use Rattle.fab_replay.specs.Steps.{IsFound, Left}
 use Rattle.fab_replay.proofs.EndLemmas.{frame_behind, text_behind, tick_behind}
+use Rattle.fab_replay.proofs.RemainLemmas.{stays_frame, stays_tick, stays_unread}
 use Rattle.fab_replay.proofs.check.check_end.Goals as goal
 
 pub returns-in-Ok-Tick-clause-checks : goal.returns-in-Ok-Tick-clause-checks
@@ -25,3 +26,18 @@ returns-clause-checks c = λ x J F same none h left unexpected.
     let p = c.args.place.now in
     text_behind x J F p h none c.in-Err.fault (subst (λ b. drop p.at b ≡ [] → ⊥) (sym same) c.if-is_end.ensures)
     (subst (λ b. IsUnread b p c.in-Err.fault) (sym same) c.in-Err.ensures.unread.0)
+
+-- ---- what the fabric stands for
+
+pub returns-in-Ok-Tick-clause-left : goal.returns-in-Ok-Tick-clause-left
+returns-in-Ok-Tick-clause-left c = λ x told J F same h unexpected.
+    let p = c.args.place.now in
+    subst (Left x told F) (sym c.fault_at.ensures) (stays_tick x told J F p h (number_behind p.format p.entries) refl unexpected)
+
+pub returns-in-Ok-Frame-clause-left : goal.returns-in-Ok-Frame-clause-left
+returns-in-Ok-Frame-clause-left c = λ x told J F same h unexpected.
+    let p = c.args.place.now in
+    subst (Left x told F) (sym c.fault_at-in-Ok-Frame.ensures) (stays_frame x told J F p h (number_behind p.format p.entries) refl)
+
+pub returns-clause-left : goal.returns-clause-left
+returns-clause-left c = λ x told J F same h unexpected. stays_unread x told J F c.args.place.now h c.in-Err.fault (subst (λ b. IsUnread b c.args.place.now c.in-Err.fault) (sym same) c.in-Err.ensures.unread.0)

@@ -2,12 +2,13 @@ use Rattle.std.proofs.Common.{◌≡◌, ◌∷◌, refl, sym, subst, arith}
 use Rattle.fab_policy.specs.declared.event.Event.TheVariants as event
 use Rattle.fab_pages.specs.Pages.{items_in}
 use Rattle.fab_replay.specs.Lines.{IsLineAt, IsUnread, number_behind}
-use Rattle.fab_replay.specs.Steps.{IsFound}
+use Rattle.fab_replay.specs.Steps.{IsFound, Left}
 use Rattle.fab_replay.proofs.ListLemmas.{at_inside}
+use Rattle.fab_replay.proofs.RemainLemmas.{along_frame, left_frame, legal_old, stays_frame, stays_tick, stays_unread}
 use Rattle.fab_replay.proofs.ResultLemmas.{told_on}
 use Rattle.fab_replay.proofs.SentLemmas.{grow_reached, legal_there}
 use Rattle.fab_replay.proofs.StepLemmas.{frame_reached, gathered_here, has_left_here, other_frame, refused_here, tick_here, unread_here}
-use Rattle.fab_replay.proofs.WindowLemmas.{count_fits, counts_more, window_more}
+use Rattle.fab_replay.proofs.WindowLemmas.{count_fits, counts_more, no_tick_here, window_more}
 use Rattle.fab_replay.proofs.frames.check_frame.Goals as goal
 
 pub returns-in_err-line-clause-checks : goal.returns-in_err-line-clause-checks
@@ -103,3 +104,53 @@ overflow_add-done c =
     let place : c.index.result ≡ on.place = omega (arith, is, value) in
     let fits = count_fits c.args.done.now c.index.result on.place on.done_ place on.at.done_ (c.in-Some.ensures.room on.place on.done_ on.is on.at.done_) in
     omega (arith, fits)
+
+-- ---- what the fabric stands for
+
+pub returns-in_err-line-clause-left : goal.returns-in_err-line-clause-left
+returns-in_err-line-clause-left c = λ x told J same h win.
+    let p = c.args.place.now in
+    let e = c.in_err-line.field-0.0 in
+    told_on c.from_residual.result e _ _ c.from_residual.ensures.1 (stays_unread x told J c.args.fabric.now p h e (subst (λ b. IsUnread b p e) (sym same) c.in_err-line.ensures.unread.0))
+
+pub returns-in_default-clause-left : goal.returns-in_default-clause-left
+returns-in_default-clause-left c = λ x told J same h win.
+    let F = c.args.fabric.now in
+    let p = c.args.place.now in
+    subst (Left x told F) (sym c.fault_at.ensures) (stays_tick x told J F p h (number_behind p.format p.entries) refl (λ t. no_tick_here x c.args.window J c.args.shelves.now c.args.done.now (win t) c.requires.left))
+
+pub returns-in_default-next_on_shelf-clause-left : goal.returns-in_default-next_on_shelf-clause-left
+returns-in_default-next_on_shelf-clause-left c = λ x told J same h win.
+    let F = c.args.fabric.now in
+    let p = c.args.place.now in
+    subst (Left x told F) (sym c.fault_at-in_default-next_on_shelf.ensures) (stays_frame x told J F p h (number_behind p.format p.entries) refl)
+
+pub returns-in_err-take_frame-clause-left : goal.returns-in_err-take_frame-clause-left
+returns-in_err-take_frame-clause-left c = λ x told J same h win.
+    let F = c.args.fabric.now in
+    let p = c.args.place.now in
+    let q = c.next_line.new.place in
+    let at = subst (IsLineAt x.bytes p q) c.in-Frame.is (subst (λ b. IsLineAt b p q c.in_ok-line.line) (sym same) c.in_ok-line.ensures.line) in
+    let e = c.in_err-take_frame.field-0.0 in
+    told_on c.from_residual-in_err-take_frame.result e _ _ c.from_residual-in_err-take_frame.ensures.1
+    (left_frame x told J F p h c.args.window c.requires.clock c.args.shelves.now c.args.done.now win q c.in-Frame.port c.in-Frame.index c.in-Frame.verdict c.in-Frame.clock at c.in-Some.found.now c.in-Some.ensures.named
+    F.state.tables c.take_frame.new.fabric e c.in_err-take_frame.ensures.refused (c.in_err-take_frame.ensures.left J (legal_old x told J F p h) h.stands))
+
+pub returns-clause-left : goal.returns-clause-left
+returns-clause-left c = λ x told J same h win.
+    let F = c.args.fabric.now in
+    let p = c.args.place.now in
+    let w = c.args.window in
+    let shelves = c.args.shelves.now in
+    let done = c.args.done.now in
+    let q = c.next_line.new.place in
+    let at = subst (IsLineAt x.bytes p q) c.in-Frame.is (subst (λ b. IsLineAt b p q c.in_ok-line.line) (sym same) c.in_ok-line.ensures.line) in
+    let r = c.in-Some.found.now in
+    let on = c.in-Some.ensures.named in
+    let is = on.is in
+    let value = c.index.ensures.value in
+    let place : c.index.result ≡ on.place = omega (arith, is, value) in (
+      event.Frame c.in-Frame.port c.in-Frame.index r.caught c.in-Frame.verdict ∷ J,
+      along_frame x told J F p h w c.requires.clock shelves done win q c.in-Frame.port c.in-Frame.index c.in-Frame.verdict c.in-Frame.clock at r on c.take_frame.new.fabric (λ l s. let j = c.in_ok-take_frame.ensures.journal J l s in (j.0, j.1)) c.in_ok-take_frame.ensures.ranged c.in_ok-take_frame.ensures.settings.0,
+      λ t. window_more x w J shelves done (win t) c.in-Frame.port c.in-Frame.index c.in-Frame.clock r c.in-Frame.verdict on _ (counts_more done c.index.result on.place on.done_ place on.at.done_),
+    )

@@ -7,6 +7,7 @@ use Rattle.fab_replay.proofs.frames.check_frames.Goals as goal
 pub lines-init : goal.lines-init
 lines-init c = record {
   checks = λ x J same h win. (J, h, win, grow_none x.settings (length x.records) J (items_in c.args.pages.now));
+  left = λ x told J same h win. (J, h, win);
   inside = c.requires.inside;
   clock = c.requires.clock;
   settings = refl;
@@ -22,6 +23,7 @@ lines-preserved c = record {
       let at = c.lines.invariant.checks x J same h win in
       let step = c.in_ok-check_frame.ensures.checks x at.0 same at.1 at.2 in
       (step.0, step.1, step.2, grow_more x.settings (length x.records) J at.0 step.0 (items_in c.args.pages.now) (items_in c.lines.pages) (items_in c.check_frame.new.pages) at.3 step.3);
+  left = λ x told J same h win. let at = c.lines.invariant.left x told J same h win in c.in_ok-check_frame.ensures.left x told at.0 same at.1 at.2;
   inside = c.in_ok-check_frame.ensures.inside;
   clock = c.in_ok-check_frame.ensures.clock;
   settings = c.in_ok-check_frame.ensures.settings.0 ∙ c.lines.invariant.settings;
@@ -36,3 +38,11 @@ returns-in_err-check_frame-clause-checks c = λ x J same h win.
     let at = c.lines.invariant.checks x J same h win in
     let e = c.in_err-check_frame.field-0.0 in
     told_on c.from_residual.result e _ _ c.from_residual.ensures.1 (c.in_err-check_frame.ensures.checks x at.0 same at.1 at.2)
+
+pub returns-in_err-check_frame-clause-left : goal.returns-in_err-check_frame-clause-left
+returns-in_err-check_frame-clause-left c = λ x told J same h win.
+    let at = c.lines.invariant.left x told J same h win in
+    told_on c.from_residual.result c.in_err-check_frame.field-0.0 _ _ c.from_residual.ensures.1 (c.in_err-check_frame.ensures.left x told at.0 same at.1 at.2)
+
+pub returns-clause-left : goal.returns-clause-left
+returns-clause-left c = c.lines.invariant.left

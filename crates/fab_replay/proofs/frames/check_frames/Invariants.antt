@@ -1,15 +1,17 @@
-use Rattle.std.proofs.Common.{◌≡◌, ◌-◌, Some, length}
+use Rattle.std.proofs.Common.{◌≡◌, ◌-◌, Bool, IsTrue, Some, length}
 use Rattle.fab_pages.specs.Pages.{items_in}
 use Rattle.fab_policy.specs.Journal.{Journal}
 use Rattle.fab_replay.specs.Lines.{IsInside}
 use Rattle.fab_replay.specs.Owed.{PagesGrow}
-use Rattle.fab_replay.specs.Steps.{IsIdle, IsReached, IsWindow, Scene}
+use Rattle.fab_replay.specs.Steps.{IsAlong, IsIdle, IsReached, IsWindow, Scene}
 use Rattle.fab_replay.proofs.frames.check_frames.Given as goal
 
 abbrev pub invariant-lines : goal.invariant-lines
 invariant-lines l = record {
   checks : (x : Scene) (J : Journal) → x.bytes ≡ l.journal → IsReached x J l.fn.fabric l.fn.place → IsWindow x l.window J l.shelves l.fn.done →
       (K : Journal) × IsReached x K l.fabric l.place × IsWindow x l.window K l.shelves l.done × PagesGrow x.settings (length x.records) J K (items_in l.fn.pages) (items_in l.pages);
+  left : (x : Scene) (told : Bool) (J : Journal) → x.bytes ≡ l.journal → IsAlong x told J l.fn.fabric l.fn.place → (IsTrue told → IsWindow x l.window J l.shelves l.fn.done) →
+      (K : Journal) × IsAlong x told K l.fabric l.place × (IsTrue told → IsWindow x l.window K l.shelves l.done);
   inside : IsInside l.journal l.place;
   clock : l.fabric.state.tables.clock ≡ Some l.window;
   settings : l.fabric.settings ≡ l.fn.fabric.settings;

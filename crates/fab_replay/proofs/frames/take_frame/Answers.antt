@@ -1,4 +1,4 @@
-use Rattle.std.proofs.Common.{◌∙◌, ◌∷◌, ◌++◌, [], List, ap, subst}
+use Rattle.std.proofs.Common.{◌∙◌, ◌∷◌, ◌++◌, [], List, inr, ap, subst}
 use Rattle.fab_base.specs.declared.values.Caught.{Caught}
 use Rattle.fab_pages.specs.Pages.{items_in}
 use Rattle.fab_policy.specs.Legal.{Legal}
@@ -7,7 +7,11 @@ use Rattle.fab_policy.specs.Standing.{Stands}
 use Rattle.fab_policy.specs.declared.event.Event.{Event}
 use Rattle.fab_policy.specs.declared.event.Event.TheVariants as event
 use Rattle.fab_replay.specs.Owed.{PagesGrow}
+use Rattle.fab_replay.specs.Steps.{HasTurned}
+use Rattle.fab_replay.specs.declared.fault.CheckFault.TheVariants as fault
 use Rattle.fab_replay.proofs.FrontLemmas.{ranged_one}
+use Rattle.fab_replay.proofs.RemainLemmas.{turned_as}
+use Rattle.fab_replay.proofs.ResultLemmas.{err_on}
 use Rattle.fab_replay.proofs.SentLemmas.{frame_soon, grow_taken}
 use Rattle.fab_replay.proofs.StepLemmas.{refused_as}
 use Rattle.fab_replay.proofs.frames.take_frame.Goals as goal
@@ -37,3 +41,17 @@ returns-clause-ranged c =
     let e = event.Frame c.args.port c.args.index c.hear.result.caught.now c.args.verdict.now in
     subst (λ (x : Caught). IsRangedEvent (event.Frame c.args.port c.args.index x c.args.verdict.now)) c.hear.ensures.caught
     (ranged_one e c.step_as.new.fabric.events (c.in-Ok.ensures.takes.events ∙ ap (λ (l : List Event). l ++ e ∷ []) c.requires.idle.events) c.take_sent.ensures.ranged)
+
+pub returns-in-Err-clause-left : goal.returns-in-Err-clause-left
+returns-in-Err-clause-left c = λ J legal stands.
+    turned_as c.args.fabric.now c.step_as.new.fabric J c.args.place.now c.args.port c.args.index c.args.found.now.caught c.hear.result.caught.now c.args.verdict.now c.in-Err.misjudged c.refusal.result
+    c.hear.ensures.caught c.requires.clock c.in-Err.ensures.wrong c.in-Err.ensures.left c.refusal.ensures legal stands
+
+pub returns-in_err-take_sent-clause-left : goal.returns-in_err-take_sent-clause-left
+returns-in_err-take_sent-clause-left c = err_on c.from_residual.result fault.Memory _ c.from_residual.ensures.1 (λ J legal stands.
+    let F = c.args.fabric.now in
+    let G = c.take_sent.new.fabric in
+    let v = c.args.verdict.now in
+    let e = event.Frame c.args.port c.args.index c.hear.result.caught.now v in
+    let j = c.in-Ok.ensures.journal J legal stands in
+    subst (λ (x : Caught). HasTurned F.settings G J c.args.port c.args.index x fault.Memory) c.hear.ensures.caught (inr (v, j.0, c.take_sent.ensures.stands (e ∷ J) j.1)))

@@ -4,9 +4,10 @@ use Rattle.fab_policy.specs.declared.event.Event.{Event}
 use Rattle.fab_policy.specs.declared.event.Event.TheVariants as event
 use Rattle.fab_pages.specs.Pages.{items_in}
 use Rattle.fab_replay.specs.Lines.{IsLineAt, IsUnread, number_behind}
-use Rattle.fab_replay.specs.Steps.{IsFound}
+use Rattle.fab_replay.specs.Steps.{IsFound, Left}
 use Rattle.fab_replay.specs.declared.fault.CheckFault.TheVariants as fault
 use Rattle.fab_replay.proofs.LeftLemmas.{gathered_next}
+use Rattle.fab_replay.proofs.RemainLemmas.{along_tick, left_refused, left_tick, stays_refused, stays_unread}
 use Rattle.fab_replay.proofs.ResultLemmas.{if_false, if_true, told_on}
 use Rattle.fab_replay.proofs.SentLemmas.{grow_reached, grow_taken, legal_there, tick_soon}
 use Rattle.fab_replay.proofs.StepLemmas.{left_then, other_tick, tick_reached, unread_here}
@@ -62,3 +63,55 @@ take_sent-requires c = record {
 
 pub returns-in_err-drained-clause-checks : goal.returns-in_err-drained-clause-checks
 returns-in_err-drained-clause-checks c = λ x J w same h least next expected ahead. told_on c.from_residual-in_err-drained.result fault.Memory _ _ c.from_residual-in_err-drained.ensures.1 tt
+
+-- ---- what the fabric stands for
+
+pub returns-in_err-line-clause-left : goal.returns-in_err-line-clause-left
+returns-in_err-line-clause-left c = λ x told J same h next.
+    let p = c.args.place.now in
+    let e = c.in_err-line.field-0.0 in
+    told_on c.from_residual.result e _ _ c.from_residual.ensures.1 (stays_unread x told J c.args.fabric.now p h e (subst (λ b. IsUnread b p e) (sym same) c.in_err-line.ensures.unread.0))
+
+pub returns-in_err-tick-clause-left : goal.returns-in_err-tick-clause-left
+returns-in_err-tick-clause-left c = λ x told J same h next.
+    told_on c.from_residual-in_err-tick.result fault.Memory _ _ c.from_residual-in_err-tick.ensures.1
+    (subst (λ G. Left x told G fault.Memory) (sym c.in_err-tick.ensures.err) (stays_refused x told J c.args.fabric.now c.args.place.now h))
+
+pub returns-in_err-drained-clause-left : goal.returns-in_err-drained-clause-left
+returns-in_err-drained-clause-left c = λ x told J same h next.
+    let F = c.args.fabric.now in
+    let ends = addresses (overdue F.settings F.state.tables c.args.moment) in
+    told_on c.from_residual-in_err-drained.result fault.Memory _ _ c.from_residual-in_err-drained.ensures.1
+    (left_refused x told J F c.args.place.now h c.args.moment ends next c.take_sent.new.fabric (λ l s.
+    let j = c.in_ok-tick.ensures.journal J l s in
+    (j.0, c.take_sent.ensures.stands (event.Tick c.args.moment ends ∷ J) j.1)))
+
+pub returns-then-not-is_line_of-clause-left : goal.returns-then-not-is_line_of-clause-left
+returns-then-not-is_line_of-clause-left c = λ x told J same h next.
+    let F = c.args.fabric.now in
+    let G = c.take_sent.new.fabric in
+    let p = c.args.place.now in
+    let ends = addresses (overdue F.settings F.state.tables c.args.moment) in
+    subst (Left x told G) (sym c.fault_at.ensures)
+    (left_tick x told J F p h c.args.moment ends next G (λ l s.
+    let j = c.in_ok-tick.ensures.journal J l s in
+    (j.0, c.take_sent.ensures.stands (event.Tick c.args.moment ends ∷ J) j.1)) (number_behind p.format p.entries) refl)
+
+pub returns-clause-left : goal.returns-clause-left
+returns-clause-left c = λ x told J same h next.
+    let F = c.args.fabric.now in
+    let G = c.take_sent.new.fabric in
+    let p = c.args.place.now in
+    let q = c.next_line.new.place in
+    let ends = addresses (overdue F.settings F.state.tables c.args.moment) in
+    let e = event.Tick c.args.moment ends in
+    let events = c.in_ok-drained.ensures.events ∙ c.in_ok-tick.ensures.takes.events ∙ ap (λ (l : List Event). l ++ e ∷ []) c.requires.idle.events in (
+      ends,
+      along_tick x told J F p h c.args.moment ends next G
+          (λ l s.
+          let j = c.in_ok-tick.ensures.journal J l s in
+          (j.0, c.take_sent.ensures.stands (e ∷ J) j.1)) q c.in_ok-line.line
+          (subst (λ b. IsLineAt b p q c.in_ok-line.line) (sym same) c.in_ok-line.ensures.line)
+          (if_true c.is_line_of.result _ _ c.if-not-is_line_of.false (c.is_line_of.ensures c.args.moment ends events))
+          (ap (λ G. G.settings) c.take_sent.ensures.fabric ∙ c.in_ok-tick.ensures.takes.settings),
+    )

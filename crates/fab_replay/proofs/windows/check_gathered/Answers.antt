@@ -1,4 +1,4 @@
-use Rattle.std.proofs.Common.{◌∙◌, ap, length, refl, subst}
+use Rattle.std.proofs.Common.{◌∙◌, Err, ap, length, refl, subst}
 use Rattle.fab_base.specs.Seen.{Nothing}
 use Rattle.fab_base.proofs.SeenLemmas.{touches_refl}
 use Rattle.fab_gather.specs.Ports.{NameIn}
@@ -7,6 +7,7 @@ use Rattle.fab_replay.specs.Owed.{PagesGrow}
 use Rattle.fab_replay.specs.declared.fault.CheckFault.TheVariants as fault
 use Rattle.fab_replay.proofs.ListLemmas.{lent_back}
 use Rattle.fab_replay.proofs.OwedLemmas.{owed_on}
+use Rattle.fab_replay.proofs.RemainLemmas.{stays}
 use Rattle.fab_replay.proofs.ResultLemmas.{told_on}
 use Rattle.fab_replay.proofs.windows.check_gathered.Goals as goal
 
@@ -32,3 +33,18 @@ returns-clause-checks g c = λ told x J start same h gathered owed.
       owed_on x.settings (length x.records) start (seen c.args.depot.now) c.args.outs.now J c.args.owed.now c.requires.many owed s.0 c.check_shelves.new.pages _ c.read_on.new.self (seen c.read_on.new.depot) told c.in_ok-read_on.ensures.reads
           (lent_back c.args.owed.now.pages.len c.check_shelves.new.pages c.args.owed.now.pages.items c.args.owed.now.pages.ok.0 (c.check_shelves.ensures.pages ∙ ap length c.deref_mut.ensures.value)) refl grow,
     )
+
+-- ---- what the fabric stands for
+
+pub returns-in_err-check_shelves-clause-left : goal.returns-in_err-check_shelves-clause-left
+returns-in_err-check_shelves-clause-left g c = λ x told J same h gathered.
+    told_on c.from_residual.result c.in_err-check_shelves.field-0.0 _ _ c.from_residual.ensures.1 (c.in_err-check_shelves.ensures.left x told J same h gathered)
+
+pub returns-in_err-read_on-clause-left : goal.returns-in_err-read_on-clause-left
+returns-in_err-read_on-clause-left g c = λ x told J same h gathered.
+    let s = c.in_ok-check_shelves.ensures.left x told J same h gathered in
+    told_on c.from_residual-in_err-read_on.result fault.Read _ _ c.from_residual-in_err-read_on.ensures.1
+    (stays x told s.0 c.check_shelves.new.fabric c.check_shelves.new.place s.1 (Err fault.Read) refl (λ t. tt))
+
+pub returns-clause-left : goal.returns-clause-left
+returns-clause-left g c = c.in_ok-check_shelves.ensures.left

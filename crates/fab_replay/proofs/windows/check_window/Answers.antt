@@ -5,8 +5,8 @@ use Rattle.fab_gather.specs.Ports.{AreInputs, AreReady, NameIn}
 use Rattle.fab_replay.specs.AllOutputs.{OneRose}
 use Rattle.fab_replay.specs.Lines.{IsInside}
 use Rattle.fab_replay.specs.Owed.{AreMany}
-use Rattle.fab_replay.specs.Windows.{Ended}
-use Rattle.fab_replay.proofs.GoLemmas.{ended_gathering, gathers_as, inputs_now, lines_left, outputs_b, same_ports, turn_ends}
+use Rattle.fab_replay.specs.Windows.{Ended, LeftBy, scene_of}
+use Rattle.fab_replay.proofs.GoLemmas.{ended_gathering, gathers_as, inputs_now, left_gathering, left_now, lines_left, outputs_b, same_ports, turn_ends, turn_left}
 use Rattle.fab_replay.proofs.windows.check_window.Goals as goal
 
 pub gather-requires-clause-count : goal.gather-requires-clause-count
@@ -97,7 +97,35 @@ returns-clause-turns g c = λ k same going.
     (seen c.gather.new.depot) c.gather.new.ins c.gather.new.shelves c.gather.new.budget t next n.fabric n.place (seen n.depot) n.owed r
     (lines_left laws k c.args.window c.args.first c.args.fabric.now c.args.place.now (seen c.args.depot.now) c.args.ins.now c.args.shelves.now c.args.budget.now c.args.owed.now going
     (seen c.gather.new.depot) c.gather.new.ins c.gather.new.shelves c.gather.new.budget t next n.fabric n.place (seen n.depot) n.owed c.args.journal.now c.args.outs.now same r e.checks)
+    (e.left (scene_of k) k.start.seen.told going.stood.0 same.journal going.stood.1
+    (left_now laws k c.args.window c.args.first c.args.fabric.now c.args.place.now (seen c.args.depot.now) c.args.ins.now c.args.shelves.now c.args.budget.now c.args.owed.now going (seen c.gather.new.depot) c.gather.new.ins c.gather.new.shelves c.gather.new.budget t next))
     (subst (λ o. Touches Nothing (NameIn (seen c.gather.new.depot) o) (seen c.gather.new.depot) (seen n.depot)) outs e.touches)
     (λ is. subst (λ o. OneRose o (seen c.gather.new.depot) (seen n.depot)) outs (e.cause is))
     (subst (λ o. OnOk r (AreMany (length o) n.owed)) outs e.many)
     (subst (λ b. OnOk r (IsInside b n.place)) (sym same.journal) e.inside) e.clock (e.settings.0 ∙ going.settings_) e.settings.1 e.idle
+
+-- ---- what the fabric stands for
+
+pub returns-in-Err-clause-left : goal.returns-in-Err-clause-left
+returns-in-Err-clause-left g c = λ k same going.
+    let seen = g.D.Depot.seen in
+    subst (LeftBy k c.args.fabric.now) (sym c.fault_of.ensures)
+    (left_gathering c.laws_of_windows.ensures k c.args.window c.args.first c.args.fabric.now c.args.place.now (seen c.args.depot.now) c.args.ins.now c.args.shelves.now c.args.budget.now c.args.owed.now going
+    (seen c.gather.new.depot) c.gather.new.ins c.gather.new.shelves c.gather.new.budget c.in-Err.fault
+    (gathers_as c.config.result.now k.settings (c.config.ensures ∙ going.settings_) c.args.first c.args.window (seen c.args.depot.now) (seen c.gather.new.depot) c.args.ins.now c.gather.new.ins c.args.shelves.now c.gather.new.shelves c.args.budget.now c.gather.new.budget (Err c.in-Err.fault) c.in-Err.ensures.gathers))
+
+pub returns-clause-left : goal.returns-clause-left
+returns-clause-left g c = λ k same going.
+    let seen = g.D.Depot.seen in
+    let laws = c.laws_of_windows.ensures in
+    let t = gathers_as c.config.result.now k.settings (c.config.ensures ∙ going.settings_) c.args.first c.args.window (seen c.args.depot.now) (seen c.gather.new.depot) c.args.ins.now c.gather.new.ins c.args.shelves.now c.gather.new.shelves c.args.budget.now c.gather.new.budget (Ok tt) c.in-Ok.ensures.gathers in
+    let next = subst (λ s. IsNextWindow s c.args.shelves.now (Some c.args.window)) going.settings_ c.requires.next in
+    let e = c.check_gathered.ensures in
+    let n = c.check_gathered.new in
+    let r = c.check_gathered.result in
+    turn_left laws k c.args.window c.args.first c.args.fabric.now c.args.place.now (seen c.args.depot.now) c.args.ins.now c.args.shelves.now c.args.budget.now c.args.owed.now going
+    (seen c.gather.new.depot) c.gather.new.ins c.gather.new.shelves c.gather.new.budget t next n.fabric n.place (seen n.depot) n.owed r
+    (lines_left laws k c.args.window c.args.first c.args.fabric.now c.args.place.now (seen c.args.depot.now) c.args.ins.now c.args.shelves.now c.args.budget.now c.args.owed.now going
+    (seen c.gather.new.depot) c.gather.new.ins c.gather.new.shelves c.gather.new.budget t next n.fabric n.place (seen n.depot) n.owed c.args.journal.now c.args.outs.now same r e.checks)
+    (e.left (scene_of k) k.start.seen.told going.stood.0 same.journal going.stood.1
+    (left_now laws k c.args.window c.args.first c.args.fabric.now c.args.place.now (seen c.args.depot.now) c.args.ins.now c.args.shelves.now c.args.budget.now c.args.owed.now going (seen c.gather.new.depot) c.gather.new.ins c.gather.new.shelves c.gather.new.budget t next))

@@ -4,7 +4,7 @@ use Rattle.fab_gather.proofs.ClockLemmas.{nearer}
 use Rattle.fab_gather.proofs.LeavesLemmas.{takes_none, takes_then}
 use Rattle.fab_gather.specs.First.{IsNextWindow}
 use Rattle.fab_replay.proofs.GoLemmas.{going_next, next_early, next_here}
-use Rattle.fab_replay.proofs.ResultLemmas.{told_on}
+use Rattle.fab_replay.proofs.ResultLemmas.{err_on, told_on}
 use Rattle.fab_replay.proofs.windows.check_windows.Goals as goal
 
 pub windows-init : goal.windows-init
@@ -87,3 +87,16 @@ returns-in_err-check_window-clause-takes g c =
 
 pub returns-clause-takes : goal.returns-clause-takes
 returns-clause-takes g c = c.windows.invariant.takes
+
+pub returns-in_err-check_window-clause-left : goal.returns-in_err-check_window-clause-left
+returns-in_err-check_window-clause-left g c = λ k same start.
+    let l = c.windows in
+    let at = l.invariant.turns k same start in
+    let d = g.D.Depot.seen l.depot in
+    let w = c.in-Some.window in
+    let next = next_here c.laws_of_windows.ensures k at.0 c.args.first l.fabric l.place d l.ins l.shelves l.budget l.owed at.1 c.config.result.now c.config.ensures (Some w) c.in-Some.ensures.least in
+    err_on c.from_residual.result c.in_err-check_window.field-0.0 _ c.from_residual.ensures.1
+    (c.in_err-check_window.ensures.left k same (going_next c.laws_of_windows.ensures k at.0 c.args.first l.fabric l.place d l.ins l.shelves l.budget l.owed at.1 w next))
+
+pub returns-clause-left : goal.returns-clause-left
+returns-clause-left g c = λ k same start. tt

@@ -1,0 +1,194 @@
+-- What a fabric stands for while the lines of a journal are checked, and where the check ends.
+use Rattle.std.proofs.Common.{◌≡◌, ℕ, ◌<◌, inl, inr, Bool, false, List, [], ◌∷◌, ◌++◌, length, drop, Option, Some, IfSome, IsTrue, IsSome, Result, Err, refl, sym, ap, ◌∙◌, subst, arith}
+use Rattle.std.specs.Prelude.{unwrap_or}
+use Rattle.fab_base.specs.declared.values.Caught.{Caught}
+use Rattle.fab_config.specs.Settings.{Settings}
+use Rattle.fab_policy.proofs.Standing.{legal_after, stands_after}
+use Rattle.fab_policy.specs.Journal.{Journal, clock, now}
+use Rattle.fab_policy.specs.Legal.{IsLeastOf, IsNextTick, Legal, windows_left}
+use Rattle.fab_policy.specs.Ranged.{IsRangedEvent}
+use Rattle.fab_policy.specs.Spelling.{Spells, line_of}
+use Rattle.fab_policy.specs.Standing.{Contents, Stands}
+use Rattle.fab_policy.specs.State.{Tables}
+use Rattle.fab_policy.specs.declared.event.Event.{Event}
+use Rattle.fab_policy.specs.declared.event.Event.TheVariants as event
+use Rattle.fab_policy.specs.declared.line.Format.{Format}
+use Rattle.fab_policy.specs.declared.line.Line.{Line}
+use Rattle.fab_policy.specs.declared.line.Line.TheVariants.{Tick, Frame}
+use Rattle.fab_policy.specs.declared.verdict.Verdict.{Verdict}
+use Rattle.fab_gather.specs.declared.shelf.Shelf.{Shelf}
+use Rattle.pcap_file.specs.declared.Record.{Record}
+use Rattle.fab_replay.specs.Front.{expects_tick}
+use Rattle.fab_replay.specs.Lines.{IsLineAt, IsUnread, first_line, format_of, number_behind, text_in}
+use Rattle.fab_replay.specs.Remains.{HasTick, IsBegun, IsTaken, IsTickIf, Remains}
+use Rattle.fab_replay.specs.Steps.{HasTurned, HoldSame, IsAlong, IsOnShelf, IsRefused, IsTickNow, IsTickOf, IsWindow, Left, Scene, refusal}
+use Rattle.fab_replay.specs.Verdicts.{IsLeft, IsMisjudged}
+use Rattle.fab_replay.specs.declared.fault.CheckFault.{CheckFault}
+use Rattle.fab_replay.specs.declared.fault.CheckFault.TheVariants as fault
+use Rattle.fab_replay.specs.declared.fault.LineWhy.TheVariants as why
+use Rattle.fab_replay.specs.declared.lines.Place.{Place}
+use Rattle.fab_replay.specs.declared.verdicts.Misjudged.{Misjudged}
+use Rattle.fab_replay.specs.declared.verdicts.Misjudged.TheVariants.{Wrong, Memory}
+use Rattle.fab_replay.proofs.FrontLemmas.{begun_frame, same_clock}
+use Rattle.fab_replay.proofs.LeftLemmas.{left_same, tick_expected}
+use Rattle.fab_replay.proofs.LineLemmas.{behind_more}
+use Rattle.fab_replay.proofs.StepLemmas.{before_window, frame_line}
+use Rattle.fab_replay.proofs.WindowLemmas.{next_from}
+
+module _ (x : Scene) (told : Bool) (J : Journal) (F : Contents) (p : Place) (h : IsAlong x told J F p) where
+  abbrev rest : List ℕ
+  rest = drop p.at x.bytes
+
+  number_is : (n : ℕ) → n ≡ number_behind p.format p.entries → n ≡ number_behind (format_of x.bytes) (length J)
+  number_is n e = e ∙ ap (number_behind p.format) h.behind.entries ∙ ap (λ (f : Format). number_behind f (length J)) h.behind.format
+
+  -- the fabric has taken some entries behind those of the lines
+  abbrev pub left_with : (G : Contents) (more : List Event) (r : Result ℕ CheckFault) → IsTaken (format_of x.bytes) J rest more r → Legal x.settings (more ++ J) → Stands G (more ++ J) →
+      (IsTrue told → IsBegun x.settings x.records (more ++ J)) → (IsTrue told → HasTick (expects_tick x.settings x.records J) more r) → Remains x.settings x.records told x.bytes G r
+  left_with G more r taken legal stands begun tick = record {
+    entry_list = J;
+    rest = rest;
+    lines = h.behind.lines ∙ ap (λ (f : Format). text_in f J ++ rest) h.behind.format;
+    ranged = h.ranged;
+    more = more;
+    taken = taken;
+    legal = legal;
+    stands = stands;
+    begun = begun;
+    tick = tick;
+  }
+
+  -- it has taken none
+  abbrev pub stays : (r : Result ℕ CheckFault) → IsTaken (format_of x.bytes) J rest [] r → (IsTrue told → HasTick (expects_tick x.settings x.records J) [] r) → Remains x.settings x.records told x.bytes F r
+  stays r taken tick = left_with F [] r taken h.legal h.stands h.begun tick
+
+  pub stays_refused : Left x told F fault.Memory
+  stays_refused = stays (Err fault.Memory) (omega arith) (λ t. tt)
+
+  pub stays_unread : (e : CheckFault) → IsUnread x.bytes p e → Left x told F e
+  stays_unread (fault.Line n why.Rest) u = stays (Err (fault.Line n why.Rest)) (number_is n u.0, refl) (λ t. tt)
+  stays_unread (fault.Line n why.Text) u = stays (Err (fault.Line n why.Text)) (number_is n u.0, refl) (λ t. tt)
+  stays_unread (fault.Line n why.Tick) u = absurd u
+  stays_unread (fault.Line n why.Frame) u = absurd u
+  stays_unread (fault.Line n (why.Verdict found made)) u = absurd u
+  stays_unread (fault.Output port at) u = absurd u
+  stays_unread (fault.Capture port at w) u = absurd u
+  stays_unread (fault.Limit kind) u = absurd u
+  stays_unread fault.Read u = absurd u
+  stays_unread fault.Memory u = stays_refused
+
+  -- a tick where none is expected, and a frame that isn't the next
+  pub stays_tick : (n : ℕ) → n ≡ number_behind p.format p.entries → (IsTrue told → expects_tick x.settings x.records J ≡ false) → Left x told F (fault.Line n why.Tick)
+  stays_tick n number none = stays (Err (fault.Line n why.Tick)) (number_is n number, inl refl) (λ t. subst (λ (b : Bool). IsTickIf b []) (sym (none t)) refl)
+
+  pub stays_frame : (n : ℕ) → n ≡ number_behind p.format p.entries → Left x told F (fault.Line n why.Frame)
+  stays_frame n number = stays (Err (fault.Line n why.Frame)) (number_is n number, refl) (λ t. tt)
+
+  pub legal_old : Legal F.settings J
+  legal_old = subst (λ (s : Settings). Legal s J) (sym h.settings) h.legal
+
+  -- ---- a tick
+
+  module _ (m : ℕ) (ended : List ℕ) (next : IsTrue told → IsTickNow x J m) (G : Contents)
+      (goes : Legal F.settings J → Stands F J → Legal F.settings (event.Tick m ended ∷ J) × Stands G (event.Tick m ended ∷ J)) where
+    abbrev more : List Event
+    more = event.Tick m ended ∷ []
+
+    legal_tick : Legal x.settings (event.Tick m ended ∷ J)
+    legal_tick = subst (λ (s : Settings). Legal s (event.Tick m ended ∷ J)) h.settings (goes legal_old h.stands).0
+
+    stands_tick : Stands G (event.Tick m ended ∷ J)
+    stands_tick = (goes legal_old h.stands).1
+
+    begun_tick : IsTrue told → IsBegun x.settings x.records (event.Tick m ended ∷ J)
+    begun_tick t = let b = h.begun t in let n = next t in record { ports = b.ports; frames = b.frames; timed = (b.timed, (n.window, n.least, n.next)) }
+
+    -- the line is another one
+    pub left_tick : (n : ℕ) → n ≡ number_behind p.format p.entries → Left x told G (fault.Line n why.Tick)
+    left_tick n number = left_with G more (Err (fault.Line n why.Tick)) (number_is n number, inr (m, ended, refl)) legal_tick stands_tick begun_tick (λ t. subst (λ (b : Bool). IsTickIf b more) (sym (next t).expected) (m, ended, refl))
+
+    pub left_refused : Left x told G fault.Memory
+    left_refused = left_with G more (Err fault.Memory) (omega arith) legal_tick stands_tick begun_tick (λ t. tt)
+
+    pub along_tick : (q : Place) (l : Line) → IsLineAt x.bytes p q l → l ≡ Tick m ended → G.settings ≡ F.settings → IsAlong x told (event.Tick m ended ∷ J) G q
+    along_tick q l at is settings = record {
+      behind = behind_more x.bytes p q J (event.Tick m ended) l h.behind at is;
+      ranged = (h.ranged, (subst (Spells p.format (first_line rest)) is at.spells).ranged);
+      legal = legal_tick;
+      stands = stands_tick;
+      settings = settings ∙ h.settings;
+      begun = begun_tick;
+    }
+
+  -- ---- a frame
+
+  module _ (w : ℕ) (clock_ : F.state.tables.clock ≡ Some w) (shelves : List Shelf) (done : List ℕ) (win : IsTrue told → IsWindow x w J shelves done)
+      (q : Place) (port index : ℕ) (verdict : Verdict) (o : Option ℕ) (at : IsLineAt x.bytes p q (Frame port index verdict o)) (r : Record) (on : IsOnShelf shelves done w port index o r) where
+    begun_with : (v : Verdict) → IsTrue told → IsBegun x.settings x.records (event.Frame port index r.caught v ∷ J)
+    begun_with v t = begun_frame x.settings x.records J port index o r v (h.begun t) (next_from x w J shelves done (win t) port index o r on)
+
+    -- the frame's verdict is wrong
+    pub left_frame : (T : Tables) (G : Contents) (f : CheckFault) → IsRefused F.settings T p port r.caught verdict f → HasTurned F.settings G J port index r.caught f → Left x told G f
+    left_frame T G (fault.Line n (why.Verdict found made)) u t =
+        left_with G (event.Frame port index r.caught made ∷ []) (Err (fault.Line n (why.Verdict found made))) (
+          number_is n u.0,
+          record {
+            port = port;
+            index = index;
+            caught = r.caught;
+            told = o;
+            line = subst (λ (f : Format). Spells f (first_line rest) (Frame port index found o)) h.behind.format (subst (λ (v : Verdict). Spells p.format (first_line rest) (Frame port index v o)) (sym u.1) at.spells);
+            is = refl;
+          },
+        )
+        (subst (λ (s : Settings). Legal s (event.Frame port index r.caught made ∷ J)) h.settings t.0) t.1 (begun_with made) (λ t. tt)
+    left_frame T G fault.Memory u t = elim t [
+      | inl same ↦ left_with G [] (Err fault.Memory) (omega arith) h.legal same h.begun (λ t. tt)
+      | inr some ↦
+          left_with G (event.Frame port index r.caught some.0 ∷ []) (Err fault.Memory) (omega arith) (subst (λ (s : Settings). Legal s (event.Frame port index r.caught some.0 ∷ J)) h.settings some.1) some.2 (begun_with some.0) (λ t. tt)
+    ]
+    left_frame T G (fault.Line n why.Rest) u t = absurd u
+    left_frame T G (fault.Line n why.Text) u t = absurd u
+    left_frame T G (fault.Line n why.Tick) u t = absurd u
+    left_frame T G (fault.Line n why.Frame) u t = absurd u
+    left_frame T G (fault.Output o at) u t = absurd u
+    left_frame T G (fault.Capture o at w) u t = absurd u
+    left_frame T G (fault.Limit kind) u t = absurd u
+    left_frame T G fault.Read u t = absurd u
+
+    pub along_frame : (G : Contents) → (Legal F.settings J → Stands F J → Legal F.settings (event.Frame port index r.caught verdict ∷ J) × Stands G (event.Frame port index r.caught verdict ∷ J)) → IsRangedEvent (event.Frame port index r.caught verdict) → G.settings ≡ F.settings →
+        IsAlong x told (event.Frame port index r.caught verdict ∷ J) G q
+    along_frame G goes ranged settings =
+        let both = goes legal_old h.stands in
+        let e = event.Frame port index r.caught verdict in
+        let t : w ≡ now (e ∷ J) = sym (ap (λ (o : Option ℕ). unwrap_or o 0) (sym (same_clock F J h.stands) ∙ clock_)) in
+        record {
+          behind = behind_more x.bytes p q J e (Frame port index verdict o) h.behind at (frame_line port index r.caught verdict p.format w o at.spells.ranged.4 on.clock_ ∙ ap (λ (n : ℕ). line_of p.format n e) t);
+          ranged = (h.ranged, ranged);
+          legal = subst (λ (s : Settings). Legal s (e ∷ J)) h.settings both.0;
+          stands = both.1;
+          settings = settings ∙ h.settings;
+          begun = begun_with verdict;
+        }
+
+  -- ---- the next tick of the fabric
+
+  pub tick_now : (I : Journal) (w m : ℕ) → HoldSame I J → IsTickOf w F m → (IsTrue told → IsLeastOf (windows_left x.settings 1 x.records I) w) → IsTrue told → IsTickNow x J m
+  tick_now I w m same t least known =
+      let own = subst (λ l. IsLeastOf l w) (sym (left_same x.settings 1 x.records I J same)) (least known) in
+      record {
+        window = w;
+        least = own;
+        next = subst (λ (c : Settings). IsNextTick c J w m) h.settings (t.next J h.stands);
+        expected = tick_expected x.settings x.records J w own (before_window (clock J) m w (subst (λ o. IfSome o (λ k. k < m)) (same_clock F J h.stands) t.above) t.within);
+      }
+
+-- what a fabric stands for that was to take a frame with the verdict that was found
+pub turned_as : (F G : Contents) (J : Journal) (p : Place) (port index : ℕ) (caught heard : Caught) (found : Verdict) (e : Misjudged) (f : CheckFault) → heard ≡ caught → IsSome F.state.tables.clock →
+    IsMisjudged F.settings F.state.tables port heard found e → IsLeft F port index heard e G → f ≡ refusal p found e → Legal F.settings J → Stands F J → HasTurned F.settings G J port index caught f
+turned_as F G J p port index caught heard found e f same clock wrong left told legal stands =
+    subst (HasTurned F.settings G J port index caught) (sym told) (subst (λ (k : Caught). HasTurned F.settings G J port index k (refusal p found e)) same (by_why e wrong left))
+  where
+    by_why : (e : Misjudged) → IsMisjudged F.settings F.state.tables port heard found e → IsLeft F port index heard e G → HasTurned F.settings G J port index heard (refusal p found e)
+    by_why (Wrong made) w l = (legal_after F (event.Frame port index heard made) J legal stands (clock, w.1), stands_after F G (event.Frame port index heard made) J stands l)
+    by_why Memory w l = inl (subst (λ (H : Contents). Stands H J) (sym l) stands)
