@@ -12,25 +12,15 @@ use crate::names::{FORWARDER, TAG, address, granted_mac, well_known};
 use crate::parts::{els_bytes, header, parms};
 use ct_messages::{CtAsk, TypeMap, write_ask};
 use els_messages::Els;
-use eth_frames::{EthFrame, write_eth};
+use els_messages::scr::FULL;
+use eth_frames::{EthFrame, FCOE, write_eth};
 use fab_base::{FcId, NoMemory, PortNo};
-use fc_frames::{FcFrame, FcHeader};
+use fc_frames::{CONTROLLER, FCP, FcFrame, FcHeader, Kind, NAME_SERVER};
 use fcoe_codec::{EOF_T, FcoeFrame, SOF_I3, write_fcoe};
 use std::alloc::Global;
 
-/// The Ethertype of FCoE.
-const FCOE: u16 = 0x8906;
-
-/// The addresses of the name server and of the fabric controller.
-const NAME_SERVER: u32 = 0xff_fffc;
-
-const CONTROLLER: u32 = 0xff_fffd;
-
 /// How many bytes count on: payloads are cut out of them.
 const COUNTED: usize = 2368;
-
-/// SCSI over Fibre Channel.
-const FCP: u8 = 8;
 
 // Appends the login of a login to the name server.
 pub(crate) fn write_server_login(
@@ -42,7 +32,12 @@ pub(crate) fn write_server_login(
     ensures ok { OnOk result (out.new.items ≡ out.old.items ++ spec.server_login port login) }
     ensures size { OnOk result (length (spec.server_login port login) ≤ 65535) }
 {
-    let head = header(0x22, well_known(NAME_SERVER), address(port, login), 0x01, 1);
+    let head = header(
+        Kind::ElsRequest,
+        well_known(NAME_SERVER),
+        address(port, login),
+        1,
+    );
     let payload = els_bytes(alloc, &Els::Plogi(parms(0, port, login)))?;
     write_payload(alloc, &head, &payload, out)
 }
@@ -57,8 +52,13 @@ pub(crate) fn write_watch(
     ensures ok { OnOk result (out.new.items ≡ out.old.items ++ spec.watch port login) }
     ensures size { OnOk result (length (spec.watch port login) ≤ 65535) }
 {
-    let head = header(0x22, well_known(CONTROLLER), address(port, login), 0x01, 2);
-    let payload = els_bytes(alloc, &Els::Scr { function: 3 })?;
+    let head = header(
+        Kind::ElsRequest,
+        well_known(CONTROLLER),
+        address(port, login),
+        2,
+    );
+    let payload = els_bytes(alloc, &Els::Scr { function: FULL })?;
     write_payload(alloc, &head, &payload, out)
 }
 
@@ -73,7 +73,7 @@ pub(crate) fn write_registration(
     ensures size { OnOk result (length (spec.registration port login) ≤ 65535) }
 {
     let s_id = address(port, login);
-    let head = header(0x02, well_known(NAME_SERVER), s_id, 0x20, 3);
+    let head = header(Kind::CtRequest, well_known(NAME_SERVER), s_id, 3);
     let types = TypeMap([0x100, 0, 0, 0, 0, 0, 0, 0]);
     let payload = ct_bytes(alloc, &CtAsk::SetTypes(s_id, types))?;
     write_payload(alloc, &head, &payload, out)
@@ -89,7 +89,12 @@ pub(crate) fn write_query(
     ensures ok { OnOk result (out.new.items ≡ out.old.items ++ spec.query port login) }
     ensures size { OnOk result (length (spec.query port login) ≤ 65535) }
 {
-    let head = header(0x02, well_known(NAME_SERVER), address(port, login), 0x20, 4);
+    let head = header(
+        Kind::CtRequest,
+        well_known(NAME_SERVER),
+        address(port, login),
+        4,
+    );
     let payload = ct_bytes(alloc, &CtAsk::AddressesOfType(FCP))?;
     write_payload(alloc, &head, &payload, out)
 }
@@ -108,7 +113,7 @@ pub(crate) fn write_data(
     ensures size { OnOk result (length (spec.data_frame port ox_id drawn) ≤ 65535) }
 {
     let d_id = address(target_port(drawn), target(drawn));
-    let head = header(0x01, d_id, address(port, sender(drawn)), FCP, ox_id);
+    let head = header(Kind::FcpData, d_id, address(port, sender(drawn)), ox_id);
     write_payload(alloc, &head, payload_of(drawn, counted), out)
 }
 

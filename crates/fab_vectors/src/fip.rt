@@ -6,23 +6,15 @@ ghost use Rattle.fip_codec.specs.CanWrite.{CanWrite, IsFrame};
 ghost use Rattle.fip_codec.specs.Message as fip;
 ghost use Rattle.fab_vectors.specs.Frames as spec;
 
-use crate::names::{ALL_FORWARDERS, FORWARDER, TAG, node_mac, node_name, well_known};
+use crate::names::{FORWARDER, TAG, node_mac, node_name, well_known};
 use crate::parts::{els_bytes, header, parms};
-use els_messages::Els;
-use eth_frames::{EthFrame, write_eth};
+use els_messages::{Els, Feature};
+use eth_frames::{ALL_FCFS, EthFrame, FIP, write_eth};
 use fab_base::{Mac, NoMemory, PortNo};
-use fc_frames::{FcFrame, write_frame};
+use fc_frames::{FABRIC_PORT, FcFrame, Kind, write_frame};
+use fcoe_codec::MOST_BODY;
 use fip_codec::{FipOut, LoginKind, VxPort, write_fip};
 use std::alloc::Global;
-
-/// The Ethertype of FIP.
-const FIP: u16 = 0x8914;
-
-/// The common feature that asks for several addresses.
-const MULTIPLE_IDS: u16 = 0x8000;
-
-/// The FCoE size that a solicitation asks for.
-const FCOE_SIZE: u16 = 2158;
 
 // Appends a VLAN request, which has no tag.
 pub(crate) fn write_vlan_request(
@@ -39,7 +31,7 @@ pub(crate) fn write_vlan_request(
         mac: node_mac(port),
         node: None,
     };
-    write_message(alloc, None, ALL_FORWARDERS, port, &message, out)
+    write_message(alloc, None, ALL_FCFS, port, &message, out)
 }
 
 // Appends a solicitation.
@@ -58,9 +50,9 @@ pub(crate) fn write_solicitation(
         fp: true,
         mac: node_mac(port),
         node: node_name(port),
-        size: FCOE_SIZE,
+        size: MOST_BODY,
     };
-    write_message(alloc, Some(TAG), ALL_FORWARDERS, port, &message, out)
+    write_message(alloc, Some(TAG), ALL_FCFS, port, &message, out)
 }
 
 // Appends a keep alive of the ENode.
@@ -122,10 +114,9 @@ fn carried(alloc: Global, port: PortNo, login: u8) -> Result<Vec<u8>, NoMemory>
     let mut bytes = Vec::new(alloc);
     let frame = FcFrame {
         head: header(
-            0x22,
-            well_known(0xfffffe),
+            Kind::ElsRequest,
+            well_known(FABRIC_PORT),
             well_known(0),
-            0x01,
             u16::from(login) + 1,
         ),
         payload: &payload,
@@ -140,7 +131,7 @@ fn login_payload(alloc: Global, port: PortNo, login: u8) -> Result<Vec<u8>, NoMe
     ensures payload { IfOk result (λ v. fc.IsPayload v.items) }
     ensures size { IfOk result (λ v. vec_len v ≡ 116) }
 {
-    let parms = parms(MULTIPLE_IDS, port, login);
+    let parms = parms(Feature::MultipleNPortIds.bit(), port, login);
     if login == 0 {
         els_bytes(alloc, &Els::Flogi(parms))
     } else {

@@ -8,9 +8,6 @@ use fab_base::{FcId, Mac, PortNo, Wwn};
 /// The MAC of the forwarder.
 pub(crate) const FORWARDER: Mac = Mac([0x00, 0x05, 0x1e, 0x00, 0x00, 0x02]);
 
-/// The group of all forwarders.
-pub(crate) const ALL_FORWARDERS: Mac = Mac([0x01, 0x10, 0x18, 0x01, 0x00, 0x02]);
-
 /// The tag of VLAN 100.
 pub(crate) const TAG: u16 = 100;
 

@@ -2,36 +2,31 @@
 ghost use Rattle.std.specs.Prelude.{◌≡◌, IfOk, vec_len};
 ghost use Rattle.els_messages.specs.Els as els;
 ghost use Rattle.fc_frames.specs.Frame.{IsPayload};
+ghost use Rattle.fc_frames.specs.Kind.{r_ctl_of, type_of};
 ghost use Rattle.fab_vectors.specs.Frames as spec;
 
 use crate::names::{node_name, port_name};
-use els_messages::{Els, LoginParms, write_els};
+use els_messages::{CLASS_3, Els, LoginParms, write_els};
 use fab_base::{FcId, NoMemory, PortNo};
-use fc_frames::FcHeader;
+use fc_frames::{F_CTL_REQUEST, FcHeader, Kind, MOST_PAYLOAD, UNASSIGNED};
 use std::alloc::Global;
 
-/// The originator's only frame.
-const F_CTL_REQUEST: u32 = 0x29_0000;
-
-/// The greatest payload of a frame.
-const RECEIVE_SIZE: u16 = 2112;
-
 /// The header of a request.
-pub(crate) fn header(r_ctl: u8, d_id: FcId, s_id: FcId, kind: u8, ox_id: u16) -> FcHeader
-    ensures { result ≡ spec.header r_ctl d_id s_id kind ox_id }
+pub(crate) fn header(kind: Kind, d_id: FcId, s_id: FcId, ox_id: u16) -> FcHeader
+    ensures { result ≡ spec.header (r_ctl_of kind) d_id s_id (type_of kind) ox_id }
 {
     FcHeader {
-        r_ctl,
+        r_ctl: kind.r_ctl(),
         d_id,
         cs_ctl: 0,
         s_id,
-        kind,
+        kind: kind.type_code(),
         f_ctl: F_CTL_REQUEST,
         seq_id: 0,
         df_ctl: 0,
         seq_cnt: 0,
         ox_id,
-        rx_id: 0xffff,
+        rx_id: UNASSIGNED,
         parameter: 0,
     }
 }
@@ -42,12 +37,12 @@ pub(crate) fn parms(features: u16, port: PortNo, login: u8) -> LoginParms
 {
     LoginParms {
         features,
-        size: RECEIVE_SIZE,
+        size: MOST_PAYLOAD,
         ra_tov: 0,
         ed_tov: 0,
         port_name: port_name(port, login),
         node_name: node_name(port),
-        class3: [0x80, 0, 0, 0, 0, 0, 0, 0, 0, 0, 0, 0, 0, 0, 0, 0],
+        class3: [CLASS_3, 0, 0, 0, 0, 0, 0, 0, 0, 0, 0, 0, 0, 0, 0, 0],
     }
 }
 
