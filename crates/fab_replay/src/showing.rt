@@ -30,7 +30,7 @@ pub fn write_shown(
     ensures err { OnErr result (out.new.items ≡ out.old.items) }
 {
     legal_journals();
-    append_made(lines_of(alloc, fabric, entries), out)
+    append_made(alloc, lines_of(alloc, fabric, entries), out)
 }
 
 fn lines_of(alloc: Global, fabric: &Fabric, entries: u64) -> Result<Vec<u8>, AllocError>
