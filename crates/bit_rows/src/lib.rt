@@ -12,8 +12,18 @@ pub use tree::Tree;
 
 pub type Row = Vec<u64>;
 
-/// Sets the bit of a place.
-pub fn set_bit(row: &mut Row, place: usize) -> Result<(), AllocError>
+/// Memory was refused.
+#[derive(Clone, Copy, Debug, PartialEq, Eq)]
+pub struct NoMemory;
+
+impl From<AllocError> for NoMemory {
+    fn from(_refused: AllocError) -> NoMemory {
+        NoMemory
+    }
+}
+
+/// Sets the bit of a place. Where memory is refused the row stays.
+pub fn set_bit(_alloc: Global, row: &mut Row, place: usize) -> Result<(), NoMemory>
     ensures ok { OnOk result ((q : ℕ) → has row.new.items q ≡ (place == q || has row.old.items q)) }
     ensures err { OnErr result (row.new.items ≡ row.old.items) }
 {

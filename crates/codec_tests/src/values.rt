@@ -15,7 +15,7 @@ use std::test::Fail;
 fn bytes_are_appended_where_they_were_made(rt: HostRuntime) -> Result<(), Fail> {
     let alloc = rt.alloc();
     let mut out = b"ab".to_vec(alloc)?;
-    append_made(b"cd".to_vec(alloc), &mut out)?;
+    append_made(alloc, b"cd".to_vec(alloc), &mut out)?;
     assert_eq!(rt; out.as_slice(), b"abcd".as_slice());
     let mut reserved = Vec::with_capacity(alloc, 2)?;
     append_reserved(&mut reserved, b"ef");
@@ -50,7 +50,7 @@ fn lists_are_joined_and_shortened(rt: HostRuntime) -> Result<(), Fail> {
     let mut list = OwnedList::empty(alloc);
     assert_eq!(rt; list.pop(), None);
     list.push(alloc, 1u8)?;
-    list.append(OwnedList::from_vec([2, 3].to_vec(alloc)?))?;
+    list.append(alloc, OwnedList::from_vec([2, 3].to_vec(alloc)?))?;
     assert_eq!(rt; list.len(), 3);
     assert_eq!(rt; list.pop(), Some(3));
     assert_eq!(rt; list.pop(), Some(2));

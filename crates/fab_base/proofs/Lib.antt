@@ -3,6 +3,7 @@ pub mod Depots
 pub mod WholeLemmas
 pub mod LayoutLemmas
 pub mod PlaceLemmas
+pub mod SlotLemmas
 pub mod MemLemmas
 pub mod KnowLemmas
 pub mod TextLemmas

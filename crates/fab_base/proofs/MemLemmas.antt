@@ -8,9 +8,10 @@ use Rattle.fab_base.specs.declared.desk.Desk.{Desk}
 use Rattle.fab_base.specs.Seen.{Keeps, Reads, Rose, OpensIn, OpensOut, Puts, bytes_of}
 use Rattle.fab_base.specs.Places.{place, name_at, slot_file, slot_at, is_input, is_output}
 use Rattle.fab_base.specs.Contents.{capacity_of, capacity_at, content_at, content_in, content_bytes}
-use Rattle.fab_base.specs.Desk.{KeepsAll, place_of, file_of, at_of, name, count_at, one_more, Stays, KeepsCounts}
+use Rattle.fab_base.specs.Desk.{KeepsAll, place_of, file_of, at_of, name, count_at, one_more, Stays, KeepsOtherSlots, KeepsCounts}
 use Rattle.fab_base.specs.MemDepot.{spare_at, seen_of, left_by, CountsReads, CountsWrites}
 use Rattle.fab_base.proofs.PlaceLemmas.{place_at}
+use Rattle.fab_base.proofs.SlotLemmas.{same_slots, other_slots, keeps_others, same_reads, same_writes}
 
 -- a slot that is an input, or an output, is one of the slots
 pub input_within : (slots : List DeskSlot) (s : ℕ) → IsTrue (is_input (slice_get slots s)) → s < length slots
@@ -127,7 +128,7 @@ stays_all f old new k = record {
   writes_rise = omega (arith, ap (λ l. slice_index l f) k.writes);
 }
 
-keeps_same : (old new : Desk) → new ≡ old → KeepsAll old new
+pub keeps_same : (old new : Desk) → new ≡ old → KeepsAll old new
 keeps_same old new e = record {
   names = ap (λ d. d.names.items) e;
   reads = ap (λ d. d.reads.items) e;
@@ -179,10 +180,11 @@ module _ (n : List ℕ) (f : ℕ) (old new : Desk) (was now : List (Option (Vec 
       let w : (seen_of new now).write_faults n ≡ (seen_of old was).write_faults n = writes_now ∙ ap (λ l. slice_index l f) k.writes ∙ sym writes_are in
       (record { reads = r; writes = w }, record { reads = r; writes = w })
 
-  pub mem_reads : now ≡ was → Reads n (seen_of old was) (seen_of new now)
-  mem_reads same = record {
+  pub mem_reads : now ≡ was → new.writes.items ≡ old.writes.items → Reads n (seen_of old was) (seen_of new now)
+  mem_reads same writes = record {
     keeps = mem_keeps n f old new was now at stays (λ i ne. ap (λ v. content_at v i) same);
     files = λ m. ap (content_in now) (ap (place m) stays.names) ∙ ap (λ v. content_in v (place_of old m)) same;
+    writes = same_writes old new was now stays.names writes;
   }
 
   pub same_file : content_at now f ≡ content_at was f → (seen_of new now).file n ≡ (seen_of old was).file n
@@ -191,35 +193,46 @@ module _ (n : List ℕ) (f : ℕ) (old new : Desk) (was now : List (Option (Vec 
   pub opened_name : (s a : ℕ) (b : Bool) → slice_get new.slots.items s ≡ Some (record { file = f; at = a; input = b }) → name new s ≡ n
   opened_name s a b slot = ap (λ o. name_at new.names.items (slot_file o)) slot ∙ ap (λ l. name_at l f) stays.names ∙ (place_at n old.names.items f at).is
 
-  pub mem_opens_in : {E : Type 0} (s : ℕ) → now ≡ was → s ≡ length old.slots.items → slice_get new.slots.items s ≡ Some (record { file = f; at = 0; input = true }) → (bytes : List ℕ) × (content_at now f ≡ Some bytes) → OpensIn {E = E} n (seen_of old was) (seen_of new now) (Ok s)
-  mem_opens_in s same last slot there = record {
-    reads = mem_reads same;
+  pub mem_opens_in : {E : Type 0} (s : ℕ) → now ≡ was → s ≡ length old.slots.items → slice_get new.slots.items s ≡ Some (record { file = f; at = 0; input = true }) → (bytes : List ℕ) × (content_at now f ≡ Some bytes) → KeepsOtherSlots s old new → KeepsCounts old new → OpensIn {E = E} n (seen_of old was) (seen_of new now) (Ok s)
+  mem_opens_in s same last slot there others k = record {
+    reads = mem_reads same k.writes;
     fresh = fresh_slot old.slots.items s last;
     opened = (ap is_input slot, ap is_output slot, opened_name s 0 true slot);
     left = λ told.
         file_was ∙ sym (ap (λ v. content_at v f) same) ∙ there.1
         ∙ ap Some (sym (ap (λ o. drop (slot_at o) (bytes_of (content_at now (slot_file o)))) slot ∙ ap bytes_of there.1));
     cause = tt;
+    others = keeps_others old new was now stays.names (λ i. ap (λ v. content_at v i) same) s others;
+    refused = tt;
+    counts = same_reads old new was now stays.names k.reads;
   }
 
-  pub mem_opens_out : {E : Type 0} (s : ℕ) → ((i : ℕ) → i ≢ f → content_at now i ≡ content_at was i) → s ≡ length old.slots.items → slice_get new.slots.items s ≡ Some (record { file = f; at = 0; input = false }) → content_at now f ≡ Some [] → OpensOut {E = E} n (seen_of old was) (seen_of new now) (Ok s)
-  mem_opens_out s others last slot emptied = record {
+  pub mem_opens_out : {E : Type 0} (s : ℕ) → ((i : ℕ) → i ≢ f → content_at now i ≡ content_at was i) → s ≡ length old.slots.items → slice_get new.slots.items s ≡ Some (record { file = f; at = 0; input = false }) → content_at now f ≡ Some [] → KeepsOtherSlots s old new → KeepsCounts old new → OpensOut {E = E} n (seen_of old was) (seen_of new now) (Ok s)
+  mem_opens_out s others last slot emptied slots k = record {
     keeps = mem_keeps n f old new was now at stays others;
     fresh = fresh_slot old.slots.items s last;
     opened = (ap is_output slot, ap is_input slot, opened_name s 0 false slot);
     emptied = λ told. file_is ∙ emptied;
     same = tt;
     cause = tt;
+    others = other_slots old new was now stays.names s slots;
+    refused = tt;
+    counts = same_writes old new was now stays.names k.writes;
+    reads = same_reads old new was now stays.names k.reads;
   }
 
-  pub mem_puts : {E : Type 0} (s : ℕ) (from : List ℕ) → n ≡ name old s → ((i : ℕ) → i ≢ f → content_at now i ≡ content_at was i) → content_at now f ≡ Some (bytes_of (content_at was f) ++ from) → 0 < length from → Puts {E = E} s from (seen_of old was) (seen_of new now) (Ok (length from))
-  mem_puts {E} s from e others grown some = record {
+  pub mem_puts : {E : Type 0} (s : ℕ) (from : List ℕ) → n ≡ name old s → ((i : ℕ) → i ≢ f → content_at now i ≡ content_at was i) → content_at now f ≡ Some (bytes_of (content_at was f) ++ from) → 0 < length from → KeepsAll old new → Puts {E = E} s from (seen_of old was) (seen_of new now) (Ok (length from))
+  mem_puts {E} s from e others grown some k = record {
     keeps = subst (λ m. Keeps m (seen_of old was) (seen_of new now)) e (mem_keeps n f old new was now at stays others);
     some = (some, omega arith);
     grown = λ told. subst (λ m. (seen_of new now).file m ≡ Some (bytes_of ((seen_of old was).file m) ++ take (length from) from)) e
         (file_is ∙ grown ∙ ap Some (ap (λ c. bytes_of c ++ from) (sym file_was) ∙ ap (λ l. bytes_of ((seen_of old was).file n) ++ l) (sym (take_all (length from) from (omega arith)))));
     same = tt;
     cause = tt;
+    slots = same_slots old new was now stays.names k.slots;
+    refused = tt;
+    counts = same_writes old new was now stays.names k.writes;
+    reads = same_reads old new was now stays.names k.reads;
   }
 
 pub left_slots : (old new : Desk) (contents : List (Option (Vec ℕ Global))) (s : ℕ) → new.slots.items ≡ old.slots.items → left_by new.slots.items contents s ≡ left_by old.slots.items contents s

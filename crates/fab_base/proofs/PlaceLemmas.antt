@@ -1,5 +1,5 @@
 -- Where a name stands.
-use Rattle.std.proofs.Common.{◌≡◌, ℕ, zero, suc, ◌+◌, ◌<◌, ◌≤◌, List, [], ◌∷◌, ◌++◌, length, length-append, get_or, slice_get, Option, Some, None, true, false, Bool, cond, refl, sym, ◌∙◌, ap, subst, arith, String, string_bytes, IfSome, IfNone, inl, inr}
+use Rattle.std.proofs.Common.{◌≡◌, ◌≢◌, ℕ, zero, suc, ◌+◌, ◌<◌, ◌≤◌, List, [], ◌∷◌, ◌++◌, length, length-append, get_or, slice_get, Option, Some, None, true, false, Bool, cond, refl, sym, ◌∙◌, ap, subst, arith, String, string_bytes, IfSome, IfNone, inl, inr}
 use Rattle.std.proofs.lemmas.Bool.{cases_Bool, cases_lt}
 use Rattle.std.proofs.lemmas.Slice.Eq.{bytes_eq-Decides}
 use Rattle.std.specs.Str.{bytes_eq}
@@ -102,6 +102,16 @@ slots_after old new slot o added none s lt = keeps_slot (slice_get old s) (slice
 pub slot_after : (old new : List DeskSlot) (slot : DeskSlot) (o : Option ℕ) → IfSome o (λ s. (s ≡ length old) × (new ≡ old ++ slot ∷ [])) → IfSome o (λ s. (s ≡ length old) × (slice_get new s ≡ Some slot))
 slot_after old new slot None added = tt
 slot_after old new slot (Some n) added = (added.0, ap (λ l. slice_get l n) added.1 ∙ slice_get-last old slot n added.0)
+
+others_push : (old : List DeskSlot) (slot : DeskSlot) (t : ℕ) → t ≢ length old → slice_get (old ++ slot ∷ []) t ≡ slice_get old t
+others_push [] slot zero ne = absurd (ne refl)
+others_push [] slot (suc t) ne = refl
+others_push (x ∷ xs) slot zero ne = refl
+others_push (x ∷ xs) slot (suc t) ne = others_push xs slot t (λ e. ne (ap suc e))
+
+pub others_after : (old new : List DeskSlot) (slot : DeskSlot) (o : Option ℕ) → IfSome o (λ s. (s ≡ length old) × (new ≡ old ++ slot ∷ [])) → IfSome o (λ s. (t : ℕ) → t ≢ s → slice_get new t ≡ slice_get old t)
+others_after old new slot None added = tt
+others_after old new slot (Some n) added = λ t ne. ap (λ l. slice_get l t) added.1 ∙ others_push old slot t (λ e. ne (e ∙ sym added.0))
 
 -- a name's own place, seen from the name there
 pub place_again : (n : List ℕ) (names : List (String Global)) (i : ℕ) → place n names ≡ Some i → place (name_at names i) names ≡ Some i

@@ -4,7 +4,7 @@ use Rattle.std.proofs.Common.{◌≡◌, ◌≢◌, ℕ, ◌≤◌, List, IsTrue
 use Rattle.std.proofs.lemmas.Bool.{cases_Bool}
 use Rattle.std.proofs.lemmas.Slice.Eq.{bytes_eq-Decides}
 use Rattle.std.specs.Str.{bytes_eq}
-use Rattle.fab_base.specs.Seen.{Seen, IsOpen, Keeps, SameSlot, Reads, Rose, Touches, Nothing, Only}
+use Rattle.fab_base.specs.Seen.{Seen, IsOpen, Keeps, SameSlot, SameSlots, KeepsOthers, KeepsSlots, Reads, Rose, Touches, Nothing, Only}
 
 -- a count that rose behind one that did not fall
 pub rose_later : (a b c : ℕ) → a ≤ b → Rose b c → Rose a c
@@ -64,10 +64,31 @@ keeps_trans name a b c k l = record {
 }
 
 pub reads_refl : (name : List ℕ) (d : Seen) → Reads name d d
-reads_refl name d = record { keeps = keeps_refl name d; files = λ m. refl }
+reads_refl name d = record { keeps = keeps_refl name d; files = λ m. refl; writes = λ m. refl }
 
 pub reads_trans : (name : List ℕ) (a b c : Seen) → Reads name a b → Reads name b c → Reads name a c
-reads_trans name a b c k l = record { keeps = keeps_trans name a b c k.keeps l.keeps; files = λ m. l.files m ∙ k.files m }
+reads_trans name a b c k l = record { keeps = keeps_trans name a b c k.keeps l.keeps; files = λ m. l.files m ∙ k.files m; writes = λ m. l.writes m ∙ k.writes m }
+
+-- ---- slots, and what they have left
+
+pub slots_refl : (d : Seen) → SameSlots d d
+slots_refl d s = same_slot_refl s d
+
+pub slots_trans : (a b c : Seen) → SameSlots a b → SameSlots b c → SameSlots a c
+slots_trans a b c k l s = same_slot_trans s a b c (k s) (l s)
+
+pub others_refl : (s : ℕ) (d : Seen) → KeepsOthers s d d
+others_refl s d = record { slots = λ t ne. same_slot_refl t d; left = λ t ne h. refl }
+
+pub others_trans : (s : ℕ) (a b c : Seen) → KeepsOthers s a b → KeepsOthers s b c → KeepsOthers s a c
+others_trans s a b c k l = record {
+  slots = λ t ne. same_slot_trans t a b c (k.slots t ne) (l.slots t ne);
+  left = λ t ne h. l.left t ne (subst IsTrue (sym (k.slots t ne).input) h) ∙ k.left t ne h;
+}
+
+-- a failed call leaves every slot but this one too
+pub others_of : (s : ℕ) (a b : Seen) → KeepsSlots a b → KeepsOthers s a b
+others_of s a b k = record { slots = λ t ne. k.slots t; left = λ t ne h. k.left t h }
 
 -- ---- calls on several names
 

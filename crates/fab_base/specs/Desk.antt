@@ -53,6 +53,10 @@ pub record Stays (file : ℕ) (old new : Desk) : Type 0 where
   pub reads_rise : slice_index old.reads.items file ≤ slice_index new.reads.items file
   pub writes_rise : slice_index old.writes.items file ≤ slice_index new.writes.items file
 
+-- every slot but this one is what it was, and stands where it stood
+abbrev pub KeepsOtherSlots : ℕ → Desk → Desk → Type 0
+KeepsOtherSlots s old new = (t : ℕ) → t ≢ s → slice_get new.slots.items t ≡ slice_get old.slots.items t
+
 -- no count changes
 pub record KeepsCounts (old new : Desk) : Type 0 where
   pub reads : new.reads.items ≡ old.reads.items

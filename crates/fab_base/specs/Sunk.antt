@@ -8,7 +8,8 @@ pub record Sunk : Type 0 where
   pub written : List ℕ
   pub faults : ℕ
 
--- A put appends the first n of these bytes, at least one. It fails only where a fault was counted, and appends nothing then.
+-- A put appends the first n of these bytes, at least one. It fails only where a fault was counted, and appends nothing then;
+-- else it counts none.
 pub record Sinks {E : Type 0} (from : List ℕ) (old new : Sunk) (result : Result ℕ E) : Type 0 where
   pub told : new.told ≡ old.told
   pub rise : old.faults ≤ new.faults
@@ -16,11 +17,13 @@ pub record Sinks {E : Type 0} (from : List ℕ) (old new : Sunk) (result : Resul
   pub grown : IsTrue old.told → IfOk result (λ n. new.written ≡ old.written ++ take n from)
   pub same : IsTrue old.told → OnErr result (new.written ≡ old.written)
   pub cause : OnErr result (Rose old.faults new.faults)
+  pub counts : OnOk result (new.faults ≡ old.faults)
 
--- Putting all these bytes appends them, or a front of them where it fails.
+-- Putting all these bytes appends them, or a front of them where it fails; no fault is counted where it succeeds.
 pub record SinksAll {T E : Type 0} (from : List ℕ) (old new : Sunk) (result : Result T E) : Type 0 where
   pub told : new.told ≡ old.told
   pub rise : old.faults ≤ new.faults
   pub grown : IsTrue old.told → OnOk result (new.written ≡ old.written ++ from)
   pub part : IsTrue old.told → (n : ℕ) × (new.written ≡ old.written ++ take n from)
   pub cause : OnErr result (Rose old.faults new.faults)
+  pub counts : OnOk result (new.faults ≡ old.faults)

@@ -5,7 +5,7 @@ ghost use Rattle.arrayvec.specs.ArrayVec.{array_vec_len};
 
 use crate::NoMemory;
 use arrayvec::ArrayVec;
-use std::alloc::AllocError;
+use std::alloc::{AllocError, Global};
 
 /// Appends bytes to a list of at most `N`.
 pub fn put<const N: usize>(list: &mut ArrayVec<u8, N>, bytes: &[u8])
@@ -28,7 +28,11 @@ pub fn append_reserved(out: &mut Vec<u8>, bytes: &[u8])
 
 /// Appends bytes that were made for it. Where memory was refused, for these bytes or here, `out`
 /// stays as it was.
-pub fn append_made(made: Result<Vec<u8>, AllocError>, out: &mut Vec<u8>) -> Result<(), NoMemory>
+pub fn append_made(
+    _alloc: Global,
+    made: Result<Vec<u8>, AllocError>,
+    out: &mut Vec<u8>,
+) -> Result<(), NoMemory>
     ensures ok { OnOk result (IfOk made (λ bytes. out.new.items ≡ out.old.items ++ bytes.items)) }
     ensures err { OnErr result (out.new.items ≡ out.old.items) }
     ensures refused { OnErr made (IsErr result) }

@@ -7,7 +7,7 @@ use crate::Failed;
 /// Files under names. `seen` says what contracts know of them at a moment.
 ///
 /// A slot is a number that an opening call gave. It stays an open input, or an open output, at
-/// every later call.
+/// every later call. A failed call opens no slot, changes no file and takes nothing.
 pub trait Depot {
     ghost seen: { Self → Seen };
 
@@ -21,7 +21,8 @@ pub trait Depot {
         requires { IsTrue ((seen self.old).knows name.now) }
         ensures opens { OpensOut name.now (seen self.old) (seen self.new) result };
 
-    /// Takes the next bytes of an open input, and answers how many; 0 at the end.
+    /// Takes the next bytes of an open input, and answers how many; 0 at the end. After an error
+    /// the buffer may hold any bytes.
     fn fetch(&mut self, slot: u32, into: &mut [u8]) -> Result<usize, Failed>
         requires input { IsTrue ((seen self.old).input slot) }
         requires room { 0 < length into.old }

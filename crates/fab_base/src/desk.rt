@@ -63,9 +63,9 @@ pub fn word_at(words: &[String], index: usize) -> &str
 }
 
 impl Desk {
-    ghost use Rattle.std.specs.Prelude.{◌≡◌, ◌<◌, ◌+◌, ◌-◌, ◌^◌, ◌≤◌, ◌↔◌, min, ℕ, Some, None, IfOk, OnErr, OnOk, IsTrue, IsNone, length, slice_get, slice_index, IfSome, List, [], true, false};
+    ghost use Rattle.std.specs.Prelude.{◌≡◌, ◌<◌, ◌+◌, ◌-◌, ◌^◌, ◌≤◌, ◌↔◌, min, ℕ, Some, None, IfOk, OnErr, OnOk, IsTrue, IsNone, length, slice_get, slice_index, IfSome, IfNone, List, [], true, false};
     ghost use Rattle.fab_base.specs.Places.{name_at};
-    ghost use Rattle.fab_base.specs.Desk.{knows, place_of, file_of, at_of, Stays, KeepsCounts, KeepsAll, Adds, HasRoom, one_more};
+    ghost use Rattle.fab_base.specs.Desk.{knows, place_of, file_of, at_of, Stays, KeepsOtherSlots, KeepsCounts, KeepsAll, Adds, HasRoom, one_more};
 
     /// A desk that knows no name.
     pub fn new(alloc: Global) -> Desk
@@ -183,6 +183,8 @@ impl Desk {
               at = at;
               input = input;
             }))) }
+        ensures others { IfSome result (λ s. KeepsOtherSlots s self.old self.new) }
+        ensures refused { IfNone result (KeepsAll self.old self.new) }
     {
         push_slot(&mut self.slots, DeskSlot { file, at, input })
     }
@@ -192,6 +194,7 @@ impl Desk {
         requires { slot < length self.old.slots.items }
         ensures stays { Stays (file_of self.old slot) self.old self.new }
         ensures at { at_of self.new slot ≡ at }
+        ensures others { KeepsOtherSlots slot self.old self.new }
         ensures same { (self.new.names ≡ self.old.names) × (self.new.reads ≡ self.old.reads)
             × (self.new.writes ≡ self.old.writes) }
     {

@@ -99,7 +99,7 @@ impl<T: Drop> OwnedList<T> {
 
     /// Appends the items of another list. Where memory is refused they are dropped and the list
     /// stays.
-    pub fn append(&mut self, other: OwnedList<T>) -> Result<(), NoMemory>
+    pub fn append(&mut self, _alloc: Global, other: OwnedList<T>) -> Result<(), NoMemory>
         ensures ok { OnOk result (self.new ≡ self.old ++ other) }
         ensures err { OnErr result (self.new ≡ self.old) }
     {

@@ -1,7 +1,7 @@
 //! A depot in memory, for tests and for callers that have their files in memory.
 ghost use Rattle.std.specs.Prelude.{◌≡◌, ◌<◌, ◌≤◌, ◌+◌, ◌-◌, ◌^◌, ◌++◌, ◌==◌, min, [], ℕ, Some, IfSome, IfOk, OnOk, OnErr, IfNone, None, IsTrue, length, take, drop, slice_get};
 ghost use Rattle.std.specs.List.{list_any};
-ghost use Rattle.fab_base.specs.Desk.{one_more, place_of, Stays, KeepsCounts, spare_slots};
+ghost use Rattle.fab_base.specs.Desk.{one_more, place_of, Stays, KeepsOtherSlots, KeepsCounts, spare_slots};
 ghost use Rattle.fab_base.specs.Seen.{bytes_of};
 ghost use Rattle.fab_base.specs.Contents.{content_bytes, capacity_of};
 
@@ -138,7 +138,7 @@ impl MemDepot {
 impl MemDepot {
     ghost use Rattle.std.specs.Prelude.{◌≡◌, ◌≢◌, ◌<◌, ◌≤◌, ◌++◌, [], ℕ, min, List, IfSome, IfNone, OnSome, IsNone, IfOk, OnOk, OnErr, IsTrue, true, false, length, None, Some, slice_get, take, ◌↔◌, ◌==◌, ◌⊎◌};
     ghost use Rattle.fab_base.specs.Seen.{bytes_of};
-    ghost use Rattle.fab_base.specs.Desk.{place_of, file_of, Stays, KeepsCounts};
+    ghost use Rattle.fab_base.specs.Desk.{place_of, file_of, Stays, KeepsOtherSlots, KeepsCounts};
     ghost use Rattle.fab_base.specs.Contents.{content_at};
     ghost use Rattle.fab_base.specs.MemDepot.{left_of, Counted, is_to_fail, slots_left, spare_at, MayFail};
 
@@ -155,6 +155,8 @@ impl MemDepot {
               at = 0;
               input = true;
             }))) }
+        ensures slots { IfSome result (λ s. KeepsOtherSlots s self.old.desk self.new.desk) }
+        ensures kept { IfNone result (self.new.desk.slots.items ≡ self.old.desk.slots.items) }
         ensures there { OnSome result ((bytes : List ℕ)
             × (content_at self.new.contents.items file ≡ Some bytes)) }
         ensures allowed { OnSome result (is_to_fail self.old ≡ false) }
@@ -184,6 +186,8 @@ impl MemDepot {
               at = 0;
               input = false;
             }))) }
+        ensures slots { IfSome result (λ s. KeepsOtherSlots s self.old.desk self.new.desk) }
+        ensures kept { IfNone result (self.new.desk.slots.items ≡ self.old.desk.slots.items) }
         ensures emptied { OnSome result (content_at self.new.contents.items file ≡ Some []) }
         ensures none { IfNone result (content_at self.new.contents.items file
             ≡ content_at self.old.contents.items file) }
@@ -206,6 +210,8 @@ impl MemDepot {
         ensures stays { Stays file self.old.desk self.new.desk }
         ensures counts { KeepsCounts self.old.desk self.new.desk }
         ensures contents { self.new.contents ≡ self.old.contents }
+        ensures slots { KeepsOtherSlots slot self.old.desk self.new.desk }
+        ensures kept { IfNone result (self.new.desk.slots.items ≡ self.old.desk.slots.items) }
         ensures bound { IfSome result (λ n. n ≤ length into.new) }
         ensures taken { IfSome result (λ n. take n into.new ++ left_of self.new slot
             ≡ left_of self.old slot) }
@@ -351,6 +357,8 @@ fn open_slot(alloc: Global, desk: &mut Desk, name: &str, file: usize, input: boo
           at = 0;
           input = input;
         }))) }
+    ensures slots { IfSome result (λ s. KeepsOtherSlots s desk.old desk.new) }
+    ensures kept { IfNone result (desk.new.slots.items ≡ desk.old.slots.items) }
     ensures cause { IfNone result (spare_slots desk.old ≡ 0) }
 {
     match desk.reserve_slot(alloc) {

@@ -15,7 +15,7 @@ pub fn write_config(alloc: Global, config: &Config, out: &mut Vec<u8>) -> Result
     ensures ok { OnOk result (out.new.items ≡ out.old.items ++ spec.written config.now) }
     ensures err { OnErr result (out.new.items ≡ out.old.items) }
 {
-    append_made(text_of(alloc, config), out)
+    append_made(alloc, text_of(alloc, config), out)
 }
 
 #[tactic(auto, unfolding(crate::specs::Written::written))]

@@ -2,14 +2,15 @@
 use Rattle.std.proofs.Common.{◌≡◌, ℕ, ◌≤◌, IsTrue, List, [], length, take, Some, Ok, Err, sym, ap, ◌∙◌, subst, arith}
 use Rattle.std.specs.Prelude.{Result, Vec}
 use Rattle.std.specs.declared.alloc.Global.{Global}
-use Rattle.fab_base.specs.Seen.{Seen, Reads, Rose, OpensIn, OpensOut, PutsAll}
+use Rattle.fab_base.specs.Seen.{Seen, Reads, Rose, OpensIn, OpensOut, PutsAll, SameReadFaults}
 use Rattle.fab_base.specs.declared.values.Failed.{Failed}
 use Rattle.fab_base.proofs.SeenLemmas.{reads_trans, reads_touches, told_stays, rose_later}
-use Rattle.fab_migrate.specs.Migrating.{Migrates, Begun}
+use Rattle.fab_migrate.specs.Migrating.{Migrates, NoFault, CauseOld, SaysOld, Begun}
 use Rattle.fab_migrate.specs.Old.{IsOld, new_text}
 use Rattle.fab_migrate.specs.OldWords.{Rewrites, WholeRead}
 use Rattle.fab_migrate.specs.declared.old.MigrateError.TheVariants as ends
 use Rattle.fab_migrate.specs.declared.old.OldError.{OldError}
+use Rattle.fab_migrate.specs.declared.old.OldError.TheVariants as olds
 use Rattle.fab_migrate.specs.declared.old.Rewritten.{Rewritten}
 use Rattle.fab_migrate.proofs.OldJournalLemmas.{migrated_to}
 
@@ -23,6 +24,27 @@ module _ (from to : List ℕ) (slot limit : ℕ) (a b c : Seen) (opens : OpensIn
   reads : (result : Result (Vec ℕ Global) OldError) → WholeRead slot limit b c result → Reads from a c
   reads result r = reads_trans from a b c opens.reads (subst (λ n. Reads n b c) is_name r.reads)
 
+  -- no fault was counted so far
+  none_counted : (result : Result (Vec ℕ Global) OldError) → WholeRead slot limit b c result → SameReadFaults b c → NoFault a c
+  none_counted result r counts = (λ m. counts m ∙ opens.counts m, λ m. r.reads.writes m ∙ opens.reads.writes m)
+
+  -- ---- the input isn't read whole
+
+  unread_cause : (e : OldError) → WholeRead slot limit b c (Err e) → CauseOld from a c e
+  unread_cause (olds.Fault line fault) r = absurd r.whole
+  unread_cause olds.Bytes r = none_counted (Err olds.Bytes) r r.counts
+  unread_cause (olds.Read f) r = rose_later _ _ _ opens.reads.keeps.reads_rise (subst (λ n. Rose (b.read_faults n) (c.read_faults n)) is_name r.whole)
+  unread_cause olds.Memory r = none_counted (Err olds.Memory) r r.counts
+
+  unread_says : (e : OldError) → WholeRead slot limit b c (Err e) → IsTrue a.told → SaysOld from limit a e
+  unread_says (olds.Fault line fault) r told = absurd r.whole
+  unread_says olds.Bytes r told = (b.left slot, opens.left told, r.whole (told_b told))
+  unread_says (olds.Read f) r told = tt
+  unread_says olds.Memory r told = tt
+
+  pub unread : (e : OldError) → WholeRead slot limit b c (Err e) → Migrates from to limit a c (Err (ends.Input e))
+  unread e r = ((reads (Err e) r).files, unread_cause e r, unread_says e r)
+
   module _ (v : Vec ℕ Global) (r : WholeRead slot limit b c (Ok v)) where
     told_c : IsTrue a.told → IsTrue c.told
     told_c told = told_stays from a c (reads (Ok v) r).keeps told
@@ -32,6 +54,26 @@ module _ (from to : List ℕ) (slot limit : ℕ) (a b c : Seen) (opens : OpensIn
 
     within : IsTrue a.told → length v.items ≤ limit
     within told = (r.whole (told_b told)).1
+
+    counts_kept : NoFault a c
+    counts_kept = none_counted (Ok v) r r.counts
+
+    -- ---- the input isn't rewritten
+
+    unrewritten_cause : (e : OldError) → Rewrites v.items (Err e) → CauseOld from a c e
+    unrewritten_cause (olds.Fault line fault) w = counts_kept
+    unrewritten_cause olds.Bytes w = absurd w
+    unrewritten_cause (olds.Read f) w = absurd w
+    unrewritten_cause olds.Memory w = counts_kept
+
+    unrewritten_says : (e : OldError) → Rewrites v.items (Err e) → IsTrue a.told → SaysOld from limit a e
+    unrewritten_says (olds.Fault line fault) w told = (v.items, found told, within told, w)
+    unrewritten_says olds.Bytes w told = absurd w
+    unrewritten_says (olds.Read f) w told = absurd w
+    unrewritten_says olds.Memory w told = tt
+
+    pub unrewritten : (e : OldError) → Rewrites v.items (Err e) → Migrates from to limit a c (Err (ends.Input e))
+    unrewritten e w = ((reads (Ok v) r).files, unrewritten_cause e w, unrewritten_says e w)
 
     module _ (n : Rewritten) (w : Rewrites v.items (Ok n)) where
       writes_kept : a.write_faults to ≤ c.write_faults to

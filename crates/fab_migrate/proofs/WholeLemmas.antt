@@ -1,9 +1,22 @@
--- Reading a file whole, piece by piece.
-use Rattle.std.proofs.Common.{◌≡◌, ℕ, ◌+◌, List, ◌++◌, length, IsTrue}
-use Rattle.fab_base.specs.Seen.{Seen, Reads}
+-- Reading a file whole, as fab_base says it.
+use Rattle.std.proofs.Common.{◌≡◌, ℕ, Ok, Err, sym, subst}
+use Rattle.std.specs.Prelude.{Vec}
+use Rattle.std.specs.declared.alloc.Global.{Global}
+use Rattle.fab_base.specs.Seen.{Seen}
+use Rattle.fab_base.specs.Whole as base
+use Rattle.fab_base.specs.declared.whole.WholeError.{WholeError}
+use Rattle.fab_base.specs.declared.whole.WholeError.TheVariants as wholes
+use Rattle.fab_migrate.specs.OldWords.{WholeRead, unread_by}
+use Rattle.fab_migrate.specs.declared.old.OldError.{OldError}
 
--- what stands for the loop when these bytes were read, and there is room for so many more
-pub record WholeSoFar (s limit : ℕ) (a b : Seen) (whole : List ℕ) (room : ℕ) : Type 0 where
-  pub reads : Reads (a.name s) a b
-  pub taken : IsTrue a.told → whole ++ b.left s ≡ a.left s
-  pub counted : room + length whole ≡ limit
+module _ (s limit : ℕ) (a b : Seen) where
+  pub whole_read : (v : Vec ℕ Global) → base.WholeRead s limit a b (Ok v) → WholeRead s limit a b (Ok v)
+  whole_read v r = record { reads = r.reads; whole = r.whole; counts = r.counts }
+
+  unread : (e : WholeError) → base.WholeRead s limit a b (Err e) → WholeRead s limit a b (Err (unread_by e))
+  unread wholes.Bytes r = record { reads = r.reads; whole = r.whole; counts = r.counts }
+  unread (wholes.Read f) r = record { reads = r.reads; whole = r.whole; counts = tt }
+  unread wholes.Memory r = record { reads = r.reads; whole = tt; counts = r.counts }
+
+  pub whole_unread : (e : WholeError) (x : OldError) → x ≡ unread_by e → base.WholeRead s limit a b (Err e) → WholeRead s limit a b (Err x)
+  whole_unread e x is r = subst (λ y. WholeRead s limit a b (Err y)) (sym is) (unread e r)

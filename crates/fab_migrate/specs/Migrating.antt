@@ -1,6 +1,6 @@
 -- What migrating the journal in one file to another file does.
 use Rattle.std.specs.Prelude.{◌≡◌, ◌≢◌, ℕ, ◌≤◌, ◌<◌, List, length, take, IsTrue, Some, Result, Ok, Err}
-use Rattle.fab_base.specs.Seen.{Seen, SameFiles, Rose}
+use Rattle.fab_base.specs.Seen.{Seen, SameFiles, SameReadFaults, SameWriteFaults, Rose}
 use Rattle.fab_policy.specs.Journal.{Journal}
 use Rattle.fab_policy.specs.Ranged.{IsRanged}
 use Rattle.fab_policy.specs.Text.{text, text1}
@@ -18,11 +18,16 @@ SaysOld from limit old errors.Bytes = (l : List ℕ) × (old.file from ≡ Some 
 SaysOld from limit old (errors.Read failed) = Unit {0}
 SaysOld from limit old errors.Memory = Unit {0}
 
+-- the depot counted no fault
+abbrev pub NoFault : Seen → Seen → Type 0
+NoFault old new = SameReadFaults old new × SameWriteFaults old new
+
+-- A fault of the depot is counted where one is told, and else none: want of memory never stands for one.
 abbrev pub CauseOld : List ℕ → Seen → Seen → OldError → Type 0
-CauseOld from old new (errors.Fault line fault) = Unit {0}
-CauseOld from old new errors.Bytes = Unit {0}
+CauseOld from old new (errors.Fault line fault) = NoFault old new
+CauseOld from old new errors.Bytes = NoFault old new
 CauseOld from old new (errors.Read failed) = Rose (old.read_faults from) (new.read_faults from)
-CauseOld from old new errors.Memory = Unit {0}
+CauseOld from old new errors.Memory = NoFault old new
 
 -- The input that was found is a journal of format 1 within the limit, and the output is the same in format 2. So where the
 -- input is the text of a journal in format 1, the output is its text in format 2.

@@ -1,7 +1,9 @@
 -- A file that is read whole, and words of private contracts alone.
 use Rattle.std.specs.Prelude.{◌≡◌, ℕ, ◌≤◌, ◌<◌, true, List, [], ◌++◌, length, IsTrue, Option, Some, None, Result, Ok, Err, Vec}
 use Rattle.std.specs.declared.alloc.Global.{Global}
-use Rattle.fab_base.specs.Seen.{Seen, Reads, Rose}
+use Rattle.fab_base.specs.Seen.{Seen, Reads, Rose, SameReadFaults}
+use Rattle.fab_base.specs.declared.whole.WholeError.{WholeError}
+use Rattle.fab_base.specs.declared.whole.WholeError.TheVariants as wholes
 use Rattle.fab_policy.specs.Spelling.{Spells, line_text}
 use Rattle.fab_policy.specs.declared.event.Event.{Event}
 use Rattle.fab_policy.specs.declared.event.Event.TheVariants as event
@@ -49,6 +51,18 @@ IsWhole s limit old new (Err errors.Bytes) = IsTrue old.told → limit < length 
 IsWhole s limit old new (Err (errors.Read failed)) = Rose (old.read_faults (old.name s)) (new.read_faults (old.name s))
 IsWhole s limit old new (Err errors.Memory) = Unit {0}
 
+-- no fault of reading is counted but where one is told
+abbrev pub CountsWhole : Seen → Seen → Result (Vec ℕ Global) OldError → Type 0
+CountsWhole old new (Err (errors.Read failed)) = Unit {0}
+CountsWhole old new result = SameReadFaults old new
+
 pub record WholeRead (s limit : ℕ) (old new : Seen) (result : Result (Vec ℕ Global) OldError) : Type 0 where
   pub reads : Reads (old.name s) old new
   pub whole : IsWhole s limit old new result
+  pub counts : CountsWhole old new result
+
+-- what an error of reading a file whole is
+abbrev pub unread_by : WholeError → OldError
+unread_by wholes.Bytes = errors.Bytes
+unread_by (wholes.Read failed) = errors.Read failed
+unread_by wholes.Memory = errors.Memory

@@ -44,7 +44,9 @@ pub fn write_line(
     ensures err { OnErr result (out.new.items ≡ out.old.items) }
 {
     match event {
-        Event::Tick { ended, .. } => append_made(clocked_line_of_tick(alloc, clock, ended), out),
+        Event::Tick { ended, .. } => {
+            append_made(alloc, clocked_line_of_tick(alloc, clock, ended), out)
+        }
         Event::Frame {
             port,
             index,
@@ -81,7 +83,7 @@ pub fn write_tick_line(
         out.new.items ≡ out.old.items ++ line1 (Event.Tick moment ended.now)) }
     ensures err { OnErr result (out.new.items ≡ out.old.items) }
 {
-    append_made(line_of_tick(alloc, moment, ended), out)
+    append_made(alloc, line_of_tick(alloc, moment, ended), out)
 }
 
 /// Appends the line of a frame's entry in format 1, as `1 0 vlans`.

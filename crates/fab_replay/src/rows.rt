@@ -39,7 +39,7 @@ pub fn write_row(alloc: Global, row: &Row, out: &mut Vec<u8>) -> Result<(), NoMe
     ensures ok { OnOk result (out.new.items ≡ out.old.items ++ row_lines row.now) }
     ensures err { OnErr result (out.new.items ≡ out.old.items) }
 {
-    append_made(lines_of(alloc, row), out)
+    append_made(alloc, lines_of(alloc, row), out)
 }
 
 fn lines_of(alloc: Global, row: &Row) -> Result<Vec<u8>, AllocError>

@@ -31,7 +31,7 @@ pub fn write_shown(
 {
     // Law: in the tables of a legal journal the N_Ports ascend, as the lines want them.
     legal_journals();
-    append_made(lines_of(alloc, fabric, entries), out)
+    append_made(alloc, lines_of(alloc, fabric, entries), out)
 }
 
 fn lines_of(alloc: Global, fabric: &Fabric, entries: u64) -> Result<Vec<u8>, AllocError>

@@ -61,7 +61,7 @@ pub fn clear(
     ensures err { OnErr result (outs.new ≡ outs.old) }
 {
     let messages = by_hundreds(alloc, moment, enode, ports)?;
-    outs.append(messages)
+    outs.append(alloc, messages)
 }
 
 // The clear link messages to an ENode that name these N_Ports, a hundred in each.

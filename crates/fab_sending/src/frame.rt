@@ -66,7 +66,7 @@ pub fn frame_sends(
     let _ = before.roster.len();
     let changes = plain_changes(alloc, before, &verdict)?;
     let frames = replies(alloc, now(before.roster), port, entry, heard, verdict)?;
-    let sends = joined(before, frames, changes)?;
+    let sends = joined(alloc, before, frames, changes)?;
     Ok(sends)
 }
 
@@ -100,7 +100,7 @@ pub fn grant_sends(
     let _ = before.roster.len();
     let accept = accept(alloc, now(before.roster), port, heard, address)?;
     let changes = grant_changes(alloc, before, request, address)?;
-    let sends = joined(before, accept, changes)?;
+    let sends = joined(alloc, before, accept, changes)?;
     Ok(sends)
 }
 
@@ -138,7 +138,7 @@ pub fn registration_sends(
     let to = asker(heard);
     let accept = answer(alloc, now(before.roster), port, to, &CtTell::Done, WHOLE)?;
     let changes = registration_changes(alloc, before, to.s_id, ask)?;
-    let sends = joined(before, accept, changes)?;
+    let sends = joined(alloc, before, accept, changes)?;
     Ok(sends)
 }
 
@@ -182,19 +182,24 @@ pub fn answer_sends(
     let _ = before.roster.len();
     let frames = answer(alloc, now(before.roster), port, asker(heard), tell, size)?;
     let changes = OutList::empty(alloc);
-    let sends = joined(before, frames, changes)?;
+    let sends = joined(alloc, before, frames, changes)?;
     Ok(sends)
 }
 
 // The frames of an entry, with its state changes behind its replies.
-fn joined(before: &Before<'_>, mut replies: OutList, changes: OutList) -> Result<Sends, NoMemory>
+fn joined(
+    alloc: Global,
+    before: &Before<'_>,
+    mut replies: OutList,
+    changes: OutList,
+) -> Result<Sends, NoMemory>
     ensures outs { IfOk result (λ s. s.outs ≡ replies ++ changes) }
     ensures rscns { IfOk result (λ s. s.rscns
         ≡ (before.now.rscns + length changes) % 65535) }
     ensures few { IfOk result (λ s. s.rscns < 65535) }
 {
     let rscns = counted(before.rscns, changes.len());
-    replies.append(changes)?;
+    replies.append(alloc, changes)?;
     Ok(Sends {
         outs: replies,
         rscns,

@@ -38,7 +38,7 @@ pub fn tick_sends(
     let mut outs = clears(alloc, before.config, before.roster, moment, ended)?;
     let changes = tick_changes(alloc, before, moment, ended)?;
     let rscns = counted(before.rscns, changes.len());
-    outs.append(changes)?;
+    outs.append(alloc, changes)?;
     let advertised = advertise(
         alloc,
         before.config,
@@ -46,6 +46,6 @@ pub fn tick_sends(
         before.advertised,
         moment,
     )?;
-    outs.append(advertised)?;
+    outs.append(alloc, advertised)?;
     Ok(Sends { outs, rscns })
 }

@@ -4,11 +4,14 @@ use Rattle.std.proofs.lemmas.Bool.{cases_Bool}
 use borrow.Author.Count.{below_more}
 use Rattle.std.specs.Str.{bytes_eq}
 use Rattle.std.specs.declared.alloc.Global.{Global}
-use Rattle.fab_base.specs.Seen.{Keeps, Reads, Rose, OpensIn, OpensOut}
+use Rattle.fab_base.specs.Seen.{Keeps, Reads, Rose, OpensIn, OpensOut, SameSlot, SameSlots, KeepsOthers, KeepsSlots, SameFiles, SameReadFaults, SameWriteFaults}
 use Rattle.fab_base.specs.Places.{place, name_at, after_one, is_input, is_output}
-use Rattle.fab_base.specs.Desk.{place_of, knows, one_more, Stays, Adds}
+use Rattle.fab_base.specs.Desk.{place_of, knows, one_more, Stays, KeepsOtherSlots, KeepsCounts, Adds}
+use Rattle.fab_base.specs.Contents.{content_in}
+use Rattle.fab_base.specs.MemDepot.{seen_of}
 use Rattle.fab_base.specs.declared.desk.Desk.{Desk}
-use Rattle.fab_base.proofs.MemLemmas.{mem_keeps, mem_reads, read_rose, write_rose, fresh_slot, opened_name}
+use Rattle.fab_base.proofs.MemLemmas.{mem_keeps, read_rose, write_rose, fresh_slot, opened_name}
+use Rattle.fab_base.proofs.SlotLemmas.{same_slots, keeps_slots, keeps_others, same_reads, same_writes}
 use Rattle.fab_base.proofs.KnowLemmas.{place-push_own}
 use Rattle.fcoe_tool.specs.Edge.{untold}
 
@@ -31,8 +34,33 @@ module _ (n : List ℕ) (f : ℕ) (old new : Desk) (at : place_of old n ≡ Some
         writes_rise = k.writes_rise;
       }
 
-  pub untold_reads : Reads n (untold old) (untold new)
-  untold_reads = record { keeps = untold_keeps; files = (mem_reads n f old new [] [] at stays refl).files }
+  pub untold_files : SameFiles (untold old) (untold new)
+  untold_files m = ap (content_in []) (ap (place m) stays.names)
+
+  pub untold_same_reads : new.reads.items ≡ old.reads.items → SameReadFaults (untold old) (untold new)
+  untold_same_reads = same_reads old new [] [] stays.names
+
+  pub untold_same_writes : new.writes.items ≡ old.writes.items → SameWriteFaults (untold old) (untold new)
+  untold_same_writes = same_writes old new [] [] stays.names
+
+  pub untold_reads : new.writes.items ≡ old.writes.items → Reads n (untold old) (untold new)
+  untold_reads writes = record { keeps = untold_keeps; files = untold_files; writes = untold_same_writes writes }
+
+  untold_slot : (t : ℕ) → SameSlot t (seen_of old []) (seen_of new []) → SameSlot t (untold old) (untold new)
+  untold_slot t same = record { input = same.input; output = same.output; name = same.name }
+
+  pub untold_slots : new.slots.items ≡ old.slots.items → SameSlots (untold old) (untold new)
+  untold_slots e t = untold_slot t (same_slots old new [] [] stays.names e t)
+
+  -- a failed call leaves all slots
+  pub untold_refused : new.slots.items ≡ old.slots.items → KeepsSlots (untold old) (untold new)
+  untold_refused e = record { slots = untold_slots e; left = (keeps_slots old new [] [] stays.names (λ i. refl) e).left }
+
+  -- an opening call leaves all slots but the new one
+  untold_others : (s : ℕ) → KeepsOtherSlots s old new → KeepsOthers s (untold old) (untold new)
+  untold_others s others =
+      let k = keeps_others old new [] [] stays.names (λ i. refl) s others in
+      record { slots = λ t ne. untold_slot t (k.slots t ne); left = k.left }
 
   pub untold_read_rose : slice_index new.reads.items f ≡ one_more (slice_index old.reads.items f) → Rose ((untold old).read_faults n) ((untold new).read_faults n)
   untold_read_rose = read_rose n f old new [] [] at stays
@@ -40,23 +68,30 @@ module _ (n : List ℕ) (f : ℕ) (old new : Desk) (at : place_of old n ≡ Some
   pub untold_write_rose : slice_index new.writes.items f ≡ one_more (slice_index old.writes.items f) → Rose ((untold old).write_faults n) ((untold new).write_faults n)
   untold_write_rose = write_rose n f old new [] [] at stays
 
-  pub untold_opens_in : {E : Type 0} (s k : ℕ) → s ≡ length old.slots.items → slice_get new.slots.items s ≡ Some (record { file = f; at = k; input = true }) → OpensIn {E = E} n (untold old) (untold new) (Ok s)
-  untold_opens_in s k last slot = record {
-    reads = untold_reads;
+  pub untold_opens_in : {E : Type 0} (s k : ℕ) → s ≡ length old.slots.items → slice_get new.slots.items s ≡ Some (record { file = f; at = k; input = true }) → KeepsOtherSlots s old new → KeepsCounts old new → OpensIn {E = E} n (untold old) (untold new) (Ok s)
+  untold_opens_in s k last slot others counts = record {
+    reads = untold_reads counts.writes;
     fresh = fresh_slot old.slots.items s last;
     opened = (ap is_input slot, ap is_output slot, opened_name n f old new [] [] at stays s k true slot);
     left = λ told. absurd (no_telling told);
     cause = tt;
+    others = untold_others s others;
+    refused = tt;
+    counts = untold_same_reads counts.reads;
   }
 
-  pub untold_opens_out : {E : Type 0} (s k : ℕ) → s ≡ length old.slots.items → slice_get new.slots.items s ≡ Some (record { file = f; at = k; input = false }) → OpensOut {E = E} n (untold old) (untold new) (Ok s)
-  untold_opens_out s k last slot = record {
+  pub untold_opens_out : {E : Type 0} (s k : ℕ) → s ≡ length old.slots.items → slice_get new.slots.items s ≡ Some (record { file = f; at = k; input = false }) → KeepsOtherSlots s old new → KeepsCounts old new → OpensOut {E = E} n (untold old) (untold new) (Ok s)
+  untold_opens_out s k last slot others counts = record {
     keeps = untold_keeps;
     fresh = fresh_slot old.slots.items s last;
     opened = (ap is_output slot, ap is_input slot, opened_name n f old new [] [] at stays s k false slot);
     emptied = λ told. absurd (no_telling told);
     same = tt;
     cause = tt;
+    others = (untold_others s others).slots;
+    refused = tt;
+    counts = untold_same_writes counts.writes;
+    reads = untold_same_reads counts.reads;
   }
 
 -- ---- more names

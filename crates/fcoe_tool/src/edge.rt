@@ -27,7 +27,7 @@ pub struct FileDepot<'a, R: Files> {
 impl<'a, R: Files> FileDepot<'a, R> {
     ghost use Rattle.std.specs.Prelude.{◌≡◌, ◌<◌, ℕ, List, Some, IfSome, IfNone, IfOk, IfErr, length};
     ghost use Rattle.std.specs.Prelude.{slice_get, IsTrue, true, false, ◌≤◌};
-    ghost use Rattle.fab_base.specs.Desk.{place_of, Stays, KeepsCounts};
+    ghost use Rattle.fab_base.specs.Desk.{place_of, Stays, KeepsOtherSlots, KeepsCounts};
     ghost use Rattle.fcoe_tool.specs.Edge.{KnowsAll, AddsFile, HasSame};
 
     /// A depot that knows these words.
@@ -72,6 +72,7 @@ impl<'a, R: Files> FileDepot<'a, R> {
         ensures fresh { IfSome result (λ s. (s ≡ length self.old.desk.slots.items)
             × (slice_get self.new.desk.slots.items s
             ≡ Some (record { file = place; at = length self.old.files.items; input = false }))) }
+        ensures slots { IfSome result (λ s. KeepsOtherSlots s self.old.desk self.new.desk) }
         ensures file { IfSome result (λ s. AddsFile s self.old.files.items self.new.files.items
             self.new.desk) }
         ensures none { IfNone result (HasSame self.old.desk self.new.desk self.old.files.items
@@ -92,6 +93,7 @@ impl<'a, R: Files> FileDepot<'a, R> {
         ensures fresh { IfSome result (λ s. (s ≡ length self.old.desk.slots.items)
             × (slice_get self.new.desk.slots.items s
             ≡ Some (record { file = place; at = length self.old.files.items; input = input }))) }
+        ensures slots { IfSome result (λ s. KeepsOtherSlots s self.old.desk self.new.desk) }
         ensures file { IfSome result (λ s. AddsFile s self.old.files.items self.new.files.items
             self.new.desk) }
         ensures none { IfNone result (HasSame self.old.desk self.new.desk self.old.files.items

@@ -49,7 +49,7 @@ impl Fabric {
         messages_are_kept();
         let rscns = sends.rscns;
         self.events.push(alloc, entry)?;
-        let Ok(()) = self.outs.append(sends.outs) else {
+        let Ok(()) = self.outs.append(alloc, sends.outs) else {
             self.events.pop();
             return Err(NoMemory);
         };

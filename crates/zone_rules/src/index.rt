@@ -44,8 +44,11 @@ fn add(alloc: Global, rows: &mut NameRows, name: u64, place: usize) -> Result<()
     ensures { OnOk result ((x q : ℕ) → has (of_name rows.new x) q
         ≡ ((place == q && name == x) || has (of_name rows.old x) q)) }
 {
-    set_bit(rows.entry(name)?.or_insert(Vec::new(alloc)), place)?;
-    Ok(())
+    let row = rows.entry(name)?.or_insert(Vec::new(alloc));
+    match set_bit(alloc, row, place) {
+        Ok(()) => Ok(()),
+        Err(_) => Err(NoMemory),
+    }
 }
 
 /// The row of a name.

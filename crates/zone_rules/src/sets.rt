@@ -34,7 +34,9 @@ fn row_of_places(alloc: Global, places: &PlaceList, zones: usize) -> Result<Row,
     for index in 0..places.len() {
         let place = *places.at(index).unwrap() as usize;
         if place < zones {
-            set_bit(&mut row, place)?;
+            let Ok(()) = set_bit(alloc, &mut row, place) else {
+                return Err(NoMemory);
+            };
         }
     }
     Ok(row)

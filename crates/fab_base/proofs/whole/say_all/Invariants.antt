@@ -7,6 +7,7 @@ invariant-loop-done g l =
     record {
       told : (sunk l.say).told ≡ (sunk l.initial.say).told;
       rise : (sunk l.initial.say).faults ≤ (sunk l.say).faults;
+      counts : (sunk l.say).faults ≡ (sunk l.initial.say).faults;
       bound : l.done ≤ length l.from;
       grown : IsTrue (sunk l.initial.say).told → (sunk l.say).written ≡ (sunk l.initial.say).written ++ take l.done l.from;
     }

@@ -1,7 +1,15 @@
-use Rattle.std.proofs.Common.{Ok, subst}
+use Rattle.std.proofs.Common.{Ok, Err, subst}
 use Rattle.fab_migrate.specs.OldWords.{Rewrites}
-use Rattle.fab_migrate.proofs.MigrateLemmas.{migrated, front}
+use Rattle.fab_migrate.proofs.MigrateLemmas.{unread, unrewritten, migrated, front}
 use Rattle.fab_migrate.proofs.migrating.migrate.Goals as goal
+
+pub returns-in-Err-read_whole-clause-migrates : goal.returns-in-Err-read_whole-clause-migrates
+returns-in-Err-read_whole-clause-migrates g c = unread c.args.from.now c.args.to.now c.in-Ok.slot c.args.limit _ _ _ c.in-Ok.ensures.opens c.in-Err-read_whole.error c.in-Err-read_whole.ensures.reads
+
+pub returns-in-Err-in_format_two-clause-migrates : goal.returns-in-Err-in_format_two-clause-migrates
+returns-in-Err-in_format_two-clause-migrates g c =
+    let made = subst (λ l. Rewrites l (Err c.in-Err-in_format_two.error)) c.deref.ensures.value c.in-Err-in_format_two.ensures in
+    unrewritten c.args.from.now c.args.to.now c.in-Ok.slot c.args.limit _ _ _ c.in-Ok.ensures.opens c.in-Ok-read_whole.text c.in-Ok-read_whole.ensures.reads c.in-Err-in_format_two.error made
 
 pub returns-in-Ok-put_all-clause-migrates : goal.returns-in-Ok-put_all-clause-migrates
 returns-in-Ok-put_all-clause-migrates g c =

@@ -1,13 +1,13 @@
 use Rattle.std.proofs.Common.{length, ◌≡◌, ◌∙◌, Some, sym, ap}
 use Rattle.fab_base.specs.Desk.{place_of}
 use Rattle.fab_base.proofs.MemLemmas.{stays_trans, counted_later}
-use Rattle.fcoe_tool.proofs.EdgeLemmas.{untold_opens_out, untold_keeps, untold_write_rose, untold_reads}
+use Rattle.fcoe_tool.proofs.EdgeLemmas.{untold_opens_out, untold_keeps, untold_write_rose, untold_files, untold_refused, untold_same_reads}
 use Rattle.fcoe_tool.proofs.edge.FileDepotDepot.open_out.Goals as goal
 
 pub returns-in-Some : goal.returns-in-Some
 returns-in-Some g c =
     let e = c.in-Some.ensures in
-    record { opens = untold_opens_out c.args.name.now c.unwrap-place.result c.args.self.now.desk c.try_output.new.self.desk (sym c.place.ensures.found ∙ c.unwrap-place.ensures) e.stays c.in-Some.slot (length c.args.self.now.files.items) e.fresh.0 e.fresh.1; file = e.file; err = tt }
+    record { opens = untold_opens_out c.args.name.now c.unwrap-place.result c.args.self.now.desk c.try_output.new.self.desk (sym c.place.ensures.found ∙ c.unwrap-place.ensures) e.stays c.in-Some.slot (length c.args.self.now.files.items) e.fresh.0 e.fresh.1 e.slots e.counts; file = e.file; err = tt }
 
 pub returns-in-None : goal.returns-in-None
 returns-in-None g c =
@@ -20,8 +20,12 @@ returns-in-None g c =
         fresh = tt;
         opened = tt;
         emptied = λ told. tt;
-        same = (untold_reads c.args.name.now c.unwrap-place.result c.args.self.now.desk c.write_failed.new.self at stays).files _;
+        same = untold_files c.args.name.now c.unwrap-place.result c.args.self.now.desk c.write_failed.new.self at stays c.args.name.now;
         cause = untold_write_rose c.args.name.now c.unwrap-place.result c.args.self.now.desk c.write_failed.new.self at stays (counted_later c.unwrap-place.result _ _ _ e.counts.writes c.write_failed.ensures.counted);
+        others = tt;
+        refused = untold_refused c.args.name.now c.unwrap-place.result c.args.self.now.desk c.write_failed.new.self at stays (ap (λ v. v.items) c.write_failed.ensures.slots ∙ e.none.slots);
+        counts = tt;
+        reads = untold_same_reads c.args.name.now c.unwrap-place.result c.args.self.now.desk c.write_failed.new.self at stays (ap (λ v. v.items) c.write_failed.ensures.reads ∙ e.counts.reads);
       };
       file = tt;
       err = record { slots = ap (λ v. v.items) c.write_failed.ensures.slots ∙ e.none.slots; files = e.none.files };
