@@ -79,7 +79,7 @@ module _ (laws : Laws) (k : Task) (given : AreGiven k.seen k.ins k.journal k.out
         ended k a fault.Write (touches_heads w) (λ told x. absurd x) (λ told x. absurd (cc))
         (λ told x. ends_before k.settings k.budget (captures_in k) laws.nothing_run (Fronts k.settings a k.journal k.outs)
         (w.front told [] (text []) (λ q. []) (captures k.settings (length k.outs) []) (hold_none told) laws.nothing_written.0 records_are))
-        (λ x. absurd (cc), λ x. elim w.cause [ inl rose ↦ (k.seen.name k.journal, inl refl, rose) | inr rose ↦ (name_of k.seen k.outs rose.0, inr (rose.0, rose.1, refl), rose.2) ])
+        (λ x. absurd (cc), λ x. write_cause k.journal k.outs head_line pieces k.seen a f w)
 
     module _ (w : Writes k.journal k.outs head_line pieces k.seen a (Ok tt)) (d : Seen) (ins : List Input) (left : Budget) where
       opened_then : opened_in a k.ins ≡ captures_in k

@@ -1,7 +1,6 @@
 -- Several files, written one after another.
-use Rattle.std.proofs.Common.{◌≡◌, ◌≢◌, ℕ, zero, suc, ◌+◌, ◌<◌, ◌≤◌, inl, inr, List, [], ◌∷◌, ◌++◌, length, take, drop, get_or, Option, Some, Ok, Err, IsTrue, refl, sym, ap, ◌∙◌, subst, arith, append_assoc}
-use Rattle.std.specs.Prelude.{Result, Vec}
-use Rattle.std.specs.declared.alloc.Global.{Global}
+use Rattle.std.proofs.Common.{◌≡◌, ◌≢◌, ℕ, ◌+◌, ◌<◌, ◌≤◌, inl, inr, List, [], ◌∷◌, ◌++◌, length, take, drop, Option, Some, Ok, Err, IsTrue, refl, sym, ap, ◌∙◌, subst, arith, append_assoc}
+use Rattle.std.specs.Prelude.{Result}
 use Rattle.std.proofs.lemmas.List.{append-nil, take-append-drop}
 use Rattle.fab_base.specs.Seen.{Seen, Keeps, Rose, PutsAll, Touches, Only}
 use Rattle.fab_base.specs.declared.values.Failed.{Failed}
@@ -10,7 +9,7 @@ use Rattle.fab_policy.specs.Written.{IsPrefixOf}
 use Rattle.pcap_file.proofs.lemmas.Numbers.{le_or_lt}
 use Rattle.fab_gather.specs.Ports.{slot_at, name_of, NameIn}
 use Rattle.fab_pages.specs.Pages.{piece_at}
-use Rattle.fab_windows.specs.Files.{AreOutputs, PutsEach, Hold, Written, AreFiles, Writes}
+use Rattle.fab_windows.specs.Files.{AreOutputs, FailsAt, PutsEach, Hold, Written, AreFiles, Writes}
 
 -- ---- a piece to each
 
@@ -92,8 +91,12 @@ module _ (slots : List ℕ) (pieces : List (List ℕ)) (k : ℕ) (a b d : Seen) 
     ];
     cause = (
       k,
-      lt,
-      rose_later _ _ _ (p.touches.writes_rise name) (subst (λ n. Rose (b.write_faults n) (d.write_faults n)) name_is puts.cause),
+      record {
+        within = lt;
+        rose = rose_later _ _ _ (p.touches.writes_rise name) (subst (λ n. Rose (b.write_faults n) (d.write_faults n)) name_is puts.cause);
+        before = λ told q less bytes had. (keeps puts).files (name_of a slots q) (differs q (omega (arith, less, lt)) (λ e. omega arith)) ∙ p.done told q less (omega (arith, less, lt)) bytes had;
+        behind = λ q more less. others_rest puts q (omega (arith, more)) less;
+      },
     );
   }
     where
@@ -180,7 +183,7 @@ module _ (journal : ℕ) (outs lines : List ℕ) (pieces : List (List ℕ)) (a b
                 (piece_at pieces q, sym (more q lt)),
               );
             };
-        cause = inl puts.cause;
+        cause = inl (record { rose = puts.cause; records = outs_same puts });
       }
 
   module _ (d : Seen) (puts : PutsAll {T = Unit {0}} {E = Failed} journal lines a b (Ok tt)) where
@@ -232,6 +235,18 @@ module _ (journal : ℕ) (outs lines : List ℕ) (pieces : List (List ℕ)) (a b
     rose_d : (q : ℕ) → q < length outs → Rose (b.write_faults (name_of b outs q)) (d.write_faults (name_of b outs q)) → Rose (a.write_faults (name_of a outs q)) (d.write_faults (name_of a outs q))
     rose_d q lt rose = rose_later _ _ _ (k.writes_rise (name_of a outs q)) (subst (λ n. Rose (b.write_faults n) (d.write_faults n)) (name_b q lt) rose)
 
+    fails_d : (q : ℕ) → FailsAt q outs pieces b d → FailsAt q outs pieces a d
+    fails_d q f =
+        let lt = f.within in
+        record {
+          within = lt;
+          rose = rose_d q lt f.rose;
+          before = λ told p less bytes had.
+              let e = name_b p (omega (arith, less, lt)) in
+              moved d e (f.before (told_b told) p less bytes (moved b (sym e) (outs_same puts p (omega (arith, less, lt)) ∙ had)));
+          behind = λ p more less. ap d.file (sym (name_b p less)) ∙ f.behind p more less ∙ ap b.file (name_b p less) ∙ outs_same puts p less;
+        }
+
     pub second_done : PutsEach outs pieces b d (Ok tt) → Writes journal outs lines pieces a d (Ok tt)
     second_done each = record {
       touches = both each;
@@ -250,5 +265,5 @@ module _ (journal : ℕ) (outs lines : List ℕ) (pieces : List (List ℕ)) (a b
       files = files_stay F F a d (both each) journal outs f;
       whole = λ told l l' r r' w is more. tt;
       front = λ told l l' r r' w is more. record { lines_ = (l', lines_d each told l l' r w is, ([], append-nil l')); records = records_d each told l r r' w more };
-      cause = inr (each.cause.0, each.cause.1, rose_d each.cause.0 each.cause.1 each.cause.2);
+      cause = inr (record { lines_ = λ told l had. journal_kept each ∙ puts.grown told l had; port = each.cause.0; fails = fails_d each.cause.0 each.cause.1 });
     }

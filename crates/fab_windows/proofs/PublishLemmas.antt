@@ -1,5 +1,9 @@
 -- A window whose lines and records are added to the pages, and written where these are full.
-use Rattle.std.proofs.Common.{◌≡◌, ℕ, ◌+◌, ◌<◌, inl, inr, List, ◌++◌, length, IsTrue, Result, Ok, Err, refl, sym, ap, ◌∙◌, append_assoc}
+use Rattle.std.proofs.Common.{◌≡◌, ℕ, zero, suc, ◌+◌, ◌<◌, false, nat_le, inl, inr, List, [], ◌∷◌, ◌++◌, length, IsTrue, Result, Ok, Err, refl, sym, ap, subst, ◌∙◌, append_assoc, arith, lit<}
+use Rattle.std.specs.Prelude.{Vec, vec_len}
+use Rattle.std.specs.List.{list_any}
+use Rattle.std.specs.declared.alloc.Global.{Global}
+use Rattle.std.proofs.lemmas.Bool.{or_parts, leb-false}
 use Rattle.std.proofs.lemmas.List.{append-nil}
 use Rattle.fab_base.specs.Seen.{Seen, Rose}
 use Rattle.fab_base.specs.declared.values.Failed.{Failed}
@@ -9,8 +13,9 @@ use Rattle.fab_policy.specs.Outputs.{Sent}
 use Rattle.fab_gather.specs.declared.fault.RunFault.TheVariants as fault
 use Rattle.fab_gather.specs.Ports.{name_of}
 use Rattle.fab_windows.specs.Files.{Written, Pending, Hold, HoldBut, HoldFronts, Writes}
-use Rattle.fab_pages.specs.Pages.{piece_at}
-use Rattle.fab_windows.specs.Pages.{IsNothing}
+use Rattle.fab_pages.specs.Pages.{items_in, piece_at}
+use Rattle.fab_windows.specs.Pages.{AreShort, IsNothing, are_full, pending}
+use Rattle.fab_windows.specs.declared.pages.Pages.{Pages}
 use Rattle.fab_windows.specs.Turns.{Publishes}
 
 -- ---- what is still to be written
@@ -42,7 +47,10 @@ module _ (p : Pending) (a b : Seen) (journal : ℕ) (outs l : List ℕ) (r : ℕ
 
 -- why writing failed
 pub write_cause : (journal : ℕ) (outs lines : List ℕ) (pieces : List (List ℕ)) (a b : Seen) (f : Failed) → Writes journal outs lines pieces a b (Err f) → (m : List ℕ) × Written a journal outs m × Rose (a.write_faults m) (b.write_faults m)
-write_cause journal outs lines pieces a b f w = elim w.cause [ inl rose ↦ (a.name journal, inl refl, rose) | inr rose ↦ (name_of a outs rose.0, inr (rose.0, rose.1, refl), rose.2) ]
+write_cause journal outs lines pieces a b f w = elim w.cause [
+  | inl first ↦ (a.name journal, inl refl, first.rose)
+  | inr later ↦ (name_of a outs later.port, inr (later.port, later.fails.within, refl), later.fails.rose)
+]
 
 -- ---- what a window adds
 
@@ -102,3 +110,20 @@ module _ (journal : ℕ) (outs lines : List ℕ) (sents : List Sent) (p : Pendin
         cause = λ x. write_cause journal outs m.lines m.pieces a b f w;
         only = tt;
       }
+
+-- ---- pages below 64 KiB
+
+short : (v : Vec ℕ Global) → nat_le 65536 (vec_len v) ≡ false → length v.items < 65536
+short v e = let less = leb-false 65536 (vec_len v) e in let same = v.ok.0 in omega (arith, less, same)
+
+short_pieces : (pages : List (Vec ℕ Global)) → list_any (λ v. nat_le 65536 (vec_len v)) pages ≡ false → (q : ℕ) → length (piece_at (items_in pages) q) < 65536
+short_pieces [] e q = lit< tt
+short_pieces (v ∷ pages) e zero = short v (or_parts _ _ e).0
+short_pieces (v ∷ pages) e (suc q) = short_pieces pages (or_parts _ _ e).1 q
+
+-- that is so where none is full, and where nothing is still to be written
+pub short_not_full : (p : Pages) → are_full p ≡ false → AreShort (pending p)
+short_not_full p e = let parts = or_parts _ _ e in record { lines_ = short p.lines parts.0; pieces_ = short_pieces p.records.items parts.1 }
+
+pub short_nothing : (p : Pending) → IsNothing p → AreShort p
+short_nothing p none = record { lines_ = subst (λ (l : List ℕ). length l < 65536) (sym none.lines_) (lit< tt); pieces_ = λ q. subst (λ (l : List ℕ). length l < 65536) (sym (none.pieces_ q)) (lit< tt) }

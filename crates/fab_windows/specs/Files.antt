@@ -16,12 +16,20 @@ pub record AreOutputs (d : Seen) (slots : List ℕ) : Type 0 where
   pub outputs : (q : ℕ) → q < length slots → IsTrue (d.output (slot_at slots q))
   pub differ : (p q : ℕ) → p < length slots → q < length slots → name_of d slots p ≡ name_of d slots q → p ≡ q
 
--- Putting a piece to each of several outputs appends each to its file, or, where it fails, a front of each.
+-- Putting failed at one of several outputs: a fault of it was counted, those before it have their pieces, and those behind it are
+-- as they were.
+pub record FailsAt (q : ℕ) (slots : List ℕ) (pieces : List (List ℕ)) (old new : Seen) : Type 0 where
+  pub within : q < length slots
+  pub rose : Rose (old.write_faults (name_of old slots q)) (new.write_faults (name_of old slots q))
+  pub before : IsTrue old.told → (p : ℕ) → p < q → (bytes : List ℕ) → old.file (name_of old slots p) ≡ Some bytes → new.file (name_of old slots p) ≡ Some (bytes ++ piece_at pieces p)
+  pub behind : (p : ℕ) → q < p → p < length slots → new.file (name_of old slots p) ≡ old.file (name_of old slots p)
+
+-- Putting a piece to each of several outputs, in their order, appends each to its file, or, where it fails, a front of each.
 pub record PutsEach (slots : List ℕ) (pieces : List (List ℕ)) (old new : Seen) (result : Result (Unit {0}) Failed) : Type 0 where
   pub touches : Touches (NameIn old slots) (NameIn old slots) old new
   pub all : IsTrue old.told → (q : ℕ) → q < length slots → (bytes : List ℕ) → old.file (name_of old slots q) ≡ Some bytes → OnOk result (new.file (name_of old slots q) ≡ Some (bytes ++ piece_at pieces q))
   pub part : IsTrue old.told → (q : ℕ) → q < length slots → (bytes : List ℕ) → old.file (name_of old slots q) ≡ Some bytes → (n : ℕ) × (new.file (name_of old slots q) ≡ Some (bytes ++ take n (piece_at pieces q)))
-  pub cause : OnErr result ((q : ℕ) × (q < length slots) × Rose (old.write_faults (name_of old slots q)) (new.write_faults (name_of old slots q)))
+  pub cause : OnErr result ((q : ℕ) × FailsAt q slots pieces old new)
 
 -- ---- the files of a run
 
@@ -73,10 +81,22 @@ pub record AreFiles (d : Seen) (journal : ℕ) (outs : List ℕ) : Type 0 where
   pub outs_ : AreOutputs d outs
   pub apart : (q : ℕ) → q < length outs → name_of d outs q ≢ d.name journal
 
--- Writing to files that hold these bytes: they hold what is added behind them then, or beginnings of that.
+-- Writing failed at the journal, which comes first: a fault of it was counted, and the outputs are as they were.
+pub record FailsFirst (journal : ℕ) (outs : List ℕ) (old new : Seen) : Type 0 where
+  pub rose : Rose (old.write_faults (old.name journal)) (new.write_faults (old.name journal))
+  pub records : (q : ℕ) → q < length outs → new.file (name_of old outs q) ≡ old.file (name_of old outs q)
+
+-- Writing failed at an output: the journal has its lines by then.
+pub record FailsLater (journal : ℕ) (outs lines : List ℕ) (pieces : List (List ℕ)) (old new : Seen) : Type 0 where
+  pub lines_ : IsTrue old.told → (l : List ℕ) → old.file (old.name journal) ≡ Some l → new.file (old.name journal) ≡ Some (l ++ lines)
+  pub port : ℕ
+  pub fails : FailsAt port outs pieces old new
+
+-- Writing to files that hold these bytes, to the journal and then to the outputs in port order: they hold what is added behind them
+-- then, or beginnings of that.
 pub record Writes (journal : ℕ) (outs lines : List ℕ) (pieces : List (List ℕ)) (old new : Seen) (result : Result (Unit {0}) Failed) : Type 0 where
   pub touches : Touches (Written old journal outs) (Written old journal outs) old new
   pub files : AreFiles new journal outs
   pub whole : IsTrue old.told → (l l' : List ℕ) (r r' : ℕ → List ℕ) → Hold old journal outs l r → l' ≡ l ++ lines → ((q : ℕ) → q < length outs → r' q ≡ r q ++ piece_at pieces q) → OnOk result (Hold new journal outs l' r')
   pub front : IsTrue old.told → (l l' : List ℕ) (r r' : ℕ → List ℕ) → Hold old journal outs l r → l' ≡ l ++ lines → ((q : ℕ) → q < length outs → r' q ≡ r q ++ piece_at pieces q) → HoldFronts new journal outs l' r'
-  pub cause : OnErr result (Rose (old.write_faults (old.name journal)) (new.write_faults (old.name journal)) ⊎ ((q : ℕ) × (q < length outs) × Rose (old.write_faults (name_of old outs q)) (new.write_faults (name_of old outs q))))
+  pub cause : OnErr result (FailsFirst journal outs old new ⊎ FailsLater journal outs lines pieces old new)

@@ -1,12 +1,13 @@
 //! What is still to be written to the files, in buffers that are used again.
-ghost use Rattle.std.specs.Prelude.{◌≡◌, ℕ, ◌+◌, ◌<◌, ◌++◌, length, map, IfOk, OnOk};
-ghost use Rattle.std.specs.List.{All};
+ghost use Rattle.std.specs.Prelude.{◌≡◌, ℕ, ◌+◌, ◌<◌, ◌++◌, length, map, nat_le, vec_len, IfOk, OnOk};
+ghost use Rattle.std.specs.List.{All, list_any};
 ghost use Rattle.pcap_file.specs.Capture.{head_bytes};
 ghost use Rattle.fab_policy.specs.Growing.{clock_after, lines_from, records_to};
 ghost use Rattle.fab_policy.specs.Text.{head_line};
 ghost use Rattle.fab_policy.specs.Ranged.{IsRangedEvent};
 ghost use Rattle.fab_replies.specs.Message.{sent_of};
 ghost use Rattle.fab_pages.specs.Pages.{AreEarly, items_in, piece_at};
+ghost use Rattle.fab_windows.specs.Pages as spec;
 ghost use Rattle.fab_windows.specs.Pages.{IsNothing, pending};
 
 use fab_base::{Moment, NoMemory};
@@ -68,8 +69,10 @@ impl Pages {
     }
 
     /// Whether a page is so long that all are best written.
-    pub(crate) fn are_full(&self) -> bool {
-        self.lines.len() >= FULL || self.records.iter().any(|record| record.len() >= FULL)
+    pub(crate) fn are_full(&self) -> bool
+        ensures { result ≡ spec.are_full self.now }
+    {
+        is_full(self.lines.len()) || has_full(&self.records)
     }
 
     /// Empties all pages, whose room is used again.
@@ -80,6 +83,20 @@ impl Pages {
         self.lines.clear();
         clear_all(&mut self.records);
     }
+}
+
+// Whether a page of this length is written.
+fn is_full(len: usize) -> bool
+    ensures { result ≡ nat_le 65536 len }
+{
+    len >= FULL
+}
+
+// Whether one of these pages is.
+fn has_full(pages: &[Vec<u8>]) -> bool
+    ensures { result ≡ list_any (λ v. nat_le 65536 (vec_len v)) pages.now }
+{
+    pages.iter().any(|page| page.len() >= FULL)
 }
 
 // Appends the lines of entries, from a clock on.

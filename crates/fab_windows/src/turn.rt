@@ -9,7 +9,7 @@ ghost use Rattle.fab_gather.specs.First.{IsNextWindow};
 ghost use Rattle.fab_gather.specs.Ports.{TakesFrom};
 ghost use Rattle.fab_pages.specs.Pages.{AreEarly};
 ghost use Rattle.fab_windows.specs.Files.{AreFiles};
-ghost use Rattle.fab_windows.specs.Pages.{pending};
+ghost use Rattle.fab_windows.specs.Pages.{AreShort, pending};
 ghost use Rattle.fab_windows.specs.Turns.{Start, task_of, Going, Gathered, Ended, Handles, Publishes};
 ghost use Rattle.std.specs.Prelude.{ℕ, List};
 ghost use Rattle.fab_gather.specs.declared.shelf.Input as of_gather;
@@ -68,6 +68,7 @@ pub(crate) fn turn<R: Threads + Wait + Sync, D: Depot, G: Gate + Sync>(
         (λ f. Going k (window + 1) first f (D.seen depot.new) ins.new run.new.shelves.items
         budget.new run.new.done (pending run.new.pages)) (λ e. Ended k (D.seen depot.new) e) }
     ensures pages { OnOk result (length run.new.pages.records.items ≡ length outs.now) }
+    ensures short { OnOk result (AreShort (pending run.new.pages)) }
     ensures settings { IfOk result (λ f. f.settings ≡ fabric.settings) }
     ensures clock { IfOk result (λ f. f.state.tables.clock ≡ Some window) }
     ensures takes { TakesFrom ins.old ins.new budget.old budget.new }
@@ -116,6 +117,7 @@ fn answer<R: Threads + Wait + Sync, D: Depot, G: Gate + Sync>(
         (λ f. Going k (window + 1) first f (D.seen depot.new) ins run.new.shelves.items left
         run.new.done (pending run.new.pages)) (λ e. Ended k (D.seen depot.new) e) }
     ensures pages { OnOk result (length run.new.pages.records.items ≡ length outs.now) }
+    ensures short { OnOk result (AreShort (pending run.new.pages)) }
     ensures settings { IfOk result (λ f. f.settings ≡ fabric.settings) }
     ensures clock { IfOk result (λ f. f.state.tables.clock ≡ Some window) }
 {
@@ -183,6 +185,7 @@ fn publish<R: Threads + Sync, D: Depot>(
         (map (sent_of config.now drained.now.events) drained.now.outs) (pending pages.old)
         (pending pages.new) (D.seen depot.old) (D.seen depot.new) result }
     ensures count { OnOk result (length pages.new.records.items ≡ length outs.now) }
+    ensures short { OnOk result (AreShort (pending pages.new)) }
 {
     pages.add(rt, alloc, config, clock, drained)?;
     if !pages.are_full() {

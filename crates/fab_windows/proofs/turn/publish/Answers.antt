@@ -4,7 +4,7 @@ use Rattle.fab_policy.specs.Growing.{lines_from}
 use Rattle.fab_gather.specs.declared.fault.RunFault.TheVariants as fault
 use Rattle.fab_windows.specs.Pages.{pending}
 use Rattle.fab_windows.specs.Turns.{Publishes}
-use Rattle.fab_windows.proofs.PublishLemmas.{publishes_nothing, publishes_later, publishes_all, publishes_front}
+use Rattle.fab_windows.proofs.PublishLemmas.{publishes_nothing, publishes_later, publishes_all, publishes_front, short_not_full, short_nothing}
 use Rattle.fab_windows.proofs.ResultLemmas.{err_is}
 use Rattle.fab_windows.proofs.turn.publish.Goals as goal
 
@@ -43,3 +43,9 @@ returns-clause-publishes g c =
     let w = c.in_ok-flush.ensures in
     publishes_all c.args.journal c.args.outs.now (lines_from c.args.clock c.args.drained.now.events) (map (sent_of c.args.config.now c.args.drained.now.events) c.args.drained.now.outs) (pending c.args.pages.now) (g.D.Depot.seen c.args.depot.now)
     (pending c.add.new.self) f.lines (λ q lt. f.records q (omega (arith, lt, c.requires.count))) (g.D.Depot.seen c.flush.new.depot) (pending c.flush.new.pages) w.nothing w.writes
+
+pub returns-then-not-are_full-clause-short : goal.returns-then-not-are_full-clause-short
+returns-then-not-are_full-clause-short g c = short_not_full c.add.new.self (sym c.are_full.ensures ∙ c.if-not-are_full.true)
+
+pub returns-clause-short : goal.returns-clause-short
+returns-clause-short g c = short_nothing (pending c.flush.new.pages) c.in_ok-flush.ensures.nothing
