@@ -9,13 +9,10 @@ ghost use Rattle.fab_policy.specs.Rules as rules;
 
 use crate::bytes::is_same;
 use crate::{Dropped, Heard, Rule, What};
-use eth_frames::EthFrame;
+use eth_frames::{ALL_FCFS, EthFrame};
 use fab_base::Mac;
 use fab_config::Config;
 use fip_codec::FipMessage;
-
-/// All-FCF-MACs, the group of all forwarders.
-const ALL_FCFS: Mac = Mac([0x01, 0x10, 0x18, 0x01, 0x00, 0x02]);
 
 /// The first rule on the frame itself that drops it: it can't be read, or its VLAN, its
 /// destination, its kind or the MAC that it names is wrong. It doesn't go by who is logged in.

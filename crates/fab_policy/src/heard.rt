@@ -8,16 +8,10 @@ ghost use Rattle.fab_policy.specs.Heard as spec;
 ghost use Rattle.fab_policy.specs.Heard.{decoded, frame_in, cause_of, plain, Bad};
 
 use crate::Rule;
-use eth_frames::{EthFrame, read_eth};
+use eth_frames::{EthFrame, FCOE, FIP, read_eth};
 use fab_base::Caught;
 use fcoe_codec::{FcoeFault, FcoeFrame, read_fcoe};
 use fip_codec::{FipFault, FipMessage, read_fip};
-
-/// The Ethertype of FCoE.
-const FCOE: u16 = 0x8906;
-
-/// The Ethertype of FIP.
-pub(crate) const FIP: u16 = 0x8914;
 
 /// A frame as it was decoded.
 #[derive(Debug, Drop)]

@@ -8,18 +8,12 @@ ghost use Rattle.fip_codec.specs.CanWrite.{CanWrite};
 ghost use Rattle.fab_policy.specs.Replies as spec;
 ghost use Rattle.fab_policy.specs.Rules.{ALL_ENODES as ALL_NODES};
 
-use crate::heard::FIP;
-use eth_frames::{EthFrame, write_eth};
+use eth_frames::{ALL_ENODES, EthFrame, FIP, write_eth};
 use fab_base::{Mac, NoMemory};
 use fab_config::Config;
+use fcoe_codec::MOST_BODY;
 use fip_codec::{FipOut, VxPort, write_fip};
 use std::alloc::Global;
-
-/// All-ENode-MACs, the group of all nodes.
-const ALL_ENODES: Mac = Mac([0x01, 0x10, 0x18, 0x01, 0x00, 0x01]);
-
-/// The most bytes that a solicited advertisement has behind its Ethernet header.
-const MOST: u16 = 2158;
 
 /// Appends a VLAN notification to a MAC, which has no tag where the request has none: at most
 /// 65,535 bytes.
@@ -58,7 +52,7 @@ pub fn write_advertisement_to(
     ensures size { OnOk result (length (spec.advertised_to config.now dst size) ≤ 65535) }
     ensures err { OnErr result (out.new.items ≡ out.old.items) }
 {
-    let size = size.min(MOST);
+    let size = size.min(MOST_BODY);
     let body = padded_advertisement(alloc, config, size)?;
     let tag = Some(own_tag(config));
     write_made(alloc, config, tag, dst, FIP, &body, out)

@@ -5,14 +5,12 @@ ghost use Rattle.fcoe_codec.specs.Fcoe as capsule;
 ghost use Rattle.fab_policy.specs.Replies as spec;
 
 use crate::parts::own_tag;
+use eth_frames::FCOE;
 use fab_base::{Mac, NoMemory};
 use fab_config::Config;
 use fab_policy::write_made;
 use fcoe_codec::{FcoeFrame, write_fcoe};
 use std::alloc::Global;
-
-/// The Ethertype of FCoE.
-const FCOE: u16 = 0x8906;
 
 // Appends a frame to a MAC.
 pub(crate) fn write_carried(

@@ -4,30 +4,27 @@ ghost use Rattle.fab_policy.specs.Replies as spec;
 ghost use Rattle.fab_replies.specs.Message.{els_of, is_payload};
 
 use crate::carried::write_carried;
-use crate::parts::{F_CTL_EARLIER, F_CTL_LAST, answer_bytes, els_bytes, granted_mac, header};
+use crate::parts::{answer_bytes, els_bytes, granted_mac, header};
 use crate::{Answer, Asker};
 use els_messages::Els;
 use fab_base::{FcId, NoMemory};
 use fab_config::Config;
-use fc_frames::FcFrame;
+use fc_frames::{CONTROLLER, F_CTL_EARLIER, F_CTL_LAST, F_CTL_REQUEST, FcFrame, Kind, NAME_SERVER};
 use fcoe_codec::{EOF_N, EOF_T, FcoeFrame, SOF_I3, SOF_N3};
 use std::alloc::Global;
-
-/// The exchange originator's only frame.
-const F_CTL_REQUEST: u32 = 0x29_0000;
 
 // The address of the name server.
 fn name_server() -> FcId
     ensures { result ≡ 0xfffffc }
 {
-    FcId::new(0xff_fffc).unwrap()
+    FcId::new(NAME_SERVER).unwrap()
 }
 
 // The address of the fabric controller.
 fn controller() -> FcId
     ensures { result ≡ 0xfffffd }
 {
-    FcId::new(0xff_fffd).unwrap()
+    FcId::new(CONTROLLER).unwrap()
 }
 
 // Appends an answer to an N_Port that is logged in.
@@ -49,7 +46,7 @@ pub(crate) fn write_service_reply(
         sof: SOF_I3,
         eof: EOF_T,
         frame: FcFrame {
-            head: header(0x23, to.s_id, to.d_id, 0x01, F_CTL_LAST, 0, to.ox_id),
+            head: header(Kind::ElsReply, to.s_id, to.d_id, F_CTL_LAST, 0, to.ox_id),
             payload: &payload,
         },
     };
@@ -80,7 +77,14 @@ pub(crate) fn write_ct(
         sof,
         eof,
         frame: FcFrame {
-            head: header(0x03, to.s_id, name_server(), 0x20, f_ctl, count, to.ox_id),
+            head: header(
+                Kind::CtReply,
+                to.s_id,
+                name_server(),
+                f_ctl,
+                count,
+                to.ox_id,
+            ),
             payload,
         },
     };
@@ -108,7 +112,14 @@ pub(crate) fn write_state_change(
         sof: SOF_I3,
         eof: EOF_T,
         frame: FcFrame {
-            head: header(0x22, watcher, controller(), 0x01, F_CTL_REQUEST, 0, ox_id),
+            head: header(
+                Kind::ElsRequest,
+                watcher,
+                controller(),
+                F_CTL_REQUEST,
+                0,
+                ox_id,
+            ),
             payload: &payload,
         },
     };

@@ -7,20 +7,16 @@ ghost use Rattle.fip_codec.specs.CanWrite.{CanWrite, IsFrame};
 ghost use Rattle.fab_policy.specs.Replies as spec;
 ghost use Rattle.fab_replies.specs.Message.{els_of};
 
-use crate::parts::{
-    F_CTL_LAST, answer_bytes, els_bytes, fabric_parms, granted_mac, header, own_tag,
-};
+use crate::parts::{answer_bytes, els_bytes, fabric_parms, granted_mac, header, own_tag};
 use crate::{Answer, Asker};
 use els_messages::Els;
+use eth_frames::FIP;
 use fab_base::{FcId, Mac, NoMemory, PortNo};
 use fab_config::Config;
 use fab_policy::write_made;
-use fc_frames::{FcFrame, write_frame};
+use fc_frames::{F_CTL_LAST, FcFrame, Kind, write_frame};
 use fip_codec::{FipOut, LoginKind, VxPort, write_fip};
 use std::alloc::Global;
-
-/// The Ethertype of FIP.
-const FIP: u16 = 0x8914;
 
 // Appends the accept of a login, with the granted address and its MAC.
 pub(crate) fn write_login_accept(
@@ -158,7 +154,7 @@ fn reply_frame(alloc: Global, to: Asker, d_id: FcId, payload: &[u8]) -> Result<V
 {
     let mut bytes = Vec::new(alloc);
     let frame = FcFrame {
-        head: header(0x23, d_id, to.d_id, 0x01, F_CTL_LAST, 0, to.ox_id),
+        head: header(Kind::ElsReply, d_id, to.d_id, F_CTL_LAST, 0, to.ox_id),
         payload,
     };
     write_frame(alloc, &frame, &mut bytes)?;

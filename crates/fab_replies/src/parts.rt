@@ -5,19 +5,15 @@ ghost use Rattle.fab_policy.specs.Logins.{granted_mac as mac_granted};
 ghost use Rattle.fab_policy.specs.Queries.{fport};
 ghost use Rattle.fab_policy.specs.Replies as spec;
 ghost use Rattle.fc_frames.specs.Frame.{IsPayload};
+ghost use Rattle.fc_frames.specs.Kind.{r_ctl_of, type_of};
 ghost use Rattle.fab_replies.specs.Message.{els_of};
 
 use crate::Answer;
-use els_messages::{Els, LoginParms, write_els};
+use els_messages::{CLASS_3, Els, Feature, LoginParms, write_els};
 use fab_base::{FcId, Mac, NoMemory, PortNo, Wwn};
 use fab_config::Config;
-use fc_frames::FcHeader;
+use fc_frames::{FcHeader, Kind, MOST_PAYLOAD, UNASSIGNED};
 use std::alloc::Global;
-
-/// The responder's last frame, and an earlier one.
-pub(crate) const F_CTL_LAST: u32 = 0x98_0000;
-
-pub(crate) const F_CTL_EARLIER: u32 = 0x90_0000;
 
 // The tag of the forwarder's frames.
 pub(crate) fn own_tag(config: &Config) -> u16
@@ -46,28 +42,27 @@ fn port_name(config: &Config, port: u32) -> Wwn
 
 // A header with what an answer and a state change have in common.
 pub(crate) fn header(
-    r_ctl: u8,
+    kind: Kind,
     d_id: FcId,
     s_id: FcId,
-    kind: u8,
     f_ctl: u32,
     seq_cnt: u16,
     ox_id: u16,
 ) -> FcHeader
-    ensures { result ≡ spec.header r_ctl d_id s_id kind f_ctl seq_cnt ox_id }
+    ensures { result ≡ spec.header (r_ctl_of kind) d_id s_id (type_of kind) f_ctl seq_cnt ox_id }
 {
     FcHeader {
-        r_ctl,
+        r_ctl: kind.r_ctl(),
         d_id,
         cs_ctl: 0,
         s_id,
-        kind,
+        kind: kind.type_code(),
         f_ctl,
         seq_id: 0,
         df_ctl: 0,
         seq_cnt,
         ox_id,
-        rx_id: 0xffff,
+        rx_id: UNASSIGNED,
         parameter: 0,
     }
 }
@@ -76,10 +71,14 @@ pub(crate) fn header(
 pub(crate) fn fabric_parms(config: &Config, port: PortNo, several: bool) -> LoginParms
     ensures { result ≡ spec.fabric_parms config.now port several }
 {
-    let granted = if several { 0x2000 } else { 0 };
+    let granted = if several {
+        Feature::MultipleNPortIdsGranted.bit()
+    } else {
+        0
+    };
     LoginParms {
-        features: 0x1000 + granted,
-        size: 0x840,
+        features: Feature::FPort.bit() + granted,
+        size: MOST_PAYLOAD,
         ra_tov: 0x2710,
         ed_tov: 0x7d0,
         port_name: port_name(config, port.value()),
@@ -94,12 +93,14 @@ fn server_parms(config: &Config) -> LoginParms
 {
     LoginParms {
         features: 0,
-        size: 0x840,
+        size: MOST_PAYLOAD,
         ra_tov: 0xff_0000,
         ed_tov: 0x7d0,
         port_name: port_name(config, 0),
         node_name: config.switch,
-        class3: [0x80, 0, 0, 0, 0, 0, 0x08, 0x40, 0, 0xff, 0, 0, 0, 1, 0, 0],
+        class3: [
+            CLASS_3, 0, 0, 0, 0, 0, 0x08, 0x40, 0, 0xff, 0, 0, 0, 1, 0, 0,
+        ],
     }
 }
 
