@@ -9,7 +9,7 @@ use fab_replies::replies_fit;
 pub fn ticks_tell()
     ensures { TicksTell }
 {
-    // Law: the tables after an entry, found address by address, are those that a tick changes so.
+    // Law: what a tick changes in the tables, which are whole where each address is found in them.
     journal_steps();
     tables_change();
 }
@@ -18,7 +18,7 @@ pub fn ticks_tell()
 pub fn frames_tell()
     ensures { FramesTell }
 {
-    // Law: the tables after an entry, found address by address, are those that a frame changes so.
+    // Law: what a frame leaves in the tables, which are whole where each address is found in them.
     journal_steps();
     tables_change();
 }
@@ -27,7 +27,7 @@ pub fn frames_tell()
 pub fn ticks_send()
     ensures { TicksSend }
 {
-    // Law: the state changes are among the messages.
+    // Law: its state changes follow from the tables before it; the messages are these and more.
     ticks_tell();
 }
 
@@ -35,7 +35,7 @@ pub fn ticks_send()
 pub fn frames_send()
     ensures { FramesSend }
 {
-    // Law: the state changes are among the messages, and the replies are bytes of messages.
+    // Law: its state changes follow from the tables before it, and its replies are messages' bytes.
     frames_tell();
     replies_fit();
 }
