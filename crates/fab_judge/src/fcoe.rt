@@ -15,7 +15,7 @@ ghost use Rattle.fc_frames.specs.Frame.{view as fc_view};
 ghost use Rattle.fcoe_codec.specs.Fcoe.{view as fcoe_view};
 
 use crate::Judged;
-use crate::frames::{SERVICES, granted_mac, is_class3, is_same};
+use crate::frames::{granted_mac, is_same};
 use crate::services::judge_request;
 use crate::verdicts::dropped;
 use eth_frames::EthFrame;
@@ -23,6 +23,7 @@ use fab_base::{Moment, NoMemory, PortNo};
 use fab_config::Config;
 use fab_policy::{Rule, Verdict};
 use fab_roster::Roster;
+use fc_frames::SERVICES;
 use fcoe_codec::FcoeFrame;
 use login_table::Login;
 use std::alloc::Global;
@@ -45,7 +46,7 @@ pub(crate) fn judge_fcoe(
     ensures grounds { IfOk result (λ j. (x : Enode) (flogi : Bool)
         → Rests config.now roster.now.tables x flogi (fc_view body.now.frame) j) }
 {
-    if !is_class3(body) {
+    if !body.is_class3() {
         return Ok(dropped(Rule::FcoeClass));
     }
     if !is_same(&eth.dst, &config.fcf_mac) {

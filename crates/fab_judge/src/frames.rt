@@ -8,29 +8,8 @@ ghost use Rattle.fcoe_codec.specs.Fcoe.{view as fcoe_view};
 
 use fab_base::{FcId, Mac};
 use fab_config::Config;
-use fc_frames::FcFrame;
-use fcoe_codec::{EOF_N, EOF_T, FcoeFrame, SOF_I3, SOF_N3};
-
-/// The least address of a service.
-pub(crate) const SERVICES: u32 = 0xff_0000;
-
-/// The address of the name server.
-pub(crate) const NAME_SERVER: u32 = 0xff_fffc;
-
-/// The address of the fabric controller.
-const CONTROLLER: u32 = 0xff_fffd;
-
-/// R_CTL of a request and of a reply of extended link services, and their TYPE.
-const ELS_REQUEST: u8 = 0x22;
-
-const ELS_REPLY: u8 = 0x23;
-
-const ELS: u8 = 0x01;
-
-/// R_CTL of a request of the common transport, and its TYPE.
-const CT_REQUEST: u8 = 0x02;
-
-const CT: u8 = 0x20;
+use fc_frames::{CONTROLLER, FcFrame, Kind, NAME_SERVER};
+use fcoe_codec::FcoeFrame;
 
 // Whether two MACs are the same.
 pub(crate) fn is_same(one: &Mac, other: &Mac) -> bool
@@ -50,20 +29,6 @@ pub(crate) fn granted_mac(config: &Config, address: FcId) -> Mac
     Mac([m0, m1, m2, a0, a1, a2])
 }
 
-// Whether the delimiters are of class 3.
-pub(crate) fn is_class3(body: &FcoeFrame<'_>) -> bool
-    ensures { result ≡ rules.is_class3 (fcoe_view body.now) }
-{
-    (body.sof == SOF_I3 || body.sof == SOF_N3) && (body.eof == EOF_N || body.eof == EOF_T)
-}
-
-// Whether the frame has a whole sequence.
-fn is_one_frame(body: &FcoeFrame<'_>) -> bool
-    ensures { result ≡ rules.is_one_frame (fcoe_view body.now) }
-{
-    body.sof == SOF_I3 && body.eof == EOF_T
-}
-
 // Whether an address is that of a service.
 pub(crate) fn is_service(address: FcId) -> bool
     ensures { result ≡ rules.is_service address }
@@ -74,19 +39,19 @@ pub(crate) fn is_service(address: FcId) -> bool
 pub(crate) fn is_els_request(frame: &FcFrame<'_>) -> bool
     ensures { result ≡ rules.is_els_request (fc_view frame.now) }
 {
-    frame.head.r_ctl == ELS_REQUEST && frame.head.kind == ELS
+    Kind::ElsRequest.is_of(&frame.head)
 }
 
 pub(crate) fn is_els_reply(frame: &FcFrame<'_>) -> bool
     ensures { result ≡ rules.is_els_reply (fc_view frame.now) }
 {
-    frame.head.r_ctl == ELS_REPLY && frame.head.kind == ELS
+    Kind::ElsReply.is_of(&frame.head)
 }
 
 fn is_ct_request(frame: &FcFrame<'_>) -> bool
     ensures { result ≡ rules.is_ct_request (fc_view frame.now) }
 {
-    frame.head.r_ctl == CT_REQUEST && frame.head.kind == CT
+    Kind::CtRequest.is_of(&frame.head)
 }
 
 // Whether the frame is to the name server.
@@ -101,7 +66,7 @@ pub(crate) fn is_for_service(body: &FcoeFrame<'_>) -> bool
     ensures { result ≡ rules.is_for_service (fcoe_view body.now) }
 {
     let frame = &body.frame;
-    is_one_frame(body)
+    body.is_sequence()
         && (is_els_request(frame)
             || is_els_reply(frame)
             || (is_to_names(frame) && is_ct_request(frame)))

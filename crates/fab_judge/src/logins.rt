@@ -24,31 +24,17 @@ use crate::fip::is_known;
 use crate::frames::{granted_mac, is_els_request, is_same};
 use crate::sender::Sender;
 use crate::verdicts::{dropped, rejected};
-use els_messages::{Els, LoginParms, read_els};
+use els_messages::reject::{
+    COMMAND_NOT_SUPPORTED, INSUFFICIENT_RESOURCES, LOGICAL_ERROR, NO_EXPLANATION,
+    REQUEST_NOT_SUPPORTED, UNABLE_TO_PERFORM,
+};
+use els_messages::{Els, FDISC, FLOGI, LOGO, LoginParms, read_els};
 use fab_base::{Enode, FcId, Mac, Wwn};
 use fab_config::Config;
 use fab_policy::{Rule, Verdict};
 use fab_roster::{Request, Roster};
-use fc_frames::{FcFrame, read_frame};
+use fc_frames::{FABRIC_PORT, FcFrame, read_frame};
 use fip_codec::LoginKind;
-
-/// The address of the fabric port.
-const FABRIC_PORT: u32 = 0xff_fffe;
-
-/// The reasons of a reject: a logical error, a request that can't be performed, and one that isn't
-/// supported.
-const LOGICAL: u8 = 0x03;
-
-const UNABLE: u8 = 0x09;
-
-const UNSUPPORTED: u8 = 0x0b;
-
-/// The explanations: none, no resources for a login, and that this request isn't supported.
-const NO_EXPLANATION: u8 = 0;
-
-const NO_RESOURCES: u8 = 0x29;
-
-const NOT_SUPPORTED: u8 = 0x2c;
 
 /// The judgement of the login of a descriptor, with the FC frame in it.
 pub(crate) fn judge_login(
@@ -148,20 +134,20 @@ fn judge_asked(
         → Rests config.now roster.now.tables x flogi f result }
 {
     if !fp {
-        return rejected(UNSUPPORTED, NOT_SUPPORTED);
+        return rejected(COMMAND_NOT_SUPPORTED, REQUEST_NOT_SUPPORTED);
     }
     if is_first_missing(roster, from, &request) {
-        return rejected(UNABLE, NO_EXPLANATION);
+        return rejected(UNABLE_TO_PERFORM, NO_EXPLANATION);
     }
     if !parms.offers_class3() {
-        return rejected(UNSUPPORTED, NO_EXPLANATION);
+        return rejected(COMMAND_NOT_SUPPORTED, NO_EXPLANATION);
     }
     let live = roster.len();
     if is_name_refused(roster, &request) {
-        return rejected(LOGICAL, NO_EXPLANATION);
+        return rejected(LOGICAL_ERROR, NO_EXPLANATION);
     }
     if is_full(config, roster, &request, live) {
-        return rejected(UNABLE, NO_RESOURCES);
+        return rejected(UNABLE_TO_PERFORM, INSUFFICIENT_RESOURCES);
     }
     Judged::MayGrant {
         request,
@@ -294,7 +280,7 @@ fn judge_logout(
         → Rests config.now roster.now.tables x flogi f result }
 {
     if !is_own_logout(config, roster, from, s_id, mac, address, name) {
-        return rejected(LOGICAL, NO_EXPLANATION);
+        return rejected(LOGICAL_ERROR, NO_EXPLANATION);
     }
     Judged::Must(Verdict::Logout(s_id))
 }
@@ -350,9 +336,9 @@ fn command_of(kind: LoginKind) -> u8
     ensures { result ≡ rules.command_of kind }
 {
     match kind {
-        LoginKind::Flogi => 0x04,
-        LoginKind::Fdisc => 0x51,
-        LoginKind::Logo => 0x05,
+        LoginKind::Flogi => FLOGI,
+        LoginKind::Fdisc => FDISC,
+        LoginKind::Logo => LOGO,
     }
 }
 

@@ -17,6 +17,9 @@ ghost use Rattle.fab_roster.specs.Roll.{login_of};
 ghost use Rattle.fc_frames.specs.Frame.{view as fc_view};
 
 use crate::Judged;
+use ct_messages::reject::{
+    ACCESS_DENIED, COMMAND_NOT_SUPPORTED, INVALID_SIZE, NO_EXPLANATION, UNABLE_TO_PERFORM,
+};
 use ct_messages::{CtAsk, CtFault, CtTell, a_query_is_no_reject, read_ask};
 use fab_base::NoMemory;
 use fab_config::Config;
@@ -27,19 +30,6 @@ use login_table::Login;
 use name_server::RegFault;
 use std::alloc::Global;
 use zone_rules::Zones;
-
-/// The reasons of a reject: a malformed request, one that can't be performed, and one that isn't
-/// supported.
-const MALFORMED: u8 = 0x04;
-
-const UNABLE: u8 = 0x09;
-
-const UNSUPPORTED: u8 = 0x0b;
-
-/// The explanations: none, and that the asker isn't logged in.
-const NO_EXPLANATION: u8 = 0;
-
-const NOT_LOGGED_IN: u8 = 0x10;
 
 /// The judgement of a request of a live N_Port.
 pub(crate) fn judge_ask(
@@ -60,7 +50,7 @@ pub(crate) fn judge_ask(
         → Rests config.now roster.now.tables x flogi (fc_view frame.now) j) }
 {
     if login.server_size.is_none() {
-        return Ok(refused(UNABLE, NOT_LOGGED_IN));
+        return Ok(refused(UNABLE_TO_PERFORM, ACCESS_DENIED));
     }
     match read_ask(frame.payload) {
         Ok(ask) => judge_read(alloc, config, zones, roster, login, frame, &ask),
@@ -166,8 +156,8 @@ fn unread(fault: CtFault) -> Judged
         result ≡ Judged.Must (Verdict.Refused why.0 why.1) }
 {
     match fault {
-        CtFault::Short | CtFault::Size => refused(MALFORMED, NO_EXPLANATION),
-        CtFault::NotNameServer => refused(UNSUPPORTED, NO_EXPLANATION),
+        CtFault::Short | CtFault::Size => refused(INVALID_SIZE, NO_EXPLANATION),
+        CtFault::NotNameServer => refused(COMMAND_NOT_SUPPORTED, NO_EXPLANATION),
     }
 }
 

@@ -22,6 +22,11 @@ use crate::Judged;
 use crate::frames::{is_els_reply, is_els_request, is_for_service, is_service, is_to_names};
 use crate::names::judge_ask;
 use crate::verdicts::{dropped, rejected};
+use ct_messages::PREAMBLE;
+use els_messages::reject::{
+    COMMAND_NOT_SUPPORTED, LOGICAL_ERROR, NO_EXPLANATION, REQUEST_NOT_SUPPORTED,
+};
+use els_messages::scr::{CLEAR, FABRIC_DETECTED, FULL, NX_PORT_DETECTED};
 use els_messages::{Els, LoginParms, read_els};
 use fab_base::{NoMemory, PortNo};
 use fab_config::Config;
@@ -32,19 +37,6 @@ use fcoe_codec::FcoeFrame;
 use login_table::Login;
 use std::alloc::Global;
 use zone_rules::Zones;
-
-/// The reasons of a reject: a logical error, and a command that isn't supported.
-const LOGICAL: u8 = 0x03;
-
-const UNSUPPORTED: u8 = 0x0b;
-
-/// The explanations: none, and that this request isn't supported.
-const NO_EXPLANATION: u8 = 0;
-
-const NOT_SUPPORTED: u8 = 0x2c;
-
-/// The bytes of a preamble of the common transport.
-const PREAMBLE: usize = 16;
 
 /// The least receive size of a login to the name server.
 const LEAST_SIZE: u16 = 256;
@@ -121,7 +113,7 @@ fn to_name_server(login: &Login, els: &Els<'_>) -> Judged
     match els {
         Els::Plogi(parms) => judge_server_login(login, parms),
         Els::Logo { .. } => Judged::Must(Verdict::NsLogout),
-        _ => rejected(UNSUPPORTED, NOT_SUPPORTED),
+        _ => rejected(COMMAND_NOT_SUPPORTED, REQUEST_NOT_SUPPORTED),
     }
 }
 
@@ -135,10 +127,10 @@ fn judge_server_login(login: &Login, parms: &LoginParms) -> Judged
         → HasSource T f → spec.parms_of f.payload ≡ parms.now → Rests c T x flogi f result }
 {
     if !parms.offers_class3() {
-        return rejected(UNSUPPORTED, NO_EXPLANATION);
+        return rejected(COMMAND_NOT_SUPPORTED, NO_EXPLANATION);
     }
     if parms.port_name != login.name || parms.size < LEAST_SIZE {
-        return rejected(LOGICAL, NO_EXPLANATION);
+        return rejected(LOGICAL_ERROR, NO_EXPLANATION);
     }
     Judged::ServerLogin {
         size: parms.receive_size(),
@@ -156,7 +148,7 @@ fn to_controller(els: &Els<'_>) -> Judged
 {
     match els {
         Els::Scr { function } => judge_watch(*function),
-        _ => rejected(UNSUPPORTED, NOT_SUPPORTED),
+        _ => rejected(COMMAND_NOT_SUPPORTED, REQUEST_NOT_SUPPORTED),
     }
 }
 
@@ -168,9 +160,13 @@ fn judge_watch(function: u8) -> Judged
     ensures grounds { (c : Settings) (T : Tables) (x : Enode) (flogi : Bool) (f : Frame)
         → HasSource T f → Rests c T x flogi f result }
 {
-    if function == 1 || function == 2 || function == 3 || function == 255 {
+    if function == FABRIC_DETECTED
+        || function == NX_PORT_DETECTED
+        || function == FULL
+        || function == CLEAR
+    {
         Judged::Must(Verdict::Watching(function))
     } else {
-        rejected(LOGICAL, NO_EXPLANATION)
+        rejected(LOGICAL_ERROR, NO_EXPLANATION)
     }
 }

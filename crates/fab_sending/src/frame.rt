@@ -32,10 +32,8 @@ use fab_base::{FcId, Moment, NoMemory, PortNo};
 use fab_policy::{Heard, Verdict};
 use fab_replies::OutList;
 use fab_roster::Request;
+use fc_frames::MOST_PAYLOAD;
 use std::alloc::Global;
-
-/// The most bytes of a frame's payload.
-const WHOLE: u16 = 2112;
 
 /// What a frame of a port sends by a right verdict that needs nothing else: the reply to it, or
 /// itself, and the state changes. It stands in the entry at this place of the entries.
@@ -136,7 +134,14 @@ pub fn registration_sends(
     // For the proof: the roster is sound, so its N_Ports ascend by their addresses.
     let _ = before.roster.len();
     let to = asker(heard);
-    let accept = answer(alloc, now(before.roster), port, to, &CtTell::Done, WHOLE)?;
+    let accept = answer(
+        alloc,
+        now(before.roster),
+        port,
+        to,
+        &CtTell::Done,
+        MOST_PAYLOAD,
+    )?;
     let changes = registration_changes(alloc, before, to.s_id, ask)?;
     let sends = joined(alloc, before, accept, changes)?;
     Ok(sends)

@@ -26,7 +26,7 @@ use els_messages::{Els, Feature, read_els};
 use fab_base::{FcId, Moment, NoMemory, PortNo};
 use fab_policy::{Heard, Verdict, What, frames_are_carried};
 use fab_replies::{Answer, Out, OutList, OutMessage, data_frames_go_on};
-use fc_frames::read_frame;
+use fc_frames::{MOST_PAYLOAD, read_frame};
 use fip_codec::{FipMessage, LoginKind};
 use std::alloc::Global;
 
@@ -35,9 +35,6 @@ use std::alloc::Global;
 pub fn right_frames_suit()
     ensures { RightFramesSuit }
 {}
-
-/// The most bytes of a frame's payload.
-const WHOLE: u16 = 2112;
 
 /// The replies to a frame that stands in the entry at this place, other than the answer to a query.
 pub fn replies(
@@ -56,13 +53,20 @@ pub fn replies(
         → frame_at entry events ≡ Some heard.now.caught.now → AreSendable events outs) }
 {
     match verdict {
-        Verdict::Registered => answer(alloc, moment, port, asker(heard), &CtTell::Done, WHOLE),
+        Verdict::Registered => answer(
+            alloc,
+            moment,
+            port,
+            asker(heard),
+            &CtTell::Done,
+            MOST_PAYLOAD,
+        ),
         Verdict::Refused(reason, explanation) => {
             let tell = CtTell::Reject {
                 reason,
                 explanation,
             };
-            answer(alloc, moment, port, asker(heard), &tell, WHOLE)
+            answer(alloc, moment, port, asker(heard), &tell, MOST_PAYLOAD)
         }
         _ => sent(alloc, moment, told(port, entry, heard, verdict)),
     }
