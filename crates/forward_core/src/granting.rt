@@ -1,5 +1,5 @@
 //! Which address a login gets, and at which size its queries are answered.
-ghost use Rattle.std.specs.Prelude.{◌≡◌, ℕ, Some, IfSome, IfNone, IsSome, IsTrue, true, false, unwrap_or};
+ghost use Rattle.std.specs.Prelude.{◌≡◌, ℕ, Some, IfOk, OnErr, IsSome, IsTrue, true, false, unwrap_or};
 ghost use Rattle.fab_policy.specs.Free.{has_free, is_free};
 ghost use Rattle.fab_policy.specs.Heard.{decoded, s_id};
 ghost use Rattle.fab_policy.specs.State.{LivePort, port_at};
@@ -12,20 +12,29 @@ use fab_policy::Heard;
 use fab_roster::Request;
 use fab_sending::asker;
 
+/// The wished address isn't free.
+#[derive(Clone, Copy, Debug)]
+pub(crate) struct WishTaken;
+
 impl Fabric {
     // The address that a login gets to which some may be granted: the wished one, or any that is
-    // free. None where the wished one isn't free.
-    pub(crate) fn address_for(&self, request: &Request, wish: Option<FcId>) -> Option<FcId>
+    // free. It takes no memory, so a wished one that isn't free is told as such.
+    pub(crate) fn address_for(
+        &self,
+        request: &Request,
+        wish: Option<FcId>,
+    ) -> Result<FcId, WishTaken>
         requires some { has_free self.now.state.tables request.now ≡ true }
-        ensures free { IfSome result (λ a. IsTrue (is_free self.now.state.tables request.now a)) }
-        ensures wished { IfSome result (λ a. (b : ℕ) → wish ≡ Some b → a ≡ b) }
-        ensures taken { IfNone result ((a : ℕ) × (wish ≡ Some a)
+        ensures free { IfOk result (λ a. IsTrue (is_free self.now.state.tables request.now a)) }
+        ensures wished { IfOk result (λ a. (b : ℕ) → wish ≡ Some b → a ≡ b) }
+        ensures taken { OnErr result ((a : ℕ) × (wish ≡ Some a)
             × (is_free self.now.state.tables request.now a ≡ false)) }
     {
-        match wish {
+        let address = match wish {
             Some(address) => self.roster.is_free(request, address).then_some(address),
             None => self.roster.find(request),
-        }
+        };
+        address.ok_or(WishTaken)
     }
 
     // The receive size at the name server of the N_Port that sent a frame.

@@ -10,6 +10,7 @@ ghost use Rattle.fab_policy.specs.declared.verdict.Verdict.TheVariants.{Granted}
 ghost use Rattle.forward_core.specs.Fabric.{IsTaken};
 
 use crate::Fabric;
+use crate::granting::WishTaken;
 use fab_base::{FcId, NoMemory, PortNo};
 use fab_judge::{Judged, judge};
 use fab_policy::{Heard, Verdict, fabric_steps, known_verdict};
@@ -32,6 +33,17 @@ impl From<NoMemory> for StepFault {
 
     fn from(_refused: NoMemory) -> StepFault {
         StepFault::Memory
+    }
+}
+
+impl From<WishTaken> for StepFault {
+    ghost use Rattle.std.specs.Prelude.{◌≡◌};
+    ghost use Rattle.forward_core.specs.declared.step.StepFault.TheVariants as fault;
+
+    ghost from_gives = { λ _ e. e ≡ fault.WishTaken };
+
+    fn from(_wish: WishTaken) -> StepFault {
+        StepFault::WishTaken
     }
 }
 
@@ -75,9 +87,7 @@ impl Fabric {
                 Ok(verdict)
             }
             Judged::MayGrant { request, node } => {
-                let Some(address) = self.address_for(&request, wish) else {
-                    return Err(StepFault::WishTaken);
-                };
+                let address = self.address_for(&request, wish)?;
                 self.log_in(alloc, port, index, heard, &request, node, address)?;
                 Ok(Verdict::Granted(address))
             }

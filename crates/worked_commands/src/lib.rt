@@ -1,0 +1,2 @@
+//! Worked examples of the words that the contract of `fabric_tool` has, computed by the check.
+#![tactic(auto)]
