@@ -217,9 +217,6 @@ pub or_false : (a b : Bool) → a || b ≡ false → (a ≡ false) × (b ≡ fal
 or_false true b e = cc
 or_false false b e = (refl, e)
 
-pub at_most : (m n : ℕ) → m ≤ n → nat_le m n ≡ true
-at_most m n le = grind (arith, nat_tests)
-
 pub more_than : (m n : ℕ) → n < m → nat_le m n ≡ false
 more_than m n lt = grind (arith, nat_tests)
 

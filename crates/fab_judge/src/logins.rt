@@ -180,7 +180,18 @@ fn is_full(config: &Config, roster: &Roster, request: &Request, live: u32) -> bo
         (length (verdicts.staying config.now roster.now.tables request.now))
         || not (has_free roster.now.tables request.now)) }
 {
-    config.limit <= staying(roster, request, live) || roster.find(request).is_none()
+    has_no_room(config, roster, request, live) || roster.find(request).is_none()
+}
+
+// Whether there is no room for one login more than those that stay. They are counted where all
+// that are live would leave none.
+fn has_no_room(config: &Config, roster: &Roster, request: &Request, live: u32) -> bool
+    requires ascending { AscendFrom (λ p. p.address) 0 roster.now.tables.ports }
+    requires live { live ≡ length roster.now.tables.ports }
+    ensures { result ≡ nat_le config.now.limit
+        (length (verdicts.staying config.now roster.now.tables request.now)) }
+{
+    config.limit <= live && config.limit <= staying(roster, request, live)
 }
 
 // What a login asks for.
