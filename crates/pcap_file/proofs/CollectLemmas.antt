@@ -1,7 +1,7 @@
 -- Filling an empty buffer from what is held and from a slot, piece by piece.
-use Rattle.std.proofs.Common.{◌≡◌, ℕ, ◌≤◌, ◌<◌, min, List, [], ◌++◌, length, append_assoc, take, drop, Ok, Err, IsTrue, sym, ◌∙◌, ap, subst, arith}
+use Rattle.std.proofs.Common.{◌≡◌, ℕ, ◌≤◌, ◌<◌, min, List, [], ◌++◌, length, append_assoc, take, drop, Ok, Err, IsTrue, refl, sym, ◌∙◌, ap, subst, arith}
 use Rattle.std.proofs.lemmas.List.{take-append-drop}
-use Rattle.fab_base.specs.Seen.{Seen, Reads, Rose}
+use Rattle.fab_base.specs.Seen.{Seen, Reads, Rose, SameReadFaults}
 use Rattle.fab_base.specs.declared.values.Failed.{Failed}
 use Rattle.fab_base.proofs.Depots.{reads_trans, reads_refl, input_name, told_stays, rose_later}
 use Rattle.pcap_file.specs.Reading.{Collects, Refills}
@@ -11,9 +11,10 @@ use Rattle.pcap_file.proofs.lemmas.Numbers.{none_is}
 pub record Collected (s : ℕ) (a c : Seen) (buffer held rest : List ℕ) : Type 0 where
   pub reads : Reads (a.name s) a c
   pub taken : IsTrue a.told → buffer ++ (rest ++ c.left s) ≡ held ++ a.left s
+  pub counts : SameReadFaults a c
 
 pub collected_none : (s : ℕ) (a : Seen) (buffer held : List ℕ) → buffer ≡ [] → Collected s a a buffer held held
-collected_none s a buffer held none = record { reads = reads_refl (a.name s) a; taken = λ told. ap (λ l. l ++ (held ++ a.left s)) none }
+collected_none s a buffer held none = record { reads = reads_refl (a.name s) a; taken = λ told. ap (λ l. l ++ (held ++ a.left s)) none; counts = λ m. refl }
 
 pub collected_all : (s count : ℕ) (a c : Seen) (buffer held rest : List ℕ) → Collected s a c buffer held rest → length buffer ≤ count → count ≤ length buffer → Collects {T = Unit {0}} s count buffer held rest a c (Ok tt)
 collected_all s count a c buffer held rest f fits full = record {
@@ -22,6 +23,7 @@ collected_all s count a c buffer held rest f fits full = record {
   taken = f.taken;
   ended = λ told lt. absurd (omega arith);
   cause = tt;
+  counts = f.counts;
 }
 
 module _ (s : ℕ) (a b c : Seen) (buffer held mid more : List ℕ) (is_in : IsTrue (a.input s)) (f : Collected s a b buffer held mid) where
@@ -40,6 +42,7 @@ module _ (s : ℕ) (a b c : Seen) (buffer held mid more : List ℕ) (is_in : IsT
         ∙ append_assoc buffer (take n more) (rest ++ c.left s)
         ∙ ap (λ l. buffer ++ l) (sym (append_assoc (take n more) rest (c.left s)) ∙ ap (λ l. l ++ c.left s) (ap (λ l. take n more ++ l) behind ∙ take-append-drop n more) ∙ r.taken (told_b told))
         ∙ f.taken told;
+    counts = λ m. r.counts m ∙ f.counts m;
   }
 
   -- none is held though some are wanted
@@ -54,6 +57,7 @@ module _ (s : ℕ) (a b c : Seen) (buffer held mid more : List ℕ) (is_in : IsT
         taken = step.taken;
         ended = λ told lt. (λ i. none_left i ++ c.left s) ∙ r.ended (told_b told) none_held;
         cause = tt;
+        counts = step.counts;
       }
 
   pub collect_failed : (count : ℕ) (e : Failed) → Refills {T = Unit {0}} s mid more b c (Err e) → length buffer ≤ count → Collects {T = Unit {0}} s count buffer held more a c (Err e)
@@ -63,4 +67,5 @@ module _ (s : ℕ) (a b c : Seen) (buffer held mid more : List ℕ) (is_in : IsT
     taken = λ told. tt;
     ended = λ told. tt;
     cause = rose_later _ _ _ f.reads.keeps.reads_rise (subst (λ m. Rose (b.read_faults m) (c.read_faults m)) same r.cause);
+    counts = tt;
   }

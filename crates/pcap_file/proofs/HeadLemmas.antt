@@ -79,6 +79,7 @@ module _ (s : ℕ) (a b : Seen) (none held front : List ℕ) (n : ℕ) (had : Bu
     refused = λ told. decoded told ∙ sym is;
     untouched = refl;
     bytes = (λ h. absurd (cc), λ lt. absurd (omega arith));
+    counts = first.counts;
   }
 
   pub open_done : (h : CaptureHead) → Ok h ≡ head_decoded (take n front) → OpensReader s a b had (record { bytes = had.bytes - 24; frames = had.frames }) (Ok (record { head = h; at = 24; greatest = 0; kept = None; held = held }))
@@ -93,4 +94,5 @@ module _ (s : ℕ) (a b : Seen) (none held front : List ℕ) (n : ℕ) (had : Bu
     refused = tt;
     untouched = tt;
     bytes = (λ h. absurd (cc), λ lt. absurd (omega arith));
+    counts = first.counts;
   }

@@ -2,7 +2,7 @@
 use Rattle.std.proofs.Common.{◌≡◌, ℕ, ◌+◌, ◌-◌, ◌≤◌, ◌<◌, inl, inr, min, List, [], ◌++◌, length, append_assoc, take, drop, Ok, Err, IsTrue, refl, sym, ◌∙◌, ap, subst, arith}
 use Rattle.std.proofs.lemmas.List.{take-append-drop, drop-take, drop-drop, drop_all, length-take}
 use borrow.Rule.Slice.PartMut.{put_mid}
-use Rattle.fab_base.specs.Seen.{Seen, Reads, Rose}
+use Rattle.fab_base.specs.Seen.{Seen, Reads, Rose, SameReadFaults}
 use Rattle.fab_base.specs.declared.values.Failed.{Failed}
 use Rattle.fab_base.proofs.Depots.{reads_trans, reads_refl, input_name, told_stays, rose_later, take-put_mid-more}
 use Rattle.pcap_file.specs.Reading.{Pulls, Refills}
@@ -23,9 +23,10 @@ window_rest l from to count = elim (le_or_lt count (to - from)) [
 pub record Pulled (s got : ℕ) (a c : Seen) (into held rest : List ℕ) : Type 0 where
   pub reads : Reads (a.name s) a c
   pub taken : IsTrue a.told → take got into ++ (rest ++ c.left s) ≡ held ++ a.left s
+  pub counts : SameReadFaults a c
 
 pub pulled_none : (s : ℕ) (a : Seen) (into held : List ℕ) → Pulled s 0 a a into held held
-pulled_none s a into held = record { reads = reads_refl (a.name s) a; taken = λ told. refl }
+pulled_none s a into held = record { reads = reads_refl (a.name s) a; taken = λ told. refl; counts = λ m. refl }
 
 module _ (s got : ℕ) (a b c : Seen) (into held mid more : List ℕ) (is_in : IsTrue (a.input s)) (f : Pulled s got a b into held mid) where
   same : b.name s ≡ a.name s
@@ -47,6 +48,7 @@ module _ (s got : ℕ) (a b c : Seen) (into held mid more : List ℕ) (is_in : I
           (append_assoc (take got into) (take n piece) (rest ++ c.left s)
           ∙ ap (λ l. take got into ++ l) (sym (append_assoc (take n piece) rest (c.left s)) ∙ ap (λ l. l ++ c.left s) ((λ i. front i ++ behind i) ∙ take-append-drop n more) ∙ r.taken (told_b told))
           ∙ f.taken told);
+      counts = λ m. r.counts m ∙ f.counts m;
     }
 
     pub pull_ended : (n k : ℕ) (piece rest : List ℕ) → got ≤ length into → length (put_mid got k into piece) ≡ length into → n ≡ 0 → n ≡ min (length more) (length piece) → 0 < length piece → take n piece ≡ take n more → rest ≡ drop n more → Pulls s (put_mid got k into piece) held rest a c (Ok got)
@@ -61,6 +63,7 @@ module _ (s got : ℕ) (a b c : Seen) (into held mid more : List ℕ) (is_in : I
           taken = λ told. subst (λ (m : ℕ). take m (put_mid got k into piece) ++ (rest ++ c.left s) ≡ held ++ a.left s) same_place (step.taken told);
           ended = λ told lt. (λ i. none_left i ++ c.left s) ∙ r.ended (told_b told) none_held;
           cause = tt;
+          counts = step.counts;
         }
 
   pub pull_failed : (e : Failed) (into' : List ℕ) → Refills {T = Unit {0}} s mid more b c (Err e) → Pulls s into' held more a c (Err e)
@@ -70,4 +73,5 @@ module _ (s got : ℕ) (a b c : Seen) (into held mid more : List ℕ) (is_in : I
     taken = λ told. tt;
     ended = λ told. tt;
     cause = rose_later _ _ _ f.reads.keeps.reads_rise (subst (λ m. Rose (b.read_faults m) (c.read_faults m)) same r.cause);
+    counts = tt;
   }

@@ -3,7 +3,7 @@ use Rattle.std.specs.Prelude.{unwrap_or}
 use Rattle.std.proofs.Common.{◌≡◌, ◌≢◌, inl, inr, subst, ◌^◌, IsTrue, Some, None, Ok, Err, ℕ, ◌+◌, ◌<◌, ◌≤◌, max, leb, ltb, nat_lt, not, List, [], ◌++◌, length, take, drop, sym, ap, ◌∙◌, arith}
 use Rattle.std.proofs.lemmas.Bool.{le-ltb, lt-ltb, le-leb, lt-leb}
 use Rattle.std.proofs.lemmas.List.{length-take-le, take-append-drop, append-nil}
-use Rattle.fab_base.specs.Seen.{Seen, Reads}
+use Rattle.fab_base.specs.Seen.{Seen, Reads, SameReadFaults}
 use Rattle.pcap_file.proofs.lemmas.Numbers.{none_is, le_or_lt}
 use Rattle.pcap_file.proofs.lemmas.Buffers.{front_is, short_is}
 use Rattle.pcap_file.proofs.lemmas.Steps.{no_bytes, no_frames, no_limit}
@@ -45,6 +45,7 @@ module _ (s : ℕ) (a b : Seen) (held rest front : List ℕ) (n : ℕ) (h : Capt
         (ap (λ l. step_of budget at (next h g l)) (none_is (held ++ a.left s) (all ∙ none)) ∙ ap (step_of budget at) (next_end h g), empty);
     fits = tt;
     cause = λ f e. absurd (cc);
+    counts = first.counts;
   }
 
   pub read_short : n ≢ 0 → n < 16 → RecordRead s a b held rest h at g budget (Err (errors.Cut at))
@@ -56,6 +57,7 @@ module _ (s : ℕ) (a b : Seen) (held rest front : List ℕ) (n : ℕ) (h : Capt
         ap (step_of budget at) (next_short h g (held ++ a.left s) (omega arith) (omega arith));
     fits = tt;
     cause = λ f e. absurd (cc);
+    counts = first.counts;
   }
 
   whole_front : 16 ≤ n → IsTrue a.told → held ++ a.left s ≡ front ++ (rest ++ b.left s)
@@ -69,6 +71,7 @@ module _ (s : ℕ) (a b : Seen) (held rest front : List ℕ) (n : ℕ) (h : Capt
         ∙ ap (λ (k : ℕ). Stops (errors.TooLong at k)) (sym is);
     fits = tt;
     cause = λ f e. absurd (cc);
+    counts = first.counts;
   }
 
   module _ (len : ℕ) (is : len ≡ stored h front) (le : 16 ≤ n) (small : len ≤ 65535) where
@@ -78,6 +81,7 @@ module _ (s : ℕ) (a b : Seen) (held rest front : List ℕ) (n : ℕ) (h : Capt
       says = λ told. ap (λ l. step_of budget at (next h g l)) (whole_front le told) ∙ step_fails h g at budget front (rest ++ b.left s) sized (omega arith) NoBytes (no_bytes budget.bytes budget.frames (stored h front) (omega arith));
       fits = tt;
       cause = λ f e. absurd (cc);
+      counts = first.counts;
     }
 
     pub read_frames : 16 + len ≤ budget.bytes → budget.frames ≡ 0 → RecordRead s a b held rest h at g budget (Err errors.Frames)
@@ -86,11 +90,15 @@ module _ (s : ℕ) (a b : Seen) (held rest front : List ℕ) (n : ℕ) (h : Capt
       says = λ told. ap (λ l. step_of budget at (next h g l)) (whole_front le told) ∙ step_fails h g at budget front (rest ++ b.left s) sized (omega arith) NoFrames (no_frames budget.bytes budget.frames (stored h front) (omega arith) none);
       fits = tt;
       cause = λ f e. absurd (cc);
+      counts = first.counts;
     }
 
     module _ (c : Seen) (more body : List ℕ) (is_in : IsTrue (a.input s)) (second : Collects {T = Unit {0}} s len body rest more b c (Ok tt)) (room : 16 + len ≤ budget.bytes) (frame : budget.frames ≢ 0) where
       both : Reads (a.name s) a c
       both = reads_trans (a.name s) a b c first.reads (subst (λ m. Reads m b c) (input_name (a.name s) a b first.reads.keeps s is_in) second.reads)
+
+      both_counts : SameReadFaults a c
+      both_counts m = second.counts m ∙ first.counts m
 
       told_b : IsTrue a.told → IsTrue b.told
       told_b told = told_stays (a.name s) a b first.reads.keeps told
@@ -105,6 +113,7 @@ module _ (s : ℕ) (a b : Seen) (held rest front : List ℕ) (n : ℕ) (h : Capt
             ∙ ap (λ o. Stops (error_of (unwrap_or o Cut) at)) (no_limit budget.bytes budget.frames (stored h front) (omega arith) (omega arith));
         fits = tt;
         cause = λ f e. absurd (cc);
+        counts = both_counts;
       }
 
       pub read_given : (r : Record) → length body ≡ len → g < 2 ^ 43 → milliseconds h front < 2 ^ 43 → r.moment ≡ max (milliseconds h front) g → r.caught.bytes ≡ body → r.caught.whole ≡ not (nat_lt len (at_place h.big front 12 4)) → RecordRead s a c held more h at g budget (Ok (Some r))
@@ -120,4 +129,5 @@ module _ (s : ℕ) (a b : Seen) (held rest front : List ℕ) (n : ℕ) (h : Capt
             ∙ (λ i. Gives (time i) (same i) (more ++ c.left s));
         fits = record { onward = omega arith; range = omega arith; stored = omega (arith, ap length bytes); bytes = omega (arith, ap length bytes); frames = omega arith };
         cause = λ f e. absurd (cc);
+        counts = both_counts;
       }

@@ -1,6 +1,6 @@
 -- What a contract sees of a reader, and what its calls answer over a depot.
 use Rattle.std.specs.Prelude.{◌≡◌, ℕ, ◌+◌, ◌-◌, ◌^◌, ◌≤◌, ◌<◌, ◌↔◌, min, IsTrue, nat_lt, ◌==◌, if◌then◌else◌, List, [], ◌++◌, length, take, drop, Option, Some, None, unwrap_or, Result, Ok, Err, IfOk, OnOk, OnErr, IsErrOf, MatchResult, MatchOption}
-use Rattle.fab_base.specs.Seen.{Seen, Reads, Rose}
+use Rattle.fab_base.specs.Seen.{Seen, Reads, Rose, SameReadFaults}
 use Rattle.fab_base.specs.declared.values.Failed.{Failed}
 use Rattle.fab_base.specs.declared.values.Caught.{Caught}
 use Rattle.pcap_file.specs.declared.Budget.{Budget}
@@ -108,6 +108,11 @@ pub record KeepsError (before after : Reading) (had left : Budget) (e : CapError
   pub kept : after ≡ record before { kept = Some e; held = after.held }
   pub budget : left ≡ had
 
+-- no fault of reading is counted but where one is told
+abbrev pub SparesReads : Seen → Seen → Result (Option Record) CapError → Type 0
+SparesReads old new (Err (errors.Read failed)) = Unit {0}
+SparesReads old new result = SameReadFaults old new
+
 -- What a reader's next record is. Where the depot tells, and no error is kept, the answer is the step, except that the
 -- depot may fail, which its count shows, and memory may be refused. A kept error is answered again and nothing is fetched.
 pub record NextReads (slot : ℕ) (old new : Seen) (before after : Reading) (had left : Budget) (result : Result (Option Record) CapError) : Type 0 where
@@ -117,12 +122,18 @@ pub record NextReads (slot : ℕ) (old new : Seen) (before after : Reading) (had
   pub kept : MatchResult result (λ o. Unit {0}) (λ e. KeepsError before after had left e)
   pub cause : before.kept ≡ None → (f : Failed) → result ≡ Err (errors.Read f) → Rose (old.read_faults (old.name slot)) (new.read_faults (old.name slot))
   pub again : (e : CapError) → before.kept ≡ Some e → (result ≡ Err e) × (new ≡ old) × (after ≡ before)
+  pub counts : SparesReads old new result
 
 -- what an error of opening says
 abbrev pub Refuses : ℕ → Seen → Seen → CapOpen → Type 0
 Refuses slot old new (opens.Head fault) = IsTrue old.told → head_decoded (old.left slot) ≡ Err fault
 Refuses slot old new (opens.Read failed) = Rose (old.read_faults (old.name slot)) (new.read_faults (old.name slot))
 Refuses slot old new opens.Bytes = new ≡ old
+
+-- no fault of reading is counted but where one is told
+abbrev pub SparesOpening : Seen → Seen → Result Reading CapOpen → Type 0
+SparesOpening old new (Err (opens.Read failed)) = Unit {0}
+SparesOpening old new result = SameReadFaults old new
 
 -- What opening a capture does. Want of 24 bytes in the budget is told first.
 pub record OpensReader (slot : ℕ) (old new : Seen) (had left : Budget) (result : Result Reading CapOpen) : Type 0 where
@@ -133,6 +144,7 @@ pub record OpensReader (slot : ℕ) (old new : Seen) (had left : Budget) (result
   pub refused : MatchResult result (λ r. Unit {0}) (λ e. Refuses slot old new e)
   pub untouched : OnErr result (left ≡ had)
   pub bytes : IsErrOf result opens.Bytes ↔ (had.bytes < HEAD)
+  pub counts : SparesOpening old new result
 
 -- ---- inside the crate
 
@@ -143,6 +155,7 @@ pub record Pulls (s : ℕ) (buffer held rest : List ℕ) (old new : Seen) (resul
   pub taken : IsTrue old.told → IfOk result (λ n. take n buffer ++ (rest ++ new.left s) ≡ held ++ old.left s)
   pub ended : IsTrue old.told → IfOk result (λ n. n < length buffer → rest ++ new.left s ≡ [])
   pub cause : OnErr result (Rose (old.read_faults (old.name s)) (new.read_faults (old.name s)))
+  pub counts : OnOk result (SameReadFaults old new)
 
 -- So many bytes from what is held and then from a slot, put into an empty buffer: fewer only at the end.
 pub record Collects {T : Type 0} (s count : ℕ) (buffer held rest : List ℕ) (old new : Seen) (result : Result T Failed) : Type 0 where
@@ -151,6 +164,7 @@ pub record Collects {T : Type 0} (s count : ℕ) (buffer held rest : List ℕ) (
   pub taken : IsTrue old.told → OnOk result (buffer ++ (rest ++ new.left s) ≡ held ++ old.left s)
   pub ended : IsTrue old.told → OnOk result (length buffer < count → rest ++ new.left s ≡ [])
   pub cause : OnErr result (Rose (old.read_faults (old.name s)) (new.read_faults (old.name s)))
+  pub counts : OnOk result (SameReadFaults old new)
 
 -- One fetch where nothing is held; nothing is held then only where nothing is left.
 pub record Refills {T : Type 0} (s : ℕ) (held rest : List ℕ) (old new : Seen) (result : Result T Failed) : Type 0 where
@@ -158,6 +172,7 @@ pub record Refills {T : Type 0} (s : ℕ) (held rest : List ℕ) (old new : Seen
   pub taken : IsTrue old.told → OnOk result (rest ++ new.left s ≡ held ++ old.left s)
   pub ended : IsTrue old.told → OnOk result (rest ≡ [] → new.left s ≡ [])
   pub cause : OnErr result (Rose (old.read_faults (old.name s)) (new.read_faults (old.name s)))
+  pub counts : OnOk result (SameReadFaults old new)
 
 -- limits of a record's parts
 pub record Fits (greatest : ℕ) (budget : Budget) (r : Record) : Type 0 where
@@ -173,3 +188,4 @@ pub record RecordRead (s : ℕ) (old new : Seen) (held rest : List ℕ) (h : Cap
   pub says : IsTrue old.told → Says (step_of budget at (next h greatest (held ++ old.left s))) (rest ++ new.left s) result
   pub fits : IfOk result (λ o. MatchOption o (Unit {0}) (λ r. Fits greatest budget r))
   pub cause : (f : Failed) → result ≡ Err (errors.Read f) → Rose (old.read_faults (old.name s)) (new.read_faults (old.name s))
+  pub counts : SparesReads old new result
