@@ -11,6 +11,8 @@ use Rattle.fab_policy.specs.Growing.{NothingIsRun}
 use Rattle.fab_policy.specs.Journal.{Journal}
 use Rattle.fab_policy.specs.Logins.{counting}
 use Rattle.fab_policy.specs.Looks.{Opened, stop, kept, all_records}
+use Rattle.fab_policy.specs.Outputs.{state_of}
+use Rattle.fab_policy.specs.Standing.{Contents}
 use Rattle.fab_policy.specs.Text.{text, egress}
 use Rattle.fab_policy.specs.Written.{before, IsPrefixOf}
 use Rattle.fab_policy.proofs.NamedLemmas.{text_names_journal}
@@ -28,6 +30,7 @@ use Rattle.fabric_tool.specs.Ends.{RunHolds}
 use Rattle.fabric_tool.specs.Inputs.{HasConfig, HasInputs, AreOpened, stop_of, kept_of, LIMITS, MOST_BYTES, MOST_FRAMES}
 use Rattle.fabric_tool.specs.Left.{HoldsAll, HoldsFronts, AreOldOrFront, HasRun, HasStopped, HasPart, LegalIsSafe}
 use Rattle.fabric_tool.specs.Opening.{AreEmptyOutputs, Opens, ran_by}
+use Rattle.fabric_tool.specs.Preparing.{IsNew}
 use Rattle.fabric_tool.specs.Reading.{AreHeads, ConfigRead, HeadsRead, HeadsEnd}
 use Rattle.fabric_tool.specs.declared.outcome.Outcome.{Outcome}
 use Rattle.fabric_tool.specs.declared.outcome.Outcome.TheVariants as ends
@@ -49,6 +52,9 @@ others_same k old new same m none = same m
 -- a configuration that was read of a word
 pub config_as : {m n : List ℕ} {a b : Seen} {r : Result Settings Outcome} → m ≡ n → ConfigRead m a b r → ConfigRead n a b r
 config_as {m} {n} {a} {b} {r} e read = subst (λ l. ConfigRead l a b r) e read
+
+pub config_touched : (k : RunNames) (old new : Seen) {r : Result Settings Outcome} → ConfigRead k.config old new r → Touches Nothing (Among (k.config ∷ k.ins)) old new
+config_touched k old new read = touches_wider Nothing (Only k.config) Nothing (Among (k.config ∷ k.ins)) old new (λ m x. x) (λ m x. inl x) (reads_touches k.config old new read.reads)
 
 pub config_ended : (k : RunNames) (old new : Seen) (x : Outcome) → ConfigRead k.config old new (Err x) → RunHolds k old new x
 config_ended k old new x read = elim read.only [
@@ -116,7 +122,7 @@ module _ (k : RunNames) (c : Settings) (old b new : Seen) (config : ConfigRead k
   -- what reading the configuration and the heads changes
   pub inputs_touched : Touches Nothing (Among k.ins) b new → Touches Nothing (Among (k.config ∷ k.ins)) old new
   inputs_touched heads = touches_trans Nothing (Among (k.config ∷ k.ins)) old b new
-      (touches_wider Nothing (Only k.config) Nothing (Among (k.config ∷ k.ins)) old b (λ m x. x) (λ m x. inl x) touched)
+      (config_touched k old b config)
       (touches_wider Nothing (Among k.ins) Nothing (Among (k.config ∷ k.ins)) b new (λ m x. x) (λ m x. inr x) heads)
 
   pub inputs_read : (ins : List Input) → AreHeads b new k.ins ins → AreHeads old new k.ins ins
@@ -127,6 +133,15 @@ module _ (k : RunNames) (c : Settings) (old b new : Seen) (config : ConfigRead k
   no_fabric heads =
       let same : SameFiles old new = λ m. heads.files m (λ y. y) ∙ config.reads.files m in
       (λ m none. same m, λ told. inl same)
+
+-- a fabric that was made of it
+pub new_as : (words : List (String Global)) (F : Contents) (c : Settings) → F.settings ≡ c → IsTrue (is_in_range c) → F.count ≡ port_count words → F.state ≡ state_of c [] → (F.events ≡ []) × (F.outs ≡ []) → IsNew F (run_of words).ins
+new_as words F c is range count state nothing = record {
+  range = subst (λ (s : Settings). IsTrue (is_in_range s)) (sym is) range;
+  count = count ∙ sym (length-counted (input_at words) 0 (port_count words));
+  state = state ∙ ap (λ (s : Settings). state_of s []) (sym is);
+  nothing = nothing;
+}
 
 -- ---- outputs are opened
 

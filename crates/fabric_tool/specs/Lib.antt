@@ -12,3 +12,4 @@ pub mod Enode
 pub mod Ends
 pub mod Statuses
 pub mod Rechecking
+pub mod Preparing

@@ -5,6 +5,7 @@ ghost use Rattle.fabric_tool.specs.Command as spec;
 ghost use Rattle.fabric_tool.specs.Ends.{RunHolds};
 ghost use Rattle.fabric_tool.specs.Left.{LegalIsSafe};
 ghost use Rattle.fabric_tool.specs.Opening.{ran_by, stopped_by};
+ghost use Rattle.fabric_tool.specs.Preparing.{IsPrepared};
 
 use crate::command::{Width, port_count};
 use crate::heads::heads_of;
@@ -15,12 +16,21 @@ use crate::outputs::open_outputs;
 use fab_base::{Depot, Gate, word_at};
 use fab_config::Config;
 use fab_policy::{forwarding_rule, legal_journals, records_come_later};
-use fab_windows::{Done, RunFault, run_windows};
+use fab_windows::{Done, Input, RunFault, run_windows};
 use forward_core::Fabric;
 use pcap_file::Budget;
 use std::alloc::Global;
 use std::sync::Wait;
 use std::thread::Threads;
+
+/// What a run begins with: the captures with their heads, what these leave of the limits, and a
+/// fabric to which nothing has happened.
+#[derive(Drop)]
+pub(crate) struct Prepared {
+    pub(crate) fabric: Fabric,
+    pub(crate) ins: Vec<Input>,
+    pub(crate) budget: Budget,
+}
 
 /// Runs the forwarder over the captures. The configuration and all heads are read, and the fabric
 /// is made, before an output is opened.
@@ -39,28 +49,20 @@ pub(crate) fn run<R: Threads + Wait + Sync, D: Depot, G: Gate + Sync>(
     // there is a run without entries; what holds after a run and before one says so.
     legal_is_safe();
     records_come_later();
-    let config = match config_of(alloc, depot, word_at(words, 1)) {
-        Ok(config) => config,
+    let ready = match prepare(alloc, words, depot) {
+        Ok(ready) => ready,
         Err(outcome) => return outcome,
-    };
-    let mut budget = Budget {
-        bytes: MOST_BYTES,
-        frames: MOST_FRAMES,
-    };
-    let mut ins = match heads_of(alloc, depot, words, Width::Two, &mut budget) {
-        Ok(ins) => ins,
-        Err(outcome) => return outcome,
-    };
-    // For the proof: the values of the configuration are in their ranges.
-    in_range(&config);
-    let Ok(fabric) = Fabric::new(alloc, config, port_count(words) as u32) else {
-        return Outcome::Memory;
     };
     let outputs = match open_outputs(depot, words) {
         Ok(outputs) => outputs,
         Err(_) => return Outcome::WriteFault,
     };
     let journal = outputs.journal;
+    let Prepared {
+        fabric,
+        mut ins,
+        mut budget,
+    } = ready;
     ran(run_windows(
         rt,
         alloc,
@@ -72,6 +74,37 @@ pub(crate) fn run<R: Threads + Wait + Sync, D: Depot, G: Gate + Sync>(
         outputs.outs.as_slice(),
         gate,
     ))
+}
+
+// Reads the configuration and all heads and makes the fabric. No file changes, however it ends.
+fn prepare<D: Depot>(alloc: Global, words: &[String], depot: &mut D) -> Result<Prepared, Outcome>
+    requires run { spec.are_pairs words.now ≡ true }
+    requires known { spec.AllKnown (D.seen depot.old) words.now }
+    ensures prepares { IsPrepared (spec.run_of words.now) (D.seen depot.old) (D.seen depot.new)
+        result }
+{
+    let config = match config_of(alloc, depot, word_at(words, 1)) {
+        Ok(config) => config,
+        Err(outcome) => return Err(outcome),
+    };
+    let mut budget = Budget {
+        bytes: MOST_BYTES,
+        frames: MOST_FRAMES,
+    };
+    let ins = match heads_of(alloc, depot, words, Width::Two, &mut budget) {
+        Ok(ins) => ins,
+        Err(outcome) => return Err(outcome),
+    };
+    // For the proof: the values of the configuration are in their ranges.
+    in_range(&config);
+    match Fabric::new(alloc, config, port_count(words) as u32) {
+        Ok(fabric) => Ok(Prepared {
+            fabric,
+            ins,
+            budget,
+        }),
+        Err(_) => Err(Outcome::Memory),
+    }
 }
 
 // How the end of the windows ends the command.
