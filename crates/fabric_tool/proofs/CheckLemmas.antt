@@ -3,6 +3,7 @@ use Rattle.std.proofs.Common.{◌≡◌, ℕ, zero, suc, ◌+◌, ◌-◌, ◌*�
 use Rattle.std.specs.Prelude.{Result, String}
 use Rattle.std.specs.declared.alloc.Global.{Global}
 use Rattle.fab_base.specs.Seen.{Seen, SameFiles, Touches, Nothing, bytes_of}
+use Rattle.fab_base.proofs.SeenLemmas.{rose_later}
 use Rattle.fab_config.specs.Settings.{Settings}
 use Rattle.pcap_file.specs.Capture.{HEAD}
 use Rattle.pcap_file.specs.declared.Budget.{Budget}
@@ -16,7 +17,7 @@ use Rattle.fab_replay.specs.Outputs.{IsCompared}
 use Rattle.fab_replay.specs.Check.{Matter, NamesRun, IsAccepted, IsFirstOutput, IsFirstStop, Says, Checks, matter_in, sent_on}
 use Rattle.fab_replay.specs.declared.fault.CheckFault.{CheckFault}
 use Rattle.fab_replay.specs.declared.fault.CheckFault.TheVariants as checks
-use Rattle.fabric_tool.specs.Checking.{budget_of, output_in, matter_of, HasMatter, HasGiven, Finds, IsStanding, IsChecked, AreOpenInputs, command_of, refused_by}
+use Rattle.fabric_tool.specs.Checking.{budget_of, output_in, matter_of, HasMatter, HasGiven, Finds, IsStanding, IsUnread, IsChecked, AreOpenInputs, command_of, refused_by}
 use Rattle.fabric_tool.specs.Command.{Among, AnyRose, ReadRose, are_ports, names_of, ins_of, count_of, input_of}
 use Rattle.fabric_tool.specs.Inputs.{AreOpened, MOST_BYTES, MOST_FRAMES}
 use Rattle.fabric_tool.specs.Reading.{AreHeads, HeadsRead, HeadsEnd}
@@ -173,7 +174,29 @@ module _ (w : Width) (words : List (String Global)) (run : are_ports w words ≡
               },
             ),
       )
-      go ends.ReadFault e = (same, rose_of w words a z (rose_front a.read_faults z.read_faults (ins_of w words) (names_of w words).outs (rose_since a.read_faults b.read_faults z.read_faults given.touches.reads_rise (ins_of w words) e)))
+      go ends.ReadFault e = (
+        same,
+        rose_of w words a z (rose_front a.read_faults z.read_faults (ins_of w words) (names_of w words).outs (rose_since a.read_faults b.read_faults z.read_faults given.touches.reads_rise (ins_of w words) e.0)),
+        λ told.
+            let f = e.1 (told_b told) in
+            inr (inr (inl (record {
+              settings = c;
+              config = given.config told;
+              journal = journal;
+              lines = given.lines told;
+              room = room;
+              first = record {
+                before = f.before;
+                name = f.name;
+                behind = f.behind;
+                are = ins_named w words ∙ f.are;
+                opened = f.opened;
+                heads = opened_since a b files_b f.before f.opened f.heads;
+                within = f.within;
+                rose = rose_later _ _ _ (given.touches.reads_rise f.name) f.rose;
+              };
+            }))),
+      )
       go ends.Memory e = same
       go x e = absurd e
 
@@ -188,12 +211,28 @@ module _ (w : Width) (words : List (String Global)) (run : are_ports w words ≡
     rise_m : (n : List ℕ) → a.read_faults n ≤ m.read_faults n
     rise_m n = let one = given.touches.reads_rise n in let two = touched.reads_rise n in omega arith
 
+    within : length journal + HEAD * length (names_of w words).ins ≤ MOST_BYTES
+    within = let n = names_count in let l = length-counted (input_of w words) 0 (count_of w words) in let t = taken.0 in omega arith
+
+    matter_at : (d : Seen) → AreHeads a d (ins_of w words) ins → IsTrue a.told → HasMatter (names_of w words) a c (opened_in d ins) journal
+    matter_at d are told = record {
+      inputs = record { config = given.config told; heads = subst (λ l. AreOpened a l (opened_in d ins)) (sym (ins_named w words)) (heads_opened a d (ins_of w words) ins told are) };
+      lines = given.lines told;
+      within = within;
+    }
+
+    -- behind all heads a capture or an output couldn't be read
+    unread_behind : (d z : Seen) → AreHeads a d (ins_of w words) ins → AnyRose a.read_faults z.read_faults (ins_of w words ++ (names_of w words).outs) → IsTrue a.told → IsUnread (names_of w words) a z
+    unread_behind d z are rose told = inr (inr (inr (
+      subst (λ l. AnyRose a.read_faults z.read_faults (l ++ (names_of w words).outs)) (sym (ins_named w words)) rose,
+      record { settings = c; opened = opened_in d ins; journal = journal; matter = matter_at d are told; says = tt },
+    )))
+
     -- an output can't be opened
     pub outs_ended : (z : Seen) → Touches Nothing (Among (names_of w words).outs) m z → AnyRose m.read_faults z.read_faults (names_of w words).outs → IsChecked w (names_of w words) a z (Err ends.ReadFault)
-    outs_ended z more rose = (
-      λ n. more.files n (λ x. x) ∙ files_m n,
-      rose_of w words a z (rose_back a.read_faults z.read_faults (ins_of w words) (names_of w words).outs (rose_since a.read_faults m.read_faults z.read_faults rise_m (names_of w words).outs rose)),
-    )
+    outs_ended z more rose =
+        let any = rose_back a.read_faults z.read_faults (ins_of w words) (names_of w words).outs (rose_since a.read_faults m.read_faults z.read_faults rise_m (names_of w words).outs rose) in
+        (λ n. more.files n (λ x. x) ∙ files_m n, rose_of w words a z any, unread_behind m z (heads_since a b m files_b told_b (ins_of w words) ins heads) any)
 
     module _ (o : Seen) (slots : List ℕ) (opened : Touches Nothing (Among (names_of w words).outs) m o) (outs : AreOpenInputs m o (names_of w words).outs slots) where
       files_o : SameFiles a o
@@ -211,16 +250,6 @@ module _ (w : Width) (words : List (String Global)) (run : are_ports w words ≡
 
       outs_a : AreOpenInputs a o (names_of w words).outs slots
       outs_a = outs_since a m o files_m told_m (names_of w words).outs slots outs
-
-      within : length journal + HEAD * length (names_of w words).ins ≤ MOST_BYTES
-      within = let n = names_count in let l = length-counted (input_of w words) 0 (count_of w words) in let t = taken.0 in omega arith
-
-      matter : IsTrue a.told → HasMatter (names_of w words) a c (opened_in o ins) journal
-      matter told = record {
-        inputs = record { config = given.config told; heads = subst (λ l. AreOpened a l (opened_in o ins)) (sym (ins_named w words)) (heads_opened a o (ins_of w words) ins told heads_a) };
-        lines = given.lines told;
-        within = within;
-      }
 
       same_budget : left ≡ budget_of journal (length (names_of w words).ins)
       same_budget =
@@ -240,7 +269,7 @@ module _ (w : Width) (words : List (String Global)) (run : are_ports w words ≡
         settings = c;
         opened = opened_in o ins;
         journal = journal;
-        matter = matter told;
+        matter = matter_at o heads_a told;
         says = subst (λ x. P c x (matter_of (names_of w words) a (opened_in o ins) journal)) same_budget (by_names (P c left) p);
       }
 
@@ -260,17 +289,17 @@ module _ (w : Width) (words : List (String Global)) (run : are_ports w words ≡
         pub check_done : (entries : ℕ) → r ≡ Ok entries → IsChecked w (names_of w words) a z (Ok (F, entries))
         check_done entries is = (same, λ told. finds (IsStanding F entries) told (standing_on c left (matter_in o ins journal slots) (output_in (names_of w words) a) (same_found told) F entries settings (subst (Says c left (matter_in o ins journal slots) F) is (says told))))
 
-        read_rose : r ≡ Err checks.Read → ReadRose (command_of w (names_of w words)) a z
-        read_rose is =
+        any_rose : r ≡ Err checks.Read → AnyRose a.read_faults z.read_faults (ins_of w words ++ (names_of w words).outs)
+        any_rose is =
             let at = all.read is in
             let names = ins_of w words ++ (names_of w words).outs in
             let among = slots_among w words run o (slots_of ins ++ slots) (all_named w words run b m o ins heads slots opened outs) (name_of o (slots_of ins ++ slots) at.0) (at.0, at.1, refl) in
-            rose_of w words a z (rose_since a.read_faults o.read_faults z.read_faults rise_o names (rose_among o.read_faults z.read_faults names (name_of o (slots_of ins ++ slots) at.0) among at.2))
+            rose_since a.read_faults o.read_faults z.read_faults rise_o names (rose_among o.read_faults z.read_faults names (name_of o (slots_of ins ++ slots) at.0) among at.2)
 
         pub check_refused : (e : CheckFault) → r ≡ Err e → IsChecked w (names_of w words) a z (Err (refused_by e))
         check_refused (checks.Line line why) is = (same, λ told. finds _ told (subst (Says c left (matter_in o ins journal slots) F) is (says told)))
         check_refused (checks.Output port at) is = (same, λ told. finds _ told (output_on c left (matter_in o ins journal slots) (output_in (names_of w words) a) (same_found told) port at (subst (Says c left (matter_in o ins journal slots) F) is (says told))))
         check_refused (checks.Capture port at why) is = (same, λ told. inr (finds _ told (stop_on c left (matter_in o ins journal slots) (output_in (names_of w words) a) (same_found told) _ (subst (Says c left (matter_in o ins journal slots) F) is (says told)))))
         check_refused (checks.Limit kind) is = (same, λ told. inr (finds _ told (stop_on c left (matter_in o ins journal slots) (output_in (names_of w words) a) (same_found told) _ (subst (Says c left (matter_in o ins journal slots) F) is (says told)))))
-        check_refused checks.Read is = (same, read_rose is)
+        check_refused checks.Read is = (same, rose_of w words a z (any_rose is), unread_behind o z heads_a (any_rose is))
         check_refused checks.Memory is = same

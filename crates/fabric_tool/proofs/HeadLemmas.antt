@@ -196,8 +196,19 @@ module _ (names : List (List ℕ)) (a b : Seen) (ins : List Input) (had left : B
             (let count = ap (λ (l : List (List ℕ)). length l) are in omega (arith, length-append names (name ∷ behind), count)),
             λ told. record { before = names; name = name; behind = behind; are = are; opened = opened_in b ins; heads = heads_opened a b names ins told h.heads; above = omega arith },
           )
-      ended_as number ends.ReadFault e =
-          rose_since a.read_faults b.read_faults d.read_faults h.touches.reads_rise all (rose_among b.read_faults d.read_faults all name (subst (λ l. Among l name) (sym are) (among_back names (name ∷ behind) name (inl refl))) e)
+      ended_as number ends.ReadFault e = (
+        rose_since a.read_faults b.read_faults d.read_faults h.touches.reads_rise all (rose_among b.read_faults d.read_faults all name (subst (λ l. Among l name) (sym are) (among_back names (name ∷ behind) name (inl refl))) e),
+        λ told. record {
+          before = names;
+          name = name;
+          behind = behind;
+          are = are;
+          opened = opened_in b ins;
+          heads = heads_opened a b names ins told h.heads;
+          within = (let was = h.bytes in omega arith);
+          rose = rose_later _ _ _ (h.touches.reads_rise name) e;
+        },
+      )
       ended_as number x e = absurd e
 
       pub heads_failed : port ≡ length names + 1 → (x : Outcome) → HeadRead port name b d left left' (Err x) → HeadsRead all a d had left' (Err x)

@@ -187,7 +187,7 @@ module _ (k : RunNames) (a b d : Seen) (c : Settings) (config : ConfigRead k.con
     where
       go : (x : Outcome) → JournalEnds k.journal MOST_BYTES b d x → GivenEnds k a d x
       go (ends.Limit kind) e = (e.0, λ told. let l = e.1 (told_on told) in (c, config.ok told, l.0, sym (config.reads.files k.journal) ∙ l.1, l.2))
-      go ends.ReadFault e = inr (inl (rose_later _ _ _ ((reads_touches k.config a b config.reads).reads_rise k.journal) e))
+      go ends.ReadFault e = inr (rose_later _ _ _ ((reads_touches k.config a b config.reads).reads_rise k.journal) e, λ told. (c, config.ok told))
       go ends.Memory e = tt
       go x e = absurd e
 

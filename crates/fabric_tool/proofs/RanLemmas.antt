@@ -115,7 +115,7 @@ module _ (k : RunNames) (c : Settings) (old b new : Seen) (config : ConfigRead k
             ),
       )
       go (ends.Limit kind) e = let few = e.1 in absurd (omega arith)
-      go ends.ReadFault e = (λ m none. same m, inr (rose_since old.read_faults b.read_faults new.read_faults touched.reads_rise k.ins e), λ told. inl same)
+      go ends.ReadFault e = (λ m none. same m, inr (rose_since old.read_faults b.read_faults new.read_faults touched.reads_rise k.ins e.0), λ told. inl same)
       go ends.Memory e = (λ m none. same m, λ told. inl same)
       go x e = absurd e
 

@@ -1,5 +1,5 @@
 -- How `replay` and `show` end, by how their check ended.
-use Rattle.std.proofs.Common.{◌≡◌, ℕ, ◌+◌, ◌-◌, ◌*◌, ◌<◌, ◌≤◌, List, [], ◌∷◌, ◌++◌, length, true, Ok, Err, refl, ap, ◌∙◌, arith, inl}
+use Rattle.std.proofs.Common.{◌≡◌, ℕ, ◌+◌, ◌-◌, ◌*◌, ◌<◌, ◌≤◌, List, [], ◌∷◌, ◌++◌, length, true, Ok, Err, refl, ap, ◌∙◌, arith, inl, inr}
 use Rattle.std.specs.Prelude.{String}
 use Rattle.std.specs.declared.alloc.Global.{Global}
 use Rattle.fab_base.specs.Seen.{Seen, SameFiles}
@@ -49,7 +49,8 @@ given_ended w words run a z x r = go x r.ended
           let l = e.1 told in
           inl (e.0, record { settings = l.0; config = l.1; journal = l.2; lines = l.3; heads = long_journal a (names_of w words).ins l.2 some l.4 }),
     )
-    go ends.ReadFault e = (same, rose_given w words a z e)
+    go ends.ReadFault (inl rose) = (same, rose_given w words a z (inl rose), λ told. inl rose)
+    go ends.ReadFault (inr e) = (same, rose_given w words a z (inr (inl e.0)), λ told. inr (inl (let config = e.1 told in (config.0, config.1, e.0))))
     go ends.Memory e = same
     go x e = absurd e
 

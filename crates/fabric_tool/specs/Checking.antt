@@ -1,5 +1,5 @@
 -- What `replay` and `show` find: a journal, and outputs, checked against captures.
-use Rattle.std.specs.Prelude.{◌≡◌, ℕ, ◌+◌, ◌-◌, ◌*◌, ◌≤◌, ◌<◌, ◌⊎◌, IsTrue, List, [], ◌∷◌, length, get_or, Some, Ok, Err, Result, IfOk, IfErr, OnErr, Vec, String}
+use Rattle.std.specs.Prelude.{◌≡◌, ℕ, ◌+◌, ◌-◌, ◌*◌, ◌≤◌, ◌<◌, ◌⊎◌, IsTrue, List, [], ◌∷◌, ◌++◌, length, get_or, Some, Ok, Err, Result, IfOk, IfErr, OnErr, Vec, String}
 use Rattle.std.specs.declared.alloc.Global.{Global}
 use Rattle.fab_base.specs.Seen.{Seen, SameFiles, Reads, Touches, Nothing, Rose, bytes_of}
 use Rattle.fab_base.specs.declared.values.Failed.{Failed}
@@ -22,7 +22,7 @@ use Rattle.fab_replay.specs.declared.fault.CheckFault.TheVariants as checks
 use Rattle.fabric_tool.specs.Command.{RunNames, Command, Replay, Show, AnyRose, Among, ReadRose}
 use Rattle.fabric_tool.specs.declared.command.Width.{Width}
 use Rattle.fabric_tool.specs.declared.command.Width.TheVariants as widths
-use Rattle.fabric_tool.specs.Inputs.{HasConfig, HasFault, HasInputs, HasBadHead, HaveNoRoom, MOST_BYTES, MOST_FRAMES}
+use Rattle.fabric_tool.specs.Inputs.{HasConfig, HasFault, HasInputs, HasBadHead, HaveNoRoom, IsFirstUnread, MOST_BYTES, MOST_FRAMES}
 use Rattle.fabric_tool.specs.declared.outcome.Outcome.{Outcome}
 use Rattle.fabric_tool.specs.declared.outcome.Outcome.TheVariants as ends
 
@@ -94,6 +94,25 @@ CheckSays k d (ends.Capture port at why) = ((at ≡ 0) × IsHeadRefused k d port
 CheckSays k d (ends.Limit kind) = ((kind ≡ kinds.Bytes) × IsLongJournal k d) ⊎ Finds k d (λ c budget m. IsFirstStop c budget m (faults.Limit kind))
 CheckSays k d _ = ⊥
 
+-- The configuration and the journal were read, and of the captures one couldn't be: those before it have heads, which are within the
+-- limit on bytes with the journal.
+pub record IsCaptureUnread (k : RunNames) (old new : Seen) : Type 0 where
+  pub settings : Settings
+  pub config : HasConfig old k.config settings
+  pub journal : List ℕ
+  pub lines : old.file k.journal ≡ Some journal
+  pub room : length journal ≤ MOST_BYTES
+  pub first : IsFirstUnread k.ins old new (MOST_BYTES - length journal)
+
+-- Which input couldn't be read, where what is read before it has its form: the configuration, the journal, a capture behind those of
+-- lower ports, or, behind the heads of all captures, a capture or an output.
+abbrev pub IsUnread : RunNames → Seen → Seen → Type 0
+IsUnread k old new =
+    Rose (old.read_faults k.config) (new.read_faults k.config)
+    ⊎ (((c : Settings) × HasConfig old k.config c × Rose (old.read_faults k.journal) (new.read_faults k.journal))
+    ⊎ (IsCaptureUnread k old new
+    ⊎ (AnyRose old.read_faults new.read_faults (k.ins ++ k.outs) × Finds k old (λ c budget m. Unit {0}))))
+
 -- what holds where one of them doesn't end with status 0: no file has changed
 abbrev pub CheckHolds : Command → RunNames → Seen → Seen → Outcome → Type 0
 CheckHolds command k old new (ends.WrongLine line why) = SameFiles old new × (IsTrue old.told → CheckSays k old (ends.WrongLine line why))
@@ -101,7 +120,7 @@ CheckHolds command k old new (ends.WrongOutput port at) = SameFiles old new × (
 CheckHolds command k old new (ends.Config fault) = SameFiles old new × (IsTrue old.told → CheckSays k old (ends.Config fault))
 CheckHolds command k old new (ends.Capture port at why) = SameFiles old new × (IsTrue old.told → CheckSays k old (ends.Capture port at why))
 CheckHolds command k old new (ends.Limit kind) = SameFiles old new × (IsTrue old.told → CheckSays k old (ends.Limit kind))
-CheckHolds command k old new ends.ReadFault = SameFiles old new × ReadRose command old new
+CheckHolds command k old new ends.ReadFault = SameFiles old new × ReadRose command old new × (IsTrue old.told → IsUnread k old new)
 CheckHolds command k old new ends.Memory = SameFiles old new
 CheckHolds command k old new _ = ⊥
 
@@ -165,7 +184,9 @@ pub record OutputsRead {T : Type 0} (items : T → List ℕ) (k : RunNames) (old
 abbrev pub GivenEnds : RunNames → Seen → Seen → Outcome → Type 0
 GivenEnds k old new (ends.Config fault) = IsTrue old.told → HasFault old k.config fault
 GivenEnds k old new (ends.Limit kind) = (kind ≡ kinds.Bytes) × (IsTrue old.told → (c : Settings) × HasConfig old k.config c × (l : List ℕ) × (old.file k.journal ≡ Some l) × (MOST_BYTES < length l))
-GivenEnds k old new ends.ReadFault = AnyRose old.read_faults new.read_faults (k.config ∷ k.journal ∷ [])
+GivenEnds k old new ends.ReadFault =
+    Rose (old.read_faults k.config) (new.read_faults k.config)
+    ⊎ (Rose (old.read_faults k.journal) (new.read_faults k.journal) × (IsTrue old.told → (c : Settings) × HasConfig old k.config c))
 GivenEnds k old new ends.Memory = Unit {0}
 GivenEnds k old new _ = ⊥
 

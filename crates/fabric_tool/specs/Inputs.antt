@@ -1,6 +1,6 @@
 -- What a command finds in its inputs.
-use Rattle.std.specs.Prelude.{◌≡◌, ℕ, ◌+◌, ◌-◌, ◌*◌, ◌<◌, List, [], ◌∷◌, ◌++◌, length, map, drop, Option, Some, Ok, Err}
-use Rattle.fab_base.specs.Seen.{Seen}
+use Rattle.std.specs.Prelude.{◌≡◌, ℕ, ◌+◌, ◌-◌, ◌*◌, ◌<◌, ◌≤◌, List, [], ◌∷◌, ◌++◌, length, map, drop, Option, Some, Ok, Err}
+use Rattle.fab_base.specs.Seen.{Seen, Rose}
 use Rattle.pcap_file.specs.declared.Budget.{Budget}
 use Rattle.pcap_file.specs.declared.CapFault.{CapFault}
 use Rattle.pcap_file.specs.declared.CapFault.TheVariants as faults
@@ -123,6 +123,18 @@ pub record HaveNoRoom (names : List (List ℕ)) (d : Seen) (bytes : ℕ) : Type 
   pub opened : List Opened
   pub heads : AreOpened d before opened
   pub above : bytes < HEAD * (length before + 1)
+
+-- Of captures whose heads are read in their order, that of some name couldn't be read; those before it have heads, which are within
+-- so many bytes.
+pub record IsFirstUnread (names : List (List ℕ)) (old new : Seen) (bytes : ℕ) : Type 0 where
+  pub before : List (List ℕ)
+  pub name : List ℕ
+  pub behind : List (List ℕ)
+  pub are : names ≡ before ++ name ∷ behind
+  pub opened : List Opened
+  pub heads : AreOpened old before opened
+  pub within : HEAD * length before ≤ bytes
+  pub rose : Rose (old.read_faults name) (new.read_faults name)
 
 -- The configuration has a value, and that port's capture is the first without a head.
 pub record HasBadHead (k : RunNames) (d : Seen) (port : ℕ) (reason : CapWhy) : Type 0 where

@@ -17,7 +17,7 @@ use Rattle.fab_gather.specs.declared.fault.LimitKind.TheVariants as kinds
 use Rattle.fab_migrate.specs.declared.old.OldError.{OldError}
 use Rattle.fab_migrate.specs.declared.old.OldError.TheVariants as olds
 use Rattle.fabric_tool.specs.Command.{AnyRose, Among}
-use Rattle.fabric_tool.specs.Inputs.{HasConfig, HasFault, IsOpened, HasNoHead, IsFirstWithout, HaveNoRoom, why_of}
+use Rattle.fabric_tool.specs.Inputs.{HasConfig, HasFault, IsOpened, HasNoHead, IsFirstWithout, HaveNoRoom, IsFirstUnread, why_of}
 use Rattle.fabric_tool.specs.Outcome.{kind_of}
 use Rattle.fabric_tool.specs.declared.outcome.Outcome.{Outcome}
 use Rattle.fabric_tool.specs.declared.outcome.Outcome.TheVariants as ends
@@ -86,7 +86,7 @@ AreHeads old d (name ∷ names) (i ∷ ins) = IsHead old d name i × AreHeads ol
 abbrev pub HeadsEnd : List (List ℕ) → ℕ → Seen → Seen → Outcome → Type 0
 HeadsEnd names bytes old new (ends.Capture port at reason) = (at ≡ 0) × (HEAD * port ≤ bytes) × (IsTrue old.told → IsFirstWithout names old port reason)
 HeadsEnd names bytes old new (ends.Limit kind) = (kind ≡ kinds.Bytes) × (bytes < HEAD * length names) × (IsTrue old.told → HaveNoRoom names old bytes)
-HeadsEnd names bytes old new ends.ReadFault = AnyRose old.read_faults new.read_faults names
+HeadsEnd names bytes old new ends.ReadFault = AnyRose old.read_faults new.read_faults names × (IsTrue old.told → IsFirstUnread names old new bytes)
 HeadsEnd names bytes old new ends.Memory = Unit {0}
 HeadsEnd names bytes old new _ = ⊥
 

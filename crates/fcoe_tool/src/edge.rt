@@ -1,5 +1,5 @@
 //! The real files and the real output, which tell no content.
-ghost use Rattle.std.specs.Prelude.{◌≡◌, ◌<◌, ◌≤◌, ℕ, List, IsTrue, length, IfSome, IfOk, OnOk};
+ghost use Rattle.std.specs.Prelude.{◌≡◌, ◌<◌, ◌≤◌, ◌^◌, ◌↔◌, ℕ, List, IsTrue, length, IfSome, IfOk, OnOk};
 ghost use Rattle.fab_base.specs.Desk.{knows};
 ghost use Rattle.fcoe_tool.specs.Edge.{KnowsAll, ReadsAt, WritesAt};
 ghost use Rattle.std.specs.Io.KnownBytes.{ReadConsumes, WriteAppends};
@@ -99,7 +99,7 @@ impl<'a, R: Files> FileDepot<'a, R> {
         ensures none { IfNone result (HasSame self.old.desk self.new.desk self.old.files.items
             self.new.files.items) }
     {
-        if self.desk.slots.len() > u32::MAX as usize {
+        if !has_number(&self.desk) {
             return None;
         }
         if self.files.reserve(1).is_err() || self.desk.reserve_slot(self.alloc).is_err() {
@@ -201,6 +201,13 @@ impl<R: Files> Depot for FileDepot<'_, R> {
             }
         }
     }
+}
+
+// Whether a number is left for one more slot.
+fn has_number(desk: &Desk) -> bool
+    ensures { IsTrue result ↔ (length desk.now.slots.items < 2 ^ 32) }
+{
+    desk.slots.len() <= u32::MAX as usize
 }
 
 // A desk that knows these words.
