@@ -6,7 +6,7 @@ ghost use Rattle.fab_policy.specs.Rules as rules;
 ghost use Rattle.fc_frames.specs.Frame.{view as fc_view};
 ghost use Rattle.fcoe_codec.specs.Fcoe.{view as fcoe_view};
 
-use fab_base::{FcId, Mac};
+use fab_base::{FcId, Mac, fpma};
 use fab_config::Config;
 use fc_frames::{CONTROLLER, FcFrame, Kind, NAME_SERVER};
 use fcoe_codec::FcoeFrame;
@@ -20,13 +20,11 @@ pub(crate) fn is_same(one: &Mac, other: &Mac) -> bool
     one == other
 }
 
-// The MAC that comes with an address.
+// The MAC that comes with an address by a configuration.
 pub(crate) fn granted_mac(config: &Config, address: FcId) -> Mac
     ensures { result ≡ mac_granted config.now address }
 {
-    let [_, m0, m1, m2] = config.fc_map.to_be_bytes();
-    let [_, a0, a1, a2] = address.value().to_be_bytes();
-    Mac([m0, m1, m2, a0, a1, a2])
+    fpma(config.fc_map, address)
 }
 
 // Whether an address is that of a service.

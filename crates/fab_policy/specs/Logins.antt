@@ -1,8 +1,7 @@
 -- Who is logged in, since when, and what it did since (FC-LS-2, "Login"; FC-BB-5, "FIP FLOGI" and "FIP keep alive").
-use Rattle.std.specs.Prelude.{ℕ, zero, suc, ◌+◌, ◌*◌, Bool, true, false, not, ◌==◌, ◌&&◌, if◌then◌else◌, List, [], ◌∷◌, ◌++◌, Option, Some, None, is_some, unwrap_or, option_and_then}
+use Rattle.std.specs.Prelude.{ℕ, zero, suc, ◌+◌, ◌*◌, Bool, true, false, not, ◌==◌, ◌&&◌, if◌then◌else◌, List, [], ◌∷◌, Option, Some, None, is_some, unwrap_or, option_and_then}
 use Rattle.std.specs.List.{list_any}
-use Rattle.fab_base.specs.Fabric.{same_enode}
-use Rattle.fab_base.specs.Layout.{spelled}
+use Rattle.fab_base.specs.Fabric.{same_enode, fpma}
 use Rattle.fab_base.specs.declared.values.Enode.{Enode}
 use Rattle.fab_config.specs.Settings.{Settings}
 use Rattle.zone_rules.specs.Joined.{contains}
@@ -21,7 +20,7 @@ pub record NPort : Type 0 where
 
 -- the MAC that comes with an address: the FC-MAP and the address (FC-BB-5, "fabric-provided MAC address")
 abbrev pub granted_mac : Settings → ℕ → List ℕ
-granted_mac c a = spelled 3 c.fc_map ++ spelled 3 a
+granted_mac c a = fpma c.fc_map a
 
 -- ---- grants and ends
 

@@ -4,10 +4,10 @@ ghost use Rattle.fab_policy.specs.Replies as spec;
 ghost use Rattle.fab_replies.specs.Message.{els_of, is_payload};
 
 use crate::carried::write_carried;
-use crate::parts::{answer_bytes, els_bytes, granted_mac, header};
+use crate::parts::{answer_bytes, els_bytes, header};
 use crate::{Answer, Asker};
 use els_messages::Els;
-use fab_base::{FcId, NoMemory};
+use fab_base::{FcId, NoMemory, fpma};
 use fab_config::Config;
 use fc_frames::{CONTROLLER, F_CTL_EARLIER, F_CTL_LAST, F_CTL_REQUEST, FcFrame, Kind, NAME_SERVER};
 use fcoe_codec::{EOF_N, EOF_T, FcoeFrame, SOF_I3, SOF_N3};
@@ -123,5 +123,5 @@ pub(crate) fn write_state_change(
             payload: &payload,
         },
     };
-    write_carried(alloc, config, granted_mac(config, watcher), &frame, into)
+    write_carried(alloc, config, fpma(config.fc_map, watcher), &frame, into)
 }

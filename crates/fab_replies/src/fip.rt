@@ -7,11 +7,11 @@ ghost use Rattle.fip_codec.specs.CanWrite.{CanWrite, IsFrame};
 ghost use Rattle.fab_policy.specs.Replies as spec;
 ghost use Rattle.fab_replies.specs.Message.{els_of};
 
-use crate::parts::{answer_bytes, els_bytes, fabric_parms, granted_mac, header, own_tag};
+use crate::parts::{answer_bytes, els_bytes, fabric_parms, header, own_tag};
 use crate::{Answer, Asker};
 use els_messages::Els;
 use eth_frames::FIP;
-use fab_base::{FcId, Mac, NoMemory, PortNo};
+use fab_base::{FcId, Mac, NoMemory, PortNo, fpma};
 use fab_config::Config;
 use fab_policy::write_made;
 use fc_frames::{F_CTL_LAST, FcFrame, Kind, write_frame};
@@ -36,7 +36,7 @@ pub(crate) fn write_login_accept(
     ensures err { OnErr result (into.new.items ≡ into.old.items) }
 {
     let frame = accept_frame(alloc, config, to, port, several, address)?;
-    let mac = Some(granted_mac(config, address));
+    let mac = Some(fpma(config.fc_map, address));
     write_reply(alloc, config, to.mac, kind, &frame, mac, into)
 }
 

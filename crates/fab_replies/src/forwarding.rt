@@ -1,9 +1,8 @@
 //! A frame that goes on.
 ghost use Rattle.std.specs.Prelude.{◌≡◌, ◌++◌, ◌≤◌, drop, length, OnOk, OnErr};
-ghost use Rattle.fab_policy.specs.Logins.{granted_mac as mac_granted};
+ghost use Rattle.fab_policy.specs.Logins.{granted_mac};
 
-use crate::parts::granted_mac;
-use fab_base::{FcId, NoMemory, append_reserved};
+use fab_base::{FcId, NoMemory, append_reserved, fpma};
 use fab_config::Config;
 use std::alloc::Global;
 
@@ -21,12 +20,12 @@ pub(crate) fn write_forwarded(
     requires least { 14 ≤ length frame.now }
     requires most { length frame.now ≤ 65535 }
     ensures ok { OnOk result (into.new.items ≡ into.old.items
-        ++ mac_granted config.now to ++ config.now.fcf_mac ++ drop 12 frame.now) }
+        ++ granted_mac config.now to ++ config.now.fcf_mac ++ drop 12 frame.now) }
     ensures size { OnOk result (length
-        (mac_granted config.now to ++ config.now.fcf_mac ++ drop 12 frame.now) ≤ 65535) }
+        (granted_mac config.now to ++ config.now.fcf_mac ++ drop 12 frame.now) ≤ 65535) }
     ensures err { OnErr result (into.new.items ≡ into.old.items) }
 {
-    let dst = granted_mac(config, to);
+    let dst = fpma(config.fc_map, to);
     into.reserve(frame.len())?;
     append_reserved(into, &dst.0);
     append_reserved(into, &config.fcf_mac.0);

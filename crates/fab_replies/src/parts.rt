@@ -1,7 +1,6 @@
 //! The parts of what is sent: tags, MACs, names, headers and link services.
 ghost use Rattle.std.specs.Prelude.{◌≡◌, ◌+◌, ◌<◌, ◌≤◌, IfOk, vec_len};
 ghost use Rattle.els_messages.specs.Els as els;
-ghost use Rattle.fab_policy.specs.Logins.{granted_mac as mac_granted};
 ghost use Rattle.fab_policy.specs.Queries.{fport};
 ghost use Rattle.fab_policy.specs.Replies as spec;
 ghost use Rattle.fc_frames.specs.Frame.{IsPayload};
@@ -10,7 +9,7 @@ ghost use Rattle.fab_replies.specs.Message.{els_of};
 
 use crate::Answer;
 use els_messages::{CLASS_3, Els, Feature, LoginParms, write_els};
-use fab_base::{FcId, Mac, NoMemory, PortNo, Wwn};
+use fab_base::{FcId, NoMemory, PortNo, Wwn};
 use fab_config::Config;
 use fc_frames::{FcHeader, Kind, MOST_PAYLOAD, UNASSIGNED};
 use std::alloc::Global;
@@ -20,15 +19,6 @@ pub(crate) fn own_tag(config: &Config) -> u16
     ensures { result ≡ 0x6000 + config.now.vlan }
 {
     0x6000 + config.vlan
-}
-
-// The MAC that comes with an address.
-pub(crate) fn granted_mac(config: &Config, address: FcId) -> Mac
-    ensures { result ≡ mac_granted config.now address }
-{
-    let [_, m0, m1, m2] = config.fc_map.to_be_bytes();
-    let [_, a0, a1, a2] = address.value().to_be_bytes();
-    Mac([m0, m1, m2, a0, a1, a2])
 }
 
 // The name of a port of the forwarder; 0 is its name server.

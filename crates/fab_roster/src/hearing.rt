@@ -60,7 +60,7 @@ impl Roster {
         let Some((node, port)) = self.heard_at(address) else {
             unreachable!()
         };
-        is_silent(self.period, node, moment) || is_silent(crate::roster::PORT_PERIOD, port, moment)
+        is_silent(self.period, node, moment) || is_silent(fab_policy::PORT_PERIOD, port, moment)
     }
 }
 

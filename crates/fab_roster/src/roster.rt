@@ -6,6 +6,7 @@ ghost use Rattle.fab_roster.specs.Roll.{Roll};
 ghost use Rattle.fab_roster.specs.Changes.{IsSoundRoll, Moves};
 
 use fab_base::{FcId, Moment, NoMemory};
+use fab_policy::PORT_PERIOD;
 use fc_addresses::Pool;
 use keepalive_clock::KeepClock;
 use login_table::LoginTable;
@@ -13,9 +14,6 @@ use name_server::Registry;
 use state_change::Watchers;
 use std::alloc::Global;
 use std::marker::Model;
-
-/// After how many milliseconds an N_Port sends its keep alive again (FC-BB-5, "FKA_VN_Period").
-pub(crate) const PORT_PERIOD: u32 = 90_000;
 
 /// Who is live, and what the addresses of the pool were used for.
 #[derive(Drop)]

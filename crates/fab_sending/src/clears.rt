@@ -1,7 +1,6 @@
 //! Clear link messages (FC-BB-5, "FIP Clear Virtual Links").
 ghost use Rattle.std.specs.Prelude.{◌≡◌, ◌++◌, ◌≤◌, List, IfOk, IsSome, OnErr, OnOk, length};
 ghost use Rattle.std.specs.List.{All};
-ghost use Rattle.fab_policy.specs.Logins as logins;
 ghost use Rattle.fab_policy.specs.Outputs as spec;
 ghost use Rattle.fab_policy.specs.State.{LivePort, addresses, overdue, port_at};
 ghost use Rattle.fab_policy.specs.Steps.{InPool};
@@ -12,7 +11,7 @@ ghost use Rattle.fab_sending.specs.Clearing.{enodes_at, in_hundreds, place_of, v
 ghost use Rattle.fab_sending.specs.Messages as messages;
 ghost use Rattle.fab_sending.specs.Messages.{at_moment};
 
-use fab_base::{Enode, FcId, IdList, Mac, Moment, NoMemory};
+use fab_base::{Enode, IdList, Moment, NoMemory, fpma};
 use fab_config::Config;
 use fab_replies::{Out, OutList, OutMessage, VxPorts};
 use fab_roster::Roster;
@@ -120,19 +119,10 @@ fn vx_port(config: &Config, login: &Login) -> VxPort
     ensures { (p : LivePort) → login_of p ≡ login.now → result ≡ spec.vx_port_of config.now p }
 {
     VxPort {
-        mac: granted_mac(config, login.address),
+        mac: fpma(config.fc_map, login.address),
         address: login.address,
         name: login.name,
     }
-}
-
-// The MAC that comes with an address.
-fn granted_mac(config: &Config, address: FcId) -> Mac
-    ensures { result ≡ logins.granted_mac config.now address }
-{
-    let [_, m0, m1, m2] = config.fc_map.to_be_bytes();
-    let [_, a0, a1, a2] = address.value().to_be_bytes();
-    Mac([m0, m1, m2, a0, a1, a2])
 }
 
 // The ENodes of these addresses by port and MAC, each once.

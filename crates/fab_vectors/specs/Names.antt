@@ -1,6 +1,6 @@
 -- The names and addresses of a load: 8 ports, counted from 1, with 30 logins each, counted from 0.
 use Rattle.std.specs.Prelude.{ℕ, zero, suc, ◌+◌, ◌-◌, ◌*◌, List, [], ◌∷◌, ◌++◌}
-use Rattle.fab_base.specs.Layout.{spelled}
+use Rattle.fab_base.specs.Fabric.{fpma}
 
 -- what f gives for so many numbers, from this one on
 abbrev pub numbered : {X : Type 0} → (ℕ → X) → ℕ → ℕ → List X
@@ -32,6 +32,6 @@ login_number port login = 30 * (port - 1) + login
 abbrev pub address : ℕ → ℕ → ℕ
 address port login = 0x010100 + login_number port login
 
--- the MAC that a fabric login is granted: the FC-MAP, and then the address
+-- the MAC that a fabric login is granted, by the default FC-MAP
 abbrev pub granted_mac : ℕ → List ℕ
-granted_mac s_id = 0x0e ∷ 0xfc ∷ 0x00 ∷ spelled 3 s_id
+granted_mac s_id = fpma 0x0efc00 s_id

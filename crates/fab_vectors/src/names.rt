@@ -3,13 +3,16 @@ ghost use Rattle.std.specs.Prelude.{◌≡◌, ◌+◌, ◌*◌, ◌-◌, ◌<�
 ghost use Rattle.fab_vectors.specs.Names as spec;
 
 use crate::LOGINS;
-use fab_base::{FcId, Mac, PortNo, Wwn};
+use fab_base::{FcId, Mac, PortNo, Wwn, fpma};
 
 /// The MAC of the forwarder.
 pub(crate) const FORWARDER: Mac = Mac([0x00, 0x05, 0x1e, 0x00, 0x00, 0x02]);
 
 /// The tag of VLAN 100.
 pub(crate) const TAG: u16 = 100;
+
+/// The FC-MAP of the fabric.
+const FC_MAP: u32 = 0x0e_fc00;
 
 /// The address of the first login of the first port.
 const FIRST_ADDRESS: u32 = 0x01_0100;
@@ -54,8 +57,7 @@ pub(crate) fn address(port: PortNo, login: u8) -> FcId
 pub(crate) fn granted_mac(s_id: FcId) -> Mac
     ensures { result ≡ spec.granted_mac s_id }
 {
-    let [_, high, mid, low] = s_id.value().to_be_bytes();
-    Mac([0x0e, 0xfc, 0x00, high, mid, low])
+    fpma(FC_MAP, s_id)
 }
 
 /// An address of a service of the fabric.

@@ -1,7 +1,7 @@
 -- What the messages of a forwarder say to a bridge between it and its ENodes (FC-BB-5, "FIP snooping").
-use Rattle.std.specs.Prelude.{ℕ, Bool, true, false, ◌==◌, ◌||◌, if◌then◌else◌, List, ◌++◌, length, Option, Some, None, is_some, Ok, Err, option_and_then}
+use Rattle.std.specs.Prelude.{ℕ, Bool, true, false, ◌==◌, ◌||◌, if◌then◌else◌, List, length, Option, Some, None, is_some, Ok, Err, option_and_then}
 use Rattle.std.specs.List.{list_any}
-use Rattle.fab_base.specs.Layout.{spelled}
+use Rattle.fab_base.specs.Fabric.{fpma}
 use Rattle.fab_config.specs.Settings.{Settings, same_bytes}
 use Rattle.fc_frames.specs.Frame as fc
 use Rattle.els_messages.specs.Els as els
@@ -18,7 +18,7 @@ forwarder_of c = record { mac = c.fcf_mac; fc_map = c.fc_map; vlan = c.vlan }
 
 -- the MAC that comes with an address: the FC-MAP and the address (FC-BB-5, "fabric-provided MAC address")
 abbrev pub granted_mac : Forwarder → ℕ → List ℕ
-granted_mac w a = spelled 3 w.fc_map ++ spelled 3 a
+granted_mac w a = fpma w.fc_map a
 
 -- ---- accepts
 

@@ -9,7 +9,7 @@ use crate::forwarder::{Forwarder, is_same};
 use crate::grant::{Grant, clears, grant_in, released_in};
 use crate::orders::{ByEnode, ByMac, first_of, has_between, mac_rank, number_from, place_of};
 use crate::rows::{new_rows, reserve_in, row_for, row_put, row_take};
-use fab_base::{FcId, Mac, NoMemory, PortNo};
+use fab_base::{FcId, Mac, NoMemory, PortNo, fpma};
 use fip_codec::FipMessage;
 use slab::Slab;
 use sorted_lists::Order;
@@ -265,7 +265,7 @@ fn bound_by(forwarder: &Forwarder, port: PortNo, enode: &Mac, grant: &Grant) -> 
     ensures { result ≡ kept.binding_by forwarder.now port enode.now grant.now }
 {
     Binding {
-        mac: forwarder.granted_mac(grant.address),
+        mac: fpma(forwarder.fc_map, grant.address),
         port,
         enode: *enode,
         address: grant.address,

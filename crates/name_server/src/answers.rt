@@ -9,18 +9,16 @@ ghost use Rattle.name_server.specs.Views.{as_known, by_name_of};
 
 use crate::lists::{NameOf, addresses_of_type, all_addresses, names_of_type};
 use crate::ports::{Known, by_address, by_name, next_to};
-use crate::refusals::{
-    NO_ADDRESS, NO_EXPLANATION, NO_PORT_NAME, NO_TYPES, UNABLE, UNSUPPORTED, reject,
-};
+use crate::refusals::reject;
 use crate::{Registry, SeenPort};
+use ct_messages::ports::{N_PORT, NX_PORT};
+use ct_messages::reject::{
+    COMMAND_NOT_SUPPORTED, NO_EXPLANATION, PORT_ID_NOT_REGISTERED, PORT_NAME_NOT_REGISTERED,
+    TYPES_NOT_REGISTERED, UNABLE_TO_PERFORM,
+};
 use ct_messages::{CtAsk, CtTell, NextPort};
 use fab_base::{Bytes, FcId, NoMemory, Wwn};
 use std::alloc::Global;
-
-/// The port types of GID_PT: an N_Port, and all of them.
-const N_PORT: u8 = 0x01;
-
-const ALL_PORTS: u8 = 0x7f;
 
 fn next(alloc: Global, known: &Known<'_>) -> Result<CtTell, NoMemory>
     ensures answer { IfOk result (λ t. t ≡ tell.Next (server.next_answer (as_known known.now))) }
@@ -66,7 +64,7 @@ fn port_name_of(registry: &Registry, seen: &[SeenPort], address: FcId) -> CtTell
 {
     match by_address(registry, seen, address) {
         Some(known) => CtTell::Name(known.port.name),
-        None => reject(UNABLE, NO_ADDRESS),
+        None => reject(UNABLE_TO_PERFORM, PORT_ID_NOT_REGISTERED),
     }
 }
 
@@ -80,7 +78,7 @@ fn node_name_of(registry: &Registry, seen: &[SeenPort], address: FcId) -> CtTell
 {
     match by_address(registry, seen, address) {
         Some(known) => CtTell::Name(known.entry.node_name()),
-        None => reject(UNABLE, NO_ADDRESS),
+        None => reject(UNABLE_TO_PERFORM, PORT_ID_NOT_REGISTERED),
     }
 }
 
@@ -93,9 +91,12 @@ fn types_of(registry: &Registry, seen: &[SeenPort], address: FcId) -> CtTell
     ensures writable { CanTell result }
 {
     match by_address(registry, seen, address) {
-        Some(known) if known.entry.types().is_zero() => reject(UNABLE, NO_TYPES),
+        Some(known) if known.entry.types().is_zero() => reject(
+            UNABLE_TO_PERFORM,
+            TYPES_NOT_REGISTERED,
+        ),
         Some(known) => CtTell::Types(known.entry.types()),
-        None => reject(UNABLE, NO_ADDRESS),
+        None => reject(UNABLE_TO_PERFORM, PORT_ID_NOT_REGISTERED),
     }
 }
 
@@ -109,7 +110,7 @@ fn features_of(registry: &Registry, seen: &[SeenPort], address: FcId) -> CtTell
 {
     match by_address(registry, seen, address) {
         Some(known) => CtTell::Features(known.entry.features()),
-        None => reject(UNABLE, NO_ADDRESS),
+        None => reject(UNABLE_TO_PERFORM, PORT_ID_NOT_REGISTERED),
     }
 }
 
@@ -122,7 +123,7 @@ fn address_of(registry: &Registry, seen: &[SeenPort], name: Wwn) -> CtTell
 {
     match by_name(registry, seen, name) {
         Some(known) => CtTell::Port(known.port.address),
-        None => reject(UNABLE, NO_PORT_NAME),
+        None => reject(UNABLE_TO_PERFORM, PORT_NAME_NOT_REGISTERED),
     }
 }
 
@@ -141,7 +142,7 @@ fn of_type(
 {
     let list = addresses_of_type(alloc, registry, seen, kind)?;
     if list.len() == 0 {
-        return Ok(reject(UNABLE, NO_TYPES));
+        return Ok(reject(UNABLE_TO_PERFORM, TYPES_NOT_REGISTERED));
     }
     Ok(CtTell::Addresses(list))
 }
@@ -162,7 +163,7 @@ fn named_of_type(
 {
     let list = names_of_type(alloc, registry, seen, kind, name)?;
     if list.len() == 0 {
-        return Ok(reject(UNABLE, NO_TYPES));
+        return Ok(reject(UNABLE_TO_PERFORM, TYPES_NOT_REGISTERED));
     }
     Ok(CtTell::Names(list))
 }
@@ -179,8 +180,8 @@ fn of_port_type(
         (asks.AddressesOfPortType kind)) }
     ensures writable { IfOk result CanTell }
 {
-    if kind != N_PORT && kind != ALL_PORTS {
-        return Ok(reject(UNABLE, NO_EXPLANATION));
+    if kind != N_PORT && kind != NX_PORT {
+        return Ok(reject(UNABLE_TO_PERFORM, NO_EXPLANATION));
     }
     Ok(CtTell::Addresses(all_addresses(alloc, registry, seen)?))
 }
@@ -210,7 +211,7 @@ pub(crate) fn answer_of(
         CtAsk::PortNamesOfType(kind) => named_of_type(alloc, registry, seen, kind, NameOf::Port),
         CtAsk::NodeNamesOfType(kind) => named_of_type(alloc, registry, seen, kind, NameOf::Node),
         CtAsk::AddressesOfPortType(kind) => of_port_type(alloc, registry, seen, kind),
-        CtAsk::Unknown(_) => Ok(reject(UNSUPPORTED, NO_EXPLANATION)),
+        CtAsk::Unknown(_) => Ok(reject(COMMAND_NOT_SUPPORTED, NO_EXPLANATION)),
         _ => unreachable!(),
     }
 }

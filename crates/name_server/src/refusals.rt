@@ -5,6 +5,7 @@ ghost use Rattle.ct_messages.specs.Server.{refused_if, registration_refusal};
 ghost use Rattle.ct_messages.specs.declared.CtTell.TheVariants.{Reject};
 ghost use Rattle.name_server.specs.Registry.{codes};
 
+use ct_messages::reject::{NODE_NAME_NOT_REGISTERED, PORT_ID_NOT_REGISTERED, UNABLE_TO_PERFORM};
 use ct_messages::{CtAsk, CtTell};
 use fab_base::{FcId, Wwn};
 use thiserror::Error;
@@ -16,23 +17,6 @@ pub enum RegFault {
     #[error("refused with reason {reason:02x}, explanation {explanation:02x}")]
     Refused { reason: u8, explanation: u8 },
 }
-
-/// The reason: the command can't be performed.
-pub(crate) const UNABLE: u8 = 0x09;
-
-/// The reason: the command isn't supported.
-pub(crate) const UNSUPPORTED: u8 = 0x0b;
-
-// Explanations.
-pub(crate) const NO_EXPLANATION: u8 = 0;
-
-pub(crate) const NO_ADDRESS: u8 = 1;
-
-pub(crate) const NO_PORT_NAME: u8 = 2;
-
-pub(crate) const NO_NODE_NAME: u8 = 3;
-
-pub(crate) const NO_TYPES: u8 = 7;
 
 pub(crate) fn reject(reason: u8, explanation: u8) -> CtTell
     ensures { result ≡ Reject reason explanation }
@@ -47,7 +31,7 @@ fn unable_if(test: bool, explanation: u8) -> Option<RegFault>
     ensures { option_map codes result ≡ refused_if test 9 explanation }
 {
     test.then_some(RegFault::Refused {
-        reason: UNABLE,
+        reason: UNABLE_TO_PERFORM,
         explanation,
     })
 }
@@ -61,8 +45,8 @@ pub(crate) fn refusal_of(address: FcId, node_name: Wwn, ask: &CtAsk<'_>) -> Opti
         | CtAsk::SetTypes(asked, _)
         | CtAsk::SetSymbol(asked, _)
         | CtAsk::SetFeature { address: asked, .. }
-        | CtAsk::Erase(asked) => unable_if(*asked != address, NO_ADDRESS),
-        CtAsk::SetNodeSymbol(name, _) => unable_if(*name != node_name, NO_NODE_NAME),
+        | CtAsk::Erase(asked) => unable_if(*asked != address, PORT_ID_NOT_REGISTERED),
+        CtAsk::SetNodeSymbol(name, _) => unable_if(*name != node_name, NODE_NAME_NOT_REGISTERED),
         _ => None,
     }
 }

@@ -10,7 +10,17 @@ const MICRO: u32 = 0xa1b2_c3d4;
 
 const NANO: u32 = 0xa1b2_3c4d;
 
-const ETHERNET: u32 = 1;
+/// The link type of Ethernet.
+pub const ETHERNET: u32 = 1;
+
+/// What a record has before its bytes.
+pub const RECORD_HEAD: usize = 16;
+
+/// The most bytes of a record.
+pub const MOST_STORED: u32 = 65535;
+
+/// The last second that a record can name. A later moment has the rest in its fraction.
+pub const LAST_SECOND: u64 = 4_294_967_295;
 
 impl CaptureHead {
     /// The head that these bytes begin with, or the first fault in the order of `CapFault`.

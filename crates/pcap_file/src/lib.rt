@@ -9,7 +9,7 @@ mod writing;
 
 pub use ahead::Ahead;
 use fab_base::{Caught, Failed, Moment};
-pub use head::{half_at, number_at};
+pub use head::{ETHERNET, LAST_SECOND, MOST_STORED, RECORD_HEAD, half_at, number_at};
 pub use laws::{
     a_capture_says_one_thing, a_fault_makes_no_capture, a_reader_answers_what_stands_there,
     a_step_tells_what_stands_there, moments_do_not_go_back, the_end_makes_a_capture,

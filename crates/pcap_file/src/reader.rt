@@ -3,15 +3,11 @@ ghost use Rattle.std.specs.Prelude.{◌≡◌, ◌<◌, ◌≤◌, ◌^◌, IsTr
 ghost use Rattle.pcap_file.specs.Reading.{Reading, OpensReader, NextReads, RecordRead};
 
 use crate::ahead::Ahead;
-use crate::head::{HEAD, number_at};
+use crate::head::{HEAD, MOST_STORED, RECORD_HEAD, number_at};
 use crate::{Budget, CapError, CapOpen, CaptureHead, Record};
 use fab_base::{Bytes, Caught, Depot, Moment};
 use std::alloc::Global;
 use std::marker::Model;
-
-const RECORD_HEAD: usize = 16;
-
-const MOST_STORED: u32 = 65535;
 
 // Where a reader stands: the head of its capture, the place of the next record in the file, and the
 // greatest moment so far or 0.

@@ -3,19 +3,14 @@ ghost use Rattle.std.specs.Prelude.{◌≡◌, ◌≤◌, ◌<◌, ◌+◌, ◌^
 ghost use Rattle.arrayvec.specs.ArrayVec.{array_vec_len};
 ghost use Rattle.pcap_file.specs.Capture.{head_bytes, record_front, record_bytes};
 
+use crate::head::{LAST_SECOND, RECORD_HEAD};
 use arrayvec::ArrayVec;
 use fab_base::{Moment, NoMemory, put};
 use std::alloc::Global;
 
-/// What a record has before its bytes.
-const RECORD_HEAD: usize = 16;
-
 const HEAD_BYTES: [u8; 24] = [
     0xd4, 0xc3, 0xb2, 0xa1, 2, 0, 4, 0, 0, 0, 0, 0, 0, 0, 0, 0, 0xff, 0xff, 0, 0, 1, 0, 0, 0,
 ];
-
-/// The last second that a record can name. A later moment has the rest in its fraction.
-const LAST_SECOND: u64 = 4_294_967_295;
 
 /// Appends the head of a capture, 24 bytes. Where memory is refused nothing is appended.
 pub fn write_head(_alloc: Global, out: &mut Vec<u8>) -> Result<(), NoMemory>

@@ -10,7 +10,7 @@ use crate::block::{Head, Interface, Kind, is_version, read_interface};
 use crate::fault::{NgError, NgWhy, fault};
 use crate::options::padded;
 use fab_base::{Bytes, Caught, Moment};
-use pcap_file::number_at;
+use pcap_file::{ETHERNET, LAST_SECOND, MOST_STORED, number_at};
 use std::alloc::Global;
 
 // What a block says.
@@ -22,14 +22,8 @@ pub(crate) enum Content {
     Nothing,
 }
 
-const ETHERNET: u16 = 1;
-
 // The finest unit is 10^-9 seconds.
 const FINEST: u8 = 9;
-
-const LAST_SECOND: u64 = 4_294_967_295;
-
-const MOST_STORED: u32 = 65535;
 
 impl Content {
     // How many frames it takes.
@@ -135,7 +129,7 @@ fn read_of(
     ensures own { IfErr result NotRead }
     ensures kept { IfOk result IsKept }
 {
-    if face.link != ETHERNET {
+    if u32::from(face.link) != ETHERNET {
         return Err(fault(at, NgWhy::Link));
     }
     if face.resolution > FINEST {

@@ -3,8 +3,9 @@ ghost use Rattle.std.specs.Prelude.{◌≡◌, ℕ, ◌+◌, ◌<◌, ◌≤◌,
 ghost use Rattle.state_change.specs.Watchers.{Watching, watcher_at, function_at, set_to, without, asked, after_ask, is_function, is_asking, HasPlace, recipients, changed, first_from, IsSound};
 
 use crate::search::place_of;
-use crate::watcher::{ByAddress, CLEAR};
+use crate::watcher::ByAddress;
 use crate::{Watcher, search};
+use els_messages::scr::CLEAR;
 use fab_base::{FcId, Moment, NoMemory, Wwn};
 use slab::Slab;
 use sorted_lists::{order_put, order_take};

@@ -2,19 +2,10 @@
 ghost use Rattle.std.specs.Prelude.{◌≡◌};
 ghost use Rattle.state_change.specs.Watchers as spec;
 
+use els_messages::scr::{FABRIC_DETECTED, FULL};
 use fab_base::{FcId, Moment, Wwn};
 use sorted_lists::Order;
 use zone_rules::Zones;
-
-/// The function that asks for nothing any more (FC-LS-2, "SCR", Clear registration).
-pub(crate) const CLEAR: u8 = 255;
-
-/// The function for changes that the fabric detects (FC-LS-2, "SCR", Fabric Detected registration).
-const FABRIC_DETECTED: u8 = 1;
-
-/// The function for changes that the fabric or an N_Port detects (FC-LS-2, "SCR", Full
-/// registration).
-const FULL: u8 = 3;
 
 /// An N_Port that asked for state changes: its N_Port_ID and N_Port_Name, and the function that it
 /// asked with, 1 to 3.
