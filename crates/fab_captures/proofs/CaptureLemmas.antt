@@ -22,8 +22,8 @@ use Rattle.pcap_file.proofs.lemmas.Chains.{found_stands, last-push, ascends-push
 use Rattle.fab_gather.specs.declared.fault.LimitKind.TheVariants as limit
 use Rattle.fab_gather.specs.declared.fault.RunFault.{RunFault}
 use Rattle.fab_gather.specs.declared.fault.RunFault.TheVariants as faults
-use Rattle.fab_gather.specs.Port.{fault_by, IsStopped}
-use Rattle.fab_gather.proofs.PortLemmas.{read_of}
+use Rattle.fab_gather.specs.Port.{fault_by, IsStopped, TellsReads}
+use Rattle.fab_gather.proofs.PortLemmas.{read_of, spared}
 use Rattle.fab_captures.specs.Captures.{Taken, unless_stopped, without_head, without_record, body_by, capture_by, unopened_by, with_record, by_step, records_by, AreFit, in_front, to_take, ReadsCapture, ReadsRecords, SoFar}
 
 in_front_none : (t : Result Taken RunFault) → in_front [] t ≡ t
@@ -74,6 +74,7 @@ module _ (port slot : ℕ) (a : Seen) (r : Reading) (had : Budget) where
     ascends = tt;
     last = refl;
     taken = λ told n less. (n, less, sym (in_front_none (to_take n port r slot a had)));
+    counts = λ m. refl;
   }
 
   module _ (b c : Seen) (s t : Reading) (left now : Budget) (records : List Record) (f : SoFar port slot a b r s had left records) where
@@ -131,6 +132,7 @@ module _ (port slot : ℕ) (a : Seen) (r : Reading) (had : Budget) where
               ∙ ap (λ z. records_by q port t.head t.at z (without_record left x.caught) (to_come t c slot)) (sym greatest)
               ∙ ap (λ z. records_by q port t.head t.at t.greatest z (to_come t c slot)) budget in
               stepped x (to_take m port r slot a had) (to_come t c slot) t now gives size same h.0 h.1 h.2;
+          counts = λ m. n.counts m ∙ f.counts m;
         }
 
     -- the last step
@@ -151,6 +153,7 @@ module _ (port slot : ℕ) (a : Seen) (r : Reading) (had : Budget) where
       stops = λ told m less. tt;
       cause = λ e. absurd (cc);
       only = tt;
+      counts = λ other m. n.counts m ∙ f.counts m;
     }
 
     pub so_far_failed : (e : CapError) → NextReads slot b c s t left now (Err e) → ReadsRecords port slot a c r had now (Err (fault_by e port))
@@ -168,6 +171,7 @@ module _ (port slot : ℕ) (a : Seen) (r : Reading) (had : Budget) where
           rose_later (a.read_faults (a.name slot)) (b.read_faults (a.name slot)) (c.read_faults (a.name slot)) f.reads.keeps.reads_rise
           (subst (λ m. Rose (b.read_faults m) (c.read_faults m)) f.name rose);
       only = never_write e port;
+      counts = λ other m. spared port e b c n.counts (λ same. other (ap Err same)) m ∙ f.counts m;
     }
 
 -- ---- with the head
@@ -207,6 +211,7 @@ module _ (port slot : ℕ) (a b : Seen) (had left : Budget) (input : IsTrue (a.i
         cause = λ e. rose_later (a.read_faults (a.name slot)) (b.read_faults (a.name slot)) (c.read_faults (a.name slot)) o.reads.keeps.reads_rise
             (subst (λ m. Rose (b.read_faults m) (c.read_faults m)) name (k.cause e));
         only = k.only;
+        counts = λ other m. k.counts other m ∙ o.counts m;
       }
     where
       taken_as : {x y : Result Taken RunFault} (result : Result (List Record) RunFault) → x ≡ y → IfOk result (λ rs. y ≡ Ok (record { records = rs; left = now })) → IfOk result (λ rs. x ≡ Ok (record { records = rs; left = now }))
@@ -240,8 +245,14 @@ module _ (port slot : ℕ) (a b : Seen) (had left : Budget) (input : IsTrue (a.i
     stops = λ told stopped. not_opened e o told stopped;
     cause = λ is. caused e o is;
     only = never e;
+    counts = spared_by e o;
   }
     where
+      spared_by : (e : CapOpen) → OpensReader slot a b had left (Err e) → TellsReads {T = List Record} a b (Err (unopened_by e port))
+      spared_by (opens.Head fault) o other = o.counts
+      spared_by (opens.Read failed) o other = absurd (other refl)
+      spared_by opens.Bytes o other = o.counts
+
       never : (e : CapOpen) → unopened_by e port ≢ faults.Write
       never (opens.Head fault) e = cc
       never (opens.Read failed) e = cc

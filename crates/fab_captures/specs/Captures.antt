@@ -1,6 +1,6 @@
 -- What is read of captures: all of each, port by port, with one budget of bytes and frames.
 use Rattle.std.specs.Prelude.{◌≡◌, ◌≢◌, ℕ, zero, suc, ◌+◌, ◌-◌, ◌<◌, ◌≤◌, ◌^◌, IsTrue, nat_lt, if◌then◌else◌, List, [], ◌∷◌, ◌++◌, length, drop, Option, Some, None, Result, Ok, Err, IfOk, IfErr, IsErrOf}
-use Rattle.fab_base.specs.Seen.{Seen, Reads, Rose}
+use Rattle.fab_base.specs.Seen.{Seen, Reads, Rose, SameReadFaults}
 use Rattle.fab_base.specs.declared.values.Caught.{Caught}
 use Rattle.pcap_file.specs.declared.Budget.{Budget}
 use Rattle.pcap_file.specs.declared.CaptureHead.{CaptureHead}
@@ -17,7 +17,7 @@ use Rattle.fab_gather.specs.declared.fault.CapWhy.TheVariants as why
 use Rattle.fab_gather.specs.declared.fault.LimitKind.TheVariants as limit
 use Rattle.fab_gather.specs.declared.fault.RunFault.{RunFault}
 use Rattle.fab_gather.specs.declared.fault.RunFault.TheVariants as faults
-use Rattle.fab_gather.specs.Port.{fault_by, IsStopped}
+use Rattle.fab_gather.specs.Port.{fault_by, IsStopped, TellsReads}
 
 -- The records of a capture, and what is left of the budget.
 pub record Taken : Type 0 where
@@ -95,6 +95,7 @@ pub record ReadsCapture (port slot : ℕ) (a b : Seen) (had left : Budget) (resu
   pub stops : IsTrue a.told → IfErr result (λ e. IsStopped e → capture_by port had (a.left slot) ≡ Err e)
   pub cause : IsErrOf result faults.Read → Rose (a.read_faults (a.name slot)) (b.read_faults (a.name slot))
   pub only : IfErr result (λ e. e ≢ faults.Write)
+  pub counts : TellsReads a b result
 
 -- records in front of what a reading takes
 abbrev pub in_front : List Record → Result Taken RunFault → Result Taken RunFault
@@ -114,6 +115,7 @@ pub record ReadsRecords (port slot : ℕ) (a b : Seen) (r : Reading) (had left :
   pub stops : IsTrue a.told → (n : ℕ) → length (to_come r a slot) < n → IfErr result (λ e. IsStopped e → to_take n port r slot a had ≡ Err e)
   pub cause : IsErrOf result faults.Read → Rose (a.read_faults (a.name slot)) (b.read_faults (a.name slot))
   pub only : IfErr result (λ e. e ≢ faults.Write)
+  pub counts : TellsReads a b result
 
 -- What stands while they are read: these records were taken.
 pub record SoFar (port slot : ℕ) (a b : Seen) (r s : Reading) (had left : Budget) (records : List Record) : Type 0 where
@@ -128,3 +130,4 @@ pub record SoFar (port slot : ℕ) (a b : Seen) (r s : Reading) (had left : Budg
   pub last : s.greatest ≡ last_moment r.greatest records
   pub taken : IsTrue a.told → (n : ℕ) → length (to_come r a slot) < n →
       (m : ℕ) × (length (to_come s b slot) < m) × (to_take n port r slot a had ≡ in_front records (to_take m port s slot b left))
+  pub counts : SameReadFaults a b

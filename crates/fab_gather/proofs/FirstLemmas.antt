@@ -4,7 +4,7 @@ use Rattle.std.specs.Prelude.{nat_lt, ◌==◌, Result, option_to_list, Vec}
 use Rattle.std.specs.declared.alloc.Global.{Global}
 use Rattle.std.proofs.lemmas.Bool.{lt-ltb}
 use Rattle.std.proofs.lemmas.Option.{slice_get_within, slice_get-get_or}
-use Rattle.fab_base.specs.Seen.{Seen, Reads, Touches, Nothing}
+use Rattle.fab_base.specs.Seen.{Seen, Reads, Touches, Nothing, SameReadFaults, SameWriteFaults}
 use Rattle.fab_base.proofs.SeenLemmas.{touches_refl}
 use Rattle.fab_config.specs.Settings.{Settings}
 use Rattle.fab_policy.specs.Keeping.{IsFrom}
@@ -208,6 +208,8 @@ pub record Seeing (c : Settings) (k : ℕ) (a b : Seen) (ins ins' : List Input) 
   pub spent : Spends had left 0 (counts_of shelves)
   pub passes : IsTrue a.told → (first : ℕ) → stop_in first had.bytes had.frames (in_order (looks_of c 1 (opened_in a ins))) ≡ stop_in first left.bytes left.frames (in_order (joined (fronts c 1 b ins' shelves)))
   pub first_is : IsTrue a.told → first_window (in_order (looks_of c 1 (opened_in a ins))) ≡ first_window (in_order (joined (fronts c 1 b ins' shelves)))
+  pub counts : SameReadFaults a b
+  pub writes : SameWriteFaults a b
 
 fresh_at : (ins : List Input) (q : ℕ) (i : Input) → AreFresh ins → slice_get ins q ≡ Some i → IsFresh i.reader
 fresh_at [] q i fresh at = absurd (cc)
@@ -371,6 +373,8 @@ module _ (found_law : LooksFound) (end_law : LooksEnd) (c : Settings) (k : ℕ) 
         stops = λ told stopped. stop_is told (t.stops (told_b told) stopped);
         cause = λ is. (k, lt, rose_on a b ins ins' are see.touches see.slots k i1 at d (t.cause (let same : f ≡ fault.Read = cc in ap Err same)));
         only = t.only;
+        counts = λ other m. t.counts (λ is. other (let same : f ≡ fault.Read = cc in ap Err same)) m ∙ see.counts m;
+        writes = λ m. t.reads.writes m ∙ see.writes m;
       }
         where
           stop_is : IsTrue a.told → StopsFirst c (k + 1) (opened_by b i1.slot i1.reader) mid f → (s : Stop) × (stop c had.bytes had.frames (opened_in a ins) ≡ Some s) × (ending s ≡ f) × (s.window ≡ None)
@@ -403,6 +407,8 @@ module _ (found_law : LooksFound) (end_law : LooksEnd) (c : Settings) (k : ℕ) 
         stops = λ told stopped. absurd stopped;
         cause = λ is. absurd (cc);
         only = λ is. absurd (cc);
+        counts = λ other m. t.counts (λ is. cc) m ∙ see.counts m;
+        writes = λ m. t.reads.writes m ∙ see.writes m;
       }
 
       abbrev others : Shelf → List Look
@@ -450,6 +456,8 @@ module _ (found_law : LooksFound) (end_law : LooksEnd) (c : Settings) (k : ℕ) 
                 ∙ l.passes (told_b told) first (in_order (joined (set (fronts c 1 d ins' shelves) k (others s))))
                 ∙ ap (λ ls. stop_in first left.bytes left.frames (in_order (joined ls))) set_now;
             first_is = λ told. see.first_is told ∙ ap first_window (front_now told) ∙ ap (λ ls. first_window (in_order (joined ls))) set_now;
+            counts = λ m. t.counts (λ is. cc) m ∙ see.counts m;
+            writes = λ m. t.reads.writes m ∙ see.writes m;
           }
         where
           front_now : IsTrue a.told → in_order (joined (fronts c 1 b ins' shelves)) ≡ own_look ∷ in_order (joined (set (fronts c 1 d ins' shelves) k (others s)))
@@ -511,6 +519,8 @@ seeing_none c a ins had = record {
   spent = record { frames = omega arith; bytes = omega arith };
   passes = λ told first. ap (λ l. stop_in first had.bytes had.frames (in_order l)) (sym (fronts_none c 1 a ins));
   first_is = λ told. ap (λ l. first_window (in_order l)) (sym (fronts_none c 1 a ins));
+  counts = λ m. refl;
+  writes = λ m. refl;
 }
 
 have_read : (c : Settings) (a b : Seen) (ins ins' : List Input) (shelves : List Shelf) (left : Budget) → length ins' ≡ length ins → length shelves ≡ length ins →
@@ -549,4 +559,6 @@ looks_all c k a b ins ins' v had left all see =
       takes = taken_from ins ins' had left (counts_of v.items) see.slots see.spent;
       cause = λ e. absurd (cc);
       only = tt;
+      counts = λ other. see.counts;
+      writes = see.writes;
     }

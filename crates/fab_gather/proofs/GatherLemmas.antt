@@ -38,6 +38,8 @@ module _ (c : Settings) (first w : ℕ) where
     only = λ x. absurd (cc);
     late = (λ x. is, λ x. refl);
     same = λ x. (refl, refl, refl, refl);
+    counts = λ other m. refl;
+    writes = λ m. refl;
   }
 
   pub gathers_all : (a b : Seen) (ins ins' : List Input) (shelves shelves' : List Shelf) (had left : Budget) (r : Result (Unit {0}) RunFault) → nat_lt MOST_SPAN (w - first) ≡ false →
@@ -57,6 +59,8 @@ module _ (c : Settings) (first w : ℕ) where
     only = tt;
     late = (λ x. absurd (cc), λ x. let both : true ≡ false = sym x ∙ in_time in absurd (cc));
     same = λ x. absurd (cc);
+    counts = t.counts;
+    writes = t.writes;
   }
   gathers_all a b ins ins' shelves shelves' had left (Err e) in_time t = record {
     touches = t.touches;
@@ -73,4 +77,6 @@ module _ (c : Settings) (first w : ℕ) where
     only = t.only;
     late = (λ x. absurd (t.in_span (let same : e ≡ fault.Limit limit.Span = cc in same)), λ x. let both : true ≡ false = sym x ∙ in_time in absurd (cc));
     same = λ x. absurd (t.in_span (let same : e ≡ fault.Limit limit.Span = cc in same));
+    counts = t.counts;
+    writes = t.writes;
   }

@@ -19,7 +19,7 @@ use Rattle.fab_gather.specs.declared.fault.RunFault.TheVariants as fault
 use Rattle.fab_gather.specs.First.{IsFresh, opened_by, first_look, Looked, LooksOnce}
 use Rattle.fab_gather.specs.Port.{to_look, spot_of, fault_by}
 use Rattle.fab_gather.proofs.LeavesLemmas.{gave_failed}
-use Rattle.fab_gather.proofs.PortLemmas.{some_look, says_at, own_of, read_of, never_write}
+use Rattle.fab_gather.proofs.PortLemmas.{some_look, says_at, own_of, read_of, never_write, spared}
 
 -- one record is looked at, or none
 pub count_is : (next : Option Record) (some : Bool) (n : ℕ) → some ≡ is_some next → n ≡ from_bool some → n ≡ length (option_to_list next)
@@ -128,7 +128,7 @@ module _ (found_law : LooksFound) (end_law : LooksEnd) (steps : StepsFindStop) (
         }
 
   pub looked : (next : Option Record) (s : Shelf) → s.next ≡ next → s.count ≡ length (option_to_list next) → NextReads slot a b r r' had left (Ok next) → LooksOnce c port slot a b r r' had left (Ok s)
-  looked next s is count n = record { reads = n.reads; looked = by_next next is count n; stops = λ told. tt; leaves = tt; cause = λ e. absurd (cc); only = tt }
+  looked next s is count n = record { reads = n.reads; looked = by_next next is count n; stops = λ told. tt; leaves = tt; cause = λ e. absurd (cc); only = tt; counts = λ other. n.counts }
     where
       by_next : (next : Option Record) → s.next ≡ next → s.count ≡ length (option_to_list next) → NextReads slot a b r r' had left (Ok next) → Looked c port slot a b r r' s had left
       by_next None is count n = looked_end s is count n
@@ -150,4 +150,5 @@ module _ (found_law : LooksFound) (end_law : LooksEnd) (steps : StepsFindStop) (
         };
     cause = λ same. let f = read_of port e (let same' : fault_by e port ≡ fault.Read = cc in same') in n.cause is_fresh.kept f.0 (ap Err f.1);
     only = never_write port e;
+    counts = λ other. spared port e a b n.counts (λ same. other (ap Err same));
   }

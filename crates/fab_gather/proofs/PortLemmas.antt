@@ -3,14 +3,14 @@ use Rattle.std.proofs.Common.{◌≡◌, ◌≢◌, ℕ, ◌+◌, ◌-◌, ◌*�
 use Rattle.std.specs.Prelude.{Result, nat_lt, option_to_list}
 use Rattle.std.proofs.lemmas.List.{append-nil}
 use Rattle.std.proofs.lemmas.Bool.{eqb-true}
-use Rattle.fab_base.specs.Seen.{Seen, Reads, Rose}
+use Rattle.fab_base.specs.Seen.{Seen, Reads, Rose, SameReadFaults}
 use Rattle.fab_base.specs.declared.values.Failed.{Failed}
 use Rattle.fab_base.proofs.SeenLemmas.{reads_refl, reads_trans, input_name, rose_later}
 use Rattle.fab_config.specs.Settings.{Settings}
 use Rattle.fab_policy.specs.Legal.{window_start}
 use Rattle.fab_policy.specs.Looks.{Spot, Look, look_at, found_at, is_found, behind, looks, stop_in, stop_at, Fails, record_size, LooksFound, LooksEnd, StepsFindStop, MOST_SPAN}
 use Rattle.pcap_file.specs.Capture.{Next, Found, End, CutHead, TooLong, CutBytes, next}
-use Rattle.pcap_file.specs.Reading.{Reading, Step, Gives, Ends, Stops, step_of, to_come, place_after, Says, NextReads}
+use Rattle.pcap_file.specs.Reading.{Reading, Step, Gives, Ends, Stops, step_of, to_come, place_after, Says, SparesReads, NextReads}
 use Rattle.pcap_file.specs.Records.{Chain}
 use Rattle.pcap_file.specs.declared.Budget.{Budget}
 use Rattle.pcap_file.specs.declared.CapError.{CapError}
@@ -96,6 +96,15 @@ never_span port errors.Frames same = absurd (cc)
 never_span port (errors.Read f) same = absurd (cc)
 never_span port errors.Memory same = absurd (cc)
 
+-- an error that is no read fault counts none
+pub spared : (port : ℕ) (q : CapError) (old new : Seen) → SparesReads old new (Err q) → fault_by q port ≢ fault.Read → SameReadFaults old new
+spared port (errors.Cut at) old new spares other = spares
+spared port (errors.TooLong at len) old new spares other = spares
+spared port errors.Bytes old new spares other = spares
+spared port errors.Frames old new spares other = spares
+spared port (errors.Read f) old new spares other = absurd (other refl)
+spared port errors.Memory old new spares other = spares
+
 -- ---- before the first
 
 pub taking_none : (c : Settings) (port w slot : ℕ) (a : Seen) (r : Reading) (s s' : Shelf) (had : Budget) → s'.batch.items ≡ [] → s'.next ≡ s.next → s'.count ≡ s.count → IsReady r s.next s.count had → Taking c port w slot a a r r s s' had had
@@ -114,6 +123,7 @@ taking_none c port w slot a r s s' had empty same count ready = record {
   onward = omega arith;
   ended = λ told some none. absurd (some (sym same ∙ none));
   looks = λ told. ([], (λ i. to_look c port a slot r (sym count i) (sym same i)), tt, λ first rest late. refl);
+  counts = λ m. refl;
 }
 
 -- ---- one more
@@ -244,6 +254,7 @@ module _ (found_law : LooksFound) (end_law : LooksEnd) (steps : StepsFindStop) (
           made_are told,
           pass_on told (one told),
         );
+        counts = λ m. n.counts m ∙ t.counts m;
       }
 
     -- the end
@@ -292,6 +303,7 @@ module _ (found_law : LooksFound) (end_law : LooksEnd) (steps : StepsFindStop) (
               made_are told,
               pass_on told (end_one told),
             );
+            counts = λ m. n.counts m ∙ t.counts m;
           }
         where
           nothing_left : found_at spot ≡ End → to_come r1 b slot ≡ []
@@ -326,6 +338,7 @@ module _ (found_law : LooksFound) (end_law : LooksEnd) (steps : StepsFindStop) (
     in_span = λ same. absurd (cc);
     cause = λ same. absurd (cc);
     only = λ same. absurd (cc);
+    counts = λ other m. n.counts m ∙ t.counts m;
   }
     where
       one : length (own.r ∷ []) ≤ 1
@@ -422,6 +435,7 @@ module _ (found_law : LooksFound) (end_law : LooksEnd) (steps : StepsFindStop) (
         subst (λ q. Spends had q s.count s1.count) (sym n.kept.budget) t.spent,
       );
       in_span = never_span port e;
+      counts = λ other m. spared port e b d n.counts (λ same. other (ap Err same)) m ∙ t.counts m;
     }
 
 pub next_at : {s t : ℕ} {a b : Seen} {r r' : Reading} {had left : Budget} {x : Result (Option Record) CapError} → s ≡ t → NextReads s a b r r' had left x → NextReads t a b r r' had left x

@@ -3,7 +3,7 @@ use Rattle.std.proofs.Common.{◌≡◌, ◌≢◌, ℕ, zero, suc, ◌+◌, ◌
 use Rattle.std.specs.Prelude.{nat_lt, Result}
 use Rattle.std.proofs.lemmas.List.{length-set}
 use Rattle.std.proofs.lemmas.Option.{slice_get_within, slice_get-get_or}
-use Rattle.fab_base.specs.Seen.{Seen, Touches, Nothing}
+use Rattle.fab_base.specs.Seen.{Seen, Touches, Nothing, SameReadFaults, SameWriteFaults}
 use Rattle.fab_base.proofs.SeenLemmas.{touches_refl}
 use Rattle.fab_config.specs.Settings.{Settings}
 use Rattle.fab_policy.specs.Legal.{window_start}
@@ -49,6 +49,8 @@ pub record Round (c : Settings) (w k : ℕ) (a b : Seen) (ins ins' : List Input)
   pub bytes : left.bytes ≤ had.bytes
   pub frames : left.frames ≤ had.frames
   pub looks : IsTrue a.told → (first : ℕ) → nat_lt MOST_SPAN (w - first) ≡ false → stop_from c first a ins shelves had ≡ stop_from c first b ins' shelves' left
+  pub counts : SameReadFaults a b
+  pub writes : SameWriteFaults a b
 
 -- ---- counts
 
@@ -255,6 +257,8 @@ module _ (c : Settings) (w k : ℕ) (a b : Seen) (ins ins' : List Input) (shelve
         cause = λ is. (k, lt, rose_on a b ins ins' are round.touches round.slots k i1 at.input d (t.cause is));
         only = t.only;
         in_span = t.in_span;
+        counts = λ other m. t.counts other m ∙ round.counts m;
+        writes = λ m. t.reads.writes m ∙ round.writes m;
       }
         where
           Left : Input → Input → Shelf → Shelf → Type 0
@@ -319,6 +323,8 @@ module _ (c : Settings) (w k : ℕ) (a b : Seen) (ins ins' : List Input) (shelve
                 ∙ ap (λ ls. stop_in first left.bytes left.frames (in_order (joined ls)))
                 (rests_set c k 1 d ins' shelves' i2 s2 (to_look c (k + 1) d i1.slot i2.reader s2.count s2.next) (let m = long in omega arith) wide
                 (λ n e. let number : k + 1 ≡ n = omega arith in λ x. to_look c (number_sym n number x) d (slot x) i2.reader s2.count s2.next));
+            counts = λ m. t.taking.counts m ∙ round.counts m;
+            writes = λ m. t.reads.writes m ∙ round.writes m;
           }
         where
           coe_done : {x y x' y' : Input} {v z v' z' : Shelf} → x ≡ y → x' ≡ y' → v ≡ z → v' ≡ z' → Done c w a d x x' v v' left → Done c w a d y y' z z' left
@@ -399,6 +405,8 @@ round_none c w a ins shelves had ready = record {
   bytes = omega arith;
   frames = omega arith;
   looks = λ told first late. refl;
+  counts = λ m. refl;
+  writes = λ m. refl;
 }
 
 -- behind the last
@@ -420,6 +428,8 @@ round_all c w k a b ins ins' shelves shelves' had left le count r = record {
   cause = λ e. absurd (cc);
   only = tt;
   in_span = tt;
+  counts = λ other. r.counts;
+  writes = r.writes;
 }
 
 pub taken_as : {c : Settings} {m n w slot : ℕ} {a b : Seen} {r r' : Reading} {s s' : Shelf} {had left : Budget} {result : Result (Unit {0}) RunFault} → n ≡ m → TakesWindow c m w slot a b r r' s s' had left result → TakesWindow c n w slot a b r r' s s' had left result

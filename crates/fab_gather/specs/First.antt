@@ -1,7 +1,7 @@
 -- The looks at the first records, and which window comes next.
 use Rattle.std.specs.Prelude.{◌≡◌, ◌≢◌, ℕ, ◌≤◌, ◌<◌, IsTrue, List, [], ◌∷◌, length, map, Option, Some, None, IfSome, Result, IfOk, OnErr, IfErr, IsErrOf, option_to_list, slice_get, Vec}
 use Rattle.std.specs.declared.alloc.Global.{Global}
-use Rattle.fab_base.specs.Seen.{Seen, Reads, Rose, Touches, Nothing}
+use Rattle.fab_base.specs.Seen.{Seen, Reads, Rose, Touches, Nothing, SameWriteFaults}
 use Rattle.fab_config.specs.Settings.{Settings}
 use Rattle.fab_policy.specs.Legal.{window_start}
 use Rattle.fab_policy.specs.Looks.{Opened, Look, look_at, looks, first_spot, in_order, first_window, stop_in, Stop, stop}
@@ -14,7 +14,7 @@ use Rattle.fab_gather.specs.declared.shelf.Input.{Input}
 use Rattle.fab_gather.specs.declared.shelf.Shelf.{Shelf}
 use Rattle.fab_gather.specs.declared.fault.RunFault.{RunFault}
 use Rattle.fab_gather.specs.declared.fault.RunFault.TheVariants as fault
-use Rattle.fab_gather.specs.Port.{IsReady, Spends, Gave, to_look, ending, IsStopped}
+use Rattle.fab_gather.specs.Port.{IsReady, Spends, Gave, to_look, ending, IsStopped, TellsReads}
 use Rattle.fab_gather.specs.Ports.{slots_of, name_of, NameIn, TakesFrom, rests, joined, stop_from, AreReady, counts_of}
 use Rattle.fab_gather.specs.Reads.{HaveRead}
 
@@ -75,6 +75,7 @@ pub record LooksOnce (c : Settings) (port slot : ℕ) (a b : Seen) (r r' : Readi
   pub leaves : OnErr result (Gave slot a b r r' [] × (left ≡ had))
   pub cause : IsErrOf result fault.Read → Rose (a.read_faults (a.name slot)) (b.read_faults (a.name slot))
   pub only : IfErr result (λ e. e ≢ fault.Write)
+  pub counts : TellsReads a b result
 
 -- What looking at the first record of each port does: after it the looks to come stop where all looks do, or it ends as the
 -- first stop says, which has no window.
@@ -92,6 +93,8 @@ pub record LooksFirst (c : Settings) (a b : Seen) (ins ins' : List Input) (had l
   pub takes : TakesFrom ins ins' had left
   pub cause : IsErrOf result fault.Read → (q : ℕ) × (q < length ins) × Rose (a.read_faults (name_of a (slots_of ins) q)) (b.read_faults (name_of a (slots_of ins) q))
   pub only : IfErr result (λ e. e ≢ fault.Write)
+  pub counts : TellsReads a b result
+  pub writes : SameWriteFaults a b
 
 -- ---- which window comes next
 

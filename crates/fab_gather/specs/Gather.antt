@@ -1,6 +1,6 @@
 -- The next window of captures, with the most span.
 use Rattle.std.specs.Prelude.{◌≡◌, ◌≢◌, ℕ, ◌+◌, ◌-◌, ◌<◌, ◌↔◌, true, nat_lt, IsTrue, List, length, Some, Result, OnOk, OnErr, IfErr, IsErrOf}
-use Rattle.fab_base.specs.Seen.{Seen, Touches, Nothing, Rose}
+use Rattle.fab_base.specs.Seen.{Seen, Touches, Nothing, Rose, SameWriteFaults}
 use Rattle.fab_config.specs.Settings.{Settings}
 use Rattle.fab_policy.specs.Looks.{Stop, MOST_SPAN}
 use Rattle.pcap_file.specs.declared.Budget.{Budget}
@@ -9,7 +9,7 @@ use Rattle.fab_gather.specs.declared.shelf.Shelf.{Shelf}
 use Rattle.fab_gather.specs.declared.fault.LimitKind.TheVariants as limit
 use Rattle.fab_gather.specs.declared.fault.RunFault.{RunFault}
 use Rattle.fab_gather.specs.declared.fault.RunFault.TheVariants as fault
-use Rattle.fab_gather.specs.Port.{Spends, IsStopped, ending}
+use Rattle.fab_gather.specs.Port.{Spends, IsStopped, ending, TellsReads}
 use Rattle.fab_gather.specs.Ports.{slots_of, name_of, NameIn, AreReady, TakesFrom, TookAll, LeavesAll, counts_of, stop_from}
 
 -- What gathering a window does: the looks to come stop where they stopped, or it ends as the first stop among them says.
@@ -29,3 +29,5 @@ pub record Gathers (c : Settings) (first w : ℕ) (a b : Seen) (ins ins' : List 
   pub only : IfErr result (λ e. e ≢ fault.Write)
   pub late : IsErrOf result (fault.Limit limit.Span) ↔ (nat_lt MOST_SPAN (w - first) ≡ true)
   pub same : IsErrOf result (fault.Limit limit.Span) → (b ≡ a) × (ins' ≡ ins) × (shelves' ≡ shelves) × (left ≡ had)
+  pub counts : TellsReads a b result
+  pub writes : SameWriteFaults a b

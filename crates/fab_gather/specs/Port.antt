@@ -1,6 +1,6 @@
 -- The records of a window, taken of one port's capture.
 use Rattle.std.specs.Prelude.{◌≡◌, ◌≢◌, ℕ, ◌+◌, ◌-◌, ◌*◌, ◌^◌, ◌≤◌, ◌<◌, ◌⊎◌, Bool, false, IsTrue, List, [], ◌∷◌, ◌++◌, length, Option, Some, None, IfSome, Result, OnOk, OnErr, IfErr, IsErrOf, option_to_list, nat_lt, ◌==◌}
-use Rattle.fab_base.specs.Seen.{Seen, Reads, Rose}
+use Rattle.fab_base.specs.Seen.{Seen, Reads, Rose, SameReadFaults}
 use Rattle.fab_config.specs.Settings.{Settings}
 use Rattle.fab_policy.specs.Legal.{window_start}
 use Rattle.fab_policy.specs.Looks.{Spot, Look, looks, stop_in, Stop, Reason, Fails, Span, MOST_SPAN}
@@ -43,6 +43,10 @@ IsStopped (fault.Limit kind) = Unit {0}
 IsStopped fault.Read = ⊥
 IsStopped fault.Write = ⊥
 IsStopped fault.Memory = ⊥
+
+-- Every fault of reading is told: none is counted where the answer isn't `Read`. So want of memory never stands for one.
+abbrev pub TellsReads : {T : Type 0} → Seen → Seen → Result T RunFault → Type 0
+TellsReads old new result = ¬ IsErrOf result fault.Read → SameReadFaults old new
 
 -- ---- a port
 
@@ -104,6 +108,7 @@ pub record Taking (c : Settings) (port w slot : ℕ) (a b : Seen) (r r' : Readin
   pub onward : r.greatest ≤ r'.greatest
   pub ended : IsTrue a.told → s.next ≢ None → s'.next ≡ None → to_come r' b slot ≡ []
   pub looks : IsTrue a.told → (made : List Look) × (to_look c port a slot r s.count s.next ≡ made ++ to_look c port b slot r' s'.count s'.next) × AreOf port w made × Pass w made had left
+  pub counts : SameReadFaults a b
 
 -- The looks come to one that fails, and the ending says so.
 pub record StopsIn (port w : ℕ) (had : Budget) (looks : List Look) (e : RunFault) : Type 0 where
@@ -150,3 +155,4 @@ pub record TakesWindow (c : Settings) (port w slot : ℕ) (a b : Seen) (r r' : R
   pub in_span : IfErr result (λ e. e ≢ fault.Limit limit.Span)
   pub cause : IsErrOf result fault.Read → Rose (a.read_faults (a.name slot)) (b.read_faults (a.name slot))
   pub only : IfErr result (λ e. e ≢ fault.Write)
+  pub counts : TellsReads a b result

@@ -1,6 +1,6 @@
 -- The records of a window, taken of all ports in their order.
 use Rattle.std.specs.Prelude.{◌≡◌, ◌≢◌, ℕ, ◌+◌, ◌-◌, ◌≤◌, ◌<◌, false, IsTrue, List, [], ◌∷◌, ◌++◌, length, map, Option, Some, None, IfSome, Result, OnOk, OnErr, IfErr, IsErrOf, option_to_list, nat_lt, slice_get, slice_index}
-use Rattle.fab_base.specs.Seen.{Seen, Rose, Touches, Nothing}
+use Rattle.fab_base.specs.Seen.{Seen, Rose, Touches, Nothing, SameWriteFaults}
 use Rattle.fab_config.specs.Settings.{Settings}
 use Rattle.fab_policy.specs.Legal.{window_start}
 use Rattle.fab_policy.specs.Looks.{Look, in_order, stop_in, Stop, MOST_SPAN}
@@ -13,7 +13,7 @@ use Rattle.fab_gather.specs.declared.shelf.Shelf.{Shelf}
 use Rattle.fab_gather.specs.declared.fault.LimitKind.TheVariants as limit
 use Rattle.fab_gather.specs.declared.fault.RunFault.{RunFault}
 use Rattle.fab_gather.specs.declared.fault.RunFault.TheVariants as fault
-use Rattle.fab_gather.specs.Port.{IsReady, Spends, AreIn, to_look, ending, IsStopped, LeavesPort}
+use Rattle.fab_gather.specs.Port.{IsReady, Spends, AreIn, to_look, ending, IsStopped, LeavesPort, TellsReads}
 
 -- ---- slots
 
@@ -109,3 +109,5 @@ pub record TakesAll (c : Settings) (w : ℕ) (a b : Seen) (ins ins' : List Input
   pub cause : IsErrOf result fault.Read → (q : ℕ) × (q < length ins) × Rose (a.read_faults (name_of a (slots_of ins) q)) (b.read_faults (name_of a (slots_of ins) q))
   pub only : IfErr result (λ e. e ≢ fault.Write)
   pub in_span : IfErr result (λ e. e ≢ fault.Limit limit.Span)
+  pub counts : TellsReads a b result
+  pub writes : SameWriteFaults a b

@@ -1,8 +1,8 @@
 -- The capture of packets is read as their records.
-use Rattle.std.proofs.Common.{◌≡◌, ℕ, ◌+◌, ◌*◌, ◌/◌, ◌%◌, ◌^◌, ◌<◌, ◌≤◌, max, Bool, false, not, nat_lt, List, [], ◌∷◌, ◌++◌, length, append_assoc, refl, sym, ap, ◌∙◌, arith}
+use Rattle.std.proofs.Common.{◌≡◌, ℕ, ◌+◌, ◌*◌, ◌/◌, ◌%◌, max, Bool, false, not, nat_lt, List, [], ◌∷◌, ◌++◌, length, append_assoc, refl, sym, ap, ◌∙◌, arith}
 use Rattle.fab_base.specs.Layout.{little_endian, spelled_low}
 use Rattle.fab_base.proofs.LayoutLemmas.{little_endian-spelled}
-use Rattle.pcap_file.specs.Capture.{at_place, milliseconds, stored, head_bytes, Found, next, IsCapture}
+use Rattle.pcap_file.specs.Capture.{at_place, milliseconds, stored, Found, next, IsCapture}
 use Rattle.pcap_file.specs.Records.{Chain, last_moment}
 use Rattle.pcap_file.proofs.lemmas.Chains.{ends_as_capture}
 use Rattle.pcap_file.proofs.lemmas.Written.{next_end, front_whole, head_read}

@@ -2,7 +2,7 @@
 use Rattle.std.proofs.Common.{◌≡◌, ℕ, zero, suc, ◌+◌, ◌-◌, ◌≤◌, IsTrue, List, [], ◌∷◌, ◌++◌, length, length-append, length-drop, append_assoc, drop, Option, Some, None, Ok, Err, refl, sym, ap, ◌∙◌, subst, arith}
 use Rattle.std.specs.Prelude.{Result}
 use Rattle.std.proofs.lemmas.List.{append-nil}
-use Rattle.fab_base.specs.Seen.{Seen, Reads, Rose}
+use Rattle.fab_base.specs.Seen.{Seen, Reads, Rose, SameReadFaults}
 use Rattle.fab_base.proofs.Depots.{reads_trans, reads_refl, input_name, told_stays, rose_later}
 use Rattle.pcap_file.specs.declared.Budget.{Budget}
 use Rattle.pcapng_file.specs.declared.fault.NgError.{NgError}
@@ -10,6 +10,7 @@ use Rattle.pcapng_file.specs.declared.fault.NgError.TheVariants as errors
 use Rattle.pcapng_file.specs.declared.reading.Block.{Block}
 use Rattle.pcapng_file.specs.declared.NgRecord.{NgRecord}
 use Rattle.pcapng_file.specs.File.{Section, before_all, after, found, less, in_front, go_on, step_of, read_from, ng_read, AreKept, Tells, BlockRead, NgReads}
+use Rattle.pcapng_file.proofs.StepLemmas.{spares_error}
 
 -- What stands for the loop at a place, with these packets read.
 pub record Going (slot : ℕ) (had : Budget) (a b : Seen) (held : List ℕ) (s : Section) (left : Budget) (at : ℕ) (v : List NgRecord) : Type 0 where
@@ -18,6 +19,7 @@ pub record Going (slot : ℕ) (had : Budget) (a b : Seen) (held : List ℕ) (s :
   pub frames : left.frames + length v ≡ had.frames
   pub kept : AreKept v
   pub on : IsTrue a.told → (m : ℕ) × (length (held ++ b.left slot) ≤ m) × (at + length (held ++ b.left slot) ≡ length (a.left slot)) × (in_front v (read_from (suc m) left at s (held ++ b.left slot)) ≡ ng_read had (a.left slot))
+  pub counts : SameReadFaults a b
 
 kept_append : (v w : List NgRecord) → AreKept v → AreKept w → AreKept (v ++ w)
 kept_append [] w a b = b
@@ -54,6 +56,7 @@ going_none slot had a held s at v none is_s is_at is_v =
         omega (arith, ap length all),
         (λ i. in_front (is_v i) (read_from (suc (length (a.left slot))) had (is_at i) (is_s i) (all i))) ∙ in_front_none _ ∙ sym (read_is had (a.left slot)),
       );
+      counts = λ m. refl;
     }
 
 module _ (slot : ℕ) (had : Budget) (a b c : Seen) (held rest : List ℕ) (s : Section) (left : Budget) (at : ℕ) (v : List NgRecord) (is_in : IsTrue (a.input slot)) (g : Going slot had a b held s left at v) where
@@ -88,12 +91,13 @@ module _ (slot : ℕ) (had : Budget) (a b c : Seen) (held rest : List ℕ) (s : 
     untouched = is_had;
     kept = tt;
     cause = λ f is. let same_error : e ≡ errors.Read f = cc in rose_later _ _ _ g.reads.keeps.reads_rise (subst (λ m. Rose (b.read_faults m) (c.read_faults m)) same (r.cause f (ap (λ (x : NgError). Err x) same_error)));
+    counts = spares_error (Option Block) (List NgRecord) a b c g.counts e r.counts;
   }
 
   -- memory is refused behind a block
-  pub going_full : (budget : Budget) (x : Result (Option Block) NgError) → budget ≡ had → BlockRead slot b c held rest left at s x → NgReads slot a c had budget (Err errors.Memory)
-  going_full budget x is_had r = record {
-    reads = both x r;
+  pub going_full : (budget : Budget) (next : Option Block) → budget ≡ had → BlockRead slot b c held rest left at s (Ok next) → NgReads slot a c had budget (Err errors.Memory)
+  going_full budget next is_had r = record {
+    reads = both (Ok next) r;
     exact = λ told. tt;
     all = λ told. tt;
     bytes = λ told. tt;
@@ -101,6 +105,7 @@ module _ (slot : ℕ) (had : Budget) (a b c : Seen) (held rest : List ℕ) (s : 
     untouched = is_had;
     kept = tt;
     cause = λ f is. absurd (cc);
+    counts = λ m. r.counts m ∙ g.counts m;
   }
 
   pub going_ended : (next : Option Block) → next ≡ None → BlockRead slot b c held rest left at s (Ok next) → NgReads slot a c had left (Ok v)
@@ -115,6 +120,7 @@ module _ (slot : ℕ) (had : Budget) (a b c : Seen) (held rest : List ℕ) (s : 
         untouched = tt;
         kept = g.kept;
         cause = λ f e. absurd (cc);
+        counts = λ m. r.counts m ∙ g.counts m;
       }
 
   module _ (next : Option Block) (k : Block) (some : next ≡ Some k) (read : BlockRead slot b c held rest left at s (Ok next)) where
@@ -145,4 +151,5 @@ module _ (slot : ℕ) (had : Budget) (a b c : Seen) (held rest : List ℕ) (s : 
               (λ i. in_front (is_w i) (read_from on.0 (is_budget i) (is_place i) (is_d i) (drop k.size (held ++ b.left slot)))) ∙ sym (in_front_more v (found k.content) _) ∙ from_step told (Ok (Some k)) (r.tells (told_b told)) in
               let shorter = length-drop k.size (held ++ b.left slot) in
               fewer on.0 on.1 (omega (arith, shorter, behind.0, fits.0)) d w budget (had.bytes - budget.bytes) reads_on behind.1 (omega (arith, shorter, behind.0, on.2, is_place));
+          counts = λ m. r.counts m ∙ g.counts m;
         }

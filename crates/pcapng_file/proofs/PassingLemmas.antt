@@ -3,7 +3,7 @@ use Rattle.std.proofs.Common.{◌≡◌, ◌≢◌, ℕ, ◌+◌, ◌-◌, ◌%�
 use Rattle.std.specs.Prelude.{Result}
 use Rattle.std.proofs.lemmas.Bool.{le-ltb, eq-eqb, ne_eqb}
 use Rattle.std.proofs.lemmas.List.{take_at, drop_at, drop-drop, drop-take, length-take-le}
-use Rattle.fab_base.specs.Seen.{Seen, Reads, Rose}
+use Rattle.fab_base.specs.Seen.{Seen, Reads, Rose, SameReadFaults}
 use Rattle.fab_base.specs.declared.values.Failed.{Failed}
 use Rattle.fab_base.proofs.Depots.{reads_refl, reads_trans, input_name, told_stays, rose_later}
 use Rattle.pcap_file.specs.Capture.{at_place, ordered}
@@ -32,9 +32,10 @@ use Rattle.pcapng_file.proofs.StepLemmas.{inner}
 pub record Passed (slot n : ℕ) (a b : Seen) (held rest : List ℕ) : Type 0 where
   pub reads : Reads (a.name slot) a b
   pub taken : IsTrue a.told → (n ≤ length (held ++ a.left slot)) × (rest ++ b.left slot ≡ drop n (held ++ a.left slot))
+  pub counts : SameReadFaults a b
 
 pub passed_none : (slot : ℕ) (a : Seen) (held : List ℕ) → Passed slot 0 a a held held
-passed_none slot a held = record { reads = reads_refl (a.name slot) a; taken = λ told. (omega arith, refl) }
+passed_none slot a held = record { reads = reads_refl (a.name slot) a; taken = λ told. (omega arith, refl); counts = λ m. refl }
 
 module _ (slot n : ℕ) (a b c : Seen) (held mid : List ℕ) (is_in : IsTrue (a.input slot)) (p : Passed slot n a b held mid) where
   same : b.name slot ≡ a.name slot
@@ -56,6 +57,7 @@ module _ (slot n : ℕ) (a b c : Seen) (held mid : List ℕ) (is_in : IsTrue (a.
             omega (arith, before.0, ap length before.1, behind, fewer),
             sym (drop_at (take k buffer) (rest ++ c.left slot) k front) ∙ ap (drop k) (after ∙ before.1) ∙ drop-drop k n (held ++ a.left slot),
           );
+      counts = λ m. r.counts m ∙ p.counts m;
     }
 
     pub skips_short : (wanted k : ℕ) → Pulls slot buffer mid rest b c (Ok k) → k < length buffer → n + k ≤ wanted → Skips slot wanted held rest a c (Ok (n + k))
@@ -65,6 +67,7 @@ module _ (slot n : ℕ) (a b c : Seen) (held mid : List ℕ) (is_in : IsTrue (a.
       taken = more.taken;
       ended = λ told less. r.ended (told_b told) lt;
       cause = tt;
+      counts = more.counts;
     }
 
     pub skips_failed : (wanted : ℕ) (e : Failed) → Pulls slot buffer mid rest b c (Err e) → Skips slot wanted held rest a c (Err e)
@@ -74,6 +77,7 @@ module _ (slot n : ℕ) (a b c : Seen) (held mid : List ℕ) (is_in : IsTrue (a.
       taken = λ told. tt;
       ended = λ told. tt;
       cause = rose_later _ _ _ p.reads.keeps.reads_rise (subst (λ m. Rose (b.read_faults m) (c.read_faults m)) same r.cause);
+      counts = tt;
     }
 
   pub skips_all : (wanted : ℕ) → n ≡ wanted → Skips slot wanted held mid a b (Ok n)
@@ -83,6 +87,7 @@ module _ (slot n : ℕ) (a b c : Seen) (held mid : List ℕ) (is_in : IsTrue (a.
     taken = p.taken;
     ended = λ told less. absurd (omega arith);
     cause = tt;
+    counts = p.counts;
   }
 
 -- ---- the second length
@@ -111,11 +116,12 @@ module _ (slot : ℕ) (a b : Seen) (held mid front : List ℕ) (h : Head) (sized
           sym (ap (λ (m : ℕ). drop m l) is ∙ drop_at front (held ++ a.left slot) 12 sized),
         );
     cause = tt;
+    counts = λ m. refl;
   }
 
   module _ (middle : ℕ) (is_size : h.size ≡ 16 + middle) where
     pub second_failed : (e : Failed) → Skips slot middle held mid a b (Err e) → HasSecond slot a b held mid front h (Err e)
-    second_failed e s = record { reads = s.reads; tells = λ told. tt; cause = s.cause }
+    second_failed e s = record { reads = s.reads; tells = λ told. tt; cause = s.cause; counts = tt }
 
     pub second_cut : (k : ℕ) → Skips slot middle held mid a b (Ok k) → k < middle → HasSecond slot a b held mid front h (Ok None)
     second_cut k s lt = record {
@@ -124,6 +130,7 @@ module _ (slot : ℕ) (a b : Seen) (held mid front : List ℕ) (h : Head) (sized
           let t = s.taken told in
           omega (arith, t.0, ap length t.1, ap length (s.ended told lt), length-drop k (held ++ a.left slot), length-append front (held ++ a.left slot));
       cause = tt;
+      counts = s.counts;
     }
 
     module _ (c : Seen) (rest last : List ℕ) (is_in : IsTrue (a.input slot)) (four : length last ≡ 4) (k : ℕ) (s : Skips slot middle held mid a b (Ok k)) (all : middle ≤ k) where
@@ -149,6 +156,7 @@ module _ (slot : ℕ) (a b : Seen) (held mid front : List ℕ) (h : Head) (sized
         reads = reads_trans (a.name slot) a b c s.reads (subst (λ m. Reads m b c) same_name r.reads);
         tells = λ told. tt;
         cause = rose_later _ _ _ s.reads.keeps.reads_rise (subst (λ m. Rose (b.read_faults m) (c.read_faults m)) same_name r.cause);
+        counts = tt;
       }
 
       module _ (n : ℕ) (r : Pulls slot last mid rest b c (Ok n)) where
@@ -160,6 +168,7 @@ module _ (slot : ℕ) (a b : Seen) (held mid front : List ℕ) (h : Head) (sized
               let left : length (mid ++ b.left slot) ≡ n = short_is last (rest ++ c.left slot) (mid ++ b.left slot) n r.bound none_left (r.taken (still told)) in
               omega (arith, (behind told).0, left);
           cause = tt;
+          counts = λ m. r.counts m ∙ s.counts m;
         }
 
         pub last_there : 4 ≤ n → (size : ℕ) → size ≡ at_place h.big last 0 4 → HasSecond slot a c held rest front h (Ok (Some size))
@@ -176,6 +185,7 @@ module _ (slot : ℕ) (a b : Seen) (held mid front : List ℕ) (h : Head) (sized
                 sym (ap (λ (m : ℕ). drop m l) split ∙ sym (drop-drop 4 (h.size - 4) l) ∙ ap (drop 4) whole ∙ drop_at last (rest ++ c.left slot) 4 four),
               );
           cause = tt;
+          counts = λ m. r.counts m ∙ s.counts m;
         }
 
 -- ---- the block
@@ -207,6 +217,7 @@ module _ (slot : ℕ) (a b : Seen) (held rest front : List ℕ) (h : Head) (at :
       behind = λ told. tt;
       fits = tt;
       cause = λ f is. absurd (cc);
+      counts = s.counts;
     }
 
     pub over_done : n ≡ h.size → PassesOver slot a b held rest front h at (Ok (Some (record { size = n; content = says.Nothing })))
@@ -217,4 +228,5 @@ module _ (slot : ℕ) (a b : Seen) (held rest front : List ℕ) (h : Head) (at :
       behind = λ told. let t = s.tells told in (omega (arith, t.0), t.2 ∙ ap (λ (m : ℕ). drop m (from_front slot a held front)) (sym is));
       fits = (is, refl, tt);
       cause = λ f e. absurd (cc);
+      counts = s.counts;
     }

@@ -3,7 +3,7 @@ use Rattle.std.proofs.Common.{◌≡◌, ℕ, ◌+◌, ◌-◌, ◌<◌, ◌≤�
 use Rattle.std.specs.Prelude.{Result, is_some, IfOk, MatchOption}
 use Rattle.std.proofs.lemmas.Bool.{lt-ltb, le-ltb, eqb-true, ne_eqb}
 use Rattle.std.proofs.lemmas.List.{take_at, drop_at}
-use Rattle.fab_base.specs.Seen.{Seen, Reads, Rose}
+use Rattle.fab_base.specs.Seen.{Seen, Reads, Rose, SameReadFaults}
 use Rattle.fab_base.specs.declared.values.Failed.{Failed}
 use Rattle.fab_base.proofs.Depots.{reads_trans, input_name, told_stays, rose_later}
 use Rattle.pcap_file.specs.declared.Budget.{Budget}
@@ -18,7 +18,7 @@ use Rattle.pcapng_file.specs.declared.block.Head.{Head}
 use Rattle.pcapng_file.specs.declared.packet.Content.{Content}
 use Rattle.pcapng_file.specs.declared.reading.Block.{Block}
 use Rattle.pcapng_file.specs.Block.{head_read, body_read}
-use Rattle.pcapng_file.specs.File.{Section, at_fault, and_then, frames_of, counted, step_in, step_of, found, AreKept, Tells, NotRead, BlockRead}
+use Rattle.pcapng_file.specs.File.{Section, at_fault, and_then, frames_of, counted, step_in, step_of, found, AreKept, Tells, SparesReads, NotRead, BlockRead}
 use Rattle.pcapng_file.specs.Passing.{PassesOver}
 use Rattle.std.specs.Result.{IsErrAnd}
 
@@ -81,6 +81,24 @@ then_err x f errors.Memory is = tt
 no_cause : (n m : ℕ) (e : NgError) → NotRead e → (f : Failed) → (let r : Result (Option Block) NgError = Err e in r ≡ Err (errors.Read f)) → Rose n m
 no_cause n m e own f is = let same : e ≡ errors.Read f = cc in absurd (subst NotRead same own)
 
+-- where no fault was counted, other errors count none
+spares_own : (a c : Seen) → SameReadFaults a c → (e : NgError) → NotRead e → SparesReads {A = Option Block} a c (Err e)
+spares_own a c none (errors.Fault at fault) own = none
+spares_own a c none (errors.Limit limit) own = none
+spares_own a c none (errors.Read failed) own = absurd own
+spares_own a c none errors.Memory own = none
+
+-- the same behind a call that counted none
+pub spares_error : (A B : Type 0) (a b c : Seen) → SameReadFaults a b → (e : NgError) → SparesReads {A = A} b c (Err e) → SparesReads {A = B} a c (Err e)
+spares_error A B a b c none (errors.Fault at fault) more = λ m. more m ∙ none m
+spares_error A B a b c none (errors.Limit limit) more = λ m. more m ∙ none m
+spares_error A B a b c none (errors.Read failed) more = tt
+spares_error A B a b c none errors.Memory more = λ m. more m ∙ none m
+
+spares_behind : (a b c : Seen) → SameReadFaults a b → (result : Result (Option Block) NgError) → SparesReads b c result → SparesReads a c result
+spares_behind a b c none (Ok block) more = λ m. more m ∙ none m
+spares_behind a b c none (Err e) more = spares_error (Option Block) (Option Block) a b c none e more
+
 pub both_left : (x y : Bool) → (x && y) ≡ true → x ≡ true
 both_left true y e = refl
 both_left false y e = e
@@ -114,6 +132,7 @@ module _ (slot : ℕ) (a b : Seen) (held mid front : List ℕ) (n : ℕ) (budget
         ended = none_left;
         fits = tt;
         cause = λ f e. absurd (cc);
+        counts = first.counts;
       }
 
   pub block_short : n < 12 → (eqb n 0 && is_some s.order) ≡ false → BlockRead slot a b held mid budget at s (Err (errors.Fault at why.Cut))
@@ -127,6 +146,7 @@ module _ (slot : ℕ) (a b : Seen) (held mid front : List ℕ) (n : ℕ) (budget
     ended = λ told. tt;
     fits = tt;
     cause = no_cause _ _ (errors.Fault at why.Cut) tt;
+    counts = first.counts;
   }
 
   module _ (le : 12 ≤ n) where
@@ -147,6 +167,7 @@ module _ (slot : ℕ) (a b : Seen) (held mid front : List ℕ) (n : ℕ) (budget
       ended = λ told. tt;
       fits = tt;
       cause = no_cause _ _ (errors.Fault at fault) tt;
+      counts = first.counts;
     }
 
     module _ (h : Head) (is : head_read s.order front ≡ Ok h) where
@@ -161,6 +182,7 @@ module _ (slot : ℕ) (a b : Seen) (held mid front : List ℕ) (n : ℕ) (budget
         ended = λ told. tt;
         fits = tt;
         cause = no_cause _ _ (errors.Limit limits.Bytes) tt;
+        counts = first.counts;
       }
 
       -- a block that goes by
@@ -175,6 +197,7 @@ module _ (slot : ℕ) (a b : Seen) (held mid front : List ℕ) (n : ℕ) (budget
             ended = λ told. passed_ends (rest ++ c.left slot) h.size result p.fits;
             fits = passed_fits h.size budget least room result p.fits;
             cause = λ f is. rose_later _ _ _ first.reads.keeps.reads_rise (subst (λ m. Rose (b.read_faults m) (c.read_faults m)) same (p.cause f is));
+            counts = spares_behind a b c first.counts result p.counts;
           }
 
       module _ (c : Seen) (rest body : List ℕ) (is_in : IsTrue (a.input slot)) (room : h.size ≤ budget.bytes) (least : 12 ≤ h.size) (sized_body : length body ≡ h.size - 12) where
@@ -188,6 +211,9 @@ module _ (slot : ℕ) (a b : Seen) (held mid front : List ℕ) (n : ℕ) (budget
           both : Reads (a.name slot) a c
           both = reads_trans (a.name slot) a b c first.reads (subst (λ m. Reads m b c) same second.reads)
 
+          both_counts : SameReadFaults a c
+          both_counts m = second.counts m ∙ first.counts m
+
           pub block_cut : k < length body → BlockRead slot a c held rest budget at s (Err (errors.Fault at why.Cut))
           block_cut lt = record {
             reads = both;
@@ -199,6 +225,7 @@ module _ (slot : ℕ) (a b : Seen) (held mid front : List ℕ) (n : ℕ) (budget
             ended = λ told. tt;
             fits = tt;
             cause = no_cause _ _ (errors.Fault at why.Cut) tt;
+            counts = both_counts;
           }
 
           module _ (full : length body ≤ k) (block : List ℕ) (made : block ≡ front ++ body) where
@@ -224,6 +251,7 @@ module _ (slot : ℕ) (a b : Seen) (held mid front : List ℕ) (n : ℕ) (budget
               ended = λ told. tt;
               fits = tt;
               cause = no_cause _ _ e own;
+              counts = spares_own a c both_counts e own;
             }
 
             module _ (content : Content) (says : at_fault at (body_read h s.faces block) ≡ Ok content) where
@@ -238,6 +266,7 @@ module _ (slot : ℕ) (a b : Seen) (held mid front : List ℕ) (n : ℕ) (budget
                 ended = λ told. tt;
                 fits = tt;
                 cause = no_cause _ _ (errors.Limit limits.Frames) tt;
+                counts = both_counts;
               }
 
               pub block_done : frames_of content ≤ budget.frames → AreKept (found content) → BlockRead slot a c held rest budget at s (Ok (Some (record { size = h.size; content = content })))
@@ -248,4 +277,5 @@ module _ (slot : ℕ) (a b : Seen) (held mid front : List ℕ) (n : ℕ) (budget
                 ended = λ told. tt;
                 fits = (least, room, le_frames, kept);
                 cause = λ f e. absurd (cc);
+                counts = both_counts;
               }

@@ -1,7 +1,7 @@
 -- The classic capture of the packets of a file, and what converting a file does.
-use Rattle.std.specs.Prelude.{◌≡◌, ◌≢◌, ℕ, ◌*◌, ◌/◌, ◌%◌, max, Bool, false, List, [], ◌∷◌, ◌++◌, length, take, IsTrue, Some, Result, Ok, Err}
+use Rattle.std.specs.Prelude.{◌≡◌, ◌≢◌, ℕ, ◌*◌, ◌/◌, ◌%◌, max, false, List, [], ◌∷◌, ◌++◌, length, take, IsTrue, Some, Result, Ok, Err}
 use Rattle.fab_base.specs.Layout.{spelled_low}
-use Rattle.fab_base.specs.Seen.{Seen, SameFiles, Rose}
+use Rattle.fab_base.specs.Seen.{Seen, SameFiles, SameReadFaults, SameWriteFaults, Rose}
 use Rattle.pcap_file.specs.declared.Budget.{Budget}
 use Rattle.pcap_file.specs.declared.CaptureHead.{CaptureHead}
 use Rattle.pcap_file.specs.declared.Record.{Record}
@@ -45,11 +45,16 @@ SaysInput from budget old (errors.Limit limit) = (l : List ℕ) × (old.file fro
 SaysInput from budget old (errors.Read failed) = Unit {0}
 SaysInput from budget old errors.Memory = Unit {0}
 
+-- the depot counted no fault
+abbrev pub NoFault : Seen → Seen → Type 0
+NoFault old new = SameReadFaults old new × SameWriteFaults old new
+
+-- A fault of the depot is counted where one is told, and else none: want of memory never stands for one.
 abbrev pub CauseInput : List ℕ → Seen → Seen → NgError → Type 0
-CauseInput from old new (errors.Fault at fault) = Unit {0}
-CauseInput from old new (errors.Limit limit) = Unit {0}
+CauseInput from old new (errors.Fault at fault) = NoFault old new
+CauseInput from old new (errors.Limit limit) = NoFault old new
 CauseInput from old new (errors.Read failed) = Rose (old.read_faults from) (new.read_faults from)
-CauseInput from old new errors.Memory = Unit {0}
+CauseInput from old new errors.Memory = NoFault old new
 
 -- the input that was found is a file of packets within the limits, and the output is their capture
 pub record Converted (from to : List ℕ) (budget : Budget) (old new : Seen) (count : ℕ) : Type 0 where

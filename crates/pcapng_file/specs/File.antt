@@ -1,6 +1,6 @@
 -- A pcapng file, read block by block.
 use Rattle.std.specs.Prelude.{◌≡◌, ℕ, zero, suc, ◌+◌, ◌-◌, ◌*◌, ◌^◌, ◌<◌, ◌≤◌, Bool, not, IsTrue, ◌==◌, nat_lt, ◌&&◌, if◌then◌else◌, List, [], ◌∷◌, ◌++◌, length, take, drop, Option, Some, None, is_some, Result, Ok, Err, IfOk, OnOk, OnErr, MatchOption}
-use Rattle.fab_base.specs.Seen.{Seen, Reads, Rose}
+use Rattle.fab_base.specs.Seen.{Seen, Reads, Rose, SameReadFaults}
 use Rattle.fab_base.specs.declared.values.Failed.{Failed}
 use Rattle.pcap_file.specs.declared.Budget.{Budget}
 use Rattle.pcapng_file.specs.declared.fault.NgWhy.{NgWhy}
@@ -151,6 +151,11 @@ NotRead (errors.Limit limit) = Unit {0}
 NotRead (errors.Read failed) = ⊥
 NotRead errors.Memory = Unit {0}
 
+-- no fault of reading is counted but where one is told, so want of memory never stands for one
+abbrev pub SparesReads : {A : Type 0} → Seen → Seen → Result A NgError → Type 0
+SparesReads old new (Err (errors.Read failed)) = Unit {0}
+SparesReads old new result = SameReadFaults old new
+
 -- What reading a file from a slot does. Where the depot tells, the answer is what the bytes say that the slot has left, all
 -- of which are taken then, except that the depot may fail, which its count shows, and memory may be refused. The budget
 -- is lowered on Ok alone.
@@ -163,6 +168,7 @@ pub record NgReads (slot : ℕ) (old new : Seen) (had left : Budget) (result : R
   pub untouched : OnErr result (left ≡ had)
   pub kept : IfOk result AreKept
   pub cause : (f : Failed) → result ≡ Err (errors.Read f) → Rose (old.read_faults (old.name slot)) (new.read_faults (old.name slot))
+  pub counts : SparesReads old new result
 
 -- ---- inside the crate
 
@@ -174,3 +180,4 @@ pub record BlockRead (slot : ℕ) (old new : Seen) (held rest : List ℕ) (budge
   pub ended : IsTrue old.told → IfOk result (λ o. MatchOption o (rest ++ new.left slot ≡ []) (λ b. Unit {0}))
   pub fits : IfOk result (λ o. MatchOption o (Unit {0}) (λ b. (HEAD ≤ b.size) × (b.size ≤ budget.bytes) × (frames_of b.content ≤ budget.frames) × AreKept (found b.content)))
   pub cause : (f : Failed) → result ≡ Err (errors.Read f) → Rose (old.read_faults (old.name slot)) (new.read_faults (old.name slot))
+  pub counts : SparesReads old new result
