@@ -10,16 +10,11 @@ use crate::cuts::{cut_all, lengths_of};
 use fab_base::{Moment, NoMemory};
 use fab_config::Config;
 use forward_core::{Drained, EventList, Out, write_out};
-use pcap_file::write_head;
+use pcap_file::{LAST_SECOND, RECORD_HEAD, write_head};
 use std::alloc::Global;
 
-/// Where the first of the two lengths of a record stands in it, and where its frame begins.
+/// Where the first of the two lengths of a record stands in it.
 const LENGTH_AT: usize = 8;
-
-const RECORD_HEAD: usize = 16;
-
-/// The last second that a record can name. A later moment has the rest in its fraction.
-const LAST_SECOND: u64 = 4_294_967_295;
 
 /// A page for each of so many ports, with the head of a capture.
 pub fn head_records(alloc: Global, ports: usize) -> Result<Vec<Vec<u8>>, NoMemory>
