@@ -15,6 +15,7 @@ mod writing;
 use fab_base::{Bytes, Mac, Moment, OwnedList, Wwn};
 pub use hexes::{read_mac, read_name};
 pub use laws::a_written_configuration_is_read_back;
+pub use named::LAST_MOMENT;
 pub use reading::{ConfigError, read_config};
 use std::marker::Model;
 use thiserror::Error;

@@ -3,8 +3,7 @@ ghost use Rattle.std.specs.Prelude.{◌≡◌, ◌≤◌, IfSome, MatchBool};
 ghost use Rattle.fab_policy.specs.Private.LineWords.{IsShortest};
 ghost use Rattle.fabric_tool.specs.Command as spec;
 
-/// The last millisecond that a capture can name.
-const LAST_START: u64 = 4_294_967_295_999;
+use fab_config::LAST_MOMENT;
 
 /// The moment that a word spells as a number, no later than a capture can name.
 pub(crate) fn start_of(word: &str) -> Option<u64>
@@ -12,7 +11,7 @@ pub(crate) fn start_of(word: &str) -> Option<u64>
     ensures range { IfSome result (λ n. n ≤ 4294967295999) }
 {
     let number = number_of(word)?;
-    if number <= LAST_START {
+    if number <= LAST_MOMENT {
         Some(number)
     } else {
         None
