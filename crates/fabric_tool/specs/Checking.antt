@@ -1,5 +1,5 @@
 -- What `replay` and `show` find: a journal, and outputs, checked against captures.
-use Rattle.std.specs.Prelude.{◌≡◌, ℕ, ◌+◌, ◌-◌, ◌*◌, ◌≤◌, ◌<◌, ◌⊎◌, IsTrue, List, [], ◌∷◌, ◌++◌, length, get_or, Some, Ok, Err, Result, IfOk, IfErr, OnErr, Vec, String}
+use Rattle.std.specs.Prelude.{◌≡◌, ℕ, ◌+◌, ◌-◌, ◌*◌, ◌≤◌, ◌<◌, ◌⊎◌, IsTrue, List, [], ◌∷◌, ◌++◌, length, get_or, Some, Ok, Err, Result, IfOk, IfErr, OnErr, Vec}
 use Rattle.std.specs.declared.alloc.Global.{Global}
 use Rattle.fab_base.specs.Seen.{Seen, SameFiles, Reads, Touches, Nothing, Rose, bytes_of}
 use Rattle.fab_base.specs.declared.values.Failed.{Failed}
