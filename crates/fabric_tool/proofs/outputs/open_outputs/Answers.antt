@@ -1,4 +1,4 @@
-use Rattle.std.proofs.Common.{◌+◌, ◌<◌, ◌∷◌, sym, subst, arith}
+use Rattle.std.proofs.Common.{◌+◌, ◌<◌, ◌∷◌, ◌≡◌, sym, subst, arith}
 use Rattle.fabric_tool.specs.Command.{port_count}
 use Rattle.fabric_tool.proofs.OpenLemmas.{OpenedSoFar}
 use Rattle.fabric_tool.proofs.PortLoops.{output_names, out_as, journal_opened, journal_failed, output_more, output_failed, opened_count}
@@ -39,3 +39,15 @@ returns-in-Err-open_out g c =
       opens = output_failed c.args.words.now c.requires.run c.loop-port.port lt (seen c.args.depot.now) (seen c.loop-port.depot) (seen c.open_out-in-loop-port.new.self) (c.in-Ok.slot ∷ c.loop-port.outs.items) c.loop-port.invariant
           c.in-Err-open_out.failed (out_as c.output_at.ensures c.in-Err-open_out.ensures.opens);
     }
+
+-- those of all ports were opened
+pub returns : goal.returns
+returns g c =
+    let seen = g.D.Depot.seen in
+    let all : c.loop-port.port ≡ port_count c.args.words.now =
+    let end = c.loop-port-test.false in
+    let within = c.loop-port.auto.port-end in
+    let value = c.port_count-port-end.ensures.value in
+    omega arith in
+    let so = subst (λ p. OpenedSoFar (output_names c.args.words.now p) (seen c.args.depot.now) (seen c.loop-port.depot) (c.in-Ok.slot ∷ c.loop-port.outs.items)) all c.loop-port.invariant in
+    record { opens = record { opens = so.opens; slots = so.are; cause = tt } }
