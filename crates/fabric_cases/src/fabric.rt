@@ -1,19 +1,18 @@
 //! A forwarder: frames stepped one by one, its journal and each byte that it sends.
 ghost use Rattle.std.specs.Prelude.{◌≡◌, ◌≤◌, ◌<◌, ◌^◌, IsSome, IfSome};
 
-use crate::frames::caught;
-use crate::logins::said;
-use crate::roster::config_of;
-use crate::say::{end, end_address, end_hex, end_moment, end_number, say, say_when};
-use crate::words::{
-    CaseFault, address, has_word, hexadecimal, moment, name_at, number, port, small,
-};
 use fab_base::{Caught, FcId, Moment, NoMemory, PortNo};
 use fab_config::Config;
 use fab_policy::{hear, write_frame_line, write_line1};
 use fab_replay::write_shown;
 use forward_core::{Drained, EventList, Fabric, Out, StepFault, write_out};
+use frame_cases::{caught, config_of};
 use std::alloc::Global;
+use table_cases::logins::said;
+use table_cases::say::{end, end_address, end_hex, end_moment, end_number, say, say_when};
+use table_cases::words::{
+    CaseFault, address, has_word, hexadecimal, moment, name_at, number, port, small,
+};
 
 /// A call of a forwarder.
 pub(crate) fn fabric_call(

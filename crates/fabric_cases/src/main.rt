@@ -3,23 +3,11 @@
 
 mod cases;
 mod fabric;
-mod frames;
-mod logins;
-mod messages;
-mod pool;
-mod registry;
 mod replay;
 mod roster;
-mod say;
-mod sending;
-mod sent;
-mod text;
-mod voices;
-mod words;
-mod zoning;
 
 use case_lines::{next_line, read_input, write_output};
-use cases::{Tables, answer};
+use cases::{Open, answer};
 use forward_core::Fabric;
 use roster::Roll;
 use std::alloc::AllocGlobal;
@@ -37,36 +25,36 @@ fn run<R: Input + Print + AllocGlobal>(rt: &R) -> io::Result<()> {
 // What is open is owned by three functions, one inside the other, since a function pays dearly for
 // each exit at which much is dropped.
 fn answer_text<R: Print + AllocGlobal>(rt: &R, text: &[u8]) -> io::Result<()> {
-    let mut tables = Tables::new(rt.alloc());
-    with_roll(rt, &mut tables, text)
+    let mut open = Open::new(rt.alloc());
+    with_roll(rt, &mut open, text)
 }
 
-fn with_roll<R: Print + AllocGlobal>(rt: &R, tables: &mut Tables, text: &[u8]) -> io::Result<()> {
+fn with_roll<R: Print + AllocGlobal>(rt: &R, open: &mut Open, text: &[u8]) -> io::Result<()> {
     let mut roll = None;
-    with_fabric(rt, tables, &mut roll, text)
+    with_fabric(rt, open, &mut roll, text)
 }
 
 fn with_fabric<R: Print + AllocGlobal>(
     rt: &R,
-    tables: &mut Tables,
+    open: &mut Open,
     roll: &mut Option<Roll>,
     text: &[u8],
 ) -> io::Result<()> {
     let mut fabric = None;
-    answer_all(rt, tables, roll, &mut fabric, text)
+    answer_all(rt, open, roll, &mut fabric, text)
 }
 
 // Answers each line of a text.
 fn answer_all<R: Print + AllocGlobal>(
     rt: &R,
-    tables: &mut Tables,
+    open: &mut Open,
     roll: &mut Option<Roll>,
     fabric: &mut Option<Fabric>,
     text: &[u8],
 ) -> io::Result<()> {
     let mut rest = text;
     'lines: while let Some((line, behind)) = next_line(rest) {
-        answer_line(rt, tables, roll, fabric, line)?;
+        answer_line(rt, open, roll, fabric, line)?;
         rest = behind;
     }
     Ok(())
@@ -74,12 +62,12 @@ fn answer_all<R: Print + AllocGlobal>(
 
 fn answer_line<R: Print + AllocGlobal>(
     rt: &R,
-    tables: &mut Tables,
+    open: &mut Open,
     roll: &mut Option<Roll>,
     fabric: &mut Option<Fabric>,
     line: &[u8],
 ) -> io::Result<()> {
     let mut out = Vec::new(rt.alloc());
-    answer(rt.alloc(), tables, roll, fabric, line, &mut out)?;
+    answer(rt.alloc(), open, roll, fabric, line, &mut out)?;
     write_output(rt, &out)
 }

@@ -1,14 +1,12 @@
 //! The check of a journal: outputs that differ, and rows as they are shown.
-use crate::say::{end, end_number};
-use crate::words::{CaseFault, address, code, enode, hex, moment, name, octet, short};
-use case_lines::put_line;
 use ct_messages::TypeMap;
 use fab_base::Failed;
 use fab_base::fields::u32_at;
 use fab_replay::{Compared, Row, write_row};
-use name_server::RegFault;
 use open_files::OpenFiles;
 use std::alloc::Global;
+use table_cases::say::{end, end_number};
+use table_cases::words::{CaseFault, address, enode, hex, moment, name, octet, short};
 
 /// `compared FOUND FIRST SECOND`: the first byte of an output that differs from two pieces.
 pub(crate) fn compared_call(
@@ -61,15 +59,4 @@ fn type_map(bytes: &[u8]) -> TypeMap {
         }
     }
     TypeMap(words)
-}
-
-/// `codes REASON EXPLANATION`: how a refused registration is told.
-pub(crate) fn codes_call(alloc: Global, line: &[u8], out: &mut Vec<u8>) -> Result<(), CaseFault> {
-    let fault = RegFault::Refused {
-        reason: code(line, 1)?,
-        explanation: code(line, 2)?,
-    };
-    let text = format!(in alloc; "{fault}")?;
-    put_line(out, text.as_bytes())?;
-    Ok(())
 }

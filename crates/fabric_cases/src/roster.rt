@@ -4,19 +4,22 @@ ghost use Rattle.std.specs.Prelude.{◌≡◌, ◌==◌, true, false, IfOk};
 ghost use Rattle.std.specs.List.{list_any};
 ghost use Rattle.fab_roster.specs.Reaching.{zones_of};
 
-use crate::frames::caught;
-use crate::logins::{login_of, said};
-use crate::registry::{is_registration, said_refusal, told};
-use crate::say::{end, end_address, end_bool, end_number, say_number};
-use crate::words::{CaseFault, address, enode, hex, moment, name, name_at, octet, port, short};
 use ct_messages::read_ask;
 use fab_base::{FcId, Moment, NoMemory, PortNo, Wwn};
-use fab_config::{Config, ConfigError, read_config};
+use fab_config::Config;
 use fab_judge::{Judged, judge};
 use fab_policy::{Verdict, hear, write_frame_line};
 use fab_roster::{Request, Roster};
+use frame_cases::{caught, config_of};
 use login_table::Login;
 use std::alloc::Global;
+use table_cases::logins::{login_of, said};
+use table_cases::registry::{is_registration, said_refusal, told};
+use table_cases::say::{end, end_address, end_bool, end_number, say_number};
+use table_cases::words::{
+    CaseFault, address, enode, hex, moment, name, name_at, octet, port, short,
+};
+use table_cases::zoning::is_function;
 use zone_rules::Zones;
 
 /// A roster, with its configuration and its zones.
@@ -45,15 +48,6 @@ pub(crate) fn roster_call(
     match held {
         Some(roll) => roll.asked(alloc, line, out),
         None => Err(CaseFault::Closed),
-    }
-}
-
-/// The configuration of a text.
-pub(crate) fn config_of(alloc: Global, text: &[u8]) -> Result<Config, CaseFault> {
-    match read_config(alloc, text) {
-        Ok(config) => Ok(config),
-        Err(ConfigError::Memory) => Err(CaseFault::Memory),
-        Err(_) => Err(CaseFault::Refused),
     }
 }
 
@@ -178,7 +172,7 @@ impl Roll {
     }
 
     fn watch(&mut self, address: FcId, function: u8) -> Result<(), CaseFault> {
-        if !crate::zoning::is_function(function) || self.roster.by_address(address).is_none() {
+        if !is_function(function) || self.roster.by_address(address).is_none() {
             return Err(CaseFault::Refused);
         }
         self.roster.watch(address, function);

@@ -1,4 +1,4 @@
-use Rattle.fabric_cases.proofs.voices.Voices.silent.Given as goal
+use Rattle.table_cases.proofs.voices.Voices.silent.Given as goal
 
 -- the call counts on the ledger of its blank
 abbrev pub ghosts-popped : goal.ghosts-popped

@@ -85,7 +85,7 @@ impl Logins {
 }
 
 /// A login without one at the name server: `ADDRESS NAME NODE PORT MAC`.
-pub(crate) fn login_of(line: &[u8]) -> Result<Login, CaseFault> {
+pub fn login_of(line: &[u8]) -> Result<Login, CaseFault> {
     Ok(Login {
         address: address(line, 2)?,
         name: name(line, 3)?,
@@ -96,7 +96,7 @@ pub(crate) fn login_of(line: &[u8]) -> Result<Login, CaseFault> {
 }
 
 /// A login, or `none`.
-pub(crate) fn said(out: &mut Vec<u8>, login: Option<&Login>) -> Result<(), CaseFault> {
+pub fn said(out: &mut Vec<u8>, login: Option<&Login>) -> Result<(), CaseFault> {
     let Some(login) = login else {
         return end(out, "none");
     };

@@ -1,10 +1,10 @@
 //! Messages that are sent, in the field's terms.
-use crate::say::{
-    end, end_address, end_hex, end_number, say, say_address, say_mac, say_number, say_when,
-};
-use crate::words::CaseFault;
 use case_lines::put_hex;
 use fab_replies::{Answer, Asker, Out, OutList, OutMessage};
+use table_cases::say::{
+    end, end_address, end_hex, end_number, say, say_address, say_mac, say_number, say_when,
+};
+use table_cases::words::CaseFault;
 
 /// Each message, a line each; `nothing` where there is none.
 pub(crate) fn said_outs(outs: &OutList, out: &mut Vec<u8>) -> Result<(), CaseFault> {

@@ -9,9 +9,6 @@ ghost use Rattle.fab_sending.specs.Replies.{IsBody, Suits};
 
 use crate::frames::caught;
 use crate::sent::said_outs;
-use crate::words::{
-    CaseFault, address, code, enode, moment, name, name_at, port, short, small, some_moment,
-};
 use ct_messages::{CtTell, NextPort, TypeMap};
 use fab_base::{Bytes, FcId, Mac, Moment, NoMemory, PortNo, Wwn};
 use fab_config::Config;
@@ -21,6 +18,9 @@ use fab_sending::replies::replies;
 use fab_sending::{advertise, answer, clear};
 use fip_codec::VxPort;
 use std::alloc::Global;
+use table_cases::words::{
+    CaseFault, address, code, enode, moment, name, name_at, port, short, small, some_moment,
+};
 
 /// `sends CALL ..`: the messages that are sent.
 pub(crate) fn send_call(
@@ -134,7 +134,7 @@ fn made(alloc: Global, line: &[u8], heard: &Heard<'_>) -> Result<OutList, CaseFa
     match name_at(line, 4) {
         "vlans" => in_fip(alloc, now, port, heard),
         "forwarded" => {
-            let to = crate::words::port(line, 5)?;
+            let to = table_cases::words::port(line, 5)?;
             to_body(alloc, now, port, heard, Verdict::Forwarded(to))
         }
         "ns-logout" => to_body(alloc, now, port, heard, Verdict::NsLogout),

@@ -3,8 +3,6 @@ ghost use Rattle.std.specs.Prelude.{ℕ};
 ghost use Rattle.fab_policy.specs.Spelling.{IsRangedLine, IsClockOf, EndsAscend};
 ghost use Rattle.fab_policy.specs.declared.line.Format.TheVariants.{One};
 
-use crate::say::say_number;
-use crate::words::{CaseFault, moment};
 use case_lines::{put, put_line};
 use fab_base::{Bytes, Caught, Moment, PortNo};
 use fab_policy::{
@@ -12,6 +10,8 @@ use fab_policy::{
     write_line, write_line1, write_tick_line,
 };
 use std::alloc::Global;
+use table_cases::say::say_number;
+use table_cases::words::{CaseFault, moment};
 
 /// `line 1|2 "TEXT"`: the line in the first format after it was read, with the clock in the second.
 pub(crate) fn line_call(

@@ -6,8 +6,8 @@ ghost use Rattle.ct_messages.specs.Server as server;
 ghost use Rattle.name_server.specs.Registry.{entry_at};
 
 use crate::say::{end, end_bool, end_hex, end_name, say};
-use crate::words::{CaseFault, address, hex, name, name_at};
-use case_lines::put_hex;
+use crate::words::{CaseFault, address, code, hex, name, name_at};
+use case_lines::{put_hex, put_line};
 use ct_messages::{CtAsk, CtTell, TypeMap, read_ask, write_tell};
 use fab_base::{FcId, NoMemory, Wwn};
 use name_server::{RegFault, Registry, Seen, SeenPort};
@@ -180,7 +180,7 @@ fn answer(
 }
 
 /// The bytes of an answer.
-pub(crate) fn told(alloc: Global, tell: &CtTell, out: &mut Vec<u8>) -> Result<(), CaseFault>
+pub fn told(alloc: Global, tell: &CtTell, out: &mut Vec<u8>) -> Result<(), CaseFault>
     requires { CanTell tell.now }
 {
     let mut bytes = Vec::new(alloc);
@@ -189,7 +189,7 @@ pub(crate) fn told(alloc: Global, tell: &CtTell, out: &mut Vec<u8>) -> Result<()
 }
 
 /// Whether a request registers something.
-pub(crate) fn is_registration(ask: &CtAsk<'_>) -> bool
+pub fn is_registration(ask: &CtAsk<'_>) -> bool
     ensures { result ≡ server.is_registration (view ask.now) }
 {
     match ask {
@@ -204,7 +204,7 @@ pub(crate) fn is_registration(ask: &CtAsk<'_>) -> bool
 }
 
 /// `allowed`, or the codes with which a registration is refused.
-pub(crate) fn said_refusal(out: &mut Vec<u8>, refusal: Option<RegFault>) -> Result<(), CaseFault> {
+pub fn said_refusal(out: &mut Vec<u8>, refusal: Option<RegFault>) -> Result<(), CaseFault> {
     match refusal {
         Some(
             RegFault::Refused {
@@ -236,4 +236,15 @@ fn said_types(out: &mut Vec<u8>, types: Option<TypeMap>) -> Result<(), CaseFault
         }
         None => end(out, "none"),
     }
+}
+
+/// `codes REASON EXPLANATION`: how a refused registration is told.
+pub(crate) fn codes_call(alloc: Global, line: &[u8], out: &mut Vec<u8>) -> Result<(), CaseFault> {
+    let fault = RegFault::Refused {
+        reason: code(line, 1)?,
+        explanation: code(line, 2)?,
+    };
+    let text = format!(in alloc; "{fault}")?;
+    put_line(out, text.as_bytes())?;
+    Ok(())
 }

@@ -8,7 +8,7 @@ use std::alloc::{AllocError, AllocFailed, Global};
 
 /// Why a line has no answer.
 #[derive(Clone, Copy)]
-pub(crate) enum CaseFault {
+pub enum CaseFault {
     /// It isn't what its call takes.
     Words,
     /// Nothing is open that it could be asked of.
@@ -38,22 +38,22 @@ impl<T: Drop> From<AllocFailed<T>> for CaseFault {
 }
 
 /// The word at a place as a text.
-pub(crate) fn name_at(line: &[u8], place: usize) -> &str {
+pub fn name_at(line: &[u8], place: usize) -> &str {
     str::from_utf8(word_at(line, place)).unwrap_or("")
 }
 
 /// Whether there is a word at a place.
-pub(crate) fn has_word(line: &[u8], place: usize) -> bool {
+pub fn has_word(line: &[u8], place: usize) -> bool {
     !word_at(line, place).is_empty()
 }
 
 /// A decimal number.
-pub(crate) fn number(line: &[u8], place: usize) -> Result<u64, CaseFault> {
+pub fn number(line: &[u8], place: usize) -> Result<u64, CaseFault> {
     number_of(word_at(line, place)).ok_or(CaseFault::Words)
 }
 
 /// A decimal number below 2^32.
-pub(crate) fn small(line: &[u8], place: usize) -> Result<u32, CaseFault> {
+pub fn small(line: &[u8], place: usize) -> Result<u32, CaseFault> {
     match u32::try_from(number(line, place)?) {
         Ok(number) => Ok(number),
         Err(_) => Err(CaseFault::Words),
@@ -61,7 +61,7 @@ pub(crate) fn small(line: &[u8], place: usize) -> Result<u32, CaseFault> {
 }
 
 /// A decimal number below 65536.
-pub(crate) fn short(line: &[u8], place: usize) -> Result<u16, CaseFault> {
+pub fn short(line: &[u8], place: usize) -> Result<u16, CaseFault> {
     match u16::try_from(number(line, place)?) {
         Ok(number) => Ok(number),
         Err(_) => Err(CaseFault::Words),
@@ -69,7 +69,7 @@ pub(crate) fn short(line: &[u8], place: usize) -> Result<u16, CaseFault> {
 }
 
 /// A decimal number below 256.
-pub(crate) fn octet(line: &[u8], place: usize) -> Result<u8, CaseFault> {
+pub fn octet(line: &[u8], place: usize) -> Result<u8, CaseFault> {
     match u8::try_from(number(line, place)?) {
         Ok(number) => Ok(number),
         Err(_) => Err(CaseFault::Words),
@@ -77,12 +77,12 @@ pub(crate) fn octet(line: &[u8], place: usize) -> Result<u8, CaseFault> {
 }
 
 /// A moment in milliseconds.
-pub(crate) fn moment(line: &[u8], place: usize) -> Result<Moment, CaseFault> {
+pub fn moment(line: &[u8], place: usize) -> Result<Moment, CaseFault> {
     Ok(Moment(number(line, place)?))
 }
 
 /// A moment, or the word - for none.
-pub(crate) fn some_moment(line: &[u8], place: usize) -> Result<Option<Moment>, CaseFault> {
+pub fn some_moment(line: &[u8], place: usize) -> Result<Option<Moment>, CaseFault> {
     if name_at(line, place) == "-" {
         return Ok(None);
     }
@@ -90,7 +90,7 @@ pub(crate) fn some_moment(line: &[u8], place: usize) -> Result<Option<Moment>, C
 }
 
 /// A number in hexadecimal digits.
-pub(crate) fn hexadecimal(line: &[u8], place: usize) -> Result<u32, CaseFault> {
+pub fn hexadecimal(line: &[u8], place: usize) -> Result<u32, CaseFault> {
     match u32::from_str_radix(name_at(line, place), 16) {
         Ok(number) => Ok(number),
         Err(_) => Err(CaseFault::Words),
@@ -98,7 +98,7 @@ pub(crate) fn hexadecimal(line: &[u8], place: usize) -> Result<u32, CaseFault> {
 }
 
 /// A byte in two hexadecimal digits.
-pub(crate) fn code(line: &[u8], place: usize) -> Result<u8, CaseFault> {
+pub fn code(line: &[u8], place: usize) -> Result<u8, CaseFault> {
     match u8::from_str_radix(name_at(line, place), 16) {
         Ok(number) => Ok(number),
         Err(_) => Err(CaseFault::Words),
@@ -106,27 +106,27 @@ pub(crate) fn code(line: &[u8], place: usize) -> Result<u8, CaseFault> {
 }
 
 /// An address in six hexadecimal digits.
-pub(crate) fn address(line: &[u8], place: usize) -> Result<FcId, CaseFault> {
+pub fn address(line: &[u8], place: usize) -> Result<FcId, CaseFault> {
     FcId::new(hexadecimal(line, place)?).ok_or(CaseFault::Words)
 }
 
 /// A port from 1 to 64.
-pub(crate) fn port(line: &[u8], place: usize) -> Result<PortNo, CaseFault> {
+pub fn port(line: &[u8], place: usize) -> Result<PortNo, CaseFault> {
     PortNo::new(small(line, place)?).ok_or(CaseFault::Words)
 }
 
 /// A MAC with colons.
-pub(crate) fn mac(line: &[u8], place: usize) -> Result<Mac, CaseFault> {
+pub fn mac(line: &[u8], place: usize) -> Result<Mac, CaseFault> {
     read_mac(word_at(line, place)).ok_or(CaseFault::Words)
 }
 
 /// A worldwide name with colons.
-pub(crate) fn name(line: &[u8], place: usize) -> Result<Wwn, CaseFault> {
+pub fn name(line: &[u8], place: usize) -> Result<Wwn, CaseFault> {
     read_name(word_at(line, place)).ok_or(CaseFault::Words)
 }
 
 /// A port and a MAC.
-pub(crate) fn enode(line: &[u8], place: usize) -> Result<Enode, CaseFault>
+pub fn enode(line: &[u8], place: usize) -> Result<Enode, CaseFault>
     requires { place < 1000 }
 {
     let port = port(line, place)?;
@@ -135,7 +135,7 @@ pub(crate) fn enode(line: &[u8], place: usize) -> Result<Enode, CaseFault>
 }
 
 /// Bytes in hexadecimal digits, and - for none.
-pub(crate) fn hex(alloc: Global, line: &[u8], place: usize) -> Result<Bytes, CaseFault> {
+pub fn hex(alloc: Global, line: &[u8], place: usize) -> Result<Bytes, CaseFault> {
     match bytes_of(alloc, word_at(line, place)) {
         Ok(bytes) => Ok(Bytes::from_vec(bytes)),
         Err(_) => Err(CaseFault::Words),

@@ -4,16 +4,16 @@ ghost use Rattle.std.specs.Prelude.{◌≡◌, ◌<◌, IsTrue, [], IfOk, Some};
 ghost use Rattle.fab_replies.specs.Message.{can_send, frame_at};
 
 use crate::frames::caught;
-use crate::say::end_hex;
-use crate::words::{
-    CaseFault, address, code, has_word, hex, hexadecimal, mac, name, name_at, port, short,
-};
 use fab_base::{Caught, Moment, NoMemory, PortNo};
 use fab_config::Config;
 use fab_policy::{Event, Verdict};
 use fab_replies::{Answer, Asker, EventList, Out, OutMessage, VxPorts, write_out};
 use fip_codec::{LoginKind, VxPort};
 use std::alloc::Global;
+use table_cases::say::end_hex;
+use table_cases::words::{
+    CaseFault, address, code, has_word, hex, hexadecimal, mac, name, name_at, port, short,
+};
 
 /// `message KIND ..`: the bytes of a message.
 pub(crate) fn message_call(

@@ -202,7 +202,7 @@ impl Watched {
     }
 }
 
-pub(crate) fn is_function(function: u8) -> bool
+pub fn is_function(function: u8) -> bool
     ensures { result ≡ spec.is_function function }
 {
     function == 1 || function == 2 || function == 3 || function == 255

@@ -1,4 +1,4 @@
-use Rattle.fabric_cases.proofs.text.clocked.Goals as goal
+use Rattle.frame_cases.proofs.text.clocked.Goals as goal
 
 -- a frame's entry may stand at any clock
 pub in_both-requires-in-Frame-clause-clock : goal.in_both-requires-in-Frame-clause-clock

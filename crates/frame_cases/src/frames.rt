@@ -2,8 +2,6 @@
 //! discovery", "FIP discovery").
 ghost use Rattle.std.specs.Prelude.{◌<◌};
 
-use crate::say::{end, end_hex};
-use crate::words::{CaseFault, hex, mac, name_at, short};
 use case_lines::{put, word_at};
 use fab_base::{Bytes, Caught, PortNo};
 use fab_config::{Config, ConfigError, read_config};
@@ -12,15 +10,25 @@ use fab_policy::{
     write_notice_to,
 };
 use std::alloc::Global;
+use table_cases::say::{end, end_hex};
+use table_cases::words::{CaseFault, hex, mac, name_at, short};
 
 /// The text of a configuration so far, and the configuration.
 #[derive(Drop)]
-pub(crate) struct Settings {
-    pub(crate) text: Vec<u8>,
-    pub(crate) config: Option<Config>,
+pub struct Settings {
+    pub text: Vec<u8>,
+    config: Option<Config>,
 }
 
 impl Settings {
+    /// No text, and no configuration.
+    pub fn new(alloc: Global) -> Settings {
+        Settings {
+            text: Vec::new(alloc),
+            config: None,
+        }
+    }
+
     /// `config` alone reads the lines before it; else it is one more line of the text.
     pub(crate) fn call(
         &mut self,
@@ -43,14 +51,8 @@ impl Settings {
     }
 
     fn read(&mut self, alloc: Global, out: &mut Vec<u8>) -> Result<(), CaseFault> {
-        match read_config(alloc, &self.text) {
-            Ok(config) => {
-                self.config = Some(config);
-                end(out, "read")
-            }
-            Err(ConfigError::Memory) => Err(CaseFault::Memory),
-            Err(_) => Err(CaseFault::Refused),
-        }
+        self.config = Some(config_of(alloc, &self.text)?);
+        end(out, "read")
     }
 
     /// The configuration that was read last.
@@ -62,8 +64,17 @@ impl Settings {
     }
 }
 
+/// The configuration of a text.
+pub fn config_of(alloc: Global, text: &[u8]) -> Result<Config, CaseFault> {
+    match read_config(alloc, text) {
+        Ok(config) => Ok(config),
+        Err(ConfigError::Memory) => Err(CaseFault::Memory),
+        Err(_) => Err(CaseFault::Refused),
+    }
+}
+
 /// A frame that was captured, whole or not.
-pub(crate) fn caught(alloc: Global, line: &[u8], place: usize) -> Result<Caught, CaseFault>
+pub fn caught(alloc: Global, line: &[u8], place: usize) -> Result<Caught, CaseFault>
     requires { place < 1000 }
 {
     let whole = word_at(line, place) != b"cut".as_slice();

@@ -1,0 +1,54 @@
+//! What is open, and which table a line is about.
+use crate::logins::{Logins, login_call};
+use crate::pool::pool_call;
+use crate::registry::{codes_call, registry_call};
+use crate::voices::{Voices, voice_call};
+use crate::words::{CaseFault, name_at};
+use crate::zoning::{Watched, Zoning, watcher_call, zone_call};
+use fc_addresses::Pool;
+use name_server::Registry;
+use std::alloc::Global;
+
+/// One table of each kind, where it was opened.
+#[derive(Drop)]
+pub struct Tables {
+    pool: Option<Pool>,
+    logins: Option<Logins>,
+    voices: Option<Voices>,
+    registry: Option<Registry>,
+    zoning: Option<Zoning>,
+    watched: Option<Watched>,
+}
+
+impl Tables {
+    /// Nothing is open.
+    pub fn new() -> Tables {
+        Tables {
+            pool: None,
+            logins: None,
+            voices: None,
+            registry: None,
+            zoning: None,
+            watched: None,
+        }
+    }
+}
+
+/// Appends the answer of a call of a table.
+pub fn answer(
+    alloc: Global,
+    tables: &mut Tables,
+    line: &[u8],
+    out: &mut Vec<u8>,
+) -> Result<(), CaseFault> {
+    match name_at(line, 0) {
+        "pool" => pool_call(alloc, &mut tables.pool, line, out),
+        "logins" => login_call(alloc, &mut tables.logins, line, out),
+        "voices" => voice_call(alloc, &mut tables.voices, line, out),
+        "registry" => registry_call(alloc, &mut tables.registry, line, out),
+        "codes" => codes_call(alloc, line, out),
+        "zones" => zone_call(alloc, &mut tables.zoning, line, out),
+        "watchers" => watcher_call(alloc, &mut tables.watched, &tables.zoning, line, out),
+        _ => Err(CaseFault::Words),
+    }
+}
