@@ -4,7 +4,7 @@ use Rattle.std.specs.Prelude.{Result, Vec, replicate, slice_set}
 use Rattle.std.specs.declared.alloc.Global.{Global}
 use Rattle.std.proofs.lemmas.List.{take-append-drop}
 use Rattle.std.proofs.lemmas.Option.{slice_get-get_or}
-use Rattle.fab_base.specs.Seen.{Seen, Rose, Touches}
+use Rattle.fab_base.specs.Seen.{Seen, Rose, SameReadFaults, SameWriteFaults, Touches}
 use Rattle.fab_base.specs.declared.values.Failed.{Failed}
 use Rattle.fab_base.proofs.SeenLemmas.{rose_later, touches_refl, touches_trans, touches_wider}
 use Rattle.fab_policy.specs.Written.{IsPrefixOf}
@@ -55,6 +55,8 @@ pub record Crossing (w : Forwarder) (ins : List (List Record)) (outs : List ℕ)
   pub touches : Touches (NameIn a outs) (NameIn a outs) a d
   pub count : length b.pages.items ≡ length outs
   pub files : IsTrue a.told → (q : ℕ) → q < length outs → (bytes : List ℕ) × (d.file (name_of a outs q) ≡ Some bytes) × (bytes ++ piece_at (items_in b.pages.items) q ≡ capture w (q + 1) done)
+  pub reads : SameReadFaults a d
+  pub writes : SameWriteFaults a d
 
 pub crossing_none : (w : Forwarder) (ins : List (List Record)) (outs : List ℕ) (a : Seen) (b : Bridge) → IsNew w (length ins) b → length outs ≡ length ins
     → (IsTrue a.told → (q : ℕ) → q < length outs → a.file (name_of a outs q) ≡ Some []) → Crossing w ins outs a a b
@@ -74,6 +76,8 @@ crossing_none w ins outs a b new count empty = record {
     empty told q lt,
     ap (λ l. piece_at l q) new.pages ∙ page_of head_bytes (length ins) q (omega (arith, lt, count)) ∙ sym (append-nil head_bytes),
   );
+  reads = λ m. refl;
+  writes = λ m. refl;
 }
 
 module _ (w : Forwarder) (ins : List (List Record)) (outs : List ℕ) (a d : Seen) (b : Bridge) (outputs : AreOutputs a outs) (c : Crossing w ins outs a d b) where
@@ -94,6 +98,8 @@ module _ (w : Forwarder) (ins : List (List Record)) (outs : List ℕ) (a d : See
               f.1,
               ap (λ l. f.0 ++ l) (n.2 q (omega (arith, lt, c.count))) ∙ sym (append_assoc f.0 old more) ∙ ap (λ l. l ++ more) f.2 ∙ sym (capture_more w (q + 1) c.done (n.0 ∷ [])),
             );
+        reads = c.reads;
+        writes = c.writes;
       }
 
   -- as long as one is to come it can be counted
@@ -140,6 +146,8 @@ module _ (w : Forwarder) (ins : List (List Record)) (outs : List ℕ) (a d : See
     passed_ = tt;
     dropped_ = tt;
     cause = inl refl;
+    reads = c.reads;
+    writes = λ other. c.writes;
   }
 
   module _ (d' : Seen) (b' : Bridge) where
@@ -147,6 +155,9 @@ module _ (w : Forwarder) (ins : List (List Record)) (outs : List ℕ) (a d : See
     touches_on wr =
         touches_trans (NameIn a outs) (NameIn a outs) a d d' c.touches
         (touches_wider (NameIn d outs) (NameIn d outs) (NameIn a outs) (NameIn a outs) d d' (λ m h. (h.0, h.1, h.2 ∙ name_is h.0 h.1)) (λ m h. (h.0, h.1, h.2 ∙ name_is h.0 h.1)) wr.puts.touches)
+
+    reads_on : {r : Result (Unit {0}) Failed} → Writes outs b b' d d' r → SameReadFaults a d'
+    reads_on wr m = wr.puts.reads m ∙ c.reads m
 
     -- the output at a place, as it was before
     had : (told : IsTrue a.told) (q : ℕ) (lt : q < length outs) → d.file (name_of d outs q) ≡ Some (c.files told q lt).0
@@ -174,6 +185,8 @@ module _ (w : Forwarder) (ins : List (List Record)) (outs : List ℕ) (a d : See
             grown wr told q lt,
             ap (λ l. capture w (q + 1) c.done ++ l) (wr.nothing q) ∙ append-nil (capture w (q + 1) c.done),
           );
+          reads = reads_on wr;
+          writes = λ m. wr.puts.counts m ∙ c.writes m;
         }
 
     pub crosses_all : least 1 (left_in ins b.places.items) ≡ None → Writes outs b b' d d' (Ok tt) → Crosses w ins outs a d' (Ok (record { passed = b'.passed; dropped = b'.dropped }))
@@ -186,6 +199,8 @@ module _ (w : Forwarder) (ins : List (List Record)) (outs : List ℕ) (a d : See
           passed_ = wr.same.2 ∙ c.stands.passed_ ∙ ap (λ l. passed (history w [] l)) all;
           dropped_ = wr.same.3 ∙ c.stands.dropped_ ∙ ap (λ l. dropped (history w [] l)) all;
           cause = tt;
+          reads = reads_on wr;
+          writes = λ other m. wr.puts.counts m ∙ c.writes m;
         }
 
     pub crosses_failed : (e : Failed) → Writes outs b b' d d' (Err e) → Crosses w ins outs a d' (Err faults.Write)
@@ -212,4 +227,6 @@ module _ (w : Forwarder) (ins : List (List Record)) (outs : List ℕ) (a d : See
               (subst (λ n. Rose (d.write_faults n) (d'.write_faults n)) (name_is wr.puts.cause.0 wr.puts.cause.1) wr.puts.cause.2),
         ),
       );
+      reads = reads_on wr;
+      writes = λ other. absurd (other refl);
     }

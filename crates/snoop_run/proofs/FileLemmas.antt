@@ -2,7 +2,7 @@
 use Rattle.std.proofs.Common.{◌≡◌, ◌≢◌, ℕ, ◌+◌, ◌<◌, ◌≤◌, inl, inr, List, [], ◌∷◌, ◌++◌, length, take, Some, Ok, Err, IsTrue, refl, sym, ap, ◌∙◌, subst, arith}
 use Rattle.std.specs.Prelude.{Result}
 use Rattle.std.proofs.lemmas.List.{append-nil}
-use Rattle.fab_base.specs.Seen.{Seen, Keeps, Rose, PutsAll, Touches, Only}
+use Rattle.fab_base.specs.Seen.{Seen, Keeps, Rose, SameReadFaults, SameWriteFaults, PutsAll, Touches, Only}
 use Rattle.fab_base.specs.declared.values.Failed.{Failed}
 use Rattle.fab_base.proofs.SeenLemmas.{rose_later, touches_refl, touches_trans, touches_wider, keeps_touches}
 use Rattle.pcap_file.proofs.lemmas.Numbers.{le_or_lt}
@@ -20,12 +20,16 @@ pub record Putting (slots : List ℕ) (pieces : List (List ℕ)) (k : ℕ) (a b 
   pub touches : Touches (NameIn a slots) (NameIn a slots) a b
   pub done : IsTrue a.told → (q : ℕ) → q < k → q < length slots → (bytes : List ℕ) → a.file (name_of a slots q) ≡ Some bytes → b.file (name_of a slots q) ≡ Some (bytes ++ piece_at pieces q)
   pub rest : (q : ℕ) → k ≤ q → q < length slots → b.file (name_of a slots q) ≡ a.file (name_of a slots q)
+  pub counts : SameWriteFaults a b
+  pub reads : SameReadFaults a b
 
 pub putting_none : (slots : List ℕ) (pieces : List (List ℕ)) (a : Seen) → Putting slots pieces 0 a a
 putting_none slots pieces a = record {
   touches = touches_refl (NameIn a slots) (NameIn a slots) a;
   done = λ told q lt within bytes was. absurd (omega arith);
   rest = λ q le lt. refl;
+  counts = λ m. refl;
+  reads = λ m. refl;
 }
 
 module _ (slots : List ℕ) (pieces : List (List ℕ)) (k : ℕ) (a b d : Seen) (outs : AreOutputs a slots) (lt : k < length slots) (p : Putting slots pieces k a b) where
@@ -74,6 +78,8 @@ module _ (slots : List ℕ) (pieces : List (List ℕ)) (k : ℕ) (a b d : Seen) 
       | inr more ↦ (keeps puts).files (name_of a slots q) (differs q within (λ e. omega arith)) ∙ p.done told q more within bytes had
     ];
     rest = others_rest puts;
+    counts = λ m. puts.counts m ∙ p.counts m;
+    reads = λ m. puts.reads m ∙ p.reads m;
   }
 
   pub put_failed : (e : Failed) → PutsAll {T = Unit {0}} {E = Failed} s (piece_at pieces k) b d (Err e) → PutsEach slots pieces a d (Err e)
@@ -96,6 +102,8 @@ module _ (slots : List ℕ) (pieces : List (List ℕ)) (k : ℕ) (a b d : Seen) 
       lt,
       rose_later _ _ _ (p.touches.writes_rise name) (subst (λ n. Rose (b.write_faults n) (d.write_faults n)) name_is puts.cause),
     );
+    counts = tt;
+    reads = λ m. puts.reads m ∙ p.reads m;
   }
 
 pub put_all_of : (slots : List ℕ) (pieces : List (List ℕ)) (k : ℕ) (a b : Seen) → length slots ≤ k → Putting slots pieces k a b → PutsEach slots pieces a b (Ok tt)
@@ -104,6 +112,8 @@ put_all_of slots pieces k a b le p = record {
   all = λ told q less bytes had. p.done told q (omega arith) less bytes had;
   part = λ told q less bytes had. (length (piece_at pieces q), p.done told q (omega arith) less bytes had ∙ ap (λ l. Some (bytes ++ l)) (sym (take_all (piece_at pieces q))));
   cause = tt;
+  counts = p.counts;
+  reads = p.reads;
 }
 
 -- open files stay so

@@ -2,7 +2,7 @@
 use Rattle.std.proofs.Common.{◌≡◌, ℕ, ◌+◌, inl, List, [], ◌∷◌, ◌++◌, length, length-append, append_assoc, append-nil, Option, Some, Ok, Err, IsTrue, refl, sym, ◌∙◌, ap, subst, arith}
 use Rattle.std.specs.Prelude.{Result, Vec, map, IfOk, IfErr}
 use Rattle.std.specs.declared.alloc.Global.{Global}
-use Rattle.fab_base.specs.Seen.{Seen, Reads, Rose, OpensIn, Touches, Nothing, Only}
+use Rattle.fab_base.specs.Seen.{Seen, Reads, Rose, SameReadFaults, SameWriteFaults, OpensIn, Touches, Nothing, Only}
 use Rattle.fab_base.specs.declared.values.Failed.{Failed}
 use Rattle.fab_base.proofs.SeenLemmas.{reads_trans, rose_later, told_stays, touches_refl, touches_trans, touches_wider, reads_touches}
 use Rattle.pcap_file.specs.declared.Budget.{Budget}
@@ -44,6 +44,7 @@ module _ (port : ℕ) (name : List ℕ) (a : Seen) (had : Budget) where
         stops = λ told later. stops_as told later result (k.stops (told_stays name a b o.reads.keeps told));
         cause = λ e. rose_later (a.read_faults name) (b.read_faults name) (c.read_faults name) o.reads.keeps.reads_rise (subst (λ m. Rose (b.read_faults m) (c.read_faults m)) name_is (k.cause e));
         only = k.only;
+        counts = λ other m. k.counts other m ∙ o.counts m;
       }
     where
       taken_as : IsTrue a.told → (later : List (Option (List ℕ))) (result : Result (List Record) RunFault) → IfOk result (λ records. capture_by port had (b.left slot) ≡ Ok (record { records = records; left = left }))
@@ -64,6 +65,7 @@ module _ (port : ℕ) (name : List ℕ) (a : Seen) (had : Budget) where
     stops = λ told later stopped. absurd stopped;
     cause = λ is. o.cause;
     only = λ is. absurd (cc);
+    counts = λ other. absurd (other refl);
   }
 
 -- ---- all captures
@@ -76,6 +78,8 @@ pub record InputsSoFar (names : List (List ℕ)) (a now : Seen) (ins : List (Lis
   pub ascend : AllAscend ins
   pub frames : left.frames + count_in ins ≡ had.frames
   pub taken : IsTrue a.told → (later : List (Option (List ℕ))) → captures_by 1 had (map (λ n. a.file n) names ++ later) ≡ in_front ins (captures_by (length names + 1) left later)
+  pub counts : SameReadFaults a now
+  pub writes : SameWriteFaults a now
 
 front_none : (later : Result (List (List Record)) RunFault) → later ≡ in_front [] later
 front_none (Ok rest) = refl
@@ -109,6 +113,8 @@ inputs_none a had = record {
   ascend = tt;
   frames = omega arith;
   taken = λ told later. front_none (captures_by 1 had later);
+  counts = λ m. refl;
+  writes = λ m. refl;
 }
 
 module _ (names : List (List ℕ)) (a b : Seen) (ins : List (List Record)) (had left : Budget) (h : InputsSoFar names a b ins had left) where
@@ -144,6 +150,8 @@ module _ (names : List (List ℕ)) (a b : Seen) (ins : List (List Record)) (had 
               ∙ ap (in_front ins) (read.taken (told_now told) later)
               ∙ front_more ins rs (captures_by (length names + 1 + 1) left' later)
               ∙ ap (λ (n : ℕ). in_front (ins ++ rs ∷ []) (captures_by n left' later)) next;
+          counts = λ m. read.counts (λ is. cc) m ∙ h.counts m;
+          writes = λ m. read.reads.writes m ∙ h.writes m;
         }
 
     -- no more captures are read, of all these names
@@ -164,6 +172,8 @@ module _ (names : List (List ℕ)) (a b : Seen) (ins : List (List Record)) (had 
             rose_since a.read_faults b.read_faults d.read_faults h.touches.reads_rise all
             (rose_among b.read_faults d.read_faults all name (subst (λ l. Among l name) (sym are) (among_back names (name ∷ behind) name (inl refl))) (read.cause (ap Err is)));
         only = read.only;
+        counts = λ other m. read.counts (λ is. other (let same : e ≡ faults.Read = cc in ap Err same)) m ∙ h.counts m;
+        writes = λ m. read.reads.writes m ∙ h.writes m;
       }
 
       pub inputs_no_room : (rs : List Record) → ReadsInput (length names + 1) name b d left left' (Ok rs) → ReadsInputs all a d had (Err faults.Memory)
@@ -174,6 +184,8 @@ module _ (names : List (List ℕ)) (a b : Seen) (ins : List (List Record)) (had 
         stops = λ told stopped. absurd stopped;
         cause = λ is. absurd (cc);
         only = λ is. absurd (cc);
+        counts = λ other m. read.counts (λ is. cc) m ∙ h.counts m;
+        writes = λ m. read.reads.writes m ∙ h.writes m;
       }
 
   pub inputs_all : (v : Vec (List Record) Global) → v.items ≡ ins → ReadsInputs names a b had (Ok v)
@@ -185,4 +197,6 @@ module _ (names : List (List ℕ)) (a b : Seen) (ins : List (List Record)) (had 
     stops = λ told. tt;
     cause = tt;
     only = tt;
+    counts = λ other. h.counts;
+    writes = h.writes;
   }

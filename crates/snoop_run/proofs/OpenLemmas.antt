@@ -4,7 +4,7 @@ use Rattle.std.specs.Prelude.{map}
 use Rattle.std.specs.Str.{bytes_eq}
 use Rattle.std.proofs.lemmas.Bool.{cases_Bool}
 use Rattle.std.proofs.lemmas.Slice.Eq.{bytes_eq-Decides}
-use Rattle.fab_base.specs.Seen.{Seen, OpensOut, Touches, Only}
+use Rattle.fab_base.specs.Seen.{Seen, SameReadFaults, SameWriteFaults, OpensOut, Touches, Only}
 use Rattle.fab_base.specs.declared.values.Failed.{Failed}
 use Rattle.fab_base.proofs.SeenLemmas.{touches_refl, touches_trans, touches_wider, keeps_touches}
 use Rattle.fab_policy.specs.Logins.{counting}
@@ -19,9 +19,11 @@ pub record OpenedSoFar (names : List (List ℕ)) (a now : Seen) (slots : List �
   pub touches : Touches (Among names) (Among names) a now
   pub each : IsTrue a.told → (m : List ℕ) → (now.file m ≡ a.file m) ⊎ (now.file m ≡ Some [])
   pub are : AreEmptyOutputs now names slots
+  pub counts : SameWriteFaults a now
+  pub reads : SameReadFaults a now
 
 pub opened_none : (a : Seen) → OpenedSoFar [] a a []
-opened_none a = record { touches = touches_refl (Among []) (Among []) a; each = λ told m. inl refl; are = tt }
+opened_none a = record { touches = touches_refl (Among []) (Among []) a; each = λ told m. inl refl; are = tt; counts = λ m. refl; reads = λ m. refl }
 
 -- outputs stay open and empty while another is opened
 outputs_still : (b d : Seen) (names : List (List ℕ)) (slots : List ℕ) (name : List ℕ) → Touches (Only name) (Only name) b d → ((m : List ℕ) → Among names m → m ≢ name) → AreEmptyOutputs b names slots → AreEmptyOutputs d names slots
@@ -82,6 +84,8 @@ module _ (names : List (List ℕ)) (a b : Seen) (slots : List ℕ) (h : OpenedSo
         are = outputs_push d names slots name s
             (outputs_still b d names slots name k (λ m among is. new (subst (Among names) is among)) h.are)
             (o.opened.0, o.opened.2, λ told. o.emptied (subst IsTrue k.told told));
+        counts = λ m. o.counts m ∙ h.counts m;
+        reads = λ m. o.reads m ∙ h.reads m;
       }
 
   -- one more can't be opened, of all these names
@@ -95,6 +99,8 @@ module _ (names : List (List ℕ)) (a b : Seen) (slots : List ℕ) (h : OpenedSo
         slots = tt;
         cause = rose_since a.write_faults b.write_faults d.write_faults h.touches.writes_rise all
             (rose_among b.write_faults d.write_faults all name (subst (λ l. Among l name) (sym are) (among_back names (name ∷ behind) name (inl refl))) o.cause);
+        counts = tt;
+        reads = λ m. o.reads m ∙ h.reads m;
       }
 
 -- ---- open outputs by their places

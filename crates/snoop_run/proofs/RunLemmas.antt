@@ -3,7 +3,7 @@ use Rattle.std.proofs.Common.{◌≡◌, ℕ, zero, suc, ◌+◌, ◌<◌, true,
 use Rattle.std.specs.Prelude.{String, Result, Vec, map}
 use Rattle.std.specs.declared.alloc.Global.{Global}
 use Rattle.arrayvec.specs.ArrayVec.{ArrayVec}
-use Rattle.fab_base.specs.Seen.{Seen, Rose, SameFiles, Touches, Nothing}
+use Rattle.fab_base.specs.Seen.{Seen, Rose, SameFiles, SameReadFaults, Touches, Nothing}
 use Rattle.fab_base.specs.declared.values.Failed.{Failed}
 use Rattle.fab_base.proofs.SeenLemmas.{touches_refl, touches_trans, touches_wider}
 use Rattle.fab_config.specs.Settings.{Settings}
@@ -19,7 +19,7 @@ use Rattle.fab_captures.specs.Captures.{unless_stopped, captures_by}
 use Rattle.fip_snoop.specs.Bridge.{Arrival, arrivals, is_too_long, capture}
 use Rattle.fip_snoop.specs.Messages.{forwarder_of}
 use Rattle.fip_snoop.specs.declared.forwarder.Forwarder.{Forwarder}
-use Rattle.snoop_run.specs.Bridged.{Among, AmongBoth, AnyRose, IsOldOrFront, AreOldOrFront, HasFronts, HasStop, Ends, Bridges, OverEnds, RunsOver}
+use Rattle.snoop_run.specs.Bridged.{Among, AmongBoth, AnyRose, TellsWrites, IsOldOrFront, AreOldOrFront, HasFronts, HasStop, Ends, Bridges, OverEnds, RunsOver}
 use Rattle.snoop_run.specs.Crossing.{unless_too_long, crossing, captures}
 use Rattle.snoop_run.specs.Files.{AreOutputs}
 use Rattle.snoop_run.specs.Laws.{TakenAreCaptures}
@@ -77,10 +77,10 @@ module _ (sides : List (String Global)) (ins : List (List Record)) (c : Settings
   outs_count = length-counted (output_at sides) 0 n
 
   pub over_long : is_too_long came ≡ true → RunsOver outs ins c a a (Err (faults.Limit limit.Span))
-  over_long long = record { touches = touches_refl (Among outs) (Among outs) a; ends = (λ m. refl, long) }
+  over_long long = record { touches = touches_refl (Among outs) (Among outs) a; ends = (λ m. refl, long); reads = λ m. refl; writes = λ other m. refl }
 
   pub over_memory : RunsOver outs ins c a a (Err faults.Memory)
-  over_memory = record { touches = touches_refl (Among outs) (Among outs) a; ends = inl (λ m. refl) }
+  over_memory = record { touches = touches_refl (Among outs) (Among outs) a; ends = inl (λ m. refl); reads = λ m. refl; writes = λ other m. refl }
 
   -- the wholes, by port
   wholes_are : captures c (length outs) came ≡ map (λ q. capture (forwarder_of c) q came) (counting 1 n)
@@ -97,6 +97,8 @@ module _ (sides : List (String Global)) (ins : List (List Record)) (c : Settings
           (fronts_by a b (output_at sides) (λ q. capture (forwarder_of c) q came) 0 1 n (λ q lt.
           elim (o.each told (output_at sides (0 + q))) [ inl same ↦ inl same | inr empty ↦ inr ([], empty, (capture (forwarder_of c) (1 + q) came, refl)) ])),
     );
+    reads = o.reads;
+    writes = λ other. absurd (other refl);
   }
 
   module _ (b d : Seen) (slots : ArrayVec ℕ) (different : AreDifferent sides) (o : OpensOutputs outs a b (Ok slots)) where
@@ -141,6 +143,12 @@ module _ (sides : List (String Global)) (ins : List (List Record)) (c : Settings
           rose_since a.write_faults b.write_faults d.write_faults o.touches.writes_rise outs
           (rose_among b.write_faults d.write_faults outs (name_of b slots.items q) (among (name_of b slots.items q) (q, lt, refl)) rose)
 
+      reads_on : SameReadFaults a d
+      reads_on m = x.reads m ∙ o.reads m
+
+      writes_on : TellsWrites a d r
+      writes_on other m = x.writes other m ∙ o.counts m
+
     whole_on : (done : Crossed) → Crosses (forwarder_of c) ins slots.items b d (Ok done) → IsTrue a.told → map (λ m. d.file m) outs ≡ map (λ l. Some l) (captures c (length outs) came)
     whole_on done x told =
         files_by d (output_at sides) (λ q. capture (forwarder_of c) q came) 0 1 n (λ q lt.
@@ -150,9 +158,9 @@ module _ (sides : List (String Global)) (ins : List (List Record)) (c : Settings
         ∙ ap (λ l. map (λ l. Some l) l) (sym wholes_are)
 
     pub over_crossed : (r : Result Crossed RunFault) → is_too_long came ≡ false → Crosses (forwarder_of c) ins slots.items b d r → RunsOver outs ins c a d r
-    over_crossed (Ok done) short x = record { touches = touches_on x; ends = (short, whole_on done x, x.passed_, x.dropped_) }
+    over_crossed (Ok done) short x = record { touches = touches_on x; ends = (short, whole_on done x, x.passed_, x.dropped_); reads = reads_on x; writes = writes_on x }
     over_crossed (Err e) short x =
-        record { touches = touches_on x; ends = elim x.cause [ inl memory ↦ subst (λ f. OverEnds outs ins c a d (Err f)) (sym memory) (inr (short, fronts_on x)) | inr write ↦ subst (λ f. OverEnds outs ins c a d (Err f)) (sym write.0) (short, rose_on x write.1.0 write.1.1 write.1.2, fronts_on x) ] }
+        record { touches = touches_on x; ends = elim x.cause [ inl memory ↦ subst (λ f. OverEnds outs ins c a d (Err f)) (sym memory) (inr (short, fronts_on x)) | inr write ↦ subst (λ f. OverEnds outs ins c a d (Err f)) (sym write.0) (short, rose_on x write.1.0 write.1.1 write.1.2, fronts_on x) ]; reads = reads_on x; writes = writes_on x }
 
 -- a new bridge is one of its own forwarder
 pub own_new : (w : Forwarder) (n : ℕ) (b : Bridge) → IsNew w n b → IsNew b.snoop.forwarder n b
@@ -168,7 +176,12 @@ module _ (inn outs : List (List ℕ)) (budget : Budget) (c : Settings) (a b : Se
   read_touches k = touches_wider Nothing (Among inn) (Among outs) (AmongBoth inn outs) a b (λ m x. absurd x) (λ m x. inl x) k
 
   pub bridges_stopped : (e : RunFault) → ReadsInputs inn a b budget (Err e) → Bridges inn outs budget c a b (Err e)
-  bridges_stopped e r = record { touches = read_touches r.touches; ends = ended e r }
+  bridges_stopped e r = record {
+    touches = read_touches r.touches;
+    ends = ended e r;
+    reads = λ other. r.counts (λ is. other (let same : e ≡ faults.Read = cc in ap Err same));
+    writes = λ other. r.writes;
+  }
     where
       stop : (e : RunFault) → captures_by 1 budget (map (λ n. a.file n) inn) ≡ Err e → HasStop inn budget a e
       stop e is = ap (λ t. unless_stopped {X = List (List Record)} {Y = List Arrival} t (λ ins. unless_too_long (arrivals ins))) is
@@ -218,4 +231,6 @@ module _ (inn outs : List (List ℕ)) (budget : Budget) (c : Settings) (a b : Se
       touches = touches_trans (Among outs) (AmongBoth inn outs) a b d (read_touches read.touches)
           (touches_wider (Among outs) (Among outs) (Among outs) (AmongBoth inn outs) b d (λ m x. x) (λ m x. inr x) over.touches);
       ends = ended r over.ends;
+      reads = λ other m. over.reads m ∙ read.counts (λ is. cc) m;
+      writes = λ other m. over.writes other m ∙ read.writes m;
     }

@@ -1,10 +1,11 @@
 -- What a bridge leaves in its outputs, by how it ends.
-use Rattle.std.specs.Prelude.{◌≡◌, ℕ, ◌⊎◌, true, false, IsTrue, List, [], ◌∷◌, length, map, Some, Result, Ok, Err}
-use Rattle.fab_base.specs.Seen.{Seen, Rose, SameFiles, Touches}
+use Rattle.std.specs.Prelude.{◌≡◌, ℕ, ◌⊎◌, true, false, IsTrue, List, [], ◌∷◌, length, map, Some, Result, Ok, Err, IsErrOf}
+use Rattle.fab_base.specs.Seen.{Seen, Rose, SameFiles, SameReadFaults, SameWriteFaults, Touches}
 use Rattle.fab_config.specs.Settings.{Settings}
 use Rattle.fab_policy.specs.Written.{IsPrefixOf}
 use Rattle.pcap_file.specs.declared.Budget.{Budget}
 use Rattle.pcap_file.specs.declared.Record.{Record}
+use Rattle.fab_gather.specs.Port.{TellsReads}
 use Rattle.fab_gather.specs.declared.fault.LimitKind.TheVariants as limit
 use Rattle.fab_gather.specs.declared.fault.RunFault.{RunFault}
 use Rattle.fab_gather.specs.declared.fault.RunFault.TheVariants as faults
@@ -30,6 +31,11 @@ AmongBoth ins outs m = Among ins m ⊎ Among outs m
 abbrev pub AnyRose : (List ℕ → ℕ) → (List ℕ → ℕ) → List (List ℕ) → Type 0
 AnyRose before now [] = ⊥
 AnyRose before now (n ∷ names) = Rose (before n) (now n) ⊎ AnyRose before now names
+
+-- No count of faults of writing has changed, unless the answer is such a fault: no other answer hides one. `TellsReads` says so of
+-- faults of reading.
+abbrev pub TellsWrites : {T : Type 0} → Seen → Seen → Result T RunFault → Type 0
+TellsWrites old new result = ¬ IsErrOf result faults.Write → SameWriteFaults old new
 
 -- ---- files
 
@@ -76,10 +82,13 @@ Ends ins outs budget c old new (Err faults.Read) = SameFiles old new × AnyRose 
 Ends ins outs budget c old new (Err faults.Write) = AnyRose old.write_faults new.write_faults outs × (IsTrue old.told → HasFronts ins outs budget c old new)
 Ends ins outs budget c old new (Err faults.Memory) = IsTrue old.told → SameFiles old new ⊎ HasFronts ins outs budget c old new
 
--- However it ends, no file changes but the outputs, and no count rises but those of inputs and outputs.
+-- However it ends, no file changes but the outputs, and no count rises but those of inputs and outputs; one of reading changes
+-- only where it ends with `Read`, and one of writing only where it ends with `Write`.
 pub record Bridges (ins outs : List (List ℕ)) (budget : Budget) (c : Settings) (old new : Seen) (result : Result Crossed RunFault) : Type 0 where
   pub touches : Touches (Among outs) (AmongBoth ins outs) old new
   pub ends : Ends ins outs budget c old new result
+  pub reads : TellsReads old new result
+  pub writes : TellsWrites old new result
 
 -- ---- inside the crate
 
@@ -100,3 +109,5 @@ OverEnds outs ins c old new (Err fault) = ⊥
 pub record RunsOver (outs : List (List ℕ)) (ins : List (List Record)) (c : Settings) (old new : Seen) (result : Result Crossed RunFault) : Type 0 where
   pub touches : Touches (Among outs) (Among outs) old new
   pub ends : OverEnds outs ins c old new result
+  pub reads : SameReadFaults old new
+  pub writes : TellsWrites old new result

@@ -1,13 +1,13 @@
 -- What reading the inputs and opening the outputs does.
-use Rattle.std.specs.Prelude.{◌≡◌, ◌≢◌, ℕ, ◌+◌, ◌≤◌, ◌⊎◌, IsTrue, List, [], ◌∷◌, ◌++◌, length, map, Option, Some, Result, Ok, Err, IfOk, IfErr, OnErr, IsErrOf, Vec}
+use Rattle.std.specs.Prelude.{◌≡◌, ◌≢◌, ℕ, ◌+◌, ◌≤◌, ◌⊎◌, IsTrue, List, [], ◌∷◌, ◌++◌, length, map, Option, Some, Result, Ok, Err, IfOk, IfErr, OnOk, OnErr, IsErrOf, Vec}
 use Rattle.std.specs.declared.alloc.Global.{Global}
 use Rattle.arrayvec.specs.ArrayVec.{ArrayVec}
-use Rattle.fab_base.specs.Seen.{Seen, Reads, Rose, Touches, Nothing}
+use Rattle.fab_base.specs.Seen.{Seen, Reads, Rose, SameReadFaults, SameWriteFaults, Touches, Nothing}
 use Rattle.fab_base.specs.declared.values.Failed.{Failed}
 use Rattle.pcap_file.specs.declared.Budget.{Budget}
 use Rattle.pcap_file.specs.declared.Record.{Record}
 use Rattle.pcap_file.specs.Records.{Ascends}
-use Rattle.fab_gather.specs.Port.{IsStopped}
+use Rattle.fab_gather.specs.Port.{IsStopped, TellsReads}
 use Rattle.fab_gather.specs.declared.fault.RunFault.{RunFault}
 use Rattle.fab_gather.specs.declared.fault.RunFault.TheVariants as faults
 use Rattle.fab_captures.specs.Captures.{AreFit, unless_stopped, captures_by}
@@ -31,6 +31,7 @@ pub record ReadsInput (port : ℕ) (name : List ℕ) (a b : Seen) (had left : Bu
   pub stops : IsTrue a.told → (later : List (Option (List ℕ))) → IfErr result (λ e. IsStopped e → captures_by port had (a.file name ∷ later) ≡ Err e)
   pub cause : IsErrOf result faults.Read → Rose (a.read_faults name) (b.read_faults name)
   pub only : IfErr result (λ e. e ≢ faults.Write)
+  pub counts : TellsReads a b result
 
 -- what the captures of all ports have, told or not
 pub record AreRead (names : List (List ℕ)) (budget : Budget) (ins : List (List Record)) : Type 0 where
@@ -47,6 +48,8 @@ pub record ReadsInputs (names : List (List ℕ)) (a b : Seen) (budget : Budget) 
   pub stops : IsTrue a.told → IfErr result (λ e. IsStopped e → captures_by 1 budget (map (λ n. a.file n) names) ≡ Err e)
   pub cause : IfErr result (λ e. e ≡ faults.Read → AnyRose a.read_faults b.read_faults names)
   pub only : IfErr result (λ e. e ≢ faults.Write)
+  pub counts : TellsReads a b result
+  pub writes : SameWriteFaults a b
 
 -- ---- outputs
 
@@ -63,3 +66,5 @@ pub record OpensOutputs (names : List (List ℕ)) (a b : Seen) (result : Result 
   pub each : IsTrue a.told → (m : List ℕ) → (b.file m ≡ a.file m) ⊎ (b.file m ≡ Some [])
   pub slots : IfOk result (λ slots. AreEmptyOutputs b names slots.items)
   pub cause : OnErr result (AnyRose a.write_faults b.write_faults names)
+  pub counts : OnOk result (SameWriteFaults a b)
+  pub reads : SameReadFaults a b

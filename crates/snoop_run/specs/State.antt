@@ -1,6 +1,6 @@
 -- What stands of a bridge between two frames.
 use Rattle.std.specs.Prelude.{◌≡◌, ℕ, ◌+◌, ◌<◌, ◌⊎◌, IsTrue, List, [], ◌∷◌, ◌++◌, length, replicate, Some, Result, IfOk, IfErr, OnOk}
-use Rattle.fab_base.specs.Seen.{Seen, Rose, Touches}
+use Rattle.fab_base.specs.Seen.{Seen, Rose, SameReadFaults, Touches}
 use Rattle.fab_base.specs.declared.values.Failed.{Failed}
 use Rattle.fab_policy.specs.Written.{IsPrefixOf}
 use Rattle.pcap_file.specs.Capture.{head_bytes}
@@ -13,6 +13,7 @@ use Rattle.fip_snoop.specs.History.{History}
 use Rattle.fip_snoop.specs.Queue.{least, left_in}
 use Rattle.fip_snoop.specs.Snoop.{Remembers}
 use Rattle.fip_snoop.specs.declared.forwarder.Forwarder.{Forwarder}
+use Rattle.snoop_run.specs.Bridged.{TellsWrites}
 use Rattle.snoop_run.specs.Files.{items_in, piece_at, PutsEach}
 use Rattle.snoop_run.specs.declared.bridge.Bridge.{Bridge}
 use Rattle.snoop_run.specs.declared.run.Crossed.{Crossed}
@@ -74,3 +75,5 @@ pub record Crosses (w : Forwarder) (ins : List (List Record)) (outs : List ℕ) 
   pub passed_ : IfOk result (λ done. done.passed ≡ passed (history w [] (arrivals ins)))
   pub dropped_ : IfOk result (λ done. done.dropped ≡ dropped (history w [] (arrivals ins)))
   pub cause : IfErr result (λ e. (e ≡ faults.Memory) ⊎ ((e ≡ faults.Write) × ((q : ℕ) × (q < length outs) × Rose (old.write_faults (name_of old outs q)) (new.write_faults (name_of old outs q)))))
+  pub reads : SameReadFaults old new
+  pub writes : TellsWrites old new result
