@@ -6,6 +6,7 @@ use Rattle.fab_base.specs.declared.values.Failed.{Failed}
 use Rattle.fab_base.proofs.SeenLemmas.{keeps_trans, reads_trans, reads_touches, told_stays, rose_later}
 use Rattle.pcap_file.specs.declared.Budget.{Budget}
 use Rattle.pcap_file.specs.declared.Record.{Record}
+use Rattle.fab_gather.specs.Port.{TellsReads}
 use Rattle.fab_gather.specs.declared.fault.LimitKind.TheVariants as limit
 use Rattle.fab_gather.specs.declared.fault.RunFault.{RunFault}
 use Rattle.fab_gather.specs.declared.fault.RunFault.TheVariants as faults
@@ -54,11 +55,15 @@ module _ (start : ℕ) (from : List ℕ) (budget left : Budget) (port slot : ℕ
     stops = λ told stopped. record { bytes = b.left slot; found = opens.left told; says = says (Err fault) (h.stops (told_b told) stopped) };
     cause = cause (Err fault) h;
     only = h.only;
+    counts = λ other m. h.counts other m ∙ opens.counts m;
   }
 
   pub read : (records : List Record) → ReadsCapture port slot b c budget left (Ok records) → (r : Result (List Record) RunFault) → r ≡ unless_too_long start records → ReadsInput start from budget a c r
   read records h r e = subst (λ x. ReadsInput start from budget a c x) (sym e) (by_test (is_too_long start records) refl)
     where
+      counts : {T : Type 0} {r : Result T RunFault} → TellsReads a c r
+      counts other m = h.counts (λ is. cc) m ∙ opens.counts m
+
       taken_so : IsTrue a.told → (t : Bool) → is_too_long start records ≡ t → files.taken_by budget start (b.left slot) ≡ cond t (Err (faults.Limit limit.Span)) (Ok records)
       taken_so told t is = says (Ok (record { records = records; left = left })) (h.taken (told_b told)) ∙ ap (λ x. cond x (Err (faults.Limit limit.Span)) (Ok records)) is
 
@@ -70,6 +75,7 @@ module _ (start : ℕ) (from : List ℕ) (budget left : Budget) (port slot : ℕ
         stops = λ told stopped. record { bytes = b.left slot; found = opens.left told; says = taken_so told true is };
         cause = λ e. absurd (cc);
         only = λ e. cc;
+        counts = counts;
       }
       by_test false is = record {
         reads = reads (Ok records) h;
@@ -78,6 +84,7 @@ module _ (start : ℕ) (from : List ℕ) (budget left : Budget) (port slot : ℕ
         stops = λ told. tt;
         cause = cause (Ok records) h;
         only = tt;
+        counts = counts;
       }
 
 -- ---- the output
@@ -98,6 +105,8 @@ module _ (to bytes : List ℕ) (out : ℕ) (a b c : Seen) (opens : OpensOut {E =
     whole = λ told. subst (λ n. c.file n ≡ Some bytes) is_out (p.grown (told_out told) [] (empty told));
     part = λ told. tt;
     cause = tt;
+    counts = λ m. p.counts m ∙ opens.counts m;
+    reads = λ m. p.reads m ∙ opens.reads m;
   }
 
   pub wrote_part : (failed : Failed) → PutsAll {T = Unit {0}} {E = Failed} out bytes b c (Err failed) → WritesFile {T = Unit {0}} {E = Failed} to bytes a c (Err failed)
@@ -106,6 +115,8 @@ module _ (to bytes : List ℕ) (out : ℕ) (a b c : Seen) (opens : OpensOut {E =
     whole = λ told. tt;
     part = λ told. let part = p.part (told_out told) [] (empty told) in steps.Front part.0 (subst (λ n. c.file n ≡ Some (take part.0 bytes)) is_out part.1);
     cause = rose_later _ _ _ opens.keeps.writes_rise (subst (λ n. Rose (b.write_faults n) (c.write_faults n)) is_out p.cause);
+    counts = tt;
+    reads = λ m. p.reads m ∙ opens.reads m;
   }
 
 pub unwritten : (to bytes : List ℕ) (a b : Seen) (failed : Failed) → OpensOut {E = Failed} to a b (Err failed) → WritesFile {T = Unit {0}} {E = Failed} to bytes a b (Err failed)
@@ -114,6 +125,8 @@ unwritten to bytes a b failed o = record {
   whole = λ told. tt;
   part = λ told. steps.As o.same;
   cause = o.cause;
+  counts = tt;
+  reads = o.reads;
 }
 
 -- ---- the run

@@ -1,9 +1,9 @@
 -- What the two steps of a run over files do; private functions alone cite this.
 use Rattle.std.specs.Prelude.{◌≡◌, ◌≢◌, ℕ, IsTrue, List, take, Some, Result, Ok, IfOk, IfErr, OnOk, OnErr, IsErrOf}
-use Rattle.fab_base.specs.Seen.{Seen, Keeps, Reads, Rose}
+use Rattle.fab_base.specs.Seen.{Seen, Keeps, Reads, Rose, SameReadFaults, SameWriteFaults}
 use Rattle.pcap_file.specs.declared.Budget.{Budget}
 use Rattle.pcap_file.specs.declared.Record.{Record}
-use Rattle.fab_gather.specs.Port.{IsStopped}
+use Rattle.fab_gather.specs.Port.{IsStopped, TellsReads}
 use Rattle.fab_gather.specs.declared.fault.RunFault.{RunFault}
 use Rattle.fab_gather.specs.declared.fault.RunFault.TheVariants as faults
 use Rattle.enode_core.specs.Course.{AreFar}
@@ -23,15 +23,18 @@ pub record ReadsInput (start : ℕ) (from : List ℕ) (budget : Budget) (a b : S
   pub stops : IsTrue a.told → IfErr result (λ e. IsStopped e → IsUntaken start from budget a e)
   pub cause : IsErrOf result faults.Read → Rose (a.read_faults from) (b.read_faults from)
   pub only : IfErr result (λ e. e ≢ faults.Write)
+  pub counts : TellsReads a b result
 
 -- the file is as it was, or a front of these bytes
 pub data IsPart (to bytes : List ℕ) (a b : Seen) : Type 0 where
   As : b.file to ≡ a.file to → IsPart to bytes a b
   Front : (n : ℕ) → b.file to ≡ Some (take n bytes) → IsPart to bytes a b
 
--- What writing a file does.
+-- What writing a file does. It counts no fault where it succeeds, and never one of reading.
 pub record WritesFile {T E : Type 0} (to bytes : List ℕ) (a b : Seen) (result : Result T E) : Type 0 where
   pub keeps : Keeps to a b
   pub whole : IsTrue a.told → OnOk result (b.file to ≡ Some bytes)
   pub part : IsTrue a.told → OnErr result (IsPart to bytes a b)
   pub cause : OnErr result (Rose (a.write_faults to) (b.write_faults to))
+  pub counts : OnOk result (SameWriteFaults a b)
+  pub reads : SameReadFaults a b

@@ -1,8 +1,10 @@
 //! A node over files.
-ghost use Rattle.std.specs.Prelude.{◌≡◌, ◌≤◌, ◌<◌, ◌^◌, IsTrue, length};
+ghost use Rattle.std.specs.Prelude.{◌≡◌, ◌≤◌, ◌<◌, ◌^◌, IsErrOf, IsTrue, length};
 ghost use Rattle.enode_core.specs.Laws.{IsTyped};
 ghost use Rattle.enode_core.specs.Phases.{phase_of};
 ghost use Rattle.enode_run.specs.Files.{KeepsBut, RunsNode};
+ghost use Rattle.fab_base.specs.Seen.{SameWriteFaults};
+ghost use Rattle.fab_gather.specs.Port.{TellsReads};
 
 use crate::input::read_input;
 use crate::output::write_file;
@@ -32,6 +34,10 @@ pub fn run_node<D: Depot>(
     ensures plays { RunsNode own start from.now to.now budget (D.seen depot.old)
         (D.seen depot.new) result }
     ensures others { KeepsBut to.now (D.seen depot.old) (D.seen depot.new) }
+    // No other answer, want of memory neither, hides a fault of the store.
+    ensures reads { TellsReads (D.seen depot.old) (D.seen depot.new) result }
+    ensures writes { ¬ IsErrOf result RunFault.Write
+        → SameWriteFaults (D.seen depot.old) (D.seen depot.new) }
 {
     // For the proof: the MAC and the names of the identity are in their ranges.
     know(&own);
