@@ -1,14 +1,14 @@
 -- One of several names, and whether the count of one of them rose.
-use Rattle.std.proofs.Common.{◌≡◌, ◌≢◌, ℕ, zero, suc, ◌+◌, ◌<◌, ◌≤◌, List, [], ◌∷◌, ◌++◌, ◌⊎◌, Bool, true, false, ◌||◌, refl, sym, ap, subst, arith, inl, inr}
+use Rattle.std.proofs.Common.{◌≡◌, ◌≢◌, ℕ, zero, suc, ◌+◌, ◌<◌, ◌≤◌, List, [], ◌∷◌, ◌++◌, ◌⊎◌, Bool, true, false, ◌||◌, refl, sym, ap, ◌∙◌, subst, arith, inl, inr}
 use Rattle.std.specs.Prelude.{map}
 use Rattle.std.specs.List.{list_any}
 use Rattle.std.specs.Str.{bytes_eq}
 use Rattle.std.proofs.lemmas.Slice.Eq.{bytes_eq-Decides}
-use Rattle.fab_base.specs.Seen.{Rose}
+use Rattle.fab_base.specs.Seen.{Seen, Rose}
 use Rattle.fab_base.proofs.SeenLemmas.{rose_later}
 use Rattle.pcap_file.proofs.lemmas.Numbers.{le_or_lt}
 use Rattle.fab_policy.specs.Logins.{counting}
-use Rattle.fabric_tool.specs.Command.{AnyRose, Among}
+use Rattle.fabric_tool.specs.Command.{AnyRose, Among, NoFaults}
 
 pub differs : (m n : List ℕ) → bytes_eq m n ≡ false → m ≢ n
 differs m n other e = let same = (bytes_eq-Decides m n).1 e in absurd (cc)
@@ -65,3 +65,10 @@ pub rose_since : (earlier before now : List ℕ → ℕ) → ((m : List ℕ) →
 rose_since earlier before now le [] rose = rose
 rose_since earlier before now le (n ∷ names) (inl rose) = inl (rose_later (earlier n) (before n) (now n) (le n) rose)
 rose_since earlier before now le (n ∷ names) (inr rose) = inr (rose_since earlier before now le names rose)
+
+-- no fault was counted
+pub none_yet : (a : Seen) → NoFaults a a
+none_yet a = (λ m. refl, λ m. refl)
+
+pub none_then : (a b d : Seen) → NoFaults a b → NoFaults b d → NoFaults a d
+none_then a b d before now = (λ m. now.0 m ∙ before.0 m, λ m. now.1 m ∙ before.1 m)

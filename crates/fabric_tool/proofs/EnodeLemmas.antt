@@ -1,11 +1,12 @@
 -- What follows from how `enode` ended.
 use Rattle.std.proofs.Common.{◌≡◌, ℕ, List, length, ◌⊎◌, Some, Ok, Err, IsTrue, refl, sym, ap, ◌∙◌, subst, arith, inl, inr}
 use Rattle.std.proofs.lemmas.List.{take_all}
-use Rattle.std.specs.Prelude.{Result}
+use Rattle.std.specs.Prelude.{Result, IsErrOf}
 use Rattle.std.specs.Str.{bytes_eq}
-use Rattle.fab_base.specs.Seen.{Seen, SameFiles}
+use Rattle.fab_base.specs.Seen.{Seen, SameWriteFaults}
 use Rattle.fab_base.specs.Sunk.{Sunk}
 use Rattle.pcap_file.specs.declared.Record.{Record}
+use Rattle.fab_gather.specs.Port.{TellsReads}
 use Rattle.fab_gather.specs.declared.fault.CapWhy.{CapWhy}
 use Rattle.fab_gather.specs.declared.fault.LimitKind.{LimitKind}
 use Rattle.fab_gather.specs.declared.fault.RunFault.{RunFault}
@@ -51,7 +52,7 @@ enode_others k old new = enode_cases k old new (λ o. KeepsOthers (Enode k) old 
     (λ kind h m none. h.0 m)
     (λ h m none. h.0 m)
     (λ h. h.0)
-    (λ h m none. h m)
+    (λ h m none. h.0 m)
 
 -- the whole capture is a front of it
 whole_sent : (k : EnodeNames) (old new : Seen) (last : Phase) → HasPlayed k old new last → HasEnodeFront k old new
@@ -66,14 +67,14 @@ enode_front k old new told = enode_cases k old new (λ o. HasEnodeFront k old ne
     (λ kind h. Same (h.0 k.to))
     (λ h. Same (h.0 k.to))
     (λ h. h.2 told)
-    (λ h. Same (h k.to))
+    (λ h. Same (h.0 k.to))
 
 -- want of memory for the line of an outcome says less
-pub enode_memory : (k : EnodeNames) (old new : Seen) (o : Outcome) → EnodeHolds k old new o → TakesMemory o → SameFiles old new
-enode_memory k old new = enode_cases k old new (λ o. TakesMemory o → SameFiles old new)
+pub enode_memory : (k : EnodeNames) (old new : Seen) (o : Outcome) → EnodeHolds k old new o → TakesMemory o → EnodeHolds k old new ends.Memory
+enode_memory k old new = enode_cases k old new (λ o. TakesMemory o → EnodeHolds k old new ends.Memory)
     (λ last h takes. absurd takes)
-    (λ port at reason h takes. h.0)
-    (λ kind h takes. h.0)
+    (λ port at reason h takes. (h.0, h.2))
+    (λ kind h takes. (h.0, h.2))
     (λ h takes. absurd takes)
     (λ h takes. absurd takes)
     (λ h takes. absurd takes)
@@ -160,21 +161,21 @@ module _ (k : EnodeNames) (a b : Seen) (others : KeepsBut k.to a b) where
   keeps : KeepsOthers (Enode k) a b
   keeps m none = others m (λ e. differs k.to m (or_false (bytes_eq k.to m) _ none).0 (sym e))
 
-  ran : (r : Result Phase RunFault) → RunsNode k.own k.start k.from k.to LIMITS a b r → EnodeHolds k a b (stood_by r)
-  ran (Ok last) runs = (keeps, runs)
-  ran (Err (faults.Capture port at why)) runs = runs
-  ran (Err (faults.Limit kind)) runs = runs
-  ran (Err faults.Read) runs = (runs.0, inl runs.1)
-  ran (Err faults.Write) runs = (keeps, inl runs.0, runs.1)
-  ran (Err faults.Memory) runs = runs
+  ran : (r : Result Phase RunFault) → RunsNode k.own k.start k.from k.to LIMITS a b r → TellsReads a b r → (¬ IsErrOf r faults.Write → SameWriteFaults a b) → EnodeHolds k a b (stood_by r)
+  ran (Ok last) runs reads writes = (keeps, runs, (reads (λ is. cc), writes (λ is. cc)))
+  ran (Err (faults.Capture port at why)) runs reads writes = (runs.0, runs.1, (reads (λ is. cc), writes (λ is. cc)))
+  ran (Err (faults.Limit kind)) runs reads writes = (runs.0, runs.1, (reads (λ is. cc), writes (λ is. cc)))
+  ran (Err faults.Read) runs reads writes = (runs.0, inl runs.1, writes (λ is. cc))
+  ran (Err faults.Write) runs reads writes = (keeps, inl runs.0, runs.1, reads (λ is. cc))
+  ran (Err faults.Memory) runs reads writes = (runs, (reads (λ is. cc), writes (λ is. cc)))
 
 -- the node and the files that words name
 pub ran_as : (own : Identity) (start : ℕ) (from to : List ℕ) (k : EnodeNames) (a b : Seen) (r : Result Phase RunFault) (o : Outcome) → own ≡ k.own → start ≡ k.start → from ≡ k.from → to ≡ k.to →
-    RunsNode own start from to LIMITS a b r → KeepsBut to a b → o ≡ stood_by r → EnodeHolds k a b o
-ran_as own start from to k a b r o own_is start_is from_is to_is runs others is =
+    RunsNode own start from to LIMITS a b r → KeepsBut to a b → TellsReads a b r → (¬ IsErrOf r faults.Write → SameWriteFaults a b) → o ≡ stood_by r → EnodeHolds k a b o
+ran_as own start from to k a b r o own_is start_is from_is to_is runs others reads writes is =
     let there =
     subst (λ l. RunsNode k.own k.start k.from l LIMITS a b r) to_is
     (subst (λ l. RunsNode k.own k.start l to LIMITS a b r) from_is
     (subst (λ (n : ℕ). RunsNode k.own n from to LIMITS a b r) start_is
     (subst (λ (x : Identity). RunsNode x start from to LIMITS a b r) own_is runs))) in
-    subst (EnodeHolds k a b) (sym is) (ran k a b (subst (λ l. KeepsBut l a b) to_is others) r there)
+    subst (EnodeHolds k a b) (sym is) (ran k a b (subst (λ l. KeepsBut l a b) to_is others) r there reads writes)

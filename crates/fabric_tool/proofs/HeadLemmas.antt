@@ -1,8 +1,8 @@
 -- The heads of the captures, one port after another.
 use Rattle.std.proofs.Common.{◌≡◌, ℕ, ◌+◌, ◌*◌, ◌<◌, ◌≤◌, List, [], ◌∷◌, ◌++◌, length, length-append, Ok, Err, IsTrue, refl, sym, ap, ◌∙◌, subst, arith, inl, inr}
-use Rattle.std.specs.Prelude.{Vec, Result}
+use Rattle.std.specs.Prelude.{Vec, Result, IsErrOf}
 use Rattle.std.specs.declared.alloc.Global.{Global}
-use Rattle.fab_base.specs.Seen.{Seen, Reads, Rose, OpensIn, Touches, Nothing, Only}
+use Rattle.fab_base.specs.Seen.{Seen, Reads, Rose, OpensIn, Touches, Nothing, Only, SameReadFaults, SameWriteFaults}
 use Rattle.fab_base.specs.declared.values.Failed.{Failed}
 use Rattle.fab_base.proofs.SeenLemmas.{reads_trans, rose_later, told_stays, touches_refl, touches_trans, touches_wider, reads_touches}
 use Rattle.pcap_file.specs.Capture.{HEAD}
@@ -16,15 +16,22 @@ use Rattle.fab_gather.specs.First.{opened_in}
 use Rattle.fab_gather.specs.declared.shelf.Input.{Input}
 use Rattle.fabric_tool.specs.Command.{Among}
 use Rattle.fabric_tool.specs.Inputs.{AreOpened}
-use Rattle.fabric_tool.specs.Reading.{IsHead, HeadRead, HeadEnds, AreHeads, HeadsRead, HeadsEnd, unopened_by}
+use Rattle.fabric_tool.specs.Reading.{TellsReads, IsHead, HeadRead, HeadEnds, AreHeads, HeadsRead, HeadsEnd, unopened_by}
 use Rattle.fabric_tool.specs.declared.outcome.Outcome.{Outcome}
 use Rattle.fabric_tool.specs.declared.outcome.Outcome.TheVariants as ends
 use Rattle.fabric_tool.proofs.AmongLemmas.{among_front, among_back, among_split, rose_among, rose_since}
 
+-- what was read isn't a fault, and a fault is the same whatever else was to be read
+pub not_unread : {T : Type 0} (v : T) → IsErrOf {T = T} {E = Outcome} (Ok v) ends.ReadFault → ⊥
+not_unread {T} v is = absurd (cc)
+
+pub unread_is : {T : Type 0} (x : Outcome) → IsErrOf {T = T} (Err x) ends.ReadFault → x ≡ ends.ReadFault
+unread_is {T} x is = cc
+
 -- ---- one capture
 
 pub head_unopened : (port : ℕ) (name : List ℕ) (a b : Seen) (had : Budget) (e : Failed) → OpensIn {E = Failed} name a b (Err e) → HeadRead port name a b had had (Err ends.ReadFault)
-head_unopened port name a b had e o = record { reads = o.reads; head = tt; taken = tt; ended = o.cause }
+head_unopened port name a b had e o = record { reads = o.reads; head = tt; taken = tt; ended = o.cause; counts = λ no. absurd (no refl) }
 
 module _ (port : ℕ) (name : List ℕ) (s : ℕ) (a b c : Seen) (had left : Budget) (o : OpensIn {E = Failed} name a b (Ok s)) where
   told_b : IsTrue a.told → IsTrue b.told
@@ -51,6 +58,7 @@ module _ (port : ℕ) (name : List ℕ) (s : ℕ) (a b c : Seen) (had left : Bud
         };
         taken = r.taken;
         ended = tt;
+        counts = λ no m. r.counts m ∙ o.counts m;
       }
 
   -- a fault of the head isn't told where the budget has no room for it
@@ -65,12 +73,18 @@ module _ (port : ℕ) (name : List ℕ) (s : ℕ) (a b c : Seen) (had left : Bud
   failed_as (opens.Read f) r = rose_later _ _ _ o.reads.keeps.reads_rise (subst (λ n. Rose (b.read_faults n) (c.read_faults n)) o.opened.2 r.refused)
   failed_as opens.Bytes r = (refl, (r.bytes).0 refl)
 
+  told_as : (e : CapOpen) → OpensReader s b c had left (Err e) → TellsReads {T = Input} a c (Err (unopened_by e port))
+  told_as (opens.Head fault) r = λ no m. r.counts m ∙ o.counts m
+  told_as (opens.Read f) r = λ no. absurd (no refl)
+  told_as opens.Bytes r = λ no m. r.counts m ∙ o.counts m
+
   pub head_failed : (e : CapOpen) (x : Outcome) → x ≡ unopened_by e port → OpensReader s b c had left (Err e) → HeadRead port name a c had left (Err x)
   head_failed e x is r = record {
     reads = all_reads r.reads;
     head = tt;
     taken = tt;
     ended = subst (HeadEnds port name had.bytes a c) (sym is) (failed_as e r);
+    counts = subst (λ (y : Outcome). TellsReads {T = Input} a c (Err y)) (sym is) (told_as e r);
   }
 
 -- ---- all captures
@@ -136,9 +150,11 @@ pub record HeadsSoFar (names : List (List ℕ)) (a now : Seen) (ins : List Input
   pub heads : AreHeads a now names ins
   pub bytes : left.bytes + 24 * length names ≡ had.bytes
   pub frames : left.frames ≡ had.frames
+  pub reads : SameReadFaults a now
+  pub writes : SameWriteFaults a now
 
 pub heads_none : (a : Seen) (had : Budget) → HeadsSoFar [] a a [] had had
-heads_none a had = record { touches = touches_refl Nothing (Among []) a; heads = tt; bytes = omega arith; frames = refl }
+heads_none a had = record { touches = touches_refl Nothing (Among []) a; heads = tt; bytes = omega arith; frames = refl; reads = λ m. refl; writes = λ m. refl }
 
 module _ (names : List (List ℕ)) (a b : Seen) (ins : List Input) (had left : Budget) (h : HeadsSoFar names a b ins had left) where
   told_now : IsTrue a.told → IsTrue b.told
@@ -161,6 +177,8 @@ module _ (names : List (List ℕ)) (a b : Seen) (ins : List Input) (had left : B
           (head_since a b d same_files told_now name i read.head);
       bytes = let taken = read.taken.0 in let was = h.bytes in omega (arith, length-append names (name ∷ []));
       frames = read.taken.1 ∙ h.frames;
+      reads = λ m. read.counts (not_unread i) m ∙ h.reads m;
+      writes = λ m. read.reads.writes m ∙ h.writes m;
     }
 
     -- no more heads are read, of all these names
@@ -212,10 +230,24 @@ module _ (names : List (List ℕ)) (a b : Seen) (ins : List Input) (had left : B
       ended_as number x e = absurd e
 
       pub heads_failed : port ≡ length names + 1 → (x : Outcome) → HeadRead port name b d left left' (Err x) → HeadsRead all a d had left' (Err x)
-      heads_failed number x read = record { touches = touch_all read.reads; heads = tt; taken = tt; ended = ended_as number x read.ended }
+      heads_failed number x read = record {
+        touches = touch_all read.reads;
+        heads = tt;
+        taken = tt;
+        ended = ended_as number x read.ended;
+        counts = λ no m. read.counts (λ is. no (ap (λ (y : Outcome). let r : Result (Vec Input Global) Outcome = Err y in r) (unread_is x is))) m ∙ h.reads m;
+        writes = λ m. read.reads.writes m ∙ h.writes m;
+      }
 
       pub heads_no_room : (i : Input) → HeadRead port name b d left left' (Ok i) → HeadsRead all a d had left' (Err ends.Memory)
-      heads_no_room i read = record { touches = touch_all read.reads; heads = tt; taken = tt; ended = tt }
+      heads_no_room i read = record {
+        touches = touch_all read.reads;
+        heads = tt;
+        taken = tt;
+        ended = tt;
+        counts = λ no m. read.counts (not_unread i) m ∙ h.reads m;
+        writes = λ m. read.reads.writes m ∙ h.writes m;
+      }
 
   pub heads_all : (v : Vec Input Global) → v.items ≡ ins → HeadsRead names a b had left (Ok v)
   heads_all v is = record {
@@ -223,4 +255,6 @@ module _ (names : List (List ℕ)) (a b : Seen) (ins : List Input) (had left : B
     heads = subst (AreHeads a b names) (sym is) h.heads;
     taken = (h.bytes, h.frames);
     ended = tt;
+    counts = λ no. h.reads;
+    writes = h.writes;
   }

@@ -5,7 +5,7 @@ use Rattle.std.proofs.lemmas.Bool.{eqb-true}
 use Rattle.std.specs.Str.{bytes_eq}
 use Rattle.std.specs.declared.alloc.Global.{Global}
 use Rattle.fab_base.specs.Places.{name_at}
-use Rattle.fab_base.specs.Seen.{Seen, OpensOut}
+use Rattle.fab_base.specs.Seen.{Seen, SameReadFaults, SameWriteFaults, OpensOut}
 use Rattle.fab_base.specs.declared.values.Failed.{Failed}
 use Rattle.fab_policy.specs.Logins.{counting}
 use Rattle.pcap_file.proofs.lemmas.Numbers.{le_or_lt}
@@ -71,7 +71,7 @@ module _ (words : List (String Global)) (make : is_make words ≡ true) (p : ℕ
   pub file_failed : (e : Failed) → OpensOut {E = Failed} (file_at words p) b d (Err e) → FilesOpened (make_of words) a d (Err e)
   file_failed e o =
       let f = opened_failed (map (file_at words) (counting 0 p)) a b slots h (file_at words p) d (make_of words).files (map (file_at words) (counting (p + 1) (9 - (p + 1)))) (split_names (file_at words) 9 p lt) e o in
-      record { opens = f.0; slots = tt; cause = f.1 }
+      record { opens = f.0; slots = tt; cause = f.1; counts = tt }
 
 pub files_count : (words : List (String Global)) (p : ℕ) (a b : Seen) (slots : List ℕ) → OpenedSoFar (map (file_at words) (counting 0 p)) a b slots → length slots ≡ p
 files_count words p a b slots h = outputs_count b (map (file_at words) (counting 0 p)) slots h.are ∙ length-counted (file_at words) 0 p
@@ -80,7 +80,7 @@ pub files_opened : (words : List (String Global)) (p : ℕ) (a b : Seen) (files 
 files_opened words p a b files le most h =
     let all : p ≡ 9 = omega arith in
     let o = subst (λ (n : ℕ). OpenedSoFar (map (file_at words) (counting 0 n)) a b files.slots.items) all h in
-    record { opens = o.opens; slots = o.are; cause = tt }
+    record { opens = o.opens; slots = o.are; cause = tt; counts = o.counts }
 
 -- ---- writing them
 
@@ -106,7 +106,7 @@ module _ (words : List (String Global)) (make : is_make words ≡ true) (b : See
   name_of_file : (q : ℕ) → q < 9 → b.name (slice_index slots q) ≡ file_name (make_of words) q
   name_of_file q lt = (a_file q lt).named ∙ sym (name_counted (file_at words) 9 q lt)
 
-  module _ (a d : Seen) (opens : Opens (make_of words).files a b) (r : Result ℕ MakeFault) (m : Makes (make_of words).number slots b d r) where
+  module _ (a d : Seen) (opens : Opens (make_of words).files a b) (same : SameWriteFaults a b) (r : Result ℕ MakeFault) (m : Makes (make_of words).number slots b d r) where
     keeps : KeepsOthers (Make (make_of words)) a d
     keeps n none =
         let not_one = none_among (make_of words).files n none in
@@ -120,19 +120,24 @@ module _ (words : List (String Global)) (make : is_make words ≡ true) (b : See
         let h = m.front (told_on told) q lt in
         inr (h.0, sym (ap d.file (name_of_file q lt)) ∙ h.2, (h.1, h.3))
 
+    no_read : SameReadFaults a d
+    no_read x = m.reads x ∙ opens.reads x
+
     pub made_whole : (frames : ℕ) → r ≡ Ok frames → MakeHolds (make_of words) a d (ends.Made frames)
     made_whole frames is =
         let n = subst (λ x. Makes (make_of words).number slots b d x) is m in
-        (keeps, n.count, λ told q lt. sym (ap d.file (name_of_file q lt)) ∙ n.whole (told_on told) q lt)
+        (keeps, n.count, λ told q lt. sym (ap d.file (name_of_file q lt)) ∙ n.whole (told_on told) q lt, (no_read, λ x. n.counts x ∙ same x))
 
     pub made_memory : r ≡ Err faults.Memory → MakeHolds (make_of words) a d ends.Memory
-    made_memory is = (keeps, fronts)
+    made_memory is =
+        let n = subst (λ x. Makes (make_of words).number slots b d x) is m in
+        (keeps, fronts, (no_read, λ x. n.counts x ∙ same x))
 
     pub made_failed : r ≡ Err faults.Write → MakeHolds (make_of words) a d ends.WriteFault
     made_failed is =
         let at = m.cause is in
         let rose : AnyRose b.write_faults d.write_faults (make_of words).files = rose_among b.write_faults d.write_faults (make_of words).files (b.name (slice_index slots at.0)) (named_among _ (at.0, at.1, refl)) at.2 in
-        (keeps, rose_since a.write_faults b.write_faults d.write_faults opens.touches.writes_rise (make_of words).files rose, fronts)
+        (keeps, rose_since a.write_faults b.write_faults d.write_faults opens.touches.writes_rise (make_of words).files rose, fronts, no_read)
 
 -- an output that couldn't be opened
 pub not_opened : (words : List (String Global)) (a b : Seen) (e : Failed) → FilesOpened (make_of words) a b (Err e) → MakeHolds (make_of words) a b ends.WriteFault
@@ -143,6 +148,7 @@ not_opened words a b e o = (
     | inl same ↦ inl same
     | inr empty ↦ inr ([], empty, (file_text (make_of words).number q, refl))
   ],
+  o.opens.reads,
 )
 
 -- a number and slots as they were handed on

@@ -3,7 +3,7 @@ use Rattle.std.proofs.Common.{◌≡◌, ◌≢◌, ℕ, List, [], ◌∷◌, �
 use Rattle.std.specs.Str.{bytes_eq}
 use Rattle.std.proofs.lemmas.Bool.{cases_Bool}
 use Rattle.std.proofs.lemmas.Slice.Eq.{bytes_eq-Decides}
-use Rattle.fab_base.specs.Seen.{Seen, OpensOut, Touches, Only}
+use Rattle.fab_base.specs.Seen.{Seen, OpensOut, Touches, Only, SameWriteFaults}
 use Rattle.fab_base.specs.declared.values.Failed.{Failed}
 use Rattle.fab_base.proofs.SeenLemmas.{touches_refl, touches_trans, touches_wider, keeps_touches}
 use Rattle.fabric_tool.specs.Command.{AnyRose, Among}
@@ -14,9 +14,10 @@ use Rattle.fabric_tool.proofs.AmongLemmas.{differs, among_front, among_back, amo
 pub record OpenedSoFar (names : List (List ℕ)) (a now : Seen) (slots : List ℕ) : Type 0 where
   pub opens : Opens names a now
   pub are : AreEmptyOutputs now names slots
+  pub counts : SameWriteFaults a now
 
 pub opened_none : (a : Seen) → OpenedSoFar [] a a []
-opened_none a = record { opens = record { touches = touches_refl (Among []) (Among []) a; each = λ told m. inl refl }; are = tt }
+opened_none a = record { opens = record { touches = touches_refl (Among []) (Among []) a; each = λ told m. inl refl; reads = λ m. refl }; are = tt; counts = λ m. refl }
 
 -- outputs stay open and empty while another is opened
 outputs_still : (b d : Seen) (names : List (List ℕ)) (slots : List ℕ) (name : List ℕ) → Touches (Only name) (Only name) b d → ((m : List ℕ) → Among names m → m ≢ name) → AreEmptyOutputs b names slots → AreEmptyOutputs d names slots
@@ -66,10 +67,11 @@ module _ (names : List (List ℕ)) (a b : Seen) (slots : List ℕ) (h : OpenedSo
   opened_more s new o =
       let k = keeps_touches name b d o.keeps in
       record {
-        opens = record { touches = touch k; each = λ told. each_file k told (inr (o.emptied (told_b told))) };
+        opens = record { touches = touch k; each = λ told. each_file k told (inr (o.emptied (told_b told))); reads = λ m. o.reads m ∙ h.opens.reads m };
         are = outputs_push d names slots name s
             (outputs_still b d names slots name k (λ m among is. new (subst (Among names) is among)) h.are)
             (o.opened.0, o.opened.2, λ told. o.emptied (subst IsTrue k.told told));
+        counts = λ m. o.counts m ∙ h.counts m;
       }
 
   -- one more can't be opened, of all these names
@@ -83,6 +85,7 @@ module _ (names : List (List ℕ)) (a b : Seen) (slots : List ℕ) (h : OpenedSo
         record {
           touches = touches_wider (Among (names ++ name ∷ [])) (Among (names ++ name ∷ [])) (Among all) (Among all) a d wide wide (touch k);
           each = λ told. each_file k told (inl o.same);
+          reads = λ m. o.reads m ∙ h.opens.reads m;
         },
         rose_since a.write_faults b.write_faults d.write_faults h.opens.touches.writes_rise all (rose_among b.write_faults d.write_faults all name (subst (λ l. Among l name) (sym are) (among_back names (name ∷ behind) name (inl refl))) o.cause),
       )

@@ -144,27 +144,27 @@ memory_holds (Run k) old new o holds takes = run_cases k old new (λ o. TakesMem
 memory_holds (Replay k) old new o holds takes = replay_files k old new o holds
 memory_holds (Show k) old new o holds takes = show_files k old new o holds
 memory_holds (Convert k) old new o holds takes = convert_cases k old new (λ o. TakesMemory o → Holds (Convert k) old new ends.Memory)
-    (λ records h takes. (h.0, λ told. whole_front k old new records (h.1 told)))
-    (λ at fault h takes. (λ m other. h.0 m, λ told. Same (h.0 k.to)))
-    (λ kind h takes. (λ m other. h.0 m, λ told. Same (h.0 k.to)))
+    (λ records h takes. (h.0, λ told. whole_front k old new records (h.1 told), h.2))
+    (λ at fault h takes. (λ m other. h.0 m, λ told. Same (h.0 k.to), h.2))
+    (λ kind h takes. (λ m other. h.0 m, λ told. Same (h.0 k.to), h.2))
     (λ h takes. absurd takes)
     (λ h takes. absurd takes)
     (λ h takes. absurd takes)
     o holds takes
 memory_holds (Migrate k) old new o holds takes = migrate_cases k old new (λ o. TakesMemory o → Holds (Migrate k) old new ends.Memory)
-    (λ entries h takes. (h.0, λ told. whole_journal k old new entries (h.1 told)))
-    (λ line fault h takes. (λ m other. h.0 m, λ told. Untouched (h.0 k.to)))
-    (λ kind h takes. (λ m other. h.0 m, λ told. Untouched (h.0 k.to)))
+    (λ entries h takes. (h.0, λ told. whole_journal k old new entries (h.1 told), h.2))
+    (λ line fault h takes. (λ m other. h.0 m, λ told. Untouched (h.0 k.to), h.2))
+    (λ kind h takes. (λ m other. h.0 m, λ told. Untouched (h.0 k.to), h.3))
     (λ h takes. absurd takes)
     (λ h takes. absurd takes)
     (λ h takes. absurd takes)
     o holds takes
 memory_holds (Make k) old new o holds takes = make_cases k old new (λ o. TakesMemory o → Holds (Make k) old new ends.Memory)
-    (λ frames h takes. (h.0, λ told. whole_load k old new (h.2 told)))
+    (λ frames h takes. (h.0, λ told. whole_load k old new (h.2 told), h.3))
     (λ h takes. absurd takes)
     (λ h takes. absurd takes)
     o holds takes
-memory_holds (Snoop k) old new o holds takes = snoop_memory k old new o holds
+memory_holds (Snoop k) old new o holds takes = snoop_memory k old new o holds takes
 memory_holds (Enode k) old new o holds takes = enode_memory k old new o holds takes
 memory_holds Help old new o holds takes = absurd (subst TakesMemory holds.0 takes)
 memory_holds Version old new o holds takes = absurd (subst TakesMemory holds.0 takes)

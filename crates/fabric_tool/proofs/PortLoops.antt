@@ -62,7 +62,7 @@ module _ (words : List (String Global)) (run : are_pairs words ≡ true) (p : �
     output_failed e o =
         let names = ap (λ l. (run_of words).journal ∷ l) (split_names (output_at words) (port_count words) p lt) in
         let f = opened_failed (output_names words p) a b slots h (output_at words p) d ((run_of words).journal ∷ (run_of words).outs) (map (output_at words) (counting (p + 1) (port_count words - (p + 1)))) names e o in
-        record { opens = f.0; slots = tt; cause = f.1 }
+        record { opens = f.0; slots = tt; cause = f.1; counts = tt }
 
 -- what an opening of a word did
 pub out_as : {m n : List ℕ} {b d : Seen} {r : Result ℕ Failed} → m ≡ n → OpensOut {E = Failed} m b d r → OpensOut {E = Failed} n b d r
@@ -75,7 +75,7 @@ journal_opened words a d s o = opened_more [] a a [] (opened_none a) (run_of wor
 pub journal_failed : (words : List (String Global)) (a d : Seen) (e : Failed) → OpensOut {E = Failed} (run_of words).journal a d (Err e) → OutputsOpened (run_of words) a d (Err e)
 journal_failed words a d e o =
     let f = opened_failed [] a a [] (opened_none a) (run_of words).journal d ((run_of words).journal ∷ (run_of words).outs) (run_of words).outs refl e o in
-    record { opens = f.0; slots = tt; cause = f.1 }
+    record { opens = f.0; slots = tt; cause = f.1; counts = tt }
 
 -- as many outputs are open as ports are done
 pub opened_count : (words : List (String Global)) (p : ℕ) (a b : Seen) (journal : ℕ) (slots : List ℕ) → OpenedSoFar (output_names words p) a b (journal ∷ slots) → length slots ≡ p

@@ -24,7 +24,7 @@ long_text l lt = rw (lt-ltb 1048576 (length l) lt, decoded) refl
 module _ (s : ℕ) (a b : Seen) (text : List ℕ) where
   -- the text couldn't be read
   pub text_failed : (e : Failed) → Fills {E = Failed} s text a b (Err e) → TextRead s a b (Err ends.ReadFault)
-  text_failed e f = record { reads = f.reads; ok = λ told. tt; fault = λ told x h. absurd (cc); cause = λ h. f.cause; only = inr (inl refl) }
+  text_failed e f = record { reads = f.reads; ok = λ told. tt; fault = λ told x h. absurd (cc); cause = λ h. f.cause; only = inr (inl refl); counts = λ no. absurd (no refl) }
 
   module _ (got : ℕ) (f : Fills {E = Failed} s text a b (Ok got)) (size : length text ≡ 1048577) where
     -- what was got has the value of what is left, also where more is left than the room takes
@@ -38,7 +38,7 @@ module _ (s : ℕ) (a b : Seen) (text : List ℕ) where
     ]
 
     pub text_value : (c : Settings) → decoded (take got text) ≡ Ok c → TextRead s a b (Ok c)
-    text_value c is = record { reads = f.reads; ok = λ told. sym (same_value told) ∙ is; fault = λ told. tt; cause = λ h. absurd (cc); only = tt }
+    text_value c is = record { reads = f.reads; ok = λ told. sym (same_value told) ∙ is; fault = λ told. tt; cause = λ h. absurd (cc); only = tt; counts = λ no. f.counts }
 
     pub text_fault : (x : ConfigFault) → decoded (take got text) ≡ Err x → TextRead s a b (Err (ends.Config x))
     text_fault x is = record {
@@ -47,13 +47,14 @@ module _ (s : ℕ) (a b : Seen) (text : List ℕ) where
       fault = λ told y h. let same : x ≡ y = cc in sym (same_value told) ∙ is ∙ ap (λ (z : ConfigFault). Err z) same;
       cause = λ h. absurd (cc);
       only = inl (x, refl);
+      counts = λ no. f.counts;
     }
 
     pub text_memory : TextRead s a b (Err ends.Memory)
-    text_memory = record { reads = f.reads; ok = λ told. tt; fault = λ told x h. absurd (cc); cause = λ h. absurd (cc); only = inr (inr refl) }
+    text_memory = record { reads = f.reads; ok = λ told. tt; fault = λ told x h. absurd (cc); cause = λ h. absurd (cc); only = inr (inr refl); counts = λ no. f.counts }
 
 pub text_no_room : (s : ℕ) (a : Seen) → TextRead s a a (Err ends.Memory)
-text_no_room s a = record { reads = reads_refl (a.name s) a; ok = λ told. tt; fault = λ told x h. absurd (cc); cause = λ h. absurd (cc); only = inr (inr refl) }
+text_no_room s a = record { reads = reads_refl (a.name s) a; ok = λ told. tt; fault = λ told x h. absurd (cc); cause = λ h. absurd (cc); only = inr (inr refl); counts = λ no m. refl }
 
 -- a configuration that was opened and read
 module _ (name : List ℕ) (s : ℕ) (a b c : Seen) (opens : OpensIn {E = Failed} name a b (Ok s)) where
@@ -70,6 +71,7 @@ module _ (name : List ℕ) (s : ℕ) (a b c : Seen) (opens : OpensIn {E = Failed
     fault = λ told. tt;
     cause = λ h. absurd (cc);
     only = tt;
+    counts = λ no m. t.counts no m ∙ opens.counts m;
   }
   config_opened (Err e) t = record {
     reads = reads_trans name a b c opens.reads (subst (λ n. Reads n b c) is_name t.reads);
@@ -77,7 +79,8 @@ module _ (name : List ℕ) (s : ℕ) (a b c : Seen) (opens : OpensIn {E = Failed
     fault = λ told f h. record { text = b.left s; file = opens.left told; value = t.fault (told_b told) f h };
     cause = λ h. rose_later _ _ _ opens.reads.keeps.reads_rise (subst (λ n. Rose (b.read_faults n) (c.read_faults n)) is_name (t.cause h));
     only = t.only;
+    counts = λ no m. t.counts no m ∙ opens.counts m;
   }
 
 pub config_unopened : (name : List ℕ) (a b : Seen) (e : Failed) → OpensIn {E = Failed} name a b (Err e) → ConfigRead name a b (Err ends.ReadFault)
-config_unopened name a b e opens = record { reads = opens.reads; ok = λ told. tt; fault = λ told f h. absurd (cc); cause = λ h. opens.cause; only = inr (inl refl) }
+config_unopened name a b e opens = record { reads = opens.reads; ok = λ told. tt; fault = λ told f h. absurd (cc); cause = λ h. opens.cause; only = inr (inl refl); counts = λ no. absurd (no refl) }

@@ -1,13 +1,14 @@
 -- What follows from how `snoop` ended.
-use Rattle.std.proofs.Common.{◌≡◌, ℕ, List, [], ◌∷◌, length, ◌⊎◌, Ok, Err, IsTrue, refl, sym, ap, ◌∙◌, subst, arith, inl, inr}
+use Rattle.std.proofs.Common.{◌≡◌, ◌≢◌, ℕ, List, [], ◌∷◌, length, ◌⊎◌, Ok, Err, IsTrue, refl, sym, ap, ◌∙◌, subst, arith, inl, inr}
 use Rattle.std.specs.Prelude.{Result, String, map}
 use Rattle.std.specs.declared.alloc.Global.{Global}
-use Rattle.fab_base.specs.Seen.{Seen, SameFiles, Touches, Nothing, Only}
+use Rattle.fab_base.specs.Seen.{Seen, SameFiles, SameReadFaults, SameWriteFaults, Touches, Nothing, Only}
 use Rattle.fab_base.specs.Sunk.{Sunk}
 use Rattle.fab_base.proofs.SeenLemmas.{reads_touches}
 use Rattle.fab_config.specs.Settings.{Settings}
 use Rattle.fab_config.specs.declared.ConfigFault.{ConfigFault}
 use Rattle.fab_captures.specs.Captures.{captures_by}
+use Rattle.fab_gather.specs.Port.{TellsReads}
 use Rattle.fab_gather.specs.declared.fault.CapWhy.{CapWhy}
 use Rattle.fab_gather.specs.declared.fault.LimitKind.{LimitKind}
 use Rattle.fab_gather.specs.declared.fault.RunFault.{RunFault}
@@ -15,12 +16,13 @@ use Rattle.fab_gather.specs.declared.fault.RunFault.TheVariants as faults
 use Rattle.fip_snoop.specs.Bridge.{Arrival, arrivals, history, passed, dropped}
 use Rattle.fip_snoop.specs.Laws.{DataGoesUp}
 use Rattle.fip_snoop.specs.Messages.{forwarder_of}
-use Rattle.snoop_run.specs.Bridged.{AreOldOrFront, HasBridged, HasFronts, HasStop, Ends, Bridges}
+use Rattle.snoop_run.specs.Bridged.{TellsWrites, AreOldOrFront, HasBridged, HasFronts, HasStop, Ends, Bridges}
 use Rattle.snoop_run.specs.Crossing.{crossing, captures}
 use Rattle.snoop_run.specs.Laws.{AreCaptures}
 use Rattle.snoop_run.specs.Sides.{ins_of, outs_of}
 use Rattle.snoop_run.specs.declared.run.Crossed.{Crossed}
-use Rattle.fabric_tool.specs.Command.{SnoopNames, Snoop, KeepsOthers}
+use Rattle.fabric_tool.specs.Command.{SnoopNames, Snoop, NoFaults, KeepsOthers}
+use Rattle.fabric_tool.specs.Ends.{TakesMemory}
 use Rattle.fabric_tool.specs.Inputs.{HasConfig, HasFault, LIMITS}
 use Rattle.fabric_tool.specs.Opening.{stopped_by, crossed_by}
 use Rattle.fabric_tool.specs.Outcome.{status_of}
@@ -29,8 +31,9 @@ use Rattle.fabric_tool.specs.Snooping.{HasSnooped, HasSnoopedFront, HasSnoopFron
 use Rattle.fabric_tool.specs.Statuses.{IsQuiet}
 use Rattle.fabric_tool.specs.declared.outcome.Outcome.{Outcome}
 use Rattle.fabric_tool.specs.declared.outcome.Outcome.TheVariants as ends
-use Rattle.fabric_tool.proofs.AmongLemmas.{none_among, rose_since}
+use Rattle.fabric_tool.proofs.AmongLemmas.{none_among, none_then, rose_since}
 use Rattle.fabric_tool.proofs.ConfigLemmas.{one_value, one_fault, no_fault}
+use Rattle.fabric_tool.proofs.HeadLemmas.{not_unread, unread_is}
 use Rattle.fabric_tool.proofs.PartLemmas.{all_fronts}
 
 -- `snoop` ends so, and not otherwise
@@ -83,8 +86,15 @@ snoop_front k old new told = snoop_cases k old new (λ o. HasSnoopFront k old ne
     (λ h. h.1 told)
 
 -- want of memory for the line of an outcome says less
-pub snoop_memory : (k : SnoopNames) (old new : Seen) (o : Outcome) → SnoopHolds k old new o → SnoopHolds k old new ends.Memory
-snoop_memory k old new o holds = (snoop_others k old new o holds, λ told. snoop_front k old new told o holds)
+pub snoop_memory : (k : SnoopNames) (old new : Seen) (o : Outcome) → SnoopHolds k old new o → TakesMemory o → SnoopHolds k old new ends.Memory
+snoop_memory k old new = snoop_cases k old new (λ o. TakesMemory o → SnoopHolds k old new ends.Memory)
+    (λ passes drops h takes. (h.0, λ told. inr (whole_captures k passes drops old new (h.1 told)), h.2))
+    (λ fault h takes. (λ m other. h.0 m, λ told. inl h.0, h.2))
+    (λ port at reason h takes. (λ m other. h.0 m, λ told. inl h.0, h.2))
+    (λ kind h takes. (λ m other. h.0 m, λ told. inl h.0, h.2))
+    (λ h takes. absurd takes)
+    (λ h takes. absurd takes)
+    (λ h takes. absurd takes)
 
 -- status 1 is of two kinds
 pub snoop_refused : (k : SnoopNames) (old new : Seen) (o : Outcome) → SnoopHolds k old new o → 1 ≡ status_of o → IsSnoopRefused k old new
@@ -192,12 +202,16 @@ module _ (k : SnoopNames) (d : Seen) where
 -- the configuration can't be taken
 pub not_configured : (k : SnoopNames) (old new : Seen) (x : Outcome) → ConfigRead k.config old new (Err x) → SnoopHolds k old new x
 not_configured k old new x read = elim read.only [
-  | inl fault ↦ subst (SnoopHolds k old new) (sym fault.1) (read.reads.files, λ told. read.fault told fault.0 fault.1)
+  | inl fault ↦ subst (SnoopHolds k old new) (sym fault.1) (read.reads.files, λ told. read.fault told fault.0 fault.1, none (ends.Config fault.0) fault.1 (λ is. cc))
   | inr other ↦ elim other [
-    | inl failed ↦ subst (SnoopHolds k old new) (sym failed) (read.reads.files, inl (read.cause (ap (λ (o : Outcome). let r : Result Settings Outcome = Err o in r) failed)))
-    | inr memory ↦ subst (SnoopHolds k old new) (sym memory) ((λ m none. read.reads.files m), λ told. inl read.reads.files)
+    | inl failed ↦ subst (SnoopHolds k old new) (sym failed) (read.reads.files, inl (read.cause (ap (λ (o : Outcome). let r : Result Settings Outcome = Err o in r) failed)), read.reads.writes)
+    | inr memory ↦ subst (SnoopHolds k old new) (sym memory) ((λ m other. read.reads.files m), λ told. inl read.reads.files, none ends.Memory memory (λ is. cc))
   ]
 ]
+  where
+    -- no fault was counted where none is told
+    none : (o : Outcome) → x ≡ o → o ≢ ends.ReadFault → NoFaults old new
+    none o is other = (read.counts (λ e. other (sym is ∙ unread_is x e)), read.reads.writes)
 
 -- the names of the ports, as words
 pub bridges_as : {x y : List (String Global)} {c : Settings} {b z : Seen} {r : Result Crossed RunFault} → x ≡ y → Bridges (ins_of x) (outs_of x) LIMITS c b z r → Bridges (ins_of y) (outs_of y) LIMITS c b z r
@@ -220,6 +234,9 @@ module _ (k : SnoopNames) (c : Settings) (a b z : Seen) (config : ConfigRead k.c
 
   told_b : IsTrue a.told → IsTrue b.told
   told_b told = subst IsTrue (sym config.reads.keeps.told) told
+
+  counted : NoFaults a b
+  counted = (config.counts (not_unread c), config.reads.writes)
 
   touched : Touches Nothing (Only k.config) a b
   touched = reads_touches k.config a b config.reads
@@ -251,15 +268,18 @@ module _ (k : SnoopNames) (c : Settings) (a b z : Seen) (config : ConfigRead k.c
   }
 
   pub bridge_ended : (r : Result Crossed RunFault) → Bridges k.ins k.outs LIMITS c b z r → SnoopHolds k a z (crossed_by r)
-  bridge_ended r h = go r h.ends
+  bridge_ended r h = go r h.ends h.reads h.writes
     where
       others : KeepsOthers (Snoop k) a z
       others m none = h.touches.files m (none_among k.outs m none) ∙ same m
 
-      go : (r : Result Crossed RunFault) → Ends k.ins k.outs LIMITS c b z r → SnoopHolds k a z (crossed_by r)
-      go (Ok done) e = (others, λ told. bridged_since done (e (told_b told)) told)
-      go (Err (faults.Capture port at why)) e = ((λ m. e.0 m ∙ same m), λ told. stopped_since (faults.Capture port at why) (e.1 (told_b told)) told)
-      go (Err (faults.Limit kind)) e = ((λ m. e.0 m ∙ same m), λ told. stopped_since (faults.Limit kind) (e.1 (told_b told)) told)
-      go (Err faults.Read) e = ((λ m. e.0 m ∙ same m), inr (rose_since a.read_faults b.read_faults z.read_faults touched.reads_rise k.ins e.1))
-      go (Err faults.Write) e = (others, rose_since a.write_faults b.write_faults z.write_faults touched.writes_rise k.outs e.0, λ told. front_since (e.1 (told_b told)) told)
-      go (Err faults.Memory) e = (others, λ told. elim (e (told_b told)) [ inl still ↦ inl (λ m. still m ∙ same m) | inr front ↦ inr (front_since front told) ])
+      none : SameReadFaults b z → SameWriteFaults b z → NoFaults a z
+      none reads writes = none_then a b z counted (reads, writes)
+
+      go : (r : Result Crossed RunFault) → Ends k.ins k.outs LIMITS c b z r → TellsReads b z r → TellsWrites b z r → SnoopHolds k a z (crossed_by r)
+      go (Ok done) e reads writes = (others, λ told. bridged_since done (e (told_b told)) told, none (reads (λ is. cc)) (writes (λ is. cc)))
+      go (Err (faults.Capture port at why)) e reads writes = ((λ m. e.0 m ∙ same m), λ told. stopped_since (faults.Capture port at why) (e.1 (told_b told)) told, none (reads (λ is. cc)) (writes (λ is. cc)))
+      go (Err (faults.Limit kind)) e reads writes = ((λ m. e.0 m ∙ same m), λ told. stopped_since (faults.Limit kind) (e.1 (told_b told)) told, none (reads (λ is. cc)) (writes (λ is. cc)))
+      go (Err faults.Read) e reads writes = ((λ m. e.0 m ∙ same m), inr (rose_since a.read_faults b.read_faults z.read_faults touched.reads_rise k.ins e.1), λ m. writes (λ is. cc) m ∙ counted.1 m)
+      go (Err faults.Write) e reads writes = (others, rose_since a.write_faults b.write_faults z.write_faults touched.writes_rise k.outs e.0, λ told. front_since (e.1 (told_b told)) told, λ m. reads (λ is. cc) m ∙ counted.0 m)
+      go (Err faults.Memory) e reads writes = (others, λ told. elim (e (told_b told)) [ inl still ↦ inl (λ m. still m ∙ same m) | inr front ↦ inr (front_since front told) ], none (reads (λ is. cc)) (writes (λ is. cc)))

@@ -11,7 +11,7 @@ use Rattle.fab_gather.specs.declared.fault.LimitKind.TheVariants as kinds
 use Rattle.fab_gather.specs.declared.fault.RunFault.TheVariants as faults
 use Rattle.fab_migrate.specs.Migrating.{Migrated, IsNewFront, SaysOld}
 use Rattle.fab_migrate.specs.declared.old.OldError.TheVariants as olds
-use Rattle.fabric_tool.specs.Command.{RunNames, PairNames, Command, Run, Replay, Show, Convert, Migrate, Make, Snoop, Enode, Help, Version, command, ReadRose, WriteRose, KeepsOthers}
+use Rattle.fabric_tool.specs.Command.{RunNames, PairNames, Command, Run, Replay, Show, Convert, Migrate, Make, Snoop, Enode, Help, Version, command, ReadRose, WriteRose, NoFaults, KeepsOthers}
 use Rattle.fabric_tool.specs.Inputs.{HasFault, HasBadHead, LIMITS, MOST_BYTES}
 use Rattle.fabric_tool.specs.Checking.{ReplayHolds, ShowHolds}
 use Rattle.fabric_tool.specs.Load.{MakeHolds}
@@ -41,24 +41,25 @@ RunHolds k old new ends.WriteFault = KeepsOthers (Run k) old new × WriteRose (R
 RunHolds k old new ends.Memory = KeepsOthers (Run k) old new × (IsTrue old.told → SameFiles old new ⊎ HasFrontPart k old new)
 RunHolds k old new _ = ⊥
 
--- The same of `convert`. The output is opened only behind the whole input.
+-- The same of `convert`. The output is opened only behind the whole input. Want of memory is no fault of the depot: no count of such
+-- faults has changed.
 abbrev pub ConvertHolds : PairNames → Seen → Seen → Outcome → Type 0
-ConvertHolds k old new (ends.Converted records) = KeepsOthers (Convert k) old new × (IsTrue old.told → Converted k.from k.to LIMITS old new records)
-ConvertHolds k old new (ends.BadBlock at fault) = SameFiles old new × (IsTrue old.told → SaysInput k.from LIMITS old (ng.Fault at fault))
-ConvertHolds k old new (ends.Limit kind) = SameFiles old new × (IsTrue old.told → (limit : NgLimit) × (kind ≡ kind_of limit) × SaysInput k.from LIMITS old (ng.Limit limit))
+ConvertHolds k old new (ends.Converted records) = KeepsOthers (Convert k) old new × (IsTrue old.told → Converted k.from k.to LIMITS old new records) × NoFaults old new
+ConvertHolds k old new (ends.BadBlock at fault) = SameFiles old new × (IsTrue old.told → SaysInput k.from LIMITS old (ng.Fault at fault)) × NoFaults old new
+ConvertHolds k old new (ends.Limit kind) = SameFiles old new × (IsTrue old.told → (limit : NgLimit) × (kind ≡ kind_of limit) × SaysInput k.from LIMITS old (ng.Limit limit)) × NoFaults old new
 ConvertHolds k old new ends.ReadFault = SameFiles old new × ReadRose (Convert k) old new
 ConvertHolds k old new ends.WriteFault = KeepsOthers (Convert k) old new × WriteRose (Convert k) old new × (IsTrue old.told → IsFront k.from k.to LIMITS old new)
-ConvertHolds k old new ends.Memory = KeepsOthers (Convert k) old new × (IsTrue old.told → IsFront k.from k.to LIMITS old new)
+ConvertHolds k old new ends.Memory = KeepsOthers (Convert k) old new × (IsTrue old.told → IsFront k.from k.to LIMITS old new) × NoFaults old new
 ConvertHolds k old new _ = ⊥
 
 -- The same of `migrate`. The output is opened only behind the whole journal.
 abbrev pub MigrateHolds : PairNames → Seen → Seen → Outcome → Type 0
-MigrateHolds k old new (ends.Migrated entries) = KeepsOthers (Migrate k) old new × (IsTrue old.told → Migrated k.from k.to MOST_BYTES old new entries)
-MigrateHolds k old new (ends.BadLine line fault) = SameFiles old new × (IsTrue old.told → SaysOld k.from MOST_BYTES old (olds.Fault line fault))
-MigrateHolds k old new (ends.Limit kind) = SameFiles old new × (kind ≡ kinds.Bytes) × (IsTrue old.told → SaysOld k.from MOST_BYTES old olds.Bytes)
+MigrateHolds k old new (ends.Migrated entries) = KeepsOthers (Migrate k) old new × (IsTrue old.told → Migrated k.from k.to MOST_BYTES old new entries) × NoFaults old new
+MigrateHolds k old new (ends.BadLine line fault) = SameFiles old new × (IsTrue old.told → SaysOld k.from MOST_BYTES old (olds.Fault line fault)) × NoFaults old new
+MigrateHolds k old new (ends.Limit kind) = SameFiles old new × (kind ≡ kinds.Bytes) × (IsTrue old.told → SaysOld k.from MOST_BYTES old olds.Bytes) × NoFaults old new
 MigrateHolds k old new ends.ReadFault = SameFiles old new × ReadRose (Migrate k) old new
 MigrateHolds k old new ends.WriteFault = KeepsOthers (Migrate k) old new × WriteRose (Migrate k) old new × (IsTrue old.told → IsNewFront k.from k.to MOST_BYTES old new)
-MigrateHolds k old new ends.Memory = KeepsOthers (Migrate k) old new × (IsTrue old.told → IsNewFront k.from k.to MOST_BYTES old new)
+MigrateHolds k old new ends.Memory = KeepsOthers (Migrate k) old new × (IsTrue old.told → IsNewFront k.from k.to MOST_BYTES old new) × NoFaults old new
 MigrateHolds k old new _ = ⊥
 
 -- What holds where a command ends so.

@@ -1,6 +1,6 @@
 -- How `enode` ends: a node is run over the frames of one capture, and what it sends is written as another.
 use Rattle.std.specs.Prelude.{◌≡◌, ℕ, IsTrue, List, ◌++◌, Some, Ok}
-use Rattle.fab_base.specs.Seen.{Seen, SameFiles}
+use Rattle.fab_base.specs.Seen.{Seen, SameFiles, SameReadFaults, SameWriteFaults}
 use Rattle.fab_base.specs.Sunk.{Sunk}
 use Rattle.pcap_file.specs.declared.Record.{Record}
 use Rattle.fab_gather.specs.declared.fault.CapWhy.{CapWhy}
@@ -9,7 +9,7 @@ use Rattle.enode_core.specs.declared.node.Phase.{Phase}
 use Rattle.enode_core.specs.Phases.{phase_of}
 use Rattle.enode_core.specs.Runs.{Input, IsRun, stands}
 use Rattle.enode_run.specs.Files.{Played, IsUntaken, IsFront, taken_by}
-use Rattle.fabric_tool.specs.Command.{EnodeNames, Enode, ReadRose, WriteRose, KeepsOthers}
+use Rattle.fabric_tool.specs.Command.{EnodeNames, Enode, ReadRose, WriteRose, NoFaults, KeepsOthers}
 use Rattle.fabric_tool.specs.Inputs.{LIMITS}
 use Rattle.fabric_tool.specs.Outcome.{phase_text}
 use Rattle.fabric_tool.specs.declared.outcome.Outcome.{Outcome}
@@ -28,14 +28,15 @@ abbrev pub HasEnodeFront : EnodeNames → Seen → Seen → Type 0
 HasEnodeFront k old new = IsFront k.own k.start k.from k.to LIMITS old new
 
 -- What holds where `enode` ends so. The output is opened only behind the whole input and all that is sent for it, and the line of a
--- phase takes no memory. What is said of bytes needs a depot that tells them.
+-- phase takes no memory. What is said of bytes needs a depot that tells them. No fault of the depot is passed over: where it isn't
+-- told, no count of such faults has changed.
 abbrev pub EnodeHolds : EnodeNames → Seen → Seen → Outcome → Type 0
-EnodeHolds k old new (ends.Stood last) = KeepsOthers (Enode k) old new × (IsTrue old.told → HasPlayed k old new last)
-EnodeHolds k old new (ends.Capture port at why) = SameFiles old new × (IsTrue old.told → IsUntaken k.start k.from LIMITS old (faults.Capture port at why))
-EnodeHolds k old new (ends.Limit kind) = SameFiles old new × (IsTrue old.told → IsUntaken k.start k.from LIMITS old (faults.Limit kind))
-EnodeHolds k old new ends.ReadFault = SameFiles old new × ReadRose (Enode k) old new
-EnodeHolds k old new ends.WriteFault = KeepsOthers (Enode k) old new × WriteRose (Enode k) old new × (IsTrue old.told → HasEnodeFront k old new)
-EnodeHolds k old new ends.Memory = SameFiles old new
+EnodeHolds k old new (ends.Stood last) = KeepsOthers (Enode k) old new × (IsTrue old.told → HasPlayed k old new last) × NoFaults old new
+EnodeHolds k old new (ends.Capture port at why) = SameFiles old new × (IsTrue old.told → IsUntaken k.start k.from LIMITS old (faults.Capture port at why)) × NoFaults old new
+EnodeHolds k old new (ends.Limit kind) = SameFiles old new × (IsTrue old.told → IsUntaken k.start k.from LIMITS old (faults.Limit kind)) × NoFaults old new
+EnodeHolds k old new ends.ReadFault = SameFiles old new × ReadRose (Enode k) old new × SameWriteFaults old new
+EnodeHolds k old new ends.WriteFault = KeepsOthers (Enode k) old new × WriteRose (Enode k) old new × (IsTrue old.told → HasEnodeFront k old new) × SameReadFaults old new
+EnodeHolds k old new ends.Memory = SameFiles old new × NoFaults old new
 EnodeHolds k old new _ = ⊥
 
 -- ---- by status

@@ -1,8 +1,8 @@
 -- What `make` leaves in its files.
 use Rattle.std.specs.Prelude.{◌≡◌, ℕ, ◌<◌, IsTrue, List, [], get_or, Some}
-use Rattle.fab_base.specs.Seen.{Seen}
+use Rattle.fab_base.specs.Seen.{Seen, SameReadFaults}
 use Rattle.fab_vectors.specs.Making.{file_text}
-use Rattle.fabric_tool.specs.Command.{MakeNames, Make, WriteRose, KeepsOthers}
+use Rattle.fabric_tool.specs.Command.{MakeNames, Make, WriteRose, NoFaults, KeepsOthers}
 use Rattle.fabric_tool.specs.Left.{IsOldOrFront}
 use Rattle.fabric_tool.specs.declared.outcome.Outcome.{Outcome}
 use Rattle.fabric_tool.specs.declared.outcome.Outcome.TheVariants as ends
@@ -23,9 +23,10 @@ HasLoad k new = (q : ℕ) → q < 9 → new.file (file_name k q) ≡ Some (file_
 abbrev pub HasLoadFront : MakeNames → Seen → Seen → Type 0
 HasLoadFront k old new = (q : ℕ) → q < 9 → IsOldOrFront old new (file_name k q) (file_text k.number q)
 
--- What holds where `make` ends so. What is said of bytes needs a depot that tells them.
+-- What holds where `make` ends so. What is said of bytes needs a depot that tells them. No fault of the depot is passed over: where it
+-- isn't told, no count of such faults has changed.
 abbrev pub MakeHolds : MakeNames → Seen → Seen → Outcome → Type 0
-MakeHolds k old new (ends.Made frames) = KeepsOthers (Make k) old new × (frames ≡ LOAD) × (IsTrue old.told → HasLoad k new)
-MakeHolds k old new ends.WriteFault = KeepsOthers (Make k) old new × WriteRose (Make k) old new × (IsTrue old.told → HasLoadFront k old new)
-MakeHolds k old new ends.Memory = KeepsOthers (Make k) old new × (IsTrue old.told → HasLoadFront k old new)
+MakeHolds k old new (ends.Made frames) = KeepsOthers (Make k) old new × (frames ≡ LOAD) × (IsTrue old.told → HasLoad k new) × NoFaults old new
+MakeHolds k old new ends.WriteFault = KeepsOthers (Make k) old new × WriteRose (Make k) old new × (IsTrue old.told → HasLoadFront k old new) × SameReadFaults old new
+MakeHolds k old new ends.Memory = KeepsOthers (Make k) old new × (IsTrue old.told → HasLoadFront k old new) × NoFaults old new
 MakeHolds k old new _ = ⊥

@@ -1,6 +1,6 @@
 -- What opening the outputs of `run` does.
-use Rattle.std.specs.Prelude.{◌≡◌, ℕ, ◌⊎◌, IsTrue, List, [], ◌∷◌, Some, Ok, Err, Result, IfOk, OnErr}
-use Rattle.fab_base.specs.Seen.{Seen, Touches}
+use Rattle.std.specs.Prelude.{◌≡◌, ℕ, ◌⊎◌, IsTrue, List, [], ◌∷◌, Some, Ok, Err, Result, IfOk, OnOk, OnErr}
+use Rattle.fab_base.specs.Seen.{Seen, Touches, SameReadFaults, SameWriteFaults}
 use Rattle.fab_base.specs.declared.values.Failed.{Failed}
 use Rattle.fab_gather.specs.declared.fault.RunFault.{RunFault}
 use Rattle.fab_gather.specs.declared.fault.RunFault.TheVariants as faults
@@ -20,22 +20,25 @@ AreEmptyOutputs d [] (s ∷ slots) = ⊥
 AreEmptyOutputs d (name ∷ names) [] = ⊥
 AreEmptyOutputs d (name ∷ names) (s ∷ slots) = (IsTrue (d.output s) × (d.name s ≡ name) × (IsTrue d.told → d.file name ≡ Some [])) × AreEmptyOutputs d names slots
 
--- Outputs were opened: each is as it was, or empty.
+-- Outputs were opened: each is as it was, or empty. No fault of reading was counted.
 pub record Opens (names : List (List ℕ)) (old new : Seen) : Type 0 where
   pub touches : Touches (Among names) (Among names) old new
   pub each : IsTrue old.told → (m : List ℕ) → (new.file m ≡ old.file m) ⊎ (new.file m ≡ Some [])
+  pub reads : SameReadFaults old new
 
 -- the outputs of `run`
 pub record OutputsOpened (k : RunNames) (old new : Seen) (result : Result Outputs Failed) : Type 0 where
   pub opens : Opens (k.journal ∷ k.outs) old new
   pub slots : IfOk result (λ o. AreEmptyOutputs new (k.journal ∷ k.outs) (o.journal ∷ o.outs.items))
   pub cause : OnErr result (AnyRose old.write_faults new.write_faults (k.journal ∷ k.outs))
+  pub counts : OnOk result (SameWriteFaults old new)
 
 -- the files of `make`
 pub record FilesOpened (k : MakeNames) (old new : Seen) (result : Result LoadFiles Failed) : Type 0 where
   pub opens : Opens k.files old new
   pub slots : IfOk result (λ o. AreEmptyOutputs new k.files o.slots.items)
   pub cause : OnErr result (AnyRose old.write_faults new.write_faults k.files)
+  pub counts : OnOk result (SameWriteFaults old new)
 
 -- what a fault of the windows ends `run` with
 abbrev pub stopped_by : RunFault → Outcome

@@ -1,7 +1,7 @@
 -- What reading an input answers.
 use Rattle.std.specs.Prelude.{◌≡◌, ℕ, ◌+◌, ◌*◌, ◌<◌, ◌≤◌, ◌⊎◌, IsTrue, List, [], ◌∷◌, length, Ok, Err, Result, IfOk, IfErr, IsErrOf, Vec}
 use Rattle.std.specs.declared.alloc.Global.{Global}
-use Rattle.fab_base.specs.Seen.{Seen, Reads, Rose, Touches, Nothing}
+use Rattle.fab_base.specs.Seen.{Seen, Reads, Rose, Touches, Nothing, SameReadFaults, SameWriteFaults}
 use Rattle.fab_config.specs.Settings.{Settings}
 use Rattle.fab_config.specs.Text.{decoded}
 use Rattle.fab_config.specs.declared.ConfigFault.{ConfigFault}
@@ -22,6 +22,10 @@ use Rattle.fabric_tool.specs.Outcome.{kind_of}
 use Rattle.fabric_tool.specs.declared.outcome.Outcome.{Outcome}
 use Rattle.fabric_tool.specs.declared.outcome.Outcome.TheVariants as ends
 
+-- Every fault of reading is told: none is counted where a command doesn't end by it. So want of memory never stands for one.
+abbrev pub TellsReads : {T : Type 0} → Seen → Seen → Result T Outcome → Type 0
+TellsReads old new result = ¬ IsErrOf result ends.ReadFault → SameReadFaults old new
+
 -- ---- a configuration
 
 -- the outcomes of reading a configuration
@@ -35,6 +39,7 @@ pub record TextRead (s : ℕ) (old new : Seen) (result : Result Settings Outcome
   pub fault : IsTrue old.told → IfErr result (λ o. (f : ConfigFault) → o ≡ ends.Config f → decoded (old.left s) ≡ Err f)
   pub cause : IsErrOf result ends.ReadFault → Rose (old.read_faults (old.name s)) (new.read_faults (old.name s))
   pub only : IfErr result IsConfigEnd
+  pub counts : TellsReads old new result
 
 -- a configuration under a name
 pub record ConfigRead (name : List ℕ) (old new : Seen) (result : Result Settings Outcome) : Type 0 where
@@ -43,6 +48,7 @@ pub record ConfigRead (name : List ℕ) (old new : Seen) (result : Result Settin
   pub fault : IsTrue old.told → IfErr result (λ o. (f : ConfigFault) → o ≡ ends.Config f → HasFault old name f)
   pub cause : IsErrOf result ends.ReadFault → Rose (old.read_faults name) (new.read_faults name)
   pub only : IfErr result IsConfigEnd
+  pub counts : TellsReads old new result
 
 -- ---- the heads of captures
 
@@ -72,6 +78,7 @@ pub record HeadRead (port : ℕ) (name : List ℕ) (old new : Seen) (had left : 
   pub head : IfOk result (λ i. IsHead old new name i)
   pub taken : IfOk result (λ i. (left.bytes + HEAD ≡ had.bytes) × (left.frames ≡ had.frames))
   pub ended : IfErr result (HeadEnds port name had.bytes old new)
+  pub counts : TellsReads old new result
 
 -- ---- the heads of all captures
 
@@ -96,6 +103,8 @@ pub record HeadsRead (names : List (List ℕ)) (old new : Seen) (had left : Budg
   pub heads : IfOk result (λ v. AreHeads old new names v.items)
   pub taken : IfOk result (λ v. (left.bytes + HEAD * length names ≡ had.bytes) × (left.frames ≡ had.frames))
   pub ended : IfErr result (HeadsEnd names had.bytes old new)
+  pub counts : TellsReads old new result
+  pub writes : SameWriteFaults old new
 
 -- ---- a pcapng file
 

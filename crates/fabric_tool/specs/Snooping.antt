@@ -1,6 +1,6 @@
 -- How `snoop` ends: the frames of all captures cross a bridge, and each port's are written.
 use Rattle.std.specs.Prelude.{◌≡◌, ◌≢◌, ℕ, ◌⊎◌, ◌↔◌, IsTrue, List, [], ◌∷◌, ◌++◌, map, Result, Ok}
-use Rattle.fab_base.specs.Seen.{Seen, SameFiles}
+use Rattle.fab_base.specs.Seen.{Seen, SameFiles, SameReadFaults, SameWriteFaults}
 use Rattle.fab_base.specs.Sunk.{Sunk}
 use Rattle.fab_config.specs.Settings.{Settings}
 use Rattle.fab_config.specs.declared.ConfigFault.{ConfigFault}
@@ -19,7 +19,7 @@ use Rattle.fip_snoop.specs.declared.forwarder.Forwarder.{Forwarder}
 use Rattle.fip_snoop.specs.declared.way.Way.TheVariants.{Up}
 use Rattle.snoop_run.specs.Bridged.{HasBridged, HasFronts, HasStop}
 use Rattle.snoop_run.specs.Crossing.{crossing}
-use Rattle.fabric_tool.specs.Command.{SnoopNames, Snoop, ReadRose, WriteRose, KeepsOthers}
+use Rattle.fabric_tool.specs.Command.{SnoopNames, Snoop, ReadRose, WriteRose, NoFaults, KeepsOthers}
 use Rattle.fabric_tool.specs.Inputs.{HasConfig, HasFault, LIMITS}
 use Rattle.fabric_tool.specs.Outcome.{bridged_text}
 use Rattle.fabric_tool.specs.declared.outcome.Outcome.{Outcome}
@@ -62,15 +62,15 @@ pub record IsStopped (k : SnoopNames) (d : Seen) (fault : RunFault) : Type 0 whe
   pub stops : HasStop k.ins LIMITS d fault
 
 -- What holds where `snoop` ends so. The outputs are opened only behind the whole inputs. What is said of bytes needs a depot that
--- tells them.
+-- tells them. No fault of the depot is passed over: where it isn't told, no count of such faults has changed.
 abbrev pub SnoopHolds : SnoopNames → Seen → Seen → Outcome → Type 0
-SnoopHolds k old new (ends.Bridged passes drops) = KeepsOthers (Snoop k) old new × (IsTrue old.told → HasSnooped k passes drops old new)
-SnoopHolds k old new (ends.Config fault) = SameFiles old new × (IsTrue old.told → HasFault old k.config fault)
-SnoopHolds k old new (ends.Capture port at why) = SameFiles old new × (IsTrue old.told → IsStopped k old (faults.Capture port at why))
-SnoopHolds k old new (ends.Limit kind) = SameFiles old new × (IsTrue old.told → IsStopped k old (faults.Limit kind))
-SnoopHolds k old new ends.ReadFault = SameFiles old new × ReadRose (Snoop k) old new
-SnoopHolds k old new ends.WriteFault = KeepsOthers (Snoop k) old new × WriteRose (Snoop k) old new × (IsTrue old.told → HasSnoopedFront k old new)
-SnoopHolds k old new ends.Memory = KeepsOthers (Snoop k) old new × (IsTrue old.told → SameFiles old new ⊎ HasSnoopedFront k old new)
+SnoopHolds k old new (ends.Bridged passes drops) = KeepsOthers (Snoop k) old new × (IsTrue old.told → HasSnooped k passes drops old new) × NoFaults old new
+SnoopHolds k old new (ends.Config fault) = SameFiles old new × (IsTrue old.told → HasFault old k.config fault) × NoFaults old new
+SnoopHolds k old new (ends.Capture port at why) = SameFiles old new × (IsTrue old.told → IsStopped k old (faults.Capture port at why)) × NoFaults old new
+SnoopHolds k old new (ends.Limit kind) = SameFiles old new × (IsTrue old.told → IsStopped k old (faults.Limit kind)) × NoFaults old new
+SnoopHolds k old new ends.ReadFault = SameFiles old new × ReadRose (Snoop k) old new × SameWriteFaults old new
+SnoopHolds k old new ends.WriteFault = KeepsOthers (Snoop k) old new × WriteRose (Snoop k) old new × (IsTrue old.told → HasSnoopedFront k old new) × SameReadFaults old new
+SnoopHolds k old new ends.Memory = KeepsOthers (Snoop k) old new × (IsTrue old.told → SameFiles old new ⊎ HasSnoopedFront k old new) × NoFaults old new
 SnoopHolds k old new _ = ⊥
 
 -- ---- by status

@@ -50,4 +50,4 @@ returns g c =
     let value = c.port_count-port-end.ensures.value in
     omega arith in
     let so = subst (λ p. OpenedSoFar (output_names c.args.words.now p) (seen c.args.depot.now) (seen c.loop-port.depot) (c.in-Ok.slot ∷ c.loop-port.outs.items)) all c.loop-port.invariant in
-    record { opens = record { opens = so.opens; slots = so.are; cause = tt } }
+    record { opens = record { opens = so.opens; slots = so.are; cause = tt; counts = so.counts } }
