@@ -103,6 +103,9 @@ module _ (words : List (String Global)) where
   pub show_is_complete : command words ≡ Some (Show (without_outputs names)) → IsComplete words (holding FILES) (holding FILES) (said []) (said [])
   show_is_complete is = record { k = Show (without_outputs names); is = is; forms = (refl, shown K [], is_shown); quiet = quiet (Show (without_outputs names)) FILES FILES [] [] }
 
+  pub show_is_named : command words ≡ Some (Show (without_outputs names)) → IsNamed words (ends.Shown (shown K [])) (holding FILES) (holding FILES) (said []) (said [])
+  show_is_named is = record { k = Show (without_outputs names); is = is; told = refl; says = is_shown; quiet = quiet (Show (without_outputs names)) FILES FILES [] [] }
+
 -- ---- what `run` wrote
 
 not_followed : (J : Journal) (e : Event) (later : List Event) → followed (e ∷ J) later ≡ [] → ⊥
