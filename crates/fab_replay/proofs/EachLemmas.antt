@@ -4,7 +4,7 @@ use Rattle.std.specs.Prelude.{Vec}
 use Rattle.std.specs.declared.alloc.Global.{Global}
 use Rattle.std.proofs.lemmas.List.{append-nil}
 use Rattle.std.proofs.lemmas.Option.{slice_get_within}
-use Rattle.fab_base.specs.Seen.{Seen, Reads, Rose, Touches, Nothing, Only}
+use Rattle.fab_base.specs.Seen.{Seen, Reads, Rose, Touches, Nothing, Only, SameReadFaults, SameWriteFaults}
 use Rattle.fab_base.specs.declared.values.Failed.{Failed}
 use Rattle.fab_base.proofs.SeenLemmas.{rose_later, touches_refl, touches_trans, touches_wider, reads_touches}
 use Rattle.fab_replay.specs.AllOutputs.{page_at, AreRead, OneRose, FeedsEach, FinishesEach}
@@ -80,6 +80,8 @@ pub record Feeding (slots : List ℕ) (pages : List (Vec ℕ Global)) (k : ℕ) 
       (found wanted : List ℕ) → IsRead c found (a.left (slot_at slots q)) wanted → IsRead c' found (b.left (slot_at slots q)) (wanted ++ page_at pages q)
   pub rest : (q : ℕ) → k ≤ q → slice_get all' q ≡ slice_get all q
   pub left : (q : ℕ) → k ≤ q → q < length slots → b.left (slot_at slots q) ≡ a.left (slot_at slots q)
+  pub counts : SameReadFaults a b
+  pub writes : SameWriteFaults a b
 
 pub feeding_none : (slots : List ℕ) (pages : List (Vec ℕ Global)) (a : Seen) (all : List Compared) → Feeding slots pages 0 a a all all
 feeding_none slots pages a all = record {
@@ -88,6 +90,8 @@ feeding_none slots pages a all = record {
   done = λ told q lt less c c' at at' found wanted r. absurd (omega arith);
   rest = λ q le. refl;
   left = λ q le lt. refl;
+  counts = λ m. refl;
+  writes = λ m. refl;
 }
 
 some_is : {A : Type 0} (o : Option A) (x y : A) → o ≡ Some x → o ≡ Some y → x ≡ y
@@ -107,6 +111,8 @@ module _ (slots : List ℕ) (pages : List (Vec ℕ Global)) (k : ℕ) (a b d : S
     ];
     rest = λ q le. get_set_other all' k q y (λ e. omega arith) ∙ f.rest q (omega arith);
     left = λ q le within. others_left slots k a b d are lt f.touches feeds.reads q (λ e. omega arith) within ∙ f.left q (omega arith) within;
+    counts = λ m. feeds.goes_on.counts m ∙ f.counts m;
+    writes = λ m. feeds.reads.writes m ∙ f.writes m;
   }
     where
       at_own : IsTrue a.told → (c c' : Compared) → slice_get all k ≡ Some c → slice_get (set all' k y) k ≡ Some c' → (found wanted : List ℕ) → IsRead c found (a.left (slot_at slots k)) wanted → IsRead c' found (d.left (slot_at slots k)) (wanted ++ page_at pages k)
@@ -133,6 +139,8 @@ module _ (slots : List ℕ) (pages : List (Vec ℕ Global)) (k : ℕ) (a b d : S
           subst (GoesPart (slot_at slots q) (page_at pages q) a c) same_c (part_none (slot_at slots q) (page_at pages q) a c)
     ];
     cause = rose_on slots k a b d are lt f.touches feeds.cause;
+    counts = tt;
+    writes = λ m. feeds.reads.writes m ∙ f.writes m;
   }
     where
       less_or_more : (q n : ℕ) → (q < n) ⊎ ((q ≡ n) ⊎ (n < q))
@@ -177,6 +185,8 @@ feed_all_of slots pages k a b all all' same le f = record {
       f.done told q (omega arith) (omega arith) was.0 c' was.1 at' (found q) (wanted q) (are q was.0 was.1);
   part = tt;
   cause = tt;
+  counts = f.counts;
+  writes = f.writes;
 }
   where
     item_at : (l : List Compared) (q : ℕ) → q < length l → (c : Compared) × (slice_get l q ≡ Some c)
@@ -191,12 +201,16 @@ pub record Finishing (slots : List ℕ) (k : ℕ) (a b : Seen) (all : List Compa
   pub touches : Touches Nothing (NameIn a slots) a b
   pub done : IsTrue a.told → (found wanted : ℕ → List ℕ) → AreRead a slots all found wanted → (q : ℕ) → q < k → q < length all → found q ≡ wanted q
   pub left : (q : ℕ) → k ≤ q → q < length slots → b.left (slot_at slots q) ≡ a.left (slot_at slots q)
+  pub counts : SameReadFaults a b
+  pub writes : SameWriteFaults a b
 
 pub finishing_none : (slots : List ℕ) (a : Seen) (all : List Compared) → Finishing slots 0 a a all
 finishing_none slots a all = record {
   touches = touches_refl Nothing (NameIn a slots) a;
   done = λ told found wanted are q lt less. absurd (omega arith);
   left = λ q le lt. refl;
+  counts = λ m. refl;
+  writes = λ m. refl;
 }
 
 module _ (slots : List ℕ) (k : ℕ) (a b d : Seen) (all : List Compared) (are : AreInputs a slots) (same : length slots ≡ length all) (lt : k < length slots) (f : Finishing slots k a b all) (x : Compared) (at_k : slice_get all k ≡ Some x) where
@@ -211,6 +225,8 @@ module _ (slots : List ℕ) (k : ℕ) (a b d : Seen) (all : List Compared) (are 
       | inr here ↦ subst (λ (n : ℕ). found n ≡ wanted n) (sym here) (fin.compared (told_on slots k a b d are lt f.touches told) (found k) (wanted k) (own_read found wanted read))
     ];
     left = λ q le within. others_left slots k a b d are lt f.touches fin.reads q (λ e. omega arith) within ∙ f.left q (omega arith) within;
+    counts = λ m. fin.counts m ∙ f.counts m;
+    writes = λ m. fin.reads.writes m ∙ f.writes m;
   }
 
   pub finish_differs : (port place : ℕ) (r : Option ℕ) → port ≡ k + 1 → r ≡ Some place → Finishes (slot_at slots k) b d x (Ok r) → FinishesEach slots a d all (Ok (Some (port, place)))
@@ -218,6 +234,8 @@ module _ (slots : List ℕ) (k : ℕ) (a b d : Seen) (all : List Compared) (are 
     touches = touches_on slots k a b d are lt f.touches fin.reads;
     first = λ told found wanted read. (k, is, omega arith, fin.compared (told_on slots k a b d are lt f.touches told) (found k) (wanted k) (own_read found wanted read), (λ q less. f.done told found wanted read q less (omega arith)));
     cause = tt;
+    counts = λ m. fin.counts m ∙ f.counts m;
+    writes = λ m. fin.reads.writes m ∙ f.writes m;
   }
 
   pub finish_failed : (e : Failed) → Finishes (slot_at slots k) b d x (Err e) → FinishesEach slots a d all (Err e)
@@ -225,6 +243,8 @@ module _ (slots : List ℕ) (k : ℕ) (a b d : Seen) (all : List Compared) (are 
     touches = touches_on slots k a b d are lt f.touches fin.reads;
     first = λ told. tt;
     cause = rose_on slots k a b d are lt f.touches fin.cause;
+    counts = tt;
+    writes = λ m. fin.reads.writes m ∙ f.writes m;
   }
 
 pub finish_all_of : (slots : List ℕ) (k : ℕ) (a b : Seen) (all : List Compared) → length slots ≡ length all → length slots ≤ k → Finishing slots k a b all → FinishesEach slots a b all (Ok None)
@@ -232,4 +252,6 @@ finish_all_of slots k a b all same le f = record {
   touches = f.touches;
   first = λ told found wanted r q less. f.done told found wanted r q (omega arith) less;
   cause = tt;
+  counts = f.counts;
+  writes = f.writes;
 }

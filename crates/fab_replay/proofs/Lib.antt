@@ -1,3 +1,4 @@
+pub mod CountLemmas
 pub mod EachLemmas
 pub mod EndLemmas
 pub mod ExactLemmas

@@ -82,6 +82,7 @@ pub goes_nowhere : (s : ℕ) (a : Seen) (c : Compared) → GoesOn s [] a a c c
 goes_nowhere s a c = record {
   reads = reads_refl (a.name s) a;
   read = λ told found wanted r. subst (λ w. IsRead c found (a.left s) w) (sym (append-nil wanted)) r;
+  counts = λ m. refl;
 }
 
 pub goes_further : (s : ℕ) (xs ys : List ℕ) (a b d : Seen) (c c' c'' : Compared) → IsTrue (a.input s) → GoesOn s xs a b c c' → GoesOn s ys b d c' c'' → GoesOn s (xs ++ ys) a d c c''
@@ -90,6 +91,7 @@ goes_further s xs ys a b d c c' c'' is_open g h = record {
   read = λ told found wanted r.
       let told_b : IsTrue b.told = subst IsTrue (sym g.reads.keeps.told) told in
       subst (λ w. IsRead c'' found (d.left s) w) (append_assoc wanted xs ys) (h.read told_b found (wanted ++ xs) (g.read told found wanted r));
+  counts = λ m. h.counts m ∙ g.counts m;
 }
 
 -- nothing was read, or only the first pieces of them
@@ -161,6 +163,7 @@ finds_more s (suc got) (x ∷ buffer) a b c none some one f = record {
   reads = f.reads;
   compared = λ told found wanted r. goes_past c.at x found (a.left s) (take got buffer ++ b.left s) wanted (subst (λ first. IsReadAt first c.at found (a.left s) wanted) (none_there c.first none) r) (f.taken told);
   cause = tt;
+  counts = f.counts;
 }
 
 -- the bytes that were read differ from the piece that was wanted
@@ -174,6 +177,7 @@ meets_difference s got k place into piece a b c none f room is d lt = record {
         subst (λ p. IsReadAt (Some p) c.at found (b.left s) (wanted ++ piece)) (sym is)
         (differs_now c.at k found (a.left s) (b.left s) wanted (take got into) piece (subst (λ first. IsReadAt first c.at found (a.left s) wanted) (none_there c.first none) r)
         (subst (λ l. l ++ b.left s ≡ a.left s) front (f.taken told)) (λ less. f.ended told (omega (arith, less, size, long))) (omega (arith, f.bound, size, long)) lt d);
+    counts = f.counts;
   };
   part = tt;
   cause = tt;

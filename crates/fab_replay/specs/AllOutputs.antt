@@ -1,7 +1,7 @@
 -- The outputs of all ports, each against the bytes that it should have.
 use Rattle.std.specs.Prelude.{◌≡◌, ℕ, ◌+◌, ◌<◌, IsTrue, List, ◌++◌, length, slice_get, Option, None, Some, Result, IfOk, OnOk, OnErr, Vec}
 use Rattle.std.specs.declared.alloc.Global.{Global}
-use Rattle.fab_base.specs.Seen.{Seen, Rose, Touches, Nothing}
+use Rattle.fab_base.specs.Seen.{Seen, Rose, Touches, Nothing, SameReadFaults, SameWriteFaults}
 use Rattle.fab_base.specs.declared.values.Failed.{Failed}
 use Rattle.fab_pages.specs.Pages.{items_in, piece_at}
 use Rattle.fab_gather.specs.Ports.{slot_at, name_of, NameIn}
@@ -20,13 +20,15 @@ AreRead d slots all found wanted = (q : ℕ) (c : Compared) → slice_get all q 
 abbrev pub OneRose : List ℕ → Seen → Seen → Type 0
 OneRose slots a b = (q : ℕ) × (q < length slots) × Rose (a.read_faults (name_of a slots q)) (b.read_faults (name_of a slots q))
 
--- Reading each output on against the page of its port. It changes no file.
+-- Reading each output on against the page of its port. It changes no file, and counts a fault only where it fails, of reading.
 pub record FeedsEach (slots : List ℕ) (pages : List (Vec ℕ Global)) (a b : Seen) (all all' : List Compared) (result : Result (Unit {0}) Failed) : Type 0 where
   pub touches : Touches Nothing (NameIn a slots) a b
   pub count : length all' ≡ length all
   pub read : IsTrue a.told → OnOk result ((found wanted : ℕ → List ℕ) → AreRead a slots all found wanted → AreRead b slots all' found (λ q. wanted q ++ page_at pages q))
   pub part : OnErr result ((q : ℕ) (c c' : Compared) → slice_get all q ≡ Some c → slice_get all' q ≡ Some c' → GoesPart (slot_at slots q) (page_at pages q) a c c')
   pub cause : OnErr result (OneRose slots a b)
+  pub counts : OnOk result (SameReadFaults a b)
+  pub writes : SameWriteFaults a b
 
 -- The first of so many outputs that isn't as it should be is that of this port, and it first differs at this place; or each is
 -- as it should be.
@@ -39,3 +41,5 @@ pub record FinishesEach (slots : List ℕ) (a b : Seen) (all : List Compared) (r
   pub touches : Touches Nothing (NameIn a slots) a b
   pub first : IsTrue a.told → IfOk result (λ first. (found wanted : ℕ → List ℕ) → AreRead a slots all found wanted → IsFirst first (length all) found wanted)
   pub cause : OnErr result (OneRose slots a b)
+  pub counts : OnOk result (SameReadFaults a b)
+  pub writes : SameWriteFaults a b

@@ -1,5 +1,6 @@
 pub mod AllOutputs
 pub mod Check
+pub mod Counts
 pub mod Exact
 pub mod Front
 pub mod Laws

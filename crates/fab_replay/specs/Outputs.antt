@@ -1,6 +1,6 @@
 -- An output against the bytes that it should have, which come piece by piece.
 use Rattle.std.specs.Prelude.{◌≡◌, ◌≢◌, ℕ, ◌-◌, ◌^◌, ◌<◌, min, IsTrue, List, ◌++◌, length, take, slice_get, Option, None, Some, Result, IfOk, OnOk, OnErr}
-use Rattle.fab_base.specs.Seen.{Seen, Reads, Rose}
+use Rattle.fab_base.specs.Seen.{Seen, Reads, Rose, SameReadFaults}
 use Rattle.fab_base.specs.declared.values.Failed.{Failed}
 use Rattle.fab_replay.specs.declared.outputs.Compared.{Compared}
 
@@ -29,10 +29,11 @@ IsReadAt (Some place) at found left wanted = (n : ℕ) × (place ≡ told_place 
 abbrev pub IsRead : Compared → List ℕ → List ℕ → List ℕ → Type 0
 IsRead c found left wanted = IsReadAt c.first c.at found left wanted
 
--- One comparison went on to another by these further bytes.
+-- One comparison went on to another by these further bytes, and no fault was counted.
 pub record GoesOn (s : ℕ) (bytes : List ℕ) (old new : Seen) (c c' : Compared) : Type 0 where
   pub reads : Reads (old.name s) old new
   pub read : IsTrue old.told → (found wanted : List ℕ) → IsRead c found (old.left s) wanted → IsRead c' found (new.left s) (wanted ++ bytes)
+  pub counts : SameReadFaults old new
 
 -- One comparison went on to another by a front of these bytes, however much of the file was lost behind it.
 pub record GoesPart (s : ℕ) (bytes : List ℕ) (old : Seen) (c c' : Compared) : Type 0 where
@@ -42,15 +43,17 @@ pub record GoesPart (s : ℕ) (bytes : List ℕ) (old : Seen) (c c' : Compared) 
   pub left : List ℕ
   pub read : IsTrue old.told → (found wanted : List ℕ) → IsRead c found (old.left s) wanted → IsRead c' found left (wanted ++ front)
 
--- Reading a file on against further bytes. It fails only where a fault of reading was counted.
+-- Reading a file on against further bytes. It fails only where a fault of reading was counted, and else counts none.
 pub record Feeds (s : ℕ) (bytes : List ℕ) (old new : Seen) (c c' : Compared) (result : Result (Unit {0}) Failed) : Type 0 where
   pub reads : Reads (old.name s) old new
   pub goes_on : OnOk result (GoesOn s bytes old new c c')
   pub part : OnErr result (GoesPart s bytes old c c')
   pub cause : OnErr result (Rose (old.read_faults (old.name s)) (new.read_faults (old.name s)))
 
--- The end of the wanted bytes: what the file is against all of them.
+-- The end of the wanted bytes: what the file is against all of them. It fails only where a fault of reading was counted, and else
+-- counts none.
 pub record Finishes (s : ℕ) (old new : Seen) (c : Compared) (result : Result (Option ℕ) Failed) : Type 0 where
   pub reads : Reads (old.name s) old new
   pub compared : IsTrue old.told → IfOk result (λ place. (found wanted : List ℕ) → IsRead c found (old.left s) wanted → IsCompared place found wanted)
   pub cause : OnErr result (Rose (old.read_faults (old.name s)) (new.read_faults (old.name s)))
+  pub counts : OnOk result (SameReadFaults old new)

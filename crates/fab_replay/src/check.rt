@@ -5,6 +5,7 @@ ghost use Rattle.fab_gather.specs.Ports.{AreInputs, TakesFrom, slots_of};
 ghost use Rattle.fab_policy.specs.Journal.{Journal};
 ghost use Rattle.fab_policy.specs.Outputs.{state_of};
 ghost use Rattle.fab_replay.specs.Check.{Checks, Leaves, matter_in};
+ghost use Rattle.fab_replay.specs.Counts.{TellsFaults};
 ghost use Rattle.fab_replay.specs.Front.{expects_tick, has_left};
 ghost use Rattle.fab_replay.specs.Lines.{IsInside, IsOfLine};
 ghost use Rattle.fab_replay.specs.Steps.{IsAlong, IsFound, IsReached, Left, Scene};
@@ -61,6 +62,7 @@ pub fn check_captures<D: Depot>(
         (matter_in a ins.old journal.now outs.now) a.told fabric.new result }
     ensures settings { fabric.new.settings ≡ fabric.old.settings }
     ensures takes { TakesFrom ins.old ins.new budget.old budget.new }
+    ensures counts { TellsFaults (D.seen depot.old) (D.seen depot.new) result }
 {
     // For the checker: a fault that is handed on by `?` holds these enums.
     let _verdicts: &[Verdict] = &[];
@@ -91,6 +93,7 @@ fn begin<D: Depot>(
         (λ b. Going k 0 b.first fabric.now b.place (D.seen depot.new) ins.new b.shelves.items
         budget.new b.owed) (λ e. Ended k (D.seen depot.new) e × LeftBy k fabric.now e) }
     ensures takes { TakesFrom ins.old ins.new budget.old budget.new }
+    ensures counts { TellsFaults (D.seen depot.old) (D.seen depot.new) result }
 {
     // Law: what the looks to come are, what was read and what a stop keeps; Going begins with them.
     laws_of_windows();
@@ -132,6 +135,7 @@ fn check_begun<D: Depot>(
         begun.old.owed → RemainsOf k fabric.new result }
     ensures settings { fabric.new.settings ≡ fabric.old.settings }
     ensures takes { TakesFrom ins.old ins.new budget.old budget.new }
+    ensures counts { TellsFaults (D.seen depot.old) (D.seen depot.new) result }
 {
     // Law: what the looks to come are, what was read and what a stop keeps; Checks ends with them.
     laws_of_windows();

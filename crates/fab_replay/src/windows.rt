@@ -8,6 +8,7 @@ ghost use Rattle.fab_gather.specs.declared.fault.RunFault.TheVariants as of_gath
 ghost use Rattle.fab_policy.specs.Journal.{Journal};
 ghost use Rattle.fab_replay.specs.Lines.{IsInside, IsOfLine};
 ghost use Rattle.fab_replay.specs.AllOutputs.{OneRose};
+ghost use Rattle.fab_replay.specs.Counts.{TellsFaults};
 ghost use Rattle.fab_replay.specs.Owed.{AreMany, IsOwed, PagesGrow};
 ghost use Rattle.fab_replay.specs.Steps.{AreCounted, IsAlong, IsFound, IsGathered, IsIdle, IsReached, Left, Scene};
 ghost use Rattle.fab_replay.specs.Windows as spec;
@@ -51,6 +52,7 @@ pub(crate) fn check_windows<D: Depot>(
         → IfErr result (λ e. LeftBy k fabric.new e) }
     ensures settings { fabric.new.settings ≡ fabric.old.settings }
     ensures takes { TakesFrom ins.old ins.new budget.old budget.new }
+    ensures counts { TellsFaults (D.seen depot.old) (D.seen depot.new) result }
 {
     // Law: what the looks to come are, what was read and what a stop keeps; Going goes on by them.
     laws_of_windows();
@@ -95,6 +97,7 @@ fn check_window<D: Depot>(
     ensures settings { fabric.new.settings ≡ fabric.old.settings }
     ensures clock { OnOk result (fabric.new.state.tables.clock ≡ Some window) }
     ensures takes { TakesFrom ins.old ins.new budget.old budget.new }
+    ensures counts { TellsFaults (D.seen depot.old) (D.seen depot.new) result }
 {
     // Law: what the looks to come are, what was read and what a stop keeps; Going goes on by them.
     laws_of_windows();
@@ -178,6 +181,7 @@ fn check_gathered<D: Depot>(
         (D.seen depot.new) }
     ensures cause { IsErrOf result CheckFault.Read
         → OneRose outs.now (D.seen depot.old) (D.seen depot.new) }
+    ensures counts { TellsFaults (D.seen depot.old) (D.seen depot.new) result }
 {
     // For the checker: a fault that is handed on by `?` holds these enums.
     let _verdicts: &[Verdict] = &[];
@@ -191,8 +195,10 @@ fn check_gathered<D: Depot>(
         shelves,
         &mut owed.pages,
     )?;
-    owed.read_on(depot, outs)?;
-    Ok(())
+    match owed.read_on(depot, outs) {
+        Ok(()) => Ok(()),
+        Err(_) => Err(CheckFault::Read),
+    }
 }
 
 // Checks the lines of the window whose records are on the shelves: its ticks and its frames.

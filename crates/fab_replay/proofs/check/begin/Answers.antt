@@ -1,8 +1,10 @@
 use Rattle.std.proofs.Common.{[], refl, sym, subst}
 use Rattle.fab_gather.specs.Ports.{slots_of}
+use Rattle.fab_gather.specs.declared.fault.RunFault.TheVariants as run_fault
 use Rattle.fab_gather.proofs.LeavesLemmas.{takes_none}
 use Rattle.fab_replay.specs.Windows.{Ended, LeftBy, scene_of, task_of}
 use Rattle.fab_replay.specs.declared.fault.CheckFault.TheVariants as fault
+use Rattle.fab_replay.proofs.CountLemmas.{counts_gathering, counts_none, not_ok}
 use Rattle.fab_replay.proofs.GoLemmas.{ended_looks, ended_refused, going_begin, left_looks}
 use Rattle.fab_replay.proofs.LeaveLemmas.{along_none, left_line}
 use Rattle.fab_replay.proofs.RemainLemmas.{stays_refused}
@@ -19,6 +21,7 @@ returns-in_err-owed g c =
       begins = told_on c.from_residual.result fault.Memory _ _ c.from_residual.ensures.1
           (ended_refused k, left_line k F fault.Memory tt (stays_refused (scene_of k) k.start.seen.told [] F c.first_place-place.result (along_none k F c.first_place-place.result refl c.requires.state c.requires.nothing.0 c.requires.nothing.1 c.first_place-place.ensures.behind)));
       takes = takes_none c.args.ins.now c.args.budget.now;
+      counts = counts_none (seen c.args.depot.now) c.from_residual.result;
     }
 
 pub first_looks-requires-clause-ports : goal.first_looks-requires-clause-ports
@@ -46,6 +49,7 @@ returns-in-Err g c =
             c.in-Err.fault (c.in-Err.ensures.looks F.settings) (along_none k F c.first_place-place.result refl c.requires.state c.requires.nothing.0 c.requires.nothing.1 c.first_place-place.ensures.behind),
       );
       takes = (c.in-Err.ensures.looks F.settings).takes;
+      counts = let t = c.in-Err.ensures.looks F.settings in counts_gathering (seen c.args.depot.now) (seen c.first_looks.new.depot) c.in-Err.fault c.fault_of.result c.fault_of.ensures t.counts t.writes;
     }
 
 pub returns : goal.returns
@@ -59,4 +63,5 @@ returns g c =
           c.next_window.ensures.least c.config.ensures c.deref.ensures.value c.unwrap_or-first.ensures
           refl c.requires.count c.requires.state c.requires.nothing.0 c.requires.nothing.1 c.first_place-place.ensures.behind c.first_place-place.ensures.inside;
       takes = (c.in-Ok.ensures.looks F.settings).takes;
+      counts = let t = c.in-Ok.ensures.looks F.settings in record { reads = λ not. t.counts (not_ok c.in-Ok.shelves run_fault.Read); writes = t.writes };
     }

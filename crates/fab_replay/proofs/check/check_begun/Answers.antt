@@ -3,7 +3,9 @@ use Rattle.fab_gather.specs.Ports.{AreInputs}
 use Rattle.fab_replay.specs.Check.{Checks}
 use Rattle.fab_replay.specs.Lines.{IsInside}
 use Rattle.fab_replay.specs.Owed.{AreMany, ReadsOut}
+use Rattle.fab_replay.specs.declared.fault.CheckFault.TheVariants as fault
 use Rattle.fab_replay.specs.Windows.{Going, RemainsOf, scene_of}
+use Rattle.fab_replay.proofs.CountLemmas.{counts_behind, counts_none, counts_on, not_ok}
 use Rattle.fab_replay.proofs.GoLemmas.{ended_behind, ended_out, ended_well, left_ends, left_out, left_well, outputs_now}
 use Rattle.fab_replay.proofs.LeaveLemmas.{left_line}
 use Rattle.fab_replay.proofs.ResultLemmas.{err_is}
@@ -141,3 +143,33 @@ returns-clause-leaves g c = λ k same going.
     let t = c.in_ok-check_windows.ensures.turns k same now in
     let n = c.check_windows.new in
     left_well c.laws_of_windows.ensures k t.0 b.first n.fabric n.place (seen n.depot) n.ins n.shelves n.budget n.owed t.1
+
+-- ---- counts of faults
+
+pub returns-in_err-check_windows-clause-counts : goal.returns-in_err-check_windows-clause-counts
+returns-in_err-check_windows-clause-counts g c =
+    let seen = g.D.Depot.seen in
+    counts_on (seen c.args.depot.now) (seen c.check_windows.new.depot) c.in_err-check_windows.field-0.0 c.from_residual.result c.from_residual.ensures.1 c.in_err-check_windows.ensures.counts
+
+pub returns-in_err-check_end-clause-counts : goal.returns-in_err-check_end-clause-counts
+returns-in_err-check_end-clause-counts g c =
+    let seen = g.D.Depot.seen in
+    let d = seen c.check_windows.new.depot in
+    let r = c.from_residual-in_err-check_end.result in
+    counts_behind (seen c.args.depot.now) d d tt r c.in_ok-check_windows.ensures.counts (counts_none d r)
+
+pub returns-in_err-read_out-clause-counts : goal.returns-in_err-read_out-clause-counts
+returns-in_err-read_out-clause-counts g c =
+    let seen = g.D.Depot.seen in
+    let b = seen c.check_windows.new.depot in
+    let d = seen c.read_out.new.depot in
+    let r = c.from_residual-in_err-read_out.result in
+    counts_behind (seen c.args.depot.now) b d tt r c.in_ok-check_windows.ensures.counts (counts_on b d c.in_err-read_out.field-0.0 r c.from_residual-in_err-read_out.ensures.1 c.in_err-read_out.ensures.reads.counts)
+
+pub returns-clause-counts : goal.returns-clause-counts
+returns-clause-counts g c =
+    let seen = g.D.Depot.seen in
+    let b = seen c.check_windows.new.depot in
+    let d = seen c.read_out.new.depot in
+    let all = c.in_ok-read_out.ensures.reads.counts in
+    counts_behind (seen c.args.depot.now) b d tt _ c.in_ok-check_windows.ensures.counts (record { reads = λ not. all.reads (not_ok tt fault.Read); writes = all.writes })

@@ -1,6 +1,7 @@
 use Rattle.std.proofs.Common.{refl, subst}
 use Rattle.fab_replay.specs.Check.{Checks}
 use Rattle.fab_replay.specs.Windows.{RemainsOf, task_of}
+use Rattle.fab_replay.proofs.CountLemmas.{counts_behind, counts_on}
 use Rattle.fab_replay.proofs.ResultLemmas.{err_is}
 use Rattle.fab_replay.proofs.check.check_captures.Goals as goal
 
@@ -34,3 +35,15 @@ returns-clause-leaves g c =
     let F = c.args.fabric.now in
     let k = task_of F.settings c.args.budget.now c.args.ins.now (g.D.Depot.seen c.args.depot.now) c.args.journal.now c.args.outs.now in
     c.check_begun.ensures.leaves k (record { journal = refl; outputs = refl }) c.in_ok-begun.ensures.begins
+
+-- ---- counts of faults
+
+pub returns-in_err-begun-clause-counts : goal.returns-in_err-begun-clause-counts
+returns-in_err-begun-clause-counts g c =
+    let seen = g.D.Depot.seen in
+    counts_on (seen c.args.depot.now) (seen c.begin.new.depot) c.in_err-begun.field-0.0 c.from_residual.result c.from_residual.ensures.1 c.in_err-begun.ensures.counts
+
+pub returns-clause-counts : goal.returns-clause-counts
+returns-clause-counts g c =
+    let seen = g.D.Depot.seen in
+    counts_behind (seen c.args.depot.now) (seen c.begin.new.depot) (seen c.check_begun.new.depot) c.in_ok-begun.begun c.check_begun.result c.in_ok-begun.ensures.counts c.check_begun.ensures.counts

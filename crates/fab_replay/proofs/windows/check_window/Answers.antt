@@ -2,10 +2,12 @@ use Rattle.std.proofs.Common.{◌∙◌, sym, subst, Some, Ok, Err, OnOk, arith,
 use Rattle.fab_base.specs.Seen.{Nothing, Touches}
 use Rattle.fab_gather.specs.First.{IsNextWindow}
 use Rattle.fab_gather.specs.Ports.{AreInputs, AreReady, NameIn}
+use Rattle.fab_gather.specs.declared.fault.RunFault.TheVariants as run_fault
 use Rattle.fab_replay.specs.AllOutputs.{OneRose}
 use Rattle.fab_replay.specs.Lines.{IsInside}
 use Rattle.fab_replay.specs.Owed.{AreMany}
 use Rattle.fab_replay.specs.Windows.{Ended, LeftBy, scene_of}
+use Rattle.fab_replay.proofs.CountLemmas.{counts_gathering, counts_then, not_ok}
 use Rattle.fab_replay.proofs.GoLemmas.{ended_gathering, gathers_as, inputs_now, left_gathering, left_now, lines_left, outputs_b, same_ports, turn_ends, turn_left}
 use Rattle.fab_replay.proofs.windows.check_window.Goals as goal
 
@@ -129,3 +131,17 @@ returns-clause-left g c = λ k same going.
     (seen c.gather.new.depot) c.gather.new.ins c.gather.new.shelves c.gather.new.budget t next n.fabric n.place (seen n.depot) n.owed c.args.journal.now c.args.outs.now same r e.checks)
     (e.left (scene_of k) k.start.seen.told going.stood.0 same.journal going.stood.1
     (left_now laws k c.args.window c.args.first c.args.fabric.now c.args.place.now (seen c.args.depot.now) c.args.ins.now c.args.shelves.now c.args.budget.now c.args.owed.now going (seen c.gather.new.depot) c.gather.new.ins c.gather.new.shelves c.gather.new.budget t next))
+
+-- ---- counts of faults
+
+pub returns-in-Err-clause-counts : goal.returns-in-Err-clause-counts
+returns-in-Err-clause-counts g c =
+    let seen = g.D.Depot.seen in
+    let t = c.in-Err.ensures.gathers in
+    counts_gathering (seen c.args.depot.now) (seen c.gather.new.depot) c.in-Err.fault c.fault_of.result c.fault_of.ensures t.counts t.writes
+
+pub returns-clause-counts : goal.returns-clause-counts
+returns-clause-counts g c =
+    let seen = g.D.Depot.seen in
+    let t = c.in-Ok.ensures.gathers in
+    counts_then (seen c.args.depot.now) (seen c.gather.new.depot) (seen c.check_gathered.new.depot) c.check_gathered.result (t.counts (not_ok tt run_fault.Read)) t.writes c.check_gathered.ensures.counts

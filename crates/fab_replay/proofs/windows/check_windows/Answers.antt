@@ -3,12 +3,14 @@ use Rattle.fab_config.specs.Settings.{Settings}
 use Rattle.fab_gather.proofs.ClockLemmas.{nearer}
 use Rattle.fab_gather.proofs.LeavesLemmas.{takes_none, takes_then}
 use Rattle.fab_gather.specs.First.{IsNextWindow}
+use Rattle.fab_replay.specs.declared.fault.CheckFault.TheVariants as fault
+use Rattle.fab_replay.proofs.CountLemmas.{counts_on, counts_then, not_ok}
 use Rattle.fab_replay.proofs.GoLemmas.{going_next, next_early, next_here}
 use Rattle.fab_replay.proofs.ResultLemmas.{err_on, told_on}
 use Rattle.fab_replay.proofs.windows.check_windows.Goals as goal
 
 pub windows-init : goal.windows-init
-windows-init g c = record { turns = λ k same going. (0, going); settings = refl; takes = takes_none c.args.ins.now c.args.budget.now }
+windows-init g c = record { turns = λ k same going. (0, going); settings = refl; takes = takes_none c.args.ins.now c.args.budget.now; counts = (λ m. refl, λ m. refl) }
 
 pub check_window-requires-clause-going : goal.check_window-requires-clause-going
 check_window-requires-clause-going g c =
@@ -71,6 +73,7 @@ windows-preserved g c =
           (w + 1, c.in_ok-check_window.ensures.turns k same (going_next c.laws_of_windows.ensures k at.0 c.args.first l.fabric l.place d l.ins l.shelves l.budget l.owed at.1 w next));
       settings = c.in_ok-check_window.ensures.settings ∙ l.invariant.settings;
       takes = takes_then c.args.ins.now l.ins c.check_window.new.ins c.args.budget.now l.budget c.check_window.new.budget l.invariant.takes c.in_ok-check_window.ensures.takes;
+      counts = let t = c.in_ok-check_window.ensures.counts in (λ m. t.reads (not_ok tt fault.Read) m ∙ l.invariant.counts.0 m, λ m. t.writes m ∙ l.invariant.counts.1 m);
     }
 
 pub returns-clause-turns : goal.returns-clause-turns
@@ -100,3 +103,15 @@ returns-in_err-check_window-clause-left g c = λ k same start.
 
 pub returns-clause-left : goal.returns-clause-left
 returns-clause-left g c = λ k same start. tt
+
+-- ---- counts of faults
+
+pub returns-in_err-check_window-clause-counts : goal.returns-in_err-check_window-clause-counts
+returns-in_err-check_window-clause-counts g c =
+    let seen = g.D.Depot.seen in
+    let l = c.windows in
+    counts_then (seen c.args.depot.now) (seen l.depot) (seen c.check_window.new.depot) c.from_residual.result l.invariant.counts.0 l.invariant.counts.1
+    (counts_on (seen l.depot) (seen c.check_window.new.depot) c.in_err-check_window.field-0.0 c.from_residual.result c.from_residual.ensures.1 c.in_err-check_window.ensures.counts)
+
+pub returns-clause-counts : goal.returns-clause-counts
+returns-clause-counts g c = record { reads = λ not. c.windows.invariant.counts.0; writes = c.windows.invariant.counts.1 }

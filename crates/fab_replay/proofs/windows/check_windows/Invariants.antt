@@ -1,4 +1,5 @@
 use Rattle.std.proofs.Common.{ℕ, ◌≡◌, ◌^◌}
+use Rattle.fab_base.specs.Seen.{SameReadFaults, SameWriteFaults}
 use Rattle.fab_gather.proofs.ClockLemmas.{distance}
 use Rattle.fab_gather.specs.Ports.{TakesFrom}
 use Rattle.fab_replay.specs.Windows.{Going, IsOf, Task}
@@ -12,6 +13,7 @@ invariant-windows g l =
           (v : ℕ) × Going k v l.first l.fabric l.place (seen l.depot) l.ins l.shelves l.budget l.owed;
       settings : l.fabric.settings ≡ l.fn.fabric.settings;
       takes : TakesFrom l.fn.ins l.ins l.fn.budget l.budget;
+      counts : SameReadFaults (seen l.fn.depot) (seen l.depot) × SameWriteFaults (seen l.fn.depot) (seen l.depot);
     }
 
 abbrev pub decreases-windows : goal.decreases-windows
