@@ -1,6 +1,6 @@
 -- How a run begins, goes on to its next window, and comes to its end.
 use Rattle.std.proofs.Common.{◌≡◌, ℕ, suc, ◌+◌, ◌^◌, ◌<◌, ◌≤◌, inl, inr, List, [], ◌∷◌, ◌++◌, length, map, Option, Some, None, IfSome, IsTrue, Result, Ok, Err, refl, sym, ap, ◌∙◌, subst, arith}
-use Rattle.std.specs.Prelude.{unwrap_or, Vec}
+use Rattle.std.specs.Prelude.{unwrap_or, Vec, IsErrOf}
 use Rattle.std.specs.declared.alloc.Global.{Global}
 use Rattle.fab_base.specs.Seen.{Seen, Touches, Nothing, Rose}
 use Rattle.fab_base.specs.declared.values.Failed.{Failed}
@@ -30,7 +30,7 @@ use Rattle.fab_windows.specs.Pages.{IsNothing}
 use Rattle.fab_windows.specs.Run.{AreGiven, Runs, Stopped}
 use Rattle.fab_windows.specs.Turns.{Laws, Task, captures_in, Touched, Begun, Reached, Going, Ended, Finishes}
 use Rattle.fab_windows.proofs.EndLemmas.{whole_is_front, ends_before, stops_first, finished}
-use Rattle.fab_windows.proofs.PublishLemmas.{hold_all, flushed, flushed_front, write_cause}
+use Rattle.fab_windows.proofs.PublishLemmas.{wholes_but_nothing, flushed_whole, flushed_part, write_cause}
 use Rattle.fab_windows.proofs.StayLemmas.{LeftStays, inputs_stay, input_name_in, hold_stays, length-slots, same_ports, writing_leaves}
 use Rattle.fab_windows.proofs.TurnLemmas.{ended, ended_writing, files_now, reached_on}
 
@@ -54,10 +54,15 @@ module _ (laws : Laws) (k : Task) (given : AreGiven k.seen k.ins k.journal k.out
   ended_at_once =
       ended k k.seen fault.Memory (touches_refl Ours (Touched k) k.seen) (λ told x. absurd x) (λ told x. absurd (cc))
       (λ told x. ends_before k.settings k.budget (captures_in k) laws.nothing_run (Fronts k.settings k.seen k.journal k.outs) (record {
-        lines_ = ([], (given.empty told).0, (text [], refl));
-        records = λ q lt. ([], (given.empty told).1 q lt, (captures k.settings (length k.outs) [] q, refl));
+        before = None;
+        begins = tt;
+        hold = record {
+          lines_ = ([], (given.empty told).0, (text [], refl));
+          records = λ q lt. ([], (given.empty told).1 q lt, (captures k.settings (length k.outs) [] q, refl));
+          order = inl (record { lines_ = ([], (given.empty told).0, ([], refl)); records = (given.empty told).1 });
+        };
       }))
-      (λ x. absurd (cc), λ x. absurd (cc))
+      (λ x. absurd (cc), λ x. absurd (cc), λ x y m. refl, λ x m. refl)
 
   hold_none : IsTrue k.seen.told → Hold k.seen k.journal k.outs [] (λ q. [])
   hold_none told = record { lines_ = (given.empty told).0; records = (given.empty told).1 }
@@ -78,8 +83,8 @@ module _ (laws : Laws) (k : Task) (given : AreGiven k.seen k.ins k.journal k.out
     ended_heads f w =
         ended k a fault.Write (touches_heads w) (λ told x. absurd x) (λ told x. absurd (cc))
         (λ told x. ends_before k.settings k.budget (captures_in k) laws.nothing_run (Fronts k.settings a k.journal k.outs)
-        (w.front told [] (text []) (λ q. []) (captures k.settings (length k.outs) []) (hold_none told) laws.nothing_written.0 records_are))
-        (λ x. absurd (cc), λ x. write_cause k.journal k.outs head_line pieces k.seen a f w)
+        (record { before = None; begins = tt; hold = w.front told [] (text []) (λ q. []) (captures k.settings (length k.outs) []) (hold_none told) laws.nothing_written.0 records_are }))
+        (λ x. absurd (cc), λ x. write_cause k.journal k.outs head_line pieces k.seen a f w, λ x y. absurd (y refl), λ x. absurd (x refl))
 
     module _ (w : Writes k.journal k.outs head_line pieces k.seen a (Ok tt)) (d : Seen) (ins : List Input) (left : Budget) where
       opened_then : opened_in a k.ins ≡ captures_in k
@@ -116,7 +121,12 @@ module _ (laws : Laws) (k : Task) (given : AreGiven k.seen k.ins k.journal k.out
                 let at = name_then (name_of a (slots_of k.ins) cause.0) (cause.0, omega (arith, cause.1, length-slots k.ins), refl) in
                 (at.0, omega (arith, at.1, length-slots k.ins), rose_later _ _ _ (w.touches.reads_rise _) (subst (λ n. Rose (a.read_faults n) (d.read_faults n)) at.2 cause.2)),
             λ x. absurd (f.only x),
+            λ x y m. f.counts (λ is. x (error_of e is)) m ∙ w.reads m,
+            λ x m. f.writes m ∙ w.counts m,
           )
+        where
+          error_of : (f : RunFault) → IsErrOf {T = Vec Shelf Global} (Err f) fault.Read → f ≡ fault.Read
+          error_of f is = cc
 
       pub begun : (shelves : Vec Shelf Global) → (1 ≤ length k.ins) × (length k.ins ≤ 64) → length k.outs ≡ length k.ins → k.budget.bytes < 2 ^ 64 →
           LooksFirst k.settings a d k.ins ins k.budget left (Ok shelves) → Begun k d ins shelves.items left
@@ -126,6 +136,7 @@ module _ (laws : Laws) (k : Task) (given : AreGiven k.seen k.ins k.journal k.out
         outputs = outputs;
         limits = limits;
         touches = touches_looks f.touches;
+        faults = (λ m. f.counts (λ is. not_read shelves is) m ∙ w.reads m, λ m. f.writes m ∙ w.counts m);
         slots = f.slots;
         count = f.count ∙ sym (same_ports k.ins ins f.slots);
         ready = f.ready;
@@ -134,6 +145,9 @@ module _ (laws : Laws) (k : Task) (given : AreGiven k.seen k.ins k.journal k.out
         stops = λ told. sym (ap (stop k.settings k.budget.bytes k.budget.frames) opened_then) ∙ f.looks_ (told_then told);
         whole = wholes_looks f.touches;
       }
+        where
+          not_read : (v : Vec Shelf Global) → IsErrOf (Ok v) fault.Read → ⊥
+          not_read v is = cc
 
 -- ---- before the first window
 
@@ -168,6 +182,7 @@ module _ (laws : Laws) (k : Task) (d : Seen) (ins : List Input) (shelves : List 
       outputs = b.outputs;
       limits = b.limits;
       touches = b.touches;
+      faults = b.faults;
       slots = b.slots;
       count = b.count;
       taken = map (λ i. []) k.ins;
@@ -188,7 +203,7 @@ module _ (laws : Laws) (k : Task) (d : Seen) (ins : List Input) (shelves : List 
       spent = b.spent;
       stops = first_is o next;
     };
-    files = λ told. hold_all p d k.journal k.outs (text []) (captures k.settings (length k.outs) []) none (b.whole told);
+    files = λ told. wholes_but_nothing p k.settings d k.journal k.outs [] none (b.whole told);
     frames = frames;
     entries = entries;
   }
@@ -221,6 +236,7 @@ module _ (laws : Laws) (k : Task) (v w first : ℕ) (F : Contents) (d : Seen) (i
       outputs = r.outputs;
       limits = r.limits;
       touches = r.touches;
+      faults = r.faults;
       slots = r.slots;
       count = r.count;
       taken = r.taken;
@@ -259,23 +275,24 @@ module _ (laws : Laws) (k : Task) (w first : ℕ) (F : Contents) (d : Seen) (ins
   -- what was still to be written is
   ended_well : Writes k.journal k.outs p.lines p.pieces d z (Ok tt) → Runs k.settings k.budget k.ins k.seen z k.journal k.outs (Ok done)
   ended_well x =
-      let r = reached_on laws k w first F d ins shelves left g.reached z x.touches in
+      let r = reached_on laws k w first F d ins shelves left g.reached z x.touches x.reads x.counts in
       record {
         touches = r.touches;
         ends = λ told.
             let read = laws.read_all k.settings w (captures_in k) r.taken ins shelves z (subst IsTrue (sym r.touches.told) told) r.read next in
             finished k.settings k.budget (captures_in k) r.taken r.entry_list z k.journal k.outs done r.sofar.run (r.stops told ∙ laws.none_left k.settings first z ins shelves left next) read.0 read.1
-            (flushed p d z k.journal k.outs (text r.entry_list) (captures k.settings (length k.outs) r.entry_list) (told_end told) (g.files told) x) g.frames g.entries;
+            (flushed_whole p k.settings d z k.journal k.outs g.reached.entry_list (told_end told) (g.files told) x) g.frames g.entries;
         read = λ y. absurd (cc);
         write = λ y. absurd (cc);
+        counts = record { reads = λ no not. r.faults.0; writes = λ no. r.faults.1 };
       }
 
   -- or can't be
   ended_broken : (f : Failed) → Writes k.journal k.outs p.lines p.pieces d z (Err f) → Ended k z fault.Write
   ended_broken f x =
-      ended_writing laws k w first F d ins shelves left g.reached z x.touches fault.Write tt
-      (λ told. flushed_front p d z k.journal k.outs (text g.reached.entry_list) (captures k.settings (length k.outs) g.reached.entry_list) (told_end told) (g.files told) x)
-      (λ y. write_cause k.journal k.outs p.lines p.pieces d z f x)
+      ended_writing laws k w first F d ins shelves left g.reached z x.touches x.reads fault.Write tt
+      (λ told. flushed_part p k.settings d z k.journal k.outs g.reached.entry_list (told_end told) (g.files told) x)
+      (λ y. write_cause k.journal k.outs p.lines p.pieces d z f x) (λ y. absurd (y refl))
 
   pub ended_by : (r : Result Done RunFault) → Finishes k.journal k.outs p done d z r → Runs k.settings k.budget k.ins k.seen z k.journal k.outs r
   ended_by (Ok told) h = subst (λ x. Runs k.settings k.budget k.ins k.seen z k.journal k.outs (Ok x)) (sym h.1) (ended_well h.0)

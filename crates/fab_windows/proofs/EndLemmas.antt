@@ -1,5 +1,5 @@
 -- How a run ends from what stands between two windows.
-use Rattle.std.proofs.Common.{◌≡◌, ℕ, List, [], ◌∷◌, length, map, Option, Some, None, refl, sym, ap, ◌∙◌, subst}
+use Rattle.std.proofs.Common.{◌≡◌, ℕ, List, [], ◌∷◌, length, map, Option, Some, None, refl, sym, ap, ◌∙◌, subst, inl}
 use Rattle.std.specs.Prelude.{filter, nat_lt}
 use Rattle.std.specs.List.{All}
 use Rattle.std.proofs.lemmas.List.{append-nil}
@@ -22,8 +22,13 @@ use Rattle.fab_windows.specs.Run.{IsRunOver, keeps, Finished, Stopped, Interrupt
 -- whole files are beginnings
 pub whole_is_front : (c : Settings) (d : Seen) (journal : ℕ) (outs : List ℕ) (J : Journal) → Wholes c d journal outs J → Fronts c d journal outs J
 whole_is_front c d journal outs J w = record {
-  lines_ = (text J, w.lines_, ([], append-nil (text J)));
-  records = λ q lt. (captures c (length outs) J q, w.records q lt, ([], append-nil (captures c (length outs) J q)));
+  before = Some J;
+  begins = ([], refl);
+  hold = record {
+    lines_ = (text J, w.lines_, ([], append-nil (text J)));
+    records = λ q lt. (captures c (length outs) J q, w.records q lt, ([], append-nil (captures c (length outs) J q)));
+    order = inl (record { lines_ = (text J, w.lines_, ([], append-nil (text J))); records = w.records });
+  };
 }
 
 -- a stop at a first look keeps nothing

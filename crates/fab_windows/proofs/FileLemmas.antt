@@ -2,7 +2,7 @@
 use Rattle.std.proofs.Common.{◌≡◌, ◌≢◌, ℕ, ◌+◌, ◌<◌, ◌≤◌, inl, inr, List, [], ◌∷◌, ◌++◌, length, take, drop, Option, Some, Ok, Err, IsTrue, refl, sym, ap, ◌∙◌, subst, arith, append_assoc}
 use Rattle.std.specs.Prelude.{Result}
 use Rattle.std.proofs.lemmas.List.{append-nil, take-append-drop}
-use Rattle.fab_base.specs.Seen.{Seen, Keeps, Rose, PutsAll, Touches, Only}
+use Rattle.fab_base.specs.Seen.{Seen, Keeps, Rose, PutsAll, Touches, Only, SameReadFaults, SameWriteFaults}
 use Rattle.fab_base.specs.declared.values.Failed.{Failed}
 use Rattle.fab_base.proofs.SeenLemmas.{rose_later, touches_refl, touches_trans, touches_wider, keeps_touches}
 use Rattle.fab_policy.specs.Written.{IsPrefixOf}
@@ -18,12 +18,16 @@ pub record Putting (slots : List ℕ) (pieces : List (List ℕ)) (k : ℕ) (a b 
   pub touches : Touches (NameIn a slots) (NameIn a slots) a b
   pub done : IsTrue a.told → (q : ℕ) → q < k → q < length slots → (bytes : List ℕ) → a.file (name_of a slots q) ≡ Some bytes → b.file (name_of a slots q) ≡ Some (bytes ++ piece_at pieces q)
   pub rest : (q : ℕ) → k ≤ q → q < length slots → b.file (name_of a slots q) ≡ a.file (name_of a slots q)
+  pub reads : SameReadFaults a b
+  pub counts : SameWriteFaults a b
 
 pub putting_none : (slots : List ℕ) (pieces : List (List ℕ)) (a : Seen) → Putting slots pieces 0 a a
 putting_none slots pieces a = record {
   touches = touches_refl (NameIn a slots) (NameIn a slots) a;
   done = λ told q lt within bytes was. absurd (omega arith);
   rest = λ q le lt. refl;
+  reads = λ m. refl;
+  counts = λ m. refl;
 }
 
 module _ (slots : List ℕ) (pieces : List (List ℕ)) (k : ℕ) (a b d : Seen) (outs : AreOutputs a slots) (lt : k < length slots) (p : Putting slots pieces k a b) where
@@ -72,6 +76,8 @@ module _ (slots : List ℕ) (pieces : List (List ℕ)) (k : ℕ) (a b d : Seen) 
       | inr more ↦ (keeps puts).files (name_of a slots q) (differs q within (λ e. omega arith)) ∙ p.done told q more within bytes had
     ];
     rest = others_rest puts;
+    reads = λ m. puts.reads m ∙ p.reads m;
+    counts = λ m. puts.counts m ∙ p.counts m;
   }
 
   pub put_failed : (e : Failed) → PutsAll {T = Unit {0}} {E = Failed} s (piece_at pieces k) b d (Err e) → PutsEach slots pieces a d (Err e)
@@ -98,6 +104,8 @@ module _ (slots : List ℕ) (pieces : List (List ℕ)) (k : ℕ) (a b d : Seen) 
         behind = λ q more less. others_rest puts q (omega (arith, more)) less;
       },
     );
+    reads = λ m. puts.reads m ∙ p.reads m;
+    counts = tt;
   }
     where
       take_all : (l : List ℕ) → take (length l) l ≡ l
@@ -110,6 +118,8 @@ put_all_of slots pieces k a b le p = record {
   all = λ told q less bytes had. p.done told q (omega arith) less bytes had;
   part = λ told q less bytes had. (length (piece_at pieces q), p.done told q (omega arith) less bytes had ∙ ap (λ l. Some (bytes ++ l)) (sym (take_all (piece_at pieces q))));
   cause = tt;
+  reads = p.reads;
+  counts = p.counts;
 }
   where
     take_all : (l : List ℕ) → take (length l) l ≡ l
@@ -182,8 +192,14 @@ module _ (journal : ℕ) (outs lines : List ℕ) (pieces : List (List ℕ)) (a b
                 moved b (sym (same_name F F a b k outs f.outs_ q lt)) (outs_same puts q lt ∙ w.records q lt),
                 (piece_at pieces q, sym (more q lt)),
               );
+              order = inl (record {
+                lines_ = (l ++ take part.0 lines, moved b (sym (stays_named F F a b k journal f.journal_)) part.1, (take part.0 lines, refl));
+                records = λ q lt. moved b (sym (same_name F F a b k outs f.outs_ q lt)) (outs_same puts q lt ∙ w.records q lt);
+              });
             };
         cause = inl (record { rose = puts.cause; records = outs_same puts });
+        reads = puts.reads;
+        counts = tt;
       }
 
   module _ (d : Seen) (puts : PutsAll {T = Unit {0}} {E = Failed} journal lines a b (Ok tt)) where
@@ -255,8 +271,20 @@ module _ (journal : ℕ) (outs lines : List ℕ) (pieces : List (List ℕ)) (a b
         lines_ = lines_d each told l l' r w is;
         records = λ q lt. moved d (sym (name_d each q lt)) (each.all (told_b told) q lt (r q) (had_b l r w q lt) ∙ ap Some (sym (more q lt)));
       };
-      front = λ told l l' r r' w is more. record { lines_ = (l', lines_d each told l l' r w is, ([], append-nil l')); records = records_d each told l r r' w more };
+      front = λ told l l' r r' w is more. record {
+        lines_ = (l', lines_d each told l l' r w is, ([], append-nil l'));
+        records = records_d each told l r r' w more;
+        order = inr (record {
+          lines_ = lines_d each told l l' r w is;
+          port = length outs;
+          whole = λ q less lt. moved d (sym (name_d each q lt)) (each.all (told_b told) q lt (r q) (had_b l r w q lt) ∙ ap Some (sym (more q lt)));
+          part = λ lt. absurd (omega arith);
+          behind = λ q above lt. absurd (omega arith);
+        });
+      };
       cause = tt;
+      reads = λ m. each.reads m ∙ puts.reads m;
+      counts = λ m. each.counts m ∙ puts.counts m;
     }
 
     pub second_failed : (e : Failed) → PutsEach outs pieces b d (Err e) → Writes journal outs lines pieces a d (Err e)
@@ -264,6 +292,23 @@ module _ (journal : ℕ) (outs lines : List ℕ) (pieces : List (List ℕ)) (a b
       touches = both each;
       files = files_stay F F a d (both each) journal outs f;
       whole = λ told l l' r r' w is more. tt;
-      front = λ told l l' r r' w is more. record { lines_ = (l', lines_d each told l l' r w is, ([], append-nil l')); records = records_d each told l r r' w more };
+      front = λ told l l' r r' w is more.
+          let at = fails_d each.cause.0 each.cause.1 in
+          let now = λ (q : ℕ) (lt : q < length outs). sym (name_d each q lt ∙ name_b q lt) in
+          record {
+            lines_ = (l', lines_d each told l l' r w is, ([], append-nil l'));
+            records = records_d each told l r r' w more;
+            order = inr (record {
+              lines_ = lines_d each told l l' r w is;
+              port = each.cause.0;
+              whole = λ q less lt. moved d (now q lt) (at.before told q less (r q) (w.records q lt) ∙ ap Some (sym (more q lt)));
+              part = λ lt.
+                  let part = each.part (told_b told) each.cause.0 lt (r each.cause.0) (had_b l r w each.cause.0 lt) in
+                  (r each.cause.0 ++ take part.0 (piece_at pieces each.cause.0), moved d (sym (name_d each each.cause.0 lt)) part.1, (take part.0 (piece_at pieces each.cause.0), refl));
+              behind = λ q above lt. moved d (now q lt) (at.behind q above lt ∙ w.records q lt);
+            });
+          };
       cause = inr (record { lines_ = λ told l had. journal_kept each ∙ puts.grown told l had; port = each.cause.0; fails = fails_d each.cause.0 each.cause.1 });
+      reads = λ m. each.reads m ∙ puts.reads m;
+      counts = tt;
     }

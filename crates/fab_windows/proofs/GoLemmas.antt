@@ -1,6 +1,6 @@
 -- A window that was gathered and handled: what stands after it, before and behind its writing.
 use Rattle.std.proofs.Common.{◌≡◌, ℕ, suc, ◌+◌, ◌^◌, ◌<◌, List, [], ◌∷◌, ◌++◌, length, map, Option, Some, IfSome, IsTrue, Result, Ok, Err, inl, inr, take, drop, refl, sym, ap, ◌∙◌, subst, arith}
-use Rattle.std.specs.Prelude.{unwrap_or}
+use Rattle.std.specs.Prelude.{unwrap_or, IsErrOf}
 use Rattle.fab_base.specs.Seen.{Seen, Touches, Nothing}
 use Rattle.fab_base.specs.declared.values.Failed.{Failed}
 use Rattle.fab_config.specs.Settings.{Settings}
@@ -24,11 +24,11 @@ use Rattle.fab_gather.specs.Port.{Spends}
 use Rattle.fab_gather.specs.Ports.{slots_of, NameIn, counts_of}
 use Rattle.fab_gather.specs.Reads.{HaveRead, batches_of}
 use Rattle.fab_windows.specs.declared.Done.{Done}
-use Rattle.fab_windows.specs.Files.{AreFiles, Pending, WholesBut, Writes, captures}
+use Rattle.fab_windows.specs.Files.{AreFiles, Pending, GoesOn, WholesBut, Writes, captures}
 use Rattle.fab_pages.specs.Pages.{AreEarly}
 use Rattle.fab_windows.specs.Pages.{FlushedFor}
 use Rattle.fab_windows.specs.Steps.{Sofar}
-use Rattle.fab_windows.specs.Turns.{Laws, Task, captures_in, Reached, Going, Gathered, Ended, Handles, Publishes}
+use Rattle.fab_windows.specs.Turns.{Laws, Task, captures_in, NoFaults, Reached, Going, Gathered, Ended, Handles, Publishes}
 use Rattle.fab_gather.specs.Gather.{Gathers}
 use Rattle.fab_windows.specs.Window.{Ticked, Handled, firsts_of}
 use Rattle.fab_windows.proofs.CountLemmas.{frames_found, entries_few, length-followed, frames-followed}
@@ -36,7 +36,7 @@ use Rattle.fab_windows.proofs.SentLemmas.{NotAfter, outs_are, outs_early, early,
 use Rattle.fab_pages.proofs.PageLemmas.{front_of}
 use Rattle.fab_windows.proofs.StayLemmas.{same_ports}
 use Rattle.fab_windows.proofs.FileLemmas.{files_stay}
-use Rattle.fab_windows.proofs.TurnLemmas.{read_touches, reached_on, ended_writing, ended_gathering, ended_closing, ended_unwritten, but_on, files_now}
+use Rattle.fab_windows.proofs.TurnLemmas.{no_faults, not_err, read_touches, reached_on, ended_writing, ended_gathering, ended_closing, ended_unwritten, but_on, files_now}
 
 length-batches : (shelves : List Shelf) → length (batches_of shelves) ≡ length shelves
 length-batches [] = refl
@@ -61,6 +61,10 @@ handles_by w shelves F G H E events outs t f after es sents ranged =
 -- what is left of the limits after both
 pub spends_both : (had mid left : Budget) (a b : ℕ) → Spends had mid 0 a → Spends mid left a b → Spends had left 0 b
 spends_both had mid left a b h k = record { frames = omega (arith, h.frames, k.frames); bytes = omega (arith, h.bytes, k.bytes) }
+
+-- a window that was gathered: no fault was counted
+pub read_well : {c : Settings} {first w : ℕ} {a b : Seen} {ins ins' : List Input} {shelves shelves' : List Shelf} {had left : Budget} → Gathers c first w a b ins ins' shelves shelves' had left (Ok tt) → NoFaults a b
+read_well t = (t.counts (λ is. not_err is), t.writes)
 
 module _ (laws : Laws) (k : Task) (w first : ℕ) (F : Contents) (d : Seen) (ins : List Input) (shelves : List Shelf) (left : Budget) (r : Reached k w first F d ins shelves left)
     (b : Seen) (ins' : List Input) (shelves' : List Shelf) (left' : Budget) (t : Gathers k.settings first w d b ins ins' shelves shelves' left left' (Ok tt))
@@ -102,6 +106,7 @@ module _ (laws : Laws) (k : Task) (w first : ℕ) (F : Contents) (d : Seen) (ins
     outputs = r.outputs;
     limits = r.limits;
     touches = read_touches laws k w first F d ins shelves left r b t.touches;
+    faults = no_faults k.seen d b r.faults (read_well t);
     slots = t.slots ∙ r.slots;
     count = count_on;
     taken = taken';
@@ -141,22 +146,34 @@ module _ (laws : Laws) (k : Task) (w first : ℕ) (F : Contents) (d : Seen) (ins
   records_here : (q : ℕ) → q < length k.outs → captures c (length k.outs) K q ≡ captures c (length k.outs) r.entry_list q ++ records_to (q + 1) (map (sent_of F.settings events) outs)
   records_here q lt = laws.egress_grows c (length k.outs) (q + 1) r.entry_list events ∙ ap (λ l. captures c (length k.outs) r.entry_list q ++ records_to (q + 1) l) (sym sent_here)
 
+  -- what was written before goes on to this journal too
+  goes_on : (I : Journal) → GoesOn I r.entry_list → GoesOn I K
+  goes_on I h = (h.0 ++ events, ap (λ L. followed L events) h.1 ∙ sym (laws.followed_by I h.0 events))
+
   module _ (p : Pending) (files : IsTrue k.seen.told → WholesBut p c b k.journal k.outs r.entry_list) (z : Seen) (p' : Pending) where
     told_b : IsTrue k.seen.told → IsTrue b.told
     told_b told = subst IsTrue (sym (t.touches.told ∙ r.touches.told)) told
 
     pub ended_publishing : (e : RunFault) → Publishes k.journal k.outs (lines_from (unwrap_or F.state.tables.clock 0) events) (map (sent_of F.settings events) outs) p p' b z (Err e) → Ended k z e
     ended_publishing e x =
-        ended_writing laws k (w + 1) first E b ins' shelves' left' reached_after z x.touches e x.only
-        (λ told. x.front (told_b told) (text r.entry_list) (text K) (captures c (length k.outs) r.entry_list) (captures c (length k.outs) K) (files told) lines_here records_here)
-        (λ y. x.cause (ap (λ v. Err v) y))
+        ended_writing laws k (w + 1) first E b ins' shelves' left' reached_after z x.touches x.reads e x.only
+        (λ told. let f = files told in record { before = Some f.before; begins = goes_on f.before f.begins; hold = x.front (told_b told) (text f.before) (text r.entry_list) (text K) (captures c (length k.outs) f.before) (captures c (length k.outs) r.entry_list) (captures c (length k.outs) K) f.hold lines_here records_here })
+        (λ y. x.cause (ap (λ v. Err v) y)) (λ no. x.counts (λ is. no (error_is e is)))
+      where
+        error_is : (f : RunFault) → IsErrOf {T = Unit {0}} (Err f) fault.Write → f ≡ fault.Write
+        error_is f is = cc
 
     module _ (done done' : Done) (frames : done.frames ≡ frame_count r.entry_list) (entries : done.entries ≡ length r.entry_list) where
       pub going_on : Publishes k.journal k.outs (lines_from (unwrap_or F.state.tables.clock 0) events) (map (sent_of F.settings events) outs) p p' b z (Ok tt) →
           done'.frames ≡ done.frames + frame_count events → done'.entries ≡ done.entries + length events → Going k (w + 1) first E z ins' shelves' left' done' p'
       going_on x more_frames more_entries = record {
-        reached = reached_on laws k (w + 1) first E b ins' shelves' left' reached_after z x.touches;
-        files = λ told. x.whole (told_b told) (text r.entry_list) (text K) (captures c (length k.outs) r.entry_list) (captures c (length k.outs) K) (files told) lines_here records_here;
+        reached = reached_on laws k (w + 1) first E b ins' shelves' left' reached_after z x.touches x.reads (x.counts (λ is. not_err is));
+        files = λ told.
+            let f = files told in
+            elim (x.whole (told_b told) (text f.before) (text r.entry_list) (text K) (captures c (length k.outs) f.before) (captures c (length k.outs) r.entry_list) (captures c (length k.outs) K) f.hold lines_here records_here) [
+              | inl later ↦ record { before = f.before; begins = goes_on f.before f.begins; hold = later }
+              | inr all ↦ record { before = K; begins = ([], refl); hold = all }
+            ];
         frames = more_frames ∙ ap (λ (n : ℕ). n + frame_count events) frames ∙ sym (frames-followed r.entry_list events);
         entries = more_entries ∙ ap (λ (n : ℕ). n + length events) entries ∙ sym (length-followed r.entry_list events);
       }
@@ -193,7 +210,7 @@ module _ (laws : Laws) (k : Task) (w first : ℕ) (F : Contents) (d : Seen) (ins
 
   module _ (t : Gathers k.settings first w d b ins ins' shelves shelves' left left' (Ok tt)) where
     pub turn_refused : Ended k b fault.Memory
-    turn_refused = ended_unwritten laws k w first F d ins shelves left g.reached b t.touches p g.files
+    turn_refused = ended_unwritten laws k w first F d ins shelves left g.reached b t.touches p g.files (read_well t)
 
     but_b : IsTrue k.seen.told → WholesBut p k.settings b k.journal k.outs g.reached.entry_list
     but_b told = but_on laws k w first F d ins shelves left g.reached b t.touches p g.files told

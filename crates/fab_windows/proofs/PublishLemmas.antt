@@ -1,5 +1,5 @@
 -- A window whose lines and records are added to the pages, and written where these are full.
-use Rattle.std.proofs.Common.{◌≡◌, ℕ, zero, suc, ◌+◌, ◌<◌, false, nat_le, inl, inr, List, [], ◌∷◌, ◌++◌, length, IsTrue, Result, Ok, Err, refl, sym, ap, subst, ◌∙◌, append_assoc, arith, lit<}
+use Rattle.std.proofs.Common.{◌≡◌, ℕ, zero, suc, ◌+◌, ◌<◌, false, nat_le, inl, inr, List, [], ◌∷◌, ◌++◌, length, IsTrue, Some, Result, Ok, Err, refl, sym, ap, subst, ◌∙◌, append_assoc, arith, lit<}
 use Rattle.std.specs.Prelude.{Vec, vec_len}
 use Rattle.std.specs.List.{list_any}
 use Rattle.std.specs.declared.alloc.Global.{Global}
@@ -8,11 +8,14 @@ use Rattle.std.proofs.lemmas.List.{append-nil}
 use Rattle.fab_base.specs.Seen.{Seen, Rose}
 use Rattle.fab_base.specs.declared.values.Failed.{Failed}
 use Rattle.fab_base.proofs.SeenLemmas.{touches_refl}
+use Rattle.fab_config.specs.Settings.{Settings}
 use Rattle.fab_policy.specs.Growing.{records_to}
+use Rattle.fab_policy.specs.Journal.{Journal}
 use Rattle.fab_policy.specs.Outputs.{Sent}
+use Rattle.fab_policy.specs.Text.{text}
 use Rattle.fab_gather.specs.declared.fault.RunFault.TheVariants as fault
 use Rattle.fab_gather.specs.Ports.{name_of}
-use Rattle.fab_windows.specs.Files.{Written, Pending, Hold, HoldBut, HoldFronts, Writes}
+use Rattle.fab_windows.specs.Files.{Written, Pending, Hold, HoldBut, InOrder, HoldFronts, Wholes, WholesBut, Fronts, Writes, captures}
 use Rattle.fab_pages.specs.Pages.{items_in, piece_at}
 use Rattle.fab_windows.specs.Pages.{AreShort, IsNothing, are_full, pending}
 use Rattle.fab_windows.specs.declared.pages.Pages.{Pages}
@@ -21,29 +24,47 @@ use Rattle.fab_windows.specs.Turns.{Publishes}
 -- ---- what is still to be written
 
 -- nothing is, where the files hold all
-pub hold_all : (p : Pending) (d : Seen) (journal : ℕ) (outs l : List ℕ) (r : ℕ → List ℕ) → IsNothing p → Hold d journal outs l r → HoldBut p d journal outs l r
+pub hold_all : (p : Pending) (d : Seen) (journal : ℕ) (outs l : List ℕ) (r : ℕ → List ℕ) → IsNothing p → Hold d journal outs l r → HoldBut p d journal outs l r l r
 hold_all p d journal outs l r none h = record {
-  lines_now = l;
-  records_now = r;
   hold = h;
   lines_ = sym (append-nil l) ∙ ap (λ x. l ++ x) (sym none.lines_);
   records = λ q lt. sym (append-nil (r q)) ∙ ap (λ x. r q ++ x) (sym (none.pieces_ q));
 }
 
+-- where nothing was written since
+pub still_in_order : (d : Seen) (journal : ℕ) (outs w : List ℕ) (v : ℕ → List ℕ) (l : List ℕ) (r : ℕ → List ℕ) → Hold d journal outs w v → InOrder d (d.name journal) (length outs) (name_of d outs) w v l r
+still_in_order d journal outs w v l r h = inl (record { lines_ = (w, h.lines_, ([], append-nil w)); records = h.records })
+
 -- what the files hold is a beginning of it
-pub but_is_front : (p : Pending) (d : Seen) (journal : ℕ) (outs l : List ℕ) (r : ℕ → List ℕ) → HoldBut p d journal outs l r → HoldFronts d journal outs l r
-but_is_front p d journal outs l r h = record {
-  lines_ = (h.lines_now, h.hold.lines_, (p.lines, sym h.lines_));
-  records = λ q lt. (h.records_now q, h.hold.records q lt, (piece_at p.pieces q, sym (h.records q lt)));
+pub but_is_front : (p : Pending) (d : Seen) (journal : ℕ) (outs w : List ℕ) (v : ℕ → List ℕ) (l : List ℕ) (r : ℕ → List ℕ) → HoldBut p d journal outs w v l r → HoldFronts d journal outs w v l r
+but_is_front p d journal outs w v l r h = record {
+  lines_ = (w, h.hold.lines_, (p.lines, sym h.lines_));
+  records = λ q lt. (v q, h.hold.records q lt, (piece_at p.pieces q, sym (h.records q lt)));
+  order = still_in_order d journal outs w v l r h.hold;
 }
 
 -- written, the files hold all, or beginnings
-module _ (p : Pending) (a b : Seen) (journal : ℕ) (outs l : List ℕ) (r : ℕ → List ℕ) (told : IsTrue a.told) (h : HoldBut p a journal outs l r) where
+module _ (p : Pending) (a b : Seen) (journal : ℕ) (outs w : List ℕ) (v : ℕ → List ℕ) (l : List ℕ) (r : ℕ → List ℕ) (told : IsTrue a.told) (h : HoldBut p a journal outs w v l r) where
   pub flushed : Writes journal outs p.lines p.pieces a b (Ok tt) → Hold b journal outs l r
-  flushed w = w.whole told h.lines_now l h.records_now r h.hold h.lines_ h.records
+  flushed x = x.whole told w l v r h.hold h.lines_ h.records
 
-  pub flushed_front : {x : Result (Unit {0}) Failed} → Writes journal outs p.lines p.pieces a b x → HoldFronts b journal outs l r
-  flushed_front w = w.front told h.lines_now l h.records_now r h.hold h.lines_ h.records
+  pub flushed_front : {x : Result (Unit {0}) Failed} → Writes journal outs p.lines p.pieces a b x → HoldFronts b journal outs w v l r
+  flushed_front x = x.front told w l v r h.hold h.lines_ h.records
+
+-- the same of the files of a journal
+module _ (p : Pending) (c : Settings) (d : Seen) (journal : ℕ) (outs : List ℕ) (J : Journal) where
+  pub wholes_but_nothing : IsNothing p → Wholes c d journal outs J → WholesBut p c d journal outs J
+  wholes_but_nothing none h = record { before = J; begins = ([], refl); hold = hold_all p d journal outs (text J) (captures c (length outs) J) none h }
+
+  pub wholes_but_front : WholesBut p c d journal outs J → Fronts c d journal outs J
+  wholes_but_front h = record { before = Some h.before; begins = h.begins; hold = but_is_front p d journal outs (text h.before) (captures c (length outs) h.before) (text J) (captures c (length outs) J) h.hold }
+
+module _ (p : Pending) (c : Settings) (a b : Seen) (journal : ℕ) (outs : List ℕ) (J : Journal) (told : IsTrue a.told) (h : WholesBut p c a journal outs J) where
+  pub flushed_whole : Writes journal outs p.lines p.pieces a b (Ok tt) → Wholes c b journal outs J
+  flushed_whole x = flushed p a b journal outs (text h.before) (captures c (length outs) h.before) (text J) (captures c (length outs) J) told h.hold x
+
+  pub flushed_part : {x : Result (Unit {0}) Failed} → Writes journal outs p.lines p.pieces a b x → Fronts c b journal outs J
+  flushed_part x = record { before = Some h.before; begins = h.begins; hold = flushed_front p a b journal outs (text h.before) (captures c (length outs) h.before) (text J) (captures c (length outs) J) told h.hold x }
 
 -- why writing failed
 pub write_cause : (journal : ℕ) (outs lines : List ℕ) (pieces : List (List ℕ)) (a b : Seen) (f : Failed) → Writes journal outs lines pieces a b (Err f) → (m : List ℕ) × Written a journal outs m × Rose (a.write_faults m) (b.write_faults m)
@@ -63,52 +84,59 @@ module _ (journal : ℕ) (outs lines : List ℕ) (sents : List Sent) (p : Pendin
   pub publishes_nothing : (p' : Pending) → Publishes journal outs lines sents p p' a a (Err fault.Memory)
   publishes_nothing p' = record {
     touches = touches_refl (Written a journal outs) (Written a journal outs) a;
-    whole = λ told l l' r r' h is more. tt;
-    front = λ told l l' r r' h is more. record {
-      lines_ = (h.lines_now, h.hold.lines_, (p.lines ++ lines, sym (behind h.lines_now p.lines lines l l' h.lines_ is)));
-      records = λ q lt. (h.records_now q, h.hold.records q lt, (piece_at p.pieces q ++ records_to (q + 1) sents, sym (behind (h.records_now q) (piece_at p.pieces q) (records_to (q + 1) sents) (r q) (r' q) (h.records q lt) (more q lt))));
+    whole = λ told w l l' v r r' h is more. tt;
+    front = λ told w l l' v r r' h is more. record {
+      lines_ = (w, h.hold.lines_, (p.lines ++ lines, sym (behind w p.lines lines l l' h.lines_ is)));
+      records = λ q lt. (v q, h.hold.records q lt, (piece_at p.pieces q ++ records_to (q + 1) sents, sym (behind (v q) (piece_at p.pieces q) (records_to (q + 1) sents) (r q) (r' q) (h.records q lt) (more q lt))));
+      order = still_in_order a journal outs w v l' r' h.hold;
     };
     cause = λ x. absurd (cc);
     only = tt;
+    reads = λ n. refl;
+    counts = λ x n. refl;
   }
 
   module _ (m : Pending) (lines_are : m.lines ≡ p.lines ++ lines) (are : (q : ℕ) → q < length outs → piece_at m.pieces q ≡ piece_at p.pieces q ++ records_to (q + 1) sents) where
     -- what was added is still to be written
-    added : (l l' : List ℕ) (r r' : ℕ → List ℕ) → HoldBut p a journal outs l r → l' ≡ l ++ lines → ((q : ℕ) → q < length outs → r' q ≡ r q ++ records_to (q + 1) sents) → HoldBut m a journal outs l' r'
-    added l l' r r' h is more = record {
-      lines_now = h.lines_now;
-      records_now = h.records_now;
+    added : (w l l' : List ℕ) (v r r' : ℕ → List ℕ) → HoldBut p a journal outs w v l r → l' ≡ l ++ lines → ((q : ℕ) → q < length outs → r' q ≡ r q ++ records_to (q + 1) sents) → HoldBut m a journal outs w v l' r'
+    added w l l' v r r' h is more = record {
       hold = h.hold;
-      lines_ = behind h.lines_now p.lines lines l l' h.lines_ is ∙ ap (λ x. h.lines_now ++ x) (sym lines_are);
-      records = λ q lt. behind (h.records_now q) (piece_at p.pieces q) (records_to (q + 1) sents) (r q) (r' q) (h.records q lt) (more q lt) ∙ ap (λ x. h.records_now q ++ x) (sym (are q lt));
+      lines_ = behind w p.lines lines l l' h.lines_ is ∙ ap (λ x. w ++ x) (sym lines_are);
+      records = λ q lt. behind (v q) (piece_at p.pieces q) (records_to (q + 1) sents) (r q) (r' q) (h.records q lt) (more q lt) ∙ ap (λ x. v q ++ x) (sym (are q lt));
     }
 
     pub publishes_later : Publishes journal outs lines sents p m a a (Ok tt)
     publishes_later = record {
       touches = touches_refl (Written a journal outs) (Written a journal outs) a;
-      whole = λ told l l' r r' h is more. added l l' r r' h is more;
-      front = λ told l l' r r' h is more. but_is_front m a journal outs l' r' (added l l' r r' h is more);
+      whole = λ told w l l' v r r' h is more. inl (added w l l' v r r' h is more);
+      front = λ told w l l' v r r' h is more. but_is_front m a journal outs w v l' r' (added w l l' v r r' h is more);
       cause = λ x. absurd (cc);
       only = tt;
+      reads = λ n. refl;
+      counts = λ x n. refl;
     }
 
     module _ (b : Seen) where
       pub publishes_all : (p' : Pending) → IsNothing p' → Writes journal outs m.lines m.pieces a b (Ok tt) → Publishes journal outs lines sents p p' a b (Ok tt)
-      publishes_all p' none w = record {
-        touches = w.touches;
-        whole = λ told l l' r r' h is more. hold_all p' b journal outs l' r' none (flushed m a b journal outs l' r' told (added l l' r r' h is more) w);
-        front = λ told l l' r r' h is more. flushed_front m a b journal outs l' r' told (added l l' r r' h is more) w;
-        cause = λ x. absurd (cc);
+      publishes_all p' none x = record {
+        touches = x.touches;
+        whole = λ told w l l' v r r' h is more. inr (hold_all p' b journal outs l' r' none (flushed m a b journal outs w v l' r' told (added w l l' v r r' h is more) x));
+        front = λ told w l l' v r r' h is more. flushed_front m a b journal outs w v l' r' told (added w l l' v r r' h is more) x;
+        cause = λ is. absurd (cc);
         only = tt;
+        reads = x.reads;
+        counts = λ no. x.counts;
       }
 
       pub publishes_front : (p' : Pending) (f : Failed) → Writes journal outs m.lines m.pieces a b (Err f) → Publishes journal outs lines sents p p' a b (Err fault.Write)
-      publishes_front p' f w = record {
-        touches = w.touches;
-        whole = λ told l l' r r' h is more. tt;
-        front = λ told l l' r r' h is more. flushed_front m a b journal outs l' r' told (added l l' r r' h is more) w;
-        cause = λ x. write_cause journal outs m.lines m.pieces a b f w;
+      publishes_front p' f x = record {
+        touches = x.touches;
+        whole = λ told w l l' v r r' h is more. tt;
+        front = λ told w l l' v r r' h is more. flushed_front m a b journal outs w v l' r' told (added w l l' v r r' h is more) x;
+        cause = λ is. write_cause journal outs m.lines m.pieces a b f x;
         only = tt;
+        reads = x.reads;
+        counts = λ no. absurd (no refl);
       }
 
 -- ---- pages below 64 KiB

@@ -2,8 +2,10 @@
 use Rattle.std.proofs.Common.{◌≡◌, ℕ, suc, ◌+◌, ◌<◌, List, [], ◌∷◌, ◌++◌, length, IsTrue, Option, Some, None, option_to_list, refl, sym, ap, ◌∙◌, subst, arith, inl, inr}
 use Rattle.fab_base.specs.Seen.{Seen, Touches, Nothing}
 use Rattle.fab_config.specs.Settings.{Settings}
+use Rattle.fab_policy.specs.Journal.{Journal}
 use Rattle.fab_policy.specs.Legal.{window_start}
 use Rattle.fab_policy.specs.Looks.{Opened, stop_in, in_order, looks}
+use Rattle.fab_policy.specs.Text.{text}
 use Rattle.pcap_file.specs.Reading.{to_come}
 use Rattle.pcap_file.specs.Records.{Chain}
 use Rattle.pcap_file.specs.declared.Budget.{Budget}
@@ -13,7 +15,7 @@ use Rattle.fab_gather.specs.declared.shelf.Shelf.{Shelf}
 use Rattle.fab_gather.specs.Port.{to_look}
 use Rattle.fab_gather.specs.Ports.{slots_of, slot_at, name_of, NameIn, AreInputs, rests, joined, stop_from}
 use Rattle.fab_gather.specs.Reads.{HasRead, HaveRead}
-use Rattle.fab_windows.specs.Files.{AreFiles, Written, Pending, Hold, HoldBut}
+use Rattle.fab_windows.specs.Files.{AreFiles, Written, Pending, Hold, WholesBut, captures}
 use Rattle.fab_windows.proofs.FileLemmas.{same_name, stays_named}
 
 pub length-slots : (ins : List Input) → length (slots_of ins) ≡ length ins
@@ -57,13 +59,15 @@ module _ (counted : List ℕ → Type 0) (a b : Seen) (k : Touches Nothing count
     records = λ q lt. file_same (name_of a outs q) (name_of b outs q) (Some (r q)) (same_name Nothing counted a b k outs f.outs_ q lt) (h.records q lt);
   }
 
-  pub but_stays : (p : Pending) (l : List ℕ) (r : ℕ → List ℕ) → HoldBut p a journal outs l r → HoldBut p b journal outs l r
-  but_stays p l r h = record {
-    lines_now = h.lines_now;
-    records_now = h.records_now;
-    hold = hold_stays h.lines_now h.records_now h.hold;
-    lines_ = h.lines_;
-    records = h.records;
+  pub but_stays : (p : Pending) (c : Settings) (J : Journal) → WholesBut p c a journal outs J → WholesBut p c b journal outs J
+  but_stays p c J h = record {
+    before = h.before;
+    begins = h.begins;
+    hold = record {
+      hold = hold_stays (text h.before) (captures c (length outs) h.before) h.hold.hold;
+      lines_ = h.hold.lines_;
+      records = h.hold.records;
+    };
   }
 
 -- ---- writing leaves what is to come

@@ -1,6 +1,7 @@
 -- One window after another: how a turn ends, and what stands after it.
-use Rattle.std.proofs.Common.{◌≡◌, ℕ, ◌<◌, ◌≤◌, ◌⊎◌, inl, inr, List, length, Some, IsTrue, Result, Ok, Err, refl, sym, ap, ◌∙◌, subst, arith}
-use Rattle.fab_base.specs.Seen.{Seen, Touches, Nothing, Rose}
+use Rattle.std.proofs.Common.{◌≡◌, ◌≢◌, ℕ, ◌<◌, ◌≤◌, ◌⊎◌, inl, inr, List, length, Some, IsTrue, Result, Ok, Err, refl, sym, ap, ◌∙◌, subst, arith}
+use Rattle.std.specs.Prelude.{IsErrOf}
+use Rattle.fab_base.specs.Seen.{Seen, Touches, Nothing, Rose, SameReadFaults, SameWriteFaults}
 use Rattle.fab_base.specs.declared.values.Failed.{Failed}
 use Rattle.fab_base.proofs.SeenLemmas.{rose_later, touches_trans, touches_wider}
 use Rattle.fab_policy.specs.Journal.{Journal}
@@ -18,11 +19,11 @@ use Rattle.fab_gather.specs.Ports.{slots_of, name_of, NameIn, AreInputs, stop_fr
 use Rattle.fab_windows.specs.declared.Done.{Done}
 use Rattle.fab_windows.specs.Files.{AreFiles, Written, Pending, Wholes, WholesBut, Fronts, Writes, captures}
 use Rattle.fab_windows.specs.Run.{Interrupted, Stopped, Ends}
-use Rattle.fab_windows.specs.Turns.{Laws, Task, captures_in, Touched, Reached, Ended, IsUnwritten}
+use Rattle.fab_windows.specs.Turns.{Laws, Task, captures_in, Touched, NoFaults, Reached, Ended, IsUnwritten}
 use Rattle.fab_gather.specs.Gather.{Gathers}
 use Rattle.fab_windows.proofs.EndLemmas.{interrupted, stopped}
 use Rattle.fab_windows.proofs.FileLemmas.{files_stay}
-use Rattle.fab_windows.proofs.PublishLemmas.{but_is_front, flushed, flushed_front, write_cause}
+use Rattle.fab_windows.proofs.PublishLemmas.{wholes_but_front, flushed_whole, flushed_part, write_cause}
 use Rattle.fab_windows.proofs.StayLemmas.{LeftStays, inputs_stay, input_name_in, written_in, but_stays, same_ports, length-slots, writing_leaves, read_stays, stop_stays}
 
 -- ---- how a run ends, fault by fault
@@ -31,6 +32,8 @@ abbrev Causes : Task → Seen → RunFault → Type 0
 Causes k d e =
     (e ≡ fault.Read → (q : ℕ) × (q < length k.ins) × Rose (k.seen.read_faults (name_of k.seen (slots_of k.ins) q)) (d.read_faults (name_of k.seen (slots_of k.ins) q)))
     × (e ≡ fault.Write → (m : List ℕ) × Written k.seen k.journal k.outs m × Rose (k.seen.write_faults m) (d.write_faults m))
+    × (e ≢ fault.Read → e ≢ fault.Write → SameReadFaults k.seen d)
+    × (e ≢ fault.Write → SameWriteFaults k.seen d)
 
 error_is : (r : Result Done RunFault) (x y : RunFault) → r ≡ Err x → r ≡ Err y → x ≡ y
 error_is r x y h k = cc
@@ -45,6 +48,10 @@ ended k d e touches stop read front causes = record {
   ends = λ told. by_fault e (stop told) (read told) (front told);
   read = λ is. causes.0 (error_is (Err e) e fault.Read refl is);
   write = λ is. causes.1 (error_is (Err e) e fault.Write refl is);
+  counts = record {
+    reads = λ x y. causes.2 (λ is. x (ap (λ f. Err f) is)) (λ is. y (ap (λ f. Err f) is));
+    writes = λ y. causes.3 (λ is. y (ap (λ f. Err f) is));
+  };
 }
   where
     by_fault : (f : RunFault) → (IsStopped f → Stopped k.settings k.budget (captures_in k) d k.journal k.outs f) →
@@ -60,6 +67,14 @@ ended k d e touches stop read front causes = record {
 -- a count that rose before
 rose_longer : (a b c : ℕ) → Rose a b → b ≤ c → Rose a c
 rose_longer a b c rose le = omega (arith, rose, le)
+
+-- work that was done ended with no fault
+pub not_err : {e : RunFault} → IsErrOf {T = Unit {0}} (Ok tt) e → ⊥
+not_err is = cc
+
+-- no count changed before, and none since
+pub no_faults : (a b d : Seen) → NoFaults a b → NoFaults b d → NoFaults a d
+no_faults a b d x y = (λ m. y.0 m ∙ x.0 m, λ m. y.1 m ∙ x.1 m)
 
 -- ---- from where a run has come
 
@@ -120,14 +135,16 @@ module _ (laws : Laws) (k : Task) (w first : ℕ) (F : Contents) (d : Seen) (ins
 
     module _ (p : Pending) (files : IsTrue k.seen.told → WholesBut p k.settings d k.journal k.outs r.entry_list) where
       pub but_on : IsTrue k.seen.told → WholesBut p k.settings b k.journal k.outs r.entry_list
-      but_on told = but_stays (NameIn d (slots_of ins)) d b t k.journal k.outs files_now p (text r.entry_list) (captures k.settings (length k.outs) r.entry_list) (files told)
+      but_on told = but_stays (NameIn d (slots_of ins)) d b t k.journal k.outs files_now p k.settings r.entry_list (files told)
 
       front_on : IsTrue k.seen.told → Interrupted k.settings k.budget (captures_in k) (Fronts k.settings b k.journal k.outs)
-      front_on told = interrupted_here told (Fronts k.settings b k.journal k.outs) (but_is_front p b k.journal k.outs (text r.entry_list) (captures k.settings (length k.outs) r.entry_list) (but_on told))
+      front_on told = interrupted_here told (Fronts k.settings b k.journal k.outs) (wholes_but_front p k.settings b k.journal k.outs r.entry_list (but_on told))
 
       -- refused memory, before anything of the window is written
-      pub ended_unwritten : Ended k b fault.Memory
-      ended_unwritten = ended k b fault.Memory read_touches (λ told x. absurd x) (λ told x. absurd (cc)) (λ told x. front_on told) (λ x. absurd (cc), λ x. absurd (cc))
+      pub ended_unwritten : NoFaults d b → Ended k b fault.Memory
+      ended_unwritten same =
+          let all = no_faults k.seen d b r.faults same in
+          ended k b fault.Memory read_touches (λ told x. absurd x) (λ told x. absurd (cc)) (λ told x. front_on told) (λ x. absurd (cc), λ x. absurd (cc), λ x y. all.0, λ x. all.1)
 
       -- then all is written that was still to be
       module _ (z : Seen) where
@@ -135,17 +152,16 @@ module _ (laws : Laws) (k : Task) (w first : ℕ) (F : Contents) (d : Seen) (ins
         then_touches u = touches_trans Ours (Touched k) k.seen b z read_touches (touches_wider (Written b k.journal k.outs) (Written b k.journal k.outs) Ours (Touched k) b z written_then (λ m h. inl (written_then m h)) u)
 
         wholes_then : Writes k.journal k.outs p.lines p.pieces b z (Ok tt) → IsTrue k.seen.told → Wholes k.settings z k.journal k.outs r.entry_list
-        wholes_then x told = flushed p b z k.journal k.outs (text r.entry_list) (captures k.settings (length k.outs) r.entry_list) (told_then told) (but_on told) x
+        wholes_then x told = flushed_whole p k.settings b z k.journal k.outs r.entry_list (told_then told) (but_on told) x
 
         fronts_then : {x : Result (Unit {0}) Failed} → Writes k.journal k.outs p.lines p.pieces b z x → IsTrue k.seen.told → Interrupted k.settings k.budget (captures_in k) (Fronts k.settings z k.journal k.outs)
-        fronts_then x told = interrupted_here told (Fronts k.settings z k.journal k.outs)
-            (flushed_front p b z k.journal k.outs (text r.entry_list) (captures k.settings (length k.outs) r.entry_list) (told_then told) (but_on told) x)
+        fronts_then x told = interrupted_here told (Fronts k.settings z k.journal k.outs) (flushed_part p k.settings b z k.journal k.outs r.entry_list (told_then told) (but_on told) x)
 
         -- which fails
         pub ended_closing : (f : Failed) → Writes k.journal k.outs p.lines p.pieces b z (Err f) → Ended k z fault.Write
         ended_closing f x =
             ended k z fault.Write (then_touches x.touches) (λ told y. absurd y) (λ told y. absurd (cc)) (λ told y. fronts_then x told)
-            (λ y. absurd (cc), λ y. let rose = write_cause k.journal k.outs p.lines p.pieces b z f x in (rose.0, written_then rose.0 rose.1, rose_later _ _ _ (read_touches.writes_rise rose.0) rose.2))
+            (λ y. absurd (cc), λ y. let rose = write_cause k.journal k.outs p.lines p.pieces b z f x in (rose.0, written_then rose.0 rose.1, rose_later _ _ _ (read_touches.writes_rise rose.0) rose.2), λ x y. absurd (y refl), λ y. absurd (y refl))
 
   -- a fault while the window is gathered, behind which all is written that was still to be
   pub ended_gathering : (p : Pending) → (IsTrue k.seen.told → WholesBut p k.settings d k.journal k.outs r.entry_list) → (b : Seen) (ins' : List Input) (shelves' : List Shelf) (left' : Budget) (e : RunFault) →
@@ -156,25 +172,33 @@ module _ (laws : Laws) (k : Task) (w first : ℕ) (F : Contents) (d : Seen) (ins
       let s = t.stops (told_on told) stops in
       subst (Stopped k.settings k.budget (captures_in k) z k.journal k.outs) s.2 (stopped_here told z s.0 s.1 s.3 (wholes_then b t.touches p files z x told)))
       (λ told y. interrupted_here told (Wholes k.settings z k.journal k.outs) (wholes_then b t.touches p files z x told))
-      (λ told y. fronts_then b t.touches p files z x told)
-      (λ y. let cause = t.cause (ap (λ v. Err v) y) in let rose = rose_on b t.touches cause.0 cause.1 cause.2 in (rose.0, rose.1, rose_longer _ _ _ rose.2 (x.touches.reads_rise _)), λ y. absurd (t.only y))
+      (λ told y. fronts_then b t.touches p files z x told) (
+        λ y. let cause = t.cause (ap (λ v. Err v) y) in let rose = rose_on b t.touches cause.0 cause.1 cause.2 in (rose.0, rose.1, rose_longer _ _ _ rose.2 (x.touches.reads_rise _)),
+        λ y. absurd (t.only y),
+        λ not_read not_write m. x.reads m ∙ t.counts (λ is. not_read (error_of e is)) m ∙ r.faults.0 m,
+        λ not_write m. x.counts m ∙ t.writes m ∙ r.faults.1 m,
+      )
+    where
+      error_of : (f : RunFault) → IsErrOf {T = Unit {0}} (Err f) fault.Read → f ≡ fault.Read
+      error_of f is = cc
 
   -- ---- writing keeps what is to come
 
-  module _ (z : Seen) (t : Touches (Written d k.journal k.outs) (Written d k.journal k.outs) d z) where
+  module _ (z : Seen) (t : Touches (Written d k.journal k.outs) (Written d k.journal k.outs) d z) (reads : SameReadFaults d z) where
     pub lefts : LeftStays d z ins
     lefts = writing_leaves k.journal k.outs d z ins t inputs_now apart_now
 
     pub write_touches : Touches Ours (Touched k) k.seen z
     write_touches = touches_trans Ours (Touched k) k.seen d z r.touches (touches_wider (Written d k.journal k.outs) (Written d k.journal k.outs) Ours (Touched k) d z written_now (λ m h. inl (written_now m h)) t)
 
-    abbrev pub reached_on : Reached k w first F z ins shelves left
-    reached_on = record {
+    abbrev pub reached_on : SameWriteFaults d z → Reached k w first F z ins shelves left
+    reached_on writes = record {
       given = r.given;
       ports = r.ports;
       outputs = r.outputs;
       limits = r.limits;
       touches = write_touches;
+      faults = no_faults k.seen d z r.faults (reads, writes);
       slots = r.slots;
       count = r.count;
       taken = r.taken;
@@ -189,11 +213,15 @@ module _ (laws : Laws) (k : Task) (w first : ℕ) (F : Contents) (d : Seen) (ins
 
     -- a window that can't be written: beginnings of its journal
     pub ended_writing : (e : RunFault) → IsUnwritten e → (IsTrue k.seen.told → Fronts k.settings z k.journal k.outs r.entry_list) →
-        (e ≡ fault.Write → (m : List ℕ) × Written d k.journal k.outs m × Rose (d.write_faults m) (z.write_faults m)) → Ended k z e
-    ended_writing e only front cause =
+        (e ≡ fault.Write → (m : List ℕ) × Written d k.journal k.outs m × Rose (d.write_faults m) (z.write_faults m)) → (e ≢ fault.Write → SameWriteFaults d z) → Ended k z e
+    ended_writing e only front cause counts =
         ended k z e write_touches (λ told x. absurd (not_both e only x)) (λ told x. absurd (subst IsUnwritten x only))
-        (λ told x. interrupted_here told (Fronts k.settings z k.journal k.outs) (front told))
-        (λ x. absurd (subst IsUnwritten x only), λ x. let rose = cause x in (rose.0, written_now rose.0 rose.1, rose_later _ _ _ (r.touches.writes_rise rose.0) rose.2))
+        (λ told x. interrupted_here told (Fronts k.settings z k.journal k.outs) (front told)) (
+          λ x. absurd (subst IsUnwritten x only),
+          λ x. let rose = cause x in (rose.0, written_now rose.0 rose.1, rose_later _ _ _ (r.touches.writes_rise rose.0) rose.2),
+          λ x y m. reads m ∙ r.faults.0 m,
+          λ y m. counts y m ∙ r.faults.1 m,
+        )
       where
         not_both : (f : RunFault) → IsUnwritten f → IsStopped f → ⊥
         not_both (fault.Capture port at why) u s = u

@@ -1,11 +1,12 @@
 -- The files of a run, and what writing to several files keeps and leaves.
-use Rattle.std.specs.Prelude.{◌≡◌, ◌≢◌, ℕ, ◌+◌, ◌<◌, ◌⊎◌, IsTrue, List, ◌++◌, length, take, Some, Result, OnOk, OnErr}
-use Rattle.fab_base.specs.Seen.{Seen, Rose, Touches}
+use Rattle.std.specs.Prelude.{◌≡◌, ◌≢◌, ℕ, ◌+◌, ◌<◌, ◌⊎◌, IsTrue, IfSome, List, [], ◌++◌, length, take, Option, Some, None, Result, OnOk, OnErr}
+use Rattle.fab_base.specs.Seen.{Seen, Rose, Touches, SameReadFaults, SameWriteFaults}
 use Rattle.fab_base.specs.declared.values.Failed.{Failed}
 use Rattle.fab_config.specs.Settings.{Settings}
-use Rattle.fab_policy.specs.Journal.{Journal}
+use Rattle.fab_policy.specs.Journal.{Journal, followed}
 use Rattle.fab_policy.specs.Text.{text, egress}
 use Rattle.fab_policy.specs.Written.{IsPrefixOf}
+use Rattle.fab_policy.specs.declared.event.Event.{Event}
 use Rattle.fab_gather.specs.Ports.{slot_at, name_of, NameIn}
 use Rattle.fab_pages.specs.Pages.{piece_at}
 
@@ -24,12 +25,15 @@ pub record FailsAt (q : ℕ) (slots : List ℕ) (pieces : List (List ℕ)) (old 
   pub before : IsTrue old.told → (p : ℕ) → p < q → (bytes : List ℕ) → old.file (name_of old slots p) ≡ Some bytes → new.file (name_of old slots p) ≡ Some (bytes ++ piece_at pieces p)
   pub behind : (p : ℕ) → q < p → p < length slots → new.file (name_of old slots p) ≡ old.file (name_of old slots p)
 
--- Putting a piece to each of several outputs, in their order, appends each to its file, or, where it fails, a front of each.
+-- Putting a piece to each of several outputs, in their order, appends each to its file, or, where it fails, a front of each. No fault
+-- is counted where it succeeds, and never one of reading.
 pub record PutsEach (slots : List ℕ) (pieces : List (List ℕ)) (old new : Seen) (result : Result (Unit {0}) Failed) : Type 0 where
   pub touches : Touches (NameIn old slots) (NameIn old slots) old new
   pub all : IsTrue old.told → (q : ℕ) → q < length slots → (bytes : List ℕ) → old.file (name_of old slots q) ≡ Some bytes → OnOk result (new.file (name_of old slots q) ≡ Some (bytes ++ piece_at pieces q))
   pub part : IsTrue old.told → (q : ℕ) → q < length slots → (bytes : List ℕ) → old.file (name_of old slots q) ≡ Some bytes → (n : ℕ) × (new.file (name_of old slots q) ≡ Some (bytes ++ take n (piece_at pieces q)))
   pub cause : OnErr result ((q : ℕ) × FailsAt q slots pieces old new)
+  pub reads : SameReadFaults old new
+  pub counts : OnOk result (SameWriteFaults old new)
 
 -- ---- the files of a run
 
@@ -43,33 +47,73 @@ pub record Pending : Type 0 where
   pub lines : List ℕ
   pub pieces : List (List ℕ)
 
--- They hold these bytes but for what is still to be written behind them.
-pub record HoldBut (p : Pending) (d : Seen) (journal : ℕ) (outs lines : List ℕ) (records_of : ℕ → List ℕ) : Type 0 where
-  pub lines_now : List ℕ
-  pub records_now : ℕ → List ℕ
-  pub hold : Hold d journal outs lines_now records_now
-  pub lines_ : lines ≡ lines_now ++ p.lines
-  pub records : (q : ℕ) → q < length outs → records_of q ≡ records_now q ++ piece_at p.pieces q
+-- They hold what they held when all was written last, which are these bytes but for what is still to be written behind them.
+pub record HoldBut (p : Pending) (d : Seen) (journal : ℕ) (outs was : List ℕ) (was_of : ℕ → List ℕ) (lines : List ℕ) (records_of : ℕ → List ℕ) : Type 0 where
+  pub hold : Hold d journal outs was was_of
+  pub lines_ : lines ≡ was ++ p.lines
+  pub records : (q : ℕ) → q < length outs → records_of q ≡ was_of q ++ piece_at p.pieces q
 
--- Each of them holds a beginning of these.
-pub record HoldFronts (d : Seen) (journal : ℕ) (outs lines : List ℕ) (records_of : ℕ → List ℕ) : Type 0 where
+-- A name's file holds these bytes at least.
+abbrev pub HoldsFrom : Seen → List ℕ → List ℕ → Type 0
+HoldsFrom d name was = (bytes : List ℕ) × (d.file name ≡ Some bytes) × IsPrefixOf was bytes
+
+-- The journal was written some way, and each output holds what it held.
+pub record JournalComes (d : Seen) (journal : List ℕ) (count : ℕ) (out : ℕ → List ℕ) (was : List ℕ) (was_of : ℕ → List ℕ) : Type 0 where
+  pub lines_ : HoldsFrom d journal was
+  pub records : (q : ℕ) → q < count → d.file (out q) ≡ Some (was_of q)
+
+-- The journal is whole, and the outputs of ports below some port are; its own was written some way, and those behind it hold what they
+-- held.
+pub record OutputComes (d : Seen) (journal : List ℕ) (count : ℕ) (out : ℕ → List ℕ) (was_of : ℕ → List ℕ) (lines : List ℕ) (records_of : ℕ → List ℕ) : Type 0 where
+  pub lines_ : d.file journal ≡ Some lines
+  pub port : ℕ
+  pub whole : (q : ℕ) → q < port → q < count → d.file (out q) ≡ Some (records_of q)
+  pub part : port < count → HoldsFrom d (out port) (was_of port)
+  pub behind : (q : ℕ) → port < q → q < count → d.file (out q) ≡ Some (was_of q)
+
+-- How far writing came that goes from what files held to these bytes, in order: the journal, and then the outputs by ports counted from 0.
+-- So no output is ahead of a journal that isn't whole.
+abbrev pub InOrder : Seen → List ℕ → ℕ → (ℕ → List ℕ) → List ℕ → (ℕ → List ℕ) → List ℕ → (ℕ → List ℕ) → Type 0
+InOrder d journal count out was was_of lines records_of =
+    JournalComes d journal count out was was_of ⊎ OutputComes d journal count out was_of lines records_of
+
+-- Each of them holds a beginning of these, and they were written in order from what they held.
+pub record HoldFronts (d : Seen) (journal : ℕ) (outs was : List ℕ) (was_of : ℕ → List ℕ) (lines : List ℕ) (records_of : ℕ → List ℕ) : Type 0 where
   pub lines_ : (bytes : List ℕ) × (d.file (d.name journal) ≡ Some bytes) × IsPrefixOf bytes lines
   pub records : (q : ℕ) → q < length outs → (bytes : List ℕ) × (d.file (name_of d outs q) ≡ Some bytes) × IsPrefixOf bytes (records_of q)
+  pub order : InOrder d (d.name journal) (length outs) (name_of d outs) was was_of lines records_of
 
 -- the captures of a journal, by ports counted from 0
 abbrev pub captures : Settings → ℕ → Journal → ℕ → List ℕ
 captures c n J q = egress c n (q + 1) J
 
--- The journal and the outputs hold the whole text of a journal, and its captures; or all but what is still to be written; or a
--- beginning of each.
+-- a journal is this one with further entries
+abbrev pub GoesOn : Journal → Journal → Type 0
+GoesOn I J = (later : List Event) × (J ≡ followed I later)
+
+-- the text and the captures of a journal that was written whole, or nothing where none was yet
+abbrev pub text_so_far : Option Journal → List ℕ
+text_so_far None = []
+text_so_far (Some I) = text I
+
+abbrev pub captures_so_far : Settings → ℕ → Option Journal → ℕ → List ℕ
+captures_so_far c n None q = []
+captures_so_far c n (Some I) q = captures c n I q
+
+-- The journal and the outputs hold the whole text of a journal, and its captures; or all but what is still to be written, which is
+-- the whole of an earlier one; or a beginning of each, written in order from the whole of an earlier one.
 abbrev pub Wholes : Settings → Seen → ℕ → List ℕ → Journal → Type 0
 Wholes c d journal outs J = Hold d journal outs (text J) (captures c (length outs) J)
 
-abbrev pub WholesBut : Pending → Settings → Seen → ℕ → List ℕ → Journal → Type 0
-WholesBut p c d journal outs J = HoldBut p d journal outs (text J) (captures c (length outs) J)
+pub record WholesBut (p : Pending) (c : Settings) (d : Seen) (journal : ℕ) (outs : List ℕ) (J : Journal) : Type 0 where
+  pub before : Journal
+  pub begins : GoesOn before J
+  pub hold : HoldBut p d journal outs (text before) (captures c (length outs) before) (text J) (captures c (length outs) J)
 
-abbrev pub Fronts : Settings → Seen → ℕ → List ℕ → Journal → Type 0
-Fronts c d journal outs J = HoldFronts d journal outs (text J) (captures c (length outs) J)
+pub record Fronts (c : Settings) (d : Seen) (journal : ℕ) (outs : List ℕ) (J : Journal) : Type 0 where
+  pub before : Option Journal
+  pub begins : IfSome before (λ I. GoesOn I J)
+  pub hold : HoldFronts d journal outs (text_so_far before) (captures_so_far c (length outs) before) (text J) (captures c (length outs) J)
 
 -- the names of the journal and of the outputs
 abbrev pub Written : Seen → ℕ → List ℕ → List ℕ → Type 0
@@ -93,10 +137,12 @@ pub record FailsLater (journal : ℕ) (outs lines : List ℕ) (pieces : List (Li
   pub fails : FailsAt port outs pieces old new
 
 -- Writing to files that hold these bytes, to the journal and then to the outputs in port order: they hold what is added behind them
--- then, or beginnings of that.
+-- then, or beginnings of that, written in order. No fault is counted where it succeeds, and never one of reading.
 pub record Writes (journal : ℕ) (outs lines : List ℕ) (pieces : List (List ℕ)) (old new : Seen) (result : Result (Unit {0}) Failed) : Type 0 where
   pub touches : Touches (Written old journal outs) (Written old journal outs) old new
   pub files : AreFiles new journal outs
   pub whole : IsTrue old.told → (l l' : List ℕ) (r r' : ℕ → List ℕ) → Hold old journal outs l r → l' ≡ l ++ lines → ((q : ℕ) → q < length outs → r' q ≡ r q ++ piece_at pieces q) → OnOk result (Hold new journal outs l' r')
-  pub front : IsTrue old.told → (l l' : List ℕ) (r r' : ℕ → List ℕ) → Hold old journal outs l r → l' ≡ l ++ lines → ((q : ℕ) → q < length outs → r' q ≡ r q ++ piece_at pieces q) → HoldFronts new journal outs l' r'
+  pub front : IsTrue old.told → (l l' : List ℕ) (r r' : ℕ → List ℕ) → Hold old journal outs l r → l' ≡ l ++ lines → ((q : ℕ) → q < length outs → r' q ≡ r q ++ piece_at pieces q) → HoldFronts new journal outs l r l' r'
   pub cause : OnErr result (FailsFirst journal outs old new ⊎ FailsLater journal outs lines pieces old new)
+  pub reads : SameReadFaults old new
+  pub counts : OnOk result (SameWriteFaults old new)

@@ -1,7 +1,7 @@
 -- What a run over captures leaves in its files, however it ends.
 use Rattle.std.specs.Prelude.{◌≡◌, ℕ, ◌<◌, ◌⊎◌, IsTrue, List, [], length, map, Some, None, Result, Ok, Err, IsErrOf}
 use Rattle.std.specs.List.{All}
-use Rattle.fab_base.specs.Seen.{Seen, Rose, Touches}
+use Rattle.fab_base.specs.Seen.{Seen, Rose, Touches, SameReadFaults, SameWriteFaults}
 use Rattle.fab_config.specs.Settings.{Settings}
 use Rattle.pcap_file.specs.declared.Budget.{Budget}
 use Rattle.pcap_file.specs.declared.Record.{Record}
@@ -76,9 +76,17 @@ Ends c budget ins d journal outs (Err fault.Read) = Interrupted c budget ins (Wh
 Ends c budget ins d journal outs (Err fault.Write) = Interrupted c budget ins (Fronts c d journal outs)
 Ends c budget ins d journal outs (Err fault.Memory) = Interrupted c budget ins (Fronts c d journal outs)
 
+-- No fault of the store is passed over: none of writing is counted where the answer isn't `Write`, and none of reading where it's
+-- neither `Read` nor `Write`, which also says that the files can't be written behind a fault of reading. So want of memory never
+-- stands for one.
+pub record TellsFaults (old new : Seen) (result : Result Done RunFault) : Type 0 where
+  pub reads : ¬ IsErrOf result fault.Read → ¬ IsErrOf result fault.Write → SameReadFaults old new
+  pub writes : ¬ IsErrOf result fault.Write → SameWriteFaults old new
+
 -- A run over captures.
 pub record Runs (c : Settings) (budget : Budget) (ins : List Input) (a b : Seen) (journal : ℕ) (outs : List ℕ) (result : Result Done RunFault) : Type 0 where
   pub touches : Touches (Written a journal outs) (λ m. Written a journal outs m ⊎ NameIn a (slots_of ins) m) a b
   pub ends : IsTrue a.told → Ends c budget (opened_in a ins) b journal outs result
   pub read : IsErrOf result fault.Read → (q : ℕ) × (q < length ins) × Rose (a.read_faults (name_of a (slots_of ins) q)) (b.read_faults (name_of a (slots_of ins) q))
   pub write : IsErrOf result fault.Write → (m : List ℕ) × Written a journal outs m × Rose (a.write_faults m) (b.write_faults m)
+  pub counts : TellsFaults a b result

@@ -1,6 +1,6 @@
 -- What stands between the windows of a run, and what its parts do. No public clause cites this module.
 use Rattle.std.specs.Prelude.{◌≡◌, ℕ, ◌+◌, ◌<◌, ◌≤◌, ◌^◌, ◌⊎◌, IsTrue, IfSome, List, [], ◌++◌, length, map, Some, Result, Ok, Err, OnOk, IfErr, IsErrOf}
-use Rattle.fab_base.specs.Seen.{Seen, Touches, Rose}
+use Rattle.fab_base.specs.Seen.{Seen, Touches, Rose, SameReadFaults, SameWriteFaults}
 use Rattle.fab_base.specs.declared.values.Failed.{Failed}
 use Rattle.fab_config.specs.Settings.{Settings}
 use Rattle.pcap_file.specs.declared.Budget.{Budget}
@@ -89,6 +89,10 @@ captures_in k = opened_in k.seen k.ins
 abbrev pub Touched : Task → List ℕ → Type 0
 Touched k m = Written k.seen k.journal k.outs m ⊎ NameIn k.seen (slots_of k.ins) m
 
+-- no count of faults has changed, neither of reading nor of writing
+abbrev pub NoFaults : Seen → Seen → Type 0
+NoFaults old new = SameReadFaults old new × SameWriteFaults old new
+
 -- What stands of a task before a window: which records were taken, a journal that stands for them, where the readers are, and,
 -- where the depot tells, that the looks to come stop where all looks do.
 pub record Reached (k : Task) (w first : ℕ) (F : Contents) (d : Seen) (ins : List Input) (shelves : List Shelf) (left : Budget) : Type 0 where
@@ -97,6 +101,7 @@ pub record Reached (k : Task) (w first : ℕ) (F : Contents) (d : Seen) (ins : L
   pub outputs : length k.outs ≡ length k.ins
   pub limits : k.budget.bytes < 2 ^ 64
   pub touches : Touches (Written k.seen k.journal k.outs) (Touched k) k.seen d
+  pub faults : NoFaults k.seen d
   pub slots : slots_of ins ≡ slots_of k.ins
   pub count : length shelves ≡ length ins
   pub taken : List (List Record)
@@ -122,6 +127,7 @@ pub record Begun (k : Task) (d : Seen) (ins : List Input) (shelves : List Shelf)
   pub outputs : length k.outs ≡ length k.ins
   pub limits : k.budget.bytes < 2 ^ 64
   pub touches : Touches (Written k.seen k.journal k.outs) (Touched k) k.seen d
+  pub faults : NoFaults k.seen d
   pub slots : slots_of ins ≡ slots_of k.ins
   pub count : length shelves ≡ length ins
   pub ready : AreReady k.settings 0 ins shelves left
@@ -161,13 +167,15 @@ IsUnwritten fault.Write = Unit {0}
 IsUnwritten fault.Memory = Unit {0}
 
 -- Adding lines and what is sent, from what was still to be written to what is then: files that held these bytes but for that hold
--- them with what is added, or beginnings of it.
+-- them with what is added, but for what is still to be written or wholly; or beginnings of it, written in order.
 pub record Publishes (journal : ℕ) (outs lines : List ℕ) (sents : List Sent) (p p' : Pending) (a b : Seen) (result : Result (Unit {0}) RunFault) : Type 0 where
   pub touches : Touches (Written a journal outs) (Written a journal outs) a b
-  pub whole : IsTrue a.told → (l l' : List ℕ) (r r' : ℕ → List ℕ) → HoldBut p a journal outs l r → l' ≡ l ++ lines → ((q : ℕ) → q < length outs → r' q ≡ r q ++ records_to (q + 1) sents) → OnOk result (HoldBut p' b journal outs l' r')
-  pub front : IsTrue a.told → (l l' : List ℕ) (r r' : ℕ → List ℕ) → HoldBut p a journal outs l r → l' ≡ l ++ lines → ((q : ℕ) → q < length outs → r' q ≡ r q ++ records_to (q + 1) sents) → HoldFronts b journal outs l' r'
+  pub whole : IsTrue a.told → (w l l' : List ℕ) (v r r' : ℕ → List ℕ) → HoldBut p a journal outs w v l r → l' ≡ l ++ lines → ((q : ℕ) → q < length outs → r' q ≡ r q ++ records_to (q + 1) sents) → OnOk result (HoldBut p' b journal outs w v l' r' ⊎ HoldBut p' b journal outs l' r' l' r')
+  pub front : IsTrue a.told → (w l l' : List ℕ) (v r r' : ℕ → List ℕ) → HoldBut p a journal outs w v l r → l' ≡ l ++ lines → ((q : ℕ) → q < length outs → r' q ≡ r q ++ records_to (q + 1) sents) → HoldFronts b journal outs w v l' r'
   pub cause : IsErrOf result fault.Write → (m : List ℕ) × Written a journal outs m × Rose (a.write_faults m) (b.write_faults m)
   pub only : IfErr result IsUnwritten
+  pub reads : SameReadFaults a b
+  pub counts : ¬ IsErrOf result fault.Write → SameWriteFaults a b
 
 -- What stands once the next window was gathered from where a run had come.
 pub record Gathered (k : Task) (w first : ℕ) (F : Contents) (b : Seen) (ins' : List Input) (shelves' : List Shelf) (left' : Budget) (done : Done) (p : Pending) : Type 0 where
