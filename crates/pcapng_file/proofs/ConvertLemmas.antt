@@ -89,15 +89,19 @@ module _ (from to : List ℕ) (slot : ℕ) (budget left : Budget) (a b c : Seen)
       )
 
       pub converted : (count : ℕ) → bytes ≡ classic_bytes v → count ≡ length v → PutsAll {T = Unit {0}} {E = Failed} out bytes d e (Ok tt) → Converts from to budget a e (Ok count)
-      converted count made counted p = λ told.
-          record {
-            bytes = b.left slot;
-            packets = v;
-            found = opens.left told;
-            read = r.exact (told_b told);
-            is = (read told).file;
-            within = ((read told).bytes, (read told).frames);
-            output = subst (λ n. e.file n ≡ Some (classic_bytes v)) is_out (p.grown (told_stays to c d o.keeps (told_c told)) [] (ap d.file is_out ∙ o.emptied (told_c told)) ∙ ap (λ (l : List ℕ). Some l) made);
-            counted = counted;
-            read_back = read_back v r.kept;
-          }
+      converted count made counted p =
+          let none = spared (Ok v) r r.counts in (
+            (λ m. p.reads m ∙ o.reads m ∙ none.0 m, λ m. p.counts m ∙ o.counts m ∙ none.1 m),
+            λ told.
+                record {
+                  bytes = b.left slot;
+                  packets = v;
+                  found = opens.left told;
+                  read = r.exact (told_b told);
+                  is = (read told).file;
+                  within = ((read told).bytes, (read told).frames);
+                  output = subst (λ n. e.file n ≡ Some (classic_bytes v)) is_out (p.grown (told_stays to c d o.keeps (told_c told)) [] (ap d.file is_out ∙ o.emptied (told_c told)) ∙ ap (λ (l : List ℕ). Some l) made);
+                  counted = counted;
+                  read_back = read_back v r.kept;
+                },
+          )

@@ -75,7 +75,7 @@ pub data IsFront (from to : List ℕ) (budget : Budget) (old new : Seen) : Type 
 
 -- How a conversion ends. The output is opened only behind the whole input: an error of the input leaves every file.
 abbrev pub Converts : List ℕ → List ℕ → Budget → Seen → Seen → Result ℕ ConvertError → Type 0
-Converts from to budget old new (Ok count) = IsTrue old.told → Converted from to budget old new count
+Converts from to budget old new (Ok count) = NoFault old new × (IsTrue old.told → Converted from to budget old new count)
 Converts from to budget old new (Err (ends.Input e)) = SameFiles old new × CauseInput from old new e × (IsTrue old.told → SaysInput from budget old e)
 Converts from to budget old new (Err (ends.Write failed)) = Rose (old.write_faults to) (new.write_faults to) × (IsTrue old.told → IsFront from to budget old new)
 
