@@ -103,17 +103,20 @@ module _ (from to : List ℕ) (slot limit : ℕ) (a b c : Seen) (opens : OpensIn
         )
 
         pub migrated : PutsAll {T = Unit {0}} {E = Failed} out bytes d e (Ok tt) → Migrates from to limit a e (Ok n.entries)
-        migrated p = λ told.
-            let output : e.file to ≡ Some (new_text w.0) = subst (λ n. e.file n ≡ Some bytes) is_out (p.grown (told_d told) [] (empty told)) ∙ ap (λ (l : List ℕ). Some l) all in
-            record {
-              bytes = v.items;
-              lines = w.0;
-              found = found told;
-              within = within told;
-              is = w.1;
-              output = output;
-              counted = w.3;
-              journal = λ J ranged text.
-                  let same = (migrated_to J ranged).is_new w.0 (subst (λ (l : List ℕ). IsOld l w.0) text w.1) in
-                  (output ∙ ap (λ (l : List ℕ). Some l) same.0, w.3 ∙ same.1);
-            }
+        migrated p = (
+          (λ m. p.reads m ∙ o.reads m ∙ counts_kept.0 m, λ m. p.counts m ∙ o.counts m ∙ counts_kept.1 m),
+          λ told.
+              let output : e.file to ≡ Some (new_text w.0) = subst (λ n. e.file n ≡ Some bytes) is_out (p.grown (told_d told) [] (empty told)) ∙ ap (λ (l : List ℕ). Some l) all in
+              record {
+                bytes = v.items;
+                lines = w.0;
+                found = found told;
+                within = within told;
+                is = w.1;
+                output = output;
+                counted = w.3;
+                journal = λ J ranged text.
+                    let same = (migrated_to J ranged).is_new w.0 (subst (λ (l : List ℕ). IsOld l w.0) text w.1) in
+                    (output ∙ ap (λ (l : List ℕ). Some l) same.0, w.3 ∙ same.1);
+              },
+        )

@@ -48,7 +48,7 @@ pub data IsNewFront (from to : List ℕ) (limit : ℕ) (old new : Seen) : Type 0
 
 -- How migrating ends. The output is opened only behind the whole input: an error of the input leaves every file.
 abbrev pub Migrates : List ℕ → List ℕ → ℕ → Seen → Seen → Result ℕ MigrateError → Type 0
-Migrates from to limit old new (Ok count) = IsTrue old.told → Migrated from to limit old new count
+Migrates from to limit old new (Ok count) = NoFault old new × (IsTrue old.told → Migrated from to limit old new count)
 Migrates from to limit old new (Err (ends.Input e)) = SameFiles old new × CauseOld from old new e × (IsTrue old.told → SaysOld from limit old e)
 Migrates from to limit old new (Err (ends.Write failed)) = Rose (old.write_faults to) (new.write_faults to) × (IsTrue old.told → IsNewFront from to limit old new)
 
