@@ -3,10 +3,10 @@ use Rattle.std.proofs.Common.{◌≡◌, ℕ, ◌≤◌, List, [], ◌++◌, tak
 use Rattle.std.specs.Prelude.{Result, IfErr}
 use Rattle.std.proofs.lemmas.List.{append-nil, take-append-drop}
 use Rattle.std.proofs.lemmas.List.Concat.{flat_map-append}
-use Rattle.fab_base.specs.Seen.{Seen, Rose, PutsAll}
+use Rattle.fab_base.specs.Seen.{Seen, Rose, SameWriteFaults, PutsAll}
 use Rattle.fab_base.specs.declared.values.Failed.{Failed}
 use Rattle.fab_base.proofs.SeenLemmas.{rose_later, keeps_refl, keeps_trans, output_stays, output_name, told_stays}
-use Rattle.fab_vectors.specs.Files.{AddsTo, Adds}
+use Rattle.fab_vectors.specs.Files.{SparesWrites, AddsTo, Adds}
 use Rattle.fab_vectors.specs.declared.MakeFault.{MakeFault}
 use Rattle.fab_vectors.specs.declared.MakeFault.TheVariants as fault
 
@@ -17,6 +17,8 @@ adds_none t name a = record {
   whole = λ told had is. is ∙ ap Some (sym (append-nil had));
   front = λ told had is. ([], [], is ∙ ap Some (sym (append-nil had)), refl);
   cause = tt;
+  counts = λ m. refl;
+  reads = λ m. refl;
 }
 
 -- memory was refused before anything was added
@@ -26,6 +28,8 @@ adds_refused name bytes a = record {
   whole = λ told had is. tt;
   front = λ told had is. ([], bytes, is ∙ ap Some (sym (append-nil had)), refl);
   cause = λ e. absurd (cc);
+  counts = λ m. refl;
+  reads = λ m. refl;
 }
 
 -- a put that failed
@@ -35,6 +39,8 @@ adds_failed s bytes a b e p = record {
   whole = λ told had is. tt;
   front = λ told had is. let part = p.part told had is in (take part.0 bytes, drop part.0 bytes, part.1, take-append-drop part.0 bytes);
   cause = λ w. p.cause;
+  counts = tt;
+  reads = p.reads;
 }
 
 -- a failure, of more bytes
@@ -44,11 +50,18 @@ adds_more name x y a b e p = record {
   whole = λ told had is. tt;
   front = λ told had is. let f = p.front told had is in (f.0, f.1 ++ y, f.2, sym (append_assoc f.0 f.1 y) ∙ ap (λ l. l ++ y) f.3);
   cause = p.cause;
+  counts = p.counts;
+  reads = p.reads;
 }
 
 rose_before : {U : Type 0} (x y z : ℕ) (r : Result U MakeFault) → x ≤ y → IfErr r (λ e. e ≡ fault.Write → Rose y z) → IfErr r (λ e. e ≡ fault.Write → Rose x z)
 rose_before x y z (Ok t) le h = tt
 rose_before x y z (Err e) le h = λ w. rose_later x y z le (h w)
+
+pub spares_behind : {U : Type 0} (a b d : Seen) (r : Result U MakeFault) → SameWriteFaults a b → SparesWrites b d r → SparesWrites a d r
+spares_behind a b d (Ok t) same spares = λ m. spares m ∙ same m
+spares_behind a b d (Err fault.Write) same spares = tt
+spares_behind a b d (Err fault.Memory) same spares = λ m. spares m ∙ same m
 
 -- bytes behind others
 pub adds_behind : {T U : Type 0} (t : T) (name x y : List ℕ) (a b d : Seen) (r : Result U MakeFault) → AddsTo {T = T} name x a b (Ok t) → AddsTo {T = U} name y b d r
@@ -61,14 +74,16 @@ adds_behind t name x y a b d r p q = record {
       let f = q.front (told_stays name a b p.keeps told) (had ++ x) (p.whole told had is) in
       (x ++ f.0, f.1, f.2 ∙ ap Some (append_assoc had x f.0), append_assoc x f.0 f.1 ∙ ap (λ l. x ++ l) f.3);
   cause = rose_before _ _ _ r p.keeps.writes_rise q.cause;
+  counts = spares_behind a b d r p.counts q.counts;
+  reads = λ m. q.reads m ∙ p.reads m;
 }
 
 -- what an answer says beside is free
 pub adds_ok : {T U : Type 0} (t : T) (u : U) (name bytes : List ℕ) (a b : Seen) → AddsTo {T = T} name bytes a b (Ok t) → AddsTo {T = U} name bytes a b (Ok u)
-adds_ok t u name bytes a b p = record { keeps = p.keeps; whole = p.whole; front = p.front; cause = tt }
+adds_ok t u name bytes a b p = record { keeps = p.keeps; whole = p.whole; front = p.front; cause = tt; counts = p.counts; reads = p.reads }
 
 pub adds_err : {T U : Type 0} (e : MakeFault) (name bytes : List ℕ) (a b : Seen) → AddsTo {T = T} name bytes a b (Err e) → AddsTo {T = U} name bytes a b (Err e)
-adds_err e name bytes a b p = record { keeps = p.keeps; whole = λ told had is. tt; front = p.front; cause = p.cause }
+adds_err e name bytes a b p = record { keeps = p.keeps; whole = λ told had is. tt; front = p.front; cause = p.cause; counts = p.counts; reads = p.reads }
 
 -- a slot keeps its name and stays open
 module _ {T : Type 0} (t : T) (s : ℕ) (x : List ℕ) (a b : Seen) (open_ : IsTrue (a.output s)) (p : Adds {T = T} s x a b (Ok t)) where

@@ -2,7 +2,7 @@
 use Rattle.std.proofs.Common.{◌≡◌, ◌≢◌, ℕ, zero, suc, ◌+◌, ◌-◌, ◌*◌, ◌^◌, ◌<◌, ◌≤◌, inl, inr, List, [], Some, Ok, Err, IsTrue, refl, sym, ◌∙◌, subst, arith}
 use Rattle.std.specs.Prelude.{Result, slice_index}
 use Rattle.std.proofs.lemmas.List.{append-nil}
-use Rattle.fab_base.specs.Seen.{Seen, Touches, Only}
+use Rattle.fab_base.specs.Seen.{Seen, SameReadFaults, SameWriteFaults, Touches, Only}
 use Rattle.fab_base.proofs.SeenLemmas.{rose_later, touches_refl, touches_trans, touches_wider, keeps_touches}
 use Rattle.pcap_file.proofs.lemmas.Numbers.{le_or_lt}
 use Rattle.fab_vectors.specs.Files.{AddsTo, Adds, HoldsFront}
@@ -10,6 +10,7 @@ use Rattle.fab_vectors.specs.Load.{capture}
 use Rattle.fab_vectors.specs.Making.{AreNine, IsNamed, Makes, file_text, frame_count, name_at}
 use Rattle.fab_vectors.specs.declared.MakeFault.{MakeFault}
 use Rattle.fab_vectors.specs.declared.MakeFault.TheVariants as fault
+use Rattle.fab_vectors.proofs.FilesLemmas.{spares_behind}
 
 -- the file of a port
 pub text_of_port : (number q : ℕ) → 0 < q → file_text number q ≡ capture number q
@@ -35,6 +36,8 @@ made_nothing number slots a nine = record {
   front = λ told q less. ([], file_text number q, nine.empty told q less, refl);
   count = tt;
   cause = λ w. absurd (cc);
+  counts = λ m. refl;
+  reads = λ m. refl;
 }
 
 -- What stands before the file of a place: those before it are whole, and the others are as they were.
@@ -43,6 +46,8 @@ pub record Made (number : ℕ) (slots : List ℕ) (k total : ℕ) (a b : Seen) :
   pub done : IsTrue a.told → (q : ℕ) → q < k → q < 9 → b.file (name_at a slots q) ≡ Some (file_text number q)
   pub rest : (q : ℕ) → k ≤ q → q < 9 → b.file (name_at a slots q) ≡ a.file (name_at a slots q)
   pub count : total ≡ 2500 * (k - 1)
+  pub writes : SameWriteFaults a b
+  pub reads : SameReadFaults a b
 
 pub made_none : (number : ℕ) (slots : List ℕ) (a : Seen) → Made number slots 0 0 a a
 made_none number slots a = record {
@@ -50,6 +55,8 @@ made_none number slots a = record {
   done = λ told q lt less. absurd (omega arith);
   rest = λ q le less. refl;
   count = refl;
+  writes = λ m. refl;
+  reads = λ m. refl;
 }
 
 pub made_all : (number : ℕ) (slots : List ℕ) (k total : ℕ) (a b : Seen) → AreNine a slots → 9 ≤ k → k ≤ 9 → Made number slots k total a b → Makes number slots a b (Ok total)
@@ -59,6 +66,8 @@ made_all number slots k total a b nine le most m = record {
   front = λ told q less. (file_text number q, [], m.done told q (omega arith) less, append-nil (file_text number q));
   count = let is = m.count in omega arith;
   cause = λ e. absurd (cc);
+  counts = m.writes;
+  reads = m.reads;
 }
 
 module _ (number : ℕ) (slots : List ℕ) (k total : ℕ) (a b d : Seen) (nine : AreNine a slots) (lt : k < 9) (m : Made number slots k total a b) where
@@ -103,6 +112,8 @@ module _ (number : ℕ) (slots : List ℕ) (k total : ℕ) (a b d : Seen) (nine 
     ];
     rest = λ q le within. others (Ok n) p q (λ e. omega arith) within ∙ m.rest q (omega arith) within;
     count = counts k total n n_is m.count;
+    writes = λ x. p.counts x ∙ m.writes x;
+    reads = λ x. p.reads x ∙ m.reads x;
   }
     where
       counts : (k total n : ℕ) → n ≡ frame_count k → total ≡ 2500 * (k - 1) → total + n ≡ 2500 * (k + 1 - 1)
@@ -124,4 +135,6 @@ module _ (number : ℕ) (slots : List ℕ) (k total : ℕ) (a b d : Seen) (nine 
     ];
     count = tt;
     cause = λ w. (k, lt, rose_later _ _ _ (m.touches.writes_rise name) ((own (Err e) p).cause (is_fault e (Err e) refl w)));
+    counts = spares_behind {U = ℕ} a b d (Err e) m.writes p.counts;
+    reads = λ x. p.reads x ∙ m.reads x;
   }

@@ -1,7 +1,7 @@
 -- The nine files of a load: the configuration, and then the captures of ports 1 to 8.
 use Rattle.std.specs.Prelude.{◌≡◌, ℕ, zero, suc, ◌<◌, IsTrue, List, [], length, slice_index, Some, Result, IfOk, OnOk, IsErrOf}
-use Rattle.fab_base.specs.Seen.{Seen, Rose, Touches}
-use Rattle.fab_vectors.specs.Files.{HoldsFront}
+use Rattle.fab_base.specs.Seen.{Seen, Rose, SameReadFaults, Touches}
+use Rattle.fab_vectors.specs.Files.{HoldsFront, SparesWrites}
 use Rattle.fab_vectors.specs.Load.{capture}
 use Rattle.fab_vectors.specs.Settings.{config_text}
 use Rattle.fab_vectors.specs.declared.MakeFault.{MakeFault}
@@ -33,10 +33,12 @@ pub record AreNine (d : Seen) (slots : List ℕ) : Type 0 where
   pub empty : IsTrue d.told → (q : ℕ) → q < 9 → d.file (name_at d slots q) ≡ Some []
 
 -- Making a load: each file holds its text, or, where it fails, a beginning of it; no other file changes. A fault of writing comes only where
--- one was counted for one of the nine.
+-- one was counted for one of the nine, and one of reading is never counted.
 pub record Makes (number : ℕ) (slots : List ℕ) (old new : Seen) (result : Result ℕ MakeFault) : Type 0 where
   pub touches : Touches (IsNamed old slots) (IsNamed old slots) old new
   pub whole : IsTrue old.told → OnOk result ((q : ℕ) → q < 9 → new.file (name_at old slots q) ≡ Some (file_text number q))
   pub front : IsTrue old.told → (q : ℕ) → q < 9 → HoldsFront new (name_at old slots q) [] (file_text number q)
   pub count : IfOk result (λ frames. frames ≡ 20000)
   pub cause : IsErrOf result fault.Write → (q : ℕ) × (q < 9) × Rose (old.write_faults (name_at old slots q)) (new.write_faults (name_at old slots q))
+  pub counts : SparesWrites old new result
+  pub reads : SameReadFaults old new
