@@ -15,7 +15,7 @@ pub use parms::{CLASS_3, Feature};
 pub use reading::read_els;
 pub use table::{FDISC, FLOGI, LOGO};
 use thiserror::Error;
-pub use writing::write_els;
+pub use writing::{els_bytes, write_els};
 
 /// The parameters of a login or its accept. What they leave out is written as 0.
 #[derive(Clone, Copy, Debug, PartialEq, Eq)]

@@ -1,5 +1,6 @@
 //! From a payload to bytes.
 ghost use Rattle.std.specs.Prelude.{◌≡◌, ◌≤◌, ◌+◌, ◌++◌, length, List, ℕ, Ok, OnOk, OnErr};
+ghost use Rattle.std.specs.Prelude.{IfOk, vec_len};
 ghost use Rattle.arrayvec.specs.ArrayVec.{array_vec_len};
 ghost use Rattle.fc_frames.specs.Frame.{IsPayload};
 ghost use Rattle.els_messages.specs.Els as spec;
@@ -32,6 +33,18 @@ pub fn write_els(_alloc: Global, els: &Els<'_>, out: &mut Vec<u8>) -> Result<(),
     let bytes = bytes_of(els);
     out.extend_from_slice(&bytes)?;
     Ok(())
+}
+
+/// The bytes of a payload alone.
+pub fn els_bytes(alloc: Global, els: &Els<'_>) -> Result<Vec<u8>, NoMemory>
+    requires { spec.CanWrite (spec.view els.now) }
+    ensures bytes { IfOk result (λ v. v.items ≡ spec.written (spec.view els.now)) }
+    ensures payload { IfOk result (λ v. IsPayload v.items) }
+    ensures size { IfOk result (λ v. vec_len v ≡ spec.written_length (spec.view els.now)) }
+{
+    let mut payload = Vec::new(alloc);
+    write_els(alloc, els, &mut payload)?;
+    Ok(payload)
 }
 
 /// A payload that begins with these bytes.

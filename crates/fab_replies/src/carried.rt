@@ -1,15 +1,15 @@
 //! FC frames in FCoE, of the forwarder's making.
-ghost use Rattle.std.specs.Prelude.{◌≡◌, ◌++◌, ◌≤◌, ◌+◌, IsTrue, length, OnOk, OnErr, IfOk, vec_len};
+ghost use Rattle.std.specs.Prelude.{◌≡◌, ◌++◌, ◌≤◌, IsTrue, length, OnOk, OnErr};
 ghost use Rattle.fc_frames.specs.Frame as fc;
 ghost use Rattle.fcoe_codec.specs.Fcoe as capsule;
 ghost use Rattle.fab_policy.specs.Replies as spec;
 
+use crate::own::write_own;
 use crate::parts::own_tag;
 use eth_frames::FCOE;
 use fab_base::{Mac, NoMemory};
 use fab_config::Config;
-use fab_policy::write_made;
-use fcoe_codec::{FcoeFrame, write_fcoe};
+use fcoe_codec::{FcoeFrame, fcoe_bytes};
 use std::alloc::Global;
 
 // Appends a frame to a MAC.
@@ -30,20 +30,7 @@ pub(crate) fn write_carried(
         ≤ 65535) }
     ensures err { OnErr result (into.new.items ≡ into.old.items) }
 {
-    let body = body_of(alloc, frame)?;
+    let body = fcoe_bytes(alloc, frame)?;
     let tag = Some(own_tag(config));
-    write_made(alloc, config, tag, dst, FCOE, &body, into)
-}
-
-// The body of a frame.
-fn body_of(alloc: Global, frame: &FcoeFrame<'_>) -> Result<Vec<u8>, NoMemory>
-    requires sof { IsTrue (capsule.is_sof frame.now.sof) }
-    requires eof { IsTrue (capsule.is_eof frame.now.eof) }
-    requires payload { fc.IsPayload frame.now.frame.payload.now }
-    ensures bytes { IfOk result (λ v. v.items ≡ capsule.written (capsule.view frame.now)) }
-    ensures size { IfOk result (λ v. vec_len v ≤ 2158) }
-{
-    let mut body = Vec::new(alloc);
-    write_fcoe(alloc, frame, &mut body)?;
-    Ok(body)
+    write_own(alloc, config, tag, dst, FCOE, &body, into)
 }

@@ -4,9 +4,9 @@ ghost use Rattle.fab_policy.specs.Replies as spec;
 ghost use Rattle.fab_replies.specs.Message.{els_of, is_payload};
 
 use crate::carried::write_carried;
-use crate::parts::{answer_bytes, els_bytes, header};
+use crate::parts::{answer_bytes, header};
 use crate::{Answer, Asker};
-use els_messages::Els;
+use els_messages::{Els, els_bytes};
 use fab_base::{FcId, NoMemory, fpma};
 use fab_config::Config;
 use fc_frames::{CONTROLLER, F_CTL_EARLIER, F_CTL_LAST, F_CTL_REQUEST, FcFrame, Kind, NAME_SERVER};

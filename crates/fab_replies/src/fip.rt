@@ -7,15 +7,15 @@ ghost use Rattle.fip_codec.specs.CanWrite.{CanWrite, IsFrame};
 ghost use Rattle.fab_policy.specs.Replies as spec;
 ghost use Rattle.fab_replies.specs.Message.{els_of};
 
-use crate::parts::{answer_bytes, els_bytes, fabric_parms, header, own_tag};
+use crate::own::write_own;
+use crate::parts::{answer_bytes, fabric_parms, header, own_tag};
 use crate::{Answer, Asker};
-use els_messages::Els;
+use els_messages::{Els, els_bytes};
 use eth_frames::FIP;
 use fab_base::{FcId, Mac, NoMemory, PortNo, fpma};
 use fab_config::Config;
-use fab_policy::write_made;
 use fc_frames::{F_CTL_LAST, FcFrame, Kind, write_frame};
-use fip_codec::{FipOut, LoginKind, VxPort, write_fip};
+use fip_codec::{FipOut, LoginKind, VxPort, fip_bytes};
 use std::alloc::Global;
 
 // Appends the accept of a login, with the granted address and its MAC.
@@ -162,7 +162,7 @@ fn reply_frame(alloc: Global, to: Asker, d_id: FcId, payload: &[u8]) -> Result<V
 }
 
 // Appends a message to a MAC.
-fn write_message(
+pub(crate) fn write_message(
     alloc: Global,
     config: &Config,
     dst: Mac,
@@ -176,18 +176,7 @@ fn write_message(
         (spec.made_fip config.now dst (fip.view_out message.now)) ≤ 65535) }
     ensures err { OnErr result (into.new.items ≡ into.old.items) }
 {
-    let body = body_of(alloc, message)?;
+    let body = fip_bytes(alloc, message)?;
     let tag = Some(own_tag(config));
-    write_made(alloc, config, tag, dst, FIP, &body, into)
-}
-
-// The bytes of a message.
-fn body_of(alloc: Global, message: &FipOut<'_>) -> Result<Vec<u8>, NoMemory>
-    requires { CanWrite (fip.view_out message.now) }
-    ensures bytes { IfOk result (λ v. v.items ≡ fip.written (fip.view_out message.now)) }
-    ensures size { IfOk result (λ v. vec_len v ≤ 2030) }
-{
-    let mut body = Vec::new(alloc);
-    write_fip(alloc, message, &mut body)?;
-    Ok(body)
+    write_own(alloc, config, tag, dst, FIP, &body, into)
 }

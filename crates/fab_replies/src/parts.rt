@@ -8,7 +8,7 @@ ghost use Rattle.fc_frames.specs.Kind.{r_ctl_of, type_of};
 ghost use Rattle.fab_replies.specs.Message.{els_of};
 
 use crate::Answer;
-use els_messages::{CLASS_3, Els, Feature, LoginParms, write_els};
+use els_messages::{CLASS_3, Els, Feature, LoginParms, els_bytes};
 use fab_base::{FcId, NoMemory, PortNo, Wwn};
 use fab_config::Config;
 use fc_frames::{FcHeader, Kind, MOST_PAYLOAD, UNASSIGNED};
@@ -115,16 +115,4 @@ pub(crate) fn answer_bytes(
         ),
         Answer::ServerLogin => els_bytes(alloc, &Els::LoginAccept(server_parms(config))),
     }
-}
-
-// The payload of a link service.
-pub(crate) fn els_bytes(alloc: Global, message: &Els<'_>) -> Result<Vec<u8>, NoMemory>
-    requires { els.CanWrite (els.view message.now) }
-    ensures bytes { IfOk result (λ v. v.items ≡ els.written (els.view message.now)) }
-    ensures payload { IfOk result (λ v. IsPayload v.items) }
-    ensures size { IfOk result (λ v. vec_len v ≡ els.written_length (els.view message.now)) }
-{
-    let mut payload = Vec::new(alloc);
-    write_els(alloc, message, &mut payload)?;
-    Ok(payload)
 }

@@ -2,13 +2,14 @@
 ghost use Rattle.std.specs.Prelude.{◌≡◌, ◌++◌, ◌≤◌, length, IsTrue, OnOk, OnErr};
 ghost use Rattle.fab_replies.specs.Message.{bytes_of, can_go_on, can_send, frame_at, sent_on};
 
+use crate::discovery::{write_advertisement, write_advertisement_to, write_notice_to};
 use crate::fcoe::{write_ct, write_service_reply, write_state_change};
 use crate::fip::{write_clear, write_login_accept, write_login_reply};
 use crate::forwarding::write_forwarded;
 use crate::{EventList, Out, OutMessage};
 use fab_base::{FcId, NoMemory};
 use fab_config::Config;
-use fab_policy::{Event, write_advertisement, write_advertisement_to, write_notice_to};
+use fab_policy::Event;
 use std::alloc::Global;
 
 /// Appends the bytes of a frame that is sent, by the entries since the last drain.

@@ -9,14 +9,14 @@ ghost use Rattle.fab_vectors.specs.Frames as spec;
 
 use crate::LOGINS;
 use crate::names::{FORWARDER, TAG, address, granted_mac, well_known};
-use crate::parts::{els_bytes, header, parms};
+use crate::parts::{header, parms};
 use ct_messages::{CtAsk, TypeMap, write_ask};
-use els_messages::Els;
 use els_messages::scr::FULL;
+use els_messages::{Els, els_bytes};
 use eth_frames::{EthFrame, FCOE, write_eth};
 use fab_base::{FcId, NoMemory, PortNo};
 use fc_frames::{CONTROLLER, FCP, FcFrame, FcHeader, Kind, NAME_SERVER};
-use fcoe_codec::{EOF_T, FcoeFrame, SOF_I3, write_fcoe};
+use fcoe_codec::{EOF_T, FcoeFrame, SOF_I3, fcoe_bytes};
 use std::alloc::Global;
 
 /// How many bytes count on: payloads are cut out of them.
@@ -218,7 +218,6 @@ fn body_of(alloc: Global, head: &FcHeader, payload: &[u8]) -> Result<Vec<u8>, No
     })) }
     ensures size { IfOk result (λ v. vec_len v ≤ 2158) }
 {
-    let mut body = Vec::new(alloc);
     let frame = FcoeFrame {
         sof: SOF_I3,
         eof: EOF_T,
@@ -227,6 +226,5 @@ fn body_of(alloc: Global, head: &FcHeader, payload: &[u8]) -> Result<Vec<u8>, No
             payload,
         },
     };
-    write_fcoe(alloc, &frame, &mut body)?;
-    Ok(body)
+    fcoe_bytes(alloc, &frame)
 }

@@ -7,13 +7,13 @@ ghost use Rattle.fip_codec.specs.Message as fip;
 ghost use Rattle.fab_vectors.specs.Frames as spec;
 
 use crate::names::{FORWARDER, TAG, node_mac, node_name, well_known};
-use crate::parts::{els_bytes, header, parms};
-use els_messages::{Els, Feature};
+use crate::parts::{header, parms};
+use els_messages::{Els, Feature, els_bytes};
 use eth_frames::{ALL_FCFS, EthFrame, FIP, write_eth};
 use fab_base::{Mac, NoMemory, PortNo};
 use fc_frames::{FABRIC_PORT, FcFrame, Kind, write_frame};
 use fcoe_codec::MOST_BODY;
-use fip_codec::{FipOut, LoginKind, VxPort, write_fip};
+use fip_codec::{FipOut, LoginKind, VxPort, fip_bytes};
 use std::alloc::Global;
 
 // Appends a VLAN request, which has no tag.
@@ -154,7 +154,7 @@ fn write_message(
     ensures size { OnOk result (length (spec.fip_frame tag dst port (fip.view_out message.now))
         ≤ 65535) }
 {
-    let body = body_of(alloc, message)?;
+    let body = fip_bytes(alloc, message)?;
     let frame = EthFrame {
         dst,
         src: node_mac(port),
@@ -163,15 +163,4 @@ fn write_message(
         body: &body,
     };
     write_eth(alloc, &frame, out)
-}
-
-// The bytes of a message.
-fn body_of(alloc: Global, message: &FipOut<'_>) -> Result<Vec<u8>, NoMemory>
-    requires { CanWrite (fip.view_out message.now) }
-    ensures bytes { IfOk result (λ v. v.items ≡ fip.written (fip.view_out message.now)) }
-    ensures size { IfOk result (λ v. vec_len v ≤ 2030) }
-{
-    let mut body = Vec::new(alloc);
-    write_fip(alloc, message, &mut body)?;
-    Ok(body)
 }

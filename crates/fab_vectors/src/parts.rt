@@ -1,15 +1,12 @@
 //! Headers and payloads of requests.
-ghost use Rattle.std.specs.Prelude.{◌≡◌, IfOk, vec_len};
-ghost use Rattle.els_messages.specs.Els as els;
-ghost use Rattle.fc_frames.specs.Frame.{IsPayload};
+ghost use Rattle.std.specs.Prelude.{◌≡◌};
 ghost use Rattle.fc_frames.specs.Kind.{r_ctl_of, type_of};
 ghost use Rattle.fab_vectors.specs.Frames as spec;
 
 use crate::names::{node_name, port_name};
-use els_messages::{CLASS_3, Els, LoginParms, write_els};
-use fab_base::{FcId, NoMemory, PortNo};
+use els_messages::{CLASS_3, LoginParms};
+use fab_base::{FcId, PortNo};
 use fc_frames::{F_CTL_REQUEST, FcHeader, Kind, MOST_PAYLOAD, UNASSIGNED};
-use std::alloc::Global;
 
 /// The header of a request.
 pub(crate) fn header(kind: Kind, d_id: FcId, s_id: FcId, ox_id: u16) -> FcHeader
@@ -44,16 +41,4 @@ pub(crate) fn parms(features: u16, port: PortNo, login: u8) -> LoginParms
         node_name: node_name(port),
         class3: [CLASS_3, 0, 0, 0, 0, 0, 0, 0, 0, 0, 0, 0, 0, 0, 0, 0],
     }
-}
-
-/// The payload of a link service.
-pub(crate) fn els_bytes(alloc: Global, message: &Els<'_>) -> Result<Vec<u8>, NoMemory>
-    requires { els.CanWrite (els.view message.now) }
-    ensures bytes { IfOk result (λ v. v.items ≡ els.written (els.view message.now)) }
-    ensures payload { IfOk result (λ v. IsPayload v.items) }
-    ensures size { IfOk result (λ v. vec_len v ≡ els.written_length (els.view message.now)) }
-{
-    let mut payload = Vec::new(alloc);
-    write_els(alloc, message, &mut payload)?;
-    Ok(payload)
 }

@@ -12,7 +12,7 @@ use fc_frames::FcFrame;
 pub use laws::{delimiters_have_their_codes, fcoe_is_written, fcoe_reads_back, fcoe_stands_once};
 pub use reading::read_fcoe;
 use thiserror::Error;
-pub use writing::write_fcoe;
+pub use writing::{fcoe_bytes, write_fcoe};
 
 /// A frame and the codes of its delimiters.
 #[derive(Clone, Copy, Debug)]

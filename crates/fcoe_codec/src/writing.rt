@@ -1,6 +1,6 @@
 //! From a frame to bytes.
 ghost use Rattle.std.specs.Prelude.{◌≡◌, ◌≤◌, ◌+◌, ◌++◌, [], ◌∷◌};
-ghost use Rattle.std.specs.Prelude.{IsTrue, length, drop, OnOk, OnErr};
+ghost use Rattle.std.specs.Prelude.{IsTrue, length, drop, IfOk, OnOk, OnErr, vec_len};
 ghost use Rattle.fab_base.specs.Layout.{zeros};
 ghost use Rattle.fc_check.specs.Crc.{crc, crc_bytes as check_bytes};
 ghost use Rattle.fc_frames.specs.Frame as fc;
@@ -31,6 +31,19 @@ pub fn write_fcoe(alloc: Global, frame: &FcoeFrame<'_>, out: &mut Vec<u8>) -> Re
     append_reserved(out, &check);
     append_reserved(out, &[frame.eof, 0, 0, 0]);
     Ok(())
+}
+
+/// The bytes of the body alone.
+pub fn fcoe_bytes(alloc: Global, frame: &FcoeFrame<'_>) -> Result<Vec<u8>, NoMemory>
+    requires sof { IsTrue (spec.is_sof frame.now.sof) }
+    requires eof { IsTrue (spec.is_eof frame.now.eof) }
+    requires payload { fc.IsPayload frame.now.frame.payload.now }
+    ensures bytes { IfOk result (λ v. v.items ≡ spec.written (spec.view frame.now)) }
+    ensures size { IfOk result (λ v. vec_len v ≡ 46 + length frame.now.frame.payload.now) }
+{
+    let mut body = Vec::new(alloc);
+    write_fcoe(alloc, frame, &mut body)?;
+    Ok(body)
 }
 
 /// Version 0, reserved bytes, and the code of the start.

@@ -16,4 +16,4 @@ pub use laws::{a_written_message_is_read_back, the_grammar_is_what_is_decoded};
 pub use lists::{Item, ItemList, VlanList, VxList};
 pub use message::{FipMessage, FipOut, LoginKind, Message, VxPort};
 pub use reading::read_fip;
-pub use writing::write_fip;
+pub use writing::{fip_bytes, write_fip};

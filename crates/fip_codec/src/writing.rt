@@ -1,7 +1,7 @@
 //! Writing a message, in the one way in which the forwarder writes it: reserved bytes are 0, and
 //! the descriptors stand in the order of the table of messages.
 ghost use Rattle.std.specs.Prelude.{◌≡◌, ◌≤◌, ◌+◌, ◌*◌, ◌/◌, ◌++◌};
-ghost use Rattle.std.specs.Prelude.{length, flat_map, vec_len, OnOk, OnErr};
+ghost use Rattle.std.specs.Prelude.{length, flat_map, vec_len, IfOk, OnOk, OnErr};
 ghost use Rattle.arrayvec.specs.ArrayVec.{array_vec_len};
 ghost use Rattle.fip_codec.specs.Message.{view_out, written, head_bytes, flag, priority_bytes};
 ghost use Rattle.fip_codec.specs.Message.{mac_bytes, name_bytes, fabric_bytes, size_bytes};
@@ -343,4 +343,15 @@ pub fn write_fip(_alloc: Global, message: &FipOut<'_>, out: &mut Vec<u8>) -> Res
     append_reserved(out, &head_of(message, &list));
     append_reserved(out, &list);
     Ok(())
+}
+
+/// The bytes of a message alone, the body of its frame.
+pub fn fip_bytes(alloc: Global, message: &FipOut<'_>) -> Result<Vec<u8>, NoMemory>
+    requires { CanWrite (view_out message.now) }
+    ensures bytes { IfOk result (λ v. v.items ≡ written (view_out message.now)) }
+    ensures size { IfOk result (λ v. vec_len v ≤ 2030) }
+{
+    let mut bytes = Vec::new(alloc);
+    write_fip(alloc, message, &mut bytes)?;
+    Ok(bytes)
 }
