@@ -5,10 +5,8 @@ ghost use Rattle.std.specs.Prelude.{◌<◌};
 use case_lines::{put, word_at};
 use fab_base::{Bytes, Caught, PortNo};
 use fab_config::{Config, ConfigError, read_config};
-use fab_policy::{
-    Verdict, frame_rule, hear, write_advertisement, write_advertisement_to, write_frame_line,
-    write_notice_to,
-};
+use fab_policy::{Verdict, frame_rule, hear, write_frame_line};
+use fab_replies::{write_advertisement, write_advertisement_to, write_notice_to};
 use std::alloc::Global;
 use table_cases::say::{end, end_hex};
 use table_cases::words::{CaseFault, hex, mac, name_at, short};
