@@ -145,7 +145,7 @@ front_of (Run k) old new told o holds = run_cases k old new (λ o. HasFront (Run
     (λ fault h. inl h.0)
     (λ port at reason h. elim (h.1 told) [ inl bad ↦ inl bad.0 | inr stopped ↦ inr (stopped_part k old new (faults.Capture port at reason) stopped) ])
     (λ kind h. inr (stopped_part k old new (faults.Limit kind) (h.1 told)))
-    (λ h. elim (h.2 told) [ inl same ↦ inl same | inr part ↦ inr (part_front k old new part) ])
+    (λ h. elim (h.2 told) [ inl config ↦ inl config.0 | inr later ↦ elim later [ inl head ↦ inl head.0 | inr part ↦ inr (part_front k old new part.1) ] ])
     (λ h. h.2 told)
     (λ h. h.1 told)
     o holds

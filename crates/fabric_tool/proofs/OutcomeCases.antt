@@ -133,10 +133,10 @@ whole_front k old new records c = Front c.bytes c.packets (length (classic_bytes
 -- want of memory for the line of an outcome says less than that outcome
 memory_holds : (k : Command) (old new : Seen) (o : Outcome) → Holds k old new o → TakesMemory o → Holds k old new ends.Memory
 memory_holds (Run k) old new o holds takes = run_cases k old new (λ o. TakesMemory o → Holds (Run k) old new ends.Memory)
-    (λ frames entries h takes. (h.0, λ told. inr (ran_part k frames entries old new (h.1 told))))
-    (λ fault h takes. (λ m other. h.0 m, λ told. inl h.0))
-    (λ port at reason h takes. (h.0, λ told. elim (h.1 told) [ inl bad ↦ inl bad.0 | inr stopped ↦ inr (stopped_part k old new (faults.Capture port at reason) stopped) ]))
-    (λ kind h takes. (h.0, λ told. inr (stopped_part k old new (faults.Limit kind) (h.1 told))))
+    (λ frames entries h takes. (h.0, λ told. inr (ran_part k frames entries old new (h.1 told)), h.2))
+    (λ fault h takes. (λ m other. h.0 m, λ told. inl h.0, h.2))
+    (λ port at reason h takes. (h.0, λ told. elim (h.1 told) [ inl bad ↦ inl bad.0 | inr stopped ↦ inr (stopped_part k old new (faults.Capture port at reason) stopped) ], h.2))
+    (λ kind h takes. (h.0, λ told. inr (stopped_part k old new (faults.Limit kind) (h.1 told)), h.2))
     (λ h takes. absurd takes)
     (λ h takes. absurd takes)
     (λ h takes. absurd takes)

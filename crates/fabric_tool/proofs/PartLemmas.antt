@@ -1,6 +1,6 @@
 -- Runs over a part of the records, and files that hold a front of what they are to hold.
-use Rattle.std.proofs.Common.{◌≡◌, ℕ, suc, ◌+◌, ◌≤◌, List, [], ◌∷◌, ◌⊎◌, length, true, if◌then◌else◌, Some, None, refl, sym, ap, ◌∙◌, subst, arith, inl, inr}
-use Rattle.std.specs.Prelude.{map, filter, nat_lt, Bool}
+use Rattle.std.proofs.Common.{◌≡◌, ℕ, zero, suc, ◌+◌, ◌<◌, ◌≤◌, List, [], ◌∷◌, ◌⊎◌, length, true, if◌then◌else◌, Some, None, refl, sym, ap, ◌∙◌, subst, arith, inl, inr}
+use Rattle.std.specs.Prelude.{map, filter, get_or, nat_lt, Bool}
 use Rattle.std.proofs.lemmas.Bool.{lt-ltb}
 use Rattle.std.proofs.lemmas.List.{append-nil}
 use Rattle.fab_base.specs.Seen.{Seen}
@@ -53,10 +53,30 @@ all_fronts old new (name ∷ names) (whole ∷ wholes) are =
     let rest : map (λ n. new.file n) names ≡ map (λ l. Some l) wholes = cc in
     (inr (whole, first, ([], append-nil whole)), all_fronts old new names wholes rest)
 
+-- the file of a port, of files by their names
+at_port : (d : Seen) (names : List (List ℕ)) (g : ℕ → List ℕ) (k : ℕ) → map (λ n. d.file n) names ≡ map (λ l. Some l) (map g (counting k (length names))) → (q : ℕ) → q < length names → d.file (get_or names q []) ≡ Some (g (k + q))
+at_port d [] g k are q lt = absurd (omega arith)
+at_port d (n ∷ names) g k are zero lt =
+    let first : d.file n ≡ Some (g k) = cc in
+    let e : k ≡ k + 0 = omega arith in
+    first ∙ ap (λ (p : ℕ). Some (g p)) e
+at_port d (n ∷ names) g k are (suc q) lt =
+    let rest : map (λ n. d.file n) names ≡ map (λ l. Some l) (map g (counting (k + 1) (length names))) = cc in
+    let e : k + 1 + q ≡ k + suc q = omega arith in
+    at_port d names g (k + 1) rest q (omega arith) ∙ ap (λ (p : ℕ). Some (g p)) e
+
 whole_fronts : (k : RunNames) (c : Settings) (old new : Seen) (J : Journal) → HoldsAll k c new J → HoldsFronts k c old new J
 whole_fronts k c old new J holds = record {
   lines = inr (text J, holds.lines, ([], append-nil (text J)));
   captures = all_fronts old new k.outs (egresses c (length k.outs) J) holds.captures;
+  order = inr (record {
+    before = Some J;
+    begins = ([], refl);
+    order = inl (record {
+      lines_ = (text J, holds.lines, ([], append-nil (text J)));
+      records = λ q lt. let e : 1 + q ≡ q + 1 = omega arith in at_port new k.outs (λ p. egress c (length k.outs) p J) 1 holds.captures q lt ∙ ap (λ (p : ℕ). Some (egress c (length k.outs) p J)) e;
+    });
+  });
 }
 
 whole_part : (k : RunNames) (c : Settings) (opened : List Opened) (old new : Seen) (J : Journal) → HasInputs k old c opened → IsRunOver c (kept_of c opened) J → HoldsAll k c new J → HasFrontPart k old new
@@ -108,5 +128,6 @@ empty_part k c opened old new nothing inputs each =
       files = record {
         lines = elim (each k.journal) [ inl same ↦ inl same | inr empty ↦ inr ([], empty, (text [], refl)) ];
         captures = empty_fronts old new each k.outs (λ p. egress c (length k.outs) p []) 1;
+        order = inl each;
       };
     }

@@ -1,9 +1,9 @@
 -- How `run` ends.
-use Rattle.std.proofs.Common.{◌≡◌, ℕ, suc, ◌+◌, ◌-◌, ◌*◌, ◌<◌, ◌≤◌, List, [], ◌∷◌, ◌⊎◌, length, true, Some, Ok, Err, IsTrue, refl, sym, ap, ◌∙◌, subst, arith, inl, inr}
-use Rattle.std.specs.Prelude.{Result, String, map}
+use Rattle.std.proofs.Common.{◌≡◌, ℕ, zero, suc, ◌+◌, ◌-◌, ◌*◌, ◌<◌, ◌≤◌, List, [], ◌∷◌, ◌⊎◌, length, true, Some, Ok, Err, IsTrue, refl, sym, ap, ◌∙◌, subst, arith, inl, inr}
+use Rattle.std.specs.Prelude.{Result, String, Vec, IsErrOf, map, get_or}
 use Rattle.std.specs.declared.alloc.Global.{Global}
-use Rattle.fab_base.specs.Seen.{Seen, SameFiles, Touches, Nothing, Only}
-use Rattle.fab_base.proofs.SeenLemmas.{touches_trans, touches_wider, reads_touches}
+use Rattle.fab_base.specs.Seen.{Seen, SameFiles, Touches, Nothing, Only, SameWriteFaults}
+use Rattle.fab_base.proofs.SeenLemmas.{rose_later, touches_trans, touches_wider, reads_touches}
 use Rattle.fab_config.specs.Settings.{Settings, is_in_range}
 use Rattle.pcap_file.specs.Capture.{HEAD}
 use Rattle.pcap_file.specs.declared.Budget.{Budget}
@@ -21,28 +21,32 @@ use Rattle.fab_gather.specs.Ports.{slots_of, name_of, NameIn}
 use Rattle.fab_gather.specs.declared.shelf.Input.{Input}
 use Rattle.fab_gather.specs.declared.fault.RunFault.{RunFault}
 use Rattle.fab_gather.specs.declared.fault.RunFault.TheVariants as faults
-use Rattle.fab_windows.specs.Files.{Written, Wholes, Fronts}
-use Rattle.fab_windows.specs.Run.{AreGiven, IsRunOver, Runs, Finished, Stopped, Interrupted, keeps}
+use Rattle.fab_windows.specs.Files.{Written, Wholes, Fronts, HoldsFrom, InOrder, captures, text_so_far, captures_so_far}
+use Rattle.fab_windows.specs.Run.{AreGiven, IsRunOver, Runs, TellsFaults, Finished, Stopped, Interrupted, keeps}
 use Rattle.fab_windows.specs.declared.Done.{Done}
 use Rattle.fab_replay.proofs.OneLemmas.{same_frames}
-use Rattle.fabric_tool.specs.Command.{RunNames, Run, are_pairs, run_of, port_count, input_at, Among, AnyRose, KeepsOthers}
+use Rattle.fabric_tool.specs.Command.{RunNames, Run, are_pairs, run_of, port_count, input_at, Among, AnyRose, NoFaults, KeepsOthers}
 use Rattle.fabric_tool.specs.Ends.{RunHolds}
-use Rattle.fabric_tool.specs.Inputs.{HasConfig, HasInputs, AreOpened, stop_of, kept_of, LIMITS, MOST_BYTES, MOST_FRAMES}
+use Rattle.fabric_tool.specs.Inputs.{HasConfig, HasInputs, IsFirstUnread, AreOpened, stop_of, kept_of, LIMITS, MOST_BYTES, MOST_FRAMES}
 use Rattle.fabric_tool.specs.Left.{HoldsAll, HoldsFronts, AreOldOrFront, HasRun, HasStopped, HasPart, LegalIsSafe}
 use Rattle.fabric_tool.specs.Opening.{AreEmptyOutputs, Opens, ran_by}
 use Rattle.fabric_tool.specs.Preparing.{IsNew}
-use Rattle.fabric_tool.specs.Reading.{AreHeads, ConfigRead, HeadsRead, HeadsEnd}
+use Rattle.fabric_tool.specs.Reading.{TellsReads, AreHeads, ConfigRead, HeadsRead, HeadsEnd}
 use Rattle.fabric_tool.specs.declared.outcome.Outcome.{Outcome}
 use Rattle.fabric_tool.specs.declared.outcome.Outcome.TheVariants as ends
 use Rattle.fabric_tool.proofs.AmongLemmas.{none_among, rose_among, rose_since}
 use Rattle.fabric_tool.proofs.CaptureLemmas.{whole_captures}
 use Rattle.fabric_tool.proofs.GivenLemmas.{outputs_count, written_among, read_among, slots_length, ins_count, outs_count, given}
-use Rattle.fabric_tool.proofs.HeadLemmas.{heads_still, heads_since, heads_count, heads_opened}
+use Rattle.fabric_tool.proofs.HeadLemmas.{not_unread, heads_still, heads_since, heads_count, heads_opened}
 use Rattle.fabric_tool.proofs.NameLemmas.{pairs, inputs_apart, length-counted}
 use Rattle.fabric_tool.proofs.PartLemmas.{empty_part}
 
 le_trans : {x y z : ℕ} → x ≤ y → y ≤ z → x ≤ z
 le_trans {x} {y} {z} h k = omega arith
+
+-- no count has changed in either of two steps
+pub no_faults : (a b d : Seen) → NoFaults a b → NoFaults b d → NoFaults a d
+no_faults a b d x y = (λ m. y.0 m ∙ x.0 m, λ m. y.1 m ∙ x.1 m)
 
 -- ---- before an output is opened
 
@@ -58,10 +62,12 @@ config_touched k old new read = touches_wider Nothing (Only k.config) Nothing (A
 
 pub config_ended : (k : RunNames) (old new : Seen) (x : Outcome) → ConfigRead k.config old new (Err x) → RunHolds k old new x
 config_ended k old new x read = elim read.only [
-  | inl fault ↦ subst (RunHolds k old new) (sym fault.1) (read.reads.files, λ told. read.fault told fault.0 fault.1)
+  | inl fault ↦ subst (RunHolds k old new) (sym fault.1) (read.reads.files, λ told. read.fault told fault.0 fault.1, (read.counts (λ is. let e = fault.1 in absurd (cc)), read.reads.writes))
   | inr other ↦ elim other [
-    | inl failed ↦ subst (RunHolds k old new) (sym failed) (others_same k old new read.reads.files, inl (read.cause (ap (λ (o : Outcome). let r : Result Settings Outcome = Err o in r) failed)), λ told. inl read.reads.files)
-    | inr memory ↦ subst (RunHolds k old new) (sym memory) (others_same k old new read.reads.files, λ told. inl read.reads.files)
+    | inl failed ↦
+        let rose = read.cause (ap (λ (o : Outcome). let r : Result Settings Outcome = Err o in r) failed) in
+        subst (RunHolds k old new) (sym failed) (others_same k old new read.reads.files, inl rose, λ told. inl (read.reads.files, rose), read.reads.writes)
+    | inr memory ↦ subst (RunHolds k old new) (sym memory) (others_same k old new read.reads.files, λ told. inl read.reads.files, (read.counts (λ is. absurd (cc)), read.reads.writes))
   ]
 ]
 
@@ -85,14 +91,32 @@ module _ (k : RunNames) (c : Settings) (old b new : Seen) (config : ConfigRead k
   touched = reads_touches k.config old b config.reads
 
   pub heads_ended : HEAD * length k.ins ≤ MOST_BYTES → (left : Budget) (x : Outcome) → HeadsRead k.ins b new LIMITS left (Err x) → RunHolds k old new x
-  heads_ended room left x read = go x read.ended
+  heads_ended room left x read = go x read.ended read.counts
     where
       same : SameFiles old new
       same m = read.touches.files m (λ y. y) ∙ config.reads.files m
 
-      go : (x : Outcome) → HeadsEnd k.ins MOST_BYTES b new x → RunHolds k old new x
-      go (ends.Capture port at reason) e = (
-        λ m none. same m,
+      writes : SameWriteFaults old new
+      writes m = read.writes m ∙ config.reads.writes m
+
+      none : {x : Outcome} → TellsReads {T = Vec Input Global} b new (Err x) → (IsErrOf {T = Vec Input Global} (Err x) ends.ReadFault → ⊥) → NoFaults old new
+      none tells silent = (λ m. tells silent m ∙ config.counts (not_unread c) m, writes)
+
+      unread : IsFirstUnread k.ins b new MOST_BYTES → IsFirstUnread k.ins old new MOST_BYTES
+      unread f = record {
+        before = f.before;
+        name = f.name;
+        behind = f.behind;
+        are = f.are;
+        opened = f.opened;
+        heads = opened_since old b config.reads.files f.before f.opened f.heads;
+        within = f.within;
+        rose = rose_later _ _ _ (touched.reads_rise f.name) f.rose;
+      }
+
+      go : (x : Outcome) → HeadsEnd k.ins MOST_BYTES b new x → TellsReads {T = Vec Input Global} b new (Err x) → RunHolds k old new x
+      go (ends.Capture port at reason) e tells = (
+        λ m other. same m,
         λ told.
             let f = e.2 (told_b told) in
             inl (
@@ -113,11 +137,17 @@ module _ (k : RunNames) (c : Settings) (old b new : Seen) (config : ConfigRead k
                 };
               },
             ),
+        none tells (λ is. absurd (cc)),
       )
-      go (ends.Limit kind) e = let few = e.1 in absurd (omega arith)
-      go ends.ReadFault e = (λ m none. same m, inr (rose_since old.read_faults b.read_faults new.read_faults touched.reads_rise k.ins e.0), λ told. inl same)
-      go ends.Memory e = (λ m none. same m, λ told. inl same)
-      go x e = absurd e
+      go (ends.Limit kind) e tells = let few = e.1 in absurd (omega arith)
+      go ends.ReadFault e tells = (
+        λ m other. same m,
+        inr (rose_since old.read_faults b.read_faults new.read_faults touched.reads_rise k.ins e.0),
+        λ told. inr (inl (same, record { settings = c; config = config.ok told; first = unread (e.1 (told_b told)) })),
+        writes,
+      )
+      go ends.Memory e tells = (λ m other. same m, λ told. inl same, none tells (λ is. absurd (cc)))
+      go x e tells = absurd e
 
   -- what reading the configuration and the heads changes
   pub inputs_touched : Touches Nothing (Among k.ins) b new → Touches Nothing (Among (k.config ∷ k.ins)) old new
@@ -128,11 +158,15 @@ module _ (k : RunNames) (c : Settings) (old b new : Seen) (config : ConfigRead k
   pub inputs_read : (ins : List Input) → AreHeads b new k.ins ins → AreHeads old new k.ins ins
   inputs_read ins heads = heads_since old b new config.reads.files told_b k.ins ins heads
 
+  -- no fault was counted up to there
+  pub none_yet : NoFaults b new → NoFaults old new
+  none_yet none = no_faults old b new (config.counts (not_unread c), config.reads.writes) none
+
   -- memory is refused
-  pub no_fabric : Touches Nothing (Among k.ins) b new → RunHolds k old new ends.Memory
-  no_fabric heads =
+  pub no_fabric : Touches Nothing (Among k.ins) b new → NoFaults b new → RunHolds k old new ends.Memory
+  no_fabric heads none =
       let same : SameFiles old new = λ m. heads.files m (λ y. y) ∙ config.reads.files m in
-      (λ m none. same m, λ told. inl same)
+      (λ m other. same m, λ told. inl same, none_yet none)
 
 -- a fabric that was made of it
 pub new_as : (words : List (String Global)) (F : Contents) (c : Settings) → F.settings ≡ c → IsTrue (is_in_range c) → F.count ≡ port_count words → F.state ≡ state_of c [] → (F.events ≡ []) × (F.outs ≡ []) → IsNew F (run_of words).ins
@@ -211,6 +245,27 @@ named_still a b may counted k [] (s ∷ slots) are = absurd are
 named_still a b may counted k (n ∷ names) [] are = absurd are
 named_still a b may counted k (n ∷ names) (s ∷ slots) are = ((k.slots s (inr are.0.0)).name ∙ are.0.1, named_still a b may counted k names slots are.1)
 
+named_at : (b : Seen) (names : List (List ℕ)) (slots : List ℕ) → AreNamed b names slots → (q : ℕ) → q < length slots → name_of b slots q ≡ get_or names q []
+named_at b [] [] are q lt = absurd (omega arith)
+named_at b [] (s ∷ slots) are q lt = absurd are
+named_at b (n ∷ names) [] are q lt = absurd are
+named_at b (n ∷ names) (s ∷ slots) are zero lt = are.0
+named_at b (n ∷ names) (s ∷ slots) are (suc q) lt = named_at b names slots are.1 q (omega arith)
+
+-- the order of writing, of the same files by other words
+in_order_as : (d : Seen) (j j' : List ℕ) (n : ℕ) (out out' : ℕ → List ℕ) (w : List ℕ) (v : ℕ → List ℕ) (l : List ℕ) (r : ℕ → List ℕ) → j ≡ j' → ((q : ℕ) → q < n → out q ≡ out' q) → InOrder d j n out w v l r → InOrder d j' n out' w v l r
+in_order_as d j j' n out out' w v l r e same (inl h) = inl (record {
+  lines_ = subst (λ m. HoldsFrom d m w) e h.lines_;
+  records = λ q lt. ap d.file (sym (same q lt)) ∙ h.records q lt;
+})
+in_order_as d j j' n out out' w v l r e same (inr h) = inr (record {
+  lines_ = ap d.file (sym e) ∙ h.lines_;
+  port = h.port;
+  whole = λ q less lt. ap d.file (sym (same q lt)) ∙ h.whole q less lt;
+  part = λ lt. subst (λ m. HoldsFrom d m (v h.port)) (same h.port lt) (h.part lt);
+  behind = λ q above lt. ap d.file (sym (same q lt)) ∙ h.behind q above lt;
+})
+
 -- files that hold what is numbered
 held : (b : Seen) (names : List (List ℕ)) (slots : List ℕ) (g : ℕ → List ℕ) (k : ℕ) → AreNamed b names slots → ((q : ℕ) → q < length slots → b.file (name_of b slots q) ≡ Some (g (k + q))) → map (λ n. b.file n) names ≡ map (λ l. Some l) (map g (counting k (length names)))
 held b [] [] g k are each = refl
@@ -237,7 +292,7 @@ module _ (words : List (String Global)) (run : are_pairs words ≡ true) (c : Se
     (range : IsTrue (is_in_range c)) (safe : LegalIsSafe)
     (config : IsTrue old.told → HasConfig old (run_of words).config c) (inputs : Touches Nothing (Among ((run_of words).config ∷ (run_of words).ins)) old m) (heads : AreHeads old m (run_of words).ins ins)
     (opens : Opens ((run_of words).journal ∷ (run_of words).outs) m a) (outputs : AreEmptyOutputs a ((run_of words).journal ∷ (run_of words).outs) (journal ∷ outs))
-    (bytes : budget.bytes + 24 * length (run_of words).ins ≡ MOST_BYTES) (frames : budget.frames ≡ MOST_FRAMES) where
+    (bytes : budget.bytes + 24 * length (run_of words).ins ≡ MOST_BYTES) (frames : budget.frames ≡ MOST_FRAMES) (quiet : NoFaults old a) where
   abbrev k : RunNames
   k = run_of words
 
@@ -292,11 +347,17 @@ module _ (words : List (String Global)) (run : are_pairs words ≡ true) (c : Se
 
     holds_fronts : (J : Journal) → Fronts c b journal outs J → HoldsFronts k c old b J
     holds_fronts J w = record {
-      lines = inr (w.lines_.0, ap b.file (sym named.0) ∙ w.lines_.1, w.lines_.2);
+      lines = inr (w.hold.lines_.0, ap b.file (sym named.0) ∙ w.hold.lines_.1, w.hold.lines_.2);
       captures = held_fronts old b k.outs outs (λ p. egress c (length k.outs) p J) 1 named.1 (λ q lt.
           let e : q + 1 ≡ 1 + q = omega arith in
-          let h = w.records q lt in
+          let h = w.hold.records q lt in
           (h.0, h.1, subst (λ (n : ℕ). IsPrefixOf h.0 (egress c n (1 + q) J)) count (subst (λ (p : ℕ). IsPrefixOf h.0 (egress c (length outs) p J)) e h.2)));
+      order = inr (record {
+        before = w.before;
+        begins = w.begins;
+        order = in_order_as b (b.name journal) k.journal (length k.outs) (name_of b outs) (λ q. get_or k.outs q []) _ _ _ _ named.0 (λ q lt. named_at b k.outs outs named.1 q (let e = count in omega arith))
+            (subst (λ (n : ℕ). InOrder b (b.name journal) n (name_of b outs) (text_so_far w.before) (captures_so_far c n w.before) (text J) (captures c n J)) count w.hold.order);
+      });
     }
 
     stopped : (e : RunFault) → IsTrue old.told → Stopped c budget opened b journal outs e → HasStopped k e old b
@@ -347,19 +408,33 @@ module _ (words : List (String Global)) (run : are_pairs words ≡ true) (c : Se
       files = holds_fronts i.entry_list i.files;
     }
 
+  -- an end of the windows that tells no fault of the depot
+  silent : (r : Result Done RunFault) → TellsFaults a b r → (r ≡ Err faults.Read → ⊥) → (r ≡ Err faults.Write → ⊥) → NoFaults old b
+  silent r counts read write = no_faults old a b quiet (counts.reads read write, counts.writes write)
+
   pub windows_ended : (r : Result Done RunFault) → Runs c budget ins a b journal outs r → RunHolds k old b (ran_by r)
-  windows_ended (Ok done) r = (others r.touches, λ told. finished r.touches done told (r.ends (told_a told)))
-  windows_ended (Err (faults.Capture port at why)) r = (others r.touches, λ told. inr (stopped r.touches (faults.Capture port at why) told (r.ends (told_a told))))
-  windows_ended (Err (faults.Limit kind)) r = (others r.touches, λ told. stopped r.touches (faults.Limit kind) told (r.ends (told_a told)))
+  windows_ended (Ok done) r = (others r.touches, λ told. finished r.touches done told (r.ends (told_a told)), silent (Ok done) r.counts (λ is. cc) (λ is. cc))
+  windows_ended (Err (faults.Capture port at why)) r = (
+    others r.touches,
+    λ told. inr (stopped r.touches (faults.Capture port at why) told (r.ends (told_a told))),
+    silent (Err (faults.Capture port at why)) r.counts (λ is. cc) (λ is. cc),
+  )
+  windows_ended (Err (faults.Limit kind)) r = (
+    others r.touches,
+    λ told. stopped r.touches (faults.Limit kind) told (r.ends (told_a told)),
+    silent (Err (faults.Limit kind)) r.counts (λ is. cc) (λ is. cc),
+  )
   windows_ended (Err faults.Read) r =
       let rose = r.read refl in
       let l = slots_length words run old a ins journal outs heads_a outputs in
       let lt = rose.1 in
       let among = read_among words run old a ins journal outs heads_a outputs (name_of a (slots_of ins) rose.0) (rose.0, omega arith, refl) in
-      let le = λ (n : List ℕ). le_trans (inputs.reads_rise n) (opens.touches.reads_rise n) in (
+      let le = λ (n : List ℕ). le_trans (inputs.reads_rise n) (opens.touches.reads_rise n) in
+      let unread = rose_since old.read_faults a.read_faults b.read_faults le k.ins (rose_among a.read_faults b.read_faults k.ins (name_of a (slots_of ins) rose.0) among rose.2) in (
         others r.touches,
-        inr (rose_since old.read_faults a.read_faults b.read_faults le k.ins (rose_among a.read_faults b.read_faults k.ins (name_of a (slots_of ins) rose.0) among rose.2)),
-        λ told. inr (interrupted_whole r.touches told (r.ends (told_a told))),
+        inr unread,
+        λ told. inr (inr (unread, interrupted_whole r.touches told (r.ends (told_a told)))),
+        λ m. r.counts.writes (λ is. cc) m ∙ quiet.1 m,
       )
   windows_ended (Err faults.Write) r =
       let rose = r.write refl in
@@ -369,4 +444,4 @@ module _ (words : List (String Global)) (run : are_pairs words ≡ true) (c : Se
         rose_since old.write_faults a.write_faults b.write_faults le (k.journal ∷ k.outs) (rose_among a.write_faults b.write_faults (k.journal ∷ k.outs) rose.0 among rose.2),
         λ told. inr (interrupted_front r.touches told (r.ends (told_a told))),
       )
-  windows_ended (Err faults.Memory) r = (others r.touches, λ told. inr (interrupted_front r.touches told (r.ends (told_a told))))
+  windows_ended (Err faults.Memory) r = (others r.touches, λ told. inr (interrupted_front r.touches told (r.ends (told_a told))), silent (Err faults.Memory) r.counts (λ is. cc) (λ is. cc))

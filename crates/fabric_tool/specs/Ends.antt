@@ -1,7 +1,7 @@
 -- What each ending of a command says of the files, before and after, and of what was printed.
 use Rattle.std.specs.Prelude.{◌≡◌, ℕ, ◌⊎◌, IsTrue, List, ◌++◌, take, Option, Some, None, String}
 use Rattle.std.specs.declared.alloc.Global.{Global}
-use Rattle.fab_base.specs.Seen.{Seen, Rose, SameFiles}
+use Rattle.fab_base.specs.Seen.{Seen, Rose, SameFiles, SameWriteFaults}
 use Rattle.fab_base.specs.Sunk.{Sunk}
 use Rattle.pcapng_file.specs.declared.fault.NgLimit.{NgLimit}
 use Rattle.pcapng_file.specs.declared.fault.NgError.TheVariants as ng
@@ -17,7 +17,7 @@ use Rattle.fabric_tool.specs.Checking.{ReplayHolds, ShowHolds}
 use Rattle.fabric_tool.specs.Load.{MakeHolds}
 use Rattle.fabric_tool.specs.Snooping.{SnoopHolds}
 use Rattle.fabric_tool.specs.Enode.{EnodeHolds}
-use Rattle.fabric_tool.specs.Left.{HasRun, HasStopped, HasWholePart, HasFrontPart}
+use Rattle.fabric_tool.specs.Left.{HasRun, HasStopped, HasFrontPart, IsRunUnread}
 use Rattle.fabric_tool.specs.Outcome.{status_of, line_of, kind_of}
 use Rattle.fabric_tool.specs.declared.outcome.Outcome.{Outcome}
 use Rattle.fabric_tool.specs.declared.outcome.Outcome.TheVariants as ends
@@ -30,15 +30,16 @@ abbrev pub IsCaptureRefused : RunNames → ℕ → ℕ → CapWhy → Seen → S
 IsCaptureRefused k port at why old new =
     (SameFiles old new × (at ≡ 0) × HasBadHead k old port why) ⊎ HasStopped k (faults.Capture port at why) old new
 
--- What holds where `run` ends so. What is said of bytes needs a depot that tells them.
+-- What holds where `run` ends so. What is said of bytes needs a depot that tells them. No fault of the depot is passed over: where it
+-- isn't told, no count of faults has changed.
 abbrev pub RunHolds : RunNames → Seen → Seen → Outcome → Type 0
-RunHolds k old new (ends.Ran frames entries) = KeepsOthers (Run k) old new × (IsTrue old.told → HasRun k frames entries old new)
-RunHolds k old new (ends.Config fault) = SameFiles old new × (IsTrue old.told → HasFault old k.config fault)
-RunHolds k old new (ends.Capture port at why) = KeepsOthers (Run k) old new × (IsTrue old.told → IsCaptureRefused k port at why old new)
-RunHolds k old new (ends.Limit kind) = KeepsOthers (Run k) old new × (IsTrue old.told → HasStopped k (faults.Limit kind) old new)
-RunHolds k old new ends.ReadFault = KeepsOthers (Run k) old new × ReadRose (Run k) old new × (IsTrue old.told → SameFiles old new ⊎ HasWholePart k old new)
+RunHolds k old new (ends.Ran frames entries) = KeepsOthers (Run k) old new × (IsTrue old.told → HasRun k frames entries old new) × NoFaults old new
+RunHolds k old new (ends.Config fault) = SameFiles old new × (IsTrue old.told → HasFault old k.config fault) × NoFaults old new
+RunHolds k old new (ends.Capture port at why) = KeepsOthers (Run k) old new × (IsTrue old.told → IsCaptureRefused k port at why old new) × NoFaults old new
+RunHolds k old new (ends.Limit kind) = KeepsOthers (Run k) old new × (IsTrue old.told → HasStopped k (faults.Limit kind) old new) × NoFaults old new
+RunHolds k old new ends.ReadFault = KeepsOthers (Run k) old new × ReadRose (Run k) old new × (IsTrue old.told → IsRunUnread k old new) × SameWriteFaults old new
 RunHolds k old new ends.WriteFault = KeepsOthers (Run k) old new × WriteRose (Run k) old new × (IsTrue old.told → SameFiles old new ⊎ HasFrontPart k old new)
-RunHolds k old new ends.Memory = KeepsOthers (Run k) old new × (IsTrue old.told → SameFiles old new ⊎ HasFrontPart k old new)
+RunHolds k old new ends.Memory = KeepsOthers (Run k) old new × (IsTrue old.told → SameFiles old new ⊎ HasFrontPart k old new) × NoFaults old new
 RunHolds k old new _ = ⊥
 
 -- The same of `convert`. The output is opened only behind the whole input. Want of memory is no fault of the depot: no count of such

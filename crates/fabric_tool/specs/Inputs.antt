@@ -136,6 +136,12 @@ pub record IsFirstUnread (names : List (List ℕ)) (old new : Seen) (bytes : ℕ
   pub within : HEAD * length before ≤ bytes
   pub rose : Rose (old.read_faults name) (new.read_faults name)
 
+-- The configuration has a value, and of the captures one couldn't be read; those before it have heads.
+pub record IsHeadUnread (k : RunNames) (old new : Seen) : Type 0 where
+  pub settings : Settings
+  pub config : HasConfig old k.config settings
+  pub first : IsFirstUnread k.ins old new MOST_BYTES
+
 -- The configuration has a value, and that port's capture is the first without a head.
 pub record HasBadHead (k : RunNames) (d : Seen) (port : ℕ) (reason : CapWhy) : Type 0 where
   pub settings : Settings

@@ -1,6 +1,6 @@
 -- What `run` leaves in its outputs.
-use Rattle.std.specs.Prelude.{◌≡◌, ℕ, List, [], ◌∷◌, length, map, Some, None, true, false, IsTrue}
-use Rattle.fab_base.specs.Seen.{Seen}
+use Rattle.std.specs.Prelude.{◌≡◌, ℕ, ◌⊎◌, List, [], ◌∷◌, length, map, get_or, Option, Some, None, true, false, IfSome, IsTrue}
+use Rattle.fab_base.specs.Seen.{Seen, Rose, SameFiles}
 use Rattle.fab_base.specs.declared.values.Caught.{Caught}
 use Rattle.fab_config.specs.Settings.{Settings, is_in_range}
 use Rattle.fab_policy.specs.Forwarding.{is_data_frame, forwards, IsForwardedTo, IsDroppedBy}
@@ -20,10 +20,11 @@ use Rattle.fab_policy.specs.declared.event.Event.TheVariants.{Frame}
 use Rattle.fab_policy.specs.declared.verdict.Verdict.{Verdict}
 use Rattle.fab_policy.specs.declared.verdict.Verdict.TheVariants.{Granted}
 use Rattle.fab_gather.specs.declared.fault.RunFault.{RunFault}
+use Rattle.fab_windows.specs.Files.{GoesOn, InOrder, captures, text_so_far, captures_so_far}
 use Rattle.fab_windows.specs.Run.{IsRunOver}
 pub use Rattle.snoop_run.specs.Bridged.{IsOldOrFront, AreOldOrFront}
-use Rattle.fabric_tool.specs.Command.{RunNames}
-use Rattle.fabric_tool.specs.Inputs.{AreCaptures, HasInputs, StopsBy, stop_of, kept_of}
+use Rattle.fabric_tool.specs.Command.{RunNames, AnyRose}
+use Rattle.fabric_tool.specs.Inputs.{AreCaptures, HasInputs, IsHeadUnread, StopsBy, stop_of, kept_of}
 
 -- ---- files
 
@@ -32,10 +33,22 @@ pub record HoldsAll (k : RunNames) (c : Settings) (d : Seen) (J : Journal) : Typ
   pub lines : d.file k.journal ≡ Some (text J)
   pub captures : map (λ n. d.file n) k.outs ≡ map (λ l. Some l) (egresses c (length k.outs) J)
 
--- each output is as it was, or holds a front of the text of this journal or of its capture
+-- nothing was written: each file is as it was, or empty
+abbrev pub AreUnwritten : Seen → Seen → Type 0
+AreUnwritten old new = (m : List ℕ) → (new.file m ≡ old.file m) ⊎ (new.file m ≡ Some [])
+
+-- The journal and then the outputs were written in port order, from nothing or from the whole text and the captures of an earlier
+-- journal, so that no output is ahead of a journal that isn't whole.
+pub record AreInOrder (k : RunNames) (c : Settings) (d : Seen) (J : Journal) : Type 0 where
+  pub before : Option Journal
+  pub begins : IfSome before (λ I. GoesOn I J)
+  pub order : InOrder d k.journal (length k.outs) (λ q. get_or k.outs q []) (text_so_far before) (captures_so_far c (length k.outs) before) (text J) (captures c (length k.outs) J)
+
+-- each output is as it was, or holds a front of the text of this journal or of its capture, written in order
 pub record HoldsFronts (k : RunNames) (c : Settings) (old new : Seen) (J : Journal) : Type 0 where
   pub lines : IsOldOrFront old new k.journal (text J)
   pub captures : AreOldOrFront old new k.outs (egresses c (length k.outs) J)
+  pub order : AreUnwritten old new ⊎ AreInOrder k c new J
 
 -- ---- a safe journal
 
@@ -110,3 +123,12 @@ HasWholePart k old new = HasPart k old (λ c J. HoldsAll k c new J)
 
 abbrev pub HasFrontPart : RunNames → Seen → Seen → Type 0
 HasFrontPart k old new = HasPart k old (λ c J. HoldsFronts k c old new J)
+
+-- Which input of `run` couldn't be read, where what is read before it has its form: the configuration, or a capture behind those of
+-- lower ports, and no file has changed; or, behind the heads of all captures, a capture while the windows go by, and the outputs hold a
+-- run over the windows before some moment.
+abbrev pub IsRunUnread : RunNames → Seen → Seen → Type 0
+IsRunUnread k old new =
+    (SameFiles old new × Rose (old.read_faults k.config) (new.read_faults k.config))
+    ⊎ ((SameFiles old new × IsHeadUnread k old new)
+    ⊎ (AnyRose old.read_faults new.read_faults k.ins × HasWholePart k old new))

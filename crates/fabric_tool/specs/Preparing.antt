@@ -1,11 +1,11 @@
 -- What `run` does before it opens an output.
-use Rattle.std.specs.Prelude.{◌≡◌, ℕ, ◌+◌, ◌*◌, IsTrue, List, [], ◌∷◌, length, Result, IfOk, IfErr}
+use Rattle.std.specs.Prelude.{◌≡◌, ℕ, ◌+◌, ◌*◌, IsTrue, List, [], ◌∷◌, length, Result, IfOk, IfErr, OnOk}
 use Rattle.fab_base.specs.Seen.{Seen, Touches, Nothing}
 use Rattle.fab_config.specs.Settings.{is_in_range}
 use Rattle.pcap_file.specs.Capture.{HEAD}
 use Rattle.fab_policy.specs.Outputs.{state_of}
 use Rattle.fab_policy.specs.Standing.{Contents}
-use Rattle.fabric_tool.specs.Command.{RunNames, Among}
+use Rattle.fabric_tool.specs.Command.{RunNames, Among, NoFaults}
 use Rattle.fabric_tool.specs.Ends.{RunHolds}
 use Rattle.fabric_tool.specs.Inputs.{HasConfig, MOST_BYTES, MOST_FRAMES}
 use Rattle.fabric_tool.specs.Reading.{AreHeads}
@@ -20,7 +20,7 @@ pub record IsNew (F : Contents) (ports : List (List ℕ)) : Type 0 where
   pub nothing : (F.events ≡ []) × (F.outs ≡ [])
 
 -- The configuration and the heads of all captures were read, and a fabric of that configuration was made, or the command ends so.
--- Whichever it is, no file has changed, and no count but those of these names.
+-- Whichever it is, no file has changed, and no count but those of these names; none at all where the fabric was made.
 pub record IsPrepared (k : RunNames) (old new : Seen) (result : Result Prepared Outcome) : Type 0 where
   pub touches : Touches Nothing (Among (k.config ∷ k.ins)) old new
   pub fabric : IfOk result (λ p. IsNew p.fabric k.ins)
@@ -28,3 +28,4 @@ pub record IsPrepared (k : RunNames) (old new : Seen) (result : Result Prepared 
   pub heads : IfOk result (λ p. AreHeads old new k.ins p.ins.items)
   pub left : IfOk result (λ p. (p.budget.bytes + HEAD * length k.ins ≡ MOST_BYTES) × (p.budget.frames ≡ MOST_FRAMES))
   pub ended : IfErr result (RunHolds k old new)
+  pub counts : OnOk result (NoFaults old new)

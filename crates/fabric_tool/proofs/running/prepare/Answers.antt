@@ -2,7 +2,8 @@ use Rattle.std.proofs.Common.{sym, ◌∙◌, subst}
 use Rattle.fab_config.specs.Settings.{Settings}
 use Rattle.fabric_tool.specs.Command.{run_of}
 use Rattle.fabric_tool.specs.Inputs.{HasConfig}
-use Rattle.fabric_tool.proofs.RanLemmas.{config_as, config_touched, config_ended, room_in, heads_ended, inputs_touched, inputs_read, no_fabric, new_as}
+use Rattle.fabric_tool.proofs.RanLemmas.{config_as, config_touched, config_ended, room_in, heads_ended, inputs_touched, inputs_read, none_yet, no_fabric, new_as}
+use Rattle.fabric_tool.proofs.HeadLemmas.{not_unread}
 use Rattle.fabric_tool.proofs.running.prepare.Goals as goal
 
 pub returns-in-Err : goal.returns-in-Err
@@ -18,6 +19,7 @@ returns-in-Err g c =
         heads = tt;
         left = tt;
         ended = config_ended k (seen c.args.depot.now) (seen c.config_of.new.depot) c.in-Err.outcome read;
+        counts = tt;
       };
     }
 
@@ -38,6 +40,7 @@ returns-in-Err-heads_of g c =
         heads = tt;
         left = tt;
         ended = heads_ended k c.in-Ok.config old b m read (room_in c.args.words.now c.requires.run) _ c.in-Err-heads_of.outcome heads;
+        counts = tt;
       };
     }
 
@@ -59,6 +62,7 @@ returns-in-Ok-new g c =
         heads = inputs_read k c.in-Ok.config old b m read c.in-Ok-heads_of.ins.items heads.heads;
         left = heads.taken;
         ended = tt;
+        counts = none_yet k c.in-Ok.config old b m read (heads.counts (not_unread c.in-Ok-heads_of.ins), heads.writes);
       };
     }
 
@@ -70,14 +74,15 @@ returns-in-Err-new g c =
     let b = seen c.config_of.new.depot in
     let m = seen c.heads_of.new.depot in
     let read = config_as c.word_at.ensures c.in-Ok.ensures.reads in
-    let touches = c.in-Ok-heads_of.ensures.reads.touches in
+    let heads = c.in-Ok-heads_of.ensures.reads in
     record {
       prepares = record {
-        touches = inputs_touched k c.in-Ok.config old b m read touches;
+        touches = inputs_touched k c.in-Ok.config old b m read heads.touches;
         fabric = tt;
         config = λ told. tt;
         heads = tt;
         left = tt;
-        ended = no_fabric k c.in-Ok.config old b m read touches;
+        ended = no_fabric k c.in-Ok.config old b m read heads.touches (heads.counts (not_unread c.in-Ok-heads_of.ins), heads.writes);
+        counts = tt;
       };
     }
