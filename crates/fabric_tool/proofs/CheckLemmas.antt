@@ -1,8 +1,8 @@
 -- How the check of `replay` and of `show` ends.
-use Rattle.std.proofs.Common.{◌≡◌, ℕ, zero, suc, ◌+◌, ◌-◌, ◌*◌, ◌<◌, ◌≤◌, List, [], ◌∷◌, ◌++◌, length, get_or, true, Some, Ok, Err, IsTrue, refl, sym, ap, ◌∙◌, subst, arith, inl, inr}
+use Rattle.std.proofs.Common.{◌≡◌, ◌≢◌, ℕ, zero, suc, ◌+◌, ◌-◌, ◌*◌, ◌<◌, ◌≤◌, List, [], ◌∷◌, ◌++◌, length, get_or, true, Some, Ok, Err, IsTrue, refl, sym, ap, ◌∙◌, subst, arith, inl, inr}
 use Rattle.std.specs.Prelude.{Result, String}
 use Rattle.std.specs.declared.alloc.Global.{Global}
-use Rattle.fab_base.specs.Seen.{Seen, SameFiles, Touches, Nothing, bytes_of}
+use Rattle.fab_base.specs.Seen.{Seen, SameFiles, SameWriteFaults, Touches, Nothing, bytes_of}
 use Rattle.fab_base.proofs.SeenLemmas.{rose_later}
 use Rattle.fab_config.specs.Settings.{Settings}
 use Rattle.pcap_file.specs.Capture.{HEAD}
@@ -15,18 +15,19 @@ use Rattle.fab_gather.specs.declared.shelf.Input.{Input}
 use Rattle.fab_gather.specs.declared.fault.RunFault.{RunFault}
 use Rattle.fab_replay.specs.Outputs.{IsCompared}
 use Rattle.fab_replay.specs.Check.{Matter, NamesRun, IsAccepted, IsFirstOutput, IsFirstStop, Says, Checks, matter_in, sent_on}
+use Rattle.fab_replay.specs.Counts as counts
 use Rattle.fab_replay.specs.declared.fault.CheckFault.{CheckFault}
 use Rattle.fab_replay.specs.declared.fault.CheckFault.TheVariants as checks
 use Rattle.fabric_tool.specs.Checking.{budget_of, output_in, matter_of, HasMatter, HasGiven, Finds, IsStanding, IsUnread, IsChecked, AreOpenInputs, command_of, refused_by}
-use Rattle.fabric_tool.specs.Command.{Among, AnyRose, ReadRose, are_ports, names_of, ins_of, count_of, input_of}
+use Rattle.fabric_tool.specs.Command.{Among, AnyRose, ReadRose, NoFaults, are_ports, names_of, ins_of, count_of, input_of}
 use Rattle.fabric_tool.specs.Inputs.{AreOpened, MOST_BYTES, MOST_FRAMES}
 use Rattle.fabric_tool.specs.Reading.{AreHeads, HeadsRead, HeadsEnd}
 use Rattle.fabric_tool.specs.declared.command.Width.{Width}
 use Rattle.fabric_tool.specs.declared.command.Width.TheVariants as widths
 use Rattle.fabric_tool.specs.declared.outcome.Outcome.{Outcome}
 use Rattle.fabric_tool.specs.declared.outcome.Outcome.TheVariants as ends
-use Rattle.fabric_tool.proofs.AmongLemmas.{rose_among, rose_since}
-use Rattle.fabric_tool.proofs.HeadLemmas.{heads_opened, heads_since}
+use Rattle.fabric_tool.proofs.AmongLemmas.{rose_among, rose_since, none_then}
+use Rattle.fabric_tool.proofs.HeadLemmas.{heads_opened, heads_since, unread_is}
 use Rattle.fabric_tool.proofs.JournalLemmas.{outs_count}
 use Rattle.fabric_tool.proofs.NameLemmas.{length-counted}
 use Rattle.fabric_tool.proofs.RanLemmas.{opened_since}
@@ -118,13 +119,13 @@ module _ (w : Width) (words : List (String Global)) (run : are_ports w words ≡
 
   -- a head can't be read
   pub heads_ended : length journal ≤ MOST_BYTES → (z : Seen) (frames : ℕ) (left : Budget) (x : Outcome) → HeadsRead (ins_of w words) b z (record { bytes = MOST_BYTES - length journal; frames = frames }) left (Err x) → IsChecked w (names_of w words) a z (Err x)
-  heads_ended room z frames left x read = go x read.ended
+  heads_ended room z frames left x read = go x read.ended (λ other. none_then a b z given.counts (read.counts (λ is. other (unread_is x is)), read.writes))
     where
       same : SameFiles a z
       same m = read.touches.files m (λ y. y) ∙ files_b m
 
-      go : (x : Outcome) → HeadsEnd (ins_of w words) (MOST_BYTES - length journal) b z x → IsChecked w (names_of w words) a z (Err x)
-      go (ends.Capture port at reason) e = (
+      go : (x : Outcome) → HeadsEnd (ins_of w words) (MOST_BYTES - length journal) b z x → (x ≢ ends.ReadFault → NoFaults a z) → IsChecked w (names_of w words) a z (Err x)
+      go (ends.Capture port at reason) e none = (
         same,
         λ told.
             let f = e.2 (told_b told) in
@@ -150,8 +151,9 @@ module _ (w : Width) (words : List (String Global)) (run : are_ports w words ≡
                 within = (let up_to = e.1 in omega arith);
               },
             ),
+        none (λ is. cc),
       )
-      go (ends.Limit kind) e = (
+      go (ends.Limit kind) e none = (
         same,
         λ told.
             let f = e.2 (told_b told) in
@@ -173,8 +175,9 @@ module _ (w : Width) (words : List (String Global)) (run : are_ports w words ≡
                 };
               },
             ),
+        none (λ is. cc),
       )
-      go ends.ReadFault e = (
+      go ends.ReadFault e none = (
         same,
         rose_of w words a z (rose_front a.read_faults z.read_faults (ins_of w words) (names_of w words).outs (rose_since a.read_faults b.read_faults z.read_faults given.touches.reads_rise (ins_of w words) e.0)),
         λ told.
@@ -196,9 +199,10 @@ module _ (w : Width) (words : List (String Global)) (run : are_ports w words ≡
                 rose = rose_later _ _ _ (given.touches.reads_rise f.name) f.rose;
               };
             }))),
+        λ m. read.writes m ∙ given.counts.1 m,
       )
-      go ends.Memory e = same
-      go x e = absurd e
+      go ends.Memory e none = (same, none (λ is. cc))
+      go x e none = absurd e
 
   module _ (m : Seen) (ins : List Input) (had left : Budget) (heads : AreHeads b m (ins_of w words) ins) (touched : Touches Nothing (Among (ins_of w words)) b m)
       (taken : (left.bytes + HEAD * length (ins_of w words) ≡ had.bytes) × (left.frames ≡ had.frames)) (had_bytes : had.bytes ≡ MOST_BYTES - length journal) (had_frames : had.frames ≡ MOST_FRAMES) (room : length journal ≤ MOST_BYTES) where
@@ -229,10 +233,10 @@ module _ (w : Width) (words : List (String Global)) (run : are_ports w words ≡
     )))
 
     -- an output can't be opened
-    pub outs_ended : (z : Seen) → Touches Nothing (Among (names_of w words).outs) m z → AnyRose m.read_faults z.read_faults (names_of w words).outs → IsChecked w (names_of w words) a z (Err ends.ReadFault)
-    outs_ended z more rose =
+    pub outs_ended : (z : Seen) → Touches Nothing (Among (names_of w words).outs) m z → AnyRose m.read_faults z.read_faults (names_of w words).outs → SameWriteFaults a z → IsChecked w (names_of w words) a z (Err ends.ReadFault)
+    outs_ended z more rose writes =
         let any = rose_back a.read_faults z.read_faults (ins_of w words) (names_of w words).outs (rose_since a.read_faults m.read_faults z.read_faults rise_m (names_of w words).outs rose) in
-        (λ n. more.files n (λ x. x) ∙ files_m n, rose_of w words a z any, unread_behind m z (heads_since a b m files_b told_b (ins_of w words) ins heads) any)
+        (λ n. more.files n (λ x. x) ∙ files_m n, rose_of w words a z any, unread_behind m z (heads_since a b m files_b told_b (ins_of w words) ins heads) any, writes)
 
     module _ (o : Seen) (slots : List ℕ) (opened : Touches Nothing (Among (names_of w words).outs) m o) (outs : AreOpenInputs m o (names_of w words).outs slots) where
       files_o : SameFiles a o
@@ -242,8 +246,8 @@ module _ (w : Width) (words : List (String Global)) (run : are_ports w words ≡
       told_o told = subst IsTrue (sym opened.told) (told_m told)
 
       -- memory is refused for the fabric
-      pub no_fabric : IsChecked w (names_of w words) a o (Err ends.Memory)
-      no_fabric = files_o
+      pub no_fabric : NoFaults a o → IsChecked w (names_of w words) a o (Err ends.Memory)
+      no_fabric none = (files_o, none)
 
       heads_a : AreHeads a o (ins_of w words) ins
       heads_a = heads_since a b o files_b told_b (ins_of w words) ins (heads_on w words run b m o ins heads slots opened outs)
@@ -276,7 +280,7 @@ module _ (w : Width) (words : List (String Global)) (run : are_ports w words ≡
       same_found : IsTrue a.told → (q : ℕ) → q < length slots → output_in (names_of w words) a q ≡ o.left (slot_at slots q)
       same_found told q lt = found_there a o (names_of w words).outs slots q lt told outs_a
 
-      module _ (z : Seen) (F : Contents) (settings : F.settings ≡ c) (r : Result ℕ CheckFault) (all : Checks c left ins slots journal o z F r) where
+      module _ (z : Seen) (F : Contents) (settings : F.settings ≡ c) (r : Result ℕ CheckFault) (all : Checks c left ins slots journal o z F r) (none : NoFaults a o) (tells : counts.TellsFaults o z r) where
         same : SameFiles a z
         same n = all.touches.files n (λ x. x) ∙ files_o n
 
@@ -286,8 +290,12 @@ module _ (w : Width) (words : List (String Global)) (run : are_ports w words ≡
         rise_o : (n : List ℕ) → a.read_faults n ≤ o.read_faults n
         rise_o n = let one = rise_m n in let two = opened.reads_rise n in omega arith
 
+        -- no fault was counted but one that is told
+        spared : (e : CheckFault) → r ≡ Err e → e ≢ checks.Read → NoFaults a z
+        spared e is other = none_then a o z none (tells.reads (λ read. let same : e ≡ checks.Read = cc in other same), tells.writes)
+
         pub check_done : (entries : ℕ) → r ≡ Ok entries → IsChecked w (names_of w words) a z (Ok (F, entries))
-        check_done entries is = (same, λ told. finds (IsStanding F entries) told (standing_on c left (matter_in o ins journal slots) (output_in (names_of w words) a) (same_found told) F entries settings (subst (Says c left (matter_in o ins journal slots) F) is (says told))))
+        check_done entries is = (same, λ told. finds (IsStanding F entries) told (standing_on c left (matter_in o ins journal slots) (output_in (names_of w words) a) (same_found told) F entries settings (subst (Says c left (matter_in o ins journal slots) F) is (says told))), none_then a o z none (tells.reads (λ read. cc), tells.writes))
 
         any_rose : r ≡ Err checks.Read → AnyRose a.read_faults z.read_faults (ins_of w words ++ (names_of w words).outs)
         any_rose is =
@@ -297,9 +305,9 @@ module _ (w : Width) (words : List (String Global)) (run : are_ports w words ≡
             rose_since a.read_faults o.read_faults z.read_faults rise_o names (rose_among o.read_faults z.read_faults names (name_of o (slots_of ins ++ slots) at.0) among at.2)
 
         pub check_refused : (e : CheckFault) → r ≡ Err e → IsChecked w (names_of w words) a z (Err (refused_by e))
-        check_refused (checks.Line line why) is = (same, λ told. finds _ told (subst (Says c left (matter_in o ins journal slots) F) is (says told)))
-        check_refused (checks.Output port at) is = (same, λ told. finds _ told (output_on c left (matter_in o ins journal slots) (output_in (names_of w words) a) (same_found told) port at (subst (Says c left (matter_in o ins journal slots) F) is (says told))))
-        check_refused (checks.Capture port at why) is = (same, λ told. inr (finds _ told (stop_on c left (matter_in o ins journal slots) (output_in (names_of w words) a) (same_found told) _ (subst (Says c left (matter_in o ins journal slots) F) is (says told)))))
-        check_refused (checks.Limit kind) is = (same, λ told. inr (finds _ told (stop_on c left (matter_in o ins journal slots) (output_in (names_of w words) a) (same_found told) _ (subst (Says c left (matter_in o ins journal slots) F) is (says told)))))
-        check_refused checks.Read is = (same, rose_of w words a z (any_rose is), unread_behind o z heads_a (any_rose is))
-        check_refused checks.Memory is = same
+        check_refused (checks.Line line why) is = (same, λ told. finds _ told (subst (Says c left (matter_in o ins journal slots) F) is (says told)), spared (checks.Line line why) is (λ e. cc))
+        check_refused (checks.Output port at) is = (same, λ told. finds _ told (output_on c left (matter_in o ins journal slots) (output_in (names_of w words) a) (same_found told) port at (subst (Says c left (matter_in o ins journal slots) F) is (says told))), spared (checks.Output port at) is (λ e. cc))
+        check_refused (checks.Capture port at why) is = (same, λ told. inr (finds _ told (stop_on c left (matter_in o ins journal slots) (output_in (names_of w words) a) (same_found told) _ (subst (Says c left (matter_in o ins journal slots) F) is (says told)))), spared (checks.Capture port at why) is (λ e. cc))
+        check_refused (checks.Limit kind) is = (same, λ told. inr (finds _ told (stop_on c left (matter_in o ins journal slots) (output_in (names_of w words) a) (same_found told) _ (subst (Says c left (matter_in o ins journal slots) F) is (says told)))), spared (checks.Limit kind) is (λ e. cc))
+        check_refused checks.Read is = (same, rose_of w words a z (any_rose is), unread_behind o z heads_a (any_rose is), λ m. tells.writes m ∙ none.1 m)
+        check_refused checks.Memory is = (same, spared checks.Memory is (λ e. cc))

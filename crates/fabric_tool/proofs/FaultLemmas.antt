@@ -15,7 +15,7 @@ use Rattle.fab_replay.specs.declared.fault.CheckFault.TheVariants as checks
 use Rattle.fab_replay.specs.declared.fault.LineWhy.{LineWhy}
 use Rattle.fab_replay.specs.declared.fault.LineWhy.TheVariants as lines
 use Rattle.fab_replay.proofs.ExactLemmas.{answer_is_one}
-use Rattle.fabric_tool.specs.Command.{RunNames, Replay, Show}
+use Rattle.fabric_tool.specs.Command.{RunNames, Replay, Show, NoFaults}
 use Rattle.fabric_tool.specs.Checking.{CheckSays, Finds, IsHeadRefused, IsLongJournal, ReplayHolds, ShowHolds, budget_of, matter_of, refused_by}
 use Rattle.fabric_tool.specs.Inputs.{HasFault, MOST_BYTES}
 use Rattle.fabric_tool.specs.Outcome.{line_of, status_of}
@@ -135,20 +135,20 @@ module _ (k : RunNames) (d : Seen) where
 
   module _ (new : Seen) (before after : Sunk) (told : IsTrue d.told) where
     -- a refusal beside a run
-    replay_refused : (p : Outcome) → IsRefusal p → SameFiles d new → CheckSays k d p → ReplayHolds k d new p
-    replay_refused (ends.WrongLine line why) is files says = (files, λ told. says)
-    replay_refused (ends.WrongOutput port at) is files says = (files, λ told. says)
-    replay_refused (ends.Config fault) is files says = (files, λ told. says)
-    replay_refused (ends.Capture port at why) is files says = (files, λ told. says)
-    replay_refused (ends.Limit kind) is files says = (files, λ told. says)
-    replay_refused p is files says = absurd is
+    replay_refused : (p : Outcome) → IsRefusal p → SameFiles d new → CheckSays k d p → NoFaults d new → ReplayHolds k d new p
+    replay_refused (ends.WrongLine line why) is files says none = (files, λ told. says, none)
+    replay_refused (ends.WrongOutput port at) is files says none = (files, λ told. says, none)
+    replay_refused (ends.Config fault) is files says none = (files, λ told. says, none)
+    replay_refused (ends.Capture port at why) is files says none = (files, λ told. says, none)
+    replay_refused (ends.Limit kind) is files says none = (files, λ told. says, none)
+    replay_refused p is files says none = absurd is
 
     no_refusal : (p q : Outcome) → IsRefusal p → (p ≡ q) ⊎ (p ≡ ends.Memory) → (IsRefusal q → ⊥) → ⊥
     no_refusal p q is (inl same) none = none (subst IsRefusal same is)
     no_refusal p q is (inr memory) none = subst IsRefusal memory is
 
     replay_ends : IsQuiet (Replay k) d new before after → (o p : Outcome) → IsRefusal p → CheckSays k d p → ReplayHolds k d new o → PrintsAlike o p ⊎ (o ≡ ends.Memory)
-    replay_ends quiet (ends.Legal entries) p is says h = absurd (no_refusal p (ends.Legal entries) is (only_legal k d entries (h.1 told) new told p (replay_refused p is h.0 says) quiet.reads) (λ x. x))
+    replay_ends quiet (ends.Legal entries) p is says h = absurd (no_refusal p (ends.Legal entries) is (only_legal k d entries (h.1 told) new told p (replay_refused p is h.0 says h.2) quiet.reads) (λ x. x))
     replay_ends quiet (ends.WrongLine line why) p is says h = inl (one_refusal (ends.WrongLine line why) p tt is (h.1 told) says)
     replay_ends quiet (ends.WrongOutput port at) p is says h = inl (one_refusal (ends.WrongOutput port at) p tt is (h.1 told) says)
     replay_ends quiet (ends.Config fault) p is says h = inl (one_refusal (ends.Config fault) p tt is (h.1 told) says)
@@ -172,22 +172,22 @@ module _ (k : RunNames) (d : Seen) where
     IsShowRefusal (ends.WrongOutput port at) = ⊥
     IsShowRefusal o = IsRefusal o
 
-    show_refused : (p : Outcome) → IsShowRefusal p → SameFiles d new → CheckSays k d p → IsRefusal p × ShowHolds k d new p
-    show_refused (ends.WrongLine line why) is files says = (tt, (files, λ told. says))
-    show_refused (ends.Config fault) is files says = (tt, (files, λ told. says))
-    show_refused (ends.Capture port at why) is files says = (tt, (files, λ told. says))
-    show_refused (ends.Limit kind) is files says = (tt, (files, λ told. says))
-    show_refused p is files says = absurd is
+    show_refused : (p : Outcome) → IsShowRefusal p → SameFiles d new → CheckSays k d p → NoFaults d new → IsRefusal p × ShowHolds k d new p
+    show_refused (ends.WrongLine line why) is files says none = (tt, (files, λ told. says, none))
+    show_refused (ends.Config fault) is files says none = (tt, (files, λ told. says, none))
+    show_refused (ends.Capture port at why) is files says none = (tt, (files, λ told. says, none))
+    show_refused (ends.Limit kind) is files says none = (tt, (files, λ told. says, none))
+    show_refused p is files says none = absurd is
 
     show_ends : IsQuiet (Show k) d new before after → (o p : Outcome) → IsShowRefusal p → CheckSays k d p → ShowHolds k d new o → PrintsAlike o p ⊎ (o ≡ ends.Memory)
     show_ends quiet (ends.Shown text) p is says h =
-        let r = show_refused p is h.0 says in
+        let r = show_refused p is h.0 says h.2 in
         absurd (no_refusal p (ends.Shown text) r.0 (only_shown k d text (h.1 told) new told p r.1 quiet.reads) (λ x. x))
-    show_ends quiet (ends.WrongLine line why) p is says h = inl (one_refusal (ends.WrongLine line why) p tt (show_refused p is h.0 says).0 (h.1 told) says)
+    show_ends quiet (ends.WrongLine line why) p is says h = inl (one_refusal (ends.WrongLine line why) p tt (show_refused p is h.0 says h.2).0 (h.1 told) says)
     show_ends quiet (ends.WrongOutput port at) p is says h = absurd (h.1 told)
-    show_ends quiet (ends.Config fault) p is says h = inl (one_refusal (ends.Config fault) p tt (show_refused p is h.0 says).0 (h.1 told) says)
-    show_ends quiet (ends.Capture port at why) p is says h = inl (one_refusal (ends.Capture port at why) p tt (show_refused p is h.0 says).0 (h.1 told) says)
-    show_ends quiet (ends.Limit kind) p is says h = inl (one_refusal (ends.Limit kind) p tt (show_refused p is h.0 says).0 (h.1 told) says)
+    show_ends quiet (ends.Config fault) p is says h = inl (one_refusal (ends.Config fault) p tt (show_refused p is h.0 says h.2).0 (h.1 told) says)
+    show_ends quiet (ends.Capture port at why) p is says h = inl (one_refusal (ends.Capture port at why) p tt (show_refused p is h.0 says h.2).0 (h.1 told) says)
+    show_ends quiet (ends.Limit kind) p is says h = inl (one_refusal (ends.Limit kind) p tt (show_refused p is h.0 says h.2).0 (h.1 told) says)
     show_ends quiet ends.ReadFault p is says h = absurd (quiet.reads h.1)
     show_ends quiet ends.Memory p is says h = inr refl
     show_ends quiet o p is says h = absurd h

@@ -2,7 +2,7 @@
 use Rattle.std.proofs.Common.{◌≡◌, ℕ, ◌+◌, ◌-◌, ◌<◌, ◌≤◌, List, [], ◌∷◌, ◌++◌, length, true, Some, Ok, Err, IsTrue, refl, sym, ap, ◌∙◌, subst, arith, inl, inr}
 use Rattle.std.specs.Prelude.{Result, Vec, String, map}
 use Rattle.std.specs.declared.alloc.Global.{Global}
-use Rattle.fab_base.specs.Seen.{Seen, Reads, Rose, OpensIn, Touches, Nothing, Only}
+use Rattle.fab_base.specs.Seen.{Seen, Reads, Rose, OpensIn, Touches, Nothing, Only, SameReadFaults, SameWriteFaults}
 use Rattle.fab_base.specs.declared.values.Failed.{Failed}
 use Rattle.fab_base.specs.Places.{name_at}
 use Rattle.fab_base.proofs.SeenLemmas.{reads_trans, rose_later, told_stays, touches_refl, touches_trans, touches_wider, reads_touches}
@@ -12,20 +12,21 @@ use Rattle.fab_migrate.specs.declared.old.OldError.TheVariants as errors
 use Rattle.fab_config.specs.Settings.{Settings}
 use Rattle.fab_policy.specs.Logins.{counting}
 use Rattle.fabric_tool.specs.Checking.{JournalRead, JournalEnds, AreOpenInputs, OutputsRead, unread_by, GivenRead, GivenEnds}
-use Rattle.fabric_tool.specs.Command.{RunNames, are_pairs, run_of, show_of, names_of, port_count, output_at, Among, AnyRose}
+use Rattle.fabric_tool.specs.Command.{RunNames, are_pairs, run_of, show_of, names_of, port_count, output_at, Among, AnyRose, NoFaults}
 use Rattle.fabric_tool.specs.Inputs.{MOST_BYTES}
-use Rattle.fabric_tool.specs.Reading.{ConfigRead}
+use Rattle.fabric_tool.specs.Reading.{TellsReads, ConfigRead}
 use Rattle.fabric_tool.specs.declared.command.Width.{Width}
 use Rattle.fabric_tool.specs.declared.command.Width.TheVariants as widths
 use Rattle.fabric_tool.specs.declared.outcome.Outcome.{Outcome}
 use Rattle.fabric_tool.specs.declared.outcome.Outcome.TheVariants as ends
-use Rattle.fabric_tool.proofs.AmongLemmas.{among_front, among_back, among_split, rose_among, rose_since}
+use Rattle.fabric_tool.proofs.AmongLemmas.{among_front, among_back, among_split, rose_among, rose_since, none_yet, none_then}
+use Rattle.fabric_tool.proofs.HeadLemmas.{not_unread, unread_is}
 use Rattle.fabric_tool.proofs.NameLemmas.{split_names, push_name, new_output, length-counted}
 
 -- ---- the journal
 
 pub journal_unopened : (name : List ℕ) (limit : ℕ) (a b : Seen) (e : Failed) → OpensIn {E = Failed} name a b (Err e) → JournalRead name limit a b (Err ends.ReadFault)
-journal_unopened name limit a b e o = record { reads = o.reads; ok = λ told. tt; within = tt; ended = o.cause }
+journal_unopened name limit a b e o = record { reads = o.reads; ok = λ told. tt; within = tt; ended = o.cause; counts = λ no. absurd (no refl) }
 
 module _ (name : List ℕ) (limit s : ℕ) (a b c : Seen) (o : OpensIn {E = Failed} name a b (Ok s)) where
   told_b : IsTrue a.told → IsTrue b.told
@@ -40,10 +41,11 @@ module _ (name : List ℕ) (limit s : ℕ) (a b c : Seen) (o : OpensIn {E = Fail
     ok = λ told. o.left told ∙ ap (λ (l : List ℕ). Some l) (sym (w.whole (told_b told)).0);
     within = within;
     ended = tt;
+    counts = λ no m. w.counts m ∙ o.counts m;
   }
 
   pub journal_unread : (e : OldError) (x : Outcome) → x ≡ unread_by e → WholeRead s limit b c (Err e) → JournalRead name limit a c (Err x)
-  journal_unread e x is w = record { reads = all_reads w.reads; ok = λ told. tt; within = tt; ended = subst (JournalEnds name limit a c) (sym is) (go e w.whole) }
+  journal_unread e x is w = record { reads = all_reads w.reads; ok = λ told. tt; within = tt; ended = subst (JournalEnds name limit a c) (sym is) (go e w.whole); counts = subst (λ (y : Outcome). TellsReads {T = Vec ℕ Global} a c (Err y)) (sym is) (told_as e w) }
     where
       go : (e : OldError) → IsWhole s limit b c (Err e) → JournalEnds name limit a c (unread_by e)
       go (errors.Fault line why) whole = absurd whole
@@ -51,15 +53,22 @@ module _ (name : List ℕ) (limit s : ℕ) (a b c : Seen) (o : OpensIn {E = Fail
       go (errors.Read f) whole = rose_later _ _ _ o.reads.keeps.reads_rise (subst (λ n. Rose (b.read_faults n) (c.read_faults n)) o.opened.2 whole)
       go errors.Memory whole = tt
 
+      told_as : (e : OldError) → WholeRead s limit b c (Err e) → TellsReads {T = Vec ℕ Global} a c (Err (unread_by e))
+      told_as (errors.Fault line why) w = λ no. absurd (no refl)
+      told_as errors.Bytes w = λ no m. w.counts m ∙ o.counts m
+      told_as (errors.Read f) w = λ no. absurd (no refl)
+      told_as errors.Memory w = λ no m. w.counts m ∙ o.counts m
+
 -- ---- the outputs
 
 -- what stands for the loop when the outputs of these names were opened
 pub record ReadSoFar (names : List (List ℕ)) (a now : Seen) (slots : List ℕ) : Type 0 where
   pub touches : Touches Nothing (Among names) a now
   pub are : AreOpenInputs a now names slots
+  pub counts : NoFaults a now
 
 pub read_none : (a : Seen) → ReadSoFar [] a a []
-read_none a = record { touches = touches_refl Nothing (Among []) a; are = tt }
+read_none a = record { touches = touches_refl Nothing (Among []) a; are = tt; counts = none_yet a }
 
 -- open inputs are as they were after calls on other names
 pub inputs_still : (a b d : Seen) (names : List (List ℕ)) (slots : List ℕ) (may counted : List ℕ → Type 0) → Touches may counted b d → ((m : List ℕ) → Among names m → counted m → ⊥) → AreOpenInputs a b names slots → AreOpenInputs a d names slots
@@ -98,9 +107,10 @@ module _ (names : List (List ℕ)) (a b : Seen) (slots : List ℕ) (h : ReadSoFa
     are = inputs_push a d names slots name s
         (inputs_still a b d names slots Nothing (Only name) (reads_touches name b d o.reads) (λ m among is. new (subst (Among names) is among)) h.are)
         (o.opened.0, o.opened.2, λ told. sym (h.touches.files name (λ x. x)) ∙ o.left (told_now told));
+    counts = none_then a b d h.counts (o.counts, o.reads.writes);
   }
 
-  pub read_failed : (all behind : List (List ℕ)) → all ≡ names ++ name ∷ behind → (e : Failed) → OpensIn {E = Failed} name b d (Err e) → Touches Nothing (Among all) a d × AnyRose a.read_faults d.read_faults all
+  pub read_failed : (all behind : List (List ℕ)) → all ≡ names ++ name ∷ behind → (e : Failed) → OpensIn {E = Failed} name b d (Err e) → Touches Nothing (Among all) a d × AnyRose a.read_faults d.read_faults all × SameWriteFaults a d
   read_failed all behind are e o = (
     touches_wider Nothing (Among (names ++ name ∷ [])) Nothing (Among all) a d (λ m x. x)
         (λ m x. subst (λ l. Among l m) (sym are) (elim (among_split names (name ∷ []) m x) [
@@ -109,6 +119,7 @@ module _ (names : List (List ℕ)) (a b : Seen) (slots : List ℕ) (h : ReadSoFa
         ]))
         (touch o.reads),
     rose_since a.read_faults b.read_faults d.read_faults h.touches.reads_rise all (rose_among b.read_faults d.read_faults all name (subst (λ l. Among l name) (sym are) (among_back names (name ∷ behind) name (inl refl))) o.cause),
+    λ m. o.reads.writes m ∙ h.counts.1 m,
   )
 
 -- the outputs of the ports before this one
@@ -124,7 +135,7 @@ module _ (words : List (String Global)) (run : are_pairs words ≡ true) (p : �
   pub out_failed : {T : Type 0} (items : T → List ℕ) (e : Failed) → OpensIn {E = Failed} (output_at words p) b d (Err e) → OutputsRead {T = T} items (run_of words) a d (Err e)
   out_failed {T} items e o =
       let f = read_failed (map (output_at words) (counting 0 p)) a b slots h (output_at words p) d (run_of words).outs (map (output_at words) (counting (p + 1) (port_count words - (p + 1)))) (split_names (output_at words) (port_count words) p lt) e o in
-      record { touches = f.0; slots = tt; cause = f.1 }
+      record { touches = f.0; slots = tt; cause = f.1; counts = tt; writes = f.2 }
 
 pub outs_count : (a d : Seen) (names : List (List ℕ)) (slots : List ℕ) → AreOpenInputs a d names slots → length slots ≡ length names
 outs_count a d [] [] are = refl
@@ -139,11 +150,11 @@ outs_so_far words p a b slots h = outs_count a b (map (output_at words) (countin
 pub outs_read : (words : List (String Global)) (p : ℕ) (a b : Seen) {T : Type 0} (items : T → List ℕ) (o : T) → p ≡ port_count words → ReadSoFar (map (output_at words) (counting 0 p)) a b (items o) → OutputsRead {T = T} items (run_of words) a b (Ok o)
 outs_read words p a b {T} items o all h =
     let r = subst (λ (n : ℕ). ReadSoFar (map (output_at words) (counting 0 n)) a b (items o)) all h in
-    record { touches = r.touches; slots = r.are; cause = tt }
+    record { touches = r.touches; slots = r.are; cause = tt; counts = r.counts.0; writes = r.counts.1 }
 
 -- no outputs
 pub no_outs : (words : List (String Global)) (a : Seen) {T : Type 0} (items : T → List ℕ) (o : T) → items o ≡ [] → OutputsRead {T = T} items (show_of words) a a (Ok o)
-no_outs words a {T} items o none = record { touches = touches_refl Nothing (Among []) a; slots = subst (λ l. AreOpenInputs a a [] l) (sym none) tt; cause = tt }
+no_outs words a {T} items o none = record { touches = touches_refl Nothing (Among []) a; slots = subst (λ l. AreOpenInputs a a [] l) (sym none) tt; cause = tt; counts = λ m. refl; writes = λ m. refl }
 
 -- what an opening of a word did
 pub in_as : {m n : List ℕ} {b d : Seen} {r : Result ℕ Failed} → m ≡ n → OpensIn {E = Failed} m b d r → OpensIn {E = Failed} n b d r
@@ -163,6 +174,8 @@ given_no_config k a b x r = record {
       | inr memory ↦ subst (GivenEnds k a b) (sym memory) tt
     ]
   ];
+  counts = λ no. r.counts (λ is. no (ap (λ (y : Outcome). let e : Result (Settings × Vec ℕ Global) Outcome = Err y in e) (unread_is x is)));
+  writes = r.reads.writes;
 }
 
 module _ (k : RunNames) (a b d : Seen) (c : Settings) (config : ConfigRead k.config a b (Ok c)) where
@@ -174,16 +187,37 @@ module _ (k : RunNames) (a b d : Seen) (c : Settings) (config : ConfigRead k.con
       (touches_wider Nothing (Only k.config) Nothing (Among (k.config ∷ k.journal ∷ [])) a b (λ m y. y) (λ m y. inl y) (reads_touches k.config a b config.reads))
       (touches_wider Nothing (Only k.journal) Nothing (Among (k.config ∷ k.journal ∷ [])) b d (λ m y. y) (λ m y. inr (inl y)) (reads_touches k.journal b d reads))
 
+  -- no fault of reading was counted before
+  both : SameReadFaults b d → SameReadFaults a d
+  both same m = same m ∙ config.counts (not_unread c) m
+
+  writes_on : Reads k.journal b d → SameWriteFaults a d
+  writes_on reads m = reads.writes m ∙ config.reads.writes m
+
   pub given_whole : (v : Vec ℕ Global) → JournalRead k.journal MOST_BYTES b d (Ok v) → GivenRead k a d (Ok (c, v))
   given_whole v r = record {
     touches = touch_both r.reads;
-    given = record { touches = touch_both r.reads; config = λ told. config.ok told; lines = λ told. sym (config.reads.files k.journal) ∙ r.ok (told_on told) };
+    given = record {
+      touches = touch_both r.reads;
+      config = λ told. config.ok told;
+      lines = λ told. sym (config.reads.files k.journal) ∙ r.ok (told_on told);
+      counts = (both (r.counts (not_unread v)), writes_on r.reads);
+    };
     within = r.within;
     ended = tt;
+    counts = λ no. both (r.counts (not_unread v));
+    writes = writes_on r.reads;
   }
 
   pub given_unread : (x : Outcome) → JournalRead k.journal MOST_BYTES b d (Err x) → GivenRead k a d (Err x)
-  given_unread x r = record { touches = touch_both r.reads; given = tt; within = tt; ended = go x r.ended }
+  given_unread x r = record {
+    touches = touch_both r.reads;
+    given = tt;
+    within = tt;
+    ended = go x r.ended;
+    counts = λ no. both (r.counts (λ is. no (ap (λ (y : Outcome). let e : Result (Settings × Vec ℕ Global) Outcome = Err y in e) (unread_is x is))));
+    writes = writes_on r.reads;
+  }
     where
       go : (x : Outcome) → JournalEnds k.journal MOST_BYTES b d x → GivenEnds k a d x
       go (ends.Limit kind) e = (e.0, λ told. let l = e.1 (told_on told) in (c, config.ok told, l.0, sym (config.reads.files k.journal) ∙ l.1, l.2))

@@ -13,7 +13,7 @@ use Rattle.pcapng_file.specs.Classic.{Converted, IsFront, Same, Front, classic_b
 use Rattle.fab_migrate.specs.Migrating.{Migrated, IsNewFront, Untouched, Begun}
 use Rattle.fab_migrate.specs.Old.{new_text}
 use Rattle.fab_migrate.specs.declared.old.OldWhy.{OldWhy}
-use Rattle.fabric_tool.specs.Command.{RunNames, PairNames, MakeNames, Command, Run, Replay, Show, Convert, Migrate, Make, Snoop, Enode, Help, Version, command}
+use Rattle.fabric_tool.specs.Command.{RunNames, PairNames, MakeNames, Command, Run, Replay, Show, Convert, Migrate, Make, Snoop, Enode, Help, Version, NoFaults, command}
 use Rattle.fabric_tool.specs.Ends.{RunHolds, ConvertHolds, MigrateHolds, Holds, HoldsFor, TakesMemory, Reports, Ends}
 use Rattle.fabric_tool.specs.Checking.{ReplayHolds, ShowHolds, CheckSays}
 use Rattle.fabric_tool.specs.Inputs.{LIMITS, MOST_BYTES}
@@ -74,39 +74,46 @@ migrate_cases k old new P migrated bad limit read write memory o holds = absurd 
 
 -- The same of `replay` and of `show`, whose outcomes but a fault of reading and want of memory are what the files say.
 pub replay_cases : (k : RunNames) (old new : Seen) (P : Outcome → Type 0) →
-    ((o : Outcome) → SameFiles old new → (IsTrue old.told → CheckSays k old o) → P o) →
+    ((o : Outcome) → SameFiles old new → (IsTrue old.told → CheckSays k old o) → NoFaults old new → P o) →
     (ReplayHolds k old new ends.ReadFault → P ends.ReadFault) → (ReplayHolds k old new ends.Memory → P ends.Memory) →
     (o : Outcome) → ReplayHolds k old new o → P o
-replay_cases k old new P says read memory (ends.Legal entries) holds = says (ends.Legal entries) holds.0 holds.1
-replay_cases k old new P says read memory (ends.WrongLine line why) holds = says (ends.WrongLine line why) holds.0 holds.1
-replay_cases k old new P says read memory (ends.WrongOutput port at) holds = says (ends.WrongOutput port at) holds.0 holds.1
-replay_cases k old new P says read memory (ends.Config fault) holds = says (ends.Config fault) holds.0 holds.1
-replay_cases k old new P says read memory (ends.Capture port at why) holds = says (ends.Capture port at why) holds.0 holds.1
-replay_cases k old new P says read memory (ends.Limit kind) holds = says (ends.Limit kind) holds.0 holds.1
+replay_cases k old new P says read memory (ends.Legal entries) holds = says (ends.Legal entries) holds.0 holds.1 holds.2
+replay_cases k old new P says read memory (ends.WrongLine line why) holds = says (ends.WrongLine line why) holds.0 holds.1 holds.2
+replay_cases k old new P says read memory (ends.WrongOutput port at) holds = says (ends.WrongOutput port at) holds.0 holds.1 holds.2
+replay_cases k old new P says read memory (ends.Config fault) holds = says (ends.Config fault) holds.0 holds.1 holds.2
+replay_cases k old new P says read memory (ends.Capture port at why) holds = says (ends.Capture port at why) holds.0 holds.1 holds.2
+replay_cases k old new P says read memory (ends.Limit kind) holds = says (ends.Limit kind) holds.0 holds.1 holds.2
 replay_cases k old new P says read memory ends.ReadFault holds = read holds
 replay_cases k old new P says read memory ends.Memory holds = memory holds
 replay_cases k old new P says read memory o holds = absurd holds
 
 pub show_cases : (k : RunNames) (old new : Seen) (P : Outcome → Type 0) →
-    ((o : Outcome) → SameFiles old new → (IsTrue old.told → CheckSays k old o) → P o) →
+    ((o : Outcome) → SameFiles old new → (IsTrue old.told → CheckSays k old o) → NoFaults old new → P o) →
     (ShowHolds k old new ends.ReadFault → P ends.ReadFault) → (ShowHolds k old new ends.Memory → P ends.Memory) →
     (o : Outcome) → ShowHolds k old new o → P o
-show_cases k old new P says read memory (ends.Shown text) holds = says (ends.Shown text) holds.0 holds.1
-show_cases k old new P says read memory (ends.WrongLine line why) holds = says (ends.WrongLine line why) holds.0 holds.1
-show_cases k old new P says read memory (ends.WrongOutput port at) holds = says (ends.WrongOutput port at) holds.0 (λ told. absurd (holds.1 told))
-show_cases k old new P says read memory (ends.Config fault) holds = says (ends.Config fault) holds.0 holds.1
-show_cases k old new P says read memory (ends.Capture port at why) holds = says (ends.Capture port at why) holds.0 holds.1
-show_cases k old new P says read memory (ends.Limit kind) holds = says (ends.Limit kind) holds.0 holds.1
+show_cases k old new P says read memory (ends.Shown text) holds = says (ends.Shown text) holds.0 holds.1 holds.2
+show_cases k old new P says read memory (ends.WrongLine line why) holds = says (ends.WrongLine line why) holds.0 holds.1 holds.2
+show_cases k old new P says read memory (ends.WrongOutput port at) holds = says (ends.WrongOutput port at) holds.0 (λ told. absurd (holds.1 told)) holds.2
+show_cases k old new P says read memory (ends.Config fault) holds = says (ends.Config fault) holds.0 holds.1 holds.2
+show_cases k old new P says read memory (ends.Capture port at why) holds = says (ends.Capture port at why) holds.0 holds.1 holds.2
+show_cases k old new P says read memory (ends.Limit kind) holds = says (ends.Limit kind) holds.0 holds.1 holds.2
 show_cases k old new P says read memory ends.ReadFault holds = read holds
 show_cases k old new P says read memory ends.Memory holds = memory holds
 show_cases k old new P says read memory o holds = absurd holds
 
 -- whatever the outcome, no file has changed
 pub replay_files : (k : RunNames) (old new : Seen) (o : Outcome) → ReplayHolds k old new o → SameFiles old new
-replay_files k old new = replay_cases k old new (λ o. SameFiles old new) (λ o files says. files) (λ h. h.0) (λ h. h)
+replay_files k old new = replay_cases k old new (λ o. SameFiles old new) (λ o files says none. files) (λ h. h.0) (λ h. h.0)
 
 pub show_files : (k : RunNames) (old new : Seen) (o : Outcome) → ShowHolds k old new o → SameFiles old new
-show_files k old new = show_cases k old new (λ o. SameFiles old new) (λ o files says. files) (λ h. h.0) (λ h. h)
+show_files k old new = show_cases k old new (λ o. SameFiles old new) (λ o files says none. files) (λ h. h.0) (λ h. h.0)
+
+-- want of memory for the line of an outcome says less
+replay_memory : (k : RunNames) (old new : Seen) (o : Outcome) → ReplayHolds k old new o → TakesMemory o → ReplayHolds k old new ends.Memory
+replay_memory k old new o holds takes = replay_cases k old new (λ o. TakesMemory o → ReplayHolds k old new ends.Memory) (λ o files says none takes. (files, none)) (λ h takes. absurd takes) (λ h takes. h) o holds takes
+
+show_memory : (k : RunNames) (old new : Seen) (o : Outcome) → ShowHolds k old new o → TakesMemory o → ShowHolds k old new ends.Memory
+show_memory k old new o holds takes = show_cases k old new (λ o. TakesMemory o → ShowHolds k old new ends.Memory) (λ o files says none takes. (files, none)) (λ h takes. absurd takes) (λ h takes. h) o holds takes
 
 -- the same of `make`
 pub make_cases : (k : MakeNames) (old new : Seen) (P : Outcome → Type 0) →
@@ -141,8 +148,8 @@ memory_holds (Run k) old new o holds takes = run_cases k old new (λ o. TakesMem
     (λ h takes. absurd takes)
     (λ h takes. absurd takes)
     o holds takes
-memory_holds (Replay k) old new o holds takes = replay_files k old new o holds
-memory_holds (Show k) old new o holds takes = show_files k old new o holds
+memory_holds (Replay k) old new o holds takes = replay_memory k old new o holds takes
+memory_holds (Show k) old new o holds takes = show_memory k old new o holds takes
 memory_holds (Convert k) old new o holds takes = convert_cases k old new (λ o. TakesMemory o → Holds (Convert k) old new ends.Memory)
     (λ records h takes. (h.0, λ told. whole_front k old new records (h.1 told), h.2))
     (λ at fault h takes. (λ m other. h.0 m, λ told. Same (h.0 k.to), h.2))

@@ -1,5 +1,5 @@
 -- How `replay` and `show` end, by how their check ended.
-use Rattle.std.proofs.Common.{◌≡◌, ℕ, ◌-◌, ◌<◌, ◌≤◌, List, [], ◌∷◌, ◌++◌, length, true, Ok, Err, refl, ap, ◌∙◌, arith, inl, inr}
+use Rattle.std.proofs.Common.{◌≡◌, ◌≢◌, ℕ, ◌-◌, ◌<◌, ◌≤◌, List, [], ◌∷◌, ◌++◌, length, true, Ok, Err, refl, ap, ◌∙◌, arith, inl, inr}
 use Rattle.std.specs.Prelude.{String}
 use Rattle.std.specs.declared.alloc.Global.{Global}
 use Rattle.fab_base.specs.Seen.{Seen, SameFiles}
@@ -11,13 +11,14 @@ use Rattle.fab_policy.specs.State.{tables_of}
 use Rattle.fab_replay.specs.Check.{Matter}
 use Rattle.fab_replay.specs.Showing.{shown_by}
 use Rattle.fabric_tool.specs.Checking.{Finds, IsStanding, IsLegalJournal, IsShownJournal, IsChecked, CheckHolds, ReplayHolds, ShowHolds, GivenRead, GivenEnds, Tells}
-use Rattle.fabric_tool.specs.Command.{RunNames, Replay, Show, are_ports, names_of, show_of, input_of, count_of}
+use Rattle.fabric_tool.specs.Command.{RunNames, Replay, Show, NoFaults, are_ports, names_of, show_of, input_of, count_of}
 use Rattle.fabric_tool.specs.Inputs.{HaveNoRoom, MOST_BYTES}
 use Rattle.fabric_tool.specs.declared.command.Width.{Width}
 use Rattle.fabric_tool.specs.declared.command.Width.TheVariants as widths
 use Rattle.fabric_tool.specs.declared.outcome.Outcome.{Outcome}
 use Rattle.fabric_tool.specs.declared.outcome.Outcome.TheVariants as ends
 use Rattle.fabric_tool.proofs.CheckLemmas.{ins_named, rose_given}
+use Rattle.fabric_tool.proofs.HeadLemmas.{unread_is}
 use Rattle.fabric_tool.proofs.NameLemmas.{ports, length-counted}
 
 -- ---- before the check
@@ -29,7 +30,7 @@ long_journal d (name ∷ names) journal some above = record { before = []; name 
 
 -- the configuration or the journal can't be read
 pub given_ended : (w : Width) (words : List (String Global)) → are_ports w words ≡ true → (a z : Seen) (x : Outcome) → GivenRead (names_of w words) a z (Err x) → IsChecked w (names_of w words) a z (Err x)
-given_ended w words run a z x r = go x r.ended
+given_ended w words run a z x r = go x r.ended (λ other. (r.counts (λ is. other (unread_is x is)), r.writes))
   where
     same : SameFiles a z
     same m = r.touches.files m (λ y. y)
@@ -41,18 +42,19 @@ given_ended w words run a z x r = go x r.ended
         let ports_some = (ports w words run).some in
         omega arith
 
-    go : (x : Outcome) → GivenEnds (names_of w words) a z x → IsChecked w (names_of w words) a z (Err x)
-    go (ends.Config fault) e = (same, λ told. e told)
-    go (ends.Limit kind) e = (
+    go : (x : Outcome) → GivenEnds (names_of w words) a z x → (x ≢ ends.ReadFault → NoFaults a z) → IsChecked w (names_of w words) a z (Err x)
+    go (ends.Config fault) e none = (same, λ told. e told, none (λ is. cc))
+    go (ends.Limit kind) e none = (
       same,
       λ told.
           let l = e.1 told in
           inl (e.0, record { settings = l.0; config = l.1; journal = l.2; lines = l.3; heads = long_journal a (names_of w words).ins l.2 some l.4 }),
+      none (λ is. cc),
     )
-    go ends.ReadFault (inl rose) = (same, rose_given w words a z (inl rose), λ told. inl rose)
-    go ends.ReadFault (inr e) = (same, rose_given w words a z (inr (inl e.0)), λ told. inr (inl (let config = e.1 told in (config.0, config.1, e.0))))
-    go ends.Memory e = same
-    go x e = absurd e
+    go ends.ReadFault (inl rose) none = (same, rose_given w words a z (inl rose), λ told. inl rose, r.writes)
+    go ends.ReadFault (inr e) none = (same, rose_given w words a z (inr (inl e.0)), λ told. inr (inl (let config = e.1 told in (config.0, config.1, e.0))), r.writes)
+    go ends.Memory e none = (same, none (λ is. cc))
+    go x e none = absurd e
 
 -- ---- behind it
 
@@ -61,7 +63,7 @@ finds_on : (k : RunNames) (d : Seen) (P Q : Settings → Budget → Matter → T
 finds_on k d P Q on f = record { settings = f.settings; opened = f.opened; journal = f.journal; matter = f.matter; says = on _ _ _ f.says }
 
 pub replay_done : (k : RunNames) (a z : Seen) (F : Contents) (entries : ℕ) → IsChecked widths.Two k a z (Ok (F, entries)) → ReplayHolds k a z (ends.Legal entries)
-replay_done k a z F entries h = (h.0, λ told. finds_on k a (IsStanding F entries) (IsLegalJournal entries) (λ c b m s. record { entry_list = s.entry_list; names = s.names; outputs = s.outputs; count = s.count }) (h.1 told))
+replay_done k a z F entries h = (h.0, λ told. finds_on k a (IsStanding F entries) (IsLegalJournal entries) (λ c b m s. record { entry_list = s.entry_list; names = s.names; outputs = s.outputs; count = s.count }) (h.1 told), h.2)
 
 pub replay_refused : (k : RunNames) (a z : Seen) (o : Outcome) → IsChecked widths.Two k a z (Err o) → ReplayHolds k a z o
 replay_refused k a z o h = go o h
@@ -89,8 +91,8 @@ shown_of F entries text c b m tells s = record {
 }
 
 pub show_done : (k : RunNames) (a z : Seen) (F : Contents) (entries : ℕ) (o : Outcome) → IsChecked widths.One k a z (Ok (F, entries)) → Tells F entries o → ShowHolds k a z o
-show_done k a z F entries (ends.Shown text) h tells = (h.0, λ told. finds_on k a (IsStanding F entries) (IsShownJournal text) (λ c b m s. shown_of F entries text c b m tells s) (h.1 told))
-show_done k a z F entries ends.Memory h tells = h.0
+show_done k a z F entries (ends.Shown text) h tells = (h.0, λ told. finds_on k a (IsStanding F entries) (IsShownJournal text) (λ c b m s. shown_of F entries text c b m tells s) (h.1 told), h.2)
+show_done k a z F entries ends.Memory h tells = (h.0, h.2)
 show_done k a z F entries o h tells = absurd tells
 
 pub show_refused : (words : List (String Global)) (a z : Seen) (o : Outcome) → IsChecked widths.One (show_of words) a z (Err o) → ShowHolds (show_of words) a z o
@@ -98,7 +100,7 @@ show_refused words a z o h = go o h
   where
     go : (o : Outcome) → CheckHolds (Show (show_of words)) (show_of words) a z o → ShowHolds (show_of words) a z o
     go (ends.WrongLine line why) h = h
-    go (ends.WrongOutput port at) h = (h.0, λ told. let first = (h.1 told).says.first in absurd (omega (arith, first.2)))
+    go (ends.WrongOutput port at) h = (h.0, λ told. let first = (h.1 told).says.first in absurd (omega (arith, first.2)), h.2)
     go (ends.Config fault) h = h
     go (ends.Capture port at why) h = h
     go (ends.Limit kind) h = h

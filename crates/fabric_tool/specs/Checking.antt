@@ -1,7 +1,7 @@
 -- What `replay` and `show` find: a journal, and outputs, checked against captures.
-use Rattle.std.specs.Prelude.{◌≡◌, ℕ, ◌+◌, ◌-◌, ◌*◌, ◌≤◌, ◌<◌, ◌⊎◌, IsTrue, List, [], ◌∷◌, ◌++◌, length, get_or, Some, Ok, Err, Result, IfOk, IfErr, OnErr, Vec}
+use Rattle.std.specs.Prelude.{◌≡◌, ℕ, ◌+◌, ◌-◌, ◌*◌, ◌≤◌, ◌<◌, ◌⊎◌, IsTrue, List, [], ◌∷◌, ◌++◌, length, get_or, Some, Ok, Err, Result, IfOk, IfErr, OnOk, OnErr, Vec}
 use Rattle.std.specs.declared.alloc.Global.{Global}
-use Rattle.fab_base.specs.Seen.{Seen, SameFiles, Reads, Touches, Nothing, Rose, bytes_of}
+use Rattle.fab_base.specs.Seen.{Seen, SameFiles, SameReadFaults, SameWriteFaults, Reads, Touches, Nothing, Rose, bytes_of}
 use Rattle.fab_base.specs.declared.values.Failed.{Failed}
 use Rattle.fab_config.specs.Settings.{Settings}
 use Rattle.pcap_file.specs.Capture.{HEAD}
@@ -19,10 +19,11 @@ use Rattle.fab_replay.specs.Check.{Matter, NamesRun, AreSent, IsLegal, IsFirstLi
 use Rattle.fab_replay.specs.Showing.{shown, shown_by}
 use Rattle.fab_replay.specs.declared.fault.CheckFault.{CheckFault}
 use Rattle.fab_replay.specs.declared.fault.CheckFault.TheVariants as checks
-use Rattle.fabric_tool.specs.Command.{RunNames, Command, Replay, Show, AnyRose, Among, ReadRose}
+use Rattle.fabric_tool.specs.Command.{RunNames, Command, Replay, Show, AnyRose, Among, ReadRose, NoFaults}
 use Rattle.fabric_tool.specs.declared.command.Width.{Width}
 use Rattle.fabric_tool.specs.declared.command.Width.TheVariants as widths
 use Rattle.fabric_tool.specs.Inputs.{HasConfig, HasFault, HasInputs, HasBadHead, HaveNoRoom, IsFirstUnread, MOST_BYTES, MOST_FRAMES}
+use Rattle.fabric_tool.specs.Reading.{TellsReads}
 use Rattle.fabric_tool.specs.declared.outcome.Outcome.{Outcome}
 use Rattle.fabric_tool.specs.declared.outcome.Outcome.TheVariants as ends
 
@@ -113,26 +114,31 @@ IsUnread k old new =
     ⊎ (IsCaptureUnread k old new
     ⊎ (AnyRose old.read_faults new.read_faults (k.ins ++ k.outs) × Finds k old (λ c budget m. Unit {0}))))
 
--- what holds where one of them doesn't end with status 0: no file has changed
+-- the files say so where the store tells, and no file and no count of faults has changed
+abbrev pub Finding : RunNames → Seen → Seen → Outcome → Type 0
+Finding k old new outcome = SameFiles old new × (IsTrue old.told → CheckSays k old outcome) × NoFaults old new
+
+-- What holds where one of them doesn't end with status 0: no file has changed, and a fault is counted only where one is told. So want
+-- of memory hides none.
 abbrev pub CheckHolds : Command → RunNames → Seen → Seen → Outcome → Type 0
-CheckHolds command k old new (ends.WrongLine line why) = SameFiles old new × (IsTrue old.told → CheckSays k old (ends.WrongLine line why))
-CheckHolds command k old new (ends.WrongOutput port at) = SameFiles old new × (IsTrue old.told → CheckSays k old (ends.WrongOutput port at))
-CheckHolds command k old new (ends.Config fault) = SameFiles old new × (IsTrue old.told → CheckSays k old (ends.Config fault))
-CheckHolds command k old new (ends.Capture port at why) = SameFiles old new × (IsTrue old.told → CheckSays k old (ends.Capture port at why))
-CheckHolds command k old new (ends.Limit kind) = SameFiles old new × (IsTrue old.told → CheckSays k old (ends.Limit kind))
-CheckHolds command k old new ends.ReadFault = SameFiles old new × ReadRose command old new × (IsTrue old.told → IsUnread k old new)
-CheckHolds command k old new ends.Memory = SameFiles old new
+CheckHolds command k old new (ends.WrongLine line why) = Finding k old new (ends.WrongLine line why)
+CheckHolds command k old new (ends.WrongOutput port at) = Finding k old new (ends.WrongOutput port at)
+CheckHolds command k old new (ends.Config fault) = Finding k old new (ends.Config fault)
+CheckHolds command k old new (ends.Capture port at why) = Finding k old new (ends.Capture port at why)
+CheckHolds command k old new (ends.Limit kind) = Finding k old new (ends.Limit kind)
+CheckHolds command k old new ends.ReadFault = SameFiles old new × ReadRose command old new × (IsTrue old.told → IsUnread k old new) × SameWriteFaults old new
+CheckHolds command k old new ends.Memory = SameFiles old new × NoFaults old new
 CheckHolds command k old new _ = ⊥
 
 -- What holds where `replay` ends so: no file has changed.
 abbrev pub ReplayHolds : RunNames → Seen → Seen → Outcome → Type 0
-ReplayHolds k old new (ends.Legal entries) = SameFiles old new × (IsTrue old.told → CheckSays k old (ends.Legal entries))
+ReplayHolds k old new (ends.Legal entries) = Finding k old new (ends.Legal entries)
 ReplayHolds k old new o = CheckHolds (Replay k) k old new o
 
 -- The same of `show`, which has no outputs.
 abbrev pub ShowHolds : RunNames → Seen → Seen → Outcome → Type 0
-ShowHolds k old new (ends.Shown text) = SameFiles old new × (IsTrue old.told → CheckSays k old (ends.Shown text))
-ShowHolds k old new (ends.WrongOutput port at) = SameFiles old new × (IsTrue old.told → ⊥)
+ShowHolds k old new (ends.Shown text) = Finding k old new (ends.Shown text)
+ShowHolds k old new (ends.WrongOutput port at) = SameFiles old new × (IsTrue old.told → ⊥) × NoFaults old new
 ShowHolds k old new o = CheckHolds (Show k) k old new o
 
 -- ---- words of private contracts
@@ -166,6 +172,7 @@ pub record JournalRead (name : List ℕ) (limit : ℕ) (old new : Seen) (result 
   pub ok : IsTrue old.told → IfOk result (λ v. old.file name ≡ Some v.items)
   pub within : IfOk result (λ v. length v.items ≤ limit)
   pub ended : IfErr result (JournalEnds name limit old new)
+  pub counts : TellsReads old new result
 
 -- slots that are open inputs of these names, of which nothing is given yet
 abbrev pub AreOpenInputs : Seen → Seen → List (List ℕ) → List ℕ → Type 0
@@ -179,6 +186,8 @@ pub record OutputsRead {T : Type 0} (items : T → List ℕ) (k : RunNames) (old
   pub touches : Touches Nothing (Among k.outs) old new
   pub slots : IfOk result (λ o. AreOpenInputs old new k.outs (items o))
   pub cause : OnErr result (AnyRose old.read_faults new.read_faults k.outs)
+  pub counts : OnOk result (SameReadFaults old new)
+  pub writes : SameWriteFaults old new
 
 -- what an outcome says of reading the configuration and the journal
 abbrev pub GivenEnds : RunNames → Seen → Seen → Outcome → Type 0
@@ -195,12 +204,15 @@ pub record HasGiven (k : RunNames) (c : Settings) (journal : List ℕ) (old now 
   pub touches : Touches Nothing (Among (k.config ∷ k.journal ∷ [])) old now
   pub config : IsTrue old.told → HasConfig old k.config c
   pub lines : IsTrue old.told → old.file k.journal ≡ Some journal
+  pub counts : NoFaults old now
 
 pub record GivenRead (k : RunNames) (old new : Seen) (result : Result (Settings × Vec ℕ Global) Outcome) : Type 0 where
   pub touches : Touches Nothing (Among (k.config ∷ k.journal ∷ [])) old new
   pub given : IfOk result (λ g. HasGiven k g.0 g.1.items old new)
   pub within : IfOk result (λ g. length g.1.items ≤ MOST_BYTES)
   pub ended : IfErr result (GivenEnds k old new)
+  pub counts : TellsReads old new result
+  pub writes : SameWriteFaults old new
 
 -- the command by how many names a port has
 abbrev pub command_of : Width → RunNames → Command
@@ -218,7 +230,7 @@ pub record IsStanding (F : Contents) (entries : ℕ) (c : Settings) (budget : Bu
 
 -- how a check ends
 abbrev pub IsChecked : Width → RunNames → Seen → Seen → Result (Contents × ℕ) Outcome → Type 0
-IsChecked width k old new (Ok (F, entries)) = SameFiles old new × (IsTrue old.told → Finds k old (IsStanding F entries))
+IsChecked width k old new (Ok (F, entries)) = SameFiles old new × (IsTrue old.told → Finds k old (IsStanding F entries)) × NoFaults old new
 IsChecked width k old new (Err outcome) = CheckHolds (command_of width k) k old new outcome
 
 -- what is told of a fabric that stands for a journal, or want of memory

@@ -4,7 +4,9 @@ use Rattle.fab_policy.specs.Outputs.{state_of}
 use Rattle.fabric_tool.specs.Command.{names_of}
 use Rattle.fabric_tool.specs.Checking.{IsChecked}
 use Rattle.fabric_tool.specs.Inputs.{MOST_BYTES, MOST_FRAMES}
+use Rattle.fabric_tool.proofs.AmongLemmas.{none_then}
 use Rattle.fabric_tool.proofs.CheckLemmas.{heads_ended, outs_ended, no_fabric, checks_as, check_done, check_refused}
+use Rattle.fabric_tool.proofs.HeadLemmas.{not_unread}
 use Rattle.fabric_tool.proofs.SlotLemmas.{handed}
 use Rattle.fabric_tool.proofs.replaying.check.Goals as goal
 
@@ -22,7 +24,7 @@ returns-in-Err-outs_of g c =
     record {
       checks = λ a given. outs_ended c.args.width c.args.words.now c.requires.ports c.args.config c.args.journal.now a (seen c.args.depot.now) given
           (seen c.heads_of.new.depot) c.in-Ok.ins.items had c.heads_of.new.budget heads.heads heads.touches heads.taken refl refl c.requires.room
-          (seen c.outs_of.new.depot) outs.touches outs.cause;
+          (seen c.outs_of.new.depot) outs.touches outs.cause (λ m. outs.writes m ∙ heads.writes m ∙ given.counts.1 m);
     }
 
 pub returns-in_default : goal.returns-in_default
@@ -34,7 +36,8 @@ returns-in_default g c =
     record {
       checks = λ a given. no_fabric c.args.width c.args.words.now c.requires.ports c.args.config c.args.journal.now a (seen c.args.depot.now) given
           (seen c.heads_of.new.depot) c.in-Ok.ins.items had c.heads_of.new.budget heads.heads heads.touches heads.taken refl refl c.requires.room
-          (seen c.outs_of.new.depot) c.in-Ok-outs_of.outs.items outs.touches outs.slots;
+          (seen c.outs_of.new.depot) c.in-Ok-outs_of.outs.items outs.touches outs.slots
+          (none_then a (seen c.args.depot.now) (seen c.outs_of.new.depot) given.counts (none_then (seen c.args.depot.now) (seen c.heads_of.new.depot) (seen c.outs_of.new.depot) (heads.counts (not_unread c.in-Ok.ins), heads.writes) (outs.counts, outs.writes)));
     }
 
 pub check_captures-requires : goal.check_captures-requires
@@ -70,6 +73,7 @@ returns-in-Ok-check_captures g c =
           (seen c.outs_of.new.depot) c.in-Ok-outs_of.outs.items outs.touches outs.slots
           (seen c.check_captures.new.depot) c.check_captures.new.fabric (c.check_captures.ensures.settings ∙ new) c.check_captures.result
           (checks_as new c.deref_mut.ensures.value c.as_slice.ensures.value c.check_captures.ensures.checks)
+          (none_then a (seen c.args.depot.now) (seen c.outs_of.new.depot) given.counts (none_then (seen c.args.depot.now) (seen c.heads_of.new.depot) (seen c.outs_of.new.depot) (heads.counts (not_unread c.in-Ok.ins), heads.writes) (outs.counts, outs.writes))) c.check_captures.ensures.counts
           c.in-Ok-check_captures.entries c.in-Ok-check_captures.is;
     }
 
@@ -89,5 +93,6 @@ returns g c =
           (seen c.outs_of.new.depot) c.in-Ok-outs_of.outs.items outs.touches outs.slots
           (seen c.check_captures.new.depot) c.check_captures.new.fabric (c.check_captures.ensures.settings ∙ new) c.check_captures.result
           (checks_as new c.deref_mut.ensures.value c.as_slice.ensures.value c.check_captures.ensures.checks)
+          (none_then a (seen c.args.depot.now) (seen c.outs_of.new.depot) given.counts (none_then (seen c.args.depot.now) (seen c.heads_of.new.depot) (seen c.outs_of.new.depot) (heads.counts (not_unread c.in-Ok.ins), heads.writes) (outs.counts, outs.writes))) c.check_captures.ensures.counts
           c.in-Err-check_captures.fault c.in-Err-check_captures.is);
     }
