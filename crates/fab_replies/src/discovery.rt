@@ -76,7 +76,8 @@ pub fn write_advertisement(
     ensures size { OnOk result (length (spec.advertised_to_all config.now) ≤ 65535) }
     ensures err { OnErr result (out.new.items ≡ out.old.items) }
 {
-    write_message(alloc, config, ALL_ENODES, &advertisement(config, false), out)
+    let message = advertisement(config, false);
+    write_message(alloc, config, ALL_ENODES, &message, out)
 }
 
 // What an advertisement says.
