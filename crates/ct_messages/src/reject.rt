@@ -1,5 +1,5 @@
-//! Reasons and explanations of a reject of the name server (FC-GS-6, "Reject reason codes" and "Name
-//! Server reject CT_IU reason code explanations").
+//! Reasons and explanations of a reject of the name server (FC-GS-6, "Reject reason codes" and
+//! "Name Server reject CT_IU reason code explanations").
 
 /// The reason: the information unit has a wrong size.
 pub const INVALID_SIZE: u8 = 0x04;

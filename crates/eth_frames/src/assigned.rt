@@ -1,4 +1,5 @@
-//! Ethertypes and group addresses that are assigned to FCoE (FC-BB-5, "FCoE frame format" and "FIP").
+//! Ethertypes and group addresses that are assigned to FCoE (FC-BB-5, "FCoE frame format" and
+//! "FIP").
 use fab_base::Mac;
 
 /// The Ethertype of FIP.

@@ -1,5 +1,5 @@
-//! The places of bindings in an order, in rows by the top of their numbers: a change moves places of
-//! one row alone.
+//! The places of bindings in an order, in rows by the top of their numbers: a change moves places
+//! of one row alone.
 ghost use Rattle.std.specs.Prelude.{◌≡◌, ℕ, ◌-◌, ◌<◌, ◌≤◌, ◌/◌, ◌^◌, [], length, None, Some};
 ghost use Rattle.std.specs.Prelude.{IfOk, OnOk, IsSome, slice_index, slice_set, vec_capacity};
 ghost use Rattle.std.specs.List.{insert, remove};
@@ -75,7 +75,8 @@ pub(crate) fn row_put<O: Order<Binding>>(
     rows: &mut Vec<Vec<usize>>,
     place: usize,
 )
-    requires but { IsOrderBut (O.number_of order.now) place records.now (flat (lists rows.old.items)) }
+    requires but { IsOrderBut (O.number_of order.now) place records.now
+        (flat (lists rows.old.items)) }
     requires absent { (x : Binding) → get records.now place ≡ Some x
         → item_at (O.number_of order.now) (O.number_of order.now x)
         (seen records.now (flat (lists rows.old.items))) ≡ None }
@@ -109,13 +110,15 @@ pub(crate) fn row_take<O: Order<Binding>>(
     requires rows { AreRows (O.number_of order.now) records.now (lists rows.old.items) }
     requires range { (x : Binding) → get records.now place ≡ Some x
         → O.number_of order.now x < 2 ^ 112 }
-    ensures but { IsOrderBut (O.number_of order.now) place records.now (flat (lists rows.new.items)) }
+    ensures but { IsOrderBut (O.number_of order.now) place records.now
+        (flat (lists rows.new.items)) }
     ensures items { (x : Binding) → get records.now place ≡ Some x
         → seen records.now (flat (lists rows.new.items))
         ≡ without (O.number_of order.now) (O.number_of order.now x)
         (seen records.now (flat (lists rows.old.items))) }
     ensures rows { AreRows (O.number_of order.now) records.now (lists rows.new.items) }
-    ensures room { (i : ℕ) → slice_index (rooms rows.old.items) i ≤ slice_index (rooms rows.new.items) i }
+    ensures room { (i : ℕ) → slice_index (rooms rows.old.items) i
+        ≤ slice_index (rooms rows.new.items) i }
 {
     let number = order.number(&records[place]);
     let row = row_of(number);
