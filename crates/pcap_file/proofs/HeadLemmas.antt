@@ -10,7 +10,7 @@ use Rattle.pcap_file.specs.declared.CapFault.{CapFault}
 use Rattle.pcap_file.specs.declared.CapFault.TheVariants.{Short, BadMagic, BadVersion, NotEthernet}
 use Rattle.pcap_file.specs.declared.CapOpen.TheVariants as opens
 use Rattle.pcap_file.specs.Capture.{at_place, MICRO, NANO, head_decoded}
-use Rattle.pcap_file.specs.Reading.{Pulls, OpensReader}
+use Rattle.pcap_file.specs.Reading.{Pulls, OpensReader, supply}
 use Rattle.pcap_file.proofs.NextLemmas.{at_front}
 use Rattle.pcap_file.proofs.lemmas.Numbers.{le_or_lt}
 use Rattle.pcap_file.proofs.lemmas.Buffers.{front_is}
@@ -55,7 +55,7 @@ head_front front rest sized =
     (λ b. at_front b front rest 20 4 (omega arith) i))
     ∙ sym (head_is front)
 
-module _ (s : ℕ) (a b : Seen) (none held front : List ℕ) (n : ℕ) (had : Budget) (sized : length front ≡ 24) (empty : none ≡ []) (first : Pulls s front none held a b (Ok n)) (room : 24 ≤ had.bytes) where
+module _ (s : ℕ) (a b : Seen) (none held front : List ℕ) (n : ℕ) (had : Budget) (sized : length front ≡ 24) (empty : none ≡ []) (first : Pulls s front (supply none a) (supply held b) (Ok n)) (room : 24 ≤ had.bytes) where
   taken : IsTrue a.told → take n front ++ (held ++ b.left s) ≡ a.left s
   taken told = first.taken told ∙ ap (λ l. l ++ a.left s) empty
 

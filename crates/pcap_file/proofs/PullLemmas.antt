@@ -5,7 +5,7 @@ use borrow.Rule.Slice.PartMut.{put_mid}
 use Rattle.fab_base.specs.Seen.{Seen, Reads, Rose, SameReadFaults}
 use Rattle.fab_base.specs.declared.values.Failed.{Failed}
 use Rattle.fab_base.proofs.Depots.{reads_trans, reads_refl, input_name, told_stays, rose_later, take-put_mid-more}
-use Rattle.pcap_file.specs.Reading.{Pulls, Refills}
+use Rattle.pcap_file.specs.Reading.{Supply, supply, coming, Pulls, Refills}
 use Rattle.pcap_file.proofs.lemmas.Numbers.{le_or_lt, none_is}
 
 -- what is held behind the first bytes of a window
@@ -20,27 +20,27 @@ window_rest l from to count = elim (le_or_lt count (to - from)) [
 ]
 
 -- a buffer that is filled up to a place
-pub record Pulled (s got : ℕ) (a c : Seen) (into held rest : List ℕ) : Type 0 where
-  pub reads : Reads (a.name s) a c
-  pub taken : IsTrue a.told → take got into ++ (rest ++ c.left s) ≡ held ++ a.left s
-  pub counts : SameReadFaults a c
+pub record Pulled (slot got : ℕ) (into : List ℕ) (before after : Supply) : Type 0 where
+  pub reads : Reads (before.depot.name slot) before.depot after.depot
+  pub taken : IsTrue before.depot.told → take got into ++ coming slot after ≡ coming slot before
+  pub counts : SameReadFaults before.depot after.depot
 
-pub pulled_none : (s : ℕ) (a : Seen) (into held : List ℕ) → Pulled s 0 a a into held held
+pub pulled_none : (s : ℕ) (a : Seen) (into held : List ℕ) → Pulled s 0 into (supply held a) (supply held a)
 pulled_none s a into held = record { reads = reads_refl (a.name s) a; taken = λ told. refl; counts = λ m. refl }
 
-module _ (s got : ℕ) (a b c : Seen) (into held mid more : List ℕ) (is_in : IsTrue (a.input s)) (f : Pulled s got a b into held mid) where
+module _ (s got : ℕ) (a b c : Seen) (into held mid more : List ℕ) (is_in : IsTrue (a.input s)) (f : Pulled s got into (supply held a) (supply mid b)) where
   same : b.name s ≡ a.name s
   same = input_name (a.name s) a b f.reads.keeps s is_in
 
   told_b : IsTrue a.told → IsTrue b.told
   told_b told = told_stays (a.name s) a b f.reads.keeps told
 
-  module _ (r : Refills {T = Unit {0}} s mid more b c (Ok tt)) where
+  module _ (r : Refills {T = Unit {0}} s (supply mid b) (supply more c) (Ok tt)) where
     both : Reads (a.name s) a c
     both = reads_trans (a.name s) a b c f.reads (subst (λ m. Reads m b c) same r.reads)
 
     -- a piece of what is held then
-    pub pull_step : (n k : ℕ) (piece rest : List ℕ) → got ≤ length into → n ≤ length piece → take n piece ≡ take n more → rest ≡ drop n more → Pulled s (got + n) a c (put_mid got k into piece) held rest
+    pub pull_step : (n k : ℕ) (piece rest : List ℕ) → got ≤ length into → n ≤ length piece → take n piece ≡ take n more → rest ≡ drop n more → Pulled s (got + n) (put_mid got k into piece) (supply held a) (supply rest c)
     pull_step n k piece rest fits le front behind = record {
       reads = both;
       taken = λ told.
@@ -51,11 +51,11 @@ module _ (s got : ℕ) (a b c : Seen) (into held mid more : List ℕ) (is_in : I
       counts = λ m. r.counts m ∙ f.counts m;
     }
 
-    pub pull_ended : (n k : ℕ) (piece rest : List ℕ) → got ≤ length into → length (put_mid got k into piece) ≡ length into → n ≡ 0 → n ≡ min (length more) (length piece) → 0 < length piece → take n piece ≡ take n more → rest ≡ drop n more → Pulls s (put_mid got k into piece) held rest a c (Ok got)
+    pub pull_ended : (n k : ℕ) (piece rest : List ℕ) → got ≤ length into → length (put_mid got k into piece) ≡ length into → n ≡ 0 → n ≡ min (length more) (length piece) → 0 < length piece → take n piece ≡ take n more → rest ≡ drop n more → Pulls s (put_mid got k into piece) (supply held a) (supply rest c) (Ok got)
     pull_ended n k piece rest fits sized none is some front behind =
         let none_held : more ≡ [] = none_is more (omega arith) in
         let none_left : rest ≡ [] = behind ∙ (λ i. drop (none i) (none_held i)) in
-        let step : Pulled s (got + n) a c (put_mid got k into piece) held rest = pull_step n k piece rest fits (omega arith) front behind in
+        let step : Pulled s (got + n) (put_mid got k into piece) (supply held a) (supply rest c) = pull_step n k piece rest fits (omega arith) front behind in
         let same_place : got + n ≡ got = omega arith in
         record {
           reads = both;
@@ -66,7 +66,7 @@ module _ (s got : ℕ) (a b c : Seen) (into held mid more : List ℕ) (is_in : I
           counts = step.counts;
         }
 
-  pub pull_failed : (e : Failed) (into' : List ℕ) → Refills {T = Unit {0}} s mid more b c (Err e) → Pulls s into' held more a c (Err e)
+  pub pull_failed : (e : Failed) (into' : List ℕ) → Refills {T = Unit {0}} s (supply mid b) (supply more c) (Err e) → Pulls s into' (supply held a) (supply more c) (Err e)
   pull_failed e into' r = record {
     reads = reads_trans (a.name s) a b c f.reads (subst (λ m. Reads m b c) same r.reads);
     bound = tt;

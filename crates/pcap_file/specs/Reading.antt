@@ -10,6 +10,7 @@ use Rattle.pcap_file.specs.declared.CapError.TheVariants as errors
 use Rattle.pcap_file.specs.declared.CapOpen.{CapOpen}
 use Rattle.pcap_file.specs.declared.CapOpen.TheVariants as opens
 use Rattle.pcap_file.specs.declared.Record.{Record}
+use Rattle.pcap_file.specs.declared.reader.Place.{Place}
 use Rattle.pcap_file.specs.Capture.{HEAD, RECORD_HEAD, MOST_STORED, Next, Found, End, CutHead, TooLong, CutBytes, next, head_decoded}
 
 -- A reader: the head of its capture, the place of the next record in the file, the greatest moment so far or 0, the error
@@ -108,26 +109,44 @@ pub record KeepsError (before after : Reading) (had left : Budget) (e : CapError
   pub kept : after ≡ record before { kept = Some e; held = after.held }
   pub budget : left ≡ had
 
+-- a fault of reading this slot's name is counted
+abbrev pub ReadsRose : ℕ → Seen → Seen → Type 0
+ReadsRose slot old new = Rose (old.read_faults (old.name slot)) (new.read_faults (old.name slot))
+
 -- no fault of reading is counted but where one is told
 abbrev pub SparesReads : Seen → Seen → Result (Option Record) CapError → Type 0
 SparesReads old new (Err (errors.Read failed)) = Unit {0}
 SparesReads old new result = SameReadFaults old new
 
+-- Where a reading stands: the depot, the reader, and what is left of the limits.
+pub record Standing : Type 0 where
+  pub depot : Seen
+  pub reader : Reading
+  pub budget : Budget
+
+-- such a standing of its parts
+abbrev pub standing : Seen → Reading → Budget → Standing
+standing depot reader budget = record { depot = depot; reader = reader; budget = budget }
+
+-- the step of a reader that stands there, whose capture is in this slot
+abbrev pub step_at : ℕ → Standing → Step
+step_at slot s = step_of s.budget s.reader.at (next s.reader.head s.reader.greatest (to_come s.reader s.depot slot))
+
 -- What a reader's next record is. Where the depot tells, and no error is kept, the answer is the step, except that the
 -- depot may fail, which its count shows, and memory may be refused. A kept error is answered again and nothing is fetched.
-pub record NextReads (slot : ℕ) (old new : Seen) (before after : Reading) (had left : Budget) (result : Result (Option Record) CapError) : Type 0 where
-  pub reads : Reads (old.name slot) old new
-  pub says : IsTrue old.told → before.kept ≡ None → Says (step_of had before.at (next before.head before.greatest (to_come before old slot))) (to_come after new slot) result
-  pub taken : IfOk result (λ o. MatchOption o (Rests before after had left) (λ r. TakesRecord before after had left r))
-  pub kept : MatchResult result (λ o. Unit {0}) (λ e. KeepsError before after had left e)
-  pub cause : before.kept ≡ None → (f : Failed) → result ≡ Err (errors.Read f) → Rose (old.read_faults (old.name slot)) (new.read_faults (old.name slot))
-  pub again : (e : CapError) → before.kept ≡ Some e → (result ≡ Err e) × (new ≡ old) × (after ≡ before)
-  pub counts : SparesReads old new result
+pub record NextReads (slot : ℕ) (before after : Standing) (result : Result (Option Record) CapError) : Type 0 where
+  pub reads : Reads (before.depot.name slot) before.depot after.depot
+  pub says : IsTrue before.depot.told → before.reader.kept ≡ None → Says (step_at slot before) (to_come after.reader after.depot slot) result
+  pub taken : IfOk result (λ o. MatchOption o (Rests before.reader after.reader before.budget after.budget) (λ r. TakesRecord before.reader after.reader before.budget after.budget r))
+  pub kept : MatchResult result (λ o. Unit {0}) (λ e. KeepsError before.reader after.reader before.budget after.budget e)
+  pub cause : before.reader.kept ≡ None → (f : Failed) → result ≡ Err (errors.Read f) → ReadsRose slot before.depot after.depot
+  pub again : (e : CapError) → before.reader.kept ≡ Some e → (result ≡ Err e) × (after.depot ≡ before.depot) × (after.reader ≡ before.reader)
+  pub counts : SparesReads before.depot after.depot result
 
 -- what an error of opening says
 abbrev pub Refuses : ℕ → Seen → Seen → CapOpen → Type 0
 Refuses slot old new (opens.Head fault) = IsTrue old.told → head_decoded (old.left slot) ≡ Err fault
-Refuses slot old new (opens.Read failed) = Rose (old.read_faults (old.name slot)) (new.read_faults (old.name slot))
+Refuses slot old new (opens.Read failed) = ReadsRose slot old new
 Refuses slot old new opens.Bytes = new ≡ old
 
 -- no fault of reading is counted but where one is told
@@ -148,44 +167,57 @@ pub record OpensReader (slot : ℕ) (old new : Seen) (had left : Budget) (result
 
 -- ---- inside the crate
 
+-- What a buffer is filled from: the bytes that are held, and then the depot.
+pub record Supply : Type 0 where
+  pub held : List ℕ
+  pub depot : Seen
+
+-- such a supply of its parts
+abbrev pub supply : List ℕ → Seen → Supply
+supply held depot = record { held = held; depot = depot }
+
+-- the bytes that a slot has still to give
+abbrev pub coming : ℕ → Supply → List ℕ
+coming slot s = s.held ++ s.depot.left slot
+
 -- Filling a buffer from what is held and then from a slot.
-pub record Pulls (s : ℕ) (buffer held rest : List ℕ) (old new : Seen) (result : Result ℕ Failed) : Type 0 where
-  pub reads : Reads (old.name s) old new
+pub record Pulls (slot : ℕ) (buffer : List ℕ) (before after : Supply) (result : Result ℕ Failed) : Type 0 where
+  pub reads : Reads (before.depot.name slot) before.depot after.depot
   pub bound : IfOk result (λ n. n ≤ length buffer)
-  pub taken : IsTrue old.told → IfOk result (λ n. take n buffer ++ (rest ++ new.left s) ≡ held ++ old.left s)
-  pub ended : IsTrue old.told → IfOk result (λ n. n < length buffer → rest ++ new.left s ≡ [])
-  pub cause : OnErr result (Rose (old.read_faults (old.name s)) (new.read_faults (old.name s)))
-  pub counts : OnOk result (SameReadFaults old new)
+  pub taken : IsTrue before.depot.told → IfOk result (λ n. take n buffer ++ coming slot after ≡ coming slot before)
+  pub ended : IsTrue before.depot.told → IfOk result (λ n. n < length buffer → coming slot after ≡ [])
+  pub cause : OnErr result (ReadsRose slot before.depot after.depot)
+  pub counts : OnOk result (SameReadFaults before.depot after.depot)
 
 -- So many bytes from what is held and then from a slot, put into an empty buffer: fewer only at the end.
-pub record Collects {T : Type 0} (s count : ℕ) (buffer held rest : List ℕ) (old new : Seen) (result : Result T Failed) : Type 0 where
-  pub reads : Reads (old.name s) old new
+pub record Collects {T : Type 0} (slot count : ℕ) (buffer : List ℕ) (before after : Supply) (result : Result T Failed) : Type 0 where
+  pub reads : Reads (before.depot.name slot) before.depot after.depot
   pub bound : length buffer ≤ count
-  pub taken : IsTrue old.told → OnOk result (buffer ++ (rest ++ new.left s) ≡ held ++ old.left s)
-  pub ended : IsTrue old.told → OnOk result (length buffer < count → rest ++ new.left s ≡ [])
-  pub cause : OnErr result (Rose (old.read_faults (old.name s)) (new.read_faults (old.name s)))
-  pub counts : OnOk result (SameReadFaults old new)
+  pub taken : IsTrue before.depot.told → OnOk result (buffer ++ coming slot after ≡ coming slot before)
+  pub ended : IsTrue before.depot.told → OnOk result (length buffer < count → coming slot after ≡ [])
+  pub cause : OnErr result (ReadsRose slot before.depot after.depot)
+  pub counts : OnOk result (SameReadFaults before.depot after.depot)
 
 -- One fetch where nothing is held; nothing is held then only where nothing is left.
-pub record Refills {T : Type 0} (s : ℕ) (held rest : List ℕ) (old new : Seen) (result : Result T Failed) : Type 0 where
-  pub reads : Reads (old.name s) old new
-  pub taken : IsTrue old.told → OnOk result (rest ++ new.left s ≡ held ++ old.left s)
-  pub ended : IsTrue old.told → OnOk result (rest ≡ [] → new.left s ≡ [])
-  pub cause : OnErr result (Rose (old.read_faults (old.name s)) (new.read_faults (old.name s)))
-  pub counts : OnOk result (SameReadFaults old new)
+pub record Refills {T : Type 0} (slot : ℕ) (before after : Supply) (result : Result T Failed) : Type 0 where
+  pub reads : Reads (before.depot.name slot) before.depot after.depot
+  pub taken : IsTrue before.depot.told → OnOk result (coming slot after ≡ coming slot before)
+  pub ended : IsTrue before.depot.told → OnOk result (after.held ≡ [] → after.depot.left slot ≡ [])
+  pub cause : OnErr result (ReadsRose slot before.depot after.depot)
+  pub counts : OnOk result (SameReadFaults before.depot after.depot)
 
 -- limits of a record's parts
-pub record Fits (greatest : ℕ) (budget : Budget) (r : Record) : Type 0 where
+pub record FitsRecord (greatest : ℕ) (budget : Budget) (r : Record) : Type 0 where
   pub onward : greatest ≤ r.moment
   pub range : r.moment < 2 ^ 43
   pub stored : length r.caught.bytes ≤ MOST_STORED
   pub bytes : RECORD_HEAD + length r.caught.bytes ≤ budget.bytes
   pub frames : 1 ≤ budget.frames
 
--- one record from what is held and a slot
-pub record RecordRead (s : ℕ) (old new : Seen) (held rest : List ℕ) (h : CaptureHead) (at greatest : ℕ) (budget : Budget) (result : Result (Option Record) CapError) : Type 0 where
-  pub reads : Reads (old.name s) old new
-  pub says : IsTrue old.told → Says (step_of budget at (next h greatest (held ++ old.left s))) (rest ++ new.left s) result
-  pub fits : IfOk result (λ o. MatchOption o (Unit {0}) (λ r. Fits greatest budget r))
-  pub cause : (f : Failed) → result ≡ Err (errors.Read f) → Rose (old.read_faults (old.name s)) (new.read_faults (old.name s))
-  pub counts : SparesReads old new result
+-- one record from what is held and a slot, at a place of the capture
+pub record RecordRead (slot : ℕ) (place : Place) (budget : Budget) (before after : Supply) (result : Result (Option Record) CapError) : Type 0 where
+  pub reads : Reads (before.depot.name slot) before.depot after.depot
+  pub says : IsTrue before.depot.told → Says (step_of budget place.at (next place.head place.greatest (coming slot before))) (coming slot after) result
+  pub fits : IfOk result (λ o. MatchOption o (Unit {0}) (λ r. FitsRecord place.greatest budget r))
+  pub cause : (f : Failed) → result ≡ Err (errors.Read f) → ReadsRose slot before.depot after.depot
+  pub counts : SparesReads before.depot after.depot result

@@ -1,6 +1,6 @@
 -- The records of a capture, read one after another, and what follows from how the reading ends.
 use Rattle.std.specs.Prelude.{◌≡◌, ◌≢◌, ℕ, ◌+◌, ◌*◌, ◌^◌, ◌≤◌, ◌<◌, ◌↔◌, max, true, false, IsTrue, List, [], ◌∷◌, ◌++◌, length, drop, Option, Some, None, Result, Ok, Err, MatchResult}
-use Rattle.fab_base.specs.Seen.{Seen, Rose}
+use Rattle.fab_base.specs.Seen.{Seen}
 use Rattle.pcap_file.specs.declared.Budget.{Budget}
 use Rattle.pcap_file.specs.declared.CaptureHead.{CaptureHead}
 use Rattle.pcap_file.specs.declared.CapFault.{CapFault}
@@ -10,7 +10,7 @@ use Rattle.pcap_file.specs.declared.Record.{Record}
 use Rattle.pcap_file.specs.declared.CapOpen.{CapOpen}
 use Rattle.pcap_file.specs.declared.CapOpen.TheVariants as opens
 use Rattle.pcap_file.specs.Capture.{HEAD, RECORD_HEAD, MOST_STORED, head_bytes, record_bytes, Next, Found, End, CutHead, TooLong, CutBytes, next, head_decoded, records, IsCapture}
-use Rattle.pcap_file.specs.Reading.{Reading, Why, failure, error_of, Step, Gives, Ends, Stops, step_of, to_come, place_after, NextReads, OpensReader}
+use Rattle.pcap_file.specs.Reading.{Reading, Why, failure, error_of, Step, Gives, Ends, Stops, step_of, to_come, place_after, Standing, step_at, ReadsRose, NextReads, OpensReader}
 
 -- these records stand one after another, and then the rest
 abbrev pub Chain : CaptureHead → ℕ → List Record → List ℕ → List ℕ → Type 0
@@ -73,14 +73,14 @@ abbrev pub MomentsAscend : Type 0
 MomentsAscend = (h : CaptureHead) (file : List ℕ) → Ascends 0 (records h file)
 
 -- what a step says of what stands there: a record within the limits, the end, or why it fails, told with its place
-abbrev pub Tells : Budget → ℕ → Next → Step → Type 0
-Tells budget at x (Gives moment caught rest) = (x ≡ Found moment caught rest) × (failure budget.bytes budget.frames x ≡ None)
-Tells budget at x Ends = x ≡ End
-Tells budget at x (Stops e) = (why : Why) × (failure budget.bytes budget.frames x ≡ Some why) × (e ≡ error_of why at)
+abbrev pub TellsStep : Budget → ℕ → Next → Step → Type 0
+TellsStep budget at x (Gives moment caught rest) = (x ≡ Found moment caught rest) × (failure budget.bytes budget.frames x ≡ None)
+TellsStep budget at x Ends = x ≡ End
+TellsStep budget at x (Stops e) = (why : Why) × (failure budget.bytes budget.frames x ≡ Some why) × (e ≡ error_of why at)
 
 -- a step is exactly what stands there, with its failure
 abbrev pub StepTells : Type 0
-StepTells = (budget : Budget) (at : ℕ) (x : Next) (step : Step) → (step_of budget at x ≡ step) ↔ Tells budget at x step
+StepTells = (budget : Budget) (at : ℕ) (x : Next) (step : Step) → (step_of budget at x ≡ step) ↔ TellsStep budget at x step
 
 -- an answer that shows a step, where this is to come afterwards
 abbrev pub Shows : Step → List ℕ → Result (Option Record) CapError → Type 0
@@ -91,13 +91,13 @@ Shows (Stops e) after result = result ≡ Err e
 -- Each step of the reader is answered, except where the depot's count rose or memory was refused.
 abbrev pub StepIsAnswered : Type 0
 StepIsAnswered =
-    (slot : ℕ) (old new : Seen) (before after : Reading) (had left : Budget) (result : Result (Option Record) CapError) → NextReads slot old new before after had left result → IsTrue old.told → before.kept ≡ None → ¬ Rose (old.read_faults (old.name slot)) (new.read_faults (old.name slot)) → result ≢ Err errors.Memory
-    → Shows (step_of had before.at (next before.head before.greatest (to_come before old slot))) (to_come after new slot) result
+    (slot : ℕ) (before after : Standing) (result : Result (Option Record) CapError) → NextReads slot before after result → IsTrue before.depot.told → before.reader.kept ≡ None → ¬ ReadsRose slot before.depot after.depot → result ≢ Err errors.Memory
+    → Shows (step_at slot before) (to_come after.reader after.depot slot) result
 
 -- Each fault of a head is answered, except where the budget is too small or the depot's count rose; else the head is.
 abbrev pub HeadIsAnswered : Type 0
 HeadIsAnswered =
-    (slot : ℕ) (old new : Seen) (had left : Budget) (result : Result Reading CapOpen) → OpensReader slot old new had left result → IsTrue old.told → HEAD ≤ had.bytes → ¬ Rose (old.read_faults (old.name slot)) (new.read_faults (old.name slot))
+    (slot : ℕ) (old new : Seen) (had left : Budget) (result : Result Reading CapOpen) → OpensReader slot old new had left result → IsTrue old.told → HEAD ≤ had.bytes → ¬ ReadsRose slot old new
     → MatchResult result (λ r. head_decoded (old.left slot) ≡ Ok r.head) (λ e. (fault : CapFault) × (e ≡ opens.Head fault) × (head_decoded (old.left slot) ≡ Err fault))
 
 -- what is written is read back

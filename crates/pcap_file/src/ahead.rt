@@ -2,7 +2,7 @@
 ghost use Rattle.std.specs.Prelude.{◌≡◌, ◌≤◌, ◌<◌, ◌+◌, ◌-◌, List, ℕ, [], ◌++◌, IsTrue};
 ghost use Rattle.std.specs.Prelude.{length, take, drop, min, IfOk, OnErr};
 ghost use Rattle.std.specs.Prelude.{vec_len, vec_capacity};
-ghost use Rattle.pcap_file.specs.Reading.{Pulls, Collects, Refills};
+ghost use Rattle.pcap_file.specs.Reading.{Pulls, Collects, Refills, supply};
 
 use fab_base::{Depot, Failed};
 use std::marker::Model;
@@ -47,8 +47,8 @@ impl Ahead {
         into: &mut [u8],
     ) -> Result<usize, Failed>
         requires { IsTrue ((D.seen depot.old).input slot) }
-        ensures pulls { Pulls slot into.new self.old self.new
-            (D.seen depot.old) (D.seen depot.new) result }
+        ensures pulls { Pulls slot into.new (supply self.old (D.seen depot.old))
+            (supply self.new (D.seen depot.new)) result }
     {
         let mut got = 0;
         while got < into.len() {
@@ -74,8 +74,8 @@ impl Ahead {
         requires input { IsTrue ((D.seen depot.old).input slot) }
         requires empty { vec_len into.old ≡ 0 }
         requires room { count ≤ vec_capacity into.old }
-        ensures collects { Collects slot count into.new.items self.old self.new
-            (D.seen depot.old) (D.seen depot.new) result }
+        ensures collects { Collects slot count into.new.items (supply self.old (D.seen depot.old))
+            (supply self.new (D.seen depot.new)) result }
     {
         while into.len() < count {
             self.ready(depot, slot)?;
@@ -89,8 +89,8 @@ impl Ahead {
     // Fetches once where nothing is held.
     fn ready<D: Depot>(&mut self, depot: &mut D, slot: u32) -> Result<(), Failed>
         requires { IsTrue ((D.seen depot.old).input slot) }
-        ensures refills { Refills slot self.old self.new
-            (D.seen depot.old) (D.seen depot.new) result }
+        ensures refills { Refills slot (supply self.old (D.seen depot.old))
+            (supply self.new (D.seen depot.new)) result }
     {
         if self.from < self.to {
             return Ok(());

@@ -1,6 +1,7 @@
 //! Reading a capture from a slot, record by record.
 ghost use Rattle.std.specs.Prelude.{◌≡◌, ◌<◌, ◌≤◌, ◌^◌, IsTrue};
 ghost use Rattle.pcap_file.specs.Reading.{Reading, OpensReader, NextReads, RecordRead};
+ghost use Rattle.pcap_file.specs.Reading.{standing, supply};
 
 use crate::ahead::Ahead;
 use crate::head::{HEAD, MOST_STORED, RECORD_HEAD, number_at};
@@ -88,8 +89,8 @@ impl Reader {
         budget: &mut Budget,
     ) -> Result<Option<Record>, CapError>
         requires input { IsTrue ((D.seen depot.old).input slot) }
-        ensures next { NextReads slot (D.seen depot.old) (D.seen depot.new) self.old self.new
-            budget.old budget.new result }
+        ensures next { NextReads slot (standing (D.seen depot.old) self.old budget.old)
+            (standing (D.seen depot.new) self.new budget.new) result }
     {
         if let Some(error) = self.kept {
             return Err(error);
@@ -123,8 +124,8 @@ fn read_record<D: Depot>(
 ) -> Result<Option<Record>, CapError>
     requires input { IsTrue ((D.seen depot.old).input slot) }
     requires greatest { place.greatest < 2 ^ 43 }
-    ensures reads { RecordRead slot (D.seen depot.old) (D.seen depot.new) ahead.old ahead.new
-        place.head place.at place.greatest budget result }
+    ensures reads { RecordRead slot place budget (supply ahead.old (D.seen depot.old))
+        (supply ahead.new (D.seen depot.new)) result }
 {
     let Place { head, at, greatest } = place;
     let mut front = [0u8; RECORD_HEAD];

@@ -8,7 +8,7 @@ use Rattle.pcap_file.specs.declared.CapError.{CapError}
 use Rattle.pcap_file.specs.declared.CapError.TheVariants as errors
 use Rattle.pcap_file.specs.Capture.{Next, Found, End, CutHead, TooLong, CutBytes}
 use Rattle.pcap_file.specs.Reading.{Why, NoBytes, NoFrames, limit_of, failure, Step, Gives, Ends, Stops, step_by, step_of}
-use Rattle.pcap_file.specs.Records.{IsFault, Tells}
+use Rattle.pcap_file.specs.Records.{IsFault, TellsStep}
 
 -- ---- the limits
 
@@ -30,7 +30,7 @@ module _ (bytes frames len : ℕ) where
 
 -- ---- steps
 
-tells_by : (budget : Budget) (at : ℕ) (x : Next) (why : Option Why) → failure budget.bytes budget.frames x ≡ why → Tells budget at x (step_by why at x)
+tells_by : (budget : Budget) (at : ℕ) (x : Next) (why : Option Why) → failure budget.bytes budget.frames x ≡ why → TellsStep budget at x (step_by why at x)
 tells_by budget at x (Some why) e = (why, e, refl)
 tells_by budget at (Found moment caught rest) None e = (refl, e)
 tells_by budget at End None e = refl
@@ -39,11 +39,11 @@ tells_by budget at (TooLong len) None e = absurd (cc)
 tells_by budget at (CutBytes len) None e = absurd (cc)
 
 -- what a step says of what stands there
-pub step_tells : (budget : Budget) (at : ℕ) (x : Next) (step : Step) → step_of budget at x ≡ step → Tells budget at x step
-step_tells budget at x step e = subst (Tells budget at x) e (tells_by budget at x (failure budget.bytes budget.frames x) refl)
+pub step_tells : (budget : Budget) (at : ℕ) (x : Next) (step : Step) → step_of budget at x ≡ step → TellsStep budget at x step
+step_tells budget at x step e = subst (TellsStep budget at x) e (tells_by budget at x (failure budget.bytes budget.frames x) refl)
 
 -- and the step from that
-pub told_step : (budget : Budget) (at : ℕ) (x : Next) (step : Step) → Tells budget at x step → step_of budget at x ≡ step
+pub told_step : (budget : Budget) (at : ℕ) (x : Next) (step : Step) → TellsStep budget at x step → step_of budget at x ≡ step
 told_step budget at x (Gives moment caught rest) t = (λ i. step_by (t.1 i) at (t.0 i))
 told_step budget at x Ends t = ap (step_of budget at) t
 told_step budget at x (Stops e) t = ap (λ o. step_by o at x) t.1 ∙ ap (λ q. Stops q) (sym t.2)

@@ -3,6 +3,6 @@ use Rattle.pcap_file.proofs.laws.a_reader_answers_what_stands_there.Goals as goa
 
 pub returns : goal.returns
 returns c = record {
-  records = λ slot old new before after had left result reads told fresh calm memory. step_is_answered slot old new before after had left result reads told fresh calm memory;
+  records = λ slot before after result reads told fresh calm memory. step_is_answered slot before after result reads told fresh calm memory;
   head = λ slot old new had left result opens told room calm. head_is_answered slot old new had left result opens told room calm;
 }
