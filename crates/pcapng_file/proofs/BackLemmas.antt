@@ -7,10 +7,10 @@ use Rattle.pcap_file.specs.Records.{Chain, last_moment}
 use Rattle.pcap_file.proofs.lemmas.Chains.{ends_as_capture}
 use Rattle.pcap_file.proofs.lemmas.Written.{next_end, front_whole, head_read}
 use Rattle.pcapng_file.specs.declared.NgRecord.{NgRecord}
-use Rattle.pcapng_file.specs.File.{IsKept, AreKept}
+use Rattle.pcapng_file.specs.File.{IsPacketKept, AreKept}
 use Rattle.pcapng_file.specs.Classic.{classic_front, classic_record, classic_records, classic_bytes, timed, written}
 
-module _ (r : NgRecord) (kept : IsKept r) where
+module _ (r : NgRecord) (kept : IsPacketKept r) where
   stored_is : stored written (classic_front r) ≡ length r.caught.bytes
   stored_is = let small = kept.stored in little_endian-spelled 4 (length r.caught.bytes) (omega arith)
 

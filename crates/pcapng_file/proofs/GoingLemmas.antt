@@ -5,21 +5,22 @@ use Rattle.std.proofs.lemmas.List.{append-nil}
 use Rattle.fab_base.specs.Seen.{Seen, Reads, Rose, SameReadFaults}
 use Rattle.fab_base.proofs.Depots.{reads_trans, reads_refl, input_name, told_stays, rose_later}
 use Rattle.pcap_file.specs.declared.Budget.{Budget}
+use Rattle.pcap_file.specs.Reading.{Supply, supply, coming}
 use Rattle.pcapng_file.specs.declared.fault.NgError.{NgError}
 use Rattle.pcapng_file.specs.declared.fault.NgError.TheVariants as errors
 use Rattle.pcapng_file.specs.declared.reading.Block.{Block}
 use Rattle.pcapng_file.specs.declared.NgRecord.{NgRecord}
-use Rattle.pcapng_file.specs.File.{Section, before_all, after, found, less, in_front, go_on, step_of, read_from, ng_read, AreKept, Tells, BlockRead, NgReads}
+use Rattle.pcapng_file.specs.File.{Section, before_all, after, found, less, in_front, go_on, step_of, read_from, ng_read, AreKept, TellsRead, Place, place, BlockRead, NgReads}
 use Rattle.pcapng_file.proofs.StepLemmas.{spares_error}
 
 -- What stands for the loop at a place, with these packets read.
-pub record Going (slot : ℕ) (had : Budget) (a b : Seen) (held : List ℕ) (s : Section) (left : Budget) (at : ℕ) (v : List NgRecord) : Type 0 where
-  pub reads : Reads (a.name slot) a b
-  pub place : at + left.bytes ≡ had.bytes
-  pub frames : left.frames + length v ≡ had.frames
+pub record Going (slot : ℕ) (had : Budget) (first : Seen) (now : Supply) (here : Place) (v : List NgRecord) : Type 0 where
+  pub reads : Reads (first.name slot) first now.depot
+  pub place : here.at + here.left.bytes ≡ had.bytes
+  pub frames : here.left.frames + length v ≡ had.frames
   pub kept : AreKept v
-  pub on : IsTrue a.told → (m : ℕ) × (length (held ++ b.left slot) ≤ m) × (at + length (held ++ b.left slot) ≡ length (a.left slot)) × (in_front v (read_from (suc m) left at s (held ++ b.left slot)) ≡ ng_read had (a.left slot))
-  pub counts : SameReadFaults a b
+  pub on : IsTrue first.told → (m : ℕ) × (length (coming slot now) ≤ m) × (here.at + length (coming slot now) ≡ length (first.left slot)) × (in_front v (read_from (suc m) here.left here.at here.section (coming slot now)) ≡ ng_read had (first.left slot))
+  pub counts : SameReadFaults first now.depot
 
 kept_append : (v w : List NgRecord) → AreKept v → AreKept w → AreKept (v ++ w)
 kept_append [] w a b = b
@@ -42,7 +43,7 @@ unfolding ng_read
 read_is had l = refl
 
 -- before the first block
-pub going_none : (slot : ℕ) (had : Budget) (a : Seen) (held : List ℕ) (s : Section) (at : ℕ) (v : List NgRecord) → held ≡ [] → s ≡ before_all → at ≡ 0 → v ≡ [] → Going slot had a a held s had at v
+pub going_none : (slot : ℕ) (had : Budget) (a : Seen) (held : List ℕ) (s : Section) (at : ℕ) (v : List NgRecord) → held ≡ [] → s ≡ before_all → at ≡ 0 → v ≡ [] → Going slot had a (supply held a) (place at s had) v
 going_none slot had a held s at v none is_s is_at is_v =
     let all : held ++ a.left slot ≡ a.left slot = ap (λ (h : List ℕ). h ++ a.left slot) none in
     record {
@@ -59,14 +60,14 @@ going_none slot had a held s at v none is_s is_at is_v =
       counts = λ m. refl;
     }
 
-module _ (slot : ℕ) (had : Budget) (a b c : Seen) (held rest : List ℕ) (s : Section) (left : Budget) (at : ℕ) (v : List NgRecord) (is_in : IsTrue (a.input slot)) (g : Going slot had a b held s left at v) where
+module _ (slot : ℕ) (had : Budget) (a b c : Seen) (held rest : List ℕ) (s : Section) (left : Budget) (at : ℕ) (v : List NgRecord) (is_in : IsTrue (a.input slot)) (g : Going slot had a (supply held b) (place at s left) v) where
   same : b.name slot ≡ a.name slot
   same = input_name (a.name slot) a b g.reads.keeps slot is_in
 
   told_b : IsTrue a.told → IsTrue b.told
   told_b told = told_stays (a.name slot) a b g.reads.keeps told
 
-  module _ (result : Result (Option Block) NgError) (r : BlockRead slot b c held rest left at s result) where
+  module _ (result : Result (Option Block) NgError) (r : BlockRead slot (place at s left) (supply held b) (supply rest c) result) where
     both : Reads (a.name slot) a c
     both = reads_trans (a.name slot) a b c g.reads (subst (λ m. Reads m b c) same r.reads)
 
@@ -74,14 +75,14 @@ module _ (slot : ℕ) (had : Budget) (a b c : Seen) (held rest : List ℕ) (s : 
   from_step : (told : IsTrue a.told) (x : Result (Option Block) NgError) → step_of left at s (held ++ b.left slot) ≡ x → in_front v (go_on (λ k. in_front (found k.content) (read_from (g.on told).0 (less left k) (at + k.size) (after s k.content) (drop k.size (held ++ b.left slot)))) x) ≡ ng_read had (a.left slot)
   from_step told x is = ap (λ (y : Result (Option Block) NgError). in_front v (go_on (λ k. in_front (found k.content) (read_from (g.on told).0 (less left k) (at + k.size) (after s k.content) (drop k.size (held ++ b.left slot)))) y)) (sym is) ∙ (g.on told).3
 
-  error_tells : (told : IsTrue a.told) (e : NgError) → Tells {A = Option Block} (step_of left at s (held ++ b.left slot)) (Err e) → Tells {A = List NgRecord} (ng_read had (a.left slot)) (Err e)
+  error_tells : (told : IsTrue a.told) (e : NgError) → TellsRead {A = Option Block} (step_of left at s (held ++ b.left slot)) (Err e) → TellsRead {A = List NgRecord} (ng_read had (a.left slot)) (Err e)
   error_tells told (errors.Fault place fault) is = sym (from_step told (Err (errors.Fault place fault)) is)
   error_tells told (errors.Limit limit) is = sym (from_step told (Err (errors.Limit limit)) is)
   error_tells told (errors.Read failed) is = tt
   error_tells told errors.Memory is = tt
 
   -- an error of the next block; the budget is the one that was handed in
-  pub going_failed : (budget : Budget) (e : NgError) → budget ≡ had → BlockRead slot b c held rest left at s (Err e) → NgReads slot a c had budget (Err e)
+  pub going_failed : (budget : Budget) (e : NgError) → budget ≡ had → BlockRead slot (place at s left) (supply held b) (supply rest c) (Err e) → NgReads slot a c had budget (Err e)
   going_failed budget e is_had r = record {
     reads = both (Err e) r;
     exact = λ told. error_tells told e (r.tells (told_b told));
@@ -95,7 +96,7 @@ module _ (slot : ℕ) (had : Budget) (a b c : Seen) (held rest : List ℕ) (s : 
   }
 
   -- memory is refused behind a block
-  pub going_full : (budget : Budget) (next : Option Block) → budget ≡ had → BlockRead slot b c held rest left at s (Ok next) → NgReads slot a c had budget (Err errors.Memory)
+  pub going_full : (budget : Budget) (next : Option Block) → budget ≡ had → BlockRead slot (place at s left) (supply held b) (supply rest c) (Ok next) → NgReads slot a c had budget (Err errors.Memory)
   going_full budget next is_had r = record {
     reads = both (Ok next) r;
     exact = λ told. tt;
@@ -108,9 +109,9 @@ module _ (slot : ℕ) (had : Budget) (a b c : Seen) (held rest : List ℕ) (s : 
     counts = λ m. r.counts m ∙ g.counts m;
   }
 
-  pub going_ended : (next : Option Block) → next ≡ None → BlockRead slot b c held rest left at s (Ok next) → NgReads slot a c had left (Ok v)
+  pub going_ended : (next : Option Block) → next ≡ None → BlockRead slot (place at s left) (supply held b) (supply rest c) (Ok next) → NgReads slot a c had left (Ok v)
   going_ended next none read =
-      let r : BlockRead slot b c held rest left at s (Ok None) = subst (λ (n : Option Block). BlockRead slot b c held rest left at s (Ok n)) none read in
+      let r : BlockRead slot (place at s left) (supply held b) (supply rest c) (Ok None) = subst (λ (n : Option Block). BlockRead slot (place at s left) (supply held b) (supply rest c) (Ok n)) none read in
       record {
         reads = both (Ok None) r;
         exact = λ told. sym (from_step told (Ok None) (r.tells (told_b told))) ∙ ap (λ (w : List NgRecord). Ok w) (append-nil v);
@@ -123,16 +124,16 @@ module _ (slot : ℕ) (had : Budget) (a b c : Seen) (held rest : List ℕ) (s : 
         counts = λ m. r.counts m ∙ g.counts m;
       }
 
-  module _ (next : Option Block) (k : Block) (some : next ≡ Some k) (read : BlockRead slot b c held rest left at s (Ok next)) where
-    r : BlockRead slot b c held rest left at s (Ok (Some k))
-    r = subst (λ (n : Option Block). BlockRead slot b c held rest left at s (Ok n)) some read
+  module _ (next : Option Block) (k : Block) (some : next ≡ Some k) (read : BlockRead slot (place at s left) (supply held b) (supply rest c) (Ok next)) where
+    r : BlockRead slot (place at s left) (supply held b) (supply rest c) (Ok (Some k))
+    r = subst (λ (n : Option Block). BlockRead slot (place at s left) (supply held b) (supply rest c) (Ok n)) some read
 
     fewer : (m : ℕ) → length (held ++ b.left slot) ≤ m → length (drop k.size (held ++ b.left slot)) + 12 ≤ length (held ++ b.left slot) → (d : Section) (w : List NgRecord) (budget : Budget) (place : ℕ) → in_front w (read_from m budget place d (drop k.size (held ++ b.left slot))) ≡ ng_read had (a.left slot) → rest ++ c.left slot ≡ drop k.size (held ++ b.left slot) → place + length (drop k.size (held ++ b.left slot)) ≡ length (a.left slot) →
         (n : ℕ) × (length (rest ++ c.left slot) ≤ n) × (place + length (rest ++ c.left slot) ≡ length (a.left slot)) × (in_front w (read_from (suc n) budget place d (rest ++ c.left slot)) ≡ ng_read had (a.left slot))
     fewer zero le less_by d w budget place is behind total = absurd (omega arith)
     fewer (suc n) le less_by d w budget place is behind total = (n, omega (arith, ap length behind), omega (arith, ap length behind), ap (λ l. in_front w (read_from (suc n) budget place d l)) behind ∙ is)
 
-    pub going_on : (d : Section) (w : List NgRecord) (budget : Budget) → d ≡ after s k.content → w ≡ v ++ found k.content → budget ≡ less left k → Going slot had a c rest d budget (had.bytes - budget.bytes) w
+    pub going_on : (d : Section) (w : List NgRecord) (budget : Budget) → d ≡ after s k.content → w ≡ v ++ found k.content → budget ≡ less left k → Going slot had a (supply rest c) (place (had.bytes - budget.bytes) d budget) w
     going_on d w budget is_d is_w is_budget =
         let bytes : budget.bytes ≡ left.bytes - k.size = ap (λ (q : Budget). q.bytes) is_budget in
         let frames : budget.frames ≡ left.frames - length (found k.content) = ap (λ (q : Budget). q.frames) is_budget in

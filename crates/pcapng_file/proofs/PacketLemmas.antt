@@ -15,7 +15,7 @@ use Rattle.pcapng_file.specs.declared.packet.Content.{Content}
 use Rattle.pcapng_file.specs.declared.packet.Content.TheVariants as says
 use Rattle.pcapng_file.specs.declared.NgRecord.{NgRecord}
 use Rattle.pcapng_file.specs.Block.{test, first, unless, padded, stored, no_interface, interface_at, timed_tests, record_of, record_in, timed_read, packet_read, packet_tests, kind_tests, content_of, body_read}
-use Rattle.pcapng_file.specs.File.{Tells, at_fault}
+use Rattle.pcapng_file.specs.File.{TellsRead, at_fault}
 
 abbrev ladder : Bool → Option Interface → Bool → List ℕ → Result NgRecord NgWhy
 ladder past face big b = unless (first (test past why.Length ∷ test (is_none face) why.Interface ∷ timed_tests (unwrap_or face no_interface) big b)) (record_of (unwrap_or face no_interface) big b)
@@ -32,8 +32,8 @@ module _ (big : Bool) (faces : List Interface) (b : List ℕ) (fits : nat_lt (le
   pub packet_of : (face : Interface) → interface_at big faces b ≡ Some face → packet_read big faces b ≡ timed_read face big b
   packet_of face is = packet_is big faces b ∙ (λ i. ladder (fits i) (is i) big b) ∙ timed_is face big b
 
-  pub packet_tells : (at : ℕ) (face : Interface) (result : Result NgRecord NgError) → interface_at big faces b ≡ Some face → Tells (at_fault at (timed_read face big b)) result → Tells (at_fault at (packet_read big faces b)) result
-  packet_tells at face result is tells = subst (λ (r : Result NgRecord NgWhy). Tells (at_fault at r) result) (sym (packet_of face is)) tells
+  pub packet_tells : (at : ℕ) (face : Interface) (result : Result NgRecord NgError) → interface_at big faces b ≡ Some face → TellsRead (at_fault at (timed_read face big b)) result → TellsRead (at_fault at (packet_read big faces b)) result
+  packet_tells at face result is tells = subst (λ (r : Result NgRecord NgWhy). TellsRead (at_fault at r) result) (sym (packet_of face is)) tells
 
   pub packet_none : interface_at big faces b ≡ None → packet_read big faces b ≡ Err why.Interface
   packet_none is = packet_is big faces b ∙ (λ i. ladder (fits i) (is i) big b)
@@ -64,11 +64,11 @@ body_packet h faces b same kind =
     body_is h faces b ∙ (λ i. second_then (not (eq-eqb (at_place h.big b (h.size - 4) 4) h.size same i)) (kind i) h.big faces b)
     ∙ unless_content (first (packet_tests h.big faces b)) (record_in h.big faces b) ∙ ap as_content (packet_unless h.big faces b)
 
-content_ok : (at : ℕ) (x : Result NgRecord NgWhy) (r : NgRecord) → Tells (at_fault at x) (Ok r) → Tells (at_fault at (as_content x)) (Ok (says.Packet r))
+content_ok : (at : ℕ) (x : Result NgRecord NgWhy) (r : NgRecord) → TellsRead (at_fault at x) (Ok r) → TellsRead (at_fault at (as_content x)) (Ok (says.Packet r))
 content_ok at (Ok q) r e = let same : q ≡ r = cc in ap (λ (p : NgRecord). Ok (says.Packet p)) same
 content_ok at (Err fault) r e = absurd (cc)
 
-content_err : (at : ℕ) (x : Result NgRecord NgWhy) (e : NgError) → Tells {A = NgRecord} (at_fault at x) (Err e) → Tells {A = Content} (at_fault at (as_content x)) (Err e)
+content_err : (at : ℕ) (x : Result NgRecord NgWhy) (e : NgError) → TellsRead {A = NgRecord} (at_fault at x) (Err e) → TellsRead {A = Content} (at_fault at (as_content x)) (Err e)
 content_err at (Ok q) (errors.Fault place fault) is = absurd (cc)
 content_err at (Ok q) (errors.Limit limit) is = absurd (cc)
 content_err at (Ok q) (errors.Read failed) is = tt
@@ -79,8 +79,8 @@ content_err at (Err w) (errors.Read failed) is = tt
 content_err at (Err w) errors.Memory is = tt
 
 module _ (at : ℕ) (h : Head) (faces : List Interface) (b : List ℕ) (same : at_place h.big b (h.size - 4) 4 ≡ h.size) (kind : h.kind ≡ kinds.Packet) where
-  pub body_ok : (r : NgRecord) → Tells (at_fault at (packet_read h.big faces b)) (Ok r) → Tells (at_fault at (body_read h faces b)) (Ok (says.Packet r))
-  body_ok r tells = subst (λ (x : Result Content NgWhy). Tells (at_fault at x) (Ok (says.Packet r))) (sym (body_packet h faces b same kind)) (content_ok at (packet_read h.big faces b) r tells)
+  pub body_ok : (r : NgRecord) → TellsRead (at_fault at (packet_read h.big faces b)) (Ok r) → TellsRead (at_fault at (body_read h faces b)) (Ok (says.Packet r))
+  body_ok r tells = subst (λ (x : Result Content NgWhy). TellsRead (at_fault at x) (Ok (says.Packet r))) (sym (body_packet h faces b same kind)) (content_ok at (packet_read h.big faces b) r tells)
 
-  pub body_err : (e : NgError) → Tells {A = NgRecord} (at_fault at (packet_read h.big faces b)) (Err e) → Tells {A = Content} (at_fault at (body_read h faces b)) (Err e)
-  body_err e tells = subst (λ (x : Result Content NgWhy). Tells {A = Content} (at_fault at x) (Err e)) (sym (body_packet h faces b same kind)) (content_err at (packet_read h.big faces b) e tells)
+  pub body_err : (e : NgError) → TellsRead {A = NgRecord} (at_fault at (packet_read h.big faces b)) (Err e) → TellsRead {A = Content} (at_fault at (body_read h faces b)) (Err e)
+  body_err e tells = subst (λ (x : Result Content NgWhy). TellsRead {A = Content} (at_fault at x) (Err e)) (sym (body_packet h faces b same kind)) (content_err at (packet_read h.big faces b) e tells)

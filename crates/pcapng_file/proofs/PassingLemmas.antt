@@ -7,7 +7,7 @@ use Rattle.fab_base.specs.Seen.{Seen, Reads, Rose, SameReadFaults}
 use Rattle.fab_base.specs.declared.values.Failed.{Failed}
 use Rattle.fab_base.proofs.Depots.{reads_refl, reads_trans, input_name, told_stays, rose_later}
 use Rattle.pcap_file.specs.Capture.{at_place, ordered}
-use Rattle.pcap_file.specs.Reading.{Pulls}
+use Rattle.pcap_file.specs.Reading.{Pulls, Supply, supply, coming}
 use Rattle.pcap_file.specs.declared.Budget.{Budget}
 use Rattle.pcap_file.proofs.lemmas.Buffers.{front_is, short_is}
 use Rattle.pcap_file.proofs.lemmas.Numbers.{le_or_lt}
@@ -23,21 +23,21 @@ use Rattle.pcapng_file.specs.declared.packet.Content.{Content}
 use Rattle.pcapng_file.specs.declared.packet.Content.TheVariants as says
 use Rattle.pcapng_file.specs.Block.{test, first, unless, kind_tests, content_of, body_read}
 use Rattle.pcapng_file.specs.File.{counted, step_in}
-use Rattle.pcapng_file.specs.Passing.{Skips, HasSecond, PassesOver, from_front}
+use Rattle.pcapng_file.specs.Passing.{Skips, HasSecond, PassesOver, begun, from_front}
 use Rattle.pcapng_file.proofs.StepLemmas.{inner}
 
 -- ---- piece by piece
 
 -- so many bytes went by
-pub record Passed (slot n : ℕ) (a b : Seen) (held rest : List ℕ) : Type 0 where
-  pub reads : Reads (a.name slot) a b
-  pub taken : IsTrue a.told → (n ≤ length (held ++ a.left slot)) × (rest ++ b.left slot ≡ drop n (held ++ a.left slot))
-  pub counts : SameReadFaults a b
+pub record Passed (slot n : ℕ) (old new : Supply) : Type 0 where
+  pub reads : Reads (old.depot.name slot) old.depot new.depot
+  pub taken : IsTrue old.depot.told → (n ≤ length (coming slot old)) × (coming slot new ≡ drop n (coming slot old))
+  pub counts : SameReadFaults old.depot new.depot
 
-pub passed_none : (slot : ℕ) (a : Seen) (held : List ℕ) → Passed slot 0 a a held held
+pub passed_none : (slot : ℕ) (a : Seen) (held : List ℕ) → Passed slot 0 (supply held a) (supply held a)
 passed_none slot a held = record { reads = reads_refl (a.name slot) a; taken = λ told. (omega arith, refl); counts = λ m. refl }
 
-module _ (slot n : ℕ) (a b c : Seen) (held mid : List ℕ) (is_in : IsTrue (a.input slot)) (p : Passed slot n a b held mid) where
+module _ (slot n : ℕ) (a b c : Seen) (held mid : List ℕ) (is_in : IsTrue (a.input slot)) (p : Passed slot n (supply held a) (supply mid b)) where
   same : b.name slot ≡ a.name slot
   same = input_name (a.name slot) a b p.reads.keeps slot is_in
 
@@ -45,7 +45,7 @@ module _ (slot n : ℕ) (a b c : Seen) (held mid : List ℕ) (is_in : IsTrue (a.
   told_b told = told_stays (a.name slot) a b p.reads.keeps told
 
   module _ (rest buffer : List ℕ) where
-    pub passed_more : (k : ℕ) → Pulls slot buffer mid rest b c (Ok k) → Passed slot (n + k) a c held rest
+    pub passed_more : (k : ℕ) → Pulls slot buffer (supply mid b) (supply rest c) (Ok k) → Passed slot (n + k) (supply held a) (supply rest c)
     passed_more k r = record {
       reads = reads_trans (a.name slot) a b c p.reads (subst (λ m. Reads m b c) same r.reads);
       taken = λ told.
@@ -60,7 +60,7 @@ module _ (slot n : ℕ) (a b c : Seen) (held mid : List ℕ) (is_in : IsTrue (a.
       counts = λ m. r.counts m ∙ p.counts m;
     }
 
-    pub skips_short : (wanted k : ℕ) → Pulls slot buffer mid rest b c (Ok k) → k < length buffer → n + k ≤ wanted → Skips slot wanted held rest a c (Ok (n + k))
+    pub skips_short : (wanted k : ℕ) → Pulls slot buffer (supply mid b) (supply rest c) (Ok k) → k < length buffer → n + k ≤ wanted → Skips slot wanted (supply held a) (supply rest c) (Ok (n + k))
     skips_short wanted k r lt le = let more = passed_more k r in record {
       reads = more.reads;
       bound = le;
@@ -70,7 +70,7 @@ module _ (slot n : ℕ) (a b c : Seen) (held mid : List ℕ) (is_in : IsTrue (a.
       counts = more.counts;
     }
 
-    pub skips_failed : (wanted : ℕ) (e : Failed) → Pulls slot buffer mid rest b c (Err e) → Skips slot wanted held rest a c (Err e)
+    pub skips_failed : (wanted : ℕ) (e : Failed) → Pulls slot buffer (supply mid b) (supply rest c) (Err e) → Skips slot wanted (supply held a) (supply rest c) (Err e)
     skips_failed wanted e r = record {
       reads = reads_trans (a.name slot) a b c p.reads (subst (λ m. Reads m b c) same r.reads);
       bound = tt;
@@ -80,7 +80,7 @@ module _ (slot n : ℕ) (a b c : Seen) (held mid : List ℕ) (is_in : IsTrue (a.
       counts = tt;
     }
 
-  pub skips_all : (wanted : ℕ) → n ≡ wanted → Skips slot wanted held mid a b (Ok n)
+  pub skips_all : (wanted : ℕ) → n ≡ wanted → Skips slot wanted (supply held a) (supply mid b) (Ok n)
   skips_all wanted all = record {
     reads = p.reads;
     bound = omega arith;
@@ -106,7 +106,7 @@ last_bytes big size l last tail le four is =
     ap (λ (m : List ℕ). ordered big (take 4 m)) behind
 
 module _ (slot : ℕ) (a b : Seen) (held mid front : List ℕ) (h : Head) (sized : length front ≡ 12) where
-  pub second_here : h.size ≡ 12 → (n : ℕ) → n ≡ at_place h.big front 8 4 → HasSecond slot a a held held front h (Ok (Some n))
+  pub second_here : h.size ≡ 12 → (n : ℕ) → n ≡ at_place h.big front 8 4 → HasSecond slot (begun front h) (supply held a) (supply held a) (Ok (Some n))
   second_here is n told_n = record {
     reads = reads_refl (a.name slot) a;
     tells = λ told.
@@ -120,10 +120,10 @@ module _ (slot : ℕ) (a b : Seen) (held mid front : List ℕ) (h : Head) (sized
   }
 
   module _ (middle : ℕ) (is_size : h.size ≡ 16 + middle) where
-    pub second_failed : (e : Failed) → Skips slot middle held mid a b (Err e) → HasSecond slot a b held mid front h (Err e)
+    pub second_failed : (e : Failed) → Skips slot middle (supply held a) (supply mid b) (Err e) → HasSecond slot (begun front h) (supply held a) (supply mid b) (Err e)
     second_failed e s = record { reads = s.reads; tells = λ told. tt; cause = s.cause; counts = tt }
 
-    pub second_cut : (k : ℕ) → Skips slot middle held mid a b (Ok k) → k < middle → HasSecond slot a b held mid front h (Ok None)
+    pub second_cut : (k : ℕ) → Skips slot middle (supply held a) (supply mid b) (Ok k) → k < middle → HasSecond slot (begun front h) (supply held a) (supply mid b) (Ok None)
     second_cut k s lt = record {
       reads = s.reads;
       tells = λ told.
@@ -133,7 +133,7 @@ module _ (slot : ℕ) (a b : Seen) (held mid front : List ℕ) (h : Head) (sized
       counts = s.counts;
     }
 
-    module _ (c : Seen) (rest last : List ℕ) (is_in : IsTrue (a.input slot)) (four : length last ≡ 4) (k : ℕ) (s : Skips slot middle held mid a b (Ok k)) (all : middle ≤ k) where
+    module _ (c : Seen) (rest last : List ℕ) (is_in : IsTrue (a.input slot)) (four : length last ≡ 4) (k : ℕ) (s : Skips slot middle (supply held a) (supply mid b) (Ok k)) (all : middle ≤ k) where
       same_name : b.name slot ≡ a.name slot
       same_name = input_name (a.name slot) a b s.reads.keeps slot is_in
 
@@ -151,7 +151,7 @@ module _ (slot : ℕ) (a b : Seen) (held mid front : List ℕ) (h : Head) (sized
             ap (λ (m : ℕ). drop m (front ++ (held ++ a.left slot))) place ∙ sym (drop-drop middle 12 (front ++ (held ++ a.left slot))) ∙ ap (drop middle) (drop_at front (held ++ a.left slot) 12 sized) ∙ ap (λ (m : ℕ). drop m (held ++ a.left slot)) (sym is_middle) ∙ sym t.1,
           )
 
-      pub last_failed : (e : Failed) → Pulls slot last mid rest b c (Err e) → HasSecond slot a c held rest front h (Err e)
+      pub last_failed : (e : Failed) → Pulls slot last (supply mid b) (supply rest c) (Err e) → HasSecond slot (begun front h) (supply held a) (supply rest c) (Err e)
       last_failed e r = record {
         reads = reads_trans (a.name slot) a b c s.reads (subst (λ m. Reads m b c) same_name r.reads);
         tells = λ told. tt;
@@ -159,8 +159,8 @@ module _ (slot : ℕ) (a b : Seen) (held mid front : List ℕ) (h : Head) (sized
         counts = tt;
       }
 
-      module _ (n : ℕ) (r : Pulls slot last mid rest b c (Ok n)) where
-        pub last_cut : n < 4 → HasSecond slot a c held rest front h (Ok None)
+      module _ (n : ℕ) (r : Pulls slot last (supply mid b) (supply rest c) (Ok n)) where
+        pub last_cut : n < 4 → HasSecond slot (begun front h) (supply held a) (supply rest c) (Ok None)
         last_cut lt = record {
           reads = reads_trans (a.name slot) a b c s.reads (subst (λ m. Reads m b c) same_name r.reads);
           tells = λ told.
@@ -171,7 +171,7 @@ module _ (slot : ℕ) (a b : Seen) (held mid front : List ℕ) (h : Head) (sized
           counts = λ m. r.counts m ∙ s.counts m;
         }
 
-        pub last_there : 4 ≤ n → (size : ℕ) → size ≡ at_place h.big last 0 4 → HasSecond slot a c held rest front h (Ok (Some size))
+        pub last_there : 4 ≤ n → (size : ℕ) → size ≡ at_place h.big last 0 4 → HasSecond slot (begun front h) (supply held a) (supply rest c) (Ok (Some size))
         last_there le size is_last = record {
           reads = reads_trans (a.name slot) a b c s.reads (subst (λ m. Reads m b c) same_name r.reads);
           tells = λ told.
@@ -198,19 +198,19 @@ unfolding body_read
 judged_is h faces b = refl
 
 module _ (slot : ℕ) (a b : Seen) (held rest front : List ℕ) (h : Head) (at : ℕ) (other : h.kind ≡ kinds.Other) where
-  module _ (n : ℕ) (second : Option ℕ) (is_n : second ≡ Some n) (given : HasSecond slot a b held rest front h (Ok second)) where
-    s : HasSecond slot a b held rest front h (Ok (Some n))
-    s = subst (λ (o : Option ℕ). HasSecond slot a b held rest front h (Ok o)) is_n given
+  module _ (n : ℕ) (second : Option ℕ) (is_n : second ≡ Some n) (given : HasSecond slot (begun front h) (supply held a) (supply rest b) (Ok second)) where
+    s : HasSecond slot (begun front h) (supply held a) (supply rest b) (Ok (Some n))
+    s = subst (λ (o : Option ℕ). HasSecond slot (begun front h) (supply held a) (supply rest b) (Ok o)) is_n given
 
-    steps : IsTrue a.told → (budget : Budget) (faces : List Interface) → h.size ≤ budget.bytes → (differs : Bool) → not (eqb n h.size) ≡ differs → step_in budget at faces (from_front slot a held front) h ≡ inner false false at (judged differs kinds.Other h.big faces (take h.size (from_front slot a held front))) (counted budget h.size)
+    steps : IsTrue a.told → (budget : Budget) (faces : List Interface) → h.size ≤ budget.bytes → (differs : Bool) → not (eqb n h.size) ≡ differs → step_in budget at faces (from_front slot (begun front h) (supply held a)) h ≡ inner false false at (judged differs kinds.Other h.big faces (take h.size (from_front slot (begun front h) (supply held a)))) (counted budget h.size)
     steps told budget faces room differs is =
-        let m = from_front slot a held front in
+        let m = from_front slot (begun front h) (supply held a) in
         let t = s.tells told in
         (λ i. inner (le-ltb budget.bytes h.size room i) (le-ltb (length m) h.size t.0 i) at (judged_is h faces (take h.size m) i) (counted budget h.size))
         ∙ (λ i. inner false false at (judged (not (eqb (t.1 i) h.size)) (other i) h.big faces (take h.size m)) (counted budget h.size))
         ∙ (λ i. inner false false at (judged (is i) kinds.Other h.big faces (take h.size m)) (counted budget h.size))
 
-    pub over_length : ¬ (n ≡ h.size) → PassesOver slot a b held rest front h at (Err (errors.Fault at why.Length))
+    pub over_length : ¬ (n ≡ h.size) → PassesOver slot at (begun front h) (supply held a) (supply rest b) (Err (errors.Fault at why.Length))
     over_length differs = record {
       reads = s.reads;
       tells = λ told budget faces room. steps told budget faces room true (ap not (ne_eqb n h.size differs));
@@ -220,12 +220,12 @@ module _ (slot : ℕ) (a b : Seen) (held rest front : List ℕ) (h : Head) (at :
       counts = s.counts;
     }
 
-    pub over_done : n ≡ h.size → PassesOver slot a b held rest front h at (Ok (Some (record { size = n; content = says.Nothing })))
+    pub over_done : n ≡ h.size → PassesOver slot at (begun front h) (supply held a) (supply rest b) (Ok (Some (record { size = n; content = says.Nothing })))
     over_done is = record {
       reads = s.reads;
       tells = λ told budget faces room. steps told budget faces room false (ap not (eq-eqb n h.size is))
           ∙ (λ i. if le-ltb budget.frames 0 (omega arith) i then Err (errors.Limit limits.Frames) else Ok (Some (record { size = sym is i; content = says.Nothing })));
-      behind = λ told. let t = s.tells told in (omega (arith, t.0), t.2 ∙ ap (λ (m : ℕ). drop m (from_front slot a held front)) (sym is));
+      behind = λ told. let t = s.tells told in (omega (arith, t.0), t.2 ∙ ap (λ (m : ℕ). drop m (from_front slot (begun front h) (supply held a))) (sym is));
       fits = (is, refl, tt);
       cause = λ f e. absurd (cc);
       counts = s.counts;

@@ -7,7 +7,7 @@ use Rattle.fab_base.specs.Seen.{Seen, Reads, Rose, SameReadFaults}
 use Rattle.fab_base.specs.declared.values.Failed.{Failed}
 use Rattle.fab_base.proofs.Depots.{reads_trans, input_name, told_stays, rose_later}
 use Rattle.pcap_file.specs.declared.Budget.{Budget}
-use Rattle.pcap_file.specs.Reading.{Pulls}
+use Rattle.pcap_file.specs.Reading.{Pulls, supply}
 use Rattle.pcap_file.proofs.lemmas.Buffers.{front_is, short_is}
 use Rattle.pcapng_file.specs.declared.fault.NgWhy.{NgWhy}
 use Rattle.pcapng_file.specs.declared.fault.NgWhy.TheVariants as why
@@ -18,15 +18,15 @@ use Rattle.pcapng_file.specs.declared.block.Head.{Head}
 use Rattle.pcapng_file.specs.declared.packet.Content.{Content}
 use Rattle.pcapng_file.specs.declared.reading.Block.{Block}
 use Rattle.pcapng_file.specs.Block.{head_read, body_read}
-use Rattle.pcapng_file.specs.File.{Section, at_fault, and_then, frames_of, counted, step_in, step_of, found, AreKept, Tells, SparesReads, NotRead, BlockRead}
-use Rattle.pcapng_file.specs.Passing.{PassesOver}
+use Rattle.pcapng_file.specs.File.{Section, at_fault, and_then, frames_of, counted, step_in, step_of, found, AreKept, TellsRead, SparesReads, NotRead, place, BlockRead}
+use Rattle.pcapng_file.specs.Passing.{PassesOver, begun}
 use Rattle.std.specs.Result.{IsErrAnd}
 
 -- a block that ends in an error, in a result that hands it on
 pub handed_on : {slot : ℕ} {a b : Seen} {held rest : List ℕ} {budget : Budget} {at : ℕ} {s : Section} (r : Result (Option Block) NgError) (e : NgError) → IsErrAnd r (λ x. x ≡ e) →
-    BlockRead slot a b held rest budget at s (Err e) → BlockRead slot a b held rest budget at s r
+    BlockRead slot (place at s budget) (supply held a) (supply rest b) (Err e) → BlockRead slot (place at s budget) (supply held a) (supply rest b) r
 handed_on {slot} {a} {b} {held} {rest} {budget} {at} {s} (Ok t) e h p = absurd h
-handed_on {slot} {a} {b} {held} {rest} {budget} {at} {s} (Err x) e h p = subst (λ y. BlockRead slot a b held rest budget at s (Err y)) (sym h) p
+handed_on {slot} {a} {b} {held} {rest} {budget} {at} {s} (Err x) e h p = subst (λ y. BlockRead slot (place at s budget) (supply held a) (supply rest b) (Err y)) (sym h) p
 
 -- ---- the step by its tests
 
@@ -69,7 +69,7 @@ module _ (budget : Budget) (at : ℕ) (s : Section) (l : List ℕ) where
         step_whole fits = step_head (Ok h) is ∙ (λ i. inner (le-ltb budget.bytes h.size room i) (le-ltb (length l) h.size fits i) at (body_read h s.faces (take h.size l)) (counted budget h.size))
 
 -- an error goes through
-pub then_err : {A B : Type 0} → (x : Result A NgError) (f : A → Result B NgError) (e : NgError) → Tells {A = A} x (Err e) → Tells {A = B} (and_then x f) (Err e)
+pub then_err : {A B : Type 0} → (x : Result A NgError) (f : A → Result B NgError) (e : NgError) → TellsRead {A = A} x (Err e) → TellsRead {A = B} (and_then x f) (Err e)
 then_err x f (errors.Fault at fault) is = ap (λ y. and_then y f) is
 then_err x f (errors.Limit limit) is = ap (λ y. and_then y f) is
 then_err x f (errors.Read failed) is = tt
@@ -119,8 +119,8 @@ passed_fits size budget least room (Ok (Some k)) is = (omega (arith, is.0), omeg
 passed_fits size budget least room (Ok None) is = absurd is
 passed_fits size budget least room (Err e) is = tt
 
-module _ (slot : ℕ) (a b : Seen) (held mid front : List ℕ) (n : ℕ) (budget : Budget) (at : ℕ) (s : Section) (sized : length front ≡ 12) (first : Pulls slot front held mid a b (Ok n)) where
-  pub block_end : (eqb n 0 && is_some s.order) ≡ true → BlockRead slot a b held mid budget at s (Ok None)
+module _ (slot : ℕ) (a b : Seen) (held mid front : List ℕ) (n : ℕ) (budget : Budget) (at : ℕ) (s : Section) (sized : length front ≡ 12) (first : Pulls slot front (supply held a) (supply mid b) (Ok n)) where
+  pub block_end : (eqb n 0 && is_some s.order) ≡ true → BlockRead slot (place at s budget) (supply held a) (supply mid b) (Ok None)
   block_end ended =
       let none : n ≡ 0 = eqb-true n 0 (both_left (eqb n 0) (is_some s.order) ended) in
       let none_left : IsTrue a.told → mid ++ b.left slot ≡ [] = λ told. first.ended told (omega arith) in
@@ -135,7 +135,7 @@ module _ (slot : ℕ) (a b : Seen) (held mid front : List ℕ) (n : ℕ) (budget
         counts = first.counts;
       }
 
-  pub block_short : n < 12 → (eqb n 0 && is_some s.order) ≡ false → BlockRead slot a b held mid budget at s (Err (errors.Fault at why.Cut))
+  pub block_short : n < 12 → (eqb n 0 && is_some s.order) ≡ false → BlockRead slot (place at s budget) (supply held a) (supply mid b) (Err (errors.Fault at why.Cut))
   block_short lt more = record {
     reads = first.reads;
     tells = λ told.
@@ -159,7 +159,7 @@ module _ (slot : ℕ) (a b : Seen) (held mid front : List ℕ) (n : ℕ) (budget
     at_front : IsTrue a.told → take 12 (held ++ a.left slot) ≡ front
     at_front told = ap (take 12) (whole told) ∙ take_at front (mid ++ b.left slot) 12 sized
 
-    pub block_bad : (fault : NgWhy) → head_read s.order front ≡ Err fault → BlockRead slot a b held mid budget at s (Err (errors.Fault at fault))
+    pub block_bad : (fault : NgWhy) → head_read s.order front ≡ Err fault → BlockRead slot (place at s budget) (supply held a) (supply mid b) (Err (errors.Fault at fault))
     block_bad fault is = record {
       reads = first.reads;
       tells = λ told. step_bad budget at s (held ++ a.left slot) (omega (arith, long told)) fault (ap (head_read s.order) (at_front told) ∙ is);
@@ -174,7 +174,7 @@ module _ (slot : ℕ) (a b : Seen) (held mid front : List ℕ) (n : ℕ) (budget
       head_is : IsTrue a.told → head_read s.order (take 12 (held ++ a.left slot)) ≡ Ok h
       head_is told = ap (head_read s.order) (at_front told) ∙ is
 
-      pub block_bytes : budget.bytes < h.size → BlockRead slot a b held mid budget at s (Err (errors.Limit limits.Bytes))
+      pub block_bytes : budget.bytes < h.size → BlockRead slot (place at s budget) (supply held a) (supply mid b) (Err (errors.Limit limits.Bytes))
       block_bytes lt = record {
         reads = first.reads;
         tells = λ told. step_bytes budget at s (held ++ a.left slot) (omega (arith, long told)) h (head_is told) lt;
@@ -186,13 +186,13 @@ module _ (slot : ℕ) (a b : Seen) (held mid front : List ℕ) (n : ℕ) (budget
       }
 
       -- a block that goes by
-      pub block_passed : (c : Seen) (rest : List ℕ) → IsTrue (a.input slot) → h.size ≤ budget.bytes → 12 ≤ h.size → (result : Result (Option Block) NgError) → PassesOver slot b c mid rest front h at result → BlockRead slot a c held rest budget at s result
+      pub block_passed : (c : Seen) (rest : List ℕ) → IsTrue (a.input slot) → h.size ≤ budget.bytes → 12 ≤ h.size → (result : Result (Option Block) NgError) → PassesOver slot at (begun front h) (supply mid b) (supply rest c) result → BlockRead slot (place at s budget) (supply held a) (supply rest c) result
       block_passed c rest is_in room least result p =
           let same : b.name slot ≡ a.name slot = input_name (a.name slot) a b first.reads.keeps slot is_in in
           let still : IsTrue a.told → IsTrue b.told = told_stays (a.name slot) a b first.reads.keeps in
           record {
             reads = reads_trans (a.name slot) a b c first.reads (subst (λ m. Reads m b c) same p.reads);
-            tells = λ told. subst (λ x. Tells {A = Option Block} x result) (sym (step_head budget at s (held ++ a.left slot) (omega (arith, long told)) (Ok h) (head_is told) ∙ ap (λ l. step_in budget at s.faces l h) (whole told))) (p.tells (still told) budget s.faces room);
+            tells = λ told. subst (λ x. TellsRead {A = Option Block} x result) (sym (step_head budget at s (held ++ a.left slot) (omega (arith, long told)) (Ok h) (head_is told) ∙ ap (λ l. step_in budget at s.faces l h) (whole told))) (p.tells (still told) budget s.faces room);
             behind = λ told. passed_behind (held ++ a.left slot) (rest ++ c.left slot) result (subst (λ l. IfOk result (λ o. MatchOption o ⊥ (λ k. (k.size ≤ length l) × (rest ++ c.left slot ≡ drop k.size l)))) (sym (whole told)) (p.behind (still told)));
             ended = λ told. passed_ends (rest ++ c.left slot) h.size result p.fits;
             fits = passed_fits h.size budget least room result p.fits;
@@ -207,14 +207,14 @@ module _ (slot : ℕ) (a b : Seen) (held mid front : List ℕ) (n : ℕ) (budget
         told_b : IsTrue a.told → IsTrue b.told
         told_b told = told_stays (a.name slot) a b first.reads.keeps told
 
-        module _ (k : ℕ) (second : Pulls slot body mid rest b c (Ok k)) where
+        module _ (k : ℕ) (second : Pulls slot body (supply mid b) (supply rest c) (Ok k)) where
           both : Reads (a.name slot) a c
           both = reads_trans (a.name slot) a b c first.reads (subst (λ m. Reads m b c) same second.reads)
 
           both_counts : SameReadFaults a c
           both_counts m = second.counts m ∙ first.counts m
 
-          pub block_cut : k < length body → BlockRead slot a c held rest budget at s (Err (errors.Fault at why.Cut))
+          pub block_cut : k < length body → BlockRead slot (place at s budget) (supply held a) (supply rest c) (Err (errors.Fault at why.Cut))
           block_cut lt = record {
             reads = both;
             tells = λ told.
@@ -243,10 +243,10 @@ module _ (slot : ℕ) (a b : Seen) (held mid front : List ℕ) (n : ℕ) (budget
                 step_whole budget at s (held ++ a.left slot) (omega (arith, long told)) h (head_is told) room (long_enough told)
                 ∙ ap (λ (l : List ℕ). and_then (at_fault at (body_read h s.faces l)) (counted budget h.size)) (ap (take h.size) (all told) ∙ take_at block (rest ++ c.left slot) h.size sized_block)
 
-            pub block_err : (e : NgError) → NotRead e → Tells {A = Content} (at_fault at (body_read h s.faces block)) (Err e) → BlockRead slot a c held rest budget at s (Err e)
+            pub block_err : (e : NgError) → NotRead e → TellsRead {A = Content} (at_fault at (body_read h s.faces block)) (Err e) → BlockRead slot (place at s budget) (supply held a) (supply rest c) (Err e)
             block_err e own tells = record {
               reads = both;
-              tells = λ told. subst (λ x. Tells {A = Option Block} x (Err e)) (sym (step_block told)) (then_err (at_fault at (body_read h s.faces block)) (counted budget h.size) e tells);
+              tells = λ told. subst (λ x. TellsRead {A = Option Block} x (Err e)) (sym (step_block told)) (then_err (at_fault at (body_read h s.faces block)) (counted budget h.size) e tells);
               behind = λ told. tt;
               ended = λ told. tt;
               fits = tt;
@@ -258,7 +258,7 @@ module _ (slot : ℕ) (a b : Seen) (held mid front : List ℕ) (n : ℕ) (budget
               counts : IsTrue a.told → step_of budget at s (held ++ a.left slot) ≡ counted budget h.size content
               counts told = step_block told ∙ ap (λ x. and_then x (counted budget h.size)) says
 
-              pub block_frames : budget.frames < frames_of content → BlockRead slot a c held rest budget at s (Err (errors.Limit limits.Frames))
+              pub block_frames : budget.frames < frames_of content → BlockRead slot (place at s budget) (supply held a) (supply rest c) (Err (errors.Limit limits.Frames))
               block_frames lt = record {
                 reads = both;
                 tells = λ told. counts told ∙ (λ i. if lt-ltb budget.frames (frames_of content) lt i then Err (errors.Limit limits.Frames) else Ok (Some (record { size = h.size; content = content })));
@@ -269,7 +269,7 @@ module _ (slot : ℕ) (a b : Seen) (held mid front : List ℕ) (n : ℕ) (budget
                 counts = both_counts;
               }
 
-              pub block_done : frames_of content ≤ budget.frames → AreKept (found content) → BlockRead slot a c held rest budget at s (Ok (Some (record { size = h.size; content = content })))
+              pub block_done : frames_of content ≤ budget.frames → AreKept (found content) → BlockRead slot (place at s budget) (supply held a) (supply rest c) (Ok (Some (record { size = h.size; content = content })))
               block_done le_frames kept = record {
                 reads = both;
                 tells = λ told. counts told ∙ (λ i. if le-ltb budget.frames (frames_of content) le_frames i then Err (errors.Limit limits.Frames) else Ok (Some (record { size = h.size; content = content })));

@@ -1,8 +1,9 @@
 -- A pcapng file, read block by block.
 use Rattle.std.specs.Prelude.{◌≡◌, ℕ, zero, suc, ◌+◌, ◌-◌, ◌*◌, ◌^◌, ◌<◌, ◌≤◌, Bool, not, IsTrue, ◌==◌, nat_lt, ◌&&◌, if◌then◌else◌, List, [], ◌∷◌, ◌++◌, length, take, drop, Option, Some, None, is_some, Result, Ok, Err, IfOk, OnOk, OnErr, MatchOption}
-use Rattle.fab_base.specs.Seen.{Seen, Reads, Rose, SameReadFaults}
+use Rattle.fab_base.specs.Seen.{Seen, Reads, SameReadFaults}
 use Rattle.fab_base.specs.declared.values.Failed.{Failed}
 use Rattle.pcap_file.specs.declared.Budget.{Budget}
+use Rattle.pcap_file.specs.Reading.{ReadsRose, Supply, coming}
 use Rattle.pcapng_file.specs.declared.fault.NgWhy.{NgWhy}
 use Rattle.pcapng_file.specs.declared.fault.NgWhy.TheVariants as why
 use Rattle.pcapng_file.specs.declared.fault.NgLimit.TheVariants as limits
@@ -57,7 +58,7 @@ found says.Nothing = []
 -- ---- what every packet keeps
 
 -- A packet whose numbers have their ranges, and which is whole exactly where all bytes of its frame are stored.
-pub record IsKept (r : NgRecord) : Type 0 where
+pub record IsPacketKept (r : NgRecord) : Type 0 where
   pub moment : r.moment < 2 ^ 32 * 1000
   pub stored : length r.caught.bytes ≤ 65535
   pub original : r.original < 2 ^ 32
@@ -65,7 +66,7 @@ pub record IsKept (r : NgRecord) : Type 0 where
 
 abbrev pub AreKept : List NgRecord → Type 0
 AreKept [] = Unit {0}
-AreKept (r ∷ v) = IsKept r × AreKept v
+AreKept (r ∷ v) = IsPacketKept r × AreKept v
 
 -- ---- the file
 
@@ -137,12 +138,12 @@ ng_read budget l = read_from (suc (length l)) budget 0 before_all l
 -- ---- answers
 
 -- an answer is what was to be read; a depot's fault and want of memory say nothing
-abbrev pub Tells : {A : Type 0} → Result A NgError → Result A NgError → Type 0
-Tells wanted (Ok a) = wanted ≡ Ok a
-Tells wanted (Err (errors.Fault at fault)) = wanted ≡ Err (errors.Fault at fault)
-Tells wanted (Err (errors.Limit limit)) = wanted ≡ Err (errors.Limit limit)
-Tells wanted (Err (errors.Read failed)) = Unit {0}
-Tells wanted (Err errors.Memory) = Unit {0}
+abbrev pub TellsRead : {A : Type 0} → Result A NgError → Result A NgError → Type 0
+TellsRead wanted (Ok a) = wanted ≡ Ok a
+TellsRead wanted (Err (errors.Fault at fault)) = wanted ≡ Err (errors.Fault at fault)
+TellsRead wanted (Err (errors.Limit limit)) = wanted ≡ Err (errors.Limit limit)
+TellsRead wanted (Err (errors.Read failed)) = Unit {0}
+TellsRead wanted (Err errors.Memory) = Unit {0}
 
 -- an error that isn't the depot's
 abbrev pub NotRead : NgError → Type 0
@@ -161,23 +162,33 @@ SparesReads old new result = SameReadFaults old new
 -- is lowered on Ok alone.
 pub record NgReads (slot : ℕ) (old new : Seen) (had left : Budget) (result : Result (List NgRecord) NgError) : Type 0 where
   pub reads : Reads (old.name slot) old new
-  pub exact : IsTrue old.told → Tells (ng_read had (old.left slot)) result
+  pub exact : IsTrue old.told → TellsRead (ng_read had (old.left slot)) result
   pub all : IsTrue old.told → OnOk result (new.left slot ≡ [])
   pub bytes : IsTrue old.told → OnOk result (left.bytes + length (old.left slot) ≡ had.bytes)
   pub frames : IfOk result (λ v. left.frames + length v ≡ had.frames)
   pub untouched : OnErr result (left ≡ had)
   pub kept : IfOk result AreKept
-  pub cause : (f : Failed) → result ≡ Err (errors.Read f) → Rose (old.read_faults (old.name slot)) (new.read_faults (old.name slot))
+  pub cause : (f : Failed) → result ≡ Err (errors.Read f) → ReadsRose slot old new
   pub counts : SparesReads old new result
 
 -- ---- inside the crate
 
--- one block from what is held and a slot
-pub record BlockRead (slot : ℕ) (old new : Seen) (held rest : List ℕ) (budget : Budget) (at : ℕ) (s : Section) (result : Result (Option Block) NgError) : Type 0 where
-  pub reads : Reads (old.name slot) old new
-  pub tells : IsTrue old.told → Tells (step_of budget at s (held ++ old.left slot)) result
-  pub behind : IsTrue old.told → IfOk result (λ o. MatchOption o (held ++ old.left slot ≡ []) (λ b. (b.size ≤ length (held ++ old.left slot)) × (rest ++ new.left slot ≡ drop b.size (held ++ old.left slot))))
-  pub ended : IsTrue old.told → IfOk result (λ o. MatchOption o (rest ++ new.left slot ≡ []) (λ b. Unit {0}))
-  pub fits : IfOk result (λ o. MatchOption o (Unit {0}) (λ b. (HEAD ≤ b.size) × (b.size ≤ budget.bytes) × (frames_of b.content ≤ budget.frames) × AreKept (found b.content)))
-  pub cause : (f : Failed) → result ≡ Err (errors.Read f) → Rose (old.read_faults (old.name slot)) (new.read_faults (old.name slot))
-  pub counts : SparesReads old new result
+-- A place of a file: where it is, the section there, and what is left of the limits.
+pub record Place : Type 0 where
+  pub at : ℕ
+  pub section : Section
+  pub left : Budget
+
+-- such a place of its parts
+abbrev pub place : ℕ → Section → Budget → Place
+place at section left = record { at = at; section = section; left = left }
+
+-- one block from what is held and a slot, at a place of the file
+pub record BlockRead (slot : ℕ) (here : Place) (old new : Supply) (result : Result (Option Block) NgError) : Type 0 where
+  pub reads : Reads (old.depot.name slot) old.depot new.depot
+  pub tells : IsTrue old.depot.told → TellsRead (step_of here.left here.at here.section (coming slot old)) result
+  pub behind : IsTrue old.depot.told → IfOk result (λ o. MatchOption o (coming slot old ≡ []) (λ b. (b.size ≤ length (coming slot old)) × (coming slot new ≡ drop b.size (coming slot old))))
+  pub ended : IsTrue old.depot.told → IfOk result (λ o. MatchOption o (coming slot new ≡ []) (λ b. Unit {0}))
+  pub fits : IfOk result (λ o. MatchOption o (Unit {0}) (λ b. (HEAD ≤ b.size) × (b.size ≤ here.left.bytes) × (frames_of b.content ≤ here.left.frames) × AreKept (found b.content)))
+  pub cause : (f : Failed) → result ≡ Err (errors.Read f) → ReadsRose slot old.depot new.depot
+  pub counts : SparesReads old.depot new.depot result

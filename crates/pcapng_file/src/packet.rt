@@ -2,7 +2,7 @@
 ghost use Rattle.std.specs.Prelude.{◌≡◌, ◌≤◌, ◌<◌, ◌+◌, ◌*◌};
 ghost use Rattle.std.specs.Prelude.{◌/◌, ◌%◌, ◌^◌, length, slice_get, IfOk, IfErr};
 ghost use Rattle.pcapng_file.specs.Block.{least, body_read, packet_read, timed_read, stored};
-ghost use Rattle.pcapng_file.specs.File.{Tells, NotRead, IsKept, AreKept};
+ghost use Rattle.pcapng_file.specs.File.{TellsRead, NotRead, IsPacketKept, AreKept};
 ghost use Rattle.pcapng_file.specs.File.{at_fault, found, frames_of};
 
 use crate::NgRecord;
@@ -49,7 +49,7 @@ pub(crate) fn read_block(
 ) -> Result<Content, NgError>
     requires size { length block.now ≡ head.size }
     requires least { least head.kind ≤ head.size }
-    ensures tells { Tells (at_fault at (body_read head faces.now block.now)) result }
+    ensures tells { TellsRead (at_fault at (body_read head faces.now block.now)) result }
     ensures own { IfErr result NotRead }
     ensures kept { IfOk result (λ content. AreKept (found content)) }
 {
@@ -92,9 +92,9 @@ fn read_packet(
     block: &[u8],
 ) -> Result<NgRecord, NgError>
     requires { 32 ≤ length block.now }
-    ensures tells { Tells (at_fault at (packet_read big faces.now block.now)) result }
+    ensures tells { TellsRead (at_fault at (packet_read big faces.now block.now)) result }
     ensures own { IfErr result NotRead }
-    ensures kept { IfOk result IsKept }
+    ensures kept { IfOk result IsPacketKept }
 {
     if block.len() - 32 < padded(number_at(big, block, 20) as usize) {
         return Err(fault(at, NgWhy::Length));
@@ -125,9 +125,9 @@ fn read_of(
     block: &[u8],
 ) -> Result<NgRecord, NgError>
     requires whole { 32 + stored big block.now ≤ length block.now }
-    ensures tells { Tells (at_fault at (timed_read face big block.now)) result }
+    ensures tells { TellsRead (at_fault at (timed_read face big block.now)) result }
     ensures own { IfErr result NotRead }
-    ensures kept { IfOk result IsKept }
+    ensures kept { IfOk result IsPacketKept }
 {
     if u32::from(face.link) != ETHERNET {
         return Err(fault(at, NgWhy::Link));

@@ -1,6 +1,7 @@
 //! Blocks of which nothing is held but their lengths: the rest goes by through a small piece.
 ghost use Rattle.std.specs.Prelude.{◌≡◌, ◌≤◌, ◌%◌, length, IsTrue};
-ghost use Rattle.pcapng_file.specs.Passing.{Skips, HasSecond, PassesOver};
+ghost use Rattle.pcap_file.specs.Reading.{supply};
+ghost use Rattle.pcapng_file.specs.Passing.{Skips, HasSecond, PassesOver, begun};
 ghost use Rattle.pcapng_file.specs.declared.block.Kind.TheVariants.{Other};
 
 use crate::block::{HEAD, Head};
@@ -25,8 +26,8 @@ pub(crate) fn pass_over<D: Depot>(
     requires front { length front.now ≡ 12 }
     requires size { (12 ≤ head.size) × (head.size % 4 ≡ 0) }
     requires other { head.kind ≡ Other }
-    ensures passes { PassesOver slot (D.seen depot.old) (D.seen depot.new) ahead.old ahead.new
-        front.now head at result }
+    ensures passes { PassesOver slot at (begun front.now head)
+        (supply ahead.old (D.seen depot.old)) (supply ahead.new (D.seen depot.new)) result }
 {
     match second_length(depot, slot, ahead, front, head) {
         Ok(Some(size)) => {
@@ -54,8 +55,8 @@ fn second_length<D: Depot>(
     requires input { IsTrue ((D.seen depot.old).input slot) }
     requires front { length front.now ≡ 12 }
     requires size { (12 ≤ head.size) × (head.size % 4 ≡ 0) }
-    ensures second { HasSecond slot (D.seen depot.old) (D.seen depot.new) ahead.old ahead.new
-        front.now head result }
+    ensures second { HasSecond slot (begun front.now head)
+        (supply ahead.old (D.seen depot.old)) (supply ahead.new (D.seen depot.new)) result }
 {
     let size = head.size as usize;
     if size == HEAD {
@@ -80,8 +81,8 @@ fn skip<D: Depot>(
     count: usize,
 ) -> Result<usize, Failed>
     requires { IsTrue ((D.seen depot.old).input slot) }
-    ensures skips { Skips slot count ahead.old ahead.new
-        (D.seen depot.old) (D.seen depot.new) result }
+    ensures skips { Skips slot count (supply ahead.old (D.seen depot.old))
+        (supply ahead.new (D.seen depot.new)) result }
 {
     let mut piece = [0u8; PIECE];
     let mut passed = 0;

@@ -1,7 +1,8 @@
 //! Reading a file block by block through one buffer.
 ghost use Rattle.std.specs.Prelude.{◌≡◌, ◌≤◌, ◌<◌, ◌+◌, ◌++◌, ◌∷◌, []};
 ghost use Rattle.std.specs.Prelude.{length, IsTrue, OnOk, IfOk, Some, ◌==◌, ◌&&◌, is_some};
-ghost use Rattle.pcapng_file.specs.File.{Section, NgReads, BlockRead, after, found, before_all};
+ghost use Rattle.pcap_file.specs.Reading.{supply};
+ghost use Rattle.pcapng_file.specs.File.{Section, NgReads, BlockRead, after, found, before_all, place};
 
 use crate::NgRecords;
 use crate::block::{HEAD, Interface, Kind, read_head};
@@ -132,8 +133,8 @@ fn next_block<D: Depot>(
     at: u64,
 ) -> Result<Option<Block>, NgError>
     requires input { IsTrue ((D.seen depot.old).input slot) }
-    ensures reads { BlockRead slot (D.seen depot.old) (D.seen depot.new) ahead.old ahead.new
-        budget at section.now result }
+    ensures reads { BlockRead slot (place at section.now budget)
+        (supply ahead.old (D.seen depot.old)) (supply ahead.new (D.seen depot.new)) result }
 {
     let mut front = [0u8; HEAD];
     let got = match ahead.pull(depot, slot, &mut front) {
@@ -165,7 +166,7 @@ fn next_block<D: Depot>(
         }
         Err(failed) => return Err(NgError::Read(failed)),
     }
-    let block = joined(alloc, &front, &body)?;
+    let block = concatenated(alloc, &front, &body)?;
     let content = read_block(alloc, at, head, &section.faces, &block)?;
     if budget.frames < content.frames() {
         return Err(NgError::Limit(NgLimit::Frames));
@@ -181,7 +182,8 @@ fn is_end(got: usize, order: Option<bool>) -> bool
     got == 0 && order.is_some()
 }
 
-fn joined(alloc: Global, front: &[u8], body: &[u8]) -> Result<Vec<u8>, AllocError>
+// The bytes of a block: its first ones and then the others.
+fn concatenated(alloc: Global, front: &[u8], body: &[u8]) -> Result<Vec<u8>, AllocError>
     ensures { IfOk result (λ v. v.items ≡ front.now ++ body.now) }
 {
     let mut block = Vec::new(alloc);

@@ -4,7 +4,7 @@ use Rattle.pcapng_file.specs.declared.block.Interface.{Interface}
 use Rattle.pcapng_file.specs.declared.packet.Content.{Content}
 use Rattle.std.proofs.lemmas.List.{take_at}
 use Rattle.pcapng_file.specs.Block.{head_read, body_read}
-use Rattle.pcapng_file.specs.File.{Section, Tells, at_fault}
+use Rattle.pcapng_file.specs.File.{Section, TellsRead, at_fault}
 use Rattle.pcapng_file.proofs.StepLemmas.{block_end, block_short, block_bad, block_bytes, block_passed, block_cut, block_err, block_frames, block_done, handed_on}
 use Rattle.pcapng_file.proofs.reading.next_block.Goals as goal
 
@@ -46,7 +46,7 @@ returns-in_err-content g c =
     let made = c.deref-3.ensures.value ∙ c.in_ok-block.ensures ∙ ap (λ (b : List ℕ). c.pull.new.into ++ b) (c.deref.ensures.value ∙ take_at c.pull-2.new.into _ _ (sized ∙ sym c.in_ok-body.ensures.len)) in
     let e = c.in_err-content.field-0.0 in
     record {
-      reads = handed_on c.from_residual-in_err-content.result e c.from_residual-in_err-content.ensures.1 (block_err c.args.slot _ _ _ _ c.pull.new.into c.in-Ok.got c.args.budget c.args.at c.args.section.now c.pull.auto.into c.in-Ok.ensures.pulls (omega arith) c.in-Ok-read_head.head (ap (λ (s : Section). head_read s.order c.pull.new.into) (sym c.section.view_is) ∙ sym c.in-Ok-read_head.ensures.exact) _ c.pull-2.new.self c.pull-2.new.into c.requires.input c.if-budget-head.false (omega (arith, c.in-Ok-read_head.ensures.least)) sized c.in-Ok-pull.got c.in-Ok-pull.ensures.pulls (omega (arith, sized, c.len.ensures, c.in_ok-body.ensures.len)) c.deref-3.result.now made e c.in_err-content.ensures.own (subst (λ (f : List Interface). Tells {A = Content} (at_fault c.args.at (body_read c.in-Ok-read_head.head f c.deref-3.result.now)) (Err e)) (c.deref-2.ensures.value ∙ ap (λ (s : Section). s.faces) c.section.view_is) c.in_err-content.ensures.tells));
+      reads = handed_on c.from_residual-in_err-content.result e c.from_residual-in_err-content.ensures.1 (block_err c.args.slot _ _ _ _ c.pull.new.into c.in-Ok.got c.args.budget c.args.at c.args.section.now c.pull.auto.into c.in-Ok.ensures.pulls (omega arith) c.in-Ok-read_head.head (ap (λ (s : Section). head_read s.order c.pull.new.into) (sym c.section.view_is) ∙ sym c.in-Ok-read_head.ensures.exact) _ c.pull-2.new.self c.pull-2.new.into c.requires.input c.if-budget-head.false (omega (arith, c.in-Ok-read_head.ensures.least)) sized c.in-Ok-pull.got c.in-Ok-pull.ensures.pulls (omega (arith, sized, c.len.ensures, c.in_ok-body.ensures.len)) c.deref-3.result.now made e c.in_err-content.ensures.own (subst (λ (f : List Interface). TellsRead {A = Content} (at_fault c.args.at (body_read c.in-Ok-read_head.head f c.deref-3.result.now)) (Err e)) (c.deref-2.ensures.value ∙ ap (λ (s : Section). s.faces) c.section.view_is) c.in_err-content.ensures.tells));
     }
 
 pub returns-then-budget-frames : goal.returns-then-budget-frames

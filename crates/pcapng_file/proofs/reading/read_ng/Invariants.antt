@@ -1,4 +1,6 @@
 use Rattle.std.proofs.Common.{◌≡◌, ◌-◌}
+use Rattle.pcap_file.specs.Reading.{supply}
+use Rattle.pcapng_file.specs.File.{place}
 use Rattle.pcapng_file.proofs.GoingLemmas.{Going}
 use Rattle.pcapng_file.proofs.reading.read_ng.Given as goal
 
@@ -6,7 +8,7 @@ abbrev pub invariant-loop-next : goal.invariant-loop-next
 invariant-loop-next g l =
     let seen = g.D.Depot.seen in
     record {
-      going : Going l.slot l.fn.budget (seen l.initial.depot) (seen l.depot) l.ahead l.section l.left (l.fn.budget.bytes - l.left.bytes) l.records;
+      going : Going l.slot l.fn.budget (seen l.initial.depot) (supply l.ahead (seen l.depot)) (place (l.fn.budget.bytes - l.left.bytes) l.section l.left) l.records;
       budget : l.budget ≡ l.fn.budget;
     }
 
