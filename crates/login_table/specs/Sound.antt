@@ -1,5 +1,6 @@
 -- How a table keeps its logins: each at a place of its own, and the places in three orders. No public clause cites this module.
-use Rattle.std.specs.Prelude.{ℕ, ◌+◌, ◌*◌, ◌≤◌, ◌<◌, ◌^◌, nat_le, if◌then◌else◌, List, Option, None, Some, find}
+use Rattle.std.specs.Prelude.{ℕ, ◌+◌, ◌*◌, ◌≤◌, ◌<◌, ◌^◌, nat_le, if◌then◌else◌, List, Option, None, Some, find, Vec, vec_capacity}
+use Rattle.std.specs.declared.alloc.Global.{Global}
 use Rattle.std.specs.List.{All}
 use Rattle.slab.specs.Slab.{Slab}
 use Rattle.fab_base.specs.declared.values.Enode.{Enode}
@@ -34,14 +35,14 @@ first_behind enode from logins =
 
 -- The places of all logins are there in the order of addresses, of names, and of ENodes with addresses; the logins are sound;
 -- there is room for as many as there may be, and their number is a `u32`.
-pub record IsKept (limit : ℕ) (slab : Slab Login) (addresses names enodes : List ℕ) (capacity name_capacity enode_capacity : ℕ) : Type 0 where
-  pub sound : IsSound (record { limit = limit; logins = seen slab addresses })
-  pub fit : All Fits (seen slab addresses)
-  pub by_address : IsOrder address_of slab addresses
-  pub by_name : IsOrder name_of slab names
-  pub by_enode : IsOrder behind_number slab enodes
+pub record IsTableKept (limit : ℕ) (slab : Slab Login) (addresses names enodes : Vec ℕ Global) : Type 0 where
+  pub sound : IsSound (record { limit = limit; logins = seen slab addresses.items })
+  pub fit : All Fits (seen slab addresses.items)
+  pub by_address : IsOrder address_of slab addresses.items
+  pub by_name : IsOrder name_of slab names.items
+  pub by_enode : IsOrder behind_number slab enodes.items
   pub room : limit ≤ slab.capacity
-  pub address_room : limit ≤ capacity
-  pub name_room : limit ≤ name_capacity
-  pub enode_room : limit ≤ enode_capacity
+  pub address_room : limit ≤ vec_capacity addresses
+  pub name_room : limit ≤ vec_capacity names
+  pub enode_room : limit ≤ vec_capacity enodes
   pub range : limit < 2 ^ 32

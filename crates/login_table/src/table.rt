@@ -25,24 +25,16 @@ pub struct LoginTable {
 }
 
 impl Model for LoginTable {
-    ghost use Rattle.std.specs.Prelude.{vec_capacity};
     ghost use Rattle.sorted_lists.specs.Orders.{seen};
     ghost use Rattle.login_table.specs.Logins.{Logins};
 
     ghost Value = { Logins };
 
-    ghost use Rattle.login_table.specs.Sound.{IsKept};
+    ghost use Rattle.login_table.specs.Sound.{IsTableKept};
 
     ghost view = { λ t. record { limit = t.limit; logins = seen t.logins t.by_address.items } };
 
-    ghost invariant = { λ t. IsKept t.limit
-        t.logins
-        t.by_address.items
-        t.by_name.items
-        t.by_enode.items
-        (vec_capacity t.by_address)
-        (vec_capacity t.by_name)
-        (vec_capacity t.by_enode) };
+    ghost invariant = { λ t. IsTableKept t.limit t.logins t.by_address t.by_name t.by_enode };
 }
 
 impl LoginTable {

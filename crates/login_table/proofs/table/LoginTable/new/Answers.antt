@@ -8,12 +8,13 @@ use Rattle.login_table.proofs.table.LoginTable.new.Goals as goal
 pub invariant_of-result : goal.invariant_of-result
 invariant_of-result c =
     let empty = c.in_ok-logins.ensures.empty in
-    rw (c.in_ok-by_address.ensures.items, c.in_ok-by_name.ensures.items, c.in_ok-by_enode.ensures.items) record {
-      sound = record { ascending = tt; names = tt; bound = omega arith };
-      fit = All-nil Fits;
-      by_address = IsOrder-empty address_of c.in_ok-logins.logins empty;
-      by_name = IsOrder-empty name_of c.in_ok-logins.logins empty;
-      by_enode = IsOrder-empty behind_number c.in_ok-logins.logins empty;
+    let none = c.in_ok-by_address.ensures.items in
+    record {
+      sound = rw none record { ascending = tt; names = tt; bound = omega arith };
+      fit = rw none (All-nil Fits);
+      by_address = rw none (IsOrder-empty address_of c.in_ok-logins.logins empty);
+      by_name = rw c.in_ok-by_name.ensures.items (IsOrder-empty name_of c.in_ok-logins.logins empty);
+      by_enode = rw c.in_ok-by_enode.ensures.items (IsOrder-empty behind_number c.in_ok-logins.logins empty);
       room = c.in_ok-logins.ensures.capacity;
       address_room = c.in_ok-by_address.ensures.capacity;
       name_room = c.in_ok-by_name.ensures.capacity;
