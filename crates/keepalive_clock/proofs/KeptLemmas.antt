@@ -1,6 +1,8 @@
 -- What holds of what a clock keeps: it is sound, it is searched by number, and it stays so when a voice goes, comes, or is heard
 -- again.
 use Rattle.std.proofs.Common.{◌≡◌, ℕ, ◌+◌, ◌*◌, ◌^◌, ◌<◌, ◌==◌, ◌⊎◌, inl, inr, not, Bool, true, false, List, [], ◌∷◌, length, Option, Some, None, is_some, IsTrue, IsPermutation, if◌then◌else◌, nat_lt, option_map, refl, sym, ◌∙◌, ap, subst, arith}
+use Rattle.std.specs.Prelude.{Vec, vec_capacity}
+use Rattle.std.specs.declared.alloc.Global.{Global}
 use Rattle.std.specs.List.{All, insert, position_or_len}
 use Rattle.std.proofs.lemmas.List.Sorted.{IsPermutation-insert}
 use Rattle.std.proofs.lemmas.List.Elements.{All-head, All-tail, All-filter}
@@ -14,7 +16,7 @@ use Rattle.sorted_lists.proofs.IndexLemmas.{IsIndex-without, absent_entry, IsFre
 use Rattle.sorted_lists.proofs.OrderLemmas.{itself, absent-vacant, seen-updates, length-seen, item-here, IsOrderBut-filled, IsOrder-vacated, seen-changed, IsOrder-changed, IsIndex-orders}
 use Rattle.keepalive_clock.specs.Voices.{same_voice}
 use Rattle.keepalive_clock.specs.Clock.{voice_of, heard_of, last_of, count_with, without, HearsVoice, VoicesDiffer, IsSound}
-use Rattle.keepalive_clock.specs.Order.{number_of, IsWhole, Fits, voice_number, deadline_number, heard_again, IsKept}
+use Rattle.keepalive_clock.specs.Order.{number_of, IsWhole, Fits, voice_number, deadline_number, heard_again, IsClockKept}
 use Rattle.keepalive_clock.specs.declared.voice.Voice.{Voice}
 use Rattle.keepalive_clock.specs.declared.voice.LastHeard.{LastHeard}
 use Rattle.keepalive_clock.proofs.VoiceLemmas.{voices_same, number-range, same_number}
@@ -133,100 +135,100 @@ absent_due node port y xs ds fits fit index absent = absent_entry voice_number (
         let same : k ≡ voice_number y = sym at ∙ apart _ _ (number_of x.voice) (number_of y.voice) low also e in
         none_some x (sym absent ∙ ap (λ i. keyed.item_at voice_number i xs) (sym same) ∙ found)
 
-module _ {node port most : ℕ} {s : Slab LastHeard} {vs ds : List ℕ} {m n : ℕ} (kept : IsKept node port most s vs ds m n) where
+module _ {node port most : ℕ} {s : Slab LastHeard} {vs ds : Vec ℕ Global} (kept : IsClockKept node port most s vs ds) where
   abbrev due : LastHeard → ℕ
   due x = deadline_number node port x
 
-  pub length_kept : length (seen s vs) ≡ length vs
-  length_kept = length-seen s vs kept.voices.sorted.there
+  pub length_kept : length (seen s vs.items) ≡ length vs.items
+  length_kept = length-seen s vs.items kept.voices.sorted.there
 
-  pub sound_kept : IsSound (record { node_period = node; port_period = port; room = most; voices = seen s vs })
+  pub sound_kept : IsSound (record { node_period = node; port_period = port; room = most; voices = seen s vs.items })
   sound_kept = record {
-    differ = differ_numbers 0 (seen s vs) kept.voices.sorted.ascending kept.fit;
+    differ = differ_numbers 0 (seen s vs.items) kept.voices.sorted.ascending kept.fit;
     bound = omega (arith, kept.bound, length_kept);
   }
 
-  pub index_kept : IsIndex voice_number (deadline_number node port) (λ x. x) (seen s vs) (seen s ds)
-  index_kept = IsIndex-orders voice_number (deadline_number node port) s vs ds kept.voices kept.deadlines
+  pub index_kept : IsIndex voice_number (deadline_number node port) (λ x. x) (seen s vs.items) (seen s ds.items)
+  index_kept = IsIndex-orders voice_number (deadline_number node port) s vs.items ds.items kept.voices kept.deadlines
 
   -- the record at a place is found by its voice
-  pub found_here : (p : ℕ) (x : LastHeard) → get s p ≡ Some x → keyed.item_at voice_number (voice_number x) (seen s vs) ≡ Some x
-  found_here p x here = item-here voice_number s p vs x kept.voices here
+  pub found_here : (p : ℕ) (x : LastHeard) → get s p ≡ Some x → keyed.item_at voice_number (voice_number x) (seen s vs.items) ≡ Some x
+  found_here p x here = item-here voice_number s p vs.items x kept.voices here
 
   pub fits_here : (p : ℕ) (x : LastHeard) → get s p ≡ Some x → Fits x
-  fits_here p x here = All-found Fits _ (seen s vs) x kept.fit (found_here p x here)
+  fits_here p x here = All-found Fits _ (seen s vs.items) x kept.fit (found_here p x here)
 
   -- ---- a voice goes
 
-  module _ (p : ℕ) (x : LastHeard) (new : Slab LastHeard) (others later : List ℕ) (voices : IsOrderBut voice_number p s others) (dues : IsOrderBut (deadline_number node port) p s later)
-      (gone : seen s others ≡ keyed.without voice_number (voice_number x) (seen s vs)) (updates : Updates s new p None) where
-    pub seen_without : seen new others ≡ keyed.without voice_number (voice_number x) (seen s vs)
-    seen_without = seen-updates s new p None others updates voices.absent ∙ gone
+  module _ (p : ℕ) (x : LastHeard) (new : Slab LastHeard) (others later : Vec ℕ Global) (voices : IsOrderBut voice_number p s others.items) (dues : IsOrderBut (deadline_number node port) p s later.items)
+      (gone : seen s others.items ≡ keyed.without voice_number (voice_number x) (seen s vs.items)) (updates : Updates s new p None) where
+    pub seen_without : seen new others.items ≡ keyed.without voice_number (voice_number x) (seen s vs.items)
+    seen_without = seen-updates s new p None others.items updates voices.absent ∙ gone
 
-    pub kept_without : slab_len new + 1 ≡ slab_len s → new.capacity ≡ s.capacity → IsKept node port most new others later m n
-    kept_without fewer capacity = record {
-      voices = IsOrder-vacated voice_number s new p others voices updates fewer;
-      deadlines = IsOrder-vacated (deadline_number node port) s new p later dues updates fewer;
-      fit = subst (All Fits) (sym seen_without) (All-filter _ Fits (seen s vs) kept.fit);
+    pub kept_without : slab_len new + 1 ≡ slab_len s → new.capacity ≡ s.capacity → vec_capacity others ≡ vec_capacity vs → vec_capacity later ≡ vec_capacity ds → IsClockKept node port most new others later
+    kept_without fewer capacity voice_room due_room = record {
+      voices = IsOrder-vacated voice_number s new p others.items voices updates fewer;
+      deadlines = IsOrder-vacated (deadline_number node port) s new p later.items dues updates fewer;
+      fit = subst (All Fits) (sym seen_without) (All-filter _ Fits (seen s vs.items) kept.fit);
       bound = omega (arith, kept.bound, voices.count, kept.voices.count);
       room = omega (arith, kept.room, capacity);
-      voice_room = kept.voice_room;
-      due_room = kept.due_room;
+      voice_room = omega (arith, kept.voice_room);
+      due_room = omega (arith, kept.due_room);
       node_range = kept.node_range;
       port_range = kept.port_range;
     }
 
   -- ---- a voice comes
 
-  module _ (p : ℕ) (y : LastHeard) (new : Slab LastHeard) (fits : Fits y) (absent : keyed.item_at voice_number (voice_number y) (seen s vs) ≡ None) (vacant : get s p ≡ None) (updates : Updates s new p (Some y))
+  module _ (p : ℕ) (y : LastHeard) (new : Slab LastHeard) (fits : Fits y) (absent : keyed.item_at voice_number (voice_number y) (seen s vs.items) ≡ None) (vacant : get s p ≡ None) (updates : Updates s new p (Some y))
       (more : slab_len new ≡ slab_len s + 1) where
-    pub voice_filled : IsOrderBut voice_number p new vs
-    voice_filled = IsOrderBut-filled voice_number s new p y vs kept.voices vacant updates more
+    pub voice_filled : IsOrderBut voice_number p new vs.items
+    voice_filled = IsOrderBut-filled voice_number s new p y vs.items kept.voices vacant updates more
 
-    pub due_filled : IsOrderBut (deadline_number node port) p new ds
-    due_filled = IsOrderBut-filled (deadline_number node port) s new p y ds kept.deadlines vacant updates more
+    pub due_filled : IsOrderBut (deadline_number node port) p new ds.items
+    due_filled = IsOrderBut-filled (deadline_number node port) s new p y ds.items kept.deadlines vacant updates more
 
-    pub voices_still : seen new vs ≡ seen s vs
-    voices_still = seen-updates s new p (Some y) vs updates (absent-vacant s p vs vacant kept.voices.sorted.there)
+    pub voices_still : seen new vs.items ≡ seen s vs.items
+    voices_still = seen-updates s new p (Some y) vs.items updates (absent-vacant s p vs.items vacant kept.voices.sorted.there)
 
-    dues_still : seen new ds ≡ seen s ds
-    dues_still = seen-updates s new p (Some y) ds updates (absent-vacant s p ds vacant kept.deadlines.sorted.there)
+    dues_still : seen new ds.items ≡ seen s ds.items
+    dues_still = seen-updates s new p (Some y) ds.items updates (absent-vacant s p ds.items vacant kept.deadlines.sorted.there)
 
-    pub new_voice : (z : LastHeard) → get new p ≡ Some z → keyed.item_at voice_number (voice_number z) (seen new vs) ≡ None
+    pub new_voice : (z : LastHeard) → get new p ≡ Some z → keyed.item_at voice_number (voice_number z) (seen new vs.items) ≡ None
     new_voice z here =
         let e = some_same y z (sym updates.changed ∙ here) in
-        ap (λ (w : LastHeard). keyed.item_at voice_number (voice_number w) (seen new vs)) (sym e) ∙ ap (keyed.item_at voice_number (voice_number y)) voices_still ∙ absent
+        ap (λ (w : LastHeard). keyed.item_at voice_number (voice_number w) (seen new vs.items)) (sym e) ∙ ap (keyed.item_at voice_number (voice_number y)) voices_still ∙ absent
 
-    pub new_due : (z : LastHeard) → get new p ≡ Some z → keyed.item_at (deadline_number node port) (deadline_number node port z) (seen new ds) ≡ None
+    pub new_due : (z : LastHeard) → get new p ≡ Some z → keyed.item_at (deadline_number node port) (deadline_number node port z) (seen new ds.items) ≡ None
     new_due z here =
         let e = some_same y z (sym updates.changed ∙ here) in
-        ap (λ (w : LastHeard). keyed.item_at (deadline_number node port) (deadline_number node port w) (seen new ds)) (sym e)
+        ap (λ (w : LastHeard). keyed.item_at (deadline_number node port) (deadline_number node port w) (seen new ds.items)) (sym e)
         ∙ ap (keyed.item_at (deadline_number node port) (deadline_number node port y)) dues_still
-        ∙ absent_due node port y (seen s vs) (seen s ds) fits kept.fit index_kept absent
+        ∙ absent_due node port y (seen s vs.items) (seen s ds.items) fits kept.fit index_kept absent
 
-    module _ (others later : List ℕ) (voices : IsOrder voice_number new others) (dues : IsOrder (deadline_number node port) new later) (put : seen new others ≡ keyed.added voice_number y (seen new vs)) where
-      put_there : seen new others ≡ keyed.added voice_number y (seen s vs)
+    module _ (others later : Vec ℕ Global) (voices : IsOrder voice_number new others.items) (dues : IsOrder (deadline_number node port) new later.items) (put : seen new others.items ≡ keyed.added voice_number y (seen new vs.items)) where
+      put_there : seen new others.items ≡ keyed.added voice_number y (seen s vs.items)
       put_there = put ∙ ap (keyed.added voice_number y) voices_still
 
-      pub seen_added : seen new others ≡ keyed.added voice_number y (without y.voice (seen s vs))
-      seen_added = put_there ∙ added_absent y fits (seen s vs) kept.voices.sorted.ascending kept.fit absent
+      pub seen_added : seen new others.items ≡ keyed.added voice_number y (without y.voice (seen s vs.items))
+      seen_added = put_there ∙ added_absent y fits (seen s vs.items) kept.voices.sorted.ascending kept.fit absent
 
-      pub kept_added : length vs < most → new.capacity ≡ s.capacity → IsKept node port most new others later m n
-      kept_added less capacity = record {
+      pub kept_added : length vs.items < most → new.capacity ≡ s.capacity → vec_capacity others ≡ vec_capacity vs → vec_capacity later ≡ vec_capacity ds → IsClockKept node port most new others later
+      kept_added less capacity voice_room due_room = record {
         voices = voices;
         deadlines = dues;
-        fit = subst (All Fits) (sym put_there) (lemmas.All-added voice_number Fits y (seen s vs) kept.fit fits);
+        fit = subst (All Fits) (sym put_there) (lemmas.All-added voice_number Fits y (seen s vs.items) kept.fit fits);
         bound = omega (arith, less, voices.count, kept.voices.count, more);
         room = omega (arith, kept.room, capacity);
-        voice_room = kept.voice_room;
-        due_room = kept.due_room;
+        voice_room = omega (arith, kept.voice_room);
+        due_room = omega (arith, kept.due_room);
         node_range = kept.node_range;
         port_range = kept.port_range;
       }
 
   -- and there was room for it
-  pub room_kept : (y : LastHeard) → Fits y → keyed.item_at voice_number (voice_number y) (seen s vs) ≡ None → (IsTrue (is_some (last_of y.voice (seen s vs)))) ⊎ (length (seen s vs) < most) → length vs < most
-  room_kept y fits absent room = omega (arith, length_kept, room_absent y fits (seen s vs) kept.voices.sorted.ascending kept.fit most absent room)
+  pub room_kept : (y : LastHeard) → Fits y → keyed.item_at voice_number (voice_number y) (seen s vs.items) ≡ None → (IsTrue (is_some (last_of y.voice (seen s vs.items)))) ⊎ (length (seen s vs.items) < most) → length vs.items < most
+  room_kept y fits absent room = omega (arith, length_kept, room_absent y fits (seen s vs.items) kept.voices.sorted.ascending kept.fit most absent room)
 
   -- ---- a voice is heard again
 
@@ -235,27 +237,27 @@ module _ {node port most : ℕ} {s : Slab LastHeard} {vs ds : List ℕ} {m n : �
     fits_again = ((fits_here p x here).0, range)
 
     -- no other voice has its deadline
-    pub apart_again : keyed.item_at (deadline_number node port) (deadline_number node port (heard_again now x)) (keyed.without (deadline_number node port) (deadline_number node port x) (seen s ds)) ≡ None
+    pub apart_again : keyed.item_at (deadline_number node port) (deadline_number node port (heard_again now x)) (keyed.without (deadline_number node port) (deadline_number node port x) (seen s ds.items)) ≡ None
     apart_again =
-        absent_due node port (heard_again now x) _ _ fits_again (All-filter _ Fits (seen s vs) kept.fit)
-        (IsIndex-without voice_number (deadline_number node port) (λ w. w) (voice_number x) x (seen s vs) (seen s ds) kept.voices.sorted.ascending index_kept (found_here p x here))
-        (lemmas.item_at-without voice_number (voice_number x) (voice_number x) (seen s vs) ∙ ap (λ b. if b then None else keyed.item_at voice_number (voice_number x) (seen s vs)) (itself (voice_number x)))
+        absent_due node port (heard_again now x) _ _ fits_again (All-filter _ Fits (seen s vs.items) kept.fit)
+        (IsIndex-without voice_number (deadline_number node port) (λ w. w) (voice_number x) x (seen s vs.items) (seen s ds.items) kept.voices.sorted.ascending index_kept (found_here p x here))
+        (lemmas.item_at-without voice_number (voice_number x) (voice_number x) (seen s vs.items) ∙ ap (λ b. if b then None else keyed.item_at voice_number (voice_number x) (seen s vs.items)) (itself (voice_number x)))
 
     module _ (new : Slab LastHeard) (updates : Updates s new p (Some (heard_again now x))) where
-      pub seen_again : (v : Voice) → x.voice ≡ v → seen new vs ≡ keyed.added voice_number (record { voice = v; last = now }) (without v (seen s vs))
-      seen_again v alike = subst (λ (w : Voice). seen new vs ≡ keyed.added voice_number (record { voice = w; last = now }) (without w (seen s vs))) alike
-          (seen-changed voice_number s new p x vs (heard_again now) (λ w. refl) kept.voices here updates
-          ∙ changed_there (heard_again now x) fits_again (seen s vs) kept.voices.sorted.ascending kept.fit x (found_here p x here) refl)
+      pub seen_again : (v : Voice) → x.voice ≡ v → seen new vs.items ≡ keyed.added voice_number (record { voice = v; last = now }) (without v (seen s vs.items))
+      seen_again v alike = subst (λ (w : Voice). seen new vs.items ≡ keyed.added voice_number (record { voice = w; last = now }) (without w (seen s vs.items))) alike
+          (seen-changed voice_number s new p x vs.items (heard_again now) (λ w. refl) kept.voices here updates
+          ∙ changed_there (heard_again now x) fits_again (seen s vs.items) kept.voices.sorted.ascending kept.fit x (found_here p x here) refl)
 
-      pub kept_again : (later : List ℕ) → IsOrder (deadline_number node port) new later → slab_len new ≡ slab_len s → new.capacity ≡ s.capacity → IsKept node port most new vs later m n
-      kept_again later order same_len capacity = record {
-        voices = IsOrder-changed voice_number s new p x vs (heard_again now) (λ w. refl) kept.voices here updates same_len;
+      pub kept_again : (later : Vec ℕ Global) → IsOrder (deadline_number node port) new later.items → slab_len new ≡ slab_len s → new.capacity ≡ s.capacity → vec_capacity later ≡ vec_capacity ds → IsClockKept node port most new vs later
+      kept_again later order same_len capacity due_room = record {
+        voices = IsOrder-changed voice_number s new p x vs.items (heard_again now) (λ w. refl) kept.voices here updates same_len;
         deadlines = order;
-        fit = subst (All Fits) (sym (seen_again x.voice refl)) (lemmas.All-added voice_number Fits (heard_again now x) _ (All-filter _ Fits (seen s vs) kept.fit) fits_again);
+        fit = subst (All Fits) (sym (seen_again x.voice refl)) (lemmas.All-added voice_number Fits (heard_again now x) _ (All-filter _ Fits (seen s vs.items) kept.fit) fits_again);
         bound = kept.bound;
         room = omega (arith, kept.room, capacity);
         voice_room = kept.voice_room;
-        due_room = kept.due_room;
+        due_room = omega (arith, kept.due_room);
         node_range = kept.node_range;
         port_range = kept.port_range;
       }

@@ -1,6 +1,7 @@
 -- How a clock keeps its voices: each with its last moment at a place of a slab, and the places in two orders, that of a number
 -- which each voice has, and that of the deadlines. No public clause cites this module.
-use Rattle.std.specs.Prelude.{◌≡◌, ℕ, ◌+◌, ◌-◌, ◌*◌, ◌/◌, ◌<◌, ◌≤◌, ◌^◌, List, length, Some, None}
+use Rattle.std.specs.Prelude.{◌≡◌, ℕ, ◌+◌, ◌-◌, ◌*◌, ◌/◌, ◌<◌, ◌≤◌, ◌^◌, List, length, Some, None, Vec, vec_capacity}
+use Rattle.std.specs.declared.alloc.Global.{Global}
 use Rattle.std.specs.List.{All}
 use Rattle.slab.specs.Slab.{Slab, get}
 use Rattle.fab_base.specs.Keyed.{item_at, without}
@@ -48,13 +49,13 @@ HasOwnDue node port place now records by_due =
     → item_at (deadline_number node port) (deadline_number node port (heard_again now x)) (without (deadline_number node port) (deadline_number node port x) (seen records by_due)) ≡ None
 
 -- The places stand in both orders, and there is room for as many as there may be.
-pub record IsKept (node port most : ℕ) (records : Slab LastHeard) (by_voice by_due : List ℕ) (voice_capacity due_capacity : ℕ) : Type 0 where
-  pub voices : IsOrder voice_number records by_voice
-  pub deadlines : IsOrder (deadline_number node port) records by_due
-  pub fit : All Fits (seen records by_voice)
-  pub bound : length by_voice ≤ most
+pub record IsClockKept (node port most : ℕ) (records : Slab LastHeard) (by_voice by_due : Vec ℕ Global) : Type 0 where
+  pub voices : IsOrder voice_number records by_voice.items
+  pub deadlines : IsOrder (deadline_number node port) records by_due.items
+  pub fit : All Fits (seen records by_voice.items)
+  pub bound : length by_voice.items ≤ most
   pub room : most ≤ records.capacity
-  pub voice_room : most ≤ voice_capacity
-  pub due_room : most ≤ due_capacity
+  pub voice_room : most ≤ vec_capacity by_voice
+  pub due_room : most ≤ vec_capacity by_due
   pub node_range : node < 2 ^ 32
   pub port_range : port < 2 ^ 32

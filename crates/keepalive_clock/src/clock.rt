@@ -28,13 +28,12 @@ pub struct KeepClock {
 }
 
 impl Model for KeepClock {
-    ghost use Rattle.std.specs.Prelude.{vec_capacity};
     ghost use Rattle.sorted_lists.specs.Orders.{seen};
     ghost use Rattle.keepalive_clock.specs.Clock.{VoiceClock};
 
     ghost Value = { VoiceClock };
 
-    ghost use Rattle.keepalive_clock.specs.Order.{IsKept};
+    ghost use Rattle.keepalive_clock.specs.Order.{IsClockKept};
 
     ghost view = { λ c. record {
       node_period = c.order.node_period;
@@ -43,14 +42,12 @@ impl Model for KeepClock {
       voices = seen c.records c.by_voice.items;
     } };
 
-    ghost invariant = { λ c. IsKept c.order.node_period
+    ghost invariant = { λ c. IsClockKept c.order.node_period
         c.order.port_period
         c.room
         c.records
-        c.by_voice.items
-        c.by_due.items
-        (vec_capacity c.by_voice)
-        (vec_capacity c.by_due) };
+        c.by_voice
+        c.by_due };
 }
 
 impl KeepClock {

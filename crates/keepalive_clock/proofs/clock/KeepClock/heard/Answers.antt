@@ -40,8 +40,7 @@ hear_again-requires-clause-apart c = λ x here. lemmas.apart_again c.self.invari
 pub invariant_of-self : goal.invariant_of-self
 invariant_of-self c =
     let (x, here) = was c in
-    rw c.hear_again.ensures.capacity
-    (lemmas.kept_again c.self.invariant c.in-Some.place c.args.now x c.requires.range here c.hear_again.new.records (c.hear_again.ensures.updates x here) c.hear_again.new.by_due.items c.hear_again.ensures.order c.hear_again.ensures.len c.hear_again.ensures.room)
+    lemmas.kept_again c.self.invariant c.in-Some.place c.args.now x c.requires.range here c.hear_again.new.records (c.hear_again.ensures.updates x here) c.hear_again.new.by_due c.hear_again.ensures.order c.hear_again.ensures.len c.hear_again.ensures.room c.hear_again.ensures.capacity
 
 pub returns-in-Some-clause-voices : goal.returns-in-Some-clause-voices
 returns-in-Some-clause-voices c =
@@ -94,15 +93,14 @@ first : (c : After-order_put-in-None) → seen c.insert_reserved-place.new.self 
 first c =
     let i = c.insert_reserved-place in
     lemmas.seen_added c.self.invariant i.result (record { voice = c.args.voice; last = c.args.now }) i.new.self (c.number-number.ensures.whole, c.requires.range) (rw (c.deref.ensures.value, c.number-number.ensures.value) at c.in-None.ensures.none) i.ensures.was_vacant i.ensures.updates i.ensures.len
-    c.order_put.new.places.items c.order_put-in-None.new.places.items c.order_put.ensures.order c.order_put-in-None.ensures.order (c.order_put.ensures.items (record { voice = c.args.voice; last = c.args.now }) i.ensures.updates.changed)
+    c.order_put.new.places c.order_put-in-None.new.places c.order_put.ensures.order c.order_put-in-None.ensures.order (c.order_put.ensures.items (record { voice = c.args.voice; last = c.args.now }) i.ensures.updates.changed)
 
 pub invariant_of-self-in-None : goal.invariant_of-self-in-None
 invariant_of-self-in-None c =
     let i = c.insert_reserved-place in
-    rw (c.order_put.ensures.capacity, c.order_put-in-None.ensures.capacity)
-    (lemmas.kept_added c.self.invariant i.result (record { voice = c.args.voice; last = c.args.now }) i.new.self (c.number-number.ensures.whole, c.requires.range) (rw (c.deref.ensures.value, c.number-number.ensures.value) at c.in-None.ensures.none) i.ensures.was_vacant i.ensures.updates i.ensures.len
-    c.order_put.new.places.items c.order_put-in-None.new.places.items c.order_put.ensures.order c.order_put-in-None.ensures.order (c.order_put.ensures.items (record { voice = c.args.voice; last = c.args.now }) i.ensures.updates.changed)
-    (lemmas.room_kept c.self.invariant (record { voice = c.args.voice; last = c.args.now }) (c.number-number.ensures.whole, c.requires.range) (rw (c.deref.ensures.value, c.number-number.ensures.value) at c.in-None.ensures.none) (rw (← c.self.view_is) at c.requires.room)) i.ensures.capacity)
+    lemmas.kept_added c.self.invariant i.result (record { voice = c.args.voice; last = c.args.now }) i.new.self (c.number-number.ensures.whole, c.requires.range) (rw (c.deref.ensures.value, c.number-number.ensures.value) at c.in-None.ensures.none) i.ensures.was_vacant i.ensures.updates i.ensures.len
+    c.order_put.new.places c.order_put-in-None.new.places c.order_put.ensures.order c.order_put-in-None.ensures.order (c.order_put.ensures.items (record { voice = c.args.voice; last = c.args.now }) i.ensures.updates.changed)
+    (lemmas.room_kept c.self.invariant (record { voice = c.args.voice; last = c.args.now }) (c.number-number.ensures.whole, c.requires.range) (rw (c.deref.ensures.value, c.number-number.ensures.value) at c.in-None.ensures.none) (rw (← c.self.view_is) at c.requires.room)) i.ensures.capacity c.order_put.ensures.capacity c.order_put-in-None.ensures.capacity
 
 pub returns-in-None-clause-voices : goal.returns-in-None-clause-voices
 returns-in-None-clause-voices c =

@@ -24,7 +24,7 @@ number : (c : goal.After-remove) → voice_number c.remove.result ≡ number_of 
 number c = key_found voice_number (number_of c.args.voice.now) c.remove.result _ (found c)
 
 gone : (c : goal.After-remove) → seen c.remove.new.self c.order_take-in-Some.new.places.items ≡ keyed.without voice_number (voice_number c.remove.result) (seen c.self.inside.records c.self.inside.by_voice.items)
-gone c = seen_without c.self.invariant c.in-Some.place c.remove.result c.remove.new.self c.order_take-in-Some.new.places.items c.order_take.new.places.items c.order_take-in-Some.ensures.but c.order_take.ensures.but
+gone c = seen_without c.self.invariant c.in-Some.place c.remove.result c.remove.new.self c.order_take-in-Some.new.places c.order_take.new.places c.order_take-in-Some.ensures.but c.order_take.ensures.but
     (c.order_take-in-Some.ensures.items c.remove.result (here c)) c.remove.ensures.updates
 
 spoken : (c : goal.After-remove) → seen c.remove.new.self c.order_take-in-Some.new.places.items ≡ without c.args.voice.now (seen c.self.inside.records c.self.inside.by_voice.items)
@@ -37,9 +37,8 @@ absent c = rw (c.deref.ensures.value, c.number-number.ensures.value) at c.in-Non
 
 pub invariant_of-self : goal.invariant_of-self
 invariant_of-self c =
-    rw (c.order_take.ensures.capacity, c.order_take-in-Some.ensures.capacity)
-    (kept_without c.self.invariant c.in-Some.place c.remove.result c.remove.new.self c.order_take-in-Some.new.places.items c.order_take.new.places.items c.order_take-in-Some.ensures.but c.order_take.ensures.but
-    (c.order_take-in-Some.ensures.items c.remove.result (here c)) c.remove.ensures.updates c.remove.ensures.len c.remove.ensures.capacity)
+    kept_without c.self.invariant c.in-Some.place c.remove.result c.remove.new.self c.order_take-in-Some.new.places c.order_take.new.places c.order_take-in-Some.ensures.but c.order_take.ensures.but
+    (c.order_take-in-Some.ensures.items c.remove.result (here c)) c.remove.ensures.updates c.remove.ensures.len c.remove.ensures.capacity c.order_take-in-Some.ensures.capacity c.order_take.ensures.capacity
 
 pub returns-in-Some-clause-there : goal.returns-in-Some-clause-there
 returns-in-Some-clause-there c =
