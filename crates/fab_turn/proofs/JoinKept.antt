@@ -10,7 +10,7 @@ use Rattle.atomic_table.proofs.Lists.{at_set, set_else}
 use Rattle.fab_turn.specs.declared.view.View.{View}
 use Rattle.fab_turn.specs.declared.view.Role.TheVariants.{Root, Of, Spent}
 use Rattle.fab_turn.specs.Views.{role_of, has_port, has_kept, kept_list, of_port}
-use Rattle.fab_turn.specs.Rule.{HasView, AtHome, IsOut, Fits, IsOneHistory}
+use Rattle.fab_turn.specs.Rule.{HasView, AtHome, IsOut, history_of, FitsHistory, IsOneHistory}
 use Rattle.fab_turn.specs.Steps.{longer, port_in, joined, spent}
 use Rattle.fab_turn.proofs.Seats.{In, Like, like_same, one_view, now_cases, now_mine, now_else}
 use Rattle.fab_turn.proofs.Moves.{St, Holds}
@@ -36,10 +36,10 @@ module _ {V E : Type 0} (entries : V → List E) (port_of : E → ℕ) (grown : 
     abbrev Now : ℕ → View V E → Type 0
     Now = In (set others_now other spent)
 
-    f : Fits port_of first (entries first) r.since r.done r.drawn r.given r.kept id v
+    f : FitsHistory port_of first (history_of (entries first) r.since r.done r.drawn r.given r.kept) id v
     f = r.each id v at
 
-    g : Fits port_of first (entries first) r.since r.done r.drawn r.given r.kept other w
+    g : FitsHistory port_of first (history_of (entries first) r.since r.done r.drawn r.given r.kept) other w
     g = r.each other w there
 
     now_where : (i : ℕ) (u : View V E) → Now i u → ((i ≡ id) × (both ≡ u)) ⊎ ((i ≢ id) × (i ≢ other) × HasView s i u)
@@ -77,7 +77,7 @@ module _ {V E : Type 0} (entries : V → List E) (port_of : E → ℕ) (grown : 
     kept_now = (port, w.own) ∷ r.kept
 
     abbrev FitsNow : ℕ → View V E → Type 0
-    FitsNow = Fits port_of first (entries first) r.since r.done r.drawn r.given kept_now
+    FitsNow = FitsHistory port_of first (history_of (entries first) r.since r.done r.drawn r.given kept_now)
 
     fits_root : FitsNow id both
     fits_root = record {

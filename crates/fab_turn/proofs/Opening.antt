@@ -8,7 +8,7 @@ use Rattle.atomic_table.specs.Table.{opening}
 use Rattle.fab_turn.specs.declared.view.View.{View}
 use Rattle.fab_turn.specs.declared.view.Role.TheVariants.{Root, Of}
 use Rattle.fab_turn.specs.Views.{root_view}
-use Rattle.fab_turn.specs.Rule.{Fits, IsOneHistory}
+use Rattle.fab_turn.specs.Rule.{history_of, FitsHistory, IsOneHistory}
 use Rattle.fab_turn.proofs.Histories.{prefix_whole}
 
 module _ {V E : Type 0} (entries : V → List E) (port_of : E → ℕ) (grown : V → V → Type 0) where
@@ -28,7 +28,7 @@ module _ {V E : Type 0} (entries : V → List E) (port_of : E → ℕ) (grown : 
     apart = λ i j u u' p h h' e e'. (only i u h.0).0 ∙ sym (only j u' h'.0).0;
     ports = λ p e. let no : false ≡ true = e in absurd cc;
     slot = inl (first, refl, itself, sym (append-nil start), λ i u h e. let no : false ≡ true = ap (λ (x : View V E). x.served) (only i u h.0).1 ∙ e in cc);
-    each = λ i u h. let o = only i u h.0 in subst (λ (x : ℕ × View V E). Fits port_of first start [] 0 0 [] [] x.0 x.1) (λ k. (sym o.0 k, o.1 k)) fits;
+    each = λ i u h. let o = only i u h.0 in subst (λ (x : ℕ × View V E). FitsHistory port_of first (history_of start [] 0 0 [] []) x.0 x.1) (λ k. (sym o.0 k, o.1 k)) fits;
     others = λ p none. refl;
     out = λ p e. let no : false ≡ true = e in absurd cc;
     kept_given = λ p e. let no : false ≡ true = e in absurd cc;
@@ -44,7 +44,7 @@ module _ {V E : Type 0} (entries : V → List E) (port_of : E → ℕ) (grown : 
       only zero u e = (refl, some-injective root u e)
       only (suc i) u e = absurd (some-ne-none u (sym e))
 
-      fits : Fits port_of first start [] 0 0 [] [] 0 root
+      fits : FitsHistory port_of first (history_of start [] 0 0 [] []) 0 root
       fits = record {
         ticket = λ t e. let no : None ≡ Some t = e in absurd cc;
         served = λ e. let no : false ≡ true = e in absurd cc;

@@ -10,7 +10,7 @@ use Rattle.atomic_table.proofs.Lists.{at_longer, at_last}
 use Rattle.fab_turn.specs.declared.view.View.{View}
 use Rattle.fab_turn.specs.declared.view.Role.TheVariants.{Root, Of, Spent}
 use Rattle.fab_turn.specs.Views.{has_port, has_kept, of_port}
-use Rattle.fab_turn.specs.Rule.{HasView, AtHome, IsOut, Fits, IsOneHistory}
+use Rattle.fab_turn.specs.Rule.{HasView, AtHome, IsOut, history_of, FitsHistory, IsOneHistory}
 use Rattle.fab_turn.specs.Steps.{gave, worker}
 use Rattle.fab_turn.proofs.Seats.{In, Like, like_same, one_view, now_cases, now_mine, now_else}
 use Rattle.fab_turn.proofs.Moves.{St, Holds}
@@ -36,7 +36,7 @@ module _ {V E : Type 0} (entries : V → List E) (port_of : E → ℕ) (grown : 
     abbrev Now : ℕ → View V E → Type 0
     Now = In (others_now ++ right ∷ [])
 
-    f : Fits port_of first (entries first) r.since r.done r.drawn r.given r.kept id v
+    f : FitsHistory port_of first (history_of (entries first) r.since r.done r.drawn r.given r.kept) id v
     f = r.each id v at
 
     -- the seat is new, or it was there
@@ -75,7 +75,7 @@ module _ {V E : Type 0} (entries : V → List E) (port_of : E → ℕ) (grown : 
     more p e = or_there (port == p) (has_port p r.given) e
 
     abbrev FitsNow : ℕ → View V E → Type 0
-    FitsNow = Fits port_of first (entries first) r.since r.done r.drawn (port ∷ r.given) r.kept
+    FitsNow = FitsHistory port_of first (history_of (entries first) r.since r.done r.drawn (port ∷ r.given) r.kept)
 
     fits_else : (i : ℕ) (u : View V E) → i ≢ id → HasView s i u → FitsNow i u
     fits_else i u ne h = let g = r.each i u h in record {

@@ -21,20 +21,34 @@ AtHome {V} {E} entries grown first since s = (value : V) × (get_elem? s.homes 0
 abbrev pub IsOut : {V E : Type 0} → (V → List E) → V → List E → State (Option V) (View V E) → Type 0
 IsOut {V} {E} entries first since s = (seat : ℕ) × (view : View V E) × HasView s seat view × (view.served ≡ true) × (view.taken ≡ entries first ++ since)
 
--- what the rule says of the view of one seat, where the history is `start` and then `since`, and the tickets from `done` up to `drawn` wait
-pub record Fits {V E : Type 0} (port_of : E → ℕ) (first : V) (start since : List E) (done drawn : ℕ) (given : List ℕ) (kept : List (ℕ × List E)) (seat : ℕ) (view : View V E) : Type 0 where
-  pub ticket : (t : ℕ) → view.ticket ≡ Some t → (done ≤ t) × (t < drawn)
+-- A history: the entries when the lock was opened and those since, how many turns are over and how many tickets were drawn,
+-- the ports that were given out, and the lists that are kept of the passes that were joined. The tickets between wait.
+pub record History (E : Type 0) : Type 0 where
+  pub start : List E
+  pub since : List E
+  pub done : ℕ
+  pub drawn : ℕ
+  pub given : List ℕ
+  pub kept : List (ℕ × List E)
+
+-- such a history of its parts
+abbrev pub history_of : {E : Type 0} → List E → List E → ℕ → ℕ → List ℕ → List (ℕ × List E) → History E
+history_of start since done drawn given kept = record { start = start; since = since; done = done; drawn = drawn; given = given; kept = kept }
+
+-- what the rule says of the view of one seat in a history
+pub record FitsHistory {V E : Type 0} (port_of : E → ℕ) (first : V) (h : History E) (seat : ℕ) (view : View V E) : Type 0 where
+  pub ticket : (t : ℕ) → view.ticket ≡ Some t → (h.done ≤ t) × (t < h.drawn)
   -- who is served has the ticket that is served
-  pub served : view.served ≡ true → view.ticket ≡ Some done
+  pub served : view.served ≡ true → view.ticket ≡ Some h.done
   -- what was seen begins the history, and goes on from the start
-  pub seen : IsPrefix view.seen (start ++ since)
-  pub begun : IsPrefix start view.seen
+  pub seen : IsPrefix view.seen (h.start ++ h.since)
+  pub begun : IsPrefix h.start view.seen
   -- what the last join met begins what was seen
   pub met : IsPrefix view.met view.seen
   pub first_is : view.first ≡ Some first
   -- the port was given out, no list is kept for it yet, and the own entries are those of the port
-  pub port : (p : ℕ) → view.role ≡ Of p → (has_port p given ≡ true) × (has_kept p kept ≡ false) × (view.own ≡ of_port port_of p since)
-  pub root : view.role ≡ Root → (seat ≡ 0) × (view.given ≡ given) × (view.kept ≡ kept)
+  pub port : (p : ℕ) → view.role ≡ Of p → (has_port p h.given ≡ true) × (has_kept p h.kept ≡ false) × (view.own ≡ of_port port_of p h.since)
+  pub root : view.role ≡ Root → (seat ≡ 0) × (view.given ≡ h.given) × (view.kept ≡ h.kept)
 
 -- Between any two steps there is one history
 pub record IsOneHistory {V E : Type 0} (entries : V → List E) (port_of : E → ℕ) (grown : V → V → Type 0) (first : V) (s : State (Option V) (View V E)) : Type 0 where
@@ -56,7 +70,7 @@ pub record IsOneHistory {V E : Type 0} (entries : V → List E) (port_of : E →
   pub ports : (p : ℕ) → has_port p given ≡ true → (0 < p) × (p ≤ 64)
   -- the served seat, the slot, and the value's history
   pub slot : AtHome entries grown first since s ⊎ IsOut entries first since s
-  pub each : (i : ℕ) (v : View V E) → HasView s i v → Fits port_of first (entries first) since done drawn given kept i v
+  pub each : (i : ℕ) (v : View V E) → HasView s i v → FitsHistory port_of first (history_of (entries first) since done drawn given kept) i v
   -- each port's own entries: of a port that no seat has, the entries are the list that is kept for it; only ports that were given out have one
   pub others : (p : ℕ) → ((i : ℕ) (v : View V E) → HasView s i v → v.role ≢ Of p) → of_port port_of p since ≡ kept_list p kept
   -- and a port that was given out has a seat, or a list that is kept
