@@ -2,7 +2,7 @@ use Rattle.std.proofs.Common.{sym, ◌∙◌}
 use Rattle.fabric_tool.specs.Command.{names_of}
 use Rattle.fabric_tool.proofs.JournalLemmas.{given_no_config, given_whole, given_unread, journal_as, config_named, journal_named}
 use Rattle.fabric_tool.proofs.RanLemmas.{config_as}
-use Rattle.fabric_tool.proofs.replaying.given.Goals as goal
+use Rattle.fabric_tool.proofs.replaying.config_and_journal.Goals as goal
 
 pub returns-in-Err : goal.returns-in-Err
 returns-in-Err g c =

@@ -1,5 +1,5 @@
 use Rattle.fabric_tool.proofs.OutcomeCases.{ended_as}
-use Rattle.fabric_tool.proofs.tool.ended.Goals as goal
+use Rattle.fabric_tool.proofs.tool.run_and_report.Goals as goal
 
 pub returns : goal.returns
 returns g c = record {
