@@ -1,9 +1,9 @@
 -- What follows from how `enode` ended.
 use Rattle.std.proofs.Common.{◌≡◌, ℕ, List, length, ◌⊎◌, Some, Ok, Err, IsTrue, refl, sym, ap, ◌∙◌, subst, arith, inl, inr}
 use Rattle.std.proofs.lemmas.List.{take_all}
-use Rattle.std.specs.Prelude.{Result, IsErrOf}
+use Rattle.std.specs.Prelude.{Result}
 use Rattle.std.specs.Str.{bytes_eq}
-use Rattle.fab_base.specs.Seen.{Seen, SameWriteFaults}
+use Rattle.fab_base.specs.Seen.{Seen}
 use Rattle.fab_base.specs.Sunk.{Sunk}
 use Rattle.pcap_file.specs.declared.Record.{Record}
 use Rattle.fab_gather.specs.declared.fault.CapWhy.{CapWhy}

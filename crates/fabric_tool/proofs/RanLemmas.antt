@@ -3,7 +3,7 @@ use Rattle.std.proofs.Common.{◌≡◌, ℕ, zero, suc, ◌+◌, ◌-◌, ◌*�
 use Rattle.std.specs.Prelude.{Result, String, Vec, IsErrOf, map, get_or}
 use Rattle.std.specs.declared.alloc.Global.{Global}
 use Rattle.fab_base.specs.Seen.{Seen, SameFiles, Touches, Nothing, Only, SameWriteFaults}
-use Rattle.fab_base.proofs.SeenLemmas.{rose_later, touches_trans, touches_wider, reads_touches}
+use Rattle.fab_base.proofs.SeenLemmas.{touches_trans, touches_wider, reads_touches}
 use Rattle.fab_config.specs.Settings.{Settings, is_in_range}
 use Rattle.pcap_file.specs.Capture.{HEAD}
 use Rattle.pcap_file.specs.declared.Budget.{Budget}
@@ -30,7 +30,7 @@ use Rattle.run_files.specs.Faults.{NoFaults}
 use Rattle.run_files.proofs.FaultLemmas.{none_then}
 use Rattle.run_files.specs.Names.{Among, AnyRose}
 use Rattle.fabric_tool.specs.Ends.{RunHolds}
-use Rattle.fabric_tool.specs.Inputs.{HasConfig, HasInputs, IsFirstUnread, AreOpened, stop_of, kept_of, LIMITS, MOST_BYTES, MOST_FRAMES}
+use Rattle.fabric_tool.specs.Inputs.{HasConfig, HasInputs, stop_of, kept_of, LIMITS, MOST_BYTES, MOST_FRAMES}
 use Rattle.fabric_tool.specs.Left.{HoldsAll, HoldsFronts, AreOldOrFront, HasRun, HasStopped, HasPart, LegalIsSafe}
 use Rattle.fabric_tool.specs.Opening.{ran_by}
 use Rattle.run_files.specs.Opening.{AreEmptyOutputs, Opens}

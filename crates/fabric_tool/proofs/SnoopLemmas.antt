@@ -15,7 +15,7 @@ use Rattle.fab_gather.specs.declared.fault.GatherFault.TheVariants as gather
 use Rattle.fip_snoop.specs.Bridge.{Arrival, arrivals, history, passed, dropped}
 use Rattle.fip_snoop.specs.Laws.{DataGoesUp}
 use Rattle.fip_snoop.specs.Messages.{forwarder_of}
-use Rattle.snoop_run.specs.Bridged.{AreOldOrFront, HasBridged, HasFronts, HasStop, Ends, Bridges}
+use Rattle.snoop_run.specs.Bridged.{HasBridged, HasFronts, HasStop, Ends, Bridges}
 use Rattle.snoop_run.specs.Crossing.{crossing, captures}
 use Rattle.snoop_run.specs.Laws.{AreCaptures}
 use Rattle.snoop_run.specs.Sides.{ins_of, outs_of}

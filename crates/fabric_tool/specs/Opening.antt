@@ -1,6 +1,6 @@
 -- What opening the outputs of `run` does.
-use Rattle.std.specs.Prelude.{◌≡◌, ℕ, ◌⊎◌, IsTrue, List, [], ◌∷◌, Some, Ok, Err, Result, IfOk, OnOk, OnErr}
-use Rattle.fab_base.specs.Seen.{Seen, Touches, SameReadFaults, SameWriteFaults}
+use Rattle.std.specs.Prelude.{◌∷◌, Ok, Err, Result, IfOk, OnOk, OnErr}
+use Rattle.fab_base.specs.Seen.{Seen, SameWriteFaults}
 use Rattle.fab_base.specs.declared.values.Failed.{Failed}
 use Rattle.run_files.specs.Opening.{AreEmptyOutputs, Opens}
 use Rattle.run_files.specs.declared.fault.RunFault.{RunFault}
@@ -9,7 +9,7 @@ use Rattle.fab_windows.specs.declared.Done.{Done}
 use Rattle.enode_core.specs.declared.node.Phase.{Phase}
 use Rattle.snoop_run.specs.declared.run.Crossed.{Crossed}
 use Rattle.fabric_tool.specs.Command.{RunNames, MakeNames}
-use Rattle.run_files.specs.Names.{AnyRose, Among}
+use Rattle.run_files.specs.Names.{AnyRose}
 use Rattle.fabric_tool.specs.declared.making.LoadFiles.{LoadFiles}
 use Rattle.fabric_tool.specs.declared.outcome.Outcome.{Outcome}
 use Rattle.fabric_tool.specs.declared.outcome.Outcome.TheVariants as ends

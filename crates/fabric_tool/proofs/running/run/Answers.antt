@@ -1,4 +1,4 @@
-use Rattle.std.proofs.Common.{IsTrue, refl, sym, ◌∙◌, subst}
+use Rattle.std.proofs.Common.{IsTrue, sym, ◌∙◌, subst}
 use Rattle.fab_base.specs.Places.{name_at}
 use Rattle.fabric_tool.specs.Command.{run_of, input_at, port_count}
 use Rattle.fabric_tool.specs.Ends.{RunHolds}
