@@ -8,8 +8,12 @@ use Rattle.pcap_file.specs.declared.Budget.{Budget}
 use Rattle.pcap_file.specs.declared.Record.{Record}
 use Rattle.fab_gather.specs.Port.{TellsReads}
 use Rattle.fab_gather.specs.declared.fault.LimitKind.TheVariants as limit
-use Rattle.fab_gather.specs.declared.fault.RunFault.{RunFault}
-use Rattle.fab_gather.specs.declared.fault.RunFault.TheVariants as faults
+use Rattle.fab_gather.specs.declared.fault.GatherFault.{GatherFault}
+use Rattle.fab_gather.specs.declared.fault.GatherFault.TheVariants as gather
+use Rattle.run_files.specs.Faults.{fault_from}
+use Rattle.run_files.specs.Faults as run_faults
+use Rattle.run_files.specs.declared.fault.RunFault.{RunFault}
+use Rattle.run_files.specs.declared.fault.RunFault.TheVariants as faults
 use Rattle.fab_captures.specs.Captures.{Taken, ReadsCapture, AreFit, unless_stopped, capture_by}
 use Rattle.enode_core.specs.declared.node.Identity.{Identity}
 use Rattle.enode_core.specs.declared.node.Phase.{Phase}
@@ -38,43 +42,41 @@ module _ (start : ℕ) (from : List ℕ) (budget left : Budget) (port slot : ℕ
   told_b : IsTrue a.told → IsTrue b.told
   told_b told = told_stays from a b opens.reads.keeps told
 
-  reads : (r : Result (List Record) RunFault) → ReadsCapture port slot b c budget left r → Reads from a c
+  reads : (r : Result (List Record) GatherFault) → ReadsCapture port slot b c budget left r → Reads from a c
   reads r h = reads_trans from a b c opens.reads (subst (λ n. Reads n b c) is_name h.reads)
 
-  cause : (r : Result (List Record) RunFault) → ReadsCapture port slot b c budget left r → IsErrOf r faults.Read → Rose (a.read_faults from) (c.read_faults from)
+  cause : (r : Result (List Record) GatherFault) → ReadsCapture port slot b c budget left r → IsErrOf r gather.Read → Rose (a.read_faults from) (c.read_faults from)
   cause r h is = rose_later _ _ _ opens.reads.keeps.reads_rise (subst (λ n. Rose (b.read_faults n) (c.read_faults n)) is_name (h.cause is))
 
-  says : (r : Result Taken RunFault) → capture_by port budget (b.left slot) ≡ r → files.taken_by budget start (b.left slot) ≡ unless_stopped r (λ t. unless_too_long start t.records)
+  says : (r : Result Taken GatherFault) → capture_by port budget (b.left slot) ≡ r → files.taken_by budget start (b.left slot) ≡ unless_stopped r (λ t. unless_too_long start t.records)
   says r e = ap (λ x. unless_stopped x (λ t. unless_too_long start t.records)) (ap (λ p. capture_by p budget (b.left slot)) (sym is_one) ∙ e)
 
-  pub refused : (fault : RunFault) → ReadsCapture port slot b c budget left (Err fault) → ReadsInput start from budget a c (Err fault)
+  pub refused : (fault : GatherFault) → ReadsCapture port slot b c budget left (Err fault) → ReadsInput start from budget a c (Err fault)
   refused fault h = record {
     reads = reads (Err fault) h;
     far = tt;
     taken = λ told. tt;
     stops = λ told stopped. record { bytes = b.left slot; found = opens.left told; says = says (Err fault) (h.stops (told_b told) stopped) };
     cause = cause (Err fault) h;
-    only = h.only;
     counts = λ other m. h.counts other m ∙ opens.counts m;
   }
 
-  pub read : (records : List Record) → ReadsCapture port slot b c budget left (Ok records) → (r : Result (List Record) RunFault) → r ≡ unless_too_long start records → ReadsInput start from budget a c r
+  pub read : (records : List Record) → ReadsCapture port slot b c budget left (Ok records) → (r : Result (List Record) GatherFault) → r ≡ unless_too_long start records → ReadsInput start from budget a c r
   read records h r e = subst (λ x. ReadsInput start from budget a c x) (sym e) (by_test (is_too_long start records) refl)
     where
-      counts : {T : Type 0} {r : Result T RunFault} → TellsReads a c r
+      counts : {T : Type 0} {r : Result T GatherFault} → TellsReads a c r
       counts other m = h.counts (λ is. cc) m ∙ opens.counts m
 
-      taken_so : IsTrue a.told → (t : Bool) → is_too_long start records ≡ t → files.taken_by budget start (b.left slot) ≡ cond t (Err (faults.Limit limit.Span)) (Ok records)
-      taken_so told t is = says (Ok (record { records = records; left = left })) (h.taken (told_b told)) ∙ ap (λ x. cond x (Err (faults.Limit limit.Span)) (Ok records)) is
+      taken_so : IsTrue a.told → (t : Bool) → is_too_long start records ≡ t → files.taken_by budget start (b.left slot) ≡ cond t (Err (gather.Limit limit.Span)) (Ok records)
+      taken_so told t is = says (Ok (record { records = records; left = left })) (h.taken (told_b told)) ∙ ap (λ x. cond x (Err (gather.Limit limit.Span)) (Ok records)) is
 
-      by_test : (t : Bool) → is_too_long start records ≡ t → ReadsInput start from budget a c (cond t (Err (faults.Limit limit.Span)) (Ok records))
+      by_test : (t : Bool) → is_too_long start records ≡ t → ReadsInput start from budget a c (cond t (Err (gather.Limit limit.Span)) (Ok records))
       by_test true is = record {
         reads = reads (Ok records) h;
         far = tt;
         taken = λ told. tt;
         stops = λ told stopped. record { bytes = b.left slot; found = opens.left told; says = taken_so told true is };
         cause = λ e. absurd (cc);
-        only = λ e. cc;
         counts = counts;
       }
       by_test false is = record {
@@ -83,7 +85,6 @@ module _ (start : ℕ) (from : List ℕ) (budget left : Budget) (port slot : ℕ
         taken = λ told. record { bytes = b.left slot; found = opens.left told; says = taken_so told false is };
         stops = λ told. tt;
         cause = cause (Ok records) h;
-        only = tt;
         counts = counts;
       }
 
@@ -133,12 +134,17 @@ unwritten to bytes a b failed o = record {
 
 module _ (own : Identity) (start : ℕ) (from to : List ℕ) (budget : Budget) (a b : Seen) where
   -- an input that isn't taken
-  pub stopped : (fault : RunFault) → ReadsInput start from budget a b (Err fault) → RunsNode own start from to budget a b (Err fault)
-  stopped (faults.Capture port at why) h = (h.reads.files, λ told. h.stops told tt)
-  stopped (faults.Limit kind) h = (h.reads.files, λ told. h.stops told tt)
-  stopped faults.Read h = (h.reads.files, h.cause refl)
-  stopped faults.Write h = absurd (h.only refl)
-  stopped faults.Memory h = h.reads.files
+  stopped_by : (g : GatherFault) → ReadsInput start from budget a b (Err g) → RunsNode own start from to budget a b (Err (fault_from g))
+  stopped_by (gather.Capture port at why) h = (h.reads.files, λ told. h.stops told tt)
+  stopped_by (gather.Limit kind) h = (h.reads.files, λ told. h.stops told tt)
+  stopped_by gather.Read h = (h.reads.files, h.cause refl)
+  stopped_by gather.Memory h = h.reads.files
+
+  pub stopped : (g : GatherFault) (e : RunFault) → e ≡ fault_from g → ReadsInput start from budget a b (Err g) → RunsNode own start from to budget a b (Err e)
+  stopped g e is h = subst (λ x. RunsNode own start from to budget a b (Err x)) (sym is) (stopped_by g h)
+
+  pub stopped_tells : (g : GatherFault) (e : RunFault) → e ≡ fault_from g → ReadsInput start from budget a b (Err g) → run_faults.TellsReads {T = Phase} a b (Err e)
+  stopped_tells g e is h other = h.counts (λ same. other (ap (λ x. Err x) (is ∙ ap fault_from (let read : g ≡ gather.Read = cc in read))))
 
   module _ (records : List Record) (h : ReadsInput start from budget a b (Ok records)) where
     pub no_room : RunsNode own start from to budget a b (Err faults.Memory)

@@ -4,8 +4,10 @@ use Rattle.fab_base.specs.Seen.{Seen, SameFiles, Rose}
 use Rattle.pcap_file.specs.declared.Budget.{Budget}
 use Rattle.pcap_file.specs.declared.Record.{Record}
 use Rattle.fab_gather.specs.declared.fault.LimitKind.TheVariants as limit
-use Rattle.fab_gather.specs.declared.fault.RunFault.{RunFault}
-use Rattle.fab_gather.specs.declared.fault.RunFault.TheVariants as faults
+use Rattle.fab_gather.specs.declared.fault.GatherFault.{GatherFault}
+use Rattle.fab_gather.specs.declared.fault.GatherFault.TheVariants as gather
+use Rattle.run_files.specs.declared.fault.RunFault.{RunFault}
+use Rattle.run_files.specs.declared.fault.RunFault.TheVariants as faults
 use Rattle.fab_captures.specs.Captures.{unless_stopped, capture_by}
 use Rattle.enode_core.specs.declared.node.Identity.{Identity}
 use Rattle.enode_core.specs.declared.node.Phase.{Phase}
@@ -16,16 +18,16 @@ use Rattle.enode_core.specs.RunLaws.{IsGrantedBy}
 -- ---- the input
 
 -- a capture that reaches too far isn't taken
-abbrev pub unless_too_long : ℕ → List Record → Result (List Record) RunFault
-unless_too_long start records = if is_too_long start records then Err (faults.Limit limit.Span) else Ok records
+abbrev pub unless_too_long : ℕ → List Record → Result (List Record) GatherFault
+unless_too_long start records = if is_too_long start records then Err (gather.Limit limit.Span) else Ok records
 
 -- What a file is to a node that starts at a moment: the records of its capture, which counts as that of port 1, or why it isn't
 -- taken. How far it reaches is tested last.
-abbrev pub taken_by : Budget → ℕ → List ℕ → Result (List Record) RunFault
+abbrev pub taken_by : Budget → ℕ → List ℕ → Result (List Record) GatherFault
 taken_by budget start l = unless_stopped (capture_by 1 budget l) (λ t. unless_too_long start t.records)
 
 -- the input isn't taken for this reason
-pub record IsUntaken (start : ℕ) (from : List ℕ) (budget : Budget) (d : Seen) (fault : RunFault) : Type 0 where
+pub record IsUntaken (start : ℕ) (from : List ℕ) (budget : Budget) (d : Seen) (fault : GatherFault) : Type 0 where
   pub bytes : List ℕ
   pub found : d.file from ≡ Some bytes
   pub says : taken_by budget start bytes ≡ Err fault
@@ -56,8 +58,8 @@ pub data IsFront (own : Identity) (start : ℕ) (from to : List ℕ) (budget : B
 -- couldn't be written, a front of it may stand.
 abbrev pub RunsNode : Identity → ℕ → List ℕ → List ℕ → Budget → Seen → Seen → Result Phase RunFault → Type 0
 RunsNode own start from to budget old new (Ok phase) = IsTrue old.told → Played own start from to budget old new phase
-RunsNode own start from to budget old new (Err (faults.Capture port at why)) = SameFiles old new × (IsTrue old.told → IsUntaken start from budget old (faults.Capture port at why))
-RunsNode own start from to budget old new (Err (faults.Limit kind)) = SameFiles old new × (IsTrue old.told → IsUntaken start from budget old (faults.Limit kind))
+RunsNode own start from to budget old new (Err (faults.Capture port at why)) = SameFiles old new × (IsTrue old.told → IsUntaken start from budget old (gather.Capture port at why))
+RunsNode own start from to budget old new (Err (faults.Limit kind)) = SameFiles old new × (IsTrue old.told → IsUntaken start from budget old (gather.Limit kind))
 RunsNode own start from to budget old new (Err faults.Read) = SameFiles old new × Rose (old.read_faults from) (new.read_faults from)
 RunsNode own start from to budget old new (Err faults.Write) = Rose (old.write_faults to) (new.write_faults to) × (IsTrue old.told → IsFront own start from to budget old new)
 RunsNode own start from to budget old new (Err faults.Memory) = SameFiles old new

@@ -4,8 +4,8 @@ use Rattle.fab_base.specs.Seen.{Seen, Keeps, Reads, Rose, SameReadFaults, SameWr
 use Rattle.pcap_file.specs.declared.Budget.{Budget}
 use Rattle.pcap_file.specs.declared.Record.{Record}
 use Rattle.fab_gather.specs.Port.{IsStopped, TellsReads}
-use Rattle.fab_gather.specs.declared.fault.RunFault.{RunFault}
-use Rattle.fab_gather.specs.declared.fault.RunFault.TheVariants as faults
+use Rattle.fab_gather.specs.declared.fault.GatherFault.{GatherFault}
+use Rattle.fab_gather.specs.declared.fault.GatherFault.TheVariants as gather
 use Rattle.enode_core.specs.Course.{AreFar}
 use Rattle.enode_run.specs.Files.{taken_by, IsUntaken}
 
@@ -16,13 +16,12 @@ pub record IsTaken (start : ℕ) (from : List ℕ) (budget : Budget) (d : Seen) 
   pub says : taken_by budget start bytes ≡ Ok records
 
 -- What reading the input whole does.
-pub record ReadsInput (start : ℕ) (from : List ℕ) (budget : Budget) (a b : Seen) (result : Result (List Record) RunFault) : Type 0 where
+pub record ReadsInput (start : ℕ) (from : List ℕ) (budget : Budget) (a b : Seen) (result : Result (List Record) GatherFault) : Type 0 where
   pub reads : Reads from a b
   pub far : IfOk result AreFar
   pub taken : IsTrue a.told → IfOk result (IsTaken start from budget a)
   pub stops : IsTrue a.told → IfErr result (λ e. IsStopped e → IsUntaken start from budget a e)
-  pub cause : IsErrOf result faults.Read → Rose (a.read_faults from) (b.read_faults from)
-  pub only : IfErr result (λ e. e ≢ faults.Write)
+  pub cause : IsErrOf result gather.Read → Rose (a.read_faults from) (b.read_faults from)
   pub counts : TellsReads a b result
 
 -- the file is as it was, or a front of these bytes

@@ -8,7 +8,7 @@ ghost use Rattle.enode_run.specs.Steps.{ReadsInput};
 
 use fab_base::{Depot, Moment, PortNo};
 use fab_captures::{RecordList, read_capture};
-use fab_gather::{LimitKind, RunFault};
+use fab_gather::{GatherFault, LimitKind};
 use pcap_file::Budget;
 use std::alloc::Global;
 
@@ -22,7 +22,7 @@ pub(crate) fn read_input<D: Depot>(
     from: &str,
     start: Moment,
     budget: Budget,
-) -> Result<RecordList, RunFault>
+) -> Result<RecordList, GatherFault>
     requires known { IsTrue ((D.seen depot.old).knows from.now) }
     requires start { start ≤ 4294967295999 }
     ensures reads { ReadsInput start from.now budget (D.seen depot.old) (D.seen depot.new)
@@ -30,7 +30,7 @@ pub(crate) fn read_input<D: Depot>(
 {
     let slot = match depot.open_in(from) {
         Ok(slot) => slot,
-        Err(_) => return Err(RunFault::Read),
+        Err(_) => return Err(GatherFault::Read),
     };
     let mut left = budget;
     match read_capture(alloc, depot, first_port(), slot, &mut left) {
@@ -49,12 +49,12 @@ fn first_port() -> PortNo
 }
 
 // Records, unless one lies too far behind the start.
-fn unless_too_long(start: Moment, records: RecordList) -> Result<RecordList, RunFault>
+fn unless_too_long(start: Moment, records: RecordList) -> Result<RecordList, GatherFault>
     requires { start ≤ 4294967295999 }
     ensures { result ≡ files.unless_too_long start records }
 {
     if is_too_long(start, &records) {
-        return Err(RunFault::Limit(LimitKind::Span));
+        return Err(GatherFault::Limit(LimitKind::Span));
     }
     Ok(records)
 }

@@ -1,18 +1,17 @@
 //! A node over files.
-ghost use Rattle.std.specs.Prelude.{◌≡◌, ◌≤◌, ◌<◌, ◌^◌, IsErrOf, IsTrue, length};
+ghost use Rattle.std.specs.Prelude.{◌≡◌, ◌≤◌, ◌<◌, ◌^◌, IsTrue, length};
 ghost use Rattle.enode_core.specs.Laws.{IsTyped};
 ghost use Rattle.enode_core.specs.Phases.{phase_of};
 ghost use Rattle.enode_run.specs.Files.{KeepsBut, RunsNode};
-ghost use Rattle.fab_base.specs.Seen.{SameWriteFaults};
-ghost use Rattle.fab_gather.specs.Port.{TellsReads};
+ghost use Rattle.run_files.specs.Faults.{TellsReads, TellsWrites};
 
 use crate::input::read_input;
 use crate::output::write_file;
 use enode_core::laws::runs_are_one;
 use enode_core::{Course, Identity, Phase, play};
 use fab_base::{Depot, Moment};
-use fab_gather::RunFault;
 use pcap_file::Budget;
+use run_files::RunFault;
 use std::alloc::Global;
 
 /// Runs a node over the frames of a capture, from a moment on, and writes the capture of what it
@@ -36,17 +35,13 @@ pub fn run_node<D: Depot>(
     ensures others { KeepsBut to.now (D.seen depot.old) (D.seen depot.new) }
     // No other answer, want of memory neither, hides a fault of the store.
     ensures reads { TellsReads (D.seen depot.old) (D.seen depot.new) result }
-    ensures writes { ¬ IsErrOf result RunFault.Write
-        → SameWriteFaults (D.seen depot.old) (D.seen depot.new) }
+    ensures writes { TellsWrites (D.seen depot.old) (D.seen depot.new) result }
 {
     // For the proof: the MAC and the names of the identity are in their ranges.
     know(&own);
     // Law: what each run over records keeps of its grant; the clause plays says it of this one.
     runs_are_one();
-    let records = match read_input(alloc, depot, from, start, budget) {
-        Ok(records) => records,
-        Err(fault) => return Err(fault),
-    };
+    let records = read_input(alloc, depot, from, start, budget)?;
     let course = match play(alloc, start, own, &records) {
         Ok(course) => course,
         Err(_) => return Err(RunFault::Memory),

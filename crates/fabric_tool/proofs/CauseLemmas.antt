@@ -9,7 +9,7 @@ use Rattle.pcapng_file.specs.declared.fault.NgError.TheVariants as ng
 use Rattle.pcapng_file.specs.File.{ng_read}
 use Rattle.pcapng_file.specs.Classic.{IsFront, Same}
 use Rattle.pcapng_file.proofs.LawLemmas.{file_is_read}
-use Rattle.fab_gather.specs.declared.fault.RunFault.TheVariants as faults
+use Rattle.run_files.specs.declared.fault.RunFault.TheVariants as faults
 use Rattle.fab_policy.specs.declared.line.Line.{Line}
 use Rattle.fab_migrate.specs.Migrating.{IsNewFront, Untouched}
 use Rattle.fab_migrate.specs.declared.old.OldWhy.{OldWhy}

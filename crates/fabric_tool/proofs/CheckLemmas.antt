@@ -3,7 +3,6 @@ use Rattle.std.proofs.Common.{◌≡◌, ◌≢◌, ℕ, zero, suc, ◌+◌, ◌
 use Rattle.std.specs.Prelude.{Result, String}
 use Rattle.std.specs.declared.alloc.Global.{Global}
 use Rattle.fab_base.specs.Seen.{Seen, SameFiles, SameWriteFaults, Touches, Nothing, bytes_of}
-use Rattle.fab_base.proofs.SeenLemmas.{rose_later}
 use Rattle.fab_config.specs.Settings.{Settings}
 use Rattle.pcap_file.specs.Capture.{HEAD}
 use Rattle.pcap_file.specs.declared.Budget.{Budget}
@@ -12,25 +11,27 @@ use Rattle.fab_policy.specs.Standing.{Contents}
 use Rattle.fab_gather.specs.First.{opened_in}
 use Rattle.fab_gather.specs.Ports.{slots_of, slot_at, name_of}
 use Rattle.fab_gather.specs.declared.shelf.Input.{Input}
-use Rattle.fab_gather.specs.declared.fault.RunFault.{RunFault}
+use Rattle.fab_gather.specs.declared.fault.GatherFault.{GatherFault}
 use Rattle.fab_replay.specs.Outputs.{IsCompared}
-use Rattle.fab_replay.specs.Check.{Matter, NamesRun, IsAccepted, IsFirstOutput, IsFirstStop, Says, Checks, matter_in, sent_on}
+use Rattle.fab_replay.specs.Check.{Matter, NamesRun, IsAccepted, IsFirstOutput, IsFirstStop, Says, Checks, matter_in, sent_on, task_of}
 use Rattle.fab_replay.specs.Counts as counts
 use Rattle.fab_replay.specs.declared.fault.CheckFault.{CheckFault}
 use Rattle.fab_replay.specs.declared.fault.CheckFault.TheVariants as checks
 use Rattle.fabric_tool.specs.Checking.{budget_of, output_in, matter_of, HasMatter, HasGiven, Finds, IsStanding, IsUnread, IsChecked, AreOpenInputs, command_of, refused_by}
-use Rattle.fabric_tool.specs.Command.{Among, AnyRose, ReadRose, NoFaults, are_ports, names_of, ins_of, count_of, input_of}
+use Rattle.fabric_tool.specs.Command.{ReadRose, are_ports, names_of, ins_of, count_of, input_of}
+use Rattle.run_files.specs.Faults.{NoFaults}
+use Rattle.run_files.specs.Names.{Among, AnyRose}
 use Rattle.fabric_tool.specs.Inputs.{AreOpened, MOST_BYTES, MOST_FRAMES}
 use Rattle.fabric_tool.specs.Reading.{AreHeads, HeadsRead, HeadsEnd}
 use Rattle.fabric_tool.specs.declared.command.Width.{Width}
 use Rattle.fabric_tool.specs.declared.command.Width.TheVariants as widths
 use Rattle.fabric_tool.specs.declared.outcome.Outcome.{Outcome}
 use Rattle.fabric_tool.specs.declared.outcome.Outcome.TheVariants as ends
-use Rattle.fabric_tool.proofs.AmongLemmas.{rose_among, rose_since, none_then}
+use Rattle.run_files.proofs.FaultLemmas.{none_then}
+use Rattle.run_files.proofs.NameLemmas.{rose_among, rose_since, length-counted}
 use Rattle.fabric_tool.proofs.HeadLemmas.{heads_opened, heads_since, unread_is}
 use Rattle.fabric_tool.proofs.JournalLemmas.{outs_count}
-use Rattle.fabric_tool.proofs.NameLemmas.{length-counted}
-use Rattle.fabric_tool.proofs.RanLemmas.{opened_since}
+use Rattle.fabric_tool.proofs.SinceLemmas.{without_since, no_room_since, unread_since}
 use Rattle.fabric_tool.proofs.SlotLemmas.{heads_on, all_named, slots_among}
 pub use Rattle.fabric_tool.proofs.SlotLemmas.{ins_named}
 
@@ -60,7 +61,7 @@ module _ (c : Settings) (budget : Budget) (m : Matter) (found : ℕ → List ℕ
         first = (f.0, f.1, f.2, subst (λ l. IsCompared (Some at) l (sent_on c m x.entry_list f.0)) (sym (same f.0 f.2)) f.3, λ q lt. same q (omega (arith, lt, f.2)) ∙ f.4 q lt);
       }
 
-  pub stop_on : (e : RunFault) → IsFirstStop c budget m e → IsFirstStop c budget (record { ins = m.ins; journal = m.journal; outputs = m.outputs; found = found }) e
+  pub stop_on : (e : GatherFault) → IsFirstStop c budget m e → IsFirstStop c budget (record { ins = m.ins; journal = m.journal; outputs = m.outputs; found = found }) e
   stop_on e x = record { at = x.at; is = x.is; says = x.says; entry_list = x.entry_list; before = x.before; all = x.all }
 
 -- ---- counts of a command's names
@@ -102,9 +103,10 @@ outs_since a m o same told_m (n ∷ names) [] are = absurd are
 outs_since a m o same told_m (n ∷ names) (s ∷ slots) are = ((are.0.0, are.0.1, λ told. sym (same n) ∙ are.0.2 (told_m told)), outs_since a m o same told_m names slots are.1)
 
 -- the check of equal things
-pub checks_as : {s c : Settings} {left : Budget} {xs ins : List Input} {ys slots journal : List ℕ} {o z : Seen} {F : Contents} {r : Result ℕ CheckFault} → s ≡ c → xs ≡ ins → ys ≡ slots → Checks s left xs ys journal o z F r → Checks c left ins slots journal o z F r
+pub checks_as : {s c : Settings} {left : Budget} {xs ins : List Input} {ys slots journal : List ℕ} {o z : Seen} {F : Contents} {r : Result ℕ CheckFault} → s ≡ c → xs ≡ ins → ys ≡ slots → Checks (task_of s left xs o journal ys) z F r → Checks (task_of c left ins o journal slots) z F r
 checks_as {s} {c} {left} {xs} {ins} {ys} {slots} {journal} {o} {z} {F} {r} settings inputs outputs checks =
-    subst (λ x. Checks x left ins slots journal o z F r) settings (subst (λ l. Checks s left l slots journal o z F r) inputs (subst (λ l. Checks s left xs l journal o z F r) outputs checks))
+    subst (λ x. Checks (task_of x left ins o journal slots) z F r) settings
+    (subst (λ l. Checks (task_of s left l o journal slots) z F r) inputs (subst (λ l. Checks (task_of s left xs o journal l) z F r) outputs checks))
 
 -- the configuration and the journal were read
 module _ (w : Width) (words : List (String Global)) (run : are_ports w words ≡ true) (c : Settings) (journal : List ℕ) (a b : Seen) (given : HasGiven (names_of w words) c journal a b) where
@@ -128,24 +130,10 @@ module _ (w : Width) (words : List (String Global)) (run : are_ports w words ≡
       go (ends.Capture port at reason) e none = (
         same,
         λ told.
-            let f = e.2 (told_b told) in
             inl (
               e.0,
               record {
-                head = record {
-                  settings = c;
-                  config = given.config told;
-                  first = record {
-                    before = f.before;
-                    name = f.name;
-                    behind = f.behind;
-                    are = ins_named w words ∙ f.are;
-                    number = f.number;
-                    opened = f.opened;
-                    heads = opened_since a b files_b f.before f.opened f.heads;
-                    without = record { bytes = f.without.bytes; file = sym (files_b f.name) ∙ f.without.file; fault = f.without.fault; says = f.without.says; word = f.without.word };
-                  };
-                };
+                head = record { settings = c; config = given.config told; first = without_since a b files_b (ins_named w words) (e.2 (told_b told)) };
                 journal = journal;
                 lines = given.lines told;
                 within = (let up_to = e.1 in omega arith);
@@ -156,24 +144,9 @@ module _ (w : Width) (words : List (String Global)) (run : are_ports w words ≡
       go (ends.Limit kind) e none = (
         same,
         λ told.
-            let f = e.2 (told_b told) in
             inl (
               e.0,
-              record {
-                settings = c;
-                config = given.config told;
-                journal = journal;
-                lines = given.lines told;
-                heads = record {
-                  before = f.before;
-                  name = f.name;
-                  behind = f.behind;
-                  are = ins_named w words ∙ f.are;
-                  opened = f.opened;
-                  heads = opened_since a b files_b f.before f.opened f.heads;
-                  above = f.above;
-                };
-              },
+              record { settings = c; config = given.config told; journal = journal; lines = given.lines told; heads = no_room_since a b files_b (ins_named w words) (e.2 (told_b told)) },
             ),
         none (λ is. cc),
       )
@@ -181,23 +154,13 @@ module _ (w : Width) (words : List (String Global)) (run : are_ports w words ≡
         same,
         rose_of w words a z (rose_front a.read_faults z.read_faults (ins_of w words) (names_of w words).outs (rose_since a.read_faults b.read_faults z.read_faults given.touches.reads_rise (ins_of w words) e.0)),
         λ told.
-            let f = e.1 (told_b told) in
             inr (inr (inl (record {
               settings = c;
               config = given.config told;
               journal = journal;
               lines = given.lines told;
               room = room;
-              first = record {
-                before = f.before;
-                name = f.name;
-                behind = f.behind;
-                are = ins_named w words ∙ f.are;
-                opened = f.opened;
-                heads = opened_since a b files_b f.before f.opened f.heads;
-                within = f.within;
-                rose = rose_later _ _ _ (given.touches.reads_rise f.name) f.rose;
-              };
+              first = unread_since a b files_b (ins_named w words) z given.touches.reads_rise (e.1 (told_b told));
             }))),
         λ m. read.writes m ∙ given.counts.1 m,
       )
@@ -280,7 +243,7 @@ module _ (w : Width) (words : List (String Global)) (run : are_ports w words ≡
       same_found : IsTrue a.told → (q : ℕ) → q < length slots → output_in (names_of w words) a q ≡ o.left (slot_at slots q)
       same_found told q lt = found_there a o (names_of w words).outs slots q lt told outs_a
 
-      module _ (z : Seen) (F : Contents) (settings : F.settings ≡ c) (r : Result ℕ CheckFault) (all : Checks c left ins slots journal o z F r) (none : NoFaults a o) (tells : counts.TellsFaults o z r) where
+      module _ (z : Seen) (F : Contents) (settings : F.settings ≡ c) (r : Result ℕ CheckFault) (all : Checks (task_of c left ins o journal slots) z F r) (none : NoFaults a o) (tells : counts.TellsFaults o z r) where
         same : SameFiles a z
         same n = all.touches.files n (λ x. x) ∙ files_o n
 

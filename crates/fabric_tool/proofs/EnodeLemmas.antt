@@ -1,22 +1,24 @@
 -- What follows from how `enode` ended.
 use Rattle.std.proofs.Common.{◌≡◌, ℕ, List, length, ◌⊎◌, Some, Ok, Err, IsTrue, refl, sym, ap, ◌∙◌, subst, arith, inl, inr}
 use Rattle.std.proofs.lemmas.List.{take_all}
-use Rattle.std.specs.Prelude.{Result, IsErrOf}
+use Rattle.std.specs.Prelude.{Result}
 use Rattle.std.specs.Str.{bytes_eq}
-use Rattle.fab_base.specs.Seen.{Seen, SameWriteFaults}
+use Rattle.fab_base.specs.Seen.{Seen}
 use Rattle.fab_base.specs.Sunk.{Sunk}
 use Rattle.pcap_file.specs.declared.Record.{Record}
-use Rattle.fab_gather.specs.Port.{TellsReads}
 use Rattle.fab_gather.specs.declared.fault.CapWhy.{CapWhy}
 use Rattle.fab_gather.specs.declared.fault.LimitKind.{LimitKind}
-use Rattle.fab_gather.specs.declared.fault.RunFault.{RunFault}
-use Rattle.fab_gather.specs.declared.fault.RunFault.TheVariants as faults
+use Rattle.fab_gather.specs.declared.fault.GatherFault.{GatherFault}
+use Rattle.fab_gather.specs.declared.fault.GatherFault.TheVariants as gather
 use Rattle.enode_core.specs.declared.node.Identity.{Identity}
 use Rattle.enode_core.specs.declared.node.Phase.{Phase}
 use Rattle.enode_core.specs.Phases.{phase_of}
 use Rattle.enode_core.specs.Runs.{Input, IsRun, stands, all_sent, capture}
 use Rattle.enode_core.proofs.RunLemmas.{runs_are_one}
 use Rattle.enode_run.specs.Files.{IsUntaken, Same, Front, KeepsBut, RunsNode, taken_by}
+use Rattle.run_files.specs.Faults.{fault_from, TellsReads, TellsWrites}
+use Rattle.run_files.specs.declared.fault.RunFault.{RunFault}
+use Rattle.run_files.specs.declared.fault.RunFault.TheVariants as faults
 use Rattle.fabric_tool.specs.Command.{EnodeNames, Enode, KeepsOthers}
 use Rattle.fabric_tool.specs.Ends.{TakesMemory}
 use Rattle.fabric_tool.specs.Enode.{HasPlayed, HasEnodeFront, EnodeHolds, IsEnodeRefused, EnodeForms, EnodeSays}
@@ -26,7 +28,8 @@ use Rattle.fabric_tool.specs.Outcome.{status_of}
 use Rattle.fabric_tool.specs.Statuses.{IsQuiet}
 use Rattle.fabric_tool.specs.declared.outcome.Outcome.{Outcome}
 use Rattle.fabric_tool.specs.declared.outcome.Outcome.TheVariants as ends
-use Rattle.fabric_tool.proofs.AmongLemmas.{differs, or_false}
+use Rattle.fabric_tool.proofs.AmongLemmas.{or_false}
+use Rattle.run_files.proofs.NameLemmas.{differs}
 use Rattle.fabric_tool.proofs.ConfigLemmas.{same_text}
 
 -- `enode` ends so, and not otherwise
@@ -92,42 +95,42 @@ enode_refused k old new = enode_cases k old new (λ o. 1 ≡ status_of o → IsE
 -- ---- where nothing fails
 
 -- how a run over what is taken ends, and how a refusal does
-abbrev EndsBy : EnodeNames → Result (List Record) RunFault → Outcome → Type 0
+abbrev EndsBy : EnodeNames → Result (List Record) GatherFault → Outcome → Type 0
 EndsBy k (Ok records) o = (inputs : List Input) × IsRun k.own k.start records inputs × (o ≡ ends.Stood (phase_of (stands k.own k.start inputs)))
-EndsBy k (Err fault) o = o ≡ stopped_by fault
+EndsBy k (Err fault) o = o ≡ stopped_by (fault_from fault)
 
 -- the input names this outcome
 record Names (k : EnodeNames) (d : Seen) (o : Outcome) : Type 0 where
   bytes : List ℕ
   found : d.file k.from ≡ Some bytes
-  result : Result (List Record) RunFault
+  result : Result (List Record) GatherFault
   taken : taken_by LIMITS k.start bytes ≡ result
   ends_so : EndsBy k result o
 
 module _ (k : EnodeNames) (d : Seen) where
-  ended_once : (r s : Result (List Record) RunFault) (o p : Outcome) → r ≡ s → EndsBy k r o → EndsBy k s p → o ≡ p
+  ended_once : (r s : Result (List Record) GatherFault) (o p : Outcome) → r ≡ s → EndsBy k r o → EndsBy k s p → o ≡ p
   ended_once (Ok xs) (Ok ys) o p e one other =
       let same : xs ≡ ys = cc in
       let inputs = runs_are_one k.own k.start ys one.0 other.0 (subst (λ l. IsRun k.own k.start l one.0) same one.1) other.1 in
       one.2 ∙ ap (λ l. ends.Stood (phase_of (stands k.own k.start l))) inputs ∙ sym other.2
   ended_once (Ok xs) (Err f) o p e one other = absurd (cc)
   ended_once (Err f) (Ok ys) o p e one other = absurd (cc)
-  ended_once (Err f) (Err g) o p e one other = let same : f ≡ g = cc in one ∙ ap stopped_by same ∙ sym other
+  ended_once (Err f) (Err g) o p e one other = let same : f ≡ g = cc in one ∙ ap (λ x. stopped_by (fault_from x)) same ∙ sym other
 
   -- what is taken of one file is one thing
-  same_taken : (a b : List ℕ) (r s : Result (List Record) RunFault) → d.file k.from ≡ Some a → d.file k.from ≡ Some b → taken_by LIMITS k.start a ≡ r → taken_by LIMITS k.start b ≡ s → r ≡ s
+  same_taken : (a b : List ℕ) (r s : Result (List Record) GatherFault) → d.file k.from ≡ Some a → d.file k.from ≡ Some b → taken_by LIMITS k.start a ≡ r → taken_by LIMITS k.start b ≡ s → r ≡ s
   same_taken a b r s found other one again = sym one ∙ ap (taken_by LIMITS k.start) (same_text d k.from a b found other) ∙ again
 
   named_once : (o p : Outcome) → Names k d o → Names k d p → o ≡ p
   named_once o p one other = ended_once one.result other.result o p (same_taken one.bytes other.bytes one.result other.result one.found other.found one.taken other.taken) one.ends_so other.ends_so
 
-  refusal : (fault : RunFault) → IsUntaken k.start k.from LIMITS d fault → Names k d (stopped_by fault)
+  refusal : (fault : GatherFault) → IsUntaken k.start k.from LIMITS d fault → Names k d (stopped_by (fault_from fault))
   refusal fault u = record { bytes = u.bytes; found = u.found; result = Err fault; taken = u.says; ends_so = refl }
 
   said : (p : Outcome) → EnodeSays k d p → Names k d p
   said (ends.Stood last) says = record { bytes = says.bytes; found = says.file; result = Ok says.records; taken = says.taken; ends_so = (says.inputs, says.run, ap (λ (q : Phase). ends.Stood q) says.is) }
-  said (ends.Capture port at why) says = refusal (faults.Capture port at why) says
-  said (ends.Limit kind) says = refusal (faults.Limit kind) says
+  said (ends.Capture port at why) says = refusal (gather.Capture port at why) says
+  said (ends.Limit kind) says = refusal (gather.Limit kind) says
   said p says = absurd says
 
   module _ (new : Seen) (before after : Sunk) (told : IsTrue d.told) (quiet : IsQuiet (Enode k) d new before after) where
@@ -135,8 +138,8 @@ module _ (k : EnodeNames) (d : Seen) where
     ended : (o : Outcome) → EnodeHolds k d new o → Names k d o ⊎ (o ≡ ends.Memory)
     ended = enode_cases k d new (λ o. Names k d o ⊎ (o ≡ ends.Memory))
         (λ last h. let p = h.1 told in inl (record { bytes = p.bytes; found = p.found; result = Ok p.records; taken = p.taken; ends_so = (p.inputs, p.run, ap (λ (q : Phase). ends.Stood q) p.stands_so) }))
-        (λ port at why h. inl (refusal (faults.Capture port at why) (h.1 told)))
-        (λ kind h. inl (refusal (faults.Limit kind) (h.1 told)))
+        (λ port at why h. inl (refusal (gather.Capture port at why) (h.1 told)))
+        (λ kind h. inl (refusal (gather.Limit kind) (h.1 told)))
         (λ h. absurd (quiet.reads h.1))
         (λ h. absurd (quiet.writes h.1))
         (λ h. inr refl)
@@ -145,7 +148,7 @@ module _ (k : EnodeNames) (d : Seen) where
     enode_said o p holds says = elim (ended o holds) [ inl names ↦ inl (named_once o p names (said p says)) | inr memory ↦ inr memory ]
 
     -- a run ends with status 0
-    stood : (r : Result (List Record) RunFault) (records : List Record) (o : Outcome) → r ≡ Ok records → EndsBy k r o → 0 ≡ status_of o
+    stood : (r : Result (List Record) GatherFault) (records : List Record) (o : Outcome) → r ≡ Ok records → EndsBy k r o → 0 ≡ status_of o
     stood (Ok xs) records o e at = sym (ap status_of at.2)
     stood (Err fault) records o e at = absurd (cc)
 
@@ -161,7 +164,7 @@ module _ (k : EnodeNames) (a b : Seen) (others : KeepsBut k.to a b) where
   keeps : KeepsOthers (Enode k) a b
   keeps m none = others m (λ e. differs k.to m (or_false (bytes_eq k.to m) _ none).0 (sym e))
 
-  ran : (r : Result Phase RunFault) → RunsNode k.own k.start k.from k.to LIMITS a b r → TellsReads a b r → (¬ IsErrOf r faults.Write → SameWriteFaults a b) → EnodeHolds k a b (stood_by r)
+  ran : (r : Result Phase RunFault) → RunsNode k.own k.start k.from k.to LIMITS a b r → TellsReads a b r → TellsWrites a b r → EnodeHolds k a b (stood_by r)
   ran (Ok last) runs reads writes = (keeps, runs, (reads (λ is. cc), writes (λ is. cc)))
   ran (Err (faults.Capture port at why)) runs reads writes = (runs.0, runs.1, (reads (λ is. cc), writes (λ is. cc)))
   ran (Err (faults.Limit kind)) runs reads writes = (runs.0, runs.1, (reads (λ is. cc), writes (λ is. cc)))
@@ -171,7 +174,7 @@ module _ (k : EnodeNames) (a b : Seen) (others : KeepsBut k.to a b) where
 
 -- the node and the files that words name
 pub ran_as : (own : Identity) (start : ℕ) (from to : List ℕ) (k : EnodeNames) (a b : Seen) (r : Result Phase RunFault) (o : Outcome) → own ≡ k.own → start ≡ k.start → from ≡ k.from → to ≡ k.to →
-    RunsNode own start from to LIMITS a b r → KeepsBut to a b → TellsReads a b r → (¬ IsErrOf r faults.Write → SameWriteFaults a b) → o ≡ stood_by r → EnodeHolds k a b o
+    RunsNode own start from to LIMITS a b r → KeepsBut to a b → TellsReads a b r → TellsWrites a b r → o ≡ stood_by r → EnodeHolds k a b o
 ran_as own start from to k a b r o own_is start_is from_is to_is runs others reads writes is =
     let there =
     subst (λ l. RunsNode k.own k.start k.from l LIMITS a b r) to_is

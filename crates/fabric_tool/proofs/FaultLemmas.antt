@@ -15,7 +15,8 @@ use Rattle.fab_replay.specs.declared.fault.CheckFault.TheVariants as checks
 use Rattle.fab_replay.specs.declared.fault.LineWhy.{LineWhy}
 use Rattle.fab_replay.specs.declared.fault.LineWhy.TheVariants as lines
 use Rattle.fab_replay.proofs.ExactLemmas.{answer_is_one}
-use Rattle.fabric_tool.specs.Command.{RunNames, Replay, Show, NoFaults}
+use Rattle.fabric_tool.specs.Command.{RunNames, Replay, Show}
+use Rattle.run_files.specs.Faults.{NoFaults}
 use Rattle.fabric_tool.specs.Checking.{CheckSays, Finds, IsHeadRefused, IsLongJournal, ReplayHolds, ShowHolds, budget_of, matter_of, refused_by}
 use Rattle.fabric_tool.specs.Inputs.{HasFault, MOST_BYTES}
 use Rattle.fabric_tool.specs.Outcome.{line_of, status_of}

@@ -14,7 +14,8 @@ use Rattle.fabric_tool.specs.Command.{PairNames, Convert, KeepsOthers}
 use Rattle.fabric_tool.specs.Ends.{ConvertHolds, MigrateHolds}
 use Rattle.fabric_tool.specs.Inputs.{LIMITS, MOST_BYTES}
 use Rattle.fabric_tool.specs.declared.outcome.Outcome.TheVariants as ends
-use Rattle.fabric_tool.proofs.AmongLemmas.{differs, or_false}
+use Rattle.fabric_tool.proofs.AmongLemmas.{or_false}
+use Rattle.run_files.proofs.NameLemmas.{differs}
 
 module _ (k : PairNames) (a b : Seen) (others : KeepsBut k.to a b) where
   keeps : KeepsOthers (Convert k) a b

@@ -11,8 +11,9 @@ use Rattle.pcap_file.specs.declared.CaptureHead.{CaptureHead}
 use Rattle.fab_policy.specs.Looks.{Opened, Stop}
 use Rattle.fab_gather.specs.Port.{ending}
 use Rattle.fab_gather.specs.declared.fault.CapWhy.{CapWhy}
-use Rattle.fab_gather.specs.declared.fault.RunFault.{RunFault}
-use Rattle.fab_gather.specs.declared.fault.RunFault.TheVariants as faults
+use Rattle.run_files.specs.Faults.{fault_from}
+use Rattle.run_files.specs.declared.fault.RunFault.{RunFault}
+use Rattle.run_files.specs.declared.fault.RunFault.TheVariants as faults
 use Rattle.fabric_tool.specs.Command.{RunNames, Run}
 use Rattle.fabric_tool.specs.Ends.{RunHolds}
 use Rattle.fabric_tool.specs.Inputs.{HasFault, IsOpened, AreOpened, HasInputs, HasNoHead, HasBadHead, StopsBy, stop_of, why_of}
@@ -101,7 +102,7 @@ no_bad k d c opened p w inputs bad =
 -- how `run` ends where the reading of the captures stops so, or doesn't
 abbrev EndsAt : Option Stop → Outcome → Type 0
 EndsAt None o = (frames : ℕ) × (entries : ℕ) × (o ≡ ends.Ran frames entries)
-EndsAt (Some s) o = o ≡ ran_by (Err (ending s))
+EndsAt (Some s) o = o ≡ ran_by (Err (fault_from (ending s)))
 
 -- all heads are there, and the reading ends `run` so
 record Through (k : RunNames) (d : Seen) (o : Outcome) : Type 0 where
@@ -129,7 +130,7 @@ module _ (k : RunNames) (d : Seen) where
   ended_once o p None None e one other not_ran = absurd (not_ran other.0 other.1 other.2)
   ended_once o p None (Some t) e one other not_ran = absurd (cc)
   ended_once o p (Some s) None e one other not_ran = absurd (not_ran other.0 other.1 other.2)
-  ended_once o p (Some s) (Some t) e one other not_ran = let same : s ≡ t = cc in one ∙ ap (λ (x : Stop). ran_by (Err (ending x))) same ∙ sym other
+  ended_once o p (Some s) (Some t) e one other not_ran = let same : s ≡ t = cc in one ∙ ap (λ (x : Stop). ran_by (Err (fault_from (ending x)))) same ∙ sym other
 
   one_end : (o p : Outcome) → Finds k d o → Finds k d p → ((frames entries : ℕ) → p ≡ ends.Ran frames entries → ⊥) → o ≡ p
   one_end o p (inl one) (inl other) not_ran = one.2 ∙ ap (λ (f : ConfigFault). ends.Config f) (one_fault d k.config one.0 other.0 one.1 other.1) ∙ sym other.2

@@ -8,12 +8,13 @@ use Rattle.fab_gather.specs.Ports.{slot_at, slots_of, name_of, NameIn}
 use Rattle.fab_gather.specs.declared.shelf.Input.{Input}
 use Rattle.fab_windows.specs.Files.{Written}
 use Rattle.fab_windows.specs.Run.{AreGiven}
-use Rattle.fabric_tool.specs.Command.{are_pairs, run_of, port_count, input_at, output_at, Among}
-use Rattle.fabric_tool.specs.Opening.{AreEmptyOutputs}
+use Rattle.fabric_tool.specs.Command.{are_pairs, run_of, port_count, input_at, output_at}
+use Rattle.run_files.specs.Names.{Among}
+use Rattle.run_files.specs.Opening.{AreEmptyOutputs}
 use Rattle.fabric_tool.specs.Reading.{AreHeads}
-use Rattle.fabric_tool.proofs.AmongLemmas.{counted_among}
+use Rattle.run_files.proofs.NameLemmas.{counted_among, length-counted}
 use Rattle.fabric_tool.proofs.HeadLemmas.{heads_count}
-use Rattle.fabric_tool.proofs.NameLemmas.{pairs, one_place, name_counted, length-counted, inputs_apart}
+use Rattle.fabric_tool.proofs.NameLemmas.{pairs, one_place, name_counted, inputs_apart}
 
 -- ---- slots by their places
 

@@ -14,12 +14,12 @@ use Rattle.pcap_file.specs.declared.CapOpen.TheVariants as opens
 use Rattle.pcap_file.proofs.lemmas.Numbers.{le_or_lt}
 use Rattle.fab_gather.specs.First.{opened_in}
 use Rattle.fab_gather.specs.declared.shelf.Input.{Input}
-use Rattle.fabric_tool.specs.Command.{Among}
+use Rattle.run_files.specs.Names.{Among}
 use Rattle.fabric_tool.specs.Inputs.{AreOpened}
 use Rattle.fabric_tool.specs.Reading.{TellsReads, IsHead, HeadRead, HeadEnds, AreHeads, HeadsRead, HeadsEnd, unopened_by}
 use Rattle.fabric_tool.specs.declared.outcome.Outcome.{Outcome}
 use Rattle.fabric_tool.specs.declared.outcome.Outcome.TheVariants as ends
-use Rattle.fabric_tool.proofs.AmongLemmas.{among_front, among_back, among_split, rose_among, rose_since}
+use Rattle.run_files.proofs.NameLemmas.{among_front, among_back, among_split, rose_among, rose_since}
 
 -- what was read isn't a fault, and a fault is the same whatever else was to be read
 pub not_unread : {T : Type 0} (v : T) → IsErrOf {T = T} {E = Outcome} (Ok v) ends.ReadFault → ⊥

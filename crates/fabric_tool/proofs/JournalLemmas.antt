@@ -12,16 +12,19 @@ use Rattle.fab_migrate.specs.declared.old.OldError.TheVariants as errors
 use Rattle.fab_config.specs.Settings.{Settings}
 use Rattle.fab_policy.specs.Logins.{counting}
 use Rattle.fabric_tool.specs.Checking.{JournalRead, JournalEnds, AreOpenInputs, OutputsRead, unread_by, GivenRead, GivenEnds}
-use Rattle.fabric_tool.specs.Command.{RunNames, are_pairs, run_of, show_of, names_of, port_count, output_at, Among, AnyRose, NoFaults}
+use Rattle.fabric_tool.specs.Command.{RunNames, are_pairs, run_of, show_of, names_of, port_count, output_at}
+use Rattle.run_files.specs.Faults.{NoFaults}
+use Rattle.run_files.specs.Names.{Among, AnyRose}
 use Rattle.fabric_tool.specs.Inputs.{MOST_BYTES}
 use Rattle.fabric_tool.specs.Reading.{TellsReads, ConfigRead}
 use Rattle.fabric_tool.specs.declared.command.Width.{Width}
 use Rattle.fabric_tool.specs.declared.command.Width.TheVariants as widths
 use Rattle.fabric_tool.specs.declared.outcome.Outcome.{Outcome}
 use Rattle.fabric_tool.specs.declared.outcome.Outcome.TheVariants as ends
-use Rattle.fabric_tool.proofs.AmongLemmas.{among_front, among_back, among_split, rose_among, rose_since, none_yet, none_then}
+use Rattle.run_files.proofs.FaultLemmas.{none_yet, none_then}
+use Rattle.run_files.proofs.NameLemmas.{among_front, among_back, among_split, rose_among, rose_since, split_names, push_name, length-counted}
 use Rattle.fabric_tool.proofs.HeadLemmas.{not_unread, unread_is}
-use Rattle.fabric_tool.proofs.NameLemmas.{split_names, push_name, new_output, length-counted}
+use Rattle.fabric_tool.proofs.NameLemmas.{new_output}
 
 -- ---- the journal
 

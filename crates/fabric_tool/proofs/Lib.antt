@@ -5,11 +5,11 @@ pub mod NameLemmas
 pub mod ReadLemmas
 pub mod CaptureLemmas
 pub mod HeadLemmas
-pub mod OpenLemmas
 pub mod GivenLemmas
 pub mod PartLemmas
 pub mod PortLoops
 pub mod SafeLemmas
+pub mod SinceLemmas
 pub mod RanLemmas
 pub mod JournalLemmas
 pub mod SlotLemmas

@@ -12,15 +12,18 @@ use Rattle.pcap_file.proofs.lemmas.Numbers.{le_or_lt}
 use Rattle.fab_vectors.specs.Making.{AreNine, IsNamed, Makes, file_text}
 use Rattle.fab_vectors.specs.declared.MakeFault.{MakeFault}
 use Rattle.fab_vectors.specs.declared.MakeFault.TheVariants as faults
-use Rattle.fabric_tool.specs.Command.{Make, is_make, make_of, file_at, names_from, are_names, number_of, Among, AnyRose, KeepsOthers}
+use Rattle.fabric_tool.specs.Command.{Make, is_make, make_of, file_at, names_from, are_names, number_of, KeepsOthers}
+use Rattle.run_files.specs.Names.{Among, AnyRose}
 use Rattle.fabric_tool.specs.Load.{HasLoadFront, MakeHolds, file_name}
-use Rattle.fabric_tool.specs.Opening.{AreEmptyOutputs, Opens, FilesOpened}
+use Rattle.fabric_tool.specs.Opening.{FilesOpened}
+use Rattle.run_files.specs.Opening.{AreEmptyOutputs, Opens}
 use Rattle.fabric_tool.specs.declared.making.LoadFiles.{LoadFiles}
 use Rattle.fabric_tool.specs.declared.outcome.Outcome.TheVariants as ends
-use Rattle.fabric_tool.proofs.AmongLemmas.{among_counted, counted_among, none_among, rose_among, rose_since}
+use Rattle.fabric_tool.proofs.AmongLemmas.{none_among}
+use Rattle.run_files.proofs.NameLemmas.{among_counted, counted_among, rose_among, rose_since, split_names, push_name, length-counted}
 use Rattle.fabric_tool.proofs.GivenLemmas.{IsOut, output_named, outputs_count}
-use Rattle.fabric_tool.proofs.NameLemmas.{and_true, words_differ, split_names, push_name, name_counted, length-counted}
-use Rattle.fabric_tool.proofs.OpenLemmas.{OpenedSoFar, opened_more, opened_failed}
+use Rattle.fabric_tool.proofs.NameLemmas.{and_true, words_differ, name_counted}
+use Rattle.run_files.proofs.OpenLemmas.{OpenedSoFar, opened_more, opened_failed}
 
 -- ---- the words
 

@@ -1,5 +1,5 @@
 -- The names of a command differ.
-use Rattle.std.proofs.Common.{◌≡◌, ◌≢◌, ℕ, zero, suc, ◌+◌, ◌-◌, ◌*◌, ◌/◌, ◌%◌, ◌<◌, ◌≤◌, List, [], ◌∷◌, ◌++◌, length, get_or, Bool, true, false, not, ◌&&◌, refl, sym, ap, ◌∙◌, arith, inl, inr}
+use Rattle.std.proofs.Common.{◌≡◌, ◌≢◌, ℕ, zero, suc, ◌+◌, ◌-◌, ◌*◌, ◌/◌, ◌%◌, ◌<◌, ◌≤◌, List, [], ◌∷◌, length, get_or, Bool, true, false, not, ◌&&◌, refl, sym, ap, ◌∙◌, arith, inl, inr}
 use Rattle.std.specs.Prelude.{String, map, nat_lt, nat_le, ◌==◌}
 use Rattle.std.proofs.lemmas.Bool.{leb-true, eqb-true}
 use Rattle.std.specs.List.{list_any}
@@ -11,8 +11,10 @@ use Rattle.fab_policy.specs.Logins.{counting}
 use Rattle.pcap_file.proofs.lemmas.Numbers.{le_or_lt}
 use Rattle.fabric_tool.specs.declared.command.Width.{Width}
 use Rattle.fabric_tool.specs.declared.command.Width.TheVariants as widths
-use Rattle.fabric_tool.specs.Command.{are_ports, count_of, place_of, input_of, names_from, are_names, has_pairs, are_pairs, port_count, input_at, output_at, run_of, Among}
-use Rattle.fabric_tool.proofs.AmongLemmas.{differs, or_false, among_counted}
+use Rattle.fabric_tool.specs.Command.{are_ports, count_of, place_of, input_of, names_from, are_names, has_pairs, are_pairs, port_count, input_at, output_at, run_of}
+use Rattle.run_files.specs.Names.{Among}
+use Rattle.fabric_tool.proofs.AmongLemmas.{or_false}
+use Rattle.run_files.proofs.NameLemmas.{differs, among_counted}
 
 pub and_true : (a b : Bool) → (a && b) ≡ true → (a ≡ true) × (b ≡ true)
 and_true true b h = (refl, h)
@@ -58,30 +60,6 @@ pub one_place : (words : List (String Global)) (i j : ℕ) → are_pairs words �
 one_place words i j run = one_name words i j (and_true (has_pairs words) (are_names (names_from 1 words)) run).1
 
 -- ---- numbered names
-
-pub split_counted : {B : Type 0} (f : ℕ → B) (k q m : ℕ) → map f (counting k (q + suc m)) ≡ map f (counting k q) ++ f (k + q) ∷ map f (counting (k + q + 1) m)
-split_counted f k zero m =
-    let count : zero + suc m ≡ suc m = omega arith in
-    let at : k ≡ k + zero = omega arith in
-    ap (λ (n : ℕ). map f (counting k n)) count ∙ ap (λ (p : ℕ). f p ∷ map f (counting (p + 1) m)) at
-split_counted f k (suc q) m =
-    let count : suc q + suc m ≡ suc (q + suc m) = omega arith in
-    let at : k + 1 + q ≡ k + suc q = omega arith in
-    ap (λ (n : ℕ). map f (counting k n)) count ∙ ap (λ l. f k ∷ l) (split_counted f (k + 1) q m ∙ ap (λ (p : ℕ). map f (counting (k + 1) q) ++ f p ∷ map f (counting (p + 1) m)) at)
-
--- names up to a place, the one there, and those behind it
-pub split_names : (f : ℕ → List ℕ) (n q : ℕ) → q < n → map f (counting 0 n) ≡ map f (counting 0 q) ++ f q ∷ map f (counting (q + 1) (n - (q + 1)))
-split_names f n q lt =
-    let count : n ≡ q + suc (n - (q + 1)) = omega arith in
-    let at : 0 + q ≡ q = omega arith in
-    ap (λ (m : ℕ). map f (counting 0 m)) count ∙ split_counted f 0 q (n - (q + 1)) ∙ ap (λ (p : ℕ). map f (counting 0 q) ++ f p ∷ map f (counting (p + 1) (n - (q + 1)))) at
-
-pub push_name : (f : ℕ → List ℕ) (q : ℕ) → map f (counting 0 (q + 1)) ≡ map f (counting 0 q) ++ f q ∷ []
-push_name f q = let none : q + 1 - (q + 1) ≡ 0 = omega arith in split_names f (q + 1) q (omega arith) ∙ ap (λ (m : ℕ). map f (counting 0 q) ++ f q ∷ map f (counting (q + 1) m)) none
-
-pub length-counted : {B : Type 0} (f : ℕ → B) (k n : ℕ) → length (map f (counting k n)) ≡ n
-length-counted f k zero = refl
-length-counted f k (suc n) = let h = length-counted f (k + 1) n in omega arith
 
 counted_at : (f : ℕ → List ℕ) (k n q : ℕ) → q < n → get_or (map f (counting k n)) q [] ≡ f (k + q)
 counted_at f k zero q lt = absurd (omega arith)

@@ -15,8 +15,9 @@ use Rattle.fabric_tool.specs.declared.outcome.Outcome.{Outcome}
 use Rattle.fabric_tool.specs.declared.outcome.Outcome.TheVariants as ends
 use Rattle.fabric_tool.proofs.GivenLemmas.{outputs_count}
 use Rattle.fabric_tool.proofs.HeadLemmas.{HeadsSoFar, heads_more, heads_failed, heads_no_room}
-use Rattle.fabric_tool.proofs.NameLemmas.{split_names, push_name, length-counted, new_input, new_output}
-use Rattle.fabric_tool.proofs.OpenLemmas.{OpenedSoFar, opened_none, opened_more, opened_failed}
+use Rattle.fabric_tool.proofs.NameLemmas.{new_input, new_output}
+use Rattle.run_files.proofs.NameLemmas.{split_names, push_name, length-counted}
+use Rattle.run_files.proofs.OpenLemmas.{OpenedSoFar, opened_none, opened_more, opened_failed}
 
 -- the inputs of the ports before this one
 abbrev pub input_names : Width → List (String Global) → ℕ → List (List ℕ)

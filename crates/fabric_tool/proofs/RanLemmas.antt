@@ -3,7 +3,7 @@ use Rattle.std.proofs.Common.{◌≡◌, ℕ, zero, suc, ◌+◌, ◌-◌, ◌*�
 use Rattle.std.specs.Prelude.{Result, String, Vec, IsErrOf, map, get_or}
 use Rattle.std.specs.declared.alloc.Global.{Global}
 use Rattle.fab_base.specs.Seen.{Seen, SameFiles, Touches, Nothing, Only, SameWriteFaults}
-use Rattle.fab_base.proofs.SeenLemmas.{rose_later, touches_trans, touches_wider, reads_touches}
+use Rattle.fab_base.proofs.SeenLemmas.{touches_trans, touches_wider, reads_touches}
 use Rattle.fab_config.specs.Settings.{Settings, is_in_range}
 use Rattle.pcap_file.specs.Capture.{HEAD}
 use Rattle.pcap_file.specs.declared.Budget.{Budget}
@@ -16,37 +16,39 @@ use Rattle.fab_policy.specs.Standing.{Contents}
 use Rattle.fab_policy.specs.Text.{text, egress}
 use Rattle.fab_policy.specs.Written.{before, IsPrefixOf}
 use Rattle.fab_policy.proofs.NamedLemmas.{text_names_journal}
-use Rattle.fab_gather.specs.First.{opened_in}
+use Rattle.fab_gather.specs.First.{opened_in, start_at}
 use Rattle.fab_gather.specs.Ports.{slots_of, name_of, NameIn}
 use Rattle.fab_gather.specs.declared.shelf.Input.{Input}
-use Rattle.fab_gather.specs.declared.fault.RunFault.{RunFault}
-use Rattle.fab_gather.specs.declared.fault.RunFault.TheVariants as faults
-use Rattle.fab_windows.specs.Files.{Written, Wholes, Fronts, HoldsFrom, InOrder, captures, text_so_far, captures_so_far}
+use Rattle.run_files.specs.declared.fault.RunFault.{RunFault}
+use Rattle.run_files.specs.declared.fault.RunFault.TheVariants as faults
+use Rattle.fab_windows.specs.Files.{Written, FileBytes, file_bytes, file_slots, Wholes, Fronts, HoldsFrom, InOrder, captures, text_so_far, captures_so_far}
 use Rattle.fab_windows.specs.Run.{AreGiven, IsRunOver, Runs, TellsFaults, Finished, Stopped, Interrupted, keeps}
 use Rattle.fab_windows.specs.declared.Done.{Done}
 use Rattle.fab_replay.proofs.OneLemmas.{same_frames}
-use Rattle.fabric_tool.specs.Command.{RunNames, Run, are_pairs, run_of, port_count, input_at, Among, AnyRose, NoFaults, KeepsOthers}
+use Rattle.fabric_tool.specs.Command.{RunNames, Run, are_pairs, run_of, port_count, input_at, KeepsOthers}
+use Rattle.run_files.specs.Faults.{NoFaults}
+use Rattle.run_files.proofs.FaultLemmas.{none_then}
+use Rattle.run_files.specs.Names.{Among, AnyRose}
 use Rattle.fabric_tool.specs.Ends.{RunHolds}
-use Rattle.fabric_tool.specs.Inputs.{HasConfig, HasInputs, IsFirstUnread, AreOpened, stop_of, kept_of, LIMITS, MOST_BYTES, MOST_FRAMES}
+use Rattle.fabric_tool.specs.Inputs.{HasConfig, HasInputs, stop_of, kept_of, LIMITS, MOST_BYTES, MOST_FRAMES}
 use Rattle.fabric_tool.specs.Left.{HoldsAll, HoldsFronts, AreOldOrFront, HasRun, HasStopped, HasPart, LegalIsSafe}
-use Rattle.fabric_tool.specs.Opening.{AreEmptyOutputs, Opens, ran_by}
-use Rattle.fabric_tool.specs.Preparing.{IsNew}
+use Rattle.fabric_tool.specs.Opening.{ran_by}
+use Rattle.run_files.specs.Opening.{AreEmptyOutputs, Opens}
+use Rattle.fabric_tool.specs.Preparing.{IsNew, IsPrepared}
 use Rattle.fabric_tool.specs.Reading.{TellsReads, AreHeads, ConfigRead, HeadsRead, HeadsEnd}
 use Rattle.fabric_tool.specs.declared.outcome.Outcome.{Outcome}
 use Rattle.fabric_tool.specs.declared.outcome.Outcome.TheVariants as ends
-use Rattle.fabric_tool.proofs.AmongLemmas.{none_among, rose_among, rose_since}
+use Rattle.fabric_tool.proofs.AmongLemmas.{none_among}
+use Rattle.run_files.proofs.NameLemmas.{rose_among, rose_since, length-counted}
 use Rattle.fabric_tool.proofs.CaptureLemmas.{whole_captures}
 use Rattle.fabric_tool.proofs.GivenLemmas.{outputs_count, written_among, read_among, slots_length, ins_count, outs_count, given}
 use Rattle.fabric_tool.proofs.HeadLemmas.{not_unread, heads_still, heads_since, heads_count, heads_opened}
-use Rattle.fabric_tool.proofs.NameLemmas.{pairs, inputs_apart, length-counted}
+use Rattle.fabric_tool.proofs.NameLemmas.{pairs, inputs_apart}
 use Rattle.fabric_tool.proofs.PartLemmas.{empty_part}
+use Rattle.fabric_tool.proofs.SinceLemmas.{without_since, unread_since}
 
 le_trans : {x y z : ℕ} → x ≤ y → y ≤ z → x ≤ z
 le_trans {x} {y} {z} h k = omega arith
-
--- no count has changed in either of two steps
-pub no_faults : (a b d : Seen) → NoFaults a b → NoFaults b d → NoFaults a d
-no_faults a b d x y = (λ m. y.0 m ∙ x.0 m, λ m. y.1 m ∙ x.1 m)
 
 -- ---- before an output is opened
 
@@ -70,13 +72,6 @@ config_ended k old new x read = elim read.only [
     | inr memory ↦ subst (RunHolds k old new) (sym memory) (others_same k old new read.reads.files, λ told. inl read.reads.files, (read.counts (λ is. absurd (cc)), read.reads.writes))
   ]
 ]
-
-pub opened_since : (old b : Seen) → SameFiles old b → (names : List (List ℕ)) (opened : List Opened) → AreOpened b names opened → AreOpened old names opened
-opened_since old b same [] [] are = tt
-opened_since old b same [] (o ∷ opened) are = absurd are
-opened_since old b same (n ∷ names) [] are = absurd are
-opened_since old b same (n ∷ names) (o ∷ opened) are =
-    (record { bytes = are.0.bytes; file = sym (same n) ∙ are.0.file; head = are.0.head; body = are.0.body }, opened_since old b same names opened are.1)
 
 -- the heads of all ports are within the limit
 pub room_in : (words : List (String Global)) → are_pairs words ≡ true → HEAD * length (run_of words).ins ≤ MOST_BYTES
@@ -102,48 +97,17 @@ module _ (k : RunNames) (c : Settings) (old b new : Seen) (config : ConfigRead k
       none : {x : Outcome} → TellsReads {T = Vec Input Global} b new (Err x) → (IsErrOf {T = Vec Input Global} (Err x) ends.ReadFault → ⊥) → NoFaults old new
       none tells silent = (λ m. tells silent m ∙ config.counts (not_unread c) m, writes)
 
-      unread : IsFirstUnread k.ins b new MOST_BYTES → IsFirstUnread k.ins old new MOST_BYTES
-      unread f = record {
-        before = f.before;
-        name = f.name;
-        behind = f.behind;
-        are = f.are;
-        opened = f.opened;
-        heads = opened_since old b config.reads.files f.before f.opened f.heads;
-        within = f.within;
-        rose = rose_later _ _ _ (touched.reads_rise f.name) f.rose;
-      }
-
       go : (x : Outcome) → HeadsEnd k.ins MOST_BYTES b new x → TellsReads {T = Vec Input Global} b new (Err x) → RunHolds k old new x
       go (ends.Capture port at reason) e tells = (
         λ m other. same m,
-        λ told.
-            let f = e.2 (told_b told) in
-            inl (
-              same,
-              e.0,
-              record {
-                settings = c;
-                config = config.ok told;
-                first = record {
-                  before = f.before;
-                  name = f.name;
-                  behind = f.behind;
-                  are = f.are;
-                  number = f.number;
-                  opened = f.opened;
-                  heads = opened_since old b config.reads.files f.before f.opened f.heads;
-                  without = record { bytes = f.without.bytes; file = sym (config.reads.files f.name) ∙ f.without.file; fault = f.without.fault; says = f.without.says; word = f.without.word };
-                };
-              },
-            ),
+        λ told. inl (same, e.0, record { settings = c; config = config.ok told; first = without_since old b config.reads.files refl (e.2 (told_b told)) }),
         none tells (λ is. absurd (cc)),
       )
       go (ends.Limit kind) e tells = let few = e.1 in absurd (omega arith)
       go ends.ReadFault e tells = (
         λ m other. same m,
         inr (rose_since old.read_faults b.read_faults new.read_faults touched.reads_rise k.ins e.0),
-        λ told. inr (inl (same, record { settings = c; config = config.ok told; first = unread (e.1 (told_b told)) })),
+        λ told. inr (inl (same, record { settings = c; config = config.ok told; first = unread_since old b config.reads.files refl new touched.reads_rise (e.1 (told_b told)) })),
         writes,
       )
       go ends.Memory e tells = (λ m other. same m, λ told. inl same, none tells (λ is. absurd (cc)))
@@ -160,13 +124,17 @@ module _ (k : RunNames) (c : Settings) (old b new : Seen) (config : ConfigRead k
 
   -- no fault was counted up to there
   pub none_yet : NoFaults b new → NoFaults old new
-  none_yet none = no_faults old b new (config.counts (not_unread c), config.reads.writes) none
+  none_yet none = none_then old b new (config.counts (not_unread c), config.reads.writes) none
 
   -- memory is refused
   pub no_fabric : Touches Nothing (Among k.ins) b new → NoFaults b new → RunHolds k old new ends.Memory
   no_fabric heads none =
       let same : SameFiles old new = λ m. heads.files m (λ y. y) ∙ config.reads.files m in
       (λ m other. same m, λ told. inl same, none_yet none)
+
+-- what holds where the command ends before a fabric is made
+pub unprepared : (k : RunNames) (old new : Seen) (x : Outcome) → Touches Nothing (Among (k.config ∷ k.ins)) old new → RunHolds k old new x → IsPrepared k old new (Err x)
+unprepared k old new x touches ended = record { touches = touches; fabric = tt; config = λ told. tt; heads = tt; left = tt; ended = ended; counts = tt }
 
 -- a fabric that was made of it
 pub new_as : (words : List (String Global)) (F : Contents) (c : Settings) → F.settings ≡ c → IsTrue (is_in_range c) → F.count ≡ port_count words → F.state ≡ state_of c [] → (F.events ≡ []) × (F.outs ≡ []) → IsNew F (run_of words).ins
@@ -226,9 +194,9 @@ module _ (words : List (String Global)) (run : are_pairs words ≡ true) (old m 
     given_as = subst (λ x. AreGiven a x journal o) (sym is) (subst (λ x. AreGiven a ins journal x) (sym are) (given words run old a ins journal outs heads_after outputs))
 
 -- what the windows did with them
-pub runs_as : {x c : Settings} {budget : Budget} {i ins : List Input} {a b : Seen} {journal : ℕ} {o outs : List ℕ} {r : Result Done RunFault} → x ≡ c → i ≡ ins → o ≡ outs → Runs x budget i a b journal o r → Runs c budget ins a b journal outs r
-runs_as {x} {c} {budget} {i} {ins} {a} {b} {journal} {o} {outs} {r} e f h runs =
-    subst (λ (s : Settings). Runs s budget ins a b journal outs r) e (subst (λ (l : List Input). Runs x budget l a b journal outs r) f (subst (λ (l : List ℕ). Runs x budget i a b journal l r) h runs))
+pub runs_as : {c : Settings} {budget : Budget} {i ins : List Input} {a b : Seen} {journal : ℕ} {o outs : List ℕ} {r : Result Done RunFault} → i ≡ ins → o ≡ outs → Runs c (start_at a i budget) b (file_slots journal o) r → Runs c (start_at a ins budget) b (file_slots journal outs) r
+runs_as {c} {budget} {i} {ins} {a} {b} {journal} {o} {outs} {r} f h runs =
+    subst (λ (l : List Input). Runs c (start_at a l budget) b (file_slots journal outs) r) f (subst (λ (l : List ℕ). Runs c (start_at a i budget) b (file_slots journal l) r) h runs)
 
 -- ---- the windows
 
@@ -253,16 +221,16 @@ named_at b (n ∷ names) (s ∷ slots) are zero lt = are.0
 named_at b (n ∷ names) (s ∷ slots) are (suc q) lt = named_at b names slots are.1 q (omega arith)
 
 -- the order of writing, of the same files by other words
-in_order_as : (d : Seen) (j j' : List ℕ) (n : ℕ) (out out' : ℕ → List ℕ) (w : List ℕ) (v : ℕ → List ℕ) (l : List ℕ) (r : ℕ → List ℕ) → j ≡ j' → ((q : ℕ) → q < n → out q ≡ out' q) → InOrder d j n out w v l r → InOrder d j' n out' w v l r
-in_order_as d j j' n out out' w v l r e same (inl h) = inl (record {
-  lines_ = subst (λ m. HoldsFrom d m w) e h.lines_;
+in_order_as : (d : Seen) (j j' : List ℕ) (n : ℕ) (out out' : ℕ → List ℕ) (was now : FileBytes) → j ≡ j' → ((q : ℕ) → q < n → out q ≡ out' q) → InOrder d j n out was now → InOrder d j' n out' was now
+in_order_as d j j' n out out' was now e same (inl h) = inl (record {
+  lines_ = subst (λ m. HoldsFrom d m was.lines) e h.lines_;
   records = λ q lt. ap d.file (sym (same q lt)) ∙ h.records q lt;
 })
-in_order_as d j j' n out out' w v l r e same (inr h) = inr (record {
+in_order_as d j j' n out out' was now e same (inr h) = inr (record {
   lines_ = ap d.file (sym e) ∙ h.lines_;
   port = h.port;
   whole = λ q less lt. ap d.file (sym (same q lt)) ∙ h.whole q less lt;
-  part = λ lt. subst (λ m. HoldsFrom d m (v h.port)) (same h.port lt) (h.part lt);
+  part = λ lt. subst (λ m. HoldsFrom d m (was.records_of h.port)) (same h.port lt) (h.part lt);
   behind = λ q above lt. ap d.file (sym (same q lt)) ∙ h.behind q above lt;
 })
 
@@ -355,8 +323,8 @@ module _ (words : List (String Global)) (run : are_pairs words ≡ true) (c : Se
       order = inr (record {
         before = w.before;
         begins = w.begins;
-        order = in_order_as b (b.name journal) k.journal (length k.outs) (name_of b outs) (λ q. get_or k.outs q []) _ _ _ _ named.0 (λ q lt. named_at b k.outs outs named.1 q (let e = count in omega arith))
-            (subst (λ (n : ℕ). InOrder b (b.name journal) n (name_of b outs) (text_so_far w.before) (captures_so_far c n w.before) (text J) (captures c n J)) count w.hold.order);
+        order = in_order_as b (b.name journal) k.journal (length k.outs) (name_of b outs) (λ q. get_or k.outs q []) _ _ named.0 (λ q lt. named_at b k.outs outs named.1 q (let e = count in omega arith))
+            (subst (λ (n : ℕ). InOrder b (b.name journal) n (name_of b outs) (file_bytes (text_so_far w.before) (captures_so_far c n w.before)) (file_bytes (text J) (captures c n J))) count w.hold.order);
       });
     }
 
@@ -410,9 +378,9 @@ module _ (words : List (String Global)) (run : are_pairs words ≡ true) (c : Se
 
   -- an end of the windows that tells no fault of the depot
   silent : (r : Result Done RunFault) → TellsFaults a b r → (r ≡ Err faults.Read → ⊥) → (r ≡ Err faults.Write → ⊥) → NoFaults old b
-  silent r counts read write = no_faults old a b quiet (counts.reads read write, counts.writes write)
+  silent r counts read write = none_then old a b quiet (counts.reads read write, counts.writes write)
 
-  pub windows_ended : (r : Result Done RunFault) → Runs c budget ins a b journal outs r → RunHolds k old b (ran_by r)
+  pub windows_ended : (r : Result Done RunFault) → Runs c (start_at a ins budget) b (file_slots journal outs) r → RunHolds k old b (ran_by r)
   windows_ended (Ok done) r = (others r.touches, λ told. finished r.touches done told (r.ends (told_a told)), silent (Ok done) r.counts (λ is. cc) (λ is. cc))
   windows_ended (Err (faults.Capture port at why)) r = (
     others r.touches,

@@ -9,7 +9,8 @@ use Rattle.fab_policy.specs.Text.{egress, text}
 use Rattle.fab_replay.specs.Check.{AreSent, NamesRun}
 use Rattle.fab_replay.specs.Showing.{shown}
 use Rattle.fabric_tool.specs.Checking.{CheckSays, budget_of, matter_of}
-use Rattle.fabric_tool.specs.Command.{RunNames, Command, Replay, Show, Among}
+use Rattle.fabric_tool.specs.Command.{RunNames, Command, Replay, Show}
+use Rattle.run_files.specs.Names.{Among}
 use Rattle.fabric_tool.specs.Inputs.{AreOpened, HasInputs}
 use Rattle.fabric_tool.specs.Rechecking.{HasWritten, IsRechecked, without_outputs}
 use Rattle.fabric_tool.specs.Statuses.{HasForms, IsComplete}

@@ -11,7 +11,8 @@ use Rattle.fab_policy.specs.State.{tables_of}
 use Rattle.fab_replay.specs.Check.{Matter}
 use Rattle.fab_replay.specs.Showing.{shown_by}
 use Rattle.fabric_tool.specs.Checking.{Finds, IsStanding, IsLegalJournal, IsShownJournal, IsChecked, CheckHolds, ReplayHolds, ShowHolds, GivenRead, GivenEnds, Tells}
-use Rattle.fabric_tool.specs.Command.{RunNames, Replay, Show, NoFaults, are_ports, names_of, show_of, input_of, count_of}
+use Rattle.fabric_tool.specs.Command.{RunNames, Replay, Show, are_ports, names_of, show_of, input_of, count_of}
+use Rattle.run_files.specs.Faults.{NoFaults}
 use Rattle.fabric_tool.specs.Inputs.{HaveNoRoom, MOST_BYTES}
 use Rattle.fabric_tool.specs.declared.command.Width.{Width}
 use Rattle.fabric_tool.specs.declared.command.Width.TheVariants as widths
@@ -19,7 +20,8 @@ use Rattle.fabric_tool.specs.declared.outcome.Outcome.{Outcome}
 use Rattle.fabric_tool.specs.declared.outcome.Outcome.TheVariants as ends
 use Rattle.fabric_tool.proofs.CheckLemmas.{ins_named, rose_given}
 use Rattle.fabric_tool.proofs.HeadLemmas.{unread_is}
-use Rattle.fabric_tool.proofs.NameLemmas.{ports, length-counted}
+use Rattle.fabric_tool.proofs.NameLemmas.{ports}
+use Rattle.run_files.proofs.NameLemmas.{length-counted}
 
 -- ---- before the check
 

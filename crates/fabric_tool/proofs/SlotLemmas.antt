@@ -8,15 +8,16 @@ use Rattle.fab_gather.specs.First.{AreFresh}
 use Rattle.fab_gather.specs.Ports.{slots_of, slot_at, NameIn, AreInputs}
 use Rattle.fab_gather.specs.declared.shelf.Input.{Input}
 use Rattle.fabric_tool.specs.Checking.{AreOpenInputs}
-use Rattle.fabric_tool.specs.Command.{Among, are_ports, names_of, ins_of, count_of, place_of, input_of, output_at, port_count}
+use Rattle.fabric_tool.specs.Command.{are_ports, names_of, ins_of, count_of, place_of, input_of, output_at, port_count}
+use Rattle.run_files.specs.Names.{Among}
 use Rattle.fabric_tool.specs.Reading.{AreHeads}
 use Rattle.fabric_tool.specs.declared.command.Width.{Width}
 use Rattle.fabric_tool.specs.declared.command.Width.TheVariants as widths
-use Rattle.fabric_tool.proofs.AmongLemmas.{among_counted, among_split}
+use Rattle.run_files.proofs.NameLemmas.{among_counted, among_split, length-counted}
 use Rattle.fabric_tool.proofs.GivenLemmas.{all_fresh}
 use Rattle.fabric_tool.proofs.HeadLemmas.{heads_still, heads_count}
 use Rattle.fabric_tool.proofs.JournalLemmas.{outs_count}
-use Rattle.fabric_tool.proofs.NameLemmas.{pairs, ports, one_place, one_name, places_ascend, inputs_apart, length-counted}
+use Rattle.fabric_tool.proofs.NameLemmas.{pairs, ports, one_place, one_name, places_ascend, inputs_apart}
 
 -- ---- slots and their names
 

@@ -8,20 +8,23 @@ use Rattle.fab_base.proofs.SeenLemmas.{reads_touches}
 use Rattle.fab_config.specs.Settings.{Settings}
 use Rattle.fab_config.specs.declared.ConfigFault.{ConfigFault}
 use Rattle.fab_captures.specs.Captures.{captures_by}
-use Rattle.fab_gather.specs.Port.{TellsReads}
 use Rattle.fab_gather.specs.declared.fault.CapWhy.{CapWhy}
 use Rattle.fab_gather.specs.declared.fault.LimitKind.{LimitKind}
-use Rattle.fab_gather.specs.declared.fault.RunFault.{RunFault}
-use Rattle.fab_gather.specs.declared.fault.RunFault.TheVariants as faults
+use Rattle.fab_gather.specs.declared.fault.GatherFault.{GatherFault}
+use Rattle.fab_gather.specs.declared.fault.GatherFault.TheVariants as gather
 use Rattle.fip_snoop.specs.Bridge.{Arrival, arrivals, history, passed, dropped}
 use Rattle.fip_snoop.specs.Laws.{DataGoesUp}
 use Rattle.fip_snoop.specs.Messages.{forwarder_of}
-use Rattle.snoop_run.specs.Bridged.{TellsWrites, AreOldOrFront, HasBridged, HasFronts, HasStop, Ends, Bridges}
+use Rattle.snoop_run.specs.Bridged.{HasBridged, HasFronts, HasStop, Ends, Bridges}
 use Rattle.snoop_run.specs.Crossing.{crossing, captures}
 use Rattle.snoop_run.specs.Laws.{AreCaptures}
 use Rattle.snoop_run.specs.Sides.{ins_of, outs_of}
 use Rattle.snoop_run.specs.declared.run.Crossed.{Crossed}
-use Rattle.fabric_tool.specs.Command.{SnoopNames, Snoop, NoFaults, KeepsOthers}
+use Rattle.snoop_run.proofs.RunLemmas.{fronts_since}
+use Rattle.fabric_tool.specs.Command.{SnoopNames, Snoop, KeepsOthers}
+use Rattle.run_files.specs.Faults.{fault_from, TellsReads, NoFaults, TellsWrites}
+use Rattle.run_files.specs.declared.fault.RunFault.{RunFault}
+use Rattle.run_files.specs.declared.fault.RunFault.TheVariants as faults
 use Rattle.fabric_tool.specs.Ends.{TakesMemory}
 use Rattle.fabric_tool.specs.Inputs.{HasConfig, HasFault, LIMITS}
 use Rattle.fabric_tool.specs.Opening.{stopped_by, crossed_by}
@@ -31,7 +34,9 @@ use Rattle.fabric_tool.specs.Snooping.{HasSnooped, HasSnoopedFront, HasSnoopFron
 use Rattle.fabric_tool.specs.Statuses.{IsQuiet}
 use Rattle.fabric_tool.specs.declared.outcome.Outcome.{Outcome}
 use Rattle.fabric_tool.specs.declared.outcome.Outcome.TheVariants as ends
-use Rattle.fabric_tool.proofs.AmongLemmas.{none_among, none_then, rose_since}
+use Rattle.fabric_tool.proofs.AmongLemmas.{none_among}
+use Rattle.run_files.proofs.FaultLemmas.{none_then}
+use Rattle.run_files.proofs.NameLemmas.{rose_since}
 use Rattle.fabric_tool.proofs.ConfigLemmas.{one_value, one_fault, no_fault}
 use Rattle.fabric_tool.proofs.HeadLemmas.{not_unread, unread_is}
 use Rattle.fabric_tool.proofs.PartLemmas.{all_fronts}
@@ -110,15 +115,15 @@ snoop_refused k old new = snoop_cases k old new (λ o. 1 ≡ status_of o → IsS
 -- ---- where nothing fails
 
 -- how a crossing ends, and how a refusal does
-abbrev EndsBy : Settings → Result (List Arrival) RunFault → Outcome → Type 0
+abbrev EndsBy : Settings → Result (List Arrival) GatherFault → Outcome → Type 0
 EndsBy c (Ok came) o = let L = history (forwarder_of c) [] came in o ≡ ends.Bridged (passed L) (dropped L)
-EndsBy c (Err fault) o = o ≡ stopped_by fault
+EndsBy c (Err fault) o = o ≡ stopped_by (fault_from fault)
 
 -- the configuration has a value, and the captures name this outcome
 record Crosses (k : SnoopNames) (d : Seen) (o : Outcome) : Type 0 where
   settings : Settings
   config : HasConfig d k.config settings
-  result : Result (List Arrival) RunFault
+  result : Result (List Arrival) GatherFault
   crosses : crossing_of k d ≡ result
   ends_so : EndsBy settings result o
 
@@ -129,13 +134,13 @@ two_numbers : (a b x y : ℕ) → a ≡ x → b ≡ y → ends.Bridged a b ≡ e
 two_numbers a b x y e f = ap (λ (n : ℕ). ends.Bridged n b) e ∙ ap (λ (n : ℕ). ends.Bridged x n) f
 
 module _ (k : SnoopNames) (d : Seen) where
-  ended_once : (c : Settings) (r s : Result (List Arrival) RunFault) (o p : Outcome) → r ≡ s → EndsBy c r o → EndsBy c s p → o ≡ p
+  ended_once : (c : Settings) (r s : Result (List Arrival) GatherFault) (o p : Outcome) → r ≡ s → EndsBy c r o → EndsBy c s p → o ≡ p
   ended_once c (Ok xs) (Ok ys) o p e one other =
       let same : xs ≡ ys = cc in
       one ∙ ap (λ (came : List Arrival). ends.Bridged (passed (history (forwarder_of c) [] came)) (dropped (history (forwarder_of c) [] came))) same ∙ sym other
   ended_once c (Ok xs) (Err f) o p e one other = absurd (cc)
   ended_once c (Err f) (Ok ys) o p e one other = absurd (cc)
-  ended_once c (Err f) (Err g) o p e one other = let same : f ≡ g = cc in one ∙ ap stopped_by same ∙ sym other
+  ended_once c (Err f) (Err g) o p e one other = let same : f ≡ g = cc in one ∙ ap (λ x. stopped_by (fault_from x)) same ∙ sym other
 
   found_once : (o p : Outcome) → Finds k d o → Finds k d p → o ≡ p
   found_once o p (inl one) (inl other) = one.2 ∙ ap (λ (f : ConfigFault). ends.Config f) (one_fault d k.config one.0 other.0 one.1 other.1) ∙ sym other.2
@@ -145,7 +150,7 @@ module _ (k : SnoopNames) (d : Seen) where
       let same = one_value d k.config one.settings other.settings one.config other.config in
       ended_once other.settings one.result other.result o p (sym one.crosses ∙ other.crosses) (subst (λ (c : Settings). EndsBy c one.result o) same one.ends_so) other.ends_so
 
-  refusal : (fault : RunFault) → IsStopped k d fault → Finds k d (stopped_by fault)
+  refusal : (fault : GatherFault) → IsStopped k d fault → Finds k d (stopped_by (fault_from fault))
   refusal fault s = inr (record { settings = s.settings; config = s.config; result = Err fault; crosses = s.stops; ends_so = refl })
 
   said : (p : Outcome) → SnoopSays k d p → Finds k d p
@@ -157,8 +162,8 @@ module _ (k : SnoopNames) (d : Seen) where
     ends_so = let L = history (forwarder_of says.settings) [] says.came in two_numbers passes drops (passed L) (dropped L) says.passed_ says.dropped_;
   })
   said (ends.Config fault) says = inl (fault, says, refl)
-  said (ends.Capture port at why) says = refusal (faults.Capture port at why) says
-  said (ends.Limit kind) says = refusal (faults.Limit kind) says
+  said (ends.Capture port at why) says = refusal (gather.Capture port at why) says
+  said (ends.Limit kind) says = refusal (gather.Limit kind) says
   said p says = absurd says
 
   crossed : (passes drops : ℕ) (new : Seen) → HasSnooped k passes drops d new → Finds k d (ends.Bridged passes drops)
@@ -178,8 +183,8 @@ module _ (k : SnoopNames) (d : Seen) where
     ended = snoop_cases k d new (λ o. Finds k d o ⊎ (o ≡ ends.Memory))
         (λ passes drops h. inl (crossed passes drops new (h.1 told)))
         (λ fault h. inl (inl (fault, h.1 told, refl)))
-        (λ port at why h. inl (refusal (faults.Capture port at why) (h.1 told)))
-        (λ kind h. inl (refusal (faults.Limit kind) (h.1 told)))
+        (λ port at why h. inl (refusal (gather.Capture port at why) (h.1 told)))
+        (λ kind h. inl (refusal (gather.Limit kind) (h.1 told)))
         (λ h. absurd (quiet.reads h.1))
         (λ h. absurd (quiet.writes h.1))
         (λ h. inr refl)
@@ -222,12 +227,6 @@ files_since : (a b : Seen) → SameFiles a b → (names : List (List ℕ)) → m
 files_since a b same [] = refl
 files_since a b same (n ∷ names) = let first = same n in let rest = files_since a b same names in cc
 
-fronts_since : (a b z : Seen) → SameFiles a b → (names wholes : List (List ℕ)) → AreOldOrFront b z names wholes → AreOldOrFront a z names wholes
-fronts_since a b z same [] [] are = tt
-fronts_since a b z same [] (w ∷ wholes) are = absurd are
-fronts_since a b z same (n ∷ names) [] are = absurd are
-fronts_since a b z same (n ∷ names) (w ∷ wholes) are = (elim are.0 [ inl still ↦ inl (still ∙ same n) | inr front ↦ inr front ], fronts_since a b z same names wholes are.1)
-
 module _ (k : SnoopNames) (c : Settings) (a b z : Seen) (config : ConfigRead k.config a b (Ok c)) (law : DataGoesUp) where
   same : SameFiles a b
   same = config.reads.files
@@ -257,7 +256,7 @@ module _ (k : SnoopNames) (c : Settings) (a b z : Seen) (config : ConfigRead k.c
     data_ = λ before later x f read is other reads. law (forwarder_of c) (history (forwarder_of c) [] before) x.port x.caught f read other reads;
   }
 
-  stopped_since : (fault : RunFault) → HasStop k.ins LIMITS b fault → IsTrue a.told → IsStopped k a fault
+  stopped_since : (fault : GatherFault) → HasStop k.ins LIMITS b fault → IsTrue a.told → IsStopped k a fault
   stopped_since fault h told = record { settings = c; config = config.ok told; stops = sym (ap (crossing LIMITS) (files_since a b same k.ins)) ∙ h }
 
   front_since : HasFronts k.ins k.outs LIMITS c b z → IsTrue a.told → HasSnoopedFront k a z
@@ -278,8 +277,8 @@ module _ (k : SnoopNames) (c : Settings) (a b z : Seen) (config : ConfigRead k.c
 
       go : (r : Result Crossed RunFault) → Ends k.ins k.outs LIMITS c b z r → TellsReads b z r → TellsWrites b z r → SnoopHolds k a z (crossed_by r)
       go (Ok done) e reads writes = (others, λ told. bridged_since done (e (told_b told)) told, none (reads (λ is. cc)) (writes (λ is. cc)))
-      go (Err (faults.Capture port at why)) e reads writes = ((λ m. e.0 m ∙ same m), λ told. stopped_since (faults.Capture port at why) (e.1 (told_b told)) told, none (reads (λ is. cc)) (writes (λ is. cc)))
-      go (Err (faults.Limit kind)) e reads writes = ((λ m. e.0 m ∙ same m), λ told. stopped_since (faults.Limit kind) (e.1 (told_b told)) told, none (reads (λ is. cc)) (writes (λ is. cc)))
+      go (Err (faults.Capture port at why)) e reads writes = ((λ m. e.0 m ∙ same m), λ told. stopped_since (gather.Capture port at why) (e.1 (told_b told)) told, none (reads (λ is. cc)) (writes (λ is. cc)))
+      go (Err (faults.Limit kind)) e reads writes = ((λ m. e.0 m ∙ same m), λ told. stopped_since (gather.Limit kind) (e.1 (told_b told)) told, none (reads (λ is. cc)) (writes (λ is. cc)))
       go (Err faults.Read) e reads writes = ((λ m. e.0 m ∙ same m), inr (rose_since a.read_faults b.read_faults z.read_faults touched.reads_rise k.ins e.1), λ m. writes (λ is. cc) m ∙ counted.1 m)
       go (Err faults.Write) e reads writes = (others, rose_since a.write_faults b.write_faults z.write_faults touched.writes_rise k.outs e.0, λ told. front_since (e.1 (told_b told)) told, λ m. reads (λ is. cc) m ∙ counted.0 m)
       go (Err faults.Memory) e reads writes = (others, λ told. elim (e (told_b told)) [ inl still ↦ inl (λ m. still m ∙ same m) | inr front ↦ inr (front_since front told) ], none (reads (λ is. cc)) (writes (λ is. cc)))

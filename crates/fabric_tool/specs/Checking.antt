@@ -12,14 +12,16 @@ use Rattle.fab_policy.specs.Standing.{Contents, Stands}
 use Rattle.fab_policy.specs.State.{tables_of}
 use Rattle.fab_gather.specs.declared.fault.CapWhy.{CapWhy}
 use Rattle.fab_gather.specs.declared.fault.LimitKind.TheVariants as kinds
-use Rattle.fab_gather.specs.declared.fault.RunFault.TheVariants as faults
+use Rattle.fab_gather.specs.declared.fault.GatherFault.TheVariants as gather
 use Rattle.fab_migrate.specs.declared.old.OldError.{OldError}
 use Rattle.fab_migrate.specs.declared.old.OldError.TheVariants as olds
 use Rattle.fab_replay.specs.Check.{Matter, NamesRun, AreSent, IsLegal, IsFirstLine, IsFirstOutput, IsFirstStop}
 use Rattle.fab_replay.specs.Showing.{shown, shown_by}
 use Rattle.fab_replay.specs.declared.fault.CheckFault.{CheckFault}
 use Rattle.fab_replay.specs.declared.fault.CheckFault.TheVariants as checks
-use Rattle.fabric_tool.specs.Command.{RunNames, Command, Replay, Show, AnyRose, Among, ReadRose, NoFaults}
+use Rattle.fabric_tool.specs.Command.{RunNames, Command, Replay, Show, ReadRose}
+use Rattle.run_files.specs.Faults.{NoFaults}
+use Rattle.run_files.specs.Names.{AnyRose, Among}
 use Rattle.fabric_tool.specs.declared.command.Width.{Width}
 use Rattle.fabric_tool.specs.declared.command.Width.TheVariants as widths
 use Rattle.fabric_tool.specs.Inputs.{HasConfig, HasFault, HasInputs, HasBadHead, HaveNoRoom, IsFirstUnread, MOST_BYTES, MOST_FRAMES}
@@ -91,8 +93,8 @@ CheckSays k d (ends.Shown text) = Finds k d (IsShownJournal text)
 CheckSays k d (ends.WrongLine line why) = Finds k d (λ c budget m. IsFirstLine c budget m line why)
 CheckSays k d (ends.WrongOutput port at) = Finds k d (λ c budget m. IsFirstOutput c budget m port at)
 CheckSays k d (ends.Config fault) = HasFault d k.config fault
-CheckSays k d (ends.Capture port at why) = ((at ≡ 0) × IsHeadRefused k d port why) ⊎ Finds k d (λ c budget m. IsFirstStop c budget m (faults.Capture port at why))
-CheckSays k d (ends.Limit kind) = ((kind ≡ kinds.Bytes) × IsLongJournal k d) ⊎ Finds k d (λ c budget m. IsFirstStop c budget m (faults.Limit kind))
+CheckSays k d (ends.Capture port at why) = ((at ≡ 0) × IsHeadRefused k d port why) ⊎ Finds k d (λ c budget m. IsFirstStop c budget m (gather.Capture port at why))
+CheckSays k d (ends.Limit kind) = ((kind ≡ kinds.Bytes) × IsLongJournal k d) ⊎ Finds k d (λ c budget m. IsFirstStop c budget m (gather.Limit kind))
 CheckSays k d _ = ⊥
 
 -- The configuration and the journal were read, and of the captures one couldn't be: those before it have heads, which are within the

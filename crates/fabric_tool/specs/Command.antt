@@ -6,11 +6,11 @@ use Rattle.std.specs.Str.Parse.{digits_value}
 use Rattle.std.specs.String.{string_bytes}
 use Rattle.std.specs.declared.alloc.Global.{Global}
 use Rattle.fab_base.specs.Places.{name_at}
-use Rattle.fab_base.specs.Seen.{Seen, SameReadFaults, SameWriteFaults}
+use Rattle.fab_base.specs.Seen.{Seen}
 use Rattle.fab_config.specs.Values.{octets_of, name}
 use Rattle.fab_policy.specs.Logins.{counting}
 use Rattle.enode_core.specs.declared.node.Identity.{Identity}
-pub use Rattle.snoop_run.specs.Bridged.{Among, AnyRose}
+use Rattle.run_files.specs.Names.{AnyRose}
 use Rattle.snoop_run.specs.Sides as sides
 use Rattle.fabric_tool.specs.declared.command.Form.{Form}
 use Rattle.fabric_tool.specs.declared.command.Form.TheVariants as forms
@@ -258,10 +258,6 @@ ReadRose k old new = AnyRose old.read_faults new.read_faults (inputs k)
 
 abbrev pub WriteRose : Command → Seen → Seen → Type 0
 WriteRose k old new = AnyRose old.write_faults new.write_faults (outputs k)
-
--- no count of faults has changed, neither of reading nor of writing
-abbrev pub NoFaults : Seen → Seen → Type 0
-NoFaults old new = SameReadFaults old new × SameWriteFaults old new
 
 -- no file changes but the outputs
 abbrev pub KeepsOthers : Command → Seen → Seen → Type 0

@@ -8,10 +8,11 @@ use Rattle.pcapng_file.specs.declared.fault.NgError.TheVariants as ng
 use Rattle.pcapng_file.specs.Classic.{Converted, IsFront, SaysInput}
 use Rattle.fab_gather.specs.declared.fault.CapWhy.{CapWhy}
 use Rattle.fab_gather.specs.declared.fault.LimitKind.TheVariants as kinds
-use Rattle.fab_gather.specs.declared.fault.RunFault.TheVariants as faults
+use Rattle.run_files.specs.declared.fault.RunFault.TheVariants as faults
 use Rattle.fab_migrate.specs.Migrating.{Migrated, IsNewFront, SaysOld}
 use Rattle.fab_migrate.specs.declared.old.OldError.TheVariants as olds
-use Rattle.fabric_tool.specs.Command.{RunNames, PairNames, Command, Run, Replay, Show, Convert, Migrate, Make, Snoop, Enode, Help, Version, command, ReadRose, WriteRose, NoFaults, KeepsOthers}
+use Rattle.fabric_tool.specs.Command.{RunNames, PairNames, Command, Run, Replay, Show, Convert, Migrate, Make, Snoop, Enode, Help, Version, command, ReadRose, WriteRose, KeepsOthers}
+use Rattle.run_files.specs.Faults.{NoFaults}
 use Rattle.fabric_tool.specs.Inputs.{HasFault, HasBadHead, LIMITS, MOST_BYTES}
 use Rattle.fabric_tool.specs.Checking.{ReplayHolds, ShowHolds}
 use Rattle.fabric_tool.specs.Load.{MakeHolds}

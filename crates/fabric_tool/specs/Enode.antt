@@ -4,12 +4,13 @@ use Rattle.fab_base.specs.Seen.{Seen, SameFiles, SameReadFaults, SameWriteFaults
 use Rattle.fab_base.specs.Sunk.{Sunk}
 use Rattle.pcap_file.specs.declared.Record.{Record}
 use Rattle.fab_gather.specs.declared.fault.CapWhy.{CapWhy}
-use Rattle.fab_gather.specs.declared.fault.RunFault.TheVariants as faults
+use Rattle.fab_gather.specs.declared.fault.GatherFault.TheVariants as gather
 use Rattle.enode_core.specs.declared.node.Phase.{Phase}
 use Rattle.enode_core.specs.Phases.{phase_of}
 use Rattle.enode_core.specs.Runs.{Input, IsRun, stands}
 use Rattle.enode_run.specs.Files.{Played, IsUntaken, IsFront, taken_by}
-use Rattle.fabric_tool.specs.Command.{EnodeNames, Enode, ReadRose, WriteRose, NoFaults, KeepsOthers}
+use Rattle.fabric_tool.specs.Command.{EnodeNames, Enode, ReadRose, WriteRose, KeepsOthers}
+use Rattle.run_files.specs.Faults.{NoFaults}
 use Rattle.fabric_tool.specs.Inputs.{LIMITS}
 use Rattle.fabric_tool.specs.Outcome.{phase_text}
 use Rattle.fabric_tool.specs.declared.outcome.Outcome.{Outcome}
@@ -32,8 +33,8 @@ HasEnodeFront k old new = IsFront k.own k.start k.from k.to LIMITS old new
 -- told, no count of such faults has changed.
 abbrev pub EnodeHolds : EnodeNames → Seen → Seen → Outcome → Type 0
 EnodeHolds k old new (ends.Stood last) = KeepsOthers (Enode k) old new × (IsTrue old.told → HasPlayed k old new last) × NoFaults old new
-EnodeHolds k old new (ends.Capture port at why) = SameFiles old new × (IsTrue old.told → IsUntaken k.start k.from LIMITS old (faults.Capture port at why)) × NoFaults old new
-EnodeHolds k old new (ends.Limit kind) = SameFiles old new × (IsTrue old.told → IsUntaken k.start k.from LIMITS old (faults.Limit kind)) × NoFaults old new
+EnodeHolds k old new (ends.Capture port at why) = SameFiles old new × (IsTrue old.told → IsUntaken k.start k.from LIMITS old (gather.Capture port at why)) × NoFaults old new
+EnodeHolds k old new (ends.Limit kind) = SameFiles old new × (IsTrue old.told → IsUntaken k.start k.from LIMITS old (gather.Limit kind)) × NoFaults old new
 EnodeHolds k old new ends.ReadFault = SameFiles old new × ReadRose (Enode k) old new × SameWriteFaults old new
 EnodeHolds k old new ends.WriteFault = KeepsOthers (Enode k) old new × WriteRose (Enode k) old new × (IsTrue old.told → HasEnodeFront k old new) × SameReadFaults old new
 EnodeHolds k old new ends.Memory = SameFiles old new × NoFaults old new
@@ -74,6 +75,6 @@ pub record HasStood (k : EnodeNames) (d : Seen) (last : Phase) : Type 0 where
 -- the outcome that the input names: the end of its run, or why it isn't taken
 abbrev pub EnodeSays : EnodeNames → Seen → Outcome → Type 0
 EnodeSays k d (ends.Stood last) = HasStood k d last
-EnodeSays k d (ends.Capture port at why) = IsUntaken k.start k.from LIMITS d (faults.Capture port at why)
-EnodeSays k d (ends.Limit kind) = IsUntaken k.start k.from LIMITS d (faults.Limit kind)
+EnodeSays k d (ends.Capture port at why) = IsUntaken k.start k.from LIMITS d (gather.Capture port at why)
+EnodeSays k d (ends.Limit kind) = IsUntaken k.start k.from LIMITS d (gather.Limit kind)
 EnodeSays k d _ = ⊥

@@ -13,7 +13,8 @@ use Rattle.fab_config.specs.declared.ConfigFault.{ConfigFault}
 use Rattle.fab_policy.specs.Looks.{Opened, Stop, stop, kept, all_records}
 use Rattle.fab_gather.specs.declared.fault.CapWhy.{CapWhy}
 use Rattle.fab_gather.specs.declared.fault.CapWhy.TheVariants as why
-use Rattle.fab_gather.specs.declared.fault.RunFault.{RunFault}
+use Rattle.run_files.specs.Faults.{fault_from}
+use Rattle.run_files.specs.declared.fault.RunFault.{RunFault}
 use Rattle.fab_gather.specs.Port.{ending}
 use Rattle.pcapng_file.specs.declared.NgRecord.{NgRecord}
 use Rattle.pcapng_file.specs.File.{IsNg}
@@ -155,7 +156,7 @@ pub record StopsBy (k : RunNames) (d : Seen) (fault : RunFault) : Type 0 where
   pub inputs : HasInputs k d settings opened
   pub at : Stop
   pub is : stop_of settings opened ≡ Some at
-  pub says : ending at ≡ fault
+  pub says : fault_from (ending at) ≡ fault
 
 -- ---- a pcapng file
 

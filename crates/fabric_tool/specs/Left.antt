@@ -19,11 +19,12 @@ use Rattle.fab_policy.specs.declared.event.Event.{Event}
 use Rattle.fab_policy.specs.declared.event.Event.TheVariants.{Frame}
 use Rattle.fab_policy.specs.declared.verdict.Verdict.{Verdict}
 use Rattle.fab_policy.specs.declared.verdict.Verdict.TheVariants.{Granted}
-use Rattle.fab_gather.specs.declared.fault.RunFault.{RunFault}
-use Rattle.fab_windows.specs.Files.{GoesOn, InOrder, captures, text_so_far, captures_so_far}
+use Rattle.run_files.specs.declared.fault.RunFault.{RunFault}
+use Rattle.fab_windows.specs.Files.{GoesOn, InOrder, captures, text_so_far, captures_so_far, file_bytes}
 use Rattle.fab_windows.specs.Run.{IsRunOver}
 pub use Rattle.snoop_run.specs.Bridged.{IsOldOrFront, AreOldOrFront}
-use Rattle.fabric_tool.specs.Command.{RunNames, AnyRose}
+use Rattle.fabric_tool.specs.Command.{RunNames}
+use Rattle.run_files.specs.Names.{AnyRose}
 use Rattle.fabric_tool.specs.Inputs.{AreCaptures, HasInputs, IsHeadUnread, StopsBy, stop_of, kept_of}
 
 -- ---- files
@@ -42,7 +43,7 @@ AreUnwritten old new = (m : List ℕ) → (new.file m ≡ old.file m) ⊎ (new.f
 pub record AreInOrder (k : RunNames) (c : Settings) (d : Seen) (J : Journal) : Type 0 where
   pub before : Option Journal
   pub begins : IfSome before (λ I. GoesOn I J)
-  pub order : InOrder d k.journal (length k.outs) (λ q. get_or k.outs q []) (text_so_far before) (captures_so_far c (length k.outs) before) (text J) (captures c (length k.outs) J)
+  pub order : InOrder d k.journal (length k.outs) (λ q. get_or k.outs q []) (file_bytes (text_so_far before) (captures_so_far c (length k.outs) before)) (file_bytes (text J) (captures c (length k.outs) J))
 
 -- each output is as it was, or holds a front of the text of this journal or of its capture, written in order
 pub record HoldsFronts (k : RunNames) (c : Settings) (old new : Seen) (J : Journal) : Type 0 where

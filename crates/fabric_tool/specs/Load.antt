@@ -2,7 +2,8 @@
 use Rattle.std.specs.Prelude.{◌≡◌, ℕ, ◌<◌, IsTrue, List, [], get_or, Some}
 use Rattle.fab_base.specs.Seen.{Seen, SameReadFaults}
 use Rattle.fab_vectors.specs.Making.{file_text}
-use Rattle.fabric_tool.specs.Command.{MakeNames, Make, WriteRose, NoFaults, KeepsOthers}
+use Rattle.fabric_tool.specs.Command.{MakeNames, Make, WriteRose, KeepsOthers}
+use Rattle.run_files.specs.Faults.{NoFaults}
 use Rattle.fabric_tool.specs.Left.{IsOldOrFront}
 use Rattle.fabric_tool.specs.declared.outcome.Outcome.{Outcome}
 use Rattle.fabric_tool.specs.declared.outcome.Outcome.TheVariants as ends

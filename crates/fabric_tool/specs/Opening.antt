@@ -1,30 +1,19 @@
 -- What opening the outputs of `run` does.
-use Rattle.std.specs.Prelude.{◌≡◌, ℕ, ◌⊎◌, IsTrue, List, [], ◌∷◌, Some, Ok, Err, Result, IfOk, OnOk, OnErr}
-use Rattle.fab_base.specs.Seen.{Seen, Touches, SameReadFaults, SameWriteFaults}
+use Rattle.std.specs.Prelude.{◌∷◌, Ok, Err, Result, IfOk, OnOk, OnErr}
+use Rattle.fab_base.specs.Seen.{Seen, SameWriteFaults}
 use Rattle.fab_base.specs.declared.values.Failed.{Failed}
-use Rattle.fab_gather.specs.declared.fault.RunFault.{RunFault}
-use Rattle.fab_gather.specs.declared.fault.RunFault.TheVariants as faults
+use Rattle.run_files.specs.Opening.{AreEmptyOutputs, Opens}
+use Rattle.run_files.specs.declared.fault.RunFault.{RunFault}
+use Rattle.run_files.specs.declared.fault.RunFault.TheVariants as faults
 use Rattle.fab_windows.specs.declared.Done.{Done}
 use Rattle.enode_core.specs.declared.node.Phase.{Phase}
 use Rattle.snoop_run.specs.declared.run.Crossed.{Crossed}
-use Rattle.fabric_tool.specs.Command.{RunNames, MakeNames, AnyRose, Among}
+use Rattle.fabric_tool.specs.Command.{RunNames, MakeNames}
+use Rattle.run_files.specs.Names.{AnyRose}
 use Rattle.fabric_tool.specs.declared.making.LoadFiles.{LoadFiles}
 use Rattle.fabric_tool.specs.declared.outcome.Outcome.{Outcome}
 use Rattle.fabric_tool.specs.declared.outcome.Outcome.TheVariants as ends
 use Rattle.fabric_tool.specs.declared.outputs.Outputs.{Outputs}
-
--- slots that are open outputs of these names, whose files are empty
-abbrev pub AreEmptyOutputs : Seen → List (List ℕ) → List ℕ → Type 0
-AreEmptyOutputs d [] [] = Unit {0}
-AreEmptyOutputs d [] (s ∷ slots) = ⊥
-AreEmptyOutputs d (name ∷ names) [] = ⊥
-AreEmptyOutputs d (name ∷ names) (s ∷ slots) = (IsTrue (d.output s) × (d.name s ≡ name) × (IsTrue d.told → d.file name ≡ Some [])) × AreEmptyOutputs d names slots
-
--- Outputs were opened: each is as it was, or empty. No fault of reading was counted.
-pub record Opens (names : List (List ℕ)) (old new : Seen) : Type 0 where
-  pub touches : Touches (Among names) (Among names) old new
-  pub each : IsTrue old.told → (m : List ℕ) → (new.file m ≡ old.file m) ⊎ (new.file m ≡ Some [])
-  pub reads : SameReadFaults old new
 
 -- the outputs of `run`
 pub record OutputsOpened (k : RunNames) (old new : Seen) (result : Result Outputs Failed) : Type 0 where

@@ -5,7 +5,9 @@ use Rattle.fab_config.specs.Settings.{is_in_range}
 use Rattle.pcap_file.specs.Capture.{HEAD}
 use Rattle.fab_policy.specs.Outputs.{state_of}
 use Rattle.fab_policy.specs.Standing.{Contents}
-use Rattle.fabric_tool.specs.Command.{RunNames, Among, NoFaults}
+use Rattle.fabric_tool.specs.Command.{RunNames}
+use Rattle.run_files.specs.Faults.{NoFaults}
+use Rattle.run_files.specs.Names.{Among}
 use Rattle.fabric_tool.specs.Ends.{RunHolds}
 use Rattle.fabric_tool.specs.Inputs.{HasConfig, MOST_BYTES, MOST_FRAMES}
 use Rattle.fabric_tool.specs.Reading.{AreHeads}

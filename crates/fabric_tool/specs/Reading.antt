@@ -16,7 +16,7 @@ use Rattle.fab_gather.specs.declared.shelf.Input.{Input}
 use Rattle.fab_gather.specs.declared.fault.LimitKind.TheVariants as kinds
 use Rattle.fab_migrate.specs.declared.old.OldError.{OldError}
 use Rattle.fab_migrate.specs.declared.old.OldError.TheVariants as olds
-use Rattle.fabric_tool.specs.Command.{AnyRose, Among}
+use Rattle.run_files.specs.Names.{AnyRose, Among}
 use Rattle.fabric_tool.specs.Inputs.{HasConfig, HasFault, IsOpened, HasNoHead, IsFirstWithout, HaveNoRoom, IsFirstUnread, why_of}
 use Rattle.fabric_tool.specs.Outcome.{kind_of}
 use Rattle.fabric_tool.specs.declared.outcome.Outcome.{Outcome}

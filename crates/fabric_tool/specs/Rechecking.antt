@@ -7,7 +7,8 @@ use Rattle.pcap_file.specs.Capture.{HEAD}
 use Rattle.fab_policy.specs.Looks.{stop}
 use Rattle.fab_policy.specs.Text.{text}
 use Rattle.fabric_tool.specs.Checking.{budget_of}
-use Rattle.fabric_tool.specs.Command.{RunNames, Command, Replay, Show, Among, command}
+use Rattle.fabric_tool.specs.Command.{RunNames, Command, Replay, Show, command}
+use Rattle.run_files.specs.Names.{Among}
 use Rattle.fabric_tool.specs.Inputs.{MOST_BYTES, MOST_FRAMES}
 use Rattle.fabric_tool.specs.Left.{HasRun}
 use Rattle.fabric_tool.specs.Statuses.{IsQuiet}

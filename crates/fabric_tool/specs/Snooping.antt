@@ -9,8 +9,8 @@ use Rattle.fcoe_codec.specs.Fcoe as capsule
 use Rattle.fcoe_codec.specs.declared.FcoeFault.{FcoeFault}
 use Rattle.fab_policy.specs.Heard.{Fcoe, decoded}
 use Rattle.fab_gather.specs.declared.fault.CapWhy.{CapWhy}
-use Rattle.fab_gather.specs.declared.fault.RunFault.{RunFault}
-use Rattle.fab_gather.specs.declared.fault.RunFault.TheVariants as faults
+use Rattle.fab_gather.specs.declared.fault.GatherFault.{GatherFault}
+use Rattle.fab_gather.specs.declared.fault.GatherFault.TheVariants as gather
 use Rattle.fip_snoop.specs.Bridge.{Arrival, arrivals, history, passed, dropped}
 use Rattle.fip_snoop.specs.Laws.{IsOfLogin}
 use Rattle.fip_snoop.specs.Messages.{forwarder_of}
@@ -19,14 +19,15 @@ use Rattle.fip_snoop.specs.declared.forwarder.Forwarder.{Forwarder}
 use Rattle.fip_snoop.specs.declared.way.Way.TheVariants.{Up}
 use Rattle.snoop_run.specs.Bridged.{HasBridged, HasFronts, HasStop}
 use Rattle.snoop_run.specs.Crossing.{crossing}
-use Rattle.fabric_tool.specs.Command.{SnoopNames, Snoop, ReadRose, WriteRose, NoFaults, KeepsOthers}
+use Rattle.fabric_tool.specs.Command.{SnoopNames, Snoop, ReadRose, WriteRose, KeepsOthers}
+use Rattle.run_files.specs.Faults.{NoFaults}
 use Rattle.fabric_tool.specs.Inputs.{HasConfig, HasFault, LIMITS}
 use Rattle.fabric_tool.specs.Outcome.{bridged_text}
 use Rattle.fabric_tool.specs.declared.outcome.Outcome.{Outcome}
 use Rattle.fabric_tool.specs.declared.outcome.Outcome.TheVariants as ends
 
 -- what the captures of the ports are to a bridge: the frames in the order in which they are handled, or why they aren't
-abbrev pub crossing_of : SnoopNames → Seen → Result (List Arrival) RunFault
+abbrev pub crossing_of : SnoopNames → Seen → Result (List Arrival) GatherFault
 crossing_of k d = crossing LIMITS (map (λ n. d.file n) k.ins)
 
 -- Of each frame of FCoE that came in on the port of an ENode, what was handled before it decides: it goes up exactly where its body
@@ -56,7 +57,7 @@ pub record HasSnoopedFront (k : SnoopNames) (old new : Seen) : Type 0 where
 
 -- The configuration has a value, and the captures aren't taken for this reason: the first of them, in port order, that isn't, or
 -- the span of all.
-pub record IsStopped (k : SnoopNames) (d : Seen) (fault : RunFault) : Type 0 where
+pub record IsStopped (k : SnoopNames) (d : Seen) (fault : GatherFault) : Type 0 where
   pub settings : Settings
   pub config : HasConfig d k.config settings
   pub stops : HasStop k.ins LIMITS d fault
@@ -66,8 +67,8 @@ pub record IsStopped (k : SnoopNames) (d : Seen) (fault : RunFault) : Type 0 whe
 abbrev pub SnoopHolds : SnoopNames → Seen → Seen → Outcome → Type 0
 SnoopHolds k old new (ends.Bridged passes drops) = KeepsOthers (Snoop k) old new × (IsTrue old.told → HasSnooped k passes drops old new) × NoFaults old new
 SnoopHolds k old new (ends.Config fault) = SameFiles old new × (IsTrue old.told → HasFault old k.config fault) × NoFaults old new
-SnoopHolds k old new (ends.Capture port at why) = SameFiles old new × (IsTrue old.told → IsStopped k old (faults.Capture port at why)) × NoFaults old new
-SnoopHolds k old new (ends.Limit kind) = SameFiles old new × (IsTrue old.told → IsStopped k old (faults.Limit kind)) × NoFaults old new
+SnoopHolds k old new (ends.Capture port at why) = SameFiles old new × (IsTrue old.told → IsStopped k old (gather.Capture port at why)) × NoFaults old new
+SnoopHolds k old new (ends.Limit kind) = SameFiles old new × (IsTrue old.told → IsStopped k old (gather.Limit kind)) × NoFaults old new
 SnoopHolds k old new ends.ReadFault = SameFiles old new × ReadRose (Snoop k) old new × SameWriteFaults old new
 SnoopHolds k old new ends.WriteFault = KeepsOthers (Snoop k) old new × WriteRose (Snoop k) old new × (IsTrue old.told → HasSnoopedFront k old new) × SameReadFaults old new
 SnoopHolds k old new ends.Memory = KeepsOthers (Snoop k) old new × (IsTrue old.told → SameFiles old new ⊎ HasSnoopedFront k old new) × NoFaults old new
@@ -113,6 +114,6 @@ pub record HasCrossed (k : SnoopNames) (d : Seen) (passes drops : ℕ) : Type 0 
 abbrev pub SnoopSays : SnoopNames → Seen → Outcome → Type 0
 SnoopSays k d (ends.Bridged passes drops) = HasCrossed k d passes drops
 SnoopSays k d (ends.Config fault) = HasFault d k.config fault
-SnoopSays k d (ends.Capture port at why) = IsStopped k d (faults.Capture port at why)
-SnoopSays k d (ends.Limit kind) = IsStopped k d (faults.Limit kind)
+SnoopSays k d (ends.Capture port at why) = IsStopped k d (gather.Capture port at why)
+SnoopSays k d (ends.Limit kind) = IsStopped k d (gather.Limit kind)
 SnoopSays k d _ = ⊥

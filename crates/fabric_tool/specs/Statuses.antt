@@ -15,7 +15,7 @@ use Rattle.fab_policy.specs.Looks.{Opened}
 use Rattle.fab_gather.specs.declared.fault.CapWhy.{CapWhy}
 use Rattle.fab_gather.specs.declared.fault.LimitKind.{LimitKind}
 use Rattle.fab_gather.specs.declared.fault.LimitKind.TheVariants as kinds
-use Rattle.fab_gather.specs.declared.fault.RunFault.TheVariants as faults
+use Rattle.run_files.specs.declared.fault.RunFault.TheVariants as faults
 use Rattle.fab_policy.specs.declared.line.Line.{Line}
 use Rattle.fab_migrate.specs.Migrating.{Migrated, IsNewFront}
 use Rattle.fab_migrate.specs.Old.{IsOld, HasFirstFault}

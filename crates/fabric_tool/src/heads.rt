@@ -7,7 +7,7 @@ ghost use Rattle.fabric_tool.specs.Reading.{HeadRead, HeadsRead, unopened_by};
 use crate::command::{Width, count_of, input_of};
 use crate::outcome::Outcome;
 use fab_base::{Depot, PortNo};
-use fab_windows::{CapWhy, Input, LimitKind};
+use fab_gather::{CapWhy, Input, LimitKind};
 use pcap_file::{Budget, CapFault, CapOpen, Reader};
 use std::alloc::Global;
 

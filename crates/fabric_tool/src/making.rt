@@ -1,5 +1,5 @@
 //! The command `make`.
-ghost use Rattle.std.specs.Prelude.{◌≡◌, ◌<◌, ◌++◌, ◌∷◌, [], true, length};
+ghost use Rattle.std.specs.Prelude.{◌≡◌, true};
 ghost use Rattle.fabric_tool.specs.Command as spec;
 ghost use Rattle.fabric_tool.specs.Load.{MakeHolds};
 ghost use Rattle.fabric_tool.specs.Opening.{FilesOpened};
@@ -9,6 +9,7 @@ use crate::outcome::Outcome;
 use arrayvec::ArrayVec;
 use fab_base::{Depot, Failed};
 use fab_vectors::{MakeFault, make_load};
+use run_files::add_slot;
 use std::alloc::Global;
 
 /// How many files a load has.
@@ -49,17 +50,9 @@ fn open_files<D: Depot>(depot: &mut D, words: &[String]) -> Result<LoadFiles, Fa
     let mut slots = ArrayVec::new();
     for place in 0..FILES {
         match depot.open_out(file_at(words, place)) {
-            Ok(slot) => keep(&mut slots, slot),
+            Ok(slot) => add_slot(&mut slots, slot),
             Err(failed) => return Err(failed),
         }
     }
     Ok(LoadFiles { slots })
-}
-
-// One slot more, of at most nine.
-fn keep(slots: &mut ArrayVec<u32, FILES>, slot: u32)
-    requires { length slots.old.items < 9 }
-    ensures { slots.new.items ≡ slots.old.items ++ slot ∷ [] }
-{
-    slots.push(slot);
 }

@@ -11,8 +11,8 @@ use crate::running::stopped;
 use enode_core::Phase;
 use enode_run::run_node;
 use fab_base::{Depot, word_at};
-use fab_gather::RunFault;
 use pcap_file::Budget;
+use run_files::RunFault;
 use std::alloc::Global;
 
 /// Runs a node over the frames that its port receives, and writes what it sends. The input is read

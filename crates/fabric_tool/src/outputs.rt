@@ -1,11 +1,12 @@
 //! The journal and the outputs, as they are opened.
-ghost use Rattle.std.specs.Prelude.{◌≡◌, ◌<◌, ◌++◌, ◌∷◌, [], true, length};
+ghost use Rattle.std.specs.Prelude.{◌≡◌, true};
 ghost use Rattle.fabric_tool.specs.Command as spec;
 ghost use Rattle.fabric_tool.specs.Opening.{OutputsOpened};
 
 use crate::command::{MOST_PORTS, output_at, port_count};
 use arrayvec::ArrayVec;
 use fab_base::{Depot, Failed, word_at};
+use run_files::add_slot;
 
 /// The slots of the journal and of the outputs, by port.
 #[derive(Debug, Drop)]
@@ -29,17 +30,9 @@ pub(crate) fn open_outputs<D: Depot>(depot: &mut D, words: &[String]) -> Result<
     let mut outs = ArrayVec::new();
     for port in 0..port_count(words) {
         match depot.open_out(output_at(words, port)) {
-            Ok(slot) => keep(&mut outs, slot),
+            Ok(slot) => add_slot(&mut outs, slot),
             Err(failed) => return Err(failed),
         }
     }
     Ok(Outputs { journal, outs })
-}
-
-/// One slot more, of at most 64.
-pub(crate) fn keep(outs: &mut ArrayVec<u32, MOST_PORTS>, slot: u32)
-    requires { length outs.old.items < 64 }
-    ensures { outs.new.items ≡ outs.old.items ++ slot ∷ [] }
-{
-    outs.push(slot);
 }

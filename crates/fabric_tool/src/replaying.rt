@@ -12,16 +12,16 @@ use crate::heads::heads_of;
 use crate::inputs::config_of;
 use crate::limits::{MOST_BYTES, MOST_FRAMES};
 use crate::outcome::Outcome;
-use crate::outputs::keep;
 use crate::running::in_range;
 use arrayvec::ArrayVec;
 use fab_base::{Bytes, Depot, Failed, word_at};
 use fab_config::Config;
+use fab_gather::LimitKind;
 use fab_migrate::{OldError, read_whole};
 use fab_replay::{CheckFault, check_captures, write_shown};
-use fab_windows::LimitKind;
 use forward_core::Fabric;
 use pcap_file::Budget;
+use run_files::add_slot;
 use std::alloc::Global;
 
 /// Checks a journal against the captures of all ports, and then the outputs.
@@ -31,7 +31,7 @@ pub(crate) fn replay<D: Depot>(alloc: Global, words: &[String], depot: &mut D) -
     ensures holds { ReplayHolds (spec.run_of words.now) (D.seen depot.old) (D.seen depot.new)
         result }
 {
-    match checked(alloc, words, depot, Width::Two) {
+    match check_files(alloc, words, depot, Width::Two) {
         Ok((_, entries)) => Outcome::Legal { entries },
         Err(outcome) => outcome,
     }
@@ -44,14 +44,14 @@ pub(crate) fn show<D: Depot>(alloc: Global, words: &[String], depot: &mut D) -> 
     ensures holds { ShowHolds (spec.show_of words.now) (D.seen depot.old) (D.seen depot.new)
         result }
 {
-    match checked(alloc, words, depot, Width::One) {
-        Ok((fabric, entries)) => told(alloc, &fabric, entries),
+    match check_files(alloc, words, depot, Width::One) {
+        Ok((fabric, entries)) => show_fabric(alloc, &fabric, entries),
         Err(outcome) => outcome,
     }
 }
 
-// What is told of a fabric after so many entries.
-fn told(alloc: Global, fabric: &Fabric, entries: u64) -> Outcome
+// Shows a fabric after so many entries.
+fn show_fabric(alloc: Global, fabric: &Fabric, entries: u64) -> Outcome
     ensures tells { Tells fabric.now entries result }
 {
     let mut text = Vec::new(alloc);
@@ -64,7 +64,7 @@ fn told(alloc: Global, fabric: &Fabric, entries: u64) -> Outcome
 }
 
 // Checks the journal, and answers the fabric that stands for it with the number of its entries.
-fn checked<D: Depot>(
+fn check_files<D: Depot>(
     alloc: Global,
     words: &[String],
     depot: &mut D,
@@ -75,15 +75,15 @@ fn checked<D: Depot>(
     ensures checks { IsChecked width (spec.names_of width words.now) (D.seen depot.old)
         (D.seen depot.new) result }
 {
-    let (config, journal) = match given(alloc, depot, words, width) {
-        Ok(given) => given,
+    let (config, journal) = match config_and_journal(alloc, depot, words, width) {
+        Ok(read) => read,
         Err(outcome) => return Err(outcome),
     };
     check(alloc, words, depot, width, config, &journal)
 }
 
 // The configuration, and behind it the journal, which is read whole.
-fn given<D: Depot>(
+fn config_and_journal<D: Depot>(
     alloc: Global,
     depot: &mut D,
     words: &[String],
@@ -183,12 +183,12 @@ fn journal_of<D: Depot>(
     };
     match read_whole(alloc, depot, slot, limit) {
         Ok(journal) => Ok(journal),
-        Err(error) => Err(unread(error)),
+        Err(error) => Err(outcome_of_error(error)),
     }
 }
 
 // How an error of reading the journal ends the command. It has no fault at a line.
-fn unread(error: OldError) -> Outcome
+fn outcome_of_error(error: OldError) -> Outcome
     ensures { result ≡ unread_by error }
 {
     match error {
@@ -211,7 +211,7 @@ fn open_each<D: Depot>(depot: &mut D, words: &[String]) -> Result<ArrayVec<u32, 
     let mut outs = ArrayVec::new();
     for port in 0..port_count(words) {
         match depot.open_in(output_at(words, port)) {
-            Ok(slot) => keep(&mut outs, slot),
+            Ok(slot) => add_slot(&mut outs, slot),
             Err(failed) => return Err(failed),
         }
     }

@@ -10,9 +10,9 @@ use crate::limits::{MOST_BYTES, MOST_FRAMES};
 use crate::outcome::Outcome;
 use crate::running::stopped;
 use fab_base::{Depot, word_at};
-use fab_gather::RunFault;
 use fip_snoop::data_goes_up;
 use pcap_file::Budget;
+use run_files::RunFault;
 use snoop_run::{Crossed, run_bridge};
 use std::alloc::Global;
 

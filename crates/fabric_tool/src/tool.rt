@@ -91,11 +91,11 @@ pub fn fabric_tool<R: Threads + Wait + Sync, D: Depot, K: Sink, G: Gate + Sync>(
         (K.sunk say.new) result }
 {
     // Each clause is proved from how the call ended.
-    let status = ended(rt, alloc, words, depot, say, gate);
+    let status = run_and_report(rt, alloc, words, depot, say, gate);
     status
 }
 
-fn ended<R: Threads + Wait + Sync, D: Depot, K: Sink, G: Gate + Sync>(
+fn run_and_report<R: Threads + Wait + Sync, D: Depot, K: Sink, G: Gate + Sync>(
     rt: &R,
     alloc: Global,
     words: &[String],

@@ -11,19 +11,20 @@ use Rattle.fab_policy.specs.Written.{IsPrefixOf}
 use Rattle.pcap_file.specs.Capture.{head_bytes}
 use Rattle.pcap_file.specs.declared.Record.{Record}
 use Rattle.fab_gather.specs.Ports.{name_of, NameIn}
-use Rattle.fab_gather.specs.declared.fault.RunFault.TheVariants as faults
 use Rattle.fip_snoop.specs.Bridge.{Arrival, arrivals, history, records_to, capture, passed, dropped}
 use Rattle.fip_snoop.specs.Queue.{AllAscend, least, left_in}
 use Rattle.fip_snoop.specs.Snoop.{Remembers}
 use Rattle.fip_snoop.specs.declared.forwarder.Forwarder.{Forwarder}
 use Rattle.fip_snoop.proofs.BridgeLemmas.{records_go_on}
-use Rattle.snoop_run.specs.Files.{items_in, piece_at, AreOutputs}
+use Rattle.run_files.specs.Outputs.{AreOutputs}
+use Rattle.run_files.specs.Pages.{items_in, piece_at}
+use Rattle.run_files.specs.declared.fault.RunFault.TheVariants as faults
 use Rattle.snoop_run.specs.Records.{count_in}
-use Rattle.snoop_run.specs.State.{Stands, Handles, IsNew, IsNext, Writes, Crosses}
+use Rattle.snoop_run.specs.State.{Stands, PassesNext, IsNew, IsNext, Writes, Crosses}
 use Rattle.snoop_run.specs.declared.bridge.Bridge.{Bridge}
-use Rattle.snoop_run.proofs.FileLemmas.{same_name, outputs_stay}
+use Rattle.run_files.proofs.OutputLemmas.{same_name, outputs_stay}
 use Rattle.snoop_run.proofs.NextLemmas.{all_left, next_order, none_next}
-use Rattle.snoop_run.proofs.PageLemmas.{page_of, length-items}
+use Rattle.run_files.proofs.PageLemmas.{page_of, length-items}
 use Rattle.snoop_run.proofs.StepLemmas.{can_count}
 
 -- ---- captures that grow
@@ -82,7 +83,7 @@ crossing_none w ins outs a b new count empty = record {
 
 module _ (w : Forwarder) (ins : List (List Record)) (outs : List ℕ) (a d : Seen) (b : Bridge) (outputs : AreOutputs a outs) (c : Crossing w ins outs a d b) where
   -- one frame more
-  pub crossing_more : (b' : Bridge) → Handles ins b b' → Crossing w ins outs a d b'
+  pub crossing_more : (b' : Bridge) → PassesNext ins b b' → Crossing w ins outs a d b'
   crossing_more b' h =
       let n = h.next w c.done c.stands in
       record {
@@ -110,7 +111,7 @@ module _ (w : Forwarder) (ins : List (List Record)) (outs : List ℕ) (a d : See
       can_count w ins c.done b n.frame_ (arrivals (left_in ins (slice_set b.places.items place (k + 1)))) c.stands (next_order ins b.places.items place k n.frame_ up at n.is n.port_) few
 
   -- fewer are to come then
-  pub fewer : (b' : Bridge) → Handles ins b b' → length (arrivals (left_in ins b'.places.items)) < length (arrivals (left_in ins b.places.items))
+  pub fewer : (b' : Bridge) → PassesNext ins b b' → length (arrivals (left_in ins b'.places.items)) < length (arrivals (left_in ins b.places.items))
   fewer b' h =
       let n = h.next w c.done c.stands in
       let old = sym (length-both c.done (arrivals (left_in ins b.places.items))) ∙ ap length c.stands.order in
@@ -218,13 +219,12 @@ module _ (w : Forwarder) (ins : List (List Record)) (outs : List ℕ) (a d : See
           );
       passed_ = tt;
       dropped_ = tt;
-      cause = inr (
+      cause = let at = wr.puts.cause in inr (
         refl,
         (
-          wr.puts.cause.0,
-          wr.puts.cause.1,
-          rose_later _ _ _ (c.touches.writes_rise (name_of a outs wr.puts.cause.0))
-              (subst (λ n. Rose (d.write_faults n) (d'.write_faults n)) (name_is wr.puts.cause.0 wr.puts.cause.1) wr.puts.cause.2),
+          at.0,
+          at.1.within,
+          rose_later _ _ _ (c.touches.writes_rise (name_of a outs at.0)) (subst (λ n. Rose (d.write_faults n) (d'.write_faults n)) (name_is at.0 at.1.within) at.1.rose),
         ),
       );
       reads = reads_on wr;

@@ -9,14 +9,14 @@ use Rattle.pcap_file.specs.declared.Budget.{Budget}
 use Rattle.pcap_file.specs.declared.Record.{Record}
 use Rattle.pcap_file.specs.Records.{Ascends}
 use Rattle.fab_gather.specs.Port.{IsStopped}
-use Rattle.fab_gather.specs.declared.fault.RunFault.{RunFault}
-use Rattle.fab_gather.specs.declared.fault.RunFault.TheVariants as faults
+use Rattle.fab_gather.specs.declared.fault.GatherFault.{GatherFault}
+use Rattle.fab_gather.specs.declared.fault.GatherFault.TheVariants as gather
 use Rattle.fab_captures.specs.Captures.{AreFit, Taken, unless_stopped, capture_by, captures_by, ReadsCapture}
 use Rattle.fip_snoop.specs.Queue.{AllAscend}
-use Rattle.snoop_run.specs.Bridged.{Among}
+use Rattle.run_files.specs.Names.{Among}
 use Rattle.snoop_run.specs.Opening.{in_front, ReadsInput, AreRead, ReadsInputs}
 use Rattle.snoop_run.specs.Records.{AllFit, count_in}
-use Rattle.snoop_run.proofs.NameLemmas.{among_front, among_back, among_all, rose_among, rose_since}
+use Rattle.run_files.proofs.NameLemmas.{among_front, among_back, among_all, rose_among, rose_since}
 
 -- ---- one capture
 
@@ -28,12 +28,12 @@ module _ (port : ℕ) (name : List ℕ) (a : Seen) (had : Budget) where
       ap (λ f. captures_by port had (f ∷ later)) file
       ∙ ap (λ t. unless_stopped {X = Taken} {Y = List (List Record)} t (λ t. unless_stopped {X = List (List Record)} {Y = List (List Record)} (captures_by (port + 1) t.left later) (λ ins. Ok (t.records ∷ ins)))) is
 
-  front_stops : (l : List ℕ) (later : List (Option (List ℕ))) (e : RunFault) → a.file name ≡ Some l → capture_by port had l ≡ Err e → captures_by port had (a.file name ∷ later) ≡ Err e
+  front_stops : (l : List ℕ) (later : List (Option (List ℕ))) (e : GatherFault) → a.file name ≡ Some l → capture_by port had l ≡ Err e → captures_by port had (a.file name ∷ later) ≡ Err e
   front_stops l later e file is =
       ap (λ f. captures_by port had (f ∷ later)) file
       ∙ ap (λ t. unless_stopped {X = Taken} {Y = List (List Record)} t (λ t. unless_stopped {X = List (List Record)} {Y = List (List Record)} (captures_by (port + 1) t.left later) (λ ins. Ok (t.records ∷ ins)))) is
 
-  pub input_read : (slot : ℕ) (b c : Seen) (left : Budget) (result : Result (List Record) RunFault) → OpensIn {E = Failed} name a b (Ok slot) → ReadsCapture port slot b c had left result → ReadsInput port name a c had left result
+  pub input_read : (slot : ℕ) (b c : Seen) (left : Budget) (result : Result (List Record) GatherFault) → OpensIn {E = Failed} name a b (Ok slot) → ReadsCapture port slot b c had left result → ReadsInput port name a c had left result
   input_read slot b c left result o k =
       let name_is = o.opened.2 in
       record {
@@ -43,20 +43,19 @@ module _ (port : ℕ) (name : List ℕ) (a : Seen) (had : Budget) where
         taken = λ told later. taken_as told later result (k.taken (told_stays name a b o.reads.keeps told));
         stops = λ told later. stops_as told later result (k.stops (told_stays name a b o.reads.keeps told));
         cause = λ e. rose_later (a.read_faults name) (b.read_faults name) (c.read_faults name) o.reads.keeps.reads_rise (subst (λ m. Rose (b.read_faults m) (c.read_faults m)) name_is (k.cause e));
-        only = k.only;
         counts = λ other m. k.counts other m ∙ o.counts m;
       }
     where
-      taken_as : IsTrue a.told → (later : List (Option (List ℕ))) (result : Result (List Record) RunFault) → IfOk result (λ records. capture_by port had (b.left slot) ≡ Ok (record { records = records; left = left }))
+      taken_as : IsTrue a.told → (later : List (Option (List ℕ))) (result : Result (List Record) GatherFault) → IfOk result (λ records. capture_by port had (b.left slot) ≡ Ok (record { records = records; left = left }))
           → IfOk result (λ records. captures_by port had (a.file name ∷ later) ≡ in_front (records ∷ []) (captures_by (port + 1) left later))
       taken_as told later (Ok records) is = front_taken (b.left slot) left later records (o.left told) is
       taken_as told later (Err e) is = tt
 
-      stops_as : IsTrue a.told → (later : List (Option (List ℕ))) (result : Result (List Record) RunFault) → IfErr result (λ e. IsStopped e → capture_by port had (b.left slot) ≡ Err e) → IfErr result (λ e. IsStopped e → captures_by port had (a.file name ∷ later) ≡ Err e)
+      stops_as : IsTrue a.told → (later : List (Option (List ℕ))) (result : Result (List Record) GatherFault) → IfErr result (λ e. IsStopped e → capture_by port had (b.left slot) ≡ Err e) → IfErr result (λ e. IsStopped e → captures_by port had (a.file name ∷ later) ≡ Err e)
       stops_as told later (Ok records) is = tt
       stops_as told later (Err e) is = λ stopped. front_stops (b.left slot) later e (o.left told) (is stopped)
 
-  pub input_unopened : (b : Seen) (e : Failed) → OpensIn {E = Failed} name a b (Err e) → ReadsInput port name a b had had (Err faults.Read)
+  pub input_unopened : (b : Seen) (e : Failed) → OpensIn {E = Failed} name a b (Err e) → ReadsInput port name a b had had (Err gather.Read)
   input_unopened b e o = record {
     reads = o.reads;
     fit = tt;
@@ -64,7 +63,6 @@ module _ (port : ℕ) (name : List ℕ) (a : Seen) (had : Budget) where
     taken = λ told later. tt;
     stops = λ told later stopped. absurd stopped;
     cause = λ is. o.cause;
-    only = λ is. absurd (cc);
     counts = λ other. absurd (other refl);
   }
 
@@ -81,11 +79,11 @@ pub record InputsSoFar (names : List (List ℕ)) (a now : Seen) (ins : List (Lis
   pub counts : SameReadFaults a now
   pub writes : SameWriteFaults a now
 
-front_none : (later : Result (List (List Record)) RunFault) → later ≡ in_front [] later
+front_none : (later : Result (List (List Record)) GatherFault) → later ≡ in_front [] later
 front_none (Ok rest) = refl
 front_none (Err e) = refl
 
-front_more : (ins : List (List Record)) (rs : List Record) (later : Result (List (List Record)) RunFault) → in_front ins (in_front (rs ∷ []) later) ≡ in_front (ins ++ rs ∷ []) later
+front_more : (ins : List (List Record)) (rs : List Record) (later : Result (List (List Record)) GatherFault) → in_front ins (in_front (rs ∷ []) later) ≡ in_front (ins ++ rs ∷ []) later
 front_more ins rs (Ok rest) = ap Ok (sym (append_assoc ins (rs ∷ []) rest))
 front_more ins rs (Err e) = refl
 
@@ -160,7 +158,7 @@ module _ (names : List (List ℕ)) (a b : Seen) (ins : List (List Record)) (had 
       touch_all reads =
           touches_wider Nothing (Among (names ++ name ∷ [])) Nothing (Among all) a d (λ m x. x) (λ m x. subst (λ l. Among l m) (sym are) (among_all names behind name m x)) (touch reads)
 
-      pub inputs_failed : (e : RunFault) → ReadsInput (length names + 1) name b d left left' (Err e) → ReadsInputs all a d had (Err e)
+      pub inputs_failed : (e : GatherFault) → ReadsInput (length names + 1) name b d left left' (Err e) → ReadsInputs all a d had (Err e)
       inputs_failed e read = record {
         touches = touch_all read.reads;
         are = tt;
@@ -171,19 +169,17 @@ module _ (names : List (List ℕ)) (a b : Seen) (ins : List (List Record)) (had 
         cause = λ is.
             rose_since a.read_faults b.read_faults d.read_faults h.touches.reads_rise all
             (rose_among b.read_faults d.read_faults all name (subst (λ l. Among l name) (sym are) (among_back names (name ∷ behind) name (inl refl))) (read.cause (ap Err is)));
-        only = read.only;
-        counts = λ other m. read.counts (λ is. other (let same : e ≡ faults.Read = cc in ap Err same)) m ∙ h.counts m;
+        counts = λ other m. read.counts (λ is. other (let same : e ≡ gather.Read = cc in ap Err same)) m ∙ h.counts m;
         writes = λ m. read.reads.writes m ∙ h.writes m;
       }
 
-      pub inputs_no_room : (rs : List Record) → ReadsInput (length names + 1) name b d left left' (Ok rs) → ReadsInputs all a d had (Err faults.Memory)
+      pub inputs_no_room : (rs : List Record) → ReadsInput (length names + 1) name b d left left' (Ok rs) → ReadsInputs all a d had (Err gather.Memory)
       inputs_no_room rs read = record {
         touches = touch_all read.reads;
         are = tt;
         taken = λ told. tt;
         stops = λ told stopped. absurd stopped;
         cause = λ is. absurd (cc);
-        only = λ is. absurd (cc);
         counts = λ other m. read.counts (λ is. cc) m ∙ h.counts m;
         writes = λ m. read.reads.writes m ∙ h.writes m;
       }
@@ -196,7 +192,6 @@ module _ (names : List (List ℕ)) (a b : Seen) (ins : List (List Record)) (had 
         ap (captures_by 1 had) (sym (append-nil (map (λ n. a.file n) names))) ∙ h.taken told [] ∙ ap Ok (append-nil ins) ∙ ap Ok (sym is);
     stops = λ told. tt;
     cause = tt;
-    only = tt;
     counts = λ other. h.counts;
     writes = h.writes;
   }

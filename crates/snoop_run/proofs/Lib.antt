@@ -1,12 +1,10 @@
 pub mod SpanLemmas
 pub mod PageLemmas
-pub mod FileLemmas
 pub mod NextLemmas
 pub mod StepLemmas
 pub mod CrossLemmas
 pub mod NameLemmas
 pub mod InputLemmas
-pub mod OpenLemmas
 pub mod PortLoops
 pub mod RunLemmas
 pub mod TakenLemmas

@@ -207,12 +207,16 @@ length-arrivals ins = length-order (arrivals_from 1 ins) ∙ length-from 1 ins
 
 -- ---- each can be written
 
-pub fit_at : (rs : List Record) (k : ℕ) (r : Record) → AreFit rs → slice_get rs k ≡ Some r → (r.moment < 2 ^ 53) × (length r.caught.bytes ≤ 65535)
+fit_at : (rs : List Record) (k : ℕ) (r : Record) → AreFit rs → slice_get rs k ≡ Some r → (r.moment < 2 ^ 53) × (length r.caught.bytes ≤ 65535)
 fit_at [] k r fit e = absurd (cc)
 fit_at (x ∷ rs) zero r fit e = subst (λ (y : Record). (y.moment < 2 ^ 53) × (length y.caught.bytes ≤ 65535)) (some_is e) (let f = fit.0 in omega arith, fit.1)
 fit_at (x ∷ rs) (suc k) r fit e = fit_at rs k r fit.2 e
 
-pub all_fit_at : (ins : List (List Record)) (i : ℕ) (rs : List Record) → AllFit ins → slice_get ins i ≡ Some rs → AreFit rs
+all_fit_at : (ins : List (List Record)) (i : ℕ) (rs : List Record) → AllFit ins → slice_get ins i ≡ Some rs → AreFit rs
 all_fit_at [] i rs fit e = absurd (cc)
 all_fit_at (x ∷ ins) zero rs fit e = subst AreFit (some_is e) fit.0
 all_fit_at (x ∷ ins) (suc i) rs fit e = all_fit_at ins i rs fit.1 e
+
+-- a record of one of several captures can be written
+pub fit_there : (ins : List (List Record)) (i : ℕ) (rs : List Record) (k : ℕ) (r : Record) → AllFit ins → slice_get ins i ≡ Some rs → slice_get rs k ≡ Some r → (r.moment < 2 ^ 53) × (length r.caught.bytes ≤ 65535)
+fit_there ins i rs k r fit here at = fit_at rs k r (all_fit_at ins i rs fit here) at

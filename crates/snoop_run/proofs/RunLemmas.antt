@@ -13,23 +13,29 @@ use Rattle.pcap_file.specs.declared.Budget.{Budget}
 use Rattle.pcap_file.specs.declared.Record.{Record}
 use Rattle.fab_gather.specs.Ports.{slot_at, name_of, NameIn}
 use Rattle.fab_gather.specs.declared.fault.LimitKind.TheVariants as limit
-use Rattle.fab_gather.specs.declared.fault.RunFault.{RunFault}
-use Rattle.fab_gather.specs.declared.fault.RunFault.TheVariants as faults
+use Rattle.fab_gather.specs.declared.fault.GatherFault.{GatherFault}
+use Rattle.fab_gather.specs.declared.fault.GatherFault.TheVariants as gather
 use Rattle.fab_captures.specs.Captures.{unless_stopped, captures_by}
 use Rattle.fip_snoop.specs.Bridge.{Arrival, arrivals, is_too_long, capture}
 use Rattle.fip_snoop.specs.Messages.{forwarder_of}
 use Rattle.fip_snoop.specs.declared.forwarder.Forwarder.{Forwarder}
-use Rattle.snoop_run.specs.Bridged.{Among, AmongBoth, AnyRose, TellsWrites, IsOldOrFront, AreOldOrFront, HasFronts, HasStop, Ends, Bridges, OverEnds, RunsOver}
+use Rattle.snoop_run.specs.Bridged.{AmongBoth, IsOldOrFront, AreOldOrFront, HasFronts, HasStop, Ends, Bridges, OverEnds, RunsOver}
+use Rattle.run_files.specs.Faults.{TellsWrites}
+use Rattle.run_files.specs.Faults.{fault_from}
+use Rattle.run_files.specs.Names.{Among, AnyRose}
+use Rattle.run_files.specs.declared.fault.RunFault.{RunFault}
+use Rattle.run_files.specs.declared.fault.RunFault.TheVariants as faults
 use Rattle.snoop_run.specs.Crossing.{unless_too_long, crossing, captures}
-use Rattle.snoop_run.specs.Files.{AreOutputs}
+use Rattle.run_files.specs.Outputs.{AreOutputs}
 use Rattle.snoop_run.specs.Laws.{TakenAreCaptures}
 use Rattle.snoop_run.specs.Opening.{OpensOutputs, ReadsInputs}
 use Rattle.snoop_run.specs.Sides.{side_count, output_at, outs_of, AreDifferent}
 use Rattle.snoop_run.specs.State.{IsNew, Crosses}
 use Rattle.snoop_run.specs.declared.bridge.Bridge.{Bridge}
 use Rattle.snoop_run.specs.declared.run.Crossed.{Crossed}
-use Rattle.snoop_run.proofs.NameLemmas.{counted_among, rose_among, rose_since, outputs_differ, length-counted}
-use Rattle.snoop_run.proofs.OpenLemmas.{At, slots_count, there, are_outputs}
+use Rattle.snoop_run.proofs.NameLemmas.{outputs_differ}
+use Rattle.run_files.proofs.NameLemmas.{counted_among, rose_among, rose_since, length-counted}
+use Rattle.run_files.proofs.OpenLemmas.{At, slots_count, there, are_outputs}
 
 -- ---- files by place, and by name
 
@@ -55,7 +61,7 @@ fronts_by a d f g k j (suc n) are =
     )
 
 -- the same with what was before as an earlier moment has it
-fronts_since : (a b d : Seen) → SameFiles a b → (names wholes : List (List ℕ)) → AreOldOrFront b d names wholes → AreOldOrFront a d names wholes
+pub fronts_since : (a b d : Seen) → SameFiles a b → (names wholes : List (List ℕ)) → AreOldOrFront b d names wholes → AreOldOrFront a d names wholes
 fronts_since a b d same [] [] are = tt
 fronts_since a b d same [] (w ∷ wholes) are = absurd are
 fronts_since a b d same (n ∷ names) [] are = absurd are
@@ -88,16 +94,16 @@ module _ (sides : List (String Global)) (ins : List (List Record)) (c : Settings
 
   pub over_unopened : (b : Seen) (e : Failed) → is_too_long came ≡ false → OpensOutputs outs a b (Err e) → RunsOver outs ins c a b (Err faults.Write)
   over_unopened b e short o = record {
-    touches = o.touches;
+    touches = o.opens.touches;
     ends = (
       short,
       o.cause,
       λ told.
           subst (AreOldOrFront a b outs) (sym wholes_are)
           (fronts_by a b (output_at sides) (λ q. capture (forwarder_of c) q came) 0 1 n (λ q lt.
-          elim (o.each told (output_at sides (0 + q))) [ inl same ↦ inl same | inr empty ↦ inr ([], empty, (capture (forwarder_of c) (1 + q) came, refl)) ])),
+          elim (o.opens.each told (output_at sides (0 + q))) [ inl same ↦ inl same | inr empty ↦ inr ([], empty, (capture (forwarder_of c) (1 + q) came, refl)) ])),
     );
-    reads = o.reads;
+    reads = o.opens.reads;
     writes = λ other. absurd (other refl);
   }
 
@@ -115,14 +121,14 @@ module _ (sides : List (String Global)) (ins : List (List Record)) (c : Settings
     opened_empty told q lt = ap b.file (at q lt).name_is ∙ (at q lt).empty told
 
     told_b : IsTrue a.told → IsTrue b.told
-    told_b told = subst IsTrue (sym o.touches.told) told
+    told_b told = subst IsTrue (sym o.opens.touches.told) told
 
     among : (m : List ℕ) → NameIn b slots.items m → Among outs m
     among m h = subst (Among outs) (sym (h.2 ∙ (at h.0 h.1).name_is)) (counted_among (output_at sides) 0 n h.0 (omega arith) (omega (arith, h.1, opened_count)))
 
     module _ {r : Result Crossed RunFault} (x : Crosses (forwarder_of c) ins slots.items b d r) where
       touches_on : Touches (Among outs) (Among outs) a d
-      touches_on = touches_trans (Among outs) (Among outs) a b d o.touches (touches_wider (NameIn b slots.items) (NameIn b slots.items) (Among outs) (Among outs) b d among among x.touches)
+      touches_on = touches_trans (Among outs) (Among outs) a b d o.opens.touches (touches_wider (NameIn b slots.items) (NameIn b slots.items) (Among outs) (Among outs) b d among among x.touches)
 
       -- the file of a port
       named : (q : ℕ) → q < n → {l : List ℕ} → ((lt : q < length slots.items) → d.file (name_of b slots.items q) ≡ Some l) → d.file (output_at sides q) ≡ Some l
@@ -140,11 +146,11 @@ module _ (sides : List (String Global)) (ins : List (List Record)) (c : Settings
 
       rose_on : (q : ℕ) → q < length slots.items → Rose (b.write_faults (name_of b slots.items q)) (d.write_faults (name_of b slots.items q)) → AnyRose a.write_faults d.write_faults outs
       rose_on q lt rose =
-          rose_since a.write_faults b.write_faults d.write_faults o.touches.writes_rise outs
+          rose_since a.write_faults b.write_faults d.write_faults o.opens.touches.writes_rise outs
           (rose_among b.write_faults d.write_faults outs (name_of b slots.items q) (among (name_of b slots.items q) (q, lt, refl)) rose)
 
       reads_on : SameReadFaults a d
-      reads_on m = x.reads m ∙ o.reads m
+      reads_on m = x.reads m ∙ o.opens.reads m
 
       writes_on : TellsWrites a d r
       writes_on other m = x.writes other m ∙ o.counts m
@@ -175,23 +181,22 @@ module _ (inn outs : List (List ℕ)) (budget : Budget) (c : Settings) (a b : Se
   read_touches : Touches Nothing (Among inn) a b → Touches (Among outs) (AmongBoth inn outs) a b
   read_touches k = touches_wider Nothing (Among inn) (Among outs) (AmongBoth inn outs) a b (λ m x. absurd x) (λ m x. inl x) k
 
-  pub bridges_stopped : (e : RunFault) → ReadsInputs inn a b budget (Err e) → Bridges inn outs budget c a b (Err e)
-  bridges_stopped e r = record {
+  pub bridges_stopped : (g : GatherFault) (e : RunFault) → e ≡ fault_from g → ReadsInputs inn a b budget (Err g) → Bridges inn outs budget c a b (Err e)
+  bridges_stopped g e is r = subst (λ x. Bridges inn outs budget c a b (Err x)) (sym is) (record {
     touches = read_touches r.touches;
-    ends = ended e r;
-    reads = λ other. r.counts (λ is. other (let same : e ≡ faults.Read = cc in ap Err same));
+    ends = ended g r;
+    reads = λ other. r.counts (λ same. other (ap (λ x. Err x) (ap fault_from (let read : g ≡ gather.Read = cc in read))));
     writes = λ other. r.writes;
-  }
+  })
     where
-      stop : (e : RunFault) → captures_by 1 budget (map (λ n. a.file n) inn) ≡ Err e → HasStop inn budget a e
+      stop : (e : GatherFault) → captures_by 1 budget (map (λ n. a.file n) inn) ≡ Err e → HasStop inn budget a e
       stop e is = ap (λ t. unless_stopped {X = List (List Record)} {Y = List Arrival} t (λ ins. unless_too_long (arrivals ins))) is
 
-      ended : (e : RunFault) → ReadsInputs inn a b budget (Err e) → Ends inn outs budget c a b (Err e)
-      ended (faults.Capture port at why) r = (λ m. r.touches.files m (λ x. x), λ told. stop (faults.Capture port at why) (r.stops told tt))
-      ended (faults.Limit kind) r = (λ m. r.touches.files m (λ x. x), λ told. stop (faults.Limit kind) (r.stops told tt))
-      ended faults.Read r = (λ m. r.touches.files m (λ x. x), r.cause refl)
-      ended faults.Write r = absurd (r.only refl)
-      ended faults.Memory r = λ told. inl (λ m. r.touches.files m (λ x. x))
+      ended : (e : GatherFault) → ReadsInputs inn a b budget (Err e) → Ends inn outs budget c a b (Err (fault_from e))
+      ended (gather.Capture port at why) r = (λ m. r.touches.files m (λ x. x), λ told. stop (gather.Capture port at why) (r.stops told tt))
+      ended (gather.Limit kind) r = (λ m. r.touches.files m (λ x. x), λ told. stop (gather.Limit kind) (r.stops told tt))
+      ended gather.Read r = (λ m. r.touches.files m (λ x. x), r.cause refl)
+      ended gather.Memory r = λ told. inl (λ m. r.touches.files m (λ x. x))
 
   module _ (law : TakenAreCaptures) (v : Vec (List Record) Global) (read : ReadsInputs inn a b budget (Ok v)) (d : Seen) where
     abbrev frames : List Arrival
@@ -206,12 +211,12 @@ module _ (inn outs : List (List ℕ)) (budget : Budget) (c : Settings) (a b : Se
     crosses : IsTrue a.told → is_too_long frames ≡ false → crossing budget (map (λ n. a.file n) inn) ≡ Ok frames
     crosses told short =
         ap (λ t. unless_stopped {X = List (List Record)} {Y = List Arrival} t (λ ins. unless_too_long (arrivals ins))) (read.taken told)
-        ∙ ap (λ t. cond {A = Result (List Arrival) RunFault} t (Err (faults.Limit limit.Span)) (Ok frames)) short
+        ∙ ap (λ t. cond {A = Result (List Arrival) GatherFault} t (Err (gather.Limit limit.Span)) (Ok frames)) short
 
-    too_long : IsTrue a.told → is_too_long frames ≡ true → HasStop inn budget a (faults.Limit limit.Span)
+    too_long : IsTrue a.told → is_too_long frames ≡ true → HasStop inn budget a (gather.Limit limit.Span)
     too_long told long =
         ap (λ t. unless_stopped {X = List (List Record)} {Y = List Arrival} t (λ ins. unless_too_long (arrivals ins))) (read.taken told)
-        ∙ ap (λ t. cond {A = Result (List Arrival) RunFault} t (Err (faults.Limit limit.Span)) (Ok frames)) long
+        ∙ ap (λ t. cond {A = Result (List Arrival) GatherFault} t (Err (gather.Limit limit.Span)) (Ok frames)) long
 
     fronts : IsTrue a.told → is_too_long frames ≡ false → (IsTrue b.told → AreOldOrFront b d outs (captures c (length outs) frames)) → HasFronts inn outs budget c a d
     fronts told short are = record { came = frames; crosses = crosses told short; outputs = fronts_since a b d same_b outs (captures c (length outs) frames) (are (told_read told)) }

@@ -13,9 +13,9 @@ use Rattle.fip_snoop.specs.Ways.{way_of}
 use Rattle.fip_snoop.specs.declared.forwarder.Forwarder.{Forwarder}
 use Rattle.fip_snoop.specs.declared.way.Way.{Way}
 use Rattle.fip_snoop.proofs.BridgeLemmas.{history_goes_on, all_are_counted}
-use Rattle.snoop_run.specs.Files.{items_in, piece_at}
+use Rattle.run_files.specs.Pages.{items_in, piece_at}
 use Rattle.snoop_run.specs.Records.{count_in}
-use Rattle.snoop_run.specs.State.{Stands, Adds, Passes, Handles}
+use Rattle.snoop_run.specs.State.{Stands, Adds, Passes, PassesNext}
 use Rattle.snoop_run.specs.declared.bridge.Bridge.{Bridge}
 use Rattle.snoop_run.proofs.NextLemmas.{next_order, length-arrivals}
 use Rattle.snoop_run.proofs.PageLemmas.{lent_back}
@@ -97,8 +97,8 @@ module _ (ins : List (List Record)) (i k : ℕ) (r : Record) (old mid new : Brid
       ap (λ (v : Vec (Vec ℕ Global) Global). piece_at (items_in v.items) q) pages ∙ p.adds w (history w [] done) s.kept q lt
       ∙ ap (λ x. piece_at (items_in old.pages.items) q ++ records_to w (q + 1) (history w [] done) (x ∷ [])) (sym is)
 
-  pub handles : Handles ins old new
-  handles = record {
+  pub passes_next : PassesNext ins old new
+  passes_next = record {
     count = ap (λ (v : Vec (Vec ℕ Global) Global). length v.items) pages ∙ p.count;
     next = λ w done s. (a, stands_next w done s, adds_next w done s);
   }

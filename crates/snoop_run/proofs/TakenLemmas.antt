@@ -12,8 +12,8 @@ use Rattle.pcap_file.specs.Records.{Chain, last_moment, EndsAsCapture}
 use Rattle.pcap_file.proofs.lemmas.Chains.{found_stands}
 use Rattle.pcap_file.proofs.lemmas.Steps.{gives_found, ends_end}
 use Rattle.fab_gather.specs.declared.fault.LimitKind.TheVariants as limit
-use Rattle.fab_gather.specs.declared.fault.RunFault.{RunFault}
-use Rattle.fab_gather.specs.declared.fault.RunFault.TheVariants as faults
+use Rattle.fab_gather.specs.declared.fault.GatherFault.{GatherFault}
+use Rattle.fab_gather.specs.declared.fault.GatherFault.TheVariants as gather
 use Rattle.fab_captures.specs.Captures.{Taken, unless_stopped, without_head, without_record, with_record, by_step, records_by, body_by, capture_by, captures_by}
 use Rattle.snoop_run.specs.Laws.{AreCaptures, TakenAreCaptures}
 
@@ -21,7 +21,7 @@ use Rattle.snoop_run.specs.Laws.{AreCaptures, TakenAreCaptures}
 abbrev Stand : CaptureHead → ℕ → List ℕ → List Record → Type 0
 Stand h greatest l records = (rest : List ℕ) × Chain h greatest records l rest × (next h (last_moment greatest records) rest ≡ End)
 
-taken_is : {x y : Taken} → ◌≡◌ {A = Result Taken RunFault} (Ok x) (Ok y) → x ≡ y
+taken_is : {x y : Taken} → ◌≡◌ {A = Result Taken GatherFault} (Ok x) (Ok y) → x ≡ y
 taken_is e = cc
 
 stand_as : (h : CaptureHead) (greatest : ℕ) (l : List ℕ) (x y : Taken) → x ≡ y → Stand h greatest l x.records → Stand h greatest l y.records
@@ -32,7 +32,7 @@ stand zero port h at greatest budget l t less e = absurd (omega (arith, less))
 stand (suc n) port h at greatest budget l t less e =
     go (step_of budget at (next h greatest l)) refl e (λ moment caught rest u shorter is. stand n port h (at + (RECORD_HEAD + length caught.bytes)) moment (without_record budget caught) rest u shorter is)
   where
-    more : ℕ → Caught → List ℕ → Result Taken RunFault
+    more : ℕ → Caught → List ℕ → Result Taken GatherFault
     more moment caught rest = records_by n port h (at + (RECORD_HEAD + length caught.bytes)) moment (without_record budget caught) rest
 
     go : (step : Step) → step_of budget at (next h greatest l) ≡ step → by_step more port budget step ≡ Ok t
@@ -42,7 +42,7 @@ stand (suc n) port h at greatest budget l t less e =
         found : next h greatest l ≡ Found moment caught rest
         found = gives_found budget at (next h greatest l) moment caught rest is
 
-        by : (r : Result Taken RunFault) → more moment caught rest ≡ r → unless_stopped r (with_record (record { moment = moment; caught = caught })) ≡ Ok t → Stand h greatest l t.records
+        by : (r : Result Taken GatherFault) → more moment caught rest ≡ r → unless_stopped r (with_record (record { moment = moment; caught = caught })) ≡ Ok t → Stand h greatest l t.records
         by (Err fault) same e = absurd (cc)
         by (Ok u) same e =
             let size = (found_stands h greatest l moment caught rest found).size in
@@ -51,7 +51,7 @@ stand (suc n) port h at greatest budget l t less e =
     go Ends is e later = stand_as h greatest l (record { records = []; left = budget }) t (taken_is e) (l, refl, ends_end budget at (next h greatest l) is)
     go (Stops fault) is e later = absurd (cc)
 
-list_is : {x y : List (List Record)} → ◌≡◌ {A = Result (List (List Record)) RunFault} (Ok x) (Ok y) → x ≡ y
+list_is : {x y : List (List Record)} → ◌≡◌ {A = Result (List (List Record)) GatherFault} (Ok x) (Ok y) → x ≡ y
 list_is e = cc
 
 module _ (ends : EndsAsCapture) where
@@ -65,7 +65,7 @@ module _ (ends : EndsAsCapture) where
           let s = stand (suc (length l)) port h HEAD 0 (without_head budget) (drop HEAD l) t (let n = length-drop HEAD l in omega (arith, n)) e in
           (h, ends h t.records l s.0 is s.1 s.2)
 
-      enough : (b : Bool) → cond {A = Result Taken RunFault} b (Err (faults.Limit limit.Bytes)) (body_by port budget l (head_decoded l)) ≡ Ok t → (h : CaptureHead) × IsCapture h t.records l
+      enough : (b : Bool) → cond {A = Result Taken GatherFault} b (Err (gather.Limit limit.Bytes)) (body_by port budget l (head_decoded l)) ≡ Ok t → (h : CaptureHead) × IsCapture h t.records l
       enough true e = absurd (cc)
       enough false e = body (head_decoded l) refl e
 
@@ -74,12 +74,12 @@ module _ (ends : EndsAsCapture) where
   taken_are_captures port budget (None ∷ files) ins e = absurd (cc)
   taken_are_captures port budget (Some l ∷ files) ins e = go (capture_by port budget l) refl e (λ t rest is. taken_are_captures (port + 1) t.left files rest is)
     where
-      go : (r : Result Taken RunFault) → capture_by port budget l ≡ r
+      go : (r : Result Taken GatherFault) → capture_by port budget l ≡ r
           → unless_stopped {X = Taken} {Y = List (List Record)} r (λ t. unless_stopped {X = List (List Record)} {Y = List (List Record)} (captures_by (port + 1) t.left files) (λ ins. Ok (t.records ∷ ins))) ≡ Ok ins
           → ((t : Taken) (rest : List (List Record)) → captures_by (port + 1) t.left files ≡ Ok rest → AreCaptures files rest) → AreCaptures (Some l ∷ files) ins
       go (Err fault) is e later = absurd (cc)
       go (Ok t) is e later = by (captures_by (port + 1) t.left files) refl e
         where
-          by : (r : Result (List (List Record)) RunFault) → captures_by (port + 1) t.left files ≡ r → unless_stopped {X = List (List Record)} {Y = List (List Record)} r (λ ins. Ok (t.records ∷ ins)) ≡ Ok ins → AreCaptures (Some l ∷ files) ins
+          by : (r : Result (List (List Record)) GatherFault) → captures_by (port + 1) t.left files ≡ r → unless_stopped {X = List (List Record)} {Y = List (List Record)} r (λ ins. Ok (t.records ∷ ins)) ≡ Ok ins → AreCaptures (Some l ∷ files) ins
           by (Err fault) same e = absurd (cc)
           by (Ok rest) same e = subst (AreCaptures (Some l ∷ files)) (list_is e) (capture_taken port budget l t is, later t rest same)

@@ -1,41 +1,29 @@
 -- What a bridge leaves in its outputs, by how it ends.
-use Rattle.std.specs.Prelude.{◌≡◌, ℕ, ◌⊎◌, true, false, IsTrue, List, [], ◌∷◌, length, map, Some, Result, Ok, Err, IsErrOf}
-use Rattle.fab_base.specs.Seen.{Seen, Rose, SameFiles, SameReadFaults, SameWriteFaults, Touches}
+use Rattle.std.specs.Prelude.{◌≡◌, ℕ, ◌⊎◌, true, false, IsTrue, List, [], ◌∷◌, length, map, Some, Result, Ok, Err}
+use Rattle.fab_base.specs.Seen.{Seen, SameFiles, SameReadFaults, Touches}
 use Rattle.fab_config.specs.Settings.{Settings}
 use Rattle.fab_policy.specs.Written.{IsPrefixOf}
 use Rattle.pcap_file.specs.declared.Budget.{Budget}
 use Rattle.pcap_file.specs.declared.Record.{Record}
-use Rattle.fab_gather.specs.Port.{TellsReads}
+use Rattle.fab_gather.specs.declared.fault.GatherFault.{GatherFault}
+use Rattle.fab_gather.specs.declared.fault.GatherFault.TheVariants as gather
 use Rattle.fab_gather.specs.declared.fault.LimitKind.TheVariants as limit
-use Rattle.fab_gather.specs.declared.fault.RunFault.{RunFault}
-use Rattle.fab_gather.specs.declared.fault.RunFault.TheVariants as faults
 use Rattle.fab_captures.specs.Captures.{captures_by}
 use Rattle.fip_snoop.specs.Bridge.{Arrival, arrivals, is_too_long, history, passed, dropped}
 use Rattle.fip_snoop.specs.Messages.{forwarder_of}
+use Rattle.run_files.specs.Faults.{TellsReads, TellsWrites}
+use Rattle.run_files.specs.Names.{Among, AnyRose}
+use Rattle.run_files.specs.declared.fault.RunFault.{RunFault}
+use Rattle.run_files.specs.declared.fault.RunFault.TheVariants as faults
 use Rattle.snoop_run.specs.Crossing.{crossing, captures}
 use Rattle.snoop_run.specs.Laws.{AreCaptures}
 use Rattle.snoop_run.specs.declared.run.Crossed.{Crossed}
 
 -- ---- names
 
--- one of these names
-abbrev pub Among : List (List ℕ) → List ℕ → Type 0
-Among [] m = ⊥
-Among (n ∷ names) m = (m ≡ n) ⊎ Among names m
-
 -- one of either
 abbrev pub AmongBoth : List (List ℕ) → List (List ℕ) → List ℕ → Type 0
 AmongBoth ins outs m = Among ins m ⊎ Among outs m
-
--- the count of one of these names rose
-abbrev pub AnyRose : (List ℕ → ℕ) → (List ℕ → ℕ) → List (List ℕ) → Type 0
-AnyRose before now [] = ⊥
-AnyRose before now (n ∷ names) = Rose (before n) (now n) ⊎ AnyRose before now names
-
--- No count of faults of writing has changed, unless the answer is such a fault: no other answer hides one. `TellsReads` says so of
--- faults of reading.
-abbrev pub TellsWrites : {T : Type 0} → Seen → Seen → Result T RunFault → Type 0
-TellsWrites old new result = ¬ IsErrOf result faults.Write → SameWriteFaults old new
 
 -- ---- files
 
@@ -68,7 +56,7 @@ pub record HasFronts (ins outs : List (List ℕ)) (budget : Budget) (c : Setting
   pub outputs : AreOldOrFront old new outs (captures c (length outs) came)
 
 -- the inputs aren't taken, for this reason
-abbrev pub HasStop : List (List ℕ) → Budget → Seen → RunFault → Type 0
+abbrev pub HasStop : List (List ℕ) → Budget → Seen → GatherFault → Type 0
 HasStop ins budget old fault = crossing budget (map (λ n. old.file n) ins) ≡ Err fault
 
 -- ---- how it ends
@@ -76,8 +64,8 @@ HasStop ins budget old fault = crossing budget (map (λ n. old.file n) ins) ≡ 
 -- What holds where a bridge over these inputs and outputs ends so. What is said of bytes needs a depot that tells them.
 abbrev pub Ends : List (List ℕ) → List (List ℕ) → Budget → Settings → Seen → Seen → Result Crossed RunFault → Type 0
 Ends ins outs budget c old new (Ok done) = IsTrue old.told → HasBridged ins outs budget c old new done
-Ends ins outs budget c old new (Err (faults.Capture port at why)) = SameFiles old new × (IsTrue old.told → HasStop ins budget old (faults.Capture port at why))
-Ends ins outs budget c old new (Err (faults.Limit kind)) = SameFiles old new × (IsTrue old.told → HasStop ins budget old (faults.Limit kind))
+Ends ins outs budget c old new (Err (faults.Capture port at why)) = SameFiles old new × (IsTrue old.told → HasStop ins budget old (gather.Capture port at why))
+Ends ins outs budget c old new (Err (faults.Limit kind)) = SameFiles old new × (IsTrue old.told → HasStop ins budget old (gather.Limit kind))
 Ends ins outs budget c old new (Err faults.Read) = SameFiles old new × AnyRose old.read_faults new.read_faults ins
 Ends ins outs budget c old new (Err faults.Write) = AnyRose old.write_faults new.write_faults outs × (IsTrue old.told → HasFronts ins outs budget c old new)
 Ends ins outs budget c old new (Err faults.Memory) = IsTrue old.told → SameFiles old new ⊎ HasFronts ins outs budget c old new

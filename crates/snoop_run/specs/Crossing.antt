@@ -4,19 +4,19 @@ use Rattle.fab_config.specs.Settings.{Settings}
 use Rattle.fab_policy.specs.Logins.{counting}
 use Rattle.pcap_file.specs.declared.Budget.{Budget}
 use Rattle.fab_gather.specs.declared.fault.LimitKind.TheVariants as limit
-use Rattle.fab_gather.specs.declared.fault.RunFault.{RunFault}
-use Rattle.fab_gather.specs.declared.fault.RunFault.TheVariants as faults
+use Rattle.fab_gather.specs.declared.fault.GatherFault.{GatherFault}
+use Rattle.fab_gather.specs.declared.fault.GatherFault.TheVariants as gather
 use Rattle.fab_captures.specs.Captures.{unless_stopped, captures_by}
 use Rattle.fip_snoop.specs.Bridge.{Arrival, arrivals, is_too_long, capture}
 use Rattle.fip_snoop.specs.Messages.{forwarder_of}
 
 -- the frames, unless it takes too long from the first to the last
-abbrev pub unless_too_long : List Arrival → Result (List Arrival) RunFault
-unless_too_long came = if is_too_long came then Err (faults.Limit limit.Span) else Ok came
+abbrev pub unless_too_long : List Arrival → Result (List Arrival) GatherFault
+unless_too_long came = if is_too_long came then Err (gather.Limit limit.Span) else Ok came
 
 -- What the files of the ports are to a bridge: the frames of all captures in the order in which they are handled, or why they
 -- aren't. Captures are read whole, port by port, off one budget; the span of moments is tested last.
-abbrev pub crossing : Budget → List (Option (List ℕ)) → Result (List Arrival) RunFault
+abbrev pub crossing : Budget → List (Option (List ℕ)) → Result (List Arrival) GatherFault
 crossing budget files = unless_stopped (captures_by 1 budget files) (λ ins. unless_too_long (arrivals ins))
 
 -- The captures of the ports of a bridge when these frames were handled, in port order.

@@ -2,7 +2,6 @@ pub mod Sides
 pub mod Records
 pub mod Crossing
 pub mod Bridged
-pub mod Files
 pub mod Opening
 pub mod State
 pub mod Laws

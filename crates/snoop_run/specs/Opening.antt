@@ -1,36 +1,36 @@
 -- What reading the inputs and opening the outputs does.
-use Rattle.std.specs.Prelude.{◌≡◌, ◌≢◌, ℕ, ◌+◌, ◌≤◌, ◌⊎◌, IsTrue, List, [], ◌∷◌, ◌++◌, length, map, Option, Some, Result, Ok, Err, IfOk, IfErr, OnOk, OnErr, IsErrOf, Vec}
+use Rattle.std.specs.Prelude.{◌≡◌, ℕ, ◌+◌, ◌≤◌, IsTrue, List, [], ◌∷◌, ◌++◌, length, map, Option, Result, Ok, Err, IfOk, IfErr, OnOk, OnErr, IsErrOf, Vec}
 use Rattle.std.specs.declared.alloc.Global.{Global}
 use Rattle.arrayvec.specs.ArrayVec.{ArrayVec}
-use Rattle.fab_base.specs.Seen.{Seen, Reads, Rose, SameReadFaults, SameWriteFaults, Touches, Nothing}
+use Rattle.fab_base.specs.Seen.{Seen, Reads, Rose, SameWriteFaults, Touches, Nothing}
 use Rattle.fab_base.specs.declared.values.Failed.{Failed}
 use Rattle.pcap_file.specs.declared.Budget.{Budget}
 use Rattle.pcap_file.specs.declared.Record.{Record}
 use Rattle.pcap_file.specs.Records.{Ascends}
 use Rattle.fab_gather.specs.Port.{IsStopped, TellsReads}
-use Rattle.fab_gather.specs.declared.fault.RunFault.{RunFault}
-use Rattle.fab_gather.specs.declared.fault.RunFault.TheVariants as faults
+use Rattle.fab_gather.specs.declared.fault.GatherFault.{GatherFault}
+use Rattle.fab_gather.specs.declared.fault.GatherFault.TheVariants as gather
 use Rattle.fab_captures.specs.Captures.{AreFit, unless_stopped, captures_by}
 use Rattle.fip_snoop.specs.Queue.{AllAscend}
-use Rattle.snoop_run.specs.Bridged.{Among, AnyRose}
+use Rattle.run_files.specs.Names.{Among, AnyRose}
+use Rattle.run_files.specs.Opening.{AreEmptyOutputs, Opens}
 use Rattle.snoop_run.specs.Records.{AllFit, count_in}
 
 -- ---- inputs
 
 -- these records in front of those of later ports
-abbrev pub in_front : List (List Record) → Result (List (List Record)) RunFault → Result (List (List Record)) RunFault
+abbrev pub in_front : List (List Record) → Result (List (List Record)) GatherFault → Result (List (List Record)) GatherFault
 in_front ins later = unless_stopped later (λ rest. Ok (ins ++ rest))
 
 -- Reading the capture of a port under this name: it is taken off the budget, or stops the reading of all, whatever files come
 -- behind it.
-pub record ReadsInput (port : ℕ) (name : List ℕ) (a b : Seen) (had left : Budget) (result : Result (List Record) RunFault) : Type 0 where
+pub record ReadsInput (port : ℕ) (name : List ℕ) (a b : Seen) (had left : Budget) (result : Result (List Record) GatherFault) : Type 0 where
   pub reads : Reads name a b
   pub fit : IfOk result (λ records. AreFit records × Ascends 0 records)
   pub frames : IfOk result (λ records. left.frames + length records ≡ had.frames)
   pub taken : IsTrue a.told → (later : List (Option (List ℕ))) → IfOk result (λ records. captures_by port had (a.file name ∷ later) ≡ in_front (records ∷ []) (captures_by (port + 1) left later))
   pub stops : IsTrue a.told → (later : List (Option (List ℕ))) → IfErr result (λ e. IsStopped e → captures_by port had (a.file name ∷ later) ≡ Err e)
-  pub cause : IsErrOf result faults.Read → Rose (a.read_faults name) (b.read_faults name)
-  pub only : IfErr result (λ e. e ≢ faults.Write)
+  pub cause : IsErrOf result gather.Read → Rose (a.read_faults name) (b.read_faults name)
   pub counts : TellsReads a b result
 
 -- what the captures of all ports have, told or not
@@ -41,30 +41,20 @@ pub record AreRead (names : List (List ℕ)) (budget : Budget) (ins : List (List
   pub frames : count_in ins ≤ budget.frames
 
 -- Reading the captures under these names, in port order: they are as `captures_by` says of the files.
-pub record ReadsInputs (names : List (List ℕ)) (a b : Seen) (budget : Budget) (result : Result (Vec (List Record) Global) RunFault) : Type 0 where
+pub record ReadsInputs (names : List (List ℕ)) (a b : Seen) (budget : Budget) (result : Result (Vec (List Record) Global) GatherFault) : Type 0 where
   pub touches : Touches Nothing (Among names) a b
   pub are : IfOk result (λ v. AreRead names budget v.items)
   pub taken : IsTrue a.told → IfOk result (λ v. captures_by 1 budget (map (λ n. a.file n) names) ≡ Ok v.items)
   pub stops : IsTrue a.told → IfErr result (λ e. IsStopped e → captures_by 1 budget (map (λ n. a.file n) names) ≡ Err e)
-  pub cause : IfErr result (λ e. e ≡ faults.Read → AnyRose a.read_faults b.read_faults names)
-  pub only : IfErr result (λ e. e ≢ faults.Write)
+  pub cause : IfErr result (λ e. e ≡ gather.Read → AnyRose a.read_faults b.read_faults names)
   pub counts : TellsReads a b result
   pub writes : SameWriteFaults a b
 
 -- ---- outputs
 
--- slots that are open outputs of these names, whose files are empty
-abbrev pub AreEmptyOutputs : Seen → List (List ℕ) → List ℕ → Type 0
-AreEmptyOutputs d [] [] = Unit {0}
-AreEmptyOutputs d [] (s ∷ slots) = ⊥
-AreEmptyOutputs d (name ∷ names) [] = ⊥
-AreEmptyOutputs d (name ∷ names) (s ∷ slots) = (IsTrue (d.output s) × (d.name s ≡ name) × (IsTrue d.told → d.file name ≡ Some [])) × AreEmptyOutputs d names slots
-
 -- Outputs were opened: each file is as it was, or empty.
 pub record OpensOutputs (names : List (List ℕ)) (a b : Seen) (result : Result (ArrayVec ℕ) Failed) : Type 0 where
-  pub touches : Touches (Among names) (Among names) a b
-  pub each : IsTrue a.told → (m : List ℕ) → (b.file m ≡ a.file m) ⊎ (b.file m ≡ Some [])
+  pub opens : Opens names a b
   pub slots : IfOk result (λ slots. AreEmptyOutputs b names slots.items)
   pub cause : OnErr result (AnyRose a.write_faults b.write_faults names)
   pub counts : OnOk result (SameWriteFaults a b)
-  pub reads : SameReadFaults a b

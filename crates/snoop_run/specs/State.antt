@@ -6,15 +6,16 @@ use Rattle.fab_policy.specs.Written.{IsPrefixOf}
 use Rattle.pcap_file.specs.Capture.{head_bytes}
 use Rattle.pcap_file.specs.declared.Record.{Record}
 use Rattle.fab_gather.specs.Ports.{name_of, NameIn}
-use Rattle.fab_gather.specs.declared.fault.RunFault.{RunFault}
-use Rattle.fab_gather.specs.declared.fault.RunFault.TheVariants as faults
 use Rattle.fip_snoop.specs.Bridge.{Arrival, arrival, arrivals, handled, history, records_to, capture, passed, dropped}
 use Rattle.fip_snoop.specs.History.{History}
 use Rattle.fip_snoop.specs.Queue.{least, left_in}
 use Rattle.fip_snoop.specs.Snoop.{Remembers}
 use Rattle.fip_snoop.specs.declared.forwarder.Forwarder.{Forwarder}
-use Rattle.snoop_run.specs.Bridged.{TellsWrites}
-use Rattle.snoop_run.specs.Files.{items_in, piece_at, PutsEach}
+use Rattle.run_files.specs.Faults.{TellsWrites}
+use Rattle.run_files.specs.Outputs.{PutsEach}
+use Rattle.run_files.specs.Pages.{items_in, piece_at}
+use Rattle.run_files.specs.declared.fault.RunFault.{RunFault}
+use Rattle.run_files.specs.declared.fault.RunFault.TheVariants as faults
 use Rattle.snoop_run.specs.declared.bridge.Bridge.{Bridge}
 use Rattle.snoop_run.specs.declared.run.Crossed.{Crossed}
 
@@ -46,7 +47,7 @@ pub record Stands (w : Forwarder) (ins : List (List Record)) (done : List Arriva
 abbrev pub Adds : Forwarder → History → Arrival → Bridge → Bridge → Type 0
 Adds w L a old new = (q : ℕ) → q < length old.pages.items → piece_at (items_in new.pages.items) q ≡ piece_at (items_in old.pages.items) q ++ records_to w (q + 1) L (a ∷ [])
 
--- What handling a record of a port does behind any history.
+-- What letting a record of a port pass does behind any history.
 pub record Passes (port : ℕ) (r : Record) (old new : Bridge) : Type 0 where
   pub places : new.places ≡ old.places
   pub count : length new.pages.items ≡ length old.pages.items
@@ -55,8 +56,8 @@ pub record Passes (port : ℕ) (r : Record) (old new : Bridge) : Type 0 where
   pub dropped_ : (w : Forwarder) (L : History) → Remembers w L old.snoop → new.dropped ≡ dropped (handled w L (arrival port r) ∷ []) + old.dropped
   pub adds : (w : Forwarder) (L : History) → Remembers w L old.snoop → Adds w L (arrival port r) old new
 
--- What handling the next frame does: it is the next of all, and each page has its record where its way leads there.
-pub record Handles (ins : List (List Record)) (old new : Bridge) : Type 0 where
+-- What letting the next frame pass does: it is the next of all, and each page has its record where its way leads there.
+pub record PassesNext (ins : List (List Record)) (old new : Bridge) : Type 0 where
   pub count : length new.pages.items ≡ length old.pages.items
   pub next : (w : Forwarder) (done : List Arrival) → Stands w ins done old → (a : Arrival) × Stands w ins (done ++ a ∷ []) new × Adds w (history w [] done) a old new
 

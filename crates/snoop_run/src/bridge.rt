@@ -1,19 +1,19 @@
 //! A bridge between captures and pages: which frames were handled, and what they left.
 ghost use Rattle.std.specs.Prelude.{◌≡◌, ℕ, ◌+◌, ◌-◌, ◌<◌, ◌≤◌, ◌^◌, ◌++◌, if◌then◌else◌, Some};
 ghost use Rattle.std.specs.Prelude.{IfOk, OnOk, length, replicate, slice_index, slice_set};
-ghost use Rattle.pcap_file.specs.Capture.{head_bytes};
 ghost use Rattle.fip_snoop.specs.Bridge.{Arrival, arrival};
 ghost use Rattle.fip_snoop.specs.Bridge as bridging;
 ghost use Rattle.fip_snoop.specs.Messages.{forwarder_of};
 ghost use Rattle.fip_snoop.specs.Queue.{AllAscend, least, left_in};
-ghost use Rattle.snoop_run.specs.Files.{items_in, piece_at};
+ghost use Rattle.run_files.specs.Pages.{items_in, piece_at};
 ghost use Rattle.snoop_run.specs.Records.{AllFit, count_in};
-ghost use Rattle.snoop_run.specs.State.{Handles, IsNew, IsNext, Passes};
+ghost use Rattle.snoop_run.specs.State.{IsNew, IsNext, Passes, PassesNext};
 
 use fab_base::{NoMemory, OwnedList, PortNo};
 use fab_config::Config;
 use fip_snoop::{Snoop, Way, add_copy, is_dropped};
-use pcap_file::{Record, write_head};
+use pcap_file::Record;
+use run_files::head_records;
 use std::alloc::Global;
 
 /// The bytes of a page from which on it is written.
@@ -37,7 +37,7 @@ impl Bridge {
     {
         let snoop = Snoop::new(alloc, config)?;
         let places = zeros(alloc, ports)?;
-        let pages = head_pages(alloc, ports)?;
+        let pages = head_records(alloc, ports)?;
         Ok(Bridge {
             snoop,
             places,
@@ -47,9 +47,9 @@ impl Bridge {
         })
     }
 
-    /// Handles the next frame, which stands in the capture at a place. Where memory is refused some
-    /// pages may have it, and others not.
-    pub(crate) fn handle(
+    /// Lets the next frame pass, which stands in the capture at a place. Where memory is refused
+    /// some pages may have it, and others not.
+    pub(crate) fn pass_next(
         &mut self,
         alloc: Global,
         ins: &[OwnedList<Record>],
@@ -61,7 +61,7 @@ impl Bridge {
         requires frames { count_in ins.now < 2 ^ 64 }
         requires room { self.old.passed + self.old.dropped < 2 ^ 64 - 1 }
         requires next { IsNext place ins.now self.old.places.items }
-        ensures handles { OnOk result (Handles ins.now self.old self.new) }
+        ensures passes { OnOk result (PassesNext ins.now self.old self.new) }
     {
         let found = next_record(ins, &self.places, place);
         self.pass(alloc, PortNo::at(place), found)?;
@@ -69,7 +69,7 @@ impl Bridge {
         Ok(())
     }
 
-    // Handles a record of a port.
+    // Lets a record of a port pass.
     fn pass(&mut self, alloc: Global, port: PortNo, found: &Record) -> Result<(), NoMemory>
         requires moment { found.now.moment < 2 ^ 53 }
         requires bytes { length found.now.caught.bytes ≤ 65535 }
@@ -140,19 +140,6 @@ fn zeros(alloc: Global, count: usize) -> Result<Vec<usize>, NoMemory>
         places.push(0)?;
     }
     Ok(places)
-}
-
-// A page for each of so many ports, with the head of a capture.
-fn head_pages(alloc: Global, ports: usize) -> Result<Vec<Vec<u8>>, NoMemory>
-    ensures { IfOk result (λ v. items_in v.items ≡ replicate ports head_bytes) }
-{
-    let mut pages = Vec::new(alloc);
-    for _ in 0..ports {
-        let mut page = Vec::new(alloc);
-        write_head(alloc, &mut page)?;
-        pages.push(page)?;
-    }
-    Ok(pages)
 }
 
 // Appends a record of a frame to the page of each port to which its way leads.

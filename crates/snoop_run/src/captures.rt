@@ -6,7 +6,7 @@ ghost use Rattle.snoop_run.specs.Sides.{AreKnown, ins_of};
 use crate::sides::{input_at, side_count};
 use fab_base::{Depot, OwnedList, PortNo};
 use fab_captures::read_capture;
-use fab_gather::RunFault;
+use fab_gather::GatherFault;
 use pcap_file::{Budget, Record};
 use std::alloc::Global;
 
@@ -16,7 +16,7 @@ pub(crate) fn read_captures<D: Depot>(
     depot: &mut D,
     sides: &[String],
     budget: &mut Budget,
-) -> Result<Vec<OwnedList<Record>>, RunFault>
+) -> Result<Vec<OwnedList<Record>>, GatherFault>
     requires few { length sides.now ≤ 128 }
     requires known { AreKnown (D.seen depot.old) sides.now }
     ensures reads { ReadsInputs (ins_of sides.now) (D.seen depot.old) (D.seen depot.new)
@@ -31,7 +31,7 @@ pub(crate) fn read_captures<D: Depot>(
         };
         match ins.push(records) {
             Ok(()) => {}
-            Err(_) => return Err(RunFault::Memory),
+            Err(_) => return Err(GatherFault::Memory),
         }
     }
     Ok(ins)
@@ -43,13 +43,13 @@ fn read_input<D: Depot>(
     port: PortNo,
     name: &str,
     budget: &mut Budget,
-) -> Result<OwnedList<Record>, RunFault>
+) -> Result<OwnedList<Record>, GatherFault>
     requires known { IsTrue ((D.seen depot.old).knows name.now) }
     ensures reads { ReadsInput port name.now (D.seen depot.old) (D.seen depot.new) budget.old
         budget.new result }
 {
     match depot.open_in(name) {
         Ok(slot) => read_capture(alloc, depot, port, slot, budget),
-        Err(_) => Err(RunFault::Read),
+        Err(_) => Err(GatherFault::Read),
     }
 }

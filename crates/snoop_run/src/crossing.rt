@@ -3,7 +3,7 @@ ghost use Rattle.std.specs.Prelude.{◌≡◌, ℕ, ◌<◌, ◌≤◌, ◌^◌,
 ghost use Rattle.fab_gather.specs.Ports.{name_of};
 ghost use Rattle.fip_snoop.specs.Queue.{AllAscend};
 ghost use Rattle.pcap_file.specs.Capture.{head_bytes};
-ghost use Rattle.snoop_run.specs.Files.{AreOutputs};
+ghost use Rattle.run_files.specs.Outputs.{AreOutputs};
 ghost use Rattle.snoop_run.specs.Records.{AllFit, count_in};
 ghost use Rattle.snoop_run.specs.State.{Crosses, IsNew, Writes};
 
@@ -11,9 +11,9 @@ use crate::Crossed;
 use crate::bridge::Bridge;
 use crate::files::flush;
 use fab_base::{Depot, Failed, OwnedList};
-use fab_gather::RunFault;
 use fip_snoop::first_port;
 use pcap_file::Record;
+use run_files::RunFault;
 use std::alloc::Global;
 
 /// Handles all frames by moment, then port, then place, and writes what goes to each output.
@@ -37,7 +37,7 @@ pub(crate) fn cross<D: Depot>(
         (D.seen depot.new) result }
 {
     while let Some(head) = first_port(ins, &bridge.places) {
-        match bridge.handle(alloc, ins, head.port - 1) {
+        match bridge.pass_next(alloc, ins, head.port - 1) {
             Ok(()) => {}
             Err(_) => return Err(RunFault::Memory),
         }

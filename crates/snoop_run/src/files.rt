@@ -1,8 +1,10 @@
 //! The outputs, which grow by what the pages hold.
 ghost use Rattle.std.specs.Prelude.{◌≡◌, ℕ, [], length, OnOk};
-ghost use Rattle.snoop_run.specs.Files.{AreOutputs, PutsEach, items_in, piece_at};
+ghost use Rattle.run_files.specs.Outputs.{AreOutputs, PutsEach};
+ghost use Rattle.run_files.specs.Pages.{items_in, piece_at};
 
-use fab_base::{Depot, Failed, put_all};
+use fab_base::{Depot, Failed};
+use run_files::{clear_all, put_each};
 
 /// Appends each page to the file of its output, in port order, and empties it.
 pub(crate) fn flush<D: Depot>(
@@ -23,31 +25,5 @@ pub(crate) fn flush<D: Depot>(
             Ok(())
         }
         Err(failed) => Err(failed),
-    }
-}
-
-// Appends a piece to the file of each of these outputs, in their order.
-fn put_each<D: Depot>(depot: &mut D, slots: &[u32], pieces: &[Vec<u8>]) -> Result<(), Failed>
-    requires count { length slots.now ≡ length pieces.now }
-    requires outputs { AreOutputs (D.seen depot.old) slots.now }
-    ensures puts { PutsEach slots.now (items_in pieces.now) (D.seen depot.old) (D.seen depot.new)
-        result }
-{
-    for port in 0..slots.len() {
-        match put_all(depot, slots[port], &pieces[port]) {
-            Ok(()) => {}
-            Err(failed) => return Err(failed),
-        }
-    }
-    Ok(())
-}
-
-// Empties each page, whose room is used again.
-fn clear_all(pages: &mut [Vec<u8>])
-    ensures nothing { (q : ℕ) → piece_at (items_in pages.new) q ≡ [] }
-    ensures count { length pages.new ≡ length pages.old }
-{
-    for page in pages.iter_mut() {
-        page.clear();
     }
 }

@@ -1,11 +1,12 @@
 //! The outputs, as they are opened.
-ghost use Rattle.std.specs.Prelude.{◌≡◌, ◌<◌, ◌≤◌, ◌++◌, ◌∷◌, [], length};
+ghost use Rattle.std.specs.Prelude.{◌≤◌, length};
 ghost use Rattle.snoop_run.specs.Opening.{OpensOutputs};
 ghost use Rattle.snoop_run.specs.Sides.{AreDifferent, AreKnown, outs_of};
 
 use crate::sides::{MOST_PORTS, output_at, side_count};
 use arrayvec::ArrayVec;
 use fab_base::{Depot, Failed};
+use run_files::add_slot;
 
 /// Opens the outputs of all ports, in port order; they are empty then. It takes no memory, so that
 /// none is emptied where memory is refused.
@@ -21,17 +22,9 @@ pub(crate) fn open_outputs<D: Depot>(
     let mut outs = ArrayVec::new();
     for port in 0..side_count(sides) {
         match depot.open_out(output_at(sides, port)) {
-            Ok(slot) => keep(&mut outs, slot),
+            Ok(slot) => add_slot(&mut outs, slot),
             Err(failed) => return Err(failed),
         }
     }
     Ok(outs)
-}
-
-// One slot more, of at most 64.
-fn keep(outs: &mut ArrayVec<u32, MOST_PORTS>, slot: u32)
-    requires { length outs.old.items < 64 }
-    ensures { outs.new.items ≡ outs.old.items ++ slot ∷ [] }
-{
-    outs.push(slot);
 }

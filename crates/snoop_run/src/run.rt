@@ -13,8 +13,9 @@ use crate::outputs::open_outputs;
 use crate::span::is_too_long;
 use fab_base::{Depot, OwnedList};
 use fab_config::Config;
-use fab_gather::{LimitKind, RunFault};
+use fab_gather::LimitKind;
 use pcap_file::{Budget, Record};
+use run_files::RunFault;
 use std::alloc::Global;
 
 /// How many frames passed, and how many were dropped. A frame to all ENodes counts once.
@@ -48,10 +49,7 @@ pub fn run_bridge<D: Depot>(
     // Law: what is taken of files are whole captures; the clause bridges says it of the inputs.
     what_is_taken_are_captures();
     let mut left = budget;
-    let ins = match read_captures(alloc, depot, sides, &mut left) {
-        Ok(ins) => ins,
-        Err(fault) => return Err(fault),
-    };
+    let ins = read_captures(alloc, depot, sides, &mut left)?;
     run_over(alloc, depot, config, sides, ins.as_slice())
 }
 

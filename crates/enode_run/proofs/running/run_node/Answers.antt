@@ -2,9 +2,9 @@ use Rattle.enode_run.proofs.FileLemmas.{played, unwritten_run}
 use Rattle.enode_run.proofs.running.run_node.Goals as goal
 
 pub returns-in-Ok-write_file-clause-plays : goal.returns-in-Ok-write_file-clause-plays
-returns-in-Ok-write_file-clause-plays g c = played c.args.own c.args.start c.args.from.now c.args.to.now c.args.budget _ _ c.in-Ok.records c.in-Ok.ensures.reads c.in-Ok-play.course.node.state c.in-Ok-play.course.capture.items c.deref.result.now
-    c.in-Ok-play.ensures.run c.deref.ensures.value _ c.in-Ok-write_file.ensures.writes c.last_phase.result c.last_phase.ensures c.know.ensures c.runs_are_one.ensures.granted
+returns-in-Ok-write_file-clause-plays g c = played c.args.own c.args.start c.args.from.now c.args.to.now c.args.budget _ _ c.in_ok-records.records c.in_ok-records.ensures.reads c.in-Ok.course.node.state c.in-Ok.course.capture.items c.deref.result.now
+    c.in-Ok.ensures.run c.deref.ensures.value _ c.in-Ok-write_file.ensures.writes c.last_phase.result c.last_phase.ensures c.know.ensures c.runs_are_one.ensures.granted
 
 pub returns-clause-plays : goal.returns-clause-plays
-returns-clause-plays g c = unwritten_run c.args.own c.args.start c.args.from.now c.args.to.now c.args.budget _ _ c.in-Ok.records c.in-Ok.ensures.reads c.in-Ok-play.course.node.state c.in-Ok-play.course.capture.items c.deref.result.now
-    c.in-Ok-play.ensures.run c.deref.ensures.value _ _ c.in-Err-write_file.ensures.writes
+returns-clause-plays g c = unwritten_run c.args.own c.args.start c.args.from.now c.args.to.now c.args.budget _ _ c.in_ok-records.records c.in_ok-records.ensures.reads c.in-Ok.course.node.state c.in-Ok.course.capture.items c.deref.result.now
+    c.in-Ok.ensures.run c.deref.ensures.value _ _ c.in-Err-write_file.ensures.writes

@@ -1,6 +1,6 @@
 use Rattle.std.proofs.Common.{◌+◌, sym, subst, arith}
 use Rattle.fabric_tool.proofs.MakeLemmas.{file_names, file_more, file_failed, files_count, files_opened}
-use Rattle.fabric_tool.proofs.OpenLemmas.{OpenedSoFar, opened_none}
+use Rattle.run_files.proofs.OpenLemmas.{OpenedSoFar, opened_none}
 use Rattle.fabric_tool.proofs.PortLoops.{out_as}
 use Rattle.fabric_tool.proofs.making.open_files.Goals as goal
 
@@ -9,8 +9,8 @@ loop-place-init g c =
     let a = g.D.Depot.seen c.args.depot.now in
     subst (λ l. OpenedSoFar (file_names c.args.words.now 0) a a l) (sym c.new-slots.ensures) (opened_none a)
 
-pub keep-requires : goal.keep-requires
-keep-requires g c =
+pub add_slot-requires : goal.add_slot-requires
+add_slot-requires g c =
     let seen = g.D.Depot.seen in
     let count = files_count c.args.words.now c.loop-place.place (seen c.args.depot.now) (seen c.loop-place.depot) c.loop-place.slots.items c.loop-place.invariant in
     let t = c.loop-place-test.true in
@@ -19,7 +19,7 @@ keep-requires g c =
 pub loop-place-preserved : goal.loop-place-preserved
 loop-place-preserved g c =
     let seen = g.D.Depot.seen in
-    subst (λ l. OpenedSoFar (file_names c.args.words.now (c.loop-place.place + 1)) (seen c.args.depot.now) (seen c.open_out.new.self) l) (sym c.keep.ensures)
+    subst (λ l. OpenedSoFar (file_names c.args.words.now (c.loop-place.place + 1)) (seen c.args.depot.now) (seen c.open_out.new.self) l) (sym c.add_slot.ensures)
     (file_more c.args.words.now c.requires.make c.loop-place.place c.loop-place-test.true (seen c.args.depot.now) (seen c.loop-place.depot) (seen c.open_out.new.self) c.loop-place.slots.items c.loop-place.invariant
     c.in-Ok.slot (out_as c.file_at.ensures c.in-Ok.ensures.opens))
 

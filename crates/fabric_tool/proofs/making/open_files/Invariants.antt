@@ -1,5 +1,5 @@
 use Rattle.fabric_tool.proofs.MakeLemmas.{file_names}
-use Rattle.fabric_tool.proofs.OpenLemmas.{OpenedSoFar}
+use Rattle.run_files.proofs.OpenLemmas.{OpenedSoFar}
 use Rattle.fabric_tool.proofs.making.open_files.Given as goal
 
 abbrev pub invariant-loop-place : goal.invariant-loop-place

@@ -1,6 +1,6 @@
 use Rattle.std.proofs.Common.{◌+◌, ◌<◌, ◌∷◌, ◌≡◌, sym, subst, arith}
 use Rattle.fabric_tool.specs.Command.{port_count}
-use Rattle.fabric_tool.proofs.OpenLemmas.{OpenedSoFar}
+use Rattle.run_files.proofs.OpenLemmas.{OpenedSoFar}
 use Rattle.fabric_tool.proofs.PortLoops.{output_names, out_as, journal_opened, journal_failed, output_more, output_failed, opened_count}
 use Rattle.fabric_tool.proofs.outputs.open_outputs.Goals as goal
 
@@ -15,8 +15,8 @@ loop-port-init g c =
     subst (λ l. OpenedSoFar (output_names c.args.words.now 0) (seen c.args.depot.now) (seen c.open_out.new.self) (c.in-Ok.slot ∷ l)) (sym c.new-outs.ensures)
     (journal_opened c.args.words.now (seen c.args.depot.now) (seen c.open_out.new.self) c.in-Ok.slot (out_as c.word_at.ensures c.in-Ok.ensures.opens))
 
-pub keep-requires : goal.keep-requires
-keep-requires g c =
+pub add_slot-requires : goal.add_slot-requires
+add_slot-requires g c =
     let seen = g.D.Depot.seen in
     let count = opened_count c.args.words.now c.loop-port.port (seen c.args.depot.now) (seen c.loop-port.depot) c.in-Ok.slot c.loop-port.outs.items c.loop-port.invariant in
     let t = c.loop-port-test.true in
@@ -27,7 +27,7 @@ pub loop-port-preserved : goal.loop-port-preserved
 loop-port-preserved g c =
     let seen = g.D.Depot.seen in
     let lt : c.loop-port.port < port_count c.args.words.now = let t = c.loop-port-test.true in let v = c.port_count-port-end.ensures.value in omega arith in
-    subst (λ l. OpenedSoFar (output_names c.args.words.now (c.loop-port.port + 1)) (seen c.args.depot.now) (seen c.open_out-in-loop-port.new.self) (c.in-Ok.slot ∷ l)) (sym c.keep.ensures)
+    subst (λ l. OpenedSoFar (output_names c.args.words.now (c.loop-port.port + 1)) (seen c.args.depot.now) (seen c.open_out-in-loop-port.new.self) (c.in-Ok.slot ∷ l)) (sym c.add_slot.ensures)
     (output_more c.args.words.now c.requires.run c.loop-port.port lt (seen c.args.depot.now) (seen c.loop-port.depot) (seen c.open_out-in-loop-port.new.self) (c.in-Ok.slot ∷ c.loop-port.outs.items) c.loop-port.invariant
     c.in-Ok-open_out.slot (out_as c.output_at.ensures c.in-Ok-open_out.ensures.opens))
 

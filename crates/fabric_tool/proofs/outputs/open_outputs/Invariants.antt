@@ -1,5 +1,5 @@
 use Rattle.std.proofs.Common.{◌∷◌}
-use Rattle.fabric_tool.proofs.OpenLemmas.{OpenedSoFar}
+use Rattle.run_files.proofs.OpenLemmas.{OpenedSoFar}
 use Rattle.fabric_tool.proofs.PortLoops.{output_names}
 use Rattle.fabric_tool.proofs.outputs.open_outputs.Given as goal
 

@@ -8,4 +8,4 @@ pub returns-in-Ok-read_whole : goal.returns-in-Ok-read_whole
 returns-in-Ok-read_whole g c = record { reads = journal_read c.args.name.now c.args.limit c.in-Ok.slot _ _ _ c.in-Ok.ensures.opens c.in-Ok-read_whole.journal c.in-Ok-read_whole.ensures.reads c.in-Ok-read_whole.ensures.within }
 
 pub returns-in-Err : goal.returns-in-Err
-returns-in-Err g c = record { reads = journal_unread c.args.name.now c.args.limit c.in-Ok.slot _ _ _ c.in-Ok.ensures.opens c.in-Err.error c.unread.result c.unread.ensures c.in-Err.ensures.reads }
+returns-in-Err g c = record { reads = journal_unread c.args.name.now c.args.limit c.in-Ok.slot _ _ _ c.in-Ok.ensures.opens c.in-Err.error c.outcome_of_error.result c.outcome_of_error.ensures c.in-Err.ensures.reads }

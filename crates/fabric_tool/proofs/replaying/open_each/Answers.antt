@@ -8,8 +8,8 @@ loop-port-init g c =
     let a = g.D.Depot.seen c.args.depot.now in
     subst (λ l. ReadSoFar (out_names c.args.words.now 0) a a l) (sym c.new-outs.ensures) (read_none a)
 
-pub keep-requires : goal.keep-requires
-keep-requires g c =
+pub add_slot-requires : goal.add_slot-requires
+add_slot-requires g c =
     let seen = g.D.Depot.seen in
     let count = outs_so_far c.args.words.now c.loop-port.port (seen c.args.depot.now) (seen c.loop-port.depot) c.loop-port.outs.items c.loop-port.invariant in
     let t = c.loop-port-test.true in
@@ -20,7 +20,7 @@ pub loop-port-preserved : goal.loop-port-preserved
 loop-port-preserved g c =
     let seen = g.D.Depot.seen in
     let lt : c.loop-port.port < port_count c.args.words.now = let t = c.loop-port-test.true in let v = c.port_count-port-end.ensures.value in omega arith in
-    subst (λ l. ReadSoFar (out_names c.args.words.now (c.loop-port.port + 1)) (seen c.args.depot.now) (seen c.open_in.new.self) l) (sym c.keep.ensures)
+    subst (λ l. ReadSoFar (out_names c.args.words.now (c.loop-port.port + 1)) (seen c.args.depot.now) (seen c.open_in.new.self) l) (sym c.add_slot.ensures)
     (out_more c.args.words.now c.requires.pairs c.loop-port.port lt (seen c.args.depot.now) (seen c.loop-port.depot) (seen c.open_in.new.self) c.loop-port.outs.items c.loop-port.invariant
     c.in-Ok.slot (in_as c.output_at.ensures c.in-Ok.ensures.opens))
 

@@ -2,7 +2,8 @@ use Rattle.std.proofs.Common.{sym, ◌∙◌, subst}
 use Rattle.fab_config.specs.Settings.{Settings}
 use Rattle.fabric_tool.specs.Command.{run_of}
 use Rattle.fabric_tool.specs.Inputs.{HasConfig}
-use Rattle.fabric_tool.proofs.RanLemmas.{config_as, config_touched, config_ended, room_in, heads_ended, inputs_touched, inputs_read, none_yet, no_fabric, new_as}
+use Rattle.fabric_tool.specs.declared.outcome.Outcome.TheVariants as ends
+use Rattle.fabric_tool.proofs.RanLemmas.{config_as, config_touched, config_ended, room_in, heads_ended, inputs_touched, inputs_read, none_yet, no_fabric, unprepared, new_as}
 use Rattle.fabric_tool.proofs.HeadLemmas.{not_unread}
 use Rattle.fabric_tool.proofs.running.prepare.Goals as goal
 
@@ -10,17 +11,11 @@ pub returns-in-Err : goal.returns-in-Err
 returns-in-Err g c =
     let seen = g.D.Depot.seen in
     let k = run_of c.args.words.now in
+    let old = seen c.args.depot.now in
+    let b = seen c.config_of.new.depot in
     let read = config_as c.word_at.ensures c.in-Err.ensures.reads in
     record {
-      prepares = record {
-        touches = config_touched k (seen c.args.depot.now) (seen c.config_of.new.depot) read;
-        fabric = tt;
-        config = λ told. tt;
-        heads = tt;
-        left = tt;
-        ended = config_ended k (seen c.args.depot.now) (seen c.config_of.new.depot) c.in-Err.outcome read;
-        counts = tt;
-      };
+      prepares = unprepared k old b c.in-Err.outcome (config_touched k old b read) (config_ended k old b c.in-Err.outcome read);
     }
 
 pub returns-in-Err-heads_of : goal.returns-in-Err-heads_of
@@ -33,15 +28,8 @@ returns-in-Err-heads_of g c =
     let read = config_as c.word_at.ensures c.in-Ok.ensures.reads in
     let heads = c.in-Err-heads_of.ensures.reads in
     record {
-      prepares = record {
-        touches = inputs_touched k c.in-Ok.config old b m read heads.touches;
-        fabric = tt;
-        config = λ told. tt;
-        heads = tt;
-        left = tt;
-        ended = heads_ended k c.in-Ok.config old b m read (room_in c.args.words.now c.requires.run) _ c.in-Err-heads_of.outcome heads;
-        counts = tt;
-      };
+      prepares = unprepared k old m c.in-Err-heads_of.outcome (inputs_touched k c.in-Ok.config old b m read heads.touches)
+          (heads_ended k c.in-Ok.config old b m read (room_in c.args.words.now c.requires.run) _ c.in-Err-heads_of.outcome heads);
     }
 
 pub returns-in-Ok-new : goal.returns-in-Ok-new
@@ -76,13 +64,6 @@ returns-in-Err-new g c =
     let read = config_as c.word_at.ensures c.in-Ok.ensures.reads in
     let heads = c.in-Ok-heads_of.ensures.reads in
     record {
-      prepares = record {
-        touches = inputs_touched k c.in-Ok.config old b m read heads.touches;
-        fabric = tt;
-        config = λ told. tt;
-        heads = tt;
-        left = tt;
-        ended = no_fabric k c.in-Ok.config old b m read heads.touches (heads.counts (not_unread c.in-Ok-heads_of.ins), heads.writes);
-        counts = tt;
-      };
+      prepares = unprepared k old m ends.Memory (inputs_touched k c.in-Ok.config old b m read heads.touches)
+          (no_fabric k c.in-Ok.config old b m read heads.touches (heads.counts (not_unread c.in-Ok-heads_of.ins), heads.writes));
     }

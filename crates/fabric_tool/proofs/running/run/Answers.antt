@@ -1,9 +1,10 @@
-use Rattle.std.proofs.Common.{IsTrue, refl, sym, ◌∙◌, subst}
+use Rattle.std.proofs.Common.{IsTrue, sym, ◌∙◌, subst}
 use Rattle.fab_base.specs.Places.{name_at}
 use Rattle.fabric_tool.specs.Command.{run_of, input_at, port_count}
 use Rattle.fabric_tool.specs.Ends.{RunHolds}
-use Rattle.fabric_tool.proofs.NameLemmas.{length-counted}
-use Rattle.fabric_tool.proofs.RanLemmas.{no_faults, not_opened, some_ports, same_count, one_a_port, given_as, runs_as, windows_ended}
+use Rattle.run_files.proofs.NameLemmas.{length-counted}
+use Rattle.run_files.proofs.FaultLemmas.{none_then}
+use Rattle.fabric_tool.proofs.RanLemmas.{not_opened, some_ports, same_count, one_a_port, given_as, runs_as, windows_ended}
 use Rattle.fabric_tool.proofs.running.run.Goals as goal
 
 pub open_outputs-requires-clause-known : goal.open_outputs-requires-clause-known
@@ -61,6 +62,6 @@ returns g c =
     record {
       holds = subst (RunHolds k old z) (sym c.ran.ensures)
           (windows_ended c.args.words.now c.requires.run c.in-Ok.ready.fabric.settings old m a z c.in-Ok.ready.ins.items c.in-Ok-open_outputs.outputs.journal c.in-Ok-open_outputs.outputs.outs.items c.in-Ok.ready.budget
-          p.fabric.range c.legal_is_safe.ensures p.config p.touches p.heads opens.opens opens.slots p.left.0 p.left.1 (no_faults old m a p.counts (opens.opens.reads, opens.counts))
-          c.run_windows.result (runs_as refl c.deref_mut.ensures.value c.as_slice.ensures.value c.run_windows.ensures.runs));
+          p.fabric.range c.legal_is_safe.ensures p.config p.touches p.heads opens.opens opens.slots p.left.0 p.left.1 (none_then old m a p.counts (opens.opens.reads, opens.counts))
+          c.run_windows.result (runs_as c.deref_mut.ensures.value c.as_slice.ensures.value c.run_windows.ensures.runs));
     }

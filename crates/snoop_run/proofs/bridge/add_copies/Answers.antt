@@ -3,7 +3,7 @@ use Rattle.std.specs.Prelude.{Vec}
 use Rattle.std.specs.declared.alloc.Global.{Global}
 use Rattle.std.proofs.Common.{ℕ}
 use Rattle.fip_snoop.specs.Bridge.{copy_of}
-use Rattle.snoop_run.specs.Files.{items_in}
+use Rattle.run_files.specs.Pages.{items_in}
 use Rattle.snoop_run.proofs.PageLemmas.{grown_next}
 use Rattle.snoop_run.proofs.bridge.add_copies.Goals as goal
 

@@ -1,6 +1,6 @@
 use Rattle.std.proofs.Common.{◌+◌}
 use Rattle.fip_snoop.specs.Bridge.{copy_of}
-use Rattle.snoop_run.specs.Files.{items_in}
+use Rattle.run_files.specs.Pages.{items_in}
 use Rattle.snoop_run.proofs.PageLemmas.{GrownTo}
 use Rattle.snoop_run.proofs.bridge.add_copies.Given as goal
 

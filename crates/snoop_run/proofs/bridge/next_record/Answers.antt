@@ -2,7 +2,7 @@ use Rattle.std.proofs.Common.{◌≡◌, ◌∙◌, ◌+◌, Some, None, length,
 use Rattle.std.specs.Option.{option_copied}
 use Rattle.std.proofs.lemmas.Option.{slice_get_read, slice_get-get_or}
 use Rattle.fip_snoop.specs.Bridge.{arrival}
-use Rattle.snoop_run.proofs.NextLemmas.{next_record, next_room, fit_at, all_fit_at, some_is}
+use Rattle.snoop_run.proofs.NextLemmas.{next_record, next_room, fit_there, some_is}
 use Rattle.snoop_run.proofs.bridge.next_record.Goals as goal
 
 pub unreachable-requires : goal.unreachable-requires
@@ -23,17 +23,15 @@ pub returns-clause-moment : goal.returns-clause-moment
 returns-clause-moment c =
     let ins = c.args.ins.now in
     let rs = c.index-ins-place.result in
-    let k = get_or c.args.places.now c.args.place 0 in
     let here = slice_get_read ins (length ins) c.args.place rs refl c.requires.next.within c.index-ins-place.is in
-    (fit_at rs k c.in-Some.found.now (all_fit_at ins c.args.place rs c.requires.fit here) (sym c.at.ensures ∙ ap option_copied c.in-Some.is)).0
+    (fit_there ins c.args.place rs _ c.in-Some.found.now c.requires.fit here (sym c.at.ensures ∙ ap option_copied c.in-Some.is)).0
 
 pub returns-clause-bytes : goal.returns-clause-bytes
 returns-clause-bytes c =
     let ins = c.args.ins.now in
     let rs = c.index-ins-place.result in
-    let k = get_or c.args.places.now c.args.place 0 in
     let here = slice_get_read ins (length ins) c.args.place rs refl c.requires.next.within c.index-ins-place.is in
-    (fit_at rs k c.in-Some.found.now (all_fit_at ins c.args.place rs c.requires.fit here) (sym c.at.ensures ∙ ap option_copied c.in-Some.is)).1
+    (fit_there ins c.args.place rs _ c.in-Some.found.now c.requires.fit here (sym c.at.ensures ∙ ap option_copied c.in-Some.is)).1
 
 pub returns-clause-room : goal.returns-clause-room
 returns-clause-room c =

@@ -13,16 +13,16 @@ overflow_sub-head g c =
     let b = c.loop-head.bridge in
     (next_is ins b.places.items c.in-Some.head c.loop-head.invariant.stands.count (sym c.in-Some.is ∙ c.first_port.ensures ∙ ap (λ l. option_map head_of (least 1 (left_in ins l))) c.deref.ensures.value)).1
 
-pub handle-requires-clause-room : goal.handle-requires-clause-room
-handle-requires-clause-room g c =
+pub pass_next-requires-clause-room : goal.pass_next-requires-clause-room
+pass_next-requires-clause-room g c =
     let seen = g.D.Depot.seen in
     let ins = c.args.ins.now in
     let b = c.loop-head.bridge in
     let n = next_is ins b.places.items c.in-Some.head c.loop-head.invariant.stands.count (sym c.in-Some.is ∙ c.first_port.ensures ∙ ap (λ l. option_map head_of (least 1 (left_in ins l))) c.deref.ensures.value) in
     room_for c.args.bridge.now.snoop.forwarder ins c.args.outs.now (seen c.args.depot.now) (seen c.loop-head.depot) b c.requires.outputs c.loop-head.invariant (c.in-Some.head.port - 1) n.0 c.requires.ascend c.requires.frames
 
-pub handle-requires-clause-next : goal.handle-requires-clause-next
-handle-requires-clause-next g c =
+pub pass_next-requires-clause-next : goal.pass_next-requires-clause-next
+pass_next-requires-clause-next g c =
     let ins = c.args.ins.now in
     let b = c.loop-head.bridge in
     (next_is ins b.places.items c.in-Some.head c.loop-head.invariant.stands.count (sym c.in-Some.is ∙ c.first_port.ensures ∙ ap (λ l. option_map head_of (least 1 (left_in ins l))) c.deref.ensures.value)).0
@@ -35,28 +35,28 @@ returns-in-Err g c =
 pub loop-head-preserved : goal.loop-head-preserved
 loop-head-preserved g c =
     let seen = g.D.Depot.seen in
-    crossing_more c.args.bridge.now.snoop.forwarder c.args.ins.now c.args.outs.now (seen c.args.depot.now) (seen c.loop-head.depot) c.loop-head.bridge c.requires.outputs c.loop-head.invariant c.handle.new.self c.in-Ok.ensures.handles
+    crossing_more c.args.bridge.now.snoop.forwarder c.args.ins.now c.args.outs.now (seen c.args.depot.now) (seen c.loop-head.depot) c.loop-head.bridge c.requires.outputs c.loop-head.invariant c.pass_next.new.self c.in-Ok.ensures.passes
 
 pub loop-head-smaller : goal.loop-head-smaller
 loop-head-smaller g c =
     let seen = g.D.Depot.seen in
-    fewer c.args.bridge.now.snoop.forwarder c.args.ins.now c.args.outs.now (seen c.args.depot.now) (seen c.loop-head.depot) c.loop-head.bridge c.requires.outputs c.loop-head.invariant c.handle.new.self c.in-Ok.ensures.handles
+    fewer c.args.bridge.now.snoop.forwarder c.args.ins.now c.args.outs.now (seen c.args.depot.now) (seen c.loop-head.depot) c.loop-head.bridge c.requires.outputs c.loop-head.invariant c.pass_next.new.self c.in-Ok.ensures.passes
 
 pub loop-head-preserved-in-Ok-write : goal.loop-head-preserved-in-Ok-write
 loop-head-preserved-in-Ok-write g c =
     let w = c.args.bridge.now.snoop.forwarder in
     let a = g.D.Depot.seen c.args.depot.now in
     let d = g.D.Depot.seen c.loop-head.depot in
-    let more = crossing_more w c.args.ins.now c.args.outs.now a d c.loop-head.bridge c.requires.outputs c.loop-head.invariant c.handle.new.self c.in-Ok.ensures.handles in
-    crossing_written w c.args.ins.now c.args.outs.now a d c.handle.new.self c.requires.outputs more (g.D.Depot.seen c.write.new.depot) c.write.new.bridge c.in-Ok-write.ensures
+    let more = crossing_more w c.args.ins.now c.args.outs.now a d c.loop-head.bridge c.requires.outputs c.loop-head.invariant c.pass_next.new.self c.in-Ok.ensures.passes in
+    crossing_written w c.args.ins.now c.args.outs.now a d c.pass_next.new.self c.requires.outputs more (g.D.Depot.seen c.write.new.depot) c.write.new.bridge c.in-Ok-write.ensures
 
 pub returns-in-Err-write : goal.returns-in-Err-write
 returns-in-Err-write g c =
     let w = c.args.bridge.now.snoop.forwarder in
     let a = g.D.Depot.seen c.args.depot.now in
     let d = g.D.Depot.seen c.loop-head.depot in
-    let more = crossing_more w c.args.ins.now c.args.outs.now a d c.loop-head.bridge c.requires.outputs c.loop-head.invariant c.handle.new.self c.in-Ok.ensures.handles in
-    record { crosses = crosses_failed w c.args.ins.now c.args.outs.now a d c.handle.new.self c.requires.outputs more (g.D.Depot.seen c.write.new.depot) c.write.new.bridge c.in-Err-write.field-0 c.in-Err-write.ensures }
+    let more = crossing_more w c.args.ins.now c.args.outs.now a d c.loop-head.bridge c.requires.outputs c.loop-head.invariant c.pass_next.new.self c.in-Ok.ensures.passes in
+    record { crosses = crosses_failed w c.args.ins.now c.args.outs.now a d c.pass_next.new.self c.requires.outputs more (g.D.Depot.seen c.write.new.depot) c.write.new.bridge c.in-Err-write.field-0 c.in-Err-write.ensures }
 
 pub returns-in-Ok-write-2 : goal.returns-in-Ok-write-2
 returns-in-Ok-write-2 g c =

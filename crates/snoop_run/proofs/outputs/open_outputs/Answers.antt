@@ -2,7 +2,7 @@ use Rattle.std.proofs.Common.{◌+◌, ◌<◌, [], sym, subst, arith}
 use Rattle.std.specs.Prelude.{map}
 use Rattle.fab_policy.specs.Logins.{counting}
 use Rattle.snoop_run.specs.Sides.{side_count, output_at}
-use Rattle.snoop_run.proofs.OpenLemmas.{OpenedSoFar, opened_none}
+use Rattle.run_files.proofs.OpenLemmas.{OpenedSoFar, opened_none}
 use Rattle.snoop_run.proofs.PortLoops.{out_as, output_more, output_failed, opened_count}
 use Rattle.snoop_run.proofs.outputs.open_outputs.Goals as goal
 
@@ -11,8 +11,8 @@ loop-port-init g c =
     let a = g.D.Depot.seen c.args.depot.now in
     subst (λ l. OpenedSoFar [] a a l) (sym c.new-outs.ensures) (opened_none a)
 
-pub keep-requires : goal.keep-requires
-keep-requires g c =
+pub add_slot-requires : goal.add_slot-requires
+add_slot-requires g c =
     let seen = g.D.Depot.seen in
     let lt : c.loop-port.port < side_count c.args.sides.now = omega (arith, c.loop-port-test.true, c.side_count-port-end.ensures.value) in
     let count = opened_count c.args.sides.now c.loop-port.port lt (seen c.args.depot.now) (seen c.loop-port.depot) (seen c.open_out.new.self) c.loop-port.outs.items c.loop-port.invariant in
@@ -22,7 +22,7 @@ pub loop-port-preserved : goal.loop-port-preserved
 loop-port-preserved g c =
     let seen = g.D.Depot.seen in
     let lt : c.loop-port.port < side_count c.args.sides.now = omega (arith, c.loop-port-test.true, c.side_count-port-end.ensures.value) in
-    subst (λ l. OpenedSoFar (map (output_at c.args.sides.now) (counting 0 (c.loop-port.port + 1))) (seen c.args.depot.now) (seen c.open_out.new.self) l) (sym c.keep.ensures)
+    subst (λ l. OpenedSoFar (map (output_at c.args.sides.now) (counting 0 (c.loop-port.port + 1))) (seen c.args.depot.now) (seen c.open_out.new.self) l) (sym c.add_slot.ensures)
     (output_more c.args.sides.now c.loop-port.port lt (seen c.args.depot.now) (seen c.loop-port.depot) (seen c.open_out.new.self) c.loop-port.outs.items c.loop-port.invariant
     c.in-Ok.slot c.requires.different (out_as c.output_at.ensures c.in-Ok.ensures.opens))
 

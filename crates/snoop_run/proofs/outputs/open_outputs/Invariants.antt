@@ -1,7 +1,7 @@
 use Rattle.std.specs.Prelude.{map}
 use Rattle.fab_policy.specs.Logins.{counting}
 use Rattle.snoop_run.specs.Sides.{output_at}
-use Rattle.snoop_run.proofs.OpenLemmas.{OpenedSoFar}
+use Rattle.run_files.proofs.OpenLemmas.{OpenedSoFar}
 use Rattle.snoop_run.proofs.outputs.open_outputs.Given as goal
 
 abbrev pub invariant-loop-port : goal.invariant-loop-port

@@ -1,12 +1,12 @@
 use Rattle.std.proofs.Common.{◌∙◌, length, ap, subst}
 use Rattle.snoop_run.specs.Bridged.{RunsOver}
 use Rattle.snoop_run.specs.Sides.{side_count, input_at, ins_of, outs_of}
-use Rattle.snoop_run.proofs.NameLemmas.{length-counted}
+use Rattle.run_files.proofs.NameLemmas.{length-counted}
 use Rattle.snoop_run.proofs.RunLemmas.{bridges_over}
 use Rattle.snoop_run.proofs.run.run_bridge.Goals as goal
 
 pub run_over-requires-clause-count : goal.run_over-requires-clause-count
-run_over-requires-clause-count g c = ap length c.as_slice.ensures.value ∙ c.in-Ok.ensures.reads.are.count ∙ length-counted (input_at c.args.sides.now) 0 (side_count c.args.sides.now)
+run_over-requires-clause-count g c = ap length c.as_slice.ensures.value ∙ c.in_ok-ins.ensures.reads.are.count ∙ length-counted (input_at c.args.sides.now) 0 (side_count c.args.sides.now)
 
 pub returns : goal.returns
 returns g c =
@@ -16,6 +16,6 @@ returns g c =
     let d = seen c.run_over.new.depot in
     let outs = outs_of c.args.sides.now in
     record {
-      bridges = bridges_over (ins_of c.args.sides.now) outs c.args.budget c.args.config.now a b c.what_is_taken_are_captures.ensures c.in-Ok.ins c.in-Ok.ensures.reads d c.run_over.result
+      bridges = bridges_over (ins_of c.args.sides.now) outs c.args.budget c.args.config.now a b c.what_is_taken_are_captures.ensures c.in_ok-ins.ins c.in_ok-ins.ensures.reads d c.run_over.result
           (subst (λ l. RunsOver outs l c.args.config.now b d c.run_over.result) c.as_slice.ensures.value c.run_over.ensures);
     }

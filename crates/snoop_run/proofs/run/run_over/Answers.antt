@@ -2,7 +2,7 @@ use Rattle.std.proofs.Common.{◌≡◌, ◌∙◌, ℕ, ◌<◌, [], Some, fals
 use Rattle.fab_gather.specs.Ports.{name_of}
 use Rattle.fip_snoop.specs.Bridge.{arrivals, is_too_long}
 use Rattle.fip_snoop.specs.Messages.{forwarder_of}
-use Rattle.snoop_run.specs.Files.{AreOutputs}
+use Rattle.run_files.specs.Outputs.{AreOutputs}
 use Rattle.snoop_run.specs.State.{Crosses}
 use Rattle.snoop_run.proofs.RunLemmas.{over_unopened, over_crossed, opened_outputs, opened_count, opened_empty, own_crosses}
 use Rattle.snoop_run.proofs.run.run_over.Goals as goal

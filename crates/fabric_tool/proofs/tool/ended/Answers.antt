@@ -1,7 +1,0 @@
-use Rattle.fabric_tool.proofs.OutcomeCases.{ended_as}
-use Rattle.fabric_tool.proofs.tool.ended.Goals as goal
-
-pub returns : goal.returns
-returns g c = record {
-  ends = ended_as c.args.words.now _ _ _ _ c.report.result c.outcome_of-outcome.result c.outcome_of-outcome.ensures.holds c.report.ensures.reports;
-}

@@ -1,0 +1,32 @@
+//! Pages: for each port the bytes that its output grows by next.
+ghost use Rattle.std.specs.Prelude.{◌≡◌, ℕ, [], length, replicate, IfOk};
+ghost use Rattle.pcap_file.specs.Capture.{head_bytes};
+ghost use Rattle.run_files.specs.Pages.{items_in, piece_at};
+
+use fab_base::NoMemory;
+use pcap_file::write_head;
+use std::alloc::Global;
+
+/// A page for each of so many ports, with the head of a capture.
+pub fn head_records(alloc: Global, ports: usize) -> Result<Vec<Vec<u8>>, NoMemory>
+    ensures heads { IfOk result (λ v. items_in v.items ≡ replicate ports head_bytes) }
+    ensures count { IfOk result (λ v. length v.items ≡ ports) }
+{
+    let mut records = Vec::new(alloc);
+    for _ in 0..ports {
+        let mut record = Vec::new(alloc);
+        write_head(alloc, &mut record)?;
+        records.push(record)?;
+    }
+    Ok(records)
+}
+
+/// Empties each page, whose room is used again.
+pub fn clear_all(pages: &mut [Vec<u8>])
+    ensures nothing { (q : ℕ) → piece_at (items_in pages.new) q ≡ [] }
+    ensures count { length pages.new ≡ length pages.old }
+{
+    for page in pages.iter_mut() {
+        page.clear();
+    }
+}
