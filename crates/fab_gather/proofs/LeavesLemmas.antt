@@ -86,7 +86,7 @@ module _ (slot : ℕ) (a b d : Seen) (r r1 r2 : Reading) (given : List Record) (
   }
 
 -- the first record, or none
-pub gave_first : (c : Settings) (port slot : ℕ) (a b : Seen) (r r' : Reading) (s : Shelf) (had left : Budget) → r.greatest ≡ 0 → Looked c port slot a b r r' s had left → Gave slot a b r r' (option_to_list s.next)
+pub gave_first : (c : Settings) (port slot : ℕ) (a b : Seen) (r r' : Reading) (s : Shelf) (had left : Budget) → r.greatest ≡ 0 → Looked c port slot (port_start_at a r had) (port_start_at b r' left) s → Gave slot a b r r' (option_to_list s.next)
 gave_first c port slot a b r r' s had left zero l = record {
   head = l.head;
   greatest = l.greatest ∙ ap (λ (n : ℕ). last_moment n (option_to_list s.next)) (sym zero);
@@ -98,7 +98,7 @@ gave_first c port slot a b r r' s had left zero l = record {
 -- ---- a port
 
 -- its turn was, and others came
-pub took_leaves : (c : Settings) (w : ℕ) (a b d : Seen) (i i' : Input) (s s' : Shelf) → d.left i.slot ≡ b.left i.slot → Took c w a b i i' s s' → LeavesPort c w i.slot a d i.reader i'.reader s s'
+pub took_leaves : (c : Settings) (w : ℕ) (a b d : Seen) (i i' : Input) (s s' : Shelf) → d.left i.slot ≡ b.left i.slot → Took c w (stand_at a i s) (stand_at b i' s') → LeavesPort c w i.slot a d i.reader i'.reader s s'
 took_leaves c w a b d i i' s s' same t = record {
   given = t.given;
   gave = record {

@@ -14,7 +14,7 @@ use Rattle.pcap_file.proofs.lemmas.Numbers.{le_or_lt}
 use Rattle.fab_gather.specs.declared.shelf.Input.{Input}
 use Rattle.fab_gather.specs.declared.shelf.Shelf.{Shelf}
 use Rattle.fab_gather.specs.declared.fault.LimitKind.TheVariants as limit
-use Rattle.fab_gather.specs.declared.fault.RunFault.TheVariants as fault
+use Rattle.fab_gather.specs.declared.fault.GatherFault.TheVariants as fault
 use Rattle.fab_gather.specs.First.{IsNextWindow}
 use Rattle.fab_gather.specs.Laws.{LooksAhead, NextIsAhead, NextIsFirst, LateEnds, NoneIsLeft, AllIn, ahead_of, WindowMoves}
 use Rattle.fab_gather.specs.Port.{to_look, spot_of, ending}
@@ -267,7 +267,7 @@ none_is_left c first d ins shelves left none = ap (λ l. stop_in first left.byte
 
 -- ---- a window that was taken
 
-all_in : (c : Settings) (w : ℕ) (a b : Seen) (ins ins' : List Input) (shelves shelves' : List Shelf) → length shelves ≡ length ins → length ins' ≡ length ins → length shelves' ≡ length shelves → TookAll c w a b ins ins' shelves shelves' → AllIn c w (batches_of shelves')
+all_in : (c : Settings) (w : ℕ) (a b : Seen) (ins ins' : List Input) (shelves shelves' : List Shelf) → length shelves ≡ length ins → length ins' ≡ length ins → length shelves' ≡ length shelves → TookAll c w (walk_at a ins shelves had) (walk_at b ins' shelves' left) → AllIn c w (batches_of shelves')
 all_in c w a b ins ins' shelves [] e f g took = tt
 all_in c w a b [] ins' [] (s' ∷ shelves') e f g took = absurd (omega arith)
 all_in c w a b (i ∷ ins) ins' [] (s' ∷ shelves') e f g took = absurd (omega arith)
@@ -284,7 +284,7 @@ batched [] = 0
 batched (s ∷ shelves) = length s.batch.items + batched shelves
 
 -- each record that was looked at, or given, is on a shelf or looked at
-moved : (c : Settings) (w : ℕ) (a b : Seen) (ins ins' : List Input) (shelves shelves' : List Shelf) → length shelves ≡ length ins → length ins' ≡ length ins → length shelves' ≡ length shelves → TookAll c w a b ins ins' shelves shelves' →
+moved : (c : Settings) (w : ℕ) (a b : Seen) (ins ins' : List Input) (shelves shelves' : List Shelf) → length shelves ≡ length ins → length ins' ≡ length ins → length shelves' ≡ length shelves → TookAll c w (walk_at a ins shelves had) (walk_at b ins' shelves' left) →
     counts_of shelves' + ahead_of shelves ≡ counts_of shelves + (batched shelves' + ahead_of shelves')
 moved c w a b ins ins' [] [] e f g took = refl
 moved c w a b ins ins' [] (s' ∷ shelves') e f g took = absurd (omega arith)

@@ -74,7 +74,7 @@ from_records c w (suc n) h g l le = from_found c w n h g l (next h g l) le refl 
 
 -- ---- a port
 
-module _ (c : Settings) (w : ℕ) (o : Opened) (records : List Record) (a b : Seen) (i i' : Input) (s s' : Shelf) (told : b.told ≡ a.told) (h : HasRead c w o records i s a) (t : Took c w a b i i' s s') where
+module _ (c : Settings) (w : ℕ) (o : Opened) (records : List Record) (a b : Seen) (i i' : Input) (s s' : Shelf) (told : b.told ≡ a.told) (h : HasRead c w o records i s a) (t : Took c w (stand_at a i s) (stand_at b i' s')) where
   abbrev so_far : List Record
   so_far = records ++ option_to_list s.next
 

@@ -32,7 +32,7 @@ returns-in-Err-clause-takes g c =
     let failed = taking_failed c.looks_go_on.ensures.found c.looks_go_on.ensures.end c.steps_find_the_stop.ensures.steps c.args.config.now c.args.port c.args.window c.args.input.now.slot (seen c.args.depot.now) (seen c.records.depot) (seen c.next.new.depot) c.args.input.now.reader c.records.input.reader c.next.new.self
     c.args.shelf.now c.records.shelf c.args.budget.now c.records.budget c.next.new.budget c.requires.input i.taking (there c.args.config.now c.args.window c.records.shelf.next (sym c.records-test.ensures))
     c.next.new.self c.in-Err.error (next_at i.slot c.in-Err.ensures.next) in
-    subst (λ e. TakesWindow c.args.config.now c.args.port c.args.window c.args.input.now.slot (seen c.args.depot.now) (seen c.next.new.depot) c.args.input.now.reader c.next.new.self c.args.shelf.now c.records.shelf c.args.budget.now c.next.new.budget (Err e)) (sym c.fault_of.ensures) failed
+    subst (λ e. TakesWindow c.args.config.now c.args.port c.args.window c.args.input.now.slot (port_walk_at (seen c.args.depot.now) c.args.input.now.reader c.args.shelf.now c.args.budget.now) (port_walk_at (seen c.next.new.depot) c.next.new.self c.records.shelf c.next.new.budget) (Err e)) (sym c.fault_of.ensures) failed
 
 pub returns-in-Err-turn-clause-takes : goal.returns-in-Err-turn-clause-takes
 returns-in-Err-turn-clause-takes g c =
