@@ -20,9 +20,9 @@ use Rattle.fab_gather.specs.declared.shelf.Input.{Input}
 use Rattle.fab_gather.specs.declared.shelf.Shelf.{Shelf}
 use Rattle.fab_gather.specs.declared.fault.GatherFault.{GatherFault}
 use Rattle.fab_gather.specs.declared.fault.GatherFault.TheVariants as fault
-use Rattle.fab_gather.specs.First.{IsFresh, AreFresh, opened_by, opened_in, first_look, Looked, StopsFirst, LeavesFirst, LooksOnce, LooksFirst}
+use Rattle.fab_gather.specs.First.{IsFresh, AreFresh, opened_by, opened_in, first_look, Looked, StopsFirst, LeavesFirst, LooksOnce, LooksFirst, port_start_at, start_at, Start}
 use Rattle.fab_gather.specs.Port.{IsReady, Spends, Gave, to_look, ending}
-use Rattle.fab_gather.specs.Ports.{AreInputs, At, slots_of, NameIn, TakesFrom, rests, joined, counts_of}
+use Rattle.fab_gather.specs.Ports.{AreInputs, At, slots_of, NameIn, TakesFrom, rests, joined, counts_of, walk_at, Walk}
 use Rattle.fab_gather.specs.Reads.{HasRead, HaveRead}
 use Rattle.fab_gather.proofs.OrderLemmas.{After, AllNotBefore, TakesAt, taken_at, Later, ordered, later_looks, before_by}
 use Rattle.fab_gather.proofs.LeavesLemmas.{gave_none, gave_between, gave_first}
@@ -199,17 +199,18 @@ pub record Still (a b : Seen) (i i' : Input) : Type 0 where
   pub input : i' ≡ i
   pub rest : b.left i.slot ≡ a.left i.slot
 
-pub record Seeing (c : Settings) (k : ℕ) (a b : Seen) (ins ins' : List Input) (shelves : List Shelf) (had left : Budget) : Type 0 where
-  pub touches : Touches Nothing (NameIn a (slots_of ins)) a b
-  pub slots : slots_of ins' ≡ slots_of ins
-  pub count : length shelves ≡ k
-  pub done : (q : ℕ) (i i' : Input) (s : Shelf) → slice_get ins q ≡ Some i → At q ins' shelves i' s → Began c a b i i' s left
-  pub waits : (q : ℕ) (i i' : Input) → k ≤ q → slice_get ins q ≡ Some i → slice_get ins' q ≡ Some i' → Still a b i i'
-  pub spent : Spends had left 0 (counts_of shelves)
-  pub passes : IsTrue a.told → (first : ℕ) → stop_in first had.bytes had.frames (in_order (looks_of c 1 (opened_in a ins))) ≡ stop_in first left.bytes left.frames (in_order (joined (fronts c 1 b ins' shelves)))
-  pub first_is : IsTrue a.told → first_window (in_order (looks_of c 1 (opened_in a ins))) ≡ first_window (in_order (joined (fronts c 1 b ins' shelves)))
-  pub counts : SameReadFaults a b
-  pub writes : SameWriteFaults a b
+pub record Seeing (c : Settings) (k : ℕ) (old : Start) (new : Walk) : Type 0 where
+  pub touches : Touches Nothing (NameIn old.seen (slots_of old.ins)) old.seen new.seen
+  pub slots : slots_of new.ins ≡ slots_of old.ins
+  pub count : length new.shelves ≡ k
+  pub done : (q : ℕ) (i i' : Input) (s : Shelf) → slice_get old.ins q ≡ Some i → At q new.ins new.shelves i' s → Began c old.seen new.seen i i' s new.left
+  pub waits : (q : ℕ) (i i' : Input) → k ≤ q → slice_get old.ins q ≡ Some i → slice_get new.ins q ≡ Some i' → Still old.seen new.seen i i'
+  pub spent : Spends old.left new.left 0 (counts_of new.shelves)
+  pub passes : IsTrue old.seen.told → (first : ℕ) →
+      stop_in first old.left.bytes old.left.frames (in_order (looks_of c 1 (opened_in old.seen old.ins))) ≡ stop_in first new.left.bytes new.left.frames (in_order (joined (fronts c 1 new.seen new.ins new.shelves)))
+  pub first_is : IsTrue old.seen.told → first_window (in_order (looks_of c 1 (opened_in old.seen old.ins))) ≡ first_window (in_order (joined (fronts c 1 new.seen new.ins new.shelves)))
+  pub counts : SameReadFaults old.seen new.seen
+  pub writes : SameWriteFaults old.seen new.seen
 
 fresh_at : (ins : List Input) (q : ℕ) (i : Input) → AreFresh ins → slice_get ins q ≡ Some i → IsFresh i.reader
 fresh_at [] q i fresh at = absurd (cc)
@@ -224,8 +225,8 @@ stop_as : (c : Settings) (bytes frames : ℕ) (opened : List Opened) → stop c 
 unfolding stop
 stop_as c bytes frames opened = refl
 
-pub seeing_as : {c : Settings} {k : ℕ} {a b : Seen} {ins ins' : List Input} {l m : List Shelf} {had left : Budget} → l ≡ m → Seeing c k a b ins ins' l had left → Seeing c k a b ins ins' m had left
-seeing_as {c} {k} {a} {b} {ins} {ins'} {l} {m} {had} {left} e h = subst (λ q. Seeing c k a b ins ins' q had left) e h
+pub seeing_as : {c : Settings} {k : ℕ} {a b : Seen} {ins ins' : List Input} {l m : List Shelf} {had left : Budget} → l ≡ m → Seeing c k (start_at a ins had) (walk_at b ins' l left) → Seeing c k (start_at a ins had) (walk_at b ins' m left)
+seeing_as {c} {k} {a} {b} {ins} {ins'} {l} {m} {had} {left} e h = subst (λ q. Seeing c k (start_at a ins had) (walk_at b ins' q left)) e h
 
 pub once_as : {c : Settings} {m n slot : ℕ} {a b : Seen} {r r' : Reading} {had left : Budget} {result : Result Shelf GatherFault} → m ≡ n → LooksOnce c m slot (port_start_at a r had) (port_start_at b r' left) result → LooksOnce c n slot (port_start_at a r had) (port_start_at b r' left) result
 once_as {c} {m} {n} {slot} {a} {b} {r} {r'} {had} {left} {result} e h = subst (λ (q : ℕ). LooksOnce c q slot (port_start_at a r had) (port_start_at b r' left) result) e h
@@ -238,7 +239,7 @@ taken_from ins ins' had left found slots s = let f = s.frames in let b = s.bytes
 pub any : Settings
 any = record { switch = 0; fcf_mac = []; fc_map = 0; vlan = 0; domain = 0; pool = 0; priority = 0; period = 0; window = 0; limit = 0; zones = []; sets = []; activations = [] }
 
-module _ (found_law : LooksFound) (end_law : LooksEnd) (c : Settings) (k : ℕ) (a b : Seen) (ins ins' : List Input) (shelves : List Shelf) (had mid : Budget) (are : AreInputs a (slots_of ins)) (fresh : AreFresh ins) (lt : k < length ins) (see : Seeing c k a b ins ins' shelves had mid) where
+module _ (found_law : LooksFound) (end_law : LooksEnd) (c : Settings) (k : ℕ) (a b : Seen) (ins ins' : List Input) (shelves : List Shelf) (had mid : Budget) (are : AreInputs a (slots_of ins)) (fresh : AreFresh ins) (lt : k < length ins) (see : Seeing c k (start_at a ins had) (walk_at b ins' shelves mid)) where
   told_b : IsTrue a.told → IsTrue b.told
   told_b told = subst IsTrue (sym see.touches.told) told
 
@@ -412,7 +413,7 @@ module _ (found_law : LooksFound) (end_law : LooksEnd) (c : Settings) (k : ℕ) 
       abbrev others : Shelf → List Look
       others s = to_look c (k + 1) d i1.slot i2.reader s.count s.next
 
-      pub looked_on : (s : Shelf) → LooksOnce c (k + 1) i1.slot (port_start_at b i1.reader mid) (port_start_at d i2.reader left) (Ok s) → Seeing c (k + 1) a d ins (set ins' k i2) (shelves ++ s ∷ []) had left
+      pub looked_on : (s : Shelf) → LooksOnce c (k + 1) i1.slot (port_start_at b i1.reader mid) (port_start_at d i2.reader left) (Ok s) → Seeing c (k + 1) (start_at a ins had) (walk_at d (set ins' k i2) (shelves ++ s ∷ []) left)
       looked_on s t =
           let l = t.looked in
           record {
@@ -507,7 +508,7 @@ module _ (found_law : LooksFound) (end_law : LooksEnd) (c : Settings) (k : ℕ) 
               }
 
 -- before the first port
-pub seeing_none : (c : Settings) (a : Seen) (ins : List Input) (had : Budget) → Seeing c 0 a a ins ins [] had had
+pub seeing_none : (c : Settings) (a : Seen) (ins : List Input) (had : Budget) → Seeing c 0 (start_at a ins had) (walk_at a ins [] had)
 seeing_none c a ins had = record {
   touches = touches_refl Nothing (NameIn a (slots_of ins)) a;
   slots = refl;
@@ -534,7 +535,7 @@ have_read c a b (i ∷ ins) (i' ∷ ins') (s ∷ shelves) left e f h = (
 )
 
 -- behind the last
-pub looks_all : (c : Settings) (k : ℕ) (a b : Seen) (ins ins' : List Input) (v : Vec Shelf Global) (had left : Budget) → k ≡ length ins → Seeing c k a b ins ins' v.items had left → LooksFirst c (start_at a ins had) (start_at b ins' left) (Ok v)
+pub looks_all : (c : Settings) (k : ℕ) (a b : Seen) (ins ins' : List Input) (v : Vec Shelf Global) (had left : Budget) → k ≡ length ins → Seeing c k (start_at a ins had) (walk_at b ins' v.items left) → LooksFirst c (start_at a ins had) (start_at b ins' left) (Ok v)
 looks_all c k a b ins ins' v had left all see =
     let long = same_length ins ins' see.slots in
     let count = see.count ∙ all in

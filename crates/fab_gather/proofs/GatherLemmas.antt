@@ -13,7 +13,7 @@ use Rattle.fab_gather.specs.declared.fault.GatherFault.{GatherFault}
 use Rattle.fab_gather.specs.declared.fault.GatherFault.TheVariants as fault
 use Rattle.fab_gather.specs.First.{IsNextWindow}
 use Rattle.fab_gather.specs.Laws.{LateEnds}
-use Rattle.fab_gather.specs.Ports.{NameIn, slots_of, AreReady, TakesAll}
+use Rattle.fab_gather.specs.Ports.{NameIn, slots_of, AreReady, TakesAll, walk_at}
 use Rattle.fab_gather.specs.Gather.{Gathers}
 use Rattle.fab_gather.proofs.LeavesLemmas.{waits_leaves}
 use Rattle.fab_gather.proofs.SlotLemmas.{some_is}

@@ -16,7 +16,7 @@ use Rattle.pcap_file.proofs.lemmas.Chains.{end_is}
 use Rattle.pcap_file.proofs.lemmas.Steps.{gives_found, ends_end}
 use Rattle.fab_gather.specs.declared.shelf.Shelf.{Shelf}
 use Rattle.fab_gather.specs.declared.fault.GatherFault.TheVariants as fault
-use Rattle.fab_gather.specs.First.{IsFresh, opened_by, first_look, Looked, LooksOnce}
+use Rattle.fab_gather.specs.First.{IsFresh, opened_by, first_look, Looked, LooksOnce, port_start_at}
 use Rattle.fab_gather.specs.Port.{to_look, spot_of, fault_by}
 use Rattle.fab_gather.proofs.LeavesLemmas.{gave_failed}
 use Rattle.fab_gather.proofs.PortLemmas.{some_look, says_at, own_of, read_of, spared}

@@ -21,7 +21,7 @@ use Rattle.pcap_file.proofs.lemmas.Steps.{gives_found, ends_end}
 use Rattle.fab_gather.specs.declared.shelf.Shelf.{Shelf}
 use Rattle.fab_gather.specs.declared.fault.LimitKind.TheVariants as limit
 use Rattle.fab_gather.specs.declared.fault.GatherFault.TheVariants as fault
-use Rattle.fab_gather.specs.Port.{IsReady, Spends, Taking, TakesWindow, StopsIn, AreOf, AreIn, Pass, is_in, spot_of, to_look, fault_by, IsStopped, LeavesPort}
+use Rattle.fab_gather.specs.Port.{IsReady, Spends, Taking, TakesWindow, StopsIn, AreOf, AreIn, Pass, is_in, spot_of, to_look, fault_by, IsStopped, LeavesPort, stand_at, port_walk_at}
 use Rattle.fab_gather.proofs.LeavesLemmas.{gave_more, gave_end, gave_broken}
 
 -- ---- lists
@@ -335,7 +335,7 @@ module _ (found_law : LooksFound) (end_law : LooksEnd) (steps : StepsFindStop) (
       one : length (own.r ∷ []) ≤ 1
       one = omega arith
 
-      by_next : (o : Option Record) → s2.next ≡ o → s2.count ≡ s1.count + length (option_to_list o) → NextReads slot b d r1 r2 mid left (Ok o) → LeavesPort c w slot a d r r2 s s2 × Spends had left s.count s2.count
+      by_next : (o : Option Record) → s2.next ≡ o → s2.count ≡ s1.count + length (option_to_list o) → NextReads slot b d r1 r2 mid left (Ok o) → LeavesPort c w (stand_at a (record { slot = slot; reader = r }) s) (stand_at d (record { slot = slot; reader = r2 }) s2) × Spends had left s.count s2.count
       by_next None next count n = (
         record {
           given = t.given;

@@ -16,8 +16,8 @@ use Rattle.pcap_file.proofs.lemmas.Numbers.{le_or_lt}
 use Rattle.fab_gather.specs.declared.shelf.Input.{Input}
 use Rattle.fab_gather.specs.declared.shelf.Shelf.{Shelf}
 use Rattle.fab_gather.specs.declared.fault.GatherFault.{GatherFault}
-use Rattle.fab_gather.specs.Port.{IsReady, Spends, AreOf, Taking, TakesWindow, LeavesPort, to_look}
-use Rattle.fab_gather.specs.Ports.{AreInputs, AreReady, At, Took, TakesAll, slots_of, NameIn, rests, joined, stop_from, counts_of}
+use Rattle.fab_gather.specs.Port.{IsReady, Spends, AreOf, Taking, TakesWindow, PortStand, stand_at, port_walk_at, LeavesPort, to_look}
+use Rattle.fab_gather.specs.Ports.{AreInputs, AreReady, At, Walk, walk_at, Took, TakesAll, slots_of, NameIn, rests, joined, stop_after, counts_of}
 use Rattle.fab_gather.proofs.OrderLemmas.{TakesAt, taken_at, Sorted, AllNotBefore, Leads, EachBefore, each-append, each-nil, leads_more, sorted_leads, sorted_looks, later_looks, later_not_before, made_before}
 use Rattle.fab_gather.proofs.LeavesLemmas.{took_leaves, waits_leaves, leaves_from}
 use Rattle.fab_gather.proofs.PortLemmas.{are_of-push}
@@ -27,30 +27,30 @@ use Rattle.fab_gather.proofs.WindowLemmas.{window_start-mono}
 -- ---- what stands before a port
 
 -- a port whose turn was, and one whose turn comes
-pub record Done (c : Settings) (w : ℕ) (a b : Seen) (i i' : Input) (s s' : Shelf) (left : Budget) : Type 0 where
-  pub took : Took c w (stand_at a i s) (stand_at b i' s')
-  pub ready : IsReady i'.reader s'.next s'.count left
-  pub beyond : IfSome s'.next (λ x. w + 1 ≤ window_start c x.moment)
+pub record Done (c : Settings) (w : ℕ) (old new : PortStand) (left : Budget) : Type 0 where
+  pub took : Took c w old new
+  pub ready : IsReady new.input.reader new.shelf.next new.shelf.count left
+  pub beyond : IfSome new.shelf.next (λ x. w + 1 ≤ window_start c x.moment)
 
-pub record Waits (c : Settings) (w : ℕ) (a b : Seen) (i i' : Input) (s s' : Shelf) (left : Budget) : Type 0 where
-  pub input : i' ≡ i
-  pub shelf : s' ≡ s
-  pub rest : b.left i.slot ≡ a.left i.slot
-  pub ready : IsReady i.reader s.next s.count left
-  pub from : IfSome s.next (λ x. w ≤ window_start c x.moment)
+pub record Waits (c : Settings) (w : ℕ) (old new : PortStand) (left : Budget) : Type 0 where
+  pub input : new.input ≡ old.input
+  pub shelf : new.shelf ≡ old.shelf
+  pub rest : new.seen.left old.input.slot ≡ old.seen.left old.input.slot
+  pub ready : IsReady old.input.reader old.shelf.next old.shelf.count left
+  pub from : IfSome old.shelf.next (λ x. w ≤ window_start c x.moment)
 
-pub record Round (c : Settings) (w k : ℕ) (a b : Seen) (ins ins' : List Input) (shelves shelves' : List Shelf) (had left : Budget) : Type 0 where
-  pub touches : Touches Nothing (NameIn a (slots_of ins)) a b
-  pub slots : slots_of ins' ≡ slots_of ins
-  pub count : length shelves' ≡ length shelves
-  pub done : (q : ℕ) (i i' : Input) (s s' : Shelf) → q < k → At q ins shelves i s → At q ins' shelves' i' s' → Done c w (stand_at a i s) (stand_at b i' s') left
-  pub waits : (q : ℕ) (i i' : Input) (s s' : Shelf) → k ≤ q → At q ins shelves i s → At q ins' shelves' i' s' → Waits c w (stand_at a i s) (stand_at b i' s') left
-  pub spent : Spends had left (counts_of shelves) (counts_of shelves')
-  pub bytes : left.bytes ≤ had.bytes
-  pub frames : left.frames ≤ had.frames
-  pub looks : IsTrue a.told → (first : ℕ) → nat_lt MOST_SPAN (w - first) ≡ false → stop_from c first a ins shelves had ≡ stop_from c first b ins' shelves' left
-  pub counts : SameReadFaults a b
-  pub writes : SameWriteFaults a b
+pub record Round (c : Settings) (w k : ℕ) (old new : Walk) : Type 0 where
+  pub touches : Touches Nothing (NameIn old.seen (slots_of old.ins)) old.seen new.seen
+  pub slots : slots_of new.ins ≡ slots_of old.ins
+  pub count : length new.shelves ≡ length old.shelves
+  pub done : (q : ℕ) (i i' : Input) (s s' : Shelf) → q < k → At q old.ins old.shelves i s → At q new.ins new.shelves i' s' → Done c w (stand_at old.seen i s) (stand_at new.seen i' s') new.left
+  pub waits : (q : ℕ) (i i' : Input) (s s' : Shelf) → k ≤ q → At q old.ins old.shelves i s → At q new.ins new.shelves i' s' → Waits c w (stand_at old.seen i s) (stand_at new.seen i' s') new.left
+  pub spent : Spends old.left new.left (counts_of old.shelves) (counts_of new.shelves)
+  pub bytes : new.left.bytes ≤ old.left.bytes
+  pub frames : new.left.frames ≤ old.left.frames
+  pub looks : IsTrue old.seen.told → (first : ℕ) → nat_lt MOST_SPAN (w - first) ≡ false → stop_after c first old ≡ stop_after c first new
+  pub counts : SameReadFaults old.seen new.seen
+  pub writes : SameWriteFaults old.seen new.seen
 
 -- ---- counts
 
@@ -261,16 +261,16 @@ module _ (c : Settings) (w k : ℕ) (a b : Seen) (ins ins' : List Input) (shelve
       }
         where
           Left : Input → Input → Shelf → Shelf → Type 0
-          Left j j' u u' = (j'.slot ≡ j.slot) × LeavesPort c w j.slot a d j.reader j'.reader u u'
+          Left j j' u u' = (j'.slot ≡ j.slot) × LeavesPort c w (stand_at a j u) (stand_at d j' u')
 
           coe_left : {x y x' y' : Input} {v z v' z' : Shelf} → x ≡ y → x' ≡ y' → v ≡ z → v' ≡ z' → Left x x' v v' → Left y y' z z'
           coe_left {x} {y} {x'} {y'} {v} {z} {v'} {z'} e f g h l = subst (λ q. Left y y' z q) h (subst (λ q. Left y y' q v') g (subst (λ q. Left y q v v') f (subst (λ q. Left q x' v v') e l)))
 
           own_left : Left i i2 s s2
           own_left =
-              let from_i = subst (λ (x : Input). LeavesPort c w x.slot b d x.reader i2.reader s1 s2) waits.input t.leaves.0 in
-              let from_s = subst (λ (y : Shelf). LeavesPort c w i.slot b d i.reader i2.reader y s2) waits.shelf from_i in
-              (slot ∙ ap (λ (x : Input). x.slot) waits.input, leaves_from c w i.slot a b d i.reader i2.reader s s2 told_b waits.rest from_s)
+              let from_i = subst (λ (x : Input). LeavesPort c w (stand_at b (record { slot = x.slot; reader = x.reader }) s1) (stand_at d (record { slot = x.slot; reader = i2.reader }) s2)) waits.input t.leaves.0 in
+              let from_s = subst (λ (y : Shelf). LeavesPort c w (stand_at b (record { slot = i.slot; reader = i.reader }) y) (stand_at d (record { slot = i.slot; reader = i2.reader }) s2)) waits.shelf from_i in
+              (slot ∙ ap (λ (x : Input). x.slot) waits.input, leaves_from c w a b d i i2 s s2 told_b waits.rest from_s)
 
           earlier_left : (q : ℕ) (j j' : Input) (u u' : Shelf) → q < k → At q ins shelves j u → At q ins' shelves' j' u' → Left j j' u u'
           earlier_left q j j' u u' less first now =

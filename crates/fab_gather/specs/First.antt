@@ -1,5 +1,5 @@
 -- The looks at the first records, and which window comes next.
-use Rattle.std.specs.Prelude.{◌≡◌, ◌≢◌, ℕ, ◌≤◌, ◌<◌, IsTrue, List, [], ◌∷◌, length, map, Option, Some, None, IfSome, Result, IfOk, OnErr, IfErr, IsErrOf, option_to_list, slice_get, Vec}
+use Rattle.std.specs.Prelude.{◌≡◌, ℕ, ◌≤◌, ◌<◌, IsTrue, List, [], ◌∷◌, length, map, Option, Some, None, IfSome, Result, IfOk, OnErr, IfErr, IsErrOf, option_to_list, slice_get, Vec}
 use Rattle.std.specs.declared.alloc.Global.{Global}
 use Rattle.fab_base.specs.Seen.{Seen, Reads, Rose, Touches, Nothing, SameWriteFaults}
 use Rattle.fab_config.specs.Settings.{Settings}

@@ -1,11 +1,8 @@
 -- The next window of captures, with the most span.
-use Rattle.std.specs.Prelude.{◌≡◌, ◌≢◌, ℕ, ◌+◌, ◌-◌, ◌<◌, ◌↔◌, true, nat_lt, IsTrue, List, length, Some, Result, OnOk, OnErr, IfErr, IsErrOf}
-use Rattle.fab_base.specs.Seen.{Seen, Touches, Nothing, Rose, SameWriteFaults}
+use Rattle.std.specs.Prelude.{◌≡◌, ℕ, ◌+◌, ◌-◌, ◌<◌, ◌↔◌, true, nat_lt, IsTrue, length, Some, Result, OnOk, OnErr, IfErr, IsErrOf}
+use Rattle.fab_base.specs.Seen.{Touches, Nothing, Rose, SameWriteFaults}
 use Rattle.fab_config.specs.Settings.{Settings}
 use Rattle.fab_policy.specs.Looks.{Stop, MOST_SPAN}
-use Rattle.pcap_file.specs.declared.Budget.{Budget}
-use Rattle.fab_gather.specs.declared.shelf.Input.{Input}
-use Rattle.fab_gather.specs.declared.shelf.Shelf.{Shelf}
 use Rattle.fab_gather.specs.declared.fault.LimitKind.TheVariants as limit
 use Rattle.fab_gather.specs.declared.fault.GatherFault.{GatherFault}
 use Rattle.fab_gather.specs.declared.fault.GatherFault.TheVariants as fault

@@ -1,5 +1,5 @@
 use Rattle.std.proofs.Common.{Err, refl, sym, subst}
-use Rattle.fab_gather.specs.First.{LooksOnce}
+use Rattle.fab_gather.specs.First.{LooksOnce, port_start_at}
 use Rattle.fab_gather.proofs.LookLemmas.{looked, looked_failed, count_is}
 use Rattle.fab_gather.proofs.first.look.Goals as goal
 

@@ -1,5 +1,5 @@
 use Rattle.std.proofs.Common.{sym, subst, refl, Err}
-use Rattle.fab_gather.specs.Port.{TakesWindow}
+use Rattle.fab_gather.specs.Port.{TakesWindow, port_walk_at}
 use Rattle.fab_gather.proofs.PortLemmas.{taking_none, taking_turn, taking_lost, turn_fits, taking_failed, there, next_at}
 use Rattle.fab_gather.proofs.port.take_window.Goals as goal
 

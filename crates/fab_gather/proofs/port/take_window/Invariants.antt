@@ -1,6 +1,6 @@
 use Rattle.std.proofs.Common.{◌≡◌, ◌+◌, ◌*◌, length}
 use Rattle.std.specs.Prelude.{option_to_list}
-use Rattle.fab_gather.specs.Port.{Taking}
+use Rattle.fab_gather.specs.Port.{Taking, port_walk_at}
 use Rattle.fab_gather.proofs.port.take_window.Given as goal
 
 abbrev pub invariant-records : goal.invariant-records

@@ -1,4 +1,5 @@
 use Rattle.fab_gather.proofs.PortsLemmas.{Round}
+use Rattle.fab_gather.specs.Ports.{walk_at}
 use Rattle.fab_gather.proofs.ports.take_windows.Given as goal
 
 abbrev pub invariant-loop-port : goal.invariant-loop-port
