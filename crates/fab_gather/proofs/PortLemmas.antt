@@ -302,17 +302,17 @@ module _ (found_law : LooksFound) (end_law : LooksEnd) (steps : StepsFindStop) (
           nothing_left e = end_is r1.head r1.greatest (to_come r1 b slot) e
 
   -- the answer of the reader, put on the shelf
-  pub taking_turn : (o : Option Record) (s2 : Shelf) → s2.batch.items ≡ s1.batch.items ++ option_to_list s1.next → s2.next ≡ o → s2.count ≡ s1.count + length (option_to_list o) →
+  pub taking_pushed : (o : Option Record) (s2 : Shelf) → s2.batch.items ≡ s1.batch.items ++ option_to_list s1.next → s2.next ≡ o → s2.count ≡ s1.count + length (option_to_list o) →
       NextReads slot b d r1 r2 mid left (Ok o) → Taking c port w slot (port_walk_at a r s had) (port_walk_at d r2 s2 left)
-  taking_turn None s2 batch next count n = taking_end s2 batch next (let k = count in omega arith) n
-  taking_turn (Some y) s2 batch next count n = taking_more s2 batch y next count n
+  taking_pushed None s2 batch next count n = taking_end s2 batch next (let k = count in omega arith) n
+  taking_pushed (Some y) s2 batch next count n = taking_more s2 batch y next count n
 
-  pub turn_fits : (o : Option Record) → NextReads slot b d r1 r2 mid left (Ok o) → s1.count + length (option_to_list o) < 2 ^ 64
-  turn_fits None n = let f = t.ready.few in omega arith
-  turn_fits (Some y) n = let f = t.ready.few in let k = n.taken.frames in omega arith
+  pub push_fits : (o : Option Record) → NextReads slot b d r1 r2 mid left (Ok o) → s1.count + length (option_to_list o) < 2 ^ 64
+  push_fits None n = let f = t.ready.few in omega arith
+  push_fits (Some y) n = let f = t.ready.few in let k = n.taken.frames in omega arith
 
-  pub turn_smaller : (o : Option Record) → NextReads slot b d r1 r2 mid left (Ok o) → 2 * left.frames + length (option_to_list o) < 2 * mid.frames + length (option_to_list s1.next)
-  turn_smaller o n = let is = ap (λ q. length (option_to_list q)) own.is in by_next o n is
+  pub push_smaller : (o : Option Record) → NextReads slot b d r1 r2 mid left (Ok o) → 2 * left.frames + length (option_to_list o) < 2 * mid.frames + length (option_to_list s1.next)
+  push_smaller o n = let is = ap (λ q. length (option_to_list q)) own.is in by_next o n is
     where
       by_next : (o : Option Record) → NextReads slot b d r1 r2 mid left (Ok o) → length (option_to_list s1.next) ≡ 1 → 2 * left.frames + length (option_to_list o) < 2 * mid.frames + length (option_to_list s1.next)
       by_next None n is = let f = ap (λ (q : Budget). q.frames) n.taken.budget in omega arith

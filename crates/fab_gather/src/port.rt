@@ -37,7 +37,7 @@ pub(crate) fn take_window<D: Depot>(
     shelf.batch.clear();
     'records: while is_of(config, &shelf.next, window) {
         match input.reader.next(alloc, depot, input.slot, budget) {
-            Ok(next) => match shelf.turn(next) {
+            Ok(next) => match shelf.push_record(next) {
                 Ok(()) => {}
                 Err(_) => return Err(GatherFault::Memory),
             },
