@@ -5,12 +5,12 @@ ghost use Rattle.fab_policy.specs.Growing.{lines_from};
 ghost use Rattle.fab_policy.specs.Journal.{frame_count};
 ghost use Rattle.fab_policy.specs.Ranged.{IsRangedEvent};
 ghost use Rattle.fab_replies.specs.Message.{sent_of};
-ghost use Rattle.fab_gather.specs.First.{IsNextWindow};
-ghost use Rattle.fab_gather.specs.Ports.{TakesFrom};
+ghost use Rattle.fab_gather.specs.First.{IsNextWindow, Start};
+ghost use Rattle.fab_gather.specs.Ports.{TakesFrom, walk_at};
 ghost use Rattle.fab_pages.specs.Pages.{AreEarly};
-ghost use Rattle.fab_windows.specs.Files.{AreFiles};
+ghost use Rattle.fab_windows.specs.Files.{AreFiles, file_slots};
 ghost use Rattle.fab_windows.specs.Pages.{AreShort, pending};
-ghost use Rattle.fab_windows.specs.Turns.{Start, task_of, Going, Gathered, Ended, Handles, Publishes};
+ghost use Rattle.fab_windows.specs.Turns.{task_of, Going, Gathered, Ended, Handles, Publishes, paged_at};
 ghost use Rattle.std.specs.Prelude.{ℕ, List};
 ghost use Rattle.fab_gather.specs.declared.shelf.Input as of_gather;
 ghost use Rattle.pcap_file.specs.declared.Budget as of_captures;
@@ -56,17 +56,19 @@ pub(crate) fn turn<R: Threads + Wait + Sync, D: Depot, G: Gate + Sync>(
     gate: &G,
 ) -> Result<Fabric, RunFault>
     requires going { (s : Start) × Going (task_of s fabric.settings journal outs.now) window first
-        fabric (D.seen depot.old) ins.old run.old.shelves.items budget.old run.old.done
+        fabric (walk_at (D.seen depot.old) ins.old run.old.shelves.items budget.old) run.old.done
         (pending run.old.pages) }
     requires next { IsNextWindow fabric.settings run.old.shelves.items (Some window) }
     requires start { window % fabric.settings.window ≡ 0 }
     requires range { window < 2 ^ 43 }
     requires pages { length run.old.pages.records.items ≡ length outs.now }
     ensures turns { (s : Start) → let k = task_of s fabric.settings journal outs.now in
-        Going k window first fabric (D.seen depot.old) ins.old run.old.shelves.items budget.old
-        run.old.done (pending run.old.pages) → MatchResult result
-        (λ f. Going k (window + 1) first f (D.seen depot.new) ins.new run.new.shelves.items
-        budget.new run.new.done (pending run.new.pages)) (λ e. Ended k (D.seen depot.new) e) }
+        Going k window first fabric
+        (walk_at (D.seen depot.old) ins.old run.old.shelves.items budget.old) run.old.done
+        (pending run.old.pages) → MatchResult result
+        (λ f. Going k (window + 1) first f
+        (walk_at (D.seen depot.new) ins.new run.new.shelves.items budget.new) run.new.done
+        (pending run.new.pages)) (λ e. Ended k (D.seen depot.new) e) }
     ensures pages { OnOk result (length run.new.pages.records.items ≡ length outs.now) }
     ensures short { OnOk result (AreShort (pending run.new.pages)) }
     ensures settings { IfOk result (λ f. f.settings ≡ fabric.settings) }
@@ -86,7 +88,7 @@ pub(crate) fn turn<R: Threads + Wait + Sync, D: Depot, G: Gate + Sync>(
         budget,
     ) {
         Ok(()) => answer(rt, alloc, depot, fabric, window, run, journal, outs, gate),
-        Err(fault) => Err(flush_for(depot, journal, outs, &mut run.pages, fault)),
+        Err(fault) => Err(flush_for(depot, journal, outs, &mut run.pages, fault.into())),
     }
 }
 
@@ -105,17 +107,19 @@ fn answer<R: Threads + Wait + Sync, D: Depot, G: Gate + Sync>(
     requires gathered { (s : Start) × (first : ℕ) × (ins : List of_gather.Input)
         × (left : of_captures.Budget)
         × Gathered (task_of s fabric.settings journal outs.now) window first fabric
-        (D.seen depot.old) ins run.old.shelves.items left run.old.done
+        (walk_at (D.seen depot.old) ins run.old.shelves.items left) run.old.done
         (pending run.old.pages) }
     requires start { window % fabric.settings.window ≡ 0 }
     requires range { window < 2 ^ 43 }
     requires pages { length run.old.pages.records.items ≡ length outs.now }
     ensures turns { (s : Start) (first : ℕ) (ins : List of_gather.Input) (left : of_captures.Budget)
         → let k = task_of s fabric.settings journal outs.now in
-        Gathered k window first fabric (D.seen depot.old) ins run.old.shelves.items left
-        run.old.done (pending run.old.pages) → MatchResult result
-        (λ f. Going k (window + 1) first f (D.seen depot.new) ins run.new.shelves.items left
-        run.new.done (pending run.new.pages)) (λ e. Ended k (D.seen depot.new) e) }
+        Gathered k window first fabric
+        (walk_at (D.seen depot.old) ins run.old.shelves.items left) run.old.done
+        (pending run.old.pages) → MatchResult result
+        (λ f. Going k (window + 1) first f
+        (walk_at (D.seen depot.new) ins run.new.shelves.items left) run.new.done
+        (pending run.new.pages)) (λ e. Ended k (D.seen depot.new) e) }
     ensures pages { OnOk result (length run.new.pages.records.items ≡ length outs.now) }
     ensures short { OnOk result (AreShort (pending run.new.pages)) }
     ensures settings { IfOk result (λ f. f.settings ≡ fabric.settings) }
@@ -181,9 +185,11 @@ fn publish<R: Threads + Sync, D: Depot>(
     requires count { length pages.old.records.items ≡ length outs.now }
     requires ranged { All IsRangedEvent drained.now.events }
     requires early { AreEarly drained.now.outs }
-    ensures publishes { Publishes journal outs.now (lines_from clock drained.now.events)
-        (map (sent_of config.now drained.now.events) drained.now.outs) (pending pages.old)
-        (pending pages.new) (D.seen depot.old) (D.seen depot.new) result }
+    ensures publishes { Publishes (file_slots journal outs.now)
+        (lines_from clock drained.now.events)
+        (map (sent_of config.now drained.now.events) drained.now.outs)
+        (paged_at (D.seen depot.old) (pending pages.old))
+        (paged_at (D.seen depot.new) (pending pages.new)) result }
     ensures count { OnOk result (length pages.new.records.items ≡ length outs.now) }
     ensures short { OnOk result (AreShort (pending pages.new)) }
 {
