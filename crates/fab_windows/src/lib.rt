@@ -7,7 +7,7 @@ mod pages;
 mod plan;
 mod run;
 mod steps;
-mod turn;
+mod window;
 
 pub use fab_gather::{CapWhy, Input, LimitKind};
 pub use run::run_windows;

@@ -12,7 +12,7 @@ ghost use Rattle.fab_windows.specs.Turns.{task_of, Begun, Ended, Finishes};
 use crate::files::flush;
 use crate::laws::laws_of_runs;
 use crate::pages::Pages;
-use crate::turn::{Run, turn};
+use crate::window::{Run, run_window};
 use crate::{Done, RunFault};
 use fab_base::{Depot, Gate};
 use fab_gather::{Input, first_looks, next_window};
@@ -54,7 +54,7 @@ pub fn run_windows<R: Threads + Wait + Sync, D: Depot, G: Gate + Sync>(
     let mut run = begin(alloc, depot, ins, budget, journal, outs)?;
     let first = next_window(fabric.config(), &run.shelves).unwrap_or(0);
     'windows: while let Some(window) = next_window(fabric.config(), &run.shelves) {
-        fabric = turn(
+        fabric = run_window(
             rt, alloc, depot, fabric, first, window, ins, &mut run, budget, journal, outs, gate,
         )?;
     }

@@ -41,7 +41,7 @@ pub(crate) struct Run {
 
 /// Takes the next window of all ports, handles its frames and adds what they made to the pages.
 /// Where the window can't be taken, the pages are written before the run ends.
-pub(crate) fn turn<R: Threads + Wait + Sync, D: Depot, G: Gate + Sync>(
+pub(crate) fn run_window<R: Threads + Wait + Sync, D: Depot, G: Gate + Sync>(
     rt: &R,
     alloc: Global,
     depot: &mut D,
@@ -62,7 +62,7 @@ pub(crate) fn turn<R: Threads + Wait + Sync, D: Depot, G: Gate + Sync>(
     requires start { window % fabric.settings.window ≡ 0 }
     requires range { window < 2 ^ 43 }
     requires pages { length run.old.pages.records.items ≡ length outs.now }
-    ensures turns { (s : Start) → let k = task_of s fabric.settings journal outs.now in
+    ensures runs { (s : Start) → let k = task_of s fabric.settings journal outs.now in
         Going k window first fabric
         (walk_at (D.seen depot.old) ins.old run.old.shelves.items budget.old) run.old.done
         (pending run.old.pages) → MatchResult result
@@ -87,13 +87,13 @@ pub(crate) fn turn<R: Threads + Wait + Sync, D: Depot, G: Gate + Sync>(
         &mut run.shelves,
         budget,
     ) {
-        Ok(()) => answer(rt, alloc, depot, fabric, window, run, journal, outs, gate),
+        Ok(()) => run_gathered(rt, alloc, depot, fabric, window, run, journal, outs, gate),
         Err(fault) => Err(flush_for(depot, journal, outs, &mut run.pages, fault.into())),
     }
 }
 
 // Handles the frames on the shelves, adds what they made to the pages and counts it.
-fn answer<R: Threads + Wait + Sync, D: Depot, G: Gate + Sync>(
+fn run_gathered<R: Threads + Wait + Sync, D: Depot, G: Gate + Sync>(
     rt: &R,
     alloc: Global,
     depot: &mut D,
@@ -112,7 +112,7 @@ fn answer<R: Threads + Wait + Sync, D: Depot, G: Gate + Sync>(
     requires start { window % fabric.settings.window ≡ 0 }
     requires range { window < 2 ^ 43 }
     requires pages { length run.old.pages.records.items ≡ length outs.now }
-    ensures turns { (s : Start) (first : ℕ) (ins : List of_gather.Input) (left : of_captures.Budget)
+    ensures runs { (s : Start) (first : ℕ) (ins : List of_gather.Input) (left : of_captures.Budget)
         → let k = task_of s fabric.settings journal outs.now in
         Gathered k window first fabric
         (walk_at (D.seen depot.old) ins run.old.shelves.items left) run.old.done
@@ -128,7 +128,7 @@ fn answer<R: Threads + Wait + Sync, D: Depot, G: Gate + Sync>(
     // Law: what further entries and records change, and where reading stops; Going goes on by them.
     laws_of_runs();
     let clock = fabric.clock().unwrap_or(Moment(0));
-    let (fabric, drained) = handle(rt, alloc, fabric, window, &run.shelves, gate)?;
+    let (fabric, drained) = drain_window(rt, alloc, fabric, window, &run.shelves, gate)?;
     publish(
         rt,
         alloc,
@@ -140,12 +140,12 @@ fn answer<R: Threads + Wait + Sync, D: Depot, G: Gate + Sync>(
         journal,
         outs,
     )?;
-    run.done = counted(run.done, &drained.events);
+    run.done = done_after(run.done, &drained.events);
     Ok(fabric)
 }
 
 // Makes the ticks up to a window and handles its frames.
-fn handle<R: Threads + Wait + Sync, G: Gate + Sync>(
+fn drain_window<R: Threads + Wait + Sync, G: Gate + Sync>(
     rt: &R,
     alloc: Global,
     fabric: Fabric,
@@ -202,7 +202,7 @@ fn publish<R: Threads + Sync, D: Depot>(
 }
 
 // The numbers of frames and entries with these entries.
-fn counted(done: Done, events: &EventList) -> Done
+fn done_after(done: Done, events: &EventList) -> Done
     requires room { (done.frames + frame_count events.now < 2 ^ 64)
         × (done.entries + length events.now < 2 ^ 64) }
     ensures frames { result.frames ≡ done.frames + frame_count events.now }
