@@ -4,7 +4,7 @@ use Rattle.std.specs.Prelude.{option_to_list}
 use Rattle.fab_config.specs.Settings.{Settings}
 use Rattle.fab_base.specs.Seen.{Seen}
 use Rattle.fab_gather.specs.Laws.{AllIn, HasSome}
-use Rattle.fab_gather.specs.Reads.{HasRead}
+use Rattle.fab_gather.specs.Reads.{HasRead, first_index}
 use Rattle.fab_gather.specs.declared.shelf.Input.{Input}
 use Rattle.fab_gather.specs.declared.shelf.Shelf.{Shelf}
 use Rattle.fab_policy.specs.Growing.{FollowedByParts, RangedByParts, TimedGrows, with_more}

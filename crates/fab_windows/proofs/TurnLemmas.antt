@@ -74,7 +74,7 @@ rose_longer : (a b c : ℕ) → Rose a b → b ≤ c → Rose a c
 rose_longer a b c rose le = omega (arith, rose, le)
 
 -- work that was done ended with no fault
-pub not_err : {e : RunFault} → IsErrOf {T = Unit {0}} (Ok tt) e → ⊥
+pub not_err : {E : Type 0} {e : E} → IsErrOf {T = Unit {0}} (Ok tt) e → ⊥
 not_err is = cc
 
 -- ---- what a fault of gathering ends a run with

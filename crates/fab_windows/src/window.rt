@@ -88,7 +88,10 @@ pub(crate) fn run_window<R: Threads + Wait + Sync, D: Depot, G: Gate + Sync>(
         budget,
     ) {
         Ok(()) => run_gathered(rt, alloc, depot, fabric, window, run, journal, outs, gate),
-        Err(fault) => Err(flush_for(depot, journal, outs, &mut run.pages, fault.into())),
+        Err(fault) => {
+            let ending = RunFault::from(fault);
+            Err(flush_for(depot, journal, outs, &mut run.pages, ending))
+        }
     }
 }
 

@@ -3,6 +3,7 @@ use Rattle.std.specs.Result.{IsErrAnd}
 use Rattle.run_files.specs.declared.fault.RunFault.TheVariants as fault
 use Rattle.fab_gather.proofs.FirstLemmas.{any}
 use Rattle.fab_gather.proofs.LeavesLemmas.{takes_none}
+use Rattle.run_files.specs.Faults.{fault_from}
 use Rattle.run_files.specs.Pages.{items_in}
 use Rattle.fab_windows.specs.Files.{Writes}
 use Rattle.fab_windows.specs.Turns.{task_of}
@@ -67,19 +68,19 @@ returns-in_err-shelves-clause-begins g c = λ s.
     let k = task_of (start_at (seen c.args.depot.now) c.args.ins.now c.args.budget.now) s c.args.journal c.args.outs.now in
     let pieces = items_in c.in_ok-pages.pages.records.items in
     let e = c.in_err-shelves.field-0.0 in
-    told_on c.from_residual-in_err-shelves.result e _ _ c.from_residual-in_err-shelves.ensures.1
+    told_on c.from_residual-in_err-shelves.result (fault_from e) _ _ c.from_residual-in_err-shelves.ensures.1
     (ended_looks c.laws_of_runs.ensures k c.requires.given pieces c.in_ok-pages.ensures.records (seen c.flush.new.depot)
     (subst (λ l. Writes c.args.journal c.args.outs.now l pieces (seen c.args.depot.now) (seen c.flush.new.depot) (Ok tt)) c.in_ok-pages.ensures.lines c.in_ok-flush.ensures.writes)
     (seen c.first_looks.new.depot) c.first_looks.new.ins c.first_looks.new.budget e (c.in_err-shelves.ensures.looks s))
 
 pub returns-in_err-shelves-clause-pages : goal.returns-in_err-shelves-clause-pages
-returns-in_err-shelves-clause-pages g c = not_ok c.from_residual-in_err-shelves.result c.in_err-shelves.field-0.0 _ c.from_residual-in_err-shelves.ensures.1
+returns-in_err-shelves-clause-pages g c = not_ok c.from_residual-in_err-shelves.result (fault_from c.in_err-shelves.field-0.0) _ c.from_residual-in_err-shelves.ensures.1
 
 pub returns-in_err-shelves-clause-nothing : goal.returns-in_err-shelves-clause-nothing
-returns-in_err-shelves-clause-nothing g c = not_ok c.from_residual-in_err-shelves.result c.in_err-shelves.field-0.0 _ c.from_residual-in_err-shelves.ensures.1
+returns-in_err-shelves-clause-nothing g c = not_ok c.from_residual-in_err-shelves.result (fault_from c.in_err-shelves.field-0.0) _ c.from_residual-in_err-shelves.ensures.1
 
 pub returns-in_err-shelves-clause-done : goal.returns-in_err-shelves-clause-done
-returns-in_err-shelves-clause-done g c = not_ok c.from_residual-in_err-shelves.result c.in_err-shelves.field-0.0 _ c.from_residual-in_err-shelves.ensures.1
+returns-in_err-shelves-clause-done g c = not_ok c.from_residual-in_err-shelves.result (fault_from c.in_err-shelves.field-0.0) _ c.from_residual-in_err-shelves.ensures.1
 
 pub returns-clause-begins : goal.returns-clause-begins
 returns-clause-begins g c = λ s.

@@ -1,7 +1,7 @@
 use Rattle.std.proofs.Common.{◌≡◌, ◌∙◌, ap, sym, subst, length, Some, Err, arith}
 use Rattle.fab_gather.specs.First.{IsNextWindow}
 use Rattle.fab_gather.specs.Ports.{AreReady}
-use Rattle.fab_windows.specs.Pages.{pending}
+use Rattle.fab_windows.specs.Pages.{FlushedFor, pending}
 use Rattle.fab_windows.specs.Turns.{task_of}
 use Rattle.fab_windows.proofs.GoLemmas.{gathers_as, gathered_by, window_ends, files_then}
 use Rattle.fab_windows.proofs.StayLemmas.{same_ports}
@@ -73,7 +73,8 @@ returns-in-Err-clause-runs g c = λ s going.
     let e = c.in-Err.fault in
     window_ends c.laws_of_runs.ensures k c.args.window c.args.first c.args.fabric (seen c.args.depot.now) c.args.ins.now shelves c.args.budget.now c.args.run.now.done (pending c.args.run.now.pages) going (seen c.gather.new.depot) c.gather.new.ins c.gather.new.shelves c.gather.new.budget e
     (gathers_as k c.args.window c.args.first c.args.fabric (seen c.args.depot.now) c.args.ins.now shelves c.args.budget.now (seen c.gather.new.depot) c.gather.new.ins c.gather.new.shelves c.gather.new.budget
-    c.config.result.now c.config.ensures c.deref_mut.result.now c.deref_mut.ensures.value (Err e) c.in-Err.ensures.gathers) (seen c.flush_for.new.depot) c.flush_for.result c.flush_for.ensures
+    c.config.result.now c.config.ensures c.deref_mut.result.now c.deref_mut.ensures.value (Err e) c.in-Err.ensures.gathers) (seen c.flush_for.new.depot) c.flush_for.result
+    (subst (λ x. FlushedFor c.args.journal c.args.outs.now (pending c.args.run.now.pages) (seen c.gather.new.depot) (seen c.flush_for.new.depot) x c.flush_for.result) c.from-ending.ensures c.flush_for.ensures)
 
 pub returns-in-Ok-clause-runs : goal.returns-in-Ok-clause-runs
 returns-in-Ok-clause-runs g c = λ s going.
