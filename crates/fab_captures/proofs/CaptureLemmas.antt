@@ -1,5 +1,5 @@
 -- A capture is read whole, record by record.
-use Rattle.std.proofs.Common.{◌≡◌, ◌≢◌, ℕ, zero, suc, ◌+◌, ◌-◌, ◌^◌, ◌<◌, ◌≤◌, min, cond, inl, inr, drop, length-drop, List, [], ◌∷◌, ◌++◌, length, length-append, append_assoc, append-nil, Option, Some, None, Ok, Err, IsTrue, refl, sym, ◌∙◌, ap, subst, arith}
+use Rattle.std.proofs.Common.{◌≡◌, ℕ, zero, suc, ◌+◌, ◌-◌, ◌^◌, ◌<◌, ◌≤◌, min, cond, inl, inr, drop, length-drop, List, [], ◌∷◌, ◌++◌, length, length-append, append_assoc, append-nil, Option, Some, None, Ok, Err, IsTrue, refl, sym, ◌∙◌, ap, subst, arith}
 use Rattle.std.specs.Prelude.{Result, IsErrOf, IfOk, IfErr}
 use Rattle.std.proofs.lemmas.Bool.{le-ltb, lt-ltb}
 use Rattle.pcap_file.proofs.lemmas.Numbers.{le_or_lt}
@@ -20,17 +20,17 @@ use Rattle.pcap_file.specs.Records.{Ascends}
 use Rattle.pcap_file.proofs.lemmas.Steps.{gives_found}
 use Rattle.pcap_file.proofs.lemmas.Chains.{found_stands, last-push, ascends-push}
 use Rattle.fab_gather.specs.declared.fault.LimitKind.TheVariants as limit
-use Rattle.fab_gather.specs.declared.fault.RunFault.{RunFault}
-use Rattle.fab_gather.specs.declared.fault.RunFault.TheVariants as faults
+use Rattle.fab_gather.specs.declared.fault.GatherFault.{GatherFault}
+use Rattle.fab_gather.specs.declared.fault.GatherFault.TheVariants as faults
 use Rattle.fab_gather.specs.Port.{fault_by, IsStopped, TellsReads}
 use Rattle.fab_gather.proofs.PortLemmas.{read_of, spared}
 use Rattle.fab_captures.specs.Captures.{Taken, unless_stopped, without_head, without_record, body_by, capture_by, unopened_by, with_record, by_step, records_by, AreFit, in_front, to_take, ReadsCapture, ReadsRecords, SoFar}
 
-in_front_none : (t : Result Taken RunFault) → in_front [] t ≡ t
+in_front_none : (t : Result Taken GatherFault) → in_front [] t ≡ t
 in_front_none (Err e) = refl
 in_front_none (Ok t) = refl
 
-in_front_more : (records : List Record) (x : Record) (t : Result Taken RunFault) → in_front records (unless_stopped t (with_record x)) ≡ in_front (records ++ x ∷ []) t
+in_front_more : (records : List Record) (x : Record) (t : Result Taken GatherFault) → in_front records (unless_stopped t (with_record x)) ≡ in_front (records ++ x ∷ []) t
 in_front_more records x (Err e) = refl
 in_front_more records x (Ok t) = ap (λ rs. Ok (record { records = rs; left = t.left })) (sym (append_assoc records (x ∷ []) t.records))
 
@@ -50,16 +50,8 @@ stops_by step rest errors.Frames port says stopped = says
 stops_by step rest (errors.Read failed) port says stopped = absurd stopped
 stops_by step rest errors.Memory port says stopped = absurd stopped
 
-is_read : (x : RunFault) → IsErrOf {T = List Record} (Err x) faults.Read → x ≡ faults.Read
+is_read : (x : GatherFault) → IsErrOf {T = List Record} (Err x) faults.Read → x ≡ faults.Read
 is_read x e = cc
-
-never_write : (e : CapError) (port : ℕ) → fault_by e port ≢ faults.Write
-never_write (errors.Cut at) port e = cc
-never_write (errors.TooLong at len) port e = cc
-never_write errors.Bytes port e = cc
-never_write errors.Frames port e = cc
-never_write (errors.Read failed) port e = cc
-never_write errors.Memory port e = cc
 
 module _ (port slot : ℕ) (a : Seen) (r : Reading) (had : Budget) where
   pub so_far_none : IsTrue (a.input slot) → r.kept ≡ None → r.at + had.bytes < 2 ^ 64 → SoFar port slot a a r r had had []
@@ -88,10 +80,10 @@ module _ (port slot : ℕ) (a : Seen) (r : Reading) (had : Budget) where
     abbrev step_b : Step
     step_b = step_of left s.at (next s.head s.greatest (to_come s b slot))
 
-    abbrev more_b : ℕ → ℕ → Caught → List ℕ → Result Taken RunFault
+    abbrev more_b : ℕ → ℕ → Caught → List ℕ → Result Taken GatherFault
     more_b m moment caught rest = records_by m port s.head (s.at + (RECORD_HEAD + length caught.bytes)) moment (without_record left caught) rest
 
-    stepped : (x : Record) (whole : Result Taken RunFault) (rest : List ℕ) (t : Reading) (now : Budget) → step_b ≡ Gives x.moment x.caught (to_come t c slot) → length (to_come s b slot) ≡ 16 + length x.caught.bytes + length (to_come t c slot)
+    stepped : (x : Record) (whole : Result Taken GatherFault) (rest : List ℕ) (t : Reading) (now : Budget) → step_b ≡ Gives x.moment x.caught (to_come t c slot) → length (to_come s b slot) ≡ 16 + length x.caught.bytes + length (to_come t c slot)
         → ((q : ℕ) → more_b q x.moment x.caught (to_come t c slot) ≡ to_take q port t slot c now)
         → (q : ℕ) → length (to_come s b slot) < q → whole ≡ in_front records (to_take q port s slot b left)
         → (q : ℕ) × (length (to_come t c slot) < q) × (whole ≡ in_front (records ++ x ∷ []) (to_take q port t slot c now))
@@ -136,7 +128,7 @@ module _ (port slot : ℕ) (a : Seen) (r : Reading) (had : Budget) where
         }
 
     -- the last step
-    last_step : (step : Step) → step_b ≡ step → (whole : Result Taken RunFault) (q : ℕ) → length (to_come s b slot) < q → whole ≡ in_front records (to_take q port s slot b left)
+    last_step : (step : Step) → step_b ≡ step → (whole : Result Taken GatherFault) (q : ℕ) → length (to_come s b slot) < q → whole ≡ in_front records (to_take q port s slot b left)
         → (m : ℕ) × (whole ≡ in_front records (by_step (more_b m) port left step))
     last_step step is whole zero less e = absurd (omega (arith, less))
     last_step step is whole (suc q) less e = (q, e ∙ ap (λ z. in_front records (by_step (more_b q) port left z)) is)
@@ -152,7 +144,6 @@ module _ (port slot : ℕ) (a : Seen) (r : Reading) (had : Budget) where
           end.1 ∙ ap (λ rs. Ok (record { records = rs; left = left })) (append-nil records) ∙ ap (λ z. Ok (record { records = records; left = z })) (sym n.taken.budget);
       stops = λ told m less. tt;
       cause = λ e. absurd (cc);
-      only = tt;
       counts = λ other m. n.counts m ∙ f.counts m;
     }
 
@@ -170,7 +161,6 @@ module _ (port slot : ℕ) (a : Seen) (r : Reading) (had : Budget) where
           let rose = n.cause f.fresh failed.0 (ap Err failed.1) in
           rose_later (a.read_faults (a.name slot)) (b.read_faults (a.name slot)) (c.read_faults (a.name slot)) f.reads.keeps.reads_rise
           (subst (λ m. Rose (b.read_faults m) (c.read_faults m)) f.name rose);
-      only = never_write e port;
       counts = λ other m. spared port e b c n.counts (λ same. other (ap Err same)) m ∙ f.counts m;
     }
 
@@ -199,7 +189,7 @@ module _ (port slot : ℕ) (a b : Seen) (had left : Budget) (input : IsTrue (a.i
   whole_less : (r : Reading) → OpensReader slot a b had left (Ok r) → IsTrue a.told → length (to_come r b slot) < suc (length (a.left slot))
   whole_less r o told = omega (arith, ap length (o.head told).1, length-drop 24 (a.left slot))
 
-  pub whole_read : (c : Seen) (r : Reading) (now : Budget) (result : Result (List Record) RunFault) → OpensReader slot a b had left (Ok r) → ReadsRecords port slot b c r left now result → ReadsCapture port slot a c had now result
+  pub whole_read : (c : Seen) (r : Reading) (now : Budget) (result : Result (List Record) GatherFault) → OpensReader slot a b had left (Ok r) → ReadsRecords port slot b c r left now result → ReadsCapture port slot a c had now result
   whole_read c r now result o k =
       let name = input_name (a.name slot) a b o.reads.keeps slot input in
       record {
@@ -210,15 +200,14 @@ module _ (port slot : ℕ) (a b : Seen) (had left : Budget) (input : IsTrue (a.i
         stops = λ told. stops_as result (whole_is r o told) (k.stops (told_stays (a.name slot) a b o.reads.keeps told) (suc (length (a.left slot))) (whole_less r o told));
         cause = λ e. rose_later (a.read_faults (a.name slot)) (b.read_faults (a.name slot)) (c.read_faults (a.name slot)) o.reads.keeps.reads_rise
             (subst (λ m. Rose (b.read_faults m) (c.read_faults m)) name (k.cause e));
-        only = k.only;
         counts = λ other m. k.counts other m ∙ o.counts m;
       }
     where
-      taken_as : {x y : Result Taken RunFault} (result : Result (List Record) RunFault) → x ≡ y → IfOk result (λ rs. y ≡ Ok (record { records = rs; left = now })) → IfOk result (λ rs. x ≡ Ok (record { records = rs; left = now }))
+      taken_as : {x y : Result Taken GatherFault} (result : Result (List Record) GatherFault) → x ≡ y → IfOk result (λ rs. y ≡ Ok (record { records = rs; left = now })) → IfOk result (λ rs. x ≡ Ok (record { records = rs; left = now }))
       taken_as (Ok rs) e h = e ∙ h
       taken_as (Err f) e h = tt
 
-      stops_as : {x y : Result Taken RunFault} (result : Result (List Record) RunFault) → x ≡ y → IfErr result (λ f. IsStopped f → y ≡ Err f) → IfErr result (λ f. IsStopped f → x ≡ Err f)
+      stops_as : {x y : Result Taken GatherFault} (result : Result (List Record) GatherFault) → x ≡ y → IfErr result (λ f. IsStopped f → y ≡ Err f) → IfErr result (λ f. IsStopped f → x ≡ Err f)
       stops_as (Ok rs) e h = tt
       stops_as (Err f) e h = λ stopped. e ∙ h stopped
 
@@ -244,7 +233,6 @@ module _ (port slot : ℕ) (a b : Seen) (had left : Budget) (input : IsTrue (a.i
     taken = λ told. tt;
     stops = λ told stopped. not_opened e o told stopped;
     cause = λ is. caused e o is;
-    only = never e;
     counts = spared_by e o;
   }
     where
@@ -252,11 +240,6 @@ module _ (port slot : ℕ) (a b : Seen) (had left : Budget) (input : IsTrue (a.i
       spared_by (opens.Head fault) o other = o.counts
       spared_by (opens.Read failed) o other = absurd (other refl)
       spared_by opens.Bytes o other = o.counts
-
-      never : (e : CapOpen) → unopened_by e port ≢ faults.Write
-      never (opens.Head fault) e = cc
-      never (opens.Read failed) e = cc
-      never opens.Bytes e = cc
 
       caused : (e : CapOpen) → OpensReader slot a b had left (Err e) → IsErrOf {T = List Record} (Err (unopened_by e port)) faults.Read → Rose (a.read_faults (a.name slot)) (b.read_faults (a.name slot))
       caused (opens.Head fault) o is = absurd (cc)

@@ -1,5 +1,5 @@
 -- What is read of captures: all of each, port by port, with one budget of bytes and frames.
-use Rattle.std.specs.Prelude.{◌≡◌, ◌≢◌, ℕ, zero, suc, ◌+◌, ◌-◌, ◌<◌, ◌≤◌, ◌^◌, IsTrue, nat_lt, if◌then◌else◌, List, [], ◌∷◌, ◌++◌, length, drop, Option, Some, None, Result, Ok, Err, IfOk, IfErr, IsErrOf}
+use Rattle.std.specs.Prelude.{◌≡◌, ℕ, zero, suc, ◌+◌, ◌-◌, ◌<◌, ◌≤◌, ◌^◌, IsTrue, nat_lt, if◌then◌else◌, List, [], ◌∷◌, ◌++◌, length, drop, Option, Some, None, Result, Ok, Err, IfOk, IfErr, IsErrOf}
 use Rattle.fab_base.specs.Seen.{Seen, Reads, Rose, SameReadFaults}
 use Rattle.fab_base.specs.declared.values.Caught.{Caught}
 use Rattle.pcap_file.specs.declared.Budget.{Budget}
@@ -15,8 +15,8 @@ use Rattle.pcap_file.specs.Records.{Ascends, last_moment}
 use Rattle.fab_gather.specs.declared.fault.CapWhy.{CapWhy}
 use Rattle.fab_gather.specs.declared.fault.CapWhy.TheVariants as why
 use Rattle.fab_gather.specs.declared.fault.LimitKind.TheVariants as limit
-use Rattle.fab_gather.specs.declared.fault.RunFault.{RunFault}
-use Rattle.fab_gather.specs.declared.fault.RunFault.TheVariants as faults
+use Rattle.fab_gather.specs.declared.fault.GatherFault.{GatherFault}
+use Rattle.fab_gather.specs.declared.fault.GatherFault.TheVariants as faults
 use Rattle.fab_gather.specs.Port.{fault_by, IsStopped, TellsReads}
 
 -- The records of a capture, and what is left of the budget.
@@ -25,7 +25,7 @@ pub record Taken : Type 0 where
   pub left : Budget
 
 -- what follows a reading, unless it stops
-abbrev pub unless_stopped : {X Y : Type 0} → Result X RunFault → (X → Result Y RunFault) → Result Y RunFault
+abbrev pub unless_stopped : {X Y : Type 0} → Result X GatherFault → (X → Result Y GatherFault) → Result Y GatherFault
 unless_stopped (Err fault) more = Err fault
 unless_stopped (Ok x) more = more x
 
@@ -36,17 +36,17 @@ without_record b caught = record { bytes = b.bytes - (RECORD_HEAD + length caugh
 abbrev pub without_head : Budget → Budget
 without_head b = record { bytes = b.bytes - HEAD; frames = b.frames }
 
-abbrev pub with_record : Record → Taken → Result Taken RunFault
+abbrev pub with_record : Record → Taken → Result Taken GatherFault
 with_record r t = Ok (record { records = r ∷ t.records; left = t.left })
 
 -- what a step of a reader gives, by what is taken behind a record
-abbrev pub by_step : (ℕ → Caught → List ℕ → Result Taken RunFault) → ℕ → Budget → Step → Result Taken RunFault
+abbrev pub by_step : (ℕ → Caught → List ℕ → Result Taken GatherFault) → ℕ → Budget → Step → Result Taken GatherFault
 by_step more port budget (Gives moment caught rest) = unless_stopped (more moment caught rest) (with_record (record { moment = moment; caught = caught }))
 by_step more port budget Ends = Ok (record { records = []; left = budget })
 by_step more port budget (Stops e) = Err (fault_by e port)
 
 -- the records from a place of a port's capture on, in at most n steps, up to the end of the file, or why the reading stops
-abbrev pub records_by : ℕ → ℕ → CaptureHead → ℕ → ℕ → Budget → List ℕ → Result Taken RunFault
+abbrev pub records_by : ℕ → ℕ → CaptureHead → ℕ → ℕ → Budget → List ℕ → Result Taken GatherFault
 records_by zero port h at greatest budget l = Ok (record { records = []; left = budget })
 records_by (suc n) port h at greatest budget l =
     by_step (λ moment caught rest. records_by n port h (at + (RECORD_HEAD + length caught.bytes)) moment (without_record budget caught) rest) port budget (step_of budget at (next h greatest l))
@@ -59,22 +59,22 @@ why_of heads.BadVersion = why.Version
 why_of heads.NotEthernet = why.Link
 
 -- what an error of opening a port's capture ends the reading with
-abbrev pub unopened_by : CapOpen → ℕ → RunFault
+abbrev pub unopened_by : CapOpen → ℕ → GatherFault
 unopened_by (opens.Head fault) port = faults.Capture port 0 (why_of fault)
 unopened_by (opens.Read failed) port = faults.Read
 unopened_by opens.Bytes port = faults.Limit limit.Bytes
 
-abbrev pub body_by : ℕ → Budget → List ℕ → Result CaptureHead CapFault → Result Taken RunFault
+abbrev pub body_by : ℕ → Budget → List ℕ → Result CaptureHead CapFault → Result Taken GatherFault
 body_by port budget l (Err fault) = Err (faults.Capture port 0 (why_of fault))
 body_by port budget l (Ok h) = records_by (suc (length l)) port h HEAD 0 (without_head budget) (drop HEAD l)
 
 -- the capture of a port: the budget is tested before its head, and its head before its records
-unfoldable pub capture_by : ℕ → Budget → List ℕ → Result Taken RunFault
+unfoldable pub capture_by : ℕ → Budget → List ℕ → Result Taken GatherFault
 capture_by port budget l = if nat_lt budget.bytes HEAD then Err (faults.Limit limit.Bytes) else body_by port budget l (head_decoded l)
 
 -- The captures of the ports from this one on, by what their files hold, each read whole before the next is opened; or the
 -- first fault of them. A file that isn't there can't be read.
-abbrev pub captures_by : ℕ → Budget → List (Option (List ℕ)) → Result (List (List Record)) RunFault
+abbrev pub captures_by : ℕ → Budget → List (Option (List ℕ)) → Result (List (List Record)) GatherFault
 captures_by port budget [] = Ok []
 captures_by port budget (None ∷ files) = Err faults.Read
 captures_by port budget (Some l ∷ files) = unless_stopped (capture_by port budget l) (λ t. unless_stopped (captures_by (port + 1) t.left files) (λ ins. Ok (t.records ∷ ins)))
@@ -87,34 +87,32 @@ AreFit [] = Unit {0}
 AreFit (r ∷ records) = (r.moment < 2 ^ 43) × (length r.caught.bytes ≤ 65535) × AreFit records
 
 -- What reading the capture of a port whole does: all of it is as `capture_by` says of the bytes that the slot had to give.
-pub record ReadsCapture (port slot : ℕ) (a b : Seen) (had left : Budget) (result : Result (List Record) RunFault) : Type 0 where
+pub record ReadsCapture (port slot : ℕ) (a b : Seen) (had left : Budget) (result : Result (List Record) GatherFault) : Type 0 where
   pub reads : Reads (a.name slot) a b
   pub fit : IfOk result (λ records. AreFit records × Ascends 0 records)
   pub frames : IfOk result (λ records. left.frames + length records ≡ had.frames)
   pub taken : IsTrue a.told → IfOk result (λ records. capture_by port had (a.left slot) ≡ Ok (record { records = records; left = left }))
   pub stops : IsTrue a.told → IfErr result (λ e. IsStopped e → capture_by port had (a.left slot) ≡ Err e)
   pub cause : IsErrOf result faults.Read → Rose (a.read_faults (a.name slot)) (b.read_faults (a.name slot))
-  pub only : IfErr result (λ e. e ≢ faults.Write)
   pub counts : TellsReads a b result
 
 -- records in front of what a reading takes
-abbrev pub in_front : List Record → Result Taken RunFault → Result Taken RunFault
+abbrev pub in_front : List Record → Result Taken GatherFault → Result Taken GatherFault
 in_front records (Err fault) = Err fault
 in_front records (Ok t) = Ok (record { records = records ++ t.records; left = t.left })
 
 -- what a reader's records are from where it stands
-abbrev pub to_take : ℕ → ℕ → Reading → ℕ → Seen → Budget → Result Taken RunFault
+abbrev pub to_take : ℕ → ℕ → Reading → ℕ → Seen → Budget → Result Taken GatherFault
 to_take n port r slot d budget = records_by n port r.head r.at r.greatest budget (to_come r d slot)
 
 -- What reading the records behind a head does, with more than enough steps.
-pub record ReadsRecords (port slot : ℕ) (a b : Seen) (r : Reading) (had left : Budget) (result : Result (List Record) RunFault) : Type 0 where
+pub record ReadsRecords (port slot : ℕ) (a b : Seen) (r : Reading) (had left : Budget) (result : Result (List Record) GatherFault) : Type 0 where
   pub reads : Reads (a.name slot) a b
   pub fit : IfOk result (λ records. AreFit records × Ascends r.greatest records)
   pub frames : IfOk result (λ records. left.frames + length records ≡ had.frames)
   pub taken : IsTrue a.told → (n : ℕ) → length (to_come r a slot) < n → IfOk result (λ records. to_take n port r slot a had ≡ Ok (record { records = records; left = left }))
   pub stops : IsTrue a.told → (n : ℕ) → length (to_come r a slot) < n → IfErr result (λ e. IsStopped e → to_take n port r slot a had ≡ Err e)
   pub cause : IsErrOf result faults.Read → Rose (a.read_faults (a.name slot)) (b.read_faults (a.name slot))
-  pub only : IfErr result (λ e. e ≢ faults.Write)
   pub counts : TellsReads a b result
 
 -- What stands while they are read: these records were taken.

@@ -1,11 +1,10 @@
 //! Reading a capture whole.
 ghost use Rattle.std.specs.Prelude.{◌≡◌, ◌+◌, ◌<◌, ◌^◌, IsTrue, None};
-ghost use Rattle.fab_gather.specs.Port.{fault_by};
 ghost use Rattle.fab_captures.specs.Captures.{ReadsCapture, ReadsRecords, unopened_by, why_of};
 
 use fab_base::{Depot, OwnedList, PortNo};
-use fab_gather::{CapWhy, LimitKind, RunFault};
-use pcap_file::{Budget, CapError, CapFault, CapOpen, Reader, Record};
+use fab_gather::{CapWhy, GatherFault, LimitKind, fault_of};
+use pcap_file::{Budget, CapFault, CapOpen, Reader, Record};
 use std::alloc::Global;
 
 /// The records of a capture, in its order.
@@ -19,7 +18,7 @@ pub fn read_capture<D: Depot>(
     port: PortNo,
     slot: u32,
     budget: &mut Budget,
-) -> Result<RecordList, RunFault>
+) -> Result<RecordList, GatherFault>
     requires input { IsTrue ((D.seen depot.old).input slot) }
     ensures reads { ReadsCapture port slot (D.seen depot.old) (D.seen depot.new)
         budget.old budget.new result }
@@ -40,7 +39,7 @@ fn records_of<D: Depot>(
     slot: u32,
     reader: &mut Reader,
     budget: &mut Budget,
-) -> Result<RecordList, RunFault>
+) -> Result<RecordList, GatherFault>
     requires input { IsTrue ((D.seen depot.old).input slot) }
     requires fresh { reader.old.kept ≡ None }
     requires place { reader.old.at + budget.old.bytes < 2 ^ 64 }
@@ -52,7 +51,7 @@ fn records_of<D: Depot>(
         match reader.next(alloc, depot, slot, budget) {
             Ok(Some(record)) => match records.push(alloc, record) {
                 Ok(()) => {}
-                Err(_) => return Err(RunFault::Memory),
+                Err(_) => return Err(GatherFault::Memory),
             },
             Ok(None) => return Ok(records),
             Err(error) => return Err(fault_of(error, port)),
@@ -60,17 +59,17 @@ fn records_of<D: Depot>(
     }
 }
 
-fn unopened(error: CapOpen, port: PortNo) -> RunFault
+fn unopened(error: CapOpen, port: PortNo) -> GatherFault
     ensures { result ≡ unopened_by error port }
 {
     match error {
-        CapOpen::Head(fault) => RunFault::Capture {
+        CapOpen::Head(fault) => GatherFault::Capture {
             port,
             at: 0,
             why: why(fault),
         },
-        CapOpen::Read(_) => RunFault::Read,
-        CapOpen::Bytes => RunFault::Limit(LimitKind::Bytes),
+        CapOpen::Read(_) => GatherFault::Read,
+        CapOpen::Bytes => GatherFault::Limit(LimitKind::Bytes),
     }
 }
 
@@ -82,26 +81,5 @@ fn why(fault: CapFault) -> CapWhy
         CapFault::BadMagic => CapWhy::Magic,
         CapFault::BadVersion => CapWhy::Version,
         CapFault::NotEthernet => CapWhy::Link,
-    }
-}
-
-fn fault_of(error: CapError, port: PortNo) -> RunFault
-    ensures { result ≡ fault_by error port }
-{
-    match error {
-        CapError::Cut { at } => RunFault::Capture {
-            port,
-            at,
-            why: CapWhy::Cut,
-        },
-        CapError::TooLong { at, .. } => RunFault::Capture {
-            port,
-            at,
-            why: CapWhy::Long,
-        },
-        CapError::Bytes => RunFault::Limit(LimitKind::Bytes),
-        CapError::Frames => RunFault::Limit(LimitKind::Frames),
-        CapError::Read(_) => RunFault::Read,
-        CapError::Memory => RunFault::Memory,
     }
 }

@@ -18,11 +18,11 @@ use Rattle.pcap_file.specs.declared.Record.{Record}
 use Rattle.pcap_file.proofs.lemmas.Numbers.{le_or_lt}
 use Rattle.fab_gather.specs.declared.shelf.Input.{Input}
 use Rattle.fab_gather.specs.declared.shelf.Shelf.{Shelf}
-use Rattle.fab_gather.specs.declared.fault.RunFault.{RunFault}
-use Rattle.fab_gather.specs.declared.fault.RunFault.TheVariants as fault
-use Rattle.fab_gather.specs.First.{IsFresh, AreFresh, opened_by, opened_in, first_look, Looked, StopsFirst, LeavesFirst, LooksOnce, LooksFirst}
+use Rattle.fab_gather.specs.declared.fault.GatherFault.{GatherFault}
+use Rattle.fab_gather.specs.declared.fault.GatherFault.TheVariants as fault
+use Rattle.fab_gather.specs.First.{IsFresh, AreFresh, opened_by, opened_in, first_look, Looked, StopsFirst, LeavesFirst, LooksOnce, LooksFirst, port_start_at, start_at, Start}
 use Rattle.fab_gather.specs.Port.{IsReady, Spends, Gave, to_look, ending}
-use Rattle.fab_gather.specs.Ports.{AreInputs, At, slots_of, NameIn, TakesFrom, rests, joined, counts_of}
+use Rattle.fab_gather.specs.Ports.{AreInputs, At, slots_of, NameIn, TakesFrom, rests, joined, counts_of, walk_at, Walk}
 use Rattle.fab_gather.specs.Reads.{HasRead, HaveRead}
 use Rattle.fab_gather.proofs.OrderLemmas.{After, AllNotBefore, TakesAt, taken_at, Later, ordered, later_looks, before_by}
 use Rattle.fab_gather.proofs.LeavesLemmas.{gave_none, gave_between, gave_first}
@@ -199,17 +199,18 @@ pub record Still (a b : Seen) (i i' : Input) : Type 0 where
   pub input : i' ≡ i
   pub rest : b.left i.slot ≡ a.left i.slot
 
-pub record Seeing (c : Settings) (k : ℕ) (a b : Seen) (ins ins' : List Input) (shelves : List Shelf) (had left : Budget) : Type 0 where
-  pub touches : Touches Nothing (NameIn a (slots_of ins)) a b
-  pub slots : slots_of ins' ≡ slots_of ins
-  pub count : length shelves ≡ k
-  pub done : (q : ℕ) (i i' : Input) (s : Shelf) → slice_get ins q ≡ Some i → At q ins' shelves i' s → Began c a b i i' s left
-  pub waits : (q : ℕ) (i i' : Input) → k ≤ q → slice_get ins q ≡ Some i → slice_get ins' q ≡ Some i' → Still a b i i'
-  pub spent : Spends had left 0 (counts_of shelves)
-  pub passes : IsTrue a.told → (first : ℕ) → stop_in first had.bytes had.frames (in_order (looks_of c 1 (opened_in a ins))) ≡ stop_in first left.bytes left.frames (in_order (joined (fronts c 1 b ins' shelves)))
-  pub first_is : IsTrue a.told → first_window (in_order (looks_of c 1 (opened_in a ins))) ≡ first_window (in_order (joined (fronts c 1 b ins' shelves)))
-  pub counts : SameReadFaults a b
-  pub writes : SameWriteFaults a b
+pub record Seeing (c : Settings) (k : ℕ) (old : Start) (new : Walk) : Type 0 where
+  pub touches : Touches Nothing (NameIn old.seen (slots_of old.ins)) old.seen new.seen
+  pub slots : slots_of new.ins ≡ slots_of old.ins
+  pub count : length new.shelves ≡ k
+  pub done : (q : ℕ) (i i' : Input) (s : Shelf) → slice_get old.ins q ≡ Some i → At q new.ins new.shelves i' s → Began c old.seen new.seen i i' s new.left
+  pub waits : (q : ℕ) (i i' : Input) → k ≤ q → slice_get old.ins q ≡ Some i → slice_get new.ins q ≡ Some i' → Still old.seen new.seen i i'
+  pub spent : Spends old.left new.left 0 (counts_of new.shelves)
+  pub passes : IsTrue old.seen.told → (first : ℕ) →
+      stop_in first old.left.bytes old.left.frames (in_order (looks_of c 1 (opened_in old.seen old.ins))) ≡ stop_in first new.left.bytes new.left.frames (in_order (joined (fronts c 1 new.seen new.ins new.shelves)))
+  pub first_is : IsTrue old.seen.told → first_window (in_order (looks_of c 1 (opened_in old.seen old.ins))) ≡ first_window (in_order (joined (fronts c 1 new.seen new.ins new.shelves)))
+  pub counts : SameReadFaults old.seen new.seen
+  pub writes : SameWriteFaults old.seen new.seen
 
 fresh_at : (ins : List Input) (q : ℕ) (i : Input) → AreFresh ins → slice_get ins q ≡ Some i → IsFresh i.reader
 fresh_at [] q i fresh at = absurd (cc)
@@ -224,11 +225,11 @@ stop_as : (c : Settings) (bytes frames : ℕ) (opened : List Opened) → stop c 
 unfolding stop
 stop_as c bytes frames opened = refl
 
-pub seeing_as : {c : Settings} {k : ℕ} {a b : Seen} {ins ins' : List Input} {l m : List Shelf} {had left : Budget} → l ≡ m → Seeing c k a b ins ins' l had left → Seeing c k a b ins ins' m had left
-seeing_as {c} {k} {a} {b} {ins} {ins'} {l} {m} {had} {left} e h = subst (λ q. Seeing c k a b ins ins' q had left) e h
+pub seeing_as : {c : Settings} {k : ℕ} {a b : Seen} {ins ins' : List Input} {l m : List Shelf} {had left : Budget} → l ≡ m → Seeing c k (start_at a ins had) (walk_at b ins' l left) → Seeing c k (start_at a ins had) (walk_at b ins' m left)
+seeing_as {c} {k} {a} {b} {ins} {ins'} {l} {m} {had} {left} e h = subst (λ q. Seeing c k (start_at a ins had) (walk_at b ins' q left)) e h
 
-pub once_as : {c : Settings} {m n slot : ℕ} {a b : Seen} {r r' : Reading} {had left : Budget} {result : Result Shelf RunFault} → m ≡ n → LooksOnce c m slot a b r r' had left result → LooksOnce c n slot a b r r' had left result
-once_as {c} {m} {n} {slot} {a} {b} {r} {r'} {had} {left} {result} e h = subst (λ (q : ℕ). LooksOnce c q slot a b r r' had left result) e h
+pub once_as : {c : Settings} {m n slot : ℕ} {a b : Seen} {r r' : Reading} {had left : Budget} {result : Result Shelf GatherFault} → m ≡ n → LooksOnce c m slot (port_start_at a r had) (port_start_at b r' left) result → LooksOnce c n slot (port_start_at a r had) (port_start_at b r' left) result
+once_as {c} {m} {n} {slot} {a} {b} {r} {r'} {had} {left} {result} e h = subst (λ (q : ℕ). LooksOnce c q slot (port_start_at a r had) (port_start_at b r' left) result) e h
 
 -- the same slots, and not more of the limits
 taken_from : (ins ins' : List Input) (had left : Budget) (found : ℕ) → slots_of ins' ≡ slots_of ins → Spends had left 0 found → TakesFrom ins ins' had left
@@ -238,7 +239,7 @@ taken_from ins ins' had left found slots s = let f = s.frames in let b = s.bytes
 pub any : Settings
 any = record { switch = 0; fcf_mac = []; fc_map = 0; vlan = 0; domain = 0; pool = 0; priority = 0; period = 0; window = 0; limit = 0; zones = []; sets = []; activations = [] }
 
-module _ (found_law : LooksFound) (end_law : LooksEnd) (c : Settings) (k : ℕ) (a b : Seen) (ins ins' : List Input) (shelves : List Shelf) (had mid : Budget) (are : AreInputs a (slots_of ins)) (fresh : AreFresh ins) (lt : k < length ins) (see : Seeing c k a b ins ins' shelves had mid) where
+module _ (found_law : LooksFound) (end_law : LooksEnd) (c : Settings) (k : ℕ) (a b : Seen) (ins ins' : List Input) (shelves : List Shelf) (had mid : Budget) (are : AreInputs a (slots_of ins)) (fresh : AreFresh ins) (lt : k < length ins) (see : Seeing c k (start_at a ins had) (walk_at b ins' shelves mid)) where
   told_b : IsTrue a.told → IsTrue b.told
   told_b told = subst IsTrue (sym see.touches.told) told
 
@@ -296,7 +297,7 @@ module _ (found_law : LooksFound) (end_law : LooksEnd) (c : Settings) (k : ℕ) 
       slots_on : slots_of (set ins' k i2) ≡ slots_of ins
       slots_on = slots_set ins' k i1 i2 at slot ∙ see.slots
 
-      spent_on : (s : Shelf) → Looked c (k + 1) i1.slot b d i1.reader i2.reader s mid left → Spends had left 0 (counts_of shelves + s.count)
+      spent_on : (s : Shelf) → Looked c (k + 1) i1.slot (port_start_at b i1.reader mid) (port_start_at d i2.reader left) s → Spends had left 0 (counts_of shelves + s.count)
       spent_on s l =
           let own = l.spent in
           let so_far = see.spent in
@@ -358,7 +359,7 @@ module _ (found_law : LooksFound) (end_law : LooksEnd) (c : Settings) (k : ℕ) 
           | inr less ↦ earlier_left q j j' less first (sym (get_set_other ins' k q i2 (λ e. omega arith)) ∙ now)
         ]
 
-      pub look_failed : (f : RunFault) → LooksOnce c (k + 1) i1.slot b d i1.reader i2.reader mid left (Err f) → LooksFirst c a d ins (set ins' k i2) had left (Err f)
+      pub look_failed : (f : GatherFault) → LooksOnce c (k + 1) i1.slot (port_start_at b i1.reader mid) (port_start_at d i2.reader left) (Err f) → LooksFirst c (start_at a ins had) (start_at d (set ins' k i2) left) (Err f)
       look_failed f t = record {
         touches = touches_on a b ins ins' are see.touches see.slots k i1 at d t.reads;
         slots = slots_on;
@@ -372,7 +373,6 @@ module _ (found_law : LooksFound) (end_law : LooksEnd) (c : Settings) (k : ℕ) 
         looks_ = λ told. tt;
         stops = λ told stopped. stop_is told (t.stops (told_b told) stopped);
         cause = λ is. (k, lt, rose_on a b ins ins' are see.touches see.slots k i1 at d (t.cause (let same : f ≡ fault.Read = cc in ap Err same)));
-        only = t.only;
         counts = λ other m. t.counts (λ is. other (let same : f ≡ fault.Read = cc in ap Err same)) m ∙ see.counts m;
         writes = λ m. t.reads.writes m ∙ see.writes m;
       }
@@ -392,7 +392,7 @@ module _ (found_law : LooksFound) (end_law : LooksEnd) (c : Settings) (k : ℕ) 
               )
 
       -- memory is refused for its shelf
-      pub look_lost : (s : Shelf) → LooksOnce c (k + 1) i1.slot b d i1.reader i2.reader mid left (Ok s) → LooksFirst c a d ins (set ins' k i2) had left (Err fault.Memory)
+      pub look_lost : (s : Shelf) → LooksOnce c (k + 1) i1.slot (port_start_at b i1.reader mid) (port_start_at d i2.reader left) (Ok s) → LooksFirst c (start_at a ins had) (start_at d (set ins' k i2) left) (Err fault.Memory)
       look_lost s t = record {
         touches = touches_on a b ins ins' are see.touches see.slots k i1 at d t.reads;
         slots = slots_on;
@@ -406,7 +406,6 @@ module _ (found_law : LooksFound) (end_law : LooksEnd) (c : Settings) (k : ℕ) 
         looks_ = λ told. tt;
         stops = λ told stopped. absurd stopped;
         cause = λ is. absurd (cc);
-        only = λ is. absurd (cc);
         counts = λ other m. t.counts (λ is. cc) m ∙ see.counts m;
         writes = λ m. t.reads.writes m ∙ see.writes m;
       }
@@ -414,7 +413,7 @@ module _ (found_law : LooksFound) (end_law : LooksEnd) (c : Settings) (k : ℕ) 
       abbrev others : Shelf → List Look
       others s = to_look c (k + 1) d i1.slot i2.reader s.count s.next
 
-      pub looked_on : (s : Shelf) → LooksOnce c (k + 1) i1.slot b d i1.reader i2.reader mid left (Ok s) → Seeing c (k + 1) a d ins (set ins' k i2) (shelves ++ s ∷ []) had left
+      pub looked_on : (s : Shelf) → LooksOnce c (k + 1) i1.slot (port_start_at b i1.reader mid) (port_start_at d i2.reader left) (Ok s) → Seeing c (k + 1) (start_at a ins had) (walk_at d (set ins' k i2) (shelves ++ s ∷ []) left)
       looked_on s t =
           let l = t.looked in
           record {
@@ -474,7 +473,7 @@ module _ (found_law : LooksFound) (end_law : LooksEnd) (c : Settings) (k : ℕ) 
           coe_began : {y z y' z' : Input} {u v : Shelf} → y ≡ z → y' ≡ z' → u ≡ v → Began c a d y y' u left → Began c a d z z' v left
           coe_began {y} {z} {y'} {z'} {u} {v} e f g h = subst (λ q. Began c a d z z' q left) g (subst (λ q. Began c a d z q u left) f (subst (λ q. Began c a d q y' u left) e h))
 
-          own_began : Looked c (k + 1) i1.slot b d i1.reader i2.reader s mid left → Began c a d i i2 s left
+          own_began : Looked c (k + 1) i1.slot (port_start_at b i1.reader mid) (port_start_at d i2.reader left) s → Began c a d i i2 s left
           own_began l = record {
             slot = slot ∙ ap (λ (y : Input). y.slot) still.input;
             ready = l.ready;
@@ -509,7 +508,7 @@ module _ (found_law : LooksFound) (end_law : LooksEnd) (c : Settings) (k : ℕ) 
               }
 
 -- before the first port
-pub seeing_none : (c : Settings) (a : Seen) (ins : List Input) (had : Budget) → Seeing c 0 a a ins ins [] had had
+pub seeing_none : (c : Settings) (a : Seen) (ins : List Input) (had : Budget) → Seeing c 0 (start_at a ins had) (walk_at a ins [] had)
 seeing_none c a ins had = record {
   touches = touches_refl Nothing (NameIn a (slots_of ins)) a;
   slots = refl;
@@ -536,7 +535,7 @@ have_read c a b (i ∷ ins) (i' ∷ ins') (s ∷ shelves) left e f h = (
 )
 
 -- behind the last
-pub looks_all : (c : Settings) (k : ℕ) (a b : Seen) (ins ins' : List Input) (v : Vec Shelf Global) (had left : Budget) → k ≡ length ins → Seeing c k a b ins ins' v.items had left → LooksFirst c a b ins ins' had left (Ok v)
+pub looks_all : (c : Settings) (k : ℕ) (a b : Seen) (ins ins' : List Input) (v : Vec Shelf Global) (had left : Budget) → k ≡ length ins → Seeing c k (start_at a ins had) (walk_at b ins' v.items left) → LooksFirst c (start_at a ins had) (start_at b ins' left) (Ok v)
 looks_all c k a b ins ins' v had left all see =
     let long = same_length ins ins' see.slots in
     let count = see.count ∙ all in
@@ -558,7 +557,6 @@ looks_all c k a b ins ins' v had left all see =
       found = (counts_of v.items, see.spent);
       takes = taken_from ins ins' had left (counts_of v.items) see.slots see.spent;
       cause = λ e. absurd (cc);
-      only = tt;
       counts = λ other. see.counts;
       writes = see.writes;
     }

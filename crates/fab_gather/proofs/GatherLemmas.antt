@@ -9,18 +9,18 @@ use Rattle.pcap_file.specs.declared.Budget.{Budget}
 use Rattle.fab_gather.specs.declared.shelf.Input.{Input}
 use Rattle.fab_gather.specs.declared.shelf.Shelf.{Shelf}
 use Rattle.fab_gather.specs.declared.fault.LimitKind.TheVariants as limit
-use Rattle.fab_gather.specs.declared.fault.RunFault.{RunFault}
-use Rattle.fab_gather.specs.declared.fault.RunFault.TheVariants as fault
+use Rattle.fab_gather.specs.declared.fault.GatherFault.{GatherFault}
+use Rattle.fab_gather.specs.declared.fault.GatherFault.TheVariants as fault
 use Rattle.fab_gather.specs.First.{IsNextWindow}
 use Rattle.fab_gather.specs.Laws.{LateEnds}
-use Rattle.fab_gather.specs.Ports.{NameIn, slots_of, AreReady, TakesAll}
+use Rattle.fab_gather.specs.Ports.{NameIn, slots_of, AreReady, TakesAll, walk_at}
 use Rattle.fab_gather.specs.Gather.{Gathers}
 use Rattle.fab_gather.proofs.LeavesLemmas.{waits_leaves}
 use Rattle.fab_gather.proofs.SlotLemmas.{some_is}
 
 module _ (c : Settings) (first w : ℕ) where
   pub gathers_late : (late : LateEnds) (d : Seen) (ins : List Input) (shelves : List Shelf) (left : Budget) → length shelves ≡ length ins → AreReady c w ins shelves left →
-      IsNextWindow c shelves (Some w) → nat_lt MOST_SPAN (w - first) ≡ true → Gathers c first w d d ins ins shelves shelves left left (Err (fault.Limit limit.Span))
+      IsNextWindow c shelves (Some w) → nat_lt MOST_SPAN (w - first) ≡ true → Gathers c first w (walk_at d ins shelves left) (walk_at d ins shelves left) (Err (fault.Limit limit.Span))
   gathers_late late d ins shelves left count ready next is = record {
     touches = touches_refl Nothing (NameIn d (slots_of ins)) d;
     slots = refl;
@@ -35,15 +35,14 @@ module _ (c : Settings) (first w : ℕ) where
     looks = λ told. tt;
     stops = λ told stops. late c first w w d ins shelves left count ready next is;
     cause = λ x. absurd (cc);
-    only = λ x. absurd (cc);
     late = (λ x. is, λ x. refl);
     same = λ x. (refl, refl, refl, refl);
     counts = λ other m. refl;
     writes = λ m. refl;
   }
 
-  pub gathers_all : (a b : Seen) (ins ins' : List Input) (shelves shelves' : List Shelf) (had left : Budget) (r : Result (Unit {0}) RunFault) → nat_lt MOST_SPAN (w - first) ≡ false →
-      TakesAll c w a b ins ins' shelves shelves' had left r → Gathers c first w a b ins ins' shelves shelves' had left r
+  pub gathers_all : (a b : Seen) (ins ins' : List Input) (shelves shelves' : List Shelf) (had left : Budget) (r : Result (Unit {0}) GatherFault) → nat_lt MOST_SPAN (w - first) ≡ false →
+      TakesAll c w (walk_at a ins shelves had) (walk_at b ins' shelves' left) r → Gathers c first w (walk_at a ins shelves had) (walk_at b ins' shelves' left) r
   gathers_all a b ins ins' shelves shelves' had left (Ok u) in_time t = record {
     touches = t.touches;
     slots = t.slots;
@@ -56,7 +55,6 @@ module _ (c : Settings) (first w : ℕ) where
     looks = λ told. t.looks told first in_time;
     stops = λ told. tt;
     cause = t.cause;
-    only = tt;
     late = (λ x. absurd (cc), λ x. let both : true ≡ false = sym x ∙ in_time in absurd (cc));
     same = λ x. absurd (cc);
     counts = t.counts;
@@ -74,7 +72,6 @@ module _ (c : Settings) (first w : ℕ) where
     looks = λ told. tt;
     stops = λ told stops. t.stops told stops first in_time;
     cause = t.cause;
-    only = t.only;
     late = (λ x. absurd (t.in_span (let same : e ≡ fault.Limit limit.Span = cc in same)), λ x. let both : true ≡ false = sym x ∙ in_time in absurd (cc));
     same = λ x. absurd (t.in_span (let same : e ≡ fault.Limit limit.Span = cc in same));
     counts = t.counts;

@@ -14,8 +14,8 @@ use Rattle.pcap_file.proofs.lemmas.Chains.{chain_push, last-push, end_is}
 use Rattle.pcap_file.proofs.lemmas.Steps.{gives_found, ends_end}
 use Rattle.fab_gather.specs.declared.shelf.Input.{Input}
 use Rattle.fab_gather.specs.declared.shelf.Shelf.{Shelf}
-use Rattle.fab_gather.specs.First.{Looked}
-use Rattle.fab_gather.specs.Port.{Gave, LeavesPort}
+use Rattle.fab_gather.specs.First.{Looked, port_start_at}
+use Rattle.fab_gather.specs.Port.{Gave, LeavesPort, stand_at}
 use Rattle.fab_gather.specs.Ports.{Took, TakesFrom}
 
 -- ---- readers
@@ -86,7 +86,7 @@ module _ (slot : ℕ) (a b d : Seen) (r r1 r2 : Reading) (given : List Record) (
   }
 
 -- the first record, or none
-pub gave_first : (c : Settings) (port slot : ℕ) (a b : Seen) (r r' : Reading) (s : Shelf) (had left : Budget) → r.greatest ≡ 0 → Looked c port slot a b r r' s had left → Gave slot a b r r' (option_to_list s.next)
+pub gave_first : (c : Settings) (port slot : ℕ) (a b : Seen) (r r' : Reading) (s : Shelf) (had left : Budget) → r.greatest ≡ 0 → Looked c port slot (port_start_at a r had) (port_start_at b r' left) s → Gave slot a b r r' (option_to_list s.next)
 gave_first c port slot a b r r' s had left zero l = record {
   head = l.head;
   greatest = l.greatest ∙ ap (λ (n : ℕ). last_moment n (option_to_list s.next)) (sym zero);
@@ -98,7 +98,7 @@ gave_first c port slot a b r r' s had left zero l = record {
 -- ---- a port
 
 -- its turn was, and others came
-pub took_leaves : (c : Settings) (w : ℕ) (a b d : Seen) (i i' : Input) (s s' : Shelf) → d.left i.slot ≡ b.left i.slot → Took c w a b i i' s s' → LeavesPort c w i.slot a d i.reader i'.reader s s'
+pub took_leaves : (c : Settings) (w : ℕ) (a b d : Seen) (i i' : Input) (s s' : Shelf) → d.left i.slot ≡ b.left i.slot → Took c w (stand_at a i s) (stand_at b i' s') → LeavesPort c w (stand_at a i s) (stand_at d i' s')
 took_leaves c w a b d i i' s s' same t = record {
   given = t.given;
   gave = record {
@@ -118,7 +118,7 @@ took_leaves c w a b d i i' s s' same t = record {
 }
 
 -- its turn didn't come
-pub waits_leaves : (c : Settings) (w : ℕ) (a d : Seen) (i i' : Input) (s s' : Shelf) → i' ≡ i → s' ≡ s → d.left i.slot ≡ a.left i.slot → LeavesPort c w i.slot a d i.reader i'.reader s s'
+pub waits_leaves : (c : Settings) (w : ℕ) (a d : Seen) (i i' : Input) (s s' : Shelf) → i' ≡ i → s' ≡ s → d.left i.slot ≡ a.left i.slot → LeavesPort c w (stand_at a i s) (stand_at d i' s')
 waits_leaves c w a d i i' s s' input shelf same = record {
   given = [];
   gave = subst (λ (x : Input). Gave i.slot a d i.reader x.reader []) (sym input) (gave_none i.slot a d i.reader same);
@@ -127,8 +127,9 @@ waits_leaves c w a d i i' s s' input shelf same = record {
 }
 
 -- it stood so before its turn
-pub leaves_from : (c : Settings) (w slot : ℕ) (a b d : Seen) (r r' : Reading) (s s' : Shelf) → (IsTrue a.told → IsTrue b.told) → b.left slot ≡ a.left slot → LeavesPort c w slot b d r r' s s' → LeavesPort c w slot a d r r' s s'
-leaves_from c w slot a b d r r' s s' told same l = record { given = l.given; gave = gave_between slot a b d d r r' l.given told same refl l.gave; count = l.count; shelf = l.shelf }
+pub leaves_from : (c : Settings) (w : ℕ) (a b d : Seen) (i i' : Input) (s s' : Shelf) → (IsTrue a.told → IsTrue b.told) → b.left i.slot ≡ a.left i.slot →
+    LeavesPort c w (stand_at b (record { slot = i.slot; reader = i.reader }) s) (stand_at d (record { slot = i.slot; reader = i'.reader }) s') → LeavesPort c w (stand_at a i s) (stand_at d i' s')
+leaves_from c w a b d i i' s s' told same l = record { given = l.given; gave = gave_between i.slot a b d d i.reader i'.reader l.given told same refl l.gave; count = l.count; shelf = l.shelf }
 
 -- ---- captures and limits
 

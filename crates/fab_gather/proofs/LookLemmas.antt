@@ -15,11 +15,11 @@ use Rattle.pcap_file.specs.declared.Record.{Record}
 use Rattle.pcap_file.proofs.lemmas.Chains.{end_is}
 use Rattle.pcap_file.proofs.lemmas.Steps.{gives_found, ends_end}
 use Rattle.fab_gather.specs.declared.shelf.Shelf.{Shelf}
-use Rattle.fab_gather.specs.declared.fault.RunFault.TheVariants as fault
-use Rattle.fab_gather.specs.First.{IsFresh, opened_by, first_look, Looked, LooksOnce}
+use Rattle.fab_gather.specs.declared.fault.GatherFault.TheVariants as fault
+use Rattle.fab_gather.specs.First.{IsFresh, opened_by, first_look, Looked, LooksOnce, port_start_at}
 use Rattle.fab_gather.specs.Port.{to_look, spot_of, fault_by}
 use Rattle.fab_gather.proofs.LeavesLemmas.{gave_failed}
-use Rattle.fab_gather.proofs.PortLemmas.{some_look, says_at, own_of, read_of, never_write, spared}
+use Rattle.fab_gather.proofs.PortLemmas.{some_look, says_at, own_of, read_of, spared}
 
 -- one record is looked at, or none
 pub count_is : (next : Option Record) (some : Bool) (n : ℕ) → some ≡ is_some next → n ≡ from_bool some → n ≡ length (option_to_list next)
@@ -66,7 +66,7 @@ module _ (found_law : LooksFound) (end_law : LooksEnd) (steps : StepsFindStop) (
       bytes = to_come r' b slot;
     }
 
-    pub looked_more : Looked c port slot a b r r' s had left
+    pub looked_more : Looked c port slot (port_start_at a r had) (port_start_at b r' left) s
     looked_more = record {
       ready = record {
         fresh = ap (λ (q : Reading). q.kept) n.taken.moved ∙ n.taken.fresh;
@@ -101,7 +101,7 @@ module _ (found_law : LooksFound) (end_law : LooksEnd) (steps : StepsFindStop) (
     ends : IsTrue a.told → x.found ≡ End
     ends told = ends_end had x.at x.found (end_is_step told)
 
-    pub looked_end : Looked c port slot a b r r' s had left
+    pub looked_end : Looked c port slot (port_start_at a r had) (port_start_at b r' left) s
     looked_end =
         let same = n.taken.same in
         let budget = n.taken.budget in
@@ -127,15 +127,15 @@ module _ (found_law : LooksFound) (end_law : LooksEnd) (steps : StepsFindStop) (
           passes = λ told first rest. steps first had x rest Ends refl (end_is_step told) ∙ ap (λ (q : Budget). stop_in first q.bytes q.frames rest) (sym budget);
         }
 
-  pub looked : (next : Option Record) (s : Shelf) → s.next ≡ next → s.count ≡ length (option_to_list next) → NextReads slot a b r r' had left (Ok next) → LooksOnce c port slot a b r r' had left (Ok s)
-  looked next s is count n = record { reads = n.reads; looked = by_next next is count n; stops = λ told. tt; leaves = tt; cause = λ e. absurd (cc); only = tt; counts = λ other. n.counts }
+  pub looked : (next : Option Record) (s : Shelf) → s.next ≡ next → s.count ≡ length (option_to_list next) → NextReads slot a b r r' had left (Ok next) → LooksOnce c port slot (port_start_at a r had) (port_start_at b r' left) (Ok s)
+  looked next s is count n = record { reads = n.reads; looked = by_next next is count n; stops = λ told. tt; leaves = tt; cause = λ e. absurd (cc); counts = λ other. n.counts }
     where
-      by_next : (next : Option Record) → s.next ≡ next → s.count ≡ length (option_to_list next) → NextReads slot a b r r' had left (Ok next) → Looked c port slot a b r r' s had left
+      by_next : (next : Option Record) → s.next ≡ next → s.count ≡ length (option_to_list next) → NextReads slot a b r r' had left (Ok next) → Looked c port slot (port_start_at a r had) (port_start_at b r' left) s
       by_next None is count n = looked_end s is count n
       by_next (Some y) is count n = looked_more y s is count n
 
   -- an error
-  pub looked_failed : (e : CapError) → NextReads slot a b r r' had left (Err e) → LooksOnce c port slot a b r r' had left (Err (fault_by e port))
+  pub looked_failed : (e : CapError) → NextReads slot a b r r' had left (Err e) → LooksOnce c port slot (port_start_at a r had) (port_start_at b r' left) (Err (fault_by e port))
   looked_failed e n = record {
     reads = n.reads;
     looked = tt;
@@ -149,6 +149,5 @@ module _ (found_law : LooksFound) (end_law : LooksEnd) (steps : StepsFindStop) (
           says = λ first rest. let f = steps first had x rest (Stops e) refl is in (stop_at (Fails f.0) x, f.2, ap (λ q. fault_by q port) (sym f.1), refl);
         };
     cause = λ same. let f = read_of port e (let same' : fault_by e port ≡ fault.Read = cc in same') in n.cause is_fresh.kept f.0 (ap Err f.1);
-    only = never_write port e;
     counts = λ other. spared port e a b n.counts (λ same. other (ap Err same));
   }

@@ -14,11 +14,11 @@ use Rattle.pcap_file.proofs.lemmas.Numbers.{le_or_lt}
 use Rattle.fab_gather.specs.declared.shelf.Input.{Input}
 use Rattle.fab_gather.specs.declared.shelf.Shelf.{Shelf}
 use Rattle.fab_gather.specs.declared.fault.LimitKind.TheVariants as limit
-use Rattle.fab_gather.specs.declared.fault.RunFault.TheVariants as fault
+use Rattle.fab_gather.specs.declared.fault.GatherFault.TheVariants as fault
 use Rattle.fab_gather.specs.First.{IsNextWindow}
 use Rattle.fab_gather.specs.Laws.{LooksAhead, NextIsAhead, NextIsFirst, LateEnds, NoneIsLeft, AllIn, ahead_of, WindowMoves}
 use Rattle.fab_gather.specs.Port.{to_look, spot_of, ending}
-use Rattle.fab_gather.specs.Ports.{At, AreReady, TookAll, rests, joined, counts_of}
+use Rattle.fab_gather.specs.Ports.{At, AreReady, TookAll, walk_at, rests, joined, counts_of}
 use Rattle.fab_gather.specs.Reads.{batches_of}
 use Rattle.fab_gather.proofs.SlotLemmas.{item_at, push_last, push_before, push_stays, push_at}
 use Rattle.fab_gather.proofs.OrderLemmas.{Later, later_looks, not_before, earlier_before}
@@ -267,15 +267,15 @@ none_is_left c first d ins shelves left none = ap (λ l. stop_in first left.byte
 
 -- ---- a window that was taken
 
-all_in : (c : Settings) (w : ℕ) (a b : Seen) (ins ins' : List Input) (shelves shelves' : List Shelf) → length shelves ≡ length ins → length ins' ≡ length ins → length shelves' ≡ length shelves → TookAll c w a b ins ins' shelves shelves' → AllIn c w (batches_of shelves')
-all_in c w a b ins ins' shelves [] e f g took = tt
-all_in c w a b [] ins' [] (s' ∷ shelves') e f g took = absurd (omega arith)
-all_in c w a b (i ∷ ins) ins' [] (s' ∷ shelves') e f g took = absurd (omega arith)
-all_in c w a b [] ins' (s ∷ shelves) (s' ∷ shelves') e f g took = absurd (omega arith)
-all_in c w a b (i ∷ ins) [] (s ∷ shelves) (s' ∷ shelves') e f g took = absurd (omega arith)
-all_in c w a b (i ∷ ins) (i' ∷ ins') (s ∷ shelves) (s' ∷ shelves') e f g took = (
+all_in : (c : Settings) (w : ℕ) (a b : Seen) (ins ins' : List Input) (shelves shelves' : List Shelf) (had left : Budget) → length shelves ≡ length ins → length ins' ≡ length ins → length shelves' ≡ length shelves → TookAll c w (walk_at a ins shelves had) (walk_at b ins' shelves' left) → AllIn c w (batches_of shelves')
+all_in c w a b ins ins' shelves [] had left e f g took = tt
+all_in c w a b [] ins' [] (s' ∷ shelves') had left e f g took = absurd (omega arith)
+all_in c w a b (i ∷ ins) ins' [] (s' ∷ shelves') had left e f g took = absurd (omega arith)
+all_in c w a b [] ins' (s ∷ shelves) (s' ∷ shelves') had left e f g took = absurd (omega arith)
+all_in c w a b (i ∷ ins) [] (s ∷ shelves) (s' ∷ shelves') had left e f g took = absurd (omega arith)
+all_in c w a b (i ∷ ins) (i' ∷ ins') (s ∷ shelves) (s' ∷ shelves') had left e f g took = (
   (took 0 i i' s s' (record { input = refl; shelf = refl }) (record { input = refl; shelf = refl })).in_window,
-  all_in c w a b ins ins' shelves shelves' (omega arith) (omega arith) (omega arith) (λ q j j' u u' at at'. took (suc q) j j' u u' (record { input = at.input; shelf = at.shelf }) (record { input = at'.input; shelf = at'.shelf })),
+  all_in c w a b ins ins' shelves shelves' had left (omega arith) (omega arith) (omega arith) (λ q j j' u u' at at'. took (suc q) j j' u u' (record { input = at.input; shelf = at.shelf }) (record { input = at'.input; shelf = at'.shelf })),
 )
 
 -- how many records are on the shelves
@@ -284,16 +284,16 @@ batched [] = 0
 batched (s ∷ shelves) = length s.batch.items + batched shelves
 
 -- each record that was looked at, or given, is on a shelf or looked at
-moved : (c : Settings) (w : ℕ) (a b : Seen) (ins ins' : List Input) (shelves shelves' : List Shelf) → length shelves ≡ length ins → length ins' ≡ length ins → length shelves' ≡ length shelves → TookAll c w a b ins ins' shelves shelves' →
+moved : (c : Settings) (w : ℕ) (a b : Seen) (ins ins' : List Input) (shelves shelves' : List Shelf) (had left : Budget) → length shelves ≡ length ins → length ins' ≡ length ins → length shelves' ≡ length shelves → TookAll c w (walk_at a ins shelves had) (walk_at b ins' shelves' left) →
     counts_of shelves' + ahead_of shelves ≡ counts_of shelves + (batched shelves' + ahead_of shelves')
-moved c w a b ins ins' [] [] e f g took = refl
-moved c w a b ins ins' [] (s' ∷ shelves') e f g took = absurd (omega arith)
-moved c w a b ins ins' (s ∷ shelves) [] e f g took = absurd (omega arith)
-moved c w a b [] ins' (s ∷ shelves) (s' ∷ shelves') e f g took = absurd (omega arith)
-moved c w a b (i ∷ ins) [] (s ∷ shelves) (s' ∷ shelves') e f g took = absurd (omega arith)
-moved c w a b (i ∷ ins) (i' ∷ ins') (s ∷ shelves) (s' ∷ shelves') e f g took =
+moved c w a b ins ins' [] [] had left e f g took = refl
+moved c w a b ins ins' [] (s' ∷ shelves') had left e f g took = absurd (omega arith)
+moved c w a b ins ins' (s ∷ shelves) [] had left e f g took = absurd (omega arith)
+moved c w a b [] ins' (s ∷ shelves) (s' ∷ shelves') had left e f g took = absurd (omega arith)
+moved c w a b (i ∷ ins) [] (s ∷ shelves) (s' ∷ shelves') had left e f g took = absurd (omega arith)
+moved c w a b (i ∷ ins) (i' ∷ ins') (s ∷ shelves) (s' ∷ shelves') had left e f g took =
     let own = took 0 i i' s s' (record { input = refl; shelf = refl }) (record { input = refl; shelf = refl }) in
-    let more = moved c w a b ins ins' shelves shelves' (omega arith) (omega arith) (omega arith) (λ q j j' u u' at at'. took (suc q) j j' u u' (record { input = at.input; shelf = at.shelf }) (record { input = at'.input; shelf = at'.shelf })) in
+    let more = moved c w a b ins ins' shelves shelves' had left (omega arith) (omega arith) (omega arith) (λ q j j' u u' at at'. took (suc q) j j' u u' (record { input = at.input; shelf = at.shelf }) (record { input = at'.input; shelf = at'.shelf })) in
     let order = sym (length-append (option_to_list s.next) own.given) ∙ ap length own.order ∙ length-append s'.batch.items (option_to_list s'.next) in
     let count = own.count in
     omega arith
@@ -317,21 +317,21 @@ batched_some (x ∷ shelves) zero r more at = let same : x.batch.items ≡ r ∷
 batched_some (x ∷ shelves) (suc q) r more at = let e = batched_some shelves q r more at in omega arith
 
 pub window_moves : WindowMoves
-window_moves c w a b ins ins' shelves shelves' had left e f g next took ready spent =
-    let l = leader c w ins shelves e next in
-    let less = slice_get_within ins l.q l.i l.at.input in
-    let j = item_at ins' l.q (omega arith) in
-    let u = item_at shelves' l.q (let k = slice_get_within shelves l.q l.s l.at.shelf in omega arith) in
-    let now : At l.q ins' shelves' j.0 u.0 = record { input = j.1; shelf = u.1 } in
+window_moves c w old new e f g next took ready spent =
+    let l = leader c w old.ins old.shelves e next in
+    let less = slice_get_within old.ins l.q l.i l.at.input in
+    let j = item_at new.ins l.q (omega arith) in
+    let u = item_at new.shelves l.q (let k = slice_get_within old.shelves l.q l.s l.at.shelf in omega arith) in
+    let now : At l.q new.ins new.shelves j.0 u.0 = record { input = j.1; shelf = u.1 } in
     let own = took l.q l.i j.0 l.s u.0 l.at now in
     let x = first_moves c w l.s.next u.0.next own.given u.0.batch.items l.r l.is l.window own.order (ready l.q j.0 u.0 now).1 in
-    let at = batch_at shelves' l.q u.0 u.1 ∙ ap Some x.2 in
+    let at = batch_at new.shelves l.q u.0 u.1 ∙ ap Some x.2 in
     record {
-      batches = all_in c w a b ins ins' shelves shelves' e f g took;
+      batches = all_in c w old.seen new.seen old.ins new.ins old.shelves new.shelves old.left new.left e f g took;
       some = (l.q, x.0, x.1, at);
       fewer =
-          let all = moved c w a b ins ins' shelves shelves' e f g took in
-          let some = batched_some shelves' l.q x.0 x.1 at in
+          let all = moved c w old.seen new.seen old.ins new.ins old.shelves new.shelves old.left new.left e f g took in
+          let some = batched_some new.shelves l.q x.0 x.1 at in
           let frames = spent.frames in
           omega arith;
     }

@@ -20,8 +20,8 @@ use Rattle.pcap_file.proofs.lemmas.Chains.{chain_push, last-push, end_is}
 use Rattle.pcap_file.proofs.lemmas.Steps.{gives_found, ends_end}
 use Rattle.fab_gather.specs.declared.shelf.Shelf.{Shelf}
 use Rattle.fab_gather.specs.declared.fault.LimitKind.TheVariants as limit
-use Rattle.fab_gather.specs.declared.fault.RunFault.TheVariants as fault
-use Rattle.fab_gather.specs.Port.{IsReady, Spends, Taking, TakesWindow, StopsIn, AreOf, AreIn, Pass, is_in, spot_of, to_look, fault_by, IsStopped, LeavesPort}
+use Rattle.fab_gather.specs.declared.fault.GatherFault.TheVariants as fault
+use Rattle.fab_gather.specs.Port.{IsReady, Spends, Taking, TakesWindow, StopsIn, AreOf, AreIn, Pass, is_in, spot_of, to_look, fault_by, IsStopped, LeavesPort, stand_at, port_walk_at}
 use Rattle.fab_gather.proofs.LeavesLemmas.{gave_more, gave_end, gave_broken}
 
 -- ---- lists
@@ -80,14 +80,6 @@ read_of port errors.Frames same = absurd (cc)
 read_of port (errors.Read f) same = (f, refl)
 read_of port errors.Memory same = absurd (cc)
 
-pub never_write : (port : ℕ) (q : CapError) → fault_by q port ≢ fault.Write
-never_write port (errors.Cut at) same = absurd (cc)
-never_write port (errors.TooLong at len) same = absurd (cc)
-never_write port errors.Bytes same = absurd (cc)
-never_write port errors.Frames same = absurd (cc)
-never_write port (errors.Read f) same = absurd (cc)
-never_write port errors.Memory same = absurd (cc)
-
 pub never_span : (port : ℕ) (q : CapError) → fault_by q port ≢ fault.Limit limit.Span
 never_span port (errors.Cut at) same = absurd (cc)
 never_span port (errors.TooLong at len) same = absurd (cc)
@@ -107,7 +99,7 @@ spared port errors.Memory old new spares other = spares
 
 -- ---- before the first
 
-pub taking_none : (c : Settings) (port w slot : ℕ) (a : Seen) (r : Reading) (s s' : Shelf) (had : Budget) → s'.batch.items ≡ [] → s'.next ≡ s.next → s'.count ≡ s.count → IsReady r s.next s.count had → Taking c port w slot a a r r s s' had had
+pub taking_none : (c : Settings) (port w slot : ℕ) (a : Seen) (r : Reading) (s s' : Shelf) (had : Budget) → s'.batch.items ≡ [] → s'.next ≡ s.next → s'.count ≡ s.count → IsReady r s.next s.count had → Taking c port w slot (port_walk_at a r s had) (port_walk_at a r s' had)
 taking_none c port w slot a r s s' had empty same count ready = record {
   reads = reads_refl (a.name slot) a;
   ready = subst (λ (n : ℕ). IsReady r s'.next n had) (sym count) (subst (λ o. IsReady r o s.count had) (sym same) ready);
@@ -136,7 +128,7 @@ some_look found end_ c port s CutHead e = ([], end_ c port s (ap is_found e))
 some_look found end_ c port s (TooLong len) e = ([], end_ c port s (ap is_found e))
 some_look found end_ c port s (CutBytes len) e = ([], end_ c port s (ap is_found e))
 
-module _ (found_law : LooksFound) (end_law : LooksEnd) (steps : StepsFindStop) (c : Settings) (port w slot : ℕ) (a b d : Seen) (r r1 r2 : Reading) (s s1 : Shelf) (had mid left : Budget) (is_open : IsTrue (a.input slot)) (t : Taking c port w slot a b r r1 s s1 had mid) (own : There c w s1.next) where
+module _ (found_law : LooksFound) (end_law : LooksEnd) (steps : StepsFindStop) (c : Settings) (port w slot : ℕ) (a b d : Seen) (r r1 r2 : Reading) (s s1 : Shelf) (had mid left : Budget) (is_open : IsTrue (a.input slot)) (t : Taking c port w slot (port_walk_at a r s had) (port_walk_at b r1 s1 mid)) (own : There c w s1.next) where
   name_is : b.name slot ≡ a.name slot
   name_is = input_name (a.name slot) a b t.reads.keeps slot is_open
 
@@ -223,7 +215,7 @@ module _ (found_law : LooksFound) (end_law : LooksEnd) (steps : StepsFindStop) (
           steps first mid x rest (Gives y.moment y.caught (to_come r2 d slot)) late (n.says (told_b told) n.taken.fresh)
           ∙ (λ i. stop_in first (less i) (minus i) rest)
 
-      pub taking_more : Taking c port w slot a d r r2 s s2 had left
+      pub taking_more : Taking c port w slot (port_walk_at a r s had) (port_walk_at d r2 s2 left)
       taking_more = record {
         reads = reads_on n.reads;
         ready = record {
@@ -272,7 +264,7 @@ module _ (found_law : LooksFound) (end_law : LooksEnd) (steps : StepsFindStop) (
       end_one told first rest late =
           steps first mid x rest Ends late (n.says (told_b told) n.taken.fresh).0 ∙ ap (λ (q : Budget). stop_in first q.bytes q.frames rest) (sym same_budget)
 
-      pub taking_end : Taking c port w slot a d r r2 s s2 had left
+      pub taking_end : Taking c port w slot (port_walk_at a r s had) (port_walk_at d r2 s2 left)
       taking_end =
           let same = n.taken.same in
           record {
@@ -310,17 +302,17 @@ module _ (found_law : LooksFound) (end_law : LooksEnd) (steps : StepsFindStop) (
           nothing_left e = end_is r1.head r1.greatest (to_come r1 b slot) e
 
   -- the answer of the reader, put on the shelf
-  pub taking_turn : (o : Option Record) (s2 : Shelf) → s2.batch.items ≡ s1.batch.items ++ option_to_list s1.next → s2.next ≡ o → s2.count ≡ s1.count + length (option_to_list o) →
-      NextReads slot b d r1 r2 mid left (Ok o) → Taking c port w slot a d r r2 s s2 had left
-  taking_turn None s2 batch next count n = taking_end s2 batch next (let k = count in omega arith) n
-  taking_turn (Some y) s2 batch next count n = taking_more s2 batch y next count n
+  pub taking_pushed : (o : Option Record) (s2 : Shelf) → s2.batch.items ≡ s1.batch.items ++ option_to_list s1.next → s2.next ≡ o → s2.count ≡ s1.count + length (option_to_list o) →
+      NextReads slot b d r1 r2 mid left (Ok o) → Taking c port w slot (port_walk_at a r s had) (port_walk_at d r2 s2 left)
+  taking_pushed None s2 batch next count n = taking_end s2 batch next (let k = count in omega arith) n
+  taking_pushed (Some y) s2 batch next count n = taking_more s2 batch y next count n
 
-  pub turn_fits : (o : Option Record) → NextReads slot b d r1 r2 mid left (Ok o) → s1.count + length (option_to_list o) < 2 ^ 64
-  turn_fits None n = let f = t.ready.few in omega arith
-  turn_fits (Some y) n = let f = t.ready.few in let k = n.taken.frames in omega arith
+  pub push_fits : (o : Option Record) → NextReads slot b d r1 r2 mid left (Ok o) → s1.count + length (option_to_list o) < 2 ^ 64
+  push_fits None n = let f = t.ready.few in omega arith
+  push_fits (Some y) n = let f = t.ready.few in let k = n.taken.frames in omega arith
 
-  pub turn_smaller : (o : Option Record) → NextReads slot b d r1 r2 mid left (Ok o) → 2 * left.frames + length (option_to_list o) < 2 * mid.frames + length (option_to_list s1.next)
-  turn_smaller o n = let is = ap (λ q. length (option_to_list q)) own.is in by_next o n is
+  pub push_smaller : (o : Option Record) → NextReads slot b d r1 r2 mid left (Ok o) → 2 * left.frames + length (option_to_list o) < 2 * mid.frames + length (option_to_list s1.next)
+  push_smaller o n = let is = ap (λ q. length (option_to_list q)) own.is in by_next o n is
     where
       by_next : (o : Option Record) → NextReads slot b d r1 r2 mid left (Ok o) → length (option_to_list s1.next) ≡ 1 → 2 * left.frames + length (option_to_list o) < 2 * mid.frames + length (option_to_list s1.next)
       by_next None n is = let f = ap (λ (q : Budget). q.frames) n.taken.budget in omega arith
@@ -328,7 +320,7 @@ module _ (found_law : LooksFound) (end_law : LooksEnd) (steps : StepsFindStop) (
 
   -- memory is refused for the record that was looked at
   pub taking_lost : (o : Option Record) (s2 : Shelf) → s2.batch.items ≡ s1.batch.items → s2.next ≡ o → s2.count ≡ s1.count + length (option_to_list o) →
-      NextReads slot b d r1 r2 mid left (Ok o) → TakesWindow c port w slot a d r r2 s s2 had left (Err fault.Memory)
+      NextReads slot b d r1 r2 mid left (Ok o) → TakesWindow c port w slot (port_walk_at a r s had) (port_walk_at d r2 s2 left) (Err fault.Memory)
   taking_lost o s2 batch next count n = record {
     reads = reads_on n.reads;
     taking = tt;
@@ -337,14 +329,13 @@ module _ (found_law : LooksFound) (end_law : LooksEnd) (steps : StepsFindStop) (
     leaves = by_next o next count n;
     in_span = λ same. absurd (cc);
     cause = λ same. absurd (cc);
-    only = λ same. absurd (cc);
     counts = λ other m. n.counts m ∙ t.counts m;
   }
     where
       one : length (own.r ∷ []) ≤ 1
       one = omega arith
 
-      by_next : (o : Option Record) → s2.next ≡ o → s2.count ≡ s1.count + length (option_to_list o) → NextReads slot b d r1 r2 mid left (Ok o) → LeavesPort c w slot a d r r2 s s2 × Spends had left s.count s2.count
+      by_next : (o : Option Record) → s2.next ≡ o → s2.count ≡ s1.count + length (option_to_list o) → NextReads slot b d r1 r2 mid left (Ok o) → LeavesPort c w (stand_at a (record { slot = slot; reader = r }) s) (stand_at d (record { slot = slot; reader = r2 }) s2) × Spends had left s.count s2.count
       by_next None next count n = (
         record {
           given = t.given;
@@ -412,14 +403,13 @@ module _ (found_law : LooksFound) (end_law : LooksEnd) (steps : StepsFindStop) (
         let f = read_of port e same in
         rose_later _ _ _ t.reads.keeps.reads_rise (subst (λ m. Rose (b.read_faults m) (d.read_faults m)) name_is (n.cause fresh f.0 (ap Err f.1)))
 
-    pub taking_failed : TakesWindow c port w slot a d r r' s s1 had left (Err (fault_by e port))
+    pub taking_failed : TakesWindow c port w slot (port_walk_at a r s had) (port_walk_at d r' s1 left) (Err (fault_by e port))
     taking_failed = record {
       reads = reads_on n.reads;
       taking = tt;
       beyond = tt;
       stops = λ told st. stops_with told (says_at (step_of mid r1.at (found_at spot)) (to_come r' d slot) e (own_of port e st) (n.says (told_b told) fresh));
       cause = λ same. caused (let same' : fault_by e port ≡ fault.Read = cc in same');
-      only = never_write port e;
       leaves = (
         record {
           given = t.given;

@@ -15,9 +15,9 @@ use Rattle.pcap_file.specs.declared.Record.{Record}
 use Rattle.pcap_file.proofs.lemmas.Numbers.{le_or_lt}
 use Rattle.fab_gather.specs.declared.shelf.Input.{Input}
 use Rattle.fab_gather.specs.declared.shelf.Shelf.{Shelf}
-use Rattle.fab_gather.specs.declared.fault.RunFault.{RunFault}
-use Rattle.fab_gather.specs.Port.{IsReady, Spends, AreOf, Taking, TakesWindow, LeavesPort, to_look}
-use Rattle.fab_gather.specs.Ports.{AreInputs, AreReady, At, Took, TakesAll, slots_of, NameIn, rests, joined, stop_from, counts_of}
+use Rattle.fab_gather.specs.declared.fault.GatherFault.{GatherFault}
+use Rattle.fab_gather.specs.Port.{IsReady, Spends, AreOf, Taking, TakesWindow, PortStand, stand_at, port_walk_at, LeavesPort, to_look}
+use Rattle.fab_gather.specs.Ports.{AreInputs, AreReady, At, Walk, walk_at, Took, TakesAll, slots_of, NameIn, rests, joined, stop_after, counts_of}
 use Rattle.fab_gather.proofs.OrderLemmas.{TakesAt, taken_at, Sorted, AllNotBefore, Leads, EachBefore, each-append, each-nil, leads_more, sorted_leads, sorted_looks, later_looks, later_not_before, made_before}
 use Rattle.fab_gather.proofs.LeavesLemmas.{took_leaves, waits_leaves, leaves_from}
 use Rattle.fab_gather.proofs.PortLemmas.{are_of-push}
@@ -27,30 +27,30 @@ use Rattle.fab_gather.proofs.WindowLemmas.{window_start-mono}
 -- ---- what stands before a port
 
 -- a port whose turn was, and one whose turn comes
-pub record Done (c : Settings) (w : ℕ) (a b : Seen) (i i' : Input) (s s' : Shelf) (left : Budget) : Type 0 where
-  pub took : Took c w a b i i' s s'
-  pub ready : IsReady i'.reader s'.next s'.count left
-  pub beyond : IfSome s'.next (λ x. w + 1 ≤ window_start c x.moment)
+pub record Done (c : Settings) (w : ℕ) (old new : PortStand) (left : Budget) : Type 0 where
+  pub took : Took c w old new
+  pub ready : IsReady new.input.reader new.shelf.next new.shelf.count left
+  pub beyond : IfSome new.shelf.next (λ x. w + 1 ≤ window_start c x.moment)
 
-pub record Waits (c : Settings) (w : ℕ) (a b : Seen) (i i' : Input) (s s' : Shelf) (left : Budget) : Type 0 where
-  pub input : i' ≡ i
-  pub shelf : s' ≡ s
-  pub rest : b.left i.slot ≡ a.left i.slot
-  pub ready : IsReady i.reader s.next s.count left
-  pub from : IfSome s.next (λ x. w ≤ window_start c x.moment)
+pub record Waits (c : Settings) (w : ℕ) (old new : PortStand) (left : Budget) : Type 0 where
+  pub input : new.input ≡ old.input
+  pub shelf : new.shelf ≡ old.shelf
+  pub rest : new.seen.left old.input.slot ≡ old.seen.left old.input.slot
+  pub ready : IsReady old.input.reader old.shelf.next old.shelf.count left
+  pub from : IfSome old.shelf.next (λ x. w ≤ window_start c x.moment)
 
-pub record Round (c : Settings) (w k : ℕ) (a b : Seen) (ins ins' : List Input) (shelves shelves' : List Shelf) (had left : Budget) : Type 0 where
-  pub touches : Touches Nothing (NameIn a (slots_of ins)) a b
-  pub slots : slots_of ins' ≡ slots_of ins
-  pub count : length shelves' ≡ length shelves
-  pub done : (q : ℕ) (i i' : Input) (s s' : Shelf) → q < k → At q ins shelves i s → At q ins' shelves' i' s' → Done c w a b i i' s s' left
-  pub waits : (q : ℕ) (i i' : Input) (s s' : Shelf) → k ≤ q → At q ins shelves i s → At q ins' shelves' i' s' → Waits c w a b i i' s s' left
-  pub spent : Spends had left (counts_of shelves) (counts_of shelves')
-  pub bytes : left.bytes ≤ had.bytes
-  pub frames : left.frames ≤ had.frames
-  pub looks : IsTrue a.told → (first : ℕ) → nat_lt MOST_SPAN (w - first) ≡ false → stop_from c first a ins shelves had ≡ stop_from c first b ins' shelves' left
-  pub counts : SameReadFaults a b
-  pub writes : SameWriteFaults a b
+pub record Round (c : Settings) (w k : ℕ) (old new : Walk) : Type 0 where
+  pub touches : Touches Nothing (NameIn old.seen (slots_of old.ins)) old.seen new.seen
+  pub slots : slots_of new.ins ≡ slots_of old.ins
+  pub count : length new.shelves ≡ length old.shelves
+  pub done : (q : ℕ) (i i' : Input) (s s' : Shelf) → q < k → At q old.ins old.shelves i s → At q new.ins new.shelves i' s' → Done c w (stand_at old.seen i s) (stand_at new.seen i' s') new.left
+  pub waits : (q : ℕ) (i i' : Input) (s s' : Shelf) → k ≤ q → At q old.ins old.shelves i s → At q new.ins new.shelves i' s' → Waits c w (stand_at old.seen i s) (stand_at new.seen i' s') new.left
+  pub spent : Spends old.left new.left (counts_of old.shelves) (counts_of new.shelves)
+  pub bytes : new.left.bytes ≤ old.left.bytes
+  pub frames : new.left.frames ≤ old.left.frames
+  pub looks : IsTrue old.seen.told → (first : ℕ) → nat_lt MOST_SPAN (w - first) ≡ false → stop_after c first old ≡ stop_after c first new
+  pub counts : SameReadFaults old.seen new.seen
+  pub writes : SameWriteFaults old.seen new.seen
 
 -- ---- counts
 
@@ -134,7 +134,7 @@ beyond_is c w g g' (Some x) (Some y) last from last' other le still =
     let up = window_start-mono c x.moment y.moment (omega arith) in
     elim (le_or_lt (window_start c y.moment) w) [ inl small ↦ absurd (other (omega arith)) | inr large ↦ omega arith ]
 
-module _ (c : Settings) (w k : ℕ) (a b : Seen) (ins ins' : List Input) (shelves shelves' : List Shelf) (had mid : Budget) (are : AreInputs a (slots_of ins)) (count : length shelves ≡ length ins) (lt : k < length ins) (round : Round c w k a b ins ins' shelves shelves' had mid) where
+module _ (c : Settings) (w k : ℕ) (a b : Seen) (ins ins' : List Input) (shelves shelves' : List Shelf) (had mid : Budget) (are : AreInputs a (slots_of ins)) (count : length shelves ≡ length ins) (lt : k < length ins) (round : Round c w k (walk_at a ins shelves had) (walk_at b ins' shelves' mid)) where
   told_b : IsTrue a.told → IsTrue b.told
   told_b told = subst IsTrue (sym round.touches.told) told
 
@@ -162,7 +162,7 @@ module _ (c : Settings) (w k : ℕ) (a b : Seen) (ins ins' : List Input) (shelve
     abbrev s : Shelf
     s = get_or shelves k s1
 
-    waits : Waits c w a b i i1 s s1 mid
+    waits : Waits c w (stand_at a i s) (stand_at b i1 s1) mid
     waits = round.waits k i i1 s s1 (omega arith) (first_at k i1 s1 at) at
 
     pub turn_ready : IsReady i1.reader s1.next s1.count mid
@@ -204,7 +204,7 @@ module _ (c : Settings) (w k : ℕ) (a b : Seen) (ins ins' : List Input) (shelve
       in_front : (e : Seen) (made behind_ : List Look) → OneTakes c k 1 b e made behind_ ins' shelves' → in_order (joined (rests c 1 b ins' shelves')) ≡ made ++ in_order (joined (set (rests c 1 e ins' shelves') k behind_))
       in_front e made behind_ t = taken_at k made _ _ (takes_at c k 1 b e made behind_ ins' shelves' (let l = long in omega arith) wide t)
 
-      pub turn_failed : (f : RunFault) → TakesWindow c (k + 1) w i1.slot b d i1.reader i2.reader s1 s2 mid left (Err f) → TakesAll c w a d ins (set ins' k i2) shelves (set shelves' k s2) had left (Err f)
+      pub turn_failed : (f : GatherFault) → TakesWindow c (k + 1) w i1.slot (port_walk_at b i1.reader s1 mid) (port_walk_at d i2.reader s2 left) (Err f) → TakesAll c w (walk_at a ins shelves had) (walk_at d (set ins' k i2) (set shelves' k s2) left) (Err f)
       turn_failed f t = record {
         touches = touches_on a b ins ins' are round.touches round.slots k i1 at.input d t.reads;
         slots = slots_on;
@@ -255,23 +255,22 @@ module _ (c : Settings) (w k : ℕ) (a b : Seen) (ins ins' : List Input) (shelve
               says.3,
             );
         cause = λ is. (k, lt, rose_on a b ins ins' are round.touches round.slots k i1 at.input d (t.cause is));
-        only = t.only;
         in_span = t.in_span;
         counts = λ other m. t.counts other m ∙ round.counts m;
         writes = λ m. t.reads.writes m ∙ round.writes m;
       }
         where
           Left : Input → Input → Shelf → Shelf → Type 0
-          Left j j' u u' = (j'.slot ≡ j.slot) × LeavesPort c w j.slot a d j.reader j'.reader u u'
+          Left j j' u u' = (j'.slot ≡ j.slot) × LeavesPort c w (stand_at a j u) (stand_at d j' u')
 
           coe_left : {x y x' y' : Input} {v z v' z' : Shelf} → x ≡ y → x' ≡ y' → v ≡ z → v' ≡ z' → Left x x' v v' → Left y y' z z'
           coe_left {x} {y} {x'} {y'} {v} {z} {v'} {z'} e f g h l = subst (λ q. Left y y' z q) h (subst (λ q. Left y y' q v') g (subst (λ q. Left y q v v') f (subst (λ q. Left q x' v v') e l)))
 
           own_left : Left i i2 s s2
           own_left =
-              let from_i = subst (λ (x : Input). LeavesPort c w x.slot b d x.reader i2.reader s1 s2) waits.input t.leaves.0 in
-              let from_s = subst (λ (y : Shelf). LeavesPort c w i.slot b d i.reader i2.reader y s2) waits.shelf from_i in
-              (slot ∙ ap (λ (x : Input). x.slot) waits.input, leaves_from c w i.slot a b d i.reader i2.reader s s2 told_b waits.rest from_s)
+              let from_i = subst (λ (x : Input). LeavesPort c w (stand_at b (record { slot = x.slot; reader = x.reader }) s1) (stand_at d (record { slot = x.slot; reader = i2.reader }) s2)) waits.input t.leaves.0 in
+              let from_s = subst (λ (y : Shelf). LeavesPort c w (stand_at b (record { slot = i.slot; reader = i.reader }) y) (stand_at d (record { slot = i.slot; reader = i2.reader }) s2)) waits.shelf from_i in
+              (slot ∙ ap (λ (x : Input). x.slot) waits.input, leaves_from c w a b d i i2 s s2 told_b waits.rest from_s)
 
           earlier_left : (q : ℕ) (j j' : Input) (u u' : Shelf) → q < k → At q ins shelves j u → At q ins' shelves' j' u' → Left j j' u u'
           earlier_left q j j' u u' less first now =
@@ -285,9 +284,9 @@ module _ (c : Settings) (w k : ℕ) (a b : Seen) (ins ins' : List Input) (shelve
               let same = others_left a b ins ins' are round.touches round.slots k i1 at.input d t.reads q j' (λ e. omega arith) now.input in
               (ap (λ (x : Input). x.slot) h.input, waits_leaves c w a d j j' u u' h.input h.shelf (subst (λ (x : Input). d.left x.slot ≡ b.left x.slot) h.input same ∙ h.rest))
 
-      pub turn_taken : TakesWindow c (k + 1) w i1.slot b d i1.reader i2.reader s1 s2 mid left (Ok tt) → Round c w (k + 1) a d ins (set ins' k i2) shelves (set shelves' k s2) had left
+      pub turn_taken : TakesWindow c (k + 1) w i1.slot (port_walk_at b i1.reader s1 mid) (port_walk_at d i2.reader s2 left) (Ok tt) → Round c w (k + 1) (walk_at a ins shelves had) (walk_at d (set ins' k i2) (set shelves' k s2) left)
       turn_taken t =
-          let g = subst (λ (y : Shelf). Taking c (k + 1) w i.slot b d i.reader i2.reader y s2 mid left) waits.shelf (subst (λ (x : Input). Taking c (k + 1) w x.slot b d x.reader i2.reader s1 s2 mid left) waits.input t.taking) in
+          let g = subst (λ (y : Shelf). Taking c (k + 1) w i.slot (port_walk_at b i.reader y mid) (port_walk_at d i2.reader s2 left)) waits.shelf (subst (λ (x : Input). Taking c (k + 1) w x.slot (port_walk_at b x.reader s1 mid) (port_walk_at d i2.reader s2 left)) waits.input t.taking) in
           record {
             touches = touches_on a b ins ins' are round.touches round.slots k i1 at.input d t.reads;
             slots = slots_on;
@@ -327,13 +326,13 @@ module _ (c : Settings) (w k : ℕ) (a b : Seen) (ins ins' : List Input) (shelve
             writes = λ m. t.reads.writes m ∙ round.writes m;
           }
         where
-          coe_done : {x y x' y' : Input} {v z v' z' : Shelf} → x ≡ y → x' ≡ y' → v ≡ z → v' ≡ z' → Done c w a d x x' v v' left → Done c w a d y y' z z' left
-          coe_done {x} {y} {x'} {y'} {v} {z} {v'} {z'} e f g h d0 = subst (λ q. Done c w a d y y' z q left) h (subst (λ q. Done c w a d y y' q v' left) g (subst (λ q. Done c w a d y q v v' left) f (subst (λ q. Done c w a d q x' v v' left) e d0)))
+          coe_done : {x y x' y' : Input} {v z v' z' : Shelf} → x ≡ y → x' ≡ y' → v ≡ z → v' ≡ z' → Done c w (stand_at a x v) (stand_at d x' v') left → Done c w (stand_at a y z) (stand_at d y' z') left
+          coe_done {x} {y} {x'} {y'} {v} {z} {v'} {z'} e f g h d0 = subst (λ q. Done c w (stand_at a y z) (stand_at d y' q) left) h (subst (λ q. Done c w (stand_at a y q) (stand_at d y' v') left) g (subst (λ q. Done c w (stand_at a y v) (stand_at d q v') left) f (subst (λ q. Done c w (stand_at a q v) (stand_at d x' v') left) e d0)))
 
           number_sym : (n : ℕ) → k + 1 ≡ n → n ≡ k + 1
           number_sym n e = sym e
 
-          own_done : Taking c (k + 1) w i.slot b d i.reader i2.reader s s2 mid left → TakesWindow c (k + 1) w i1.slot b d i1.reader i2.reader s1 s2 mid left (Ok tt) → Done c w a d i i2 s s2 left
+          own_done : Taking c (k + 1) w i.slot (port_walk_at b i.reader s mid) (port_walk_at d i2.reader s2 left) → TakesWindow c (k + 1) w i1.slot (port_walk_at b i1.reader s1 mid) (port_walk_at d i2.reader s2 left) (Ok tt) → Done c w (stand_at a i s) (stand_at d i2 s2) left
           own_done g t = record {
             took = record {
               slot = slot ∙ ap (λ (x : Input). x.slot) waits.input;
@@ -350,13 +349,13 @@ module _ (c : Settings) (w k : ℕ) (a b : Seen) (ins ins' : List Input) (shelve
             beyond = beyond_is c w i.reader.greatest i2.reader.greatest s.next s2.next waits.ready.last waits.from g.ready.last t.beyond g.onward g.still;
           }
 
-          less_is : TakesWindow c (k + 1) w i1.slot b d i1.reader i2.reader s1 s2 mid left (Ok tt) → left.frames ≤ mid.frames
+          less_is : TakesWindow c (k + 1) w i1.slot (port_walk_at b i1.reader s1 mid) (port_walk_at d i2.reader s2 left) (Ok tt) → left.frames ≤ mid.frames
           less_is t =
               let own = t.taking.spent in
               let f = own.frames in
               let n = t.taking.count in omega arith
 
-          others_done : (q : ℕ) (j j' : Input) (u u' : Shelf) → q < k → At q ins shelves j u → At q ins' shelves' j' u' → TakesWindow c (k + 1) w i1.slot b d i1.reader i2.reader s1 s2 mid left (Ok tt) → Done c w a d j j' u u' left
+          others_done : (q : ℕ) (j j' : Input) (u u' : Shelf) → q < k → At q ins shelves j u → At q ins' shelves' j' u' → TakesWindow c (k + 1) w i1.slot (port_walk_at b i1.reader s1 mid) (port_walk_at d i2.reader s2 left) (Ok tt) → Done c w (stand_at a j u) (stand_at d j' u') left
           others_done q j j' u u' less first now t =
               let h = round.done q j j' u u' less first now in
               let same = others_left a b ins ins' are round.touches round.slots k i1 at.input d t.reads q j' (λ e. omega arith) now.input in
@@ -378,7 +377,7 @@ module _ (c : Settings) (w k : ℕ) (a b : Seen) (ins ins' : List Input) (shelve
                 beyond = h.beyond;
               }
 
-          others_wait : (q : ℕ) (j j' : Input) (u u' : Shelf) → k < q → At q ins shelves j u → At q ins' shelves' j' u' → TakesWindow c (k + 1) w i1.slot b d i1.reader i2.reader s1 s2 mid left (Ok tt) → Waits c w a d j j' u u' left
+          others_wait : (q : ℕ) (j j' : Input) (u u' : Shelf) → k < q → At q ins shelves j u → At q ins' shelves' j' u' → TakesWindow c (k + 1) w i1.slot (port_walk_at b i1.reader s1 mid) (port_walk_at d i2.reader s2 left) (Ok tt) → Waits c w (stand_at a j u) (stand_at d j' u') left
           others_wait q j j' u u' more first now t =
               let h = round.waits q j j' u u' (omega arith) first now in
               let same = others_left a b ins ins' are round.touches round.slots k i1 at.input d t.reads q j' (λ e. omega arith) now.input in
@@ -392,7 +391,7 @@ module _ (c : Settings) (w k : ℕ) (a b : Seen) (ins ins' : List Input) (shelve
               }
 
 -- before the first port
-pub round_none : (c : Settings) (w : ℕ) (a : Seen) (ins : List Input) (shelves : List Shelf) (had : Budget) → AreReady c w ins shelves had → Round c w 0 a a ins ins shelves shelves had had
+pub round_none : (c : Settings) (w : ℕ) (a : Seen) (ins : List Input) (shelves : List Shelf) (had : Budget) → AreReady c w ins shelves had → Round c w 0 (walk_at a ins shelves had) (walk_at a ins shelves had)
 round_none c w a ins shelves had ready = record {
   touches = touches_refl Nothing (NameIn a (slots_of ins)) a;
   slots = refl;
@@ -410,7 +409,7 @@ round_none c w a ins shelves had ready = record {
 }
 
 -- behind the last
-pub round_all : (c : Settings) (w k : ℕ) (a b : Seen) (ins ins' : List Input) (shelves shelves' : List Shelf) (had left : Budget) → length ins ≤ k → length shelves ≡ length ins → Round c w k a b ins ins' shelves shelves' had left → TakesAll c w a b ins ins' shelves shelves' had left (Ok tt)
+pub round_all : (c : Settings) (w k : ℕ) (a b : Seen) (ins ins' : List Input) (shelves shelves' : List Shelf) (had left : Budget) → length ins ≤ k → length shelves ≡ length ins → Round c w k (walk_at a ins shelves had) (walk_at b ins' shelves' left) → TakesAll c w (walk_at a ins shelves had) (walk_at b ins' shelves' left) (Ok tt)
 round_all c w k a b ins ins' shelves shelves' had left le count r = record {
   touches = r.touches;
   slots = r.slots;
@@ -426,11 +425,10 @@ round_all c w k a b ins ins' shelves shelves' had left le count r = record {
   looks = λ told first late. r.looks told first late;
   stops = λ told. tt;
   cause = λ e. absurd (cc);
-  only = tt;
   in_span = tt;
   counts = λ other. r.counts;
   writes = r.writes;
 }
 
-pub taken_as : {c : Settings} {m n w slot : ℕ} {a b : Seen} {r r' : Reading} {s s' : Shelf} {had left : Budget} {result : Result (Unit {0}) RunFault} → n ≡ m → TakesWindow c m w slot a b r r' s s' had left result → TakesWindow c n w slot a b r r' s s' had left result
-taken_as {c} {m} {n} {w} {slot} {a} {b} {r} {r'} {s} {s'} {had} {left} {result} e t = subst (λ (x : ℕ). TakesWindow c x w slot a b r r' s s' had left result) (sym e) t
+pub taken_as : {c : Settings} {m n w slot : ℕ} {a b : Seen} {r r' : Reading} {s s' : Shelf} {had left : Budget} {result : Result (Unit {0}) GatherFault} → n ≡ m → TakesWindow c m w slot (port_walk_at a r s had) (port_walk_at b r' s' left) result → TakesWindow c n w slot (port_walk_at a r s had) (port_walk_at b r' s' left) result
+taken_as {c} {m} {n} {w} {slot} {a} {b} {r} {r'} {s} {s'} {had} {left} {result} e t = subst (λ (x : ℕ). TakesWindow c x w slot (port_walk_at a r s had) (port_walk_at b r' s' left) result) (sym e) t

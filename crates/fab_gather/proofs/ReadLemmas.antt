@@ -5,13 +5,14 @@ use Rattle.std.proofs.lemmas.List.{append-nil}
 use Rattle.std.proofs.lemmas.List.Elements.{All-nil, All-cons}
 use Rattle.fab_base.specs.Seen.{Seen}
 use Rattle.fab_config.specs.Settings.{Settings}
-use Rattle.fab_policy.specs.Growing.{AreBelow, AreFrom}
+use Rattle.fab_policy.specs.Growing.{AreBelow, AreFrom, with_more}
 use Rattle.fab_policy.specs.Legal.{window_start}
 use Rattle.fab_policy.specs.Looks.{Opened, records_in}
 use Rattle.pcap_file.specs.Capture.{HEAD, Next, Found, End, CutHead, TooLong, CutBytes, next, records_from, is_whole_from}
 use Rattle.pcap_file.specs.Reading.{to_come}
 use Rattle.pcap_file.specs.Records.{Chain, last_moment}
 use Rattle.pcap_file.specs.declared.CaptureHead.{CaptureHead}
+use Rattle.pcap_file.specs.declared.Budget.{Budget}
 use Rattle.pcap_file.specs.declared.Record.{Record}
 use Rattle.pcap_file.proofs.lemmas.Chains.{found_stands, last-push, few, chain_size, go_on, records_on, whole_on, whole_chain}
 use Rattle.pcap_file.proofs.lemmas.Numbers.{none_is}
@@ -19,9 +20,9 @@ use Rattle.pcap_file.proofs.lemmas.Written.{next_end}
 use Rattle.fab_gather.specs.declared.shelf.Input.{Input}
 use Rattle.fab_gather.specs.declared.shelf.Shelf.{Shelf}
 use Rattle.fab_gather.specs.Laws.{ReadsOn, ReadStays, ReadIsBelow, ReadSplits, ReadIsAll}
-use Rattle.fab_gather.specs.Port.{AreIn}
-use Rattle.fab_gather.specs.Ports.{Took}
-use Rattle.fab_gather.specs.Reads.{HasRead, IsWhole}
+use Rattle.fab_gather.specs.Port.{AreIn, stand_at}
+use Rattle.fab_gather.specs.Ports.{Took, TookAll, walk_at}
+use Rattle.fab_gather.specs.Reads.{HasRead, IsWhole, HaveRead, batches_of}
 use Rattle.fab_gather.proofs.WindowLemmas.{window_start-mono}
 
 -- ---- chains
@@ -74,7 +75,7 @@ from_records c w (suc n) h g l le = from_found c w n h g l (next h g l) le refl 
 
 -- ---- a port
 
-module _ (c : Settings) (w : ℕ) (o : Opened) (records : List Record) (a b : Seen) (i i' : Input) (s s' : Shelf) (told : b.told ≡ a.told) (h : HasRead c w o records i s a) (t : Took c w a b i i' s s') where
+module _ (c : Settings) (w : ℕ) (o : Opened) (records : List Record) (a b : Seen) (i i' : Input) (s s' : Shelf) (told : b.told ≡ a.told) (h : HasRead c w o records i s a) (t : Took c w (stand_at a i s) (stand_at b i' s')) where
   abbrev so_far : List Record
   so_far = records ++ option_to_list s.next
 
@@ -154,22 +155,26 @@ module _ (c : Settings) (w : ℕ) (o : Opened) (records : List Record) (i : Inpu
 
 -- ---- all ports
 
-pub reads_on : ReadsOn
-reads_on c w [] [] a b [] [] [] [] told e f h took = tt
-reads_on c w [] [] a b [] [] [] (s' ∷ shelves') told e f h took = absurd (omega arith)
-reads_on c w [] [] a b [] (i' ∷ ins') [] shelves' told e f h took = absurd (omega arith)
-reads_on c w [] [] a b [] ins' (s ∷ shelves) shelves' told e f h took = absurd h
-reads_on c w [] [] a b (i ∷ ins) ins' shelves shelves' told e f h took = absurd h
-reads_on c w [] (rs ∷ taken) a b ins ins' shelves shelves' told e f h took = absurd h
-reads_on c w (o ∷ opened) [] a b ins ins' shelves shelves' told e f h took = absurd h
-reads_on c w (o ∷ opened) (rs ∷ taken) a b [] ins' shelves shelves' told e f h took = absurd h
-reads_on c w (o ∷ opened) (rs ∷ taken) a b (i ∷ ins) ins' [] shelves' told e f h took = absurd h
-reads_on c w (o ∷ opened) (rs ∷ taken) a b (i ∷ ins) [] (s ∷ shelves) shelves' told e f h took = absurd (omega arith)
-reads_on c w (o ∷ opened) (rs ∷ taken) a b (i ∷ ins) (i' ∷ ins') (s ∷ shelves) [] told e f h took = absurd (omega arith)
-reads_on c w (o ∷ opened) (rs ∷ taken) a b (i ∷ ins) (i' ∷ ins') (s ∷ shelves) (s' ∷ shelves') told e f h took = (
+on_lists : (c : Settings) (w : ℕ) (opened : List Opened) (taken : List (List Record)) (a b : Seen) (ins ins' : List Input) (shelves shelves' : List Shelf) (had left : Budget) → b.told ≡ a.told → length ins' ≡ length ins → length shelves' ≡ length shelves →
+    HaveRead c w opened taken ins shelves a → TookAll c w (walk_at a ins shelves had) (walk_at b ins' shelves' left) → HaveRead c (w + 1) opened (with_more taken (batches_of shelves')) ins' shelves' b
+on_lists c w [] [] a b [] [] [] [] had left told e f h took = tt
+on_lists c w [] [] a b [] [] [] (s' ∷ shelves') had left told e f h took = absurd (omega arith)
+on_lists c w [] [] a b [] (i' ∷ ins') [] shelves' had left told e f h took = absurd (omega arith)
+on_lists c w [] [] a b [] ins' (s ∷ shelves) shelves' had left told e f h took = absurd h
+on_lists c w [] [] a b (i ∷ ins) ins' shelves shelves' had left told e f h took = absurd h
+on_lists c w [] (rs ∷ taken) a b ins ins' shelves shelves' had left told e f h took = absurd h
+on_lists c w (o ∷ opened) [] a b ins ins' shelves shelves' had left told e f h took = absurd h
+on_lists c w (o ∷ opened) (rs ∷ taken) a b [] ins' shelves shelves' had left told e f h took = absurd h
+on_lists c w (o ∷ opened) (rs ∷ taken) a b (i ∷ ins) ins' [] shelves' had left told e f h took = absurd h
+on_lists c w (o ∷ opened) (rs ∷ taken) a b (i ∷ ins) [] (s ∷ shelves) shelves' had left told e f h took = absurd (omega arith)
+on_lists c w (o ∷ opened) (rs ∷ taken) a b (i ∷ ins) (i' ∷ ins') (s ∷ shelves) [] had left told e f h took = absurd (omega arith)
+on_lists c w (o ∷ opened) (rs ∷ taken) a b (i ∷ ins) (i' ∷ ins') (s ∷ shelves) (s' ∷ shelves') had left told e f h took = (
   has_read_on c w o rs a b i i' s s' told h.0 (took 0 i i' s s' (record { input = refl; shelf = refl }) (record { input = refl; shelf = refl })),
-  reads_on c w opened taken a b ins ins' shelves shelves' told (omega arith) (omega arith) h.1 (λ q j j' u u' at at'. took (suc q) j j' u u' (record { input = at.input; shelf = at.shelf }) (record { input = at'.input; shelf = at'.shelf })),
+  on_lists c w opened taken a b ins ins' shelves shelves' had left told (omega arith) (omega arith) h.1 (λ q j j' u u' at at'. took (suc q) j j' u u' (record { input = at.input; shelf = at.shelf }) (record { input = at'.input; shelf = at'.shelf })),
 )
+
+pub reads_on : ReadsOn
+reads_on c w opened taken old new = on_lists c w opened taken old.seen new.seen old.ins new.ins old.shelves new.shelves old.left new.left
 
 pub read_stays : ReadStays
 read_stays c v w [] [] [] [] d le h = tt

@@ -1,5 +1,5 @@
 -- The looks at the first records, and which window comes next.
-use Rattle.std.specs.Prelude.{◌≡◌, ◌≢◌, ℕ, ◌≤◌, ◌<◌, IsTrue, List, [], ◌∷◌, length, map, Option, Some, None, IfSome, Result, IfOk, OnErr, IfErr, IsErrOf, option_to_list, slice_get, Vec}
+use Rattle.std.specs.Prelude.{◌≡◌, ℕ, ◌≤◌, ◌<◌, IsTrue, List, [], ◌∷◌, length, map, Option, Some, None, IfSome, Result, IfOk, OnErr, IfErr, IsErrOf, option_to_list, slice_get, Vec}
 use Rattle.std.specs.declared.alloc.Global.{Global}
 use Rattle.fab_base.specs.Seen.{Seen, Reads, Rose, Touches, Nothing, SameWriteFaults}
 use Rattle.fab_config.specs.Settings.{Settings}
@@ -12,8 +12,8 @@ use Rattle.pcap_file.specs.declared.Budget.{Budget}
 use Rattle.pcap_file.specs.declared.Record.{Record}
 use Rattle.fab_gather.specs.declared.shelf.Input.{Input}
 use Rattle.fab_gather.specs.declared.shelf.Shelf.{Shelf}
-use Rattle.fab_gather.specs.declared.fault.RunFault.{RunFault}
-use Rattle.fab_gather.specs.declared.fault.RunFault.TheVariants as fault
+use Rattle.fab_gather.specs.declared.fault.GatherFault.{GatherFault}
+use Rattle.fab_gather.specs.declared.fault.GatherFault.TheVariants as fault
 use Rattle.fab_gather.specs.Port.{IsReady, Spends, Gave, to_look, ending, IsStopped, TellsReads}
 use Rattle.fab_gather.specs.Ports.{slots_of, name_of, NameIn, TakesFrom, rests, joined, stop_from, AreReady, counts_of}
 use Rattle.fab_gather.specs.Reads.{HaveRead}
@@ -43,20 +43,38 @@ opened_in d ins = map (λ i. opened_by d i.slot i.reader) ins
 abbrev pub first_look : ℕ → Opened → Look
 first_look port o = look_at port (first_spot o)
 
+-- where a port's capture stands before it has a shelf: the store, the reader, and what is left of the limits
+pub record PortStart : Type 0 where
+  pub seen : Seen
+  pub reader : Reading
+  pub left : Budget
+
+abbrev pub port_start_at : Seen → Reading → Budget → PortStart
+port_start_at seen reader left = record { seen = seen; reader = reader; left = left }
+
+-- the bytes to come of the capture
+abbrev pub bytes_at : ℕ → PortStart → List ℕ
+bytes_at slot at = to_come at.reader at.seen slot
+
+-- its head, and the bytes behind that
+abbrev pub opened_at : ℕ → PortStart → Opened
+opened_at slot at = opened_by at.seen slot at.reader
+
 -- What a fresh reader and a shelf are after the look at the first record: it passed, and the shelf has what was found.
-pub record Looked (c : Settings) (port slot : ℕ) (a b : Seen) (r r' : Reading) (s : Shelf) (had left : Budget) : Type 0 where
-  pub ready : IsReady r' s.next s.count left
-  pub spent : Spends had left 0 s.count
+pub record Looked (c : Settings) (port slot : ℕ) (old new : PortStart) (s : Shelf) : Type 0 where
+  pub ready : IsReady new.reader s.next s.count new.left
+  pub spent : Spends old.left new.left 0 s.count
   pub count : s.count ≡ length (option_to_list s.next)
-  pub head : r'.head ≡ r.head
-  pub greatest : r'.greatest ≡ last_moment 0 (option_to_list s.next)
-  pub chain : IsTrue a.told → Chain r.head 0 (option_to_list s.next) (to_come r a slot) (to_come r' b slot)
-  pub ended : IsTrue a.told → s.next ≡ None → to_come r' b slot ≡ []
-  pub looks_ : IsTrue a.told → looks c port (first_spot (opened_by a slot r)) ≡ first_look port (opened_by a slot r) ∷ to_look c port b slot r' s.count s.next
-  pub passes : IsTrue a.told → (first : ℕ) (rest : List Look) → stop_in first had.bytes had.frames (first_look port (opened_by a slot r) ∷ rest) ≡ stop_in first left.bytes left.frames rest
+  pub head : new.reader.head ≡ old.reader.head
+  pub greatest : new.reader.greatest ≡ last_moment 0 (option_to_list s.next)
+  pub chain : IsTrue old.seen.told → Chain old.reader.head 0 (option_to_list s.next) (bytes_at slot old) (bytes_at slot new)
+  pub ended : IsTrue old.seen.told → s.next ≡ None → bytes_at slot new ≡ []
+  pub looks_ : IsTrue old.seen.told → looks c port (first_spot (opened_at slot old)) ≡ first_look port (opened_at slot old) ∷ to_look c port new.seen slot new.reader s.count s.next
+  pub passes : IsTrue old.seen.told →
+      (first : ℕ) (rest : List Look) → stop_in first old.left.bytes old.left.frames (first_look port (opened_at slot old) ∷ rest) ≡ stop_in first new.left.bytes new.left.frames rest
 
 -- The first look of a port fails, and the ending says so.
-pub record StopsFirst (c : Settings) (port : ℕ) (o : Opened) (had : Budget) (e : RunFault) : Type 0 where
+pub record StopsFirst (c : Settings) (port : ℕ) (o : Opened) (had : Budget) (e : GatherFault) : Type 0 where
   pub behind : List Look
   pub are : looks c port (first_spot o) ≡ first_look port o ∷ behind
   pub says : (first : ℕ) (rest : List Look) → (s : Stop) × (stop_in first had.bytes had.frames (first_look port o ∷ rest) ≡ Some s) × (ending s ≡ e) × (s.window ≡ None)
@@ -68,33 +86,44 @@ pub record LeavesFirst (a b : Seen) (i i' : Input) : Type 0 where
   pub gave : Gave i.slot a b i.reader i'.reader (option_to_list given)
 
 -- What looking at the first record of one port does.
-pub record LooksOnce (c : Settings) (port slot : ℕ) (a b : Seen) (r r' : Reading) (had left : Budget) (result : Result Shelf RunFault) : Type 0 where
-  pub reads : Reads (a.name slot) a b
-  pub looked : IfOk result (λ s. Looked c port slot a b r r' s had left)
-  pub stops : IsTrue a.told → IfErr result (λ e. IsStopped e → StopsFirst c port (opened_by a slot r) had e)
-  pub leaves : OnErr result (Gave slot a b r r' [] × (left ≡ had))
-  pub cause : IsErrOf result fault.Read → Rose (a.read_faults (a.name slot)) (b.read_faults (a.name slot))
-  pub only : IfErr result (λ e. e ≢ fault.Write)
-  pub counts : TellsReads a b result
+pub record LooksOnce (c : Settings) (port slot : ℕ) (old new : PortStart) (result : Result Shelf GatherFault) : Type 0 where
+  pub reads : Reads (old.seen.name slot) old.seen new.seen
+  pub looked : IfOk result (λ s. Looked c port slot old new s)
+  pub stops : IsTrue old.seen.told → IfErr result (λ e. IsStopped e → StopsFirst c port (opened_at slot old) old.left e)
+  pub leaves : OnErr result (Gave slot old.seen new.seen old.reader new.reader [] × (new.left ≡ old.left))
+  pub cause : IsErrOf result fault.Read → Rose (old.seen.read_faults (old.seen.name slot)) (new.seen.read_faults (old.seen.name slot))
+  pub counts : TellsReads old.seen new.seen result
+
+-- where captures stand before they have shelves: the store, the captures, and what is left of the limits
+pub record Start : Type 0 where
+  pub seen : Seen
+  pub ins : List Input
+  pub left : Budget
+
+abbrev pub start_at : Seen → List Input → Budget → Start
+start_at seen ins left = record { seen = seen; ins = ins; left = left }
 
 -- What looking at the first record of each port does: after it the looks to come stop where all looks do, or it ends as the
 -- first stop says, which has no window.
-pub record LooksFirst (c : Settings) (a b : Seen) (ins ins' : List Input) (had left : Budget) (result : Result (Vec Shelf Global) RunFault) : Type 0 where
-  pub touches : Touches Nothing (NameIn a (slots_of ins)) a b
-  pub slots : slots_of ins' ≡ slots_of ins
-  pub count : IfOk result (λ v. length v.items ≡ length ins)
-  pub ready : IfOk result (λ v. AreReady c 0 ins' v.items left)
-  pub read : IfOk result (λ v. HaveRead c 0 (opened_in a ins) (map (λ i. []) ins) ins' v.items b)
-  pub spent : IfOk result (λ v. Spends had left 0 (counts_of v.items))
-  pub looks_ : IsTrue a.told → IfOk result (λ v. stop c had.bytes had.frames (opened_in a ins) ≡ stop_from c (first_window (in_order (joined (rests c 1 b ins' v.items)))) b ins' v.items left)
-  pub stops : IsTrue a.told → IfErr result (λ e. IsStopped e → (s : Stop) × (stop c had.bytes had.frames (opened_in a ins) ≡ Some s) × (ending s ≡ e) × (s.window ≡ None))
-  pub leaves : OnErr result ((q : ℕ) (i i' : Input) → slice_get ins q ≡ Some i → slice_get ins' q ≡ Some i' → LeavesFirst a b i i')
-  pub found : (found : ℕ) × Spends had left 0 found
-  pub takes : TakesFrom ins ins' had left
-  pub cause : IsErrOf result fault.Read → (q : ℕ) × (q < length ins) × Rose (a.read_faults (name_of a (slots_of ins) q)) (b.read_faults (name_of a (slots_of ins) q))
-  pub only : IfErr result (λ e. e ≢ fault.Write)
-  pub counts : TellsReads a b result
-  pub writes : SameWriteFaults a b
+pub record LooksFirst (c : Settings) (old new : Start) (result : Result (Vec Shelf Global) GatherFault) : Type 0 where
+  pub touches : Touches Nothing (NameIn old.seen (slots_of old.ins)) old.seen new.seen
+  pub slots : slots_of new.ins ≡ slots_of old.ins
+  pub count : IfOk result (λ v. length v.items ≡ length old.ins)
+  pub ready : IfOk result (λ v. AreReady c 0 new.ins v.items new.left)
+  pub read : IfOk result (λ v. HaveRead c 0 (opened_in old.seen old.ins) (map (λ i. []) old.ins) new.ins v.items new.seen)
+  pub spent : IfOk result (λ v. Spends old.left new.left 0 (counts_of v.items))
+  pub looks_ : IsTrue old.seen.told →
+      IfOk result
+      (λ v. stop c old.left.bytes old.left.frames (opened_in old.seen old.ins) ≡ stop_from c (first_window (in_order (joined (rests c 1 new.seen new.ins v.items)))) new.seen new.ins v.items new.left)
+  pub stops : IsTrue old.seen.told →
+      IfErr result (λ e. IsStopped e → (s : Stop) × (stop c old.left.bytes old.left.frames (opened_in old.seen old.ins) ≡ Some s) × (ending s ≡ e) × (s.window ≡ None))
+  pub leaves : OnErr result ((q : ℕ) (i i' : Input) → slice_get old.ins q ≡ Some i → slice_get new.ins q ≡ Some i' → LeavesFirst old.seen new.seen i i')
+  pub found : (found : ℕ) × Spends old.left new.left 0 found
+  pub takes : TakesFrom old.ins new.ins old.left new.left
+  pub cause : IsErrOf result fault.Read →
+      (q : ℕ) × (q < length old.ins) × Rose (old.seen.read_faults (name_of old.seen (slots_of old.ins) q)) (new.seen.read_faults (name_of old.seen (slots_of old.ins) q))
+  pub counts : TellsReads old.seen new.seen result
+  pub writes : SameWriteFaults old.seen new.seen
 
 -- ---- which window comes next
 

@@ -11,10 +11,10 @@ use Rattle.pcap_file.specs.declared.Record.{Record}
 use Rattle.fab_gather.specs.declared.shelf.Input.{Input}
 use Rattle.fab_gather.specs.declared.shelf.Shelf.{Shelf}
 use Rattle.fab_gather.specs.declared.fault.LimitKind.TheVariants as limit
-use Rattle.fab_gather.specs.declared.fault.RunFault.TheVariants as fault
+use Rattle.fab_gather.specs.declared.fault.GatherFault.TheVariants as fault
 use Rattle.fab_gather.specs.First.{IsNextWindow}
 use Rattle.fab_gather.specs.Port.{Spends, AreIn, ending}
-use Rattle.fab_gather.specs.Ports.{AreReady, TookAll, rests, joined, stop_from, counts_of}
+use Rattle.fab_gather.specs.Ports.{AreReady, Walk, TookAll, rests, joined, stop_from, counts_of}
 use Rattle.fab_gather.specs.Reads.{HaveRead, batches_of, IsWhole}
 
 -- ---- the looks to come
@@ -65,25 +65,25 @@ ahead_of [] = 0
 ahead_of (s ∷ shelves) = length (option_to_list s.next) + ahead_of shelves
 
 -- The shelves have records of the window, of at least one port, and fewer records are left.
-pub record Moves (c : Settings) (w : ℕ) (shelves shelves' : List Shelf) (had left : Budget) : Type 0 where
-  pub batches : AllIn c w (batches_of shelves')
-  pub some : HasSome (batches_of shelves')
-  pub fewer : left.frames + ahead_of shelves' < had.frames + ahead_of shelves
+pub record Moves (c : Settings) (w : ℕ) (old new : Walk) : Type 0 where
+  pub batches : AllIn c w (batches_of new.shelves)
+  pub some : HasSome (batches_of new.shelves)
+  pub fewer : new.left.frames + ahead_of new.shelves < old.left.frames + ahead_of old.shelves
 
 abbrev pub WindowMoves : Type 0
 WindowMoves =
-    (c : Settings) (w : ℕ) (a b : Seen) (ins ins' : List Input) (shelves shelves' : List Shelf) (had left : Budget) → length shelves ≡ length ins
-    → length ins' ≡ length ins → length shelves' ≡ length shelves → IsNextWindow c shelves (Some w) → TookAll c w a b ins ins' shelves shelves'
-    → AreReady c (w + 1) ins' shelves' left → Spends had left (counts_of shelves) (counts_of shelves') → Moves c w shelves shelves' had left
+    (c : Settings) (w : ℕ) (old new : Walk) → length old.shelves ≡ length old.ins → length new.ins ≡ length old.ins → length new.shelves ≡ length old.shelves
+    → IsNextWindow c old.shelves (Some w) → TookAll c w old new → AreReady c (w + 1) new.ins new.shelves new.left
+    → Spends old.left new.left (counts_of old.shelves) (counts_of new.shelves) → Moves c w old new
 
 -- ---- what was read
 
 -- What was read goes on by what a window took.
 abbrev pub ReadsOn : Type 0
 ReadsOn =
-    (c : Settings) (w : ℕ) (opened : List Opened) (taken : List (List Record)) (a b : Seen) (ins ins' : List Input) (shelves shelves' : List Shelf) → b.told ≡ a.told
-    → length ins' ≡ length ins → length shelves' ≡ length shelves → HaveRead c w opened taken ins shelves a → TookAll c w a b ins ins' shelves shelves'
-    → HaveRead c (w + 1) opened (with_more taken (batches_of shelves')) ins' shelves' b
+    (c : Settings) (w : ℕ) (opened : List Opened) (taken : List (List Record)) (old new : Walk) → new.seen.told ≡ old.seen.told → length new.ins ≡ length old.ins
+    → length new.shelves ≡ length old.shelves → HaveRead c w opened taken old.ins old.shelves old.seen → TookAll c w old new
+    → HaveRead c (w + 1) opened (with_more taken (batches_of new.shelves)) new.ins new.shelves new.seen
 
 -- It stays at a later window.
 abbrev pub ReadStays : Type 0

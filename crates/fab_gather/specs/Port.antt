@@ -11,16 +11,17 @@ use Rattle.pcap_file.specs.declared.Budget.{Budget}
 use Rattle.pcap_file.specs.declared.CapError.{CapError}
 use Rattle.pcap_file.specs.declared.CapError.TheVariants as errors
 use Rattle.pcap_file.specs.declared.Record.{Record}
+use Rattle.fab_gather.specs.declared.shelf.Input.{Input}
 use Rattle.fab_gather.specs.declared.shelf.Shelf.{Shelf}
 use Rattle.fab_gather.specs.declared.fault.CapWhy.TheVariants as why
 use Rattle.fab_gather.specs.declared.fault.LimitKind.TheVariants as limit
-use Rattle.fab_gather.specs.declared.fault.RunFault.{RunFault}
-use Rattle.fab_gather.specs.declared.fault.RunFault.TheVariants as fault
+use Rattle.fab_gather.specs.declared.fault.GatherFault.{GatherFault}
+use Rattle.fab_gather.specs.declared.fault.GatherFault.TheVariants as fault
 
 -- ---- endings
 
--- what an error of the reader of a port ends a run with
-abbrev pub fault_by : CapError → ℕ → RunFault
+-- what an error of the reader of a port ends the reading with
+abbrev pub fault_by : CapError → ℕ → GatherFault
 fault_by (errors.Cut at) port = fault.Capture port at why.Cut
 fault_by (errors.TooLong at len) port = fault.Capture port at why.Long
 fault_by errors.Bytes port = fault.Limit limit.Bytes
@@ -28,24 +29,23 @@ fault_by errors.Frames port = fault.Limit limit.Frames
 fault_by (errors.Read failed) port = fault.Read
 fault_by errors.Memory port = fault.Memory
 
--- what a stop ends a run with: what the reader's error there does, or the limit of the span
-abbrev pub ending_of : Reason → ℕ → ℕ → RunFault
+-- what a stop ends the reading with: what the reader's error there does, or the limit of the span
+abbrev pub ending_of : Reason → ℕ → ℕ → GatherFault
 ending_of (Fails why) port at = fault_by (error_of why at) port
 ending_of Span port at = fault.Limit limit.Span
 
-abbrev pub ending : Stop → RunFault
+abbrev pub ending : Stop → GatherFault
 ending s = ending_of s.why s.port s.at
 
 -- an ending that stands in the captures, and not in the store or in the memory
-abbrev pub IsStopped : RunFault → Type 0
+abbrev pub IsStopped : GatherFault → Type 0
 IsStopped (fault.Capture port at w) = Unit {0}
 IsStopped (fault.Limit kind) = Unit {0}
 IsStopped fault.Read = ⊥
-IsStopped fault.Write = ⊥
 IsStopped fault.Memory = ⊥
 
 -- Every fault of reading is told: none is counted where the answer isn't `Read`. So want of memory never stands for one.
-abbrev pub TellsReads : {T : Type 0} → Seen → Seen → Result T RunFault → Type 0
+abbrev pub TellsReads : {T : Type 0} → Seen → Seen → Result T GatherFault → Type 0
 TellsReads old new result = ¬ IsErrOf result fault.Read → SameReadFaults old new
 
 -- ---- a port
@@ -91,27 +91,45 @@ abbrev pub AreIn : Settings → ℕ → List Record → Type 0
 AreIn c w [] = Unit {0}
 AreIn c w (r ∷ records) = (window_start c r.moment ≡ w) × AreIn c w records
 
+-- where the reading of a port's capture stands: the store, the reader, the shelf, and what is left of the limits
+pub record PortWalk : Type 0 where
+  pub seen : Seen
+  pub reader : Reading
+  pub shelf : Shelf
+  pub left : Budget
+
+abbrev pub port_walk_at : Seen → Reading → Shelf → Budget → PortWalk
+port_walk_at seen reader shelf left = record { seen = seen; reader = reader; shelf = shelf; left = left }
+
+-- the looks to come of a port there
+abbrev pub looks_from : Settings → ℕ → ℕ → PortWalk → List Look
+looks_from c port slot at = to_look c port at.seen slot at.reader at.shelf.count at.shelf.next
+
+-- the bytes to come of its capture
+abbrev pub bytes_from : ℕ → PortWalk → List ℕ
+bytes_from slot at = to_come at.reader at.seen slot
+
 -- What stands while the records of a window are taken of one port: which are on the shelf, which the reader gave, and which
 -- looks were made.
-pub record Taking (c : Settings) (port w slot : ℕ) (a b : Seen) (r r' : Reading) (s s' : Shelf) (had left : Budget) : Type 0 where
-  pub reads : Reads (a.name slot) a b
-  pub ready : IsReady r' s'.next s'.count left
-  pub spent : Spends had left s.count s'.count
-  pub in_window : AreIn c w s'.batch.items
+pub record Taking (c : Settings) (port w slot : ℕ) (old new : PortWalk) : Type 0 where
+  pub reads : Reads (old.seen.name slot) old.seen new.seen
+  pub ready : IsReady new.reader new.shelf.next new.shelf.count new.left
+  pub spent : Spends old.left new.left old.shelf.count new.shelf.count
+  pub in_window : AreIn c w new.shelf.batch.items
   pub given : List Record
-  pub order : option_to_list s.next ++ given ≡ s'.batch.items ++ option_to_list s'.next
-  pub count : s'.count ≡ s.count + length given
-  pub head : r'.head ≡ r.head
-  pub greatest : r'.greatest ≡ last_moment r.greatest given
-  pub chain : IsTrue a.told → Chain r.head r.greatest given (to_come r a slot) (to_come r' b slot)
-  pub still : s.next ≡ None → s'.next ≡ None
-  pub onward : r.greatest ≤ r'.greatest
-  pub ended : IsTrue a.told → s.next ≢ None → s'.next ≡ None → to_come r' b slot ≡ []
-  pub looks : IsTrue a.told → (made : List Look) × (to_look c port a slot r s.count s.next ≡ made ++ to_look c port b slot r' s'.count s'.next) × AreOf port w made × Pass w made had left
-  pub counts : SameReadFaults a b
+  pub order : option_to_list old.shelf.next ++ given ≡ new.shelf.batch.items ++ option_to_list new.shelf.next
+  pub count : new.shelf.count ≡ old.shelf.count + length given
+  pub head : new.reader.head ≡ old.reader.head
+  pub greatest : new.reader.greatest ≡ last_moment old.reader.greatest given
+  pub chain : IsTrue old.seen.told → Chain old.reader.head old.reader.greatest given (bytes_from slot old) (bytes_from slot new)
+  pub still : old.shelf.next ≡ None → new.shelf.next ≡ None
+  pub onward : old.reader.greatest ≤ new.reader.greatest
+  pub ended : IsTrue old.seen.told → old.shelf.next ≢ None → new.shelf.next ≡ None → bytes_from slot new ≡ []
+  pub looks : IsTrue old.seen.told → (made : List Look) × (looks_from c port slot old ≡ made ++ looks_from c port slot new) × AreOf port w made × Pass w made old.left new.left
+  pub counts : SameReadFaults old.seen new.seen
 
 -- The looks come to one that fails, and the ending says so.
-pub record StopsIn (port w : ℕ) (had : Budget) (looks : List Look) (e : RunFault) : Type 0 where
+pub record StopsIn (port w : ℕ) (had : Budget) (looks : List Look) (e : GatherFault) : Type 0 where
   pub made : List Look
   pub failing : Look
   pub behind : List Look
@@ -137,22 +155,34 @@ pub record HasSome (c : Settings) (w : ℕ) (given : List Record) (s s' : Shelf)
   pub order : option_to_list s.next ++ given ≡ s'.batch.items ++ lost ++ option_to_list s'.next
   pub last : length lost ≤ 1
 
+-- what stands of a port: the store, its capture, and its shelf
+pub record PortStand : Type 0 where
+  pub seen : Seen
+  pub input : Input
+  pub shelf : Shelf
+
+abbrev pub stand_at : Seen → Input → Shelf → PortStand
+stand_at seen input shelf = record { seen = seen; input = input; shelf = shelf }
+
 -- What a refusal leaves of one port: its reader gave some records, which are counted, and its shelf is as it was, or has those of
 -- the window that came first.
-pub record LeavesPort (c : Settings) (w slot : ℕ) (a b : Seen) (r r' : Reading) (s s' : Shelf) : Type 0 where
+pub record LeavesPort (c : Settings) (w : ℕ) (old new : PortStand) : Type 0 where
   pub given : List Record
-  pub gave : Gave slot a b r r' given
-  pub count : s'.count ≡ s.count + length given
-  pub shelf : ((s' ≡ s) × (given ≡ [])) ⊎ HasSome c w given s s'
+  pub gave : Gave old.input.slot old.seen new.seen old.input.reader new.input.reader given
+  pub count : new.shelf.count ≡ old.shelf.count + length given
+  pub shelf : ((new.shelf ≡ old.shelf) × (given ≡ [])) ⊎ HasSome c w given old.shelf new.shelf
+
+-- a port there, with its slot
+abbrev pub standing : ℕ → PortWalk → PortStand
+standing slot at = record { seen = at.seen; input = record { slot = slot; reader = at.reader }; shelf = at.shelf }
 
 -- What taking the records of a window of one port does.
-pub record TakesWindow (c : Settings) (port w slot : ℕ) (a b : Seen) (r r' : Reading) (s s' : Shelf) (had left : Budget) (result : Result (Unit {0}) RunFault) : Type 0 where
-  pub reads : Reads (a.name slot) a b
-  pub taking : OnOk result (Taking c port w slot a b r r' s s' had left)
-  pub beyond : OnOk result (IfSome s'.next (λ x. window_start c x.moment ≢ w))
-  pub stops : IsTrue a.told → IfErr result (λ e. IsStopped e → StopsIn port w had (to_look c port a slot r s.count s.next) e)
-  pub leaves : OnErr result (LeavesPort c w slot a b r r' s s' × Spends had left s.count s'.count)
+pub record TakesWindow (c : Settings) (port w slot : ℕ) (old new : PortWalk) (result : Result (Unit {0}) GatherFault) : Type 0 where
+  pub reads : Reads (old.seen.name slot) old.seen new.seen
+  pub taking : OnOk result (Taking c port w slot old new)
+  pub beyond : OnOk result (IfSome new.shelf.next (λ x. window_start c x.moment ≢ w))
+  pub stops : IsTrue old.seen.told → IfErr result (λ e. IsStopped e → StopsIn port w old.left (looks_from c port slot old) e)
+  pub leaves : OnErr result (LeavesPort c w (standing slot old) (standing slot new) × Spends old.left new.left old.shelf.count new.shelf.count)
   pub in_span : IfErr result (λ e. e ≢ fault.Limit limit.Span)
-  pub cause : IsErrOf result fault.Read → Rose (a.read_faults (a.name slot)) (b.read_faults (a.name slot))
-  pub only : IfErr result (λ e. e ≢ fault.Write)
-  pub counts : TellsReads a b result
+  pub cause : IsErrOf result fault.Read → Rose (old.seen.read_faults (old.seen.name slot)) (new.seen.read_faults (old.seen.name slot))
+  pub counts : TellsReads old.seen new.seen result

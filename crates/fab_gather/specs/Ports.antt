@@ -11,9 +11,9 @@ use Rattle.pcap_file.specs.declared.Record.{Record}
 use Rattle.fab_gather.specs.declared.shelf.Input.{Input}
 use Rattle.fab_gather.specs.declared.shelf.Shelf.{Shelf}
 use Rattle.fab_gather.specs.declared.fault.LimitKind.TheVariants as limit
-use Rattle.fab_gather.specs.declared.fault.RunFault.{RunFault}
-use Rattle.fab_gather.specs.declared.fault.RunFault.TheVariants as fault
-use Rattle.fab_gather.specs.Port.{IsReady, Spends, AreIn, to_look, ending, IsStopped, LeavesPort, TellsReads}
+use Rattle.fab_gather.specs.declared.fault.GatherFault.{GatherFault}
+use Rattle.fab_gather.specs.declared.fault.GatherFault.TheVariants as fault
+use Rattle.fab_gather.specs.Port.{IsReady, Spends, AreIn, to_look, ending, IsStopped, PortStand, stand_at, LeavesPort, TellsReads}
 
 -- ---- slots
 
@@ -74,40 +74,59 @@ abbrev pub counts_of : List Shelf → ℕ
 counts_of [] = 0
 counts_of (s ∷ shelves) = s.count + counts_of shelves
 
--- What a port's shelf and reader are after a window: the shelf has the records of the window, and the reader gave these.
-pub record Took (c : Settings) (w : ℕ) (a b : Seen) (i i' : Input) (s s' : Shelf) : Type 0 where
-  pub slot : i'.slot ≡ i.slot
-  pub in_window : AreIn c w s'.batch.items
-  pub given : List Record
-  pub order : option_to_list s.next ++ given ≡ s'.batch.items ++ option_to_list s'.next
-  pub count : s'.count ≡ s.count + length given
-  pub head : i'.reader.head ≡ i.reader.head
-  pub greatest : i'.reader.greatest ≡ last_moment i.reader.greatest given
-  pub chain : IsTrue a.told → Chain i.reader.head i.reader.greatest given (to_come i.reader a i.slot) (to_come i'.reader b i.slot)
-  pub ended : IsTrue a.told → s.next ≢ None → s'.next ≡ None → to_come i'.reader b i.slot ≡ []
+-- where the reading of captures stands: the store, the captures, their shelves, and what is left of the limits
+pub record Walk : Type 0 where
+  pub seen : Seen
+  pub ins : List Input
+  pub shelves : List Shelf
+  pub left : Budget
 
-abbrev pub TookAll : Settings → ℕ → Seen → Seen → List Input → List Input → List Shelf → List Shelf → Type 0
-TookAll c w a b ins ins' shelves shelves' = (q : ℕ) (i i' : Input) (s s' : Shelf) → At q ins shelves i s → At q ins' shelves' i' s' → Took c w a b i i' s s'
+abbrev pub walk_at : Seen → List Input → List Shelf → Budget → Walk
+walk_at seen ins shelves left = record { seen = seen; ins = ins; shelves = shelves; left = left }
+
+-- What a port's shelf and reader are after a window: the shelf has the records of the window, and the reader gave these.
+pub record Took (c : Settings) (w : ℕ) (old new : PortStand) : Type 0 where
+  pub slot : new.input.slot ≡ old.input.slot
+  pub in_window : AreIn c w new.shelf.batch.items
+  pub given : List Record
+  pub order : option_to_list old.shelf.next ++ given ≡ new.shelf.batch.items ++ option_to_list new.shelf.next
+  pub count : new.shelf.count ≡ old.shelf.count + length given
+  pub head : new.input.reader.head ≡ old.input.reader.head
+  pub greatest : new.input.reader.greatest ≡ last_moment old.input.reader.greatest given
+  pub chain : IsTrue old.seen.told →
+      Chain old.input.reader.head old.input.reader.greatest given (to_come old.input.reader old.seen old.input.slot) (to_come new.input.reader new.seen old.input.slot)
+  pub ended : IsTrue old.seen.told → old.shelf.next ≢ None → new.shelf.next ≡ None → to_come new.input.reader new.seen old.input.slot ≡ []
+
+abbrev pub TookAll : Settings → ℕ → Walk → Walk → Type 0
+TookAll c w old new =
+    (q : ℕ) (i i' : Input) (s s' : Shelf) → At q old.ins old.shelves i s → At q new.ins new.shelves i' s' → Took c w (stand_at old.seen i s) (stand_at new.seen i' s')
 
 -- What a refusal leaves of each port.
-abbrev pub LeavesAll : Settings → ℕ → Seen → Seen → List Input → List Input → List Shelf → List Shelf → Type 0
-LeavesAll c w a b ins ins' shelves shelves' = (q : ℕ) (i i' : Input) (s s' : Shelf) → At q ins shelves i s → At q ins' shelves' i' s' → (i'.slot ≡ i.slot) × LeavesPort c w i.slot a b i.reader i'.reader s s'
+abbrev pub LeavesAll : Settings → ℕ → Walk → Walk → Type 0
+LeavesAll c w old new =
+    (q : ℕ) (i i' : Input) (s s' : Shelf) → At q old.ins old.shelves i s → At q new.ins new.shelves i' s'
+    → (i'.slot ≡ i.slot) × LeavesPort c w (stand_at old.seen i s) (stand_at new.seen i' s')
+
+-- where the looks to come stop, from there on
+abbrev pub stop_after : Settings → ℕ → Walk → Option Stop
+stop_after c first at = stop_from c first at.seen at.ins at.shelves at.left
 
 -- What taking the records of a window of all ports does: after it the looks to come stop where they stopped before it, or it
 -- ends as the first stop among them says.
-pub record TakesAll (c : Settings) (w : ℕ) (a b : Seen) (ins ins' : List Input) (shelves shelves' : List Shelf) (had left : Budget) (result : Result (Unit {0}) RunFault) : Type 0 where
-  pub touches : Touches Nothing (NameIn a (slots_of ins)) a b
-  pub slots : slots_of ins' ≡ slots_of ins
-  pub count : length shelves' ≡ length shelves
-  pub ready : OnOk result (AreReady c (w + 1) ins' shelves' left)
-  pub took : OnOk result (TookAll c w a b ins ins' shelves shelves')
-  pub spent : Spends had left (counts_of shelves) (counts_of shelves')
-  pub leaves : OnErr result (LeavesAll c w a b ins ins' shelves shelves')
-  pub takes : TakesFrom ins ins' had left
-  pub looks : IsTrue a.told → OnOk result ((first : ℕ) → nat_lt MOST_SPAN (w - first) ≡ false → stop_from c first a ins shelves had ≡ stop_from c first b ins' shelves' left)
-  pub stops : IsTrue a.told → IfErr result (λ e. IsStopped e → (first : ℕ) → nat_lt MOST_SPAN (w - first) ≡ false → (s : Stop) × (stop_from c first a ins shelves had ≡ Some s) × (ending s ≡ e) × (s.window ≡ Some w))
-  pub cause : IsErrOf result fault.Read → (q : ℕ) × (q < length ins) × Rose (a.read_faults (name_of a (slots_of ins) q)) (b.read_faults (name_of a (slots_of ins) q))
-  pub only : IfErr result (λ e. e ≢ fault.Write)
+pub record TakesAll (c : Settings) (w : ℕ) (old new : Walk) (result : Result (Unit {0}) GatherFault) : Type 0 where
+  pub touches : Touches Nothing (NameIn old.seen (slots_of old.ins)) old.seen new.seen
+  pub slots : slots_of new.ins ≡ slots_of old.ins
+  pub count : length new.shelves ≡ length old.shelves
+  pub ready : OnOk result (AreReady c (w + 1) new.ins new.shelves new.left)
+  pub took : OnOk result (TookAll c w old new)
+  pub spent : Spends old.left new.left (counts_of old.shelves) (counts_of new.shelves)
+  pub leaves : OnErr result (LeavesAll c w old new)
+  pub takes : TakesFrom old.ins new.ins old.left new.left
+  pub looks : IsTrue old.seen.told → OnOk result ((first : ℕ) → nat_lt MOST_SPAN (w - first) ≡ false → stop_after c first old ≡ stop_after c first new)
+  pub stops : IsTrue old.seen.told →
+      IfErr result (λ e. IsStopped e → (first : ℕ) → nat_lt MOST_SPAN (w - first) ≡ false → (s : Stop) × (stop_after c first old ≡ Some s) × (ending s ≡ e) × (s.window ≡ Some w))
+  pub cause : IsErrOf result fault.Read →
+      (q : ℕ) × (q < length old.ins) × Rose (old.seen.read_faults (name_of old.seen (slots_of old.ins) q)) (new.seen.read_faults (name_of old.seen (slots_of old.ins) q))
   pub in_span : IfErr result (λ e. e ≢ fault.Limit limit.Span)
-  pub counts : TellsReads a b result
-  pub writes : SameWriteFaults a b
+  pub counts : TellsReads old.seen new.seen result
+  pub writes : SameWriteFaults old.seen new.seen

@@ -1,5 +1,5 @@
 -- What was read of the captures, record by record, up to a window.
-use Rattle.std.specs.Prelude.{◌≡◌, ℕ, ◌+◌, true, IsTrue, List, [], ◌∷◌, ◌++◌, length, map, None, option_to_list}
+use Rattle.std.specs.Prelude.{◌≡◌, ℕ, ◌+◌, ◌-◌, true, IsTrue, List, [], ◌∷◌, ◌++◌, length, map, None, option_to_list}
 use Rattle.fab_base.specs.Seen.{Seen}
 use Rattle.fab_config.specs.Settings.{Settings}
 use Rattle.fab_policy.specs.Growing.{AreBelow}
@@ -30,6 +30,10 @@ HaveRead c w _ _ _ _ d = ⊥
 -- the records on the shelves
 abbrev pub batches_of : List Shelf → List (List Record)
 batches_of shelves = map (λ s. s.batch.items) shelves
+
+-- the number of the first record in a shelf's batch, among all of its port
+abbrev pub first_index : Shelf → ℕ
+first_index s = s.count - length (option_to_list s.next) - length s.batch.items
 
 -- behind the head whole records stand, and nothing else
 abbrev pub IsWhole : Opened → Type 0

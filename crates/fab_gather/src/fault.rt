@@ -1,4 +1,4 @@
-//! How a run ends early.
+//! How the reading of captures ends early.
 ghost use Rattle.std.specs.Prelude.{◌≡◌};
 ghost use Rattle.fab_gather.specs.Port.{fault_by};
 
@@ -33,50 +33,48 @@ pub enum LimitKind {
     Span,
 }
 
-/// How a run ends before the end of the captures.
+/// How the reading of captures ends before their end.
 #[derive(Clone, Copy, Debug, PartialEq, Eq)]
-pub enum RunFault {
+pub enum GatherFault {
     /// A port's capture can't be taken from this place of its file on.
     Capture { port: PortNo, at: u64, why: CapWhy },
     /// A limit was passed.
     Limit(LimitKind),
     /// A capture couldn't be read.
     Read,
-    /// The journal or an output couldn't be written.
-    Write,
     /// Memory was refused.
     Memory,
 }
 
-impl From<NoMemory> for RunFault {
+impl From<NoMemory> for GatherFault {
     ghost use Rattle.std.specs.Prelude.{◌≡◌};
-    ghost use Rattle.fab_gather.specs.declared.fault.RunFault.TheVariants.{Memory};
+    ghost use Rattle.fab_gather.specs.declared.fault.GatherFault.TheVariants.{Memory};
 
     ghost from_gives = { λ _ e. e ≡ Memory };
 
-    fn from(_refused: NoMemory) -> RunFault {
-        RunFault::Memory
+    fn from(_refused: NoMemory) -> GatherFault {
+        GatherFault::Memory
     }
 }
 
-/// What an error of a port's reader ends a run with.
-pub(crate) fn fault_of(error: CapError, port: PortNo) -> RunFault
+/// What an error of a port's reader ends the reading with.
+pub fn fault_of(error: CapError, port: PortNo) -> GatherFault
     ensures { result ≡ fault_by error port }
 {
     match error {
-        CapError::Cut { at } => RunFault::Capture {
+        CapError::Cut { at } => GatherFault::Capture {
             port,
             at,
             why: CapWhy::Cut,
         },
-        CapError::TooLong { at, len: _ } => RunFault::Capture {
+        CapError::TooLong { at, len: _ } => GatherFault::Capture {
             port,
             at,
             why: CapWhy::Long,
         },
-        CapError::Bytes => RunFault::Limit(LimitKind::Bytes),
-        CapError::Frames => RunFault::Limit(LimitKind::Frames),
-        CapError::Read(_) => RunFault::Read,
-        CapError::Memory => RunFault::Memory,
+        CapError::Bytes => GatherFault::Limit(LimitKind::Bytes),
+        CapError::Frames => GatherFault::Limit(LimitKind::Frames),
+        CapError::Read(_) => GatherFault::Read,
+        CapError::Memory => GatherFault::Memory,
     }
 }

@@ -1,11 +1,11 @@
 //! The look at the first record of each port's capture.
 ghost use Rattle.std.specs.Prelude.{◌≡◌, ◌≤◌, ◌<◌, ◌^◌, IsTrue, length};
 ghost use Rattle.fab_config.specs.Settings.{Settings};
-ghost use Rattle.fab_gather.specs.First.{AreFresh, IsFresh, LooksFirst, LooksOnce};
+ghost use Rattle.fab_gather.specs.First.{AreFresh, IsFresh, LooksFirst, LooksOnce, port_start_at, start_at};
 ghost use Rattle.fab_gather.specs.Ports.{AreInputs, slots_of};
 
 use crate::fault::fault_of;
-use crate::{Input, RunFault, Shelf};
+use crate::{GatherFault, Input, Shelf};
 use fab_base::{Depot, PortNo};
 use fab_policy::{looks_go_on, steps_find_the_stop};
 use pcap_file::Budget;
@@ -17,12 +17,13 @@ pub fn first_looks<D: Depot>(
     depot: &mut D,
     ins: &mut [Input],
     budget: &mut Budget,
-) -> Result<Vec<Shelf>, RunFault>
+) -> Result<Vec<Shelf>, GatherFault>
     requires ports { length ins.old ≤ 64 }
     requires inputs { AreInputs (D.seen depot.old) (slots_of ins.old) }
     requires fresh { AreFresh ins.old }
-    ensures looks { (c : Settings) → LooksFirst c (D.seen depot.old) (D.seen depot.new) ins.old
-        ins.new budget.old budget.new result }
+    ensures looks { (c : Settings) → LooksFirst c
+        (start_at (D.seen depot.old) ins.old budget.old)
+        (start_at (D.seen depot.new) ins.new budget.new) result }
 {
     // Law: where the looks at a capture go on and where they end; the clause looks counts in them.
     looks_go_on();
@@ -31,7 +32,7 @@ pub fn first_looks<D: Depot>(
         match look(alloc, depot, PortNo::at(port), &mut ins[port], budget) {
             Ok(shelf) => match shelves.push(shelf) {
                 Ok(()) => {}
-                Err(_) => return Err(RunFault::Memory),
+                Err(_) => return Err(GatherFault::Memory),
             },
             Err(fault) => return Err(fault),
         }
@@ -46,12 +47,13 @@ fn look<D: Depot>(
     port: PortNo,
     input: &mut Input,
     budget: &mut Budget,
-) -> Result<Shelf, RunFault>
+) -> Result<Shelf, GatherFault>
     requires input { IsTrue ((D.seen depot.old).input input.old.slot) }
     requires fresh { IsFresh input.old.reader }
     ensures slot { input.new.slot ≡ input.old.slot }
-    ensures looks { (c : Settings) → LooksOnce c port input.old.slot (D.seen depot.old)
-        (D.seen depot.new) input.old.reader input.new.reader budget.old budget.new result }
+    ensures looks { (c : Settings) → LooksOnce c port input.old.slot
+        (port_start_at (D.seen depot.old) input.old.reader budget.old)
+        (port_start_at (D.seen depot.new) input.new.reader budget.new) result }
 {
     // Law: where the looks at a capture go on, and which stop a reader's step at one finds; the
     // clause looks counts in them.

@@ -2,9 +2,9 @@
 ghost use Rattle.std.specs.Prelude.{◌≡◌, ◌≤◌, Some, length};
 ghost use Rattle.fab_gather.specs.First.{IsNextWindow};
 ghost use Rattle.fab_gather.specs.Gather.{Gathers};
-ghost use Rattle.fab_gather.specs.Ports.{AreInputs, AreReady, slots_of};
+ghost use Rattle.fab_gather.specs.Ports.{AreInputs, AreReady, slots_of, walk_at};
 
-use crate::{Input, LimitKind, RunFault, Shelf, looks_to_come, take_windows};
+use crate::{GatherFault, Input, LimitKind, Shelf, looks_to_come, take_windows};
 use fab_base::Depot;
 use fab_config::Config;
 use pcap_file::Budget;
@@ -24,19 +24,20 @@ pub fn gather<D: Depot>(
     ins: &mut [Input],
     shelves: &mut [Shelf],
     budget: &mut Budget,
-) -> Result<(), RunFault>
+) -> Result<(), GatherFault>
     requires count { length shelves.old ≡ length ins.old }
     requires ports { length ins.old ≤ 64 }
     requires inputs { AreInputs (D.seen depot.old) (slots_of ins.old) }
     requires ready { AreReady config.now window ins.old shelves.old budget.old }
     requires next { IsNextWindow config.now shelves.old (Some window) }
-    ensures gathers { Gathers config.now first window (D.seen depot.old) (D.seen depot.new) ins.old
-        ins.new shelves.old shelves.new budget.old budget.new result }
+    ensures gathers { Gathers config.now first window
+        (walk_at (D.seen depot.old) ins.old shelves.old budget.old)
+        (walk_at (D.seen depot.new) ins.new shelves.new budget.new) result }
 {
     // Law: where the next window is too late, the looks to come stop there, as the refusal says.
     looks_to_come();
     if window.saturating_sub(first) > MOST_SPAN {
-        return Err(RunFault::Limit(LimitKind::Span));
+        return Err(GatherFault::Limit(LimitKind::Span));
     }
     take_windows(alloc, depot, config, window, ins, shelves, budget)
 }

@@ -1,10 +1,10 @@
 //! The records of a window, taken of one port's capture.
 ghost use Rattle.std.specs.Prelude.{◌≡◌, IsTrue};
-ghost use Rattle.fab_gather.specs.Port.{IsReady, TakesWindow, is_in};
+ghost use Rattle.fab_gather.specs.Port.{IsReady, TakesWindow, is_in, port_walk_at};
 
 use crate::fault::fault_of;
 use crate::window::window_start;
-use crate::{Input, RunFault, Shelf};
+use crate::{GatherFault, Input, Shelf};
 use fab_base::{Depot, PortNo};
 use fab_config::Config;
 use fab_policy::{looks_go_on, steps_find_the_stop};
@@ -22,13 +22,13 @@ pub(crate) fn take_window<D: Depot>(
     input: &mut Input,
     shelf: &mut Shelf,
     budget: &mut Budget,
-) -> Result<(), RunFault>
+) -> Result<(), GatherFault>
     requires input { IsTrue ((D.seen depot.old).input input.old.slot) }
     requires ready { IsReady input.old.reader shelf.old.next shelf.old.count budget.old }
     ensures slot { input.new.slot ≡ input.old.slot }
-    ensures takes { TakesWindow config.now port window input.old.slot (D.seen depot.old)
-        (D.seen depot.new) input.old.reader input.new.reader shelf.old shelf.new budget.old
-        budget.new result }
+    ensures takes { TakesWindow config.now port window input.old.slot
+        (port_walk_at (D.seen depot.old) input.old.reader shelf.old budget.old)
+        (port_walk_at (D.seen depot.new) input.new.reader shelf.new budget.new) result }
 {
     // Law: where the looks at a capture go on, and which stop a reader's step at one finds; the
     // clause takes counts in looks.
@@ -37,9 +37,9 @@ pub(crate) fn take_window<D: Depot>(
     shelf.batch.clear();
     'records: while is_of(config, &shelf.next, window) {
         match input.reader.next(alloc, depot, input.slot, budget) {
-            Ok(next) => match shelf.turn(next) {
+            Ok(next) => match shelf.push_record(next) {
                 Ok(()) => {}
-                Err(_) => return Err(RunFault::Memory),
+                Err(_) => return Err(GatherFault::Memory),
             },
             Err(error) => return Err(fault_of(error, port)),
         }

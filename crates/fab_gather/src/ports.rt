@@ -1,9 +1,9 @@
 //! The records of a window, taken of all ports in their order.
 ghost use Rattle.std.specs.Prelude.{◌≡◌, ◌≤◌, length};
-ghost use Rattle.fab_gather.specs.Ports.{AreInputs, AreReady, TakesAll, slots_of};
+ghost use Rattle.fab_gather.specs.Ports.{AreInputs, AreReady, TakesAll, slots_of, walk_at};
 
 use crate::port::take_window;
-use crate::{Input, RunFault, Shelf};
+use crate::{GatherFault, Input, Shelf};
 use fab_base::{Depot, PortNo};
 use fab_config::Config;
 use pcap_file::Budget;
@@ -19,13 +19,14 @@ pub fn take_windows<D: Depot>(
     ins: &mut [Input],
     shelves: &mut [Shelf],
     budget: &mut Budget,
-) -> Result<(), RunFault>
+) -> Result<(), GatherFault>
     requires count { length ins.old ≡ length shelves.old }
     requires ports { length ins.old ≤ 64 }
     requires inputs { AreInputs (D.seen depot.old) (slots_of ins.old) }
     requires ready { AreReady config.now window ins.old shelves.old budget.old }
-    ensures takes { TakesAll config.now window (D.seen depot.old) (D.seen depot.new) ins.old ins.new
-        shelves.old shelves.new budget.old budget.new result }
+    ensures takes { TakesAll config.now window
+        (walk_at (D.seen depot.old) ins.old shelves.old budget.old)
+        (walk_at (D.seen depot.new) ins.new shelves.new budget.new) result }
 {
     for port in 0..ins.len() {
         match take_window(

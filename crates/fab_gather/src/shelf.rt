@@ -1,6 +1,4 @@
 //! What stands of one port while its capture is taken.
-ghost use Rattle.std.specs.Prelude.{◌≡◌, ◌≢◌, ◌+◌, ◌^◌, ◌<◌, ◌++◌, None, OnOk, OnErr, option_to_list, length};
-
 use fab_base::NoMemory;
 use pcap_file::{Reader, Record};
 use std::mem;
@@ -22,11 +20,22 @@ pub struct Shelf {
 }
 
 impl Shelf {
+    ghost use Rattle.fab_gather.specs.Reads as spec;
     ghost use Rattle.std.specs.Prelude.{◌≡◌, ◌≢◌, ◌+◌, ◌^◌, ◌<◌, ◌++◌, None, OnOk, OnErr, option_to_list, length};
+
+    /// The number of the first record in the batch, among all of its port.
+    pub fn first_index(&self) -> u64
+        ensures value { result ≡ spec.first_index self.now }
+        ensures room { result + length self.now.batch.items < 2 ^ 64 }
+    {
+        let ahead = u64::from(self.next.is_some());
+        let found = self.count.saturating_sub(ahead);
+        found.saturating_sub(self.batch.len() as u64)
+    }
 
     // Puts the record that was looked at into the batch, and the next one, or none, into its place.
     // Where memory is refused it is lost.
-    pub(crate) fn turn(&mut self, next: Option<Record>) -> Result<(), NoMemory>
+    pub(crate) fn push_record(&mut self, next: Option<Record>) -> Result<(), NoMemory>
         requires { self.old.count + length (option_to_list next) < 2 ^ 64 }
         ensures batch { OnOk result
             (self.new.batch.items ≡ self.old.batch.items ++ option_to_list self.old.next) }

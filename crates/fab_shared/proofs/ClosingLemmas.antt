@@ -16,7 +16,8 @@ use Rattle.fab_turn.specs.Lock.{given, kept, AllJoined}
 use Rattle.fab_turn.specs.Views as turn
 use Rattle.fab_turn.specs.Views.{has_port, has_kept, kept_list}
 use Rattle.fab_turn.proofs.PortLists.{is_false, kept_none}
-use Rattle.fab_shared.specs.Handled.{Handled, first_of, firsts_of}
+use Rattle.fab_gather.specs.Reads.{first_index}
+use Rattle.fab_shared.specs.Handled.{Handled, firsts_of}
 use Rattle.fab_shared.specs.Workers.{AreGiven, AreTaken, IsTaken, frames_in}
 use Rattle.fab_shared.proofs.EntryLemmas.{frames_of_port, ports_within}
 use Rattle.fab_shared.proofs.FrameLemmas.{held_all}
@@ -31,22 +32,22 @@ module _ (first F : Contents) (root : Pass LockedFabric Event) (shelves : List S
       by_kept true e = inl (taken p e)
       by_kept false e = inr (is_false (has_port p (given root)) (λ has. let no : true ≡ false = sym (joined p has) ∙ e in absurd cc), kept_none p (kept root) e)
 
-  frames_are : (q : ℕ) (s : Shelf) → slice_get shelves q ≡ Some s → frames_in (kept_list (q + 1) (kept root)) ≡ numbered_from (first_of s) s.batch.items
+  frames_are : (q : ℕ) (s : Shelf) → slice_get shelves q ≡ Some s → frames_in (kept_list (q + 1) (kept root)) ≡ numbered_from (first_index s) s.batch.items
   frames_are q s at = by_case (kept_cases (q + 1))
     where
       by_case : IsTaken shelves (q + 1) (kept_list (q + 1) (kept root)) ⊎ ((has_port (q + 1) (given root) ≡ false) × (kept_list (q + 1) (kept root) ≡ [])) →
-          frames_in (kept_list (q + 1) (kept root)) ≡ numbered_from (first_of s) s.batch.items
+          frames_in (kept_list (q + 1) (kept root)) ≡ numbered_from (first_index s) s.batch.items
       by_case (inl t) =
           let place : t.place ≡ q = let e = t.port_is in omega arith in
           let here : slice_get shelves q ≡ Some t.shelf = ap (slice_get shelves) (sym place) ∙ t.found in
           let same : t.shelf ≡ s = cc in
-          t.frames ∙ ap (λ (x : Shelf). numbered_from (first_of x) x.batch.items) same
+          t.frames ∙ ap (λ (x : Shelf). numbered_from (first_index x) x.batch.items) same
       by_case (inr none) =
-          ⊎_elim (λ (empty : s.batch.items ≡ []). ap frames_in none.1 ∙ sym (ap (numbered_from (first_of s)) empty))
+          ⊎_elim (λ (empty : s.batch.items ≡ []). ap frames_in none.1 ∙ sym (ap (numbered_from (first_index s)) empty))
           (λ (has : has_port (q + 1) (given root) ≡ true). let no : true ≡ false = sym has ∙ none.0 in absurd cc)
           (out q s (slice_get_within shelves q s at) at)
 
-  own_is : (q : ℕ) (s : Shelf) → slice_get shelves q ≡ Some s → of_port (1 + q) (followed [] closes.grown.later) ≡ numbered_from (first_of s) s.batch.items
+  own_is : (q : ℕ) (s : Shelf) → slice_get shelves q ≡ Some s → of_port (1 + q) (followed [] closes.grown.later) ≡ numbered_from (first_index s) s.batch.items
   own_is q s at =
       ap (λ (p : ℕ). of_port p (followed [] closes.grown.later)) (let e : 1 + q ≡ q + 1 = omega arith in e)
       ∙ frames_of_port (q + 1) closes.grown.later closes.grown.frames

@@ -15,7 +15,8 @@ use Rattle.fab_policy.specs.declared.event.Event.{Event}
 use Rattle.fab_policy.specs.declared.event.Event.TheVariants.{Frame}
 use Rattle.fab_policy.specs.declared.verdict.Verdict.{Verdict}
 use Rattle.pcap_file.specs.declared.Record.{Record}
-use Rattle.fab_shared.specs.Handled.{HandledPort, HoldBatches, Handled, first_of, firsts_of}
+use Rattle.fab_gather.specs.Reads.{first_index}
+use Rattle.fab_shared.specs.Handled.{HandledPort, HoldBatches, Handled, firsts_of}
 use Rattle.fab_shared.proofs.FollowedLemmas.{of_port-followed, ports-followed, frames-append}
 
 -- records numbered in two parts
@@ -113,21 +114,21 @@ port_all port first n place items F G le same h = subst (λ (i : ℕ). HandledPo
 pub record Handling (k : ℕ) (shelves : List Shelf) (F G : Contents) : Type 0 where
   pub grown : Grown F G
   pub ports : HasPorts F.count (followed [] grown.later)
-  pub own : (q : ℕ) (s : Shelf) → q < k → slice_get shelves q ≡ Some s → of_port (q + 1) (followed [] grown.later) ≡ numbered_from (first_of s) s.batch.items
+  pub own : (q : ℕ) (s : Shelf) → q < k → slice_get shelves q ≡ Some s → of_port (q + 1) (followed [] grown.later) ≡ numbered_from (first_index s) s.batch.items
   pub others : (q : ℕ) → k ≤ q → of_port (q + 1) (followed [] grown.later) ≡ []
 
 pub handling_none : (shelves : List Shelf) (F : Contents) → Handling 0 shelves F F
 handling_none shelves F = record { grown = grown_none F; ports = tt; own = λ q s lt at. absurd (omega arith); others = λ q le. refl }
 
 module _ (parts : FollowedByParts) (k : ℕ) (shelves : List Shelf) (s : Shelf) (F G H : Contents) (so_far : Handling k shelves F G) (at : slice_get shelves k ≡ Some s)
-    (next : HandledPort (k + 1) (first_of s) s.batch.items G H) where
+    (next : HandledPort (k + 1) (first_index s) s.batch.items G H) where
   abbrev both : (p : ℕ) → of_port p (followed [] (so_far.grown.later ++ next.grown.later)) ≡ of_port p (followed [] so_far.grown.later) ++ of_port p (followed [] next.grown.later)
   both p = two_parts parts p so_far.grown.later next.grown.later
 
-  own_next : (q : ℕ) (t : Shelf) → q < k + 1 → slice_get shelves q ≡ Some t → of_port (q + 1) (followed [] (so_far.grown.later ++ next.grown.later)) ≡ numbered_from (first_of t) t.batch.items
+  own_next : (q : ℕ) (t : Shelf) → q < k + 1 → slice_get shelves q ≡ Some t → of_port (q + 1) (followed [] (so_far.grown.later ++ next.grown.later)) ≡ numbered_from (first_index t) t.batch.items
   own_next q t lt has = by_order (cases_order q k)
     where
-      by_order : (q ≡ k) ⊎ ((q < k) ⊎ (k < q)) → of_port (q + 1) (followed [] (so_far.grown.later ++ next.grown.later)) ≡ numbered_from (first_of t) t.batch.items
+      by_order : (q ≡ k) ⊎ ((q < k) ⊎ (k < q)) → of_port (q + 1) (followed [] (so_far.grown.later ++ next.grown.later)) ≡ numbered_from (first_index t) t.batch.items
       by_order (inl same) =
           let here : slice_get shelves q ≡ Some s = ap (slice_get shelves) same ∙ at in
           let shelf : s ≡ t = cc in
@@ -135,7 +136,7 @@ module _ (parts : FollowedByParts) (k : ℕ) (shelves : List Shelf) (s : Shelf) 
           ∙ ap (λ l. l ++ of_port (q + 1) (followed [] next.grown.later)) (so_far.others q (omega arith))
           ∙ ap (λ (x : ℕ). of_port (x + 1) (followed [] next.grown.later)) same
           ∙ next.own
-          ∙ ap (λ (x : Shelf). numbered_from (first_of x) x.batch.items) shelf
+          ∙ ap (λ (x : Shelf). numbered_from (first_index x) x.batch.items) shelf
       by_order (inr (inl before)) =
           both (q + 1)
           ∙ ap (λ l. of_port (q + 1) (followed [] so_far.grown.later) ++ l) (next.others (q + 1) (λ same. absurd (omega arith)))
@@ -158,7 +159,7 @@ module _ (parts : FollowedByParts) (k : ℕ) (shelves : List Shelf) (s : Shelf) 
   }
 
 -- at the end each port has its records
-pub held_all : (es : List Event) (p : ℕ) (shelves : List Shelf) → ((q : ℕ) (s : Shelf) → slice_get shelves q ≡ Some s → of_port (p + q) (followed [] es) ≡ numbered_from (first_of s) s.batch.items) →
+pub held_all : (es : List Event) (p : ℕ) (shelves : List Shelf) → ((q : ℕ) (s : Shelf) → slice_get shelves q ≡ Some s → of_port (p + q) (followed [] es) ≡ numbered_from (first_index s) s.batch.items) →
     HoldBatches es p (firsts_of shelves) (batches_of shelves)
 held_all es p [] each = tt
 held_all es p (s ∷ shelves) each = (

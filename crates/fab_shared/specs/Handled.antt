@@ -1,5 +1,5 @@
 -- What it is to handle the frames of a window.
-use Rattle.std.specs.Prelude.{◌≡◌, ◌≢◌, ℕ, ◌+◌, ◌-◌, List, [], ◌∷◌, length, map, Option, Some, None, option_to_list}
+use Rattle.std.specs.Prelude.{◌≡◌, ◌≢◌, ℕ, ◌+◌, List, [], ◌∷◌, map, Option, Some, None}
 use Rattle.fab_policy.specs.Journal.{followed}
 use Rattle.fab_policy.specs.Legal.{HasPorts, of_port, numbered_from}
 use Rattle.fab_policy.specs.Standing.{Contents, Grown}
@@ -8,18 +8,16 @@ use Rattle.fab_policy.specs.declared.verdict.Verdict.{Verdict}
 use Rattle.fab_policy.specs.declared.verdict.Verdict.TheVariants.{Granted}
 use Rattle.pcap_file.specs.declared.Record.{Record}
 use Rattle.fab_gather.specs.declared.shelf.Shelf.{Shelf}
+use Rattle.fab_gather.specs.Reads.{first_index}
 
 -- the address that a verdict grants, if it grants one
 abbrev pub granted_by : Verdict → Option ℕ
 granted_by (Granted address) = Some address
 granted_by _ = None
 
--- how many records of a capture stand before those on its shelf
-abbrev pub first_of : Shelf → ℕ
-first_of s = s.count - length (option_to_list s.next) - length s.batch.items
-
+-- the numbers of the first records on shelves
 abbrev pub firsts_of : List Shelf → List ℕ
-firsts_of shelves = map first_of shelves
+firsts_of shelves = map first_index shelves
 
 -- A fabric handled records of one port, numbered from one on, and nothing else.
 pub record HandledPort (port first : ℕ) (records : List Record) (F G : Contents) : Type 0 where

@@ -10,7 +10,7 @@ use Rattle.fab_turn.specs.Lock.{own, given, kept, IsPassOf, IsRootOf, IsIdle}
 use Rattle.fab_turn.specs.Views.{has_port, has_kept, kept_list}
 use Rattle.fab_shared.specs.declared.locked.LockedFabric.{LockedFabric}
 use Rattle.fab_shared.specs.declared.shared.SharedFabric.{SharedFabric}
-use Rattle.fab_shared.specs.Handled.{first_of}
+use Rattle.fab_gather.specs.Reads.{first_index}
 use Rattle.fab_shared.specs.declared.worker.Worker.{Worker}
 
 -- the frames of entries, with their indices
@@ -25,7 +25,7 @@ pub record IsTaken (shelves : List Shelf) (port : ℕ) (es : List Event) : Type 
   pub shelf : Shelf
   pub port_is : port ≡ place + 1
   pub found : slice_get shelves place ≡ Some shelf
-  pub frames : frames_in es ≡ numbered_from (first_of shelf) shelf.batch.items
+  pub frames : frames_in es ≡ numbered_from (first_index shelf) shelf.batch.items
 
 -- ---- one worker
 

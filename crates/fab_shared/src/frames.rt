@@ -1,6 +1,6 @@
 //! The frames of a window, one port after another.
-ghost use Rattle.std.specs.Prelude.{◌≡◌, ◌+◌, ◌<◌, ◌≤◌, ◌^◌, ◌∷◌, [], IfOk, IsSome, OnOk, length};
-ghost use Rattle.fab_gather.specs.Reads.{batches_of};
+ghost use Rattle.std.specs.Prelude.{◌≡◌, ◌+◌, ◌<◌, ◌≤◌, ◌∷◌, [], IfOk, IsSome, OnOk, length};
+ghost use Rattle.fab_gather.specs.Reads.{batches_of, first_index};
 ghost use Rattle.fab_shared.specs.Handled as spec;
 ghost use Rattle.fab_shared.specs.Handled.{Handled, HandledPort, firsts_of};
 
@@ -43,12 +43,12 @@ fn take_port<G: Gate>(
 ) -> Result<(), NoMemory>
     requires clock { IsSome fabric.old.state.tables.clock }
     requires port { (1 ≤ port) × (port ≤ fabric.old.count) }
-    ensures handled { OnOk result (HandledPort port (spec.first_of shelf.now)
+    ensures handled { OnOk result (HandledPort port (first_index shelf.now)
         shelf.now.batch.items fabric.old fabric.new) }
 {
     // Law: entries may come in two parts; a record's comes behind those of the records before it.
     entries_come_in_parts();
-    let first = first_of(shelf);
+    let first = shelf.first_index();
     for (place, record) in shelf.batch.iter().enumerate() {
         let index = first + place as u64;
         gate.pass(port, index);
@@ -56,16 +56,6 @@ fn take_port<G: Gate>(
         gate.done(port, index, granted(&verdict));
     }
     Ok(())
-}
-
-// The number of the first record on a shelf.
-pub(crate) fn first_of(shelf: &Shelf) -> u64
-    ensures value { result ≡ spec.first_of shelf.now }
-    ensures room { result + length shelf.now.batch.items < 2 ^ 64 }
-{
-    let ahead = u64::from(shelf.next.is_some());
-    let found = shelf.count.saturating_sub(ahead);
-    found.saturating_sub(shelf.batch.len() as u64)
 }
 
 // Hears the frame of a record, and has the fabric handle it.

@@ -1,12 +1,12 @@
 //! A worker of one port.
 ghost use Rattle.std.specs.Prelude.{◌≡◌, [], IsSome, OnOk, Some};
 ghost use Rattle.fab_policy.specs.Legal.{numbered_from};
+ghost use Rattle.fab_gather.specs.Reads.{first_index};
 ghost use Rattle.fab_turn.specs.Lock.{own, IsPassOf, IsIdle};
 ghost use Rattle.fab_shared.specs.Shared.{opened};
-ghost use Rattle.fab_shared.specs.Handled as spec;
 ghost use Rattle.fab_shared.specs.Workers.{frames_in, IsReady, IsNew, IsDone};
 
-use crate::frames::{first_of, granted};
+use crate::frames::granted;
 use crate::{Pass, SharedFabric};
 use fab_base::{Gate, NoMemory, PortNo};
 use fab_gather::Shelf;
@@ -61,9 +61,9 @@ fn take_batch<R: Wait, G: Gate>(
     ensures pass { IsPassOf shared.now.lock pass.new × IsIdle pass.new
         × (pass.new.port ≡ Some port) }
     ensures own { OnOk result (frames_in (own pass.new)
-        ≡ numbered_from (spec.first_of shelf.now) shelf.now.batch.items) }
+        ≡ numbered_from (first_index shelf.now) shelf.now.batch.items) }
 {
-    let first = first_of(shelf);
+    let first = shelf.first_index();
     for (place, record) in shelf.batch.iter().enumerate() {
         let index = first + place as u64;
         gate.pass(port, index);

@@ -18,21 +18,24 @@ use Rattle.pcap_file.specs.declared.Budget.{Budget}
 use Rattle.pcap_file.specs.declared.Record.{Record}
 use Rattle.fab_gather.specs.declared.shelf.Input.{Input}
 use Rattle.fab_gather.specs.declared.shelf.Shelf.{Shelf}
-use Rattle.fab_gather.specs.declared.fault.RunFault.{RunFault}
-use Rattle.fab_gather.specs.declared.fault.RunFault.TheVariants as fault
-use Rattle.fab_gather.specs.First.{IsNextWindow, LooksFirst, opened_in}
-use Rattle.fab_gather.specs.Ports.{slots_of, name_of, NameIn, AreInputs, AreReady, stop_from}
+use Rattle.fab_gather.specs.declared.fault.GatherFault.{GatherFault}
+use Rattle.fab_gather.specs.declared.fault.GatherFault.TheVariants as gather
+use Rattle.run_files.specs.Faults.{fault_from}
+use Rattle.run_files.specs.declared.fault.RunFault.{RunFault}
+use Rattle.run_files.specs.declared.fault.RunFault.TheVariants as fault
+use Rattle.fab_gather.specs.First.{IsNextWindow, LooksFirst, opened_in, start_at}
+use Rattle.fab_gather.specs.Ports.{slots_of, name_of, NameIn, AreInputs, AreReady, stop_from, walk_at}
 use Rattle.fab_gather.specs.Reads.{HaveRead}
 use Rattle.fab_windows.specs.declared.Done.{Done}
-use Rattle.fab_windows.specs.Files.{AreFiles, Written, Pending, Hold, Wholes, Fronts, Writes, captures}
-use Rattle.fab_pages.specs.Pages.{piece_at}
+use Rattle.fab_windows.specs.Files.{AreFiles, Written, Pending, Hold, Wholes, Fronts, Writes, captures, file_slots}
+use Rattle.run_files.specs.Pages.{piece_at}
 use Rattle.fab_windows.specs.Pages.{IsNothing}
 use Rattle.fab_windows.specs.Run.{AreGiven, Runs, Stopped}
 use Rattle.fab_windows.specs.Turns.{Laws, Task, captures_in, Touched, Begun, Reached, Going, Ended, Finishes}
 use Rattle.fab_windows.proofs.EndLemmas.{whole_is_front, ends_before, stops_first, finished}
 use Rattle.fab_windows.proofs.PublishLemmas.{wholes_but_nothing, flushed_whole, flushed_part, write_cause}
 use Rattle.fab_windows.proofs.StayLemmas.{LeftStays, inputs_stay, input_name_in, hold_stays, length-slots, same_ports, writing_leaves}
-use Rattle.fab_windows.proofs.TurnLemmas.{ended, ended_writing, files_now, reached_on}
+use Rattle.fab_windows.proofs.TurnLemmas.{stopped_from, read_from, no_write_from, ended, ended_writing, files_now, reached_on}
 
 -- a capture with these bytes left in its file
 abbrev with_rest : Input → List ℕ → Opened
@@ -107,29 +110,29 @@ module _ (laws : Laws) (k : Task) (given : AreGiven k.seen k.ins k.journal k.out
         wholes_looks told = hold_stays (NameIn a (slots_of k.ins)) a d t k.journal k.outs w.files (text []) (captures k.settings (length k.outs) []) (wholes_then told)
 
       -- a fault at the first looks
-      pub ended_looks : (e : RunFault) → LooksFirst k.settings a d k.ins ins k.budget left (Err e) → Ended k d e
+      pub ended_looks : (e : GatherFault) → LooksFirst k.settings (start_at a k.ins k.budget) (start_at d ins left) (Err e) → Ended k d (fault_from e)
       ended_looks e f =
-          ended k d e (touches_looks f.touches)
+          ended k d (fault_from e) (touches_looks f.touches)
           (λ told stops.
-          let s = f.stops (told_then told) stops in
-          subst (λ x. Stopped k.settings k.budget (captures_in k) d k.journal k.outs x) s.2
+          let s = f.stops (told_then told) (stopped_from e stops) in
+          subst (λ x. Stopped k.settings k.budget (captures_in k) d k.journal k.outs (fault_from x)) s.2
           (stops_first k.settings k.budget (captures_in k) laws.nothing_run d k.journal k.outs s.0 (sym (ap (stop k.settings k.budget.bytes k.budget.frames) opened_then) ∙ s.1) s.3 (wholes_looks f.touches told)))
           (λ told x. ends_before k.settings k.budget (captures_in k) laws.nothing_run (Wholes k.settings d k.journal k.outs) (wholes_looks f.touches told))
           (λ told x. ends_before k.settings k.budget (captures_in k) laws.nothing_run (Fronts k.settings d k.journal k.outs) (whole_is_front k.settings d k.journal k.outs [] (wholes_looks f.touches told))) (
             λ x.
-                let cause = f.cause (ap (λ y. Err y) x) in
+                let cause = f.cause (ap (λ y. Err y) (read_from e x)) in
                 let at = name_then (name_of a (slots_of k.ins) cause.0) (cause.0, omega (arith, cause.1, length-slots k.ins), refl) in
                 (at.0, omega (arith, at.1, length-slots k.ins), rose_later _ _ _ (w.touches.reads_rise _) (subst (λ n. Rose (a.read_faults n) (d.read_faults n)) at.2 cause.2)),
-            λ x. absurd (f.only x),
-            λ x y m. f.counts (λ is. x (error_of e is)) m ∙ w.reads m,
+            λ x. absurd (no_write_from e x),
+            λ x y m. f.counts (λ is. x (ap fault_from (error_of e is))) m ∙ w.reads m,
             λ x m. f.writes m ∙ w.counts m,
           )
         where
-          error_of : (f : RunFault) → IsErrOf {T = Vec Shelf Global} (Err f) fault.Read → f ≡ fault.Read
+          error_of : (f : GatherFault) → IsErrOf {T = Vec Shelf Global} (Err f) gather.Read → f ≡ gather.Read
           error_of f is = cc
 
       pub begun : (shelves : Vec Shelf Global) → (1 ≤ length k.ins) × (length k.ins ≤ 64) → length k.outs ≡ length k.ins → k.budget.bytes < 2 ^ 64 →
-          LooksFirst k.settings a d k.ins ins k.budget left (Ok shelves) → Begun k d ins shelves.items left
+          LooksFirst k.settings (start_at a k.ins k.budget) (start_at d ins left) (Ok shelves) → Begun k (walk_at d ins shelves.items left)
       begun shelves ports outputs limits f = record {
         given = given;
         ports = ports;
@@ -146,7 +149,7 @@ module _ (laws : Laws) (k : Task) (given : AreGiven k.seen k.ins k.journal k.out
         whole = wholes_looks f.touches;
       }
         where
-          not_read : (v : Vec Shelf Global) → IsErrOf (Ok v) fault.Read → ⊥
+          not_read : (v : Vec Shelf Global) → IsErrOf (Ok v) gather.Read → ⊥
           not_read v is = cc
 
 -- ---- before the first window
@@ -166,7 +169,7 @@ none_none : (ins : List Input) → map (λ (l : List Record). no_records) (map (
 none_none [] = refl
 none_none (i ∷ ins) = ap (λ l. [] ∷ l) (none_none ins)
 
-module _ (laws : Laws) (k : Task) (d : Seen) (ins : List Input) (shelves : List Shelf) (left : Budget) (b : Begun k d ins shelves left) where
+module _ (laws : Laws) (k : Task) (d : Seen) (ins : List Input) (shelves : List Shelf) (left : Budget) (b : Begun k (walk_at d ins shelves left)) where
   -- the first window comes before all others
   first_is : (o : Option ℕ) → IsNextWindow k.settings shelves o → IsTrue k.seen.told →
       stop k.settings k.budget.bytes k.budget.frames (captures_in k) ≡ stop_from k.settings (unwrap_or o 0) d ins shelves left
@@ -174,7 +177,7 @@ module _ (laws : Laws) (k : Task) (d : Seen) (ins : List Input) (shelves : List 
   first_is (Some w) h told = b.stops told ∙ ap (λ (f : ℕ). stop_from k.settings f d ins shelves left) (laws.next_first k.settings 0 w d ins shelves left b.count b.ready h)
 
   pub going_first : (F : Contents) (o : Option ℕ) (done : Done) (p : Pending) → IsNothing p → F.settings ≡ k.settings → F.count ≡ length k.ins → F.state ≡ state_of F.settings [] → F.events ≡ [] → F.outs ≡ [] →
-      IsNextWindow k.settings shelves o → done.frames ≡ 0 → done.entries ≡ 0 → Going k 0 (unwrap_or o 0) F d ins shelves left done p
+      IsNextWindow k.settings shelves o → done.frames ≡ 0 → done.entries ≡ 0 → Going k 0 (unwrap_or o 0) F (walk_at d ins shelves left) done p
   going_first F o done p none settings count state events outs next frames entries = record {
     reached = record {
       given = b.given;
@@ -211,8 +214,8 @@ module _ (laws : Laws) (k : Task) (d : Seen) (ins : List Input) (shelves : List 
 -- ---- the next window
 
 module _ (laws : Laws) (k : Task) (v w first : ℕ) (F : Contents) (d : Seen) (ins : List Input) (shelves : List Shelf) (left : Budget) (done : Done) (p : Pending)
-    (g : Going k v first F d ins shelves left done p) (next : IsNextWindow k.settings shelves (Some w)) where
-  abbrev r : Reached k v first F d ins shelves left
+    (g : Going k v first F (walk_at d ins shelves left) done p) (next : IsNextWindow k.settings shelves (Some w)) where
+  abbrev r : Reached k v first F (walk_at d ins shelves left)
   r = g.reached
 
   ahead : (v ≤ w) × (w < 2 ^ 43) × AreReady k.settings w ins shelves left
@@ -228,7 +231,7 @@ module _ (laws : Laws) (k : Task) (v w first : ℕ) (F : Contents) (d : Seen) (i
   clock_then None h = tt
   clock_then (Some t) h = omega (arith, h, ahead.0)
 
-  pub going_next : Going k w first F d ins shelves left done p
+  pub going_next : Going k w first F (walk_at d ins shelves left) done p
   going_next = record {
     reached = record {
       given = r.given;
@@ -265,7 +268,7 @@ module _ (laws : Laws) (k : Task) (v w first : ℕ) (F : Contents) (d : Seen) (i
 -- ---- the end of all captures
 
 module _ (laws : Laws) (k : Task) (w first : ℕ) (F : Contents) (d : Seen) (ins : List Input) (shelves : List Shelf) (left : Budget) (done : Done) (p : Pending)
-    (g : Going k w first F d ins shelves left done p) (next : IsNextWindow k.settings shelves None) (z : Seen) where
+    (g : Going k w first F (walk_at d ins shelves left) done p) (next : IsNextWindow k.settings shelves None) (z : Seen) where
   told_end : IsTrue k.seen.told → IsTrue d.told
   told_end told = subst IsTrue (sym g.reached.touches.told) told
 
@@ -273,7 +276,7 @@ module _ (laws : Laws) (k : Task) (w first : ℕ) (F : Contents) (d : Seen) (ins
   files_end = files_now laws k w first F d ins shelves left g.reached
 
   -- what was still to be written is
-  ended_well : Writes k.journal k.outs p.lines p.pieces d z (Ok tt) → Runs k.settings k.budget k.ins k.seen z k.journal k.outs (Ok done)
+  ended_well : Writes k.journal k.outs p.lines p.pieces d z (Ok tt) → Runs k.settings (start_at k.seen k.ins k.budget) z (file_slots k.journal k.outs) (Ok done)
   ended_well x =
       let r = reached_on laws k w first F d ins shelves left g.reached z x.touches x.reads x.counts in
       record {
@@ -294,8 +297,8 @@ module _ (laws : Laws) (k : Task) (w first : ℕ) (F : Contents) (d : Seen) (ins
       (λ told. flushed_part p k.settings d z k.journal k.outs g.reached.entry_list (told_end told) (g.files told) x)
       (λ y. write_cause k.journal k.outs p.lines p.pieces d z f x) (λ y. absurd (y refl))
 
-  pub ended_by : (r : Result Done RunFault) → Finishes k.journal k.outs p done d z r → Runs k.settings k.budget k.ins k.seen z k.journal k.outs r
-  ended_by (Ok told) h = subst (λ x. Runs k.settings k.budget k.ins k.seen z k.journal k.outs (Ok x)) (sym h.1) (ended_well h.0)
+  pub ended_by : (r : Result Done RunFault) → Finishes k.journal k.outs p done d z r → Runs k.settings (start_at k.seen k.ins k.budget) z (file_slots k.journal k.outs) r
+  ended_by (Ok told) h = subst (λ x. Runs k.settings (start_at k.seen k.ins k.budget) z (file_slots k.journal k.outs) (Ok x)) (sym h.1) (ended_well h.0)
   ended_by (Err e) h = subst (Ended k z) (sym h.2) (ended_broken h.0 h.1)
 
 -- the captures are still open when the heads are written

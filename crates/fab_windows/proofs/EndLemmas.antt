@@ -14,6 +14,7 @@ use Rattle.fab_policy.specs.Text.{text}
 use Rattle.pcap_file.specs.declared.Budget.{Budget}
 use Rattle.pcap_file.specs.declared.Record.{Record}
 use Rattle.fab_gather.specs.Port.{ending}
+use Rattle.run_files.specs.Faults.{fault_from}
 use Rattle.fab_gather.specs.Reads.{IsWhole}
 use Rattle.fab_windows.specs.declared.Done.{Done}
 use Rattle.fab_windows.specs.Files.{Wholes, Fronts, captures}
@@ -51,7 +52,7 @@ module _ (c : Settings) (budget : Budget) (opened : List Opened) where
           files = files;
         }
 
-    pub stops_first : (d : Seen) (journal : ℕ) (outs : List ℕ) (s : Stop) → stop c budget.bytes budget.frames opened ≡ Some s → s.window ≡ None → Wholes c d journal outs [] → Stopped c budget opened d journal outs (ending s)
+    pub stops_first : (d : Seen) (journal : ℕ) (outs : List ℕ) (s : Stop) → stop c budget.bytes budget.frames opened ≡ Some s → s.window ≡ None → Wholes c d journal outs [] → Stopped c budget opened d journal outs (fault_from (ending s))
     stops_first d journal outs s is none files =
         let laws = nothing c (all_records opened) in
         let kept_is = ap (λ o. map (kept c o) (all_records opened)) is ∙ kept_nothing c s (all_records opened) none in
@@ -77,7 +78,7 @@ module _ (c : Settings) (budget : Budget) (opened : List Opened) where
     }
 
     -- at a look of the window that comes next
-    pub stopped : KeepsJust → (d : Seen) (journal : ℕ) (outs : List ℕ) (s : Stop) → stop c budget.bytes budget.frames opened ≡ Some s → s.window ≡ Some w → Wholes c d journal outs J → Stopped c budget opened d journal outs (ending s)
+    pub stopped : KeepsJust → (d : Seen) (journal : ℕ) (outs : List ℕ) (s : Stop) → stop c budget.bytes budget.frames opened ≡ Some s → s.window ≡ Some w → Wholes c d journal outs J → Stopped c budget opened d journal outs (fault_from (ending s))
     stopped keeps_just d journal outs s is own files = record {
       at = s;
       is = is;

@@ -17,18 +17,21 @@ use Rattle.pcap_file.specs.declared.Budget.{Budget}
 use Rattle.pcap_file.specs.declared.Record.{Record}
 use Rattle.fab_gather.specs.declared.shelf.Input.{Input}
 use Rattle.fab_gather.specs.declared.shelf.Shelf.{Shelf}
-use Rattle.fab_gather.specs.declared.fault.RunFault.{RunFault}
-use Rattle.fab_gather.specs.declared.fault.RunFault.TheVariants as fault
+use Rattle.run_files.specs.declared.fault.RunFault.{RunFault}
+use Rattle.run_files.specs.declared.fault.RunFault.TheVariants as fault
+use Rattle.fab_gather.specs.declared.fault.GatherFault.{GatherFault}
 use Rattle.fab_gather.specs.First.{IsNextWindow}
 use Rattle.fab_gather.specs.Port.{Spends}
-use Rattle.fab_gather.specs.Ports.{slots_of, NameIn, counts_of}
+use Rattle.fab_gather.specs.Ports.{slots_of, NameIn, counts_of, walk_at}
 use Rattle.fab_gather.specs.Reads.{HaveRead, batches_of}
 use Rattle.fab_windows.specs.declared.Done.{Done}
-use Rattle.fab_windows.specs.Files.{AreFiles, Pending, GoesOn, WholesBut, Writes, captures}
+use Rattle.fab_windows.specs.Files.{AreFiles, Pending, GoesOn, WholesBut, Writes, captures, file_slots}
 use Rattle.fab_pages.specs.Pages.{AreEarly}
 use Rattle.fab_windows.specs.Pages.{FlushedFor}
+use Rattle.run_files.specs.Faults.{NoFaults, fault_from}
+use Rattle.run_files.proofs.FaultLemmas.{none_then}
 use Rattle.fab_windows.specs.Steps.{Sofar}
-use Rattle.fab_windows.specs.Turns.{Laws, Task, captures_in, NoFaults, Reached, Going, Gathered, Ended, Handles, Publishes}
+use Rattle.fab_windows.specs.Turns.{Laws, Task, captures_in, Reached, Going, Gathered, Ended, Handles, Publishes, paged_at}
 use Rattle.fab_gather.specs.Gather.{Gathers}
 use Rattle.fab_windows.specs.Window.{Ticked, Handled, firsts_of}
 use Rattle.fab_windows.proofs.CountLemmas.{frames_found, entries_few, length-followed, frames-followed}
@@ -36,7 +39,7 @@ use Rattle.fab_windows.proofs.SentLemmas.{NotAfter, outs_are, outs_early, early,
 use Rattle.fab_pages.proofs.PageLemmas.{front_of}
 use Rattle.fab_windows.proofs.StayLemmas.{same_ports}
 use Rattle.fab_windows.proofs.FileLemmas.{files_stay}
-use Rattle.fab_windows.proofs.TurnLemmas.{no_faults, not_err, read_touches, reached_on, ended_writing, ended_gathering, ended_closing, ended_unwritten, but_on, files_now}
+use Rattle.fab_windows.proofs.TurnLemmas.{not_err, read_touches, reached_on, ended_writing, ended_gathering, ended_closing, ended_unwritten, but_on, files_now}
 
 length-batches : (shelves : List Shelf) → length (batches_of shelves) ≡ length shelves
 length-batches [] = refl
@@ -63,11 +66,11 @@ pub spends_both : (had mid left : Budget) (a b : ℕ) → Spends had mid 0 a →
 spends_both had mid left a b h k = record { frames = omega (arith, h.frames, k.frames); bytes = omega (arith, h.bytes, k.bytes) }
 
 -- a window that was gathered: no fault was counted
-pub read_well : {c : Settings} {first w : ℕ} {a b : Seen} {ins ins' : List Input} {shelves shelves' : List Shelf} {had left : Budget} → Gathers c first w a b ins ins' shelves shelves' had left (Ok tt) → NoFaults a b
+pub read_well : {c : Settings} {first w : ℕ} {a b : Seen} {ins ins' : List Input} {shelves shelves' : List Shelf} {had left : Budget} → Gathers c first w (walk_at a ins shelves had) (walk_at b ins' shelves' left) (Ok tt) → NoFaults a b
 read_well t = (t.counts (λ is. not_err is), t.writes)
 
-module _ (laws : Laws) (k : Task) (w first : ℕ) (F : Contents) (d : Seen) (ins : List Input) (shelves : List Shelf) (left : Budget) (r : Reached k w first F d ins shelves left)
-    (b : Seen) (ins' : List Input) (shelves' : List Shelf) (left' : Budget) (t : Gathers k.settings first w d b ins ins' shelves shelves' left left' (Ok tt))
+module _ (laws : Laws) (k : Task) (w first : ℕ) (F : Contents) (d : Seen) (ins : List Input) (shelves : List Shelf) (left : Budget) (r : Reached k w first F (walk_at d ins shelves left))
+    (b : Seen) (ins' : List Input) (shelves' : List Shelf) (left' : Budget) (t : Gathers k.settings first w (walk_at d ins shelves left) (walk_at b ins' shelves' left') (Ok tt))
     (next : IsNextWindow k.settings shelves (Some w)) (E : Contents) (events : List Event) (outs : List Out) (h : Handles w shelves' F E events outs) where
   abbrev c : Settings
   c = k.settings
@@ -82,14 +85,14 @@ module _ (laws : Laws) (k : Task) (w first : ℕ) (F : Contents) (d : Seen) (ins
   count_on = t.count ∙ r.count ∙ sym (same_ports ins ins' t.slots)
 
   pub read_on : HaveRead c (w + 1) (captures_in k) taken' ins' shelves' b
-  read_on = laws.reads_on c w (captures_in k) r.taken d b ins ins' shelves shelves' t.touches.told (same_ports ins ins' t.slots) t.count r.read t.took
+  read_on = laws.reads_on c w (captures_in k) r.taken (walk_at d ins shelves left) (walk_at b ins' shelves' left') t.touches.told (same_ports ins ins' t.slots) t.count r.read t.took
 
   width : length r.taken ≡ length shelves'
   width = r.sofar.width ∙ sym (same_ports k.ins ins r.slots) ∙ sym r.count ∙ sym t.count
 
   pub sofar_on : Sofar c (length k.ins) (w + 1) taken' K E
   sofar_on =
-      let moved = laws.moves c w d b ins ins' shelves shelves' left left' r.count (same_ports ins ins' t.slots) t.count next t.took t.ready t.spent in
+      let moved = laws.moves c w (walk_at d ins shelves left) (walk_at b ins' shelves' left') r.count (same_ports ins ins' t.slots) t.count next t.took t.ready t.spent in
       let n : length (batches_of shelves') ≡ length k.ins = length-batches shelves' ∙ sym width ∙ r.sofar.width in
       let frames = subst (λ l. Handled l (batches_of shelves') h.ticked h.handled) (laws.firsts_taken c (w + 1) (captures_in k) r.taken ins' shelves' b width read_on) h.frames in
       let ranged = subst AreRanged h.events_ h.ranged in
@@ -99,14 +102,14 @@ module _ (laws : Laws) (k : Task) (w first : ℕ) (F : Contents) (d : Seen) (ins
   pub clock_on : E.state.tables.clock ≡ Some w
   clock_on = ap (λ (G : Contents). G.state.tables.clock) h.after ∙ h.frames.grown.clock ∙ h.ticks.at_clock
 
-  abbrev pub reached_after : Reached k (w + 1) first E b ins' shelves' left'
+  abbrev pub reached_after : Reached k (w + 1) first E (walk_at b ins' shelves' left')
   reached_after = record {
     given = r.given;
     ports = r.ports;
     outputs = r.outputs;
     limits = r.limits;
     touches = read_touches laws k w first F d ins shelves left r b t.touches;
-    faults = no_faults k.seen d b r.faults (read_well t);
+    faults = none_then k.seen d b r.faults (read_well t);
     slots = t.slots ∙ r.slots;
     count = count_on;
     taken = taken';
@@ -154,7 +157,7 @@ module _ (laws : Laws) (k : Task) (w first : ℕ) (F : Contents) (d : Seen) (ins
     told_b : IsTrue k.seen.told → IsTrue b.told
     told_b told = subst IsTrue (sym (t.touches.told ∙ r.touches.told)) told
 
-    pub ended_publishing : (e : RunFault) → Publishes k.journal k.outs (lines_from (unwrap_or F.state.tables.clock 0) events) (map (sent_of F.settings events) outs) p p' b z (Err e) → Ended k z e
+    pub ended_publishing : (e : RunFault) → Publishes (file_slots k.journal k.outs) (lines_from (unwrap_or F.state.tables.clock 0) events) (map (sent_of F.settings events) outs) (paged_at b p) (paged_at z p') (Err e) → Ended k z e
     ended_publishing e x =
         ended_writing laws k (w + 1) first E b ins' shelves' left' reached_after z x.touches x.reads e x.only
         (λ told. let f = files told in record { before = Some f.before; begins = goes_on f.before f.begins; hold = x.front (told_b told) (text f.before) (text r.entry_list) (text K) (captures c (length k.outs) f.before) (captures c (length k.outs) r.entry_list) (captures c (length k.outs) K) f.hold lines_here records_here })
@@ -164,8 +167,8 @@ module _ (laws : Laws) (k : Task) (w first : ℕ) (F : Contents) (d : Seen) (ins
         error_is f is = cc
 
     module _ (done done' : Done) (frames : done.frames ≡ frame_count r.entry_list) (entries : done.entries ≡ length r.entry_list) where
-      pub going_on : Publishes k.journal k.outs (lines_from (unwrap_or F.state.tables.clock 0) events) (map (sent_of F.settings events) outs) p p' b z (Ok tt) →
-          done'.frames ≡ done.frames + frame_count events → done'.entries ≡ done.entries + length events → Going k (w + 1) first E z ins' shelves' left' done' p'
+      pub going_on : Publishes (file_slots k.journal k.outs) (lines_from (unwrap_or F.state.tables.clock 0) events) (map (sent_of F.settings events) outs) (paged_at b p) (paged_at z p') (Ok tt) →
+          done'.frames ≡ done.frames + frame_count events → done'.entries ≡ done.entries + length events → Going k (w + 1) first E (walk_at z ins' shelves' left') done' p'
       going_on x more_frames more_entries = record {
         reached = reached_on laws k (w + 1) first E b ins' shelves' left' reached_after z x.touches x.reads (x.counts (λ is. not_err is));
         files = λ told.
@@ -192,25 +195,25 @@ module _ (laws : Laws) (k : Task) (w first : ℕ) (F : Contents) (d : Seen) (ins
 -- ---- one turn
 
 -- the files are open behind the reading of a window
-pub files_then : (laws : Laws) (k : Task) (w first : ℕ) (F : Contents) (d : Seen) (ins : List Input) (shelves : List Shelf) (left : Budget) (done : Done) (p : Pending) → Going k w first F d ins shelves left done p →
+pub files_then : (laws : Laws) (k : Task) (w first : ℕ) (F : Contents) (d : Seen) (ins : List Input) (shelves : List Shelf) (left : Budget) (done : Done) (p : Pending) → Going k w first F (walk_at d ins shelves left) done p →
     (b : Seen) → Touches Nothing (NameIn d (slots_of ins)) d b → AreFiles b k.journal k.outs
 files_then laws k w first F d ins shelves left done p g b u = files_stay Nothing (NameIn d (slots_of ins)) d b u k.journal k.outs (files_now laws k w first F d ins shelves left g.reached)
 
-module _ (laws : Laws) (k : Task) (w first : ℕ) (F : Contents) (d : Seen) (ins : List Input) (shelves : List Shelf) (left : Budget) (done : Done) (p : Pending) (g : Going k w first F d ins shelves left done p) (b : Seen) (ins' : List Input) (shelves' : List Shelf) (left' : Budget) where
-  module _ (e : RunFault) (t : Gathers k.settings first w d b ins ins' shelves shelves' left left' (Err e)) (z : Seen) where
-    turn_stops : Writes k.journal k.outs p.lines p.pieces b z (Ok tt) → Ended k z e
-    turn_stops = ended_gathering laws k w first F d ins shelves left g.reached p g.files b ins' shelves' left' e t z
+module _ (laws : Laws) (k : Task) (w first : ℕ) (F : Contents) (d : Seen) (ins : List Input) (shelves : List Shelf) (left : Budget) (done : Done) (p : Pending) (g : Going k w first F (walk_at d ins shelves left) done p) (b : Seen) (ins' : List Input) (shelves' : List Shelf) (left' : Budget) where
+  module _ (e : GatherFault) (t : Gathers k.settings first w (walk_at d ins shelves left) (walk_at b ins' shelves' left') (Err e)) (z : Seen) where
+    window_stops : Writes k.journal k.outs p.lines p.pieces b z (Ok tt) → Ended k z (fault_from e)
+    window_stops = ended_gathering laws k w first F d ins shelves left g.reached p g.files b ins' shelves' left' e t z
 
-    turn_breaks : (f : Failed) → Writes k.journal k.outs p.lines p.pieces b z (Err f) → Ended k z fault.Write
-    turn_breaks = ended_closing laws k w first F d ins shelves left g.reached b t.touches p g.files z
+    window_breaks : (f : Failed) → Writes k.journal k.outs p.lines p.pieces b z (Err f) → Ended k z fault.Write
+    window_breaks = ended_closing laws k w first F d ins shelves left g.reached b t.touches p g.files z
 
-    pub turn_ends : (told : RunFault) → FlushedFor k.journal k.outs p b z e told → Ended k z told
-    turn_ends told (inl x) = subst (Ended k z) (sym x.1) (turn_stops x.0)
-    turn_ends told (inr x) = subst (Ended k z) (sym x.2) (turn_breaks x.0 x.1)
+    pub window_ends : (told : RunFault) → FlushedFor k.journal k.outs p b z (fault_from e) told → Ended k z told
+    window_ends told (inl x) = subst (Ended k z) (sym x.1) (window_stops x.0)
+    window_ends told (inr x) = subst (Ended k z) (sym x.2) (window_breaks x.0 x.1)
 
-  module _ (t : Gathers k.settings first w d b ins ins' shelves shelves' left left' (Ok tt)) where
-    pub turn_refused : Ended k b fault.Memory
-    turn_refused = ended_unwritten laws k w first F d ins shelves left g.reached b t.touches p g.files (read_well t)
+  module _ (t : Gathers k.settings first w (walk_at d ins shelves left) (walk_at b ins' shelves' left') (Ok tt)) where
+    pub window_refused : Ended k b fault.Memory
+    window_refused = ended_unwritten laws k w first F d ins shelves left g.reached b t.touches p g.files (read_well t)
 
     but_b : IsTrue k.seen.told → WholesBut p k.settings b k.journal k.outs g.reached.entry_list
     but_b told = but_on laws k w first F d ins shelves left g.reached b t.touches p g.files told
@@ -219,30 +222,30 @@ module _ (laws : Laws) (k : Task) (w first : ℕ) (F : Contents) (d : Seen) (ins
     files_b = files_then laws k w first F d ins shelves left done p g b t.touches
 
     module _ (next : IsNextWindow k.settings shelves (Some w)) (E : Contents) (events : List Event) (outs : List Out) (h : Handles w shelves' F E events outs) where
-      pub turn_early : w < 2 ^ 43 → AreEarly outs
-      turn_early lt = early_here laws k w first F d ins shelves left g.reached b ins' shelves' left' t next E events outs h (omega (arith, lt))
+      pub window_early : w < 2 ^ 43 → AreEarly outs
+      window_early lt = early_here laws k w first F d ins shelves left g.reached b ins' shelves' left' t next E events outs h (omega (arith, lt))
 
-      pub turn_room : w < 2 ^ 43 → (done.frames + frame_count events < 2 ^ 64) × (done.entries + length events < 2 ^ 64)
-      turn_room lt = room_on laws k w first F d ins shelves left g.reached b ins' shelves' left' t next E events outs h p but_b b p done done g.frames g.entries lt
+      pub window_room : w < 2 ^ 43 → (done.frames + frame_count events < 2 ^ 64) × (done.entries + length events < 2 ^ 64)
+      window_room lt = room_on laws k w first F d ins shelves left g.reached b ins' shelves' left' t next E events outs h p but_b b p done done g.frames g.entries lt
 
-      pub turn_unwritten : (z : Seen) (p' : Pending) (e : RunFault) → Publishes k.journal k.outs (lines_from (unwrap_or F.state.tables.clock 0) events) (map (sent_of F.settings events) outs) p p' b z (Err e) → Ended k z e
-      turn_unwritten z p' e x = ended_publishing laws k w first F d ins shelves left g.reached b ins' shelves' left' t next E events outs h p but_b z p' e x
+      pub window_unwritten : (z : Seen) (p' : Pending) (e : RunFault) → Publishes (file_slots k.journal k.outs) (lines_from (unwrap_or F.state.tables.clock 0) events) (map (sent_of F.settings events) outs) (paged_at b p) (paged_at z p') (Err e) → Ended k z e
+      window_unwritten z p' e x = ended_publishing laws k w first F d ins shelves left g.reached b ins' shelves' left' t next E events outs h p but_b z p' e x
 
-      pub turn_done : (z : Seen) (p' : Pending) (done' : Done) → Publishes k.journal k.outs (lines_from (unwrap_or F.state.tables.clock 0) events) (map (sent_of F.settings events) outs) p p' b z (Ok tt) →
-          done'.frames ≡ done.frames + frame_count events → done'.entries ≡ done.entries + length events → Going k (w + 1) first E z ins' shelves' left' done' p'
-      turn_done z p' done' x frames entries = going_on laws k w first F d ins shelves left g.reached b ins' shelves' left' t next E events outs h p but_b z p' done done' g.frames g.entries x frames entries
+      pub window_done : (z : Seen) (p' : Pending) (done' : Done) → Publishes (file_slots k.journal k.outs) (lines_from (unwrap_or F.state.tables.clock 0) events) (map (sent_of F.settings events) outs) (paged_at b p) (paged_at z p') (Ok tt) →
+          done'.frames ≡ done.frames + frame_count events → done'.entries ≡ done.entries + length events → Going k (w + 1) first E (walk_at z ins' shelves' left') done' p'
+      window_done z p' done' x frames entries = going_on laws k w first F d ins shelves left g.reached b ins' shelves' left' t next E events outs h p but_b z p' done done' g.frames g.entries x frames entries
 
 -- what was gathered, by the code's own configuration and its own list of shelves
 module _ (k : Task) (w first : ℕ) (F : Contents) (d : Seen) (ins : List Input) (shelves : List Shelf) (left : Budget) (b : Seen) (ins' : List Input) (new : List Shelf) (left' : Budget) (c : Settings) (c_is : c ≡ k.settings) (l : List Shelf) (l_is : l ≡ shelves) where
-  pub gathers_as : (result : Result (Unit {0}) RunFault) → Gathers c first w d b ins ins' l new left left' result → Gathers k.settings first w d b ins ins' shelves new left left' result
+  pub gathers_as : (result : Result (Unit {0}) GatherFault) → Gathers c first w (walk_at d ins l left) (walk_at b ins' new left') result → Gathers k.settings first w (walk_at d ins shelves left) (walk_at b ins' new left') result
   gathers_as result t =
-      subst (λ x. Gathers k.settings first w d b ins ins' x new left left' result) l_is (subst (λ s. Gathers s first w d b ins ins' l new left left' result) c_is t)
+      subst (λ x. Gathers k.settings first w (walk_at d ins x left) (walk_at b ins' new left') result) l_is (subst (λ s. Gathers s first w (walk_at d ins l left) (walk_at b ins' new left') result) c_is t)
 
-  pub gathered_by : (done : Done) (p : Pending) → Going k w first F d ins shelves left done p → IsNextWindow k.settings shelves (Some w) → (n : ℕ) → n ≡ length shelves →
-      Gathers c first w d b ins ins' l new left left' (Ok tt) → Gathered k w first F b ins' (take n (new ++ drop (length new) shelves)) left' done p
+  pub gathered_by : (done : Done) (p : Pending) → Going k w first F (walk_at d ins shelves left) done p → IsNextWindow k.settings shelves (Some w) → (n : ℕ) → n ≡ length shelves →
+      Gathers c first w (walk_at d ins l left) (walk_at b ins' new left') (Ok tt) → Gathered k w first F (walk_at b ins' (take n (new ++ drop (length new) shelves)) left') done p
   gathered_by done p g next n n_is t =
       let t' = gathers_as (Ok tt) t in
-      subst (λ x. Gathered k w first F b ins' x left' done p) (sym (front_of new (drop (length new) shelves) n (n_is ∙ sym t'.count))) (record {
+      subst (λ x. Gathered k w first F (walk_at b ins' x left') done p) (sym (front_of new (drop (length new) shelves) n (n_is ∙ sym t'.count))) (record {
         seen = d;
         ins = ins;
         shelves = shelves;
@@ -260,8 +263,8 @@ settings_kept w shelves F E events outs h = ap (λ (G : Contents). G.settings) h
 pub clock_there : (w : ℕ) (shelves : List Shelf) (F E : Contents) (events : List Event) (outs : List Out) → Handles w shelves F E events outs → E.state.tables.clock ≡ Some w
 clock_there w shelves F E events outs h = ap (λ (G : Contents). G.state.tables.clock) h.after ∙ h.frames.grown.clock ∙ h.ticks.at_clock
 
-module _ (laws : Laws) (k : Task) (w first : ℕ) (F : Contents) (b : Seen) (ins : List Input) (shelves : List Shelf) (left : Budget) (done : Done) (p : Pending) (x : Gathered k w first F b ins shelves left done p) where
-  abbrev old : Reached k w first F x.seen x.ins x.shelves x.left
+module _ (laws : Laws) (k : Task) (w first : ℕ) (F : Contents) (b : Seen) (ins : List Input) (shelves : List Shelf) (left : Budget) (done : Done) (p : Pending) (x : Gathered k w first F (walk_at b ins shelves left) done p) where
+  abbrev old : Reached k w first F (walk_at x.seen x.ins x.shelves x.left)
   old = x.going.reached
 
   pub gathered_ports : length shelves ≡ length k.ins
@@ -270,26 +273,26 @@ module _ (laws : Laws) (k : Task) (w first : ℕ) (F : Contents) (b : Seen) (ins
   pub gathered_files : AreFiles b k.journal k.outs
   gathered_files = files_b laws k w first F x.seen x.ins x.shelves x.left done p x.going b ins shelves left x.gathers
 
-  pub answer_refused : Ended k b fault.Memory
-  answer_refused = turn_refused laws k w first F x.seen x.ins x.shelves x.left done p x.going b ins shelves left x.gathers
+  pub gathered_refused : Ended k b fault.Memory
+  gathered_refused = window_refused laws k w first F x.seen x.ins x.shelves x.left done p x.going b ins shelves left x.gathers
 
   module _ (E : Contents) (events : List Event) (outs : List Out) (h : Handles w shelves F E events outs) where
-    pub answer_early : w < 2 ^ 43 → AreEarly outs
-    answer_early = turn_early laws k w first F x.seen x.ins x.shelves x.left done p x.going b ins shelves left x.gathers x.next E events outs h
+    pub gathered_early : w < 2 ^ 43 → AreEarly outs
+    gathered_early = window_early laws k w first F x.seen x.ins x.shelves x.left done p x.going b ins shelves left x.gathers x.next E events outs h
 
-    pub answer_room : w < 2 ^ 43 → (done.frames + frame_count events < 2 ^ 64) × (done.entries + length events < 2 ^ 64)
-    answer_room = turn_room laws k w first F x.seen x.ins x.shelves x.left done p x.going b ins shelves left x.gathers x.next E events outs h
+    pub gathered_room : w < 2 ^ 43 → (done.frames + frame_count events < 2 ^ 64) × (done.entries + length events < 2 ^ 64)
+    gathered_room = window_room laws k w first F x.seen x.ins x.shelves x.left done p x.going b ins shelves left x.gathers x.next E events outs h
 
     module _ (z : Seen) (p' : Pending) (at : ℕ) (at_is : at ≡ unwrap_or F.state.tables.clock 0) (c : Settings) (c_is : c ≡ E.settings) where
-      as_is : (result : Result (Unit {0}) RunFault) → Publishes k.journal k.outs (lines_from at events) (map (sent_of c events) outs) p p' b z result →
-          Publishes k.journal k.outs (lines_from (unwrap_or F.state.tables.clock 0) events) (map (sent_of F.settings events) outs) p p' b z result
+      as_is : (result : Result (Unit {0}) RunFault) → Publishes (file_slots k.journal k.outs) (lines_from at events) (map (sent_of c events) outs) (paged_at b p) (paged_at z p') result →
+          Publishes (file_slots k.journal k.outs) (lines_from (unwrap_or F.state.tables.clock 0) events) (map (sent_of F.settings events) outs) (paged_at b p) (paged_at z p') result
       as_is result h' =
-          subst (λ s. Publishes k.journal k.outs (lines_from (unwrap_or F.state.tables.clock 0) events) (map (sent_of s events) outs) p p' b z result) (c_is ∙ settings_kept w shelves F E events outs h)
-          (subst (λ (t : ℕ). Publishes k.journal k.outs (lines_from t events) (map (sent_of c events) outs) p p' b z result) at_is h')
+          subst (λ s. Publishes (file_slots k.journal k.outs) (lines_from (unwrap_or F.state.tables.clock 0) events) (map (sent_of s events) outs) (paged_at b p) (paged_at z p') result) (c_is ∙ settings_kept w shelves F E events outs h)
+          (subst (λ (t : ℕ). Publishes (file_slots k.journal k.outs) (lines_from t events) (map (sent_of c events) outs) (paged_at b p) (paged_at z p') result) at_is h')
 
-      pub answer_unwritten : (e : RunFault) → Publishes k.journal k.outs (lines_from at events) (map (sent_of c events) outs) p p' b z (Err e) → Ended k z e
-      answer_unwritten e y = turn_unwritten laws k w first F x.seen x.ins x.shelves x.left done p x.going b ins shelves left x.gathers x.next E events outs h z p' e (as_is (Err e) y)
+      pub gathered_unwritten : (e : RunFault) → Publishes (file_slots k.journal k.outs) (lines_from at events) (map (sent_of c events) outs) (paged_at b p) (paged_at z p') (Err e) → Ended k z e
+      gathered_unwritten e y = window_unwritten laws k w first F x.seen x.ins x.shelves x.left done p x.going b ins shelves left x.gathers x.next E events outs h z p' e (as_is (Err e) y)
 
-      pub answer_done : (done' : Done) → Publishes k.journal k.outs (lines_from at events) (map (sent_of c events) outs) p p' b z (Ok tt) →
-          done'.frames ≡ done.frames + frame_count events → done'.entries ≡ done.entries + length events → Going k (w + 1) first E z ins shelves left done' p'
-      answer_done done' y frames entries = turn_done laws k w first F x.seen x.ins x.shelves x.left done p x.going b ins shelves left x.gathers x.next E events outs h z p' done' (as_is (Ok tt) y) frames entries
+      pub gathered_done : (done' : Done) → Publishes (file_slots k.journal k.outs) (lines_from at events) (map (sent_of c events) outs) (paged_at b p) (paged_at z p') (Ok tt) →
+          done'.frames ≡ done.frames + frame_count events → done'.entries ≡ done.entries + length events → Going k (w + 1) first E (walk_at z ins shelves left) done' p'
+      gathered_done done' y frames entries = window_done laws k w first F x.seen x.ins x.shelves x.left done p x.going b ins shelves left x.gathers x.next E events outs h z p' done' (as_is (Ok tt) y) frames entries

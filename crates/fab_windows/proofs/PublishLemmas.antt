@@ -13,18 +13,18 @@ use Rattle.fab_policy.specs.Growing.{records_to}
 use Rattle.fab_policy.specs.Journal.{Journal}
 use Rattle.fab_policy.specs.Outputs.{Sent}
 use Rattle.fab_policy.specs.Text.{text}
-use Rattle.fab_gather.specs.declared.fault.RunFault.TheVariants as fault
+use Rattle.run_files.specs.declared.fault.RunFault.TheVariants as fault
 use Rattle.fab_gather.specs.Ports.{name_of}
-use Rattle.fab_windows.specs.Files.{Written, Pending, Hold, HoldBut, InOrder, HoldFronts, Wholes, WholesBut, Fronts, Writes, captures}
-use Rattle.fab_pages.specs.Pages.{items_in, piece_at}
+use Rattle.fab_windows.specs.Files.{Written, Pending, Hold, HoldBut, InOrder, HoldFronts, Wholes, WholesBut, Fronts, Writes, captures, file_bytes, file_slots}
+use Rattle.run_files.specs.Pages.{items_in, piece_at}
 use Rattle.fab_windows.specs.Pages.{AreShort, IsNothing, are_full, pending}
 use Rattle.fab_windows.specs.declared.pages.Pages.{Pages}
-use Rattle.fab_windows.specs.Turns.{Publishes}
+use Rattle.fab_windows.specs.Turns.{Publishes, paged_at}
 
 -- ---- what is still to be written
 
 -- nothing is, where the files hold all
-pub hold_all : (p : Pending) (d : Seen) (journal : ℕ) (outs l : List ℕ) (r : ℕ → List ℕ) → IsNothing p → Hold d journal outs l r → HoldBut p d journal outs l r l r
+pub hold_all : (p : Pending) (d : Seen) (journal : ℕ) (outs l : List ℕ) (r : ℕ → List ℕ) → IsNothing p → Hold d journal outs l r → HoldBut p d journal outs (file_bytes l r) (file_bytes l r)
 hold_all p d journal outs l r none h = record {
   hold = h;
   lines_ = sym (append-nil l) ∙ ap (λ x. l ++ x) (sym none.lines_);
@@ -32,11 +32,11 @@ hold_all p d journal outs l r none h = record {
 }
 
 -- where nothing was written since
-pub still_in_order : (d : Seen) (journal : ℕ) (outs w : List ℕ) (v : ℕ → List ℕ) (l : List ℕ) (r : ℕ → List ℕ) → Hold d journal outs w v → InOrder d (d.name journal) (length outs) (name_of d outs) w v l r
+pub still_in_order : (d : Seen) (journal : ℕ) (outs w : List ℕ) (v : ℕ → List ℕ) (l : List ℕ) (r : ℕ → List ℕ) → Hold d journal outs w v → InOrder d (d.name journal) (length outs) (name_of d outs) (file_bytes w v) (file_bytes l r)
 still_in_order d journal outs w v l r h = inl (record { lines_ = (w, h.lines_, ([], append-nil w)); records = h.records })
 
 -- what the files hold is a beginning of it
-pub but_is_front : (p : Pending) (d : Seen) (journal : ℕ) (outs w : List ℕ) (v : ℕ → List ℕ) (l : List ℕ) (r : ℕ → List ℕ) → HoldBut p d journal outs w v l r → HoldFronts d journal outs w v l r
+pub but_is_front : (p : Pending) (d : Seen) (journal : ℕ) (outs w : List ℕ) (v : ℕ → List ℕ) (l : List ℕ) (r : ℕ → List ℕ) → HoldBut p d journal outs (file_bytes w v) (file_bytes l r) → HoldFronts d journal outs (file_bytes w v) (file_bytes l r)
 but_is_front p d journal outs w v l r h = record {
   lines_ = (w, h.hold.lines_, (p.lines, sym h.lines_));
   records = λ q lt. (v q, h.hold.records q lt, (piece_at p.pieces q, sym (h.records q lt)));
@@ -44,11 +44,11 @@ but_is_front p d journal outs w v l r h = record {
 }
 
 -- written, the files hold all, or beginnings
-module _ (p : Pending) (a b : Seen) (journal : ℕ) (outs w : List ℕ) (v : ℕ → List ℕ) (l : List ℕ) (r : ℕ → List ℕ) (told : IsTrue a.told) (h : HoldBut p a journal outs w v l r) where
+module _ (p : Pending) (a b : Seen) (journal : ℕ) (outs w : List ℕ) (v : ℕ → List ℕ) (l : List ℕ) (r : ℕ → List ℕ) (told : IsTrue a.told) (h : HoldBut p a journal outs (file_bytes w v) (file_bytes l r)) where
   pub flushed : Writes journal outs p.lines p.pieces a b (Ok tt) → Hold b journal outs l r
   flushed x = x.whole told w l v r h.hold h.lines_ h.records
 
-  pub flushed_front : {x : Result (Unit {0}) Failed} → Writes journal outs p.lines p.pieces a b x → HoldFronts b journal outs w v l r
+  pub flushed_front : {x : Result (Unit {0}) Failed} → Writes journal outs p.lines p.pieces a b x → HoldFronts b journal outs (file_bytes w v) (file_bytes l r)
   flushed_front x = x.front told w l v r h.hold h.lines_ h.records
 
 -- the same of the files of a journal
@@ -81,7 +81,7 @@ behind w p more l l' e f = f ∙ ap (λ x. x ++ more) e ∙ append_assoc w p mor
 
 module _ (journal : ℕ) (outs lines : List ℕ) (sents : List Sent) (p : Pending) (a : Seen) where
   -- refused memory: nothing more is written, which is a beginning
-  pub publishes_nothing : (p' : Pending) → Publishes journal outs lines sents p p' a a (Err fault.Memory)
+  pub publishes_nothing : (p' : Pending) → Publishes (file_slots journal outs) lines sents (paged_at a p) (paged_at a p') (Err fault.Memory)
   publishes_nothing p' = record {
     touches = touches_refl (Written a journal outs) (Written a journal outs) a;
     whole = λ told w l l' v r r' h is more. tt;
@@ -98,14 +98,14 @@ module _ (journal : ℕ) (outs lines : List ℕ) (sents : List Sent) (p : Pendin
 
   module _ (m : Pending) (lines_are : m.lines ≡ p.lines ++ lines) (are : (q : ℕ) → q < length outs → piece_at m.pieces q ≡ piece_at p.pieces q ++ records_to (q + 1) sents) where
     -- what was added is still to be written
-    added : (w l l' : List ℕ) (v r r' : ℕ → List ℕ) → HoldBut p a journal outs w v l r → l' ≡ l ++ lines → ((q : ℕ) → q < length outs → r' q ≡ r q ++ records_to (q + 1) sents) → HoldBut m a journal outs w v l' r'
+    added : (w l l' : List ℕ) (v r r' : ℕ → List ℕ) → HoldBut p a journal outs (file_bytes w v) (file_bytes l r) → l' ≡ l ++ lines → ((q : ℕ) → q < length outs → r' q ≡ r q ++ records_to (q + 1) sents) → HoldBut m a journal outs (file_bytes w v) (file_bytes l' r')
     added w l l' v r r' h is more = record {
       hold = h.hold;
       lines_ = behind w p.lines lines l l' h.lines_ is ∙ ap (λ x. w ++ x) (sym lines_are);
       records = λ q lt. behind (v q) (piece_at p.pieces q) (records_to (q + 1) sents) (r q) (r' q) (h.records q lt) (more q lt) ∙ ap (λ x. v q ++ x) (sym (are q lt));
     }
 
-    pub publishes_later : Publishes journal outs lines sents p m a a (Ok tt)
+    pub publishes_later : Publishes (file_slots journal outs) lines sents (paged_at a p) (paged_at a m) (Ok tt)
     publishes_later = record {
       touches = touches_refl (Written a journal outs) (Written a journal outs) a;
       whole = λ told w l l' v r r' h is more. inl (added w l l' v r r' h is more);
@@ -117,7 +117,7 @@ module _ (journal : ℕ) (outs lines : List ℕ) (sents : List Sent) (p : Pendin
     }
 
     module _ (b : Seen) where
-      pub publishes_all : (p' : Pending) → IsNothing p' → Writes journal outs m.lines m.pieces a b (Ok tt) → Publishes journal outs lines sents p p' a b (Ok tt)
+      pub publishes_all : (p' : Pending) → IsNothing p' → Writes journal outs m.lines m.pieces a b (Ok tt) → Publishes (file_slots journal outs) lines sents (paged_at a p) (paged_at b p') (Ok tt)
       publishes_all p' none x = record {
         touches = x.touches;
         whole = λ told w l l' v r r' h is more. inr (hold_all p' b journal outs l' r' none (flushed m a b journal outs w v l' r' told (added w l l' v r r' h is more) x));
@@ -128,7 +128,7 @@ module _ (journal : ℕ) (outs lines : List ℕ) (sents : List Sent) (p : Pendin
         counts = λ no. x.counts;
       }
 
-      pub publishes_front : (p' : Pending) (f : Failed) → Writes journal outs m.lines m.pieces a b (Err f) → Publishes journal outs lines sents p p' a b (Err fault.Write)
+      pub publishes_front : (p' : Pending) (f : Failed) → Writes journal outs m.lines m.pieces a b (Err f) → Publishes (file_slots journal outs) lines sents (paged_at a p) (paged_at b p') (Err fault.Write)
       publishes_front p' f x = record {
         touches = x.touches;
         whole = λ told w l l' v r r' h is more. tt;

@@ -16,7 +16,7 @@ use Rattle.fab_gather.specs.Port.{to_look}
 use Rattle.fab_gather.specs.Ports.{slots_of, slot_at, name_of, NameIn, AreInputs, rests, joined, stop_from}
 use Rattle.fab_gather.specs.Reads.{HasRead, HaveRead}
 use Rattle.fab_windows.specs.Files.{AreFiles, Written, Pending, Hold, WholesBut, captures}
-use Rattle.fab_windows.proofs.FileLemmas.{same_name, stays_named}
+use Rattle.run_files.proofs.OutputLemmas.{same_name, stays_named}
 
 pub length-slots : (ins : List Input) → length (slots_of ins) ≡ length ins
 length-slots [] = refl

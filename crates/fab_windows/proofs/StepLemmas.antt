@@ -4,7 +4,7 @@ use Rattle.std.specs.Prelude.{option_to_list}
 use Rattle.fab_config.specs.Settings.{Settings}
 use Rattle.fab_base.specs.Seen.{Seen}
 use Rattle.fab_gather.specs.Laws.{AllIn, HasSome}
-use Rattle.fab_gather.specs.Reads.{HasRead}
+use Rattle.fab_gather.specs.Reads.{HasRead, first_index}
 use Rattle.fab_gather.specs.declared.shelf.Input.{Input}
 use Rattle.fab_gather.specs.declared.shelf.Shelf.{Shelf}
 use Rattle.fab_policy.specs.Growing.{FollowedByParts, RangedByParts, TimedGrows, with_more}
@@ -17,7 +17,7 @@ use Rattle.fab_policy.specs.declared.event.Event.{Event}
 use Rattle.forward_core.specs.Fabric.{AreRanged}
 use Rattle.pcap_file.specs.declared.Record.{Record}
 use Rattle.fab_windows.specs.Steps.{Sofar, FirstsAreTaken}
-use Rattle.fab_windows.specs.Window.{AreTicksTo, Ticked, Handled, first_of}
+use Rattle.fab_windows.specs.Window.{AreTicksTo, Ticked, Handled}
 use Rattle.fab_shared.proofs.FollowedLemmas.{of_port-followed, ports-followed}
 use Rattle.fab_windows.proofs.LeftLemmas.{all_below_more, all_from_window, length-with_more, holds_more, least_left}
 use Rattle.fab_windows.proofs.TimedLemmas.{ticks_hold, ticks_ports, timed_ticks, timed_frames, AllAbove, AreBehind, held_behind, frames_of}
@@ -30,7 +30,7 @@ ranged_each (e ∷ es) h = (ranged_each es (λ k d lt. h (suc k) d (omega arith)
 
 -- ---- the shelves
 
-first_taken : (c : Settings) (w : ℕ) (o : Opened) (records : List Record) (i : Input) (s : Shelf) (d : Seen) → HasRead c w o (records ++ s.batch.items) i s d → first_of s ≡ length records
+first_taken : (c : Settings) (w : ℕ) (o : Opened) (records : List Record) (i : Input) (s : Shelf) (d : Seen) → HasRead c w o (records ++ s.batch.items) i s d → first_index s ≡ length records
 first_taken c w o records i s d h =
     let count = h.count in
     omega (arith, length-append (records ++ s.batch.items) (option_to_list s.next), length-append records s.batch.items)

@@ -12,14 +12,19 @@ use Rattle.fab_policy.specs.Text.{text}
 use Rattle.pcap_file.specs.declared.Budget.{Budget}
 use Rattle.fab_gather.specs.declared.shelf.Input.{Input}
 use Rattle.fab_gather.specs.declared.shelf.Shelf.{Shelf}
-use Rattle.fab_gather.specs.declared.fault.RunFault.{RunFault}
-use Rattle.fab_gather.specs.declared.fault.RunFault.TheVariants as fault
-use Rattle.fab_gather.specs.Port.{IsStopped, ending}
-use Rattle.fab_gather.specs.Ports.{slots_of, name_of, NameIn, AreInputs, stop_from}
+use Rattle.run_files.specs.declared.fault.RunFault.{RunFault}
+use Rattle.run_files.specs.declared.fault.RunFault.TheVariants as fault
+use Rattle.fab_gather.specs.declared.fault.GatherFault.{GatherFault}
+use Rattle.fab_gather.specs.declared.fault.GatherFault.TheVariants as gather
+use Rattle.fab_gather.specs.Port.{ending}
+use Rattle.fab_gather.specs.Port as gathering
+use Rattle.run_files.specs.Faults.{NoFaults, IsStopped, fault_from}
+use Rattle.run_files.proofs.FaultLemmas.{none_then}
+use Rattle.fab_gather.specs.Ports.{slots_of, name_of, NameIn, AreInputs, stop_from, walk_at}
 use Rattle.fab_windows.specs.declared.Done.{Done}
 use Rattle.fab_windows.specs.Files.{AreFiles, Written, Pending, Wholes, WholesBut, Fronts, Writes, captures}
 use Rattle.fab_windows.specs.Run.{Interrupted, Stopped, Ends}
-use Rattle.fab_windows.specs.Turns.{Laws, Task, captures_in, Touched, NoFaults, Reached, Ended, IsUnwritten}
+use Rattle.fab_windows.specs.Turns.{Laws, Task, captures_in, Touched, Reached, Ended, IsUnwritten}
 use Rattle.fab_gather.specs.Gather.{Gathers}
 use Rattle.fab_windows.proofs.EndLemmas.{interrupted, stopped}
 use Rattle.fab_windows.proofs.FileLemmas.{files_stay}
@@ -69,16 +74,32 @@ rose_longer : (a b c : ℕ) → Rose a b → b ≤ c → Rose a c
 rose_longer a b c rose le = omega (arith, rose, le)
 
 -- work that was done ended with no fault
-pub not_err : {e : RunFault} → IsErrOf {T = Unit {0}} (Ok tt) e → ⊥
+pub not_err : {E : Type 0} {e : E} → IsErrOf {T = Unit {0}} (Ok tt) e → ⊥
 not_err is = cc
 
--- no count changed before, and none since
-pub no_faults : (a b d : Seen) → NoFaults a b → NoFaults b d → NoFaults a d
-no_faults a b d x y = (λ m. y.0 m ∙ x.0 m, λ m. y.1 m ∙ x.1 m)
+-- ---- what a fault of gathering ends a run with
+
+pub stopped_from : (e : GatherFault) → IsStopped (fault_from e) → gathering.IsStopped e
+stopped_from (gather.Capture port at why) stops = tt
+stopped_from (gather.Limit kind) stops = tt
+stopped_from gather.Read stops = stops
+stopped_from gather.Memory stops = stops
+
+pub read_from : (e : GatherFault) → fault_from e ≡ fault.Read → e ≡ gather.Read
+read_from (gather.Capture port at why) is = absurd (cc)
+read_from (gather.Limit kind) is = absurd (cc)
+read_from gather.Read is = refl
+read_from gather.Memory is = absurd (cc)
+
+pub no_write_from : (e : GatherFault) → fault_from e ≢ fault.Write
+no_write_from (gather.Capture port at why) is = cc
+no_write_from (gather.Limit kind) is = cc
+no_write_from gather.Read is = cc
+no_write_from gather.Memory is = cc
 
 -- ---- from where a run has come
 
-module _ (laws : Laws) (k : Task) (w first : ℕ) (F : Contents) (d : Seen) (ins : List Input) (shelves : List Shelf) (left : Budget) (r : Reached k w first F d ins shelves left) where
+module _ (laws : Laws) (k : Task) (w first : ℕ) (F : Contents) (d : Seen) (ins : List Input) (shelves : List Shelf) (left : Budget) (r : Reached k w first F (walk_at d ins shelves left)) where
   abbrev Ours : List ℕ → Type 0
   Ours = Written k.seen k.journal k.outs
 
@@ -110,7 +131,7 @@ module _ (laws : Laws) (k : Task) (w first : ℕ) (F : Contents) (d : Seen) (ins
       (subst (IsAhead w) (sym (r.stops told)) (laws.looks_ahead k.settings first w d ins shelves left r.ready)) files
 
   -- at a look of the next window
-  pub stopped_here : IsTrue k.seen.told → (b : Seen) (s : Stop) → stop_from k.settings first d ins shelves left ≡ Some s → s.window ≡ Some w → Wholes k.settings b k.journal k.outs r.entry_list → Stopped k.settings k.budget (captures_in k) b k.journal k.outs (ending s)
+  pub stopped_here : IsTrue k.seen.told → (b : Seen) (s : Stop) → stop_from k.settings first d ins shelves left ≡ Some s → s.window ≡ Some w → Wholes k.settings b k.journal k.outs r.entry_list → Stopped k.settings k.budget (captures_in k) b k.journal k.outs (fault_from (ending s))
   stopped_here told b s is own files =
       stopped k.settings k.budget (captures_in k) w r.taken r.entry_list r.sofar.run (laws.read_splits k.settings w (captures_in k) r.taken ins shelves d left (told_on told) r.read r.ready) laws.keeps_just b k.journal k.outs s (r.stops told ∙ is) own files
 
@@ -143,7 +164,7 @@ module _ (laws : Laws) (k : Task) (w first : ℕ) (F : Contents) (d : Seen) (ins
       -- refused memory, before anything of the window is written
       pub ended_unwritten : NoFaults d b → Ended k b fault.Memory
       ended_unwritten same =
-          let all = no_faults k.seen d b r.faults same in
+          let all = none_then k.seen d b r.faults same in
           ended k b fault.Memory read_touches (λ told x. absurd x) (λ told x. absurd (cc)) (λ told x. front_on told) (λ x. absurd (cc), λ x. absurd (cc), λ x y. all.0, λ x. all.1)
 
       -- then all is written that was still to be
@@ -164,22 +185,22 @@ module _ (laws : Laws) (k : Task) (w first : ℕ) (F : Contents) (d : Seen) (ins
             (λ y. absurd (cc), λ y. let rose = write_cause k.journal k.outs p.lines p.pieces b z f x in (rose.0, written_then rose.0 rose.1, rose_later _ _ _ (read_touches.writes_rise rose.0) rose.2), λ x y. absurd (y refl), λ y. absurd (y refl))
 
   -- a fault while the window is gathered, behind which all is written that was still to be
-  pub ended_gathering : (p : Pending) → (IsTrue k.seen.told → WholesBut p k.settings d k.journal k.outs r.entry_list) → (b : Seen) (ins' : List Input) (shelves' : List Shelf) (left' : Budget) (e : RunFault) →
-      Gathers k.settings first w d b ins ins' shelves shelves' left left' (Err e) → (z : Seen) → Writes k.journal k.outs p.lines p.pieces b z (Ok tt) → Ended k z e
+  pub ended_gathering : (p : Pending) → (IsTrue k.seen.told → WholesBut p k.settings d k.journal k.outs r.entry_list) → (b : Seen) (ins' : List Input) (shelves' : List Shelf) (left' : Budget) (e : GatherFault) →
+      Gathers k.settings first w (walk_at d ins shelves left) (walk_at b ins' shelves' left') (Err e) → (z : Seen) → Writes k.journal k.outs p.lines p.pieces b z (Ok tt) → Ended k z (fault_from e)
   ended_gathering p files b ins' shelves' left' e t z x =
-      ended k z e (then_touches b t.touches p files z x.touches)
+      ended k z (fault_from e) (then_touches b t.touches p files z x.touches)
       (λ told stops.
-      let s = t.stops (told_on told) stops in
-      subst (Stopped k.settings k.budget (captures_in k) z k.journal k.outs) s.2 (stopped_here told z s.0 s.1 s.3 (wholes_then b t.touches p files z x told)))
+      let s = t.stops (told_on told) (stopped_from e stops) in
+      subst (λ f. Stopped k.settings k.budget (captures_in k) z k.journal k.outs (fault_from f)) s.2 (stopped_here told z s.0 s.1 s.3 (wholes_then b t.touches p files z x told)))
       (λ told y. interrupted_here told (Wholes k.settings z k.journal k.outs) (wholes_then b t.touches p files z x told))
       (λ told y. fronts_then b t.touches p files z x told) (
-        λ y. let cause = t.cause (ap (λ v. Err v) y) in let rose = rose_on b t.touches cause.0 cause.1 cause.2 in (rose.0, rose.1, rose_longer _ _ _ rose.2 (x.touches.reads_rise _)),
-        λ y. absurd (t.only y),
-        λ not_read not_write m. x.reads m ∙ t.counts (λ is. not_read (error_of e is)) m ∙ r.faults.0 m,
+        λ y. let cause = t.cause (ap (λ v. Err v) (read_from e y)) in let rose = rose_on b t.touches cause.0 cause.1 cause.2 in (rose.0, rose.1, rose_longer _ _ _ rose.2 (x.touches.reads_rise _)),
+        λ y. absurd (no_write_from e y),
+        λ not_read not_write m. x.reads m ∙ t.counts (λ is. not_read (ap fault_from (error_of e is))) m ∙ r.faults.0 m,
         λ not_write m. x.counts m ∙ t.writes m ∙ r.faults.1 m,
       )
     where
-      error_of : (f : RunFault) → IsErrOf {T = Unit {0}} (Err f) fault.Read → f ≡ fault.Read
+      error_of : (f : GatherFault) → IsErrOf {T = Unit {0}} (Err f) gather.Read → f ≡ gather.Read
       error_of f is = cc
 
   -- ---- writing keeps what is to come
@@ -191,14 +212,14 @@ module _ (laws : Laws) (k : Task) (w first : ℕ) (F : Contents) (d : Seen) (ins
     pub write_touches : Touches Ours (Touched k) k.seen z
     write_touches = touches_trans Ours (Touched k) k.seen d z r.touches (touches_wider (Written d k.journal k.outs) (Written d k.journal k.outs) Ours (Touched k) d z written_now (λ m h. inl (written_now m h)) t)
 
-    abbrev pub reached_on : SameWriteFaults d z → Reached k w first F z ins shelves left
+    abbrev pub reached_on : SameWriteFaults d z → Reached k w first F (walk_at z ins shelves left)
     reached_on writes = record {
       given = r.given;
       ports = r.ports;
       outputs = r.outputs;
       limits = r.limits;
       touches = write_touches;
-      faults = no_faults k.seen d z r.faults (reads, writes);
+      faults = none_then k.seen d z r.faults (reads, writes);
       slots = r.slots;
       count = r.count;
       taken = r.taken;

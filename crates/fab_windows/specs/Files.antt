@@ -1,4 +1,4 @@
--- The files of a run, and what writing to several files keeps and leaves.
+-- The files of a run, and what writing to them keeps and leaves.
 use Rattle.std.specs.Prelude.{◌≡◌, ◌≢◌, ℕ, ◌+◌, ◌<◌, ◌⊎◌, IsTrue, IfSome, List, [], ◌++◌, length, take, Option, Some, None, Result, OnOk, OnErr}
 use Rattle.fab_base.specs.Seen.{Seen, Rose, Touches, SameReadFaults, SameWriteFaults}
 use Rattle.fab_base.specs.declared.values.Failed.{Failed}
@@ -8,34 +8,26 @@ use Rattle.fab_policy.specs.Text.{text, egress}
 use Rattle.fab_policy.specs.Written.{IsPrefixOf}
 use Rattle.fab_policy.specs.declared.event.Event.{Event}
 use Rattle.fab_gather.specs.Ports.{slot_at, name_of, NameIn}
-use Rattle.fab_pages.specs.Pages.{piece_at}
-
--- ---- a piece to each of several files
-
--- slots that are open outputs of different names
-pub record AreOutputs (d : Seen) (slots : List ℕ) : Type 0 where
-  pub outputs : (q : ℕ) → q < length slots → IsTrue (d.output (slot_at slots q))
-  pub differ : (p q : ℕ) → p < length slots → q < length slots → name_of d slots p ≡ name_of d slots q → p ≡ q
-
--- Putting failed at one of several outputs: a fault of it was counted, those before it have their pieces, and those behind it are
--- as they were.
-pub record FailsAt (q : ℕ) (slots : List ℕ) (pieces : List (List ℕ)) (old new : Seen) : Type 0 where
-  pub within : q < length slots
-  pub rose : Rose (old.write_faults (name_of old slots q)) (new.write_faults (name_of old slots q))
-  pub before : IsTrue old.told → (p : ℕ) → p < q → (bytes : List ℕ) → old.file (name_of old slots p) ≡ Some bytes → new.file (name_of old slots p) ≡ Some (bytes ++ piece_at pieces p)
-  pub behind : (p : ℕ) → q < p → p < length slots → new.file (name_of old slots p) ≡ old.file (name_of old slots p)
-
--- Putting a piece to each of several outputs, in their order, appends each to its file, or, where it fails, a front of each. No fault
--- is counted where it succeeds, and never one of reading.
-pub record PutsEach (slots : List ℕ) (pieces : List (List ℕ)) (old new : Seen) (result : Result (Unit {0}) Failed) : Type 0 where
-  pub touches : Touches (NameIn old slots) (NameIn old slots) old new
-  pub all : IsTrue old.told → (q : ℕ) → q < length slots → (bytes : List ℕ) → old.file (name_of old slots q) ≡ Some bytes → OnOk result (new.file (name_of old slots q) ≡ Some (bytes ++ piece_at pieces q))
-  pub part : IsTrue old.told → (q : ℕ) → q < length slots → (bytes : List ℕ) → old.file (name_of old slots q) ≡ Some bytes → (n : ℕ) × (new.file (name_of old slots q) ≡ Some (bytes ++ take n (piece_at pieces q)))
-  pub cause : OnErr result ((q : ℕ) × FailsAt q slots pieces old new)
-  pub reads : SameReadFaults old new
-  pub counts : OnOk result (SameWriteFaults old new)
+use Rattle.run_files.specs.Outputs.{AreOutputs, FailsAt}
+use Rattle.run_files.specs.Pages.{piece_at}
 
 -- ---- the files of a run
+
+-- where a run writes: the slot of the journal, and those of the outputs in port order
+pub record FileSlots : Type 0 where
+  pub journal : ℕ
+  pub outs : List ℕ
+
+abbrev pub file_slots : ℕ → List ℕ → FileSlots
+file_slots journal outs = record { journal = journal; outs = outs }
+
+-- what the files hold: the lines of the journal, and the records of each output
+pub record FileBytes : Type 0 where
+  pub lines : List ℕ
+  pub records_of : ℕ → List ℕ
+
+abbrev pub file_bytes : List ℕ → (ℕ → List ℕ) → FileBytes
+file_bytes lines records_of = record { lines = lines; records_of = records_of }
 
 -- The journal's file holds these bytes, and that of each output its own.
 pub record Hold (d : Seen) (journal : ℕ) (outs lines : List ℕ) (records_of : ℕ → List ℕ) : Type 0 where
@@ -48,40 +40,39 @@ pub record Pending : Type 0 where
   pub pieces : List (List ℕ)
 
 -- They hold what they held when all was written last, which are these bytes but for what is still to be written behind them.
-pub record HoldBut (p : Pending) (d : Seen) (journal : ℕ) (outs was : List ℕ) (was_of : ℕ → List ℕ) (lines : List ℕ) (records_of : ℕ → List ℕ) : Type 0 where
-  pub hold : Hold d journal outs was was_of
-  pub lines_ : lines ≡ was ++ p.lines
-  pub records : (q : ℕ) → q < length outs → records_of q ≡ was_of q ++ piece_at p.pieces q
+pub record HoldBut (p : Pending) (d : Seen) (journal : ℕ) (outs : List ℕ) (was now : FileBytes) : Type 0 where
+  pub hold : Hold d journal outs was.lines was.records_of
+  pub lines_ : now.lines ≡ was.lines ++ p.lines
+  pub records : (q : ℕ) → q < length outs → now.records_of q ≡ was.records_of q ++ piece_at p.pieces q
 
 -- A name's file holds these bytes at least.
 abbrev pub HoldsFrom : Seen → List ℕ → List ℕ → Type 0
 HoldsFrom d name was = (bytes : List ℕ) × (d.file name ≡ Some bytes) × IsPrefixOf was bytes
 
 -- The journal was written some way, and each output holds what it held.
-pub record JournalComes (d : Seen) (journal : List ℕ) (count : ℕ) (out : ℕ → List ℕ) (was : List ℕ) (was_of : ℕ → List ℕ) : Type 0 where
-  pub lines_ : HoldsFrom d journal was
-  pub records : (q : ℕ) → q < count → d.file (out q) ≡ Some (was_of q)
+pub record JournalComes (d : Seen) (journal : List ℕ) (count : ℕ) (out : ℕ → List ℕ) (was : FileBytes) : Type 0 where
+  pub lines_ : HoldsFrom d journal was.lines
+  pub records : (q : ℕ) → q < count → d.file (out q) ≡ Some (was.records_of q)
 
 -- The journal is whole, and the outputs of ports below some port are; its own was written some way, and those behind it hold what they
 -- held.
-pub record OutputComes (d : Seen) (journal : List ℕ) (count : ℕ) (out : ℕ → List ℕ) (was_of : ℕ → List ℕ) (lines : List ℕ) (records_of : ℕ → List ℕ) : Type 0 where
-  pub lines_ : d.file journal ≡ Some lines
+pub record OutputComes (d : Seen) (journal : List ℕ) (count : ℕ) (out : ℕ → List ℕ) (was now : FileBytes) : Type 0 where
+  pub lines_ : d.file journal ≡ Some now.lines
   pub port : ℕ
-  pub whole : (q : ℕ) → q < port → q < count → d.file (out q) ≡ Some (records_of q)
-  pub part : port < count → HoldsFrom d (out port) (was_of port)
-  pub behind : (q : ℕ) → port < q → q < count → d.file (out q) ≡ Some (was_of q)
+  pub whole : (q : ℕ) → q < port → q < count → d.file (out q) ≡ Some (now.records_of q)
+  pub part : port < count → HoldsFrom d (out port) (was.records_of port)
+  pub behind : (q : ℕ) → port < q → q < count → d.file (out q) ≡ Some (was.records_of q)
 
 -- How far writing came that goes from what files held to these bytes, in order: the journal, and then the outputs by ports counted from 0.
 -- So no output is ahead of a journal that isn't whole.
-abbrev pub InOrder : Seen → List ℕ → ℕ → (ℕ → List ℕ) → List ℕ → (ℕ → List ℕ) → List ℕ → (ℕ → List ℕ) → Type 0
-InOrder d journal count out was was_of lines records_of =
-    JournalComes d journal count out was was_of ⊎ OutputComes d journal count out was_of lines records_of
+abbrev pub InOrder : Seen → List ℕ → ℕ → (ℕ → List ℕ) → FileBytes → FileBytes → Type 0
+InOrder d journal count out was now = JournalComes d journal count out was ⊎ OutputComes d journal count out was now
 
 -- Each of them holds a beginning of these, and they were written in order from what they held.
-pub record HoldFronts (d : Seen) (journal : ℕ) (outs was : List ℕ) (was_of : ℕ → List ℕ) (lines : List ℕ) (records_of : ℕ → List ℕ) : Type 0 where
-  pub lines_ : (bytes : List ℕ) × (d.file (d.name journal) ≡ Some bytes) × IsPrefixOf bytes lines
-  pub records : (q : ℕ) → q < length outs → (bytes : List ℕ) × (d.file (name_of d outs q) ≡ Some bytes) × IsPrefixOf bytes (records_of q)
-  pub order : InOrder d (d.name journal) (length outs) (name_of d outs) was was_of lines records_of
+pub record HoldFronts (d : Seen) (journal : ℕ) (outs : List ℕ) (was now : FileBytes) : Type 0 where
+  pub lines_ : (bytes : List ℕ) × (d.file (d.name journal) ≡ Some bytes) × IsPrefixOf bytes now.lines
+  pub records : (q : ℕ) → q < length outs → (bytes : List ℕ) × (d.file (name_of d outs q) ≡ Some bytes) × IsPrefixOf bytes (now.records_of q)
+  pub order : InOrder d (d.name journal) (length outs) (name_of d outs) was now
 
 -- the captures of a journal, by ports counted from 0
 abbrev pub captures : Settings → ℕ → Journal → ℕ → List ℕ
@@ -108,12 +99,12 @@ Wholes c d journal outs J = Hold d journal outs (text J) (captures c (length out
 pub record WholesBut (p : Pending) (c : Settings) (d : Seen) (journal : ℕ) (outs : List ℕ) (J : Journal) : Type 0 where
   pub before : Journal
   pub begins : GoesOn before J
-  pub hold : HoldBut p d journal outs (text before) (captures c (length outs) before) (text J) (captures c (length outs) J)
+  pub hold : HoldBut p d journal outs (file_bytes (text before) (captures c (length outs) before)) (file_bytes (text J) (captures c (length outs) J))
 
 pub record Fronts (c : Settings) (d : Seen) (journal : ℕ) (outs : List ℕ) (J : Journal) : Type 0 where
   pub before : Option Journal
   pub begins : IfSome before (λ I. GoesOn I J)
-  pub hold : HoldFronts d journal outs (text_so_far before) (captures_so_far c (length outs) before) (text J) (captures c (length outs) J)
+  pub hold : HoldFronts d journal outs (file_bytes (text_so_far before) (captures_so_far c (length outs) before)) (file_bytes (text J) (captures c (length outs) J))
 
 -- the names of the journal and of the outputs
 abbrev pub Written : Seen → ℕ → List ℕ → List ℕ → Type 0
@@ -142,7 +133,7 @@ pub record Writes (journal : ℕ) (outs lines : List ℕ) (pieces : List (List �
   pub touches : Touches (Written old journal outs) (Written old journal outs) old new
   pub files : AreFiles new journal outs
   pub whole : IsTrue old.told → (l l' : List ℕ) (r r' : ℕ → List ℕ) → Hold old journal outs l r → l' ≡ l ++ lines → ((q : ℕ) → q < length outs → r' q ≡ r q ++ piece_at pieces q) → OnOk result (Hold new journal outs l' r')
-  pub front : IsTrue old.told → (l l' : List ℕ) (r r' : ℕ → List ℕ) → Hold old journal outs l r → l' ≡ l ++ lines → ((q : ℕ) → q < length outs → r' q ≡ r q ++ piece_at pieces q) → HoldFronts new journal outs l r l' r'
+  pub front : IsTrue old.told → (l l' : List ℕ) (r r' : ℕ → List ℕ) → Hold old journal outs l r → l' ≡ l ++ lines → ((q : ℕ) → q < length outs → r' q ≡ r q ++ piece_at pieces q) → HoldFronts new journal outs (file_bytes l r) (file_bytes l' r')
   pub cause : OnErr result (FailsFirst journal outs old new ⊎ FailsLater journal outs lines pieces old new)
   pub reads : SameReadFaults old new
   pub counts : OnOk result (SameWriteFaults old new)

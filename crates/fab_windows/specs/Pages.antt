@@ -3,9 +3,9 @@ use Rattle.std.specs.Prelude.{◌≡◌, ℕ, ◌<◌, ◌⊎◌, Bool, ◌||◌
 use Rattle.std.specs.List.{list_any}
 use Rattle.fab_base.specs.Seen.{Seen}
 use Rattle.fab_base.specs.declared.values.Failed.{Failed}
-use Rattle.fab_gather.specs.declared.fault.RunFault.{RunFault}
-use Rattle.fab_gather.specs.declared.fault.RunFault.TheVariants as fault
-use Rattle.fab_pages.specs.Pages.{items_in, piece_at}
+use Rattle.run_files.specs.declared.fault.RunFault.{RunFault}
+use Rattle.run_files.specs.declared.fault.RunFault.TheVariants as fault
+use Rattle.run_files.specs.Pages.{items_in, piece_at}
 use Rattle.fab_windows.specs.Files.{Pending, Writes}
 use Rattle.fab_windows.specs.declared.pages.Pages.{Pages}
 

@@ -11,14 +11,15 @@ use Rattle.fab_policy.specs.Looks.{Opened, Stop, stop, kept, all_records}
 use Rattle.fab_policy.specs.Ranged.{IsRanged}
 use Rattle.fab_policy.specs.Written.{before}
 use Rattle.fab_gather.specs.declared.shelf.Input.{Input}
-use Rattle.fab_gather.specs.declared.fault.RunFault.{RunFault}
-use Rattle.fab_gather.specs.declared.fault.RunFault.TheVariants as fault
-use Rattle.fab_gather.specs.First.{opened_in, AreFresh}
+use Rattle.run_files.specs.declared.fault.RunFault.{RunFault}
+use Rattle.run_files.specs.declared.fault.RunFault.TheVariants as fault
+use Rattle.fab_gather.specs.First.{opened_in, AreFresh, Start}
 use Rattle.fab_gather.specs.Port.{ending}
 use Rattle.fab_gather.specs.Ports.{slots_of, name_of, NameIn, AreInputs}
 use Rattle.fab_gather.specs.Reads.{IsWhole}
 use Rattle.fab_windows.specs.declared.Done.{Done}
-use Rattle.fab_windows.specs.Files.{Written, AreFiles, Wholes, Fronts}
+use Rattle.run_files.specs.Faults.{fault_from}
+use Rattle.fab_windows.specs.Files.{Written, FileSlots, AreFiles, Wholes, Fronts}
 
 -- ---- what is handed in
 
@@ -55,7 +56,7 @@ pub record Finished (c : Settings) (budget : Budget) (ins : List Opened) (d : Se
 pub record Stopped (c : Settings) (budget : Budget) (ins : List Opened) (d : Seen) (journal : ℕ) (outs : List ℕ) (e : RunFault) : Type 0 where
   pub at : Stop
   pub is : stop c budget.bytes budget.frames ins ≡ Some at
-  pub says : ending at ≡ e
+  pub says : fault_from (ending at) ≡ e
   pub entry_list : Journal
   pub run : IsRunOver c (keeps c budget ins) entry_list
   pub files : Wholes c d journal outs entry_list
@@ -84,9 +85,10 @@ pub record TellsFaults (old new : Seen) (result : Result Done RunFault) : Type 0
   pub writes : ¬ IsErrOf result fault.Write → SameWriteFaults old new
 
 -- A run over captures.
-pub record Runs (c : Settings) (budget : Budget) (ins : List Input) (a b : Seen) (journal : ℕ) (outs : List ℕ) (result : Result Done RunFault) : Type 0 where
-  pub touches : Touches (Written a journal outs) (λ m. Written a journal outs m ⊎ NameIn a (slots_of ins) m) a b
-  pub ends : IsTrue a.told → Ends c budget (opened_in a ins) b journal outs result
-  pub read : IsErrOf result fault.Read → (q : ℕ) × (q < length ins) × Rose (a.read_faults (name_of a (slots_of ins) q)) (b.read_faults (name_of a (slots_of ins) q))
-  pub write : IsErrOf result fault.Write → (m : List ℕ) × Written a journal outs m × Rose (a.write_faults m) (b.write_faults m)
-  pub counts : TellsFaults a b result
+pub record Runs (c : Settings) (old : Start) (new : Seen) (files : FileSlots) (result : Result Done RunFault) : Type 0 where
+  pub touches : Touches (Written old.seen files.journal files.outs) (λ m. Written old.seen files.journal files.outs m ⊎ NameIn old.seen (slots_of old.ins) m) old.seen new
+  pub ends : IsTrue old.seen.told → Ends c old.left (opened_in old.seen old.ins) new files.journal files.outs result
+  pub read : IsErrOf result fault.Read →
+      (q : ℕ) × (q < length old.ins) × Rose (old.seen.read_faults (name_of old.seen (slots_of old.ins) q)) (new.read_faults (name_of old.seen (slots_of old.ins) q))
+  pub write : IsErrOf result fault.Write → (m : List ℕ) × Written old.seen files.journal files.outs m × Rose (old.seen.write_faults m) (new.write_faults m)
+  pub counts : TellsFaults old.seen new result

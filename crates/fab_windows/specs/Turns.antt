@@ -17,16 +17,17 @@ use Rattle.fab_replies.specs.declared.message.Out.{Out}
 use Rattle.forward_core.specs.Fabric.{AreRanged}
 use Rattle.fab_gather.specs.declared.shelf.Input.{Input}
 use Rattle.fab_gather.specs.declared.shelf.Shelf.{Shelf}
-use Rattle.fab_gather.specs.declared.fault.RunFault.{RunFault}
-use Rattle.fab_gather.specs.declared.fault.RunFault.TheVariants as fault
-use Rattle.fab_gather.specs.First.{opened_in, IsNextWindow}
+use Rattle.run_files.specs.declared.fault.RunFault.{RunFault}
+use Rattle.run_files.specs.declared.fault.RunFault.TheVariants as fault
+use Rattle.fab_gather.specs.First.{Start, start_at, opened_in, IsNextWindow}
 use Rattle.fab_gather.specs.Gather.{Gathers}
 use Rattle.fab_gather.specs.Laws.{LooksAhead, NextIsAhead, NextIsFirst, NoneIsLeft, WindowMoves, ReadsOn, ReadStays, ReadIsBelow, ReadSplits, ReadIsAll}
 use Rattle.fab_gather.specs.Port.{Spends}
-use Rattle.fab_gather.specs.Ports.{slots_of, NameIn, AreReady, rests, joined, counts_of, stop_from}
+use Rattle.fab_gather.specs.Ports.{Walk, walk_at, slots_of, NameIn, AreReady, rests, joined, counts_of, stop_from, stop_after}
 use Rattle.fab_gather.specs.Reads.{HaveRead, batches_of}
 use Rattle.fab_windows.specs.declared.Done.{Done}
-use Rattle.fab_windows.specs.Files.{Written, Writes, Pending, HoldBut, HoldFronts, Wholes, WholesBut}
+use Rattle.run_files.specs.Faults.{NoFaults}
+use Rattle.fab_windows.specs.Files.{Written, Writes, FileSlots, file_slots, file_bytes, Pending, HoldBut, HoldFronts, Wholes, WholesBut}
 use Rattle.fab_windows.specs.Run.{AreGiven, Runs}
 use Rattle.fab_windows.specs.Steps.{Sofar, WindowIsRun, FirstsAreTaken}
 use Rattle.fab_windows.specs.Window.{Ticked, Handled, firsts_of}
@@ -72,14 +73,9 @@ pub record Task : Type 0 where
   pub journal : ℕ
   pub outs : List ℕ
 
--- what is there at the start
-pub record Start : Type 0 where
-  pub budget : Budget
-  pub ins : List Input
-  pub seen : Seen
-
+-- that of a run that starts so
 abbrev pub task_of : Start → Settings → ℕ → List ℕ → Task
-task_of s c journal outs = record { settings = c; budget = s.budget; ins = s.ins; seen = s.seen; journal = journal; outs = outs }
+task_of s c journal outs = record { settings = c; budget = s.left; ins = s.ins; seen = s.seen; journal = journal; outs = outs }
 
 -- the captures of a task
 abbrev pub captures_in : Task → List Opened
@@ -89,56 +85,53 @@ captures_in k = opened_in k.seen k.ins
 abbrev pub Touched : Task → List ℕ → Type 0
 Touched k m = Written k.seen k.journal k.outs m ⊎ NameIn k.seen (slots_of k.ins) m
 
--- no count of faults has changed, neither of reading nor of writing
-abbrev pub NoFaults : Seen → Seen → Type 0
-NoFaults old new = SameReadFaults old new × SameWriteFaults old new
-
 -- What stands of a task before a window: which records were taken, a journal that stands for them, where the readers are, and,
 -- where the depot tells, that the looks to come stop where all looks do.
-pub record Reached (k : Task) (w first : ℕ) (F : Contents) (d : Seen) (ins : List Input) (shelves : List Shelf) (left : Budget) : Type 0 where
+pub record Reached (k : Task) (w first : ℕ) (F : Contents) (walk : Walk) : Type 0 where
   pub given : AreGiven k.seen k.ins k.journal k.outs
   pub ports : (1 ≤ length k.ins) × (length k.ins ≤ 64)
   pub outputs : length k.outs ≡ length k.ins
   pub limits : k.budget.bytes < 2 ^ 64
-  pub touches : Touches (Written k.seen k.journal k.outs) (Touched k) k.seen d
-  pub faults : NoFaults k.seen d
-  pub slots : slots_of ins ≡ slots_of k.ins
-  pub count : length shelves ≡ length ins
+  pub touches : Touches (Written k.seen k.journal k.outs) (Touched k) k.seen walk.seen
+  pub faults : NoFaults k.seen walk.seen
+  pub slots : slots_of walk.ins ≡ slots_of k.ins
+  pub count : length walk.shelves ≡ length walk.ins
   pub taken : List (List Record)
   pub entry_list : Journal
   pub sofar : Sofar k.settings (length k.ins) w taken entry_list F
   pub clock : IfSome F.state.tables.clock (λ t. t < w)
-  pub ready : AreReady k.settings w ins shelves left
-  pub read : HaveRead k.settings w (captures_in k) taken ins shelves d
-  pub spent : Spends k.budget left 0 (counts_of shelves)
-  pub stops : IsTrue k.seen.told → stop k.settings k.budget.bytes k.budget.frames (captures_in k) ≡ stop_from k.settings first d ins shelves left
+  pub ready : AreReady k.settings w walk.ins walk.shelves walk.left
+  pub read : HaveRead k.settings w (captures_in k) taken walk.ins walk.shelves walk.seen
+  pub spent : Spends k.budget walk.left 0 (counts_of walk.shelves)
+  pub stops : IsTrue k.seen.told → stop k.settings k.budget.bytes k.budget.frames (captures_in k) ≡ stop_after k.settings first walk
 
 -- The files hold that journal but for what is still to be written, and its frames and entries are counted.
-pub record Going (k : Task) (w first : ℕ) (F : Contents) (d : Seen) (ins : List Input) (shelves : List Shelf) (left : Budget) (done : Done) (p : Pending) : Type 0 where
-  pub reached : Reached k w first F d ins shelves left
-  pub files : IsTrue k.seen.told → WholesBut p k.settings d k.journal k.outs reached.entry_list
+pub record Going (k : Task) (w first : ℕ) (F : Contents) (walk : Walk) (done : Done) (p : Pending) : Type 0 where
+  pub reached : Reached k w first F walk
+  pub files : IsTrue k.seen.told → WholesBut p k.settings walk.seen k.journal k.outs reached.entry_list
   pub frames : done.frames ≡ frame_count reached.entry_list
   pub entries : done.entries ≡ length reached.entry_list
 
 -- What stands of a task before the first window, of whichever new fabric.
-pub record Begun (k : Task) (d : Seen) (ins : List Input) (shelves : List Shelf) (left : Budget) : Type 0 where
+pub record Begun (k : Task) (walk : Walk) : Type 0 where
   pub given : AreGiven k.seen k.ins k.journal k.outs
   pub ports : (1 ≤ length k.ins) × (length k.ins ≤ 64)
   pub outputs : length k.outs ≡ length k.ins
   pub limits : k.budget.bytes < 2 ^ 64
-  pub touches : Touches (Written k.seen k.journal k.outs) (Touched k) k.seen d
-  pub faults : NoFaults k.seen d
-  pub slots : slots_of ins ≡ slots_of k.ins
-  pub count : length shelves ≡ length ins
-  pub ready : AreReady k.settings 0 ins shelves left
-  pub read : HaveRead k.settings 0 (captures_in k) (map (λ i. []) k.ins) ins shelves d
-  pub spent : Spends k.budget left 0 (counts_of shelves)
-  pub stops : IsTrue k.seen.told → stop k.settings k.budget.bytes k.budget.frames (captures_in k) ≡ stop_from k.settings (first_window (in_order (joined (rests k.settings 1 d ins shelves)))) d ins shelves left
-  pub whole : IsTrue k.seen.told → Wholes k.settings d k.journal k.outs []
+  pub touches : Touches (Written k.seen k.journal k.outs) (Touched k) k.seen walk.seen
+  pub faults : NoFaults k.seen walk.seen
+  pub slots : slots_of walk.ins ≡ slots_of k.ins
+  pub count : length walk.shelves ≡ length walk.ins
+  pub ready : AreReady k.settings 0 walk.ins walk.shelves walk.left
+  pub read : HaveRead k.settings 0 (captures_in k) (map (λ i. []) k.ins) walk.ins walk.shelves walk.seen
+  pub spent : Spends k.budget walk.left 0 (counts_of walk.shelves)
+  pub stops : IsTrue k.seen.told →
+      stop k.settings k.budget.bytes k.budget.frames (captures_in k) ≡ stop_after k.settings (first_window (in_order (joined (rests k.settings 1 walk.seen walk.ins walk.shelves)))) walk
+  pub whole : IsTrue k.seen.told → Wholes k.settings walk.seen k.journal k.outs []
 
 -- the run of a task ended with this fault
 abbrev pub Ended : Task → Seen → RunFault → Type 0
-Ended k d e = Runs k.settings k.budget k.ins k.seen d k.journal k.outs (Err e)
+Ended k d e = Runs k.settings (start_at k.seen k.ins k.budget) d (file_slots k.journal k.outs) (Err e)
 
 -- Nothing is still to be written, and the numbers are told; or some of it couldn't be.
 abbrev pub Finishes : ℕ → List ℕ → Pending → Done → Seen → Seen → Result Done RunFault → Type 0
@@ -166,23 +159,38 @@ IsUnwritten fault.Read = ⊥
 IsUnwritten fault.Write = Unit {0}
 IsUnwritten fault.Memory = Unit {0}
 
+-- where writing stands: the store, and what is still to be written
+pub record Paged : Type 0 where
+  pub seen : Seen
+  pub pages : Pending
+
+abbrev pub paged_at : Seen → Pending → Paged
+paged_at seen pages = record { seen = seen; pages = pages }
+
 -- Adding lines and what is sent, from what was still to be written to what is then: files that held these bytes but for that hold
 -- them with what is added, but for what is still to be written or wholly; or beginnings of it, written in order.
-pub record Publishes (journal : ℕ) (outs lines : List ℕ) (sents : List Sent) (p p' : Pending) (a b : Seen) (result : Result (Unit {0}) RunFault) : Type 0 where
-  pub touches : Touches (Written a journal outs) (Written a journal outs) a b
-  pub whole : IsTrue a.told → (w l l' : List ℕ) (v r r' : ℕ → List ℕ) → HoldBut p a journal outs w v l r → l' ≡ l ++ lines → ((q : ℕ) → q < length outs → r' q ≡ r q ++ records_to (q + 1) sents) → OnOk result (HoldBut p' b journal outs w v l' r' ⊎ HoldBut p' b journal outs l' r' l' r')
-  pub front : IsTrue a.told → (w l l' : List ℕ) (v r r' : ℕ → List ℕ) → HoldBut p a journal outs w v l r → l' ≡ l ++ lines → ((q : ℕ) → q < length outs → r' q ≡ r q ++ records_to (q + 1) sents) → HoldFronts b journal outs w v l' r'
-  pub cause : IsErrOf result fault.Write → (m : List ℕ) × Written a journal outs m × Rose (a.write_faults m) (b.write_faults m)
+pub record Publishes (files : FileSlots) (lines : List ℕ) (sents : List Sent) (old new : Paged) (result : Result (Unit {0}) RunFault) : Type 0 where
+  pub touches : Touches (Written old.seen files.journal files.outs) (Written old.seen files.journal files.outs) old.seen new.seen
+  pub whole : IsTrue old.seen.told →
+      (w l l' : List ℕ) (v r r' : ℕ → List ℕ) → HoldBut old.pages old.seen files.journal files.outs (file_bytes w v) (file_bytes l r) → l' ≡ l ++ lines
+      → ((q : ℕ) → q < length files.outs → r' q ≡ r q ++ records_to (q + 1) sents)
+      → OnOk result
+      (HoldBut new.pages new.seen files.journal files.outs (file_bytes w v) (file_bytes l' r')
+      ⊎ HoldBut new.pages new.seen files.journal files.outs (file_bytes l' r') (file_bytes l' r'))
+  pub front : IsTrue old.seen.told →
+      (w l l' : List ℕ) (v r r' : ℕ → List ℕ) → HoldBut old.pages old.seen files.journal files.outs (file_bytes w v) (file_bytes l r) → l' ≡ l ++ lines
+      → ((q : ℕ) → q < length files.outs → r' q ≡ r q ++ records_to (q + 1) sents) → HoldFronts new.seen files.journal files.outs (file_bytes w v) (file_bytes l' r')
+  pub cause : IsErrOf result fault.Write → (m : List ℕ) × Written old.seen files.journal files.outs m × Rose (old.seen.write_faults m) (new.seen.write_faults m)
   pub only : IfErr result IsUnwritten
-  pub reads : SameReadFaults a b
-  pub counts : ¬ IsErrOf result fault.Write → SameWriteFaults a b
+  pub reads : SameReadFaults old.seen new.seen
+  pub counts : ¬ IsErrOf result fault.Write → SameWriteFaults old.seen new.seen
 
 -- What stands once the next window was gathered from where a run had come.
-pub record Gathered (k : Task) (w first : ℕ) (F : Contents) (b : Seen) (ins' : List Input) (shelves' : List Shelf) (left' : Budget) (done : Done) (p : Pending) : Type 0 where
+pub record Gathered (k : Task) (w first : ℕ) (F : Contents) (new : Walk) (done : Done) (p : Pending) : Type 0 where
   pub seen : Seen
   pub ins : List Input
   pub shelves : List Shelf
   pub left : Budget
-  pub going : Going k w first F seen ins shelves left done p
+  pub going : Going k w first F (walk_at seen ins shelves left) done p
   pub next : IsNextWindow k.settings shelves (Some w)
-  pub gathers : Gathers k.settings first w seen b ins ins' shelves shelves' left left' (Ok tt)
+  pub gathers : Gathers k.settings first w (walk_at seen ins shelves left) new (Ok tt)

@@ -6,7 +6,7 @@ use Rattle.fab_policy.specs.Legal.{Legal, IsNextTick}
 use Rattle.fab_policy.specs.Standing.{Contents, Stands}
 use Rattle.fab_policy.specs.declared.event.Event.{Event}
 use Rattle.fab_policy.specs.declared.event.Event.TheVariants.{Tick, Frame}
-pub use Rattle.fab_shared.specs.Handled.{granted_by, first_of, firsts_of, HandledPort, HoldBatches, Handled}
+pub use Rattle.fab_shared.specs.Handled.{granted_by, firsts_of, HandledPort, HoldBatches, Handled}
 
 -- ---- ticks
 

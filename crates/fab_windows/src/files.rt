@@ -1,13 +1,14 @@
 //! The journal and the outputs, which grow by what the pages hold.
 ghost use Rattle.std.specs.Prelude.{◌≡◌, length, Ok, Err, OnOk, IfErr, MatchResult};
 ghost use Rattle.fab_base.specs.declared.values.Failed as of_files;
-ghost use Rattle.fab_pages.specs.Pages.{items_in};
-ghost use Rattle.fab_windows.specs.Files.{AreOutputs, AreFiles, PutsEach, Writes};
+ghost use Rattle.run_files.specs.Pages.{items_in};
+ghost use Rattle.fab_windows.specs.Files.{AreFiles, Writes};
 ghost use Rattle.fab_windows.specs.Pages.{FlushedFor, IsNothing, pending};
 
 use crate::RunFault;
 use crate::pages::Pages;
 use fab_base::{Depot, Failed, put_all};
+use run_files::put_each;
 
 /// Writes what the pages hold, and empties them. Its one fault is `Write`.
 pub(crate) fn flush<D: Depot>(
@@ -76,20 +77,4 @@ fn write_pages<D: Depot>(
         Ok(()) => Ok(()),
         Err(failed) => Err(failed),
     }
-}
-
-// Appends a piece to the file of each of these outputs, in their order.
-fn put_each<D: Depot>(depot: &mut D, slots: &[u32], pieces: &[Vec<u8>]) -> Result<(), Failed>
-    requires count { length slots.now ≡ length pieces.now }
-    requires outputs { AreOutputs (D.seen depot.old) slots.now }
-    ensures puts { PutsEach slots.now (items_in pieces.now) (D.seen depot.old) (D.seen depot.new)
-        result }
-{
-    for port in 0..slots.len() {
-        match put_all(depot, slots[port], &pieces[port]) {
-            Ok(()) => {}
-            Err(failed) => return Err(failed),
-        }
-    }
-    Ok(())
 }

@@ -7,10 +7,11 @@ mod pages;
 mod plan;
 mod run;
 mod steps;
-mod turn;
+mod window;
 
-pub use fab_gather::{CapWhy, Input, LimitKind, RunFault};
+pub use fab_gather::{CapWhy, Input, LimitKind};
 pub use run::run_windows;
+pub use run_files::RunFault;
 
 /// How many frames and entries a run made.
 #[derive(Clone, Copy, Debug, PartialEq, Eq)]

@@ -6,15 +6,17 @@ ghost use Rattle.fab_policy.specs.Growing.{clock_after, lines_from, records_to};
 ghost use Rattle.fab_policy.specs.Text.{head_line};
 ghost use Rattle.fab_policy.specs.Ranged.{IsRangedEvent};
 ghost use Rattle.fab_replies.specs.Message.{sent_of};
-ghost use Rattle.fab_pages.specs.Pages.{AreEarly, items_in, piece_at};
+ghost use Rattle.fab_pages.specs.Pages.{AreEarly};
+ghost use Rattle.run_files.specs.Pages.{items_in, piece_at};
 ghost use Rattle.fab_windows.specs.Pages as spec;
 ghost use Rattle.fab_windows.specs.Pages.{IsNothing, pending};
 
 use fab_base::{Moment, NoMemory};
 use fab_config::Config;
-use fab_pages::{clear_all, head_records, write_records_at_once};
+use fab_pages::write_records_at_once;
 use fab_policy::{Event, write_head_line, write_line};
 use forward_core::{Drained, EventList};
+use run_files::{clear_all, head_records};
 use std::alloc::Global;
 use std::thread::Threads;
 

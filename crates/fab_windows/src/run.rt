@@ -2,19 +2,20 @@
 ghost use Rattle.std.specs.Prelude.{◌≡◌, ◌+◌, ◌<◌, ◌≤◌, ◌^◌, length, [], IfOk, MatchResult};
 ghost use Rattle.fab_policy.specs.Outputs.{state_of};
 ghost use Rattle.fab_config.specs.Settings.{Settings};
-ghost use Rattle.fab_gather.specs.Ports.{TakesFrom};
-ghost use Rattle.fab_windows.specs.Files.{AreFiles};
+ghost use Rattle.fab_gather.specs.First.{start_at};
+ghost use Rattle.fab_gather.specs.Ports.{TakesFrom, walk_at};
+ghost use Rattle.fab_windows.specs.Files.{AreFiles, file_slots};
 ghost use Rattle.fab_windows.specs.Pages.{IsNothing, pending};
 ghost use Rattle.fab_windows.specs.Run.{AreGiven, Runs};
 ghost use Rattle.fab_windows.specs.Turns.{task_of, Begun, Ended, Finishes};
 
-use crate::Done;
 use crate::files::flush;
 use crate::laws::laws_of_runs;
 use crate::pages::Pages;
-use crate::turn::{Run, turn};
+use crate::window::{Run, run_window};
+use crate::{Done, RunFault};
 use fab_base::{Depot, Gate};
-use fab_gather::{Input, RunFault, first_looks, next_window};
+use fab_gather::{Input, first_looks, next_window};
 use forward_core::Fabric;
 use pcap_file::Budget;
 use std::alloc::Global;
@@ -43,8 +44,8 @@ pub fn run_windows<R: Threads + Wait + Sync, D: Depot, G: Gate + Sync>(
     requires count { fabric.count ≡ length ins.old }
     requires state { fabric.state ≡ state_of fabric.settings [] }
     requires nothing { (fabric.events ≡ []) × (fabric.outs ≡ []) }
-    ensures runs { Runs fabric.settings budget.old ins.old (D.seen depot.old) (D.seen depot.new)
-        journal outs.now result }
+    ensures runs { Runs fabric.settings (start_at (D.seen depot.old) ins.old budget.old)
+        (D.seen depot.new) (file_slots journal outs.now) result }
     ensures takes { TakesFrom ins.old ins.new budget.old budget.new }
 {
     let mut fabric = fabric;
@@ -53,7 +54,7 @@ pub fn run_windows<R: Threads + Wait + Sync, D: Depot, G: Gate + Sync>(
     let mut run = begin(alloc, depot, ins, budget, journal, outs)?;
     let first = next_window(fabric.config(), &run.shelves).unwrap_or(0);
     'windows: while let Some(window) = next_window(fabric.config(), &run.shelves) {
-        fabric = turn(
+        fabric = run_window(
             rt, alloc, depot, fabric, first, window, ins, &mut run, budget, journal, outs, gate,
         )?;
     }
@@ -85,12 +86,10 @@ fn begin<D: Depot>(
     requires ports { (1 ≤ length ins.old) × (length ins.old ≤ 64) }
     requires outputs { length outs.now ≡ length ins.old }
     requires given { AreGiven (D.seen depot.old) ins.old journal outs.now }
-    ensures begins { (c : Settings) → let k = task_of (record {
-      budget = budget.old;
-      ins = ins.old;
-      seen = D.seen depot.old;
-    }) c journal outs.now in MatchResult result
-        (λ r. Begun k (D.seen depot.new) ins.new r.shelves.items budget.new)
+    ensures begins { (c : Settings)
+        → let k = task_of (start_at (D.seen depot.old) ins.old budget.old) c journal outs.now in
+        MatchResult result
+        (λ r. Begun k (walk_at (D.seen depot.new) ins.new r.shelves.items budget.new))
         (λ e. Ended k (D.seen depot.new) e) }
     ensures pages { IfOk result (λ r. length r.pages.records.items ≡ length outs.now) }
     ensures nothing { IfOk result (λ r. IsNothing (pending r.pages)) }

@@ -1,8 +1,10 @@
 use Rattle.fab_config.specs.Settings.{Settings}
 use Rattle.fab_gather.proofs.FirstLemmas.{Seeing}
+use Rattle.fab_gather.specs.Ports.{walk_at}
+use Rattle.fab_gather.specs.First.{start_at}
 use Rattle.fab_gather.proofs.first.first_looks.Given as goal
 
 abbrev pub invariant-loop-port : goal.invariant-loop-port
 invariant-loop-port g l =
     let seen = g.D.Depot.seen in
-    (c : Settings) → Seeing c l.port (seen l.initial.depot) (seen l.depot) l.initial.ins l.ins l.shelves.items l.initial.budget l.budget
+    (c : Settings) → Seeing c l.port (start_at (seen l.initial.depot) l.initial.ins l.initial.budget) (walk_at (seen l.depot) l.ins l.shelves.items l.budget)

@@ -1,6 +1,6 @@
 use Rattle.std.proofs.Common.{◌≡◌, ◌+◌, ◌*◌, length}
 use Rattle.std.specs.Prelude.{option_to_list}
-use Rattle.fab_gather.specs.Port.{Taking}
+use Rattle.fab_gather.specs.Port.{Taking, port_walk_at}
 use Rattle.fab_gather.proofs.port.take_window.Given as goal
 
 abbrev pub invariant-records : goal.invariant-records
@@ -8,7 +8,7 @@ invariant-records g l =
     let seen = g.D.Depot.seen in
     record {
       slot : l.input.slot ≡ l.fn.input.slot;
-      taking : Taking l.config l.port l.window l.fn.input.slot (seen l.fn.depot) (seen l.depot) l.fn.input.reader l.input.reader l.fn.shelf l.shelf l.fn.budget l.budget;
+      taking : Taking l.config l.port l.window l.fn.input.slot (port_walk_at (seen l.fn.depot) l.fn.input.reader l.fn.shelf l.fn.budget) (port_walk_at (seen l.depot) l.input.reader l.shelf l.budget);
     }
 
 abbrev pub decreases-records : goal.decreases-records

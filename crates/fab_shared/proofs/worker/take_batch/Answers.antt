@@ -13,6 +13,6 @@ loop-place-preserved g c =
       p.0,
       p.1,
       p.2.0 ∙ i.2,
-      taken_next c.first_of-first.result (c.first_of-first.result + c.loop-place.place) c.loop-place.place c.args.port c.args.shelf.now.batch.items r c.hear.result.caught.now c.in_ok-verdict.verdict (own c.loop-place.pass)
+      taken_next c.first_index-first.result (c.first_index-first.result + c.loop-place.place) c.loop-place.place c.args.port c.args.shelf.now.batch.items r c.hear.result.caught.now c.in_ok-verdict.verdict (own c.loop-place.pass)
           (own c.submit.new.pass) (let t = c.loop-place-test.true in omega (arith, ap length items)) (c.record-item.is ∙ ap (λ l. get_or l c.loop-place.place r) items) refl c.hear.ensures.caught i.3 step.own_is,
     )

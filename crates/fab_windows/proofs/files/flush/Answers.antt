@@ -1,5 +1,5 @@
 use Rattle.std.proofs.Common.{subst, Ok, Err}
-use Rattle.fab_pages.specs.Pages.{items_in}
+use Rattle.run_files.specs.Pages.{items_in}
 use Rattle.fab_windows.specs.Files.{Writes}
 use Rattle.fab_windows.proofs.files.flush.Goals as goal
 

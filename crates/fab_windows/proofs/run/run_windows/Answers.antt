@@ -4,10 +4,13 @@ use Rattle.fab_gather.proofs.ClockLemmas.{nearer}
 use Rattle.fab_gather.proofs.LeavesLemmas.{takes_then}
 use Rattle.fab_windows.specs.Pages.{pending}
 use Rattle.fab_windows.specs.Run.{Runs}
-use Rattle.fab_windows.specs.Turns.{Start, task_of, Going, Ended}
+use Rattle.fab_windows.specs.Turns.{task_of, Going, Ended}
 use Rattle.fab_windows.proofs.BeginLemmas.{going_first, going_next, next_early, next_as, ended_by}
 use Rattle.fab_windows.proofs.TurnLemmas.{files_now}
 use Rattle.fab_windows.proofs.ResultLemmas.{err_is}
+use Rattle.fab_gather.specs.Ports.{walk_at}
+use Rattle.fab_gather.specs.First.{start_at, Start}
+use Rattle.fab_windows.specs.Files.{file_slots}
 use Rattle.fab_windows.proofs.run.run_windows.Goals as goal
 
 pub begin-requires-clause-ports : goal.begin-requires-clause-ports
@@ -23,7 +26,7 @@ pub returns-in_err-run : goal.returns-in_err-run
 returns-in_err-run g c =
     let seen = g.D.Depot.seen in
     record {
-      runs = subst (λ r. Runs c.args.fabric.settings c.args.budget.now c.args.ins.now (seen c.args.depot.now) (seen c.begin.new.depot) c.args.journal c.args.outs.now r)
+      runs = subst (λ r. Runs c.args.fabric.settings (start_at (seen c.args.depot.now) c.args.ins.now c.args.budget.now) (seen c.begin.new.depot) (file_slots c.args.journal c.args.outs.now) r)
           (err_is c.from_residual.result c.in_err-run.field-0.0 c.from_residual.ensures.1) (c.in_err-run.ensures.begins c.args.fabric.settings);
       takes = c.in_err-run.ensures.takes;
     }
@@ -34,13 +37,13 @@ same-fabric g c = refl
 pub windows-init : goal.windows-init
 windows-init g c =
     let seen = g.D.Depot.seen in
-    let s : Start = record { budget = c.args.budget.now; ins = c.args.ins.now; seen = seen c.args.depot.now } in
+    let s : Start = start_at (seen c.args.depot.now) c.args.ins.now c.args.budget.now in
     let k = task_of s c.args.fabric.settings c.args.journal c.args.outs.now in
     let shelves = c.in_ok-run.run'.shelves.items in
     let next = next_as c.config.result.now c.args.fabric.settings c.deref.result.now shelves c.next_window.result c.config.ensures c.deref.ensures.value c.next_window.ensures.least in
     record {
       v = 0;
-      going = subst (λ (f : ℕ). Going k 0 f c.args.fabric (seen c.begin.new.depot) c.begin.new.ins shelves c.begin.new.budget c.in_ok-run.run'.done (pending c.in_ok-run.run'.pages)) (sym c.unwrap_or-first.ensures)
+      going = subst (λ (f : ℕ). Going k 0 f c.args.fabric (walk_at (seen c.begin.new.depot) c.begin.new.ins shelves c.begin.new.budget) c.in_ok-run.run'.done (pending c.in_ok-run.run'.pages)) (sym c.unwrap_or-first.ensures)
           (going_first c.laws_of_runs.ensures k (seen c.begin.new.depot) c.begin.new.ins shelves c.begin.new.budget (c.in_ok-run.ensures.begins c.args.fabric.settings) c.args.fabric c.next_window.result c.in_ok-run.run'.done (pending c.in_ok-run.run'.pages) c.in_ok-run.ensures.nothing
           refl c.requires.count c.requires.state c.requires.nothing.0 c.requires.nothing.1 next c.in_ok-run.ensures.done.0 c.in_ok-run.ensures.done.1);
       settings = refl;
@@ -51,58 +54,58 @@ windows-init g c =
 pub same-fabric-in-Some : goal.same-fabric-in-Some
 same-fabric-in-Some g c = refl
 
-pub turn-requires-clause-going : goal.turn-requires-clause-going
-turn-requires-clause-going g c = λ κs within.
+pub run_window-requires-clause-going : goal.run_window-requires-clause-going
+run_window-requires-clause-going g c = λ κs within.
     let seen = g.D.Depot.seen in
-    let s : Start = record { budget = c.args.budget.now; ins = c.args.ins.now; seen = seen c.args.depot.now } in
+    let s : Start = start_at (seen c.args.depot.now) c.args.ins.now c.args.budget.now in
     let k = task_of s c.args.fabric.settings c.args.journal c.args.outs.now in
     let l = c.windows in
     let next = next_as c.config-in-windows.result.now c.args.fabric.settings c.deref-in-windows.result.now l.run.shelves.items (Some c.in-Some.window) (c.config-in-windows.ensures ∙ l.invariant.settings) c.deref-in-windows.ensures.value c.in-Some.ensures.least in (
       s,
-      subst (λ (x : Settings). Going (task_of s x c.args.journal c.args.outs.now) c.in-Some.window c.unwrap_or-first.result l.fabric (seen l.depot) l.ins l.run.shelves.items l.budget l.run.done (pending l.run.pages)) (sym l.invariant.settings)
+      subst (λ (x : Settings). Going (task_of s x c.args.journal c.args.outs.now) c.in-Some.window c.unwrap_or-first.result l.fabric (walk_at (seen l.depot) l.ins l.run.shelves.items l.budget) l.run.done (pending l.run.pages)) (sym l.invariant.settings)
           (going_next c.laws_of_runs.ensures k l.invariant.v c.in-Some.window c.unwrap_or-first.result l.fabric (seen l.depot) l.ins l.run.shelves.items l.budget l.run.done (pending l.run.pages) l.invariant.going next),
     )
 
-pub turn-requires-clause-next : goal.turn-requires-clause-next
-turn-requires-clause-next g c = λ κs within.
+pub run_window-requires-clause-next : goal.run_window-requires-clause-next
+run_window-requires-clause-next g c = λ κs within.
     next_as c.config-in-windows.result.now c.windows.fabric.settings c.deref-in-windows.result.now c.windows.run.shelves.items (Some c.in-Some.window) c.config-in-windows.ensures c.deref-in-windows.ensures.value c.in-Some.ensures.least
 
-pub turn-requires-clause-start : goal.turn-requires-clause-start
-turn-requires-clause-start g c = λ κs within. ap (λ (x : Settings). c.in-Some.window % x.window) (sym c.config-in-windows.ensures) ∙ c.in-Some.ensures.start
+pub run_window-requires-clause-start : goal.run_window-requires-clause-start
+run_window-requires-clause-start g c = λ κs within. ap (λ (x : Settings). c.in-Some.window % x.window) (sym c.config-in-windows.ensures) ∙ c.in-Some.ensures.start
 
-pub turn-requires-clause-range : goal.turn-requires-clause-range
-turn-requires-clause-range g c = λ κs within.
+pub run_window-requires-clause-range : goal.run_window-requires-clause-range
+run_window-requires-clause-range g c = λ κs within.
     let seen = g.D.Depot.seen in
-    let s : Start = record { budget = c.args.budget.now; ins = c.args.ins.now; seen = seen c.args.depot.now } in
+    let s : Start = start_at (seen c.args.depot.now) c.args.ins.now c.args.budget.now in
     let k = task_of s c.args.fabric.settings c.args.journal c.args.outs.now in
     let l = c.windows in
     let next = next_as c.config-in-windows.result.now c.args.fabric.settings c.deref-in-windows.result.now l.run.shelves.items (Some c.in-Some.window) (c.config-in-windows.ensures ∙ l.invariant.settings) c.deref-in-windows.ensures.value c.in-Some.ensures.least in
     next_early c.laws_of_runs.ensures k l.invariant.v c.in-Some.window c.unwrap_or-first.result l.fabric (seen l.depot) l.ins l.run.shelves.items l.budget l.run.done (pending l.run.pages) l.invariant.going next
 
-pub turn-requires-clause-pages : goal.turn-requires-clause-pages
-turn-requires-clause-pages g c = λ κs within. c.windows.invariant.pages
+pub run_window-requires-clause-pages : goal.run_window-requires-clause-pages
+run_window-requires-clause-pages g c = λ κs within. c.windows.invariant.pages
 
 pub returns-in_err-fabric : goal.returns-in_err-fabric
 returns-in_err-fabric g c =
     let seen = g.D.Depot.seen in
-    let s : Start = record { budget = c.args.budget.now; ins = c.args.ins.now; seen = seen c.args.depot.now } in
+    let s : Start = start_at (seen c.args.depot.now) c.args.ins.now c.args.budget.now in
     let k = task_of s c.args.fabric.settings c.args.journal c.args.outs.now in
     let l = c.windows in
     let e = c.in_err-fabric.field-0.0 in
     let next = next_as c.config-in-windows.result.now c.args.fabric.settings c.deref-in-windows.result.now l.run.shelves.items (Some c.in-Some.window) (c.config-in-windows.ensures ∙ l.invariant.settings) c.deref-in-windows.ensures.value c.in-Some.ensures.least in
-    let going = subst (λ (x : Settings). Going (task_of s x c.args.journal c.args.outs.now) c.in-Some.window c.unwrap_or-first.result l.fabric (seen l.depot) l.ins l.run.shelves.items l.budget l.run.done (pending l.run.pages)) (sym l.invariant.settings)
+    let going = subst (λ (x : Settings). Going (task_of s x c.args.journal c.args.outs.now) c.in-Some.window c.unwrap_or-first.result l.fabric (walk_at (seen l.depot) l.ins l.run.shelves.items l.budget) l.run.done (pending l.run.pages)) (sym l.invariant.settings)
     (going_next c.laws_of_runs.ensures k l.invariant.v c.in-Some.window c.unwrap_or-first.result l.fabric (seen l.depot) l.ins l.run.shelves.items l.budget l.run.done (pending l.run.pages) l.invariant.going next) in
     record {
-      runs = subst (λ r. Runs c.args.fabric.settings c.args.budget.now c.args.ins.now (seen c.args.depot.now) (seen c.turn.new.depot) c.args.journal c.args.outs.now r)
+      runs = subst (λ r. Runs c.args.fabric.settings (start_at (seen c.args.depot.now) c.args.ins.now c.args.budget.now) (seen c.run_window.new.depot) (file_slots c.args.journal c.args.outs.now) r)
           (err_is c.from_residual-in_err-fabric.result e c.from_residual-in_err-fabric.ensures.1)
-          (subst (λ (x : Settings). Ended (task_of s x c.args.journal c.args.outs.now) (seen c.turn.new.depot) e) l.invariant.settings (c.in_err-fabric.ensures.turns s going));
-      takes = takes_then c.args.ins.now l.ins c.turn.new.ins c.args.budget.now l.budget c.turn.new.budget l.invariant.takes c.in_err-fabric.ensures.takes;
+          (subst (λ (x : Settings). Ended (task_of s x c.args.journal c.args.outs.now) (seen c.run_window.new.depot) e) l.invariant.settings (c.in_err-fabric.ensures.runs s going));
+      takes = takes_then c.args.ins.now l.ins c.run_window.new.ins c.args.budget.now l.budget c.run_window.new.budget l.invariant.takes c.in_err-fabric.ensures.takes;
     }
 
 pub windows-smaller : goal.windows-smaller
 windows-smaller g c =
     let seen = g.D.Depot.seen in
-    let s : Start = record { budget = c.args.budget.now; ins = c.args.ins.now; seen = seen c.args.depot.now } in
+    let s : Start = start_at (seen c.args.depot.now) c.args.ins.now c.args.budget.now in
     let k = task_of s c.args.fabric.settings c.args.journal c.args.outs.now in
     let l = c.windows in
     let next = next_as c.config-in-windows.result.now c.args.fabric.settings c.deref-in-windows.result.now l.run.shelves.items (Some c.in-Some.window) (c.config-in-windows.ensures ∙ l.invariant.settings) c.deref-in-windows.ensures.value c.in-Some.ensures.least in
@@ -113,19 +116,19 @@ windows-smaller g c =
 pub windows-preserved : goal.windows-preserved
 windows-preserved g c =
     let seen = g.D.Depot.seen in
-    let s : Start = record { budget = c.args.budget.now; ins = c.args.ins.now; seen = seen c.args.depot.now } in
+    let s : Start = start_at (seen c.args.depot.now) c.args.ins.now c.args.budget.now in
     let k = task_of s c.args.fabric.settings c.args.journal c.args.outs.now in
     let l = c.windows in
     let next = next_as c.config-in-windows.result.now c.args.fabric.settings c.deref-in-windows.result.now l.run.shelves.items (Some c.in-Some.window) (c.config-in-windows.ensures ∙ l.invariant.settings) c.deref-in-windows.ensures.value c.in-Some.ensures.least in
-    let going = subst (λ (x : Settings). Going (task_of s x c.args.journal c.args.outs.now) c.in-Some.window c.unwrap_or-first.result l.fabric (seen l.depot) l.ins l.run.shelves.items l.budget l.run.done (pending l.run.pages)) (sym l.invariant.settings)
+    let going = subst (λ (x : Settings). Going (task_of s x c.args.journal c.args.outs.now) c.in-Some.window c.unwrap_or-first.result l.fabric (walk_at (seen l.depot) l.ins l.run.shelves.items l.budget) l.run.done (pending l.run.pages)) (sym l.invariant.settings)
     (going_next c.laws_of_runs.ensures k l.invariant.v c.in-Some.window c.unwrap_or-first.result l.fabric (seen l.depot) l.ins l.run.shelves.items l.budget l.run.done (pending l.run.pages) l.invariant.going next) in
     record {
       v = c.in-Some.window + 1;
-      going = subst (λ (x : Settings). Going (task_of s x c.args.journal c.args.outs.now) (c.in-Some.window + 1) c.unwrap_or-first.result c.in_ok-fabric.fabric (seen c.turn.new.depot) c.turn.new.ins c.turn.new.run.shelves.items c.turn.new.budget c.turn.new.run.done (pending c.turn.new.run.pages)) l.invariant.settings
-          (c.in_ok-fabric.ensures.turns s going);
+      going = subst (λ (x : Settings). Going (task_of s x c.args.journal c.args.outs.now) (c.in-Some.window + 1) c.unwrap_or-first.result c.in_ok-fabric.fabric (walk_at (seen c.run_window.new.depot) c.run_window.new.ins c.run_window.new.run.shelves.items c.run_window.new.budget) c.run_window.new.run.done (pending c.run_window.new.run.pages)) l.invariant.settings
+          (c.in_ok-fabric.ensures.runs s going);
       settings = c.in_ok-fabric.ensures.settings ∙ l.invariant.settings;
       pages = c.in_ok-fabric.ensures.pages;
-      takes = takes_then c.args.ins.now l.ins c.turn.new.ins c.args.budget.now l.budget c.turn.new.budget l.invariant.takes c.in_ok-fabric.ensures.takes;
+      takes = takes_then c.args.ins.now l.ins c.run_window.new.ins c.args.budget.now l.budget c.run_window.new.budget l.invariant.takes c.in_ok-fabric.ensures.takes;
     }
 
 pub finish-requires-clause-count : goal.finish-requires-clause-count
@@ -134,7 +137,7 @@ finish-requires-clause-count g c = sym c.windows.invariant.pages
 pub finish-requires-clause-files : goal.finish-requires-clause-files
 finish-requires-clause-files g c =
     let seen = g.D.Depot.seen in
-    let s : Start = record { budget = c.args.budget.now; ins = c.args.ins.now; seen = seen c.args.depot.now } in
+    let s : Start = start_at (seen c.args.depot.now) c.args.ins.now c.args.budget.now in
     let k = task_of s c.args.fabric.settings c.args.journal c.args.outs.now in
     let l = c.windows in
     files_now c.laws_of_runs.ensures k l.invariant.v c.unwrap_or-first.result l.fabric (seen l.depot) l.ins l.run.shelves.items l.budget l.invariant.going.reached
@@ -142,7 +145,7 @@ finish-requires-clause-files g c =
 pub returns : goal.returns
 returns g c =
     let seen = g.D.Depot.seen in
-    let s : Start = record { budget = c.args.budget.now; ins = c.args.ins.now; seen = seen c.args.depot.now } in
+    let s : Start = start_at (seen c.args.depot.now) c.args.ins.now c.args.budget.now in
     let k = task_of s c.args.fabric.settings c.args.journal c.args.outs.now in
     let l = c.windows in
     let next = next_as c.config-in-windows.result.now c.args.fabric.settings c.deref-in-windows.result.now l.run.shelves.items None (c.config-in-windows.ensures ∙ l.invariant.settings) c.deref-in-windows.ensures.value c.in_default.ensures.least in

@@ -1,17 +1,18 @@
 use Rattle.std.proofs.Common.{ℕ, ◌≡◌, ◌^◌, length}
-use Rattle.fab_gather.specs.Ports.{TakesFrom}
+use Rattle.fab_gather.specs.Ports.{TakesFrom, walk_at}
 use Rattle.fab_windows.specs.Pages.{pending}
-use Rattle.fab_windows.specs.Turns.{Start, task_of, Going}
+use Rattle.fab_windows.specs.Turns.{task_of, Going}
 use Rattle.fab_gather.proofs.ClockLemmas.{distance}
+use Rattle.fab_gather.specs.First.{start_at, Start}
 use Rattle.fab_windows.proofs.run.run_windows.Given as goal
 
 abbrev pub invariant-windows : goal.invariant-windows
 invariant-windows g l =
     let seen = g.D.Depot.seen in
-    let s : Start = record { budget = l.fn.budget; ins = l.fn.ins; seen = seen l.fn.depot } in
+    let s : Start = start_at (seen l.fn.depot) l.fn.ins l.fn.budget in
     record {
       v : ℕ;
-      going : Going (task_of s l.fn.fabric.settings l.journal l.outs) v l.first l.fabric (seen l.depot) l.ins l.run.shelves.items l.budget l.run.done (pending l.run.pages);
+      going : Going (task_of s l.fn.fabric.settings l.journal l.outs) v l.first l.fabric (walk_at (seen l.depot) l.ins l.run.shelves.items l.budget) l.run.done (pending l.run.pages);
       settings : l.fabric.settings ≡ l.fn.fabric.settings;
       pages : length l.run.pages.records.items ≡ length l.outs;
       takes : TakesFrom l.fn.ins l.ins l.fn.budget l.budget;

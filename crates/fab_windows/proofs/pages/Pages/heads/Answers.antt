@@ -1,7 +1,7 @@
 use Rattle.std.proofs.Common.{◌∙◌, ap}
 use Rattle.pcap_file.specs.Capture.{head_bytes}
-use Rattle.fab_pages.specs.Pages.{piece_at}
-use Rattle.fab_pages.proofs.PageLemmas.{page_of}
+use Rattle.run_files.specs.Pages.{piece_at}
+use Rattle.run_files.proofs.PageLemmas.{page_of}
 use Rattle.fab_windows.proofs.pages.Pages.heads.Goals as goal
 
 pub returns-clause-records : goal.returns-clause-records

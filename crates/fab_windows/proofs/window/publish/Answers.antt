@@ -1,12 +1,13 @@
 use Rattle.std.proofs.Common.{◌∙◌, ap, sym, subst, map, Err, arith}
 use Rattle.fab_replies.specs.Message.{sent_of}
 use Rattle.fab_policy.specs.Growing.{lines_from}
-use Rattle.fab_gather.specs.declared.fault.RunFault.TheVariants as fault
+use Rattle.run_files.specs.declared.fault.RunFault.TheVariants as fault
 use Rattle.fab_windows.specs.Pages.{pending}
-use Rattle.fab_windows.specs.Turns.{Publishes}
+use Rattle.fab_windows.specs.Turns.{Publishes, paged_at}
 use Rattle.fab_windows.proofs.PublishLemmas.{publishes_nothing, publishes_later, publishes_all, publishes_front, short_not_full, short_nothing}
 use Rattle.fab_windows.proofs.ResultLemmas.{err_is}
-use Rattle.fab_windows.proofs.turn.publish.Goals as goal
+use Rattle.fab_windows.specs.Files.{file_slots}
+use Rattle.fab_windows.proofs.window.publish.Goals as goal
 
 pub returns-in_err-add-clause-publishes : goal.returns-in_err-add-clause-publishes
 returns-in_err-add-clause-publishes g c =
@@ -14,7 +15,7 @@ returns-in_err-add-clause-publishes g c =
     let lines = lines_from c.args.clock c.args.drained.now.events in
     let sents = map (sent_of c.args.config.now c.args.drained.now.events) c.args.drained.now.outs in
     let p = pending c.args.pages.now in
-    subst (Publishes c.args.journal c.args.outs.now lines sents p (pending c.add.new.self) d d) (err_is c.from_residual.result fault.Memory c.from_residual.ensures.1)
+    subst (Publishes (file_slots c.args.journal c.args.outs.now) lines sents (paged_at d p) (paged_at d (pending c.add.new.self))) (err_is c.from_residual.result fault.Memory c.from_residual.ensures.1)
     (publishes_nothing c.args.journal c.args.outs.now lines sents p d (pending c.add.new.self))
 
 pub returns-then-not-are_full-clause-publishes : goal.returns-then-not-are_full-clause-publishes
@@ -33,7 +34,7 @@ returns-in_err-flush-clause-publishes g c =
     let w = c.in_err-flush.ensures in
     let p = pending c.args.pages.now in
     let p' = pending c.flush.new.pages in
-    subst (Publishes c.args.journal c.args.outs.now lines sents p p' a b)
+    subst (Publishes (file_slots c.args.journal c.args.outs.now) lines sents (paged_at a p) (paged_at b p'))
     (ap (λ e. Err e) (sym w.fault) ∙ err_is c.from_residual-in_err-flush.result c.in_err-flush.field-0.0 c.from_residual-in_err-flush.ensures.1)
     (publishes_front c.args.journal c.args.outs.now lines sents p a (pending c.add.new.self) f.lines (λ q lt. f.records q (omega (arith, lt, c.requires.count))) b p' w.writes.0 w.writes.1)
 

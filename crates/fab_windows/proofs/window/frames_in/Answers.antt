@@ -2,7 +2,7 @@ use Rattle.std.proofs.Common.{◌≡◌, ◌+◌, ap, sym, ◌∙◌, drop, arit
 use Rattle.std.specs.Option.{option_copied}
 use Rattle.fab_policy.specs.Journal.{frame_count}
 use Rattle.fab_windows.proofs.CountLemmas.{frames_first, frames_within, drop_next}
-use Rattle.fab_windows.proofs.turn.frames_in.Goals as goal
+use Rattle.fab_windows.proofs.window.frames_in.Goals as goal
 
 pub loop-index-preserved : goal.loop-index-preserved
 loop-index-preserved c =

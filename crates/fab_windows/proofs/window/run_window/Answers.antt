@@ -1,12 +1,12 @@
 use Rattle.std.proofs.Common.{◌≡◌, ◌∙◌, ap, sym, subst, length, Some, Err, arith}
 use Rattle.fab_gather.specs.First.{IsNextWindow}
 use Rattle.fab_gather.specs.Ports.{AreReady}
-use Rattle.fab_windows.specs.Pages.{pending}
+use Rattle.fab_windows.specs.Pages.{FlushedFor, pending}
 use Rattle.fab_windows.specs.Turns.{task_of}
-use Rattle.fab_windows.proofs.GoLemmas.{gathers_as, gathered_by, turn_ends, files_then}
+use Rattle.fab_windows.proofs.GoLemmas.{gathers_as, gathered_by, window_ends, files_then}
 use Rattle.fab_windows.proofs.StayLemmas.{same_ports}
 use Rattle.fab_windows.proofs.TurnLemmas.{inputs_now}
-use Rattle.fab_windows.proofs.turn.turn.Goals as goal
+use Rattle.fab_windows.proofs.window.run_window.Goals as goal
 
 pub gather-requires-clause-count : goal.gather-requires-clause-count
 gather-requires-clause-count g c = ap length c.deref_mut.ensures.value ∙ c.requires.going.1.reached.count
@@ -33,8 +33,8 @@ gather-requires-clause-next g c =
     subst (λ l. IsNextWindow c.config.result.now l (Some c.args.window)) (sym c.deref_mut.ensures.value)
     (subst (λ s. IsNextWindow s c.args.run.now.shelves.items (Some c.args.window)) (sym c.config.ensures) c.requires.next)
 
-pub answer-requires-clause-gathered : goal.answer-requires-clause-gathered
-answer-requires-clause-gathered g c = λ κs within.
+pub run_gathered-requires-clause-gathered : goal.run_gathered-requires-clause-gathered
+run_gathered-requires-clause-gathered g c = λ κs within.
     let k = task_of c.requires.going.0 c.args.fabric.settings c.args.journal c.args.outs.now in
     let seen = g.D.Depot.seen in (
       c.requires.going.0,
@@ -45,14 +45,14 @@ answer-requires-clause-gathered g c = λ κs within.
           c.config.result.now c.config.ensures c.deref_mut.result.now c.deref_mut.ensures.value c.args.run.now.done (pending c.args.run.now.pages) c.requires.going.1 c.requires.next c.args.run.now.shelves.len c.args.run.now.shelves.ok.0 c.in-Ok.ensures.gathers,
     )
 
-pub answer-requires-clause-start : goal.answer-requires-clause-start
-answer-requires-clause-start g c = λ κs within. c.requires.start
+pub run_gathered-requires-clause-start : goal.run_gathered-requires-clause-start
+run_gathered-requires-clause-start g c = λ κs within. c.requires.start
 
-pub answer-requires-clause-range : goal.answer-requires-clause-range
-answer-requires-clause-range g c = λ κs within. c.requires.range
+pub run_gathered-requires-clause-range : goal.run_gathered-requires-clause-range
+run_gathered-requires-clause-range g c = λ κs within. c.requires.range
 
-pub answer-requires-clause-pages : goal.answer-requires-clause-pages
-answer-requires-clause-pages g c = λ κs within. c.requires.pages
+pub run_gathered-requires-clause-pages : goal.run_gathered-requires-clause-pages
+run_gathered-requires-clause-pages g c = λ κs within. c.requires.pages
 
 pub flush_for-requires-clause-count : goal.flush_for-requires-clause-count
 flush_for-requires-clause-count g c = sym c.requires.pages
@@ -65,22 +65,23 @@ flush_for-requires-clause-files g c =
     c.config.result.now c.config.ensures c.deref_mut.result.now c.deref_mut.ensures.value (Err c.in-Err.fault) c.in-Err.ensures.gathers in
     files_then c.laws_of_runs.ensures k c.args.window c.args.first c.args.fabric (seen c.args.depot.now) c.args.ins.now c.args.run.now.shelves.items c.args.budget.now c.args.run.now.done (pending c.args.run.now.pages) c.requires.going.1 (seen c.gather.new.depot) t.touches
 
-pub returns-in-Err-clause-turns : goal.returns-in-Err-clause-turns
-returns-in-Err-clause-turns g c = λ s going.
+pub returns-in-Err-clause-runs : goal.returns-in-Err-clause-runs
+returns-in-Err-clause-runs g c = λ s going.
     let k = task_of s c.args.fabric.settings c.args.journal c.args.outs.now in
     let seen = g.D.Depot.seen in
     let shelves = c.args.run.now.shelves.items in
     let e = c.in-Err.fault in
-    turn_ends c.laws_of_runs.ensures k c.args.window c.args.first c.args.fabric (seen c.args.depot.now) c.args.ins.now shelves c.args.budget.now c.args.run.now.done (pending c.args.run.now.pages) going (seen c.gather.new.depot) c.gather.new.ins c.gather.new.shelves c.gather.new.budget e
+    window_ends c.laws_of_runs.ensures k c.args.window c.args.first c.args.fabric (seen c.args.depot.now) c.args.ins.now shelves c.args.budget.now c.args.run.now.done (pending c.args.run.now.pages) going (seen c.gather.new.depot) c.gather.new.ins c.gather.new.shelves c.gather.new.budget e
     (gathers_as k c.args.window c.args.first c.args.fabric (seen c.args.depot.now) c.args.ins.now shelves c.args.budget.now (seen c.gather.new.depot) c.gather.new.ins c.gather.new.shelves c.gather.new.budget
-    c.config.result.now c.config.ensures c.deref_mut.result.now c.deref_mut.ensures.value (Err e) c.in-Err.ensures.gathers) (seen c.flush_for.new.depot) c.flush_for.result c.flush_for.ensures
+    c.config.result.now c.config.ensures c.deref_mut.result.now c.deref_mut.ensures.value (Err e) c.in-Err.ensures.gathers) (seen c.flush_for.new.depot) c.flush_for.result
+    (subst (λ x. FlushedFor c.args.journal c.args.outs.now (pending c.args.run.now.pages) (seen c.gather.new.depot) (seen c.flush_for.new.depot) x c.flush_for.result) c.from-ending.ensures c.flush_for.ensures)
 
-pub returns-in-Ok-clause-turns : goal.returns-in-Ok-clause-turns
-returns-in-Ok-clause-turns g c = λ s going.
+pub returns-in-Ok-clause-runs : goal.returns-in-Ok-clause-runs
+returns-in-Ok-clause-runs g c = λ s going.
     let k = task_of s c.args.fabric.settings c.args.journal c.args.outs.now in
     let seen = g.D.Depot.seen in
     let shelves = c.args.run.now.shelves.items in
-    c.answer.ensures.turns s c.args.first c.gather.new.ins c.gather.new.budget
+    c.run_gathered.ensures.runs s c.args.first c.gather.new.ins c.gather.new.budget
     (gathered_by k c.args.window c.args.first c.args.fabric (seen c.args.depot.now) c.args.ins.now shelves c.args.budget.now (seen c.gather.new.depot) c.gather.new.ins c.gather.new.shelves c.gather.new.budget
     c.config.result.now c.config.ensures c.deref_mut.result.now c.deref_mut.ensures.value c.args.run.now.done (pending c.args.run.now.pages) going c.requires.next c.args.run.now.shelves.len c.args.run.now.shelves.ok.0 c.in-Ok.ensures.gathers)
 

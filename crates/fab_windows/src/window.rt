@@ -5,12 +5,12 @@ ghost use Rattle.fab_policy.specs.Growing.{lines_from};
 ghost use Rattle.fab_policy.specs.Journal.{frame_count};
 ghost use Rattle.fab_policy.specs.Ranged.{IsRangedEvent};
 ghost use Rattle.fab_replies.specs.Message.{sent_of};
-ghost use Rattle.fab_gather.specs.First.{IsNextWindow};
-ghost use Rattle.fab_gather.specs.Ports.{TakesFrom};
+ghost use Rattle.fab_gather.specs.First.{IsNextWindow, Start};
+ghost use Rattle.fab_gather.specs.Ports.{TakesFrom, walk_at};
 ghost use Rattle.fab_pages.specs.Pages.{AreEarly};
-ghost use Rattle.fab_windows.specs.Files.{AreFiles};
+ghost use Rattle.fab_windows.specs.Files.{AreFiles, file_slots};
 ghost use Rattle.fab_windows.specs.Pages.{AreShort, pending};
-ghost use Rattle.fab_windows.specs.Turns.{Start, task_of, Going, Gathered, Ended, Handles, Publishes};
+ghost use Rattle.fab_windows.specs.Turns.{task_of, Going, Gathered, Ended, Handles, Publishes, paged_at};
 ghost use Rattle.std.specs.Prelude.{ℕ, List};
 ghost use Rattle.fab_gather.specs.declared.shelf.Input as of_gather;
 ghost use Rattle.pcap_file.specs.declared.Budget as of_captures;
@@ -41,7 +41,7 @@ pub(crate) struct Run {
 
 /// Takes the next window of all ports, handles its frames and adds what they made to the pages.
 /// Where the window can't be taken, the pages are written before the run ends.
-pub(crate) fn turn<R: Threads + Wait + Sync, D: Depot, G: Gate + Sync>(
+pub(crate) fn run_window<R: Threads + Wait + Sync, D: Depot, G: Gate + Sync>(
     rt: &R,
     alloc: Global,
     depot: &mut D,
@@ -56,17 +56,19 @@ pub(crate) fn turn<R: Threads + Wait + Sync, D: Depot, G: Gate + Sync>(
     gate: &G,
 ) -> Result<Fabric, RunFault>
     requires going { (s : Start) × Going (task_of s fabric.settings journal outs.now) window first
-        fabric (D.seen depot.old) ins.old run.old.shelves.items budget.old run.old.done
+        fabric (walk_at (D.seen depot.old) ins.old run.old.shelves.items budget.old) run.old.done
         (pending run.old.pages) }
     requires next { IsNextWindow fabric.settings run.old.shelves.items (Some window) }
     requires start { window % fabric.settings.window ≡ 0 }
     requires range { window < 2 ^ 43 }
     requires pages { length run.old.pages.records.items ≡ length outs.now }
-    ensures turns { (s : Start) → let k = task_of s fabric.settings journal outs.now in
-        Going k window first fabric (D.seen depot.old) ins.old run.old.shelves.items budget.old
-        run.old.done (pending run.old.pages) → MatchResult result
-        (λ f. Going k (window + 1) first f (D.seen depot.new) ins.new run.new.shelves.items
-        budget.new run.new.done (pending run.new.pages)) (λ e. Ended k (D.seen depot.new) e) }
+    ensures runs { (s : Start) → let k = task_of s fabric.settings journal outs.now in
+        Going k window first fabric
+        (walk_at (D.seen depot.old) ins.old run.old.shelves.items budget.old) run.old.done
+        (pending run.old.pages) → MatchResult result
+        (λ f. Going k (window + 1) first f
+        (walk_at (D.seen depot.new) ins.new run.new.shelves.items budget.new) run.new.done
+        (pending run.new.pages)) (λ e. Ended k (D.seen depot.new) e) }
     ensures pages { OnOk result (length run.new.pages.records.items ≡ length outs.now) }
     ensures short { OnOk result (AreShort (pending run.new.pages)) }
     ensures settings { IfOk result (λ f. f.settings ≡ fabric.settings) }
@@ -85,13 +87,16 @@ pub(crate) fn turn<R: Threads + Wait + Sync, D: Depot, G: Gate + Sync>(
         &mut run.shelves,
         budget,
     ) {
-        Ok(()) => answer(rt, alloc, depot, fabric, window, run, journal, outs, gate),
-        Err(fault) => Err(flush_for(depot, journal, outs, &mut run.pages, fault)),
+        Ok(()) => run_gathered(rt, alloc, depot, fabric, window, run, journal, outs, gate),
+        Err(fault) => {
+            let ending = RunFault::from(fault);
+            Err(flush_for(depot, journal, outs, &mut run.pages, ending))
+        }
     }
 }
 
 // Handles the frames on the shelves, adds what they made to the pages and counts it.
-fn answer<R: Threads + Wait + Sync, D: Depot, G: Gate + Sync>(
+fn run_gathered<R: Threads + Wait + Sync, D: Depot, G: Gate + Sync>(
     rt: &R,
     alloc: Global,
     depot: &mut D,
@@ -105,17 +110,19 @@ fn answer<R: Threads + Wait + Sync, D: Depot, G: Gate + Sync>(
     requires gathered { (s : Start) × (first : ℕ) × (ins : List of_gather.Input)
         × (left : of_captures.Budget)
         × Gathered (task_of s fabric.settings journal outs.now) window first fabric
-        (D.seen depot.old) ins run.old.shelves.items left run.old.done
+        (walk_at (D.seen depot.old) ins run.old.shelves.items left) run.old.done
         (pending run.old.pages) }
     requires start { window % fabric.settings.window ≡ 0 }
     requires range { window < 2 ^ 43 }
     requires pages { length run.old.pages.records.items ≡ length outs.now }
-    ensures turns { (s : Start) (first : ℕ) (ins : List of_gather.Input) (left : of_captures.Budget)
+    ensures runs { (s : Start) (first : ℕ) (ins : List of_gather.Input) (left : of_captures.Budget)
         → let k = task_of s fabric.settings journal outs.now in
-        Gathered k window first fabric (D.seen depot.old) ins run.old.shelves.items left
-        run.old.done (pending run.old.pages) → MatchResult result
-        (λ f. Going k (window + 1) first f (D.seen depot.new) ins run.new.shelves.items left
-        run.new.done (pending run.new.pages)) (λ e. Ended k (D.seen depot.new) e) }
+        Gathered k window first fabric
+        (walk_at (D.seen depot.old) ins run.old.shelves.items left) run.old.done
+        (pending run.old.pages) → MatchResult result
+        (λ f. Going k (window + 1) first f
+        (walk_at (D.seen depot.new) ins run.new.shelves.items left) run.new.done
+        (pending run.new.pages)) (λ e. Ended k (D.seen depot.new) e) }
     ensures pages { OnOk result (length run.new.pages.records.items ≡ length outs.now) }
     ensures short { OnOk result (AreShort (pending run.new.pages)) }
     ensures settings { IfOk result (λ f. f.settings ≡ fabric.settings) }
@@ -124,7 +131,7 @@ fn answer<R: Threads + Wait + Sync, D: Depot, G: Gate + Sync>(
     // Law: what further entries and records change, and where reading stops; Going goes on by them.
     laws_of_runs();
     let clock = fabric.clock().unwrap_or(Moment(0));
-    let (fabric, drained) = handle(rt, alloc, fabric, window, &run.shelves, gate)?;
+    let (fabric, drained) = drain_window(rt, alloc, fabric, window, &run.shelves, gate)?;
     publish(
         rt,
         alloc,
@@ -136,12 +143,12 @@ fn answer<R: Threads + Wait + Sync, D: Depot, G: Gate + Sync>(
         journal,
         outs,
     )?;
-    run.done = counted(run.done, &drained.events);
+    run.done = done_after(run.done, &drained.events);
     Ok(fabric)
 }
 
 // Makes the ticks up to a window and handles its frames.
-fn handle<R: Threads + Wait + Sync, G: Gate + Sync>(
+fn drain_window<R: Threads + Wait + Sync, G: Gate + Sync>(
     rt: &R,
     alloc: Global,
     fabric: Fabric,
@@ -181,9 +188,11 @@ fn publish<R: Threads + Sync, D: Depot>(
     requires count { length pages.old.records.items ≡ length outs.now }
     requires ranged { All IsRangedEvent drained.now.events }
     requires early { AreEarly drained.now.outs }
-    ensures publishes { Publishes journal outs.now (lines_from clock drained.now.events)
-        (map (sent_of config.now drained.now.events) drained.now.outs) (pending pages.old)
-        (pending pages.new) (D.seen depot.old) (D.seen depot.new) result }
+    ensures publishes { Publishes (file_slots journal outs.now)
+        (lines_from clock drained.now.events)
+        (map (sent_of config.now drained.now.events) drained.now.outs)
+        (paged_at (D.seen depot.old) (pending pages.old))
+        (paged_at (D.seen depot.new) (pending pages.new)) result }
     ensures count { OnOk result (length pages.new.records.items ≡ length outs.now) }
     ensures short { OnOk result (AreShort (pending pages.new)) }
 {
@@ -196,7 +205,7 @@ fn publish<R: Threads + Sync, D: Depot>(
 }
 
 // The numbers of frames and entries with these entries.
-fn counted(done: Done, events: &EventList) -> Done
+fn done_after(done: Done, events: &EventList) -> Done
     requires room { (done.frames + frame_count events.now < 2 ^ 64)
         × (done.entries + length events.now < 2 ^ 64) }
     ensures frames { result.frames ≡ done.frames + frame_count events.now }

@@ -1,5 +1,5 @@
 use Rattle.fab_windows.proofs.GoLemmas.{handles_by}
-use Rattle.fab_windows.proofs.turn.handle.Goals as goal
+use Rattle.fab_windows.proofs.window.drain_window.Goals as goal
 
 pub returns : goal.returns
 returns g c =
