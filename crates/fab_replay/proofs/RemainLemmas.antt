@@ -21,7 +21,8 @@ use Rattle.pcap_file.specs.declared.Record.{Record}
 use Rattle.fab_replay.specs.Front.{expects_tick}
 use Rattle.fab_replay.specs.Lines.{IsLineAt, IsUnread, first_line, format_of, number_behind, text_in}
 use Rattle.fab_replay.specs.Remains.{HasTick, IsBegun, IsTaken, IsTickIf, Remains}
-use Rattle.fab_replay.specs.Steps.{HasTurned, HoldSame, IsAlong, IsOnShelf, IsRefused, IsTickNow, IsTickOf, IsWindow, Left, Scene, refusal}
+use Rattle.forward_core.specs.Fabric.{IsTickOf}
+use Rattle.fab_replay.specs.Steps.{HasTurned, HoldSame, IsAlong, IsOnShelf, IsRefused, IsTickNow, IsWindow, Left, Scene, refusal}
 use Rattle.fab_replay.specs.Verdicts.{IsLeft, IsMisjudged}
 use Rattle.fab_replay.specs.declared.fault.CheckFault.{CheckFault}
 use Rattle.fab_replay.specs.declared.fault.CheckFault.TheVariants as fault

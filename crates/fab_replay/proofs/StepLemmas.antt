@@ -23,7 +23,8 @@ use Rattle.fab_gather.specs.declared.shelf.Shelf.{Shelf}
 use Rattle.pcap_file.specs.declared.Record.{Record}
 use Rattle.fab_replay.specs.Front.{IsFirstWrong, IsGatheredTo, IsNextFrame, IsWrong, expects_tick, has_left, is_at}
 use Rattle.fab_replay.specs.Lines.{IsLineAt, IsUnread, first_line, number_behind, text_in}
-use Rattle.fab_replay.specs.Steps.{HasLeft, HoldSame, IsFound, IsOnShelf, IsReached, IsRefused, IsTickOf, IsWindow, Scene, refusal}
+use Rattle.forward_core.specs.Fabric.{IsTickOf}
+use Rattle.fab_replay.specs.Steps.{HasLeft, HoldSame, IsFound, IsOnShelf, IsReached, IsRefused, IsWindow, Scene, refusal}
 use Rattle.fab_replay.specs.declared.fault.CheckFault.{CheckFault}
 use Rattle.fab_replay.specs.declared.fault.CheckFault.TheVariants as fault
 use Rattle.fab_replay.specs.declared.fault.LineWhy.{LineWhy}

@@ -73,12 +73,6 @@ HoldSame J K = (port : ℕ) → of_port port K ≡ of_port port J
 
 -- ---- ticks
 
--- A moment is the next tick of a fabric on the way to a window.
-pub record IsTickOf (w : ℕ) (F : Contents) (m : ℕ) : Type 0 where
-  pub above : IfSome F.state.tables.clock (λ t. t < m)
-  pub within : m ≤ w
-  pub next : (J : Journal) → Stands F J → IsNextTick F.settings J w m
-
 -- a moment is the next tick, and one is expected
 pub record IsTickNow (x : Scene) (J : Journal) (m : ℕ) : Type 0 where
   pub window : ℕ

@@ -1,5 +1,5 @@
 //! The lines of ticks.
-ghost use Rattle.std.specs.Prelude.{IfErr, Bool, IsTrue, ◌≡◌, ◌+◌, ◌<◌, ◌≤◌, ◌%◌, ◌^◌, ◌∷◌, [], ℕ, List, IfSome, MatchOption, MatchResult, MatchBool, OnOk, Some, length, true};
+ghost use Rattle.std.specs.Prelude.{IfErr, Bool, IsTrue, ◌≡◌, ◌+◌, ◌<◌, ◌≤◌, ◌%◌, ◌^◌, ◌∷◌, [], ℕ, List, IfSome, MatchResult, MatchBool, OnOk, Some, length, true};
 ghost use Rattle.fab_policy.specs.Journal.{Journal};
 ghost use Rattle.fab_policy.specs.Keeping.{IsAhead};
 ghost use Rattle.fab_policy.specs.Legal.{IsLeastOf, IsNextTick, windows_left};
@@ -9,13 +9,13 @@ ghost use Rattle.fab_pages.specs.Pages.{items_in};
 ghost use Rattle.fab_replay.specs.Front.{expects_tick};
 ghost use Rattle.fab_replay.specs.Lines.{IsInside, IsOfLine};
 ghost use Rattle.fab_replay.specs.Owed.{PagesGrow};
-ghost use Rattle.fab_replay.specs.Steps.{HoldSame, IsAlong, IsFound, IsIdle, IsReached, IsTickNow, IsTickOf, Left, Scene};
+ghost use Rattle.fab_replay.specs.Steps.{HoldSame, IsAlong, IsFound, IsIdle, IsReached, IsTickNow, Left, Scene};
 
 use crate::lines::{fault_at, next_line};
 use crate::sent::take_sent;
 use crate::{CheckFault, LineWhy, Place};
 use fab_base::{IdList, Moment};
-use fab_policy::{Event, Line, Verdict, ticks_are_due};
+use fab_policy::{Event, Line, Verdict};
 use forward_core::{EventList, Fabric};
 use std::alloc::Global;
 
@@ -57,7 +57,7 @@ pub(crate) fn check_ticks(
     // For the checker: a fault that is handed on by `?` holds these enums.
     let _verdicts: &[Verdict] = &[];
     let _whys: &[LineWhy] = &[];
-    'ticks: while let Some(moment) = next_tick(fabric, window) {
+    'ticks: while let Some(moment) = fabric.next_tick(window) {
         check_tick(alloc, fabric, journal, place, moment, pages)?;
     }
     Ok(())
@@ -146,28 +146,4 @@ fn are_same(one: &IdList, other: &IdList) -> bool
         place += 1;
     }
     true
-}
-
-// The next tick on the way to a window, and none where the clock stands there.
-fn next_tick(fabric: &Fabric, window: u64) -> Option<Moment>
-    requires start { window % fabric.now.settings.window ≡ 0 }
-    requires order { IfSome fabric.now.state.tables.clock (λ t. t ≤ window) }
-    ensures { MatchOption result (fabric.now.state.tables.clock ≡ Some window)
-        (λ m. IsTickOf window fabric.now m) }
-{
-    // Law: one moment at most is due, and the next tick is the lesser of it and of the window.
-    ticks_are_due();
-    let Some(clock) = fabric.clock() else {
-        return Some(Moment(window));
-    };
-    if clock.0 == window {
-        return None;
-    }
-    let Some(due) = fabric.due() else {
-        unreachable!()
-    };
-    if due.0 < window {
-        return Some(due);
-    }
-    Some(Moment(window))
 }
