@@ -23,7 +23,7 @@ use Rattle.fab_replay.specs.Lines.{IsLineAt, IsUnread, first_line, format_of, nu
 use Rattle.fab_replay.specs.Remains.{HasTick, IsBegun, IsTaken, IsTickIf, Remains}
 use Rattle.forward_core.specs.Fabric.{IsTickOf}
 use Rattle.fab_replay.specs.Steps.{HasTurned, HoldSame, IsAlong, IsOnShelf, IsRefused, IsTickNow, IsWindow, Left, Scene, refusal}
-use Rattle.fab_replay.specs.Verdicts.{IsLeft, IsMisjudged}
+use Rattle.fab_replay.specs.Verdicts.{IsAfter, IsMisjudged}
 use Rattle.fab_replay.specs.declared.fault.CheckFault.{CheckFault}
 use Rattle.fab_replay.specs.declared.fault.CheckFault.TheVariants as fault
 use Rattle.fab_replay.specs.declared.fault.LineWhy.TheVariants as why
@@ -186,10 +186,10 @@ module _ (x : Scene) (told : Bool) (J : Journal) (F : Contents) (p : Place) (h :
 
 -- what a fabric stands for that was to take a frame with the verdict that was found
 pub turned_as : (F G : Contents) (J : Journal) (p : Place) (port index : ℕ) (caught heard : Caught) (found : Verdict) (e : Misjudged) (f : CheckFault) → heard ≡ caught → IsSome F.state.tables.clock →
-    IsMisjudged F.settings F.state.tables port heard found e → IsLeft F port index heard e G → f ≡ refusal p found e → Legal F.settings J → Stands F J → HasTurned F.settings G J port index caught f
+    IsMisjudged F.settings F.state.tables port heard found e → IsAfter F port index heard e G → f ≡ refusal p found e → Legal F.settings J → Stands F J → HasTurned F.settings G J port index caught f
 turned_as F G J p port index caught heard found e f same clock wrong left told legal stands =
     subst (HasTurned F.settings G J port index caught) (sym told) (subst (λ (k : Caught). HasTurned F.settings G J port index k (refusal p found e)) same (by_why e wrong left))
   where
-    by_why : (e : Misjudged) → IsMisjudged F.settings F.state.tables port heard found e → IsLeft F port index heard e G → HasTurned F.settings G J port index heard (refusal p found e)
+    by_why : (e : Misjudged) → IsMisjudged F.settings F.state.tables port heard found e → IsAfter F port index heard e G → HasTurned F.settings G J port index heard (refusal p found e)
     by_why (Wrong made) w l = (legal_after F (event.Frame port index heard made) J legal stands (clock, w.1), stands_after F G (event.Frame port index heard made) J stands l)
     by_why Memory w l = inl (subst (λ (H : Contents). Stands H J) (sym l) stands)

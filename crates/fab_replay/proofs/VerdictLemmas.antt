@@ -13,7 +13,7 @@ use Rattle.fab_policy.specs.Verdicts.{IsRight, Meets}
 use Rattle.fab_policy.specs.declared.verdict.Verdict.{Verdict}
 use Rattle.fab_policy.specs.declared.verdict.Verdict.TheVariants.{Granted}
 use Rattle.forward_core.specs.Fabric.{IsTaken, granted_by}
-use Rattle.fab_replay.specs.Verdicts.{IsMisjudged, IsLeft}
+use Rattle.fab_replay.specs.Verdicts.{IsMisjudged, IsAfter}
 use Rattle.fab_replay.specs.declared.verdicts.Misjudged.{Misjudged}
 use Rattle.fab_replay.specs.declared.verdicts.Misjudged.TheVariants.{Wrong, Memory}
 
@@ -43,7 +43,7 @@ wish_is_wrong c T port caught found taken f =
 pub misjudged_after : (F : Contents) (J : Journal) (port : ℕ) (caught : Caught) (found : Verdict) (e : Misjudged) → Stands F J → IsMisjudged F.settings F.state.tables port caught found e → IsMisjudged F.settings (tables_of F.settings J) port caught found e
 misjudged_after F J port caught found e stands m = subst (λ (S : State). IsMisjudged F.settings S.tables port caught found e) stands.state m
 
-pub left_as_made : (F G : Contents) (port index : ℕ) (caught : Caught) (e : Misjudged) → IsLeft F port index caught e G → (G.settings ≡ F.settings) × (G.count ≡ F.count)
+pub left_as_made : (F G : Contents) (port index : ℕ) (caught : Caught) (e : Misjudged) → IsAfter F port index caught e G → (G.settings ≡ F.settings) × (G.count ≡ F.count)
 left_as_made F G port index caught (Wrong made) left = (left.settings, left.count)
 left_as_made F G port index caught Memory left = (ap (λ (H : Contents). H.settings) left, ap (λ (H : Contents). H.count) left)
 

@@ -10,8 +10,8 @@ use Rattle.fab_policy.specs.Looks.{Opened, Stop, stop, all_records}
 use Rattle.fab_policy.specs.Standing.{Contents, Stands}
 use Rattle.fab_policy.specs.Text.{egress}
 use Rattle.fab_policy.specs.Written.{IsNamed, all_kept}
-use Rattle.fab_gather.specs.declared.fault.RunFault.{RunFault}
-use Rattle.fab_gather.specs.declared.fault.RunFault.TheVariants as run_fault
+use Rattle.fab_gather.specs.declared.fault.GatherFault.{GatherFault}
+use Rattle.fab_gather.specs.declared.fault.GatherFault.TheVariants as gather_fault
 use Rattle.fab_gather.specs.declared.shelf.Input.{Input}
 use Rattle.fab_gather.specs.First.{opened_in}
 use Rattle.fab_gather.specs.Port.{ending}
@@ -73,7 +73,7 @@ pub record IsFirstOutput (c : Settings) (budget : Budget) (m : Matter) (port at 
   pub first : IsFirst (Some (port, at)) m.outputs m.found (sent_on c m entry_list)
 
 -- The reading of the captures stops, and the lines of all frames before that are right.
-pub record IsFirstStop (c : Settings) (budget : Budget) (m : Matter) (e : RunFault) : Type 0 where
+pub record IsFirstStop (c : Settings) (budget : Budget) (m : Matter) (e : GatherFault) : Type 0 where
   pub at : Stop
   pub is : stop c budget.bytes budget.frames m.ins ≡ Some at
   pub says : ending at ≡ e
@@ -87,8 +87,8 @@ abbrev pub IsAnswer : Settings → Budget → Matter → Result ℕ CheckFault �
 IsAnswer c budget m (Ok entries) = IsLegal c budget m entries
 IsAnswer c budget m (Err (fault.Line line why)) = IsFirstLine c budget m line why
 IsAnswer c budget m (Err (fault.Output port at)) = IsFirstOutput c budget m port at
-IsAnswer c budget m (Err (fault.Capture port at w)) = IsFirstStop c budget m (run_fault.Capture port at w)
-IsAnswer c budget m (Err (fault.Limit kind)) = IsFirstStop c budget m (run_fault.Limit kind)
+IsAnswer c budget m (Err (fault.Capture port at w)) = IsFirstStop c budget m (gather_fault.Capture port at w)
+IsAnswer c budget m (Err (fault.Limit kind)) = IsFirstStop c budget m (gather_fault.Limit kind)
 IsAnswer c budget m (Err fault.Read) = ⊥
 IsAnswer c budget m (Err fault.Memory) = ⊥
 

@@ -1,5 +1,5 @@
 -- What stands between two lines of a journal, while a window of the captures is checked. No public clause cites this module.
-use Rattle.std.specs.Prelude.{◌≡◌, ℕ, ◌+◌, ◌-◌, ◌≤◌, ◌<◌, ◌⊎◌, Bool, true, IfSome, IsTrue, List, [], ◌∷◌, ◌++◌, length, drop, Option, Some, option_to_list, slice_get, Err}
+use Rattle.std.specs.Prelude.{◌≡◌, ℕ, ◌+◌, ◌≤◌, ◌<◌, ◌⊎◌, Bool, true, IfSome, IsTrue, List, [], ◌∷◌, ◌++◌, length, drop, Option, Some, slice_get, Err}
 use Rattle.fab_base.specs.declared.values.Caught.{Caught}
 use Rattle.fab_config.specs.Settings.{Settings}
 use Rattle.pcap_file.specs.declared.Record.{Record}
@@ -15,6 +15,7 @@ use Rattle.fab_policy.specs.Verdicts.{IsRight}
 use Rattle.fab_policy.specs.declared.event.Event.TheVariants.{Frame}
 use Rattle.fab_policy.specs.declared.verdict.Verdict.{Verdict}
 use Rattle.fab_gather.specs.Port.{AreIn}
+use Rattle.fab_gather.specs.Reads.{first_index}
 use Rattle.fab_gather.specs.declared.shelf.Shelf.{Shelf}
 use Rattle.fab_replay.specs.Front.{IsFront, IsFirstWrong, expects_tick}
 use Rattle.fab_replay.specs.Lines.{IsBehind, number_behind}
@@ -82,10 +83,6 @@ pub record IsTickNow (x : Scene) (J : Journal) (m : ℕ) : Type 0 where
 
 -- ---- frames
 
--- how many records of a capture stand before those on its shelf
-abbrev pub first_of : Shelf → ℕ
-first_of s = s.count - length (option_to_list s.next) - length s.batch.items
-
 -- So many records of a port's shelf have lines, and behind those that have none come only later windows.
 pub record IsPortIn (x : Scene) (w : ℕ) (J : Journal) (q : ℕ) (s : Shelf) (done : ℕ) : Type 0 where
   pub records : List Record
@@ -95,7 +92,7 @@ pub record IsPortIn (x : Scene) (w : ℕ) (J : Journal) (q : ℕ) (s : Shelf) (d
   pub later : List Record
   pub left : left_of (q + 1) records J ≡ drop done s.batch.items ++ later
   pub from : AreFrom x.settings (w + 1) later
-  pub count : length (of_port (q + 1) J) ≡ first_of s + done
+  pub count : length (of_port (q + 1) J) ≡ first_index s + done
 
 -- a port's shelf and how many of its records have lines, by their place
 pub record At (q : ℕ) (shelves : List Shelf) (done : List ℕ) (s : Shelf) (k : ℕ) : Type 0 where
@@ -117,7 +114,7 @@ pub record IsOnShelf (shelves : List Shelf) (done : List ℕ) (w port index : �
   pub done_ : ℕ
   pub at : At place shelves done shelf done_
   pub record_ : slice_get shelf.batch.items done_ ≡ Some r
-  pub number : index ≡ first_of shelf + done_
+  pub number : index ≡ first_index shelf + done_
   pub clock_ : IfSome told (λ t. t ≡ w)
 
 -- a record of some port has no line yet
@@ -172,4 +169,4 @@ pub record IsGathered (x : Scene) (w : ℕ) (J : Journal) (shelves : List Shelf)
 
 -- each frame on the shelves has a line
 abbrev pub AreCounted : Journal → List Shelf → Type 0
-AreCounted J shelves = (q : ℕ) (s : Shelf) → slice_get shelves q ≡ Some s → length (of_port (q + 1) J) ≡ first_of s + length s.batch.items
+AreCounted J shelves = (q : ℕ) (s : Shelf) → slice_get shelves q ≡ Some s → length (of_port (q + 1) J) ≡ first_index s + length s.batch.items

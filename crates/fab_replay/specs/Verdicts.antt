@@ -16,6 +16,6 @@ IsMisjudged c T port caught found (Wrong made) = (IsRight c T port caught found 
 IsMisjudged c T port caught found Memory = Unit {0}
 
 -- What a fabric is then: it has taken the frame with the verdict that was made, or it is as it was.
-abbrev pub IsLeft : Contents → ℕ → ℕ → Caught → Misjudged → Contents → Type 0
-IsLeft F port index caught (Wrong made) G = Takes F (Frame port index caught made) G
-IsLeft F port index caught Memory G = G ≡ F
+abbrev pub IsAfter : Contents → ℕ → ℕ → Caught → Misjudged → Contents → Type 0
+IsAfter F port index caught (Wrong made) G = Takes F (Frame port index caught made) G
+IsAfter F port index caught Memory G = G ≡ F

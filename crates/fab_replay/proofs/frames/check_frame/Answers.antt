@@ -15,8 +15,8 @@ pub returns-in_err-line-clause-checks : goal.returns-in_err-line-clause-checks
 returns-in_err-line-clause-checks c = λ x J same h win.
     let F = c.args.fabric.now in
     let p = c.args.place.now in
-    let w = c.args.window in
-    let shelves = c.args.shelves.now in
+    let w = c.args.gathered.now.window in
+    let shelves = c.args.gathered.now.shelves.now in
     let done = c.args.done.now in
     let q = c.next_line.new.place in
     let e = c.in_err-line.field-0.0 in
@@ -27,8 +27,8 @@ pub returns-in_default-clause-checks : goal.returns-in_default-clause-checks
 returns-in_default-clause-checks c = λ x J same h win.
     let F = c.args.fabric.now in
     let p = c.args.place.now in
-    let w = c.args.window in
-    let shelves = c.args.shelves.now in
+    let w = c.args.gathered.now.window in
+    let shelves = c.args.gathered.now.shelves.now in
     let done = c.args.done.now in
     let q = c.next_line.new.place in
     subst (IsFound x) (sym c.fault_at.ensures)
@@ -39,8 +39,8 @@ pub returns-in_default-next_on_shelf-clause-checks : goal.returns-in_default-nex
 returns-in_default-next_on_shelf-clause-checks c = λ x J same h win.
     let F = c.args.fabric.now in
     let p = c.args.place.now in
-    let w = c.args.window in
-    let shelves = c.args.shelves.now in
+    let w = c.args.gathered.now.window in
+    let shelves = c.args.gathered.now.shelves.now in
     let done = c.args.done.now in
     let q = c.next_line.new.place in
     let at = subst (IsLineAt x.bytes p q) c.in-Frame.is (subst (λ b. IsLineAt b p q c.in_ok-line.line) (sym same) c.in_ok-line.ensures.line) in
@@ -51,8 +51,8 @@ pub returns-in_err-take_frame-clause-checks : goal.returns-in_err-take_frame-cla
 returns-in_err-take_frame-clause-checks c = λ x J same h win.
     let F = c.args.fabric.now in
     let p = c.args.place.now in
-    let w = c.args.window in
-    let shelves = c.args.shelves.now in
+    let w = c.args.gathered.now.window in
+    let shelves = c.args.gathered.now.shelves.now in
     let done = c.args.done.now in
     let q = c.next_line.new.place in
     let at = subst (IsLineAt x.bytes p q) c.in-Frame.is (subst (λ b. IsLineAt b p q c.in_ok-line.line) (sym same) c.in_ok-line.ensures.line) in
@@ -80,8 +80,8 @@ pub returns-clause-checks : goal.returns-clause-checks
 returns-clause-checks c = λ x J same h win.
     let F = c.args.fabric.now in
     let p = c.args.place.now in
-    let w = c.args.window in
-    let shelves = c.args.shelves.now in
+    let w = c.args.gathered.now.window in
+    let shelves = c.args.gathered.now.shelves.now in
     let done = c.args.done.now in
     let q = c.next_line.new.place in
     let at = subst (IsLineAt x.bytes p q) c.in-Frame.is (subst (λ b. IsLineAt b p q c.in_ok-line.line) (sym same) c.in_ok-line.ensures.line) in
@@ -117,7 +117,7 @@ pub returns-in_default-clause-left : goal.returns-in_default-clause-left
 returns-in_default-clause-left c = λ x told J same h win.
     let F = c.args.fabric.now in
     let p = c.args.place.now in
-    subst (Left x told F) (sym c.fault_at.ensures) (stays_tick x told J F p h (number_behind p.format p.entries) refl (λ t. no_tick_here x c.args.window J c.args.shelves.now c.args.done.now (win t) c.requires.left))
+    subst (Left x told F) (sym c.fault_at.ensures) (stays_tick x told J F p h (number_behind p.format p.entries) refl (λ t. no_tick_here x c.args.gathered.now.window J c.args.gathered.now.shelves.now c.args.done.now (win t) c.requires.left))
 
 pub returns-in_default-next_on_shelf-clause-left : goal.returns-in_default-next_on_shelf-clause-left
 returns-in_default-next_on_shelf-clause-left c = λ x told J same h win.
@@ -133,15 +133,15 @@ returns-in_err-take_frame-clause-left c = λ x told J same h win.
     let at = subst (IsLineAt x.bytes p q) c.in-Frame.is (subst (λ b. IsLineAt b p q c.in_ok-line.line) (sym same) c.in_ok-line.ensures.line) in
     let e = c.in_err-take_frame.field-0.0 in
     told_on c.from_residual-in_err-take_frame.result e _ _ c.from_residual-in_err-take_frame.ensures.1
-    (left_frame x told J F p h c.args.window c.requires.clock c.args.shelves.now c.args.done.now win q c.in-Frame.port c.in-Frame.index c.in-Frame.verdict c.in-Frame.clock at c.in-Some.found.now c.in-Some.ensures.named
+    (left_frame x told J F p h c.args.gathered.now.window c.requires.clock c.args.gathered.now.shelves.now c.args.done.now win q c.in-Frame.port c.in-Frame.index c.in-Frame.verdict c.in-Frame.clock at c.in-Some.found.now c.in-Some.ensures.named
     F.state.tables c.take_frame.new.fabric e c.in_err-take_frame.ensures.refused (c.in_err-take_frame.ensures.left J (legal_old x told J F p h) h.stands))
 
 pub returns-clause-left : goal.returns-clause-left
 returns-clause-left c = λ x told J same h win.
     let F = c.args.fabric.now in
     let p = c.args.place.now in
-    let w = c.args.window in
-    let shelves = c.args.shelves.now in
+    let w = c.args.gathered.now.window in
+    let shelves = c.args.gathered.now.shelves.now in
     let done = c.args.done.now in
     let q = c.next_line.new.place in
     let at = subst (IsLineAt x.bytes p q) c.in-Frame.is (subst (λ b. IsLineAt b p q c.in_ok-line.line) (sym same) c.in_ok-line.ensures.line) in

@@ -8,12 +8,12 @@ use Rattle.fab_replay.proofs.frames.check_frames.Given as goal
 
 abbrev pub invariant-lines : goal.invariant-lines
 invariant-lines l = record {
-  checks : (x : Scene) (J : Journal) → x.bytes ≡ l.journal → IsReached x J l.fn.fabric l.fn.place → IsWindow x l.window J l.shelves l.fn.done →
-      (K : Journal) × IsReached x K l.fabric l.place × IsWindow x l.window K l.shelves l.done × PagesGrow x.settings (length x.records) J K (items_in l.fn.pages) (items_in l.pages);
-  left : (x : Scene) (told : Bool) (J : Journal) → x.bytes ≡ l.journal → IsAlong x told J l.fn.fabric l.fn.place → (IsTrue told → IsWindow x l.window J l.shelves l.fn.done) →
-      (K : Journal) × IsAlong x told K l.fabric l.place × (IsTrue told → IsWindow x l.window K l.shelves l.done);
+  checks : (x : Scene) (J : Journal) → x.bytes ≡ l.journal → IsReached x J l.fn.fabric l.fn.place → IsWindow x l.gathered.window J l.gathered.shelves.now l.fn.done →
+      (K : Journal) × IsReached x K l.fabric l.place × IsWindow x l.gathered.window K l.gathered.shelves.now l.done × PagesGrow x.settings (length x.records) J K (items_in l.fn.pages) (items_in l.pages);
+  left : (x : Scene) (told : Bool) (J : Journal) → x.bytes ≡ l.journal → IsAlong x told J l.fn.fabric l.fn.place → (IsTrue told → IsWindow x l.gathered.window J l.gathered.shelves.now l.fn.done) →
+      (K : Journal) × IsAlong x told K l.fabric l.place × (IsTrue told → IsWindow x l.gathered.window K l.gathered.shelves.now l.done);
   inside : IsInside l.journal l.place;
-  clock : l.fabric.state.tables.clock ≡ Some l.window;
+  clock : l.fabric.state.tables.clock ≡ Some l.gathered.window;
   settings : l.fabric.settings ≡ l.fn.fabric.settings;
   count : l.fabric.count ≡ l.fn.fabric.count;
   idle : IsIdle l.fabric;
