@@ -19,7 +19,8 @@ use Rattle.fab_replay.specs.Laws.{Laws}
 use Rattle.fab_replay.specs.Lines.{IsBehind, IsInside, text_in}
 use Rattle.fab_replay.specs.Owed.{AreNew}
 use Rattle.fab_replay.specs.Steps.{IsAlong}
-use Rattle.fab_replay.specs.Windows.{Ended, Ends, Going, LeftBy, OfTask, Task, captures_in, check_fault, scene_of, slots_in, stand_at}
+use Rattle.fab_replay.specs.Check.{Task, captures_in, slots_in}
+use Rattle.fab_replay.specs.Windows.{Ended, Ends, Going, LeftBy, OfTask, check_fault, scene_of, stand_at}
 use Rattle.fab_replay.specs.declared.lines.Place.{Place}
 use Rattle.fab_replay.specs.declared.owed.Owed.{Owed}
 use Rattle.fab_replay.specs.declared.windows.Course.{Course}

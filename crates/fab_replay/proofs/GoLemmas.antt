@@ -27,13 +27,13 @@ use Rattle.fab_gather.specs.Port.{IsStopped}
 use Rattle.fab_gather.specs.Ports.{AreInputs, NameIn, Walk, slot_at, slots_of, stop_from, walk_at}
 use Rattle.fab_gather.specs.Reads.{HaveRead, IsWhole, batches_of}
 use Rattle.fab_replay.specs.AllOutputs.{IsFirst, OneRose, page_at}
-use Rattle.fab_replay.specs.Check.{Checks, IsFirstStop, NamesRun, Says, sent_on}
+use Rattle.fab_replay.specs.Check.{Checks, IsFirstStop, NamesRun, Says, sent_on, Task, captures_in, matter_of, slots_in}
 use Rattle.fab_replay.specs.Front.{AreRightLines, HoldsFronts, expects_tick, has_left}
 use Rattle.fab_replay.specs.Laws.{Laws}
 use Rattle.fab_replay.specs.Lines.{IsInside, IsOfLine, text_in}
 use Rattle.fab_replay.specs.Owed.{AreMany, IsOfOutput, IsOwed, ReadsOut, Tells}
-use Rattle.fab_replay.specs.Steps.{AreCounted, IsAlong, IsFound, IsGathered, IsIdle, IsReached, Left, Scene}
-use Rattle.fab_replay.specs.Windows.{Ended, Ends, Going, HaveLines, IsOf, LeftBy, OfTask, RemainsOf, Stand, Task, captures_in, check_fault, matter_of, scene_of, slots_in, stand_at}
+use Rattle.fab_replay.specs.Steps.{Advances, AreCounted, IsAlong, IsFound, IsGathered, IsIdle, IsReached, Left, Scene}
+use Rattle.fab_replay.specs.Windows.{Ended, Ends, Going, HaveLines, IsOf, LeftBy, OfTask, RemainsOf, Stand, check_fault, scene_of, stand_at}
 use Rattle.fab_replay.specs.declared.fault.CheckFault.{CheckFault}
 use Rattle.fab_replay.specs.declared.fault.CheckFault.TheVariants as fault
 use Rattle.fab_replay.specs.declared.lines.Place.{Place}
@@ -136,6 +136,10 @@ holds_taken c w p (o ∷ opened) (records ∷ taken) J s front lines =
 -- the same window, by the code's own configuration
 pub gathers_as : {c s : Settings} {first w : ℕ} {old new : Walk} {r : Result (Unit {0}) GatherFault} → c ≡ s → Gathers c first w old new r → Gathers s first w old new r
 gathers_as {c} {s} {first} {w} {old} {new} {r} e t = subst (λ x. Gathers x first w old new r) e t
+
+-- the same shelves, as a slice
+pub going_on : {k : Task} {w : ℕ} {F : Contents} {course : Course} {d : Seen} {ins : List Input} {left : Budget} {old new : List Shelf} → new ≡ old → Going k w (stand_at F course (walk_at d ins old left)) → Going k w (stand_at F course (walk_at d ins new left))
+going_on {k} {w} {F} {course} {d} {ins} {left} {old} {new} e g = subst (λ l. Going k w (stand_at F course (walk_at d ins l left))) (sym e) g
 
 -- A check stands before its next window.
 pub record AtWindow (k : Task) (w : ℕ) (here : Stand) : Type 0 where
@@ -426,15 +430,14 @@ module _ (laws : Laws) (k : Task) (w : ℕ) (here : Stand) (g : Going k w here) 
             MatchResult r (λ _. (K : Journal) × IsReached x K G q × AreCounted K shelves' × IsOwed x.settings (length x.records) start e outs K o') (λ f. IsFound x f)) →
             ((x : Scene) (told : Bool) (J : Journal) → x.bytes ≡ bytes → IsAlong x told J F p → (IsTrue told → IsGathered x w J shelves') →
             MatchResult r (λ _. (K : Journal) × IsAlong x told K G q × (IsTrue told → AreCounted K shelves')) (λ f. Left x told G f)) →
-            Touches Nothing (NameIn b outs) b e → (r ≡ Err fault.Read → OneRose outs b e) → OnOk r (AreMany (length outs) o') → OnOk r (IsInside bytes q) → OnOk r (G.state.tables.clock ≡ Some w) →
-            (G.settings ≡ F.settings) × (G.count ≡ F.count) → OnOk r (IsIdle G) → to.first ≡ first → MatchResult r (λ _. Going k (w + 1) (stand_at G to (walk_at e ins' shelves' left'))) (λ f. Ends k e G (Err f))
-        turned bytes outs same r checks along touched cause many inside clock settings idle same_first =
+            Touches Nothing (NameIn b outs) b e → (r ≡ Err fault.Read → OneRose outs b e) → OnOk r (AreMany (length outs) o') → Advances w F G bytes q r → to.first ≡ first → MatchResult r (λ _. Going k (w + 1) (stand_at G to (walk_at e ins' shelves' left'))) (λ f. Ends k e G (Err f))
+        turned bytes outs same r checks along touched cause many on same_first =
             let outs_are = sym same.outputs in
             turn_ends r (lines_left bytes outs same r checks) (along (scene_of k) k.start.seen.told g.stood.0 same.journal g.stood.1 left_now)
             (subst (λ s. Touches Nothing (NameIn b s) b e) outs_are touched)
             (λ is. subst (λ s. OneRose s b e) outs_are (cause is))
             (subst (λ s. OnOk r (AreMany (length s) o')) outs_are many)
-            (subst (λ s. OnOk r (IsInside s q)) (sym same.journal) inside) clock (settings.0 ∙ g.settings_) settings.1 idle same_first
+            (subst (λ s. OnOk r (IsInside s q)) (sym same.journal) on.inside) on.clock_ (on.settings ∙ g.settings_) on.count on.idle same_first
 
   -- ---- the end of all captures
 
@@ -567,7 +570,7 @@ module _ (laws : Laws) (k : Task) (w : ℕ) (here : Stand) (g : Going k w here) 
     ended_out (fault.Limit kind) r E = absurd r.only
     ended_out fault.Memory r E = absurd r.only
 
-    ended_well : ReadsOut k.outs d e o (Ok tt) → Checks k.settings k.start.left k.start.ins k.outs k.bytes k.start.seen e F (Ok p.entries)
+    ended_well : ReadsOut k.outs d e o (Ok tt) → Checks k e F (Ok p.entries)
     ended_well r = record {
       touches = touches_out r.touches;
       says = λ told. record {

@@ -13,10 +13,10 @@ use Rattle.pcap_file.specs.declared.Record.{Record}
 use Rattle.fab_gather.specs.Port.{IsStopped}
 use Rattle.fab_gather.specs.declared.fault.GatherFault.{GatherFault}
 use Rattle.fab_gather.specs.declared.fault.GatherFault.TheVariants as gather_fault
-use Rattle.fab_replay.specs.Check.{HasAll, HasKept, Matter}
+use Rattle.fab_replay.specs.Check.{HasAll, HasKept, Matter, Task, matter_of}
 use Rattle.fab_replay.specs.Lines.{IsBehind, IsOfLine}
 use Rattle.fab_replay.specs.Steps.{IsAlong, IsFound, Left, Scene}
-use Rattle.fab_replay.specs.Windows.{LeftBy, Task, check_fault, matter_of, scene_of}
+use Rattle.fab_replay.specs.Windows.{LeftBy, check_fault, scene_of}
 use Rattle.fab_replay.specs.declared.fault.CheckFault.{CheckFault}
 use Rattle.fab_replay.specs.declared.fault.CheckFault.TheVariants as fault
 use Rattle.fab_replay.specs.declared.lines.Place.{Place}

@@ -79,10 +79,14 @@ grow_one c n J e old new adds = record {
       ∙ append_assoc before (piece_at old q) (records_to (q + 1) (outputs c n J e)) ∙ ap (λ (l : List ℕ). before ++ l) (sym (adds.pages q lt));
 }
 
+-- what happened to an idle fabric that took an entry
+pub took_one : {F G : Contents} {e : Event} → IsIdle F → Takes F e G → G.events ≡ e ∷ []
+took_one {F} {G} {e} idle t = t.events ∙ ap (λ (l : List Event). l ++ e ∷ []) idle.events
+
 -- a fabric that took an entry, and what it sent since
 pub grow_taken : (F G : Contents) (e : Event) (J : Journal) (old new : List (List ℕ)) → IsIdle F → Takes F e G → Stands G (e ∷ J) → Adds G.outs old new → PagesGrow F.settings F.count J (e ∷ J) old new
 grow_taken F G e J old new idle t stands adds =
-    let events : G.events ≡ e ∷ [] = t.events ∙ ap (λ (l : List Event). l ++ e ∷ []) idle.events in
+    let events = took_one idle t in
     let sent : G.outs ≡ outputs F.settings F.count J e =
     stands_older G J (e ∷ J) stands (sym (ap (followed J) events))
     ∙ ap (sent_after G.settings G.count J) events

@@ -1,5 +1,5 @@
 -- What stands between two lines of a journal, while a window of the captures is checked. No public clause cites this module.
-use Rattle.std.specs.Prelude.{◌≡◌, ℕ, ◌+◌, ◌≤◌, ◌<◌, ◌⊎◌, Bool, true, IfSome, IsTrue, List, [], ◌∷◌, ◌++◌, length, drop, Option, Some, slice_get, Err}
+use Rattle.std.specs.Prelude.{◌≡◌, ℕ, ◌+◌, ◌≤◌, ◌<◌, ◌⊎◌, Bool, true, IfSome, IsTrue, List, [], ◌∷◌, ◌++◌, length, drop, Option, Some, slice_get, Result, Err, OnOk}
 use Rattle.fab_base.specs.declared.values.Caught.{Caught}
 use Rattle.fab_config.specs.Settings.{Settings}
 use Rattle.pcap_file.specs.declared.Record.{Record}
@@ -18,7 +18,7 @@ use Rattle.fab_gather.specs.Port.{AreIn}
 use Rattle.fab_gather.specs.Reads.{first_index}
 use Rattle.fab_gather.specs.declared.shelf.Shelf.{Shelf}
 use Rattle.fab_replay.specs.Front.{IsFront, IsFirstWrong, expects_tick}
-use Rattle.fab_replay.specs.Lines.{IsBehind, number_behind}
+use Rattle.fab_replay.specs.Lines.{IsBehind, IsInside, number_behind}
 use Rattle.fab_replay.specs.Remains.{IsBegun, Remains}
 use Rattle.fab_replay.specs.declared.fault.CheckFault.{CheckFault}
 use Rattle.fab_replay.specs.declared.fault.CheckFault.TheVariants as fault
@@ -67,6 +67,15 @@ IsFound x _ = ⊥
 pub record IsIdle (F : Contents) : Type 0 where
   pub events : F.events ≡ []
   pub outs : F.outs ≡ []
+
+-- What a step of a check leaves of a fabric: its configuration and its ports are the same; where it went well, the place in the text
+-- is between two lines, the clock stands at this moment, and nothing is undrained.
+pub record Advances (moment : ℕ) (F G : Contents) (text : List ℕ) (p : Place) (result : Result (Unit {0}) CheckFault) : Type 0 where
+  pub settings : G.settings ≡ F.settings
+  pub count : G.count ≡ F.count
+  pub inside : OnOk result (IsInside text p)
+  pub clock_ : OnOk result (G.state.tables.clock ≡ Some moment)
+  pub idle : OnOk result (IsIdle G)
 
 -- the entries of each port are the same in two journals
 abbrev pub HoldSame : Journal → Journal → Type 0

@@ -1,20 +1,16 @@
 -- What stands between the windows of a check. No public clause cites this module.
-use Rattle.std.specs.Prelude.{◌≡◌, ℕ, ◌+◌, ◌<◌, ◌≤◌, IsTrue, IfSome, List, ◌++◌, length, Some, Result, Err, slice_get}
+use Rattle.std.specs.Prelude.{◌≡◌, ℕ, ◌+◌, ◌<◌, ◌≤◌, IsTrue, IfSome, List, length, Some, Result, Err, slice_get}
 use Rattle.fab_base.specs.Seen.{Seen, Touches, Nothing}
-use Rattle.fab_config.specs.Settings.{Settings}
-use Rattle.pcap_file.specs.declared.Budget.{Budget}
 use Rattle.pcap_file.specs.declared.Record.{Record}
 use Rattle.fab_policy.specs.Journal.{Journal}
 use Rattle.fab_policy.specs.Legal.{of_port}
-use Rattle.fab_policy.specs.Looks.{Opened, stop, all_records}
+use Rattle.fab_policy.specs.Looks.{stop, all_records}
 use Rattle.fab_policy.specs.Standing.{Contents}
-use Rattle.fab_gather.specs.declared.shelf.Input.{Input}
 use Rattle.fab_gather.specs.declared.fault.GatherFault.{GatherFault}
 use Rattle.fab_gather.specs.declared.fault.GatherFault.TheVariants as gather_fault
-use Rattle.fab_gather.specs.First.{Start, opened_in, start_at}
 use Rattle.fab_gather.specs.Ports.{slots_of, NameIn, AreInputs, AreReady, Walk, stop_after}
 use Rattle.fab_gather.specs.Reads.{HaveRead}
-use Rattle.fab_replay.specs.Check.{Checks, Leaves, Matter, matter_in}
+use Rattle.fab_replay.specs.Check.{Checks, Leaves, Task, captures_in, matter_of, slots_in}
 use Rattle.fab_replay.specs.Lines.{IsInside}
 use Rattle.fab_replay.specs.Owed.{AreMany, IsOwed}
 use Rattle.fab_replay.specs.Steps.{Scene, IsAlong, IsIdle, IsReached}
@@ -24,29 +20,10 @@ use Rattle.fab_replay.specs.declared.windows.Course.{Course}
 
 -- ---- between windows
 
--- What a check is handed: its configuration, its limits, the captures, the depot as it is at the start, the journal, and the
--- outputs.
-pub record Task : Type 0 where
-  pub settings : Settings
-  pub start : Start
-  pub bytes : List ℕ
-  pub outs : List ℕ
-
-abbrev pub task_of : Settings → Budget → List Input → Seen → List ℕ → List ℕ → Task
-task_of c budget ins d bytes outs = record { settings = c; start = start_at d ins budget; bytes = bytes; outs = outs }
-
 -- a task has this journal and these outputs
 pub record IsOf (k : Task) (bytes outs : List ℕ) : Type 0 where
   pub journal : k.bytes ≡ bytes
   pub outputs : k.outs ≡ outs
-
--- the captures and the outputs of a task
-abbrev pub slots_in : Task → List ℕ
-slots_in k = slots_of k.start.ins ++ k.outs
-
--- the captures of a task
-abbrev pub captures_in : Task → List Opened
-captures_in k = opened_in k.start.seen k.start.ins
 
 abbrev pub scene_of : Task → Scene
 scene_of k = record {
@@ -55,9 +32,6 @@ scene_of k = record {
   stop = stop k.settings k.start.left.bytes k.start.left.frames (captures_in k);
   bytes = k.bytes;
 }
-
-abbrev pub matter_of : Task → Matter
-matter_of k = matter_in k.start.seen k.start.ins k.bytes k.outs
 
 -- the names that a check may count faults of
 abbrev pub OfTask : Task → List ℕ → Type 0
@@ -102,7 +76,7 @@ pub record Going (k : Task) (w : ℕ) (s : Stand) : Type 0 where
 
 -- the check of a task ended with this fault
 abbrev pub Ended : Task → Seen → CheckFault → Type 0
-Ended k d e = (F : Contents) → Checks k.settings k.start.left k.start.ins k.outs k.bytes k.start.seen d F (Err e)
+Ended k d e = (F : Contents) → Checks k d F (Err e)
 
 -- what a fabric stands for then
 abbrev pub RemainsOf : Task → Contents → Result ℕ CheckFault → Type 0
@@ -113,7 +87,7 @@ LeftBy k F e = RemainsOf k F (Err e)
 
 -- The check of a task ended: what it answers, and what the fabric stands for.
 pub record Ends (k : Task) (d : Seen) (F : Contents) (result : Result ℕ CheckFault) : Type 0 where
-  pub checks : Checks k.settings k.start.left k.start.ins k.outs k.bytes k.start.seen d F result
+  pub checks : Checks k d F result
   pub leaves : RemainsOf k F result
 
 -- ---- one window

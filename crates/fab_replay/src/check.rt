@@ -4,12 +4,12 @@ ghost use Rattle.fab_gather.specs.First.{AreFresh};
 ghost use Rattle.fab_gather.specs.Ports.{AreInputs, TakesFrom, slots_of, walk_at};
 ghost use Rattle.fab_policy.specs.Journal.{Journal};
 ghost use Rattle.fab_policy.specs.Outputs.{state_of};
-ghost use Rattle.fab_replay.specs.Check.{Checks, Leaves, matter_in};
+ghost use Rattle.fab_replay.specs.Check.{Checks, Leaves, matter_in, Task, task_of};
 ghost use Rattle.fab_replay.specs.Counts.{TellsFaults};
 ghost use Rattle.fab_replay.specs.Front.{expects_tick, has_left};
 ghost use Rattle.fab_replay.specs.Lines.{IsInside, IsOfLine};
 ghost use Rattle.fab_replay.specs.Steps.{IsAlong, IsFound, IsReached, Left, Scene};
-ghost use Rattle.fab_replay.specs.Windows.{Ends, Going, IsOf, Task, stand_at, task_of};
+ghost use Rattle.fab_replay.specs.Windows.{Ends, Going, IsOf, stand_at};
 ghost use Rattle.fab_policy.specs.Standing.{Contents};
 ghost use Rattle.std.specs.Prelude.{drop};
 
@@ -54,8 +54,8 @@ pub fn check_captures<D: Depot>(
     requires count { fabric.old.count ≡ length ins.old }
     requires state { fabric.old.state ≡ state_of fabric.old.settings [] }
     requires nothing { (fabric.old.events ≡ []) × (fabric.old.outs ≡ []) }
-    ensures checks { Checks fabric.old.settings budget.old ins.old outs.now journal.now
-        (D.seen depot.old) (D.seen depot.new) fabric.new result }
+    ensures checks { Checks (task_of fabric.old.settings budget.old ins.old (D.seen depot.old)
+        journal.now outs.now) (D.seen depot.new) fabric.new result }
     ensures leaves { let a = D.seen depot.old in Leaves fabric.old.settings budget.old
         (matter_in a ins.old journal.now outs.now) a.told fabric.new result }
     ensures settings { fabric.new.settings ≡ fabric.old.settings }

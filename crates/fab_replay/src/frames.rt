@@ -9,7 +9,7 @@ ghost use Rattle.fab_pages.specs.Pages.{items_in};
 ghost use Rattle.fab_replay.specs.Lines.{IsInside, IsOfLine};
 ghost use Rattle.fab_replay.specs.Steps as spec;
 ghost use Rattle.fab_replay.specs.Owed.{PagesGrow};
-ghost use Rattle.fab_replay.specs.Steps.{AllDone, HasLeft, HasTurned, IsAlong, IsFound, IsIdle, IsOnShelf, IsReached, IsRefused, IsWindow, Left, Scene};
+ghost use Rattle.fab_replay.specs.Steps.{Advances, AllDone, HasLeft, HasTurned, IsAlong, IsFound, IsIdle, IsOnShelf, IsReached, IsRefused, IsWindow, Left, Scene};
 ghost use Rattle.pcap_file.specs.declared.Record.{Record as of_captures};
 
 use crate::lines::{fault_at, next_line};
@@ -73,11 +73,7 @@ pub(crate) fn check_frames(
         × (IsTrue told → IsWindow x gathered.now.window K gathered.now.shelves.now done.new))
         (λ e. Left x told fabric.new e) }
     ensures all { OnOk result (AllDone gathered.now.shelves.now done.new) }
-    ensures inside { OnOk result (IsInside journal.now place.new) }
-    ensures clock { OnOk result (fabric.new.state.tables.clock ≡ Some gathered.now.window) }
-    ensures settings { (fabric.new.settings ≡ fabric.old.settings)
-        × (fabric.new.count ≡ fabric.old.count) }
-    ensures idle { OnOk result (IsIdle fabric.new) }
+    ensures advances { Advances gathered.now.window fabric.old fabric.new journal.now place.new result }
     ensures pages { length pages.new ≡ length pages.old }
     ensures only { IfErr result IsOfLine }
     ensures width { length done.new ≡ length done.old }
@@ -124,12 +120,8 @@ fn check_frame(
         (λ _. (K : Journal) × IsAlong x told K fabric.new place.new
         × (IsTrue told → IsWindow x gathered.now.window K gathered.now.shelves.now done.new))
         (λ e. Left x told fabric.new e) }
-    ensures inside { OnOk result (IsInside journal.now place.new) }
+    ensures advances { Advances gathered.now.window fabric.old fabric.new journal.now place.new result }
     ensures onward { OnOk result (place.old.at < place.new.at) }
-    ensures clock { OnOk result (fabric.new.state.tables.clock ≡ Some gathered.now.window) }
-    ensures settings { (fabric.new.settings ≡ fabric.old.settings)
-        × (fabric.new.count ≡ fabric.old.count) }
-    ensures idle { OnOk result (IsIdle fabric.new) }
     ensures pages { length pages.new ≡ length pages.old }
     ensures only { IfErr result IsOfLine }
     ensures width { length done.new ≡ length done.old }

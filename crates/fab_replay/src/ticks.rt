@@ -9,7 +9,7 @@ ghost use Rattle.fab_pages.specs.Pages.{items_in};
 ghost use Rattle.fab_replay.specs.Front.{expects_tick};
 ghost use Rattle.fab_replay.specs.Lines.{IsInside, IsOfLine};
 ghost use Rattle.fab_replay.specs.Owed.{PagesGrow};
-ghost use Rattle.fab_replay.specs.Steps.{HoldSame, IsAlong, IsFound, IsIdle, IsReached, IsTickNow, Left, Scene};
+ghost use Rattle.fab_replay.specs.Steps.{Advances, HoldSame, IsAlong, IsFound, IsIdle, IsReached, IsTickNow, Left, Scene};
 
 use crate::lines::{fault_at, next_line};
 use crate::sent::take_sent;
@@ -46,11 +46,7 @@ pub(crate) fn check_ticks(
         → MatchResult result
         (λ _. (K : Journal) × IsAlong x told K fabric.new place.new × HoldSame J K)
         (λ e. Left x told fabric.new e) }
-    ensures inside { OnOk result (IsInside journal.now place.new) }
-    ensures clock { OnOk result (fabric.new.state.tables.clock ≡ Some window) }
-    ensures settings { (fabric.new.settings ≡ fabric.old.settings)
-        × (fabric.new.count ≡ fabric.old.count) }
-    ensures idle { OnOk result (IsIdle fabric.new) }
+    ensures advances { Advances window fabric.old fabric.new journal.now place.new result }
     ensures pages { length pages.new ≡ length pages.old }
     ensures only { IfErr result IsOfLine }
 {
@@ -90,12 +86,8 @@ fn check_tick(
         → MatchResult result
         (λ _. (ended : List ℕ) × IsAlong x told (event.Tick moment ended ∷ J) fabric.new place.new)
         (λ e. Left x told fabric.new e) }
-    ensures inside { OnOk result (IsInside journal.now place.new) }
+    ensures advances { Advances moment fabric.old fabric.new journal.now place.new result }
     ensures onward { OnOk result (place.old.at < place.new.at) }
-    ensures clock { OnOk result (fabric.new.state.tables.clock ≡ Some moment) }
-    ensures settings { (fabric.new.settings ≡ fabric.old.settings)
-        × (fabric.new.count ≡ fabric.old.count) }
-    ensures idle { OnOk result (IsIdle fabric.new) }
     ensures pages { length pages.new ≡ length pages.old }
     ensures only { IfErr result IsOfLine }
 {

@@ -9,9 +9,10 @@ ghost use Rattle.fab_replay.specs.Lines.{IsInside, IsOfLine};
 ghost use Rattle.fab_replay.specs.AllOutputs.{OneRose};
 ghost use Rattle.fab_replay.specs.Counts.{TellsFaults};
 ghost use Rattle.fab_replay.specs.Owed.{AreMany, IsOwed, PagesGrow};
-ghost use Rattle.fab_replay.specs.Steps.{AreCounted, IsAlong, IsFound, IsGathered, IsIdle, IsReached, Left, Scene};
+ghost use Rattle.fab_replay.specs.Steps.{Advances, AreCounted, IsAlong, IsFound, IsGathered, IsIdle, IsReached, Left, Scene};
 ghost use Rattle.fab_replay.specs.Windows as spec;
-ghost use Rattle.fab_replay.specs.Windows.{Ends, Going, IsOf, Task, stand_at};
+ghost use Rattle.fab_replay.specs.Check.{Task};
+ghost use Rattle.fab_replay.specs.Windows.{Ends, Going, IsOf, stand_at};
 
 use crate::frames::{Gathered, check_frames};
 use crate::laws::laws_of_windows;
@@ -129,11 +130,7 @@ fn check_gathered<D: Depot>(
         → (IsTrue told → IsGathered x window J shelves.now) → MatchResult result
         (λ _. (K : Journal) × IsAlong x told K fabric.new course.new.place
         × (IsTrue told → AreCounted K shelves.now)) (λ e. Left x told fabric.new e) }
-    ensures inside { OnOk result (IsInside written.now.journal.now course.new.place) }
-    ensures clock { OnOk result (fabric.new.state.tables.clock ≡ Some window) }
-    ensures settings { (fabric.new.settings ≡ fabric.old.settings)
-        × (fabric.new.count ≡ fabric.old.count) }
-    ensures idle { OnOk result (IsIdle fabric.new) }
+    ensures advances { Advances window fabric.old fabric.new written.now.journal.now course.new.place result }
     ensures many { OnOk result (AreMany (length written.now.outs.now) course.new.owed) }
     ensures first { course.new.first ≡ course.old.first }
     ensures touches { Touches Nothing (NameIn (D.seen depot.old) written.now.outs.now)
@@ -188,11 +185,7 @@ fn check_shelves(
         → (IsTrue told → IsGathered x window J shelves.now) → MatchResult result
         (λ _. (K : Journal) × IsAlong x told K fabric.new place.new
         × (IsTrue told → AreCounted K shelves.now)) (λ e. Left x told fabric.new e) }
-    ensures inside { OnOk result (IsInside journal.now place.new) }
-    ensures clock { OnOk result (fabric.new.state.tables.clock ≡ Some window) }
-    ensures settings { (fabric.new.settings ≡ fabric.old.settings)
-        × (fabric.new.count ≡ fabric.old.count) }
-    ensures idle { OnOk result (IsIdle fabric.new) }
+    ensures advances { Advances window fabric.old fabric.new journal.now place.new result }
     ensures pages { length pages.new ≡ length pages.old }
     ensures only { IfErr result IsOfLine }
 {

@@ -1,43 +1,39 @@
 use Rattle.std.proofs.Common.{◌∙◌, ◌≡◌, ◌≤◌, [], Ok, Err, sym, subst, arith, length, drop}
-use Rattle.fab_gather.specs.Ports.{AreInputs, walk_at}
+use Rattle.fab_gather.specs.Ports.{AreInputs}
 use Rattle.fab_replay.specs.Lines.{IsInside}
 use Rattle.fab_replay.specs.Owed.{AreMany, ReadsOut}
 use Rattle.fab_replay.specs.declared.fault.CheckFault.TheVariants as fault
-use Rattle.fab_replay.specs.Windows.{Ends, Going, stand_at}
+use Rattle.fab_replay.specs.Windows.{Ends}
 use Rattle.fab_replay.proofs.CountLemmas.{counts_behind, counts_none, counts_on, not_ok}
-use Rattle.fab_replay.proofs.GoLemmas.{ends_behind, ends_out, ends_well, outputs_now}
+use Rattle.fab_replay.proofs.GoLemmas.{ends_behind, ends_out, ends_well, going_on, outputs_now}
 use Rattle.fab_replay.proofs.ResultLemmas.{err_is}
 use Rattle.fab_replay.proofs.check.check_begun.Goals as goal
 
 pub check_windows-requires : goal.check_windows-requires
 check_windows-requires g c =
-    let seen = g.D.Depot.seen in
     let k = c.requires.going.0 in
     let same = c.requires.going.1 in
     let going = c.requires.going.2 in
-    record { going = (k, same, (subst (λ l. Going k 0 (stand_at c.args.fabric.now c.args.begun.now.course (walk_at (seen c.args.depot.now) c.args.ins.now l c.args.budget.now))) (sym c.deref_mut.ensures.value) going)) }
+    record { going = (k, same, going_on c.deref_mut.ensures.value going) }
 
 pub returns-in_err-check_windows-clause-ends : goal.returns-in_err-check_windows-clause-ends
 returns-in_err-check_windows-clause-ends g c = λ k same going.
     let seen = g.D.Depot.seen in
     subst (Ends k (seen c.check_windows.new.depot) c.check_windows.new.fabric) (err_is c.from_residual.result c.in_err-check_windows.field-0.0 c.from_residual.ensures.1)
-    (c.in_err-check_windows.ensures.turns k same (subst (λ l. Going k 0 (stand_at c.args.fabric.now c.args.begun.now.course (walk_at (seen c.args.depot.now) c.args.ins.now l c.args.budget.now))) (sym c.deref_mut.ensures.value) going))
+    (c.in_err-check_windows.ensures.turns k same (going_on c.deref_mut.ensures.value going))
 
 pub check_end-requires : goal.check_end-requires
 check_end-requires g c =
-    let seen = g.D.Depot.seen in
     let k = c.requires.going.0 in
     let same = c.requires.going.1 in
     let going = c.requires.going.2 in
-    let now = subst (λ l. Going k 0 (stand_at c.args.fabric.now c.args.begun.now.course (walk_at (seen c.args.depot.now) c.args.ins.now l c.args.budget.now))) (sym c.deref_mut.ensures.value) going in
-    let t = c.in_ok-check_windows.ensures.turns k same now in
+    let t = c.in_ok-check_windows.ensures.turns k same (going_on c.deref_mut.ensures.value going) in
     record { inside = subst (λ l. IsInside l c.check_windows.new.course.place) same.journal t.1.inside }
 
 pub returns-in_err-check_end-clause-ends : goal.returns-in_err-check_end-clause-ends
 returns-in_err-check_end-clause-ends g c = λ k same going.
     let seen = g.D.Depot.seen in
-    let now = subst (λ l. Going k 0 (stand_at c.args.fabric.now c.args.begun.now.course (walk_at (seen c.args.depot.now) c.args.ins.now l c.args.budget.now))) (sym c.deref_mut.ensures.value) going in
-    let t = c.in_ok-check_windows.ensures.turns k same now in
+    let t = c.in_ok-check_windows.ensures.turns k same (going_on c.deref_mut.ensures.value going) in
     let n = c.check_windows.new in
     let e = c.in_err-check_end.field-0.0 in
     let end = c.in_err-check_end.ensures in
@@ -50,8 +46,7 @@ read_out-requires g c =
     let k = c.requires.going.0 in
     let same = c.requires.going.1 in
     let going = c.requires.going.2 in
-    let now = subst (λ l. Going k 0 (stand_at c.args.fabric.now c.args.begun.now.course (walk_at (seen c.args.depot.now) c.args.ins.now l c.args.budget.now))) (sym c.deref_mut.ensures.value) going in
-    let t = c.in_ok-check_windows.ensures.turns k same now in
+    let t = c.in_ok-check_windows.ensures.turns k same (going_on c.deref_mut.ensures.value going) in
     let n = c.check_windows.new in
     let few = going.outputs in
     let ports = going.ports in
@@ -64,8 +59,7 @@ read_out-requires g c =
 pub returns-in_err-read_out-clause-ends : goal.returns-in_err-read_out-clause-ends
 returns-in_err-read_out-clause-ends g c = λ k same going.
     let seen = g.D.Depot.seen in
-    let now = subst (λ l. Going k 0 (stand_at c.args.fabric.now c.args.begun.now.course (walk_at (seen c.args.depot.now) c.args.ins.now l c.args.budget.now))) (sym c.deref_mut.ensures.value) going in
-    let t = c.in_ok-check_windows.ensures.turns k same now in
+    let t = c.in_ok-check_windows.ensures.turns k same (going_on c.deref_mut.ensures.value going) in
     let n = c.check_windows.new in
     let d = seen c.read_out.new.depot in
     let e = c.in_err-read_out.field-0.0 in
@@ -76,8 +70,7 @@ returns-in_err-read_out-clause-ends g c = λ k same going.
 pub returns-clause-ends : goal.returns-clause-ends
 returns-clause-ends g c = λ k same going.
     let seen = g.D.Depot.seen in
-    let now = subst (λ l. Going k 0 (stand_at c.args.fabric.now c.args.begun.now.course (walk_at (seen c.args.depot.now) c.args.ins.now l c.args.budget.now))) (sym c.deref_mut.ensures.value) going in
-    let t = c.in_ok-check_windows.ensures.turns k same now in
+    let t = c.in_ok-check_windows.ensures.turns k same (going_on c.deref_mut.ensures.value going) in
     let n = c.check_windows.new in
     let d = seen c.read_out.new.depot in
     ends_well c.laws_of_windows.ensures k t.0 _ t.1 t.2 (λ x J F is stop h left tick. subst (λ l. drop n.course.place.at l ≡ []) (sym same.journal) (c.in_ok-check_end.ensures.checks x J F (is ∙ same.journal) stop h left tick)) d (subst (λ l. ReadsOut l (seen n.depot) d n.course.owed (Ok tt)) (sym same.outputs) c.in_ok-read_out.ensures.reads)

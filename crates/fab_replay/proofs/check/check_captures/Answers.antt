@@ -1,5 +1,6 @@
 use Rattle.std.proofs.Common.{refl, subst}
-use Rattle.fab_replay.specs.Windows.{Ends, task_of}
+use Rattle.fab_replay.specs.Check.{task_of}
+use Rattle.fab_replay.specs.Windows.{Ends}
 use Rattle.fab_replay.proofs.CountLemmas.{counts_behind, counts_on}
 use Rattle.fab_replay.proofs.ResultLemmas.{err_is}
 use Rattle.fab_replay.proofs.check.check_captures.Goals as goal

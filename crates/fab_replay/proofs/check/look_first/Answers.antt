@@ -2,7 +2,8 @@ use Rattle.std.proofs.Common.{[], Err, refl, sym, subst}
 use Rattle.fab_gather.specs.Ports.{slots_of}
 use Rattle.fab_gather.specs.declared.fault.GatherFault.TheVariants as gather_fault
 use Rattle.fab_gather.proofs.LeavesLemmas.{takes_none}
-use Rattle.fab_replay.specs.Windows.{Ends, scene_of, task_of}
+use Rattle.fab_replay.specs.Check.{task_of}
+use Rattle.fab_replay.specs.Windows.{Ends, scene_of}
 use Rattle.fab_replay.specs.declared.fault.CheckFault.TheVariants as fault
 use Rattle.fab_replay.proofs.BeginLemmas.{ends_looks, going_begin}
 use Rattle.fab_replay.proofs.CountLemmas.{counts_gathering, counts_none, not_ok}

@@ -1,10 +1,9 @@
-use Rattle.std.proofs.Common.{◌∙◌, ◌∷◌, ◌++◌, [], List, inr, ap, subst}
+use Rattle.std.proofs.Common.{◌∷◌, inr, subst}
 use Rattle.fab_base.specs.declared.values.Caught.{Caught}
 use Rattle.fab_pages.specs.Pages.{items_in}
 use Rattle.fab_policy.specs.Legal.{Legal}
 use Rattle.fab_policy.specs.Ranged.{IsRangedEvent}
 use Rattle.fab_policy.specs.Standing.{Stands}
-use Rattle.fab_policy.specs.declared.event.Event.{Event}
 use Rattle.fab_policy.specs.declared.event.Event.TheVariants as event
 use Rattle.fab_replay.specs.Owed.{PagesGrow}
 use Rattle.fab_replay.specs.Steps.{HasTurned}
@@ -12,7 +11,7 @@ use Rattle.fab_replay.specs.declared.fault.CheckFault.TheVariants as fault
 use Rattle.fab_replay.proofs.FrontLemmas.{ranged_one}
 use Rattle.fab_replay.proofs.RemainLemmas.{turned_as}
 use Rattle.fab_replay.proofs.ResultLemmas.{err_on}
-use Rattle.fab_replay.proofs.SentLemmas.{frame_soon, grow_taken}
+use Rattle.fab_replay.proofs.SentLemmas.{frame_soon, grow_taken, took_one}
 use Rattle.fab_replay.proofs.StepLemmas.{refused_as}
 use Rattle.fab_replay.proofs.frames.take_frame.Goals as goal
 
@@ -40,7 +39,7 @@ pub returns-clause-ranged : goal.returns-clause-ranged
 returns-clause-ranged c =
     let e = event.Frame c.args.named.now.port c.args.named.now.index c.hear-heard.result.caught.now c.args.named.now.verdict in
     subst (λ (x : Caught). IsRangedEvent (event.Frame c.args.named.now.port c.args.named.now.index x c.args.named.now.verdict)) c.hear-heard.ensures.caught
-    (ranged_one e c.step_as.new.fabric.events (c.in-Ok.ensures.takes.events ∙ ap (λ (l : List Event). l ++ e ∷ []) c.requires.idle.events) c.take_sent.ensures.ranged)
+    (ranged_one e c.step_as.new.fabric.events (took_one c.requires.idle c.in-Ok.ensures.takes) c.take_sent.ensures.ranged)
 
 pub returns-in-Err-clause-left : goal.returns-in-Err-clause-left
 returns-in-Err-clause-left c = λ J legal stands.

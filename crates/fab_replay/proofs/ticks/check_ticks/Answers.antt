@@ -34,11 +34,11 @@ ticks-preserved c = record {
       let at = c.ticks.invariant.left x told J same h least in
       let step = c.in_ok-check_tick.ensures.left x told at.0 same at.1 (tick_now x told at.0 c.ticks.fabric c.ticks.place at.1 J c.args.window c.in-Some.moment at.2 c.in-Some.ensures least) in
       (event.Tick c.in-Some.moment step.0 ∷ at.0, step.1, at.2);
-  inside = c.in_ok-check_tick.ensures.inside;
-  order = subst (λ o. IfSome o (λ k. k ≤ c.args.window)) (sym c.in_ok-check_tick.ensures.clock) c.in-Some.ensures.within;
-  settings = c.in_ok-check_tick.ensures.settings.0 ∙ c.ticks.invariant.settings;
-  count = c.in_ok-check_tick.ensures.settings.1 ∙ c.ticks.invariant.count;
-  idle = c.in_ok-check_tick.ensures.idle;
+  inside = c.in_ok-check_tick.ensures.advances.inside;
+  order = subst (λ o. IfSome o (λ k. k ≤ c.args.window)) (sym c.in_ok-check_tick.ensures.advances.clock_) c.in-Some.ensures.within;
+  settings = c.in_ok-check_tick.ensures.advances.settings ∙ c.ticks.invariant.settings;
+  count = c.in_ok-check_tick.ensures.advances.count ∙ c.ticks.invariant.count;
+  idle = c.in_ok-check_tick.ensures.advances.idle;
   pages = c.in_ok-check_tick.ensures.pages ∙ c.ticks.invariant.pages;
 }
 

@@ -22,7 +22,7 @@ returns-in_err-check_ticks-clause-checks c = λ x J same h gathered.
 
 pub check_frames-requires-clause-count : goal.check_frames-requires-clause-count
 check_frames-requires-clause-count c = (
-  c.in_ok-check_ticks.ensures.settings.1 ∙ c.requires.count,
+  c.in_ok-check_ticks.ensures.advances.count ∙ c.requires.count,
   ap length c.deref_mut.ensures.value ∙ ap length c.in_ok-done.ensures.zeros ∙ length-zeros (length c.args.shelves.now),
 )
 
@@ -34,7 +34,7 @@ returns-clause-checks c = λ x J same h gathered.
     let at = t.checks x J same h (least_gathered x w J shelves gathered) gathered.ahead in
     let width = ap length c.deref_mut.ensures.value ∙ ap length c.in_ok-done.ensures.zeros ∙ length-zeros (length c.args.shelves.now) in
     let zeros = c.deref_mut.ensures.value ∙ c.in_ok-done.ensures.zeros in
-    let clock = sym (same_clock c.check_ticks.new.fabric at.0 at.1.stands) ∙ t.clock in
+    let clock = sym (same_clock c.check_ticks.new.fabric at.0 at.1.stands) ∙ t.advances.clock_ in
     let win = subst (IsWindow x w at.0 shelves) (sym zeros) (window_first x w J shelves gathered at.0 (length shelves) at.2 clock) in
     let e = c.check_frames.ensures in
     shelves_end x w shelves c.check_frames.new.fabric c.check_frames.new.place c.check_frames.new.done J at.0 (items_in c.args.pages.now) (items_in c.check_ticks.new.pages) (items_in c.check_frames.new.pages) at.3 c.check_frames.result (e.checks x at.0 same at.1 win) e.all (e.width ∙ width)
@@ -57,7 +57,7 @@ returns-clause-left c = λ x told J same h gathered.
     let at = t.left x told J same h (λ t. least_gathered x w J shelves (gathered t)) in
     let width = ap length c.deref_mut.ensures.value ∙ ap length c.in_ok-done.ensures.zeros ∙ length-zeros (length c.args.shelves.now) in
     let zeros = c.deref_mut.ensures.value ∙ c.in_ok-done.ensures.zeros in
-    let clock = sym (same_clock c.check_ticks.new.fabric at.0 at.1.stands) ∙ t.clock in
+    let clock = sym (same_clock c.check_ticks.new.fabric at.0 at.1.stands) ∙ t.advances.clock_ in
     let e = c.check_frames.ensures in
     shelves_left x told w shelves c.check_frames.new.fabric c.check_frames.new.place c.check_frames.new.done c.check_frames.result
     (e.left x told at.0 same at.1 (λ t. subst (IsWindow x w at.0 shelves) (sym zeros) (window_first x w J shelves (gathered t) at.0 (length shelves) at.2 clock))) e.all (e.width ∙ width)

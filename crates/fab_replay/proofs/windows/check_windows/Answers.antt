@@ -89,7 +89,7 @@ returns-in_err-check_gathered-clause-turns g c = λ k same start.
     let e = c.in_err-check_gathered.ensures in
     let f = c.in_err-check_gathered.field-0.0 in
     told_on c.from_residual.result f _ _ c.from_residual.ensures.1
-    (turned c.laws_of_windows.ensures k c.in-Some.window _ h.going _ t h.next n.fabric n.course (g.D.Depot.seen n.depot) _ _ same (Err f) e.checks e.left e.touches e.cause e.many e.inside e.clock e.settings e.idle e.first)
+    (turned c.laws_of_windows.ensures k c.in-Some.window _ h.going _ t h.next n.fabric n.course (g.D.Depot.seen n.depot) _ _ same (Err f) e.checks e.left e.touches e.cause e.many e.advances e.first)
 
 pub windows-preserved : goal.windows-preserved
 windows-preserved g c =
@@ -103,9 +103,9 @@ windows-preserved g c =
           let h = window_here c.laws_of_windows.ensures k at.0 _ at.1 _ c.config.ensures c.in-Some.window c.in-Some.ensures.least in
           let t = gathers_as (c.config-config.ensures ∙ h.going.settings_) gathered in (
             c.in-Some.window + 1,
-            turned c.laws_of_windows.ensures k c.in-Some.window _ h.going _ t h.next n.fabric n.course (g.D.Depot.seen n.depot) _ _ same (Ok tt) e.checks e.left e.touches e.cause e.many e.inside e.clock e.settings e.idle e.first,
+            turned c.laws_of_windows.ensures k c.in-Some.window _ h.going _ t h.next n.fabric n.course (g.D.Depot.seen n.depot) _ _ same (Ok tt) e.checks e.left e.touches e.cause e.many e.advances e.first,
           );
-      settings = e.settings.0 ∙ l.invariant.settings;
+      settings = e.advances.settings ∙ l.invariant.settings;
       takes = takes_then c.args.ins.now l.ins c.gather.new.ins c.args.budget.now l.budget c.gather.new.budget l.invariant.takes gathered.takes;
       counts = (
         λ m. e.counts.reads (not_ok tt fault.Read) m ∙ gathered.counts (not_ok tt gather_fault.Read) m ∙ l.invariant.counts.0 m,
@@ -118,7 +118,7 @@ windows-smaller g c =
     let k = c.requires.going.0 in
     let at = c.windows.invariant.turns k c.requires.going.1 c.requires.going.2 in
     let h = window_here c.laws_of_windows.ensures k at.0 _ at.1 _ c.config.ensures c.in-Some.window c.in-Some.ensures.least in
-    nearer (2 ^ 43) c.in-Some.window c.windows.fabric.state.tables.clock c.check_gathered.new.fabric.state.tables.clock h.going.clock h.early c.in_ok-check_gathered.ensures.clock
+    nearer (2 ^ 43) c.in-Some.window c.windows.fabric.state.tables.clock c.check_gathered.new.fabric.state.tables.clock h.going.clock h.early c.in_ok-check_gathered.ensures.advances.clock_
 
 pub returns-in_err-check_gathered-clause-takes : goal.returns-in_err-check_gathered-clause-takes
 returns-in_err-check_gathered-clause-takes g c =

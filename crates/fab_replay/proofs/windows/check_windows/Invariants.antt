@@ -2,7 +2,8 @@ use Rattle.std.proofs.Common.{ℕ, ◌≡◌, ◌^◌}
 use Rattle.fab_base.specs.Seen.{SameReadFaults, SameWriteFaults}
 use Rattle.fab_gather.proofs.ClockLemmas.{distance}
 use Rattle.fab_gather.specs.Ports.{TakesFrom, walk_at}
-use Rattle.fab_replay.specs.Windows.{Going, IsOf, Task, stand_at}
+use Rattle.fab_replay.specs.Check.{Task}
+use Rattle.fab_replay.specs.Windows.{Going, IsOf, stand_at}
 use Rattle.fab_replay.proofs.windows.check_windows.Given as goal
 
 abbrev pub invariant-windows : goal.invariant-windows
