@@ -14,7 +14,7 @@ use Rattle.fab_gather.specs.Ports.{slots_of, slot_at, name_of}
 use Rattle.fab_gather.specs.declared.shelf.Input.{Input}
 use Rattle.fab_gather.specs.declared.fault.RunFault.{RunFault}
 use Rattle.fab_replay.specs.Outputs.{IsCompared}
-use Rattle.fab_replay.specs.Check.{Matter, NamesRun, IsAccepted, IsFirstOutput, IsFirstStop, Says, Checks, matter_in, sent_on}
+use Rattle.fab_replay.specs.Check.{Matter, NamesRun, IsAccepted, IsFirstOutput, IsFirstStop, Says, Checks, matter_in, sent_on, task_of}
 use Rattle.fab_replay.specs.Counts as counts
 use Rattle.fab_replay.specs.declared.fault.CheckFault.{CheckFault}
 use Rattle.fab_replay.specs.declared.fault.CheckFault.TheVariants as checks
@@ -102,9 +102,10 @@ outs_since a m o same told_m (n ∷ names) [] are = absurd are
 outs_since a m o same told_m (n ∷ names) (s ∷ slots) are = ((are.0.0, are.0.1, λ told. sym (same n) ∙ are.0.2 (told_m told)), outs_since a m o same told_m names slots are.1)
 
 -- the check of equal things
-pub checks_as : {s c : Settings} {left : Budget} {xs ins : List Input} {ys slots journal : List ℕ} {o z : Seen} {F : Contents} {r : Result ℕ CheckFault} → s ≡ c → xs ≡ ins → ys ≡ slots → Checks s left xs ys journal o z F r → Checks c left ins slots journal o z F r
+pub checks_as : {s c : Settings} {left : Budget} {xs ins : List Input} {ys slots journal : List ℕ} {o z : Seen} {F : Contents} {r : Result ℕ CheckFault} → s ≡ c → xs ≡ ins → ys ≡ slots → Checks (task_of s left xs o journal ys) z F r → Checks (task_of c left ins o journal slots) z F r
 checks_as {s} {c} {left} {xs} {ins} {ys} {slots} {journal} {o} {z} {F} {r} settings inputs outputs checks =
-    subst (λ x. Checks x left ins slots journal o z F r) settings (subst (λ l. Checks s left l slots journal o z F r) inputs (subst (λ l. Checks s left xs l journal o z F r) outputs checks))
+    subst (λ x. Checks (task_of x left ins o journal slots) z F r) settings
+    (subst (λ l. Checks (task_of s left l o journal slots) z F r) inputs (subst (λ l. Checks (task_of s left xs o journal l) z F r) outputs checks))
 
 -- the configuration and the journal were read
 module _ (w : Width) (words : List (String Global)) (run : are_ports w words ≡ true) (c : Settings) (journal : List ℕ) (a b : Seen) (given : HasGiven (names_of w words) c journal a b) where
@@ -280,7 +281,7 @@ module _ (w : Width) (words : List (String Global)) (run : are_ports w words ≡
       same_found : IsTrue a.told → (q : ℕ) → q < length slots → output_in (names_of w words) a q ≡ o.left (slot_at slots q)
       same_found told q lt = found_there a o (names_of w words).outs slots q lt told outs_a
 
-      module _ (z : Seen) (F : Contents) (settings : F.settings ≡ c) (r : Result ℕ CheckFault) (all : Checks c left ins slots journal o z F r) (none : NoFaults a o) (tells : counts.TellsFaults o z r) where
+      module _ (z : Seen) (F : Contents) (settings : F.settings ≡ c) (r : Result ℕ CheckFault) (all : Checks (task_of c left ins o journal slots) z F r) (none : NoFaults a o) (tells : counts.TellsFaults o z r) where
         same : SameFiles a z
         same n = all.touches.files n (λ x. x) ∙ files_o n
 
