@@ -1,5 +1,5 @@
 -- What stands between two lines of a journal, while a window of the captures is checked. No public clause cites this module.
-use Rattle.std.specs.Prelude.{◌≡◌, ℕ, ◌+◌, ◌≤◌, ◌<◌, ◌⊎◌, Bool, true, IfSome, IsTrue, List, [], ◌∷◌, ◌++◌, length, drop, Option, Some, slice_get, Result, Err, OnOk}
+use Rattle.std.specs.Prelude.{◌≡◌, ℕ, ◌+◌, ◌^◌, ◌≤◌, ◌<◌, ◌⊎◌, Bool, true, IfSome, IsTrue, List, [], ◌∷◌, ◌++◌, length, drop, Option, Some, slice_get, Result, Err, OnOk}
 use Rattle.fab_base.specs.declared.values.Caught.{Caught}
 use Rattle.fab_config.specs.Settings.{Settings}
 use Rattle.pcap_file.specs.declared.Record.{Record}
@@ -114,6 +114,17 @@ pub record IsWindow (x : Scene) (w : ℕ) (J : Journal) (shelves : List Shelf) (
   pub ahead : IsAhead (w + 1) x.stop
   pub ports : (q : ℕ) (s : Shelf) (k : ℕ) → At q shelves done s k → IsPortIn x w J q s k
   pub clock_ : clock J ≡ Some w
+
+-- A check stands among the frames of a window: between two lines of the text, with nothing undrained, at the window's moment, and
+-- with a count of lines for each port.
+pub record IsAmong (window : ℕ) (F : Contents) (text : List ℕ) (p : Place) (shelves : List Shelf) (done : List ℕ) : Type 0 where
+  pub inside : IsInside text p
+  pub clock_ : F.state.tables.clock ≡ Some window
+  pub early : window < 2 ^ 53
+  pub idle : IsIdle F
+  pub few : length shelves ≤ 64
+  pub count : F.count ≡ length shelves
+  pub width : length done ≡ length shelves
 
 -- The record of a port is the next one on its shelf, with this index; a line that tells the clock tells this one.
 pub record IsOnShelf (shelves : List Shelf) (done : List ℕ) (w port index : ℕ) (told : Option ℕ) (r : Record) : Type 0 where

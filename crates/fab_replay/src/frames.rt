@@ -6,10 +6,10 @@ ghost use Rattle.fab_policy.specs.Ranged.{IsRangedEvent};
 ghost use Rattle.fab_policy.specs.Standing.{Stands};
 ghost use Rattle.fab_policy.specs.declared.event.Event.TheVariants as event;
 ghost use Rattle.fab_pages.specs.Pages.{items_in};
-ghost use Rattle.fab_replay.specs.Lines.{IsInside, IsOfLine};
+ghost use Rattle.fab_replay.specs.Lines.{IsOfLine};
 ghost use Rattle.fab_replay.specs.Steps as spec;
 ghost use Rattle.fab_replay.specs.Owed.{PagesGrow};
-ghost use Rattle.fab_replay.specs.Steps.{Advances, AllDone, HasLeft, HasTurned, IsAlong, IsFound, IsIdle, IsOnShelf, IsReached, IsRefused, IsWindow, Left, Scene};
+ghost use Rattle.fab_replay.specs.Steps.{Advances, AllDone, HasLeft, HasTurned, IsAlong, IsAmong, IsFound, IsIdle, IsOnShelf, IsReached, IsRefused, IsWindow, Left, Scene};
 ghost use Rattle.pcap_file.specs.declared.Record.{Record as of_captures};
 
 use crate::lines::{fault_at, next_line};
@@ -50,13 +50,8 @@ pub(crate) fn check_frames(
     done: &mut [usize],
     pages: &mut [Vec<u8>],
 ) -> Result<(), CheckFault>
-    requires inside { IsInside journal.now place.old }
-    requires clock { fabric.old.state.tables.clock ≡ Some gathered.now.window }
-    requires range { gathered.now.window < 2 ^ 53 }
-    requires idle { IsIdle fabric.old }
-    requires ports { length gathered.now.shelves.now ≤ 64 }
-    requires count { (fabric.old.count ≡ length gathered.now.shelves.now)
-        × (length done.old ≡ length gathered.now.shelves.now) }
+    requires among { IsAmong gathered.now.window fabric.old journal.now place.old
+        gathered.now.shelves.now done.old }
     ensures checks { (x : Scene) (J : Journal) → x.bytes ≡ journal.now
         → IsReached x J fabric.old place.old
         → IsWindow x gathered.now.window J gathered.now.shelves.now done.old
@@ -97,13 +92,8 @@ fn check_frame(
     done: &mut [usize],
     pages: &mut [Vec<u8>],
 ) -> Result<(), CheckFault>
-    requires inside { IsInside journal.now place.old }
-    requires clock { fabric.old.state.tables.clock ≡ Some gathered.now.window }
-    requires range { gathered.now.window < 2 ^ 53 }
-    requires idle { IsIdle fabric.old }
-    requires ports { length gathered.now.shelves.now ≤ 64 }
-    requires count { (fabric.old.count ≡ length gathered.now.shelves.now)
-        × (length done.old ≡ length gathered.now.shelves.now) }
+    requires among { IsAmong gathered.now.window fabric.old journal.now place.old
+        gathered.now.shelves.now done.old }
     requires left { HasLeft gathered.now.shelves.now done.old }
     ensures checks { (x : Scene) (J : Journal) → x.bytes ≡ journal.now
         → IsReached x J fabric.old place.old

@@ -20,11 +20,20 @@ returns-in_err-check_ticks-clause-checks c = λ x J same h gathered.
     told_on c.from_residual-in_err-check_ticks.result e _ _ c.from_residual-in_err-check_ticks.ensures.1
     (c.in_err-check_ticks.ensures.checks x J same h (least_gathered x c.args.window J c.args.shelves.now gathered) gathered.ahead)
 
-pub check_frames-requires-clause-count : goal.check_frames-requires-clause-count
-check_frames-requires-clause-count c = (
-  c.in_ok-check_ticks.ensures.advances.count ∙ c.requires.count,
-  ap length c.deref_mut.ensures.value ∙ ap length c.in_ok-done.ensures.zeros ∙ length-zeros (length c.args.shelves.now),
-)
+pub check_frames-requires : goal.check_frames-requires
+check_frames-requires c =
+    let t = c.in_ok-check_ticks.ensures.advances in
+    record {
+      among = record {
+        inside = t.inside;
+        clock_ = t.clock_;
+        early = c.requires.range;
+        idle = t.idle;
+        few = c.requires.ports;
+        count = t.count ∙ c.requires.count;
+        width = ap length c.deref_mut.ensures.value ∙ ap length c.in_ok-done.ensures.zeros ∙ length-zeros (length c.args.shelves.now);
+      };
+    }
 
 pub returns-clause-checks : goal.returns-clause-checks
 returns-clause-checks c = λ x J same h gathered.
