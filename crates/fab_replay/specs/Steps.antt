@@ -146,8 +146,8 @@ pub record HasLeft (shelves : List Shelf) (done : List ℕ) : Type 0 where
   pub more : done_ < length shelf.batch.items
 
 -- a record of a port has no line yet
-abbrev pub IsLeft : List Shelf → List ℕ → ℕ → Type 0
-IsLeft shelves done q = (s : Shelf) × (k : ℕ) × At q shelves done s k × (k < length s.batch.items)
+abbrev pub HasLeftAt : List Shelf → List ℕ → ℕ → Type 0
+HasLeftAt shelves done q = (s : Shelf) × (k : ℕ) × At q shelves done s k × (k < length s.batch.items)
 
 -- each record of a port has a line
 abbrev pub IsDone : List Shelf → List ℕ → ℕ → Type 0

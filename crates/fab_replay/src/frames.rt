@@ -281,7 +281,7 @@ fn has_left(shelves: &[Shelf], done: &[usize]) -> bool
 
 // Whether a record on the shelf of a port has no line yet.
 fn has_left_at(shelves: &[Shelf], done: &[usize], port: usize) -> bool
-    ensures { MatchBool result (spec.IsLeft shelves.now done.now port)
+    ensures { MatchBool result (spec.HasLeftAt shelves.now done.now port)
         (spec.IsDone shelves.now done.now port) }
 {
     let (Some(shelf), Some(count)) = (shelf_at(shelves, port), done_at(done, port)) else {

@@ -2,11 +2,10 @@
 ghost use Rattle.std.specs.Prelude.{IfErr, Bool, IsTrue, ◌≡◌, ◌+◌, ◌<◌, ◌≤◌, ◌%◌, ◌^◌, ◌∷◌, [], ℕ, List, IfSome, MatchResult, MatchBool, OnOk, Some, length, true};
 ghost use Rattle.fab_policy.specs.Journal.{Journal};
 ghost use Rattle.fab_policy.specs.Keeping.{IsAhead};
-ghost use Rattle.fab_policy.specs.Legal.{IsLeastOf, IsNextTick, windows_left};
+ghost use Rattle.fab_policy.specs.Legal.{IsLeastOf, windows_left};
 ghost use Rattle.fab_policy.specs.declared.event.Event.TheVariants as event;
 ghost use Rattle.fab_policy.specs.declared.line.Line.TheVariants as line_;
 ghost use Rattle.fab_pages.specs.Pages.{items_in};
-ghost use Rattle.fab_replay.specs.Front.{expects_tick};
 ghost use Rattle.fab_replay.specs.Lines.{IsInside, IsOfLine};
 ghost use Rattle.fab_replay.specs.Owed.{PagesGrow};
 ghost use Rattle.fab_replay.specs.Steps.{Advances, HoldSame, IsAlong, IsFound, IsIdle, IsReached, IsTickNow, Left, Scene};
@@ -72,11 +71,8 @@ fn check_tick(
     requires range { moment < 2 ^ 53 }
     requires order { IfSome fabric.old.state.tables.clock (λ t. t < moment) }
     requires idle { IsIdle fabric.old }
-    ensures checks { (x : Scene) (J : Journal) (w : ℕ) → x.bytes ≡ journal.now
-        → IsReached x J fabric.old place.old
-        → IsLeastOf (windows_left x.settings 1 x.records J) w → IsNextTick x.settings J w moment
-        → expects_tick x.settings x.records J ≡ true → IsAhead (w + 1) x.stop
-        → MatchResult result
+    ensures checks { (x : Scene) (J : Journal) (t : IsTickNow x J moment) → x.bytes ≡ journal.now
+        → IsReached x J fabric.old place.old → IsAhead (t.window + 1) x.stop → MatchResult result
         (λ _. (ended : List ℕ) × IsReached x (event.Tick moment ended ∷ J) fabric.new place.new
         × PagesGrow x.settings (length x.records) J (event.Tick moment ended ∷ J)
         (items_in pages.old) (items_in pages.new))

@@ -14,36 +14,36 @@ use Rattle.fab_replay.proofs.StepLemmas.{left_then, other_tick, tick_reached, un
 use Rattle.fab_replay.proofs.ticks.check_tick.Goals as goal
 
 pub returns-in_err-line-clause-checks : goal.returns-in_err-line-clause-checks
-returns-in_err-line-clause-checks c = λ x J w same h least next expected ahead.
+returns-in_err-line-clause-checks c = λ x J t same h ahead.
     let F = c.args.fabric.now in
     let p = c.args.place.now in
     let e = c.in_err-line.field-0.0 in
     told_on c.from_residual.result e _ _ c.from_residual.ensures.1
-    (unread_here x J F p h (gathered_next x.settings x.records x.stop J w least ahead) e (left_then x J F p h w c.args.moment least next expected) (unread_as p e same c.in_err-line.ensures.unread.0))
+    (unread_here x J F p h (gathered_next x.settings x.records x.stop J t.window t.least ahead) e (left_then x J F p h c.args.moment t) (unread_as p e same c.in_err-line.ensures.unread.0))
 
 pub returns-in_err-tick-clause-checks : goal.returns-in_err-tick-clause-checks
-returns-in_err-tick-clause-checks c = λ x J w same h least next expected ahead. told_on c.from_residual-in_err-tick.result fault.Memory _ _ c.from_residual-in_err-tick.ensures.1 tt
+returns-in_err-tick-clause-checks c = λ x J t same h ahead. told_on c.from_residual-in_err-tick.result fault.Memory _ _ c.from_residual-in_err-tick.ensures.1 tt
 
 pub returns-then-not-is_line_of-clause-checks : goal.returns-then-not-is_line_of-clause-checks
-returns-then-not-is_line_of-clause-checks c = λ x J w same h least next expected ahead.
+returns-then-not-is_line_of-clause-checks c = λ x J t same h ahead.
     let F = c.args.fabric.now in
     let p = c.args.place.now in
     let e = event.Tick c.args.moment (addresses (overdue F.settings F.state.tables c.args.moment)) in
     let events = c.in_ok-drained.ensures.events ∙ took_one c.requires.idle c.in_ok-tick.ensures.takes in
     subst (IsFound x) (sym c.fault_at.ensures)
-    (other_tick x J F p h w c.args.moment least next expected ahead (number_behind p.format p.entries) c.next_line.new.place c.in_ok-line.line refl
+    (other_tick x J F p h c.args.moment t ahead (number_behind p.format p.entries) c.next_line.new.place c.in_ok-line.line refl
     (line_as same refl c.in_ok-line.ensures.line)
     (if_false c.is_line_of.result _ _ c.if-not-is_line_of.true (c.is_line_of.ensures c.args.moment (addresses (overdue F.settings F.state.tables c.args.moment)) events)))
 
 pub returns-clause-checks : goal.returns-clause-checks
-returns-clause-checks c = λ x J w same h least next expected ahead.
+returns-clause-checks c = λ x J t same h ahead.
     let F = c.args.fabric.now in
     let p = c.args.place.now in
     let ends = addresses (overdue F.settings F.state.tables c.args.moment) in
     let e = event.Tick c.args.moment ends in
     let events = c.in_ok-drained.ensures.events ∙ took_one c.requires.idle c.in_ok-tick.ensures.takes in (
       ends,
-      tick_reached x J F p h w c.args.moment least next expected c.take_sent.new.fabric c.next_line.new.place c.in_ok-line.line ends
+      tick_reached x J F p h c.args.moment t c.take_sent.new.fabric c.next_line.new.place c.in_ok-line.line ends
           (line_as same refl c.in_ok-line.ensures.line)
           (if_true c.is_line_of.result _ _ c.if-not-is_line_of.false (c.is_line_of.ensures c.args.moment ends events))
           (λ l s.
@@ -62,7 +62,7 @@ take_sent-requires c = record {
 }
 
 pub returns-in_err-drained-clause-checks : goal.returns-in_err-drained-clause-checks
-returns-in_err-drained-clause-checks c = λ x J w same h least next expected ahead. told_on c.from_residual-in_err-drained.result fault.Memory _ _ c.from_residual-in_err-drained.ensures.1 tt
+returns-in_err-drained-clause-checks c = λ x J t same h ahead. told_on c.from_residual-in_err-drained.result fault.Memory _ _ c.from_residual-in_err-drained.ensures.1 tt
 
 -- ---- what the fabric stands for
 
