@@ -83,6 +83,10 @@ grow_one c n J e old new adds = record {
 pub took_one : {F G : Contents} {e : Event} → IsIdle F → Takes F e G → G.events ≡ e ∷ []
 took_one {F} {G} {e} idle t = t.events ∙ ap (λ (l : List Event). l ++ e ∷ []) idle.events
 
+-- a fabric that took an entry and was drained then
+pub stands_drained : (F G H : Contents) (J K : Journal) → (Legal F.settings J → Stands F J → Legal F.settings K × Stands G K) → ((L : Journal) → Stands G L → Stands H L) → Legal F.settings J → Stands F J → Legal F.settings K × Stands H K
+stands_drained F G H J K goes drained legal stands = let both = goes legal stands in (both.0, drained K both.1)
+
 -- a fabric that took an entry, and what it sent since
 pub grow_taken : (F G : Contents) (e : Event) (J : Journal) (old new : List (List ℕ)) → IsIdle F → Takes F e G → Stands G (e ∷ J) → Adds G.outs old new → PagesGrow F.settings F.count J (e ∷ J) old new
 grow_taken F G e J old new idle t stands adds =
