@@ -68,7 +68,8 @@ pub(crate) fn check_frames(
         × (IsTrue told → IsWindow x gathered.now.window K gathered.now.shelves.now done.new))
         (λ e. Left x told fabric.new e) }
     ensures all { OnOk result (AllDone gathered.now.shelves.now done.new) }
-    ensures advances { Advances gathered.now.window fabric.old fabric.new journal.now place.new result }
+    ensures advances { let w = gathered.now.window in
+        Advances w fabric.old fabric.new journal.now place.new result }
     ensures pages { length pages.new ≡ length pages.old }
     ensures only { IfErr result IsOfLine }
     ensures width { length done.new ≡ length done.old }
@@ -110,7 +111,8 @@ fn check_frame(
         (λ _. (K : Journal) × IsAlong x told K fabric.new place.new
         × (IsTrue told → IsWindow x gathered.now.window K gathered.now.shelves.now done.new))
         (λ e. Left x told fabric.new e) }
-    ensures advances { Advances gathered.now.window fabric.old fabric.new journal.now place.new result }
+    ensures advances { let w = gathered.now.window in
+        Advances w fabric.old fabric.new journal.now place.new result }
     ensures onward { OnOk result (place.old.at < place.new.at) }
     ensures pages { length pages.new ≡ length pages.old }
     ensures only { IfErr result IsOfLine }

@@ -130,7 +130,8 @@ fn check_gathered<D: Depot>(
         → (IsTrue told → IsGathered x window J shelves.now) → MatchResult result
         (λ _. (K : Journal) × IsAlong x told K fabric.new course.new.place
         × (IsTrue told → AreCounted K shelves.now)) (λ e. Left x told fabric.new e) }
-    ensures advances { Advances window fabric.old fabric.new written.now.journal.now course.new.place result }
+    ensures advances { let text = written.now.journal.now in
+        Advances window fabric.old fabric.new text course.new.place result }
     ensures many { OnOk result (AreMany (length written.now.outs.now) course.new.owed) }
     ensures first { course.new.first ≡ course.old.first }
     ensures touches { Touches Nothing (NameIn (D.seen depot.old) written.now.outs.now)
