@@ -4,8 +4,8 @@ use Rattle.std.specs.Prelude.{IsErrOf}
 use Rattle.std.specs.Result.{IsErrAnd}
 use Rattle.fab_base.specs.Seen.{Seen, SameReadFaults, SameWriteFaults}
 use Rattle.fab_gather.specs.Port.{TellsReads}
-use Rattle.fab_gather.specs.declared.fault.RunFault.{RunFault}
-use Rattle.fab_gather.specs.declared.fault.RunFault.TheVariants as run_fault
+use Rattle.fab_gather.specs.declared.fault.GatherFault.{GatherFault}
+use Rattle.fab_gather.specs.declared.fault.GatherFault.TheVariants as gather_fault
 use Rattle.fab_replay.specs.Counts.{TellsFaults}
 use Rattle.fab_replay.specs.Windows.{check_fault}
 use Rattle.fab_replay.specs.declared.fault.CheckFault.{CheckFault}
@@ -40,8 +40,8 @@ pub counts_read : {T : Type 0} (a b : Seen) → SameWriteFaults a b → TellsFau
 counts_read a b writes = record { reads = λ not. absurd (not refl); writes = writes }
 
 -- a fault of gathering
-pub counts_gathering : {S T : Type 0} (a b : Seen) (f : RunFault) (e : CheckFault) → e ≡ check_fault f → TellsReads {T = S} a b (Err f) → SameWriteFaults a b → TellsFaults {T = T} a b (Err e)
+pub counts_gathering : {S T : Type 0} (a b : Seen) (f : GatherFault) (e : CheckFault) → e ≡ check_fault f → TellsReads {T = S} a b (Err f) → SameWriteFaults a b → TellsFaults {T = T} a b (Err e)
 counts_gathering {S} {T} a b f e is tells writes = record {
-  reads = λ not. tells (λ same. not (ap (λ (x : CheckFault). let r : Result T CheckFault = Err x in r) (is ∙ ap check_fault (same_fault f run_fault.Read same))));
+  reads = λ not. tells (λ same. not (ap (λ (x : CheckFault). let r : Result T CheckFault = Err x in r) (is ∙ ap check_fault (same_fault f gather_fault.Read same))));
   writes = writes;
 }

@@ -1,7 +1,5 @@
--- How a check begins, goes on from window to window, and ends.
-use Rattle.std.proofs.Common.{◌≡◌, ◌≢◌, ℕ, zero, suc, ◌+◌, ◌^◌, ◌<◌, ◌≤◌, ◌⊎◌, inl, inr, false, List, [], ◌∷◌, ◌++◌, length, map, take, drop, slice_get, Option, Some, None, IfSome, IsTrue, Result, Ok, Err, IfErr, OnOk, MatchResult, refl, sym, ap, ◌∙◌, subst, arith}
-use Rattle.std.specs.Prelude.{unwrap_or, Vec}
-use Rattle.std.specs.declared.alloc.Global.{Global}
+-- How a check goes on from window to window, and ends.
+use Rattle.std.proofs.Common.{◌≡◌, ℕ, suc, ◌+◌, ◌^◌, ◌<◌, ◌≤◌, ◌⊎◌, inl, inr, Bool, false, List, [], ◌∷◌, ◌++◌, length, take, drop, slice_get, Option, Some, None, IfSome, IsTrue, Result, Ok, Err, IfErr, OnOk, MatchResult, refl, sym, ap, ◌∙◌, subst, arith}
 use Rattle.std.specs.List.{All}
 use Rattle.std.proofs.lemmas.List.{append-nil}
 use Rattle.fab_base.specs.Seen.{Seen, Touches, Nothing}
@@ -11,8 +9,7 @@ use Rattle.fab_policy.specs.Growing.{with_more}
 use Rattle.fab_policy.specs.Journal.{Journal}
 use Rattle.fab_policy.specs.Keeping.{IsAhead, Splits}
 use Rattle.fab_policy.specs.Legal.{HoldsFrames, left_of, numbered_from, of_port}
-use Rattle.fab_policy.specs.Looks.{Opened, Stop, all_records, first_window, in_order, records_in, stop}
-use Rattle.fab_policy.specs.Outputs.{State, state_of}
+use Rattle.fab_policy.specs.Looks.{Opened, Stop, all_records, records_in}
 use Rattle.fab_policy.specs.Standing.{Contents}
 use Rattle.fab_policy.specs.Text.{egress, text, text1}
 use Rattle.fab_policy.specs.Written.{all_kept}
@@ -22,30 +19,31 @@ use Rattle.pcap_file.specs.declared.Budget.{Budget}
 use Rattle.pcap_file.specs.declared.Record.{Record}
 use Rattle.fab_gather.specs.declared.shelf.Input.{Input}
 use Rattle.fab_gather.specs.declared.shelf.Shelf.{Shelf}
-use Rattle.fab_gather.specs.declared.fault.RunFault.{RunFault}
-use Rattle.fab_gather.specs.declared.fault.RunFault.TheVariants as run_fault
-use Rattle.fab_gather.specs.First.{IsNextWindow, LooksFirst, opened_in}
+use Rattle.fab_gather.specs.declared.fault.GatherFault.{GatherFault}
+use Rattle.fab_gather.specs.declared.fault.GatherFault.TheVariants as gather_fault
+use Rattle.fab_gather.specs.First.{IsNextWindow, opened_in}
 use Rattle.fab_gather.specs.Gather.{Gathers}
 use Rattle.fab_gather.specs.Port.{IsStopped}
-use Rattle.fab_gather.specs.Ports.{AreInputs, AreReady, NameIn, joined, rests, slot_at, slots_of, stop_from}
+use Rattle.fab_gather.specs.Ports.{AreInputs, NameIn, Walk, slot_at, slots_of, stop_from, walk_at}
 use Rattle.fab_gather.specs.Reads.{HaveRead, IsWhole, batches_of}
 use Rattle.fab_replay.specs.AllOutputs.{IsFirst, OneRose, page_at}
-use Rattle.fab_replay.specs.Check.{Checks, IsFirstStop, NamesRun, Says, sent_on}
+use Rattle.fab_replay.specs.Check.{Checks, IsFirstStop, NamesRun, Says, sent_on, Task, captures_in, matter_of, slots_in}
 use Rattle.fab_replay.specs.Front.{AreRightLines, HoldsFronts, expects_tick, has_left}
 use Rattle.fab_replay.specs.Laws.{Laws}
-use Rattle.fab_replay.specs.Lines.{IsBehind, IsInside, IsOfLine, text_in}
-use Rattle.fab_replay.specs.Owed.{AreMany, AreNew, IsOfOutput, IsOwed, ReadsOut, Tells}
-use Rattle.fab_replay.specs.Steps.{AreCounted, IsAlong, IsFound, IsGathered, IsIdle, IsReached, Left, Scene}
-use Rattle.fab_replay.specs.Windows.{Ended, Going, HaveLines, IsOf, LeftBy, OfTask, RemainsOf, Task, captures_in, check_fault, matter_of, scene_of, slots_in}
+use Rattle.fab_replay.specs.Lines.{IsInside, IsOfLine, text_in}
+use Rattle.fab_replay.specs.Owed.{AreMany, IsOfOutput, IsOwed, ReadsOut, Tells}
+use Rattle.fab_replay.specs.Steps.{Advances, AreCounted, IsAlong, IsFound, IsGathered, IsIdle, IsReached, Left, Scene}
+use Rattle.fab_replay.specs.Windows.{Ended, Ends, Going, HaveLines, IsOf, LeftBy, OfTask, RemainsOf, Stand, check_fault, scene_of, stand_at}
 use Rattle.fab_replay.specs.declared.fault.CheckFault.{CheckFault}
 use Rattle.fab_replay.specs.declared.fault.CheckFault.TheVariants as fault
 use Rattle.fab_replay.specs.declared.lines.Place.{Place}
 use Rattle.fab_replay.specs.declared.owed.Owed.{Owed}
+use Rattle.fab_replay.specs.declared.windows.Course.{Course}
 use Rattle.fab_replay.proofs.FrontLemmas.{front_run}
 use Rattle.fab_replay.proofs.LeftLemmas.{left_none, tick_never}
-use Rattle.fab_replay.proofs.LeaveLemmas.{all_found, along_none, holds_nothing, left_stopped}
+use Rattle.fab_replay.proofs.LeaveLemmas.{all_found, left_line, left_stopped}
 use Rattle.fab_replay.proofs.ListLemmas.{rest_none, take_front}
-use Rattle.fab_replay.proofs.OwedLemmas.{first_as, owed_first, owed_stays}
+use Rattle.fab_replay.proofs.OwedLemmas.{first_as, owed_stays}
 use Rattle.fab_replay.proofs.ReadLemmas.{gathered, length-records, lines_on}
 use Rattle.fab_replay.proofs.RemainLemmas.{stays}
 use Rattle.fab_replay.proofs.SlotsLemmas.{in_back, in_front, inputs_back, inputs_front, inputs_stay, left_back, left_front, name_in, rose_back, rose_front, rose_in_all}
@@ -53,10 +51,7 @@ use Rattle.fab_replay.proofs.StayLemmas.{SameLeft, read_stays, same_left, stop_s
 
 -- ---- slots
 
-abbrev no_records : List Record
-no_records = []
-
-length-slots : (ins : List Input) → length (slots_of ins) ≡ length ins
+pub length-slots : (ins : List Input) → length (slots_of ins) ≡ length ins
 length-slots [] = refl
 length-slots (i ∷ ins) = ap suc (length-slots ins)
 
@@ -80,7 +75,7 @@ right_lines x J F p h = record {
 }
 
 -- a fault of a line ends the check
-pub says_found : (k : Task) (F : Contents) (e : CheckFault) → IsFound (scene_of k) e → Says k.settings k.start.budget (matter_of k) F (Err e)
+pub says_found : (k : Task) (F : Contents) (e : CheckFault) → IsFound (scene_of k) e → Says k.settings k.start.left (matter_of k) F (Err e)
 says_found k F (fault.Line n y) h = h
 says_found k F (fault.Output port at) h = absurd h
 says_found k F (fault.Capture port at w) h = absurd h
@@ -114,13 +109,12 @@ ended_refused k F = record { touches = touches_refl Nothing (OfTask k) k.start.s
 -- ---- a stop
 
 module _ (k : Task) (d : Seen) (touches : Touches Nothing (OfTask k) k.start.seen d) where
-  pub ended_gather : (e : RunFault) → e ≢ run_fault.Write → (IsTrue k.start.seen.told → IsStopped e → IsFirstStop k.settings k.start.budget (matter_of k) e) → (e ≡ run_fault.Read → OneRose (slots_in k) k.start.seen d) →
+  pub ended_gather : (e : GatherFault) → (IsTrue k.start.seen.told → IsStopped e → IsFirstStop k.settings k.start.left (matter_of k) e) → (e ≡ gather_fault.Read → OneRose (slots_in k) k.start.seen d) →
       Ended k d (check_fault e)
-  ended_gather (run_fault.Capture port at w) ne stops cause F = record { touches = touches; says = λ told. stops told tt; read = λ is. absurd (cc) }
-  ended_gather (run_fault.Limit kind) ne stops cause F = record { touches = touches; says = λ told. stops told tt; read = λ is. absurd (cc) }
-  ended_gather run_fault.Read ne stops cause F = record { touches = touches; says = λ told. tt; read = λ is. cause refl }
-  ended_gather run_fault.Write ne stops cause F = absurd (ne refl)
-  ended_gather run_fault.Memory ne stops cause F = record { touches = touches; says = λ told. tt; read = λ is. absurd (cc) }
+  ended_gather (gather_fault.Capture port at w) stops cause F = record { touches = touches; says = λ told. stops told tt; read = λ is. absurd (cc) }
+  ended_gather (gather_fault.Limit kind) stops cause F = record { touches = touches; says = λ told. stops told tt; read = λ is. absurd (cc) }
+  ended_gather gather_fault.Read stops cause F = record { touches = touches; says = λ told. tt; read = λ is. cause refl }
+  ended_gather gather_fault.Memory stops cause F = record { touches = touches; says = λ told. tt; read = λ is. absurd (cc) }
 
 -- the frames of each port are those that were taken
 holds_taken : (c : Settings) (w p : ℕ) (opened : List Opened) (taken : List (List Record)) (J : Journal) → Splits c w opened taken →
@@ -140,13 +134,46 @@ holds_taken c w p (o ∷ opened) (records ∷ taken) J s front lines =
     )
 
 -- the same window, by the code's own configuration
-pub gathers_as : (c s : Settings) → c ≡ s → (first w : ℕ) (a b : Seen) (ins ins' : List Input) (shelves shelves' : List Shelf) (had left : Budget) (r : Result (Unit {0}) RunFault) →
-    Gathers c first w a b ins ins' shelves shelves' had left r → Gathers s first w a b ins ins' shelves shelves' had left r
-gathers_as c s e first w a b ins ins' shelves shelves' had left r t = subst (λ x. Gathers x first w a b ins ins' shelves shelves' had left r) e t
+pub gathers_as : {c s : Settings} {first w : ℕ} {old new : Walk} {r : Result (Unit {0}) GatherFault} → c ≡ s → Gathers c first w old new r → Gathers s first w old new r
+gathers_as {c} {s} {first} {w} {old} {new} {r} e t = subst (λ x. Gathers x first w old new r) e t
+
+-- the same shelves, as a slice
+pub going_on : {k : Task} {w : ℕ} {F : Contents} {course : Course} {d : Seen} {ins : List Input} {left : Budget} {old new : List Shelf} → new ≡ old → Going k w (stand_at F course (walk_at d ins old left)) → Going k w (stand_at F course (walk_at d ins new left))
+going_on {k} {w} {F} {course} {d} {ins} {left} {old} {new} e g = subst (λ l. Going k w (stand_at F course (walk_at d ins l left))) (sym e) g
+
+-- A check stands before its next window.
+pub record AtWindow (k : Task) (w : ℕ) (here : Stand) : Type 0 where
+  pub going : Going k w here
+  pub next : IsNextWindow k.settings here.walk.shelves (Some w)
+  pub early : w < 2 ^ 43
 
 -- ---- between windows
 
-module _ (laws : Laws) (k : Task) (w first : ℕ) (F : Contents) (p : Place) (d : Seen) (ins : List Input) (shelves : List Shelf) (left : Budget) (o : Owed) (g : Going k w first F p d ins shelves left o) where
+module _ (laws : Laws) (k : Task) (w : ℕ) (here : Stand) (g : Going k w here) where
+  abbrev F : Contents
+  F = here.fabric
+
+  abbrev first : ℕ
+  first = here.course.first
+
+  abbrev p : Place
+  p = here.course.place
+
+  abbrev o : Owed
+  o = here.course.owed
+
+  abbrev d : Seen
+  d = here.walk.seen
+
+  abbrev ins : List Input
+  ins = here.walk.ins
+
+  abbrev shelves : List Shelf
+  shelves = here.walk.shelves
+
+  abbrev left : Budget
+  left = here.walk.left
+
   abbrev xs : List ℕ
   xs = slots_of k.start.ins
 
@@ -190,46 +217,60 @@ module _ (laws : Laws) (k : Task) (w first : ℕ) (F : Contents) (p : Place) (d 
 
   -- ---- its next window
 
-  pub next_here : (c : Settings) → c ≡ F.settings → (o : Option ℕ) → IsNextWindow c shelves o → IsNextWindow k.settings shelves o
-  next_here c e o h = subst (λ s. IsNextWindow s shelves o) (e ∙ g.settings_) h
+  pub next_here : (c : Settings) → c ≡ F.settings → (v : Option ℕ) → IsNextWindow c shelves v → IsNextWindow k.settings shelves v
+  next_here c e v h = subst (λ s. IsNextWindow s shelves v) (e ∙ g.settings_) h
 
-  pub going_next : (v : ℕ) → IsNextWindow k.settings shelves (Some v) → Going k v first F p d ins shelves left o
-  going_next v next =
+  clock_then : (v : ℕ) → w ≤ v → (t : Option ℕ) → IfSome t (λ n. n < w) → IfSome t (λ n. n < v)
+  clock_then v le None h = tt
+  clock_then v le (Some n) h = omega (arith, h, le)
+
+  pub window_here : (c : Settings) → c ≡ F.settings → (v : ℕ) → IsNextWindow c shelves (Some v) → AtWindow k v here
+  window_here c e v h =
+      let next = next_here c e (Some v) h in
       let ahead = laws.next_ahead k.settings w v ins shelves left g.count g.ready next in
       record {
-        inputs = g.inputs;
-        ports = g.ports;
-        outputs = g.outputs;
-        many = g.many;
-        touches = g.touches;
-        slots = g.slots;
-        count = g.count;
-        ready = ahead.2;
-        taken = g.taken;
-        read = laws.read_stays k.settings w v (captures_in k) g.taken ins shelves d ahead.0 g.read;
-        stops = g.stops;
-        settings_ = g.settings_;
-        count_ = g.count_;
-        clock = clock_then F.state.tables.clock g.clock;
-        idle = g.idle;
-        inside = g.inside;
-        stood = g.stood;
-        lines = g.lines;
+        going = record {
+          inputs = g.inputs;
+          ports = g.ports;
+          outputs = g.outputs;
+          many = g.many;
+          touches = g.touches;
+          slots = g.slots;
+          count = g.count;
+          ready = ahead.2;
+          taken = g.taken;
+          read = laws.read_stays k.settings w v (captures_in k) g.taken ins shelves d ahead.0 g.read;
+          stops = g.stops;
+          settings_ = g.settings_;
+          count_ = g.count_;
+          clock = clock_then v ahead.0 F.state.tables.clock g.clock;
+          idle = g.idle;
+          inside = g.inside;
+          stood = g.stood;
+          lines = g.lines;
+        };
+        next = next;
+        early = ahead.1;
       }
-    where
-      clock_then : (o : Option ℕ) → IfSome o (λ t. t < w) → IfSome o (λ t. t < v)
-      clock_then None h = tt
-      clock_then (Some t) h = (let ahead = (laws.next_ahead k.settings w v ins shelves left g.count g.ready next).0 in omega (arith, h, ahead))
-
-  pub next_early : (v : ℕ) → IsNextWindow k.settings shelves (Some v) → v < 2 ^ 43
-  next_early v next = (laws.next_ahead k.settings w v ins shelves left g.count g.ready next).1
 
   -- ---- gathering it
 
-  module _ (b : Seen) (ins' : List Input) (shelves' : List Shelf) (left' : Budget) where
-    pub ended_gathering : (e : RunFault) → Gathers k.settings first w d b ins ins' shelves shelves' left left' (Err e) → Ended k b (check_fault e)
+  module _ (new : Walk) where
+    abbrev b : Seen
+    b = new.seen
+
+    abbrev ins' : List Input
+    ins' = new.ins
+
+    abbrev shelves' : List Shelf
+    shelves' = new.shelves
+
+    abbrev left' : Budget
+    left' = new.left
+
+    ended_gathering : (e : GatherFault) → Gathers k.settings first w here.walk new (Err e) → Ended k b (check_fault e)
     ended_gathering e t =
-        ended_gather k b (touches_on b t.touches) e t.only
+        ended_gather k b (touches_on b t.touches) e
         (λ told stopped.
         let s = t.stops (told_on told) stopped in
         let J = (g.lines told).0 in
@@ -249,12 +290,15 @@ module _ (laws : Laws) (k : Task) (w first : ℕ) (F : Contents) (p : Place) (d 
         rose_in_all (OfTask k) k.start.seen d g.touches (slots_in k) g.inputs b (rose_front xs k.outs d b (subst (λ s. OneRose s d b) g.slots rose)))
 
     -- what the fabric stands for where that ends the check
-    pub left_gathering : (e : RunFault) → Gathers k.settings first w d b ins ins' shelves shelves' left left' (Err e) → LeftBy k F (check_fault e)
+    left_gathering : (e : GatherFault) → Gathers k.settings first w here.walk new (Err e) → LeftBy k F (check_fault e)
     left_gathering e t = left_stopped k g.stood.0 F p g.stood.1 e (λ told stopped.
         let s = t.stops (told_on told) stopped in
         record { at = s.0; is = g.stops told ∙ s.1; all = kept_held g.stood.0 told (g.stood.1.begun told).frames (g.stood.2 told) s.0 s.3 })
 
-    module _ (t : Gathers k.settings first w d b ins ins' shelves shelves' left left' (Ok tt)) (next : IsNextWindow k.settings shelves (Some w)) where
+    pub ends_gathering : (e : GatherFault) → Gathers k.settings first w here.walk new (Err e) → Ends k b F (Err (check_fault e))
+    ends_gathering e t = record { checks = ended_gathering e t F; leaves = left_gathering e t }
+
+    module _ (t : Gathers k.settings first w here.walk new (Ok tt)) (next : IsNextWindow k.settings shelves (Some w)) where
       abbrev taken' : List (List Record)
       taken' = with_more g.taken (batches_of shelves')
 
@@ -262,7 +306,7 @@ module _ (laws : Laws) (k : Task) (w first : ℕ) (F : Contents) (p : Place) (d 
       same_ins = same_ports ins ins' t.slots
 
       read_on : HaveRead k.settings (w + 1) (captures_in k) taken' ins' shelves' b
-      read_on = laws.reads_on k.settings w (captures_in k) g.taken d b ins ins' shelves shelves' t.touches.told same_ins t.count g.read t.took
+      read_on = laws.reads_on k.settings w (captures_in k) g.taken here.walk new t.touches.told same_ins t.count g.read t.took
 
       width_on : length g.taken ≡ length shelves'
       width_on = taken_width ∙ sym g.count ∙ sym t.count
@@ -270,21 +314,21 @@ module _ (laws : Laws) (k : Task) (w first : ℕ) (F : Contents) (p : Place) (d 
       told_b : IsTrue k.start.seen.told → IsTrue b.told
       told_b told = subst IsTrue (sym t.touches.told) (told_on told)
 
-      pub shelves_width : length shelves' ≡ length k.start.ins
+      shelves_width : length shelves' ≡ length k.start.ins
       shelves_width = t.count ∙ g.count ∙ ports_now
 
       gathered_for : (told : IsTrue k.start.seen.told) (J : Journal) → HaveLines J g.taken → IsGathered (scene_of k) w J shelves'
       gathered_for told J own =
-          let moved = laws.moves k.settings w d b ins ins' shelves shelves' left left' g.count same_ins t.count next t.took t.ready t.spent in
+          let moved = laws.moves k.settings w here.walk new g.count same_ins t.count next t.took t.ready t.spent in
           let splits = laws.read_splits k.settings (w + 1) (captures_in k) taken' ins' shelves' b left' (told_b told) read_on t.ready in
           let stops = g.stops told ∙ t.looks (told_on told) in
           let ahead = subst (IsAhead (w + 1)) (sym stops) (laws.looks_ahead k.settings first (w + 1) b ins' shelves' left' t.ready) in
           gathered k.settings w (captures_in k) g.taken ins' shelves' b width_on read_on J (scene_of k).stop k.bytes ahead (t.count ∙ g.count ∙ opened_width) splits moved.batches moved.some own
 
-      pub gathered_now : (told : IsTrue k.start.seen.told) → IsGathered (scene_of k) w (g.lines told).0 shelves'
+      gathered_now : (told : IsTrue k.start.seen.told) → IsGathered (scene_of k) w (g.lines told).0 shelves'
       gathered_now told = gathered_for told (g.lines told).0 (g.lines told).2
 
-      pub left_now : IsTrue k.start.seen.told → IsGathered (scene_of k) w g.stood.0 shelves'
+      left_now : IsTrue k.start.seen.told → IsGathered (scene_of k) w g.stood.0 shelves'
       left_now told = gathered_for told g.stood.0 (g.stood.2 told)
 
       -- ---- and checking its lines
@@ -299,12 +343,18 @@ module _ (laws : Laws) (k : Task) (w first : ℕ) (F : Contents) (p : Place) (d 
       outputs_b = inputs_back xs k.outs b inputs_b
 
       -- the outputs, of which nothing was fetched
-      pub owed_now : (told : IsTrue k.start.seen.told) → IsOwed k.settings (length (scene_of k).records) k.start.seen b k.outs (g.lines told).0 o
+      owed_now : (told : IsTrue k.start.seen.told) → IsOwed k.settings (length (scene_of k).records) k.start.seen b k.outs (g.lines told).0 o
       owed_now told =
           owed_stays k.settings (length (scene_of k).records) k.start.seen d k.outs (g.lines told).0 o g.many (g.lines told).3 b
           (left_back xs k.outs d all_inputs b (subst (λ s. Touches Nothing (NameIn d s) d b) g.slots t.touches))
 
-      module _ (G : Contents) (q : Place) (e : Seen) (o' : Owed) where
+      module _ (G : Contents) (to : Course) (e : Seen) where
+        abbrev q : Place
+        q = to.place
+
+        abbrev o' : Owed
+        o' = to.owed
+
         -- what the lines of the window leave
         abbrev pub Lines : Result (Unit {0}) CheckFault → Type 0
         Lines r = MatchResult r
@@ -316,7 +366,7 @@ module _ (laws : Laws) (k : Task) (w first : ℕ) (F : Contents) (p : Place) (d 
         by_result (Ok u) h = h
         by_result (Err f) h = h
 
-        pub lines_left : (bytes outs : List ℕ) → IsOf k bytes outs → (r : Result (Unit {0}) CheckFault) →
+        lines_left : (bytes outs : List ℕ) → IsOf k bytes outs → (r : Result (Unit {0}) CheckFault) →
             (IsTrue b.told → (x : Scene) (J : Journal) (start : Seen) → x.bytes ≡ bytes → IsReached x J F p → IsGathered x w J shelves' → IsOwed x.settings (length x.records) start b outs J o →
             MatchResult r (λ _. (K : Journal) × IsReached x K G q × AreCounted K shelves' × IsOwed x.settings (length x.records) start e outs K o') (λ f. IsFound x f)) → Lines r
         lines_left bytes outs same r h = by_result r (λ told.
@@ -336,13 +386,14 @@ module _ (laws : Laws) (k : Task) (w first : ℕ) (F : Contents) (p : Place) (d 
         abbrev pub Leave : Result (Unit {0}) CheckFault → Type 0
         Leave r = MatchResult r (λ _. (K : Journal) × IsAlong (scene_of k) k.start.seen.told K G q × (IsTrue k.start.seen.told → AreCounted K shelves')) (λ f. Left (scene_of k) k.start.seen.told G f)
 
-        pub turn_left : (r : Result (Unit {0}) CheckFault) → Lines r → Leave r → IfErr r (λ f. LeftBy k G f)
+        turn_left : (r : Result (Unit {0}) CheckFault) → Lines r → Leave r → IfErr r (λ f. LeftBy k G f)
         turn_left (Ok u) lines leave = tt
-        turn_left (Err f) lines leave = record { remains = leave; all = λ told. all_found k.settings k.start.budget (matter_of k) leave.entry_list (scene_of k) f (lines told) }
+        turn_left (Err f) lines leave = record { remains = leave; all = λ told. all_found k.settings k.start.left (matter_of k) leave.entry_list (scene_of k) f (lines told) }
 
-        pub turn_ends : (r : Result (Unit {0}) CheckFault) → Lines r → Leave r → Touches Nothing (NameIn b k.outs) b e → (r ≡ Err fault.Read → OneRose k.outs b e) → OnOk r (AreMany (length k.outs) o') → OnOk r (IsInside k.bytes q) →
-            OnOk r (G.state.tables.clock ≡ Some w) → G.settings ≡ k.settings → G.count ≡ F.count → OnOk r (IsIdle G) → MatchResult r (λ _. Going k (w + 1) first G q e ins' shelves' left' o') (λ f. Ended k e f)
-        turn_ends (Ok u) lines leave touched cause many inside clock settings count idle = record {
+        turn_ends : (r : Result (Unit {0}) CheckFault) → Lines r → Leave r → Touches Nothing (NameIn b k.outs) b e → (r ≡ Err fault.Read → OneRose k.outs b e) → OnOk r (AreMany (length k.outs) o') → OnOk r (IsInside k.bytes q) →
+            OnOk r (G.state.tables.clock ≡ Some w) → G.settings ≡ k.settings → G.count ≡ F.count → OnOk r (IsIdle G) → to.first ≡ first →
+            MatchResult r (λ _. Going k (w + 1) (stand_at G to (walk_at e ins' shelves' left'))) (λ f. Ends k e G (Err f))
+        turn_ends (Ok u) lines leave touched cause many inside clock settings count idle same = record {
           inputs = g.inputs;
           ports = g.ports;
           outputs = g.outputs;
@@ -353,7 +404,7 @@ module _ (laws : Laws) (k : Task) (w first : ℕ) (F : Contents) (p : Place) (d 
           ready = t.ready;
           taken = taken';
           read = read_stays k.settings b e touched.told (w + 1) (captures_in k) taken' ins' shelves' (same_e touched) read_on;
-          stops = λ told. g.stops told ∙ t.looks (told_on told) ∙ sym (stop_stays k.settings b e first ins' shelves' left' (same_e touched));
+          stops = λ told. g.stops told ∙ t.looks (told_on told) ∙ sym (stop_stays k.settings b e first ins' shelves' left' (same_e touched)) ∙ ap (λ (f : ℕ). stop_from k.settings f e ins' shelves' left') (sym same);
           settings_ = settings;
           count_ = count ∙ g.count_;
           clock = subst (λ o. IfSome o (λ n. n < w + 1)) (sym clock) (omega arith);
@@ -364,10 +415,29 @@ module _ (laws : Laws) (k : Task) (w first : ℕ) (F : Contents) (p : Place) (d 
               let l = lines told in
               (l.0, l.1, lines_on k.settings w (captures_in k) g.taken ins' shelves' b width_on read_on l.0 l.2, l.3);
         }
-        turn_ends (Err f) lines leave touched cause many inside clock settings count idle =
-            ended_line k e f (touches_e touched)
-            (λ is. rose_in_all (OfTask k) k.start.seen b touches_b (slots_in k) g.inputs e (rose_back xs k.outs b e (cause (ap (λ y. Err y) is))))
-            lines
+        turn_ends (Err f) lines leave touched cause many inside clock settings count idle same = record {
+          checks =
+              ended_line k e f (touches_e touched)
+              (λ is. rose_in_all (OfTask k) k.start.seen b touches_b (slots_in k) g.inputs e (rose_back xs k.outs b e (cause (ap (λ y. Err y) is))))
+              lines
+              G;
+          leaves = turn_left (Err f) lines leave;
+        }
+
+        -- the same by the clauses of the code, which speak of its own journal and outputs
+        pub turned : (bytes outs : List ℕ) → IsOf k bytes outs → (r : Result (Unit {0}) CheckFault) →
+            (IsTrue b.told → (x : Scene) (J : Journal) (start : Seen) → x.bytes ≡ bytes → IsReached x J F p → IsGathered x w J shelves' → IsOwed x.settings (length x.records) start b outs J o →
+            MatchResult r (λ _. (K : Journal) × IsReached x K G q × AreCounted K shelves' × IsOwed x.settings (length x.records) start e outs K o') (λ f. IsFound x f)) →
+            ((x : Scene) (told : Bool) (J : Journal) → x.bytes ≡ bytes → IsAlong x told J F p → (IsTrue told → IsGathered x w J shelves') →
+            MatchResult r (λ _. (K : Journal) × IsAlong x told K G q × (IsTrue told → AreCounted K shelves')) (λ f. Left x told G f)) →
+            Touches Nothing (NameIn b outs) b e → (r ≡ Err fault.Read → OneRose outs b e) → OnOk r (AreMany (length outs) o') → Advances w F G bytes q r → to.first ≡ first → MatchResult r (λ _. Going k (w + 1) (stand_at G to (walk_at e ins' shelves' left'))) (λ f. Ends k e G (Err f))
+        turned bytes outs same r checks along touched cause many on same_first =
+            let outs_are = sym same.outputs in
+            turn_ends r (lines_left bytes outs same r checks) (along (scene_of k) k.start.seen.told g.stood.0 same.journal g.stood.1 left_now)
+            (subst (λ s. Touches Nothing (NameIn b s) b e) outs_are touched)
+            (λ is. subst (λ s. OneRose s b e) outs_are (cause is))
+            (subst (λ s. OnOk r (AreMany (length s) o')) outs_are many)
+            (subst (λ s. OnOk r (IsInside s q)) (sym same.journal) on.inside) on.clock_ (on.settings ∙ g.settings_) on.count on.idle same_first
 
   -- ---- the end of all captures
 
@@ -386,7 +456,7 @@ module _ (laws : Laws) (k : Task) (w first : ℕ) (F : Contents) (p : Place) (d 
     none_of : (q : ℕ) (records : List Record) → slice_get (scene_of k).records q ≡ Some records → left_of (q + 1) records J ≡ []
     none_of = none_for J (g.lines told).2
 
-    pub no_stop : (scene_of k).stop ≡ None
+    no_stop : (scene_of k).stop ≡ None
     no_stop = g.stops told ∙ laws.none_left k.settings first d ins shelves left none
 
     nothing_for : (K : Journal) → HaveLines K g.taken → (has_left k.settings (scene_of k).records K ≡ false) × (expects_tick k.settings (scene_of k).records K ≡ false)
@@ -394,11 +464,11 @@ module _ (laws : Laws) (k : Task) (w first : ℕ) (F : Contents) (p : Place) (d 
         tick_never k.settings (scene_of k).records K
         (left_none k.settings 1 (scene_of k).records K (λ q port records at e. let f : q + 1 ≡ port = omega (arith, e) in ap (λ (n : ℕ). left_of n records K) (sym f) ∙ none_for K own q records at))
 
-    pub nothing_left : (has_left k.settings (scene_of k).records J ≡ false) × (expects_tick k.settings (scene_of k).records J ≡ false)
+    nothing_left : (has_left k.settings (scene_of k).records J ≡ false) × (expects_tick k.settings (scene_of k).records J ≡ false)
     nothing_left = nothing_for J (g.lines told).2
 
     -- no tick is expected behind what the fabric stands for, which has all frames
-    pub left_ends : expects_tick k.settings (scene_of k).records g.stood.0 ≡ false
+    left_ends : expects_tick k.settings (scene_of k).records g.stood.0 ≡ false
     left_ends = (nothing_for g.stood.0 (g.stood.2 told)).1
 
     left_all : HoldsFrames g.stood.0 1 (scene_of k).records
@@ -408,7 +478,7 @@ module _ (laws : Laws) (k : Task) (w first : ℕ) (F : Contents) (p : Place) (d 
     by_format One e = inr (e ∙ append-nil (text1 J))
     by_format Two e = inl (e ∙ append-nil (text J))
 
-    names : drop p.at k.bytes ≡ [] → NamesRun k.settings k.start.budget (matter_of k) J
+    names : drop p.at k.bytes ≡ [] → NamesRun k.settings k.start.left (matter_of k) J
     names end =
         let h = (g.lines told).1 in
         let run = front_run k.settings (scene_of k).records J h.front none_of in
@@ -438,16 +508,24 @@ module _ (laws : Laws) (k : Task) (w first : ℕ) (F : Contents) (p : Place) (d 
   -- ---- the end of the journal
 
   -- no line is behind the last frame
-  abbrev pub Ends : Type 0
-  Ends = (x : Scene) (J : Journal) (E : Contents) → x.bytes ≡ k.bytes → x.stop ≡ None → IsReached x J E p → has_left x.settings x.records J ≡ false → expects_tick x.settings x.records J ≡ false → drop p.at k.bytes ≡ []
+  abbrev pub NoneBehind : Type 0
+  NoneBehind = (x : Scene) (J : Journal) (E : Contents) → x.bytes ≡ k.bytes → x.stop ≡ None → IsReached x J E p → has_left x.settings x.records J ≡ false → expects_tick x.settings x.records J ≡ false → drop p.at k.bytes ≡ []
 
-  pub ended_behind : IsNextWindow k.settings shelves None → (e : CheckFault) → IsOfLine e →
+  ended_behind : IsNextWindow k.settings shelves None → (e : CheckFault) → IsOfLine e →
       ((x : Scene) (J : Journal) (E : Contents) → x.bytes ≡ k.bytes → x.stop ≡ None → IsReached x J E p → has_left x.settings x.records J ≡ false → expects_tick x.settings x.records J ≡ false → IsFound x e) → Ended k d e
   ended_behind none e only found =
       ended_line k d e g.touches (λ is. absurd (not_read e only is)) (λ told. let n = nothing_left none told in found (scene_of k) (g.lines told).0 F refl (no_stop none told) (g.lines told).1 n.0 n.1)
 
+  pub ends_behind : IsNextWindow k.settings shelves None → (e : CheckFault) → IsOfLine e →
+      ((x : Scene) (J : Journal) (E : Contents) → x.bytes ≡ k.bytes → x.stop ≡ None → IsReached x J E p → has_left x.settings x.records J ≡ false → expects_tick x.settings x.records J ≡ false → IsFound x e) →
+      ((x : Scene) (told : Bool) (J : Journal) (E : Contents) → x.bytes ≡ k.bytes → IsAlong x told J E p → (IsTrue told → expects_tick x.settings x.records J ≡ false) → Left x told E e) → Ends k d F (Err e)
+  ends_behind none e only found along = record {
+    checks = ended_behind none e only found F;
+    leaves = left_line k F e only (along (scene_of k) k.start.seen.told g.stood.0 F refl g.stood.1 (left_ends none));
+  }
+
   -- what the fabric stands for where an output differs, and where the check accepts
-  pub left_out : IsNextWindow k.settings shelves None → (e : CheckFault) → IsOfOutput e → LeftBy k F e
+  left_out : IsNextWindow k.settings shelves None → (e : CheckFault) → IsOfOutput e → LeftBy k F e
   left_out none (fault.Output port at) only =
       record { remains = stays (scene_of k) k.start.seen.told g.stood.0 F p g.stood.1 (Err (fault.Output port at)) refl (λ told. tt); all = λ told. left_all none told }
   left_out none fault.Read only = record { remains = stays (scene_of k) k.start.seen.told g.stood.0 F p g.stood.1 (Err fault.Read) refl (λ told. tt); all = λ told. tt }
@@ -456,13 +534,13 @@ module _ (laws : Laws) (k : Task) (w first : ℕ) (F : Contents) (p : Place) (d 
   left_out none (fault.Limit kind) only = absurd only
   left_out none fault.Memory only = absurd only
 
-  pub left_well : RemainsOf k F (Ok p.entries)
+  left_well : RemainsOf k F (Ok p.entries)
   left_well = record { remains = stays (scene_of k) k.start.seen.told g.stood.0 F p g.stood.1 (Ok p.entries) (g.stood.1.behind.entries, refl) (λ told. tt); all = λ told. tt }
 
   pub outputs_now : AreInputs d k.outs
   outputs_now = inputs_back xs k.outs d all_inputs
 
-  module _ (none : IsNextWindow k.settings shelves None) (ends : Ends) (e : Seen) where
+  module _ (none : IsNextWindow k.settings shelves None) (ends : NoneBehind) (e : Seen) where
     end_now : (told : IsTrue k.start.seen.told) → drop p.at k.bytes ≡ []
     end_now told = let n = nothing_left none told in ends (scene_of k) (g.lines told).0 F refl (no_stop none told) (g.lines told).1 n.0 n.1
 
@@ -472,7 +550,7 @@ module _ (laws : Laws) (k : Task) (w first : ℕ) (F : Contents) (p : Place) (d 
         (touches_wider Nothing (NameIn d k.outs) Nothing (OfTask k) d e (λ m h. h) (λ m h. name_in (OfTask k) k.start.seen d g.touches (slots_in k) g.inputs m (in_back xs k.outs d m h)) t)
 
     -- an output differs, or can't be read
-    pub ended_out : (f : CheckFault) → ReadsOut k.outs d e o (Err f) → Ended k e f
+    ended_out : (f : CheckFault) → ReadsOut k.outs d e o (Err f) → Ended k e f
     ended_out (fault.Output port at) r E = record {
       touches = touches_out r.touches;
       says = λ told. record {
@@ -492,7 +570,7 @@ module _ (laws : Laws) (k : Task) (w first : ℕ) (F : Contents) (p : Place) (d 
     ended_out (fault.Limit kind) r E = absurd r.only
     ended_out fault.Memory r E = absurd r.only
 
-    pub ended_well : ReadsOut k.outs d e o (Ok tt) → Checks k.settings k.start.budget k.start.ins k.outs k.bytes k.start.seen e F (Ok p.entries)
+    ended_well : ReadsOut k.outs d e o (Ok tt) → Checks k e F (Ok p.entries)
     ended_well r = record {
       touches = touches_out r.touches;
       says = λ told. record {
@@ -507,88 +585,8 @@ module _ (laws : Laws) (k : Task) (w first : ℕ) (F : Contents) (p : Place) (d 
       read = λ is. absurd (cc);
     }
 
--- ---- before the first window
+    pub ends_out : (f : CheckFault) → ReadsOut k.outs d e o (Err f) → Ends k e F (Err f)
+    ends_out f r = record { checks = ended_out f r F; leaves = left_out none f r.only }
 
-module _ (laws : Laws) (k : Task) (d : Seen) (ins : List Input) (left : Budget) (F : Contents) (p : Place)
-    (inputs : AreInputs k.start.seen (slots_in k)) (ports : length k.start.ins ≤ 64) where
-  wider : Touches Nothing (NameIn k.start.seen (slots_of k.start.ins)) k.start.seen d → Touches Nothing (OfTask k) k.start.seen d
-  wider t = touches_wider Nothing (NameIn k.start.seen (slots_of k.start.ins)) Nothing (OfTask k) k.start.seen d (λ m h. h) (in_front (slots_of k.start.ins) k.outs k.start.seen) t
-
-  pub ended_looks : (e : RunFault) → LooksFirst k.settings k.start.seen d k.start.ins ins k.start.budget left (Err e) → IsBehind k.bytes p [] → Ended k d (check_fault e)
-  ended_looks e f behind =
-      ended_gather k d (wider f.touches) e f.only
-      (λ told stopped.
-      let s = f.stops told stopped in
-      record {
-        at = s.0;
-        is = s.1;
-        says = s.2;
-        entry_list = [];
-        before = record {
-          rest = drop p.at k.bytes;
-          lines = behind.lines ∙ ap (λ (g : Format). text_in g [] ++ drop p.at k.bytes) behind.format;
-          front = record { ranged = tt; ports = tt; frames = λ q records at. refl; legal = tt; timed = tt };
-        };
-        all = holds_nothing k.settings s.0 1 (all_records (captures_in k)) s.3;
-      })
-      (λ is.
-      let cause = f.cause (ap (λ y. Err y) is) in
-      rose_front (slots_of k.start.ins) k.outs k.start.seen d (cause.0, (let lt = cause.1 in omega (arith, lt, length-slots k.start.ins)), cause.2))
-
-  pub left_looks : (e : RunFault) → LooksFirst k.settings k.start.seen d k.start.ins ins k.start.budget left (Err e) → IsAlong (scene_of k) k.start.seen.told [] F p → LeftBy k F (check_fault e)
-  left_looks e f along = left_stopped k [] F p along e (λ told stopped. let s = f.stops told stopped in record { at = s.0; is = s.1; all = holds_nothing k.settings s.0 1 (all_records (captures_in k)) s.3 })
-
-  module _ (o : Owed) (new : AreNew (length k.outs) o) (outputs : length k.outs ≤ length k.start.ins) (shelves : List Shelf) (count : length shelves ≡ length k.start.ins) (ready : AreReady k.settings 0 ins shelves left) (read : HaveRead k.settings 0 (captures_in k) (map (λ i. []) k.start.ins) ins shelves d)
-      (touches : Touches Nothing (NameIn k.start.seen (slots_of k.start.ins)) k.start.seen d) (slots : slots_of ins ≡ slots_of k.start.ins)
-      (looks : IsTrue k.start.seen.told → stop k.settings k.start.budget.bytes k.start.budget.frames (captures_in k) ≡ stop_from k.settings (first_window (in_order (joined (rests k.settings 1 d ins shelves)))) d ins shelves left) where
-    first_is : (o : Option ℕ) → IsNextWindow k.settings shelves o → IsTrue k.start.seen.told → stop k.settings k.start.budget.bytes k.start.budget.frames (captures_in k) ≡ stop_from k.settings (unwrap_or o 0) d ins shelves left
-    first_is None h told = looks told ∙ laws.none_left k.settings _ d ins shelves left h ∙ sym (laws.none_left k.settings 0 d ins shelves left h)
-    first_is (Some w) h told = looks told ∙ ap (λ (f : ℕ). stop_from k.settings f d ins shelves left) (laws.next_first k.settings 0 w d ins shelves left (count ∙ sym (same_ports k.start.ins ins slots)) ready h)
-
-    lines_none : (is : List Input) (q : ℕ) (records : List Record) → slice_get (map (λ (i : Input). no_records) is) q ≡ Some records → 0 ≡ length records
-    lines_none [] q records at = absurd (cc)
-    lines_none (i ∷ is) zero records at = let e : [] ≡ records = cc in ap length e
-    lines_none (i ∷ is) (suc q) records at = lines_none is q records at
-
-    pub going_first : (v : Option ℕ) → IsNextWindow k.settings shelves v → F.settings ≡ k.settings → F.count ≡ length k.start.ins → F.state ≡ state_of F.settings [] → F.events ≡ [] → F.outs ≡ [] → F.state.tables.clock ≡ None →
-        IsBehind k.bytes p [] → IsInside k.bytes p → Going k 0 (unwrap_or v 0) F p d ins shelves left o
-    going_first v next settings counted state events outs clock behind inside = record {
-      inputs = inputs;
-      ports = ports;
-      outputs = outputs;
-      many = new.many;
-      touches = wider touches;
-      slots = slots;
-      count = count ∙ sym (same_ports k.start.ins ins slots);
-      ready = ready;
-      taken = map (λ i. []) k.start.ins;
-      read = read;
-      stops = first_is v next;
-      settings_ = settings;
-      count_ = counted;
-      clock = subst (λ x. IfSome x (λ t. t < 0)) (sym clock) tt;
-      idle = record { events = events; outs = outs };
-      inside = inside;
-      stood = ([], along_none k F p settings state events outs behind, λ told q records at. lines_none k.start.ins q records at);
-      lines = λ told. (
-        [],
-        record {
-          front = record { ranged = tt; ports = tt; frames = λ q records at. refl; legal = tt; timed = tt };
-          behind = behind;
-          stands = (along_none k F p settings state events outs behind).stands;
-          settings = settings;
-          count = counted ∙ sym (length-scene k);
-        },
-        λ q records at. lines_none k.start.ins q records at,
-        owed_first k.settings (length (scene_of k).records) k.start.seen d k.outs o new (left_back (slots_of k.start.ins) k.outs k.start.seen inputs d touches),
-      );
-    }
-
-  -- from the first looks on, by the code's own configuration and its own list of shelves
-  pub going_begin : (o : Owed) → AreNew (length k.outs) o → length k.outs ≤ length k.start.ins → (s : Vec Shelf Global) (v : Option ℕ) (c : Settings) (l : List Shelf) (first : ℕ) →
-      LooksFirst k.settings k.start.seen d k.start.ins ins k.start.budget left (Ok s) → IsNextWindow c l v → c ≡ k.settings → l ≡ s.items → first ≡ unwrap_or v 0 → F.settings ≡ k.settings → F.count ≡ length k.start.ins →
-      F.state ≡ state_of F.settings [] → F.events ≡ [] → F.outs ≡ [] → IsBehind k.bytes p [] → IsInside k.bytes p → Going k 0 first F p d ins s.items left o
-  going_begin o new outputs s v c l first f next same l_is first_is settings counted state events outs behind inside =
-      subst (λ (n : ℕ). Going k 0 n F p d ins s.items left o) (sym first_is)
-      (going_first o new outputs s.items f.count f.ready f.read f.touches f.slots f.looks_ v (subst (λ c. IsNextWindow c s.items v) same (subst (λ t. IsNextWindow c t v) l_is next))
-      settings counted state events outs (ap (λ (S : State). S.tables.clock) state) behind inside)
+    pub ends_well : ReadsOut k.outs d e o (Ok tt) → Ends k e F (Ok p.entries)
+    ends_well r = record { checks = ended_well r; leaves = left_well }

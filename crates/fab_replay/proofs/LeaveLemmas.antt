@@ -11,12 +11,12 @@ use Rattle.fab_policy.specs.Written.{all_kept}
 use Rattle.pcap_file.specs.declared.Budget.{Budget}
 use Rattle.pcap_file.specs.declared.Record.{Record}
 use Rattle.fab_gather.specs.Port.{IsStopped}
-use Rattle.fab_gather.specs.declared.fault.RunFault.{RunFault}
-use Rattle.fab_gather.specs.declared.fault.RunFault.TheVariants as run_fault
-use Rattle.fab_replay.specs.Check.{HasAll, HasKept, Matter}
+use Rattle.fab_gather.specs.declared.fault.GatherFault.{GatherFault}
+use Rattle.fab_gather.specs.declared.fault.GatherFault.TheVariants as gather_fault
+use Rattle.fab_replay.specs.Check.{HasAll, HasKept, Matter, Task, matter_of}
 use Rattle.fab_replay.specs.Lines.{IsBehind, IsOfLine}
 use Rattle.fab_replay.specs.Steps.{IsAlong, IsFound, Left, Scene}
-use Rattle.fab_replay.specs.Windows.{LeftBy, Task, check_fault, matter_of, scene_of}
+use Rattle.fab_replay.specs.Windows.{LeftBy, check_fault, scene_of}
 use Rattle.fab_replay.specs.declared.fault.CheckFault.{CheckFault}
 use Rattle.fab_replay.specs.declared.fault.CheckFault.TheVariants as fault
 use Rattle.fab_replay.specs.declared.lines.Place.{Place}
@@ -47,12 +47,11 @@ left_line k F (fault.Limit kind) only h = absurd only
 left_line k F fault.Read only h = absurd only
 
 -- a fault of gathering
-pub left_stopped : (k : Task) (J : Journal) (F : Contents) (p : Place) → IsAlong (scene_of k) k.start.seen.told J F p → (e : RunFault) → (IsTrue k.start.seen.told → IsStopped e → HasKept k.settings k.start.budget (matter_of k) J) → LeftBy k F (check_fault e)
-left_stopped k J F p h (run_fault.Capture port at w) kept = record { remains = stays (scene_of k) k.start.seen.told J F p h (Err (fault.Capture port at w)) refl (λ told. tt); all = λ told. kept told tt }
-left_stopped k J F p h (run_fault.Limit kind) kept = record { remains = stays (scene_of k) k.start.seen.told J F p h (Err (fault.Limit kind)) refl (λ told. tt); all = λ told. kept told tt }
-left_stopped k J F p h run_fault.Read kept = record { remains = stays (scene_of k) k.start.seen.told J F p h (Err fault.Read) refl (λ told. tt); all = λ told. tt }
-left_stopped k J F p h run_fault.Write kept = record { remains = stays_refused (scene_of k) k.start.seen.told J F p h; all = λ told. tt }
-left_stopped k J F p h run_fault.Memory kept = record { remains = stays_refused (scene_of k) k.start.seen.told J F p h; all = λ told. tt }
+pub left_stopped : (k : Task) (J : Journal) (F : Contents) (p : Place) → IsAlong (scene_of k) k.start.seen.told J F p → (e : GatherFault) → (IsTrue k.start.seen.told → IsStopped e → HasKept k.settings k.start.left (matter_of k) J) → LeftBy k F (check_fault e)
+left_stopped k J F p h (gather_fault.Capture port at w) kept = record { remains = stays (scene_of k) k.start.seen.told J F p h (Err (fault.Capture port at w)) refl (λ told. tt); all = λ told. kept told tt }
+left_stopped k J F p h (gather_fault.Limit kind) kept = record { remains = stays (scene_of k) k.start.seen.told J F p h (Err (fault.Limit kind)) refl (λ told. tt); all = λ told. kept told tt }
+left_stopped k J F p h gather_fault.Read kept = record { remains = stays (scene_of k) k.start.seen.told J F p h (Err fault.Read) refl (λ told. tt); all = λ told. tt }
+left_stopped k J F p h gather_fault.Memory kept = record { remains = stays_refused (scene_of k) k.start.seen.told J F p h; all = λ told. tt }
 
 -- nothing happened yet
 pub along_none : (k : Task) (F : Contents) (p : Place) → F.settings ≡ k.settings → F.state ≡ state_of F.settings [] → F.events ≡ [] → F.outs ≡ [] → IsBehind k.bytes p [] → IsAlong (scene_of k) k.start.seen.told [] F p

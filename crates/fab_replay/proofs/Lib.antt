@@ -1,3 +1,4 @@
+pub mod BeginLemmas
 pub mod CountLemmas
 pub mod EachLemmas
 pub mod EndLemmas

@@ -1,5 +1,5 @@
 -- A line behind those of a journal.
-use Rattle.std.proofs.Common.{◌≡◌, ℕ, ◌+◌, Bool, true, false, List, [], ◌∷◌, ◌++◌, length, take, drop, refl, sym, ap, ◌∙◌, arith, append_assoc, codes, decimal}
+use Rattle.std.proofs.Common.{◌≡◌, ℕ, ◌+◌, Bool, true, false, List, [], ◌∷◌, ◌++◌, length, take, drop, refl, sym, ap, ◌∙◌, subst, arith, append_assoc, codes, decimal}
 use Rattle.std.specs.Prelude.{◌==◌, if◌then◌else◌}
 use Rattle.std.specs.Str.{bytes_eq}
 use Rattle.std.proofs.lemmas.List.{take-append-drop}
@@ -13,8 +13,18 @@ use Rattle.fab_policy.specs.declared.line.Format.{Format}
 use Rattle.fab_policy.specs.declared.line.Format.TheVariants.{One, Two}
 use Rattle.fab_policy.specs.declared.line.Line.{Line}
 use Rattle.fab_policy.specs.declared.line.Line.TheVariants.{Tick}
-use Rattle.fab_replay.specs.Lines.{IsBehind, IsLineAt, behind_line, first_line, format_of, text_in}
+use Rattle.fab_replay.specs.Lines.{IsBehind, IsLineAt, IsUnread, behind_line, first_line, format_of, text_in}
+use Rattle.fab_replay.specs.declared.fault.CheckFault.{CheckFault}
 use Rattle.fab_replay.specs.declared.lines.Place.{Place}
+
+-- ---- a line that was read, by the scene's own text
+
+pub line_as : {b bytes : List ℕ} {p q : Place} {l m : Line} → bytes ≡ b → l ≡ m → IsLineAt b p q l → IsLineAt bytes p q m
+line_as {b} {bytes} {p} {q} {l} {m} same is at = subst (IsLineAt bytes p q) is (subst (λ t. IsLineAt t p q l) (sym same) at)
+
+-- and why one wasn't
+pub unread_as : {b bytes : List ℕ} (p : Place) (e : CheckFault) → bytes ≡ b → IsUnread b p e → IsUnread bytes p e
+unread_as {b} {bytes} p e same u = subst (λ t. IsUnread t p e) (sym same) u
 
 -- ---- a text and its first line
 

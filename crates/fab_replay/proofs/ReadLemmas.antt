@@ -11,11 +11,11 @@ use Rattle.fab_policy.specs.Legal.{of_port}
 use Rattle.fab_policy.specs.Looks.{Opened, Stop, all_records, records_in}
 use Rattle.fab_gather.specs.Laws.{AllIn, HasSome}
 use Rattle.fab_gather.specs.Port.{AreIn}
-use Rattle.fab_gather.specs.Reads.{HasRead, HaveRead, batches_of}
+use Rattle.fab_gather.specs.Reads.{HasRead, HaveRead, batches_of, first_index}
 use Rattle.fab_gather.specs.declared.shelf.Input.{Input}
 use Rattle.fab_gather.specs.declared.shelf.Shelf.{Shelf}
 use Rattle.pcap_file.specs.declared.Record.{Record}
-use Rattle.fab_replay.specs.Steps.{AreCounted, IsGathered, first_of}
+use Rattle.fab_replay.specs.Steps.{AreCounted, IsGathered}
 use Rattle.fab_replay.specs.Windows.{HaveLines}
 use Rattle.fab_replay.proofs.ListLemmas.{at_inside, inside_at, rest_behind}
 
@@ -99,7 +99,7 @@ module _ (c : Settings) (w : ℕ) (opened : List Opened) (taken : List (List Rec
     pub before : List Record
     pub taken_ : slice_get taken q ≡ Some before
     pub all : slice_get (with_more taken (batches_of shelves)) q ≡ Some (before ++ s.batch.items)
-    pub first : first_of s ≡ length before
+    pub first : first_index s ≡ length before
 
   port_at : (q : ℕ) (s : Shelf) → slice_get shelves q ≡ Some s → PortAt q s
   port_at q s at =

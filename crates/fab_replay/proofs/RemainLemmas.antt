@@ -1,11 +1,11 @@
 -- What a fabric stands for while the lines of a journal are checked, and where the check ends.
-use Rattle.std.proofs.Common.{◌≡◌, ℕ, ◌<◌, inl, inr, Bool, false, List, [], ◌∷◌, ◌++◌, length, drop, Option, Some, IfSome, IsTrue, IsSome, Result, Err, refl, sym, ap, ◌∙◌, subst, arith}
+use Rattle.std.proofs.Common.{◌≡◌, ℕ, inl, inr, Bool, false, List, [], ◌∷◌, ◌++◌, length, drop, Option, Some, IsTrue, IsSome, Result, Err, refl, sym, ap, ◌∙◌, subst, arith}
 use Rattle.std.specs.Prelude.{unwrap_or}
 use Rattle.fab_base.specs.declared.values.Caught.{Caught}
 use Rattle.fab_config.specs.Settings.{Settings}
 use Rattle.fab_policy.proofs.Standing.{legal_after, stands_after}
 use Rattle.fab_policy.specs.Journal.{Journal, clock, now}
-use Rattle.fab_policy.specs.Legal.{IsLeastOf, IsNextTick, Legal, windows_left}
+use Rattle.fab_policy.specs.Legal.{Legal}
 use Rattle.fab_policy.specs.Ranged.{IsRangedEvent}
 use Rattle.fab_policy.specs.Spelling.{Spells, line_of}
 use Rattle.fab_policy.specs.Standing.{Contents, Stands}
@@ -21,8 +21,8 @@ use Rattle.pcap_file.specs.declared.Record.{Record}
 use Rattle.fab_replay.specs.Front.{expects_tick}
 use Rattle.fab_replay.specs.Lines.{IsLineAt, IsUnread, first_line, format_of, number_behind, text_in}
 use Rattle.fab_replay.specs.Remains.{HasTick, IsBegun, IsTaken, IsTickIf, Remains}
-use Rattle.fab_replay.specs.Steps.{HasTurned, HoldSame, IsAlong, IsOnShelf, IsRefused, IsTickNow, IsTickOf, IsWindow, Left, Scene, refusal}
-use Rattle.fab_replay.specs.Verdicts.{IsLeft, IsMisjudged}
+use Rattle.fab_replay.specs.Steps.{HasTurned, IsAlong, IsOnShelf, IsRefused, IsTickNow, IsWindow, Left, Scene, refusal}
+use Rattle.fab_replay.specs.Verdicts.{IsAfter, IsMisjudged}
 use Rattle.fab_replay.specs.declared.fault.CheckFault.{CheckFault}
 use Rattle.fab_replay.specs.declared.fault.CheckFault.TheVariants as fault
 use Rattle.fab_replay.specs.declared.fault.LineWhy.TheVariants as why
@@ -30,9 +30,8 @@ use Rattle.fab_replay.specs.declared.lines.Place.{Place}
 use Rattle.fab_replay.specs.declared.verdicts.Misjudged.{Misjudged}
 use Rattle.fab_replay.specs.declared.verdicts.Misjudged.TheVariants.{Wrong, Memory}
 use Rattle.fab_replay.proofs.FrontLemmas.{begun_frame, same_clock}
-use Rattle.fab_replay.proofs.LeftLemmas.{left_same, tick_expected}
 use Rattle.fab_replay.proofs.LineLemmas.{behind_more}
-use Rattle.fab_replay.proofs.StepLemmas.{before_window, frame_line}
+use Rattle.fab_replay.proofs.StepLemmas.{frame_line}
 use Rattle.fab_replay.proofs.WindowLemmas.{next_from}
 
 module _ (x : Scene) (told : Bool) (J : Journal) (F : Contents) (p : Place) (h : IsAlong x told J F p) where
@@ -171,24 +170,12 @@ module _ (x : Scene) (told : Bool) (J : Journal) (F : Contents) (p : Place) (h :
           begun = begun_with verdict;
         }
 
-  -- ---- the next tick of the fabric
-
-  pub tick_now : (I : Journal) (w m : ℕ) → HoldSame I J → IsTickOf w F m → (IsTrue told → IsLeastOf (windows_left x.settings 1 x.records I) w) → IsTrue told → IsTickNow x J m
-  tick_now I w m same t least known =
-      let own = subst (λ l. IsLeastOf l w) (sym (left_same x.settings 1 x.records I J same)) (least known) in
-      record {
-        window = w;
-        least = own;
-        next = subst (λ (c : Settings). IsNextTick c J w m) h.settings (t.next J h.stands);
-        expected = tick_expected x.settings x.records J w own (before_window (clock J) m w (subst (λ o. IfSome o (λ k. k < m)) (same_clock F J h.stands) t.above) t.within);
-      }
-
 -- what a fabric stands for that was to take a frame with the verdict that was found
 pub turned_as : (F G : Contents) (J : Journal) (p : Place) (port index : ℕ) (caught heard : Caught) (found : Verdict) (e : Misjudged) (f : CheckFault) → heard ≡ caught → IsSome F.state.tables.clock →
-    IsMisjudged F.settings F.state.tables port heard found e → IsLeft F port index heard e G → f ≡ refusal p found e → Legal F.settings J → Stands F J → HasTurned F.settings G J port index caught f
+    IsMisjudged F.settings F.state.tables port heard found e → IsAfter F port index heard e G → f ≡ refusal p found e → Legal F.settings J → Stands F J → HasTurned F.settings G J port index caught f
 turned_as F G J p port index caught heard found e f same clock wrong left told legal stands =
     subst (HasTurned F.settings G J port index caught) (sym told) (subst (λ (k : Caught). HasTurned F.settings G J port index k (refusal p found e)) same (by_why e wrong left))
   where
-    by_why : (e : Misjudged) → IsMisjudged F.settings F.state.tables port heard found e → IsLeft F port index heard e G → HasTurned F.settings G J port index heard (refusal p found e)
+    by_why : (e : Misjudged) → IsMisjudged F.settings F.state.tables port heard found e → IsAfter F port index heard e G → HasTurned F.settings G J port index heard (refusal p found e)
     by_why (Wrong made) w l = (legal_after F (event.Frame port index heard made) J legal stands (clock, w.1), stands_after F G (event.Frame port index heard made) J stands l)
     by_why Memory w l = inl (subst (λ (H : Contents). Stands H J) (sym l) stands)

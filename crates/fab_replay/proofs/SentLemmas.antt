@@ -79,10 +79,18 @@ grow_one c n J e old new adds = record {
       ∙ append_assoc before (piece_at old q) (records_to (q + 1) (outputs c n J e)) ∙ ap (λ (l : List ℕ). before ++ l) (sym (adds.pages q lt));
 }
 
+-- what happened to an idle fabric that took an entry
+pub took_one : {F G : Contents} {e : Event} → IsIdle F → Takes F e G → G.events ≡ e ∷ []
+took_one {F} {G} {e} idle t = t.events ∙ ap (λ (l : List Event). l ++ e ∷ []) idle.events
+
+-- a fabric that took an entry and was drained then
+pub stands_drained : (F G H : Contents) (J K : Journal) → (Legal F.settings J → Stands F J → Legal F.settings K × Stands G K) → ((L : Journal) → Stands G L → Stands H L) → Legal F.settings J → Stands F J → Legal F.settings K × Stands H K
+stands_drained F G H J K goes drained legal stands = let both = goes legal stands in (both.0, drained K both.1)
+
 -- a fabric that took an entry, and what it sent since
 pub grow_taken : (F G : Contents) (e : Event) (J : Journal) (old new : List (List ℕ)) → IsIdle F → Takes F e G → Stands G (e ∷ J) → Adds G.outs old new → PagesGrow F.settings F.count J (e ∷ J) old new
 grow_taken F G e J old new idle t stands adds =
-    let events : G.events ≡ e ∷ [] = t.events ∙ ap (λ (l : List Event). l ++ e ∷ []) idle.events in
+    let events = took_one idle t in
     let sent : G.outs ≡ outputs F.settings F.count J e =
     stands_older G J (e ∷ J) stands (sym (ap (followed J) events))
     ∙ ap (sent_after G.settings G.count J) events

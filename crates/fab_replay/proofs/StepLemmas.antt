@@ -21,9 +21,10 @@ use Rattle.fab_policy.specs.declared.line.Line.TheVariants.{Tick, Frame}
 use Rattle.fab_policy.specs.declared.verdict.Verdict.{Verdict}
 use Rattle.fab_gather.specs.declared.shelf.Shelf.{Shelf}
 use Rattle.pcap_file.specs.declared.Record.{Record}
-use Rattle.fab_replay.specs.Front.{IsFirstWrong, IsGatheredTo, IsNextFrame, IsWrong, expects_tick, has_left, is_at}
+use Rattle.fab_replay.specs.Front.{IsFirstWrong, IsGatheredTo, IsNextFrame, IsWrong, has_left, is_at}
 use Rattle.fab_replay.specs.Lines.{IsLineAt, IsUnread, first_line, number_behind, text_in}
-use Rattle.fab_replay.specs.Steps.{HasLeft, HoldSame, IsFound, IsOnShelf, IsReached, IsRefused, IsTickOf, IsWindow, Scene, refusal}
+use Rattle.forward_core.specs.Fabric.{IsTickOf}
+use Rattle.fab_replay.specs.Steps.{HasLeft, HoldSame, IsFound, IsOnShelf, IsReached, IsRefused, IsTickNow, IsWindow, Scene, refusal}
 use Rattle.fab_replay.specs.declared.fault.CheckFault.{CheckFault}
 use Rattle.fab_replay.specs.declared.fault.CheckFault.TheVariants as fault
 use Rattle.fab_replay.specs.declared.fault.LineWhy.{LineWhy}
@@ -77,25 +78,25 @@ module _ (x : Scene) (J : Journal) (F : Contents) (p : Place) (h : IsReached x J
 
   -- ---- a tick
 
-  module _ (w m : ℕ) (least : IsLeastOf (windows_left c 1 x.records J) w) (next : IsNextTick c J w m) (expected : expects_tick c x.records J ≡ true) where
+  module _ (m : ℕ) (t : IsTickNow x J m) where
     pub left_then : has_left c x.records J ≡ true
-    left_then = any_left (windows_left c 1 x.records J) w least.0
+    left_then = any_left (windows_left c 1 x.records J) t.window t.least.0
 
     abbrev ends : List ℕ
     ends = addresses (overdue F.settings F.state.tables m)
 
-    pub other_tick : IsAhead (w + 1) x.stop → (n : ℕ) (q : Place) (l : Line) → n ≡ number_behind p.format p.entries → IsLineAt x.bytes p q l → (l ≡ Tick m ends → ⊥) → IsFirstWrong c x.records x.stop x.bytes n why.Tick
-    other_tick ahead n q l number at ne = wrong_here (gathered_next c x.records x.stop J w least ahead) n why.Tick number (
+    pub other_tick : IsAhead (t.window + 1) x.stop → (n : ℕ) (q : Place) (l : Line) → n ≡ number_behind p.format p.entries → IsLineAt x.bytes p q l → (l ≡ Tick m ends → ⊥) → IsFirstWrong c x.records x.stop x.bytes n why.Tick
+    other_tick ahead n q l number at ne = wrong_here (gathered_next c x.records x.stop J t.window t.least ahead) n why.Tick number (
       l,
       at.spells,
       inl (
-        expected,
+        t.expected,
         m,
         ends,
         record {
-          window = w;
-          least = least;
-          next = next;
+          window = t.window;
+          least = t.least;
+          next = t.next;
           ends = ap (λ (T : Tables). addresses (overdue F.settings T m)) (same_tables F J h.stands) ∙ ap (λ (s : Settings). addresses (overdue s (tables_of s J) m)) h.settings;
         },
         ne,
@@ -108,7 +109,7 @@ module _ (x : Scene) (J : Journal) (F : Contents) (p : Place) (h : IsReached x J
         let both = on (subst (λ (s : Settings). Legal s J) (sym h.settings) h.front.legal) h.stands in
         let spells : Spells p.format (first_line (drop p.at x.bytes)) (Tick m ended) = subst (Spells p.format (first_line (drop p.at x.bytes))) is at.spells in
         record {
-          front = front_tick c x.records J w m ended h.front least next (subst (λ (s : Settings). Legal s (event.Tick m ended ∷ J)) h.settings both.0) spells.ranged;
+          front = front_tick c x.records J t.window m ended h.front t.least t.next (subst (λ (s : Settings). Legal s (event.Tick m ended ∷ J)) h.settings both.0) spells.ranged;
           behind = behind_more x.bytes p q J (event.Tick m ended) l h.behind at is;
           stands = both.1;
           settings = settings ∙ h.settings;
@@ -193,16 +194,16 @@ pub before_window : (o : Option ℕ) (m w : ℕ) → IfSome o (λ t. t < m) → 
 before_window None m w h le = tt
 before_window (Some t) m w h le = omega (arith, h, le)
 
--- a journal that is reached on the way to a window, and the fabric's next tick
-module _ (x : Scene) (I J : Journal) (F : Contents) (p : Place) (h : IsReached x J F p) (w m : ℕ) (same : HoldSame I J) (least : IsLeastOf (windows_left x.settings 1 x.records I) w) (t : IsTickOf w F m) where
-  pub least_then : IsLeastOf (windows_left x.settings 1 x.records J) w
-  least_then = subst (λ l. IsLeastOf l w) (sym (left_same x.settings 1 x.records I J same)) least
-
-  pub next_then : IsNextTick x.settings J w m
-  next_then = subst (λ (c : Settings). IsNextTick c J w m) h.settings (t.next J h.stands)
-
-  pub expected_then : expects_tick x.settings x.records J ≡ true
-  expected_then = tick_expected x.settings x.records J w least_then (before_window (clock J) m w (subst (λ o. IfSome o (λ k. k < m)) (same_clock F J h.stands) t.above) t.within)
+-- the fabric's next tick on the way to the least window
+abbrev pub tick_now : (x : Scene) (I J : Journal) (F : Contents) → Stands F J → F.settings ≡ x.settings → (w m : ℕ) → HoldSame I J → IsTickOf w F m → IsLeastOf (windows_left x.settings 1 x.records I) w → IsTickNow x J m
+tick_now x I J F stands settings w m same t least =
+    let own = subst (λ l. IsLeastOf l w) (sym (left_same x.settings 1 x.records I J same)) least in
+    record {
+      window = w;
+      least = own;
+      next = subst (λ (c : Settings). IsNextTick c J w m) settings (t.next J stands);
+      expected = tick_expected x.settings x.records J w own (before_window (clock J) m w (subst (λ o. IfSome o (λ k. k < m)) (same_clock F J stands) t.above) t.within);
+    }
 
 -- what a misjudged frame is refused with
 pub refused_as : (c : Settings) (T : Tables) (p : Place) (port : ℕ) (caught heard : Caught) (found : Verdict) (e : Misjudged) (f : CheckFault) → heard ≡ caught → IsMisjudged c T port heard found e → f ≡ refusal p found e → IsRefused c T p port caught found f

@@ -16,7 +16,7 @@ use Rattle.fab_gather.specs.Port.{AreIn}
 use Rattle.fab_gather.specs.declared.shelf.Shelf.{Shelf}
 use Rattle.pcap_file.specs.declared.Record.{Record}
 use Rattle.fab_replay.specs.Front.{IsNextFrame, expects_tick, is_at}
-use Rattle.fab_replay.specs.Steps.{AllDone, AreCounted, At, HasLeft, HoldSame, IsAlong, IsDone, IsLeft, IsGathered, IsFound, IsOnShelf, IsPortIn, IsReached, IsWindow, Left, Scene}
+use Rattle.fab_replay.specs.Steps.{AllDone, AreCounted, At, HasLeft, HoldSame, IsAlong, IsDone, HasLeftAt, IsGathered, IsFound, IsOnShelf, IsPortIn, IsReached, IsWindow, Left, Scene}
 use Rattle.fab_replay.specs.Owed.{PagesGrow}
 use Rattle.fab_replay.specs.declared.fault.CheckFault.{CheckFault}
 use Rattle.fab_replay.specs.declared.lines.Place.{Place}
@@ -275,10 +275,10 @@ done_all shelves done port le before q s k at = let lt = at_inside shelves q s a
 
 -- the port of a shelf is left or done
 pub left_case : (shelves : List Shelf) (done : List ℕ) (port : ℕ) (s : Shelf) (count size : ℕ) → slice_get shelves port ≡ Some s → slice_get done port ≡ Some count → size ≡ length s.batch.items →
-    MatchBool (ltb count size) (IsLeft shelves done port) (IsDone shelves done port)
+    MatchBool (ltb count size) (HasLeftAt shelves done port) (IsDone shelves done port)
 left_case shelves done port s count size at own is = go (ltb count size) refl
   where
-    go : (b : Bool) → ltb count size ≡ b → MatchBool b (IsLeft shelves done port) (IsDone shelves done port)
+    go : (b : Bool) → ltb count size ≡ b → MatchBool b (HasLeftAt shelves done port) (IsDone shelves done port)
     go true e = let lt = ltb-true count size e in (s, count, record { shelf = at; done_ = own }, omega (arith, lt, is))
     go false e = λ t k here.
         let le = ltb-false count size e in

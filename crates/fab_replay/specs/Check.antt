@@ -10,10 +10,10 @@ use Rattle.fab_policy.specs.Looks.{Opened, Stop, stop, all_records}
 use Rattle.fab_policy.specs.Standing.{Contents, Stands}
 use Rattle.fab_policy.specs.Text.{egress}
 use Rattle.fab_policy.specs.Written.{IsNamed, all_kept}
-use Rattle.fab_gather.specs.declared.fault.RunFault.{RunFault}
-use Rattle.fab_gather.specs.declared.fault.RunFault.TheVariants as run_fault
+use Rattle.fab_gather.specs.declared.fault.GatherFault.{GatherFault}
+use Rattle.fab_gather.specs.declared.fault.GatherFault.TheVariants as gather_fault
 use Rattle.fab_gather.specs.declared.shelf.Input.{Input}
-use Rattle.fab_gather.specs.First.{opened_in}
+use Rattle.fab_gather.specs.First.{Start, opened_in, start_at}
 use Rattle.fab_gather.specs.Port.{ending}
 use Rattle.fab_gather.specs.Ports.{slots_of, slot_at, NameIn}
 use Rattle.fab_gather.specs.Reads.{IsWhole}
@@ -36,6 +36,29 @@ pub record Matter : Type 0 where
 -- the same as a depot has it before a check
 abbrev pub matter_in : Seen → List Input → List ℕ → List ℕ → Matter
 matter_in d ins journal outs = record { ins = opened_in d ins; journal = journal; outputs = length outs; found = λ q. d.left (slot_at outs q) }
+
+-- What a check is handed: its configuration, its limits, the captures, the depot as it is at the start, the journal, and the
+-- outputs.
+pub record Task : Type 0 where
+  pub settings : Settings
+  pub start : Start
+  pub bytes : List ℕ
+  pub outs : List ℕ
+
+abbrev pub task_of : Settings → Budget → List Input → Seen → List ℕ → List ℕ → Task
+task_of c budget ins d bytes outs = record { settings = c; start = start_at d ins budget; bytes = bytes; outs = outs }
+
+-- the captures and the outputs of a task
+abbrev pub slots_in : Task → List ℕ
+slots_in k = slots_of k.start.ins ++ k.outs
+
+-- the captures of a task
+abbrev pub captures_in : Task → List Opened
+captures_in k = opened_in k.start.seen k.start.ins
+
+-- what is checked of a task
+abbrev pub matter_of : Task → Matter
+matter_of k = matter_in k.start.seen k.start.ins k.bytes k.outs
 
 -- the capture that a journal sends on a port, counted from 0
 abbrev pub sent_on : Settings → Matter → Journal → ℕ → List ℕ
@@ -73,7 +96,7 @@ pub record IsFirstOutput (c : Settings) (budget : Budget) (m : Matter) (port at 
   pub first : IsFirst (Some (port, at)) m.outputs m.found (sent_on c m entry_list)
 
 -- The reading of the captures stops, and the lines of all frames before that are right.
-pub record IsFirstStop (c : Settings) (budget : Budget) (m : Matter) (e : RunFault) : Type 0 where
+pub record IsFirstStop (c : Settings) (budget : Budget) (m : Matter) (e : GatherFault) : Type 0 where
   pub at : Stop
   pub is : stop c budget.bytes budget.frames m.ins ≡ Some at
   pub says : ending at ≡ e
@@ -87,8 +110,8 @@ abbrev pub IsAnswer : Settings → Budget → Matter → Result ℕ CheckFault �
 IsAnswer c budget m (Ok entries) = IsLegal c budget m entries
 IsAnswer c budget m (Err (fault.Line line why)) = IsFirstLine c budget m line why
 IsAnswer c budget m (Err (fault.Output port at)) = IsFirstOutput c budget m port at
-IsAnswer c budget m (Err (fault.Capture port at w)) = IsFirstStop c budget m (run_fault.Capture port at w)
-IsAnswer c budget m (Err (fault.Limit kind)) = IsFirstStop c budget m (run_fault.Limit kind)
+IsAnswer c budget m (Err (fault.Capture port at w)) = IsFirstStop c budget m (gather_fault.Capture port at w)
+IsAnswer c budget m (Err (fault.Limit kind)) = IsFirstStop c budget m (gather_fault.Limit kind)
 IsAnswer c budget m (Err fault.Read) = ⊥
 IsAnswer c budget m (Err fault.Memory) = ⊥
 
@@ -106,10 +129,10 @@ Says c budget m F r = IsAnswer c budget m r
 
 -- The check of a journal: it changes no file, and it ends by a fault of reading only where a count of a capture or of an output
 -- rose.
-pub record Checks (c : Settings) (budget : Budget) (ins : List Input) (outs journal : List ℕ) (a b : Seen) (F : Contents) (result : Result ℕ CheckFault) : Type 0 where
-  pub touches : Touches Nothing (NameIn a (slots_of ins ++ outs)) a b
-  pub says : IsTrue a.told → Says c budget (matter_in a ins journal outs) F result
-  pub read : IsErrOf result fault.Read → OneRose (slots_of ins ++ outs) a b
+pub record Checks (k : Task) (d : Seen) (F : Contents) (result : Result ℕ CheckFault) : Type 0 where
+  pub touches : Touches Nothing (NameIn k.start.seen (slots_in k)) k.start.seen d
+  pub says : IsTrue k.start.seen.told → Says k.settings k.start.left (matter_of k) F result
+  pub read : IsErrOf result fault.Read → OneRose (slots_in k) k.start.seen d
 
 -- ---- what the fabric is then
 

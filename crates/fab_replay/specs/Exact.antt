@@ -2,7 +2,7 @@
 use Rattle.std.specs.Prelude.{◌≡◌, ℕ, Ok, Err, Result, length}
 use Rattle.fab_config.specs.Settings.{Settings}
 use Rattle.pcap_file.specs.declared.Budget.{Budget}
-use Rattle.fab_gather.specs.declared.fault.RunFault.{RunFault}
+use Rattle.fab_gather.specs.declared.fault.GatherFault.{GatherFault}
 use Rattle.fab_policy.specs.Journal.{Journal}
 use Rattle.fab_policy.specs.Standing.{Contents, Stands}
 use Rattle.fab_policy.specs.declared.verdict.Verdict.{Verdict}
@@ -17,7 +17,7 @@ abbrev pub RunIsOne : Type 0
 RunIsOne = (c : Settings) (budget : Budget) (m : Matter) (J : Journal) → NamesRun c budget m J →
     ((K : Journal) → NamesRun c budget m K → K ≡ J)
     × ((line : ℕ) (why : LineWhy) → IsFirstLine c budget m line why → ⊥)
-    × ((e : RunFault) → IsFirstStop c budget m e → ⊥)
+    × ((e : GatherFault) → IsFirstStop c budget m e → ⊥)
 
 -- What is answered where a text names a run over whole captures, and its outputs are what the run sends: the number of its
 -- entries, or that something couldn't be read or that memory was refused.

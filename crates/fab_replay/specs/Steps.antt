@@ -1,5 +1,5 @@
 -- What stands between two lines of a journal, while a window of the captures is checked. No public clause cites this module.
-use Rattle.std.specs.Prelude.{◌≡◌, ℕ, ◌+◌, ◌-◌, ◌≤◌, ◌<◌, ◌⊎◌, Bool, true, IfSome, IsTrue, List, [], ◌∷◌, ◌++◌, length, drop, Option, Some, option_to_list, slice_get, Err}
+use Rattle.std.specs.Prelude.{◌≡◌, ℕ, ◌+◌, ◌^◌, ◌≤◌, ◌<◌, ◌⊎◌, Bool, true, IfSome, IsTrue, List, [], ◌∷◌, ◌++◌, length, drop, Option, Some, slice_get, Result, Err, OnOk}
 use Rattle.fab_base.specs.declared.values.Caught.{Caught}
 use Rattle.fab_config.specs.Settings.{Settings}
 use Rattle.pcap_file.specs.declared.Record.{Record}
@@ -15,9 +15,10 @@ use Rattle.fab_policy.specs.Verdicts.{IsRight}
 use Rattle.fab_policy.specs.declared.event.Event.TheVariants.{Frame}
 use Rattle.fab_policy.specs.declared.verdict.Verdict.{Verdict}
 use Rattle.fab_gather.specs.Port.{AreIn}
+use Rattle.fab_gather.specs.Reads.{first_index}
 use Rattle.fab_gather.specs.declared.shelf.Shelf.{Shelf}
 use Rattle.fab_replay.specs.Front.{IsFront, IsFirstWrong, expects_tick}
-use Rattle.fab_replay.specs.Lines.{IsBehind, number_behind}
+use Rattle.fab_replay.specs.Lines.{IsBehind, IsInside, number_behind}
 use Rattle.fab_replay.specs.Remains.{IsBegun, Remains}
 use Rattle.fab_replay.specs.declared.fault.CheckFault.{CheckFault}
 use Rattle.fab_replay.specs.declared.fault.CheckFault.TheVariants as fault
@@ -67,17 +68,20 @@ pub record IsIdle (F : Contents) : Type 0 where
   pub events : F.events ≡ []
   pub outs : F.outs ≡ []
 
+-- What a step of a check leaves of a fabric: its configuration and its ports are the same; where it went well, the place in the text
+-- is between two lines, the clock stands at this moment, and nothing is undrained.
+pub record Advances (moment : ℕ) (F G : Contents) (text : List ℕ) (p : Place) (result : Result (Unit {0}) CheckFault) : Type 0 where
+  pub settings : G.settings ≡ F.settings
+  pub count : G.count ≡ F.count
+  pub inside : OnOk result (IsInside text p)
+  pub clock_ : OnOk result (G.state.tables.clock ≡ Some moment)
+  pub idle : OnOk result (IsIdle G)
+
 -- the entries of each port are the same in two journals
 abbrev pub HoldSame : Journal → Journal → Type 0
 HoldSame J K = (port : ℕ) → of_port port K ≡ of_port port J
 
 -- ---- ticks
-
--- A moment is the next tick of a fabric on the way to a window.
-pub record IsTickOf (w : ℕ) (F : Contents) (m : ℕ) : Type 0 where
-  pub above : IfSome F.state.tables.clock (λ t. t < m)
-  pub within : m ≤ w
-  pub next : (J : Journal) → Stands F J → IsNextTick F.settings J w m
 
 -- a moment is the next tick, and one is expected
 pub record IsTickNow (x : Scene) (J : Journal) (m : ℕ) : Type 0 where
@@ -88,10 +92,6 @@ pub record IsTickNow (x : Scene) (J : Journal) (m : ℕ) : Type 0 where
 
 -- ---- frames
 
--- how many records of a capture stand before those on its shelf
-abbrev pub first_of : Shelf → ℕ
-first_of s = s.count - length (option_to_list s.next) - length s.batch.items
-
 -- So many records of a port's shelf have lines, and behind those that have none come only later windows.
 pub record IsPortIn (x : Scene) (w : ℕ) (J : Journal) (q : ℕ) (s : Shelf) (done : ℕ) : Type 0 where
   pub records : List Record
@@ -101,7 +101,7 @@ pub record IsPortIn (x : Scene) (w : ℕ) (J : Journal) (q : ℕ) (s : Shelf) (d
   pub later : List Record
   pub left : left_of (q + 1) records J ≡ drop done s.batch.items ++ later
   pub from : AreFrom x.settings (w + 1) later
-  pub count : length (of_port (q + 1) J) ≡ first_of s + done
+  pub count : length (of_port (q + 1) J) ≡ first_index s + done
 
 -- a port's shelf and how many of its records have lines, by their place
 pub record At (q : ℕ) (shelves : List Shelf) (done : List ℕ) (s : Shelf) (k : ℕ) : Type 0 where
@@ -115,6 +115,17 @@ pub record IsWindow (x : Scene) (w : ℕ) (J : Journal) (shelves : List Shelf) (
   pub ports : (q : ℕ) (s : Shelf) (k : ℕ) → At q shelves done s k → IsPortIn x w J q s k
   pub clock_ : clock J ≡ Some w
 
+-- A check stands among the frames of a window: between two lines of the text, with nothing undrained, at the window's moment, and
+-- with a count of lines for each port.
+pub record IsAmong (window : ℕ) (F : Contents) (text : List ℕ) (p : Place) (shelves : List Shelf) (done : List ℕ) : Type 0 where
+  pub inside : IsInside text p
+  pub clock_ : F.state.tables.clock ≡ Some window
+  pub early : window < 2 ^ 53
+  pub idle : IsIdle F
+  pub few : length shelves ≤ 64
+  pub count : F.count ≡ length shelves
+  pub width : length done ≡ length shelves
+
 -- The record of a port is the next one on its shelf, with this index; a line that tells the clock tells this one.
 pub record IsOnShelf (shelves : List Shelf) (done : List ℕ) (w port index : ℕ) (told : Option ℕ) (r : Record) : Type 0 where
   pub place : ℕ
@@ -123,7 +134,7 @@ pub record IsOnShelf (shelves : List Shelf) (done : List ℕ) (w port index : �
   pub done_ : ℕ
   pub at : At place shelves done shelf done_
   pub record_ : slice_get shelf.batch.items done_ ≡ Some r
-  pub number : index ≡ first_of shelf + done_
+  pub number : index ≡ first_index shelf + done_
   pub clock_ : IfSome told (λ t. t ≡ w)
 
 -- a record of some port has no line yet
@@ -135,8 +146,8 @@ pub record HasLeft (shelves : List Shelf) (done : List ℕ) : Type 0 where
   pub more : done_ < length shelf.batch.items
 
 -- a record of a port has no line yet
-abbrev pub IsLeft : List Shelf → List ℕ → ℕ → Type 0
-IsLeft shelves done q = (s : Shelf) × (k : ℕ) × At q shelves done s k × (k < length s.batch.items)
+abbrev pub HasLeftAt : List Shelf → List ℕ → ℕ → Type 0
+HasLeftAt shelves done q = (s : Shelf) × (k : ℕ) × At q shelves done s k × (k < length s.batch.items)
 
 -- each record of a port has a line
 abbrev pub IsDone : List Shelf → List ℕ → ℕ → Type 0
@@ -178,4 +189,4 @@ pub record IsGathered (x : Scene) (w : ℕ) (J : Journal) (shelves : List Shelf)
 
 -- each frame on the shelves has a line
 abbrev pub AreCounted : Journal → List Shelf → Type 0
-AreCounted J shelves = (q : ℕ) (s : Shelf) → slice_get shelves q ≡ Some s → length (of_port (q + 1) J) ≡ first_of s + length s.batch.items
+AreCounted J shelves = (q : ℕ) (s : Shelf) → slice_get shelves q ≡ Some s → length (of_port (q + 1) J) ≡ first_index s + length s.batch.items

@@ -1,5 +1,5 @@
 -- A frame with the verdict that a line tells.
-use Rattle.std.specs.Prelude.{◌≡◌, ℕ, Option, None, Some}
+use Rattle.std.specs.Prelude.{◌≡◌, ℕ}
 use Rattle.fab_base.specs.declared.values.Caught.{Caught}
 use Rattle.fab_config.specs.Settings.{Settings}
 use Rattle.fab_policy.specs.Standing.{Contents, Takes}
@@ -7,14 +7,8 @@ use Rattle.fab_policy.specs.State.{Tables}
 use Rattle.fab_policy.specs.Verdicts.{IsRight}
 use Rattle.fab_policy.specs.declared.event.Event.TheVariants.{Frame}
 use Rattle.fab_policy.specs.declared.verdict.Verdict.{Verdict}
-use Rattle.fab_policy.specs.declared.verdict.Verdict.TheVariants.{Granted}
 use Rattle.fab_replay.specs.declared.verdicts.Misjudged.{Misjudged}
 use Rattle.fab_replay.specs.declared.verdicts.Misjudged.TheVariants.{Wrong, Memory}
-
--- the address that a verdict grants
-abbrev pub wish_of : Verdict → Option ℕ
-wish_of (Granted a) = Some a
-wish_of _ = None
 
 -- The verdict that was found isn't right over these tables, and the one that was made is.
 abbrev pub IsMisjudged : Settings → Tables → ℕ → Caught → Verdict → Misjudged → Type 0
@@ -22,6 +16,6 @@ IsMisjudged c T port caught found (Wrong made) = (IsRight c T port caught found 
 IsMisjudged c T port caught found Memory = Unit {0}
 
 -- What a fabric is then: it has taken the frame with the verdict that was made, or it is as it was.
-abbrev pub IsLeft : Contents → ℕ → ℕ → Caught → Misjudged → Contents → Type 0
-IsLeft F port index caught (Wrong made) G = Takes F (Frame port index caught made) G
-IsLeft F port index caught Memory G = G ≡ F
+abbrev pub IsAfter : Contents → ℕ → ℕ → Caught → Misjudged → Contents → Type 0
+IsAfter F port index caught (Wrong made) G = Takes F (Frame port index caught made) G
+IsAfter F port index caught Memory G = G ≡ F

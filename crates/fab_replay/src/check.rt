@@ -1,22 +1,22 @@
 //! A journal checked against captures whose heads were read, and against outputs.
-ghost use Rattle.std.specs.Prelude.{◌≡◌, ◌++◌, ◌+◌, ◌<◌, ◌≤◌, ◌^◌, ℕ, Bool, IfErr, IsTrue, MatchBool, MatchResult, None, length, [], false};
+ghost use Rattle.std.specs.Prelude.{◌≡◌, ◌++◌, ◌+◌, ◌<◌, ◌≤◌, Bool, IfErr, IsTrue, MatchBool, MatchResult, Err, None, length, [], false};
 ghost use Rattle.fab_gather.specs.First.{AreFresh};
-ghost use Rattle.fab_gather.specs.Ports.{AreInputs, TakesFrom, slots_of};
+ghost use Rattle.fab_gather.specs.Ports.{AreInputs, TakesFrom, slots_of, walk_at};
 ghost use Rattle.fab_policy.specs.Journal.{Journal};
 ghost use Rattle.fab_policy.specs.Outputs.{state_of};
-ghost use Rattle.fab_replay.specs.Check.{Checks, Leaves, matter_in};
+ghost use Rattle.fab_replay.specs.Check.{Checks, Leaves, matter_in, Task, task_of};
 ghost use Rattle.fab_replay.specs.Counts.{TellsFaults};
 ghost use Rattle.fab_replay.specs.Front.{expects_tick, has_left};
 ghost use Rattle.fab_replay.specs.Lines.{IsInside, IsOfLine};
 ghost use Rattle.fab_replay.specs.Steps.{IsAlong, IsFound, IsReached, Left, Scene};
-ghost use Rattle.fab_replay.specs.Windows.{Ended, Going, IsOf, LeftBy, RemainsOf, Task, task_of};
+ghost use Rattle.fab_replay.specs.Windows.{Ends, Going, IsOf, stand_at};
 ghost use Rattle.fab_policy.specs.Standing.{Contents};
 ghost use Rattle.std.specs.Prelude.{drop};
 
 use crate::laws::laws_of_windows;
 use crate::lines::{fault_at, first_place, next_line};
 use crate::owed::Owed;
-use crate::windows::{check_windows, fault_of};
+use crate::windows::{Course, Written, check_windows, fault_of};
 use crate::{CheckFault, LineWhy, Place};
 use fab_base::Depot;
 use fab_gather::{Input, Shelf, first_looks, next_window};
@@ -25,13 +25,11 @@ use forward_core::Fabric;
 use pcap_file::Budget;
 use std::alloc::Global;
 
-/// What a check keeps from window to window.
+/// Where a check stands before its first window.
 #[derive(Debug, Drop)]
 struct Begun {
-    place: Place,
-    first: u64,
     shelves: Vec<Shelf>,
-    owed: Owed,
+    course: Course,
 }
 
 /// Checks a journal, in either format, against captures in port order and against outputs of the
@@ -56,8 +54,8 @@ pub fn check_captures<D: Depot>(
     requires count { fabric.old.count ≡ length ins.old }
     requires state { fabric.old.state ≡ state_of fabric.old.settings [] }
     requires nothing { (fabric.old.events ≡ []) × (fabric.old.outs ≡ []) }
-    ensures checks { Checks fabric.old.settings budget.old ins.old outs.now journal.now
-        (D.seen depot.old) (D.seen depot.new) fabric.new result }
+    ensures checks { Checks (task_of fabric.old.settings budget.old ins.old (D.seen depot.old)
+        journal.now outs.now) (D.seen depot.new) fabric.new result }
     ensures leaves { let a = D.seen depot.old in Leaves fabric.old.settings budget.old
         (matter_in a ins.old journal.now outs.now) a.told fabric.new result }
     ensures settings { fabric.new.settings ≡ fabric.old.settings }
@@ -67,49 +65,46 @@ pub fn check_captures<D: Depot>(
     // For the checker: a fault that is handed on by `?` holds these enums.
     let _verdicts: &[Verdict] = &[];
     let _whys: &[LineWhy] = &[];
-    let mut begun = begin(alloc, depot, fabric, journal, ins, outs, budget)?;
-    check_begun(alloc, depot, fabric, journal, ins, outs, budget, &mut begun)
+    let written = Written { journal, outs };
+    let mut begun = look_first(alloc, depot, fabric, &written, ins, budget)?;
+    check_begun(alloc, depot, fabric, &written, ins, budget, &mut begun)
 }
 
 // Looks at the first record of each port; nothing of the journal and of the outputs is read yet.
-fn begin<D: Depot>(
+fn look_first<D: Depot>(
     alloc: Global,
     depot: &mut D,
     fabric: &Fabric,
-    journal: &[u8],
+    written: &Written<'_>,
     ins: &mut [Input],
-    outs: &[u32],
     budget: &mut Budget,
 ) -> Result<Begun, CheckFault>
     requires ports { (1 ≤ length ins.old) × (length ins.old ≤ 64) }
-    requires outputs { length outs.now ≤ length ins.old }
-    requires inputs { AreInputs (D.seen depot.old) (slots_of ins.old ++ outs.now) }
+    requires outputs { length written.now.outs.now ≤ length ins.old }
+    requires inputs { AreInputs (D.seen depot.old) (slots_of ins.old ++ written.now.outs.now) }
     requires fresh { AreFresh ins.old }
     requires count { fabric.now.count ≡ length ins.old }
     requires state { fabric.now.state ≡ state_of fabric.now.settings [] }
     requires nothing { (fabric.now.events ≡ []) × (fabric.now.outs ≡ []) }
     ensures begins { let k = task_of fabric.now.settings budget.old ins.old (D.seen depot.old)
-        journal.now outs.now in MatchResult result
-        (λ b. Going k 0 b.first fabric.now b.place (D.seen depot.new) ins.new b.shelves.items
-        budget.new b.owed) (λ e. Ended k (D.seen depot.new) e × LeftBy k fabric.now e) }
+        written.now.journal.now written.now.outs.now in MatchResult result
+        (λ b. Going k 0 (stand_at fabric.now b.course
+        (walk_at (D.seen depot.new) ins.new b.shelves.items budget.new)))
+        (λ e. Ends k (D.seen depot.new) fabric.now (Err e)) }
     ensures takes { TakesFrom ins.old ins.new budget.old budget.new }
     ensures counts { TellsFaults (D.seen depot.old) (D.seen depot.new) result }
 {
     // Law: what the looks to come are, what was read and what a stop keeps; Going begins with them.
     laws_of_windows();
-    let place = first_place(journal);
-    let owed = Owed::new(alloc, outs.len())?;
+    let place = first_place(written.journal);
+    let owed = Owed::new(alloc, written.outs.len())?;
     let shelves = match first_looks(alloc, depot, ins, budget) {
         Ok(shelves) => shelves,
         Err(fault) => return Err(fault_of(fault)),
     };
     let first = next_window(fabric.config(), &shelves).unwrap_or(0);
-    Ok(Begun {
-        place,
-        first,
-        shelves,
-        owed,
-    })
+    let course = Course { first, place, owed };
+    Ok(Begun { shelves, course })
 }
 
 // Checks the lines of all windows, that no line is behind them, and then the outputs.
@@ -117,22 +112,18 @@ fn check_begun<D: Depot>(
     alloc: Global,
     depot: &mut D,
     fabric: &mut Fabric,
-    journal: &[u8],
+    written: &Written<'_>,
     ins: &mut [Input],
-    outs: &[u32],
     budget: &mut Budget,
     begun: &mut Begun,
 ) -> Result<u64, CheckFault>
-    requires going { (k : Task) × IsOf k journal.now outs.now × Going k 0 begun.old.first fabric.old
-        begun.old.place (D.seen depot.old) ins.old begun.old.shelves.items budget.old
-        begun.old.owed }
-    ensures checks { (k : Task) → IsOf k journal.now outs.now → Going k 0 begun.old.first fabric.old
-        begun.old.place (D.seen depot.old) ins.old begun.old.shelves.items budget.old
-        begun.old.owed → Checks k.settings k.start.budget k.start.ins k.outs k.bytes k.start.seen
-        (D.seen depot.new) fabric.new result }
-    ensures leaves { (k : Task) → IsOf k journal.now outs.now → Going k 0 begun.old.first
-        fabric.old begun.old.place (D.seen depot.old) ins.old begun.old.shelves.items budget.old
-        begun.old.owed → RemainsOf k fabric.new result }
+    requires going { (k : Task) × IsOf k written.now.journal.now written.now.outs.now
+        × Going k 0 (stand_at fabric.old begun.old.course
+        (walk_at (D.seen depot.old) ins.old begun.old.shelves.items budget.old)) }
+    ensures ends { (k : Task) → IsOf k written.now.journal.now written.now.outs.now
+        → Going k 0 (stand_at fabric.old begun.old.course
+        (walk_at (D.seen depot.old) ins.old begun.old.shelves.items budget.old))
+        → Ends k (D.seen depot.new) fabric.new result }
     ensures settings { fabric.new.settings ≡ fabric.old.settings }
     ensures takes { TakesFrom ins.old ins.new budget.old budget.new }
     ensures counts { TellsFaults (D.seen depot.old) (D.seen depot.new) result }
@@ -142,23 +133,19 @@ fn check_begun<D: Depot>(
     // For the checker: a fault that is handed on by `?` holds these enums.
     let _verdicts: &[Verdict] = &[];
     let _whys: &[LineWhy] = &[];
-    let first = begun.first;
     check_windows(
         alloc,
         depot,
         fabric,
-        journal,
-        &mut begun.place,
-        first,
+        written,
         ins,
         &mut begun.shelves,
         budget,
-        outs,
-        &mut begun.owed,
+        &mut begun.course,
     )?;
-    check_end(alloc, journal, &begun.place)?;
-    begun.owed.read_out(depot, outs)?;
-    Ok(begun.place.entries)
+    check_end(alloc, written.journal, &begun.course.place)?;
+    begun.course.owed.read_out(depot, written.outs)?;
+    Ok(begun.course.place.entries)
 }
 
 // Checks that no line is at a place, where no frame is left.

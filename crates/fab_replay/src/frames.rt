@@ -1,18 +1,15 @@
 //! The lines of the frames of a window.
-ghost use Rattle.std.specs.Prelude.{◌≡◌, ◌+◌, ◌<◌, ◌≤◌, ◌^◌, ◌∷◌, ℕ, Bool, IsTrue, List, IsSome, IfSome, MatchOption, MatchResult, MatchBool, OnOk, IfErr, Some, length, drop, option_copied, slice_get, [], false, true};
-ghost use Rattle.fab_base.specs.declared.values.Caught.{Caught};
+ghost use Rattle.std.specs.Prelude.{◌≡◌, ◌+◌, ◌<◌, ◌≤◌, ◌^◌, ◌∷◌, ℕ, Bool, IsTrue, IsSome, IfSome, MatchOption, MatchResult, MatchBool, OnOk, IfErr, Some, length, option_copied, slice_get, [], false, true};
 ghost use Rattle.fab_policy.specs.Journal.{Journal};
-ghost use Rattle.fab_policy.specs.Legal.{Legal, of_port};
+ghost use Rattle.fab_policy.specs.Legal.{Legal};
 ghost use Rattle.fab_policy.specs.Ranged.{IsRangedEvent};
 ghost use Rattle.fab_policy.specs.Standing.{Stands};
-ghost use Rattle.fab_policy.specs.declared.event.Event as events;
 ghost use Rattle.fab_policy.specs.declared.event.Event.TheVariants as event;
-ghost use Rattle.fab_policy.specs.declared.line.Line.TheVariants as line_;
 ghost use Rattle.fab_pages.specs.Pages.{items_in};
-ghost use Rattle.fab_replay.specs.Lines.{IsInside, IsOfLine};
+ghost use Rattle.fab_replay.specs.Lines.{IsOfLine};
 ghost use Rattle.fab_replay.specs.Steps as spec;
 ghost use Rattle.fab_replay.specs.Owed.{PagesGrow};
-ghost use Rattle.fab_replay.specs.Steps.{AllDone, At, HasLeft, HasTurned, IsAlong, IsFound, IsIdle, IsOnShelf, IsReached, IsRefused, IsWindow, Left, Scene};
+ghost use Rattle.fab_replay.specs.Steps.{Advances, AllDone, HasLeft, HasTurned, IsAlong, IsAmong, IsFound, IsIdle, IsOnShelf, IsReached, IsRefused, IsWindow, Left, Scene};
 ghost use Rattle.pcap_file.specs.declared.Record.{Record as of_captures};
 
 use crate::lines::{fault_at, next_line};
@@ -26,6 +23,22 @@ use forward_core::Fabric;
 use pcap_file::Record;
 use std::alloc::Global;
 
+/// A window's records, on the shelves of their ports.
+#[derive(Clone, Copy, Debug)]
+pub(crate) struct Gathered<'a> {
+    pub(crate) window: u64,
+    pub(crate) shelves: &'a [Shelf],
+}
+
+// A frame that a line names, with the verdict that it has there.
+#[derive(Clone, Copy, Debug)]
+struct NamedFrame<'a> {
+    port: PortNo,
+    index: u64,
+    found: &'a Record,
+    verdict: Verdict,
+}
+
 /// Checks the lines of the frames on the shelves, which come in any order of ports, each port's in
 /// their order, and has the fabric handle them.
 pub(crate) fn check_frames(
@@ -33,37 +46,30 @@ pub(crate) fn check_frames(
     fabric: &mut Fabric,
     journal: &[u8],
     place: &mut Place,
-    window: u64,
-    shelves: &[Shelf],
+    gathered: &Gathered<'_>,
     done: &mut [usize],
     pages: &mut [Vec<u8>],
 ) -> Result<(), CheckFault>
-    requires inside { IsInside journal.now place.old }
-    requires clock { fabric.old.state.tables.clock ≡ Some window }
-    requires range { window < 2 ^ 53 }
-    requires idle { IsIdle fabric.old }
-    requires ports { length shelves.now ≤ 64 }
-    requires count { (fabric.old.count ≡ length shelves.now)
-        × (length done.old ≡ length shelves.now) }
+    requires among { IsAmong gathered.now.window fabric.old journal.now place.old
+        gathered.now.shelves.now done.old }
     ensures checks { (x : Scene) (J : Journal) → x.bytes ≡ journal.now
-        → IsReached x J fabric.old place.old → IsWindow x window J shelves.now done.old
+        → IsReached x J fabric.old place.old
+        → IsWindow x gathered.now.window J gathered.now.shelves.now done.old
         → MatchResult result
         (λ _. (K : Journal) × IsReached x K fabric.new place.new
-        × IsWindow x window K shelves.now done.new
+        × IsWindow x gathered.now.window K gathered.now.shelves.now done.new
         × PagesGrow x.settings (length x.records) J K (items_in pages.old) (items_in pages.new))
         (λ e. IsFound x e) }
     ensures left { (x : Scene) (told : Bool) (J : Journal) → x.bytes ≡ journal.now
         → IsAlong x told J fabric.old place.old
-        → (IsTrue told → IsWindow x window J shelves.now done.old) → MatchResult result
+        → (IsTrue told → IsWindow x gathered.now.window J gathered.now.shelves.now done.old)
+        → MatchResult result
         (λ _. (K : Journal) × IsAlong x told K fabric.new place.new
-        × (IsTrue told → IsWindow x window K shelves.now done.new))
+        × (IsTrue told → IsWindow x gathered.now.window K gathered.now.shelves.now done.new))
         (λ e. Left x told fabric.new e) }
-    ensures all { OnOk result (AllDone shelves.now done.new) }
-    ensures inside { OnOk result (IsInside journal.now place.new) }
-    ensures clock { OnOk result (fabric.new.state.tables.clock ≡ Some window) }
-    ensures settings { (fabric.new.settings ≡ fabric.old.settings)
-        × (fabric.new.count ≡ fabric.old.count) }
-    ensures idle { OnOk result (IsIdle fabric.new) }
+    ensures all { OnOk result (AllDone gathered.now.shelves.now done.new) }
+    ensures advances { let w = gathered.now.window in
+        Advances w fabric.old fabric.new journal.now place.new result }
     ensures pages { length pages.new ≡ length pages.old }
     ensures only { IfErr result IsOfLine }
     ensures width { length done.new ≡ length done.old }
@@ -71,8 +77,8 @@ pub(crate) fn check_frames(
     // For the checker: a fault that is handed on by `?` holds these enums.
     let _verdicts: &[Verdict] = &[];
     let _whys: &[LineWhy] = &[];
-    'lines: while has_left(shelves, done) {
-        check_frame(alloc, fabric, journal, place, window, shelves, done, pages)?;
+    'lines: while has_left(gathered.shelves, done) {
+        check_frame(alloc, fabric, journal, place, gathered, done, pages)?;
     }
     Ok(())
 }
@@ -83,38 +89,31 @@ fn check_frame(
     fabric: &mut Fabric,
     journal: &[u8],
     place: &mut Place,
-    window: u64,
-    shelves: &[Shelf],
+    gathered: &Gathered<'_>,
     done: &mut [usize],
     pages: &mut [Vec<u8>],
 ) -> Result<(), CheckFault>
-    requires inside { IsInside journal.now place.old }
-    requires clock { fabric.old.state.tables.clock ≡ Some window }
-    requires range { window < 2 ^ 53 }
-    requires idle { IsIdle fabric.old }
-    requires ports { length shelves.now ≤ 64 }
-    requires count { (fabric.old.count ≡ length shelves.now)
-        × (length done.old ≡ length shelves.now) }
-    requires left { HasLeft shelves.now done.old }
+    requires among { IsAmong gathered.now.window fabric.old journal.now place.old
+        gathered.now.shelves.now done.old }
+    requires left { HasLeft gathered.now.shelves.now done.old }
     ensures checks { (x : Scene) (J : Journal) → x.bytes ≡ journal.now
-        → IsReached x J fabric.old place.old → IsWindow x window J shelves.now done.old
+        → IsReached x J fabric.old place.old
+        → IsWindow x gathered.now.window J gathered.now.shelves.now done.old
         → MatchResult result
         (λ _. (K : Journal) × IsReached x K fabric.new place.new
-        × IsWindow x window K shelves.now done.new
+        × IsWindow x gathered.now.window K gathered.now.shelves.now done.new
         × PagesGrow x.settings (length x.records) J K (items_in pages.old) (items_in pages.new))
         (λ e. IsFound x e) }
     ensures left { (x : Scene) (told : Bool) (J : Journal) → x.bytes ≡ journal.now
         → IsAlong x told J fabric.old place.old
-        → (IsTrue told → IsWindow x window J shelves.now done.old) → MatchResult result
+        → (IsTrue told → IsWindow x gathered.now.window J gathered.now.shelves.now done.old)
+        → MatchResult result
         (λ _. (K : Journal) × IsAlong x told K fabric.new place.new
-        × (IsTrue told → IsWindow x window K shelves.now done.new))
+        × (IsTrue told → IsWindow x gathered.now.window K gathered.now.shelves.now done.new))
         (λ e. Left x told fabric.new e) }
-    ensures inside { OnOk result (IsInside journal.now place.new) }
+    ensures advances { let w = gathered.now.window in
+        Advances w fabric.old fabric.new journal.now place.new result }
     ensures onward { OnOk result (place.old.at < place.new.at) }
-    ensures clock { OnOk result (fabric.new.state.tables.clock ≡ Some window) }
-    ensures settings { (fabric.new.settings ≡ fabric.old.settings)
-        × (fabric.new.count ≡ fabric.old.count) }
-    ensures idle { OnOk result (IsIdle fabric.new) }
     ensures pages { length pages.new ≡ length pages.old }
     ensures only { IfErr result IsOfLine }
     ensures width { length done.new ≡ length done.old }
@@ -130,10 +129,16 @@ fn check_frame(
     else {
         return Err(fault_at(&before, LineWhy::Tick));
     };
-    let Some(found) = next_on_shelf(shelves, done, window, port, index, clock) else {
+    let Some(found) = next_on_shelf(gathered, done, port, index, clock) else {
         return Err(fault_at(&before, LineWhy::Frame));
     };
-    take_frame(alloc, fabric, &before, port, index, found, &verdict, pages)?;
+    let named = NamedFrame {
+        port,
+        index,
+        found,
+        verdict,
+    };
+    take_frame(alloc, fabric, &before, &named, pages)?;
     done[port.index()] += 1;
     Ok(())
 }
@@ -143,10 +148,7 @@ fn take_frame(
     alloc: Global,
     fabric: &mut Fabric,
     place: &Place,
-    port: PortNo,
-    index: u64,
-    found: &Record,
-    verdict: &Verdict,
+    named: &NamedFrame<'_>,
     pages: &mut [Vec<u8>],
 ) -> Result<(), CheckFault>
     requires room { place.now.entries + place.now.entries ≤ place.now.at }
@@ -154,17 +156,18 @@ fn take_frame(
     requires early { IfSome fabric.old.state.tables.clock (λ t. t < 2 ^ 53) }
     requires idle { IsIdle fabric.old }
     ensures journal { OnOk result ((J : Journal) → Legal fabric.old.settings J
-        → Stands fabric.old J → let K = event.Frame port index found.now.caught verdict.now ∷ J in
+        → Stands fabric.old J → let n = named.now in
+        let K = event.Frame n.port n.index n.found.now.caught n.verdict ∷ J in
         Legal fabric.old.settings K × Stands fabric.new K
         × PagesGrow fabric.old.settings fabric.old.count J K (items_in pages.old)
         (items_in pages.new)) }
-    ensures ranged { OnOk result
-        (IsRangedEvent (event.Frame port index found.now.caught verdict.now)) }
+    ensures ranged { OnOk result (let n = named.now in
+        IsRangedEvent (event.Frame n.port n.index n.found.now.caught n.verdict)) }
     ensures refused { IfErr result (λ e. IsRefused fabric.old.settings fabric.old.state.tables
-        place.now port found.now.caught verdict.now e) }
+        place.now named.now.port named.now.found.now.caught named.now.verdict e) }
     ensures left { IfErr result (λ e. (J : Journal) → Legal fabric.old.settings J
-        → Stands fabric.old J
-        → HasTurned fabric.old.settings fabric.new J port index found.now.caught e) }
+        → Stands fabric.old J → let n = named.now in
+        HasTurned fabric.old.settings fabric.new J n.port n.index n.found.now.caught e) }
     ensures clock { OnOk result
         (fabric.new.state.tables.clock ≡ fabric.old.state.tables.clock) }
     ensures settings { (fabric.new.settings ≡ fabric.old.settings)
@@ -173,9 +176,17 @@ fn take_frame(
     ensures pages { length pages.new ≡ length pages.old }
     ensures only { IfErr result IsOfLine }
 {
-    match step_as(alloc, fabric, port, index, &hear(&found.caught), *verdict) {
+    let heard = hear(&named.found.caught);
+    match step_as(
+        alloc,
+        fabric,
+        named.port,
+        named.index,
+        &heard,
+        named.verdict,
+    ) {
         Ok(()) => {}
-        Err(misjudged) => return Err(refusal(place, *verdict, misjudged)),
+        Err(misjudged) => return Err(refusal(place, named.verdict, misjudged)),
     }
     take_sent(alloc, fabric, pages)?;
     Ok(())
@@ -194,28 +205,28 @@ fn refusal(place: &Place, found: Verdict, misjudged: Misjudged) -> CheckFault
 
 // The next record on the shelf of a port, if a line names it.
 fn next_on_shelf<'a>(
-    shelves: &'a [Shelf],
+    gathered: &Gathered<'a>,
     done: &[usize],
-    window: u64,
     port: PortNo,
     index: u64,
     clock: Option<Moment>,
 ) -> Option<&'a Record>
-    requires count { length done.now ≡ length shelves.now }
+    requires count { length done.now ≡ length gathered.now.shelves.now }
     ensures named { MatchOption result
-        ((r : of_captures) → IsOnShelf shelves.now done.now window port index clock r → ⊥)
-        (λ r. IsOnShelf shelves.now done.now window port index clock r.now) }
+        ((r : of_captures) → IsOnShelf gathered.now.shelves.now done.now gathered.now.window port
+        index clock r → ⊥) (λ r. IsOnShelf gathered.now.shelves.now done.now gathered.now.window
+        port index clock r.now) }
     ensures room { IfSome result (λ r. (q k : ℕ) → port ≡ q + 1 → slice_get done.now q ≡ Some k
         → k + 1 < 2 ^ 64) }
 {
-    if is_other(clock, window) {
+    if is_other(clock, gathered.window) {
         return None;
     }
     let at = port.index();
-    let shelf = shelf_at(shelves, at)?;
+    let shelf = shelf_at(gathered.shelves, at)?;
     let place = done_at(done, at)?;
     let found = record_at(shelf, place)?;
-    if first_of(shelf) + place as u64 != index {
+    if shelf.first_index() + place as u64 != index {
         return None;
     }
     Some(found)
@@ -255,16 +266,6 @@ fn is_other(told: Option<Moment>, clock: u64) -> bool
     }
 }
 
-// The number of the first record on a shelf.
-fn first_of(shelf: &Shelf) -> u64
-    ensures value { result ≡ spec.first_of shelf.now }
-    ensures room { result + length shelf.now.batch.items < 2 ^ 64 }
-{
-    let ahead = u64::from(shelf.next.is_some());
-    let found = shelf.count.saturating_sub(ahead);
-    found.saturating_sub(shelf.batch.len() as u64)
-}
-
 // Whether a record on some shelf has no line yet.
 fn has_left(shelves: &[Shelf], done: &[usize]) -> bool
     requires count { length done.now ≡ length shelves.now }
@@ -272,7 +273,7 @@ fn has_left(shelves: &[Shelf], done: &[usize]) -> bool
 {
     let mut port = 0;
     'ports: while port < shelves.len() {
-        if is_left(shelves, done, port) {
+        if has_left_at(shelves, done, port) {
             return true;
         }
         port += 1;
@@ -281,8 +282,8 @@ fn has_left(shelves: &[Shelf], done: &[usize]) -> bool
 }
 
 // Whether a record on the shelf of a port has no line yet.
-fn is_left(shelves: &[Shelf], done: &[usize], port: usize) -> bool
-    ensures { MatchBool result (spec.IsLeft shelves.now done.now port)
+fn has_left_at(shelves: &[Shelf], done: &[usize], port: usize) -> bool
+    ensures { MatchBool result (spec.HasLeftAt shelves.now done.now port)
         (spec.IsDone shelves.now done.now port) }
 {
     let (Some(shelf), Some(count)) = (shelf_at(shelves, port), done_at(done, port)) else {

@@ -3,7 +3,7 @@ ghost use Rattle.std.specs.Prelude.{◌≡◌, ◌+◌, ◌≤◌, length, take,
 ghost use Rattle.std.specs.Str.{bytes_eq};
 ghost use Rattle.fab_policy.specs.Text.{head_line};
 ghost use Rattle.fab_replay.specs.Lines.{IsBehind, IsInside, IsLineAt, IsOfLine, IsUnread};
-ghost use Rattle.fab_replay.specs.Lines.{behind_line, first_line, format_of, number_behind};
+ghost use Rattle.fab_replay.specs.Lines.{behind_line, first_line, number_behind};
 
 use crate::{CheckFault, LineWhy};
 use fab_policy::{Format, Line, LineError, read_line};

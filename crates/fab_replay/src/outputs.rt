@@ -1,5 +1,5 @@
 //! An output file against the bytes that it should have, which come piece by piece.
-ghost use Rattle.std.specs.Prelude.{◌≡◌, ◌≤◌, ◌<◌, ◌++◌, [], List, ℕ, IsTrue, IfSome, IfNone, OnErr, length, take};
+ghost use Rattle.std.specs.Prelude.{◌≡◌, ◌≤◌, ◌<◌, [], List, ℕ, IsTrue, IfSome, IfNone, OnErr, length, take};
 ghost use Rattle.fab_base.specs.Seen.{Fills};
 ghost use Rattle.fab_replay.specs.Outputs.{IsFirstDifference, IsRead, Feeds, Finishes};
 

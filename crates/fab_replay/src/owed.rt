@@ -2,7 +2,8 @@
 ghost use Rattle.std.specs.Prelude.{◌≡◌, ◌≤◌, ℕ, IfOk, [], List, length, slice_get, Some};
 ghost use Rattle.fab_gather.specs.Ports.{AreInputs};
 ghost use Rattle.fab_replay.specs.Outputs.{IsRead};
-ghost use Rattle.fab_replay.specs.Owed.{AreMany, AreNew, ReadsOn, ReadsOut, answer_by};
+ghost use Rattle.fab_replay.specs.Owed.{AreMany, AreNew, ReadsOn, ReadsOut};
+ghost use Rattle.fab_replay.specs.Owed as spec;
 ghost use Rattle.fab_replay.specs.declared.outputs.Compared as of_outputs;
 
 use crate::{CheckFault, Compared, feed_each, finish_each};
@@ -24,7 +25,7 @@ impl Owed {
         ensures { IfOk result (λ o. AreNew count o) }
     {
         let pages = head_records(alloc, count)?;
-        let all = unread(alloc, count)?;
+        let all = new_comparisons(alloc, count)?;
         Ok(Owed { pages, all })
     }
 
@@ -53,13 +54,13 @@ impl Owed {
     {
         self.read_on(depot, outs)?;
         let first = finish_each(depot, outs, &self.all)?;
-        compared(first)
+        answer_by(first)
     }
 }
 
 // What the first output that isn't as it should be ends a check with.
-fn compared(first: Option<(PortNo, u64)>) -> Result<(), CheckFault>
-    ensures { result ≡ answer_by first }
+fn answer_by(first: Option<(PortNo, u64)>) -> Result<(), CheckFault>
+    ensures { result ≡ spec.answer_by first }
 {
     match first {
         None => Ok(()),
@@ -68,7 +69,7 @@ fn compared(first: Option<(PortNo, u64)>) -> Result<(), CheckFault>
 }
 
 // So many outputs of which nothing was read.
-fn unread(alloc: Global, count: usize) -> Result<Vec<Compared>, NoMemory>
+fn new_comparisons(alloc: Global, count: usize) -> Result<Vec<Compared>, NoMemory>
     ensures count { IfOk result (λ v. length v.items ≡ count) }
     ensures fresh { IfOk result (λ v. (q : ℕ) (c : of_outputs.Compared)
         → slice_get v.items q ≡ Some c → (found : List ℕ) → IsRead c found found []) }

@@ -1,21 +1,20 @@
 //! The lines of ticks.
-ghost use Rattle.std.specs.Prelude.{IfErr, Bool, IsTrue, ◌≡◌, ◌+◌, ◌<◌, ◌≤◌, ◌%◌, ◌^◌, ◌∷◌, [], ℕ, List, IfSome, MatchOption, MatchResult, MatchBool, OnOk, Some, length, true};
+ghost use Rattle.std.specs.Prelude.{IfErr, Bool, IsTrue, ◌≡◌, ◌+◌, ◌<◌, ◌≤◌, ◌%◌, ◌^◌, ◌∷◌, [], ℕ, List, IfSome, MatchResult, MatchBool, OnOk, Some, length, true};
 ghost use Rattle.fab_policy.specs.Journal.{Journal};
 ghost use Rattle.fab_policy.specs.Keeping.{IsAhead};
-ghost use Rattle.fab_policy.specs.Legal.{IsLeastOf, IsNextTick, windows_left};
+ghost use Rattle.fab_policy.specs.Legal.{IsLeastOf, windows_left};
 ghost use Rattle.fab_policy.specs.declared.event.Event.TheVariants as event;
 ghost use Rattle.fab_policy.specs.declared.line.Line.TheVariants as line_;
 ghost use Rattle.fab_pages.specs.Pages.{items_in};
-ghost use Rattle.fab_replay.specs.Front.{expects_tick};
 ghost use Rattle.fab_replay.specs.Lines.{IsInside, IsOfLine};
 ghost use Rattle.fab_replay.specs.Owed.{PagesGrow};
-ghost use Rattle.fab_replay.specs.Steps.{HoldSame, IsAlong, IsFound, IsIdle, IsReached, IsTickNow, IsTickOf, Left, Scene};
+ghost use Rattle.fab_replay.specs.Steps.{Advances, HoldSame, IsAlong, IsFound, IsIdle, IsReached, IsTickNow, Left, Scene};
 
 use crate::lines::{fault_at, next_line};
 use crate::sent::take_sent;
 use crate::{CheckFault, LineWhy, Place};
 use fab_base::{IdList, Moment};
-use fab_policy::{Event, Line, Verdict, ticks_are_due};
+use fab_policy::{Event, Line, Verdict};
 use forward_core::{EventList, Fabric};
 use std::alloc::Global;
 
@@ -46,18 +45,14 @@ pub(crate) fn check_ticks(
         → MatchResult result
         (λ _. (K : Journal) × IsAlong x told K fabric.new place.new × HoldSame J K)
         (λ e. Left x told fabric.new e) }
-    ensures inside { OnOk result (IsInside journal.now place.new) }
-    ensures clock { OnOk result (fabric.new.state.tables.clock ≡ Some window) }
-    ensures settings { (fabric.new.settings ≡ fabric.old.settings)
-        × (fabric.new.count ≡ fabric.old.count) }
-    ensures idle { OnOk result (IsIdle fabric.new) }
+    ensures advances { Advances window fabric.old fabric.new journal.now place.new result }
     ensures pages { length pages.new ≡ length pages.old }
     ensures only { IfErr result IsOfLine }
 {
     // For the checker: a fault that is handed on by `?` holds these enums.
     let _verdicts: &[Verdict] = &[];
     let _whys: &[LineWhy] = &[];
-    'ticks: while let Some(moment) = next_tick(fabric, window) {
+    'ticks: while let Some(moment) = fabric.next_tick(window) {
         check_tick(alloc, fabric, journal, place, moment, pages)?;
     }
     Ok(())
@@ -76,11 +71,8 @@ fn check_tick(
     requires range { moment < 2 ^ 53 }
     requires order { IfSome fabric.old.state.tables.clock (λ t. t < moment) }
     requires idle { IsIdle fabric.old }
-    ensures checks { (x : Scene) (J : Journal) (w : ℕ) → x.bytes ≡ journal.now
-        → IsReached x J fabric.old place.old
-        → IsLeastOf (windows_left x.settings 1 x.records J) w → IsNextTick x.settings J w moment
-        → expects_tick x.settings x.records J ≡ true → IsAhead (w + 1) x.stop
-        → MatchResult result
+    ensures checks { (x : Scene) (J : Journal) (t : IsTickNow x J moment) → x.bytes ≡ journal.now
+        → IsReached x J fabric.old place.old → IsAhead (t.window + 1) x.stop → MatchResult result
         (λ _. (ended : List ℕ) × IsReached x (event.Tick moment ended ∷ J) fabric.new place.new
         × PagesGrow x.settings (length x.records) J (event.Tick moment ended ∷ J)
         (items_in pages.old) (items_in pages.new))
@@ -90,12 +82,8 @@ fn check_tick(
         → MatchResult result
         (λ _. (ended : List ℕ) × IsAlong x told (event.Tick moment ended ∷ J) fabric.new place.new)
         (λ e. Left x told fabric.new e) }
-    ensures inside { OnOk result (IsInside journal.now place.new) }
+    ensures advances { Advances moment fabric.old fabric.new journal.now place.new result }
     ensures onward { OnOk result (place.old.at < place.new.at) }
-    ensures clock { OnOk result (fabric.new.state.tables.clock ≡ Some moment) }
-    ensures settings { (fabric.new.settings ≡ fabric.old.settings)
-        × (fabric.new.count ≡ fabric.old.count) }
-    ensures idle { OnOk result (IsIdle fabric.new) }
     ensures pages { length pages.new ≡ length pages.old }
     ensures only { IfErr result IsOfLine }
 {
@@ -146,28 +134,4 @@ fn are_same(one: &IdList, other: &IdList) -> bool
         place += 1;
     }
     true
-}
-
-// The next tick on the way to a window, and none where the clock stands there.
-fn next_tick(fabric: &Fabric, window: u64) -> Option<Moment>
-    requires start { window % fabric.now.settings.window ≡ 0 }
-    requires order { IfSome fabric.now.state.tables.clock (λ t. t ≤ window) }
-    ensures { MatchOption result (fabric.now.state.tables.clock ≡ Some window)
-        (λ m. IsTickOf window fabric.now m) }
-{
-    // Law: one moment at most is due, and the next tick is the lesser of it and of the window.
-    ticks_are_due();
-    let Some(clock) = fabric.clock() else {
-        return Some(Moment(window));
-    };
-    if clock.0 == window {
-        return None;
-    }
-    let Some(due) = fabric.due() else {
-        unreachable!()
-    };
-    if due.0 < window {
-        return Some(due);
-    }
-    Some(Moment(window))
 }

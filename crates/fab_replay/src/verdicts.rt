@@ -6,12 +6,11 @@ ghost use Rattle.fab_policy.specs.Standing.{Stands, Takes};
 ghost use Rattle.fab_policy.specs.State.{tables_of};
 ghost use Rattle.fab_policy.specs.Verdicts.{IsRight};
 ghost use Rattle.fab_policy.specs.declared.event.Event.TheVariants.{Frame};
-ghost use Rattle.fab_replay.specs.Verdicts as spec;
-ghost use Rattle.fab_replay.specs.Verdicts.{IsLeft, IsMisjudged};
+ghost use Rattle.fab_replay.specs.Verdicts.{IsAfter, IsMisjudged};
 
-use fab_base::{FcId, NoMemory, PortNo};
+use fab_base::{NoMemory, PortNo};
 use fab_policy::{Heard, Verdict, verdicts_are_one};
-use forward_core::{Fabric, StepFault};
+use forward_core::{Fabric, StepFault, granted_address};
 use std::alloc::Global;
 
 /// Why a frame isn't taken with the verdict that its line tells.
@@ -58,29 +57,19 @@ pub fn step_as(
     ensures after { (J : Journal) → Stands fabric.old J → IfErr result (IsMisjudged
         fabric.old.settings (tables_of fabric.old.settings J) port heard.now.caught.now found) }
     ensures left { IfErr result (λ e.
-        IsLeft fabric.old port index heard.now.caught.now e fabric.new) }
+        IsAfter fabric.old port index heard.now.caught.now e fabric.new) }
     ensures settings { (fabric.new.settings ≡ fabric.old.settings)
         × (fabric.new.count ≡ fabric.old.count) }
 {
     // Law: a frame has one right verdict but for a granted address; so another one is wrong.
     verdicts_are_one();
-    match fabric.step(alloc, port, index, heard, wish_of(&found)) {
-        Ok(made) => compared(found, made),
+    match fabric.step(alloc, port, index, heard, granted_address(&found)) {
+        Ok(made) => same_or_wrong(found, made),
         Err(StepFault::Memory) => Err(Misjudged::Memory),
         Err(StepFault::WishTaken) => {
             let made = step_freely(alloc, fabric, port, index, heard)?;
             Err(Misjudged::Wrong { made })
         }
-    }
-}
-
-// The address that a verdict grants.
-fn wish_of(verdict: &Verdict) -> Option<FcId>
-    ensures { result ≡ spec.wish_of verdict.now }
-{
-    match verdict {
-        Verdict::Granted(address) => Some(*address),
-        _ => None,
     }
 }
 
@@ -107,7 +96,7 @@ fn step_freely(
 }
 
 // Whether the verdict that was found is the one that was made.
-fn compared(found: Verdict, made: Verdict) -> Result<(), Misjudged>
+fn same_or_wrong(found: Verdict, made: Verdict) -> Result<(), Misjudged>
     ensures ok { OnOk result (made ≡ found) }
     ensures err { IfErr result (λ e. (e ≡ Misjudged.Wrong made) × (made ≡ found → ⊥)) }
 {

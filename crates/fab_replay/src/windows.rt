@@ -1,55 +1,68 @@
 //! The windows of the captures: each is gathered, and then its lines checked.
-ghost use Rattle.std.specs.Prelude.{◌≡◌, ◌≢◌, ◌+◌, ◌<◌, ◌≤◌, ◌^◌, ◌%◌, ℕ, Bool, IfErr, IfOk, IfSome, IsErrOf, IsTrue, MatchResult, OnOk, None, Some, length, replicate};
+ghost use Rattle.std.specs.Prelude.{◌≡◌, ◌<◌, ◌≤◌, ◌^◌, ◌%◌, ℕ, Bool, IfErr, IfOk, IfSome, IsErrOf, IsTrue, MatchResult, OnOk, Err, None, Some, length, replicate};
 ghost use Rattle.fab_base.specs.Seen.{Nothing, Seen, Touches};
 ghost use Rattle.fab_gather.specs.First.{IsNextWindow};
-ghost use Rattle.fab_gather.specs.Ports.{AreInputs, NameIn, TakesFrom};
+ghost use Rattle.fab_gather.specs.Ports.{AreInputs, NameIn, TakesFrom, walk_at};
 ghost use Rattle.fab_pages.specs.Pages.{items_in};
-ghost use Rattle.fab_gather.specs.declared.fault.RunFault.TheVariants as of_gather;
 ghost use Rattle.fab_policy.specs.Journal.{Journal};
 ghost use Rattle.fab_replay.specs.Lines.{IsInside, IsOfLine};
 ghost use Rattle.fab_replay.specs.AllOutputs.{OneRose};
 ghost use Rattle.fab_replay.specs.Counts.{TellsFaults};
 ghost use Rattle.fab_replay.specs.Owed.{AreMany, IsOwed, PagesGrow};
-ghost use Rattle.fab_replay.specs.Steps.{AreCounted, IsAlong, IsFound, IsGathered, IsIdle, IsReached, Left, Scene};
+ghost use Rattle.fab_replay.specs.Steps.{Advances, AreCounted, IsAlong, IsFound, IsGathered, IsIdle, IsReached, Left, Scene};
 ghost use Rattle.fab_replay.specs.Windows as spec;
-ghost use Rattle.fab_replay.specs.Windows.{Ended, Going, IsOf, LeftBy, Task};
+ghost use Rattle.fab_replay.specs.Check.{Task};
+ghost use Rattle.fab_replay.specs.Windows.{Ends, Going, IsOf, stand_at};
 
-use crate::frames::check_frames;
+use crate::frames::{Gathered, check_frames};
 use crate::laws::laws_of_windows;
 use crate::owed::Owed;
 use crate::ticks::check_ticks;
 use crate::{CheckFault, LineWhy, Place};
 use fab_base::{Depot, NoMemory};
-use fab_gather::{Input, RunFault, Shelf, gather, next_window};
+use fab_gather::{GatherFault, Input, Shelf, gather, next_window};
 use fab_policy::Verdict;
 use forward_core::Fabric;
 use pcap_file::Budget;
 use std::alloc::Global;
 
-/// Checks the lines of all windows.
+/// What is checked: a journal's text, and the slots of the outputs of the first ports.
+#[derive(Clone, Copy, Debug)]
+pub(crate) struct Written<'a> {
+    pub(crate) journal: &'a [u8],
+    pub(crate) outs: &'a [u32],
+}
+
+/// How far a check came: the start of its first window, the place in the journal's text, and the
+/// outputs.
+#[derive(Debug, Drop)]
+pub(crate) struct Course {
+    pub(crate) first: u64,
+    pub(crate) place: Place,
+    pub(crate) owed: Owed,
+}
+
+/// Gathers one window of all ports after another and checks its lines.
 pub(crate) fn check_windows<D: Depot>(
     alloc: Global,
     depot: &mut D,
     fabric: &mut Fabric,
-    journal: &[u8],
-    place: &mut Place,
-    first: u64,
+    written: &Written<'_>,
     ins: &mut [Input],
     shelves: &mut [Shelf],
     budget: &mut Budget,
-    outs: &[u32],
-    owed: &mut Owed,
+    course: &mut Course,
 ) -> Result<(), CheckFault>
-    requires going { (k : Task) × IsOf k journal.now outs.now × Going k 0 first fabric.old
-        place.old (D.seen depot.old) ins.old shelves.old budget.old owed.old }
-    ensures turns { (k : Task) → IsOf k journal.now outs.now → Going k 0 first fabric.old
-        place.old (D.seen depot.old) ins.old shelves.old budget.old owed.old → MatchResult result
-        (λ _. (w : ℕ) × Going k w first fabric.new place.new (D.seen depot.new) ins.new
-        shelves.new budget.new owed.new × IsNextWindow k.settings shelves.new None)
-        (λ e. Ended k (D.seen depot.new) e) }
-    ensures left { (k : Task) → IsOf k journal.now outs.now → Going k 0 first fabric.old
-        place.old (D.seen depot.old) ins.old shelves.old budget.old owed.old
-        → IfErr result (λ e. LeftBy k fabric.new e) }
+    requires going { (k : Task) × IsOf k written.now.journal.now written.now.outs.now
+        × Going k 0 (stand_at fabric.old course.old
+        (walk_at (D.seen depot.old) ins.old shelves.old budget.old)) }
+    ensures turns { (k : Task) → IsOf k written.now.journal.now written.now.outs.now
+        → Going k 0 (stand_at fabric.old course.old
+        (walk_at (D.seen depot.old) ins.old shelves.old budget.old)) → MatchResult result
+        (λ _. (w : ℕ) × Going k w (stand_at fabric.new course.new
+        (walk_at (D.seen depot.new) ins.new shelves.new budget.new))
+        × IsNextWindow k.settings shelves.new None)
+        (λ e. Ends k (D.seen depot.new) fabric.new (Err e)) }
     ensures settings { fabric.new.settings ≡ fabric.old.settings }
     ensures takes { TakesFrom ins.old ins.new budget.old budget.new }
     ensures counts { TellsFaults (D.seen depot.old) (D.seen depot.new) result }
@@ -60,79 +73,26 @@ pub(crate) fn check_windows<D: Depot>(
     let _verdicts: &[Verdict] = &[];
     let _whys: &[LineWhy] = &[];
     'windows: while let Some(window) = next_window(fabric.config(), shelves) {
-        check_window(
-            alloc, depot, fabric, journal, place, first, window, ins, shelves, budget, outs, owed,
-        )?;
+        let config = fabric.config();
+        let first = course.first;
+        match gather(alloc, depot, config, first, window, ins, shelves, budget) {
+            Ok(()) => {}
+            Err(fault) => return Err(fault_of(fault)),
+        }
+        check_gathered(alloc, depot, fabric, written, window, shelves, course)?;
     }
     Ok(())
 }
 
-// Gathers the next window of all ports and checks its lines.
-fn check_window<D: Depot>(
-    alloc: Global,
-    depot: &mut D,
-    fabric: &mut Fabric,
-    journal: &[u8],
-    place: &mut Place,
-    first: u64,
-    window: u64,
-    ins: &mut [Input],
-    shelves: &mut [Shelf],
-    budget: &mut Budget,
-    outs: &[u32],
-    owed: &mut Owed,
-) -> Result<(), CheckFault>
-    requires going { (k : Task) × IsOf k journal.now outs.now × Going k window first fabric.old
-        place.old (D.seen depot.old) ins.old shelves.old budget.old owed.old }
-    requires next { IsNextWindow fabric.old.settings shelves.old (Some window) }
-    requires start { window % fabric.old.settings.window ≡ 0 }
-    requires range { window < 2 ^ 43 }
-    ensures turns { (k : Task) → IsOf k journal.now outs.now → Going k window first fabric.old
-        place.old (D.seen depot.old) ins.old shelves.old budget.old owed.old → MatchResult result
-        (λ _. Going k (window + 1) first fabric.new place.new (D.seen depot.new) ins.new
-        shelves.new budget.new owed.new) (λ e. Ended k (D.seen depot.new) e) }
-    ensures left { (k : Task) → IsOf k journal.now outs.now → Going k window first fabric.old
-        place.old (D.seen depot.old) ins.old shelves.old budget.old owed.old
-        → IfErr result (λ e. LeftBy k fabric.new e) }
-    ensures settings { fabric.new.settings ≡ fabric.old.settings }
-    ensures clock { OnOk result (fabric.new.state.tables.clock ≡ Some window) }
-    ensures takes { TakesFrom ins.old ins.new budget.old budget.new }
-    ensures counts { TellsFaults (D.seen depot.old) (D.seen depot.new) result }
-{
-    // Law: what the looks to come are, what was read and what a stop keeps; Going goes on by them.
-    laws_of_windows();
-    // For the checker: a fault that is handed on by `?` holds these enums.
-    let _verdicts: &[Verdict] = &[];
-    let _whys: &[LineWhy] = &[];
-    match gather(
-        alloc,
-        depot,
-        fabric.config(),
-        first,
-        window,
-        ins,
-        shelves,
-        budget,
-    ) {
-        Ok(()) => {}
-        Err(fault) => return Err(fault_of(fault)),
-    }
-    check_gathered(
-        alloc, depot, fabric, journal, place, window, shelves, outs, owed,
-    )
-}
-
 // What a fault of gathering ends a check with.
-pub(crate) fn fault_of(fault: RunFault) -> CheckFault
-    requires { fault ≢ of_gather.Write }
+pub(crate) fn fault_of(fault: GatherFault) -> CheckFault
     ensures { result ≡ spec.check_fault fault }
 {
     match fault {
-        RunFault::Capture { port, at, why } => CheckFault::Capture { port, at, why },
-        RunFault::Limit(kind) => CheckFault::Limit(kind),
-        RunFault::Read => CheckFault::Read,
-        RunFault::Write => unreachable!(),
-        RunFault::Memory => CheckFault::Memory,
+        GatherFault::Capture { port, at, why } => CheckFault::Capture { port, at, why },
+        GatherFault::Limit(kind) => CheckFault::Limit(kind),
+        GatherFault::Read => CheckFault::Read,
+        GatherFault::Memory => CheckFault::Memory,
     }
 }
 
@@ -142,45 +102,42 @@ fn check_gathered<D: Depot>(
     alloc: Global,
     depot: &mut D,
     fabric: &mut Fabric,
-    journal: &[u8],
-    place: &mut Place,
+    written: &Written<'_>,
     window: u64,
     shelves: &[Shelf],
-    outs: &[u32],
-    owed: &mut Owed,
+    course: &mut Course,
 ) -> Result<(), CheckFault>
-    requires inside { IsInside journal.now place.old }
+    requires inside { IsInside written.now.journal.now course.old.place }
     requires range { window < 2 ^ 53 }
     requires start { window % fabric.old.settings.window ≡ 0 }
     requires order { IfSome fabric.old.state.tables.clock (λ t. t < window) }
     requires idle { IsIdle fabric.old }
     requires ports { length shelves.now ≤ 64 }
     requires count { fabric.old.count ≡ length shelves.now }
-    requires inputs { AreInputs (D.seen depot.old) outs.now }
-    requires many { AreMany (length outs.now) owed.old }
+    requires inputs { AreInputs (D.seen depot.old) written.now.outs.now }
+    requires many { AreMany (length written.now.outs.now) course.old.owed }
     ensures checks { IsTrue (D.seen depot.old).told → (x : Scene) (J : Journal) (start : Seen)
-        → x.bytes ≡ journal.now → IsReached x J fabric.old place.old
+        → x.bytes ≡ written.now.journal.now → IsReached x J fabric.old course.old.place
         → IsGathered x window J shelves.now
-        → IsOwed x.settings (length x.records) start (D.seen depot.old) outs.now J owed.old
-        → MatchResult result
-        (λ _. (K : Journal) × IsReached x K fabric.new place.new × AreCounted K shelves.now
-        × IsOwed x.settings (length x.records) start (D.seen depot.new) outs.now K owed.new)
+        → IsOwed x.settings (length x.records) start (D.seen depot.old) written.now.outs.now J
+        course.old.owed → MatchResult result
+        (λ _. (K : Journal) × IsReached x K fabric.new course.new.place
+        × AreCounted K shelves.now × IsOwed x.settings (length x.records) start
+        (D.seen depot.new) written.now.outs.now K course.new.owed)
         (λ e. IsFound x e) }
-    ensures left { (x : Scene) (told : Bool) (J : Journal) → x.bytes ≡ journal.now
-        → IsAlong x told J fabric.old place.old
+    ensures left { (x : Scene) (told : Bool) (J : Journal) → x.bytes ≡ written.now.journal.now
+        → IsAlong x told J fabric.old course.old.place
         → (IsTrue told → IsGathered x window J shelves.now) → MatchResult result
-        (λ _. (K : Journal) × IsAlong x told K fabric.new place.new
+        (λ _. (K : Journal) × IsAlong x told K fabric.new course.new.place
         × (IsTrue told → AreCounted K shelves.now)) (λ e. Left x told fabric.new e) }
-    ensures inside { OnOk result (IsInside journal.now place.new) }
-    ensures clock { OnOk result (fabric.new.state.tables.clock ≡ Some window) }
-    ensures settings { (fabric.new.settings ≡ fabric.old.settings)
-        × (fabric.new.count ≡ fabric.old.count) }
-    ensures idle { OnOk result (IsIdle fabric.new) }
-    ensures many { OnOk result (AreMany (length outs.now) owed.new) }
-    ensures touches { Touches Nothing (NameIn (D.seen depot.old) outs.now) (D.seen depot.old)
-        (D.seen depot.new) }
+    ensures advances { let text = written.now.journal.now in
+        Advances window fabric.old fabric.new text course.new.place result }
+    ensures many { OnOk result (AreMany (length written.now.outs.now) course.new.owed) }
+    ensures first { course.new.first ≡ course.old.first }
+    ensures touches { Touches Nothing (NameIn (D.seen depot.old) written.now.outs.now)
+        (D.seen depot.old) (D.seen depot.new) }
     ensures cause { IsErrOf result CheckFault.Read
-        → OneRose outs.now (D.seen depot.old) (D.seen depot.new) }
+        → OneRose written.now.outs.now (D.seen depot.old) (D.seen depot.new) }
     ensures counts { TellsFaults (D.seen depot.old) (D.seen depot.new) result }
 {
     // For the checker: a fault that is handed on by `?` holds these enums.
@@ -189,13 +146,13 @@ fn check_gathered<D: Depot>(
     check_shelves(
         alloc,
         fabric,
-        journal,
-        place,
+        written.journal,
+        &mut course.place,
         window,
         shelves,
-        &mut owed.pages,
+        &mut course.owed.pages,
     )?;
-    match owed.read_on(depot, outs) {
+    match course.owed.read_on(depot, written.outs) {
         Ok(()) => Ok(()),
         Err(_) => Err(CheckFault::Read),
     }
@@ -229,11 +186,7 @@ fn check_shelves(
         → (IsTrue told → IsGathered x window J shelves.now) → MatchResult result
         (λ _. (K : Journal) × IsAlong x told K fabric.new place.new
         × (IsTrue told → AreCounted K shelves.now)) (λ e. Left x told fabric.new e) }
-    ensures inside { OnOk result (IsInside journal.now place.new) }
-    ensures clock { OnOk result (fabric.new.state.tables.clock ≡ Some window) }
-    ensures settings { (fabric.new.settings ≡ fabric.old.settings)
-        × (fabric.new.count ≡ fabric.old.count) }
-    ensures idle { OnOk result (IsIdle fabric.new) }
+    ensures advances { Advances window fabric.old fabric.new journal.now place.new result }
     ensures pages { length pages.new ≡ length pages.old }
     ensures only { IfErr result IsOfLine }
 {
@@ -242,9 +195,8 @@ fn check_shelves(
     let _whys: &[LineWhy] = &[];
     let mut done = zeros(alloc, shelves.len())?;
     check_ticks(alloc, fabric, journal, place, window, pages)?;
-    check_frames(
-        alloc, fabric, journal, place, window, shelves, &mut done, pages,
-    )
+    let gathered = Gathered { window, shelves };
+    check_frames(alloc, fabric, journal, place, &gathered, &mut done, pages)
 }
 
 // So many zeros.

@@ -7,12 +7,13 @@ ghost use Rattle.fab_policy.specs.Outputs.{is_owed};
 ghost use Rattle.fab_policy.specs.Standing.{Stands};
 ghost use Rattle.fab_policy.specs.State.{overdue};
 ghost use Rattle.forward_core.specs.Due.{reaches, IsWithin};
+ghost use Rattle.forward_core.specs.Fabric.{IsTickOf};
 ghost use Rattle.forward_core.specs.Ranges.{Ranges};
 
 use crate::Fabric;
 use fab_base::Moment;
 use fab_config::Config;
-use fab_policy::fabric_steps;
+use fab_policy::{fabric_steps, ticks_are_due};
 
 impl Fabric {
     /// The least window start above the clock at which a login is overdue, an advertisement is
@@ -28,6 +29,31 @@ impl Fabric {
         let clock = self.roster.clock()?;
         let first = self.first_owed(clock);
         Some(window_from(&self.config, first.0.max(clock.0 + 1)))
+    }
+
+    /// The next tick on the way to a window start, in milliseconds as the clock is: the window
+    /// itself, or a moment before it at which a tick is due. None where the clock stands there.
+    pub fn next_tick(&self, window: u64) -> Option<Moment>
+        requires start { window % self.now.settings.window ≡ 0 }
+        requires order { IfSome self.now.state.tables.clock (λ t. t ≤ window) }
+        ensures { MatchOption result (self.now.state.tables.clock ≡ Some window)
+            (λ m. IsTickOf window self.now m) }
+    {
+        // Law: one moment at most is due, and the next tick is the lesser of it and of the window.
+        ticks_are_due();
+        let Some(clock) = self.clock() else {
+            return Some(Moment(window));
+        };
+        if clock.0 == window {
+            return None;
+        }
+        let Some(due) = self.due() else {
+            unreachable!()
+        };
+        if due.0 < window {
+            return Some(due);
+        }
+        Some(Moment(window))
     }
 
     // The least moment at which a tick is owed, but for the clock.

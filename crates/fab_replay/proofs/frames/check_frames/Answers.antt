@@ -8,11 +8,9 @@ pub lines-init : goal.lines-init
 lines-init c = record {
   checks = λ x J same h win. (J, h, win, grow_none x.settings (length x.records) J (items_in c.args.pages.now));
   left = λ x told J same h win. (J, h, win);
-  inside = c.requires.inside;
-  clock = c.requires.clock;
+  among = c.requires.among;
   settings = refl;
   count = refl;
-  idle = c.requires.idle;
   width = refl;
   pages = refl;
 }
@@ -24,11 +22,20 @@ lines-preserved c = record {
       let step = c.in_ok-check_frame.ensures.checks x at.0 same at.1 at.2 in
       (step.0, step.1, step.2, grow_more x.settings (length x.records) J at.0 step.0 (items_in c.args.pages.now) (items_in c.lines.pages) (items_in c.check_frame.new.pages) at.3 step.3);
   left = λ x told J same h win. let at = c.lines.invariant.left x told J same h win in c.in_ok-check_frame.ensures.left x told at.0 same at.1 at.2;
-  inside = c.in_ok-check_frame.ensures.inside;
-  clock = c.in_ok-check_frame.ensures.clock;
-  settings = c.in_ok-check_frame.ensures.settings.0 ∙ c.lines.invariant.settings;
-  count = c.in_ok-check_frame.ensures.settings.1 ∙ c.lines.invariant.count;
-  idle = c.in_ok-check_frame.ensures.idle;
+  among =
+      let was = c.lines.invariant.among in
+      let step = c.in_ok-check_frame.ensures.advances in
+      record {
+        inside = step.inside;
+        clock_ = step.clock_;
+        early = was.early;
+        idle = step.idle;
+        few = was.few;
+        count = step.count ∙ was.count;
+        width = c.in_ok-check_frame.ensures.width ∙ was.width;
+      };
+  settings = c.in_ok-check_frame.ensures.advances.settings ∙ c.lines.invariant.settings;
+  count = c.in_ok-check_frame.ensures.advances.count ∙ c.lines.invariant.count;
   width = c.in_ok-check_frame.ensures.width ∙ c.lines.invariant.width;
   pages = c.in_ok-check_frame.ensures.pages ∙ c.lines.invariant.pages;
 }

@@ -10,11 +10,11 @@ returns-clause-named c = record {
   done_ = c.in_ok-place.place;
   at = record { shelf = sym c.in_ok-shelf.ensures; done_ = sym c.in_ok-place.ensures };
   record_ = sym c.in_ok-found.ensures;
-  number = sym c.if-first_of-place.false ∙ ap (λ (n : ℕ). n + c.in_ok-place.place) c.first_of.ensures.value;
+  number = sym c.if-first_index-place.false ∙ ap (λ (n : ℕ). n + c.in_ok-place.place) c.first_index.ensures.value;
   clock_ = c.if-is_other.ensures;
 }
 
 pub returns-clause-room : goal.returns-clause-room
 returns-clause-room c =
-    done_room c.args.done.now c.in_ok-shelf.shelf.now.batch.items c.in_ok-found.found.now c.index-at.result c.in_ok-place.place c.first_of.result c.args.index
-    (sym c.in_ok-place.ensures) (sym c.in_ok-found.ensures) c.first_of.ensures.room c.args.port c.index-at.ensures.value
+    done_room c.args.done.now c.in_ok-shelf.shelf.now.batch.items c.in_ok-found.found.now c.index-at.result c.in_ok-place.place c.first_index.result c.args.index
+    (sym c.in_ok-place.ensures) (sym c.in_ok-found.ensures) c.first_index.ensures.room c.args.port c.index-at.ensures.value

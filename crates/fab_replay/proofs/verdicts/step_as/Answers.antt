@@ -4,8 +4,8 @@ use Rattle.fab_replay.proofs.verdicts.step_as.Goals as goal
 
 pub returns-in-Ok-clause-wrong : goal.returns-in-Ok-clause-wrong
 returns-in-Ok-clause-wrong c =
-    compared_wrong c.args.fabric.now c.args.port c.args.heard.now.caught.now c.args.found c.in-Ok.made c.verdicts_are_one.ensures c.in-Ok.ensures.right (λ a b w. c.in-Ok.ensures.wished a b (c.wish_of.ensures ∙ w)) c.compared.result c.compared.ensures.err
+    compared_wrong c.args.fabric.now c.args.port c.args.heard.now.caught.now c.args.found c.in-Ok.made c.verdicts_are_one.ensures c.in-Ok.ensures.right (λ a b w. c.in-Ok.ensures.wished a b (c.granted_address.ensures ∙ w)) c.same_or_wrong.result c.same_or_wrong.ensures.err
 
 pub returns-in-Ok-clause-after : goal.returns-in-Ok-clause-after
 returns-in-Ok-clause-after c =
-    compared_after c.args.fabric.now c.args.port c.args.heard.now.caught.now c.args.found c.in-Ok.made c.verdicts_are_one.ensures c.in-Ok.ensures.right (λ a b w. c.in-Ok.ensures.wished a b (c.wish_of.ensures ∙ w)) c.compared.result c.compared.ensures.err
+    compared_after c.args.fabric.now c.args.port c.args.heard.now.caught.now c.args.found c.in-Ok.made c.verdicts_are_one.ensures c.in-Ok.ensures.right (λ a b w. c.in-Ok.ensures.wished a b (c.granted_address.ensures ∙ w)) c.same_or_wrong.result c.same_or_wrong.ensures.err

@@ -18,7 +18,7 @@ returns-in_err-check_shelves-clause-checks g c = λ told x J start same h gather
     told_on c.from_residual.result e _ _ c.from_residual.ensures.1 (c.in_err-check_shelves.ensures.checks x J same h gathered)
 
 pub returns-in_err-check_shelves-clause-touches : goal.returns-in_err-check_shelves-clause-touches
-returns-in_err-check_shelves-clause-touches g c = let d = g.D.Depot.seen c.args.depot.now in touches_refl Nothing (NameIn d c.args.outs.now) d
+returns-in_err-check_shelves-clause-touches g c = let d = g.D.Depot.seen c.args.depot.now in touches_refl Nothing (NameIn d c.args.written.now.outs.now) d
 
 pub returns-in-Ok-clause-checks : goal.returns-in-Ok-clause-checks
 returns-in-Ok-clause-checks g c = λ told x J start same h gathered owed.
@@ -28,8 +28,8 @@ returns-in-Ok-clause-checks g c = λ told x J start same h gathered owed.
       s.0,
       s.1,
       s.2,
-      owed_on x.settings (length x.records) start (seen c.args.depot.now) c.args.outs.now J c.args.owed.now c.requires.many owed s.0 c.check_shelves.new.pages _ c.read_on.new.self (seen c.read_on.new.depot) told c.in-Ok.ensures.reads
-          (lent_back c.args.owed.now.pages.len c.check_shelves.new.pages c.args.owed.now.pages.items c.args.owed.now.pages.ok.0 (c.check_shelves.ensures.pages ∙ ap length c.deref_mut.ensures.value)) refl grow,
+      owed_on x.settings (length x.records) start (seen c.args.depot.now) c.args.written.now.outs.now J c.args.course.now.owed c.requires.many owed s.0 c.check_shelves.new.pages _ c.read_on.new.self (seen c.read_on.new.depot) told c.in-Ok.ensures.reads
+          (lent_back c.args.course.now.owed.pages.len c.check_shelves.new.pages c.args.course.now.owed.pages.items c.args.course.now.owed.pages.ok.0 (c.check_shelves.ensures.pages ∙ ap length c.deref_mut.ensures.value)) refl grow,
     )
 
 -- ---- what the fabric stands for

@@ -1,117 +1,150 @@
-use Rattle.std.proofs.Common.{◌∙◌, ◌+◌, ◌%◌, ◌^◌, Some, None, refl, sym, ap, subst}
+use Rattle.std.proofs.Common.{◌∙◌, ◌+◌, ◌%◌, ◌^◌, Some, None, Ok, Err, length, refl, sym, ap, subst, arith}
 use Rattle.fab_config.specs.Settings.{Settings}
 use Rattle.fab_gather.proofs.ClockLemmas.{nearer}
 use Rattle.fab_gather.proofs.LeavesLemmas.{takes_none, takes_then}
 use Rattle.fab_gather.specs.First.{IsNextWindow}
+use Rattle.fab_gather.specs.Ports.{AreInputs, AreReady}
+use Rattle.fab_gather.specs.declared.fault.GatherFault.TheVariants as gather_fault
+use Rattle.fab_replay.specs.Lines.{IsInside}
+use Rattle.fab_replay.specs.Owed.{AreMany}
+use Rattle.fab_replay.specs.Windows.{Ends}
 use Rattle.fab_replay.specs.declared.fault.CheckFault.TheVariants as fault
-use Rattle.fab_replay.proofs.CountLemmas.{counts_on, counts_then, not_ok}
-use Rattle.fab_replay.proofs.GoLemmas.{going_next, next_early, next_here}
-use Rattle.fab_replay.proofs.ResultLemmas.{err_on, told_on}
+use Rattle.fab_replay.proofs.CountLemmas.{counts_gathering, counts_on, counts_then, not_ok}
+use Rattle.fab_replay.proofs.GoLemmas.{ends_gathering, gathers_as, inputs_now, next_here, outputs_b, same_ports, turned, window_here}
+use Rattle.fab_replay.proofs.ResultLemmas.{told_on}
 use Rattle.fab_replay.proofs.windows.check_windows.Goals as goal
 
 pub windows-init : goal.windows-init
 windows-init g c = record { turns = λ k same going. (0, going); settings = refl; takes = takes_none c.args.ins.now c.args.budget.now; counts = (λ m. refl, λ m. refl) }
 
-pub check_window-requires-clause-going : goal.check_window-requires-clause-going
-check_window-requires-clause-going g c =
-    let l = c.windows in
+-- ---- gathering the window
+
+pub gather-requires : goal.gather-requires
+gather-requires g c =
     let k = c.requires.going.0 in
-    let at = l.invariant.turns k c.requires.going.1 c.requires.going.2 in
-    let d = g.D.Depot.seen l.depot in
-    let w = c.in-Some.window in
-    let next = next_here c.laws_of_windows.ensures k at.0 c.args.first l.fabric l.place d l.ins l.shelves l.budget l.owed at.1 c.config.result.now c.config.ensures (Some w) c.in-Some.ensures.least in
-    (k, c.requires.going.1, going_next c.laws_of_windows.ensures k at.0 c.args.first l.fabric l.place d l.ins l.shelves l.budget l.owed at.1 w next)
+    let at = c.windows.invariant.turns k c.requires.going.1 c.requires.going.2 in
+    let h = window_here c.laws_of_windows.ensures k at.0 _ at.1 _ c.config.ensures c.in-Some.window c.in-Some.ensures.least in
+    let same = same_ports k.start.ins c.windows.ins h.going.slots in
+    let few = h.going.ports in
+    record {
+      count = h.going.count;
+      ports = omega (arith, same, few);
+      inputs = inputs_now c.laws_of_windows.ensures k _ _ h.going;
+      ready = subst (λ s. AreReady s c.in-Some.window c.windows.ins c.windows.shelves c.windows.budget) (sym (c.config-config.ensures ∙ h.going.settings_)) h.going.ready;
+      next = subst (λ s. IsNextWindow s c.windows.shelves (Some c.in-Some.window)) (c.config.ensures ∙ sym c.config-config.ensures) c.in-Some.ensures.least;
+    }
 
-pub check_window-requires-clause-next : goal.check_window-requires-clause-next
-check_window-requires-clause-next g c = subst (λ s. IsNextWindow s c.windows.shelves (Some c.in-Some.window)) c.config.ensures c.in-Some.ensures.least
+pub returns-in-Err-clause-turns : goal.returns-in-Err-clause-turns
+returns-in-Err-clause-turns g c = λ k same start.
+    let at = c.windows.invariant.turns k same start in
+    let h = window_here c.laws_of_windows.ensures k at.0 _ at.1 _ c.config.ensures c.in-Some.window c.in-Some.ensures.least in
+    subst (λ e. Ends k (g.D.Depot.seen c.gather.new.depot) c.windows.fabric (Err e)) (sym c.fault_of.ensures)
+    (ends_gathering c.laws_of_windows.ensures k c.in-Some.window _ h.going _ c.in-Err.fault (gathers_as (c.config-config.ensures ∙ h.going.settings_) c.in-Err.ensures.gathers))
 
-pub check_window-requires-clause-start : goal.check_window-requires-clause-start
-check_window-requires-clause-start g c = ap (λ (x : Settings). c.in-Some.window % x.window) (sym c.config.ensures) ∙ c.in-Some.ensures.start
-
-pub check_window-requires-clause-range : goal.check_window-requires-clause-range
-check_window-requires-clause-range g c =
+pub returns-in-Err-clause-takes : goal.returns-in-Err-clause-takes
+returns-in-Err-clause-takes g c =
     let l = c.windows in
+    takes_then c.args.ins.now l.ins c.gather.new.ins c.args.budget.now l.budget c.gather.new.budget l.invariant.takes c.in-Err.ensures.gathers.takes
+
+pub returns-in-Err-clause-counts : goal.returns-in-Err-clause-counts
+returns-in-Err-clause-counts g c =
+    let seen = g.D.Depot.seen in
+    let l = c.windows in
+    let t = c.in-Err.ensures.gathers in
+    counts_then (seen c.args.depot.now) (seen l.depot) (seen c.gather.new.depot) _ l.invariant.counts.0 l.invariant.counts.1
+    (counts_gathering (seen l.depot) (seen c.gather.new.depot) c.in-Err.fault c.fault_of.result c.fault_of.ensures t.counts t.writes)
+
+-- ---- checking its lines
+
+pub check_gathered-requires : goal.check_gathered-requires
+check_gathered-requires g c =
     let k = c.requires.going.0 in
-    let at = l.invariant.turns k c.requires.going.1 c.requires.going.2 in
-    let d = g.D.Depot.seen l.depot in
-    let w = c.in-Some.window in
-    let next = next_here c.laws_of_windows.ensures k at.0 c.args.first l.fabric l.place d l.ins l.shelves l.budget l.owed at.1 c.config.result.now c.config.ensures (Some w) c.in-Some.ensures.least in
-    next_early c.laws_of_windows.ensures k at.0 c.args.first l.fabric l.place d l.ins l.shelves l.budget l.owed at.1 w next
+    let at = c.windows.invariant.turns k c.requires.going.1 c.requires.going.2 in
+    let h = window_here c.laws_of_windows.ensures k at.0 _ at.1 _ c.config.ensures c.in-Some.window c.in-Some.ensures.least in
+    let same = c.requires.going.1 in
+    let t = gathers_as (c.config-config.ensures ∙ h.going.settings_) c.in-Ok.ensures.gathers in
+    let ports = same_ports k.start.ins c.windows.ins h.going.slots in
+    let few = h.going.ports in
+    let count = h.going.count in
+    let on = t.count in
+    let early = h.early in
+    record {
+      inside = subst (λ b. IsInside b c.windows.course.place) same.journal h.going.inside;
+      range = omega (arith, early);
+      start = ap (λ (x : Settings). c.in-Some.window % x.window) (sym c.config.ensures) ∙ c.in-Some.ensures.start;
+      order = h.going.clock;
+      idle = h.going.idle;
+      ports = omega (arith, ports, few, count, on);
+      count = h.going.count_ ∙ sym (on ∙ count ∙ ports);
+      inputs = subst (AreInputs (g.D.Depot.seen c.gather.new.depot)) same.outputs (outputs_b c.laws_of_windows.ensures k c.in-Some.window _ h.going _ t h.next);
+      many = subst (λ o. AreMany (length o) c.windows.course.owed) same.outputs h.going.many;
+    }
 
-pub returns-in_err-check_window-clause-turns : goal.returns-in_err-check_window-clause-turns
-returns-in_err-check_window-clause-turns g c = λ k same start.
-    let l = c.windows in
-    let at = l.invariant.turns k same start in
-    let d = g.D.Depot.seen l.depot in
-    let w = c.in-Some.window in
-    let e = c.in_err-check_window.field-0.0 in
-    let next = next_here c.laws_of_windows.ensures k at.0 c.args.first l.fabric l.place d l.ins l.shelves l.budget l.owed at.1 c.config.result.now c.config.ensures (Some w) c.in-Some.ensures.least in
-    told_on c.from_residual.result e _ _ c.from_residual.ensures.1
-    (c.in_err-check_window.ensures.turns k same (going_next c.laws_of_windows.ensures k at.0 c.args.first l.fabric l.place d l.ins l.shelves l.budget l.owed at.1 w next))
-
-pub windows-smaller : goal.windows-smaller
-windows-smaller g c =
-    let l = c.windows in
-    let k = c.requires.going.0 in
-    let at = l.invariant.turns k c.requires.going.1 c.requires.going.2 in
-    let d = g.D.Depot.seen l.depot in
-    let w = c.in-Some.window in
-    let next = next_here c.laws_of_windows.ensures k at.0 c.args.first l.fabric l.place d l.ins l.shelves l.budget l.owed at.1 c.config.result.now c.config.ensures (Some w) c.in-Some.ensures.least in
-    let going = going_next c.laws_of_windows.ensures k at.0 c.args.first l.fabric l.place d l.ins l.shelves l.budget l.owed at.1 w next in
-    let early = next_early c.laws_of_windows.ensures k at.0 c.args.first l.fabric l.place d l.ins l.shelves l.budget l.owed at.1 w next in
-    nearer (2 ^ 43) w l.fabric.state.tables.clock c.check_window.new.fabric.state.tables.clock going.clock early c.in_ok-check_window.ensures.clock
+pub returns-in_err-check_gathered-clause-turns : goal.returns-in_err-check_gathered-clause-turns
+returns-in_err-check_gathered-clause-turns g c = λ k same start.
+    let at = c.windows.invariant.turns k same start in
+    let h = window_here c.laws_of_windows.ensures k at.0 _ at.1 _ c.config.ensures c.in-Some.window c.in-Some.ensures.least in
+    let t = gathers_as (c.config-config.ensures ∙ h.going.settings_) c.in-Ok.ensures.gathers in
+    let n = c.check_gathered.new in
+    let e = c.in_err-check_gathered.ensures in
+    let f = c.in_err-check_gathered.field-0.0 in
+    told_on c.from_residual.result f _ _ c.from_residual.ensures.1
+    (turned c.laws_of_windows.ensures k c.in-Some.window _ h.going _ t h.next n.fabric n.course (g.D.Depot.seen n.depot) _ _ same (Err f) e.checks e.left e.touches e.cause e.many e.advances e.first)
 
 pub windows-preserved : goal.windows-preserved
 windows-preserved g c =
     let l = c.windows in
-    let d = g.D.Depot.seen l.depot in
-    let w = c.in-Some.window in
+    let n = c.check_gathered.new in
+    let e = c.in_ok-check_gathered.ensures in
+    let gathered = c.in-Ok.ensures.gathers in
     record {
       turns = λ k same start.
           let at = l.invariant.turns k same start in
-          let next = next_here c.laws_of_windows.ensures k at.0 c.args.first l.fabric l.place d l.ins l.shelves l.budget l.owed at.1 c.config.result.now c.config.ensures (Some w) c.in-Some.ensures.least in
-          (w + 1, c.in_ok-check_window.ensures.turns k same (going_next c.laws_of_windows.ensures k at.0 c.args.first l.fabric l.place d l.ins l.shelves l.budget l.owed at.1 w next));
-      settings = c.in_ok-check_window.ensures.settings ∙ l.invariant.settings;
-      takes = takes_then c.args.ins.now l.ins c.check_window.new.ins c.args.budget.now l.budget c.check_window.new.budget l.invariant.takes c.in_ok-check_window.ensures.takes;
-      counts = let t = c.in_ok-check_window.ensures.counts in (λ m. t.reads (not_ok tt fault.Read) m ∙ l.invariant.counts.0 m, λ m. t.writes m ∙ l.invariant.counts.1 m);
+          let h = window_here c.laws_of_windows.ensures k at.0 _ at.1 _ c.config.ensures c.in-Some.window c.in-Some.ensures.least in
+          let t = gathers_as (c.config-config.ensures ∙ h.going.settings_) gathered in (
+            c.in-Some.window + 1,
+            turned c.laws_of_windows.ensures k c.in-Some.window _ h.going _ t h.next n.fabric n.course (g.D.Depot.seen n.depot) _ _ same (Ok tt) e.checks e.left e.touches e.cause e.many e.advances e.first,
+          );
+      settings = e.advances.settings ∙ l.invariant.settings;
+      takes = takes_then c.args.ins.now l.ins c.gather.new.ins c.args.budget.now l.budget c.gather.new.budget l.invariant.takes gathered.takes;
+      counts = (
+        λ m. e.counts.reads (not_ok tt fault.Read) m ∙ gathered.counts (not_ok tt gather_fault.Read) m ∙ l.invariant.counts.0 m,
+        λ m. e.counts.writes m ∙ gathered.writes m ∙ l.invariant.counts.1 m,
+      );
     }
+
+pub windows-smaller : goal.windows-smaller
+windows-smaller g c =
+    let k = c.requires.going.0 in
+    let at = c.windows.invariant.turns k c.requires.going.1 c.requires.going.2 in
+    let h = window_here c.laws_of_windows.ensures k at.0 _ at.1 _ c.config.ensures c.in-Some.window c.in-Some.ensures.least in
+    nearer (2 ^ 43) c.in-Some.window c.windows.fabric.state.tables.clock c.check_gathered.new.fabric.state.tables.clock h.going.clock h.early c.in_ok-check_gathered.ensures.advances.clock_
+
+pub returns-in_err-check_gathered-clause-takes : goal.returns-in_err-check_gathered-clause-takes
+returns-in_err-check_gathered-clause-takes g c =
+    let l = c.windows in
+    takes_then c.args.ins.now l.ins c.gather.new.ins c.args.budget.now l.budget c.gather.new.budget l.invariant.takes c.in-Ok.ensures.gathers.takes
+
+pub returns-in_err-check_gathered-clause-counts : goal.returns-in_err-check_gathered-clause-counts
+returns-in_err-check_gathered-clause-counts g c =
+    let seen = g.D.Depot.seen in
+    let l = c.windows in
+    let b = seen c.gather.new.depot in
+    let d = seen c.check_gathered.new.depot in
+    let r = c.from_residual.result in
+    let t = c.in-Ok.ensures.gathers in
+    counts_then (seen c.args.depot.now) (seen l.depot) d r l.invariant.counts.0 l.invariant.counts.1
+    (counts_then (seen l.depot) b d r (t.counts (not_ok tt gather_fault.Read)) t.writes (counts_on b d c.in_err-check_gathered.field-0.0 r c.from_residual.ensures.1 c.in_err-check_gathered.ensures.counts))
+
+-- ---- no window is left
 
 pub returns-clause-turns : goal.returns-clause-turns
 returns-clause-turns g c = λ k same start.
-    let l = c.windows in
-    let at = l.invariant.turns k same start in
-    let d = g.D.Depot.seen l.depot in
-    (at.0, at.1, next_here c.laws_of_windows.ensures k at.0 c.args.first l.fabric l.place d l.ins l.shelves l.budget l.owed at.1 c.config.result.now c.config.ensures None c.in_default.ensures.least)
-
-pub returns-in_err-check_window-clause-takes : goal.returns-in_err-check_window-clause-takes
-returns-in_err-check_window-clause-takes g c =
-    let l = c.windows in
-    takes_then c.args.ins.now l.ins c.check_window.new.ins c.args.budget.now l.budget c.check_window.new.budget l.invariant.takes c.in_err-check_window.ensures.takes
+    let at = c.windows.invariant.turns k same start in
+    (at.0, at.1, next_here c.laws_of_windows.ensures k at.0 _ at.1 _ c.config.ensures None c.in_default.ensures.least)
 
 pub returns-clause-takes : goal.returns-clause-takes
 returns-clause-takes g c = c.windows.invariant.takes
-
-pub returns-in_err-check_window-clause-left : goal.returns-in_err-check_window-clause-left
-returns-in_err-check_window-clause-left g c = λ k same start.
-    let l = c.windows in
-    let at = l.invariant.turns k same start in
-    let d = g.D.Depot.seen l.depot in
-    let w = c.in-Some.window in
-    let next = next_here c.laws_of_windows.ensures k at.0 c.args.first l.fabric l.place d l.ins l.shelves l.budget l.owed at.1 c.config.result.now c.config.ensures (Some w) c.in-Some.ensures.least in
-    err_on c.from_residual.result c.in_err-check_window.field-0.0 _ c.from_residual.ensures.1
-    (c.in_err-check_window.ensures.left k same (going_next c.laws_of_windows.ensures k at.0 c.args.first l.fabric l.place d l.ins l.shelves l.budget l.owed at.1 w next))
-
-pub returns-clause-left : goal.returns-clause-left
-returns-clause-left g c = λ k same start. tt
-
--- ---- counts of faults
-
-pub returns-in_err-check_window-clause-counts : goal.returns-in_err-check_window-clause-counts
-returns-in_err-check_window-clause-counts g c =
-    let seen = g.D.Depot.seen in
-    let l = c.windows in
-    counts_then (seen c.args.depot.now) (seen l.depot) (seen c.check_window.new.depot) c.from_residual.result l.invariant.counts.0 l.invariant.counts.1
-    (counts_on (seen l.depot) (seen c.check_window.new.depot) c.in_err-check_window.field-0.0 c.from_residual.result c.from_residual.ensures.1 c.in_err-check_window.ensures.counts)
 
 pub returns-clause-counts : goal.returns-clause-counts
 returns-clause-counts g c = record { reads = λ not. c.windows.invariant.counts.0; writes = c.windows.invariant.counts.1 }

@@ -26,4 +26,4 @@ returns g c =
     let b = seen c.read_on.new.depot in
     let d = seen c.finish_each.new.depot in
     let f = subst (λ l. FinishesEach outs b d l (Ok c.in_ok-first.first)) c.deref.ensures.value c.in_ok-first.ensures.finishes in
-    record { reads = subst (ReadsOut outs a d c.args.self.now) (sym c.compared.ensures) (out_told outs a b c.args.self.now c.read_on.new.self c.requires.inputs d c.in_ok-read_on.ensures.reads c.in_ok-first.first f) }
+    record { reads = subst (ReadsOut outs a d c.args.self.now) (sym c.answer_by.ensures) (out_told outs a b c.args.self.now c.read_on.new.self c.requires.inputs d c.in_ok-read_on.ensures.reads c.in_ok-first.first f) }

@@ -1,6 +1,6 @@
 use Rattle.std.proofs.Common.{◌≡◌, length}
 use Rattle.fab_replay.proofs.OwedLemmas.{AreFresh}
-use Rattle.fab_replay.proofs.owed.unread.Given as goal
+use Rattle.fab_replay.proofs.owed.new_comparisons.Given as goal
 
 abbrev pub invariant-loop : goal.invariant-loop
 invariant-loop l = record {

@@ -1,0 +1,120 @@
+-- How a check begins, before the first window.
+use Rattle.std.proofs.Common.{◌≡◌, ℕ, zero, suc, ◌<◌, ◌≤◌, List, [], ◌∷◌, ◌++◌, length, map, drop, slice_get, Option, Some, None, IfSome, IsTrue, Ok, Err, refl, sym, ap, ◌∙◌, subst, arith}
+use Rattle.std.specs.Prelude.{unwrap_or, Vec}
+use Rattle.std.specs.declared.alloc.Global.{Global}
+use Rattle.fab_base.specs.Seen.{Touches, Nothing}
+use Rattle.fab_base.proofs.SeenLemmas.{touches_wider}
+use Rattle.fab_config.specs.Settings.{Settings}
+use Rattle.fab_policy.specs.Looks.{all_records}
+use Rattle.fab_policy.specs.Outputs.{State, state_of}
+use Rattle.fab_policy.specs.Standing.{Contents}
+use Rattle.fab_policy.specs.declared.line.Format.{Format}
+use Rattle.pcap_file.specs.declared.Record.{Record}
+use Rattle.fab_gather.specs.declared.shelf.Input.{Input}
+use Rattle.fab_gather.specs.declared.shelf.Shelf.{Shelf}
+use Rattle.fab_gather.specs.declared.fault.GatherFault.{GatherFault}
+use Rattle.fab_gather.specs.First.{IsNextWindow, LooksFirst, Start}
+use Rattle.fab_gather.specs.Ports.{AreInputs, NameIn, slots_of, stop_from, walk_at}
+use Rattle.fab_replay.specs.Laws.{Laws}
+use Rattle.fab_replay.specs.Lines.{IsBehind, IsInside, text_in}
+use Rattle.fab_replay.specs.Owed.{AreNew}
+use Rattle.fab_replay.specs.Steps.{IsAlong}
+use Rattle.fab_replay.specs.Check.{Task, captures_in, slots_in}
+use Rattle.fab_replay.specs.Windows.{Ended, Ends, Going, LeftBy, OfTask, check_fault, scene_of, stand_at}
+use Rattle.fab_replay.specs.declared.lines.Place.{Place}
+use Rattle.fab_replay.specs.declared.owed.Owed.{Owed}
+use Rattle.fab_replay.specs.declared.windows.Course.{Course}
+use Rattle.fab_replay.proofs.LeaveLemmas.{along_none, holds_nothing, left_stopped}
+use Rattle.fab_replay.proofs.OwedLemmas.{owed_first}
+use Rattle.fab_replay.proofs.SlotsLemmas.{in_front, left_back, rose_front}
+use Rattle.fab_replay.proofs.GoLemmas.{ended_gather, length-scene, length-slots, same_ports}
+
+abbrev no_records : List Record
+no_records = []
+
+abbrev pub course_at : ℕ → Place → Owed → Course
+course_at first p o = record { first = first; place = p; owed = o }
+
+module _ (laws : Laws) (k : Task) (looked : Start) (F : Contents) (p : Place)
+    (inputs : AreInputs k.start.seen (slots_in k)) (ports : length k.start.ins ≤ 64) where
+  wider : Touches Nothing (NameIn k.start.seen (slots_of k.start.ins)) k.start.seen looked.seen → Touches Nothing (OfTask k) k.start.seen looked.seen
+  wider t = touches_wider Nothing (NameIn k.start.seen (slots_of k.start.ins)) Nothing (OfTask k) k.start.seen looked.seen (λ m h. h) (in_front (slots_of k.start.ins) k.outs k.start.seen) t
+
+  ended_looks : (e : GatherFault) → LooksFirst k.settings k.start looked (Err e) → IsBehind k.bytes p [] → Ended k looked.seen (check_fault e)
+  ended_looks e f behind =
+      ended_gather k looked.seen (wider f.touches) e
+      (λ told stopped.
+      let s = f.stops told stopped in
+      record {
+        at = s.0;
+        is = s.1;
+        says = s.2;
+        entry_list = [];
+        before = record {
+          rest = drop p.at k.bytes;
+          lines = behind.lines ∙ ap (λ (g : Format). text_in g [] ++ drop p.at k.bytes) behind.format;
+          front = record { ranged = tt; ports = tt; frames = λ q records at. refl; legal = tt; timed = tt };
+        };
+        all = holds_nothing k.settings s.0 1 (all_records (captures_in k)) s.3;
+      })
+      (λ is.
+      let cause = f.cause (ap (λ y. Err y) is) in
+      rose_front (slots_of k.start.ins) k.outs k.start.seen looked.seen (cause.0, (let lt = cause.1 in omega (arith, lt, length-slots k.start.ins)), cause.2))
+
+  left_looks : (e : GatherFault) → LooksFirst k.settings k.start looked (Err e) → IsAlong (scene_of k) k.start.seen.told [] F p → LeftBy k F (check_fault e)
+  left_looks e f along = left_stopped k [] F p along e (λ told stopped. let s = f.stops told stopped in record { at = s.0; is = s.1; all = holds_nothing k.settings s.0 1 (all_records (captures_in k)) s.3 })
+
+  pub ends_looks : (e : GatherFault) → LooksFirst k.settings k.start looked (Err e) → IsBehind k.bytes p [] → IsAlong (scene_of k) k.start.seen.told [] F p → Ends k looked.seen F (Err (check_fault e))
+  ends_looks e f behind along = record { checks = ended_looks e f behind F; leaves = left_looks e f along }
+
+  module _ (s : Vec Shelf Global) (f : LooksFirst k.settings k.start looked (Ok s)) where
+    first_is : (v : Option ℕ) → IsNextWindow k.settings s.items v → IsTrue k.start.seen.told → (scene_of k).stop ≡ stop_from k.settings (unwrap_or v 0) looked.seen looked.ins s.items looked.left
+    first_is None h told = f.looks_ told ∙ laws.none_left k.settings _ looked.seen looked.ins s.items looked.left h ∙ sym (laws.none_left k.settings 0 looked.seen looked.ins s.items looked.left h)
+    first_is (Some w) h told =
+        f.looks_ told
+        ∙ ap (λ (n : ℕ). stop_from k.settings n looked.seen looked.ins s.items looked.left) (laws.next_first k.settings 0 w looked.seen looked.ins s.items looked.left (f.count ∙ sym (same_ports k.start.ins looked.ins f.slots)) f.ready h)
+
+    lines_none : (is : List Input) (q : ℕ) (records : List Record) → slice_get (map (λ (i : Input). no_records) is) q ≡ Some records → 0 ≡ length records
+    lines_none [] q records at = absurd (cc)
+    lines_none (i ∷ is) zero records at = let e : [] ≡ records = cc in ap length e
+    lines_none (i ∷ is) (suc q) records at = lines_none is q records at
+
+    -- from the first looks on, by the code's own configuration and its own list of shelves
+    pub going_begin : (o : Owed) → AreNew (length k.outs) o → length k.outs ≤ length k.start.ins → (v : Option ℕ) (c : Settings) (l : List Shelf) (first : ℕ) →
+        IsNextWindow c l v → c ≡ k.settings → l ≡ s.items → first ≡ unwrap_or v 0 → F.settings ≡ k.settings → F.count ≡ length k.start.ins →
+        F.state ≡ state_of F.settings [] → F.events ≡ [] → F.outs ≡ [] → IsBehind k.bytes p [] → IsInside k.bytes p → Going k 0 (stand_at F (course_at first p o) (walk_at looked.seen looked.ins s.items looked.left))
+    going_begin o new outputs v c l first next same l_is first_is_ settings counted state events outs behind inside =
+        let along = along_none k F p settings state events outs behind in
+        record {
+          inputs = inputs;
+          ports = ports;
+          outputs = outputs;
+          many = new.many;
+          touches = wider f.touches;
+          slots = f.slots;
+          count = f.count ∙ sym (same_ports k.start.ins looked.ins f.slots);
+          ready = f.ready;
+          taken = map (λ i. []) k.start.ins;
+          read = f.read;
+          stops = λ told.
+              first_is v (subst (λ c. IsNextWindow c s.items v) same (subst (λ t. IsNextWindow c t v) l_is next)) told
+              ∙ ap (λ (n : ℕ). stop_from k.settings n looked.seen looked.ins s.items looked.left) (sym first_is_);
+          settings_ = settings;
+          count_ = counted;
+          clock = subst (λ x. IfSome x (λ t. t < 0)) (sym (ap (λ (S : State). S.tables.clock) state)) tt;
+          idle = record { events = events; outs = outs };
+          inside = inside;
+          stood = ([], along, λ told q records at. lines_none k.start.ins q records at);
+          lines = λ told. (
+            [],
+            record {
+              front = record { ranged = tt; ports = tt; frames = λ q records at. refl; legal = tt; timed = tt };
+              behind = behind;
+              stands = along.stands;
+              settings = settings;
+              count = counted ∙ sym (length-scene k);
+            },
+            λ q records at. lines_none k.start.ins q records at,
+            owed_first k.settings (length (scene_of k).records) k.start.seen looked.seen k.outs o new (left_back (slots_of k.start.ins) k.outs k.start.seen inputs looked.seen f.touches),
+          );
+        }
