@@ -12,6 +12,7 @@ use Rattle.state_change.specs.Watchers.{Watching}
 use Rattle.state_change.specs.declared.watcher.Watcher.{Watcher}
 use Rattle.fab_policy.specs.State.{LivePort}
 use Rattle.fab_roster.specs.Agreement.{Agree}
+use Rattle.fab_roster.specs.Changes.{IsSoundRoll}
 use Rattle.fab_roster.specs.Roll.{Roll, ports_of}
 use Rattle.fab_roster.proofs.Lookups.{next_port}
 use Rattle.fab_roster.proofs.SoundLemmas.{roll_of}
@@ -37,6 +38,10 @@ module _ (lowest count limit period : ℕ) (clock : Option ℕ) (A : List Past) 
   next_of_roll from =
       next_port k.voices r.entries w.watchers t.logins from (λ p. nat_le from p.address) (λ l. true) (λ (l : Login). and_true (nat_le from l.address))
       ∙ ap (λ (x : Roll). first_key address from x.tables.ports) view
+
+-- the next N_Port of a sound roll
+pub next_port_of : (R : Roll) (from a : ℕ) → IsSoundRoll R → Some a ≡ first_key address from R.tables.ports → IsNext address from R.tables.ports a
+next_port_of R from a sound is = next_some address R.lowest from a R.tables.ports sound.ascending.0 is
 
 -- ---- a walk over the logins
 

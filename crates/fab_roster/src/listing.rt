@@ -43,6 +43,8 @@ impl Roster {
             (filter (λ p. if overdue then is_late self.now.period moment p
             else not (is_late self.now.period moment p)) self.now.tables.ports)) }
     {
+        // For the proof: the roster is sound, so its N_Ports ascend by their addresses.
+        let _ = self.len();
         let mut logins = LoginList::empty(alloc);
         let mut from = 0;
         while let Some(address) = self.next(from) {

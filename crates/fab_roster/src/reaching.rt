@@ -1,5 +1,6 @@
 //! Whom a state change reaches.
-ghost use Rattle.std.specs.Prelude.{◌≡◌, not, IfOk, filter, map};
+ghost use Rattle.std.specs.Prelude.{◌≡◌, ◌==◌, not, IfOk, filter, map};
+ghost use Rattle.std.specs.List.{list_any};
 ghost use Rattle.fab_config.specs.Settings.{Settings};
 ghost use Rattle.fab_policy.specs.State.{addresses};
 ghost use Rattle.fab_roster.specs.Reaching.{is_reached, zones_of, told_at, told_between};
@@ -8,7 +9,7 @@ ghost use Rattle.state_change.specs.Watchers as watching;
 ghost use Rattle.state_change.specs.Watchers.{first_from};
 ghost use Rattle.zone_rules.specs.Joined.{contains};
 
-use crate::{LoginList, Roster};
+use crate::{Login, LoginList, Roster};
 use fab_base::{FcId, IdList, Moment, NoMemory, Wwn};
 use state_change::Watchers;
 use std::alloc::Global;
@@ -40,7 +41,7 @@ impl Roster {
             alloc,
             &self.watchers,
             zones,
-            Reach::Joined(self.now()),
+            &Reach::Joined(self.now()),
             name,
             but,
         )
@@ -65,7 +66,7 @@ impl Roster {
             alloc,
             &self.watchers,
             zones,
-            Reach::Changed(before, at),
+            &Reach::Changed(before, at),
             name,
             but,
         )
@@ -78,18 +79,18 @@ fn reached(
     alloc: Global,
     watchers: &Watchers,
     zones: &Zones,
-    reach: Reach,
+    reach: &Reach,
     name: Wwn,
     but: &LoginList,
 ) -> Result<IdList, NoMemory>
     ensures { IfOk result (λ ids. ids ≡ map watching.address_of
         (filter (λ w. not (contains w.address (addresses_of but.now)))
-        (filter (is_reached zones.now name reach) watchers.now.watchers))) }
+        (filter (is_reached zones.now name reach.now) watchers.now.watchers))) }
 {
     let mut ids = IdList::empty(alloc);
     let mut from = 0;
     while let Some(address) = next_reached(watchers, zones, reach, name, from) {
-        if !holds(but, address) {
+        if !hold(but.items(), address) {
             ids.push(alloc, address)?;
         }
         from = address.value() + 1;
@@ -101,28 +102,25 @@ fn reached(
 fn next_reached(
     watchers: &Watchers,
     zones: &Zones,
-    reach: Reach,
+    reach: &Reach,
     name: Wwn,
     from: u32,
 ) -> Option<FcId>
     ensures first { result ≡ first_from from
-        (filter (is_reached zones.now name reach) watchers.now.watchers) }
+        (filter (is_reached zones.now name reach.now) watchers.now.watchers) }
     ensures sound { watching.IsSound watchers.now }
 {
     match reach {
-        Reach::Joined(at) => watchers.next_recipient(zones, at, name, from),
-        Reach::Changed(before, at) => watchers.next_changed(zones, before, at, name, from),
+        Reach::Joined(at) => watchers.next_recipient(zones, *at, name, from),
+        Reach::Changed(before, at) => watchers.next_changed(zones, *before, *at, name, from),
     }
 }
 
 // Whether one of these logins has the address.
-fn holds(logins: &LoginList, address: FcId) -> bool
-    ensures { result ≡ contains address (addresses_of logins.now) }
+fn hold(logins: &[Login], address: FcId) -> bool
+    ensures { result ≡ list_any (λ l. l.address == address) logins.now }
 {
-    for login in logins.items() {
-        if login.address.value() == address.value() {
-            return true;
-        }
-    }
-    false
+    logins
+        .iter()
+        .any(|login| login.address.value() == address.value())
 }
