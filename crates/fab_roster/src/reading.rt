@@ -58,7 +58,7 @@ impl Roster {
         ensures { result ≡ option_map (λ p. (p.node_heard, p.port_heard))
             (port_at address self.now.tables.ports) }
     {
-        let login = self.logins.by_address(address)?;
+        let login = self.by_address(address)?;
         self.heard(login)
     }
 

@@ -1,4 +1,4 @@
-use Rattle.std.proofs.Common.{◌≡◌, true, false, Some, None, option_map, refl, sym, ap, ◌∙◌}
+use Rattle.std.proofs.Common.{◌≡◌, true, false, Some, None, option_map, refl, ap, ◌∙◌}
 use Rattle.fab_policy.specs.State.{port_at}
 use Rattle.fab_roster.specs.Changes.{is_late}
 use Rattle.fab_roster.specs.Roll.{login_of}

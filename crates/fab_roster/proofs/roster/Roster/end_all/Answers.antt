@@ -1,4 +1,4 @@
-use Rattle.std.proofs.Common.{◌≡◌, false, None, IsSome, sym, ap, ◌∙◌, subst, take, get_or, if◌then◌else◌}
+use Rattle.std.proofs.Common.{◌≡◌, false, None, IsSome, sym, ap, ◌∙◌, subst, take, if◌then◌else◌}
 use Rattle.fab_policy.specs.State.{port_at}
 use Rattle.zone_rules.specs.Joined.{contains}
 use Rattle.fab_roster.specs.Changes.{EndsAll}

@@ -8,7 +8,7 @@ pub returns-in_err-login : goal.returns-in_err-login
 returns-in_err-login c = c.from_residual.ensures ∙ none_found heard_of (port_at c.args.address c.args.self.now.tables.ports) c.in_err-login.ensures
 
 pub heard-requires : goal.heard-requires
-heard-requires c = (found_login c.args.address c.args.self.now.tables.ports c.in_ok-login.login.now c.in_ok-login.ensures).1
+heard-requires c = record { live = (found_login c.args.address c.args.self.now.tables.ports c.in_ok-login.login.now c.in_ok-login.ensures).1 }
 
 pub returns : goal.returns
 returns c =
