@@ -1,5 +1,5 @@
 -- Where no activation comes between two moments, the same names are joined at both.
-use Rattle.std.proofs.Common.{◌≡◌, ℕ, ◌+◌, ◌&&◌, not, nat_le, nat_eq, Bool, true, false, cond, List, [], ◌∷◌, ◌++◌, take, map, filter, find, flat_map, reverse, Option, Some, None, option_map, slice_get, refl, sym, ap, subst, ◌∙◌}
+use Rattle.std.proofs.Common.{◌≡◌, ℕ, ◌+◌, ◌&&◌, not, nat_le, nat_eq, Bool, true, false, cond, List, [], ◌∷◌, ◌++◌, take, map, filter, find, flat_map, reverse, Some, None, option_map, slice_get, refl, sym, ap, subst, ◌∙◌}
 use Rattle.std.proofs.lemmas.List.{append-nil, reverse-append}
 use Rattle.std.proofs.lemmas.List.Elements.{All-nil, All-cons, All-append, All-head, All-tail}
 use Rattle.std.proofs.lemmas.List.Folds.{find-append}
@@ -9,11 +9,10 @@ use Rattle.fab_config.specs.Settings.{Settings}
 use Rattle.fab_config.specs.declared.Activation.{Activation}
 use Rattle.fab_config.specs.declared.Zone.{Zone}
 use Rattle.fab_config.specs.declared.ZoneSet.{ZoneSet}
-use Rattle.zone_rules.specs.Joined.{active_set, contains, has_zone_of, is_active, is_other, joined}
-use Rattle.fab_policy.specs.Outputs.{Notice, differs, is_watcher, told}
+use Rattle.zone_rules.specs.Joined.{contains, has_zone_of, is_active, is_other, joined}
+use Rattle.fab_policy.specs.Outputs.{differs, is_watcher, told}
 use Rattle.fab_policy.specs.State.{LivePort, Tables}
 use Rattle.fab_replies.specs.declared.message.Out.{Out}
-use Rattle.fab_roster.specs.Reaching.{told_between}
 use Rattle.fab_sending.specs.Counting.{is_turned, with_changes}
 use Rattle.fab_sending.specs.Notices.{staying_at, told_of_change}
 use Rattle.fab_sending.proofs.Counting.{take_slice}
