@@ -1,4 +1,4 @@
-use Rattle.std.proofs.Common.{ap, ◌∙◌, sym, option_map}
+use Rattle.std.proofs.Common.{ap, ◌∙◌, option_map}
 use Rattle.fab_policy.specs.State.{port_at}
 use Rattle.fab_roster.proofs.Lookups.{found_login, none_found}
 use Rattle.fab_roster.proofs.TablesRead.{heard_of}
