@@ -30,15 +30,6 @@ told_of_found c T m first a but login start last found at none now =
     ∙ ap (λ n. at_moment n (changes first (told_of_name c T but a login.name))) at
     ∙ ap (λ ns. at_moment (now_of T) (changes first ns)) (named_told c T but a login (port_at a T.ports) found (λ p e. found_address a T.ports p e) ∙ one_of c T but (port_at a T.ports))
 
--- nobody is there
-pub told_of_none : (c : Settings) (T : Tables) (first a : ℕ) (but : List ℕ) (start : List Out) → None ≡ option_map login_of (port_at a T.ports) → start ≡ [] →
-    start ≡ at_moment (now_of T) (changes first (told_of_each c T but (option_to_list (port_at a T.ports))))
-told_of_none c T first a but start found none = none ∙ go (port_at a T.ports) found
-  where
-    go : (o : Option LivePort) → None ≡ option_map login_of o → [] ≡ at_moment (now_of T) (changes first (told_of_each c T but (option_to_list o)))
-    go None e = refl
-    go (Some p) e = cc
-
 -- the one that is there passes, or doesn't
 pub passes : (q : LivePort → Bool) (b : Bool) (o : Option LivePort) → ((p : LivePort) → o ≡ Some p → b ≡ q p) → b ≡ true → option_to_list o ≡ filter q (option_to_list o)
 passes q b None h e = refl

@@ -1,6 +1,6 @@
 //! State changes of changes of zones, at a tick.
-ghost use Rattle.std.specs.Prelude.{◌≡◌, map, flat_map, IfOk, OnOk, false};
-ghost use Rattle.std.specs.List.{All};
+ghost use Rattle.std.specs.Prelude.{◌≡◌, map, flat_map, IfOk, OnOk};
+ghost use Rattle.std.specs.List.{list_any};
 ghost use Rattle.fab_policy.specs.State.{overdue};
 ghost use Rattle.fab_policy.specs.Steps.{InPool};
 ghost use Rattle.fab_roster.specs.Roll.{addresses_of, login_of};
@@ -11,7 +11,7 @@ ghost use Rattle.fab_sending.specs.Notices.{notices_of_tick, staying_at, told_of
 use crate::Before;
 use crate::noticing::{tell_of_ends, tell_of_zones};
 use fab_base::{Moment, NoMemory};
-use fab_config::{Activation, ActivationList};
+use fab_config::Activation;
 use fab_replies::OutList;
 use fab_roster::LoginList;
 use std::alloc::Global;
@@ -28,16 +28,12 @@ fn is_turned(activation: &Activation, since: Moment, moment: Moment) -> bool
 }
 
 // Whether one of them has, so that another zone set may be active.
-fn has_turned(activations: &ActivationList, since: Moment, moment: Moment) -> bool
-    ensures { result ≡ false → All (λ a. is_turned since moment a ≡ false) activations.now }
+fn has_turned(activations: &[Activation], since: Moment, moment: Moment) -> bool
+    ensures { result ≡ list_any (is_turned since moment) activations.now }
 {
-    for index in 0..activations.len() {
-        let activation = activations.at(index).unwrap();
-        if is_turned(activation, since, moment) {
-            return true;
-        }
-    }
-    false
+    activations
+        .iter()
+        .any(|activation| is_turned(activation, since, moment))
 }
 
 // The watchers are told of each live N_Port with which their joining changes between two moments,
@@ -56,7 +52,7 @@ fn tell_of_changes(
         (addresses_of ended.now)) (staying_at before.now.config.now before.now.roster.now.tables moment))) }
 {
     let config = before.config;
-    if !has_turned(&config.activations, since, moment) {
+    if !has_turned(config.activations.items(), since, moment) {
         return Ok(());
     }
     let live = before.roster.staying(alloc, moment)?;

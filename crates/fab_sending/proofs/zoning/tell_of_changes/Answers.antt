@@ -20,5 +20,5 @@ returns c =
 
 pub returns-then-not-has_turned : goal.returns-then-not-has_turned
 returns-then-not-has_turned c =
-    stays_told c.args.before.now.config.now c.args.before.now.roster.now.tables c.args.moment c.args.before.now.rscns c.args.since (addresses_of c.args.ended.now) c.args.outs.now _
-    (ap (λ (s : Settings). s.activations) c.config.view_is) (c.if-not-has_turned.ensures refl)
+    stays_told c.args.before.now.config.now c.args.before.now.roster.now.tables c.args.moment c.args.before.now.rscns c.args.since (addresses_of c.args.ended.now) c.args.outs.now c.items.result.now
+    (c.items.ensures ∙ ap (λ (s : Settings). s.activations) c.config.view_is) (sym c.if-not-has_turned.ensures)
