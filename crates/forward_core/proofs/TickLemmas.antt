@@ -20,6 +20,7 @@ use Rattle.fab_policy.specs.Outputs.{advertised_after}
 use Rattle.fab_policy.specs.Standing.{Contents, Takes}
 use Rattle.fab_sending.specs.Sends.{AreSent}
 use Rattle.fab_sending.specs.declared.sends.Sends.{Sends}
+pub use Rattle.fab_sending.proofs.Counting.{live_filter as live_listed}
 use Rattle.forward_core.specs.Fabric.{contents_of, IsFabric}
 use Rattle.forward_core.specs.Turns.{Keeps}
 use Rattle.forward_core.specs.declared.fabric.Fabric.TheInside.{Inside}
@@ -43,19 +44,6 @@ left_over p k old new up up_new found =
     same : (o : Option LivePort) → (if option_map_or p o false then None else o) ≡ option_and_then (λ x. if not (p x) then Some x else None) o
     same None = refl
     same (Some x) = one x (p x)
-
--- each of the listed is live
-pub live_listed : (p : LivePort → Bool) (k : ℕ) (ports : List LivePort) → AscendFrom (λ x. x.address) k ports → All (λ a. IsSome (port_at a ports)) (addresses (filter p ports))
-live_listed p k ports up i d lt =
-    let a = slice_index_or (addresses (filter p ports)) i d in
-    some (port_at a ports) (sym (list_any-keys-filter (λ (x : LivePort). x.address) p k a ports up) ∙ list_any_at (λ n. n == a) (addresses (filter p ports)) i d lt (same a))
-  where
-    same : (n : ℕ) → n == n ≡ true
-    same n = grind (arith, nat_tests)
-
-    some : (o : Option LivePort) → option_map_or p o false ≡ true → IsSome o
-    some None e = absurd (false_true e)
-    some (Some x) e = refl
 
 pub few_listed : (p : LivePort → Bool) (limit : ℕ) (ports : List LivePort) → length ports ≤ limit → limit ≤ 1000 → length (addresses (filter p ports)) ≤ 1000
 few_listed p limit ports few most = let l : length (addresses (filter p ports)) ≤ length ports = shorter ports in omega (arith, l, few, most)
