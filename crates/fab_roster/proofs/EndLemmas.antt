@@ -1,85 +1,86 @@
 -- The tables after the end of a login.
-use Rattle.std.proofs.Common.{◌≡◌, ℕ, ◌*◌, ◌≤◌, map, ◌==◌, ◌&&◌, not, Bool, true, false, List, Option, Some, None, option_map, is_some, is_none, IsSome, MatchOption, refl, sym, ap, subst, ◌∙◌, if◌then◌else◌, unwrap_or}
+use Rattle.std.proofs.Common.{◌≡◌, ℕ, ◌*◌, ◌≤◌, map, ◌==◌, ◌&&◌, not, Bool, true, false, Option, Some, None, option_map, is_some, is_none, IsSome, MatchOption, refl, sym, ap, subst, ◌∙◌, if◌then◌else◌, unwrap_or}
 use Rattle.std.specs.List.{list_any}
 use Rattle.std.specs.Option.{option_map_or}
-use Rattle.fab_base.specs.Fabric.{Past, past_at, same_enode}
+use Rattle.fab_base.specs.Fabric.{past_at, same_enode}
 use Rattle.fab_base.specs.declared.values.Enode.{Enode}
 use Rattle.fc_addresses.specs.Pool as pool
-use Rattle.login_table.specs.Logins.{Logins, login_at, address_of}
+use Rattle.login_table.specs.Logins.{login_at, address_of}
 use Rattle.login_table.specs.declared.login.Login.{Login}
-use Rattle.keepalive_clock.specs.Clock.{VoiceClock, last_of, KeepsLimits}
+use Rattle.keepalive_clock.specs.Clock.{last_of, KeepsLimits}
 use Rattle.keepalive_clock.specs.declared.voice.Voice.{Voice}
 use Rattle.keepalive_clock.specs.declared.voice.Voice.TheVariants.{Node, Port}
-use Rattle.name_server.specs.Registry.{Registrations, entry_at}
-use Rattle.state_change.specs.Watchers.{Watching, watcher_at}
+use Rattle.name_server.specs.Registry.{entry_at}
+use Rattle.state_change.specs.Watchers.{watcher_at}
 use Rattle.state_change.specs.declared.watcher.Watcher.{Watcher}
 use Rattle.fab_policy.specs.State.{port_at}
 use Rattle.fab_policy.specs.Changes.{ended_at}
 use Rattle.fab_roster.specs.Agreement.{Agree, AreSound, IsKnown, IsHeldBy, SpeaksFor, is_silenced}
 use Rattle.fab_roster.specs.Changes.{Ends}
 use Rattle.fab_roster.specs.Roll.{live_of, ports_of}
+use Rattle.fab_roster.specs.declared.roster.Roster.TheInside.{Inside}
 use Rattle.fab_roster.proofs.Found.{any-item_at, enode_refl, enode_same, equal, find-any, item_at-key, true_false, turned}
 use Rattle.fab_roster.proofs.Lookups.{port_of_login}
 use Rattle.fab_roster.proofs.SoundLemmas.{roll_of}
 
 -- What the calls say of the tables after them.
-pub record AfterEnd (a now : ℕ) (gone : Login) (A A' : List Past) (t t' : Logins) (k k' : VoiceClock) (r r' : Registrations) (w w' : Watching) : Type 0 where
-  pub was : login_at a t.logins ≡ Some gone
-  pub limit : t'.limit ≡ t.limit
-  pub logins : (b : ℕ) → login_at b t'.logins ≡ (if a == b then None else login_at b t.logins)
-  pub past : A' ≡ pool.released A a now
-  pub addresses : pool.EndsLogin a now A A'
-  pub places : pool.addresses A' ≡ pool.addresses A
-  pub order : pool.AreEndedBy now A'
-  pub limits : KeepsLimits k k'
-  pub voices : (v : Voice) → last_of v k'.voices ≡ (if is_silenced t'.logins gone v then None else last_of v k.voices)
-  pub entry_room : r'.room ≡ r.room
-  pub entries : (b : ℕ) → entry_at b r'.entries ≡ (if a == b then None else entry_at b r.entries)
-  pub watcher_room : w'.room ≡ w.room
-  pub watchers : (b : ℕ) → watcher_at b w'.watchers ≡ (if a == b then None else watcher_at b w.watchers)
-  pub sound : AreSound t' k' r' w'
+pub record AfterEnd (a now : ℕ) (gone : Login) (old new : Inside) : Type 0 where
+  pub was : login_at a old.logins.logins ≡ Some gone
+  pub limit : new.logins.limit ≡ old.logins.limit
+  pub logins : (b : ℕ) → login_at b new.logins.logins ≡ (if a == b then None else login_at b old.logins.logins)
+  pub past : new.pool ≡ pool.released old.pool a now
+  pub addresses : pool.EndsLogin a now old.pool new.pool
+  pub places : pool.addresses new.pool ≡ pool.addresses old.pool
+  pub order : pool.AreEndedBy now new.pool
+  pub limits : KeepsLimits old.voices new.voices
+  pub voices : (v : Voice) → last_of v new.voices.voices ≡ (if is_silenced new.logins.logins gone v then None else last_of v old.voices.voices)
+  pub entry_room : new.registry.room ≡ old.registry.room
+  pub entries : (b : ℕ) → entry_at b new.registry.entries ≡ (if a == b then None else entry_at b old.registry.entries)
+  pub watcher_room : new.watchers.room ≡ old.watchers.room
+  pub watchers : (b : ℕ) → watcher_at b new.watchers.watchers ≡ (if a == b then None else watcher_at b old.watchers.watchers)
+  pub sound : AreSound new.logins new.voices new.registry new.watchers
 
-module _ (lowest count a now : ℕ) (gone : Login) (A A' : List Past) (t t' : Logins) (k k' : VoiceClock) (r r' : Registrations) (w w' : Watching)
-    (agree : Agree lowest count (Some now) A t k r w) (s : AfterEnd a now gone A A' t t' k k' r r' w w') where
+module _ (a now : ℕ) (gone : Login) (old new : Inside)
+    (agree : Agree old.lowest old.count (Some now) old.pool old.logins old.voices old.registry old.watchers) (s : AfterEnd a now gone old new) where
   -- a login that is left was there, at another address
-  left : (b : ℕ) (l : Login) → login_at b t'.logins ≡ Some l → (a == b ≡ false) × (login_at b t.logins ≡ Some l)
+  left : (b : ℕ) (l : Login) → login_at b new.logins.logins ≡ Some l → (a == b ≡ false) × (login_at b old.logins.logins ≡ Some l)
   left b l e = go (a == b) refl (sym (s.logins b) ∙ e)
     where
-      go : (x : Bool) → a == b ≡ x → (if x then None else login_at b t.logins) ≡ Some l → (a == b ≡ false) × (login_at b t.logins ≡ Some l)
-      go true t i = cc
-      go false t i = (t, i)
+      go : (x : Bool) → a == b ≡ x → (if x then None else login_at b old.logins.logins) ≡ Some l → (a == b ≡ false) × (login_at b old.logins.logins ≡ Some l)
+      go true f i = cc
+      go false f i = (f, i)
 
   gone_at : gone.address ≡ a
-  gone_at = item_at-key address_of a t.logins gone s.was
+  gone_at = item_at-key address_of a old.logins.logins gone s.was
 
   -- its ENode isn't silenced, nor is it
-  heard_still : (b : ℕ) (l : Login) → login_at b t'.logins ≡ Some l → is_silenced t'.logins gone (Node l.enode) ≡ false
+  heard_still : (b : ℕ) (l : Login) → login_at b new.logins.logins ≡ Some l → is_silenced new.logins.logins gone (Node l.enode) ≡ false
   heard_still b l e = go (same_enode gone.enode l.enode) refl
     where
-      go : (x : Bool) → same_enode gone.enode l.enode ≡ x → x && not (list_any (λ y. same_enode y.enode gone.enode) t'.logins) ≡ false
+      go : (x : Bool) → same_enode gone.enode l.enode ≡ x → x && not (list_any (λ y. same_enode y.enode gone.enode) new.logins.logins) ≡ false
       go false h = refl
-      go true h = ap (λ y. true && not y) (find-any (λ (y : Login). same_enode y.enode gone.enode) (λ y. y.address == b) t'.logins l e
+      go true h = ap (λ y. true && not y) (find-any (λ (y : Login). same_enode y.enode gone.enode) (λ y. y.address == b) new.logins.logins l e
           (subst (λ x. same_enode l.enode x ≡ true) (sym (enode_same gone.enode l.enode h)) (enode_refl l.enode)))
 
-  apart : (b : ℕ) (l : Login) → login_at b t'.logins ≡ Some l → a == l.address ≡ false
-  apart b l e = let was = left b l e in ap (λ x. a == x) (item_at-key address_of b t.logins l was.1) ∙ was.0
+  apart : (b : ℕ) (l : Login) → login_at b new.logins.logins ≡ Some l → a == l.address ≡ false
+  apart b l e = let was = left b l e in ap (λ x. a == x) (item_at-key address_of b old.logins.logins l was.1) ∙ was.0
 
-  apart_too : (b : ℕ) (l : Login) → login_at b t'.logins ≡ Some l → gone.address == l.address ≡ false
+  apart_too : (b : ℕ) (l : Login) → login_at b new.logins.logins ≡ Some l → gone.address == l.address ≡ false
   apart_too b l e = ap (λ x. x == l.address) gone_at ∙ apart b l e
 
-  node_stays : (b : ℕ) (l : Login) → login_at b t'.logins ≡ Some l → last_of (Node l.enode) k'.voices ≡ last_of (Node l.enode) k.voices
-  node_stays b l e = s.voices (Node l.enode) ∙ ap (λ x. if x then None else last_of (Node l.enode) k.voices) (heard_still b l e)
+  node_stays : (b : ℕ) (l : Login) → login_at b new.logins.logins ≡ Some l → last_of (Node l.enode) new.voices.voices ≡ last_of (Node l.enode) old.voices.voices
+  node_stays b l e = s.voices (Node l.enode) ∙ ap (λ x. if x then None else last_of (Node l.enode) old.voices.voices) (heard_still b l e)
 
-  port_stays : (b : ℕ) (l : Login) → login_at b t'.logins ≡ Some l → last_of (Port l.address) k'.voices ≡ last_of (Port l.address) k.voices
-  port_stays b l e = s.voices (Port l.address) ∙ ap (λ x. if x then None else last_of (Port l.address) k.voices) (apart_too b l e)
+  port_stays : (b : ℕ) (l : Login) → login_at b new.logins.logins ≡ Some l → last_of (Port l.address) new.voices.voices ≡ last_of (Port l.address) old.voices.voices
+  port_stays b l e = s.voices (Port l.address) ∙ ap (λ x. if x then None else last_of (Port l.address) old.voices.voices) (apart_too b l e)
 
-  entry_stays : (b : ℕ) (l : Login) → login_at b t'.logins ≡ Some l → entry_at l.address r'.entries ≡ entry_at l.address r.entries
-  entry_stays b l e = s.entries l.address ∙ ap (λ x. if x then None else entry_at l.address r.entries) (apart b l e)
+  entry_stays : (b : ℕ) (l : Login) → login_at b new.logins.logins ≡ Some l → entry_at l.address new.registry.entries ≡ entry_at l.address old.registry.entries
+  entry_stays b l e = s.entries l.address ∙ ap (λ x. if x then None else entry_at l.address old.registry.entries) (apart b l e)
 
-  watcher_stays : (b : ℕ) (l : Login) → login_at b t'.logins ≡ Some l → watcher_at l.address w'.watchers ≡ watcher_at l.address w.watchers
-  watcher_stays b l e = s.watchers l.address ∙ ap (λ x. if x then None else watcher_at l.address w.watchers) (apart b l e)
+  watcher_stays : (b : ℕ) (l : Login) → login_at b new.logins.logins ≡ Some l → watcher_at l.address new.watchers.watchers ≡ watcher_at l.address old.watchers.watchers
+  watcher_stays b l e = s.watchers l.address ∙ ap (λ x. if x then None else watcher_at l.address old.watchers.watchers) (apart b l e)
 
-  known_after : (b : ℕ) (l : Login) → login_at b t'.logins ≡ Some l → IsKnown k'.voices r'.entries l
+  known_after : (b : ℕ) (l : Login) → login_at b new.logins.logins ≡ Some l → IsKnown new.voices.voices new.registry.entries l
   known_after b l e =
       let n = agree.known b l (left b l e).1 in
       record {
@@ -90,107 +91,107 @@ module _ (lowest count a now : ℕ) (gone : Login) (A A' : List Past) (t t' : Lo
       }
 
   -- one that is there is left, but for the one that is gone
-  stays : (b : ℕ) (l : Login) → a == b ≡ false → login_at b t.logins ≡ Some l → login_at b t'.logins ≡ Some l
-  stays b l h e = s.logins b ∙ (ap (λ x. if x then None else login_at b t.logins) h ∙ e)
+  stays : (b : ℕ) (l : Login) → a == b ≡ false → login_at b old.logins.logins ≡ Some l → login_at b new.logins.logins ≡ Some l
+  stays b l h e = s.logins b ∙ (ap (λ x. if x then None else login_at b old.logins.logins) h ∙ e)
 
   -- ---- each voice speaks for a login that is left
 
-  at_port : (x : ℕ) → is_silenced t'.logins gone (Port x) ≡ false → (l : Login) → l.address ≡ x → a == l.address ≡ false
+  at_port : (x : ℕ) → is_silenced new.logins.logins gone (Port x) ≡ false → (l : Login) → l.address ≡ x → a == l.address ≡ false
   at_port x q l is = ap (λ y. a == y) is ∙ (ap (λ y. y == x) (sym gone_at) ∙ q)
 
-  of_node : (y : Enode) → is_silenced t'.logins gone (Node y) ≡ false → (l : Login) → login_at l.address t.logins ≡ Some l → same_enode l.enode y ≡ true →
-      (m : Login) × (login_at m.address t'.logins ≡ Some m) × (same_enode m.enode y ≡ true)
+  of_node : (y : Enode) → is_silenced new.logins.logins gone (Node y) ≡ false → (l : Login) → login_at l.address old.logins.logins ≡ Some l → same_enode l.enode y ≡ true →
+      (m : Login) × (login_at m.address new.logins.logins ≡ Some m) × (same_enode m.enode y ≡ true)
   of_node y q l e is = by_place (a == l.address) refl
     where
-      by_any : (z : Bool) → list_any (λ x. same_enode x.enode gone.enode) t'.logins ≡ z → same_enode gone.enode y ≡ true → (m : Login) × (login_at m.address t'.logins ≡ Some m) × (same_enode m.enode y ≡ true)
+      by_any : (z : Bool) → list_any (λ x. same_enode x.enode gone.enode) new.logins.logins ≡ z → same_enode gone.enode y ≡ true → (m : Login) × (login_at m.address new.logins.logins ≡ Some m) × (same_enode m.enode y ≡ true)
       by_any true g o =
-          let f = any-item_at address_of (λ x. same_enode x.enode gone.enode) 0 t'.logins s.sound.logins.ascending g in
+          let f = any-item_at address_of (λ x. same_enode x.enode gone.enode) 0 new.logins.logins s.sound.logins.ascending g in
           (f.0, f.1, subst (λ x. same_enode x y ≡ true) (sym (enode_same f.0.enode gone.enode f.2)) o)
-      by_any false g o = absurd (true_false (sym (ap (λ x. x && not (list_any (λ x. same_enode x.enode gone.enode) t'.logins)) o ∙ ap (λ x. true && not x) g) ∙ q))
+      by_any false g o = absurd (true_false (sym (ap (λ x. x && not (list_any (λ x. same_enode x.enode gone.enode) new.logins.logins)) o ∙ ap (λ x. true && not x) g) ∙ q))
 
       is_gone : a ≡ l.address → l ≡ gone
-      is_gone i = let at : Some l ≡ Some gone = sym e ∙ (ap (λ x. login_at x t.logins) (sym i) ∙ s.was) in cc
+      is_gone i = let at : Some l ≡ Some gone = sym e ∙ (ap (λ x. login_at x old.logins.logins) (sym i) ∙ s.was) in cc
 
-      by_place : (z : Bool) → a == l.address ≡ z → (m : Login) × (login_at m.address t'.logins ≡ Some m) × (same_enode m.enode y ≡ true)
+      by_place : (z : Bool) → a == l.address ≡ z → (m : Login) × (login_at m.address new.logins.logins ≡ Some m) × (same_enode m.enode y ≡ true)
       by_place false z = (l, stays l.address l z e, is)
-      by_place true z = by_any (list_any (λ x. same_enode x.enode gone.enode) t'.logins) refl (subst (λ (m : Login). same_enode m.enode y ≡ true) (is_gone (equal a l.address z)) is)
+      by_place true z = by_any (list_any (λ x. same_enode x.enode gone.enode) new.logins.logins) refl (subst (λ (m : Login). same_enode m.enode y ≡ true) (is_gone (equal a l.address z)) is)
 
-  by_voice : (u : Voice) → is_silenced t'.logins gone u ≡ false → (l : Login) × (login_at l.address t.logins ≡ Some l) × SpeaksFor u l → (l : Login) × (login_at l.address t'.logins ≡ Some l) × SpeaksFor u l
+  by_voice : (u : Voice) → is_silenced new.logins.logins gone u ≡ false → (l : Login) × (login_at l.address old.logins.logins ≡ Some l) × SpeaksFor u l → (l : Login) × (login_at l.address new.logins.logins ≡ Some l) × SpeaksFor u l
   by_voice (Port x) q f = (f.0, stays f.0.address f.0 (at_port x q f.0 f.2) f.1, f.2)
   by_voice (Node y) q f = of_node y q f.0 f.1 f.2
 
-  voices_after : (v : Voice) → IsSome (last_of v k'.voices) → (l : Login) × (login_at l.address t'.logins ≡ Some l) × SpeaksFor v l
-  voices_after v h = go (is_silenced t'.logins gone v) refl (subst (λ o. IsSome o) (s.voices v) h)
+  voices_after : (v : Voice) → IsSome (last_of v new.voices.voices) → (l : Login) × (login_at l.address new.logins.logins ≡ Some l) × SpeaksFor v l
+  voices_after v h = go (is_silenced new.logins.logins gone v) refl (subst (λ o. IsSome o) (s.voices v) h)
     where
-      go : (x : Bool) → is_silenced t'.logins gone v ≡ x → IsSome (if x then None else last_of v k.voices) → (l : Login) × (login_at l.address t'.logins ≡ Some l) × SpeaksFor v l
+      go : (x : Bool) → is_silenced new.logins.logins gone v ≡ x → IsSome (if x then None else last_of v old.voices.voices) → (l : Login) × (login_at l.address new.logins.logins ≡ Some l) × SpeaksFor v l
       go true q i = absurd (true_false (sym i))
       go false q i = by_voice v q (agree.voices v i)
 
   -- ---- the addresses of the pool
 
-  was_held : past_at a A ≡ Some (pool.held a gone.name)
-  was_held = subst (λ o. IsHeldBy a A o) s.was (agree.held a)
+  was_held : past_at a old.pool ≡ Some (pool.held a gone.name)
+  was_held = subst (λ o. IsHeldBy a old.pool o) s.was (agree.held a)
 
-  held_after : (b : ℕ) → IsHeldBy b A' (login_at b t'.logins)
+  held_after : (b : ℕ) → IsHeldBy b new.pool (login_at b new.logins.logins)
   held_after b = go (a == b) refl
     where
-      go : (x : Bool) → a == b ≡ x → IsHeldBy b A' (login_at b t'.logins)
+      go : (x : Bool) → a == b ≡ x → IsHeldBy b new.pool (login_at b new.logins.logins)
       go true e =
-          let none : login_at b t'.logins ≡ None = s.logins b ∙ ap (λ x. if x then None else login_at b t.logins) e in
-          let was : past_at b A ≡ Some (pool.held b gone.name) = subst (λ y. past_at y A ≡ Some (pool.held y gone.name)) (equal a b e) was_held in
-          let over : past_at b A' ≡ Some (pool.ended_at now (pool.held b gone.name)) =
-          s.addresses b ∙ (ap (λ x. if x then option_map (pool.ended_at now) (past_at b A) else past_at b A) e ∙ ap (λ o. option_map (pool.ended_at now) o) was) in
-          subst (λ o. IsHeldBy b A' o) (sym none) (ap (λ o. option_map_or (λ p. is_some p.name && is_none p.ended) o false) over)
+          let none : login_at b new.logins.logins ≡ None = s.logins b ∙ ap (λ x. if x then None else login_at b old.logins.logins) e in
+          let was : past_at b old.pool ≡ Some (pool.held b gone.name) = subst (λ y. past_at y old.pool ≡ Some (pool.held y gone.name)) (equal a b e) was_held in
+          let over : past_at b new.pool ≡ Some (pool.ended_at now (pool.held b gone.name)) =
+          s.addresses b ∙ (ap (λ x. if x then option_map (pool.ended_at now) (past_at b old.pool) else past_at b old.pool) e ∙ ap (λ o. option_map (pool.ended_at now) o) was) in
+          subst (λ o. IsHeldBy b new.pool o) (sym none) (ap (λ o. option_map_or (λ p. is_some p.name && is_none p.ended) o false) over)
       go false e =
-          let login : login_at b t'.logins ≡ login_at b t.logins = s.logins b ∙ ap (λ x. if x then None else login_at b t.logins) e in
-          let past : past_at b A' ≡ past_at b A = s.addresses b ∙ ap (λ x. if x then option_map (pool.ended_at now) (past_at b A) else past_at b A) e in
-          subst (λ o. IsHeldBy b A' o) (sym login) (subst (λ p. MatchOption (login_at b t.logins) (option_map_or (λ q. is_some q.name && is_none q.ended) p false ≡ false) (λ l. p ≡ Some (pool.held b l.name))) (sym past) (agree.held b))
+          let login : login_at b new.logins.logins ≡ login_at b old.logins.logins = s.logins b ∙ ap (λ x. if x then None else login_at b old.logins.logins) e in
+          let past : past_at b new.pool ≡ past_at b old.pool = s.addresses b ∙ ap (λ x. if x then option_map (pool.ended_at now) (past_at b old.pool) else past_at b old.pool) e in
+          subst (λ o. IsHeldBy b new.pool o) (sym login) (subst (λ p. MatchOption (login_at b old.logins.logins) (option_map_or (λ q. is_some q.name && is_none q.ended) p false ≡ false) (λ l. p ≡ Some (pool.held b l.name))) (sym past) (agree.held b))
 
   -- ---- entries and watchers
 
-  entries_after : (b : ℕ) → IsSome (entry_at b r'.entries) → IsSome (login_at b t'.logins)
+  entries_after : (b : ℕ) → IsSome (entry_at b new.registry.entries) → IsSome (login_at b new.logins.logins)
   entries_after b h = go (a == b) refl (subst (λ o. IsSome o) (s.entries b) h)
     where
-      go : (x : Bool) → a == b ≡ x → IsSome (if x then None else entry_at b r.entries) → IsSome (login_at b t'.logins)
+      go : (x : Bool) → a == b ≡ x → IsSome (if x then None else entry_at b old.registry.entries) → IsSome (login_at b new.logins.logins)
       go true e i = absurd (true_false (sym i))
-      go false e i = subst (λ o. IsSome o) (sym (s.logins b ∙ ap (λ x. if x then None else login_at b t.logins) e)) (agree.entries b i)
+      go false e i = subst (λ o. IsSome o) (sym (s.logins b ∙ ap (λ x. if x then None else login_at b old.logins.logins) e)) (agree.entries b i)
 
-  watchers_after : (b : ℕ) (x : Watcher) → watcher_at b w'.watchers ≡ Some x → (l : Login) × (login_at b t'.logins ≡ Some l) × (x.name ≡ l.name)
+  watchers_after : (b : ℕ) (x : Watcher) → watcher_at b new.watchers.watchers ≡ Some x → (l : Login) × (login_at b new.logins.logins ≡ Some l) × (x.name ≡ l.name)
   watchers_after b x h = go (a == b) refl (sym (s.watchers b) ∙ h)
     where
-      go : (y : Bool) → a == b ≡ y → (if y then None else watcher_at b w.watchers) ≡ Some x → (l : Login) × (login_at b t'.logins ≡ Some l) × (x.name ≡ l.name)
+      go : (y : Bool) → a == b ≡ y → (if y then None else watcher_at b old.watchers.watchers) ≡ Some x → (l : Login) × (login_at b new.logins.logins ≡ Some l) × (x.name ≡ l.name)
       go true e i = cc
       go false e i = let f = agree.watchers b x i in (f.0, stays b f.0 e f.1, f.2)
 
   -- ---- the N_Ports that are left
 
   -- what the tables say of a login that is left
-  left_same : (b : ℕ) (l : Login) → login_at b t'.logins ≡ Some l → live_of k'.voices r'.entries w'.watchers l ≡ live_of k.voices r.entries w.watchers l
+  left_same : (b : ℕ) (l : Login) → login_at b new.logins.logins ≡ Some l → live_of new.voices.voices new.registry.entries new.watchers.watchers l ≡ live_of old.voices.voices old.registry.entries old.watchers.watchers l
   left_same b l e = same_live l (node_stays b l e) (port_stays b l e) (entry_stays b l e) (watcher_stays b l e)
     where
-      same_live : (l : Login) → last_of (Node l.enode) k'.voices ≡ last_of (Node l.enode) k.voices → last_of (Port l.address) k'.voices ≡ last_of (Port l.address) k.voices →
-          entry_at l.address r'.entries ≡ entry_at l.address r.entries → watcher_at l.address w'.watchers ≡ watcher_at l.address w.watchers →
-          live_of k'.voices r'.entries w'.watchers l ≡ live_of k.voices r.entries w.watchers l
+      same_live : (l : Login) → last_of (Node l.enode) new.voices.voices ≡ last_of (Node l.enode) old.voices.voices → last_of (Port l.address) new.voices.voices ≡ last_of (Port l.address) old.voices.voices →
+          entry_at l.address new.registry.entries ≡ entry_at l.address old.registry.entries → watcher_at l.address new.watchers.watchers ≡ watcher_at l.address old.watchers.watchers →
+          live_of new.voices.voices new.registry.entries new.watchers.watchers l ≡ live_of old.voices.voices old.registry.entries old.watchers.watchers l
       same_live l e1 e2 e3 e4 = cc
 
-  ports_after : (b : ℕ) → port_at b (ports_of k'.voices r'.entries w'.watchers t'.logins) ≡ (if b == a then None else port_at b (ports_of k.voices r.entries w.watchers t.logins))
-  ports_after b = port_of_login k'.voices r'.entries w'.watchers t'.logins b
+  ports_after : (b : ℕ) → port_at b (ports_of new.voices.voices new.registry.entries new.watchers.watchers new.logins.logins) ≡ (if b == a then None else port_at b (ports_of old.voices.voices old.registry.entries old.watchers.watchers old.logins.logins))
+  ports_after b = port_of_login new.voices.voices new.registry.entries new.watchers.watchers new.logins.logins b
       ∙ (go (a == b) refl
-      ∙ (ap (λ o. if a == b then None else o) (sym (port_of_login k.voices r.entries w.watchers t.logins b))
-      ∙ ap (λ x. if x then None else port_at b (ports_of k.voices r.entries w.watchers t.logins)) (turned a b)))
+      ∙ (ap (λ o. if a == b then None else o) (sym (port_of_login old.voices.voices old.registry.entries old.watchers.watchers old.logins.logins b))
+      ∙ ap (λ x. if x then None else port_at b (ports_of old.voices.voices old.registry.entries old.watchers.watchers old.logins.logins)) (turned a b)))
     where
-      each : (o : Option Login) → login_at b t'.logins ≡ o → option_map (live_of k'.voices r'.entries w'.watchers) o ≡ option_map (live_of k.voices r.entries w.watchers) o
+      each : (o : Option Login) → login_at b new.logins.logins ≡ o → option_map (live_of new.voices.voices new.registry.entries new.watchers.watchers) o ≡ option_map (live_of old.voices.voices old.registry.entries old.watchers.watchers) o
       each None e = refl
       each (Some l) e = ap (λ p. Some p) (left_same b l e)
 
-      go : (x : Bool) → a == b ≡ x → option_map (live_of k'.voices r'.entries w'.watchers) (login_at b t'.logins) ≡ (if a == b then None else option_map (live_of k.voices r.entries w.watchers) (login_at b t.logins))
-      go true e = ap (λ o. option_map (live_of k'.voices r'.entries w'.watchers) o) (s.logins b ∙ ap (λ x. if x then None else login_at b t.logins) e)
-          ∙ ap (λ x. if x then None else option_map (live_of k.voices r.entries w.watchers) (login_at b t.logins)) (sym e)
-      go false e = each (login_at b t'.logins) refl
-          ∙ (ap (λ o. option_map (live_of k.voices r.entries w.watchers) o) (s.logins b ∙ ap (λ x. if x then None else login_at b t.logins) e)
-          ∙ ap (λ x. if x then None else option_map (live_of k.voices r.entries w.watchers) (login_at b t.logins)) (sym e))
+      go : (x : Bool) → a == b ≡ x → option_map (live_of new.voices.voices new.registry.entries new.watchers.watchers) (login_at b new.logins.logins) ≡ (if a == b then None else option_map (live_of old.voices.voices old.registry.entries old.watchers.watchers) (login_at b old.logins.logins))
+      go true e = ap (λ o. option_map (live_of new.voices.voices new.registry.entries new.watchers.watchers) o) (s.logins b ∙ ap (λ x. if x then None else login_at b old.logins.logins) e)
+          ∙ ap (λ x. if x then None else option_map (live_of old.voices.voices old.registry.entries old.watchers.watchers) (login_at b old.logins.logins)) (sym e)
+      go false e = each (login_at b new.logins.logins) refl
+          ∙ (ap (λ o. option_map (live_of old.voices.voices old.registry.entries old.watchers.watchers) o) (s.logins b ∙ ap (λ x. if x then None else login_at b old.logins.logins) e)
+          ∙ ap (λ x. if x then None else option_map (live_of old.voices.voices old.registry.entries old.watchers.watchers) (login_at b old.logins.logins)) (sym e))
 
-  agree_after : Agree lowest count (Some now) A' t' k' r' w'
+  agree_after : Agree old.lowest old.count (Some now) new.pool new.logins new.voices new.registry new.watchers
   agree_after = record {
     known = known_after;
     voices = voices_after;
@@ -210,21 +211,21 @@ module _ (lowest count a now : ℕ) (gone : Login) (A A' : List Past) (t t' : Lo
 
 -- ---- the two goals of the call, over plain tables
 
-module _ (lowest count limit period a now : ℕ) (clock : Option ℕ) (gone : Login) (A A' : List Past) (t t' : Logins) (k k' : VoiceClock) (r r' : Registrations) (w w' : Watching) where
-  pub end_keeps : clock ≡ Some now → Agree lowest count clock A t k r w × (t.limit ≡ limit) × (k.node_period ≡ period) → AfterEnd a now gone A A' t t' k k' r r' w w' →
-      Agree lowest count clock A' t' k' r' w' × (t'.limit ≡ limit) × (k'.node_period ≡ period)
+module _ (a now : ℕ) (gone : Login) (old new : Inside) where
+  pub end_keeps : old.clock ≡ Some now → Agree old.lowest old.count old.clock old.pool old.logins old.voices old.registry old.watchers × (old.logins.limit ≡ old.limit) × (old.voices.node_period ≡ old.period) → AfterEnd a now gone old new →
+      Agree old.lowest old.count old.clock new.pool new.logins new.voices new.registry new.watchers × (new.logins.limit ≡ old.limit) × (new.voices.node_period ≡ old.period)
   end_keeps e h s =
-      let was = subst (λ x. Agree lowest count x A t k r w) e h.0 in (
-        subst (λ x. Agree lowest count x A' t' k' r' w') (sym e) (agree_after lowest count a now gone A A' t t' k k' r r' w w' was s),
+      let was = subst (λ x. Agree old.lowest old.count x old.pool old.logins old.voices old.registry old.watchers) e h.0 in (
+        subst (λ x. Agree old.lowest old.count x new.pool new.logins new.voices new.registry new.watchers) (sym e) (agree_after a now gone old new was s),
         s.limit ∙ h.1,
         s.limits.node_period ∙ h.2,
       )
 
-  pub end_ends : clock ≡ Some now → Agree lowest count clock A t k r w × (t.limit ≡ limit) × (k.node_period ≡ period) → AfterEnd a now gone A A' t t' k k' r r' w w' →
-      Ends a (roll_of lowest count limit period clock A t k r w) (roll_of lowest count limit period clock A' t' k' r' w')
+  pub end_ends : old.clock ≡ Some now → Agree old.lowest old.count old.clock old.pool old.logins old.voices old.registry old.watchers × (old.logins.limit ≡ old.limit) × (old.voices.node_period ≡ old.period) → AfterEnd a now gone old new →
+      Ends a (roll_of old.lowest old.count old.limit old.period old.clock old.pool old.logins old.voices old.registry old.watchers) (roll_of old.lowest old.count old.limit old.period old.clock new.pool new.logins new.voices new.registry new.watchers)
   end_ends e h s = record {
     bounds = record { lowest = refl; count = refl; limit = refl; period = refl };
     clock = refl;
-    past = s.past ∙ ap (λ (x : Option ℕ). map (ended_at a (unwrap_or x 0)) A) (sym e);
-    ports = ports_after lowest count a now gone A A' t t' k k' r r' w w' (subst (λ x. Agree lowest count x A t k r w) e h.0) s;
+    past = s.past ∙ ap (λ (x : Option ℕ). map (ended_at a (unwrap_or x 0)) old.pool) (sym e);
+    ports = ports_after a now gone old new (subst (λ x. Agree old.lowest old.count x old.pool old.logins old.voices old.registry old.watchers) e h.0) s;
   }

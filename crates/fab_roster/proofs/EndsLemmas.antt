@@ -1,22 +1,28 @@
 -- One end after another.
-use Rattle.std.proofs.Common.{◌≡◌, ℕ, zero, suc, ◌+◌, ◌<◌, ◌≤◌, ◌==◌, ◌||◌, Bool, true, false, List, [], ◌∷◌, length, take, get_or, map, slice_get, Option, Some, None, if◌then◌else◌, unwrap_or, refl, sym, ap, ◌∙◌, arith}
+use Rattle.std.proofs.Common.{◌≡◌, ℕ, zero, suc, ◌+◌, ◌<◌, ◌≤◌, ◌==◌, ◌||◌, Bool, true, false, List, [], ◌∷◌, length, take, get_or, map, Option, Some, None, if◌then◌else◌, unwrap_or, refl, sym, ap, ◌∙◌, arith}
 use Rattle.std.proofs.lemmas.Bool.Decides.{nat_tests}
 use Rattle.std.proofs.lemmas.List.Folds.{list_any_more}
-use Rattle.std.proofs.lemmas.Option.{slice_get-get_or}
+use Rattle.std.proofs.lemmas.List.{length-map, take_all}
+use Rattle.std.proofs.Math.ListN.{get_or-map}
 use Rattle.fab_base.specs.Fabric.{Past}
 use Rattle.fab_base.specs.Keyed.{AscendFrom}
+use Rattle.login_table.specs.Logins.{address_of}
 use Rattle.zone_rules.specs.Joined.{contains}
 use Rattle.fab_policy.specs.Changes.{all_ended, ended_at}
 use Rattle.fab_policy.specs.State.{LivePort, now_of, port_at}
 use Rattle.fab_roster.specs.Changes.{Ends, EndsAll, KeepsBounds}
-use Rattle.fab_roster.specs.Roll.{Roll}
+use Rattle.fab_roster.specs.Roll.{Login, Roll, addresses_of}
 use Rattle.fab_roster.proofs.Found.{turned}
 
-pub item_is : (ids : List ℕ) (i a : ℕ) → i < length ids → Some a ≡ slice_get ids i → a ≡ get_or ids i a
-item_is ids i a lt e = let f : Some a ≡ Some (get_or ids i a) = e ∙ slice_get-get_or ids i a lt in cc
+-- the login at a place has the address at that place
+pub address_is : (items ls : List Login) (i : ℕ) (l : Login) → items ≡ ls → i < length items → l ≡ get_or items i l → (i < length (addresses_of ls)) × (l.address ≡ get_or (addresses_of ls) i l.address)
+address_is items ls i l all lt is =
+    let many : length (addresses_of ls) ≡ length items = length-map ls address_of ∙ ap length (sym all) in
+    (omega (arith, many), ap address_of (is ∙ ap (λ xs. get_or xs i l) all) ∙ sym (get_or-map address_of ls i l))
 
-pub item_there : (ids : List ℕ) (i : ℕ) → i < length ids → None ≡ slice_get ids i → ⊥
-item_there ids i lt e = let f : None ≡ Some (get_or ids i 0) = e ∙ slice_get-get_or ids i 0 lt in cc
+-- all logins that there are
+pub all_taken : (items ls : List Login) (i : ℕ) → items ≡ ls → length items ≤ i → take i (addresses_of ls) ≡ addresses_of ls
+all_taken items ls i all le = let many : length (addresses_of ls) ≡ length items = length-map ls address_of ∙ ap length (sym all) in take_all i (addresses_of ls) (omega (arith, many))
 
 -- ---- the first items of an ascending list don't hold the next one
 

@@ -1,12 +1,12 @@
 -- What a look-up says of its list, and when voices and ENodes are the same.
-use Rattle.std.proofs.Common.{◌≡◌, ℕ, ◌+◌, ◌<◌, ◌==◌, ◌||◌, nat_lt, Bool, true, false, cond, List, [], ◌∷◌, find, Option, Some, None, IsSome, refl, sym, ap, subst, ◌∙◌, arith}
+use Rattle.std.proofs.Common.{◌≡◌, ℕ, ◌+◌, ◌<◌, ◌==◌, ◌||◌, nat_lt, Bool, true, false, cond, List, [], ◌∷◌, filter, find, if◌then◌else◌, option_and_then, Option, Some, None, IsSome, refl, sym, ap, subst, ◌∙◌, arith}
 use Rattle.std.proofs.lemmas.Bool.{and_parts}
 use Rattle.std.proofs.lemmas.Bool.Decides.{nat_tests}
 use Rattle.std.proofs.lemmas.Slice.Eq.{bytes_eq-Decides}
 use Rattle.std.specs.List.{All, list_any}
 use Rattle.std.proofs.lemmas.List.Elements.{All-cons, All-nil}
 use Rattle.std.specs.Str.{bytes_eq}
-use Rattle.fab_base.proofs.KeyedLemmas.{item_at-below}
+use Rattle.fab_base.proofs.KeyedLemmas.{AscendFrom-filter, item_at-below}
 use Rattle.fab_base.specs.Fabric.{same_enode}
 use Rattle.fab_base.specs.Keyed.{item_at, AscendFrom}
 use Rattle.fab_base.specs.declared.values.Enode.{Enode}
@@ -131,3 +131,34 @@ voice_same (Node x) (Node y) e = ap Node (enode_same x y e)
 voice_same (Port a) (Port b) e = ap Port (equal a b e)
 voice_same (Node x) (Port b) e = cc
 voice_same (Port a) (Node y) e = cc
+
+module _ {X : Type 0} (key : X → ℕ) where
+  abbrev pub kept : (X → Bool) → X → Option X
+  kept q x = if q x then Some x else None
+
+  -- what a filter leaves of the item at a key
+  pub filtered : (q : X → Bool) (a k : ℕ) (xs : List X) → AscendFrom key k xs → item_at key a (filter q xs) ≡ option_and_then (kept q) (item_at key a xs)
+  filtered q a k [] h = refl
+  filtered q a k (x ∷ xs) h = go (key x == a) refl (q x) refl (filtered q a (key x + 1) xs h.1)
+    where
+      below : (i j : ℕ) → i == j ≡ true → j < i + 1
+      below i j e = grind (arith, nat_tests)
+
+      go : (b : Bool) → key x == a ≡ b → (d : Bool) → q x ≡ d → item_at key a (filter q xs) ≡ option_and_then (kept q) (item_at key a xs) →
+          item_at key a (cond d (x ∷ filter q xs) (filter q xs)) ≡ option_and_then (kept q) (cond b (Some x) (item_at key a xs))
+      go true e true f ih = ap (λ y. cond y (Some x) (item_at key a (filter q xs))) e ∙ ap (λ y. if y then Some x else None) (sym f)
+      go true e false f ih = item_at-below key a (key x + 1) (filter q xs) (AscendFrom-filter key q (key x + 1) xs h.1) (below (key x) a e) ∙ ap (λ y. if y then Some x else None) (sym f)
+      go false e true f ih = ap (λ y. cond y (Some x) (item_at key a (filter q xs))) e ∙ ih
+      go false e false f ih = ih
+
+  -- what is left is there
+  pub was_there : (q : X → Bool) (a k : ℕ) (xs : List X) (x : X) → AscendFrom key k xs → item_at key a (filter q xs) ≡ Some x → item_at key a xs ≡ Some x
+  was_there q a k xs x h e = go (item_at key a xs) (sym (filtered q a k xs h) ∙ e)
+    where
+      by_test : (y : X) (b : Bool) → (if b then Some y else None) ≡ Some x → Some y ≡ Some x
+      by_test y true i = i
+      by_test y false i = cc
+
+      go : (o : Option X) → option_and_then (kept q) o ≡ Some x → o ≡ Some x
+      go None i = cc
+      go (Some y) i = by_test y (q y) i

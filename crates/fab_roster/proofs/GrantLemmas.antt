@@ -1,18 +1,18 @@
 -- The tables after a grant.
-use Rattle.std.proofs.Common.{◌≡◌, ℕ, ◌*◌, ◌≤◌, ◌==◌, ◌&&◌, Bool, true, false, List, Option, Some, None, option_map, is_some, is_none, IsSome, IfSome, MatchOption, refl, sym, ap, subst, ◌∙◌, if◌then◌else◌, unwrap_or, slice_index_or}
+use Rattle.std.proofs.Common.{◌≡◌, ℕ, ◌*◌, ◌≤◌, ◌==◌, ◌&&◌, Bool, true, false, Option, Some, None, option_map, is_some, is_none, IsSome, IfSome, MatchOption, refl, sym, ap, subst, ◌∙◌, if◌then◌else◌, unwrap_or, slice_index_or}
 use Rattle.std.specs.Option.{option_map_or}
 use Rattle.std.proofs.lemmas.List.Elements.{All-map}
 use Rattle.fab_base.specs.Fabric.{Past, past_at, same_enode}
 use Rattle.fc_addresses.specs.Pool as pool
-use Rattle.login_table.specs.Logins.{Logins, login_at, address_of}
+use Rattle.login_table.specs.Logins.{login_at, address_of}
 use Rattle.login_table.specs.declared.login.Login.{Login}
-use Rattle.keepalive_clock.specs.Clock.{VoiceClock, last_of, KeepsLimits}
+use Rattle.keepalive_clock.specs.Clock.{last_of, KeepsLimits}
 use Rattle.keepalive_clock.specs.Voices.{same_voice}
 use Rattle.keepalive_clock.specs.declared.voice.Voice.{Voice}
 use Rattle.keepalive_clock.specs.declared.voice.Voice.TheVariants.{Node, Port}
 use Rattle.ct_messages.specs.Server.{first_values}
-use Rattle.name_server.specs.Registry.{Entry, Registrations, entered, entry_at}
-use Rattle.state_change.specs.Watchers.{Watching, watcher_at}
+use Rattle.name_server.specs.Registry.{Entry, entered, entry_at}
+use Rattle.state_change.specs.Watchers.{watcher_at}
 use Rattle.state_change.specs.declared.watcher.Watcher.{Watcher}
 use Rattle.fab_policy.specs.Changes.{heard_node}
 use Rattle.fab_policy.specs.Logins.{NPort}
@@ -21,6 +21,7 @@ use Rattle.fab_policy.specs.Steps.{fresh}
 use Rattle.fab_roster.specs.Agreement.{Agree, AreSound, IsKnown, IsHeldBy, SpeaksFor}
 use Rattle.fab_roster.specs.Changes.{Grants, IsSize}
 use Rattle.fab_roster.specs.Roll.{live_of, ports_of}
+use Rattle.fab_roster.specs.declared.roster.Roster.TheInside.{Inside}
 use Rattle.fab_roster.proofs.Found.{enode_refl, enode_turned, equal, item_at-key, same, turned, voice_same}
 use Rattle.fab_roster.proofs.Lookups.{port_of_login}
 use Rattle.fab_roster.proofs.SoundLemmas.{roll_of}
@@ -30,72 +31,72 @@ abbrev pub heard_both : ℕ → Login → Voice → Option ℕ → Option ℕ
 heard_both now x v before = if same_voice (Port x.address) v then Some now else if same_voice (Node x.enode) v then Some now else before
 
 -- What the calls say of the tables after them.
-pub record AfterGrant (now : ℕ) (x : Login) (A A' : List Past) (t t' : Logins) (k k' : VoiceClock) (r r' : Registrations) (w : Watching) : Type 0 where
-  pub absent : login_at x.address t.logins ≡ None
+pub record AfterGrant (now : ℕ) (x : Login) (old new : Inside) : Type 0 where
+  pub absent : login_at x.address old.logins.logins ≡ None
   pub server : x.server_size ≡ None
-  pub limit : t'.limit ≡ t.limit
-  pub logins : (b : ℕ) → login_at b t'.logins ≡ (if x.address == b then Some x else login_at b t.logins)
-  pub past : A' ≡ pool.taken A x.address x.name
-  pub addresses : pool.HoldsAddress x.address x.name A A'
-  pub places : pool.addresses A' ≡ pool.addresses A
-  pub limits : KeepsLimits k k'
-  pub voices : (v : Voice) → last_of v k'.voices ≡ heard_both now x v (last_of v k.voices)
-  pub entry_room : r'.room ≡ r.room
-  pub entries : (b : ℕ) → entry_at b r'.entries ≡ (if x.address == b then Some (entered x.address x.node) else entry_at b r.entries)
-  pub sound : AreSound t' k' r' w
+  pub limit : new.logins.limit ≡ old.logins.limit
+  pub logins : (b : ℕ) → login_at b new.logins.logins ≡ (if x.address == b then Some x else login_at b old.logins.logins)
+  pub past : new.pool ≡ pool.taken old.pool x.address x.name
+  pub addresses : pool.HoldsAddress x.address x.name old.pool new.pool
+  pub places : pool.addresses new.pool ≡ pool.addresses old.pool
+  pub limits : KeepsLimits old.voices new.voices
+  pub voices : (v : Voice) → last_of v new.voices.voices ≡ heard_both now x v (last_of v old.voices.voices)
+  pub entry_room : new.registry.room ≡ old.registry.room
+  pub entries : (b : ℕ) → entry_at b new.registry.entries ≡ (if x.address == b then Some (entered x.address x.node) else entry_at b old.registry.entries)
+  pub sound : AreSound new.logins new.voices new.registry old.watchers
 
-module _ (lowest count now : ℕ) (x : Login) (A A' : List Past) (t t' : Logins) (k k' : VoiceClock) (r r' : Registrations) (w : Watching)
-    (agree : Agree lowest count (Some now) A t k r w) (s : AfterGrant now x A A' t t' k k' r r' w) where
+module _ (now : ℕ) (x : Login) (old new : Inside)
+    (agree : Agree old.lowest old.count (Some now) old.pool old.logins old.voices old.registry old.watchers) (s : AfterGrant now x old new) where
   -- a login that was there is at another address
-  other : (b : ℕ) (l : Login) → login_at b t.logins ≡ Some l → x.address == b ≡ false
+  other : (b : ℕ) (l : Login) → login_at b old.logins.logins ≡ Some l → x.address == b ≡ false
   other b l e = go (x.address == b) refl
     where
       go : (c : Bool) → x.address == b ≡ c → c ≡ false
       go false f = refl
-      go true f = let none : login_at b t.logins ≡ None = ap (λ a. login_at a t.logins) (sym (equal x.address b f)) ∙ s.absent in cc
+      go true f = let none : login_at b old.logins.logins ≡ None = ap (λ a. login_at a old.logins.logins) (sym (equal x.address b f)) ∙ s.absent in cc
 
   -- so it stays
-  stays : (b : ℕ) (l : Login) → login_at b t.logins ≡ Some l → login_at b t'.logins ≡ Some l
-  stays b l e = s.logins b ∙ (ap (λ c. if c then Some x else login_at b t.logins) (other b l e) ∙ e)
+  stays : (b : ℕ) (l : Login) → login_at b old.logins.logins ≡ Some l → login_at b new.logins.logins ≡ Some l
+  stays b l e = s.logins b ∙ (ap (λ c. if c then Some x else login_at b old.logins.logins) (other b l e) ∙ e)
 
   -- the new one is there
-  new_at : login_at x.address t'.logins ≡ Some x
-  new_at = s.logins x.address ∙ ap (λ c. if c then Some x else login_at x.address t.logins) (same x.address)
+  new_at : login_at x.address new.logins.logins ≡ Some x
+  new_at = s.logins x.address ∙ ap (λ c. if c then Some x else login_at x.address old.logins.logins) (same x.address)
 
   -- ---- voices
 
-  node_now : last_of (Node x.enode) k'.voices ≡ Some now
-  node_now = s.voices (Node x.enode) ∙ ap (λ c. if c then Some now else last_of (Node x.enode) k.voices) (enode_refl x.enode)
+  node_now : last_of (Node x.enode) new.voices.voices ≡ Some now
+  node_now = s.voices (Node x.enode) ∙ ap (λ c. if c then Some now else last_of (Node x.enode) old.voices.voices) (enode_refl x.enode)
 
-  port_now : last_of (Port x.address) k'.voices ≡ Some now
-  port_now = s.voices (Port x.address) ∙ ap (λ c. if c then Some now else last_of (Port x.address) k.voices) (same x.address)
+  port_now : last_of (Port x.address) new.voices.voices ≡ Some now
+  port_now = s.voices (Port x.address) ∙ ap (λ c. if c then Some now else last_of (Port x.address) old.voices.voices) (same x.address)
 
-  there_still : (v : Voice) → IsSome (last_of v k.voices) → IsSome (last_of v k'.voices)
+  there_still : (v : Voice) → IsSome (last_of v old.voices.voices) → IsSome (last_of v new.voices.voices)
   there_still v h = subst (λ o. IsSome o) (sym (s.voices v)) (go (same_voice (Port x.address) v) (same_voice (Node x.enode) v))
     where
-      go : (b c : Bool) → IsSome (if b then Some now else if c then Some now else last_of v k.voices)
+      go : (b c : Bool) → IsSome (if b then Some now else if c then Some now else last_of v old.voices.voices)
       go true c = refl
       go false true = refl
       go false false = h
 
-  voices_after : (v : Voice) → IsSome (last_of v k'.voices) → (l : Login) × (login_at l.address t'.logins ≡ Some l) × SpeaksFor v l
+  voices_after : (v : Voice) → IsSome (last_of v new.voices.voices) → (l : Login) × (login_at l.address new.logins.logins ≡ Some l) × SpeaksFor v l
   voices_after v h = go (same_voice (Port x.address) v) refl (same_voice (Node x.enode) v) refl (subst (λ o. IsSome o) (s.voices v) h)
     where
-      go : (b : Bool) → same_voice (Port x.address) v ≡ b → (c : Bool) → same_voice (Node x.enode) v ≡ c → IsSome (if b then Some now else if c then Some now else last_of v k.voices) →
-          (l : Login) × (login_at l.address t'.logins ≡ Some l) × SpeaksFor v l
+      go : (b : Bool) → same_voice (Port x.address) v ≡ b → (c : Bool) → same_voice (Node x.enode) v ≡ c → IsSome (if b then Some now else if c then Some now else last_of v old.voices.voices) →
+          (l : Login) × (login_at l.address new.logins.logins ≡ Some l) × SpeaksFor v l
       go true e c f i = (x, new_at, subst (λ u. SpeaksFor u x) (voice_same (Port x.address) v e) refl)
       go false e true f i = (x, new_at, subst (λ u. SpeaksFor u x) (voice_same (Node x.enode) v f) (enode_refl x.enode))
       go false e false f i = let g = agree.voices v i in (g.0, stays g.0.address g.0 g.1, g.2)
 
   -- ---- each login stands in each table
 
-  entry_new : entry_at x.address r'.entries ≡ Some (entered x.address x.node)
-  entry_new = s.entries x.address ∙ ap (λ c. if c then Some (entered x.address x.node) else entry_at x.address r.entries) (same x.address)
+  entry_new : entry_at x.address new.registry.entries ≡ Some (entered x.address x.node)
+  entry_new = s.entries x.address ∙ ap (λ c. if c then Some (entered x.address x.node) else entry_at x.address old.registry.entries) (same x.address)
 
-  entry_stays : (b : ℕ) → x.address == b ≡ false → entry_at b r'.entries ≡ entry_at b r.entries
-  entry_stays b e = s.entries b ∙ ap (λ c. if c then Some (entered x.address x.node) else entry_at b r.entries) e
+  entry_stays : (b : ℕ) → x.address == b ≡ false → entry_at b new.registry.entries ≡ entry_at b old.registry.entries
+  entry_stays b e = s.entries b ∙ ap (λ c. if c then Some (entered x.address x.node) else entry_at b old.registry.entries) e
 
-  known_new : IsKnown k'.voices r'.entries x
+  known_new : IsKnown new.voices.voices new.registry.entries x
   known_new = record {
     node_voice = ap (λ o. is_some o) node_now;
     port_voice = ap (λ o. is_some o) port_now;
@@ -103,14 +104,14 @@ module _ (lowest count now : ℕ) (x : Login) (A A' : List Past) (t t' : Logins)
     size = subst (λ o. IfSome o IsSize) (sym s.server) tt;
   }
 
-  known_after : (b : ℕ) (l : Login) → login_at b t'.logins ≡ Some l → IsKnown k'.voices r'.entries l
+  known_after : (b : ℕ) (l : Login) → login_at b new.logins.logins ≡ Some l → IsKnown new.voices.voices new.registry.entries l
   known_after b l e = go (x.address == b) refl (sym (s.logins b) ∙ e)
     where
-      go : (c : Bool) → x.address == b ≡ c → (if c then Some x else login_at b t.logins) ≡ Some l → IsKnown k'.voices r'.entries l
-      go true f i = let is : x ≡ l = cc in subst (λ m. IsKnown k'.voices r'.entries m) is known_new
+      go : (c : Bool) → x.address == b ≡ c → (if c then Some x else login_at b old.logins.logins) ≡ Some l → IsKnown new.voices.voices new.registry.entries l
+      go true f i = let is : x ≡ l = cc in subst (λ m. IsKnown new.voices.voices new.registry.entries m) is known_new
       go false f i =
           let n = agree.known b l i in
-          let at : l.address ≡ b = item_at-key address_of b t.logins l i in
+          let at : l.address ≡ b = item_at-key address_of b old.logins.logins l i in
           record {
             node_voice = there_still (Node l.enode) n.node_voice;
             port_voice = there_still (Port l.address) n.port_voice;
@@ -118,41 +119,41 @@ module _ (lowest count now : ℕ) (x : Login) (A A' : List Past) (t t' : Logins)
             size = n.size;
           }
 
-  entries_after : (b : ℕ) → IsSome (entry_at b r'.entries) → IsSome (login_at b t'.logins)
+  entries_after : (b : ℕ) → IsSome (entry_at b new.registry.entries) → IsSome (login_at b new.logins.logins)
   entries_after b h = go (x.address == b) refl (subst (λ o. IsSome o) (s.entries b) h)
     where
-      go : (c : Bool) → x.address == b ≡ c → IsSome (if c then Some (entered x.address x.node) else entry_at b r.entries) → IsSome (login_at b t'.logins)
-      go true f i = subst (λ o. IsSome o) (sym (s.logins b ∙ ap (λ c. if c then Some x else login_at b t.logins) f)) refl
-      go false f i = subst (λ o. IsSome o) (sym (s.logins b ∙ ap (λ c. if c then Some x else login_at b t.logins) f)) (agree.entries b i)
+      go : (c : Bool) → x.address == b ≡ c → IsSome (if c then Some (entered x.address x.node) else entry_at b old.registry.entries) → IsSome (login_at b new.logins.logins)
+      go true f i = subst (λ o. IsSome o) (sym (s.logins b ∙ ap (λ c. if c then Some x else login_at b old.logins.logins) f)) refl
+      go false f i = subst (λ o. IsSome o) (sym (s.logins b ∙ ap (λ c. if c then Some x else login_at b old.logins.logins) f)) (agree.entries b i)
 
-  watchers_after : (b : ℕ) (y : Watcher) → watcher_at b w.watchers ≡ Some y → (l : Login) × (login_at b t'.logins ≡ Some l) × (y.name ≡ l.name)
+  watchers_after : (b : ℕ) (y : Watcher) → watcher_at b old.watchers.watchers ≡ Some y → (l : Login) × (login_at b new.logins.logins ≡ Some l) × (y.name ≡ l.name)
   watchers_after b y e = let f = agree.watchers b y e in (f.0, stays b f.0 f.1, f.2)
 
   -- ---- the addresses of the pool
 
-  held_after : (b : ℕ) → IsHeldBy b A' (login_at b t'.logins)
+  held_after : (b : ℕ) → IsHeldBy b new.pool (login_at b new.logins.logins)
   held_after b = go (x.address == b) refl
     where
-      go : (c : Bool) → x.address == b ≡ c → IsHeldBy b A' (login_at b t'.logins)
+      go : (c : Bool) → x.address == b ≡ c → IsHeldBy b new.pool (login_at b new.logins.logins)
       go true f =
-          let past : past_at b A' ≡ Some (pool.held x.address x.name) = s.addresses b ∙ ap (λ c. if c then Some (pool.held x.address x.name) else past_at b A) f in
-          subst (λ o. IsHeldBy b A' o) (sym (s.logins b ∙ ap (λ c. if c then Some x else login_at b t.logins) f))
+          let past : past_at b new.pool ≡ Some (pool.held x.address x.name) = s.addresses b ∙ ap (λ c. if c then Some (pool.held x.address x.name) else past_at b old.pool) f in
+          subst (λ o. IsHeldBy b new.pool o) (sym (s.logins b ∙ ap (λ c. if c then Some x else login_at b old.logins.logins) f))
           (past ∙ ap (λ a. Some (pool.held a x.name)) (equal x.address b f))
       go false f =
-          let past : past_at b A' ≡ past_at b A = s.addresses b ∙ ap (λ c. if c then Some (pool.held x.address x.name) else past_at b A) f in
-          subst (λ o. IsHeldBy b A' o) (sym (s.logins b ∙ ap (λ c. if c then Some x else login_at b t.logins) f))
-          (subst (λ p. MatchOption (login_at b t.logins) (option_map_or (λ q. is_some q.name && is_none q.ended) p false ≡ false) (λ l. p ≡ Some (pool.held b l.name))) (sym past) (agree.held b))
+          let past : past_at b new.pool ≡ past_at b old.pool = s.addresses b ∙ ap (λ c. if c then Some (pool.held x.address x.name) else past_at b old.pool) f in
+          subst (λ o. IsHeldBy b new.pool o) (sym (s.logins b ∙ ap (λ c. if c then Some x else login_at b old.logins.logins) f))
+          (subst (λ p. MatchOption (login_at b old.logins.logins) (option_map_or (λ q. is_some q.name && is_none q.ended) p false ≡ false) (λ l. p ≡ Some (pool.held b l.name))) (sym past) (agree.held b))
 
-  ends_order : pool.AreEndedBy now A'
+  ends_order : pool.AreEndedBy now new.pool
   ends_order = subst (λ l. pool.AreEndedBy now l) (sym s.past)
-      (All-map (λ p. IfSome p.ended (λ end. end ≤ now)) (λ p. if p.address == x.address then pool.held p.address x.name else p) A
-      (λ i d lt. one (slice_index_or A i d) ((slice_index_or A i d).address == x.address) (agree.ended i d lt)))
+      (All-map (λ p. IfSome p.ended (λ end. end ≤ now)) (λ p. if p.address == x.address then pool.held p.address x.name else p) old.pool
+      (λ i d lt. one (slice_index_or old.pool i d) ((slice_index_or old.pool i d).address == x.address) (agree.ended i d lt)))
     where
       one : (p : Past) (b : Bool) → IfSome p.ended (λ end. end ≤ now) → IfSome (if b then pool.held p.address x.name else p).ended (λ end. end ≤ now)
       one p true h = tt
       one p false h = h
 
-  agree_after : Agree lowest count (Some now) A' t' k' r' w
+  agree_after : Agree old.lowest old.count (Some now) new.pool new.logins new.voices new.registry old.watchers
   agree_after = record {
     known = known_after;
     voices = voices_after;
@@ -191,75 +192,75 @@ module _ (lowest count now : ℕ) (x : Login) (A A' : List Past) (t t' : Logins)
   same_made : (l : Login) (s s' n n' p p' : Option ℕ) (y y' : Option Watcher) (e e' : Option Entry) → s ≡ s' → n ≡ n' → p ≡ p' → y ≡ y' → e ≡ e' → made l s n p y e ≡ made l s' n' p' y' e'
   same_made l s s' n n' p p' y y' e e' e1 e2 e3 e4 e5 = cc
 
-  unwatched : watcher_at x.address w.watchers ≡ None
-  unwatched = go (watcher_at x.address w.watchers) refl
+  unwatched : watcher_at x.address old.watchers.watchers ≡ None
+  unwatched = go (watcher_at x.address old.watchers.watchers) refl
     where
-      go : (o : Option Watcher) → watcher_at x.address w.watchers ≡ o → o ≡ None
+      go : (o : Option Watcher) → watcher_at x.address old.watchers.watchers ≡ o → o ≡ None
       go None e = refl
-      go (Some y) e = let f = (agree.watchers x.address y e).1 in let none : login_at x.address t.logins ≡ None = s.absent in cc
+      go (Some y) e = let f = (agree.watchers x.address y e).1 in let none : login_at x.address old.logins.logins ≡ None = s.absent in cc
 
   -- the new one is fresh
-  live_new : live_of k'.voices r'.entries w.watchers x ≡ fresh now x.address n_port
-  live_new = same_made x x.server_size None (last_of (Node x.enode) k'.voices) (Some now) (last_of (Port x.address) k'.voices) (Some now)
-      (watcher_at x.address w.watchers) None (entry_at x.address r'.entries) (Some (entered x.address x.node)) s.server node_now port_now unwatched entry_new
+  live_new : live_of new.voices.voices new.registry.entries old.watchers.watchers x ≡ fresh now x.address n_port
+  live_new = same_made x x.server_size None (last_of (Node x.enode) new.voices.voices) (Some now) (last_of (Port x.address) new.voices.voices) (Some now)
+      (watcher_at x.address old.watchers.watchers) None (entry_at x.address new.registry.entries) (Some (entered x.address x.node)) s.server node_now port_now unwatched entry_new
 
   -- another is heard with its ENode
-  live_other : (b : ℕ) (l : Login) → login_at b t.logins ≡ Some l → live_of k'.voices r'.entries w.watchers l ≡ heard_node x.enode now (live_of k.voices r.entries w.watchers l)
+  live_other : (b : ℕ) (l : Login) → login_at b old.logins.logins ≡ Some l → live_of new.voices.voices new.registry.entries old.watchers.watchers l ≡ heard_node x.enode now (live_of old.voices.voices old.registry.entries old.watchers.watchers l)
   live_other b l e =
-      let apart : x.address == l.address ≡ false = ap (λ a. x.address == a) (item_at-key address_of b t.logins l e) ∙ other b l e in
-      same_made l l.server_size l.server_size (last_of (Node l.enode) k'.voices) (if same_enode l.enode x.enode then Some now else last_of (Node l.enode) k.voices)
-      (last_of (Port l.address) k'.voices) (last_of (Port l.address) k.voices) (watcher_at l.address w.watchers) (watcher_at l.address w.watchers) (entry_at l.address r'.entries) (entry_at l.address r.entries)
+      let apart : x.address == l.address ≡ false = ap (λ a. x.address == a) (item_at-key address_of b old.logins.logins l e) ∙ other b l e in
+      same_made l l.server_size l.server_size (last_of (Node l.enode) new.voices.voices) (if same_enode l.enode x.enode then Some now else last_of (Node l.enode) old.voices.voices)
+      (last_of (Port l.address) new.voices.voices) (last_of (Port l.address) old.voices.voices) (watcher_at l.address old.watchers.watchers) (watcher_at l.address old.watchers.watchers) (entry_at l.address new.registry.entries) (entry_at l.address old.registry.entries)
       refl
-      (s.voices (Node l.enode) ∙ ap (λ c. if c then Some now else last_of (Node l.enode) k.voices) (enode_turned x.enode l.enode))
-      (s.voices (Port l.address) ∙ ap (λ c. if c then Some now else last_of (Port l.address) k.voices) apart)
+      (s.voices (Node l.enode) ∙ ap (λ c. if c then Some now else last_of (Node l.enode) old.voices.voices) (enode_turned x.enode l.enode))
+      (s.voices (Port l.address) ∙ ap (λ c. if c then Some now else last_of (Port l.address) old.voices.voices) apart)
       refl
       (entry_stays l.address apart)
       ∙ by_node (same_enode l.enode x.enode)
     where
-      by_node : (c : Bool) → made l l.server_size (if c then Some now else last_of (Node l.enode) k.voices) (last_of (Port l.address) k.voices) (watcher_at l.address w.watchers) (entry_at l.address r.entries)
-          ≡ (if c then record (live_of k.voices r.entries w.watchers l) { node_heard = now } else live_of k.voices r.entries w.watchers l)
+      by_node : (c : Bool) → made l l.server_size (if c then Some now else last_of (Node l.enode) old.voices.voices) (last_of (Port l.address) old.voices.voices) (watcher_at l.address old.watchers.watchers) (entry_at l.address old.registry.entries)
+          ≡ (if c then record (live_of old.voices.voices old.registry.entries old.watchers.watchers l) { node_heard = now } else live_of old.voices.voices old.registry.entries old.watchers.watchers l)
       by_node true = refl
       by_node false = refl
 
-  ports_after : (b : ℕ) → port_at b (ports_of k'.voices r'.entries w.watchers t'.logins)
-      ≡ (if b == x.address then Some (fresh now x.address n_port) else option_map (heard_node x.enode now) (port_at b (ports_of k.voices r.entries w.watchers t.logins)))
-  ports_after b = port_of_login k'.voices r'.entries w.watchers t'.logins b
+  ports_after : (b : ℕ) → port_at b (ports_of new.voices.voices new.registry.entries old.watchers.watchers new.logins.logins)
+      ≡ (if b == x.address then Some (fresh now x.address n_port) else option_map (heard_node x.enode now) (port_at b (ports_of old.voices.voices old.registry.entries old.watchers.watchers old.logins.logins)))
+  ports_after b = port_of_login new.voices.voices new.registry.entries old.watchers.watchers new.logins.logins b
       ∙ (go (x.address == b) refl
-      ∙ (ap (λ o. if x.address == b then Some (fresh now x.address n_port) else option_map (heard_node x.enode now) o) (sym (port_of_login k.voices r.entries w.watchers t.logins b))
-      ∙ ap (λ c. if c then Some (fresh now x.address n_port) else option_map (heard_node x.enode now) (port_at b (ports_of k.voices r.entries w.watchers t.logins))) (turned x.address b)))
+      ∙ (ap (λ o. if x.address == b then Some (fresh now x.address n_port) else option_map (heard_node x.enode now) o) (sym (port_of_login old.voices.voices old.registry.entries old.watchers.watchers old.logins.logins b))
+      ∙ ap (λ c. if c then Some (fresh now x.address n_port) else option_map (heard_node x.enode now) (port_at b (ports_of old.voices.voices old.registry.entries old.watchers.watchers old.logins.logins))) (turned x.address b)))
     where
-      each : (o : Option Login) → login_at b t.logins ≡ o → option_map (live_of k'.voices r'.entries w.watchers) o ≡ option_map (heard_node x.enode now) (option_map (live_of k.voices r.entries w.watchers) o)
+      each : (o : Option Login) → login_at b old.logins.logins ≡ o → option_map (live_of new.voices.voices new.registry.entries old.watchers.watchers) o ≡ option_map (heard_node x.enode now) (option_map (live_of old.voices.voices old.registry.entries old.watchers.watchers) o)
       each None e = refl
       each (Some l) e = ap (λ p. Some p) (live_other b l e)
 
-      go : (c : Bool) → x.address == b ≡ c → option_map (live_of k'.voices r'.entries w.watchers) (login_at b t'.logins)
-          ≡ (if x.address == b then Some (fresh now x.address n_port) else option_map (heard_node x.enode now) (option_map (live_of k.voices r.entries w.watchers) (login_at b t.logins)))
-      go true e = ap (λ o. option_map (live_of k'.voices r'.entries w.watchers) o) (s.logins b ∙ ap (λ c. if c then Some x else login_at b t.logins) e)
+      go : (c : Bool) → x.address == b ≡ c → option_map (live_of new.voices.voices new.registry.entries old.watchers.watchers) (login_at b new.logins.logins)
+          ≡ (if x.address == b then Some (fresh now x.address n_port) else option_map (heard_node x.enode now) (option_map (live_of old.voices.voices old.registry.entries old.watchers.watchers) (login_at b old.logins.logins)))
+      go true e = ap (λ o. option_map (live_of new.voices.voices new.registry.entries old.watchers.watchers) o) (s.logins b ∙ ap (λ c. if c then Some x else login_at b old.logins.logins) e)
           ∙ (ap (λ p. Some p) live_new
-          ∙ ap (λ c. if c then Some (fresh now x.address n_port) else option_map (heard_node x.enode now) (option_map (live_of k.voices r.entries w.watchers) (login_at b t.logins))) (sym e))
-      go false e = ap (λ o. option_map (live_of k'.voices r'.entries w.watchers) o) (s.logins b ∙ ap (λ c. if c then Some x else login_at b t.logins) e)
-          ∙ (each (login_at b t.logins) refl
-          ∙ ap (λ c. if c then Some (fresh now x.address n_port) else option_map (heard_node x.enode now) (option_map (live_of k.voices r.entries w.watchers) (login_at b t.logins))) (sym e))
+          ∙ ap (λ c. if c then Some (fresh now x.address n_port) else option_map (heard_node x.enode now) (option_map (live_of old.voices.voices old.registry.entries old.watchers.watchers) (login_at b old.logins.logins))) (sym e))
+      go false e = ap (λ o. option_map (live_of new.voices.voices new.registry.entries old.watchers.watchers) o) (s.logins b ∙ ap (λ c. if c then Some x else login_at b old.logins.logins) e)
+          ∙ (each (login_at b old.logins.logins) refl
+          ∙ ap (λ c. if c then Some (fresh now x.address n_port) else option_map (heard_node x.enode now) (option_map (live_of old.voices.voices old.registry.entries old.watchers.watchers) (login_at b old.logins.logins))) (sym e))
 
 -- ---- the two goals of the call, over plain tables
 
-module _ (lowest count limit period now : ℕ) (clock : Option ℕ) (x : Login) (A A' : List Past) (t t' : Logins) (k k' : VoiceClock) (r r' : Registrations) (w : Watching) where
-  pub grant_keeps : clock ≡ Some now → Agree lowest count clock A t k r w × (t.limit ≡ limit) × (k.node_period ≡ period) → AfterGrant now x A A' t t' k k' r r' w →
-      Agree lowest count clock A' t' k' r' w × (t'.limit ≡ limit) × (k'.node_period ≡ period)
+module _ (now : ℕ) (x : Login) (old new : Inside) where
+  pub grant_keeps : old.clock ≡ Some now → Agree old.lowest old.count old.clock old.pool old.logins old.voices old.registry old.watchers × (old.logins.limit ≡ old.limit) × (old.voices.node_period ≡ old.period) → AfterGrant now x old new →
+      Agree old.lowest old.count old.clock new.pool new.logins new.voices new.registry old.watchers × (new.logins.limit ≡ old.limit) × (new.voices.node_period ≡ old.period)
   grant_keeps e h s =
-      let was = subst (λ o. Agree lowest count o A t k r w) e h.0 in (
-        subst (λ o. Agree lowest count o A' t' k' r' w) (sym e) (agree_after lowest count now x A A' t t' k k' r r' w was s),
+      let was = subst (λ o. Agree old.lowest old.count o old.pool old.logins old.voices old.registry old.watchers) e h.0 in (
+        subst (λ o. Agree old.lowest old.count o new.pool new.logins new.voices new.registry old.watchers) (sym e) (agree_after now x old new was s),
         s.limit ∙ h.1,
         s.limits.node_period ∙ h.2,
       )
 
-  pub grant_grants : clock ≡ Some now → Agree lowest count clock A t k r w × (t.limit ≡ limit) × (k.node_period ≡ period) → AfterGrant now x A A' t t' k k' r r' w →
-      Grants x.address (record { name = x.name; node = x.node; enode = x.enode }) (roll_of lowest count limit period clock A t k r w) (roll_of lowest count limit period clock A' t' k' r' w)
+  pub grant_grants : old.clock ≡ Some now → Agree old.lowest old.count old.clock old.pool old.logins old.voices old.registry old.watchers × (old.logins.limit ≡ old.limit) × (old.voices.node_period ≡ old.period) → AfterGrant now x old new →
+      Grants x.address (record { name = x.name; node = x.node; enode = x.enode }) (roll_of old.lowest old.count old.limit old.period old.clock old.pool old.logins old.voices old.registry old.watchers) (roll_of old.lowest old.count old.limit old.period old.clock new.pool new.logins new.voices new.registry old.watchers)
   grant_grants e h s = record {
     bounds = record { lowest = refl; count = refl; limit = refl; period = refl };
     clock = refl;
     past = s.past;
-    ports = λ b. ports_after lowest count now x A A' t t' k k' r r' w (subst (λ o. Agree lowest count o A t k r w) e h.0) s b
-        ∙ ap (λ (n : ℕ). if b == x.address then Some (fresh n x.address (record { name = x.name; node = x.node; enode = x.enode })) else option_map (heard_node x.enode n) (port_at b (ports_of k.voices r.entries w.watchers t.logins)))
+    ports = λ b. ports_after now x old new (subst (λ o. Agree old.lowest old.count o old.pool old.logins old.voices old.registry old.watchers) e h.0) s b
+        ∙ ap (λ (n : ℕ). if b == x.address then Some (fresh n x.address (record { name = x.name; node = x.node; enode = x.enode })) else option_map (heard_node x.enode n) (port_at b (ports_of old.voices.voices old.registry.entries old.watchers.watchers old.logins.logins)))
         (ap (λ (o : Option ℕ). unwrap_or o 0) (sym e));
   }

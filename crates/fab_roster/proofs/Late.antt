@@ -1,31 +1,22 @@
 -- Who is overdue, by a walk over all N_Ports.
-use Rattle.std.proofs.Common.{◌≡◌, ℕ, ◌+◌, ◌||◌, Bool, true, false, cond, List, [], ◌∷◌, ◌++◌, filter, Some, refl, sym, ap, ◌∙◌}
+use Rattle.std.proofs.Common.{◌≡◌, ℕ, ◌||◌, not, if◌then◌else◌, Bool, true, false, cond, List, [], ◌∷◌, map, filter, refl, sym, ap, ◌∙◌}
+use mathlib.Core.Bool.{beq}
 use Rattle.std.specs.List.{list_any}
-use Rattle.fab_base.specs.Fabric.{is_silent, PORT_PERIOD}
 use Rattle.fab_config.specs.Settings.{Settings}
-use Rattle.fab_policy.specs.State.{LivePort, addresses, is_overdue, overdue, port_at}
-use Rattle.fab_roster.specs.Changes.{has_overdue}
-use Rattle.fab_roster.specs.Roll.{Roll}
-use Rattle.fab_roster.proofs.Ports.{address}
-use Rattle.fab_roster.proofs.Walks.{IsNext, Walked, walk_takes, walk_passes, makes_one, makes_none}
+use Rattle.fab_policy.specs.State.{LivePort, is_overdue, overdue}
+use Rattle.fab_roster.specs.Changes.{has_overdue, is_late}
+use Rattle.fab_roster.specs.Roll.{Roll, login_of}
 
--- an N_Port is overdue at a moment, by the period of ENodes
-abbrev pub is_late : ℕ → ℕ → LivePort → Bool
-is_late period m p = is_silent period p.node_heard m || is_silent PORT_PERIOD p.port_heard m
+-- the test of being overdue, or of not being it
+abbrev pub is_so : Bool → ℕ → ℕ → LivePort → Bool
+is_so late period m p = if late then is_late period m p else not (is_late period m p)
 
-abbrev pub late : ℕ → ℕ → List LivePort → List ℕ
-late period m ports = addresses (filter (is_late period m) ports)
-
-module _ (period m from a v : ℕ) (ports : List LivePort) (out new : List ℕ) (b : Bool) (n : IsNext address from ports a) (test : (p : LivePort) → port_at a ports ≡ Some p → b ≡ is_late period m p) where
-  pub one_late : b ≡ true → v ≡ a → new ≡ out ++ a ∷ [] → Walked address (late period m) from ports out → Walked address (late period m) (v + 1) ports new
-  one_late is at grown so_far =
-      walk_takes address (late period m) from a v ports out new a n
-      (λ ps. makes_one address (is_late period m) n.item (sym (test n.item n.found) ∙ is) ps ∙ ap (λ x. x ∷ late period m ps) n.at)
-      at grown so_far
-
-  pub none_late : b ≡ false → v ≡ a → new ≡ out → Walked address (late period m) from ports out → Walked address (late period m) (v + 1) ports new
-  none_late is at same so_far =
-      walk_passes address (late period m) from a v ports out new n (makes_none address (is_late period m) n.item (sym (test n.item n.found) ∙ is)) at same so_far
+-- a result is compared with the one that is wanted
+pub so_is : (late b t x : Bool) → b ≡ t → beq b late ≡ x → (if late then t else not t) ≡ x
+so_is true true t x e f = sym e ∙ f
+so_is true false t x e f = sym e ∙ f
+so_is false true t x e f = ap not (sym e) ∙ f
+so_is false false t x e f = ap not (sym e) ∙ f
 
 -- where nobody passes a test, none is left by it
 pub filter-nobody : {X : Type 0} (p : X → Bool) (xs : List X) → list_any p xs ≡ false → filter p xs ≡ []
@@ -36,11 +27,11 @@ filter-nobody p (x ∷ xs) nobody = go (p x) refl nobody (filter-nobody p xs)
     go true e none others = cc
     go false e none others = ap (λ b. cond b (x ∷ filter p xs) (filter p xs)) e ∙ others none
 
--- where nobody is overdue, or nobody is live, no address is
+-- where nobody is overdue, or nobody is live, no login is
 module _ (R : Roll) (m : ℕ) (s : Settings) (same : s.period ≡ R.period) where
-  pub nobody_overdue : has_overdue R m ≡ false → [] ≡ addresses (overdue s R.tables m)
-  nobody_overdue nobody = sym (ap addresses (filter-nobody (is_overdue s m) R.tables.ports
+  pub nobody_overdue : has_overdue R m ≡ false → [] ≡ map login_of (overdue s R.tables m)
+  nobody_overdue nobody = sym (ap (map login_of) (filter-nobody (is_overdue s m) R.tables.ports
       (ap (λ n. list_any (is_late n m) R.tables.ports) same ∙ nobody)))
 
-  pub nobody_live : R.tables.ports ≡ [] → [] ≡ addresses (overdue s R.tables m)
-  nobody_live none = sym (ap (λ ps. addresses (filter (is_overdue s m) ps)) none)
+  pub nobody_live : R.tables.ports ≡ [] → [] ≡ map login_of (overdue s R.tables m)
+  nobody_live none = sym (ap (λ ps. map login_of (filter (is_overdue s m) ps)) none)

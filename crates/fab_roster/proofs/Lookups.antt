@@ -8,7 +8,7 @@ use Rattle.name_server.specs.Registry.{Entry}
 use Rattle.state_change.specs.declared.watcher.Watcher.{Watcher}
 use Rattle.fab_policy.specs.State.{LivePort, port_at}
 use Rattle.fab_roster.specs.Roll.{live_of, ports_of, login_of}
-use Rattle.fab_roster.proofs.Found.{some_found}
+use Rattle.fab_roster.proofs.Found.{item_at-key, some_found}
 
 -- a list whose items are changed and pass as before
 pub find_map : {X Y : Type 0} (f : X → Y) (p : Y → Bool) (q : X → Bool) (xs : List X) → ((x : X) → p (f x) ≡ q x) → find p (map f xs) ≡ option_map f (find q xs)
@@ -30,6 +30,20 @@ option_map-map g f (Some x) = refl
 pub option_map-same : {X : Type 0} (f : X → X) (o : Option X) → ((x : X) → f x ≡ x) → option_map f o ≡ o
 option_map-same f None same = refl
 option_map-same f (Some x) same = ap (λ y. Some y) (same x)
+
+-- the login that is found has the address, and is found there
+pub found_login : (a : ℕ) (ports : List LivePort) (l : Login) → Some l ≡ option_map login_of (port_at a ports) → (l.address ≡ a) × (option_map login_of (port_at l.address ports) ≡ Some l)
+found_login a ports l e =
+    let at = go (port_at a ports) refl e in
+    (at, ap (λ b. option_map login_of (port_at b ports)) at ∙ sym e)
+  where
+    go : (o : Option LivePort) → port_at a ports ≡ o → Some l ≡ option_map login_of o → l.address ≡ a
+    go None f i = cc
+    go (Some p) f i = let is : l ≡ login_of p = cc in ap (λ (x : Login). x.address) is ∙ item_at-key (λ (x : LivePort). x.address) a ports p f
+
+pub none_found : {X : Type 0} (f : LivePort → X) (o : Option LivePort) → None ≡ option_map login_of o → None ≡ option_map f o
+none_found f None e = refl
+none_found f (Some p) e = cc
 
 module _ (V : List LastHeard) (R : List Entry) (W : List Watcher) (ls : List Login) where
   -- the N_Port of an address is what the tables say of its login
@@ -71,3 +85,7 @@ module _ (V : List LastHeard) (R : List Entry) (W : List Watcher) (ls : List Log
   -- and an address with a login is live
   pub live_there : (a : ℕ) (l : Login) → login_at a ls ≡ Some l → port_at a (ports_of V R W ls) ≡ Some (live_of V R W l)
   live_there a l e = port_of_login a ∙ ap (λ o. option_map (live_of V R W) o) e
+
+  -- the login that the N_Port of an address shows stands in the table
+  pub login_in : (a : ℕ) (l : Login) (ports : List LivePort) → ports_of V R W ls ≡ ports → option_map login_of (port_at a ports) ≡ Some l → login_at a ls ≡ Some l
+  login_in a l ports same e = login_of_port a ∙ (ap (λ ps. option_map login_of (port_at a ps)) same ∙ e)

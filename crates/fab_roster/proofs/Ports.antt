@@ -1,20 +1,15 @@
 -- The N_Ports of a roll ascend, and a walk over the logins is a walk over them.
-use Rattle.std.proofs.Common.{◌≡◌, ℕ, ◌+◌, ◌&&◌, nat_le, Bool, true, false, cond, List, [], ◌∷◌, find, Option, Some, option_map, sym, ap, ◌∙◌, refl, subst}
-use Rattle.fab_base.specs.Fabric.{Past}
+use Rattle.std.proofs.Common.{◌≡◌, ℕ, ◌+◌, ◌&&◌, nat_le, Bool, true, false, cond, List, [], ◌∷◌, find, Some, option_map, sym, ap, ◌∙◌, refl}
 use Rattle.fab_base.specs.Keyed.{AscendFrom}
-use Rattle.keepalive_clock.specs.Clock.{VoiceClock}
 use Rattle.keepalive_clock.specs.declared.voice.LastHeard.{LastHeard}
 use Rattle.login_table.specs.Logins as logins
 use Rattle.login_table.specs.Logins.{Logins, next_of}
 use Rattle.login_table.specs.declared.login.Login.{Login}
-use Rattle.name_server.specs.Registry.{Entry, Registrations}
-use Rattle.state_change.specs.Watchers.{Watching}
+use Rattle.name_server.specs.Registry.{Entry}
 use Rattle.state_change.specs.declared.watcher.Watcher.{Watcher}
 use Rattle.fab_policy.specs.State.{LivePort}
-use Rattle.fab_roster.specs.Agreement.{Agree}
+use Rattle.fab_roster.specs.Changes.{IsSoundRoll}
 use Rattle.fab_roster.specs.Roll.{Roll, ports_of}
-use Rattle.fab_roster.proofs.Lookups.{next_port}
-use Rattle.fab_roster.proofs.SoundLemmas.{roll_of}
 use Rattle.fab_roster.proofs.Walks.{IsNext, first_key, next_some}
 
 -- the key of an N_Port
@@ -25,18 +20,13 @@ pub ports_ascend : (V : List LastHeard) (R : List Entry) (W : List Watcher) (fro
 ports_ascend V R W from [] ascend = tt
 ports_ascend V R W from (l ∷ ls) ascend = (ascend.0, ports_ascend V R W (l.address + 1) ls ascend.1)
 
-and_true : (b : Bool) → b ≡ b && true
+pub and_true : (b : Bool) → b ≡ b && true
 and_true true = refl
 and_true false = refl
 
-module _ (lowest count limit period : ℕ) (clock : Option ℕ) (A : List Past) (t : Logins) (k : VoiceClock) (r : Registrations) (w : Watching) (R : Roll) (view : roll_of lowest count limit period clock A t k r w ≡ R) where
-  pub roll_ascends : Agree lowest count clock A t k r w → AscendFrom address 0 R.tables.ports
-  roll_ascends agree = subst (λ (x : Roll). AscendFrom address 0 x.tables.ports) view (ports_ascend k.voices r.entries w.watchers 0 t.logins agree.sound.logins.ascending)
-
-  pub next_of_roll : (from : ℕ) → next_of (λ l. true) from t.logins ≡ first_key address from R.tables.ports
-  next_of_roll from =
-      next_port k.voices r.entries w.watchers t.logins from (λ p. nat_le from p.address) (λ l. true) (λ (l : Login). and_true (nat_le from l.address))
-      ∙ ap (λ (x : Roll). first_key address from x.tables.ports) view
+-- the next N_Port of a sound roll
+pub next_port_of : (R : Roll) (from a : ℕ) → IsSoundRoll R → Some a ≡ first_key address from R.tables.ports → IsNext address from R.tables.ports a
+next_port_of R from a sound is = next_some address R.lowest from a R.tables.ports sound.ascending.0 is
 
 -- ---- a walk over the logins
 

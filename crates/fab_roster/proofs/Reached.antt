@@ -1,5 +1,5 @@
 -- Whom a change reaches, by the watchers and by the N_Ports.
-use Rattle.std.proofs.Common.{◌≡◌, ℕ, ◌+◌, ◌&&◌, Bool, true, false, cond, not, List, [], ◌∷◌, ◌++◌, map, filter, Option, Some, None, option_map, unwrap_or, refl, sym, ap, ◌∙◌}
+use Rattle.std.proofs.Common.{◌≡◌, ℕ, ◌&&◌, Bool, true, false, cond, not, List, [], ◌∷◌, map, filter, Option, Some, None, option_map, unwrap_or, refl, sym, ap, ◌∙◌}
 use Rattle.std.proofs.Math.Bool.{and_assoc}
 use Rattle.std.specs.Option.{option_map_or}
 use Rattle.fab_base.proofs.KeyedLemmas.{AscendFrom-filter, AscendFrom-keys, list_any-keys-filter, equal_by_members}
@@ -20,29 +20,16 @@ use Rattle.fab_policy.specs.Outputs.{is_watcher}
 use Rattle.fab_policy.specs.State.{LivePort, addresses, now_of}
 use Rattle.fab_roster.specs.Agreement.{Agree}
 use Rattle.fab_roster.specs.Reaching.{zones_of, told_at, told_between}
-use Rattle.fab_roster.specs.Roll.{Roll, live_of, ports_of}
+use Rattle.fab_roster.specs.Roll.{Roll, live_of, login_of, ports_of}
 use Rattle.fab_roster.proofs.Found.{item_at-key}
 use Rattle.fab_roster.proofs.Lookups.{port_of_login}
 use Rattle.fab_roster.proofs.Ports.{address, ports_ascend}
 use Rattle.fab_roster.proofs.SoundLemmas.{roll_of}
-use Rattle.fab_roster.proofs.Walks.{IsNext, Walked, walk_takes, walk_passes, makes_one, makes_none}
+use Rattle.fab_roster.proofs.Walks.{picked}
 
 -- the addresses of watchers, but for these
 abbrev pub left : List ℕ → List Watcher → List ℕ
-left but ws = map address_of (filter (λ w. not (contains w.address but)) ws)
-
-module _ (but : List ℕ) (from a v : ℕ) (ws : List Watcher) (out new : List ℕ) (b : Bool) where
-  pub one_more : IsNext address_of from ws a → b ≡ contains a but → b ≡ false → v ≡ a → new ≡ out ++ a ∷ [] → Walked address_of (left but) from ws out → Walked address_of (left but) (v + 1) ws new
-  one_more n is other at grown so_far =
-      let stays : not (contains (address_of n.item) but) ≡ true = ap (λ x. not (contains x but)) n.at ∙ ap not (sym is ∙ other) in
-      walk_takes address_of (left but) from a v ws out new a n
-      (λ ys. makes_one address_of (λ w. not (contains w.address but)) n.item stays ys ∙ ap (λ x. x ∷ left but ys) n.at)
-      at grown so_far
-
-  pub none_more : IsNext address_of from ws a → b ≡ contains a but → b ≡ true → v ≡ a → new ≡ out → Walked address_of (left but) from ws out → Walked address_of (left but) (v + 1) ws new
-  none_more n is among at same so_far =
-      let goes : not (contains (address_of n.item) but) ≡ false = ap (λ x. not (contains x but)) n.at ∙ ap not (sym is ∙ among) in
-      walk_passes address_of (left but) from a v ws out new n (makes_none address_of (λ w. not (contains w.address but)) n.item goes) at same so_far
+left but ws = picked address_of (λ w. not (contains w.address but)) ws
 
 -- ---- tests
 
@@ -132,14 +119,14 @@ module _ (lowest count : ℕ) (clock : Option ℕ) (A : List Past) (t : Logins) 
         ∙ (left_are_told but (λ n. differs s.zones s.sets s.activations before at n name)
         ∙ ap (λ (x : Roll). addresses (told_between s x.tables before at name but)) view)
 
--- the addresses of the N_Ports that pass a test of their logins
-pub login_addresses : (V : List LastHeard) (R : List Entry) (W : List Watcher) (p : LivePort → Bool) (q : Login → Bool) → ((l : Login) → p (live_of V R W l) ≡ q l) → (ls : List Login) →
-    map logins.address_of (filter q ls) ≡ addresses (filter p (ports_of V R W ls))
-login_addresses V R W p q as_login [] = refl
-login_addresses V R W p q as_login (l ∷ ls) =
-    go (q l) (login_addresses V R W p q as_login ls) ∙ ap (λ b. addresses (cond b (live_of V R W l ∷ filter p (ports_of V R W ls)) (filter p (ports_of V R W ls)))) (sym (as_login l))
+-- the logins of the N_Ports that pass a test of their logins
+pub logins_pass : (V : List LastHeard) (R : List Entry) (W : List Watcher) (p : LivePort → Bool) (q : Login → Bool) → ((l : Login) → p (live_of V R W l) ≡ q l) → (ls : List Login) →
+    filter q ls ≡ map login_of (filter p (ports_of V R W ls))
+logins_pass V R W p q as_login [] = refl
+logins_pass V R W p q as_login (l ∷ ls) =
+    go (q l) (logins_pass V R W p q as_login ls) ∙ ap (λ b. map login_of (cond b (live_of V R W l ∷ filter p (ports_of V R W ls)) (filter p (ports_of V R W ls)))) (sym (as_login l))
   where
-    go : (b : Bool) → map logins.address_of (filter q ls) ≡ addresses (filter p (ports_of V R W ls)) →
-        map logins.address_of (cond b (l ∷ filter q ls) (filter q ls)) ≡ addresses (cond b (live_of V R W l ∷ filter p (ports_of V R W ls)) (filter p (ports_of V R W ls)))
-    go true others = ap (λ ids. l.address ∷ ids) others
+    go : (b : Bool) → filter q ls ≡ map login_of (filter p (ports_of V R W ls)) →
+        cond b (l ∷ filter q ls) (filter q ls) ≡ map login_of (cond b (live_of V R W l ∷ filter p (ports_of V R W ls)) (filter p (ports_of V R W ls)))
+    go true others = ap (λ ls. l ∷ ls) others
     go false others = others

@@ -27,7 +27,7 @@ use Rattle.fab_roster.specs.Roll.{Roll, live_of, ports_of}
 use Rattle.fab_roster.proofs.Found.{All-item_at, same}
 use Rattle.fab_roster.proofs.Lookups.{find_map, live_there}
 use Rattle.fab_roster.proofs.SoundLemmas.{roll_of}
-use Rattle.fab_roster.proofs.Walks.{IsNext, Walked, walk_takes, walk_passes, makes_one, makes_none}
+use Rattle.fab_roster.proofs.Walks.{IsNext, Walked, one_picked, none_picked}
 
 -- what a login sees of others at a moment
 abbrev pub seen_of : Settings → ZoneRules → ℕ → Login → List Login → List SeenPort
@@ -45,15 +45,11 @@ module _ (c : Settings) (z : ZoneRules) (at : ℕ) (asker : Login) (from a v : �
 
   pub one_seen : b ≡ true → v ≡ a → new ≡ out ++ seen_port c l ∷ [] → Walked address_of (seen_of c z at asker) from ls out → Walked address_of (seen_of c z at asker) (v + 1) ls new
   one_seen passes is grown so_far =
-      walk_takes address_of (seen_of c z at asker) from a v ls out new (seen_port c l) n
-      (λ ys. makes_one (seen_port c) (may_see z at asker) n.item (sym (ap (may_see z at asker) is_item) ∙ (sym test ∙ passes)) ys ∙ ap (λ x. seen_port c x ∷ seen_of c z at asker ys) (sym is_item))
-      is grown so_far
+      one_picked address_of (seen_port c) (may_see z at asker) from a v ls out new n (seen_port c l) (ap (seen_port c) is_item) (sym (ap (may_see z at asker) is_item) ∙ (sym test ∙ passes)) is grown so_far
 
   pub none_seen : b ≡ false → v ≡ a → new ≡ out → Walked address_of (seen_of c z at asker) from ls out → Walked address_of (seen_of c z at asker) (v + 1) ls new
   none_seen fails is unchanged so_far =
-      walk_passes address_of (seen_of c z at asker) from a v ls out new n
-      (makes_none (seen_port c) (may_see z at asker) n.item (sym (ap (may_see z at asker) is_item) ∙ (sym test ∙ fails)))
-      is unchanged so_far
+      none_picked address_of (seen_port c) (may_see z at asker) from a v ls out new n (sym (ap (may_see z at asker) is_item) ∙ (sym test ∙ fails)) is unchanged so_far
 
 -- the next login is the one that is found at its address
 pub found_address : (from a : ℕ) (ls : List Login) (l : Login) → IsNext address_of from ls a → Some l ≡ login_at a ls → l.address ≡ a

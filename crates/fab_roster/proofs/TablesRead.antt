@@ -70,9 +70,6 @@ module _ (lowest count : ℕ) (clock : Option ℕ) (A : List Past) (t : Logins) 
 
   -- ---- voices
 
-  pub heard_none : (a : ℕ) → login_at a t.logins ≡ None → None ≡ option_map heard_of (port_at a ports)
-  heard_none a none = sym (ap (λ o. option_map heard_of o) (port_of_login k.voices r.entries w.watchers t.logins a ∙ ap (λ o. option_map live o) none))
-
   pub heard_there : (a n p : ℕ) (l : Login) → login_at a t.logins ≡ Some l → last_of (Node l.enode) k.voices ≡ Some n → last_of (Port a) k.voices ≡ Some p →
       (let m : ℕ × ℕ = (n, p) in Some m ≡ option_map heard_of (port_at a ports))
   heard_there a n p l e node port =

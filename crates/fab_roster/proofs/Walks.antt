@@ -112,11 +112,17 @@ module _ {X : Type 0} (key : X → ℕ) where
 pub walk_goes_on : (from a v : ℕ) → from ≤ a → v ≡ a → v < 2 ^ 24 → 2 ^ 24 - (v + 1) < 2 ^ 24 - from
 walk_goes_on from a v above at range = omega arith
 
--- ---- what passes a test
+-- ---- those that pass a test, each made into another
 
-module _ {X Z : Type 0} (f : X → Z) (q : X → Bool) where
-  pub makes_one : (x : X) → q x ≡ true → (ys : List X) → map f (filter q (x ∷ ys)) ≡ f x ∷ map f (filter q ys)
-  makes_one x passes ys = ap (λ b. map f (cond b (x ∷ filter q ys) (filter q ys))) passes
+abbrev pub picked : {X Z : Type 0} → (X → Z) → (X → Bool) → List X → List Z
+picked f q xs = map f (filter q xs)
 
-  pub makes_none : (x : X) → q x ≡ false → (ys : List X) → map f (filter q (x ∷ ys)) ≡ map f (filter q ys)
-  makes_none x fails ys = ap (λ b. map f (cond b (x ∷ filter q ys) (filter q ys))) fails
+module _ {X Z : Type 0} (key : X → ℕ) (f : X → Z) (q : X → Bool) (from a v : ℕ) (xs : List X) (out new : List Z) (n : IsNext key from xs a) where
+  pub one_picked : (z : Z) → z ≡ f n.item → q n.item ≡ true → v ≡ a → new ≡ out ++ z ∷ [] → Walked key (picked f q) from xs out → Walked key (picked f q) (v + 1) xs new
+  one_picked z is passes at grown so_far =
+      walk_takes key (picked f q) from a v xs out new z n
+      (λ ys. ap (λ b. map f (cond b (n.item ∷ filter q ys) (filter q ys))) passes ∙ ap (λ y. y ∷ picked f q ys) (sym is)) at grown so_far
+
+  pub none_picked : q n.item ≡ false → v ≡ a → new ≡ out → Walked key (picked f q) from xs out → Walked key (picked f q) (v + 1) xs new
+  none_picked fails at same so_far =
+      walk_passes key (picked f q) from a v xs out new n (λ ys. ap (λ b. map f (cond b (n.item ∷ filter q ys) (filter q ys))) fails) at same so_far

@@ -70,9 +70,13 @@ pub record IsSoundRoll (r : Roll) : Type 0 where
   pub features : All (λ p. length p.values.features ≡ 256) r.tables.ports
   pub held : (a : ℕ) (p : LivePort) → port_at a r.tables.ports ≡ Some p → past_at a r.tables.past ≡ Some (record { address = a; name = Some p.name; ended = None })
 
+-- an N_Port is overdue at a moment, by the period of ENodes
+abbrev pub is_late : ℕ → ℕ → LivePort → Bool
+is_late period m p = is_silent period p.node_heard m || is_silent PORT_PERIOD p.port_heard m
+
 -- somebody is overdue at a moment, by the period of the roll
 abbrev pub has_overdue : Roll → ℕ → Bool
-has_overdue r m = list_any (λ p. is_silent r.period p.node_heard m || is_silent PORT_PERIOD p.port_heard m) r.tables.ports
+has_overdue r m = list_any (is_late r.period m) r.tables.ports
 
 -- The least moment at which somebody is overdue.
 pub record IsFirstOverdue (r : Roll) (m : ℕ) : Type 0 where

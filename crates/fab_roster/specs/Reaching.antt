@@ -3,6 +3,8 @@ use Rattle.std.specs.Prelude.{ℕ, ◌&&◌, ◌||◌, ◌==◌, not, Bool, List
 use Rattle.fab_config.specs.Settings.{Settings}
 use Rattle.login_table.specs.declared.login.Login.{Login}
 use Rattle.name_server.specs.declared.seen.SeenPort.{SeenPort}
+use Rattle.state_change.specs.Watchers.{is_changed, is_recipient}
+use Rattle.state_change.specs.declared.watcher.Watcher.{Watcher}
 use Rattle.zone_rules.specs.Joined as zones
 use Rattle.zone_rules.specs.Joined.{contains}
 use Rattle.zone_rules.specs.Rules.{ZoneRules}
@@ -10,6 +12,8 @@ use Rattle.fab_policy.specs.Outputs.{differs, is_watcher}
 use Rattle.fab_policy.specs.Queries.{fport}
 use Rattle.fab_policy.specs.Rules.{joined}
 use Rattle.fab_policy.specs.State.{LivePort, Tables}
+use Rattle.fab_roster.specs.declared.reaching.Reach.{Reach}
+use Rattle.fab_roster.specs.declared.reaching.Reach.TheVariants.{Joined, Changed}
 
 -- the zones of a configuration
 abbrev pub zones_of : Settings → ZoneRules
@@ -22,6 +26,11 @@ told_at c T name but = filter (λ w. not (contains w.address but) && is_watcher 
 -- the watchers whose joining with a name is another at one moment than at the other, but for those of these addresses
 abbrev pub told_between : Settings → Tables → ℕ → ℕ → ℕ → List ℕ → List LivePort
 told_between c T before at name but = filter (λ w. not (contains w.address but) && is_watcher w && differs c before at w.name name) T.ports
+
+-- the watchers that a change reaches on account of a name
+abbrev pub is_reached : ZoneRules → ℕ → Reach → Watcher → Bool
+is_reached z name (Joined at) w = is_recipient z at name w
+is_reached z name (Changed before at) w = is_changed z before at name w
 
 -- ---- what an N_Port may see
 

@@ -1,7 +1,7 @@
 -- How the five tables together say what is known of live N_Ports and of the addresses of the pool.
 use Rattle.std.specs.Prelude.{ℕ, List, map, unwrap_or}
 use Rattle.std.specs.Option.{option_map_or}
-use Rattle.login_table.specs.declared.login.Login.{Login}
+pub use Rattle.login_table.specs.declared.login.Login.{Login}
 use Rattle.keepalive_clock.specs.Clock.{last_of}
 use Rattle.keepalive_clock.specs.declared.voice.LastHeard.{LastHeard}
 use Rattle.keepalive_clock.specs.declared.voice.Voice.TheVariants.{Node, Port}
@@ -37,6 +37,10 @@ ports_of voices entries watchers logins = map (live_of voices entries watchers) 
 -- the login of a live N_Port
 abbrev pub login_of : LivePort → Login
 login_of p = record { address = p.address; name = p.name; node = p.node; enode = p.enode; server_size = p.server }
+
+-- the addresses of logins
+abbrev pub addresses_of : List Login → List ℕ
+addresses_of logins = map (λ l. l.address) logins
 
 -- ---- the roll: what is known, with the bounds that its tables were made for
 

@@ -7,11 +7,11 @@ ghost use Rattle.fab_policy.specs.Queries.{known_to, fport};
 ghost use Rattle.fab_policy.specs.State.{LivePort, port_at};
 ghost use Rattle.fab_roster.specs.Reaching.{zones_of, may_see, seen_port};
 
-use crate::Roster;
+use crate::{Login, Roster};
 use ct_messages::{CtAsk, CtTell};
 use fab_base::{FcId, Moment, NoMemory, PortNo, Wwn};
 use fab_config::Config;
-use login_table::{Login, LoginTable};
+use login_table::LoginTable;
 use name_server::{Seen, SeenPort};
 use std::alloc::Global;
 use zone_rules::Zones;

@@ -5,14 +5,14 @@ ghost use Rattle.fab_base.specs.Keyed.{AscendFrom};
 ghost use Rattle.fab_policy.specs.State.{port_at};
 ghost use Rattle.fab_roster.specs.Agreement.{is_silenced};
 ghost use Rattle.fab_roster.specs.Changes.{Ends, EndsAll, IsSoundRoll};
-ghost use Rattle.fab_roster.specs.Roll.{Roll};
+ghost use Rattle.fab_roster.specs.Roll.{Roll, addresses_of};
 ghost use Rattle.keepalive_clock.specs.Clock.{IsSound, KeepsLimits, last_of};
 ghost use Rattle.keepalive_clock.specs.declared.voice.Voice.{Voice as Spoken};
 
-use crate::Roster;
-use fab_base::{FcId, IdList, Moment};
+use crate::{Login, LoginList, Roster};
+use fab_base::{FcId, Moment};
 use keepalive_clock::{KeepClock, Voice};
-use login_table::{Login, LoginTable};
+use login_table::LoginTable;
 
 impl Roster {
     /// The login of an address ends. The pool keeps its name and the moment; all else of it is
@@ -29,22 +29,20 @@ impl Roster {
         self.end_at(address, now);
     }
 
-    /// The logins of these addresses end, of which none comes twice.
-    pub fn end_all(&mut self, ids: &IdList)
+    /// These logins end, of which no address comes twice.
+    pub fn end_all(&mut self, ended: &LoginList)
         requires clock { IsSome self.old.tables.clock }
-        requires live { All (λ a. IsSome (port_at a self.old.tables.ports)) ids.now }
-        requires differ { AscendFrom (λ a. a) 0 ids.now }
-        ensures change { EndsAll ids.now self.old self.new }
+        requires live { All (λ a. IsSome (port_at a self.old.tables.ports))
+            (addresses_of ended.now) }
+        requires differ { AscendFrom (λ a. a) 0 (addresses_of ended.now) }
+        ensures change { EndsAll (addresses_of ended.now) self.old self.new }
         ensures sound { IsSoundRoll self.new }
     {
         let Some(now) = self.clock() else {
             unreachable!()
         };
-        for index in 0..ids.len() {
-            let Some(address) = ids.at(index) else {
-                unreachable!()
-            };
-            self.end_at(*address, now);
+        for login in ended.items() {
+            self.end_at(login.address, now);
         }
     }
 

@@ -7,10 +7,9 @@ ghost use Rattle.fab_policy.specs.State.{LivePort, port_at};
 ghost use Rattle.fab_roster.specs.Changes.{Grants, IsSoundRoll};
 ghost use Rattle.fab_roster.specs.Roll.{Roll};
 
-use crate::Roster;
+use crate::{Login, Roster};
 use fab_base::{Enode, FcId, Moment, Wwn};
 use keepalive_clock::Voice;
-use login_table::Login;
 use std::marker::Model;
 
 /// A login request: whether it is a FLOGI, whose it is, and its port name.

@@ -4,13 +4,12 @@ ghost use Rattle.std.specs.List.{list_any};
 ghost use Rattle.fab_base.specs.Fabric.{same_enode, is_silent, PORT_PERIOD};
 ghost use Rattle.fab_policy.specs.Changes.{heard_node, heard_port};
 ghost use Rattle.fab_policy.specs.State.{LivePort, now_of, port_at};
-ghost use Rattle.fab_roster.specs.Changes.{ChangesPorts, IsFirstOverdue, IsSoundRoll};
+ghost use Rattle.fab_roster.specs.Changes.{ChangesPorts, IsFirstOverdue, IsSoundRoll, is_late};
 ghost use Rattle.fab_roster.specs.Roll.{Roll, login_of};
 
-use crate::Roster;
+use crate::{Login, Roster};
 use fab_base::{Enode, FcId, Moment};
 use keepalive_clock::Voice;
-use login_table::Login;
 
 impl Roster {
     /// The ENode is heard, which has a login.
@@ -49,15 +48,15 @@ impl Roster {
         self.voices.due()
     }
 
-    /// Whether a login is overdue at a moment: its ENode or its N_Port was silent for more than two
-    /// and a half periods.
-    pub fn is_overdue(&self, address: FcId, moment: Moment) -> bool
-        requires live { IsSome (port_at address self.now.tables.ports) }
-        ensures { (p : LivePort) → port_at address self.now.tables.ports ≡ Some p
-            → result ≡ (is_silent self.now.period p.node_heard moment
-            || is_silent PORT_PERIOD p.port_heard moment) }
+    // Whether a login of the roster is overdue at a moment: its ENode or its N_Port was silent for
+    // more than two and a half periods.
+    pub(crate) fn is_overdue(&self, login: &Login, moment: Moment) -> bool
+        requires live { option_map login_of (port_at login.now.address self.now.tables.ports)
+            ≡ Some login.now }
+        ensures { (p : LivePort) → port_at login.now.address self.now.tables.ports ≡ Some p
+            → result ≡ is_late self.now.period moment p }
     {
-        let Some((node, port)) = self.heard_at(address) else {
+        let Some((node, port)) = self.heard(login) else {
             unreachable!()
         };
         is_silent(self.period, node, moment) || is_silent(fab_policy::PORT_PERIOD, port, moment)

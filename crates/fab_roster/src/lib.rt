@@ -6,10 +6,17 @@ mod asking;
 mod ending;
 mod granting;
 mod hearing;
+mod listing;
 mod reaching;
 mod reading;
 mod roster;
 mod serving;
 
+use fab_base::OwnedList;
 pub use granting::Request;
+pub use login_table::Login;
+pub use name_server::RegFault;
 pub use roster::Roster;
+
+/// Logins.
+pub type LoginList = OwnedList<Login>;

@@ -1,121 +1,96 @@
-//! Lists of live addresses: whom a state change reaches, who is overdue, and whose they are.
-ghost use Rattle.std.specs.Prelude.{◌≡◌, ◌||◌, not, IfOk, filter, map};
-ghost use Rattle.fab_base.specs.Fabric.{same_enode, is_silent, PORT_PERIOD};
+//! Whom a state change reaches.
+ghost use Rattle.std.specs.Prelude.{◌≡◌, ◌==◌, not, IfOk, filter, map};
+ghost use Rattle.std.specs.List.{list_any};
 ghost use Rattle.fab_config.specs.Settings.{Settings};
-ghost use Rattle.fab_policy.specs.State.{addresses, overdue};
-ghost use Rattle.fab_roster.specs.Reaching.{zones_of, told_at, told_between};
-ghost use Rattle.state_change.specs.Watchers.{recipients, changed};
+ghost use Rattle.fab_policy.specs.State.{addresses};
+ghost use Rattle.fab_roster.specs.Reaching.{is_reached, zones_of, told_at, told_between};
+ghost use Rattle.fab_roster.specs.Roll.{addresses_of};
+ghost use Rattle.state_change.specs.Watchers as watching;
+ghost use Rattle.state_change.specs.Watchers.{first_from};
 ghost use Rattle.zone_rules.specs.Joined.{contains};
 
-use crate::Roster;
-use fab_base::{Enode, FcId, IdList, Moment, NoMemory, Wwn};
-use login_table::LoginTable;
+use crate::{Login, LoginList, Roster};
+use fab_base::{FcId, IdList, Moment, NoMemory, Wwn};
 use state_change::Watchers;
 use std::alloc::Global;
 use zone_rules::Zones;
 
+// Which watchers a change reaches on account of a name.
+#[derive(Clone, Copy, Debug)]
+pub(crate) enum Reach {
+    // Those that are joined with it at a moment.
+    Joined(Moment),
+    // Those whose joining with it is another at one moment than at the other.
+    Changed(Moment, Moment),
+}
+
 impl Roster {
-    /// The watchers that are joined with a name at the clock, by ascending address, but for those
-    /// of these addresses, which ascend.
-    pub fn told(
+    /// The watchers that are joined with a name at the clock, by ascending address, but for these
+    /// logins.
+    pub fn recipients(
         &self,
         alloc: Global,
         zones: &Zones,
         name: Wwn,
-        but: &IdList,
+        but: &LoginList,
     ) -> Result<IdList, NoMemory>
         ensures { IfOk result (λ ids. (c : Settings) → zones.now ≡ zones_of c
-            → ids ≡ addresses (told_at c self.now.tables name but.now)) }
+            → ids ≡ addresses (told_at c self.now.tables name (addresses_of but.now))) }
     {
-        reached(alloc, &self.watchers, zones, self.now(), name, but)
+        reached(
+            alloc,
+            &self.watchers,
+            zones,
+            &Reach::Joined(self.now()),
+            name,
+            but,
+        )
     }
 
     /// The watchers whose joining with a name is another at one moment than at the other, by
-    /// ascending address, but for those of these addresses.
-    pub fn told_between(
+    /// ascending address, but for these logins.
+    pub fn recipients_between(
         &self,
         alloc: Global,
         zones: &Zones,
         before: Moment,
         at: Moment,
         name: Wwn,
-        but: &IdList,
+        but: &LoginList,
     ) -> Result<IdList, NoMemory>
         ensures { IfOk result (λ ids. (c : Settings) → zones.now ≡ zones_of c
-            → ids ≡ addresses (told_between c self.now.tables before at name but.now)) }
+            → ids ≡ addresses
+            (told_between c self.now.tables before at name (addresses_of but.now))) }
     {
-        reached_between(alloc, &self.watchers, zones, before, at, name, but)
-    }
-
-    /// The live addresses that are overdue at a moment, ascending.
-    pub fn overdue(&self, alloc: Global, moment: Moment) -> Result<IdList, NoMemory>
-        ensures { IfOk result (λ ids. (c : Settings) → c.period ≡ self.now.period
-            → ids ≡ addresses (overdue c self.now.tables moment)) }
-    {
-        match self.due() {
-            Some(first) if first.0 <= moment.0 => self.all_overdue(alloc, moment),
-            _ => IdList::new(alloc),
-        }
-    }
-
-    // The same by a look at each login.
-    fn all_overdue(&self, alloc: Global, moment: Moment) -> Result<IdList, NoMemory>
-        ensures { IfOk result (λ ids. ids
-            ≡ addresses (filter (λ p. is_silent self.now.period p.node_heard moment
-            || is_silent PORT_PERIOD p.port_heard moment) self.now.tables.ports)) }
-    {
-        let mut ids = IdList::new(alloc)?;
-        let mut from = 0;
-        while let Some(address) = self.logins.after(from) {
-            if self.is_overdue(address, moment) {
-                ids.push(alloc, address)?;
-            }
-            from = address.value() + 1;
-        }
-        Ok(ids)
-    }
-
-    /// The live addresses of an ENode, ascending.
-    pub fn of_enode(&self, alloc: Global, enode: &Enode) -> Result<IdList, NoMemory>
-        ensures { IfOk result (λ ids. ids
-            ≡ addresses (filter (λ p. same_enode p.enode enode.now) self.now.tables.ports)) }
-    {
-        addresses_of(alloc, &self.logins, enode)
+        reached(
+            alloc,
+            &self.watchers,
+            zones,
+            &Reach::Changed(before, at),
+            name,
+            but,
+        )
     }
 }
 
-// The addresses of the logins of an ENode.
-fn addresses_of(alloc: Global, logins: &LoginTable, enode: &Enode) -> Result<IdList, NoMemory>
-    ensures { IfOk result (λ ids. ids
-        ≡ map (λ l. l.address)
-        (filter (λ l. same_enode l.enode enode.now) logins.now.logins)) }
-{
-    let mut ids = IdList::new(alloc)?;
-    let mut from = 0;
-    while let Some(address) = logins.first_of(enode, from) {
-        ids.push(alloc, address)?;
-        from = address.value() + 1;
-    }
-    Ok(ids)
-}
-
-// The watchers that a change of a name reaches at a moment, but for those of these addresses.
+// The watchers that a change reaches on account of a name, by ascending address, but for these
+// logins.
 fn reached(
     alloc: Global,
     watchers: &Watchers,
     zones: &Zones,
-    at: Moment,
+    reach: &Reach,
     name: Wwn,
-    but: &IdList,
+    but: &LoginList,
 ) -> Result<IdList, NoMemory>
-    ensures { IfOk result (λ ids. ids
-        ≡ map (λ w. w.address) (filter (λ w. not (contains w.address but.now))
-        (recipients zones.now at name watchers.now.watchers))) }
+    ensures { IfOk result (λ ids. ids ≡ map watching.address_of
+        (filter (λ w. not (contains w.address (addresses_of but.now)))
+        (filter (is_reached zones.now name reach.now) watchers.now.watchers))) }
 {
-    let mut ids = IdList::new(alloc)?;
+    let mut ids = IdList::empty(alloc);
     let mut from = 0;
-    while let Some(address) = watchers.next_recipient(zones, at, name, from) {
-        if !contains(but, address) {
+    while let Some(address) = next_reached(watchers, zones, reach, name, from) {
+        if !hold(but.items(), address) {
             ids.push(alloc, address)?;
         }
         from = address.value() + 1;
@@ -123,40 +98,29 @@ fn reached(
     Ok(ids)
 }
 
-// The watchers that a change of zones between two moments reaches on account of a name, but for
-// those of these addresses.
-fn reached_between(
-    alloc: Global,
+// The least of them that isn't below `from`.
+fn next_reached(
     watchers: &Watchers,
     zones: &Zones,
-    before: Moment,
-    at: Moment,
+    reach: &Reach,
     name: Wwn,
-    but: &IdList,
-) -> Result<IdList, NoMemory>
-    ensures { IfOk result (λ ids. ids
-        ≡ map (λ w. w.address) (filter (λ w. not (contains w.address but.now))
-        (changed zones.now before at name watchers.now.watchers))) }
+    from: u32,
+) -> Option<FcId>
+    ensures first { result ≡ first_from from
+        (filter (is_reached zones.now name reach.now) watchers.now.watchers) }
+    ensures sound { watching.IsSound watchers.now }
 {
-    let mut ids = IdList::new(alloc)?;
-    let mut from = 0;
-    while let Some(address) = watchers.next_changed(zones, before, at, name, from) {
-        if !contains(but, address) {
-            ids.push(alloc, address)?;
-        }
-        from = address.value() + 1;
+    match reach {
+        Reach::Joined(at) => watchers.next_recipient(zones, *at, name, from),
+        Reach::Changed(before, at) => watchers.next_changed(zones, *before, *at, name, from),
     }
-    Ok(ids)
 }
 
-// Whether an address is among these.
-fn contains(ids: &IdList, address: FcId) -> bool
-    ensures { result ≡ contains address ids.now }
+// Whether one of these logins has the address.
+fn hold(logins: &[Login], address: FcId) -> bool
+    ensures { result ≡ list_any (λ l. l.address == address) logins.now }
 {
-    for index in 0..ids.len() {
-        if ids.at(index).unwrap().value() == address.value() {
-            return true;
-        }
-    }
-    false
+    logins
+        .iter()
+        .any(|login| login.address.value() == address.value())
 }

@@ -6,11 +6,10 @@ ghost use Rattle.fab_policy.specs.State.{port_at};
 ghost use Rattle.fab_roster.specs.Changes.{IsSoundRoll};
 ghost use Rattle.fab_roster.specs.Roll.{login_of};
 
-use crate::Roster;
+use crate::{Login, Roster};
 use ct_messages::TypeMap;
 use fab_base::{Enode, FcId, Moment, Wwn};
 use keepalive_clock::Voice;
-use login_table::Login;
 
 impl Roster {
     /// The login of an address.
@@ -59,9 +58,19 @@ impl Roster {
         ensures { result ≡ option_map (λ p. (p.node_heard, p.port_heard))
             (port_at address self.now.tables.ports) }
     {
-        let login = self.logins.by_address(address)?;
+        let login = self.by_address(address)?;
+        self.heard(login)
+    }
+
+    // When the ENode of a login of the roster was last heard, and when its N_Port was.
+    pub(crate) fn heard(&self, login: &Login) -> Option<(Moment, Moment)>
+        requires live { option_map login_of (port_at login.now.address self.now.tables.ports)
+            ≡ Some login.now }
+        ensures { result ≡ option_map (λ p. (p.node_heard, p.port_heard))
+            (port_at login.now.address self.now.tables.ports) }
+    {
         let node = self.voices.last(&Voice::Node(login.enode))?;
-        let port = self.voices.last(&Voice::Port(address))?;
+        let port = self.voices.last(&Voice::Port(login.address))?;
         Some((node, port))
     }
 

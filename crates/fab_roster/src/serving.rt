@@ -11,10 +11,9 @@ ghost use Rattle.fab_roster.specs.Roll.{Roll};
 ghost use Rattle.name_server.specs.Registry.{codes};
 ghost use Rattle.state_change.specs.Watchers.{is_function};
 
-use crate::Roster;
+use crate::{RegFault, Roster};
 use ct_messages::CtAsk;
 use fab_base::FcId;
-use name_server::RegFault;
 
 impl Roster {
     /// The receive size of a live address at the name server, in bytes; none is a logout there.

@@ -1,30 +1,29 @@
 -- Clear link messages: the order of ENodes, the N_Ports of each, and groups of a hundred.
-use Rattle.std.proofs.Common.{◌≡◌, ℕ, zero, suc, ◌+◌, ◌-◌, ◌<◌, ◌≤◌, ◌==◌, ◌&&◌, ◌||◌, Bool, true, false, cond, min, nat_lt, nat_le, if◌then◌else◌, List, [], ◌∷◌, ◌++◌, length, take, drop, get_or, map, filter, flat_map, Option, Some, None, option_map, IsSome, slice_get, refl, sym, ap, subst, inl, inr, ◌∙◌, append_assoc, arith}
+use Rattle.std.proofs.Common.{◌≡◌, ℕ, zero, suc, ◌+◌, ◌-◌, ◌<◌, ◌≤◌, ◌==◌, ◌||◌, Bool, true, false, cond, min, if◌then◌else◌, List, [], ◌∷◌, ◌++◌, length, take, drop, get_or, map, filter, flat_map, Some, slice_get, refl, sym, ap, subst, inl, inr, ◌∙◌, append_assoc, arith}
 use Rattle.std.proofs.lemmas.Bool.{cases_order, le-leb}
 use Rattle.std.proofs.lemmas.Bool.Decides.{nat_tests}
 use Rattle.std.proofs.lemmas.Grind.{flat_map-append}
-use Rattle.std.proofs.lemmas.List.{append-nil, drop-drop, drop_all, length-drop, drop-map, length-map, length-take, map-append, take-map, take_all, take_more}
-use Rattle.std.proofs.lemmas.List.Elements.{All-nil, All-append, All-cons, All-head, All-tail}
+use Rattle.std.proofs.lemmas.List.{append-nil, drop-drop, drop_all, length-drop, drop-map, length-map, length-take, map-append, take-map, take_all}
+use Rattle.std.proofs.lemmas.List.Elements.{All-nil, All-append, All-cons, filter-append}
 use Rattle.std.specs.List.{All, insert}
-use Rattle.std.specs.Option.{option_map_or}
 use Rattle.fab_base.specs.Fabric.{same_enode}
 use Rattle.fab_base.specs.declared.values.Enode.{Enode}
 use Rattle.fab_config.specs.Settings.{Settings}
-use Rattle.fab_policy.specs.Outputs.{bytes_before, enode_before, enodes_of, hundreds, vx_port_of, with_enode}
-use Rattle.fab_policy.specs.State.{LivePort, addresses, port_at}
+use Rattle.fab_policy.specs.Outputs as outputs
+use Rattle.fab_policy.specs.Outputs.{bytes_before, enode_before, hundreds, with_enode}
+use Rattle.fab_policy.specs.State.{LivePort}
 use Rattle.fab_policy.specs.declared.event.Event.{Event}
 use Rattle.fab_replies.specs.Message.{AreSendable}
 use Rattle.fab_replies.specs.declared.message.Out.{Out}
 use Rattle.fab_replies.specs.declared.message.OutMessage.{OutMessage}
 use Rattle.fab_replies.specs.declared.message.OutMessage.TheVariants as out
-use Rattle.fab_roster.specs.Roll.{login_of}
-use Rattle.fab_sending.specs.Clearing.{enodes_at, in_hundreds, place_of, vx_port_for, vx_ports_at}
-use Rattle.fab_sending.specs.Messages.{at_moment, clears, clears_to}
-use Rattle.fab_sending.proofs.Counting.{take_slice}
-use Rattle.fab_sending.proofs.Finding.{IsFoundIn}
+use Rattle.fab_roster.specs.Roll.{Login, login_of}
+use Rattle.fab_sending.specs.Clearing.{clears, clears_to, enodes_of, in_hundreds, place_of, vx_port_of, vx_ports_of}
+use Rattle.fab_sending.specs.Messages as messages
+use Rattle.fab_sending.specs.Messages.{at_moment}
+use Rattle.fab_sending.proofs.Lists.{flat_map-same}
 use Rattle.fab_sending.proofs.Sendable.{CanBeSent, sendable_at}
 use Rattle.fip_codec.specs.declared.message.VxPort.{VxPort}
-use Rattle.login_table.specs.declared.login.Login.{Login}
 
 -- ---- the order of ENodes
 
@@ -82,56 +81,36 @@ put_at x ys slice after place d at all other now =
     now ∙ ap (λ k. insert ys k x) here
     ∙ put_there x ys d (λ inside. ap (λ k. same_enode x (get_or ys k d)) (sym here) ∙ other (omega (arith, here, inside)))
 
--- ---- N_Ports by their addresses
+-- ---- ENodes and N_Ports of logins
 
-pub drop_slice : {X : Type 0} (xs : List X) (i : ℕ) (x : X) → slice_get xs i ≡ Some x → drop i xs ≡ x ∷ drop (suc i) xs
+drop_slice : {X : Type 0} (xs : List X) (i : ℕ) (x : X) → slice_get xs i ≡ Some x → drop i xs ≡ x ∷ drop (suc i) xs
 drop_slice [] i x e = absurd (cc)
 drop_slice (y ∷ ys) zero x e = let is : y ≡ x = cc in ap (λ z. z ∷ ys) is
 drop_slice (y ∷ ys) (suc i) x e = drop_slice ys i x e
 
-with_found : (rest : List Enode) (login : Login) (o : Option LivePort) → Some login ≡ option_map login_of o →
-    with_enode login.enode rest ≡ option_map_or (λ p. with_enode p.enode rest) o rest
-with_found rest login None e = cc
-with_found rest login (Some p) e = ap (λ l. with_enode l.enode rest) (same e)
+-- the ENode of one more login, from behind
+pub enode_more : (logins : List Login) (done : ℕ) (l : Login) (before after : List Enode) → done < length logins →
+    before ≡ enodes_of (drop (length logins - done) logins) → slice_get logins (length logins - 1 - done) ≡ Some l →
+    after ≡ with_enode l.enode before → after ≡ enodes_of (drop (length logins - (done + 1)) logins)
+enode_more logins done l before after inside was at now =
+    let i : ℕ = length logins - 1 - done in
+    let next : suc i ≡ length logins - done = omega (arith, inside) in
+    let here : i ≡ length logins - (done + 1) = omega arith in
+    now ∙ ap (with_enode l.enode) was
+    ∙ sym (ap (λ (k : ℕ). enodes_of (drop k logins)) (sym here) ∙ ap enodes_of (drop_slice logins i l at ∙ ap (λ (k : ℕ). l ∷ drop k logins) next))
+
+-- the N_Port of one more login, which passes or doesn't
+pub vx_port_more : (c : Settings) (x : Enode) (logins : List Login) (i : ℕ) (l : Login) (b : Bool) (before after : List VxPort) → take (i + 1) logins ≡ take i logins ++ l ∷ [] → same_enode l.enode x ≡ b →
+    before ≡ vx_ports_of c x (take i logins) → after ≡ before ++ (if b then vx_port_of c l ∷ [] else []) → after ≡ vx_ports_of c x (take (i + 1) logins)
+vx_port_more c x logins i l b before after at is was now =
+    let q : Login → Bool = λ k. same_enode k.enode x in
+    now ∙ ap (λ r. r ++ (if b then vx_port_of c l ∷ [] else [])) was
+    ∙ ap (λ r. vx_ports_of c x (take i logins) ++ r) (by_test b ∙ ap (λ d. map (vx_port_of c) (cond d (l ∷ []) [])) (sym is))
+    ∙ sym (ap (vx_ports_of c x) at ∙ ap (map (vx_port_of c)) (filter-append q (take i logins) (l ∷ [])) ∙ map-append (vx_port_of c) (filter q (take i logins)) (filter q (l ∷ [])))
   where
-    same : Some login ≡ Some (login_of p) → login ≡ login_of p
-    same i = cc
-
--- the ENode of one more address, from behind
-pub enode_more : (ports : List LivePort) (ids : List ℕ) (done a : ℕ) (login : Login) (before after : List Enode) → done < length ids →
-    before ≡ enodes_at ports (drop (length ids - done) ids) → slice_get ids (length ids - 1 - done) ≡ Some a → Some login ≡ option_map login_of (port_at a ports) →
-    after ≡ with_enode login.enode before → after ≡ enodes_at ports (drop (length ids - (done + 1)) ids)
-enode_more ports ids done a login before after inside was at found now =
-    let rest : List ℕ = drop (length ids - done) ids in
-    let i : ℕ = length ids - 1 - done in
-    let next : suc i ≡ length ids - done = omega (arith, inside) in
-    let here : i ≡ length ids - (done + 1) = omega arith in
-    now ∙ ap (with_enode login.enode) was ∙ with_found (enodes_at ports rest) login (port_at a ports) found
-    ∙ sym (ap (λ (k : ℕ). enodes_at ports (drop k ids)) (sym here) ∙ ap (enodes_at ports) (drop_slice ids i a at ∙ ap (λ (k : ℕ). a ∷ drop k ids) next))
-
-pub kept_found : (c : Settings) (x : Enode) (login : Login) (port : VxPort) (o : Option LivePort) → Some login ≡ option_map login_of o → same_enode login.enode x ≡ true →
-    ((p : LivePort) → login_of p ≡ login → port ≡ vx_port_of c p) → port ∷ [] ≡ option_map_or (vx_port_for c x) o []
-kept_found c x login port None e t is = cc
-kept_found c x login port (Some p) e t is =
-    ap (λ y. y ∷ []) (is p (sym (same e))) ∙ sym (ap (λ b. if b then vx_port_of c p ∷ [] else []) (sym (ap (λ l. same_enode l.enode x) (same e)) ∙ t))
-  where
-    same : Some login ≡ Some (login_of p) → login ≡ login_of p
-    same i = cc
-
-pub left_found : (c : Settings) (x : Enode) (login : Login) (o : Option LivePort) → Some login ≡ option_map login_of o → same_enode login.enode x ≡ false → [] ≡ option_map_or (vx_port_for c x) o []
-left_found c x login None e t = cc
-left_found c x login (Some p) e t = sym (ap (λ b. if b then vx_port_of c p ∷ [] else []) (sym (ap (λ l. same_enode l.enode x) (same e)) ∙ t))
-  where
-    same : Some login ≡ Some (login_of p) → login ≡ login_of p
-    same i = cc
-
--- the N_Port of one more address
-pub vx_port_more : (c : Settings) (ports : List LivePort) (x : Enode) (ids : List ℕ) (i a : ℕ) (own before after : List VxPort) → slice_get ids i ≡ Some a →
-    before ≡ vx_ports_at c ports x (take i ids) → own ≡ option_map_or (vx_port_for c x) (port_at a ports) [] → after ≡ before ++ own → after ≡ vx_ports_at c ports x (take (i + 1) ids)
-vx_port_more c ports x ids i a own before after at was is now =
-    let f : ℕ → List VxPort = λ b. option_map_or (vx_port_for c x) (port_at b ports) [] in
-    now ∙ ap (λ r. r ++ own) was ∙ ap (λ r. vx_ports_at c ports x (take i ids) ++ r) (is ∙ sym (append-nil (f a)))
-    ∙ sym (ap (flat_map f) (take_slice ids i a at) ∙ flat_map-append f (take i ids) (a ∷ []))
+    by_test : (d : Bool) → (if d then vx_port_of c l ∷ [] else []) ≡ map (vx_port_of c) (cond d (l ∷ []) [])
+    by_test true = refl
+    by_test false = refl
 
 -- ---- groups of a hundred
 
@@ -206,92 +185,80 @@ pub groups_done : (moment : ℕ) (x : Enode) (ports : List VxPort) (done : ℕ) 
 groups_done moment x ports done start outs all was =
     sym (append-nil outs) ∙ sym (ap (λ r. outs ++ at_moment moment (in_hundreds x r)) (drop_all done ports all)) ∙ was
 
--- ---- N_Ports that are found at their addresses
+-- ---- logins of N_Ports
 
-enodes_found : (ports found : List LivePort) → All (IsFoundIn ports) found → enodes_at ports (addresses found) ≡ enodes_of found
-enodes_found ports [] h = refl
-enodes_found ports (p ∷ found) h =
-    ap (λ o. option_map_or (λ q. with_enode q.enode (enodes_at ports (addresses found))) o (enodes_at ports (addresses found))) (All-head (IsFoundIn ports) p found h)
-    ∙ ap (with_enode p.enode) (enodes_found ports found (All-tail (IsFoundIn ports) p found h))
+enodes_same : (ports : List LivePort) → enodes_of (map login_of ports) ≡ outputs.enodes_of ports
+enodes_same [] = refl
+enodes_same (p ∷ ports) = ap (with_enode p.enode) (enodes_same ports)
 
-vx_ports_found : (c : Settings) (ports : List LivePort) (x : Enode) (found : List LivePort) → All (IsFoundIn ports) found →
-    vx_ports_at c ports x (addresses found) ≡ map (vx_port_of c) (filter (λ p. same_enode p.enode x) found)
-vx_ports_found c ports x [] h = refl
-vx_ports_found c ports x (p ∷ found) h =
-    ap (λ o. option_map_or (vx_port_for c x) o [] ++ vx_ports_at c ports x (addresses found)) (All-head (IsFoundIn ports) p found h)
-    ∙ ap (λ r. vx_port_for c x p ++ r) (vx_ports_found c ports x found (All-tail (IsFoundIn ports) p found h))
-    ∙ by_test (same_enode p.enode x)
+vx_ports_same : (c : Settings) (x : Enode) (ports : List LivePort) → vx_ports_of c x (map login_of ports) ≡ map (outputs.vx_port_of c) (filter (λ p. same_enode p.enode x) ports)
+vx_ports_same c x [] = refl
+vx_ports_same c x (p ∷ ports) = by_test (same_enode p.enode x) (vx_ports_same c x ports)
   where
-    by_test : (b : Bool) → (if b then vx_port_of c p ∷ [] else []) ++ map (vx_port_of c) (filter (λ q. same_enode q.enode x) found)
-        ≡ map (vx_port_of c) (cond b (p ∷ filter (λ q. same_enode q.enode x) found) (filter (λ q. same_enode q.enode x) found))
-    by_test true = refl
-    by_test false = refl
+    by_test : (b : Bool) → vx_ports_of c x (map login_of ports) ≡ map (outputs.vx_port_of c) (filter (λ q. same_enode q.enode x) ports) →
+        map (vx_port_of c) (cond b (login_of p ∷ filter (λ l. same_enode l.enode x) (map login_of ports)) (filter (λ l. same_enode l.enode x) (map login_of ports)))
+        ≡ map (outputs.vx_port_of c) (cond b (p ∷ filter (λ q. same_enode q.enode x) ports) (filter (λ q. same_enode q.enode x) ports))
+    by_test true e = ap (λ r. outputs.vx_port_of c p ∷ r) e
+    by_test false e = e
 
 -- a message that names these N_Ports
 abbrev named : Enode → List VxPort → ℕ × OutMessage
 named x group = (x.port, out.Clear x.mac group)
 
 groups_named : (c : Settings) (x : Enode) (n : ℕ) (own : List LivePort) →
-    map (named x) (hundreds n (map (vx_port_of c) own)) ≡ map (λ g. named x (map (vx_port_of c) g)) (hundreds n own)
+    map (named x) (hundreds n (map (outputs.vx_port_of c) own)) ≡ map (λ g. named x (map (outputs.vx_port_of c) g)) (hundreds n own)
 groups_named c x zero own = refl
 groups_named c x (suc n) [] = refl
 groups_named c x (suc n) (p ∷ own) =
     let all : List LivePort = p ∷ own in
-    let f : LivePort → VxPort = vx_port_of c in
+    let f : LivePort → VxPort = outputs.vx_port_of c in
     ap (map (named x)) (hundreds-step VxPort n (f p) (map f own))
     ∙ ap (λ g. named x g ∷ map (named x) (hundreds n (drop 100 (map f all)))) (take-map f 100 all)
     ∙ ap (λ r. named x (map f (take 100 all)) ∷ map (named x) (hundreds n r)) (drop-map f 100 all)
     ∙ ap (λ r. named x (map f (take 100 all)) ∷ r) (groups_named c x n (drop 100 all))
     ∙ sym (ap (map (λ g. named x (map f g))) (hundreds-step LivePort n p own))
 
-own_cleared : (c : Settings) (ports : List LivePort) (x : Enode) (found : List LivePort) → All (IsFoundIn ports) found →
-    in_hundreds x (vx_ports_at c ports x (addresses found)) ≡ clears_to c found x
-own_cleared c ports x found h =
-    let own : List LivePort = filter (λ p. same_enode p.enode x) found in
-    ap (in_hundreds x) (vx_ports_found c ports x found h)
-    ∙ ap (λ n. map (named x) (hundreds n (map (vx_port_of c) own))) (length-map own (vx_port_of c))
-    ∙ groups_named c x (length own) own
+-- the clear link messages of the logins of N_Ports are those of the N_Ports
+pub clears_same : (c : Settings) (ports : List LivePort) → clears c (map login_of ports) ≡ messages.clears c ports
+clears_same c ports = ap (flat_map (clears_to c (map login_of ports))) (enodes_same ports) ∙ flat_map-same (clears_to c (map login_of ports)) (messages.clears_to c ports) own (outputs.enodes_of ports)
+  where
+    own : (x : Enode) → clears_to c (map login_of ports) x ≡ messages.clears_to c ports x
+    own x =
+        let passed : List LivePort = filter (λ p. same_enode p.enode x) ports in
+        ap (in_hundreds x) (vx_ports_same c x ports)
+        ∙ ap (λ n. map (named x) (hundreds n (map (outputs.vx_port_of c) passed))) (length-map passed (outputs.vx_port_of c))
+        ∙ groups_named c x (length passed) passed
 
 -- ---- all clear link messages
 
 -- the clear link messages to one more ENode
-pub cleared_more : (c : Settings) (moment : ℕ) (ports found : List LivePort) (ids : List ℕ) (xs : List Enode) (i : ℕ) (x d : Enode) (own : List VxPort) (before after : List Out) →
-    All (IsFoundIn ports) found → ids ≡ addresses found → i < length xs → x ≡ get_or xs i d → before ≡ at_moment moment (flat_map (clears_to c found) (take i xs)) →
-    own ≡ vx_ports_at c ports x ids → after ≡ before ++ at_moment moment (in_hundreds x own) →
-    after ≡ at_moment moment (flat_map (clears_to c found) (take (i + 1) xs))
-cleared_more c moment ports found ids xs i x d own before after h same inside at was is now =
-    let more : List (ℕ × OutMessage) = flat_map (clears_to c found) (take i xs) in
-    now ∙ ap (λ o. o ++ at_moment moment (in_hundreds x own)) was
-    ∙ ap (λ r. at_moment moment more ++ at_moment moment r) (ap (in_hundreds x) (is ∙ ap (vx_ports_at c ports x) same) ∙ own_cleared c ports x found h)
-    ∙ ap (λ r. at_moment moment more ++ at_moment moment r) (sym (append-nil (clears_to c found x)))
-    ∙ sym (ap (λ l. at_moment moment (flat_map (clears_to c found) l)) (take_more xs i d inside ∙ ap (λ y. take i xs ++ y ∷ []) (sym at))
-    ∙ ap (at_moment moment) (flat_map-append (clears_to c found) (take i xs) (x ∷ []))
-    ∙ map-append (λ (m : ℕ × OutMessage). let o : Out = record { port = m.0; moment = moment; message = m.1 } in o) more (flat_map (clears_to c found) (x ∷ [])))
-
--- those to all ENodes
-pub cleared_all : (c : Settings) (moment : ℕ) (ports found : List LivePort) (ids : List ℕ) (xs : List Enode) (i : ℕ) (outs : List Out) → All (IsFoundIn ports) found →
-    ids ≡ addresses found → xs ≡ enodes_at ports ids → length xs ≤ i → outs ≡ at_moment moment (flat_map (clears_to c found) (take i xs)) → outs ≡ at_moment moment (clears c found)
-cleared_all c moment ports found ids xs i outs h same is all was =
-    was ∙ ap (λ l. at_moment moment (flat_map (clears_to c found) l)) (take_all i xs all ∙ is ∙ ap (enodes_at ports) same ∙ enodes_found ports found h)
+pub cleared_more : (c : Settings) (moment : ℕ) (logins : List Login) (xs : List Enode) (i : ℕ) (x : Enode) (before after : List Out) → take (i + 1) xs ≡ take i xs ++ x ∷ [] →
+    before ≡ at_moment moment (flat_map (clears_to c logins) (take i xs)) → after ≡ before ++ at_moment moment (clears_to c logins x) → after ≡ at_moment moment (flat_map (clears_to c logins) (take (i + 1) xs))
+cleared_more c moment logins xs i x before after at was now =
+    let more : List (ℕ × OutMessage) = flat_map (clears_to c logins) (take i xs) in
+    now ∙ ap (λ o. o ++ at_moment moment (clears_to c logins x)) was
+    ∙ ap (λ r. at_moment moment more ++ at_moment moment r) (sym (append-nil (clears_to c logins x)))
+    ∙ sym (ap (λ l. at_moment moment (flat_map (clears_to c logins) l)) at
+    ∙ ap (at_moment moment) (flat_map-append (clears_to c logins) (take i xs) (x ∷ []))
+    ∙ map-append (λ (m : ℕ × OutMessage). let o : Out = record { port = m.0; moment = moment; message = m.1 } in o) more (flat_map (clears_to c logins) (x ∷ [])))
 
 -- ---- messages that can be sent
 
-hundred_sendable : (events : List Event) (c : Settings) (x : Enode) (n : ℕ) (own : List LivePort) → All (CanBeSent events) (map (λ g. named x (map (vx_port_of c) g)) (hundreds n own))
-hundred_sendable events c x zero own = All-nil (CanBeSent events)
-hundred_sendable events c x (suc n) [] = All-nil (CanBeSent events)
-hundred_sendable events c x (suc n) (p ∷ own) =
-    let f : LivePort → VxPort = vx_port_of c in
-    let all : List LivePort = p ∷ own in
-    let size : length (map f (take 100 all)) ≤ 100 = omega (arith, length-map (take 100 all) f, length-take 100 all) in
-    subst (λ gs. All (CanBeSent events) (map (λ g. named x (map f g)) gs)) (sym (hundreds-step LivePort n p own))
-    (All-cons (CanBeSent events) (named x (map f (take 100 all))) (map (λ g. named x (map f g)) (hundreds n (drop 100 all))) (le-leb _ _ size) (hundred_sendable events c x n (drop 100 all)))
+hundred_sendable : (events : List Event) (x : Enode) (n : ℕ) (own : List VxPort) → All (CanBeSent events) (map (named x) (hundreds n own))
+hundred_sendable events x zero own = All-nil (CanBeSent events)
+hundred_sendable events x (suc n) [] = All-nil (CanBeSent events)
+hundred_sendable events x (suc n) (p ∷ own) =
+    let all : List VxPort = p ∷ own in
+    let size : length (take 100 all) ≤ 100 = omega (arith, length-take 100 all) in
+    subst (λ gs. All (CanBeSent events) (map (named x) gs)) (sym (hundreds-step VxPort n p own))
+    (All-cons (CanBeSent events) (named x (take 100 all)) (map (named x) (hundreds n (drop 100 all))) (le-leb _ _ size) (hundred_sendable events x n (drop 100 all)))
 
-all_sendable : (events : List Event) (c : Settings) (found : List LivePort) (xs : List Enode) → All (CanBeSent events) (flat_map (clears_to c found) xs)
-all_sendable events c found [] = All-nil (CanBeSent events)
-all_sendable events c found (x ∷ xs) =
-    let own : List LivePort = filter (λ p. same_enode p.enode x) found in
-    All-append (CanBeSent events) (clears_to c found x) (flat_map (clears_to c found) xs) (hundred_sendable events c x (length own) own) (all_sendable events c found xs)
+all_sendable : (events : List Event) (c : Settings) (logins : List Login) (xs : List Enode) → All (CanBeSent events) (flat_map (clears_to c logins) xs)
+all_sendable events c logins [] = All-nil (CanBeSent events)
+all_sendable events c logins (x ∷ xs) =
+    let own : List VxPort = vx_ports_of c x logins in
+    All-append (CanBeSent events) (clears_to c logins x) (flat_map (clears_to c logins) xs) (hundred_sendable events x (length own) own) (all_sendable events c logins xs)
 
-pub clears_sendable : (events : List Event) (c : Settings) (moment : ℕ) (found : List LivePort) (xs : List Enode) (outs : List Out) →
-    outs ≡ at_moment moment (flat_map (clears_to c found) xs) → AreSendable events outs
-clears_sendable events c moment found xs outs e = subst (AreSendable events) (sym e) (sendable_at events moment (flat_map (clears_to c found) xs) (all_sendable events c found xs))
+pub clears_sendable : (events : List Event) (c : Settings) (moment : ℕ) (logins : List Login) (xs : List Enode) (outs : List Out) →
+    outs ≡ at_moment moment (flat_map (clears_to c logins) xs) → AreSendable events outs
+clears_sendable events c moment logins xs outs e = subst (AreSendable events) (sym e) (sendable_at events moment (flat_map (clears_to c logins) xs) (all_sendable events c logins xs))

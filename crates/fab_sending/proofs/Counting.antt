@@ -1,19 +1,18 @@
 -- State changes that are added to a list one after another.
-use Rattle.std.proofs.Common.{◌≡◌, Bool, ℕ, zero, suc, ◌+◌, ◌%◌, List, [], ◌∷◌, ◌++◌, length, take, map, filter, flat_map, Option, Some, None, option_map, is_some, IsSome, slice_get, refl, sym, ap, subst, ◌∙◌, append_assoc, arith}
+use Rattle.std.proofs.Common.{◌≡◌, Bool, ℕ, zero, suc, ◌+◌, ◌<◌, ◌%◌, List, [], ◌∷◌, ◌++◌, length, take, get_or, map, filter, flat_map, Option, Some, None, option_map, is_some, IsSome, slice_get, refl, sym, ap, subst, ◌∙◌, append_assoc, arith}
 use Rattle.std.proofs.lemmas.Grind.{flat_map-append}
-use Rattle.std.proofs.lemmas.List.{append-nil, length-append, map-append}
+use Rattle.std.proofs.lemmas.List.{append-nil, length-append, map-append, take_more}
+use Rattle.std.proofs.lemmas.List.Folds.{flat_map-map}
 use Rattle.std.proofs.lemmas.List.Elements.{All-filter, All-head, All-map, All-tail, All-weaker}
 use Rattle.std.specs.List.{All}
 use Rattle.std.specs.Option.{option_map_or}
-use Rattle.login_table.specs.declared.login.Login.{Login}
 use Rattle.fab_config.specs.Settings.{Settings}
 use Rattle.fab_policy.specs.Outputs.{Notice, told}
-use Rattle.fab_policy.specs.State.{LivePort, Tables, addresses, is_overdue, overdue, port_at}
+use Rattle.fab_policy.specs.State.{LivePort, Tables, addresses, overdue, port_at}
 use Rattle.fab_replies.specs.declared.message.Out.{Out}
 use Rattle.fab_replies.specs.declared.message.OutMessage.TheVariants as out
-use Rattle.fab_roster.specs.Reaching.{told_between}
-use Rattle.fab_roster.specs.Roll.{login_of}
-use Rattle.fab_sending.specs.Counting.{told_at_address, told_of_address, told_of_change_at, with_changes}
+use Rattle.fab_roster.specs.Roll.{Login, addresses_of, login_of}
+use Rattle.fab_sending.specs.Counting.{told_at_address, told_of_logins, with_changes}
 use Rattle.fab_sending.specs.Messages.{at_moment, changes}
 use Rattle.fab_sending.specs.Notices.{notices_of_tick, staying_at, told_of_change, told_of_each, told_of_name}
 use Rattle.fab_sending.proofs.Finding.{Ascend, IsFoundIn, found_in}
@@ -44,12 +43,16 @@ with_changes-twice moment first outs ns ms =
     ∙ append_assoc outs some (at_moment moment (changes (n + length ns) ms))
     ∙ ap (λ r. outs ++ r) (sym (ap (at_moment moment) (changes-append n ns ms) ∙ map-append _ (changes n ns) (changes (n + length ns) ms)))
 
+-- the first items up to the one that a loop over a slice has come to
+pub take_item : {X : Type 0} (items xs : List X) (i : ℕ) (x : X) → items ≡ xs → i < length items → x ≡ get_or items i x → take (i + 1) xs ≡ take i xs ++ x ∷ []
+take_item items xs i x all lt is = subst (λ ys. take (i + 1) ys ≡ take i ys ++ x ∷ []) all (take_more items i x lt ∙ ap (λ y. take i items ++ y ∷ []) (sym is))
+
 -- one step of a loop that tells something of each of a list
-pub told_more : (f : ℕ → List Notice) (moment first i x : ℕ) (xs : List ℕ) (start before after : List Out) → slice_get xs i ≡ Some x →
+pub told_more : {X : Type 0} (f : X → List Notice) (moment first i : ℕ) (x : X) (xs : List X) (start before after : List Out) → take (i + 1) xs ≡ take i xs ++ x ∷ [] →
     before ≡ with_changes moment first start (flat_map f (take i xs)) → after ≡ with_changes moment first before (f x) → after ≡ with_changes moment first start (flat_map f (take (i + 1) xs))
 told_more f moment first i x xs start before after at was now =
     now ∙ ap (λ outs. with_changes moment first outs (f x)) was ∙ with_changes-twice moment first start (flat_map f (take i xs)) (f x)
-    ∙ ap (with_changes moment first start) (ap (λ r. flat_map f (take i xs) ++ r) (sym (append-nil (f x))) ∙ sym (flat_map-append f (take i xs) (x ∷ [])) ∙ ap (flat_map f) (sym (take_slice xs i x at)))
+    ∙ ap (with_changes moment first start) (ap (λ r. flat_map f (take i xs) ++ r) (sym (append-nil (f x))) ∙ sym (flat_map-append f (take i xs) (x ∷ [])) ∙ ap (flat_map f) (sym at))
 
 -- one step of a loop that tells one thing of each
 pub one_more : (f : ℕ → Notice) (moment first i x : ℕ) (xs : List ℕ) (start before after : List Out) → slice_get xs i ≡ Some x →
@@ -91,13 +94,6 @@ told_found affected ports (w ∷ ws) h =
     ap (λ o. (let n : Notice = record { port = option_map_or (λ p. p.enode.port) o 0; watcher = w.address; affected = affected } in n) ∷ map (told_at_address ports affected) (addresses ws)) (All-head (IsFoundIn ports) w ws h)
     ∙ ap (λ r. told w affected ∷ r) (told_found affected ports ws (All-tail (IsFoundIn ports) w ws h))
 
--- what is made of each N_Port that is found, by its address
-pub flat_map-found : (f : LivePort → List Notice) (ports ps : List LivePort) → All (IsFoundIn ports) ps → flat_map (λ a. option_map_or f (port_at a ports) []) (addresses ps) ≡ flat_map f ps
-flat_map-found f ports [] h = refl
-flat_map-found f ports (p ∷ ps) h =
-    ap (λ o. option_map_or f o [] ++ flat_map (λ a. option_map_or f (port_at a ports) []) (addresses ps)) (All-head (IsFoundIn ports) p ps h)
-    ∙ ap (λ r. f p ++ r) (flat_map-found f ports ps (All-tail (IsFoundIn ports) p ps h))
-
 -- what is told of a login that was found
 pub named_told : (c : Settings) (T : Tables) (but : List ℕ) (a : ℕ) (login : Login) → (o : Option LivePort) → Some login ≡ option_map login_of o → ((p : LivePort) → o ≡ Some p → p.address ≡ a) →
     told_of_name c T but a login.name ≡ option_map_or (λ p. told_of_name c T but p.address p.name) o []
@@ -117,20 +113,14 @@ told_ids q from affected moment first ports ids before after h e now =
     now ∙ ap (λ is. with_changes moment first before (map (told_at_address ports affected) is)) e
     ∙ ap (with_changes moment first before) (told_found affected ports (filter q ports) (found_filter q from ports h))
 
--- what changes of zones tell of a login that was found
-pub change_told : (c : Settings) (T : Tables) (since at : ℕ) (but : List ℕ) (a : ℕ) (login : Login) → (o : Option LivePort) → Some login ≡ option_map login_of o → ((p : LivePort) → o ≡ Some p → p.address ≡ a) →
-    map (λ w. told w a) (told_between c T since at login.name but) ≡ option_map_or (told_of_change c T since at but) o []
-change_told c T since at but a login None e is = cc
-change_told c T since at but a login (Some p) e is =
-    ap (λ x. map (λ w. told w x) (told_between c T since at login.name but)) (sym (is p refl)) ∙ ap (λ (l : Login). map (λ w. told w p.address) (told_between c T since at l.name but)) (same e)
-  where
-    same : Some login ≡ Some (login_of p) → login ≡ login_of p
-    same i = cc
+-- ---- logins of N_Ports
 
--- what is told of each of those that pass, by their addresses
-pub each_ids : (f : LivePort → List Notice) (q : LivePort → Bool) (from : ℕ) (ports : List LivePort) (ids : List ℕ) → Ascend from ports → ids ≡ addresses (filter q ports) →
-    flat_map (λ a. option_map_or f (port_at a ports) []) ids ≡ flat_map f (filter q ports)
-each_ids f q from ports ids h e = ap (flat_map (λ a. option_map_or f (port_at a ports) [])) e ∙ flat_map-found f ports (filter q ports) (found_filter q from ports h)
+pub addresses_same : (ports : List LivePort) → addresses_of (map login_of ports) ≡ addresses ports
+addresses_same [] = refl
+addresses_same (p ∷ ports) = ap (λ ids. p.address ∷ ids) (addresses_same ports)
+
+pub logins_told : (c : Settings) (T : Tables) (but : List ℕ) (ports : List LivePort) → told_of_logins c T but (map login_of ports) ≡ told_of_each c T but ports
+logins_told c T but ports = flat_map-map (λ (l : Login). told_of_name c T but l.address l.name) login_of ports
 
 -- ---- a tick
 
@@ -138,33 +128,34 @@ each_ids f q from ports ids h e = ap (flat_map (λ a. option_map_or f (port_at a
 pub first_changes : (moment first : ℕ) (outs : List Out) (ns : List Notice) → outs ≡ [] → with_changes moment first outs ns ≡ at_moment moment (changes first ns)
 first_changes moment first outs ns e = ap (λ os. with_changes moment first os ns) e ∙ ap (λ n. at_moment moment (changes n ns)) (omega arith)
 
-ends_told : (c : Settings) (T : Tables) (m first from : ℕ) (ended : List ℕ) (start mid : List Out) → Ascend from T.ports → ended ≡ addresses (overdue c T m) → start ≡ [] →
-    mid ≡ with_changes m first start (flat_map (told_of_address c T ended) ended) → mid ≡ with_changes m first [] (told_of_each c T (addresses (overdue c T m)) (overdue c T m))
-ends_told c T m first from ended start mid h e none was =
-    was ∙ ap (λ os. with_changes m first os (flat_map (told_of_address c T ended) ended)) none
-    ∙ ap (λ ids. with_changes m first [] (flat_map (told_of_address c T ids) ids)) e
-    ∙ ap (with_changes m first []) (each_ids (λ p. told_of_name c T (addresses (overdue c T m)) p.address p.name) (is_overdue c m) from T.ports (addresses (overdue c T m)) h refl)
+ends_told : (c : Settings) (T : Tables) (m first : ℕ) (ended : List Login) (start mid : List Out) → ended ≡ map login_of (overdue c T m) → start ≡ [] →
+    mid ≡ with_changes m first start (told_of_logins c T (addresses_of ended) ended) → mid ≡ with_changes m first [] (told_of_each c T (addresses (overdue c T m)) (overdue c T m))
+ends_told c T m first ended start mid e none was =
+    was ∙ ap (λ os. with_changes m first os (told_of_logins c T (addresses_of ended) ended)) none
+    ∙ ap (λ ls. with_changes m first [] (told_of_logins c T (addresses_of ls) ls)) e
+    ∙ ap (λ ids. with_changes m first [] (told_of_logins c T ids (map login_of (overdue c T m)))) (addresses_same (overdue c T m))
+    ∙ ap (with_changes m first []) (logins_told c T (addresses (overdue c T m)) (overdue c T m))
 
 -- what changes of zones tell, by the clock
 abbrev told_by_clock : Settings → Tables → ℕ → List ℕ → Option ℕ → List Notice
 told_by_clock c T m but clock = elim clock [ None ↦ [] | Some t ↦ flat_map (told_of_change c T t m but) (staying_at c T m) ]
 
-pub before_clock : (c : Settings) (T : Tables) (m first from : ℕ) (ended : List ℕ) (start mid : List Out) → Ascend from T.ports → ended ≡ addresses (overdue c T m) → start ≡ [] → T.clock ≡ None →
-    mid ≡ with_changes m first start (flat_map (told_of_address c T ended) ended) → mid ≡ at_moment m (changes first (notices_of_tick c T m))
-before_clock c T m first from ended start mid h e none clock was =
+pub before_clock : (c : Settings) (T : Tables) (m first : ℕ) (ended : List Login) (start mid : List Out) → ended ≡ map login_of (overdue c T m) → start ≡ [] → T.clock ≡ None →
+    mid ≡ with_changes m first start (told_of_logins c T (addresses_of ended) ended) → mid ≡ at_moment m (changes first (notices_of_tick c T m))
+before_clock c T m first ended start mid e none clock was =
     let ends : List ℕ = addresses (overdue c T m) in
-    ends_told c T m first from ended start mid h e none was
+    ends_told c T m first ended start mid e none was
     ∙ first_changes m first [] (told_of_each c T ends (overdue c T m)) refl
     ∙ ap (λ ns. at_moment m (changes first ns)) (sym (append-nil (told_of_each c T ends (overdue c T m))) ∙ ap (λ o. told_of_each c T ends (overdue c T m) ++ told_by_clock c T m ends o) (sym clock))
 
-pub after_clock : (c : Settings) (T : Tables) (m first from t : ℕ) (ended : List ℕ) (start mid last : List Out) → Ascend from T.ports → ended ≡ addresses (overdue c T m) → start ≡ [] → T.clock ≡ Some t →
-    mid ≡ with_changes m first start (flat_map (told_of_address c T ended) ended) → last ≡ with_changes m first mid (flat_map (told_of_change c T t m ended) (staying_at c T m)) →
+pub after_clock : (c : Settings) (T : Tables) (m first t : ℕ) (ended : List Login) (start mid last : List Out) → ended ≡ map login_of (overdue c T m) → start ≡ [] → T.clock ≡ Some t →
+    mid ≡ with_changes m first start (told_of_logins c T (addresses_of ended) ended) → last ≡ with_changes m first mid (flat_map (told_of_change c T t m (addresses_of ended)) (staying_at c T m)) →
     last ≡ at_moment m (changes first (notices_of_tick c T m))
-after_clock c T m first from t ended start mid last h e none clock was now =
+after_clock c T m first t ended start mid last e none clock was now =
     let ends : List ℕ = addresses (overdue c T m) in
     let ns : List Notice = told_of_each c T ends (overdue c T m) in
-    now ∙ ap (λ os. with_changes m first os (flat_map (told_of_change c T t m ended) (staying_at c T m))) (ends_told c T m first from ended start mid h e none was)
-    ∙ with_changes-twice m first [] ns (flat_map (told_of_change c T t m ended) (staying_at c T m))
-    ∙ ap (λ ids. with_changes m first [] (ns ++ flat_map (told_of_change c T t m ids) (staying_at c T m))) e
+    now ∙ ap (λ os. with_changes m first os (flat_map (told_of_change c T t m (addresses_of ended)) (staying_at c T m))) (ends_told c T m first ended start mid e none was)
+    ∙ with_changes-twice m first [] ns (flat_map (told_of_change c T t m (addresses_of ended)) (staying_at c T m))
+    ∙ ap (λ ids. with_changes m first [] (ns ++ flat_map (told_of_change c T t m ids) (staying_at c T m))) (ap addresses_of e ∙ addresses_same (overdue c T m))
     ∙ ap (λ o. with_changes m first [] (ns ++ told_by_clock c T m ends o)) (sym clock)
     ∙ first_changes m first [] (notices_of_tick c T m) refl

@@ -1,9 +1,9 @@
 -- N_Ports that are found by their addresses.
-use Rattle.std.proofs.Common.{◌≡◌, ℕ, ◌+◌, ◌<◌, ◌≤◌, ◌==◌, ◌||◌, Bool, true, false, cond, List, [], ◌∷◌, ◌++◌, map, filter, filter_map, find, nat_le, Option, Some, None, is_some, IsSome, option_to_list, refl, sym, ap, subst, ◌∙◌, arith}
+use Rattle.std.proofs.Common.{◌≡◌, ℕ, ◌+◌, ◌<◌, ◌≤◌, ◌==◌, ◌||◌, Bool, true, false, cond, List, [], ◌∷◌, filter, filter_map, find, Option, Some, None, IsSome, option_to_list, refl, sym, ap, ◌∙◌, arith}
 use Rattle.std.proofs.lemmas.Bool.{eqb-true}
 use Rattle.std.proofs.lemmas.Bool.Decides.{nat_tests, Decides-eqb}
 use Rattle.std.proofs.lemmas.List.Elements.{All-nil, All-cons, All-head, All-tail, All-weaker}
-use Rattle.std.specs.List.{All, cons_option, list_any}
+use Rattle.std.specs.List.{All, cons_option}
 use Rattle.std.specs.Option.{option_map_or}
 use Rattle.fab_base.specs.Keyed as keyed
 use Rattle.fab_base.proofs.KeyedLemmas.{list_any-keys-filter, item_at-below}
@@ -125,70 +125,3 @@ found_at find h a p e (k ∷ places) i = by_test (k == a) refl i (found_at find 
     by_test : (b : Bool) → k == a ≡ b → b || contains a places ≡ true → (contains a places ≡ true → port_at a (filter_map find places) ≡ Some p) → port_at a (cons_option (find k) (filter_map find places)) ≡ Some p
     by_test true t j ih = here (ap find (eqb-true k a t) ∙ e)
     by_test false t j ih = by_item (find k) refl t (ih j)
-
--- ---- N_Ports from an address on
-
-abbrev pub from_on : ℕ → List LivePort → List LivePort
-from_on from ports = filter (λ p. nat_le from p.address) ports
-
-le_true : (a b : ℕ) → a ≤ b → nat_le a b ≡ true
-le_true a b l = grind (arith, nat_tests)
-
-le_false : (a b : ℕ) → b < a → nat_le a b ≡ false
-le_false a b l = grind (arith, nat_tests)
-
-true_le : (a b : ℕ) → nat_le a b ≡ true → a ≤ b
-true_le a b e = grind (arith, nat_tests)
-
-false_le : (a b : ℕ) → nat_le a b ≡ false → b < a
-false_le a b e = grind (arith, nat_tests)
-
--- all of ascending ones are from an address on that isn't above the first
-pub from_on-all : (j k : ℕ) (ports : List LivePort) → j ≤ k → Ascend k ports → from_on j ports ≡ ports
-from_on-all j k [] le h = refl
-from_on-all j k (p ∷ ports) le h =
-    ap (λ b. cond b (p ∷ from_on j ports) (from_on j ports)) (le_true j p.address (omega (arith, le, h.0)))
-    ∙ ap (λ ys. p ∷ ys) (from_on-all j (p.address + 1) ports (omega (arith, le, h.0)) h.1)
-
--- the first one from an address on, and those behind it
-pub from_on-next : (k from : ℕ) (ports : List LivePort) (p : LivePort) → Ascend k ports → find (λ q. nat_le from q.address) ports ≡ Some p →
-    (from ≤ p.address) × (port_at p.address ports ≡ Some p) × (from_on from ports ≡ p ∷ from_on (p.address + 1) ports)
-from_on-next k from [] p h e = cc
-from_on-next k from (x ∷ ports) p h e = go (nat_le from x.address) refl e (λ i. from_on-next (x.address + 1) from ports p h.1 i)
-  where
-    same : Some x ≡ Some p → x ≡ p
-    same i = cc
-
-    here : nat_le from x.address ≡ true → (from ≤ x.address) × (port_at x.address (x ∷ ports) ≡ Some x) × (from_on from (x ∷ ports) ≡ x ∷ from_on (x.address + 1) (x ∷ ports))
-    here t = (
-      true_le from x.address t,
-      ap (λ b. cond b (Some x) (port_at x.address ports)) (eqb_same x.address),
-      ap (λ b. cond b (x ∷ from_on from ports) (from_on from ports)) t
-          ∙ ap (λ ys. x ∷ ys) (from_on-all from (x.address + 1) ports (let l = true_le from x.address t in omega (arith, l)) h.1 ∙ sym (from_on-all (x.address + 1) (x.address + 1) ports (omega arith) h.1))
-          ∙ ap (λ b. x ∷ cond b (x ∷ from_on (x.address + 1) ports) (from_on (x.address + 1) ports)) (sym (le_false (x.address + 1) x.address (omega arith))),
-    )
-
-    later : nat_le from x.address ≡ false → (from ≤ p.address) × (port_at p.address ports ≡ Some p) × (from_on from ports ≡ p ∷ from_on (p.address + 1) ports) →
-        (from ≤ p.address) × (port_at p.address (x ∷ ports) ≡ Some p) × (from_on from (x ∷ ports) ≡ p ∷ from_on (p.address + 1) (x ∷ ports))
-    later t i =
-        let below : x.address < from = false_le from x.address t in (
-          i.0,
-          ap (λ b. cond b (Some x) (port_at p.address ports)) (eqb_other x.address p.address (omega (arith, below, i.0))) ∙ i.1,
-          ap (λ b. cond b (x ∷ from_on from ports) (from_on from ports)) t ∙ i.2
-              ∙ ap (λ b. p ∷ cond b (x ∷ from_on (p.address + 1) ports) (from_on (p.address + 1) ports)) (sym (le_false (p.address + 1) x.address (omega (arith, below, i.0)))),
-        )
-
-    go : (b : Bool) → nat_le from x.address ≡ b → cond b (Some x) (find (λ q. nat_le from q.address) ports) ≡ Some p →
-        (find (λ q. nat_le from q.address) ports ≡ Some p → (from ≤ p.address) × (port_at p.address ports ≡ Some p) × (from_on from ports ≡ p ∷ from_on (p.address + 1) ports)) →
-        (from ≤ p.address) × (port_at p.address (x ∷ ports) ≡ Some p) × (from_on from (x ∷ ports) ≡ p ∷ from_on (p.address + 1) (x ∷ ports))
-    go true t i ih = subst (λ y. (from ≤ y.address) × (port_at y.address (x ∷ ports) ≡ Some y) × (from_on from (x ∷ ports) ≡ y ∷ from_on (y.address + 1) (x ∷ ports))) (same i) (here t)
-    go false t i ih = later t (ih i)
-
-pub from_on-none : (from : ℕ) (ports : List LivePort) → find (λ q. nat_le from q.address) ports ≡ None → from_on from ports ≡ []
-from_on-none from [] e = refl
-from_on-none from (x ∷ ports) e = go (nat_le from x.address) refl e (λ i. from_on-none from ports i)
-  where
-    go : (b : Bool) → nat_le from x.address ≡ b → cond b (Some x) (find (λ q. nat_le from q.address) ports) ≡ None →
-        (find (λ q. nat_le from q.address) ports ≡ None → from_on from ports ≡ []) → from_on from (x ∷ ports) ≡ []
-    go true t i ih = cc
-    go false t i ih = ap (λ b. cond b (x ∷ from_on from ports) (from_on from ports)) t ∙ ih i

@@ -4,7 +4,6 @@ pub mod Watching
 pub mod Telling
 pub mod Sending
 pub mod Counting
-pub mod Keeping
 pub mod Counted
 pub mod Sendable
 pub mod AdvertMade

@@ -1,30 +1,31 @@
 -- Where no activation comes between two moments, the same names are joined at both.
-use Rattle.std.proofs.Common.{◌≡◌, ℕ, ◌+◌, ◌&&◌, not, nat_le, nat_eq, Bool, true, false, cond, List, [], ◌∷◌, ◌++◌, take, map, filter, find, flat_map, reverse, Option, Some, None, option_map, slice_get, refl, sym, ap, subst, ◌∙◌}
+use Rattle.std.proofs.Common.{◌≡◌, ℕ, ◌+◌, ◌&&◌, ◌||◌, not, nat_le, nat_eq, Bool, true, false, cond, List, [], ◌∷◌, ◌++◌, take, map, filter, find, flat_map, reverse, Some, None, option_map, slice_get, refl, sym, ap, subst, ◌∙◌}
 use Rattle.std.proofs.lemmas.List.{append-nil, reverse-append}
-use Rattle.std.proofs.lemmas.List.Elements.{All-nil, All-cons, All-append, All-head, All-tail}
+use Rattle.std.proofs.lemmas.List.Elements.{All-nil, All-cons, All-head, All-tail}
 use Rattle.std.proofs.lemmas.List.Folds.{find-append}
-use Rattle.std.specs.List.{All}
+use Rattle.std.specs.List.{All, list_any}
 use Rattle.std.specs.Option.{option_or}
 use Rattle.fab_config.specs.Settings.{Settings}
 use Rattle.fab_config.specs.declared.Activation.{Activation}
 use Rattle.fab_config.specs.declared.Zone.{Zone}
 use Rattle.fab_config.specs.declared.ZoneSet.{ZoneSet}
-use Rattle.zone_rules.specs.Joined.{active_set, contains, has_zone_of, is_active, is_other, joined}
-use Rattle.fab_policy.specs.Outputs.{Notice, differs, is_watcher, told}
+use Rattle.zone_rules.specs.Joined.{contains, has_zone_of, is_active, is_other, joined}
+use Rattle.fab_policy.specs.Outputs.{differs, is_watcher, told}
 use Rattle.fab_policy.specs.State.{LivePort, Tables}
 use Rattle.fab_replies.specs.declared.message.Out.{Out}
-use Rattle.fab_roster.specs.Reaching.{told_between}
 use Rattle.fab_sending.specs.Counting.{is_turned, with_changes}
 use Rattle.fab_sending.specs.Notices.{staying_at, told_of_change}
-use Rattle.fab_sending.proofs.Counting.{take_slice}
 
-abbrev pub Stays : ℕ → ℕ → Activation → Type 0
+abbrev Stays : ℕ → ℕ → Activation → Type 0
 Stays since at a = is_turned since at a ≡ false
 
--- one activation more
-pub stays_more : (since at i : ℕ) (xs : List Activation) (x : Activation) → slice_get xs i ≡ Some x → All (Stays since at) (take i xs) → Stays since at x → All (Stays since at) (take (i + 1) xs)
-stays_more since at i xs x there before here =
-    subst (All (Stays since at)) (sym (take_slice xs i x there)) (All-append (Stays since at) (take i xs) (x ∷ []) before (All-cons (Stays since at) x [] here (All-nil (Stays since at))))
+none_turns : (since at : ℕ) (xs : List Activation) → list_any (is_turned since at) xs ≡ false → All (Stays since at) xs
+none_turns since at [] e = All-nil (Stays since at)
+none_turns since at (x ∷ xs) e = go (is_turned since at x) refl e (none_turns since at xs)
+  where
+    go : (b : Bool) → is_turned since at x ≡ b → b || list_any (is_turned since at) xs ≡ false → (list_any (is_turned since at) xs ≡ false → All (Stays since at) xs) → All (Stays since at) (x ∷ xs)
+    go true t none rest = cc
+    go false t none rest = All-cons (Stays since at) x xs t (rest none)
 
 same_test : (b c : Bool) → is_other b c ≡ false → b ≡ c
 same_test true true e = refl
@@ -76,7 +77,7 @@ nothing_told c T since at but (p ∷ ports) h =
     ap (λ ws. map (λ w. told w p.address) ws ++ flat_map (told_of_change c T since at but) ports) (none_told c since at p.name but T.ports h) ∙ nothing_told c T since at but ports h
 
 -- nothing is added
-pub stays_told : (c : Settings) (T : Tables) (m first since : ℕ) (but : List ℕ) (outs : List Out) (xs : List Activation) → xs ≡ c.activations → All (Stays since m) xs →
+pub stays_told : (c : Settings) (T : Tables) (m first since : ℕ) (but : List ℕ) (outs : List Out) (xs : List Activation) → xs ≡ c.activations → list_any (is_turned since m) xs ≡ false →
     outs ≡ with_changes m first outs (flat_map (told_of_change c T since m but) (staying_at c T m))
 stays_told c T m first since but outs xs is h =
-    sym (append-nil outs) ∙ ap (with_changes m first outs) (sym (nothing_told c T since m but (staying_at c T m) (subst (All (Stays since m)) is h)))
+    sym (append-nil outs) ∙ ap (with_changes m first outs) (sym (nothing_told c T since m but (staying_at c T m) (subst (All (Stays since m)) is (none_turns since m xs h))))

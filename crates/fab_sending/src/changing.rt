@@ -1,13 +1,14 @@
 //! State changes of a frame: of the logins that it ends, grants or changes.
-ghost use Rattle.std.specs.Prelude.{◌≡◌, ◌&&◌, [], ◌∷◌, filter, option_to_list, ℕ, IfOk, IsSome, true};
+ghost use Rattle.std.specs.Prelude.{◌≡◌, ◌&&◌, [], ◌∷◌, filter, map, option_to_list, ℕ, IfOk, IsSome, true};
 ghost use Rattle.ct_messages.specs.Ask.{view};
 ghost use Rattle.ct_messages.specs.Server as server;
 ghost use Rattle.ct_messages.specs.Server.{is_registration};
 ghost use Rattle.fab_base.specs.Fabric.{same_enode};
 ghost use Rattle.fab_base.specs.declared.values.Caught.{Caught as Captured};
-ghost use Rattle.fab_policy.specs.State.{addresses, now_of, port_at};
+ghost use Rattle.fab_policy.specs.State.{now_of, port_at};
 ghost use Rattle.fab_policy.specs.Steps.{InPool};
 ghost use Rattle.fab_policy.specs.declared.verdict.Verdict.TheVariants.{Granted};
+ghost use Rattle.fab_roster.specs.Roll.{login_of};
 ghost use Rattle.fab_sending.specs.Messages.{at_moment, changes};
 ghost use Rattle.fab_sending.specs.Notices.{notices_of_frame, told_of_each};
 ghost use Rattle.fab_sending.specs.Sends.{request_from};
@@ -15,9 +16,9 @@ ghost use Rattle.fab_sending.specs.Sends.{request_from};
 use crate::Before;
 use crate::noticing::{tell_of, tell_of_ends};
 use ct_messages::CtAsk;
-use fab_base::{FcId, IdList, Moment, NoMemory};
+use fab_base::{FcId, Moment, NoMemory};
 use fab_replies::OutList;
-use fab_roster::{Request, Roster};
+use fab_roster::{LoginList, Request, Roster};
 use std::alloc::Global;
 
 /// The clock, 0 before the first tick.
@@ -30,15 +31,15 @@ pub(crate) fn now(roster: &Roster) -> Moment
     }
 }
 
-// The live addresses that a login request ends, if it is granted: a FLOGI those of its ENode.
-fn ended_by(alloc: Global, roster: &Roster, request: &Request) -> Result<IdList, NoMemory>
-    ensures { IfOk result (λ ids. ids ≡ addresses (filter
+// The logins that a login request ends, if it is granted: a FLOGI those of its ENode.
+fn ended_by(alloc: Global, roster: &Roster, request: &Request) -> Result<LoginList, NoMemory>
+    ensures { IfOk result (λ l. l ≡ map login_of (filter
         (λ p. same_enode p.enode request.now.enode && request.now.flogi) roster.now.tables.ports)) }
 {
     if request.flogi {
         return roster.of_enode(alloc, &request.enode);
     }
-    Ok(IdList::empty(alloc))
+    Ok(LoginList::empty(alloc))
 }
 
 /// The state changes of a login that gets an address: of the logins that it ends, and of itself.
@@ -89,8 +90,8 @@ pub(crate) fn logout_changes(
     };
     let name = login.name;
     let moment = now(before.roster);
-    let mut ended = IdList::empty(alloc);
-    ended.push(alloc, address)?;
+    let mut ended = LoginList::empty(alloc);
+    ended.push(alloc, *login)?;
     tell_of(alloc, before, moment, address, name, &ended, &mut outs)?;
     Ok(outs)
 }
@@ -117,7 +118,7 @@ pub(crate) fn registration_changes(
     }
     let name = before.roster.by_address(address).unwrap().name;
     let moment = now(before.roster);
-    let nobody = IdList::empty(alloc);
+    let nobody = LoginList::empty(alloc);
     tell_of(alloc, before, moment, address, name, &nobody, &mut outs)?;
     Ok(outs)
 }

@@ -1,46 +1,38 @@
 //! Clear link messages (FC-BB-5, "FIP Clear Virtual Links").
-ghost use Rattle.std.specs.Prelude.{◌≡◌, ◌++◌, ◌≤◌, List, IfOk, IsSome, OnErr, OnOk, length};
-ghost use Rattle.std.specs.List.{All};
+ghost use Rattle.std.specs.Prelude.{◌≡◌, ◌++◌, ◌≤◌, List, IfOk, OnErr, OnOk, length};
 ghost use Rattle.fab_policy.specs.Outputs as spec;
-ghost use Rattle.fab_policy.specs.State.{LivePort, addresses, overdue, port_at};
-ghost use Rattle.fab_policy.specs.Steps.{InPool};
 ghost use Rattle.fab_policy.specs.declared.event.Event.{Event as Entry};
 ghost use Rattle.fab_replies.specs.Message.{AreSendable};
-ghost use Rattle.fab_roster.specs.Roll.{login_of};
-ghost use Rattle.fab_sending.specs.Clearing.{enodes_at, in_hundreds, place_of, vx_ports_at};
-ghost use Rattle.fab_sending.specs.Messages as messages;
+ghost use Rattle.fab_sending.specs.Clearing.{clears, enodes_of, in_hundreds, place_of};
+ghost use Rattle.fab_sending.specs.Clearing.{vx_port_of, vx_ports_of};
 ghost use Rattle.fab_sending.specs.Messages.{at_moment};
 
-use fab_base::{Enode, IdList, Moment, NoMemory, fpma};
+use fab_base::{Enode, Moment, NoMemory, fpma};
 use fab_config::Config;
 use fab_replies::{Out, OutList, OutMessage, VxPorts};
-use fab_roster::Roster;
+use fab_roster::{Login, LoginList};
 use fip_codec::VxPort;
-use login_table::Login;
 use std::alloc::Global;
 
 /// The most N_Ports of one message.
 const HUNDRED: usize = 100;
 
-/// The clear link messages of a tick that ends the logins of these addresses: to each ENode, by
-/// port and MAC, one for each hundred of its N_Ports.
+/// The clear link messages of a tick that ends these logins: to each ENode, by port and MAC, one
+/// for each hundred of its N_Ports.
 pub(crate) fn clears(
     alloc: Global,
     config: &Config,
-    roster: &Roster,
     moment: Moment,
-    ended: &IdList,
+    ended: &LoginList,
 ) -> Result<OutList, NoMemory>
-    requires pool { InPool config.now roster.now.tables.ports }
-    requires ended { ended.now ≡ addresses (overdue config.now roster.now.tables moment) }
-    ensures made { IfOk result (λ outs. outs ≡ at_moment moment
-        (messages.clears config.now (overdue config.now roster.now.tables moment))) }
+    ensures made { IfOk result (λ outs. outs
+        ≡ at_moment moment (clears config.now ended.now)) }
     ensures sendable { IfOk result (λ outs. (events : List Entry) → AreSendable events outs) }
 {
-    let enodes = enodes_of(alloc, roster, ended)?;
+    let enodes = enodes_of(alloc, ended)?;
     let mut outs = OutList::empty(alloc);
     for enode in enodes.iter() {
-        let ports = vx_ports(alloc, config, roster, ended, enode)?;
+        let ports = vx_ports(alloc, config, ended, enode)?;
         clear(alloc, moment, enode, ports.as_slice(), &mut outs)?;
     }
     Ok(outs)
@@ -92,22 +84,17 @@ fn by_hundreds(
     Ok(outs)
 }
 
-// The N_Ports of an ENode among these addresses.
+// The N_Ports of an ENode among these logins.
 fn vx_ports(
     alloc: Global,
     config: &Config,
-    roster: &Roster,
-    ended: &IdList,
+    logins: &LoginList,
     enode: &Enode,
 ) -> Result<Vec<VxPort>, NoMemory>
-    requires { All (λ a. IsSome (port_at a roster.now.tables.ports)) ended.now }
-    ensures { IfOk result (λ v. v.items
-        ≡ vx_ports_at config.now roster.now.tables.ports enode.now ended.now) }
+    ensures { IfOk result (λ v. v.items ≡ vx_ports_of config.now enode.now logins.now) }
 {
     let mut ports = Vec::new(alloc);
-    for index in 0..ended.len() {
-        let address = *ended.at(index).unwrap();
-        let login = roster.by_address(address).unwrap();
+    for login in logins.items() {
         if login.enode == *enode {
             ports.push(vx_port(config, login))?;
         }
@@ -116,7 +103,7 @@ fn vx_ports(
 }
 
 fn vx_port(config: &Config, login: &Login) -> VxPort
-    ensures { (p : LivePort) → login_of p ≡ login.now → result ≡ spec.vx_port_of config.now p }
+    ensures { result ≡ vx_port_of config.now login.now }
 {
     VxPort {
         mac: fpma(config.fc_map, login.address),
@@ -125,15 +112,13 @@ fn vx_port(config: &Config, login: &Login) -> VxPort
     }
 }
 
-// The ENodes of these addresses by port and MAC, each once.
-fn enodes_of(alloc: Global, roster: &Roster, ended: &IdList) -> Result<Vec<Enode>, NoMemory>
-    requires { All (λ a. IsSome (port_at a roster.now.tables.ports)) ended.now }
-    ensures { IfOk result (λ v. v.items ≡ enodes_at roster.now.tables.ports ended.now) }
+// The ENodes of these logins by port and MAC, each once.
+fn enodes_of(alloc: Global, logins: &LoginList) -> Result<Vec<Enode>, NoMemory>
+    ensures { IfOk result (λ v. v.items ≡ enodes_of logins.now) }
 {
     let mut enodes = Vec::new(alloc);
-    for done in 0..ended.len() {
-        let address = *ended.at(ended.len() - 1 - done).unwrap();
-        let login = roster.by_address(address).unwrap();
+    for done in 0..logins.len() {
+        let login = logins.at(logins.len() - 1 - done).unwrap();
         add(&mut enodes, login.enode)?;
     }
     Ok(enodes)

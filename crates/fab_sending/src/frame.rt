@@ -24,7 +24,7 @@ ghost use Rattle.fab_sending.specs.Sends.{AreSent, CanFollow, is_plain, request_
 use crate::answers::answer;
 use crate::changing::{grant_changes, logout_changes, now, registration_changes};
 use crate::laws::{frames_send, frames_tell};
-use crate::noticing::counted;
+use crate::noticing::rscns_after;
 use crate::replies::replies;
 use crate::{Before, Sends, asker};
 use ct_messages::{CtAsk, CtTell};
@@ -203,7 +203,7 @@ fn joined(
         ≡ (before.now.rscns + length changes) % 65535) }
     ensures few { IfOk result (λ s. s.rscns < 65535) }
 {
-    let rscns = counted(before.rscns, changes.len());
+    let rscns = rscns_after(before.rscns, changes.len());
     replies.append(alloc, changes)?;
     Ok(Sends {
         outs: replies,

@@ -15,7 +15,7 @@ mod sends;
 mod tick;
 mod zoning;
 
-pub use adverts::advertise;
+pub use adverts::{advertise, is_owed};
 pub use answers::answer;
 pub use asking::asker;
 pub use clears::clear;

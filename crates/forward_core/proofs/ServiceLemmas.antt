@@ -5,14 +5,13 @@ use Rattle.std.proofs.lemmas.List.Elements.{All-head, All-tail}
 use Rattle.fab_base.specs.declared.values.Caught.{Caught}
 use Rattle.fab_base.specs.declared.values.Enode.{Enode}
 use Rattle.fab_config.specs.Settings.{Settings}
-use Rattle.login_table.specs.declared.login.Login.{Login}
 use Rattle.fab_policy.specs.Changes.{FrameSteps, stays_as}
 use Rattle.fab_policy.specs.Free.{Request, is_free}
 use Rattle.fab_policy.specs.State.{LivePort, Tables, now_of, port_at}
 use Rattle.fab_policy.specs.Steps.{InPool, after}
 use Rattle.fab_policy.specs.declared.event.Event.TheVariants.{Frame}
 use Rattle.fab_policy.specs.declared.verdict.Verdict.TheVariants.{Answered, Granted}
-use Rattle.fab_roster.specs.Roll.{login_of}
+use Rattle.fab_roster.specs.Roll.{Login, login_of}
 use Rattle.fab_sending.specs.Sends.{CanFollow, request_from}
 
 none_some : {X : Type 0} (x : X) → Some x ≡ None → ⊥

@@ -1,12 +1,12 @@
 -- The tables after a tick.
-use Rattle.std.proofs.Common.{◌≡◌, ℕ, ◌+◌, ◌*◌, ◌<◌, ◌≤◌, ◌==◌, not, Bool, true, false, cond, List, [], ◌∷◌, map, filter, Option, Some, None, refl, sym, ap, ◌∙◌, subst, arith, if◌then◌else◌, length, ◌++◌, option_and_then, unwrap_or, IsSome, slice_index_or, suc}
+use Rattle.std.proofs.Common.{◌≡◌, ℕ, ◌+◌, ◌*◌, ◌≤◌, ◌==◌, not, Bool, true, false, cond, List, [], ◌∷◌, map, filter, Option, Some, None, refl, sym, ap, ◌∙◌, subst, arith, if◌then◌else◌, length, ◌++◌, option_and_then, unwrap_or, IsSome, slice_index_or, suc}
 use Rattle.std.specs.Option.{option_map_or}
 use Rattle.std.specs.List.{All}
 use Rattle.std.proofs.lemmas.List.Folds.{list_any_at}
 use Rattle.std.proofs.lemmas.Bool.Decides.{nat_tests}
 use Rattle.fab_base.specs.Fabric.{Past}
-use Rattle.fab_base.specs.Keyed.{AscendFrom, item_at}
-use Rattle.fab_base.proofs.KeyedLemmas.{AscendFrom-filter, equal_by_items, item_at-below, list_any-keys-filter}
+use Rattle.fab_base.specs.Keyed.{AscendFrom}
+use Rattle.fab_base.proofs.KeyedLemmas.{AscendFrom-filter, equal_by_items, list_any-keys-filter}
 use Rattle.fab_config.specs.Settings.{Settings}
 use Rattle.zone_rules.specs.Joined.{contains}
 use Rattle.fab_policy.specs.Changes.{all_ended, TickSteps}
@@ -15,33 +15,16 @@ use Rattle.fab_policy.specs.Steps.{after, AreAscending, InPool}
 use Rattle.fab_policy.specs.declared.event.Event.TheVariants.{Tick}
 use Rattle.fab_roster.specs.Changes.{EndsAll, IsSoundRoll, Moves}
 use Rattle.fab_roster.specs.Roll.{Roll}
+use Rattle.fab_roster.proofs.Found.{filtered}
 use Rattle.fab_policy.specs.Outputs.{advertised_after}
 use Rattle.fab_policy.specs.Standing.{Contents, Takes}
 use Rattle.fab_sending.specs.Sends.{AreSent}
 use Rattle.fab_sending.specs.declared.sends.Sends.{Sends}
+pub use Rattle.fab_sending.proofs.Counting.{live_filter as live_listed}
 use Rattle.forward_core.specs.Fabric.{contents_of, IsFabric}
 use Rattle.forward_core.specs.Turns.{Keeps}
 use Rattle.forward_core.specs.declared.fabric.Fabric.TheInside.{Inside}
 use Rattle.forward_core.proofs.TakeLemmas.{takes}
-
-module _ {X : Type 0} (key : X → ℕ) where
-  abbrev pub kept : (X → Bool) → X → Option X
-  kept q x = if q x then Some x else None
-
-  -- what a filter leaves of the item at a key
-  pub filtered : (q : X → Bool) (a k : ℕ) (xs : List X) → AscendFrom key k xs → item_at key a (filter q xs) ≡ option_and_then (kept q) (item_at key a xs)
-  filtered q a k [] h = refl
-  filtered q a k (x ∷ xs) h = go (key x == a) refl (q x) refl (filtered q a (key x + 1) xs h.1)
-    where
-      equal : (i j : ℕ) → i == j ≡ true → j < i + 1
-      equal i j e = grind (arith, nat_tests)
-
-      go : (b : Bool) → key x == a ≡ b → (d : Bool) → q x ≡ d → item_at key a (filter q xs) ≡ option_and_then (kept q) (item_at key a xs) →
-          item_at key a (cond d (x ∷ filter q xs) (filter q xs)) ≡ option_and_then (kept q) (cond b (Some x) (item_at key a xs))
-      go true e true f ih = ap (λ y. cond y (Some x) (item_at key a (filter q xs))) e ∙ ap (λ y. if y then Some x else None) (sym f)
-      go true e false f ih = item_at-below key a (key x + 1) (filter q xs) (AscendFrom-filter key q (key x + 1) xs h.1) (equal (key x) a e) ∙ ap (λ y. if y then Some x else None) (sym f)
-      go false e true f ih = ap (λ y. cond y (Some x) (item_at key a (filter q xs))) e ∙ ih
-      go false e false f ih = ih
 
 false_true : false ≡ true → ⊥
 false_true e = cc
@@ -61,19 +44,6 @@ left_over p k old new up up_new found =
     same : (o : Option LivePort) → (if option_map_or p o false then None else o) ≡ option_and_then (λ x. if not (p x) then Some x else None) o
     same None = refl
     same (Some x) = one x (p x)
-
--- each of the listed is live
-pub live_listed : (p : LivePort → Bool) (k : ℕ) (ports : List LivePort) → AscendFrom (λ x. x.address) k ports → All (λ a. IsSome (port_at a ports)) (addresses (filter p ports))
-live_listed p k ports up i d lt =
-    let a = slice_index_or (addresses (filter p ports)) i d in
-    some (port_at a ports) (sym (list_any-keys-filter (λ (x : LivePort). x.address) p k a ports up) ∙ list_any_at (λ n. n == a) (addresses (filter p ports)) i d lt (same a))
-  where
-    same : (n : ℕ) → n == n ≡ true
-    same n = grind (arith, nat_tests)
-
-    some : (o : Option LivePort) → option_map_or p o false ≡ true → IsSome o
-    some None e = absurd (false_true e)
-    some (Some x) e = refl
 
 pub few_listed : (p : LivePort → Bool) (limit : ℕ) (ports : List LivePort) → length ports ≤ limit → limit ≤ 1000 → length (addresses (filter p ports)) ≤ 1000
 few_listed p limit ports few most = let l : length (addresses (filter p ports)) ≤ length ports = shorter ports in omega (arith, l, few, most)

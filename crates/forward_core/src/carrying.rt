@@ -10,15 +10,15 @@ ghost use Rattle.fab_policy.specs.Heard.{decoded, sender, carried, ask_of};
 ghost use Rattle.fab_policy.specs.declared.verdict.Verdict.TheVariants.{Granted, NsLogin};
 ghost use Rattle.fab_policy.specs.declared.verdict.Verdict.TheVariants.{Registered};
 ghost use Rattle.fab_roster.specs.Changes.{IsSoundRoll};
+ghost use Rattle.fab_roster.specs.Roll.{addresses_of};
 ghost use Rattle.forward_core.specs.Carrying.{CarriesOut, HasRight, IsDecoded, Asks};
 ghost use Rattle.forward_core.specs.Carrying.{left_to, ended_by};
 
 use ct_messages::CtAsk;
-use fab_base::{Enode, FcId, IdList, NoMemory, PortNo, Wwn};
+use fab_base::{Enode, FcId, NoMemory, PortNo, Wwn};
 use fab_policy::{Heard, Verdict, What, frames_are_carried, tables_change};
-use fab_roster::{Request, Roster};
+use fab_roster::{Login, LoginList, Request, Roster};
 use fab_sending::asker;
-use login_table::Login;
 use std::alloc::Global;
 
 /// Carries out a verdict that needs nothing beside itself.
@@ -66,14 +66,18 @@ pub(crate) fn register(roster: &mut Roster, heard: &Heard<'_>, ask: &CtAsk<'_>)
     roster.register(asker(heard).s_id, ask);
 }
 
-/// The addresses of the logins that a login request ends.
-pub(crate) fn ended(alloc: Global, roster: &Roster, request: &Request) -> Result<IdList, NoMemory>
-    ensures { IfOk result (λ ids. ids ≡ ended_by request.now roster.now.tables) }
+/// The logins that a login request ends.
+pub(crate) fn ended(
+    alloc: Global,
+    roster: &Roster,
+    request: &Request,
+) -> Result<LoginList, NoMemory>
+    ensures { IfOk result (λ l. addresses_of l ≡ ended_by request.now roster.now.tables) }
 {
     if request.flogi {
         return roster.of_enode(alloc, &request.enode);
     }
-    Ok(IdList::empty(alloc))
+    Ok(LoginList::empty(alloc))
 }
 
 /// A login request is granted an address that is free for it. The logins that it ends are these.
@@ -82,7 +86,7 @@ pub(crate) fn grant(
     request: &Request,
     node: Wwn,
     address: FcId,
-    ended: &IdList,
+    ended: &LoginList,
 )
     requires clock { IsSome roster.old.tables.clock }
     requires sound { IsSoundRoll roster.old }
@@ -90,7 +94,7 @@ pub(crate) fn grant(
     requires name { list_any (λ q. q.name == request.now.name)
         (left_to request.now roster.old.tables) ≡ false }
     requires room { length (left_to request.now roster.old.tables) < roster.old.limit }
-    requires ended { ended.now ≡ ended_by request.now roster.old.tables }
+    requires ended { addresses_of ended.now ≡ ended_by request.now roster.old.tables }
     ensures carries { (port : ℕ) (caught : Caught) → Asks port caught request.now node
         → CarriesOut port caught (Granted address) roster.old roster.new }
     ensures live { IsSome (port_at address roster.new.tables.ports) }

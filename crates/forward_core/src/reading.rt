@@ -7,7 +7,7 @@ ghost use Rattle.forward_core.specs.Fabric.{live_at};
 use crate::Fabric;
 use ct_messages::TypeMap;
 use fab_base::{FcId, Moment, Wwn};
-use login_table::Login;
+use fab_roster::Login;
 
 impl Fabric {
     /// The moment of the last tick, and none before the first.

@@ -1,11 +1,12 @@
 //! Ticks of the clock.
-ghost use Rattle.std.specs.Prelude.{◌≡◌, ◌<◌, ◌^◌, ◌∷◌, length, IfOk, IfSome, OnOk, OnErr, IsSome, List, ℕ, ◌≤◌, is_some, true};
+ghost use Rattle.std.specs.Prelude.{◌≡◌, ◌<◌, ◌^◌, ◌∷◌, length, map, IfOk, IfSome, OnOk, OnErr, IsSome, List, ℕ, ◌≤◌, is_some, true};
 ghost use Rattle.fab_policy.specs.Journal.{Journal};
 ghost use Rattle.fab_policy.specs.Legal.{Legal};
 ghost use Rattle.fab_policy.specs.Outputs as outputs;
 ghost use Rattle.fab_policy.specs.Standing.{Stands, Takes};
 ghost use Rattle.fab_policy.specs.Ranged.{AscendFrom};
 ghost use Rattle.fab_policy.specs.State.{addresses, overdue, port_at};
+ghost use Rattle.fab_roster.specs.Roll.{addresses_of, login_of};
 ghost use Rattle.std.specs.List.{All};
 ghost use Rattle.fab_policy.specs.declared.event.Event.TheVariants.{Tick};
 
@@ -14,7 +15,8 @@ use crate::due::in_range;
 use fab_base::{IdList, Moment, NoMemory};
 use fab_config::Config;
 use fab_policy::{Event, fabric_steps, tables_change};
-use fab_sending::tick_sends;
+use fab_roster::LoginList;
+use fab_sending::{is_owed, tick_sends};
 use std::alloc::Global;
 
 impl Fabric {
@@ -40,12 +42,12 @@ impl Fabric {
         tables_change();
         let ended = self.ended_at(alloc, moment)?;
         let sends = tick_sends(alloc, &self.before(), moment, &ended)?;
-        let listed = copied(alloc, &ended)?;
+        let addresses = addresses_of(alloc, &ended)?;
         self.keep(
             alloc,
             Event::Tick {
                 moment,
-                ended: listed,
+                ended: addresses,
             },
             sends,
         )?;
@@ -55,21 +57,21 @@ impl Fabric {
         Ok(ended.len() as u32)
     }
 
-    // The addresses whose logins end at a moment.
-    fn ended_at(&self, alloc: Global, moment: Moment) -> Result<IdList, NoMemory>
-        ensures ids { IfOk result (λ l. l
-            ≡ addresses (overdue self.now.settings self.now.state.tables moment)) }
+    // The logins that end at a moment.
+    fn ended_at(&self, alloc: Global, moment: Moment) -> Result<LoginList, NoMemory>
+        ensures logins { IfOk result (λ l. l
+            ≡ map login_of (overdue self.now.settings self.now.state.tables moment)) }
         ensures live { IfOk result (λ l. All (λ a. IsSome
-            (port_at a self.now.state.tables.ports)) l) }
-        ensures ascending { IfOk result (λ l. AscendFrom 0 l) }
+            (port_at a self.now.state.tables.ports)) (addresses_of l)) }
+        ensures ascending { IfOk result (λ l. AscendFrom 0 (addresses_of l)) }
         ensures few { IfOk result (λ l. length l ≤ 1000) }
     {
         // Law: which logins a tick ends; they are those that are overdue.
         tables_change();
         // For the proof: the values of the configuration are in their ranges.
         in_range(&self.config);
-        let ids = self.roster.overdue(alloc, moment)?;
-        Ok(ids)
+        let logins = self.roster.overdue(alloc, moment)?;
+        Ok(logins)
     }
 }
 
@@ -82,21 +84,18 @@ fn advertised_after(config: &Config, last: Option<Moment>, moment: Moment) -> Op
         → IfSome result (λ m. m < 2 ^ 63) }
 {
     match last {
-        Some(last) if moment.0.saturating_sub(last.0) < u64::from(config.period) => Some(last),
+        Some(began) if !is_owed(config, last, moment) => Some(began),
         _ => Some(moment),
     }
 }
 
-// The addresses once more.
-fn copied(alloc: Global, ids: &IdList) -> Result<IdList, NoMemory>
-    ensures { IfOk result (λ l. l ≡ ids.now) }
+// The addresses of logins.
+fn addresses_of(alloc: Global, logins: &LoginList) -> Result<IdList, NoMemory>
+    ensures { IfOk result (λ ids. ids ≡ addresses_of logins.now) }
 {
-    let mut copy = IdList::empty(alloc);
-    for index in 0..ids.len() {
-        let Some(address) = ids.at(index) else {
-            unreachable!()
-        };
-        copy.push(alloc, *address)?;
+    let mut ids = IdList::empty(alloc);
+    for login in logins.items() {
+        ids.push(alloc, login.address)?;
     }
-    Ok(copy)
+    Ok(ids)
 }

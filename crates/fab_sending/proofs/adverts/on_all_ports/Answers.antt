@@ -1,4 +1,3 @@
-use Rattle.std.proofs.Common.{◌++◌, ◌∷◌, [], ◌≤◌, subst, ◌≡◌}
 use Rattle.fab_sending.proofs.AdvertMade.{advertised_more, advertisements_sendable}
 use Rattle.fab_sending.proofs.adverts.on_all_ports.Goals as goal
 

@@ -1,6 +1,6 @@
 use Rattle.std.proofs.Common.{◌≡◌, ◌-◌, drop, length}
-use Rattle.fab_sending.specs.Clearing.{enodes_at}
+use Rattle.fab_sending.specs.Clearing.{enodes_of}
 use Rattle.fab_sending.proofs.clears.enodes_of.Given as goal
 
 abbrev pub invariant-loop-done : goal.invariant-loop-done
-invariant-loop-done l = l.enodes.items ≡ enodes_at l.roster.tables.ports (drop (length l.ended - l.done) l.ended)
+invariant-loop-done l = l.enodes.items ≡ enodes_of (drop (length l.logins - l.done) l.logins)

@@ -1,16 +1,11 @@
-use Rattle.std.proofs.Common.{◌∙◌, sym, ap}
-use Rattle.std.specs.Option.{option_copied}
-use Rattle.fab_policy.specs.State.{port_at}
-use Rattle.fab_sending.specs.Counting.{told_of_address, with_changes}
-use Rattle.fab_sending.proofs.Counting.{told_more, named_told}
-use Rattle.fab_sending.proofs.Finding.{found_address}
+use Rattle.fab_roster.specs.Roll.{Login, addresses_of}
+use Rattle.fab_sending.specs.Notices.{told_of_name}
+use Rattle.fab_sending.proofs.Counting.{take_item, told_more}
 use Rattle.fab_sending.proofs.noticing.tell_of_ends.Goals as goal
 
-pub loop-index-preserved : goal.loop-index-preserved
-loop-index-preserved c =
-    let T = c.args.before.now.roster.now.tables in
-    let a = c.unwrap-address.result.now in
-    told_more (told_of_address c.args.before.now.config.now T c.args.ended.now) c.args.moment c.args.before.now.rscns c.loop-index.index _ c.args.ended.now c.args.outs.now c.loop-index.outs _
-    (sym c.at.ensures ∙ ap option_copied c.unwrap-address.ensures) c.loop-index.invariant
-    (c.in_ok-tell_of.ensures ∙ ap (with_changes c.args.moment c.args.before.now.rscns c.loop-index.outs)
-    (named_told c.args.before.now.config.now T c.args.ended.now a _ (port_at a T.ports) (sym (ap option_copied c.unwrap-login.ensures) ∙ c.by_address.ensures) (λ p e. found_address a T.ports p e)))
+pub loop-login-preserved : goal.loop-login-preserved
+loop-login-preserved c =
+    let b = c.args.before.now in
+    let ended = c.args.ended.now in
+    told_more (λ (l : Login). told_of_name b.config.now b.roster.now.tables (addresses_of ended) l.address l.name) c.args.moment b.rscns c.loop-login.login-index c.login-item.result ended c.args.outs.now c.loop-login.outs _
+    (take_item c.items-login-items.result.now ended c.loop-login.login-index c.login-item.result c.items-login-items.ensures c.loop-login-test.true c.login-item.is) c.loop-login.invariant c.in_ok-tell_of.ensures

@@ -1,7 +1,8 @@
-use Rattle.std.proofs.Common.{◌≡◌, flat_map, take}
-use Rattle.fab_sending.specs.Counting.{told_of_change_at, with_changes}
+use Rattle.std.proofs.Common.{◌≡◌, take}
+use Rattle.fab_roster.specs.Roll.{addresses_of}
+use Rattle.fab_sending.specs.Counting.{told_of_login_changes, with_changes}
 use Rattle.fab_sending.proofs.noticing.tell_of_zones.Given as goal
 
-abbrev pub invariant-loop-index : goal.invariant-loop-index
-invariant-loop-index l =
-    l.outs ≡ with_changes l.moment l.before.rscns l.initial.outs (flat_map (told_of_change_at l.before.config.now l.before.roster.now.tables l.since l.moment l.ended) (take l.index l.live))
+abbrev pub invariant-loop-login : goal.invariant-loop-login
+invariant-loop-login l =
+    l.outs ≡ with_changes l.moment l.before.rscns l.initial.outs (told_of_login_changes l.before.config.now l.before.roster.now.tables l.since l.moment (addresses_of l.ended) (take l.login-index l.live))

@@ -5,14 +5,18 @@ use Rattle.state_change.specs.Watchers.{Watching}
 use Rattle.fab_policy.specs.State.{port_at}
 use Rattle.fab_roster.specs.Changes.{Ends}
 use Rattle.fab_roster.specs.Roll.{Roll, live_of}
+use Rattle.fab_roster.specs.declared.roster.Roster.TheInside.{Inside}
 use Rattle.fab_roster.proofs.EndLemmas.{AfterEnd, end_keeps, end_ends}
 use Rattle.fab_roster.proofs.Found.{true_false}
 use Rattle.fab_roster.proofs.Lookups.{port_of_login}
 use Rattle.fab_roster.proofs.SoundLemmas.{roll_of, sound_roll}
 use Rattle.fab_roster.proofs.roster.Roster.end_at.Goals as goal
 
-after : (c : goal.After-forget-2) → AfterEnd c.args.address c.args.now c.in-Some.gone c.self.inside.pool c.release.new.self c.self.inside.logins c.remove.new.self
-    c.self.inside.voices c.forget_voices.new.voices c.self.inside.registry c.forget.new.self c.self.inside.watchers c.forget-2.new.self
+-- the tables after the end
+abbrev left : (c : goal.After-forget-2) → Inside
+left c = record c.self.inside { pool = c.release.new.self; logins = c.remove.new.self; voices = c.forget_voices.new.voices; registry = c.forget.new.self; watchers = c.forget-2.new.self }
+
+after : (c : goal.After-forget-2) → AfterEnd c.args.address c.args.now c.in-Some.gone c.self.inside (left c)
 after c = record {
   was = sym c.remove.ensures.login ∙ c.in-Some.is;
   limit = ap (λ (t : Logins). t.limit) c.remove.ensures.logins;
@@ -38,16 +42,14 @@ after c = record {
 pub invariant_of-self : goal.invariant_of-self
 invariant_of-self c =
     let i = c.self.inside in
-    end_keeps i.lowest i.count i.limit i.period c.args.address c.args.now i.clock c.in-Some.gone i.pool c.release.new.self i.logins c.remove.new.self
-    i.voices c.forget_voices.new.voices i.registry c.forget.new.self i.watchers c.forget-2.new.self (subst (λ (r : Roll). r.tables.clock ≡ Some c.args.now) (sym c.self.view_is) c.requires.clock) c.self.invariant (after c)
+    end_keeps c.args.address c.args.now c.in-Some.gone i (left c) (subst (λ (r : Roll). r.tables.clock ≡ Some c.args.now) (sym c.self.view_is) c.requires.clock) c.self.invariant (after c)
 
 pub returns-clause-change : goal.returns-clause-change
 returns-clause-change c =
     let i = c.self.inside in
     let new = roll_of i.lowest i.count i.limit i.period i.clock c.release.new.self c.remove.new.self c.forget_voices.new.voices c.forget.new.self c.forget-2.new.self in
     subst (λ (old : Roll). Ends c.args.address old new) c.self.view_is
-    (end_ends i.lowest i.count i.limit i.period c.args.address c.args.now i.clock c.in-Some.gone i.pool c.release.new.self i.logins c.remove.new.self
-    i.voices c.forget_voices.new.voices i.registry c.forget.new.self i.watchers c.forget-2.new.self (subst (λ (r : Roll). r.tables.clock ≡ Some c.args.now) (sym c.self.view_is) c.requires.clock) c.self.invariant (after c))
+    (end_ends c.args.address c.args.now c.in-Some.gone i (left c) (subst (λ (r : Roll). r.tables.clock ≡ Some c.args.now) (sym c.self.view_is) c.requires.clock) c.self.invariant (after c))
 
 pub unreachable-requires : goal.unreachable-requires
 unreachable-requires c =

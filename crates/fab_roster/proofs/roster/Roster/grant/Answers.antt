@@ -9,6 +9,7 @@ use Rattle.fab_policy.specs.Free.{Request, is_free}
 use Rattle.fab_policy.specs.State.{LivePort}
 use Rattle.fab_roster.specs.Changes.{Grants}
 use Rattle.fab_roster.specs.Roll.{Roll}
+use Rattle.fab_roster.specs.declared.roster.Roster.TheInside.{Inside}
 use Rattle.fab_roster.proofs.FreeLemmas.{free_absent}
 use Rattle.fab_roster.proofs.GrantLemmas.{AfterGrant, grant_grants, grant_keeps}
 use Rattle.fab_roster.proofs.Lookups.{any_login}
@@ -43,8 +44,11 @@ enter-requires-clause-room c =
     entry_room i.lowest i.count i.limit i.clock i.pool i.logins i.voices i.registry i.watchers c.self.invariant.0 c.self.invariant.1
     (subst (λ (r : Roll). length r.tables.ports < r.limit) (sym c.self.view_is) c.requires.room)
 
-after : (c : goal.After-enter) → AfterGrant c.in-Some.now c.args.login c.self.inside.pool c.take.new.self c.self.inside.logins c.add.new.self
-    c.self.inside.voices c.heard-2.new.self c.self.inside.registry c.enter.new.self c.self.inside.watchers
+-- the tables after the grant
+abbrev held : (c : goal.After-enter) → Inside
+held c = record c.self.inside { pool = c.take.new.self; logins = c.add.new.self; voices = c.heard-2.new.self; registry = c.enter.new.self }
+
+after : (c : goal.After-enter) → AfterGrant c.in-Some.now c.args.login c.self.inside (held c)
 after c =
     let i = c.self.inside in
     let x = c.args.login in
@@ -76,8 +80,7 @@ after c =
 pub invariant_of-self : goal.invariant_of-self
 invariant_of-self c =
     let i = c.self.inside in
-    grant_keeps i.lowest i.count i.limit i.period c.in-Some.now i.clock c.args.login i.pool c.take.new.self i.logins c.add.new.self
-    i.voices c.heard-2.new.self i.registry c.enter.new.self i.watchers c.in-Some.is c.self.invariant (after c)
+    grant_keeps c.in-Some.now c.args.login i (held c) c.in-Some.is c.self.invariant (after c)
 
 pub returns-clause-change : goal.returns-clause-change
 returns-clause-change c =
@@ -85,8 +88,7 @@ returns-clause-change c =
     let x = c.args.login in
     let new = roll_of i.lowest i.count i.limit i.period i.clock c.take.new.self c.add.new.self c.heard-2.new.self c.enter.new.self i.watchers in
     subst (λ (old : Roll). Grants x.address (record { name = x.name; node = x.node; enode = x.enode }) old new) c.self.view_is
-    (grant_grants i.lowest i.count i.limit i.period c.in-Some.now i.clock x i.pool c.take.new.self i.logins c.add.new.self
-    i.voices c.heard-2.new.self i.registry c.enter.new.self i.watchers c.in-Some.is c.self.invariant (after c))
+    (grant_grants c.in-Some.now x i (held c) c.in-Some.is c.self.invariant (after c))
 
 pub returns-clause-sound : goal.returns-clause-sound
 returns-clause-sound c =

@@ -1,28 +1,16 @@
-use Rattle.std.proofs.Common.{ap, ◌∙◌, sym, option_map}
+use Rattle.std.proofs.Common.{ap, ◌∙◌, option_map}
 use Rattle.fab_policy.specs.State.{port_at}
-use Rattle.fab_roster.specs.Roll.{Roll}
-use Rattle.fab_roster.proofs.TablesRead.{heard_of, heard_none, heard_there, node_there, port_there}
+use Rattle.fab_roster.proofs.Lookups.{found_login, none_found}
+use Rattle.fab_roster.proofs.TablesRead.{heard_of}
 use Rattle.fab_roster.proofs.roster.Roster.heard_at.Goals as goal
 
 pub returns-in_err-login : goal.returns-in_err-login
-returns-in_err-login c =
-    let i = c.self.inside in
-    c.from_residual.ensures
-    ∙ heard_none i.lowest i.count i.clock i.pool i.logins i.voices i.registry i.watchers c.self.invariant.0 c.args.address (sym c.in_err-login.ensures.login)
-    ∙ ap (λ (r : Roll). option_map heard_of (port_at c.args.address r.tables.ports)) c.self.view_is
+returns-in_err-login c = c.from_residual.ensures ∙ none_found heard_of (port_at c.args.address c.args.self.now.tables.ports) c.in_err-login.ensures
 
-pub returns-in_err-node : goal.returns-in_err-node
-returns-in_err-node c =
-    let i = c.self.inside in
-    absurd (node_there i.lowest i.count i.clock i.pool i.logins i.voices i.registry i.watchers c.self.invariant.0 c.args.address c.in_ok-login.login.now (sym c.in_ok-login.ensures.login) (sym c.in_err-node.ensures.moment))
-
-pub returns-in_err-port : goal.returns-in_err-port
-returns-in_err-port c =
-    let i = c.self.inside in
-    absurd (port_there i.lowest i.count i.clock i.pool i.logins i.voices i.registry i.watchers c.self.invariant.0 c.args.address c.in_ok-login.login.now (sym c.in_ok-login.ensures.login) (sym c.in_err-port.ensures.moment))
+pub heard-requires : goal.heard-requires
+heard-requires c = record { live = (found_login c.args.address c.args.self.now.tables.ports c.in_ok-login.login.now c.in_ok-login.ensures).1 }
 
 pub returns : goal.returns
 returns c =
-    let i = c.self.inside in
-    heard_there i.lowest i.count i.clock i.pool i.logins i.voices i.registry i.watchers c.self.invariant.0 c.args.address c.in_ok-node.node c.in_ok-port.port c.in_ok-login.login.now (sym c.in_ok-login.ensures.login) (sym c.in_ok-node.ensures.moment) (sym c.in_ok-port.ensures.moment)
-    ∙ ap (λ (r : Roll). option_map heard_of (port_at c.args.address r.tables.ports)) c.self.view_is
+    let ports = c.args.self.now.tables.ports in
+    c.heard.ensures ∙ ap (λ a. option_map heard_of (port_at a ports)) (found_login c.args.address ports c.in_ok-login.login.now c.in_ok-login.ensures).0

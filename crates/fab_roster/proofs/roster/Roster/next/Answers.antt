@@ -1,13 +1,10 @@
-use Rattle.std.proofs.Common.{◌≡◌, ap, ◌∙◌, ◌&&◌, nat_le, option_map, find, Bool, true, false, refl}
+use Rattle.std.proofs.Common.{ap, ◌∙◌, nat_le, option_map, find, true}
 use Rattle.login_table.specs.declared.login.Login.{Login}
 use Rattle.fab_policy.specs.State.{LivePort}
 use Rattle.fab_roster.specs.Roll.{Roll}
 use Rattle.fab_roster.proofs.Lookups.{next_port}
+use Rattle.fab_roster.proofs.Ports.{and_true}
 use Rattle.fab_roster.proofs.roster.Roster.next.Goals as goal
-
-and_true : (b : Bool) → b ≡ b && true
-and_true true = refl
-and_true false = refl
 
 pub returns : goal.returns
 returns c =

@@ -1,9 +1,11 @@
-use Rattle.std.proofs.Common.{◌+◌, [], ◌∷◌, ◌++◌, length, refl, sym, subst}
+use Rattle.std.proofs.Common.{◌+◌, ◌∙◌, [], ◌∷◌, ◌++◌, length, ap, refl, sym, subst}
 use Rattle.fab_policy.specs.Outputs.{notices}
 use Rattle.fab_policy.specs.Standing.{Contents, Takes}
 use Rattle.fab_policy.specs.State.{addresses, overdue}
 use Rattle.fab_policy.specs.Steps.{after}
 use Rattle.fab_policy.specs.declared.event.Event.TheVariants.{Tick}
+use Rattle.fab_roster.specs.Roll.{addresses_of}
+use Rattle.fab_sending.proofs.Counting.{addresses_same}
 use Rattle.fab_sending.specs.Sends.{AreSent, state_before}
 use Rattle.forward_core.specs.Fabric.{contents_of}
 use Rattle.forward_core.specs.Turns.{Keeps}
@@ -14,13 +16,13 @@ use Rattle.forward_core.proofs.fabric.Fabric.tick.Goals as goal
 pub keep-requires-clause-sendable : goal.keep-requires-clause-sendable
 keep-requires-clause-sendable c =
     let b = c.before-2.result in
-    (sent_for b.config.now c.args.self.now.settings b.ports c.args.self.now.count (state_before b) c.args.self.now.state (Tick c.args.moment c.in_ok-ended.ended) (c.args.self.now.events ++ Tick c.args.moment c.in_ok-listed.listed ∷ []) c.in_ok-sends.sends
-    c.before-2.ensures.config c.before-2.ensures.ports c.before-2.ensures.state (c.in_ok-sends.ensures.sent (c.args.self.now.events ++ Tick c.args.moment c.in_ok-listed.listed ∷ []))).sendable
+    (sent_for b.config.now c.args.self.now.settings b.ports c.args.self.now.count (state_before b) c.args.self.now.state (Tick c.args.moment (addresses_of c.in_ok-ended.ended)) (c.args.self.now.events ++ Tick c.args.moment c.in_ok-addresses.addresses ∷ []) c.in_ok-sends.sends
+    c.before-2.ensures.config c.before-2.ensures.ports c.before-2.ensures.state (c.in_ok-sends.ensures.sent (c.args.self.now.events ++ Tick c.args.moment c.in_ok-addresses.addresses ∷ []))).sendable
 
 pub keep-requires-clause-rscns : goal.keep-requires-clause-rscns
 keep-requires-clause-rscns c =
     let b = c.before-2.result in
-    few_changes ((state_before b).rscns + length (notices b.config.now (state_before b).tables (after b.config.now (state_before b).tables (Tick c.args.moment c.in_ok-ended.ended)) (Tick c.args.moment c.in_ok-ended.ended)))
+    few_changes ((state_before b).rscns + length (notices b.config.now (state_before b).tables (after b.config.now (state_before b).tables (Tick c.args.moment (addresses_of c.in_ok-ended.ended))) (Tick c.args.moment (addresses_of c.in_ok-ended.ended))))
     c.in_ok-sends.sends.rscns (c.in_ok-sends.ensures.sent []).rscns
 
 turn : (c : goal.After-drop-ended-inside-2) → Takes c.args.self.now (Tick c.args.moment (addresses (overdue c.args.self.now.settings c.args.self.now.state.tables c.args.moment)))
@@ -28,12 +30,12 @@ turn : (c : goal.After-drop-ended-inside-2) → Takes c.args.self.now (Tick c.ar
 turn c =
     let b = c.before-2.result in
     let F = c.args.self.now in
-    tick_takes c.tables_change.ensures.tick F c.self.inside c.self.invariant c.args.moment c.in_ok-listed.listed c.in_ok-ended.ended c.in_ok-sends.sends c.set_clock.new.self c.end_all.new.self c.advertised_after-self-inside.result
-    (subst (λ (K : Contents). Keeps F (Tick c.args.moment c.in_ok-listed.listed) c.in_ok-sends.sends K) (sym c.self.view_is) c.in_ok-keep.ensures.ok)
-    (subst (λ l. AreSent F.settings F.count F.state (Tick c.args.moment l) (F.events ++ Tick c.args.moment l ∷ []) c.in_ok-sends.sends) (sym c.in_ok-listed.ensures)
-    (sent_for b.config.now F.settings b.ports F.count (state_before b) F.state (Tick c.args.moment c.in_ok-ended.ended) (F.events ++ Tick c.args.moment c.in_ok-ended.ended ∷ []) c.in_ok-sends.sends
-    c.before-2.ensures.config c.before-2.ensures.ports c.before-2.ensures.state (c.in_ok-sends.ensures.sent (F.events ++ Tick c.args.moment c.in_ok-ended.ended ∷ []))))
-    c.in_ok-listed.ensures c.in_ok-ended.ensures.ids c.set_clock.ensures.change c.end_all.ensures.change c.end_all.ensures.sound (c.advertised_after-self-inside.ensures.after c.in_ok-ended.ended)
+    tick_takes c.tables_change.ensures.tick F c.self.inside c.self.invariant c.args.moment c.in_ok-addresses.addresses (addresses_of c.in_ok-ended.ended) c.in_ok-sends.sends c.set_clock.new.self c.end_all.new.self c.advertised_after-self-inside.result
+    (subst (λ (K : Contents). Keeps F (Tick c.args.moment c.in_ok-addresses.addresses) c.in_ok-sends.sends K) (sym c.self.view_is) c.in_ok-keep.ensures.ok)
+    (subst (λ l. AreSent F.settings F.count F.state (Tick c.args.moment l) (F.events ++ Tick c.args.moment l ∷ []) c.in_ok-sends.sends) (sym c.in_ok-addresses.ensures)
+    (sent_for b.config.now F.settings b.ports F.count (state_before b) F.state (Tick c.args.moment (addresses_of c.in_ok-ended.ended)) (F.events ++ Tick c.args.moment (addresses_of c.in_ok-ended.ended) ∷ []) c.in_ok-sends.sends
+    c.before-2.ensures.config c.before-2.ensures.ports c.before-2.ensures.state (c.in_ok-sends.ensures.sent (F.events ++ Tick c.args.moment (addresses_of c.in_ok-ended.ended) ∷ []))))
+    c.in_ok-addresses.ensures (ap addresses_of c.in_ok-ended.ensures.logins ∙ addresses_same (overdue F.settings F.state.tables c.args.moment)) c.set_clock.ensures.change c.end_all.ensures.change c.end_all.ensures.sound (c.advertised_after-self-inside.ensures.after (addresses_of c.in_ok-ended.ended))
 
 pub returns-clause-takes : goal.returns-clause-takes
 returns-clause-takes c = turn c

@@ -4,15 +4,17 @@ use Rattle.fab_config.specs.Settings.{Settings}
 use Rattle.state_change.specs.Watchers.{recipients}
 use Rattle.fab_policy.specs.State.{addresses}
 use Rattle.fab_roster.specs.Reaching.{zones_of, told_at}
+use Rattle.fab_roster.specs.Roll.{addresses_of}
 use Rattle.fab_roster.proofs.Reached.{left, told_law}
-use Rattle.fab_roster.proofs.roster.Roster.told.Goals as goal
+use Rattle.fab_roster.proofs.roster.Roster.recipients.Goals as goal
 
 pub returns : goal.returns
 returns c =
     let i = c.self.inside in
+    let but = addresses_of c.args.but.now in
     IfOk-weaker c.reached.result
-    (λ ids. ids ≡ left c.args.but.now (recipients c.args.zones.now c.now.result c.args.name i.watchers.watchers))
-    (λ ids. (s : Settings) → c.args.zones.now ≡ zones_of s → ids ≡ addresses (told_at s c.args.self.now.tables c.args.name c.args.but.now))
+    (λ ids. ids ≡ left but (recipients c.args.zones.now c.now.result c.args.name i.watchers.watchers))
+    (λ ids. (s : Settings) → c.args.zones.now ≡ zones_of s → ids ≡ addresses (told_at s c.args.self.now.tables c.args.name but))
     (λ ids is s same. is ∙ told_law i.lowest i.count i.clock i.pool i.logins i.voices i.registry i.watchers c.self.invariant.0 i.limit i.period c.args.self.now c.self.view_is
-    s c.args.zones.now same c.now.result c.args.name c.args.but.now c.now.ensures)
+    s c.args.zones.now same c.now.result c.args.name but c.now.ensures)
     c.reached.ensures
