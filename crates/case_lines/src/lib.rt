@@ -9,4 +9,4 @@ mod words;
 pub use edge::{read_input, write_output};
 pub use printing::{put, put_address, put_hex, put_line, put_mac, put_name, put_number};
 pub use values::{bytes_of, number_of};
-pub use words::{is_remark, next_line, next_word, word_at};
+pub use words::{is_remark, next_line, word_at};

@@ -1,7 +1,9 @@
 //! The lines of a text and the words of a line.
-ghost use Rattle.std.specs.Prelude.{◌≡◌, ◌≤◌, ◌<◌, ◌+◌, ◌↔◌, [], ◌∷◌, false, true};
-ghost use Rattle.std.specs.Prelude.{IfSome, IsNone, MatchOption, length, slice_index, take, drop};
+ghost use Rattle.std.specs.Prelude.{◌≡◌, ◌≤◌, ◌<◌, ◌+◌, ◌↔◌, IfSome, IsNone, length, take, drop};
+ghost use Rattle.fab_config.specs.Lines.{words};
 ghost use Rattle.case_lines.specs.Words as spec;
+
+use fab_config::next_word;
 
 /// The first line of a text, without its line feed, and the text behind it.
 pub fn next_line(text: &[u8]) -> Option<(&[u8], &[u8])>
@@ -34,59 +36,9 @@ fn line_length(text: &[u8]) -> usize
     text.len()
 }
 
-/// The first word of a line, and what is behind it.
-pub fn next_word(line: &[u8]) -> Option<(&[u8], &[u8])>
-    ensures words { MatchOption result (spec.words line.now ≡ []) (λ p. spec.words line.now
-        ≡ p.0.now ∷ spec.words p.1.now) }
-    ensures less { MatchOption result (0 ≤ 0) (λ p. length p.1.now < length line.now) }
-{
-    let start = word_start(line);
-    if start == line.len() {
-        return None;
-    }
-    let rest = &line[start..];
-    let end = word_end(rest);
-    Some((&rest[..end], &rest[end..]))
-}
-
-// The place of the first byte that is no blank, or the length.
-fn word_start(line: &[u8]) -> usize
-    ensures bound { result ≤ length line.now }
-    ensures words { spec.words line.now ≡ spec.words (drop result line.now) }
-    ensures found { result < length line.now → spec.is_blank (slice_index line.now result) ≡ false }
-{
-    for (i, byte) in line.iter().enumerate() {
-        if !is_blank(*byte) {
-            return i;
-        }
-    }
-    line.len()
-}
-
-// The length of the word at the front.
-fn word_end(line: &[u8]) -> usize
-    ensures bound { result ≤ length line.now }
-    ensures word { spec.words line.now
-        ≡ spec.words_from (take result line.now) (drop result line.now) }
-    ensures found { result < length line.now → spec.is_blank (slice_index line.now result) ≡ true }
-{
-    for (i, byte) in line.iter().enumerate() {
-        if is_blank(*byte) {
-            return i;
-        }
-    }
-    line.len()
-}
-
-fn is_blank(byte: u8) -> bool
-    ensures { result ≡ spec.is_blank byte }
-{
-    byte == b' ' || byte == b'\t'
-}
-
 /// The word at an index of a line, and no bytes where it has so few.
 pub fn word_at(line: &[u8], index: usize) -> &[u8]
-    ensures { result.now ≡ spec.word_at (spec.words line.now) index }
+    ensures { result.now ≡ spec.word_at (words line.now) index }
 {
     match next_word(line) {
         None => &[],

@@ -19,7 +19,8 @@ pub use named::LAST_MOMENT;
 pub use reading::{ConfigError, read_config};
 use std::marker::Model;
 use thiserror::Error;
-pub use writing::write_config;
+pub use words::next_word;
+pub use writing::{octet_text, put_octets, write_config};
 
 /// Port names.
 pub type NameList = OwnedList<Wwn>;

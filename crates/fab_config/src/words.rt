@@ -51,8 +51,8 @@ fn ends_in_return(line: &[u8]) -> bool
     !line.is_empty() && line[line.len() - 1] == b'\r'
 }
 
-/// The first word of a line, and what is behind it.
-pub(crate) fn next_word(line: &[u8]) -> Option<(&[u8], &[u8])>
+/// The first word of a line, and what is behind it: words stand between runs of spaces and tabs.
+pub fn next_word(line: &[u8]) -> Option<(&[u8], &[u8])>
     ensures words { MatchOption result (spec.words line.now ≡ []) (λ p. spec.words line.now
         ≡ p.0.now ∷ spec.words p.1.now) }
     ensures less { MatchOption result (0 ≤ 0) (λ p. length p.1.now < length line.now) }

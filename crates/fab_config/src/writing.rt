@@ -100,13 +100,15 @@ fn write_octets(key: &[u8], bytes: &[u8], out: &mut Vec<u8>) -> Result<(), Alloc
     out.extend_from_slice(b"\n")
 }
 
-fn put_octets(bytes: &[u8], out: &mut Vec<u8>) -> Result<(), AllocError>
+/// Appends octets as `read_mac` and `read_name` read them, in lower case. Where memory is refused,
+/// a front of them may stand there.
+pub fn put_octets(bytes: &[u8], out: &mut Vec<u8>) -> Result<(), AllocError>
     ensures { OnOk result (out.new.items ≡ out.old.items ++ spec.octets_text bytes.now) }
 {
     let Some((first, rest)) = bytes.split_first() else {
         return Ok(());
     };
-    out.extend_from_slice(&pair(*first))?;
+    out.extend_from_slice(&octet_text(*first))?;
     put_colons(rest, out)
 }
 
@@ -116,14 +118,14 @@ fn put_colons(bytes: &[u8], out: &mut Vec<u8>) -> Result<(), AllocError>
         ≡ out.old.items ++ flat_map (λ c. 58 ∷ hex 2 c) bytes.now) }
 {
     for byte in bytes {
-        let [high, low] = pair(*byte);
+        let [high, low] = octet_text(*byte);
         out.extend_from_slice(&[b':', high, low])?;
     }
     Ok(())
 }
 
-// The two digits of a byte.
-fn pair(byte: u8) -> [u8; 2]
+/// The two digits of a byte, in lower case.
+pub fn octet_text(byte: u8) -> [u8; 2]
     ensures { result ≡ hex 2 byte }
 {
     let mut digits = [0; 2];

@@ -3,7 +3,7 @@ use Rattle.std.proofs.Math.Facts.{Fits-lt-pow}
 use Rattle.hex.specs.Hex.{encode_lower}
 use Rattle.fab_base.proofs.TextLemmas.{encode_lower-hex}
 use Rattle.fab_base.proofs.LayoutLemmas.{AreBytes}
-use Rattle.fab_config.proofs.writing.pair.Goals as goal
+use Rattle.fab_config.proofs.writing.octet_text.Goals as goal
 
 pub returns : goal.returns
 returns c =
