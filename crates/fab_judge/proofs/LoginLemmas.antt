@@ -1,9 +1,9 @@
 -- Logins that are found, counted and left.
-use Rattle.std.proofs.Common.{◌≡◌, ℕ, ◌+◌, ◌≤◌, ◌<◌, ◌==◌, nat_le, Bool, true, false, cond, not, ◌&&◌, ◌||◌, List, [], ◌∷◌, length, filter, find, Option, Some, None, option_map, is_some, refl, sym, ap, subst, ◌∙◌, arith}
-use Rattle.std.proofs.lemmas.Bool.{and_parts}
+use Rattle.std.proofs.Common.{◌≡◌, ℕ, ◌+◌, ◌≤◌, ◌<◌, ◌==◌, nat_le, Bool, true, false, cond, not, ◌&&◌, ◌||◌, List, [], ◌∷◌, length, map, filter, find, Some, None, option_map, is_some, refl, sym, ap, ◌∙◌, arith}
 use Rattle.std.proofs.lemmas.Bool.Decides.{nat_tests}
+use Rattle.std.proofs.lemmas.List.{length-map}
 use Rattle.std.specs.List.{list_any}
-use Rattle.fab_base.specs.Keyed.{AscendFrom}
+use Rattle.fab_roster.specs.Roll.{Login, login_of}
 use Rattle.fab_policy.specs.State.{LivePort}
 use Rattle.fab_policy.specs.Verdicts.{Judgement, Must, unless_refused}
 use Rattle.fab_policy.specs.declared.verdict.Verdict.TheVariants.{Rejected}
@@ -26,78 +26,6 @@ module _ (t : LivePort → Bool) where
       by_test true h = refl
       by_test false h = h
 
-  -- ---- how many pass
-
-  pub count_all : (ports : List LivePort) → filter (λ p. nat_le 0 p.address && t p) ports ≡ filter t ports
-  count_all [] = refl
-  count_all (p ∷ ports) =
-      ap (λ b. cond (b && t p) (p ∷ filter (λ p. nat_le 0 p.address && t p) ports) (filter (λ p. nat_le 0 p.address && t p) ports)) (at_least_zero p.address)
-      ∙ ap (λ rest. cond (t p) (p ∷ rest) rest) (count_all ports)
-
-  -- bounds that no login is below make no difference
-  bounds_agree : (m n k : ℕ) (ports : List LivePort) → m ≤ k → n ≤ k → AscendFrom (λ p. p.address) k ports →
-      filter (λ p. nat_le m p.address && t p) ports ≡ filter (λ p. nat_le n p.address && t p) ports
-  bounds_agree m n k [] le_m le_n h = refl
-  bounds_agree m n k (p ∷ ports) le_m le_n h =
-      ap (λ b. cond (b && t p) (p ∷ filter (λ p. nat_le m p.address && t p) ports) (filter (λ p. nat_le m p.address && t p) ports)) (both m n le_m le_n)
-      ∙ ap (λ rest. cond (nat_le n p.address && t p) (p ∷ rest) rest) (bounds_agree m n (p.address + 1) ports (omega (arith, le_m, h.0)) (omega (arith, le_n, h.0)) h.1)
-    where
-      both : (m n : ℕ) → m ≤ k → n ≤ k → nat_le m p.address ≡ nat_le n p.address
-      both m n le_m le_n = let above : k ≤ p.address = h.0 in grind (arith, nat_tests)
-
-  -- what is found isn't below the bound
-  found_above : (s : LivePort → Bool) (k : ℕ) (ports : List LivePort) (q : LivePort) → AscendFrom (λ p. p.address) k ports → find s ports ≡ Some q → k ≤ q.address
-  found_above s k [] q h e = cc
-  found_above s k (p ∷ ports) q h e = by_test (s p) e (found_above s (p.address + 1) ports q h.1)
-    where
-      by_test : (b : Bool) → cond b (Some p) (find s ports) ≡ Some q → (find s ports ≡ Some q → p.address + 1 ≤ q.address) → k ≤ q.address
-      by_test true e ih = let is : p ≡ q = cc in subst (λ x. k ≤ x.address) is h.0
-      by_test false e ih = let above : p.address + 1 ≤ q.address = ih e in let le : k ≤ p.address = h.0 in omega arith
-
-  -- the first that is found counts one, and behind it are the others
-  pub count_next : (from k : ℕ) (ports : List LivePort) (q : LivePort) → AscendFrom (λ p. p.address) k ports →
-      find (λ p. nat_le from p.address && t p) ports ≡ Some q →
-      length (filter (λ p. nat_le from p.address && t p) ports) ≡ length (filter (λ p. nat_le (q.address + 1) p.address && t p) ports) + 1
-  count_next from k [] q h e = cc
-  count_next from k (p ∷ ports) q h e = by_test (nat_le from p.address && t p) refl e (count_next from (p.address + 1) ports q h.1)
-    where
-      -- the first isn't counted any more
-      drops : nat_le (q.address + 1) p.address ≡ false →
-          length (cond (nat_le (q.address + 1) p.address && t p) (p ∷ filter (λ p. nat_le (q.address + 1) p.address && t p) ports) (filter (λ p. nat_le (q.address + 1) p.address && t p) ports))
-          ≡ length (filter (λ p. nat_le (q.address + 1) p.address && t p) ports)
-      drops out = ap (λ b. length (cond (b && t p) (p ∷ filter (λ p. nat_le (q.address + 1) p.address && t p) ports) (filter (λ p. nat_le (q.address + 1) p.address && t p) ports))) out
-
-      by_test : (b : Bool) → nat_le from p.address && t p ≡ b → cond b (Some p) (find (λ p. nat_le from p.address && t p) ports) ≡ Some q →
-          (find (λ p. nat_le from p.address && t p) ports ≡ Some q → length (filter (λ p. nat_le from p.address && t p) ports) ≡ length (filter (λ p. nat_le (q.address + 1) p.address && t p) ports) + 1) →
-          length (cond b (p ∷ filter (λ p. nat_le from p.address && t p) ports) (filter (λ p. nat_le from p.address && t p) ports))
-          ≡ length (cond (nat_le (q.address + 1) p.address && t p) (p ∷ filter (λ p. nat_le (q.address + 1) p.address && t p) ports) (filter (λ p. nat_le (q.address + 1) p.address && t p) ports)) + 1
-      by_test true s e ih =
-          let same : q.address ≡ p.address = (let is : p ≡ q = cc in ap (λ x. x.address) (sym is)) in
-          let out : nat_le (q.address + 1) p.address ≡ false = grind (arith, nat_tests) in
-          let first : nat_le from p.address ≡ true = (and_parts (nat_le from p.address) (t p) s).0 in
-          let low : from ≤ p.address + 1 = grind (arith, nat_tests) in
-          let high : q.address + 1 ≤ p.address + 1 = omega (arith, same) in
-          let lengths : length (filter (λ p. nat_le from p.address && t p) ports) ≡ length (filter (λ p. nat_le (q.address + 1) p.address && t p) ports)
-          = ap length (bounds_agree from (q.address + 1) (p.address + 1) ports low high h.1) in
-          let left = drops out in
-          omega (arith, lengths, left)
-      by_test false s e ih =
-          let above : p.address + 1 ≤ q.address = found_above (λ p. nat_le from p.address && t p) (p.address + 1) ports q h.1 e in
-          let out : nat_le (q.address + 1) p.address ≡ false = grind (arith, nat_tests) in
-          let left = drops out in
-          let rest = ih e in
-          omega (arith, left, rest)
-
-  pub count_none : (from : ℕ) (ports : List LivePort) → find (λ p. nat_le from p.address && t p) ports ≡ None → length (filter (λ p. nat_le from p.address && t p) ports) ≡ 0
-  count_none from [] e = refl
-  count_none from (p ∷ ports) e = by_test (nat_le from p.address && t p) e (count_none from ports)
-    where
-      by_test : (b : Bool) → cond b (Some p) (find (λ p. nat_le from p.address && t p) ports) ≡ None →
-          (find (λ p. nat_le from p.address && t p) ports ≡ None → length (filter (λ p. nat_le from p.address && t p) ports) ≡ 0) →
-          length (cond b (p ∷ filter (λ p. nat_le from p.address && t p) ports) (filter (λ p. nat_le from p.address && t p) ports)) ≡ 0
-      by_test true e ih = cc
-      by_test false e ih = ih e
-
   -- those that pass and the others are all
   pub both_counts : (ports : List LivePort) → length (filter t ports) + length (filter (λ p. not (t p)) ports) ≡ length ports
   both_counts [] = refl
@@ -108,42 +36,15 @@ module _ (t : LivePort → Bool) where
       by_test true ih = omega (arith, ih)
       by_test false ih = omega (arith, ih)
 
--- what one more login does to a count of those from a bound on
-pub record Counts (t : LivePort → Bool) (ports : List LivePort) (from next count total : ℕ) : Type 0 where
-  pub fewer : length (filter (λ p. nat_le next p.address && t p) ports) < length (filter (λ p. nat_le from p.address && t p) ports)
-  pub kept : count + 1 + length (filter (λ p. nat_le next p.address && t p) ports) ≡ total
-  pub within : count + 1 ≤ total
+-- no login passes a test that fails
+pub none_pass : (t : LivePort → Bool) (ports : List LivePort) → filter (λ p. false && t p) ports ≡ []
+none_pass t [] = refl
+none_pass t (p ∷ ports) = none_pass t ports
 
-some_found : (o : Option LivePort) (a : ℕ) → Some a ≡ option_map (λ p. p.address) o → (q : LivePort) × (o ≡ Some q) × (q.address ≡ a)
-some_found None a e = cc
-some_found (Some q) a e = (q, refl, same e)
-  where
-    same : Some a ≡ Some q.address → q.address ≡ a
-    same e = cc
-
-pub counts : (t : LivePort → Bool) (ports : List LivePort) (from a next count total : ℕ) → AscendFrom (λ p. p.address) 0 ports →
-    Some a ≡ option_map (λ p. p.address) (find (λ p. nat_le from p.address && t p) ports) → next ≡ a + 1 →
-    count + length (filter (λ p. nat_le from p.address && t p) ports) ≡ total → Counts t ports from next count total
-counts t ports from a next count total h is to sum =
-    let q = some_found (find (λ p. nat_le from p.address && t p) ports) a is in
-    let one : q.0.address + 1 ≡ next = omega (arith, to, q.2) in
-    let step : length (filter (λ p. nat_le from p.address && t p) ports) ≡ length (filter (λ p. nat_le next p.address && t p) ports) + 1 =
-    count_next t from 0 ports q.0 h q.1 ∙ ap (λ n. length (filter (λ p. nat_le n p.address && t p) ports) + 1) one in
-    record { fewer = omega (arith, step); kept = omega (arith, step, sum); within = omega (arith, step, sum) }
-
-pub counted : (t : LivePort → Bool) (ports : List LivePort) (from count total : ℕ) → None ≡ option_map (λ p. p.address) (find (λ p. nat_le from p.address && t p) ports) →
-    count + length (filter (λ p. nat_le from p.address && t p) ports) ≡ total → count ≡ total
-counted t ports from count total is sum =
-    let none : length (filter (λ p. nat_le from p.address && t p) ports) ≡ 0 = count_none t from ports (no_address (find (λ p. nat_le from p.address && t p) ports) is) in
-    omega (arith, none, sum)
-  where
-    no_address : (o : Option LivePort) → None ≡ option_map (λ p. p.address) o → o ≡ None
-    no_address None e = refl
-    no_address (Some q) e = cc
-
-pub all_stay : (ports : List LivePort) → filter (λ p. true) ports ≡ ports
-all_stay [] = refl
-all_stay (p ∷ ports) = ap (λ rest. p ∷ rest) (all_stay ports)
+-- the logins that end and those that stay are all
+pub ends_and_stays : (t : LivePort → Bool) (ports : List LivePort) (ended : List Login) → ended ≡ map login_of (filter t ports) →
+    length ended + length (filter (λ p. not (t p)) ports) ≡ length ports
+ends_and_stays t ports ended e = omega (arith, both_counts t ports, ap length e ∙ length-map (filter t ports) login_of)
 
 -- ---- one name
 
@@ -204,22 +105,16 @@ full_row fp missing offers name full j e1 e2 e3 e4 e5 = rw (e1, e2, e3, e4, e5) 
 pub no_row : (fp missing offers name full : Bool) (j : Judgement) → fp ≡ true → missing ≡ false → offers ≡ true → name ≡ false → full ≡ false → login_by fp missing offers name full j ≡ j
 no_row fp missing offers name full j e1 e2 e3 e4 e5 = rw (e1, e2, e3, e4, e5) refl
 
--- neither full nor without an address
-pub has_room : (limit left : ℕ) (free : Bool) → nat_le limit left || not free ≡ false → (free ≡ true) × (left < limit)
-has_room limit left free e = go (nat_le limit left) refl free e
-  where
-    go : (b : Bool) → nat_le limit left ≡ b → (free : Bool) → b || not free ≡ false → (free ≡ true) × (left < limit)
-    go true s free e = cc
-    go false s true e = (refl, grind (arith, nat_tests))
-    go false s false e = cc
-
 pub or_false : (a b : Bool) → a || b ≡ false → (a ≡ false) × (b ≡ false)
 or_false true b e = cc
 or_false false b e = (refl, e)
 
-pub more_than : (m n : ℕ) → n < m → nat_le m n ≡ false
-more_than m n lt = grind (arith, nat_tests)
+-- whether there is no room or no address, by the room
+pub no_room : (limit left : ℕ) (free : Bool) → limit ≤ left → true ≡ nat_le limit left || not free
+no_room limit left free h = let is : true ≡ nat_le limit left = grind (arith, nat_tests) in ap (λ b. b || not free) is
 
-pub flipped : (x y : Bool) → y ≡ not x → x ≡ not y
-flipped true y e = ap not (sym e)
-flipped false y e = ap not (sym e)
+pub some_room : (limit left : ℕ) (free : Bool) → left < limit → not free ≡ nat_le limit left || not free
+some_room limit left free h = let is : false ≡ nat_le limit left = grind (arith, nat_tests) in ap (λ b. b || not free) is
+
+pub has_room : (limit left : ℕ) → nat_le limit left ≡ false → left < limit
+has_room limit left e = grind (arith, nat_tests)

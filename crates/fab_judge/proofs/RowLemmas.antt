@@ -4,7 +4,7 @@ use Rattle.std.proofs.lemmas.Bool.{and_parts}
 use Rattle.std.proofs.lemmas.Bool.Decides.{nat_tests}
 use Rattle.els_messages.specs.Els as els
 use Rattle.fc_frames.specs.Frame as fc
-use Rattle.login_table.specs.declared.login.Login.{Login}
+use Rattle.fab_roster.specs.Roll.{Login}
 use Rattle.fab_policy.specs.Cause.{Cause}
 use Rattle.fab_policy.specs.Heard.{plain}
 use Rattle.fab_policy.specs.Rules.{is_service, is_els_request, is_ct_request, is_bad_els, SERVICES, holds}

@@ -1,38 +1,47 @@
 -- What the tables say of a frame, and what of it a step can rely on.
-use Rattle.std.specs.Prelude.{◌≡◌, ℕ, ◌<◌, Bool, true, false, ◌==◌, length, Some, None, Ok, Err, IsSome, IsTrue}
+use Rattle.std.specs.Prelude.{◌≡◌, ℕ, ◌<◌, ◌&&◌, Bool, true, false, ◌==◌, length, List, map, filter, Some, None, Ok, Err, IsSome, IsTrue}
 use Rattle.std.specs.List.{list_any}
 use Rattle.fab_base.specs.Fabric.{same_enode}
 use Rattle.fab_base.specs.declared.values.Caught.{Caught}
 use Rattle.fab_base.specs.declared.values.Enode.{Enode}
 use Rattle.fab_config.specs.Settings.{Settings}
 use Rattle.fc_frames.specs.Frame as fc
+use Rattle.fc_frames.specs.declared.FcHeader.{FcHeader}
 use Rattle.els_messages.specs.Els as els
 use Rattle.ct_messages.specs.Ct as ct
 use Rattle.ct_messages.specs.CanWrite.{CanTell, CanWrite, HasByte}
 use Rattle.ct_messages.specs.Server.{is_registration, registration_refusal}
 use Rattle.ct_messages.specs.declared.CtTell.{CtTell}
 use Rattle.state_change.specs.Watchers.{is_function}
-use Rattle.fab_policy.specs.Free.{Request, has_free}
+use Rattle.fab_policy.specs.Free.{Request, is_free}
 use Rattle.fab_policy.specs.Heard.{sender, is_flogi, carried}
 use Rattle.fab_policy.specs.Queries.{query}
+use Rattle.fab_policy.specs.Replies.{Asker}
 use Rattle.fab_policy.specs.State.{LivePort, Tables, port_at}
 use Rattle.fab_policy.specs.Verdicts as policy
 use Rattle.fab_policy.specs.Verdicts.{Judgement, staying}
 use Rattle.fab_policy.specs.declared.verdict.Verdict.{Verdict}
-use Rattle.fab_policy.specs.declared.verdict.Verdict.TheVariants.{Granted, Logout, AliveNode, AlivePort, NsLogin, NsLogout, Watching, Registered, Answered, Refused, Noted, Forwarded}
+use Rattle.fab_policy.specs.declared.verdict.Verdict.TheVariants.{Dropped, Vlans, Advertised, Rejected, Logout, AliveNode, AlivePort, NsLogin, NsLogout, Watching, Registered, Answered, Refused, Noted, Forwarded}
 use Rattle.fab_roster.specs.Changes.{IsSize}
+use Rattle.fab_roster.specs.Roll.{Login, login_of}
+use Rattle.fab_judge.specs.declared.judging.Candidate.{Candidate}
 use Rattle.fab_judge.specs.declared.judging.Judged.{Judged}
-use Rattle.fab_judge.specs.declared.judging.Judged.TheVariants.{Must, MayGrant, ServerLogin, Registers, Answers}
+use Rattle.fab_judge.specs.declared.judging.Judged.TheVariants.{Must, Replied, MayGrant, ServerLogin, Registers, Answers}
 
 -- the judgement of the policy that it stands for
 abbrev pub judgement_of : Judged → Judgement
 judgement_of (Must verdict) = policy.Must verdict
-judgement_of (MayGrant request node) = policy.MayGrant request
-judgement_of (ServerLogin size) = policy.Must NsLogin
-judgement_of Registers = policy.Must Registered
-judgement_of (Answers tell) = policy.Must Answered
+judgement_of (Replied verdict to) = policy.Must verdict
+judgement_of (MayGrant login) = policy.MayGrant login.request
+judgement_of (ServerLogin to size) = policy.Must NsLogin
+judgement_of (Registers to) = policy.Must Registered
+judgement_of (Answers to tell size) = policy.Must Answered
 
 -- ---- what a frame's verdict rests on: x is the ENode that sent it, and f the FC frame that it carries
+
+-- whom a reply answers: the sender of a frame by its MAC, and the header that the frame carries
+abbrev pub asker_by : List ℕ → FcHeader → Asker
+asker_by mac head = record { mac = mac; d_id = head.d_id; s_id = head.s_id; ox_id = head.ox_id }
 
 -- the S_ID of the frame has a login
 abbrev pub HasSource : Tables → fc.Frame → Type 0
@@ -46,31 +55,42 @@ ask_in f = elim (ct.decoded f.payload) [ Ok ask ↦ ask | Err fault ↦ ct.Unkno
 abbrev pub GoesTo : Tables → fc.Frame → ℕ → Type 0
 GoesTo T f port = (q : LivePort) × (port_at f.head.d_id T.ports ≡ Some q) × (port ≡ q.enode.port)
 
--- A verdict that needs nothing beside itself.
+-- the logins that a request ends, if it is granted: a FLOGI those of its ENode
+abbrev pub ended_by : Request → Tables → List Login
+ended_by r T = map login_of (filter (λ p. r.flogi && same_enode p.enode r.enode) T.ports)
+
+-- A verdict that sends no reply, or one that needs nothing but the frame.
 abbrev pub VerdictRests : Tables → Enode → fc.Frame → Verdict → Type 0
+VerdictRests T x f (Dropped cause) = Unit {0}
+VerdictRests T x f Vlans = Unit {0}
+VerdictRests T x f Advertised = Unit {0}
 VerdictRests T x f AliveNode = list_any (λ p. same_enode p.enode x) T.ports ≡ true
 VerdictRests T x f (AlivePort a) = IsSome (port_at a T.ports)
-VerdictRests T x f (Logout a) = IsSome (port_at a T.ports)
-VerdictRests T x f NsLogout = HasSource T f
-VerdictRests T x f (Watching function) = HasSource T f × IsTrue (is_function function)
-VerdictRests T x f (Refused reason explanation) = HasSource T f
 VerdictRests T x f Noted = HasSource T f
 VerdictRests T x f (Forwarded port) = GoesTo T f port
-VerdictRests T x f (Granted a) = ⊥
-VerdictRests T x f NsLogin = ⊥
-VerdictRests T x f Registered = ⊥
-VerdictRests T x f Answered = ⊥
-VerdictRests T x f _ = Unit {0}
+VerdictRests T x f _ = ⊥
 
--- A login that may be granted: it asks for itself, its name is new, and there is a free address and room for it.
-pub record GrantRests (c : Settings) (T : Tables) (x : Enode) (flogi : Bool) (f : fc.Frame) (r : Request) (node : ℕ) : Type 0 where
-  pub flogi_is : r.flogi ≡ flogi
-  pub enode : r.enode ≡ x
-  pub name : r.name ≡ (els.parms_of f.payload).port_name
-  pub node_is : node ≡ (els.parms_of f.payload).node_name
-  pub free : has_free T r ≡ true
-  pub fresh : list_any (λ q. q.name == r.name) (staying c T r) ≡ false
-  pub room : length (staying c T r) < c.limit
+-- A verdict that is replied to the sender of the frame, and needs nothing else.
+abbrev pub ReplyRests : Tables → fc.Frame → Verdict → Type 0
+ReplyRests T f (Rejected reason explanation) = Unit {0}
+ReplyRests T f (Logout a) = IsSome (port_at a T.ports)
+ReplyRests T f NsLogout = HasSource T f
+ReplyRests T f (Watching function) = HasSource T f × IsTrue (is_function function)
+ReplyRests T f (Refused reason explanation) = HasSource T f
+ReplyRests T f _ = ⊥
+
+-- A login that may be granted: it asks for itself, its name is new, this address is free for it, and there is room.
+pub record GrantRests (c : Settings) (T : Tables) (x : Enode) (flogi : Bool) (f : fc.Frame) (login : Candidate) : Type 0 where
+  pub flogi_is : login.request.flogi ≡ flogi
+  pub enode : login.request.enode ≡ x
+  pub name : login.request.name ≡ (els.parms_of f.payload).port_name
+  pub node_is : login.node ≡ (els.parms_of f.payload).node_name
+  pub to_is : login.to ≡ asker_by x.mac f.head
+  pub several_is : login.several ≡ els.has_feature 0x8000 (els.parms_of f.payload)
+  pub free_is : IsTrue (is_free T login.request login.free)
+  pub ended_is : login.ended ≡ ended_by login.request T
+  pub fresh : list_any (λ q. q.name == login.request.name) (staying c T login.request) ≡ false
+  pub room : length (staying c T login.request) < c.limit
 
 -- A login to the name server of a live N_Port, with a receive size at which answers can be cut.
 pub record ServerRests (T : Tables) (f : fc.Frame) (size : ℕ) : Type 0 where
@@ -87,19 +107,21 @@ pub record RegistrationRests (T : Tables) (f : fc.Frame) : Type 0 where
   pub writes : CanWrite (ask_in f)
   pub allowed : (b : LivePort) → port_at f.head.s_id T.ports ≡ Some b → registration_refusal b.address b.values.node_name (ask_in f) ≡ None
 
--- The answer to a query of a live N_Port that is logged in to the name server.
-pub record AnswerRests (c : Settings) (T : Tables) (f : fc.Frame) (tell : CtTell) : Type 0 where
+-- The answer to a query of a live N_Port that is logged in to the name server with this receive size.
+pub record AnswerRests (c : Settings) (T : Tables) (f : fc.Frame) (tell : CtTell) (size : ℕ) : Type 0 where
   pub live : HasSource T f
   pub told : (b : LivePort) → port_at f.head.s_id T.ports ≡ Some b → tell ≡ query c T b (ask_in f)
   pub writes : CanTell tell
-  pub server : (b : LivePort) → port_at f.head.s_id T.ports ≡ Some b → IsSome b.server
+  pub server : (b : LivePort) → port_at f.head.s_id T.ports ≡ Some b → b.server ≡ Some size
 
+-- What a judgement rests on: x is the ENode that sent the frame, and whom a reply answers is its sender.
 abbrev pub Rests : Settings → Tables → Enode → Bool → fc.Frame → Judged → Type 0
 Rests c T x flogi f (Must verdict) = VerdictRests T x f verdict
-Rests c T x flogi f (MayGrant request node) = GrantRests c T x flogi f request node
-Rests c T x flogi f (ServerLogin size) = ServerRests T f size
-Rests c T x flogi f Registers = RegistrationRests T f
-Rests c T x flogi f (Answers tell) = AnswerRests c T f tell
+Rests c T x flogi f (Replied verdict to) = ReplyRests T f verdict × (to ≡ asker_by x.mac f.head)
+Rests c T x flogi f (MayGrant login) = GrantRests c T x flogi f login
+Rests c T x flogi f (ServerLogin to size) = ServerRests T f size × (to ≡ asker_by x.mac f.head)
+Rests c T x flogi f (Registers to) = RegistrationRests T f × (to ≡ asker_by x.mac f.head)
+Rests c T x flogi f (Answers to tell size) = AnswerRests c T f tell size × (to ≡ asker_by x.mac f.head)
 
 -- What the verdict of a frame rests on.
 abbrev pub Grounds : Settings → Tables → ℕ → Caught → Judged → Type 0

@@ -3,7 +3,7 @@ ghost use Rattle.std.specs.Prelude.{◌≡◌, ◌<◌, nat_lt, true, false, dro
 ghost use Rattle.std.specs.Prelude.{Bool, Some, None, IfOk, option_map};
 ghost use Rattle.eth_frames.specs.Ethernet.{Eth, view as eth_view};
 ghost use Rattle.fab_base.specs.declared.values.Enode.{Enode};
-ghost use Rattle.fab_judge.specs.Judged.{judgement_of, Rests};
+ghost use Rattle.fab_judge.specs.Judged.{asker_by, judgement_of, Rests};
 ghost use Rattle.fab_judge.specs.Rows.{unless_dropped};
 ghost use Rattle.fab_policy.specs.Rules as rules;
 ghost use Rattle.fab_policy.specs.Rules.{fcoe_rows};
@@ -16,16 +16,17 @@ ghost use Rattle.fcoe_codec.specs.Fcoe.{view as fcoe_view};
 
 use crate::Judged;
 use crate::frames::{granted_mac, is_same};
+use crate::sender::asker;
 use crate::services::judge_request;
 use crate::verdicts::dropped;
 use eth_frames::EthFrame;
 use fab_base::{Moment, NoMemory, PortNo};
 use fab_config::Config;
 use fab_policy::{Rule, Verdict};
-use fab_roster::Roster;
+use fab_replies::Asker;
+use fab_roster::{Login, Roster};
 use fc_frames::SERVICES;
 use fcoe_codec::FcoeFrame;
-use login_table::Login;
 use std::alloc::Global;
 use zone_rules::Zones;
 
@@ -44,6 +45,7 @@ pub(crate) fn judge_fcoe(
         (fcoe_rows config.now roster.now.tables port (eth_view eth.now) (fcoe_view body.now))
         (fcoe_judged config.now roster.now.tables (fc_view body.now.frame))) }
     ensures grounds { IfOk result (λ j. (x : Enode) (flogi : Bool)
+        → x.mac ≡ (eth_view eth.now).src
         → Rests config.now roster.now.tables x flogi (fc_view body.now.frame) j) }
 {
     if !body.is_class3() {
@@ -55,7 +57,9 @@ pub(crate) fn judge_fcoe(
     if !is_same(&eth.src, &granted_mac(config, body.frame.head.s_id)) {
         return Ok(dropped(Rule::SourceMac));
     }
-    judge_sent(alloc, config, zones, roster, port, body)
+    let to = asker(&eth.src, &body.frame.head);
+    let judged = judge_sent(alloc, config, zones, roster, port, body, to)?;
+    Ok(judged)
 }
 
 // The judgement of a frame with the MAC of its S_ID.
@@ -66,12 +70,14 @@ fn judge_sent(
     roster: &Roster,
     port: PortNo,
     body: &FcoeFrame<'_>,
+    to: Asker,
 ) -> Result<Judged, NoMemory>
     requires zones { zones.now ≡ zones_of config.now }
     ensures judged { IfOk result (λ j. (f : Eth) → judgement_of j ≡ unless_dropped
         (drop 3 (fcoe_rows config.now roster.now.tables port f (fcoe_view body.now)))
         (fcoe_judged config.now roster.now.tables (fc_view body.now.frame))) }
     ensures grounds { IfOk result (λ j. (x : Enode) (flogi : Bool)
+        → to ≡ asker_by x.mac body.now.frame.head
         → Rests config.now roster.now.tables x flogi (fc_view body.now.frame) j) }
 {
     let Some(login) = roster.by_address(body.frame.head.s_id) else {
@@ -83,7 +89,8 @@ fn judge_sent(
     if body.frame.head.d_id.value() < SERVICES {
         return Ok(judge_data(config, zones, roster, port, login, body));
     }
-    judge_request(alloc, config, zones, roster, port, login, body)
+    let judged = judge_request(alloc, config, zones, roster, port, login, body, to)?;
+    Ok(judged)
 }
 
 // The judgement of a frame of a live N_Port to an N_Port.

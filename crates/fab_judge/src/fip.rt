@@ -1,5 +1,5 @@
 //! Messages of FIP that no rule on the frame itself drops (FC-BB-5, "FIP operations").
-ghost use Rattle.std.specs.Prelude.{◌≡◌, ◌∷◌, [], not, Some};
+ghost use Rattle.std.specs.Prelude.{◌≡◌, ◌∷◌, [], not, Some, IfOk};
 ghost use Rattle.std.specs.List.{list_any};
 ghost use Rattle.eth_frames.specs.Ethernet.{Eth};
 ghost use Rattle.fab_base.specs.Fabric.{same_enode};
@@ -15,34 +15,37 @@ ghost use Rattle.fip_codec.specs.Message.{view as fip_view};
 
 use crate::Judged;
 use crate::frames::{granted_mac, is_same};
-use crate::logins::judge_login;
+use crate::logins::{LoginAsk, judge_login};
 use crate::sender::Sender;
 use crate::verdicts::dropped;
-use fab_base::Mac;
+use fab_base::{Mac, NoMemory};
 use fab_config::Config;
 use fab_policy::{Rule, Verdict, frames_are_carried};
 use fab_roster::Roster;
 use fip_codec::{FipMessage, VxPort};
+use std::alloc::Global;
 
 /// The judgement of a message.
 pub(crate) fn judge_fip(
+    alloc: Global,
     config: &Config,
     roster: &Roster,
     from: &Sender,
     message: &FipMessage<'_>,
-) -> Judged
+) -> Result<Judged, NoMemory>
     requires { (f : Eth) × (decoded from.now.caught ≡ Fip f (fip_view message.now)) }
-    ensures judged { judgement_of result ≡ unless_dropped
+    ensures judged { IfOk result (λ j. judgement_of j ≡ unless_dropped
         (fip_login_rows config.now roster.now.tables from.now.port from.now.caught
         (fip_view message.now))
         (fip_judged config.now roster.now.tables from.now.port from.now.caught
-        (fip_view message.now)) }
-    ensures grounds { Grounds config.now roster.now.tables from.now.port from.now.caught result }
+        (fip_view message.now))) }
+    ensures grounds { IfOk result (λ j.
+        Grounds config.now roster.now.tables from.now.port from.now.caught j) }
 {
     match message {
-        FipMessage::VlanAsk { .. } => Judged::Must(Verdict::Vlans),
-        FipMessage::Solicit { .. } => Judged::Must(Verdict::Advertised),
-        FipMessage::Keep { mac, port } => judge_keep(config, roster, from, mac, port),
+        FipMessage::VlanAsk { .. } => Ok(Judged::Must(Verdict::Vlans)),
+        FipMessage::Solicit { .. } => Ok(Judged::Must(Verdict::Advertised)),
+        FipMessage::Keep { mac, port } => Ok(judge_keep(config, roster, from, mac, port)),
         FipMessage::Login {
             kind,
             fp,
@@ -51,9 +54,15 @@ pub(crate) fn judge_fip(
         } => {
             // Law: what a decoded frame says is what a journal reads from its bytes.
             frames_are_carried();
-            judge_login(config, roster, from, *kind, *fp, frame, mac)
+            let login = LoginAsk {
+                kind: *kind,
+                fp: *fp,
+                mac: *mac,
+            };
+            let judged = judge_login(alloc, config, roster, from, &login, frame)?;
+            Ok(judged)
         }
-        _ => dropped(Rule::FipRole),
+        _ => Ok(dropped(Rule::FipRole)),
     }
 }
 

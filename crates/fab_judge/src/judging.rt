@@ -16,10 +16,11 @@ use crate::sender::Sender;
 use crate::verdicts::dropped;
 use ct_messages::CtTell;
 use eth_frames::EthFrame;
-use fab_base::{NoMemory, PortNo, Wwn};
+use fab_base::{FcId, NoMemory, PortNo, Wwn};
 use fab_config::Config;
 use fab_policy::{Heard, Rule, Verdict, What, frame_rule, frames_are_carried};
-use fab_roster::{Request, Roster};
+use fab_replies::Asker;
+use fab_roster::{LoginList, Request, Roster};
 use fcoe_codec::{FcoeFault, FcoeFrame};
 use std::alloc::Global;
 use zone_rules::Zones;
@@ -27,20 +28,39 @@ use zone_rules::Zones;
 /// What the tables say of a frame, with what a step needs to carry it out.
 #[derive(Debug, Drop)]
 pub enum Judged {
-    /// This verdict, which needs nothing else.
+    /// This verdict, which sends no reply, or one that needs nothing but the frame.
     Must(Verdict),
-    /// A login to which any free address may be granted, and its node name.
-    MayGrant { request: Request, node: Wwn },
+    /// This verdict, which is replied to the sender of the frame.
+    Replied { verdict: Verdict, to: Asker },
+    /// A login to which any free address may be granted.
+    MayGrant(Candidate),
     /// A login to the name server, with this receive size: `ns-login`.
-    ServerLogin { size: u16 },
+    ServerLogin { to: Asker, size: u16 },
     /// A registration that isn't refused: `registered`. The request is read again from the frame.
-    Registers,
-    /// A query that isn't refused, with its answer: `answered`.
-    Answers(CtTell),
+    Registers { to: Asker },
+    /// A query that isn't refused, with its answer, and the receive size at which it is cut:
+    /// `answered`.
+    Answers { to: Asker, tell: CtTell, size: u16 },
+}
+
+/// A login to which an address may be granted, with what carries out the grant.
+#[derive(Debug, Drop)]
+pub struct Candidate {
+    pub request: Request,
+    /// Its node name.
+    pub node: Wwn,
+    /// Whom the accept answers.
+    pub to: Asker,
+    /// Whether it asks for several addresses.
+    pub several: bool,
+    /// An address that is free for it.
+    pub free: FcId,
+    /// The logins that end with the grant: those of the ENode of a FLOGI.
+    pub ended: LoginList,
 }
 
 /// The judgement of a frame that comes on a port, over who is live. The zones are those of the
-/// configuration. Memory is taken where a query is answered, and nowhere else.
+/// configuration. Memory is taken where a query is answered, and for the logins that a FLOGI ends.
 pub fn judge(
     alloc: Global,
     config: &Config,
@@ -64,7 +84,8 @@ pub fn judge(
         What::Bad { .. } => unreachable!(),
         What::Fip { eth, message } => {
             let from = Sender::of(port, heard.caught, eth.src);
-            Ok(judge_fip(config, roster, &from, message))
+            let judged = judge_fip(alloc, config, roster, &from, message)?;
+            Ok(judged)
         }
         What::Fcoe { eth, read } => judge_body(alloc, config, zones, roster, port, eth, read),
     }
@@ -84,16 +105,17 @@ fn judge_body(
     ensures judged { IfOk result (λ j. judgement_of j ≡ body_judged
         config.now roster.now.tables port (eth_view eth.now) (read_view read.now)) }
     ensures grounds { IfOk result (λ j. (x : Enode) (flogi : Bool) (f : Frame)
-        → IsCarried (read_view read.now) f → Rests config.now roster.now.tables x flogi f j) }
+        → x.mac ≡ (eth_view eth.now).src → IsCarried (read_view read.now) f
+        → Rests config.now roster.now.tables x flogi f j) }
 {
     match read {
         Ok(body) => judge_fcoe(alloc, config, zones, roster, port, eth, body),
-        Err(fault) => Ok(unread(*fault)),
+        Err(fault) => Ok(dropped_for(*fault)),
     }
 }
 
-// A body with a fault is dropped.
-fn unread(fault: FcoeFault) -> Judged
+// A body is dropped for its fault.
+fn dropped_for(fault: FcoeFault) -> Judged
     ensures { result ≡ Judged.Must (Verdict.Dropped (rule_of fault)) }
 {
     dropped(match fault {

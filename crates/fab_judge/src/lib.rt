@@ -11,4 +11,4 @@ mod sender;
 mod services;
 mod verdicts;
 
-pub use judging::{Judged, judge};
+pub use judging::{Candidate, Judged, judge};

@@ -1,17 +1,16 @@
 //! Logins and logouts in FIP (FC-LS-2, "FLOGI", "FDISC" and "LOGO").
-ghost use Rattle.std.specs.Prelude.{◌≡◌, ◌==◌, ◌&&◌, ◌||◌, nat_le, ◌∷◌};
-ghost use Rattle.std.specs.Prelude.{[], not, Bool, length, filter};
+ghost use Rattle.std.specs.Prelude.{◌≡◌, ◌==◌, ◌&&◌, ◌||◌, nat_le, ◌∷◌, IfOk, IfSome, IsTrue};
+ghost use Rattle.std.specs.Prelude.{[], not, Bool, length, is_some};
 ghost use Rattle.std.specs.List.{list_any};
 ghost use Rattle.els_messages.specs.Els as els_spec;
 ghost use Rattle.fab_base.specs.Fabric.{same_enode};
-ghost use Rattle.fab_base.specs.Keyed.{AscendFrom};
 ghost use Rattle.fab_base.specs.declared.values.Caught.{Caught};
 ghost use Rattle.fab_config.specs.Settings.{Settings};
-ghost use Rattle.fab_judge.specs.Judged.{judgement_of, Rests};
+ghost use Rattle.fab_judge.specs.Judged.{asker_by, ended_by, judgement_of, Rests};
 ghost use Rattle.fab_judge.specs.Origin.{is_flogi_by, begins_with};
 ghost use Rattle.fab_judge.specs.Rows.{unless_dropped};
 ghost use Rattle.fab_policy.specs.Heard.{fc_of, plain, sender};
-ghost use Rattle.fab_policy.specs.Free.{has_free};
+ghost use Rattle.fab_policy.specs.Free.{has_free, is_free};
 ghost use Rattle.fab_policy.specs.Rules as rules;
 ghost use Rattle.fab_policy.specs.State.{port_at};
 ghost use Rattle.fab_policy.specs.Verdicts as verdicts;
@@ -19,140 +18,165 @@ ghost use Rattle.fab_policy.specs.Written.{HaveDifferentNames};
 ghost use Rattle.fc_frames.specs.Frame.{Frame, view as fc_view};
 ghost use Rattle.fip_codec.specs.Message as fip;
 
-use crate::Judged;
 use crate::fip::is_known;
 use crate::frames::{granted_mac, is_els_request, is_same};
 use crate::sender::Sender;
 use crate::verdicts::{dropped, rejected};
+use crate::{Candidate, Judged};
 use els_messages::reject::{
     COMMAND_NOT_SUPPORTED, INSUFFICIENT_RESOURCES, LOGICAL_ERROR, NO_EXPLANATION,
     REQUEST_NOT_SUPPORTED, UNABLE_TO_PERFORM,
 };
-use els_messages::{Els, FDISC, FLOGI, LOGO, LoginParms, read_els};
-use fab_base::{Enode, FcId, Mac, Wwn};
+use els_messages::{Els, FDISC, FLOGI, Feature, LOGO, LoginParms, read_els};
+use fab_base::{Enode, FcId, Mac, NoMemory, Wwn};
 use fab_config::Config;
 use fab_policy::{Rule, Verdict};
-use fab_roster::{Request, Roster};
+use fab_replies::Asker;
+use fab_roster::{LoginList, Request, Roster};
 use fc_frames::{FABRIC_PORT, FcFrame, read_frame};
 use fip_codec::LoginKind;
+use std::alloc::Global;
+
+/// What the descriptor of a login says beside its FC frame.
+#[derive(Clone, Copy)]
+pub(crate) struct LoginAsk {
+    pub(crate) kind: LoginKind,
+    pub(crate) fp: bool,
+    pub(crate) mac: Mac,
+}
 
 /// The judgement of the login of a descriptor, with the FC frame in it.
 pub(crate) fn judge_login(
+    alloc: Global,
     config: &Config,
     roster: &Roster,
     from: &Sender,
-    kind: LoginKind,
-    fp: bool,
+    asked: &LoginAsk,
     frame: &[u8],
-    mac: &Mac,
-) -> Judged
-    ensures judged { judgement_of result ≡ unless_dropped
-        ((rules.is_unreadable (fip.Login kind fp frame.now mac.now), plain Rule.ElsShort)
-        ∷ (rules.is_wrong_login (fip.Login kind fp frame.now mac.now), plain Rule.ElsKind) ∷ [])
+) -> Result<Judged, NoMemory>
+    ensures judged { IfOk result (λ j. let message
+        = fip.Login asked.now.kind asked.now.fp frame.now asked.now.mac in
+        judgement_of j ≡ unless_dropped ((rules.is_unreadable message, plain Rule.ElsShort)
+        ∷ (rules.is_wrong_login message, plain Rule.ElsKind) ∷ [])
         (verdicts.frame_judged config.now roster.now.tables from.now.port from.now.caught
-        fp kind (fc_of frame.now) mac.now) }
-    ensures grounds { Rests config.now roster.now.tables (sender from.now.port from.now.caught)
-        (is_flogi_by kind from.now.caught) (fc_of frame.now) result }
+        asked.now.fp asked.now.kind (fc_of frame.now) asked.now.mac)) }
+    ensures grounds { IfOk result (λ j. Rests config.now roster.now.tables
+        (sender from.now.port from.now.caught)
+        (is_flogi_by asked.now.kind from.now.caught) (fc_of frame.now) j) }
 {
     let Ok(frame) = read_frame(frame) else {
-        return dropped(Rule::ElsShort);
+        return Ok(dropped(Rule::ElsShort));
     };
     let Ok(els) = read_els(frame.payload) else {
-        return dropped(Rule::ElsShort);
+        return Ok(dropped(Rule::ElsShort));
     };
-    if is_misplaced(kind, &frame) {
-        return dropped(Rule::ElsKind);
+    if is_misplaced(asked.kind, &frame) {
+        return Ok(dropped(Rule::ElsKind));
     }
-    judge_command(config, roster, from, kind, fp, &frame, &els, mac)
+    let judged = judge_command(alloc, config, roster, from, asked, &frame, &els)?;
+    Ok(judged)
 }
 
 // The judgement of the link service of a login.
 fn judge_command(
+    alloc: Global,
     config: &Config,
     roster: &Roster,
     from: &Sender,
-    kind: LoginKind,
-    fp: bool,
+    asked: &LoginAsk,
     frame: &FcFrame<'_>,
     els: &Els<'_>,
-    mac: &Mac,
-) -> Judged
+) -> Result<Judged, NoMemory>
     requires value { els_spec.payload_of frame.now.payload.now ≡ els_spec.view els.now }
     requires grammar { els_spec.IsEls (els_spec.view els.now) frame.now.payload.now }
-    ensures judged { judgement_of result
-        ≡ verdicts.frame_judged config.now roster.now.tables from.now.port from.now.caught
-        fp kind (fc_view frame.now) mac.now }
-    ensures grounds { Rests config.now roster.now.tables (sender from.now.port from.now.caught)
-        (is_flogi_by kind from.now.caught) (fc_view frame.now) result }
+    ensures judged { IfOk result (λ j. judgement_of j ≡ verdicts.frame_judged config.now
+        roster.now.tables from.now.port from.now.caught asked.now.fp asked.now.kind
+        (fc_view frame.now) asked.now.mac) }
+    ensures grounds { IfOk result (λ j. Rests config.now roster.now.tables
+        (sender from.now.port from.now.caught)
+        (is_flogi_by asked.now.kind from.now.caught) (fc_view frame.now) j) }
 {
+    let to = from.asker(&frame.head);
     match els {
         Els::Flogi(parms) | Els::Fdisc(parms) => {
-            judge_request(config, roster, from, kind, fp, parms)
+            let judged = judge_request(alloc, config, roster, from, asked, parms, to)?;
+            Ok(judged)
         }
         Els::Logo { address, name } => {
-            judge_logout(config, roster, from, frame.head.s_id, mac, *address, *name)
+            let judged = judge_logout(config, roster, from, &asked.mac, *address, *name, to);
+            Ok(judged)
         }
-        _ => dropped(Rule::ElsKind),
+        _ => Ok(dropped(Rule::ElsKind)),
     }
 }
 
 // The judgement of a FLOGI or FDISC.
 fn judge_request(
+    alloc: Global,
     config: &Config,
     roster: &Roster,
     from: &Sender,
-    kind: LoginKind,
-    fp: bool,
+    asked: &LoginAsk,
     parms: &LoginParms,
-) -> Judged
-    ensures judged { judgement_of result
-        ≡ verdicts.login_judged config.now roster.now.tables from.now.port from.now.caught
-        fp kind parms.now }
-    ensures grounds { (f : Frame) → els_spec.parms_of f.payload ≡ parms.now
+    to: Asker,
+) -> Result<Judged, NoMemory>
+    ensures judged { IfOk result (λ j. judgement_of j ≡ verdicts.login_judged config.now
+        roster.now.tables from.now.port from.now.caught asked.now.fp asked.now.kind parms.now) }
+    ensures grounds { IfOk result (λ j. (f : Frame) → els_spec.parms_of f.payload ≡ parms.now
+        → to ≡ asker_by (sender from.now.port from.now.caught).mac f.head
         → Rests config.now roster.now.tables (sender from.now.port from.now.caught)
-        (is_flogi_by kind from.now.caught) f result }
+        (is_flogi_by asked.now.kind from.now.caught) f j) }
 {
-    let request = request_of(kind, from, parms);
-    judge_asked(config, roster, from, fp, request, parms)
+    let request = request_of(asked.kind, from, parms);
+    let judged = judge_asked(alloc, config, roster, from, asked.fp, request, parms, to)?;
+    Ok(judged)
 }
 
 // The judgement of what a login asks for.
 fn judge_asked(
+    alloc: Global,
     config: &Config,
     roster: &Roster,
     from: &Sender,
     fp: bool,
     request: Request,
     parms: &LoginParms,
-) -> Judged
-    ensures judged { judgement_of result ≡ verdicts.unless_refused
+    to: Asker,
+) -> Result<Judged, NoMemory>
+    ensures judged { IfOk result (λ j. judgement_of j ≡ verdicts.unless_refused
         (verdicts.login_rows config.now roster.now.tables from.now.port from.now.caught
-        fp request parms.now) (verdicts.MayGrant request) }
-    ensures grounds { (x : Enode) (flogi : Bool) (f : Frame)
+        fp request parms.now) (verdicts.MayGrant request)) }
+    ensures grounds { IfOk result (λ j. (x : Enode) (flogi : Bool) (f : Frame)
         → request ≡ record { flogi = flogi; enode = x; name = parms.now.port_name }
-        → els_spec.parms_of f.payload ≡ parms.now
-        → Rests config.now roster.now.tables x flogi f result }
+        → els_spec.parms_of f.payload ≡ parms.now → to ≡ asker_by x.mac f.head
+        → Rests config.now roster.now.tables x flogi f j) }
 {
     if !fp {
-        return rejected(COMMAND_NOT_SUPPORTED, REQUEST_NOT_SUPPORTED);
+        return Ok(rejected(to, COMMAND_NOT_SUPPORTED, REQUEST_NOT_SUPPORTED));
     }
     if is_first_missing(roster, from, &request) {
-        return rejected(UNABLE_TO_PERFORM, NO_EXPLANATION);
+        return Ok(rejected(to, UNABLE_TO_PERFORM, NO_EXPLANATION));
     }
     if !parms.offers_class3() {
-        return rejected(COMMAND_NOT_SUPPORTED, NO_EXPLANATION);
+        return Ok(rejected(to, COMMAND_NOT_SUPPORTED, NO_EXPLANATION));
     }
-    let live = roster.len();
+    // For the proof: the roster is sound, so names differ.
+    let _ = roster.len();
     if is_name_refused(roster, &request) {
-        return rejected(LOGICAL_ERROR, NO_EXPLANATION);
+        return Ok(rejected(to, LOGICAL_ERROR, NO_EXPLANATION));
     }
-    if is_full(config, roster, &request, live) {
-        return rejected(UNABLE_TO_PERFORM, INSUFFICIENT_RESOURCES);
-    }
-    Judged::MayGrant {
+    let ended = ended_by(alloc, roster, &request)?;
+    let Some(free) = free_for(config, roster, &request, &ended) else {
+        return Ok(rejected(to, UNABLE_TO_PERFORM, INSUFFICIENT_RESOURCES));
+    };
+    Ok(Judged::MayGrant(Candidate {
         request,
         node: parms.node_name,
-    }
+        to,
+        several: parms.has_feature(Feature::MultipleNPortIds),
+        free,
+        ended,
+    }))
 }
 
 // Whether an FDISC comes of an ENode without login.
@@ -172,26 +196,38 @@ fn is_name_refused(roster: &Roster, request: &Request) -> bool
     request.name == Wwn(0) || is_taken(roster, request)
 }
 
-// Whether there is no room for one login more than those that stay, or no address for it.
-fn is_full(config: &Config, roster: &Roster, request: &Request, live: u32) -> bool
-    requires ascending { AscendFrom (λ p. p.address) 0 roster.now.tables.ports }
-    requires live { live ≡ length roster.now.tables.ports }
-    ensures { result ≡ (nat_le config.now.limit
-        (length (verdicts.staying config.now roster.now.tables request.now))
-        || not (has_free roster.now.tables request.now)) }
+// The logins that a request ends, if it is granted: a FLOGI those of its ENode.
+fn ended_by(alloc: Global, roster: &Roster, request: &Request) -> Result<LoginList, NoMemory>
+    ensures { IfOk result (λ l. l ≡ ended_by request.now roster.now.tables) }
 {
-    has_no_room(config, roster, request, live) || roster.find(request).is_none()
+    if !request.flogi {
+        return Ok(LoginList::empty(alloc));
+    }
+    let ended = roster.of_enode(alloc, &request.enode)?;
+    Ok(ended)
 }
 
-// Whether there is no room for one login more than those that stay. They are counted where all
-// that are live would leave none.
-fn has_no_room(config: &Config, roster: &Roster, request: &Request, live: u32) -> bool
-    requires ascending { AscendFrom (λ p. p.address) 0 roster.now.tables.ports }
-    requires live { live ≡ length roster.now.tables.ports }
-    ensures { result ≡ nat_le config.now.limit
-        (length (verdicts.staying config.now roster.now.tables request.now)) }
+// An address for the request, where there is room for one login more than those that stay.
+fn free_for(config: &Config, roster: &Roster, request: &Request, ended: &LoginList) -> Option<FcId>
+    requires { ended.now ≡ ended_by request.now roster.now.tables }
+    ensures some { not (is_some result) ≡ (nat_le config.now.limit
+        (length (verdicts.staying config.now roster.now.tables request.now))
+        || not (has_free roster.now.tables request.now)) }
+    ensures free { IfSome result (λ a. IsTrue (is_free roster.now.tables request.now a)) }
 {
-    config.limit <= live && config.limit <= staying(roster, request, live)
+    if config.limit as usize <= staying(roster, request, ended) {
+        return None;
+    }
+    roster.find(request)
+}
+
+// How many of the logins stay after the request.
+fn staying(roster: &Roster, request: &Request, ended: &LoginList) -> usize
+    requires { ended.now ≡ ended_by request.now roster.now.tables }
+    ensures { (c : Settings) → result
+        ≡ length (verdicts.staying c roster.now.tables request.now) }
+{
+    roster.len() as usize - ended.len()
 }
 
 // What a login asks for.
@@ -240,60 +276,31 @@ fn is_same_enode(one: &Enode, other: &Enode) -> bool
     one.port == other.port && is_same(&one.mac, &other.mac)
 }
 
-// How many of the logins stay after the request.
-fn staying(roster: &Roster, request: &Request, live: u32) -> u32
-    requires ascending { AscendFrom (λ p. p.address) 0 roster.now.tables.ports }
-    requires live { live ≡ length roster.now.tables.ports }
-    ensures { (c : Settings) → result
-        ≡ length (verdicts.staying c roster.now.tables request.now) }
-{
-    if request.flogi {
-        live - count_of(roster, &request.enode, live)
-    } else {
-        live
-    }
-}
-
-// How many of the logins are of an ENode.
-fn count_of(roster: &Roster, enode: &Enode, live: u32) -> u32
-    requires ascending { AscendFrom (λ p. p.address) 0 roster.now.tables.ports }
-    requires live { live ≡ length roster.now.tables.ports }
-    ensures { result
-        ≡ length (filter (λ p. same_enode p.enode enode.now) roster.now.tables.ports) }
-{
-    let mut count = 0;
-    let mut from = 0;
-    while let Some(address) = roster.first_of(enode, from) {
-        count += 1;
-        from = address.value() + 1;
-    }
-    count
-}
-
 // The judgement of a LOGO.
 fn judge_logout(
     config: &Config,
     roster: &Roster,
     from: &Sender,
-    s_id: FcId,
     mac: &Mac,
     address: FcId,
     name: Wwn,
+    to: Asker,
 ) -> Judged
     ensures judged { judgement_of result ≡ verdicts.unless_refused
         ((
           not (rules.holds (verdicts.is_own_logout config.now roster.now.tables from.now.port
-              from.now.caught mac.now address name) (port_at s_id roster.now.tables.ports)),
+              from.now.caught mac.now address name) (port_at to.s_id roster.now.tables.ports)),
           (3, 0),
         ) ∷ [])
-        (verdicts.Must (Verdict.Logout s_id)) }
-    ensures grounds { (x : Enode) (flogi : Bool) (f : Frame)
+        (verdicts.Must (Verdict.Logout to.s_id)) }
+    ensures grounds { (x : Enode) (flogi : Bool) (f : Frame) → to ≡ asker_by x.mac f.head
         → Rests config.now roster.now.tables x flogi f result }
 {
-    if !is_own_logout(config, roster, from, s_id, mac, address, name) {
-        return rejected(LOGICAL_ERROR, NO_EXPLANATION);
+    if !is_own_logout(config, roster, from, to.s_id, mac, address, name) {
+        return rejected(to, LOGICAL_ERROR, NO_EXPLANATION);
     }
-    Judged::Must(Verdict::Logout(s_id))
+    let verdict = Verdict::Logout(to.s_id);
+    Judged::Replied { verdict, to }
 }
 
 // Whether a LOGO names the live login of its S_ID, which is one of its sender.

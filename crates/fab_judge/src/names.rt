@@ -7,7 +7,7 @@ ghost use Rattle.ct_messages.specs.Ct as ct;
 ghost use Rattle.ct_messages.specs.Server as server;
 ghost use Rattle.fab_base.specs.declared.values.Enode.{Enode};
 ghost use Rattle.fab_config.specs.Settings.{Settings};
-ghost use Rattle.fab_judge.specs.Judged.{judgement_of, Rests};
+ghost use Rattle.fab_judge.specs.Judged.{asker_by, judgement_of, Rests};
 ghost use Rattle.fab_judge.specs.Told.{told_as, unless_refusal};
 ghost use Rattle.fab_policy.specs.Queries.{fault_refusal, known_to};
 ghost use Rattle.fab_policy.specs.State.{LivePort, port_at};
@@ -24,10 +24,9 @@ use ct_messages::{CtAsk, CtFault, CtTell, a_query_is_no_reject, read_ask};
 use fab_base::NoMemory;
 use fab_config::Config;
 use fab_policy::Verdict;
-use fab_roster::Roster;
+use fab_replies::Asker;
+use fab_roster::{Login, RegFault, Roster};
 use fc_frames::FcFrame;
-use login_table::Login;
-use name_server::RegFault;
 use std::alloc::Global;
 use zone_rules::Zones;
 
@@ -39,6 +38,7 @@ pub(crate) fn judge_ask(
     roster: &Roster,
     login: &Login,
     frame: &FcFrame<'_>,
+    to: Asker,
 ) -> Result<Judged, NoMemory>
     requires zones { zones.now ≡ zones_of config.now }
     requires live { option_map login_of (port_at frame.now.head.s_id roster.now.tables.ports)
@@ -47,31 +47,36 @@ pub(crate) fn judge_ask(
         → port_at frame.now.head.s_id roster.now.tables.ports ≡ Some p → judgement_of j
         ≡ verdicts.ct_judged config.now roster.now.tables p frame.now.payload.now) }
     ensures grounds { IfOk result (λ j. (x : Enode) (flogi : Bool)
+        → to ≡ asker_by x.mac frame.now.head
         → Rests config.now roster.now.tables x flogi (fc_view frame.now) j) }
 {
-    if login.server_size.is_none() {
-        return Ok(refused(UNABLE_TO_PERFORM, ACCESS_DENIED));
-    }
+    let Some(size) = login.server_size else {
+        return Ok(refused(to, UNABLE_TO_PERFORM, ACCESS_DENIED));
+    };
     match read_ask(frame.payload) {
-        Ok(ask) => judge_read(alloc, config, zones, roster, login, frame, &ask),
-        Err(fault) => Ok(unread(fault)),
+        Ok(ask) => {
+            let judged = judge_read(alloc, config, zones, roster, frame, &ask, to, size)?;
+            Ok(judged)
+        }
+        Err(fault) => Ok(refused_for(to, fault)),
     }
 }
 
-// The judgement of a request that was read.
+// The judgement of a request that was read, of an N_Port with this receive size.
 fn judge_read(
     alloc: Global,
     config: &Config,
     zones: &Zones,
     roster: &Roster,
-    login: &Login,
     frame: &FcFrame<'_>,
     ask: &CtAsk<'_>,
+    to: Asker,
+    size: u16,
 ) -> Result<Judged, NoMemory>
     requires zones { zones.now ≡ zones_of config.now }
-    requires live { option_map login_of (port_at frame.now.head.s_id roster.now.tables.ports)
-        ≡ Some login.now }
-    requires server { IsSome login.now.server_size }
+    requires live { IsSome (port_at frame.now.head.s_id roster.now.tables.ports) }
+    requires server { (p : LivePort)
+        → port_at frame.now.head.s_id roster.now.tables.ports ≡ Some p → p.server ≡ Some size }
     requires read { ct.decoded frame.now.payload.now ≡ Ok (view ask.now) }
     requires writes { server.is_registration (view ask.now) ≡ true → CanWrite (view ask.now) }
     requires byte { HasByte (view ask.now) }
@@ -79,16 +84,18 @@ fn judge_read(
         → port_at frame.now.head.s_id roster.now.tables.ports ≡ Some p → judgement_of j
         ≡ verdicts.ct_judged config.now roster.now.tables p frame.now.payload.now) }
     ensures grounds { IfOk result (λ j. (x : Enode) (flogi : Bool)
+        → to ≡ asker_by x.mac frame.now.head
         → Rests config.now roster.now.tables x flogi (fc_view frame.now) j) }
 {
     if is_registration(ask) {
-        return Ok(judge_registration(roster, frame, ask));
+        return Ok(judge_registration(roster, frame, ask, to));
     }
-    judge_query(alloc, config, zones, roster, frame, ask)
+    let judged = judge_query(alloc, config, zones, roster, frame, ask, to, size)?;
+    Ok(judged)
 }
 
 // The judgement of a registration.
-fn judge_registration(roster: &Roster, frame: &FcFrame<'_>, ask: &CtAsk<'_>) -> Judged
+fn judge_registration(roster: &Roster, frame: &FcFrame<'_>, ask: &CtAsk<'_>, to: Asker) -> Judged
     requires live { IsSome (port_at frame.now.head.s_id roster.now.tables.ports) }
     requires read { ct.decoded frame.now.payload.now ≡ Ok (view ask.now) }
     requires registration { server.is_registration (view ask.now) ≡ true }
@@ -99,6 +106,7 @@ fn judge_registration(roster: &Roster, frame: &FcFrame<'_>, ask: &CtAsk<'_>) -> 
         (server.registration_refusal p.address p.values.node_name (view ask.now))
         (verdicts.Must Verdict.Registered) }
     ensures grounds { (c : Settings) (x : Enode) (flogi : Bool)
+        → to ≡ asker_by x.mac frame.now.head
         → Rests c roster.now.tables x flogi (fc_view frame.now) result }
 {
     match roster.refusal(frame.head.s_id, ask) {
@@ -107,8 +115,8 @@ fn judge_registration(roster: &Roster, frame: &FcFrame<'_>, ask: &CtAsk<'_>) -> 
                 reason,
                 explanation,
             },
-        ) => refused(reason, explanation),
-        None => Judged::Registers,
+        ) => refused(to, reason, explanation),
+        None => Judged::Registers { to },
     }
 }
 
@@ -120,11 +128,13 @@ fn judge_query(
     roster: &Roster,
     frame: &FcFrame<'_>,
     ask: &CtAsk<'_>,
+    to: Asker,
+    size: u16,
 ) -> Result<Judged, NoMemory>
     requires zones { zones.now ≡ zones_of config.now }
     requires live { IsSome (port_at frame.now.head.s_id roster.now.tables.ports) }
     requires server { (p : LivePort)
-        → port_at frame.now.head.s_id roster.now.tables.ports ≡ Some p → IsSome p.server }
+        → port_at frame.now.head.s_id roster.now.tables.ports ≡ Some p → p.server ≡ Some size }
     requires read { ct.decoded frame.now.payload.now ≡ Ok (view ask.now) }
     requires query { server.is_registration (view ask.now) ≡ false }
     ensures judged { IfOk result (λ j. (p : LivePort)
@@ -133,44 +143,46 @@ fn judge_query(
         (server.query_refusal (known_to config.now roster.now.tables p) (view ask.now))
         (verdicts.Must Verdict.Answered)) }
     ensures grounds { IfOk result (λ j. (x : Enode) (flogi : Bool)
+        → to ≡ asker_by x.mac frame.now.head
         → Rests config.now roster.now.tables x flogi (fc_view frame.now) j) }
 {
     // Law: the answer to a query is never a reject, so none stands behind a judged Answered.
     a_query_is_no_reject();
     match roster.answer(alloc, config, zones, frame.head.s_id, ask) {
-        Ok(tell) => Ok(answered(tell)),
+        Ok(tell) => Ok(answered(to, tell, size)),
         Err(NoMemory) => Err(NoMemory),
     }
 }
 
 // A request is refused: reason and explanation.
-fn refused(reason: u8, explanation: u8) -> Judged
-    ensures { result ≡ Judged.Must (Verdict.Refused reason explanation) }
+fn refused(to: Asker, reason: u8, explanation: u8) -> Judged
+    ensures { result ≡ Judged.Replied (Verdict.Refused reason explanation) to }
 {
-    Judged::Must(Verdict::Refused(reason, explanation))
+    let verdict = Verdict::Refused(reason, explanation);
+    Judged::Replied { verdict, to }
 }
 
-// A request that can't be read is refused.
-fn unread(fault: CtFault) -> Judged
+// A request that can't be read is refused for its fault.
+fn refused_for(to: Asker, fault: CtFault) -> Judged
     ensures { let why = fault_refusal fault in
-        result ≡ Judged.Must (Verdict.Refused why.0 why.1) }
+        result ≡ Judged.Replied (Verdict.Refused why.0 why.1) to }
 {
     match fault {
-        CtFault::Short | CtFault::Size => refused(INVALID_SIZE, NO_EXPLANATION),
-        CtFault::NotNameServer => refused(COMMAND_NOT_SUPPORTED, NO_EXPLANATION),
+        CtFault::Short | CtFault::Size => refused(to, INVALID_SIZE, NO_EXPLANATION),
+        CtFault::NotNameServer => refused(to, COMMAND_NOT_SUPPORTED, NO_EXPLANATION),
     }
 }
 
 // A query is answered, or refused where its answer says so.
-fn answered(tell: CtTell) -> Judged
-    ensures { result ≡ told_as tell }
+fn answered(to: Asker, tell: CtTell, size: u16) -> Judged
+    ensures { result ≡ told_as to size tell }
 {
     match tell {
         CtTell::Reject {
             reason,
             explanation,
-        } => refused(reason, explanation),
-        tell => Judged::Answers(tell),
+        } => refused(to, reason, explanation),
+        tell => Judged::Answers { to, tell, size },
     }
 }
 

@@ -5,7 +5,7 @@ ghost use Rattle.els_messages.specs.Els as spec;
 ghost use Rattle.eth_frames.specs.Ethernet.{Eth};
 ghost use Rattle.fab_base.specs.declared.values.Enode.{Enode};
 ghost use Rattle.fab_config.specs.Settings.{Settings};
-ghost use Rattle.fab_judge.specs.Judged.{judgement_of, Rests, HasSource};
+ghost use Rattle.fab_judge.specs.Judged.{asker_by, judgement_of, Rests, HasSource};
 ghost use Rattle.fab_judge.specs.Rows.{unless_dropped};
 ghost use Rattle.fab_policy.specs.Rules as rules;
 ghost use Rattle.fab_policy.specs.Rules.{fcoe_rows};
@@ -31,10 +31,10 @@ use els_messages::{Els, LoginParms, read_els};
 use fab_base::{NoMemory, PortNo};
 use fab_config::Config;
 use fab_policy::{Rule, Verdict};
-use fab_roster::Roster;
+use fab_replies::Asker;
+use fab_roster::{Login, Roster};
 use fc_frames::FcFrame;
 use fcoe_codec::FcoeFrame;
-use login_table::Login;
 use std::alloc::Global;
 use zone_rules::Zones;
 
@@ -50,6 +50,7 @@ pub(crate) fn judge_request(
     port: PortNo,
     login: &Login,
     body: &FcoeFrame<'_>,
+    to: Asker,
 ) -> Result<Judged, NoMemory>
     requires zones { zones.now ≡ zones_of config.now }
     requires live { option_map login_of (port_at body.now.frame.head.s_id roster.now.tables.ports)
@@ -59,6 +60,7 @@ pub(crate) fn judge_request(
         (drop 5 (fcoe_rows config.now roster.now.tables port f (fcoe_view body.now)))
         (fcoe_judged config.now roster.now.tables (fc_view body.now.frame))) }
     ensures grounds { IfOk result (λ j. (x : Enode) (flogi : Bool)
+        → to ≡ asker_by x.mac body.now.frame.head
         → Rests config.now roster.now.tables x flogi (fc_view body.now.frame) j) }
 {
     let frame = &body.frame;
@@ -72,30 +74,32 @@ pub(crate) fn judge_request(
         return Ok(Judged::Must(Verdict::Noted));
     }
     if is_els_request(frame) {
-        return Ok(judge_service(login, frame));
+        return Ok(judge_service(login, frame, to));
     }
     if frame.payload.len() < PREAMBLE {
         return Ok(dropped(Rule::CtShort));
     }
-    judge_ask(alloc, config, zones, roster, login, frame)
+    let judged = judge_ask(alloc, config, zones, roster, login, frame, to)?;
+    Ok(judged)
 }
 
 // The judgement of a request of extended link services of a live N_Port to a service.
-fn judge_service(login: &Login, frame: &FcFrame<'_>) -> Judged
+fn judge_service(login: &Login, frame: &FcFrame<'_>, to: Asker) -> Judged
     requires { rules.is_els_request (fc_view frame.now) ≡ true }
     ensures judged { (c : Settings) (T : Tables) (p : LivePort) → login_of p ≡ login.now
         → judgement_of result
         ≡ unless_dropped ((rules.is_bad_els (fc_view frame.now), plain Rule.ElsShort) ∷ [])
         (verdicts.els_judged c T p (fc_view frame.now)) }
     ensures grounds { (c : Settings) (T : Tables) (x : Enode) (flogi : Bool)
-        → HasSource T (fc_view frame.now) → Rests c T x flogi (fc_view frame.now) result }
+        → HasSource T (fc_view frame.now) → to ≡ asker_by x.mac frame.now.head
+        → Rests c T x flogi (fc_view frame.now) result }
 {
     match read_els(frame.payload) {
         Ok(els) => {
             if is_to_names(frame) {
-                to_name_server(login, &els)
+                to_name_server(login, &els, to)
             } else {
-                to_controller(&els)
+                to_controller(&els, to)
             }
         }
         Err(_) => dropped(Rule::ElsShort),
@@ -103,70 +107,77 @@ fn judge_service(login: &Login, frame: &FcFrame<'_>) -> Judged
 }
 
 // The judgement of a link service to the name server.
-fn to_name_server(login: &Login, els: &Els<'_>) -> Judged
+fn to_name_server(login: &Login, els: &Els<'_>, to: Asker) -> Judged
     ensures judged { (c : Settings) (T : Tables) (p : LivePort) (f : Frame) → login_of p ≡ login.now
         → (f.head.d_id == rules.NAME_SERVER) ≡ true → spec.payload_of f.payload ≡ spec.view els.now
         → judgement_of result ≡ verdicts.els_judged c T p f }
     ensures grounds { (c : Settings) (T : Tables) (x : Enode) (flogi : Bool) (f : Frame)
-        → HasSource T f → spec.IsEls (spec.view els.now) f.payload → Rests c T x flogi f result }
+        → HasSource T f → to ≡ asker_by x.mac f.head → spec.IsEls (spec.view els.now) f.payload
+        → Rests c T x flogi f result }
 {
     match els {
-        Els::Plogi(parms) => judge_server_login(login, parms),
-        Els::Logo { .. } => Judged::Must(Verdict::NsLogout),
-        _ => rejected(COMMAND_NOT_SUPPORTED, REQUEST_NOT_SUPPORTED),
+        Els::Plogi(parms) => judge_server_login(login, parms, to),
+        Els::Logo { .. } => Judged::Replied {
+            verdict: Verdict::NsLogout,
+            to,
+        },
+        _ => rejected(to, COMMAND_NOT_SUPPORTED, REQUEST_NOT_SUPPORTED),
     }
 }
 
 // The judgement of a login to the name server.
-fn judge_server_login(login: &Login, parms: &LoginParms) -> Judged
+fn judge_server_login(login: &Login, parms: &LoginParms, to: Asker) -> Judged
     ensures judged { judgement_of result ≡ unless_refused
         ((not (spec.offers_class3 parms.now), (0x0b, 0))
         ∷ (not (parms.now.port_name == login.now.name) || nat_lt parms.now.size 256, (3, 0)) ∷ [])
         (verdicts.Must Verdict.NsLogin) }
     ensures grounds { (c : Settings) (T : Tables) (x : Enode) (flogi : Bool) (f : Frame)
-        → HasSource T f → spec.parms_of f.payload ≡ parms.now → Rests c T x flogi f result }
+        → HasSource T f → to ≡ asker_by x.mac f.head → spec.parms_of f.payload ≡ parms.now
+        → Rests c T x flogi f result }
 {
     if !parms.offers_class3() {
-        return rejected(COMMAND_NOT_SUPPORTED, NO_EXPLANATION);
+        return rejected(to, COMMAND_NOT_SUPPORTED, NO_EXPLANATION);
     }
     if parms.port_name != login.name || parms.size < LEAST_SIZE {
-        return rejected(LOGICAL_ERROR, NO_EXPLANATION);
+        return rejected(to, LOGICAL_ERROR, NO_EXPLANATION);
     }
     Judged::ServerLogin {
+        to,
         size: parms.receive_size(),
     }
 }
 
 // The judgement of a link service to the fabric controller.
-fn to_controller(els: &Els<'_>) -> Judged
+fn to_controller(els: &Els<'_>, to: Asker) -> Judged
     ensures judged { (c : Settings) (T : Tables) (p : LivePort) (f : Frame)
         → (f.head.d_id == rules.NAME_SERVER) ≡ false
         → spec.payload_of f.payload ≡ spec.view els.now
         → judgement_of result ≡ verdicts.els_judged c T p f }
     ensures grounds { (c : Settings) (T : Tables) (x : Enode) (flogi : Bool) (f : Frame)
-        → HasSource T f → Rests c T x flogi f result }
+        → HasSource T f → to ≡ asker_by x.mac f.head → Rests c T x flogi f result }
 {
     match els {
-        Els::Scr { function } => judge_watch(*function),
-        _ => rejected(COMMAND_NOT_SUPPORTED, REQUEST_NOT_SUPPORTED),
+        Els::Scr { function } => judge_watch(*function, to),
+        _ => rejected(to, COMMAND_NOT_SUPPORTED, REQUEST_NOT_SUPPORTED),
     }
 }
 
 // The judgement of a registration for state changes.
-fn judge_watch(function: u8) -> Judged
+fn judge_watch(function: u8, to: Asker) -> Judged
     ensures judged { judgement_of result ≡ unless_refused
         ((not (verdicts.is_function function), (3, 0)) ∷ [])
         (verdicts.Must (Verdict.Watching function)) }
     ensures grounds { (c : Settings) (T : Tables) (x : Enode) (flogi : Bool) (f : Frame)
-        → HasSource T f → Rests c T x flogi f result }
+        → HasSource T f → to ≡ asker_by x.mac f.head → Rests c T x flogi f result }
 {
     if function == FABRIC_DETECTED
         || function == NX_PORT_DETECTED
         || function == FULL
         || function == CLEAR
     {
-        Judged::Must(Verdict::Watching(function))
+        let verdict = Verdict::Watching(function);
+        Judged::Replied { verdict, to }
     } else {
-        rejected(LOGICAL_ERROR, NO_EXPLANATION)
+        rejected(to, LOGICAL_ERROR, NO_EXPLANATION)
     }
 }

@@ -5,6 +5,7 @@ ghost use Rattle.fab_policy.specs.Heard.{plain};
 
 use crate::Judged;
 use fab_policy::{Dropped, Rule, Verdict};
+use fab_replies::Asker;
 
 // A frame is dropped by a rule that has no number.
 pub(crate) fn dropped(rule: Rule) -> Judged
@@ -15,8 +16,9 @@ pub(crate) fn dropped(rule: Rule) -> Judged
 }
 
 // A request is rejected: reason and explanation (FC-LS-2, "LS_RJT").
-pub(crate) fn rejected(reason: u8, explanation: u8) -> Judged
-    ensures { result ≡ Judged.Must (Verdict.Rejected reason explanation) }
+pub(crate) fn rejected(to: Asker, reason: u8, explanation: u8) -> Judged
+    ensures { result ≡ Judged.Replied (Verdict.Rejected reason explanation) to }
 {
-    Judged::Must(Verdict::Rejected(reason, explanation))
+    let verdict = Verdict::Rejected(reason, explanation);
+    Judged::Replied { verdict, to }
 }

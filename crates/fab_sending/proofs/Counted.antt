@@ -1,8 +1,7 @@
 -- The state changes of frames, from what is told of each address.
-use Rattle.std.proofs.Common.{◌≡◌, Bool, true, false, ℕ, ◌&&◌, cond, List, [], ◌∷◌, ◌++◌, map, filter, Option, Some, None, option_map, option_to_list, refl, sym, ap, ◌∙◌}
+use Rattle.std.proofs.Common.{◌≡◌, Bool, true, false, ℕ, cond, List, [], ◌∷◌, ◌++◌, map, filter, Option, Some, None, option_map, option_to_list, refl, sym, ap, ◌∙◌}
 use Rattle.std.proofs.lemmas.List.{append-nil}
 use Rattle.std.specs.Option.{option_map_or}
-use Rattle.fab_base.specs.Fabric.{same_enode}
 use Rattle.fab_base.specs.declared.values.Caught.{Caught}
 use Rattle.fab_config.specs.Settings.{Settings}
 use Rattle.fab_policy.specs.Free.{Request}
@@ -13,7 +12,8 @@ use Rattle.fab_roster.specs.Roll.{Login, addresses_of, login_of}
 use Rattle.fab_sending.specs.Counting.{told_of_logins, with_changes}
 use Rattle.fab_sending.specs.Messages.{at_moment, changes}
 use Rattle.fab_sending.specs.Notices.{ended_by_grant, notices_of_frame, told_of_each, told_of_name}
-use Rattle.fab_sending.specs.Sends.{request_from}
+use Rattle.fab_sending.specs.Sends.{IsGrant}
+use Rattle.fab_sending.specs.declared.sends.Grant.{Grant}
 use Rattle.fab_sending.proofs.Counting.{addresses_same, first_changes, logins_told, named_told, with_changes-twice}
 use Rattle.fab_sending.proofs.Finding.{found_address}
 
@@ -39,32 +39,22 @@ pub fails : (q : LivePort → Bool) (b : Bool) (o : Option LivePort) → ((p : L
 fails q b None h e = refl
 fails q b (Some p) h e = ap (λ x. cond x (p ∷ []) []) (sym e ∙ h p refl)
 
--- those that a request ends
-abbrev pub ends_with : Request → LivePort → Bool
-ends_with r p = same_enode p.enode r.enode && r.flogi
-
-pub granted_told : (c : Settings) (T : Tables) (m first a port : ℕ) (caught : Caught) (r : Request) (ended : List Login) (start mid last : List Out) →
-    m ≡ now_of T → start ≡ [] → ended ≡ map login_of (filter (ends_with r) T.ports) → mid ≡ with_changes m first start (told_of_logins c T (addresses_of ended) ended) →
-    last ≡ with_changes m first mid (told_of_name c T (addresses_of ended) a r.name) → r ≡ request_from port caught → last ≡ at_moment (now_of T) (changes first (notices_of_frame c T port caught (Granted a)))
-granted_told c T m first a port caught r ended start mid last at none e was now is =
+-- a login that gets an address
+pub granted_told : (c : Settings) (T : Tables) (m first port : ℕ) (caught : Caught) (g : Grant) (start mid last : List Out) → m ≡ now_of T → start ≡ [] → IsGrant T port caught g →
+    mid ≡ with_changes m first start (told_of_logins c T (addresses_of g.ended.now) g.ended.now) →
+    last ≡ with_changes m first mid (told_of_name c T (addresses_of g.ended.now) g.address g.request.now.name) →
+    last ≡ at_moment (now_of T) (changes first (notices_of_frame c T port caught (Granted g.address)))
+granted_told c T m first port caught g start mid last at none is was now =
     let E : List LivePort = ended_by_grant T port caught in
     let ends : List ℕ = addresses E in
-    let logins : ended ≡ map login_of E = e ∙ ap (λ x. map login_of (filter (ends_with x) T.ports)) is in
-    let ids : addresses_of ended ≡ ends = ap addresses_of logins ∙ addresses_same E in
-    now ∙ ap (λ os. with_changes m first os (told_of_name c T (addresses_of ended) a r.name)) was
-    ∙ with_changes-twice m first start (told_of_logins c T (addresses_of ended) ended) (told_of_name c T (addresses_of ended) a r.name)
-    ∙ ap (λ x. with_changes m first start (told_of_logins c T x ended ++ told_of_name c T x a r.name)) ids
-    ∙ ap (λ x. with_changes m first start (told_of_logins c T ends x ++ told_of_name c T ends a r.name)) logins
-    ∙ ap (λ ns. with_changes m first start (ns ++ told_of_name c T ends a r.name)) (logins_told c T ends E)
-    ∙ ap (λ (x : Request). with_changes m first start (told_of_each c T ends E ++ told_of_name c T ends a x.name)) is
-    ∙ first_changes m first start (notices_of_frame c T port caught (Granted a)) none
-    ∙ ap (λ n. at_moment n (changes first (notices_of_frame c T port caught (Granted a)))) at
-
--- an FDISC ends none
-pub none_end : (r : Request) (ports : List LivePort) → r.flogi ≡ false → [] ≡ map login_of (filter (ends_with r) ports)
-none_end r [] e = refl
-none_end r (p ∷ ports) e = none_end r ports e ∙ ap (λ b. map login_of (cond b (p ∷ filter (ends_with r) ports) (filter (ends_with r) ports))) (sym (fails_second (same_enode p.enode r.enode) r.flogi e))
-  where
-    fails_second : (x y : Bool) → y ≡ false → x && y ≡ false
-    fails_second true y i = i
-    fails_second false y i = refl
+    let but : List ℕ = addresses_of g.ended.now in
+    let name : ℕ = g.request.now.name in
+    let ids : but ≡ ends = ap addresses_of is.ended ∙ addresses_same E in
+    now ∙ ap (λ os. with_changes m first os (told_of_name c T but g.address name)) was
+    ∙ with_changes-twice m first start (told_of_logins c T but g.ended.now) (told_of_name c T but g.address name)
+    ∙ ap (λ x. with_changes m first start (told_of_logins c T x g.ended.now ++ told_of_name c T x g.address name)) ids
+    ∙ ap (λ x. with_changes m first start (told_of_logins c T ends x ++ told_of_name c T ends g.address name)) is.ended
+    ∙ ap (λ ns. with_changes m first start (ns ++ told_of_name c T ends g.address name)) (logins_told c T ends E)
+    ∙ ap (λ (x : Request). with_changes m first start (told_of_each c T ends E ++ told_of_name c T ends g.address x.name)) is.request
+    ∙ first_changes m first start (notices_of_frame c T port caught (Granted g.address)) none
+    ∙ ap (λ n. at_moment n (changes first (notices_of_frame c T port caught (Granted g.address)))) at

@@ -1,5 +1,5 @@
 -- The replies to a frame and its state changes are what the frame sends.
-use Rattle.std.proofs.Common.{◌≡◌, ℕ, ◌+◌, ◌*◌, ◌%◌, ◌^◌, ◌≤◌, Bool, true, false, List, [], ◌∷◌, ◌++◌, length, map, filter, option_to_list, Option, Some, None, Ok, Err, IsSome, unwrap_or, refl, sym, ap, subst, ◌∙◌}
+use Rattle.std.proofs.Common.{◌≡◌, ℕ, ◌+◌, ◌*◌, ◌%◌, ◌^◌, ◌≤◌, ◌<◌, Bool, true, false, List, [], ◌∷◌, ◌++◌, length, map, filter, option_to_list, Option, Some, None, Ok, Err, IsSome, unwrap_or, refl, sym, ap, subst, ◌∙◌}
 use Rattle.std.proofs.lemmas.List.{append-nil, map-append}
 use Rattle.std.proofs.lemmas.List.Elements.{All-nil, All-cons, All-append}
 use Rattle.fab_base.specs.declared.values.Caught.{Caught}
@@ -9,31 +9,28 @@ use Rattle.ct_messages.specs.Ct.{Ask}
 use Rattle.ct_messages.specs.Server as server
 use Rattle.ct_messages.specs.declared.CtTell.{CtTell}
 use Rattle.fc_frames.specs.Pieces.{pieces}
-use Rattle.fab_policy.specs.Heard.{What, Bad, Fip, Fcoe, ask_of, decoded, s_id}
+use Rattle.fab_policy.specs.Heard.{ask_of, s_id}
 use Rattle.fab_policy.specs.Outputs.{Notice, State, notices}
 use Rattle.fab_policy.specs.Queries.{query}
 use Rattle.fab_policy.specs.Replies.{Asker, asker_of}
 use Rattle.fab_policy.specs.State.{LivePort, Tables, addresses, now_of, overdue, port_at}
 use Rattle.fab_policy.specs.Steps.{AreAscending, InPool, after}
-use Rattle.fab_policy.specs.Verdicts.{IsRight}
 use Rattle.fab_policy.specs.declared.event.Event.{Event}
 use Rattle.fab_policy.specs.declared.event.Event.TheVariants.{Frame, Tick}
 use Rattle.fab_policy.specs.declared.verdict.Verdict.{Verdict}
-use Rattle.fab_policy.specs.declared.verdict.Verdict.TheVariants.{Granted, Registered, Answered}
+use Rattle.fab_policy.specs.declared.verdict.Verdict.TheVariants.{Granted, Logout, Registered, Answered}
 use Rattle.fab_replies.specs.Laws.{in_frames, messages, numbered, on}
 use Rattle.fab_replies.specs.Message.{AreSendable, can_send, frame_at, sent_of}
 use Rattle.fab_replies.specs.declared.message.Out.{Out}
 use Rattle.fab_replies.specs.declared.message.OutMessage.{OutMessage}
-use Rattle.fab_sending.specs.Asking.{CarriesFrame}
 use Rattle.fab_sending.specs.Laws.{FramesSend, FramesTell, TicksSend, TicksTell}
 use Rattle.fab_sending.specs.Messages.{advertisements_owed, at_moment, changes, clears, tick_messages}
 use Rattle.fab_sending.specs.Notices.{changed_at, notices_of_frame, notices_of_tick, told_of_each}
-use Rattle.fab_sending.specs.Replies.{IsBody}
-use Rattle.fab_sending.specs.Sends.{AreSent, CanFollow, is_plain}
+use Rattle.fab_sending.specs.Sends.{AreParts, AreSent, CanFollow, FrameSends, is_replied, is_settled, state_before}
+use Rattle.fab_sending.specs.declared.sends.Before.{Before}
 use Rattle.fab_sending.specs.declared.sends.Sends.{Sends}
 use Rattle.fab_sending.proofs.AnswerFits.{answer_short}
 use Rattle.fab_sending.proofs.Counting.{length-changes}
-use Rattle.fab_sending.proofs.ReplyMade.{right_suits}
 
 -- the N_Ports of a roll whose bounds are the pool's
 pub in_pool : (c : Settings) (lowest count : ℕ) (ports : List LivePort) → lowest ≡ c.domain * 65536 + 256 → count ≡ c.pool → AreAscending lowest (lowest + count) ports → InPool c ports
@@ -67,24 +64,40 @@ frame_sent send tell c n S port index entry caught v events s frames told asc ca
       sendable = sendable;
     }
 
--- a verdict that needs nothing else follows at once
-pub plain_follows : (c : Settings) (T : Tables) (port index : ℕ) (caught : Caught) (v : Verdict) → is_plain v ≡ true → CanFollow c T port index caught v
-plain_follows c T port index caught (Granted a) h = cc
-plain_follows c T port index caught Registered h = cc
-plain_follows c T port index caught _ h = tt
+-- the parts of what a frame sends are what it sends
+pub sends_made : FramesSend → FramesTell → (b : Before) (port entry : ℕ) (caught : Caught) (v : Verdict) (replies changed : List Out) (s : Sends) →
+    InPool b.config.now b.roster.now.tables.ports → s.outs ≡ replies ++ changed → s.rscns ≡ (b.rscns + length changed) % 65535 → s.rscns < 65535 →
+    AreParts b port entry caught v replies changed → FrameSends b port entry caught v s
+sends_made send tell b port entry caught v replies changed s pool outs counted few parts = record {
+  sent = λ index events at follows.
+      frame_sent send tell b.config.now b.ports (state_before b) port index entry caught v events s replies changed pool follows at parts.made parts.changes_are outs counted (sendable events at);
+  sendable = sendable;
+  few = few;
+}
+  where
+    sendable : (events : List Event) → frame_at entry events ≡ Some caught → AreSendable events s.outs
+    sendable events at =
+        all_sendable events replies changed s.outs (now_of b.roster.now.tables) b.rscns (notices_of_frame b.config.now b.roster.now.tables port caught v) (parts.sendable events at) parts.changes_are outs
 
-pub body_carries : (what : What) → IsBody what → CarriesFrame what
-body_carries (Bad cause) h = absurd h
-body_carries (Fip f m) h = absurd h
-body_carries (Fcoe f (Ok x)) h = tt
-body_carries (Fcoe f (Err e)) h = absurd h
+-- ---- verdicts that need nothing else
 
--- the frame of a request to the name server
-pub registered_carries : (c : Settings) (T : Tables) (port : ℕ) (caught : Caught) → IsRight c T port caught Registered → CarriesFrame (decoded caught)
-registered_carries c T port caught right = body_carries (decoded caught) (right_suits c T port caught Registered right)
+module _ (c : Settings) (T : Tables) (port : ℕ) (caught : Caught) where
+  pub settled_follows : (index : ℕ) (v : Verdict) → is_settled v ≡ true → CanFollow c T port index caught v
+  settled_follows index (Granted a) h = cc
+  settled_follows index Registered h = cc
+  settled_follows index _ h = tt
 
-pub answered_carries : (c : Settings) (T : Tables) (port : ℕ) (caught : Caught) → IsRight c T port caught Answered → CarriesFrame (decoded caught)
-answered_carries c T port caught right = body_carries (decoded caught) (right_suits c T port caught Answered right)
+  pub replied_follows : (index : ℕ) (v : Verdict) → is_replied v ≡ true → CanFollow c T port index caught v
+  replied_follows index (Granted a) h = cc
+  replied_follows index Registered h = cc
+  replied_follows index _ h = tt
+
+  -- a settled one changes nothing that is told
+  pub settled_tells : (v : Verdict) → is_settled v ≡ true → [] ≡ notices_of_frame c T port caught v
+  settled_tells (Granted a) h = cc
+  settled_tells (Logout a) h = cc
+  settled_tells Registered h = cc
+  settled_tells _ h = refl
 
 -- the frames of an answer to a live N_Port
 pub answer_frames : (c : Settings) (T : Tables) (port entry size : ℕ) (caught : Caught) (tell : CtTell) → IsSome (port_at (s_id caught) T.ports) →
@@ -118,11 +131,6 @@ registered_told c T first a caught ask outs is asks made =
     ∙ ap (λ x. at_moment (now_of T) (changes first (told_of_each c T [] (filter (λ p. server.has_changed p.values (server.after p.node ask p.values)) (option_to_list (port_at x T.ports)))))) is
     ∙ ap (λ x. at_moment (now_of T) (changes first (told_of_each c T [] (filter (λ p. server.has_changed p.values (server.after p.node x p.values)) (option_to_list (port_at (s_id caught) T.ports)))))) asks
 
--- the accept of a login can be sent
-pub accept_sendable : (events : List Event) (m port : ℕ) (message : OutMessage) (outs : List Out) → outs ≡ at_moment m ((port, message) ∷ []) → can_send events message ≡ true → AreSendable events outs
-accept_sendable events m port message outs made h =
-    subst (AreSendable events) (sym made) (All-cons (λ (out : Out). can_send events out.message ≡ true) (record { port = port; moment = m; message = message }) [] h (All-nil (λ (out : Out). can_send events out.message ≡ true)))
-
 -- ---- a tick
 
 abbrev pub sends_of : List Out → ℕ → Sends
@@ -148,28 +156,6 @@ tick_sent send tell c n S m ended events s cleared told advertised mid asc ends 
       sendable = subst (AreSendable events) (sym last)
           (All-append (λ (out : Out). can_send events out.message ≡ true) mid advertised (all_sendable events cleared told mid m S.rscns ns clears_ok told_made first) adverts_ok);
     })
-
--- ---- values that a message doesn't depend on
-
-pub no_settings : Settings
-no_settings = record {
-  switch = 0;
-  fcf_mac = [];
-  fc_map = 0;
-  vlan = 0;
-  domain = 0;
-  pool = 0;
-  priority = 0;
-  period = 0;
-  window = 0;
-  limit = 0;
-  zones = [];
-  sets = [];
-  activations = [];
-}
-
-pub no_tables : Tables
-no_tables = record { clock = None; ports = []; past = [] }
 
 -- an answer to a live N_Port is short enough to be cut
 pub answer_fits : (c : Settings) (T : Tables) (caught : Caught) (tell : CtTell) → IsSome (port_at (s_id caught) T.ports) →

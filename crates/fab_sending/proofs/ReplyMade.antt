@@ -30,17 +30,6 @@ use Rattle.ct_messages.specs.Server.{Refusal, is_registration}
 
 -- ---- link services that can be read
 
--- no link service has no bytes
-none_asked : IsOkAnd (els.decoded []) IsRequest → ⊥
-unfolding els.decoded
-none_asked h = h
-
--- bytes that are no FC frame ask for no address
-pub not_asked : (l : List ℕ) (e : FcFault) → fc.decoded l ≡ Err e → IsOkAnd (els.decoded (fc_of l).payload) IsRequest → ⊥
-not_asked l e is h =
-    let none : fc_of l ≡ NO_FRAME = ap (λ r. elim r as (λ _. fc.Frame) [ Ok f ↦ f | Err fault ↦ NO_FRAME ]) is in
-    none_asked (subst (λ (f : fc.Frame). IsOkAnd (els.decoded f.payload) IsRequest) none h)
-
 abbrev is_bad : Result els.Els ElsFault → Bool
 is_bad r = elim r [ Ok v ↦ false | Err f ↦ true ]
 

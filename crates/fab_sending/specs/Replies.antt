@@ -62,10 +62,3 @@ Suits what _ = ⊤
 -- A right verdict of a frame suits what was decoded.
 abbrev pub RightFramesSuit : Type 0
 RightFramesSuit = (c : Settings) (T : Tables) (port : ℕ) (caught : Caught) (v : Verdict) → IsRight c T port caught v → Suits (decoded caught) v
-
--- the verdict has one message at most
-abbrev pub IsTold : Verdict → Type 0
-IsTold Registered = ⊥
-IsTold Answered = ⊥
-IsTold (Refused reason explanation) = ⊥
-IsTold _ = ⊤

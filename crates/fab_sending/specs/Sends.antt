@@ -1,20 +1,27 @@
 -- What an entry sends, and what the code knows before it.
-use Rattle.std.specs.Prelude.{◌≡◌, Bool, true, false, ℕ, ◌+◌, ◌%◌, List, length, map, IsSome, IsTrue, Some}
+use Rattle.std.specs.Prelude.{◌≡◌, Bool, true, false, ℕ, ◌+◌, ◌%◌, ◌<◌, List, length, map, IsSome, IsTrue, Some}
 use Rattle.fab_base.specs.declared.values.Caught.{Caught}
 use Rattle.fab_config.specs.Settings.{Settings}
 use Rattle.fab_policy.specs.Changes.{CanStay}
 use Rattle.fab_policy.specs.Free.{Request, is_free}
 use Rattle.fab_policy.specs.Heard.{asked, is_flogi, s_id, sender}
 use Rattle.fab_policy.specs.Outputs.{State, notices, outputs_by}
-use Rattle.fab_policy.specs.State.{LivePort, Tables, port_at}
+use Rattle.fab_policy.specs.Replies.{asker_of}
+use Rattle.fab_policy.specs.State.{LivePort, Tables, now_of, port_at}
 use Rattle.fab_policy.specs.Steps.{after}
 use Rattle.fab_policy.specs.declared.event.Event.{Event}
 use Rattle.fab_policy.specs.declared.event.Event.TheVariants.{Frame}
 use Rattle.fab_policy.specs.declared.verdict.Verdict.{Verdict}
-use Rattle.fab_policy.specs.declared.verdict.Verdict.TheVariants.{Granted, Registered, Answered}
-use Rattle.fab_replies.specs.Message.{AreSendable, sent_of}
+use Rattle.fab_policy.specs.declared.verdict.Verdict.TheVariants.{Dropped, Vlans, Advertised, Granted, Rejected, Logout, AliveNode, AlivePort, NsLogin, NsLogout, Watching, Registered, Refused, Noted, Forwarded}
+use Rattle.els_messages.specs.Els as els
+use Rattle.fab_replies.specs.Laws.{messages}
+use Rattle.fab_replies.specs.Message.{AreSendable, frame_at, sent_of}
 use Rattle.fab_replies.specs.declared.message.Out.{Out}
+use Rattle.fab_roster.specs.Roll.{login_of}
+use Rattle.fab_sending.specs.Messages.{at_moment, changes}
+use Rattle.fab_sending.specs.Notices.{ended_by_grant, notices_of_frame}
 use Rattle.fab_sending.specs.declared.sends.Before.{Before}
+use Rattle.fab_sending.specs.declared.sends.Grant.{Grant}
 use Rattle.fab_sending.specs.declared.sends.Sends.{Sends}
 
 -- the state before an entry
@@ -40,9 +47,44 @@ CanFollow c T port index caught (Granted a) =
 CanFollow c T port index caught Registered = (p : LivePort) → port_at (s_id caught) T.ports ≡ Some p → CanStay caught Registered p
 CanFollow c T port index caught _ = Unit {0}
 
--- a verdict that needs no more than itself to be carried out
-abbrev pub is_plain : Verdict → Bool
-is_plain (Granted a) = false
-is_plain Registered = false
-is_plain Answered = false
-is_plain _ = true
+-- a verdict that sends no reply, or one that needs nothing but the frame
+abbrev pub is_settled : Verdict → Bool
+is_settled (Dropped cause) = true
+is_settled Vlans = true
+is_settled Advertised = true
+is_settled AliveNode = true
+is_settled (AlivePort a) = true
+is_settled Noted = true
+is_settled (Forwarded port) = true
+is_settled _ = false
+
+-- a verdict that is replied to the sender of the frame, and needs nothing else
+abbrev pub is_replied : Verdict → Bool
+is_replied (Rejected reason explanation) = true
+is_replied (Logout a) = true
+is_replied NsLogin = true
+is_replied NsLogout = true
+is_replied (Watching function) = true
+is_replied (Refused reason explanation) = true
+is_replied _ = false
+
+-- What a frame of a port sends that gets this verdict and stands in the entry at this place: what the policy says, where the
+-- verdict can be carried out. All of it can be sent, and state changes are counted modulo 65535.
+pub record FrameSends (b : Before) (port entry : ℕ) (caught : Caught) (v : Verdict) (sends : Sends) : Type 0 where
+  pub sent : (index : ℕ) (events : List Event) → frame_at entry events ≡ Some caught → CanFollow b.config.now b.roster.now.tables port index caught v →
+      AreSent b.config.now b.ports (state_before b) (Frame port index caught v) events sends
+  pub sendable : (events : List Event) → frame_at entry events ≡ Some caught → AreSendable events sends.outs
+  pub few : sends.rscns < 65535
+
+-- Frames are the replies to it, and others its state changes.
+pub record AreParts (b : Before) (port entry : ℕ) (caught : Caught) (v : Verdict) (replies changed : List Out) : Type 0 where
+  pub made : replies ≡ at_moment (now_of b.roster.now.tables) (messages b.config.now b.roster.now.tables port entry caught v)
+  pub sendable : (events : List Event) → frame_at entry events ≡ Some caught → AreSendable events replies
+  pub changes_are : changed ≡ at_moment (now_of b.roster.now.tables) (changes b.rscns (notices_of_frame b.config.now b.roster.now.tables port caught v))
+
+-- A login of a frame of a port that gets an address, with what its accept says and the logins that it ends.
+pub record IsGrant (T : Tables) (port : ℕ) (caught : Caught) (g : Grant) : Type 0 where
+  pub request : g.request.now ≡ request_from port caught
+  pub to : g.to ≡ asker_of caught
+  pub several : g.several ≡ els.has_feature 0x8000 (asked caught)
+  pub ended : g.ended.now ≡ map login_of (ended_by_grant T port caught)

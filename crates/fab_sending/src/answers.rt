@@ -17,7 +17,7 @@ use fc_frames::{Piece, pieces, ranges_have_the_pieces};
 use std::alloc::Global;
 
 /// The frames of an answer, each of at most this size.
-pub fn answer(
+pub fn frames_of_answer(
     alloc: Global,
     moment: Moment,
     port: PortNo,

@@ -1,24 +1,22 @@
 //! State changes of a frame: of the logins that it ends, grants or changes.
-ghost use Rattle.std.specs.Prelude.{◌≡◌, ◌&&◌, [], ◌∷◌, filter, map, option_to_list, ℕ, IfOk, IsSome, true};
+ghost use Rattle.std.specs.Prelude.{◌≡◌, [], ◌∷◌, filter, option_to_list, ℕ, IfOk, IsSome, true};
 ghost use Rattle.ct_messages.specs.Ask.{view};
 ghost use Rattle.ct_messages.specs.Server as server;
 ghost use Rattle.ct_messages.specs.Server.{is_registration};
-ghost use Rattle.fab_base.specs.Fabric.{same_enode};
 ghost use Rattle.fab_base.specs.declared.values.Caught.{Caught as Captured};
 ghost use Rattle.fab_policy.specs.State.{now_of, port_at};
 ghost use Rattle.fab_policy.specs.Steps.{InPool};
 ghost use Rattle.fab_policy.specs.declared.verdict.Verdict.TheVariants.{Granted};
-ghost use Rattle.fab_roster.specs.Roll.{login_of};
 ghost use Rattle.fab_sending.specs.Messages.{at_moment, changes};
 ghost use Rattle.fab_sending.specs.Notices.{notices_of_frame, told_of_each};
-ghost use Rattle.fab_sending.specs.Sends.{request_from};
+ghost use Rattle.fab_sending.specs.Sends.{IsGrant};
 
-use crate::Before;
 use crate::noticing::{tell_of, tell_of_ends};
+use crate::{Before, Grant};
 use ct_messages::CtAsk;
 use fab_base::{FcId, Moment, NoMemory};
 use fab_replies::OutList;
-use fab_roster::{LoginList, Request, Roster};
+use fab_roster::{LoginList, Roster};
 use std::alloc::Global;
 
 /// The clock, 0 before the first tick.
@@ -31,42 +29,31 @@ pub(crate) fn now(roster: &Roster) -> Moment
     }
 }
 
-// The logins that a login request ends, if it is granted: a FLOGI those of its ENode.
-fn ended_by(alloc: Global, roster: &Roster, request: &Request) -> Result<LoginList, NoMemory>
-    ensures { IfOk result (λ l. l ≡ map login_of (filter
-        (λ p. same_enode p.enode request.now.enode && request.now.flogi) roster.now.tables.ports)) }
-{
-    if request.flogi {
-        return roster.of_enode(alloc, &request.enode);
-    }
-    Ok(LoginList::empty(alloc))
-}
-
 /// The state changes of a login that gets an address: of the logins that it ends, and of itself.
 pub(crate) fn grant_changes(
     alloc: Global,
     before: &Before<'_>,
-    request: &Request,
-    address: FcId,
+    grant: &Grant<'_>,
 ) -> Result<OutList, NoMemory>
     requires { InPool before.now.config.now before.now.roster.now.tables.ports }
     ensures { IfOk result (λ outs. (port : ℕ) (caught : Captured)
-        → request.now ≡ request_from port caught
+        → IsGrant before.now.roster.now.tables port caught grant.now
         → outs ≡ at_moment (now_of before.now.roster.now.tables) (changes before.now.rscns
         (notices_of_frame before.now.config.now before.now.roster.now.tables port caught
-        (Granted address)))) }
+        (Granted grant.now.address)))) }
 {
     let moment = now(before.roster);
-    let ended = ended_by(alloc, before.roster, request)?;
+    let ended = grant.ended;
+    let request = grant.request;
     let mut outs = OutList::empty(alloc);
-    tell_of_ends(alloc, before, moment, &ended, &mut outs)?;
+    tell_of_ends(alloc, before, moment, ended, &mut outs)?;
     tell_of(
         alloc,
         before,
         moment,
-        address,
+        grant.address,
         request.name,
-        &ended,
+        ended,
         &mut outs,
     )?;
     Ok(outs)

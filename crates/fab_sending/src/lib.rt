@@ -4,7 +4,6 @@
 
 mod adverts;
 mod answers;
-mod asking;
 mod changing;
 mod clears;
 mod frame;
@@ -16,11 +15,10 @@ mod tick;
 mod zoning;
 
 pub use adverts::{advertise, is_owed};
-pub use answers::answer;
-pub use asking::asker;
+pub use answers::frames_of_answer;
 pub use clears::clear;
-pub use frame::{answer_sends, frame_sends, grant_sends, registration_sends};
+pub use frame::{answer_sends, frame_sends, grant_sends, registration_sends, reply_sends};
 pub use laws::{frames_send, frames_tell, ticks_send, ticks_tell};
 pub use replies::right_frames_suit;
-pub use sends::{Before, Sends};
+pub use sends::{Before, Grant, Sends};
 pub use tick::tick_sends;

@@ -1,32 +1,29 @@
 //! The replies to a frame by its verdict, or the frame itself where it goes on.
-ghost use Rattle.std.specs.Prelude.{◌≡◌, ◌≢◌, ℕ, List, IfOk, IfSome, IsOkAnd, Some, is_some, true, option_map, if◌then◌else◌};
-ghost use Rattle.std.specs.Option.{option_to_list};
+ghost use Rattle.std.specs.Prelude.{◌≡◌, ◌∷◌, [], ℕ, List, IfOk, Some, is_some, true, option_map, if◌then◌else◌};
 ghost use Rattle.els_messages.specs.Els as spec;
 ghost use Rattle.fab_config.specs.Settings.{Settings};
-ghost use Rattle.els_messages.specs.declared.LoginParms.{LoginParms};
-ghost use Rattle.fab_base.specs.declared.values.Caught.{Caught};
-ghost use Rattle.fab_policy.specs.Heard.{asked, carried, d_id, decoded, fc_of, login_of, source};
+ghost use Rattle.fab_policy.specs.Heard.{asked, d_id, decoded, login_of, source};
 ghost use Rattle.fab_policy.specs.Replies.{asker_of, is_untagged, kind_asked, size_asked};
 ghost use Rattle.fab_policy.specs.State.{Tables};
 ghost use Rattle.fab_policy.specs.declared.event.Event.{Event as Entry};
-ghost use Rattle.fab_policy.specs.declared.verdict.Verdict.TheVariants.{Answered};
+ghost use Rattle.fab_policy.specs.declared.verdict.Verdict.TheVariants.{Granted};
 ghost use Rattle.fab_replies.specs.Laws.{messages};
 ghost use Rattle.fab_replies.specs.Message.{AreSendable, can_send, frame_at};
 ghost use Rattle.fab_replies.specs.declared.message.Answer.TheVariants.{Accept, Reject};
 ghost use Rattle.fab_replies.specs.declared.message.OutMessage.TheVariants as out;
 ghost use Rattle.fab_sending.specs.Asking.{CarriesFrame};
 ghost use Rattle.fab_sending.specs.Messages.{at_moment};
-ghost use Rattle.fab_sending.specs.Replies.{AsksAddress, InFip, IsBody, IsFip, IsRequest};
-ghost use Rattle.fab_sending.specs.Replies.{IsSolicit, IsTold, RightFramesSuit, Suits};
+ghost use Rattle.fab_sending.specs.Replies.{AsksAddress, InFip, IsBody, IsFip};
+ghost use Rattle.fab_sending.specs.Replies.{IsSolicit, RightFramesSuit, Suits};
+ghost use Rattle.fab_sending.specs.Sends.{is_replied, is_settled};
 
-use crate::answers::answer;
-use crate::asker;
+use crate::Grant;
+use crate::answers::frames_of_answer;
 use ct_messages::CtTell;
-use els_messages::{Els, Feature, read_els};
-use fab_base::{FcId, Moment, NoMemory, PortNo};
+use fab_base::{Moment, NoMemory, PortNo};
 use fab_policy::{Heard, Verdict, What, frames_are_carried};
-use fab_replies::{Answer, Out, OutList, OutMessage, data_frames_go_on};
-use fc_frames::{MOST_PAYLOAD, read_frame};
+use fab_replies::{Answer, Asker, Out, OutList, OutMessage, data_frames_go_on};
+use fc_frames::MOST_PAYLOAD;
 use fip_codec::{FipMessage, LoginKind};
 use std::alloc::Global;
 
@@ -36,8 +33,9 @@ pub fn right_frames_suit()
     ensures { RightFramesSuit }
 {}
 
-/// The replies to a frame that stands in the entry at this place, other than the answer to a query.
-pub fn replies(
+/// What a verdict sends that sends no reply, or one that needs nothing but the frame: an answer in
+/// FIP, or the frame itself where it goes on. The frame stands in the entry at this place.
+pub fn frames_of(
     alloc: Global,
     moment: Moment,
     port: PortNo,
@@ -46,45 +44,111 @@ pub fn replies(
     verdict: Verdict,
 ) -> Result<OutList, NoMemory>
     requires suits { Suits (decoded heard.now.caught.now) verdict }
-    requires other { verdict ≢ Answered }
+    requires settled { is_settled verdict ≡ true }
     ensures made { IfOk result (λ outs. (c : Settings) (T : Tables) → outs
         ≡ at_moment moment (messages c T port entry heard.now.caught.now verdict)) }
     ensures sendable { IfOk result (λ outs. (events : List Entry)
         → frame_at entry events ≡ Some heard.now.caught.now → AreSendable events outs) }
 {
     match verdict {
-        Verdict::Registered => answer(
-            alloc,
-            moment,
-            port,
-            asker(heard),
-            &CtTell::Done,
-            MOST_PAYLOAD,
-        ),
+        Verdict::Forwarded(to) => single_message(alloc, moment, to, forwarded(entry, heard)),
+        Verdict::Vlans => single_message(alloc, moment, port, vlans(heard)),
+        Verdict::Advertised => single_message(alloc, moment, port, solicited(heard)),
+        Verdict::Dropped(_) | Verdict::AliveNode | Verdict::AlivePort(_) | Verdict::Noted => {
+            Ok(OutList::empty(alloc))
+        }
+        Verdict::Granted(_)
+        | Verdict::Rejected(..)
+        | Verdict::Logout(_)
+        | Verdict::NsLogin
+        | Verdict::NsLogout
+        | Verdict::Watching(_)
+        | Verdict::Registered
+        | Verdict::Answered
+        | Verdict::Refused(..) => unreachable!(),
+    }
+}
+
+/// The reply to a frame by a verdict that is replied to its sender.
+pub fn reply(
+    alloc: Global,
+    moment: Moment,
+    port: PortNo,
+    heard: &Heard<'_>,
+    verdict: Verdict,
+    to: Asker,
+) -> Result<OutList, NoMemory>
+    requires suits { Suits (decoded heard.now.caught.now) verdict }
+    requires replied { is_replied verdict ≡ true }
+    requires to { to ≡ asker_of heard.now.caught.now }
+    ensures made { IfOk result (λ outs. (c : Settings) (T : Tables) (entry : ℕ) → outs
+        ≡ at_moment moment (messages c T port entry heard.now.caught.now verdict)) }
+    ensures sendable { IfOk result (λ outs. (events : List Entry) → AreSendable events outs) }
+{
+    let message = match verdict {
+        Verdict::Rejected(reason, explanation) => rejected(heard, to, reason, explanation),
+        Verdict::Logout(_) => logged_out(heard, to),
+        Verdict::NsLogin => served(to, Answer::ServerLogin),
+        Verdict::NsLogout => served(to, Answer::Accept),
+        Verdict::Watching(_) => served(to, Answer::Accept),
         Verdict::Refused(reason, explanation) => {
             let tell = CtTell::Reject {
                 reason,
                 explanation,
             };
-            answer(alloc, moment, port, asker(heard), &tell, MOST_PAYLOAD)
+            return frames_of_answer(alloc, moment, port, to, &tell, MOST_PAYLOAD);
         }
-        _ => sent(alloc, moment, told(port, entry, heard, verdict)),
-    }
+        Verdict::Dropped(_)
+        | Verdict::Vlans
+        | Verdict::Advertised
+        | Verdict::Granted(_)
+        | Verdict::AliveNode
+        | Verdict::AlivePort(_)
+        | Verdict::Registered
+        | Verdict::Answered
+        | Verdict::Noted
+        | Verdict::Forwarded(_) => unreachable!(),
+    };
+    single_message(alloc, moment, port, message)
 }
 
-// A list of this message, where there is one.
-fn sent(
+/// The accept of a login that gets an address.
+pub(crate) fn accept(
     alloc: Global,
     moment: Moment,
-    told: Option<(PortNo, OutMessage)>,
+    port: PortNo,
+    heard: &Heard<'_>,
+    grant: &Grant<'_>,
 ) -> Result<OutList, NoMemory>
-    ensures made { IfOk result (λ outs. outs ≡ at_moment moment (option_to_list told)) }
-    ensures sendable { IfOk result (λ outs. (events : List Entry)
-        → IfSome told (λ x. can_send events x.1 ≡ true) → AreSendable events outs) }
+    requires { InFip AsksAddress (decoded heard.now.caught.now) }
+    ensures made { IfOk result (λ outs. (c : Settings) (T : Tables) (entry : ℕ)
+        → grant.now.to ≡ asker_of heard.now.caught.now
+        → grant.now.several ≡ spec.has_feature 0x8000 (asked heard.now.caught.now) → outs
+        ≡ at_moment moment (messages c T port entry heard.now.caught.now
+        (Granted grant.now.address))) }
+    ensures sendable { IfOk result (λ outs. (events : List Entry) → AreSendable events outs) }
 {
-    let Some((port, message)) = told else {
-        return Ok(OutList::empty(alloc));
+    let message = OutMessage::LoginAccept {
+        to: grant.to,
+        kind: kind_of(heard),
+        port,
+        several: grant.several,
+        address: grant.address,
     };
+    single_message(alloc, moment, port, message)
+}
+
+// A list of this message.
+fn single_message(
+    alloc: Global,
+    moment: Moment,
+    port: PortNo,
+    message: OutMessage,
+) -> Result<OutList, NoMemory>
+    ensures made { IfOk result (λ outs. outs ≡ at_moment moment ((port, message) ∷ [])) }
+    ensures sendable { IfOk result (λ outs. (events : List Entry)
+        → can_send events message ≡ true → AreSendable events outs) }
+{
     let mut outs = Vec::with_capacity(alloc, 1)?;
     outs.push_reserved(Out {
         port,
@@ -92,35 +156,6 @@ fn sent(
         message,
     });
     Ok(OutList::from_vec(outs))
-}
-
-// The message of a verdict that has one at most, with the port that it goes to.
-fn told(
-    port: PortNo,
-    entry: usize,
-    heard: &Heard<'_>,
-    verdict: Verdict,
-) -> Option<(PortNo, OutMessage)>
-    requires suits { Suits (decoded heard.now.caught.now) verdict }
-    requires single { IsTold verdict }
-    ensures made { (c : Settings) (T : Tables) → option_to_list result
-        ≡ messages c T port entry heard.now.caught.now verdict }
-    ensures sendable { (events : List Entry) → frame_at entry events ≡ Some heard.now.caught.now
-        → IfSome result (λ x. can_send events x.1 ≡ true) }
-{
-    match verdict {
-        Verdict::Forwarded(to) => Some((to, forwarded(entry, heard))),
-        Verdict::Vlans => Some((port, vlans(heard))),
-        Verdict::Advertised => Some((port, solicited(heard))),
-        Verdict::Granted(address) => Some((port, accepted(port, heard, address))),
-        Verdict::Rejected(reason, explanation) => {
-            Some((port, rejected(heard, reason, explanation)))
-        }
-        Verdict::Logout(_) => Some((port, logged_out(heard))),
-        Verdict::NsLogin => Some((port, served(heard, Answer::ServerLogin))),
-        Verdict::NsLogout | Verdict::Watching(_) => Some((port, served(heard, Answer::Accept))),
-        _ => None,
-    }
 }
 
 // The VLAN notification that answers a request in FIP.
@@ -159,31 +194,13 @@ fn solicited(heard: &Heard<'_>) -> OutMessage
     }
 }
 
-// The accept of a login that gets this address.
-fn accepted(port: PortNo, heard: &Heard<'_>, address: FcId) -> OutMessage
-    requires { InFip AsksAddress (decoded heard.now.caught.now) }
-    ensures { result ≡ out.LoginAccept (asker_of heard.now.caught.now)
-        (kind_asked heard.now.caught.now) port
-        (spec.has_feature 0x8000 (asked heard.now.caught.now)) address }
-{
-    OutMessage::LoginAccept {
-        to: asker(heard),
-        kind: login_kind(heard).unwrap_or(LoginKind::Flogi),
-        port,
-        several: asks_several(heard),
-        address,
-    }
-}
-
 // The reject of a login or of a link service.
-fn rejected(heard: &Heard<'_>, reason: u8, explanation: u8) -> OutMessage
+fn rejected(heard: &Heard<'_>, to: Asker, reason: u8, explanation: u8) -> OutMessage
     requires { CarriesFrame (decoded heard.now.caught.now) }
     ensures { result ≡ (if is_some (login_of heard.now.caught.now)
-        then out.LoginReply (asker_of heard.now.caught.now) (kind_asked heard.now.caught.now)
-        (Reject reason explanation)
-        else out.ServiceReply (asker_of heard.now.caught.now) (Reject reason explanation)) }
+        then out.LoginReply to (kind_asked heard.now.caught.now) (Reject reason explanation)
+        else out.ServiceReply to (Reject reason explanation)) }
 {
-    let to = asker(heard);
     let answer = Answer::Reject(reason, explanation);
     match login_kind(heard) {
         Some(kind) => OutMessage::LoginReply { to, kind, answer },
@@ -192,27 +209,22 @@ fn rejected(heard: &Heard<'_>, reason: u8, explanation: u8) -> OutMessage
 }
 
 // The accept of a LOGO in FIP.
-fn logged_out(heard: &Heard<'_>) -> OutMessage
+fn logged_out(heard: &Heard<'_>, to: Asker) -> OutMessage
     requires { CarriesFrame (decoded heard.now.caught.now) }
-    ensures { result ≡ out.LoginReply (asker_of heard.now.caught.now)
-        (kind_asked heard.now.caught.now) Accept }
+    ensures { result ≡ out.LoginReply to (kind_asked heard.now.caught.now) Accept }
 {
     OutMessage::LoginReply {
-        to: asker(heard),
-        kind: login_kind(heard).unwrap_or(LoginKind::Flogi),
+        to,
+        kind: kind_of(heard),
         answer: Answer::Accept,
     }
 }
 
 // The answer to a link service.
-fn served(heard: &Heard<'_>, answer: Answer) -> OutMessage
-    requires { CarriesFrame (decoded heard.now.caught.now) }
-    ensures { result ≡ out.ServiceReply (asker_of heard.now.caught.now) answer }
+fn served(to: Asker, answer: Answer) -> OutMessage
+    ensures { result ≡ out.ServiceReply to answer }
 {
-    OutMessage::ServiceReply {
-        to: asker(heard),
-        answer,
-    }
+    OutMessage::ServiceReply { to, answer }
 }
 
 // The frame goes on.
@@ -222,12 +234,25 @@ fn forwarded(entry: usize, heard: &Heard<'_>) -> OutMessage
     ensures sendable { (events : List Entry) → frame_at entry events ≡ Some heard.now.caught.now
         → can_send events result ≡ true }
 {
-    // Law: a frame with a body of FCoE can go on, by its size; the clause sendable says so.
+    // Law: a frame with a body of FCoE can go on, by its size; the clause sendable says so. And
+    // what a decoded frame says is what a journal reads from its bytes.
     data_frames_go_on();
-    OutMessage::Forwarded {
-        entry,
-        to: asker(heard).d_id,
+    frames_are_carried();
+    match &heard.what {
+        What::Fcoe { read: Ok(body), .. } => OutMessage::Forwarded {
+            entry,
+            to: body.frame.head.d_id,
+        },
+        _ => unreachable!(),
     }
+}
+
+// Which login a frame is, or a FLOGI where it is none.
+fn kind_of(heard: &Heard<'_>) -> LoginKind
+    requires { CarriesFrame (decoded heard.now.caught.now) }
+    ensures { result ≡ kind_asked heard.now.caught.now }
+{
+    login_kind(heard).unwrap_or(LoginKind::Flogi)
 }
 
 // Which login a frame is, or none where it is a body of FCoE.
@@ -243,58 +268,5 @@ fn login_kind(heard: &Heard<'_>) -> Option<LoginKind>
             _ => unreachable!(),
         },
         _ => None,
-    }
-}
-
-// Whether a login asks for several addresses.
-fn asks_several(heard: &Heard<'_>) -> bool
-    requires { InFip AsksAddress (decoded heard.now.caught.now) }
-    ensures { result ≡ spec.has_feature 0x8000 (asked heard.now.caught.now) }
-{
-    // Law: what a decoded frame says is what a journal reads from its bytes.
-    frames_are_carried();
-    match &heard.what {
-        What::Fip { message, .. } => match message {
-            FipMessage::Login { frame, .. } => wants_several(frame),
-            _ => unreachable!(),
-        },
-        _ => unreachable!(),
-    }
-}
-
-fn wants_several(frame: &[u8]) -> bool
-    requires { IsOkAnd (spec.decoded (fc_of frame.now).payload) IsRequest }
-    ensures { (caught : Caught) → carried caught ≡ fc_of frame.now
-        → result ≡ spec.has_feature 0x8000 (asked caught) }
-{
-    match read_frame(frame) {
-        Ok(frame) => parms_want_several(frame.payload),
-        Err(_) => unreachable!(),
-    }
-}
-
-fn parms_want_several(payload: &[u8]) -> bool
-    requires { IsOkAnd (spec.decoded payload.now) IsRequest }
-    ensures { (caught : Caught) → (carried caught).payload ≡ payload.now
-        → result ≡ spec.has_feature 0x8000 (asked caught) }
-{
-    // Law: what a decoded frame says is what a journal reads from its bytes.
-    frames_are_carried();
-    match read_els(payload) {
-        Ok(els) => asks_for_several(&els),
-        Err(_) => unreachable!(),
-    }
-}
-
-fn asks_for_several(request: &Els<'_>) -> bool
-    requires { IsRequest (spec.view request.now) }
-    ensures flogi { (p : LoginParms) → spec.view request.now ≡ spec.Flogi p
-        → result ≡ spec.has_feature 0x8000 p }
-    ensures fdisc { (p : LoginParms) → spec.view request.now ≡ spec.Fdisc p
-        → result ≡ spec.has_feature 0x8000 p }
-{
-    match request {
-        Els::Flogi(parms) | Els::Fdisc(parms) => parms.has_feature(Feature::MultipleNPortIds),
-        _ => unreachable!(),
     }
 }

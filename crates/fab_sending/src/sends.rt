@@ -2,10 +2,10 @@
 ghost use Rattle.std.specs.Prelude.{◌≡◌, ◌+◌, ◌*◌, ◌<◌, ◌≤◌};
 ghost use Rattle.fab_roster.specs.Reaching.{zones_of};
 
-use fab_base::Moment;
+use fab_base::{FcId, Moment};
 use fab_config::Config;
-use fab_replies::OutList;
-use fab_roster::Roster;
+use fab_replies::{Asker, OutList};
+use fab_roster::{LoginList, Request, Roster};
 use zone_rules::Zones;
 
 /// What decides over the frames that an entry sends, as it stands before the entry: how many ports
@@ -33,4 +33,15 @@ pub struct Before<'a> {
 pub struct Sends {
     pub outs: OutList,
     pub rscns: u32,
+}
+
+/// A login that gets an address: what its accept says, and the logins that end with it.
+#[derive(Drop)]
+pub struct Grant<'a> {
+    pub request: &'a Request,
+    pub to: Asker,
+    /// Whether it asks for several addresses.
+    pub several: bool,
+    pub address: FcId,
+    pub ended: &'a LoginList,
 }

@@ -1,12 +1,9 @@
-use Rattle.std.proofs.Common.{◌≡◌, sym, ◌∙◌, ◌==◌, nat_lt, length, is_some, drop, ap}
-use Rattle.eth_frames.specs.Ethernet.{Eth}
+use Rattle.std.proofs.Common.{sym, ◌∙◌, ◌==◌, nat_lt, length, is_some, drop, ap}
 use Rattle.fcoe_codec.specs.Fcoe.{view as fcoe_view}
 use Rattle.fab_policy.specs.Rules.{SERVICES, is_service, is_for_service, is_bad_els, is_ct_request, holds, joined, fcoe_rows}
 use Rattle.fab_policy.specs.State.{port_at}
 use Rattle.fab_policy.specs.Verdicts.{fcoe_judged}
-use Rattle.fab_judge.specs.Judged.{judgement_of}
-use Rattle.fab_judge.specs.Rows.{unless_dropped}
-use Rattle.fab_judge.proofs.RowLemmas.{no_service, to_n_port, to_service, if_ok, found, is_here, not_false, below}
+use Rattle.fab_judge.proofs.RowLemmas.{no_service, to_n_port, to_service, found, is_here, not_false, below}
 use Rattle.fab_judge.proofs.fcoe.judge_sent.Goals as goal
 
 pub returns-then-value-lt-SERVICES-clause-judged : goal.returns-then-value-lt-SERVICES-clause-judged
@@ -34,11 +31,10 @@ returns-clause-judged c =
     let b = x.frame.head.s_id in
     let from = port_at b T.ports in
     let p = found from c.in-Some.login.now (sym c.in-Some.ensures) in
-    if_ok (λ j. (f : Eth) → judgement_of j ≡ unless_dropped (drop 5 (fcoe_rows C T c.args.port f x)) (fcoe_judged C T x.frame))
-    (λ j. (f : Eth) → judgement_of j ≡ unless_dropped (drop 3 (fcoe_rows C T c.args.port f x)) (fcoe_judged C T x.frame))
-    c.judge_request.result
-    (λ j is f. is f
+    λ f. c.in_ok-judged.ensures.judged f
     ∙ sym (to_service (is_some from) (holds (λ p. p.enode.port == c.args.port) from) (drop 5 (fcoe_rows C T c.args.port f x)) (fcoe_judged C T x.frame)
     (ap is_some p.1)
-    (is_here from c.in-Some.login.now c.args.port (sym c.in-Some.ensures) (not_false _ (sym c.ne.ensures ∙ c.if-ne.false)))))
-    c.judge_request.ensures.judged
+    (is_here from c.in-Some.login.now c.args.port (sym c.in-Some.ensures) (not_false _ (sym c.ne.ensures ∙ c.if-ne.false))))
+
+pub returns-then-value-lt-SERVICES-clause-grounds : goal.returns-then-value-lt-SERVICES-clause-grounds
+returns-then-value-lt-SERVICES-clause-grounds c = λ x flogi to. c.judge_data.ensures.grounds x flogi

@@ -9,17 +9,17 @@ use Rattle.fab_judge.specs.Rows.{unless_dropped}
 use Rattle.fab_judge.proofs.CommandLemmas.{flogi_is}
 use Rattle.fab_judge.proofs.fip.judge_fip.Goals as goal
 
-pub returns-in-Login-clause-judged : goal.returns-in-Login-clause-judged
-returns-in-Login-clause-judged c =
+pub returns-in_ok-judged-in-Login-clause-judged : goal.returns-in_ok-judged-in-Login-clause-judged
+returns-in_ok-judged-in-Login-clause-judged c =
     let C = c.args.config.now in
     let T = c.args.roster.now.tables in
     let port = c.args.from.now.port in
     let caught = c.args.from.now.caught in
-    c.judge_login.ensures.judged
+    c.in_ok-judged-in-Login.ensures.judged
     ∙ ap (λ m. unless_dropped (fip_login_rows C T port caught (fip.view m)) (fip_judged C T port caught (fip.view m))) (sym c.in-Login.is)
 
-pub returns-in-Login-clause-grounds : goal.returns-in-Login-clause-grounds
-returns-in-Login-clause-grounds c =
+pub returns-in_ok-judged-in-Login-clause-grounds : goal.returns-in_ok-judged-in-Login-clause-grounds
+returns-in_ok-judged-in-Login-clause-grounds c =
     let C = c.args.config.now in
     let T = c.args.roster.now.tables in
     let port = c.args.from.now.port in
@@ -27,5 +27,5 @@ returns-in-Login-clause-grounds c =
     let l = c.in-Login.frame.now in
     let message = c.requires.1 ∙ ap (λ m. Fip c.requires.0 (fip.view m)) c.in-Login.is in
     let login = c.frames_are_carried.ensures.login caught c.requires.0 c.in-Login.kind c.in-Login.fp l c.in-Login.mac message in
-    subst (λ b. Rests C T (sender port caught) b (carried caught) c.judge_login.result) (sym (flogi_is caught c.in-Login.kind l login.0))
-    (subst (λ f. Rests C T (sender port caught) (is_flogi_by c.in-Login.kind caught) f c.judge_login.result) (sym login.1) c.judge_login.ensures.grounds)
+    subst (λ b. Rests C T (sender port caught) b (carried caught) c.in_ok-judged-in-Login.judged) (sym (flogi_is caught c.in-Login.kind l login.0))
+    (subst (λ f. Rests C T (sender port caught) (is_flogi_by c.in-Login.kind caught) f c.in_ok-judged-in-Login.judged) (sym login.1) c.in_ok-judged-in-Login.ensures.grounds)

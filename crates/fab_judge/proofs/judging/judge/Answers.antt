@@ -21,14 +21,14 @@ pub judge_fip-requires : goal.judge_fip-requires
 judge_fip-requires c =
     (eth.view c.in-Fip.eth, ap (λ o. decoded o.caught) c.of-from.ensures ∙ (sym c.args.heard.now.decoded ∙ ap view c.in-Fip.is))
 
-pub returns-in-Fip-clause-judged : goal.returns-in-Fip-clause-judged
-returns-in-Fip-clause-judged c =
+pub returns-in_ok-judged-in-Fip-clause-judged : goal.returns-in_ok-judged-in-Fip-clause-judged
+returns-in_ok-judged-in-Fip-clause-judged c =
     let C = c.args.config.now in
     let T = c.args.roster.now.tables in
     let m = fip.view c.in-Fip.message in
     let is = sym c.args.heard.now.decoded ∙ ap view c.in-Fip.is in
     let none = ap (frame_rule C) (sym is) ∙ (sym c.frame_rule.ensures ∙ c.in_default.is) in
-    c.judge_fip.ensures.judged
+    c.in_ok-judged-in-Fip.ensures.judged
     ∙ ap (λ o. unless_dropped (fip_login_rows C T o.port o.caught m) (fip_judged C T o.port o.caught m)) c.of-from.ensures
     ∙ sym (judged_fip C T c.args.port c.args.heard.now.caught.now (eth.view c.in-Fip.eth) m is none)
 
@@ -52,6 +52,6 @@ returns-in-Fcoe-clause-grounds c =
     let f = eth.view c.in-Fcoe.eth in
     let read = read_view c.in-Fcoe.read in
     let is = sym c.args.heard.now.decoded ∙ ap view c.in-Fcoe.is in
-    if_ok (λ j. (x : Enode) (flogi : Bool) (f : Frame) → IsCarried read f → Rests C T x flogi f j) (λ j. Grounds C T c.args.port caught j) c.judge_body.result
-    (λ j rests. rests (sender c.args.port caught) (is_flogi caught) (carried caught) (carried_by c.frames_are_carried.ensures.body caught f read is))
+    if_ok (λ j. (x : Enode) (flogi : Bool) (g : Frame) → x.mac ≡ f.src → IsCarried read g → Rests C T x flogi g j) (λ j. Grounds C T c.args.port caught j) c.judge_body.result
+    (λ j rests. rests (sender c.args.port caught) (is_flogi caught) (carried caught) (c.frames_are_carried.ensures.source.1 caught f read is) (carried_by c.frames_are_carried.ensures.body caught f read is))
     c.judge_body.ensures.grounds

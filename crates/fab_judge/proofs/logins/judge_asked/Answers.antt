@@ -1,10 +1,8 @@
-use Rattle.std.proofs.Common.{◌==◌, ◌||◌, ◌&&◌, not, nat_le, length, ap, sym, ◌∙◌, arith}
+use Rattle.std.proofs.Common.{◌==◌, ◌||◌, ◌&&◌, not, nat_le, length, is_some, ap, sym, ◌∙◌}
 use Rattle.std.specs.List.{list_any}
-use Rattle.els_messages.specs.Els.{offers_class3}
-use Rattle.fab_base.proofs.KeyedLemmas.{AscendFrom-weaker}
+use Rattle.els_messages.specs.Els.{has_feature, offers_class3}
 use Rattle.fab_policy.specs.Free.{has_free}
 use Rattle.fab_policy.specs.Rules.{is_known}
-use Rattle.fab_policy.specs.State.{LivePort}
 use Rattle.fab_policy.specs.Verdicts.{MayGrant, staying}
 use Rattle.fab_judge.specs.Judged.{judgement_of}
 use Rattle.fab_judge.proofs.LoginLemmas.{missing_row, class3_row, name_row, full_row, no_row, has_room, or_false}
@@ -41,20 +39,16 @@ returns-then-is_name_refused-clause-judged c =
     c.if-not-fp.false (sym (c.is_first_missing.ensures C) ∙ c.if-is_first_missing.false) (sym c.offers_class3.ensures ∙ c.if-not-offers_class3.false)
     (sym (c.is_name_refused.ensures C) ∙ c.if-is_name_refused.true))
 
-pub is_full-requires-clause-ascending : goal.is_full-requires-clause-ascending
-is_full-requires-clause-ascending c =
-    AscendFrom-weaker (λ (p : LivePort). p.address) 0 c.args.roster.now.lowest c.args.roster.now.tables.ports (omega arith) c.len-live.ensures.sound.ascending.0
-
-pub returns-then-is_full-clause-judged : goal.returns-then-is_full-clause-judged
-returns-then-is_full-clause-judged c =
+pub returns-in_default-clause-judged : goal.returns-in_default-clause-judged
+returns-in_default-clause-judged c =
     let C = c.args.config.now in
     let T = c.args.roster.now.tables in
     let r = c.args.request in
-    ap judgement_of c.rejected-then-is_full.ensures
+    ap judgement_of c.rejected-in_default.ensures
     ∙ sym (full_row c.args.fp (not r.flogi && not (is_known C T c.args.from.now.port c.args.from.now.caught)) (offers_class3 c.args.parms.now)
     (r.name == 0 || list_any (λ q. q.name == r.name) (staying C T r)) (nat_le C.limit (length (staying C T r)) || not (has_free T r)) (MayGrant r)
     c.if-not-fp.false (sym (c.is_first_missing.ensures C) ∙ c.if-is_first_missing.false) (sym c.offers_class3.ensures ∙ c.if-not-offers_class3.false)
-    (sym (c.is_name_refused.ensures C) ∙ c.if-is_name_refused.false) (sym c.is_full.ensures ∙ c.if-is_full.true))
+    (sym (c.is_name_refused.ensures C) ∙ c.if-is_name_refused.false) (sym c.free_for.ensures.some ∙ ap (λ o. not (is_some o)) c.in_default.is))
 
 pub returns-clause-judged : goal.returns-clause-judged
 returns-clause-judged c =
@@ -64,20 +58,22 @@ returns-clause-judged c =
     sym (no_row c.args.fp (not r.flogi && not (is_known C T c.args.from.now.port c.args.from.now.caught)) (offers_class3 c.args.parms.now)
     (r.name == 0 || list_any (λ q. q.name == r.name) (staying C T r)) (nat_le C.limit (length (staying C T r)) || not (has_free T r)) (MayGrant r)
     c.if-not-fp.false (sym (c.is_first_missing.ensures C) ∙ c.if-is_first_missing.false) (sym c.offers_class3.ensures ∙ c.if-not-offers_class3.false)
-    (sym (c.is_name_refused.ensures C) ∙ c.if-is_name_refused.false) (sym c.is_full.ensures ∙ c.if-is_full.false))
+    (sym (c.is_name_refused.ensures C) ∙ c.if-is_name_refused.false) (sym c.in-Some.ensures.some))
 
 pub returns-clause-grounds : goal.returns-clause-grounds
-returns-clause-grounds c = λ x flogi f asks parms.
+returns-clause-grounds c = λ x flogi f asks parms to.
     let C = c.args.config.now in
     let T = c.args.roster.now.tables in
     let r = c.args.request in
-    let room = has_room C.limit (length (staying C T r)) (has_free T r) (sym c.is_full.ensures ∙ c.if-is_full.false) in
     record {
       flogi_is = ap (λ r. r.flogi) asks;
       enode = ap (λ r. r.enode) asks;
       name = ap (λ r. r.name) asks ∙ ap (λ p. p.port_name) (sym parms);
       node_is = ap (λ p. p.node_name) (sym parms);
-      free = room.0;
+      to_is = to;
+      several_is = c.has_feature.ensures ∙ ap (has_feature 0x8000) (sym parms);
+      free_is = c.in-Some.ensures.free;
+      ended_is = c.in_ok-ended.ensures;
       fresh = (or_false (r.name == 0) (list_any (λ q. q.name == r.name) (staying C T r)) (sym (c.is_name_refused.ensures C) ∙ c.if-is_name_refused.false)).1;
-      room = room.1;
+      room = has_room C.limit (length (staying C T r)) (or_false (nat_le C.limit (length (staying C T r))) (not (has_free T r)) (sym c.in-Some.ensures.some)).0;
     }

@@ -9,26 +9,26 @@ use Rattle.fab_judge.proofs.logins.judge_command.Goals as goal
 
 pub returns-in-Logo-clause-grounds : goal.returns-in-Logo-clause-grounds
 returns-in-Logo-clause-grounds c =
-    c.judge_logout.ensures.grounds (sender c.args.from.now.port c.args.from.now.caught) (is_flogi_by c.args.kind c.args.from.now.caught) (fc_view c.args.frame.now)
+    c.judge_logout-judged.ensures.grounds (sender c.args.from.now.port c.args.from.now.caught) (is_flogi_by c.args.asked.now.kind c.args.from.now.caught) (fc_view c.args.frame.now) c.asker-to.ensures
 
-pub returns-in-Flogi-clause-judged : goal.returns-in-Flogi-clause-judged
-returns-in-Flogi-clause-judged c =
+pub returns-in_ok-judged-in-Flogi-clause-judged : goal.returns-in_ok-judged-in-Flogi-clause-judged
+returns-in_ok-judged-in-Flogi-clause-judged c =
     let C = c.args.config.now in
     let T = c.args.roster.now.tables in
     let port = c.args.from.now.port in
     let caught = c.args.from.now.caught in
     let f = fc_view c.args.frame.now in
-    c.judge_request.ensures.judged
+    c.in_ok-judged-in-Flogi.ensures.judged
     ∙ elim c.in-Flogi.is [
-      | inl e ↦ sym (by_flogi C T port caught c.args.fp c.args.kind f c.args.mac.now c.in-Flogi.parms (c.requires.value ∙ ap els.view e))
-      | inr e ↦ sym (by_fdisc C T port caught c.args.fp c.args.kind f c.args.mac.now c.in-Flogi.parms (c.requires.value ∙ ap els.view e))
+      | inl e ↦ sym (by_flogi C T port caught c.args.asked.now.fp c.args.asked.now.kind f c.args.asked.now.mac c.in-Flogi.parms (c.requires.value ∙ ap els.view e))
+      | inr e ↦ sym (by_fdisc C T port caught c.args.asked.now.fp c.args.asked.now.kind f c.args.asked.now.mac c.in-Flogi.parms (c.requires.value ∙ ap els.view e))
     ]
 
-pub returns-in-Flogi-clause-grounds : goal.returns-in-Flogi-clause-grounds
-returns-in-Flogi-clause-grounds c =
+pub returns-in_ok-judged-in-Flogi-clause-grounds : goal.returns-in_ok-judged-in-Flogi-clause-grounds
+returns-in_ok-judged-in-Flogi-clause-grounds c =
     let f = fc_view c.args.frame.now in
     let parms : els.parms_of f.payload ≡ c.in-Flogi.parms = elim c.in-Flogi.is [
       | inl e ↦ (let read : els.IsEls (els.view (variants.Flogi c.in-Flogi.parms)) f.payload = subst (λ v. els.IsEls (els.view v) f.payload) e c.requires.grammar in read.1)
       | inr e ↦ (let read : els.IsEls (els.view (variants.Fdisc c.in-Flogi.parms)) f.payload = subst (λ v. els.IsEls (els.view v) f.payload) e c.requires.grammar in read.1)
     ] in
-    c.judge_request.ensures.grounds f parms
+    c.in_ok-judged-in-Flogi.ensures.grounds f parms c.asker-to.ensures

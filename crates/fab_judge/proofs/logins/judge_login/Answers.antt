@@ -12,9 +12,9 @@ use Rattle.fab_judge.proofs.logins.judge_login.Goals as goal
 pub returns-in_default-clause-judged : goal.returns-in_default-clause-judged
 returns-in_default-clause-judged c =
     let l = c.args.frame.now in
-    let kind = c.args.kind in
-    let fp = c.args.fp in
-    let mac = c.args.mac.now in
+    let kind = c.args.asked.now.kind in
+    let fp = c.args.asked.now.fp in
+    let mac = c.args.asked.now.mac in
     ap judgement_of c.dropped.ensures
     ∙ ap (λ b. unless_dropped ((b, plain rule.ElsShort) ∷ (is_wrong_login (fip.Login kind fp l mac), plain rule.ElsKind) ∷ [])
     (frame_judged c.args.config.now c.args.roster.now.tables c.args.from.now.port c.args.from.now.caught fp kind (fc_of l) mac))

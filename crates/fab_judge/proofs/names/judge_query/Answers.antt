@@ -12,5 +12,5 @@ returns-in-Ok-clause-judged c = λ p live.
     let ports = known_to c.args.config.now c.args.roster.now.tables p in
     let ask = view c.args.ask.now in
     ap judgement_of c.answered.ensures
-    ∙ ap (λ t. judgement_of (told_as t)) (c.in-Ok.ensures.answer p live)
-    ∙ told (server.query_refusal ports ask) (server.query ports ask) (c.a_query_is_no_reject.ensures.query ports ask)
+    ∙ ap (λ t. judgement_of (told_as c.args.to c.args.size t)) (c.in-Ok.ensures.answer p live)
+    ∙ told c.args.to c.args.size (server.query_refusal ports ask) (server.query ports ask) (c.a_query_is_no_reject.ensures.query ports ask)

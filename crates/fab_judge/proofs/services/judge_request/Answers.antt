@@ -24,6 +24,6 @@ returns-then-is_els_request-clause-judged c = λ f.
     (no_ct x.frame request) p.1 (sym c.is_els_reply.ensures ∙ c.if-is_els_reply.false) request)
 
 pub returns-then-is_els_request-clause-grounds : goal.returns-then-is_els_request-clause-grounds
-returns-then-is_els_request-clause-grounds c = λ x flogi.
+returns-then-is_els_request-clause-grounds c = λ x flogi to.
     c.judge_service.ensures.grounds c.args.config.now c.args.roster.now.tables x flogi
-    (there login_of (port_at c.args.body.now.frame.head.s_id c.args.roster.now.tables.ports) c.args.login.now c.requires.live)
+    (there login_of (port_at c.args.body.now.frame.head.s_id c.args.roster.now.tables.ports) c.args.login.now c.requires.live) to

@@ -15,7 +15,7 @@ returns-then-is_to_names-clause-judged c = λ c' T p login.
     ∙ ap (λ b. unless_dropped ((b, plain rule.ElsShort) ∷ []) (els_judged c' T p f)) (sym (readable f (els.view c.in-Ok.els) c.requires c.in-Ok.ensures.exact))
 
 pub returns-then-is_to_names-clause-grounds : goal.returns-then-is_to_names-clause-grounds
-returns-then-is_to_names-clause-grounds c = λ c' T x flogi live. c.to_name_server.ensures.grounds c' T x flogi (fc_view c.args.frame.now) live c.in-Ok.ensures.grammar
+returns-then-is_to_names-clause-grounds c = λ c' T x flogi live to. c.to_name_server.ensures.grounds c' T x flogi (fc_view c.args.frame.now) live to c.in-Ok.ensures.grammar
 
 pub returns-else-is_to_names-clause-judged : goal.returns-else-is_to_names-clause-judged
 returns-else-is_to_names-clause-judged c = λ c' T p login.
@@ -24,4 +24,4 @@ returns-else-is_to_names-clause-judged c = λ c' T p login.
     ∙ ap (λ b. unless_dropped ((b, plain rule.ElsShort) ∷ []) (els_judged c' T p f)) (sym (readable f (els.view c.in-Ok.els) c.requires c.in-Ok.ensures.exact))
 
 pub returns-else-is_to_names-clause-grounds : goal.returns-else-is_to_names-clause-grounds
-returns-else-is_to_names-clause-grounds c = λ c' T x flogi live. c.to_controller.ensures.grounds c' T x flogi (fc_view c.args.frame.now) live
+returns-else-is_to_names-clause-grounds c = λ c' T x flogi live to. c.to_controller.ensures.grounds c' T x flogi (fc_view c.args.frame.now) live to

@@ -9,6 +9,6 @@ use Rattle.fab_sending.proofs.changing.grant_changes.Goals as goal
 pub returns : goal.returns
 returns c = λ port caught is.
     let b = c.args.before.now in
-    granted_told b.config.now b.roster.now.tables c.now-moment.result b.rscns c.args.address port caught c.args.request.now c.in_ok-ended.ended
-    c.empty-outs.result c.tell_of_ends.new.outs c.tell_of.new.outs c.now-moment.ensures c.empty-outs.ensures c.in_ok-ended.ensures c.in_ok-tell_of_ends.ensures
-    (c.in_ok-tell_of.ensures ∙ ap (λ (r : Request). with_changes c.now-moment.result b.rscns c.tell_of_ends.new.outs (told_of_name b.config.now b.roster.now.tables (addresses_of c.in_ok-ended.ended) c.args.address r.name)) c.request.view_is) is
+    granted_told b.config.now b.roster.now.tables c.now-moment.result b.rscns port caught c.args.grant.now c.empty-outs.result c.tell_of_ends.new.outs c.tell_of.new.outs
+    c.now-moment.ensures c.empty-outs.ensures is c.in_ok-tell_of_ends.ensures
+    (c.in_ok-tell_of.ensures ∙ ap (λ (r : Request). with_changes c.now-moment.result b.rscns c.tell_of_ends.new.outs (told_of_name b.config.now b.roster.now.tables (addresses_of c.args.grant.now.ended.now) c.args.grant.now.address r.name)) c.request.view_is)

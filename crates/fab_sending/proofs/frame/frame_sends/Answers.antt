@@ -1,21 +1,24 @@
+use Rattle.std.proofs.Common.{◌∙◌, ap}
 use Rattle.fab_policy.specs.State.{now_of}
-use Rattle.fab_sending.specs.Notices.{notices_of_frame}
-use Rattle.fab_sending.specs.Sends.{state_before}
 use Rattle.fab_replies.specs.Laws.{messages}
-use Rattle.fab_sending.proofs.Joining.{all_sendable, at_clock, frame_sent, in_pool, plain_follows}
+use Rattle.fab_sending.specs.Messages.{at_moment, changes}
+use Rattle.fab_sending.proofs.Joining.{at_clock, settled_tells}
 use Rattle.fab_sending.proofs.ReplyMade.{right_suits}
 use Rattle.fab_sending.proofs.frame.frame_sends.Goals as goal
 
-pub replies-requires-clause-suits : goal.replies-requires-clause-suits
-replies-requires-clause-suits c = right_suits c.args.before.now.config.now c.args.before.now.roster.now.tables c.args.port c.args.heard.now.caught.now c.args.verdict c.requires.right
+pub frames_of-requires-clause-suits : goal.frames_of-requires-clause-suits
+frames_of-requires-clause-suits c =
+    let b = c.args.before.now in
+    right_suits b.config.now b.roster.now.tables c.args.port c.args.heard.now.caught.now c.args.verdict c.requires.right
 
-pub returns-clause-sent : goal.returns-clause-sent
-returns-clause-sent c = λ index events at.
-    frame_sent c.frames_send.ensures c.frames_tell.ensures c.args.before.now.config.now c.args.before.now.ports (state_before c.args.before.now) c.args.port index c.args.entry c.args.heard.now.caught.now c.args.verdict events
-    c.in_ok-sends.sends c.in_ok-frames.frames c.in_ok-changes.changes (in_pool c.args.before.now.config.now _ _ c.args.before.now.roster.now.tables.ports c.args.before.now.lowest c.args.before.now.pool c.len.ensures.sound.ascending)
-    (plain_follows c.args.before.now.config.now c.args.before.now.roster.now.tables c.args.port index c.args.heard.now.caught.now c.args.verdict c.requires.plain) at (at_clock _ _ (messages c.args.before.now.config.now c.args.before.now.roster.now.tables c.args.port c.args.entry c.args.heard.now.caught.now c.args.verdict) c.in_ok-frames.frames c.now.ensures (c.in_ok-frames.ensures.made c.args.before.now.config.now c.args.before.now.roster.now.tables)) (c.in_ok-changes.ensures c.args.port c.args.heard.now.caught.now) c.in_ok-sends.ensures.outs c.in_ok-sends.ensures.rscns
-    (all_sendable events c.in_ok-frames.frames c.in_ok-changes.changes c.in_ok-sends.sends.outs (now_of c.args.before.now.roster.now.tables) c.args.before.now.rscns (notices_of_frame c.args.before.now.config.now c.args.before.now.roster.now.tables c.args.port c.args.heard.now.caught.now c.args.verdict) (c.in_ok-frames.ensures.sendable events at) (c.in_ok-changes.ensures c.args.port c.args.heard.now.caught.now) c.in_ok-sends.ensures.outs)
-
-pub returns-clause-sendable : goal.returns-clause-sendable
-returns-clause-sendable c = λ events at.
-    all_sendable events c.in_ok-frames.frames c.in_ok-changes.changes c.in_ok-sends.sends.outs (now_of c.args.before.now.roster.now.tables) c.args.before.now.rscns (notices_of_frame c.args.before.now.config.now c.args.before.now.roster.now.tables c.args.port c.args.heard.now.caught.now c.args.verdict) (c.in_ok-frames.ensures.sendable events at) (c.in_ok-changes.ensures c.args.port c.args.heard.now.caught.now) c.in_ok-sends.ensures.outs
+pub returns : goal.returns
+returns c =
+    let b = c.args.before.now in
+    let T = b.roster.now.tables in
+    let caught = c.args.heard.now.caught.now in
+    let v = c.args.verdict in
+    c.in_ok-sends.ensures c.args.port c.args.entry caught v (record {
+      made = at_clock _ _ (messages b.config.now T c.args.port c.args.entry caught v) c.in_ok-frames.frames c.now.ensures (c.in_ok-frames.ensures.made b.config.now T);
+      sendable = c.in_ok-frames.ensures.sendable;
+      changes_are = c.empty-changes.ensures ∙ ap (λ ns. at_moment (now_of T) (changes b.rscns ns)) (settled_tells b.config.now T c.args.port caught v c.requires.settled);
+    })

@@ -1,22 +1,23 @@
-use Rattle.fab_policy.specs.State.{now_of}
-use Rattle.fab_sending.specs.Notices.{notices_of_frame}
-use Rattle.fab_sending.specs.Sends.{state_before}
 use Rattle.fab_policy.specs.declared.verdict.Verdict.TheVariants.{Granted}
 use Rattle.fab_replies.specs.Laws.{messages}
-use Rattle.fab_sending.proofs.Joining.{all_sendable, at_clock, frame_sent, in_pool}
+use Rattle.fab_sending.proofs.Joining.{at_clock}
 use Rattle.fab_sending.proofs.ReplyMade.{right_suits}
 use Rattle.fab_sending.proofs.frame.grant_sends.Goals as goal
 
 pub accept-requires : goal.accept-requires
-accept-requires c = right_suits c.args.before.now.config.now c.args.before.now.roster.now.tables c.args.port c.args.heard.now.caught.now (Granted c.args.address) c.requires.right
+accept-requires c =
+    let b = c.args.before.now in
+    right_suits b.config.now b.roster.now.tables c.args.port c.args.heard.now.caught.now (Granted c.args.grant.now.address) c.requires.right
 
-pub returns-clause-sent : goal.returns-clause-sent
-returns-clause-sent c = λ index entry events at follows.
-    frame_sent c.frames_send.ensures c.frames_tell.ensures c.args.before.now.config.now c.args.before.now.ports (state_before c.args.before.now) c.args.port index entry c.args.heard.now.caught.now (Granted c.args.address) events
-    c.in_ok-sends.sends c.in_ok-accept.accept c.in_ok-changes.changes (in_pool c.args.before.now.config.now _ _ c.args.before.now.roster.now.tables.ports c.args.before.now.lowest c.args.before.now.pool c.len.ensures.sound.ascending)
-    follows at (at_clock _ _ (messages c.args.before.now.config.now c.args.before.now.roster.now.tables c.args.port entry c.args.heard.now.caught.now (Granted c.args.address)) c.in_ok-accept.accept c.now.ensures (c.in_ok-accept.ensures.made c.args.before.now.config.now c.args.before.now.roster.now.tables entry)) (c.in_ok-changes.ensures c.args.port c.args.heard.now.caught.now c.requires.request) c.in_ok-sends.ensures.outs c.in_ok-sends.ensures.rscns
-    (all_sendable events c.in_ok-accept.accept c.in_ok-changes.changes c.in_ok-sends.sends.outs (now_of c.args.before.now.roster.now.tables) c.args.before.now.rscns (notices_of_frame c.args.before.now.config.now c.args.before.now.roster.now.tables c.args.port c.args.heard.now.caught.now (Granted c.args.address)) (c.in_ok-accept.ensures.sendable events) (c.in_ok-changes.ensures c.args.port c.args.heard.now.caught.now c.requires.request) c.in_ok-sends.ensures.outs)
-
-pub returns-clause-sendable : goal.returns-clause-sendable
-returns-clause-sendable c = λ entry events at.
-    all_sendable events c.in_ok-accept.accept c.in_ok-changes.changes c.in_ok-sends.sends.outs (now_of c.args.before.now.roster.now.tables) c.args.before.now.rscns (notices_of_frame c.args.before.now.config.now c.args.before.now.roster.now.tables c.args.port c.args.heard.now.caught.now (Granted c.args.address)) (c.in_ok-accept.ensures.sendable events) (c.in_ok-changes.ensures c.args.port c.args.heard.now.caught.now c.requires.request) c.in_ok-sends.ensures.outs
+pub returns : goal.returns
+returns c = λ entry.
+    let b = c.args.before.now in
+    let T = b.roster.now.tables in
+    let caught = c.args.heard.now.caught.now in
+    let v = Granted c.args.grant.now.address in
+    c.in_ok-sends.ensures c.args.port entry caught v (record {
+      made = at_clock _ _ (messages b.config.now T c.args.port entry caught v) c.in_ok-frames.frames c.clock.ensures.now
+          (c.in_ok-frames.ensures.made b.config.now T entry c.requires.grant.to c.requires.grant.several);
+      sendable = λ events at. c.in_ok-frames.ensures.sendable events;
+      changes_are = c.in_ok-changes.ensures c.args.port caught c.requires.grant;
+    })

@@ -2,7 +2,7 @@ use Rattle.std.proofs.Common.{◌∙◌, ◌≡◌, ◌%◌, ℕ, ap, List, leng
 use Rattle.ct_messages.specs.Answer.{written}
 use Rattle.fc_frames.specs.Pieces.{Cuts}
 use Rattle.fab_sending.proofs.FrameMade.{answer_made, answer_sendable, written_first}
-use Rattle.fab_sending.proofs.answers.answer.Goals as goal
+use Rattle.fab_sending.proofs.answers.frames_of_answer.Goals as goal
 
 pub returns-clause-made : goal.returns-clause-made
 returns-clause-made c =
