@@ -15,7 +15,7 @@ use Rattle.pcap_file.specs.declared.CapOpen.TheVariants as opens
 use Rattle.pcap_file.specs.declared.CapError.TheVariants as errors
 use Rattle.pcap_file.specs.declared.Record.{Record}
 use Rattle.pcap_file.specs.Capture.{RECORD_HEAD, next, head_decoded}
-use Rattle.pcap_file.specs.Reading.{Reading, to_come, Step, Gives, Ends, Stops, step_of, Says, NextReads, OpensReader}
+use Rattle.pcap_file.specs.Reading.{Reading, to_come, Step, Gives, Ends, Stops, step_of, Says, NextReads, OpensReader, standing as reader_stand}
 use Rattle.pcap_file.specs.Records.{Ascends}
 use Rattle.pcap_file.proofs.lemmas.Steps.{gives_found}
 use Rattle.pcap_file.proofs.lemmas.Chains.{found_stands, last-push, ascends-push}
@@ -73,7 +73,7 @@ module _ (port slot : ℕ) (a : Seen) (r : Reading) (had : Budget) where
     told_b : IsTrue a.told → IsTrue b.told
     told_b told = told_stays (a.name slot) a b f.reads.keeps told
 
-    reads_c : {x : Result (Option Record) CapError} → NextReads slot b c s t left now x → Reads (a.name slot) a c
+    reads_c : {x : Result (Option Record) CapError} → NextReads slot (reader_stand b s left) (reader_stand c t now) x → Reads (a.name slot) a c
     reads_c n = reads_trans (a.name slot) a b c f.reads (subst (λ m. Reads m b c) f.name n.reads)
 
     -- the step that the next call answers
@@ -95,7 +95,7 @@ module _ (port slot : ℕ) (a : Seen) (r : Reading) (had : Budget) where
     )
 
     -- one record more
-    pub so_far_more : (x : Record) → NextReads slot b c s t left now (Ok (Some x)) → SoFar port slot a c r t had now (records ++ x ∷ [])
+    pub so_far_more : (x : Record) → NextReads slot (reader_stand b s left) (reader_stand c t now) (Ok (Some x)) → SoFar port slot a c r t had now (records ++ x ∷ [])
     so_far_more x n =
         let k = n.taken in
         let at : t.at ≡ min (s.at + (16 + length x.caught.bytes)) (2 ^ 64 - 1) = ap (λ (q : Reading). q.at) k.moved in
@@ -133,7 +133,7 @@ module _ (port slot : ℕ) (a : Seen) (r : Reading) (had : Budget) where
     last_step step is whole zero less e = absurd (omega (arith, less))
     last_step step is whole (suc q) less e = (q, e ∙ ap (λ z. in_front records (by_step (more_b q) port left z)) is)
 
-    pub so_far_ended : NextReads slot b c s t left now (Ok None) → ReadsRecords port slot a c r had now (Ok records)
+    pub so_far_ended : NextReads slot (reader_stand b s left) (reader_stand c t now) (Ok None) → ReadsRecords port slot a c r had now (Ok records)
     so_far_ended n = record {
       reads = reads_c n;
       fit = (f.fit, f.ascends);
@@ -147,7 +147,7 @@ module _ (port slot : ℕ) (a : Seen) (r : Reading) (had : Budget) where
       counts = λ other m. n.counts m ∙ f.counts m;
     }
 
-    pub so_far_failed : (e : CapError) → NextReads slot b c s t left now (Err e) → ReadsRecords port slot a c r had now (Err (fault_by e port))
+    pub so_far_failed : (e : CapError) → NextReads slot (reader_stand b s left) (reader_stand c t now) (Err e) → ReadsRecords port slot a c r had now (Err (fault_by e port))
     so_far_failed e n = record {
       reads = reads_c n;
       fit = tt;

@@ -11,7 +11,7 @@ use Rattle.fab_policy.specs.Keeping.{IsFrom}
 use Rattle.fab_policy.specs.Legal.{window_start}
 use Rattle.fab_policy.specs.Looks.{Opened, Look, found_at, is_found, behind, looks, looks_of, first_spot, window_before, comes_before, in_order, first_window, stop_in, Stop, stop, LooksFound, LooksEnd}
 use Rattle.pcap_file.specs.Capture.{Next, Found, End, CutHead, TooLong, CutBytes}
-use Rattle.pcap_file.specs.Reading.{Reading, to_come}
+use Rattle.pcap_file.specs.Reading.{Reading, to_come, reader_stand}
 use Rattle.pcap_file.specs.Records.{Chain, last_moment}
 use Rattle.pcap_file.specs.declared.Budget.{Budget}
 use Rattle.pcap_file.specs.declared.Record.{Record}
@@ -20,7 +20,7 @@ use Rattle.fab_gather.specs.declared.shelf.Input.{Input}
 use Rattle.fab_gather.specs.declared.shelf.Shelf.{Shelf}
 use Rattle.fab_gather.specs.declared.fault.GatherFault.{GatherFault}
 use Rattle.fab_gather.specs.declared.fault.GatherFault.TheVariants as fault
-use Rattle.fab_gather.specs.First.{IsFresh, AreFresh, opened_by, opened_in, first_look, Looked, StopsFirst, LeavesFirst, LooksOnce, LooksFirst, port_start_at, start_at, Start}
+use Rattle.fab_gather.specs.First.{IsFresh, AreFresh, opened_by, opened_in, first_look, Looked, StopsFirst, LeavesFirst, LooksOnce, LooksFirst, start_at, Start}
 use Rattle.fab_gather.specs.Port.{IsReady, Spends, Gave, to_look, ending}
 use Rattle.fab_gather.specs.Ports.{AreInputs, At, slots_of, NameIn, TakesFrom, rests, joined, counts_of, walk_at, Walk}
 use Rattle.fab_gather.specs.Reads.{HasRead, HaveRead}
@@ -228,8 +228,8 @@ stop_as c bytes frames opened = refl
 pub seeing_as : {c : Settings} {k : ℕ} {a b : Seen} {ins ins' : List Input} {l m : List Shelf} {had left : Budget} → l ≡ m → Seeing c k (start_at a ins had) (walk_at b ins' l left) → Seeing c k (start_at a ins had) (walk_at b ins' m left)
 seeing_as {c} {k} {a} {b} {ins} {ins'} {l} {m} {had} {left} e h = subst (λ q. Seeing c k (start_at a ins had) (walk_at b ins' q left)) e h
 
-pub once_as : {c : Settings} {m n slot : ℕ} {a b : Seen} {r r' : Reading} {had left : Budget} {result : Result Shelf GatherFault} → m ≡ n → LooksOnce c m slot (port_start_at a r had) (port_start_at b r' left) result → LooksOnce c n slot (port_start_at a r had) (port_start_at b r' left) result
-once_as {c} {m} {n} {slot} {a} {b} {r} {r'} {had} {left} {result} e h = subst (λ (q : ℕ). LooksOnce c q slot (port_start_at a r had) (port_start_at b r' left) result) e h
+pub once_as : {c : Settings} {m n slot : ℕ} {a b : Seen} {r r' : Reading} {had left : Budget} {result : Result Shelf GatherFault} → m ≡ n → LooksOnce c m slot (reader_stand a r had) (reader_stand b r' left) result → LooksOnce c n slot (reader_stand a r had) (reader_stand b r' left) result
+once_as {c} {m} {n} {slot} {a} {b} {r} {r'} {had} {left} {result} e h = subst (λ (q : ℕ). LooksOnce c q slot (reader_stand a r had) (reader_stand b r' left) result) e h
 
 -- the same slots, and not more of the limits
 taken_from : (ins ins' : List Input) (had left : Budget) (found : ℕ) → slots_of ins' ≡ slots_of ins → Spends had left 0 found → TakesFrom ins ins' had left
@@ -297,7 +297,7 @@ module _ (found_law : LooksFound) (end_law : LooksEnd) (c : Settings) (k : ℕ) 
       slots_on : slots_of (set ins' k i2) ≡ slots_of ins
       slots_on = slots_set ins' k i1 i2 at slot ∙ see.slots
 
-      spent_on : (s : Shelf) → Looked c (k + 1) i1.slot (port_start_at b i1.reader mid) (port_start_at d i2.reader left) s → Spends had left 0 (counts_of shelves + s.count)
+      spent_on : (s : Shelf) → Looked c (k + 1) i1.slot (reader_stand b i1.reader mid) (reader_stand d i2.reader left) s → Spends had left 0 (counts_of shelves + s.count)
       spent_on s l =
           let own = l.spent in
           let so_far = see.spent in
@@ -359,7 +359,7 @@ module _ (found_law : LooksFound) (end_law : LooksEnd) (c : Settings) (k : ℕ) 
           | inr less ↦ earlier_left q j j' less first (sym (get_set_other ins' k q i2 (λ e. omega arith)) ∙ now)
         ]
 
-      pub look_failed : (f : GatherFault) → LooksOnce c (k + 1) i1.slot (port_start_at b i1.reader mid) (port_start_at d i2.reader left) (Err f) → LooksFirst c (start_at a ins had) (start_at d (set ins' k i2) left) (Err f)
+      pub look_failed : (f : GatherFault) → LooksOnce c (k + 1) i1.slot (reader_stand b i1.reader mid) (reader_stand d i2.reader left) (Err f) → LooksFirst c (start_at a ins had) (start_at d (set ins' k i2) left) (Err f)
       look_failed f t = record {
         touches = touches_on a b ins ins' are see.touches see.slots k i1 at d t.reads;
         slots = slots_on;
@@ -392,7 +392,7 @@ module _ (found_law : LooksFound) (end_law : LooksEnd) (c : Settings) (k : ℕ) 
               )
 
       -- memory is refused for its shelf
-      pub look_lost : (s : Shelf) → LooksOnce c (k + 1) i1.slot (port_start_at b i1.reader mid) (port_start_at d i2.reader left) (Ok s) → LooksFirst c (start_at a ins had) (start_at d (set ins' k i2) left) (Err fault.Memory)
+      pub look_lost : (s : Shelf) → LooksOnce c (k + 1) i1.slot (reader_stand b i1.reader mid) (reader_stand d i2.reader left) (Ok s) → LooksFirst c (start_at a ins had) (start_at d (set ins' k i2) left) (Err fault.Memory)
       look_lost s t = record {
         touches = touches_on a b ins ins' are see.touches see.slots k i1 at d t.reads;
         slots = slots_on;
@@ -413,7 +413,7 @@ module _ (found_law : LooksFound) (end_law : LooksEnd) (c : Settings) (k : ℕ) 
       abbrev others : Shelf → List Look
       others s = to_look c (k + 1) d i1.slot i2.reader s.count s.next
 
-      pub looked_on : (s : Shelf) → LooksOnce c (k + 1) i1.slot (port_start_at b i1.reader mid) (port_start_at d i2.reader left) (Ok s) → Seeing c (k + 1) (start_at a ins had) (walk_at d (set ins' k i2) (shelves ++ s ∷ []) left)
+      pub looked_on : (s : Shelf) → LooksOnce c (k + 1) i1.slot (reader_stand b i1.reader mid) (reader_stand d i2.reader left) (Ok s) → Seeing c (k + 1) (start_at a ins had) (walk_at d (set ins' k i2) (shelves ++ s ∷ []) left)
       looked_on s t =
           let l = t.looked in
           record {
@@ -473,7 +473,7 @@ module _ (found_law : LooksFound) (end_law : LooksEnd) (c : Settings) (k : ℕ) 
           coe_began : {y z y' z' : Input} {u v : Shelf} → y ≡ z → y' ≡ z' → u ≡ v → Began c a d y y' u left → Began c a d z z' v left
           coe_began {y} {z} {y'} {z'} {u} {v} e f g h = subst (λ q. Began c a d z z' q left) g (subst (λ q. Began c a d z q u left) f (subst (λ q. Began c a d q y' u left) e h))
 
-          own_began : Looked c (k + 1) i1.slot (port_start_at b i1.reader mid) (port_start_at d i2.reader left) s → Began c a d i i2 s left
+          own_began : Looked c (k + 1) i1.slot (reader_stand b i1.reader mid) (reader_stand d i2.reader left) s → Began c a d i i2 s left
           own_began l = record {
             slot = slot ∙ ap (λ (y : Input). y.slot) still.input;
             ready = l.ready;

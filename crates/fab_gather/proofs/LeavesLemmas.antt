@@ -5,7 +5,7 @@ use Rattle.std.proofs.lemmas.List.{append-nil}
 use Rattle.fab_base.specs.Seen.{Seen}
 use Rattle.fab_config.specs.Settings.{Settings}
 use Rattle.pcap_file.specs.Capture.{next}
-use Rattle.pcap_file.specs.Reading.{Reading, to_come, KeepsError, NextReads}
+use Rattle.pcap_file.specs.Reading.{Reading, to_come, KeepsError, NextReads, standing as reader_stand}
 use Rattle.pcap_file.specs.Records.{Chain, last_moment}
 use Rattle.pcap_file.specs.declared.Budget.{Budget}
 use Rattle.pcap_file.specs.declared.CapError.{CapError}
@@ -14,7 +14,7 @@ use Rattle.pcap_file.proofs.lemmas.Chains.{chain_push, last-push, end_is}
 use Rattle.pcap_file.proofs.lemmas.Steps.{gives_found, ends_end}
 use Rattle.fab_gather.specs.declared.shelf.Input.{Input}
 use Rattle.fab_gather.specs.declared.shelf.Shelf.{Shelf}
-use Rattle.fab_gather.specs.First.{Looked, port_start_at}
+use Rattle.fab_gather.specs.First.{Looked}
 use Rattle.fab_gather.specs.Port.{Gave, LeavesPort, stand_at}
 use Rattle.fab_gather.specs.Ports.{Took, TakesFrom}
 
@@ -52,7 +52,7 @@ gave_between slot a b d e r r' given told before after g = record {
 
 -- the answer of a reader that gave these
 module _ (slot : ℕ) (a b d : Seen) (r r1 r2 : Reading) (given : List Record) (had left : Budget) (told : IsTrue a.told → IsTrue b.told) (head : r1.head ≡ r.head) (greatest : r1.greatest ≡ last_moment r.greatest given) (chain : IsTrue a.told → Chain r.head r.greatest given (to_come r a slot) (to_come r1 b slot)) where
-  pub gave_more : (y : Record) → NextReads slot b d r1 r2 had left (Ok (Some y)) → Gave slot a d r r2 (given ++ y ∷ [])
+  pub gave_more : (y : Record) → NextReads slot (reader_stand b r1 had) (reader_stand d r2 left) (Ok (Some y)) → Gave slot a d r r2 (given ++ y ∷ [])
   gave_more y n = record {
     head = ap (λ (q : Reading). q.head) n.taken.moved ∙ head;
     greatest = ap (λ (q : Reading). q.greatest) n.taken.moved ∙ sym (last-push r.greatest given y);
@@ -64,7 +64,7 @@ module _ (slot : ℕ) (a b d : Seen) (r r1 r2 : Reading) (given : List Record) (
     stands = λ t none. refl;
   }
 
-  pub gave_end : NextReads slot b d r1 r2 had left (Ok None) → Gave slot a d r r2 given
+  pub gave_end : NextReads slot (reader_stand b r1 had) (reader_stand d r2 left) (Ok None) → Gave slot a d r r2 given
   gave_end n = record {
     head = ap (λ (q : Reading). q.head) n.taken.same ∙ head;
     greatest = ap (λ (q : Reading). q.greatest) n.taken.same ∙ greatest;
@@ -76,7 +76,7 @@ module _ (slot : ℕ) (a b d : Seen) (r r1 r2 : Reading) (given : List Record) (
     stands = λ t none. refl;
   }
 
-  pub gave_broken : (e : CapError) → NextReads slot b d r1 r2 had left (Err e) → Gave slot a d r r2 given
+  pub gave_broken : (e : CapError) → NextReads slot (reader_stand b r1 had) (reader_stand d r2 left) (Err e) → Gave slot a d r r2 given
   gave_broken e n = record {
     head = ap (λ (q : Reading). q.head) n.kept.kept ∙ head;
     greatest = ap (λ (q : Reading). q.greatest) n.kept.kept ∙ greatest;
@@ -86,7 +86,7 @@ module _ (slot : ℕ) (a b d : Seen) (r r1 r2 : Reading) (given : List Record) (
   }
 
 -- the first record, or none
-pub gave_first : (c : Settings) (port slot : ℕ) (a b : Seen) (r r' : Reading) (s : Shelf) (had left : Budget) → r.greatest ≡ 0 → Looked c port slot (port_start_at a r had) (port_start_at b r' left) s → Gave slot a b r r' (option_to_list s.next)
+pub gave_first : (c : Settings) (port slot : ℕ) (a b : Seen) (r r' : Reading) (s : Shelf) (had left : Budget) → r.greatest ≡ 0 → Looked c port slot (reader_stand a r had) (reader_stand b r' left) s → Gave slot a b r r' (option_to_list s.next)
 gave_first c port slot a b r r' s had left zero l = record {
   head = l.head;
   greatest = l.greatest ∙ ap (λ (n : ℕ). last_moment n (option_to_list s.next)) (sym zero);

@@ -7,7 +7,7 @@ use Rattle.fab_config.specs.Settings.{Settings}
 use Rattle.fab_policy.specs.Legal.{window_start}
 use Rattle.fab_policy.specs.Looks.{Opened, Look, found_at, is_found, behind, looks, first_spot, stop_in, stop_at, Fails, record_size, LooksFound, LooksEnd, StepsFindStop}
 use Rattle.pcap_file.specs.Capture.{HEAD, Found, End, next}
-use Rattle.pcap_file.specs.Reading.{Reading, Step, Gives, Ends, Stops, step_of, to_come, place_after, NextReads}
+use Rattle.pcap_file.specs.Reading.{Reading, Step, Gives, Ends, Stops, step_of, to_come, place_after, NextReads, standing as reader_stand}
 use Rattle.pcap_file.specs.Records.{Chain, last_moment}
 use Rattle.pcap_file.specs.declared.Budget.{Budget}
 use Rattle.pcap_file.specs.declared.CapError.{CapError}
@@ -16,7 +16,7 @@ use Rattle.pcap_file.proofs.lemmas.Chains.{end_is}
 use Rattle.pcap_file.proofs.lemmas.Steps.{gives_found, ends_end}
 use Rattle.fab_gather.specs.declared.shelf.Shelf.{Shelf}
 use Rattle.fab_gather.specs.declared.fault.GatherFault.TheVariants as fault
-use Rattle.fab_gather.specs.First.{IsFresh, opened_by, first_look, Looked, LooksOnce, port_start_at}
+use Rattle.fab_gather.specs.First.{IsFresh, opened_by, first_look, Looked, LooksOnce}
 use Rattle.fab_gather.specs.Port.{to_look, spot_of, fault_by}
 use Rattle.fab_gather.proofs.LeavesLemmas.{gave_failed}
 use Rattle.fab_gather.proofs.PortLemmas.{some_look, says_at, own_of, read_of, spared}
@@ -40,7 +40,7 @@ module _ (found_law : LooksFound) (end_law : LooksEnd) (steps : StepsFindStop) (
   at_first step e = (λ i. step_of had (sym is_fresh.at i) (next r.head (sym is_fresh.greatest i) (to_come r a slot))) ∙ e
 
   -- a record
-  module _ (y : Record) (s : Shelf) (is_next : s.next ≡ Some y) (count : s.count ≡ 1) (n : NextReads slot a b r r' had left (Ok (Some y))) where
+  module _ (y : Record) (s : Shelf) (is_next : s.next ≡ Some y) (count : s.count ≡ 1) (n : NextReads slot (reader_stand a r had) (reader_stand b r' left) (Ok (Some y))) where
     head_on : r'.head ≡ r.head
     head_on = ap (λ (q : Reading). q.head) n.taken.moved
 
@@ -66,7 +66,7 @@ module _ (found_law : LooksFound) (end_law : LooksEnd) (steps : StepsFindStop) (
       bytes = to_come r' b slot;
     }
 
-    pub looked_more : Looked c port slot (port_start_at a r had) (port_start_at b r' left) s
+    pub looked_more : Looked c port slot (reader_stand a r had) (reader_stand b r' left) s
     looked_more = record {
       ready = record {
         fresh = ap (λ (q : Reading). q.kept) n.taken.moved ∙ n.taken.fresh;
@@ -94,14 +94,14 @@ module _ (found_law : LooksFound) (end_law : LooksEnd) (steps : StepsFindStop) (
     }
 
   -- the end
-  module _ (s : Shelf) (is_next : s.next ≡ None) (count : s.count ≡ 0) (n : NextReads slot a b r r' had left (Ok None)) where
+  module _ (s : Shelf) (is_next : s.next ≡ None) (count : s.count ≡ 0) (n : NextReads slot (reader_stand a r had) (reader_stand b r' left) (Ok None)) where
     end_is_step : IsTrue a.told → step_of had x.at x.found ≡ Ends
     end_is_step told = at_first Ends (n.says told n.taken.fresh).0
 
     ends : IsTrue a.told → x.found ≡ End
     ends told = ends_end had x.at x.found (end_is_step told)
 
-    pub looked_end : Looked c port slot (port_start_at a r had) (port_start_at b r' left) s
+    pub looked_end : Looked c port slot (reader_stand a r had) (reader_stand b r' left) s
     looked_end =
         let same = n.taken.same in
         let budget = n.taken.budget in
@@ -127,15 +127,15 @@ module _ (found_law : LooksFound) (end_law : LooksEnd) (steps : StepsFindStop) (
           passes = λ told first rest. steps first had x rest Ends refl (end_is_step told) ∙ ap (λ (q : Budget). stop_in first q.bytes q.frames rest) (sym budget);
         }
 
-  pub looked : (next : Option Record) (s : Shelf) → s.next ≡ next → s.count ≡ length (option_to_list next) → NextReads slot a b r r' had left (Ok next) → LooksOnce c port slot (port_start_at a r had) (port_start_at b r' left) (Ok s)
+  pub looked : (next : Option Record) (s : Shelf) → s.next ≡ next → s.count ≡ length (option_to_list next) → NextReads slot (reader_stand a r had) (reader_stand b r' left) (Ok next) → LooksOnce c port slot (reader_stand a r had) (reader_stand b r' left) (Ok s)
   looked next s is count n = record { reads = n.reads; looked = by_next next is count n; stops = λ told. tt; leaves = tt; cause = λ e. absurd (cc); counts = λ other. n.counts }
     where
-      by_next : (next : Option Record) → s.next ≡ next → s.count ≡ length (option_to_list next) → NextReads slot a b r r' had left (Ok next) → Looked c port slot (port_start_at a r had) (port_start_at b r' left) s
+      by_next : (next : Option Record) → s.next ≡ next → s.count ≡ length (option_to_list next) → NextReads slot (reader_stand a r had) (reader_stand b r' left) (Ok next) → Looked c port slot (reader_stand a r had) (reader_stand b r' left) s
       by_next None is count n = looked_end s is count n
       by_next (Some y) is count n = looked_more y s is count n
 
   -- an error
-  pub looked_failed : (e : CapError) → NextReads slot a b r r' had left (Err e) → LooksOnce c port slot (port_start_at a r had) (port_start_at b r' left) (Err (fault_by e port))
+  pub looked_failed : (e : CapError) → NextReads slot (reader_stand a r had) (reader_stand b r' left) (Err e) → LooksOnce c port slot (reader_stand a r had) (reader_stand b r' left) (Err (fault_by e port))
   looked_failed e n = record {
     reads = n.reads;
     looked = tt;

@@ -10,7 +10,7 @@ use Rattle.fab_config.specs.Settings.{Settings}
 use Rattle.fab_policy.specs.Legal.{window_start}
 use Rattle.fab_policy.specs.Looks.{Spot, Look, look_at, found_at, is_found, behind, looks, stop_in, stop_at, Fails, record_size, LooksFound, LooksEnd, StepsFindStop, MOST_SPAN}
 use Rattle.pcap_file.specs.Capture.{Next, Found, End, CutHead, TooLong, CutBytes, next}
-use Rattle.pcap_file.specs.Reading.{Reading, Step, Gives, Ends, Stops, step_of, to_come, place_after, Says, SparesReads, NextReads}
+use Rattle.pcap_file.specs.Reading.{Reading, Step, Gives, Ends, Stops, step_of, to_come, place_after, Says, SparesReads, NextReads, standing as reader_stand}
 use Rattle.pcap_file.specs.Records.{Chain}
 use Rattle.pcap_file.specs.declared.Budget.{Budget}
 use Rattle.pcap_file.specs.declared.CapError.{CapError}
@@ -177,7 +177,7 @@ module _ (found_law : LooksFound) (end_law : LooksEnd) (steps : StepsFindStop) (
     in_window_on = subst (AreIn c w) (sym shelf_on) (are_in-push c w s1.batch.items own.r t.in_window own.window)
 
     -- one more record
-    module _ (y : Record) (is_next : s2.next ≡ Some y) (count : s2.count ≡ s1.count + 1) (n : NextReads slot b d r1 r2 mid left (Ok (Some y))) where
+    module _ (y : Record) (is_next : s2.next ≡ Some y) (count : s2.count ≡ s1.count + 1) (n : NextReads slot (reader_stand b r1 mid) (reader_stand d r2 left) (Ok (Some y))) where
       head_on : r2.head ≡ r1.head
       head_on = ap (λ (q : Reading). q.head) n.taken.moved
 
@@ -250,7 +250,7 @@ module _ (found_law : LooksFound) (end_law : LooksEnd) (steps : StepsFindStop) (
       }
 
     -- the end
-    module _ (is_next : s2.next ≡ None) (count : s2.count ≡ s1.count) (n : NextReads slot b d r1 r2 mid left (Ok None)) where
+    module _ (is_next : s2.next ≡ None) (count : s2.count ≡ s1.count) (n : NextReads slot (reader_stand b r1 mid) (reader_stand d r2 left) (Ok None)) where
       ends : IsTrue a.told → found_at spot ≡ End
       ends told = ends_end mid r1.at (found_at spot) (n.says (told_b told) n.taken.fresh).0
 
@@ -303,24 +303,24 @@ module _ (found_law : LooksFound) (end_law : LooksEnd) (steps : StepsFindStop) (
 
   -- the answer of the reader, put on the shelf
   pub taking_pushed : (o : Option Record) (s2 : Shelf) → s2.batch.items ≡ s1.batch.items ++ option_to_list s1.next → s2.next ≡ o → s2.count ≡ s1.count + length (option_to_list o) →
-      NextReads slot b d r1 r2 mid left (Ok o) → Taking c port w slot (port_walk_at a r s had) (port_walk_at d r2 s2 left)
+      NextReads slot (reader_stand b r1 mid) (reader_stand d r2 left) (Ok o) → Taking c port w slot (port_walk_at a r s had) (port_walk_at d r2 s2 left)
   taking_pushed None s2 batch next count n = taking_end s2 batch next (let k = count in omega arith) n
   taking_pushed (Some y) s2 batch next count n = taking_more s2 batch y next count n
 
-  pub push_fits : (o : Option Record) → NextReads slot b d r1 r2 mid left (Ok o) → s1.count + length (option_to_list o) < 2 ^ 64
+  pub push_fits : (o : Option Record) → NextReads slot (reader_stand b r1 mid) (reader_stand d r2 left) (Ok o) → s1.count + length (option_to_list o) < 2 ^ 64
   push_fits None n = let f = t.ready.few in omega arith
   push_fits (Some y) n = let f = t.ready.few in let k = n.taken.frames in omega arith
 
-  pub push_smaller : (o : Option Record) → NextReads slot b d r1 r2 mid left (Ok o) → 2 * left.frames + length (option_to_list o) < 2 * mid.frames + length (option_to_list s1.next)
+  pub push_smaller : (o : Option Record) → NextReads slot (reader_stand b r1 mid) (reader_stand d r2 left) (Ok o) → 2 * left.frames + length (option_to_list o) < 2 * mid.frames + length (option_to_list s1.next)
   push_smaller o n = let is = ap (λ q. length (option_to_list q)) own.is in by_next o n is
     where
-      by_next : (o : Option Record) → NextReads slot b d r1 r2 mid left (Ok o) → length (option_to_list s1.next) ≡ 1 → 2 * left.frames + length (option_to_list o) < 2 * mid.frames + length (option_to_list s1.next)
+      by_next : (o : Option Record) → NextReads slot (reader_stand b r1 mid) (reader_stand d r2 left) (Ok o) → length (option_to_list s1.next) ≡ 1 → 2 * left.frames + length (option_to_list o) < 2 * mid.frames + length (option_to_list s1.next)
       by_next None n is = let f = ap (λ (q : Budget). q.frames) n.taken.budget in omega arith
       by_next (Some y) n is = let k = n.taken.frames in omega arith
 
   -- memory is refused for the record that was looked at
   pub taking_lost : (o : Option Record) (s2 : Shelf) → s2.batch.items ≡ s1.batch.items → s2.next ≡ o → s2.count ≡ s1.count + length (option_to_list o) →
-      NextReads slot b d r1 r2 mid left (Ok o) → TakesWindow c port w slot (port_walk_at a r s had) (port_walk_at d r2 s2 left) (Err fault.Memory)
+      NextReads slot (reader_stand b r1 mid) (reader_stand d r2 left) (Ok o) → TakesWindow c port w slot (port_walk_at a r s had) (port_walk_at d r2 s2 left) (Err fault.Memory)
   taking_lost o s2 batch next count n = record {
     reads = reads_on n.reads;
     taking = tt;
@@ -335,7 +335,7 @@ module _ (found_law : LooksFound) (end_law : LooksEnd) (steps : StepsFindStop) (
       one : length (own.r ∷ []) ≤ 1
       one = omega arith
 
-      by_next : (o : Option Record) → s2.next ≡ o → s2.count ≡ s1.count + length (option_to_list o) → NextReads slot b d r1 r2 mid left (Ok o) → LeavesPort c w (stand_at a (record { slot = slot; reader = r }) s) (stand_at d (record { slot = slot; reader = r2 }) s2) × Spends had left s.count s2.count
+      by_next : (o : Option Record) → s2.next ≡ o → s2.count ≡ s1.count + length (option_to_list o) → NextReads slot (reader_stand b r1 mid) (reader_stand d r2 left) (Ok o) → LeavesPort c w (stand_at a (record { slot = slot; reader = r }) s) (stand_at d (record { slot = slot; reader = r2 }) s2) × Spends had left s.count s2.count
       by_next None next count n = (
         record {
           given = t.given;
@@ -375,7 +375,7 @@ module _ (found_law : LooksFound) (end_law : LooksEnd) (steps : StepsFindStop) (
       )
 
   -- an error
-  module _ (r' : Reading) (e : CapError) (n : NextReads slot b d r1 r' mid left (Err e)) where
+  module _ (r' : Reading) (e : CapError) (n : NextReads slot (reader_stand b r1 mid) (reader_stand d r' left) (Err e)) where
     fresh : r1.kept ≡ None
     fresh = t.ready.fresh
 
@@ -428,5 +428,5 @@ module _ (found_law : LooksFound) (end_law : LooksEnd) (steps : StepsFindStop) (
       counts = λ other m. spared port e b d n.counts (λ same. other (ap Err same)) m ∙ t.counts m;
     }
 
-pub next_at : {s t : ℕ} {a b : Seen} {r r' : Reading} {had left : Budget} {x : Result (Option Record) CapError} → s ≡ t → NextReads s a b r r' had left x → NextReads t a b r r' had left x
-next_at {s} {t} {a} {b} {r} {r'} {had} {left} {x} is n = subst (λ m. NextReads m a b r r' had left x) is n
+pub next_at : {s t : ℕ} {a b : Seen} {r r' : Reading} {had left : Budget} {x : Result (Option Record) CapError} → s ≡ t → NextReads s (reader_stand a r had) (reader_stand b r' left) x → NextReads t (reader_stand a r had) (reader_stand b r' left) x
+next_at {s} {t} {a} {b} {r} {r'} {had} {left} {x} is n = subst (λ m. NextReads m (reader_stand a r had) (reader_stand b r' left) x) is n

@@ -6,7 +6,7 @@ use Rattle.fab_config.specs.Settings.{Settings}
 use Rattle.fab_policy.specs.Legal.{window_start}
 use Rattle.fab_policy.specs.Looks.{Opened, Look, look_at, looks, first_spot, in_order, first_window, stop_in, Stop, stop}
 use Rattle.pcap_file.specs.Capture.{HEAD}
-use Rattle.pcap_file.specs.Reading.{Reading, to_come}
+use Rattle.pcap_file.specs.Reading.{Reading, to_come, ReaderStand}
 use Rattle.pcap_file.specs.Records.{Chain, last_moment}
 use Rattle.pcap_file.specs.declared.Budget.{Budget}
 use Rattle.pcap_file.specs.declared.Record.{Record}
@@ -43,35 +43,26 @@ opened_in d ins = map (λ i. opened_by d i.slot i.reader) ins
 abbrev pub first_look : ℕ → Opened → Look
 first_look port o = look_at port (first_spot o)
 
--- where a port's capture stands before it has a shelf: the store, the reader, and what is left of the limits
-pub record PortStart : Type 0 where
-  pub seen : Seen
-  pub reader : Reading
-  pub left : Budget
-
-abbrev pub port_start_at : Seen → Reading → Budget → PortStart
-port_start_at seen reader left = record { seen = seen; reader = reader; left = left }
-
 -- the bytes to come of the capture
-abbrev pub bytes_at : ℕ → PortStart → List ℕ
-bytes_at slot at = to_come at.reader at.seen slot
+abbrev pub bytes_at : ℕ → ReaderStand → List ℕ
+bytes_at slot at = to_come at.reader at.depot slot
 
 -- its head, and the bytes behind that
-abbrev pub opened_at : ℕ → PortStart → Opened
-opened_at slot at = opened_by at.seen slot at.reader
+abbrev pub opened_at : ℕ → ReaderStand → Opened
+opened_at slot at = opened_by at.depot slot at.reader
 
 -- What a fresh reader and a shelf are after the look at the first record: it passed, and the shelf has what was found.
-pub record Looked (c : Settings) (port slot : ℕ) (old new : PortStart) (s : Shelf) : Type 0 where
-  pub ready : IsReady new.reader s.next s.count new.left
-  pub spent : Spends old.left new.left 0 s.count
+pub record Looked (c : Settings) (port slot : ℕ) (old new : ReaderStand) (s : Shelf) : Type 0 where
+  pub ready : IsReady new.reader s.next s.count new.budget
+  pub spent : Spends old.budget new.budget 0 s.count
   pub count : s.count ≡ length (option_to_list s.next)
   pub head : new.reader.head ≡ old.reader.head
   pub greatest : new.reader.greatest ≡ last_moment 0 (option_to_list s.next)
-  pub chain : IsTrue old.seen.told → Chain old.reader.head 0 (option_to_list s.next) (bytes_at slot old) (bytes_at slot new)
-  pub ended : IsTrue old.seen.told → s.next ≡ None → bytes_at slot new ≡ []
-  pub looks_ : IsTrue old.seen.told → looks c port (first_spot (opened_at slot old)) ≡ first_look port (opened_at slot old) ∷ to_look c port new.seen slot new.reader s.count s.next
-  pub passes : IsTrue old.seen.told →
-      (first : ℕ) (rest : List Look) → stop_in first old.left.bytes old.left.frames (first_look port (opened_at slot old) ∷ rest) ≡ stop_in first new.left.bytes new.left.frames rest
+  pub chain : IsTrue old.depot.told → Chain old.reader.head 0 (option_to_list s.next) (bytes_at slot old) (bytes_at slot new)
+  pub ended : IsTrue old.depot.told → s.next ≡ None → bytes_at slot new ≡ []
+  pub looks_ : IsTrue old.depot.told → looks c port (first_spot (opened_at slot old)) ≡ first_look port (opened_at slot old) ∷ to_look c port new.depot slot new.reader s.count s.next
+  pub passes : IsTrue old.depot.told →
+      (first : ℕ) (rest : List Look) → stop_in first old.budget.bytes old.budget.frames (first_look port (opened_at slot old) ∷ rest) ≡ stop_in first new.budget.bytes new.budget.frames rest
 
 -- The first look of a port fails, and the ending says so.
 pub record StopsFirst (c : Settings) (port : ℕ) (o : Opened) (had : Budget) (e : GatherFault) : Type 0 where
@@ -86,13 +77,13 @@ pub record LeavesFirst (a b : Seen) (i i' : Input) : Type 0 where
   pub gave : Gave i.slot a b i.reader i'.reader (option_to_list given)
 
 -- What looking at the first record of one port does.
-pub record LooksOnce (c : Settings) (port slot : ℕ) (old new : PortStart) (result : Result Shelf GatherFault) : Type 0 where
-  pub reads : Reads (old.seen.name slot) old.seen new.seen
+pub record LooksOnce (c : Settings) (port slot : ℕ) (old new : ReaderStand) (result : Result Shelf GatherFault) : Type 0 where
+  pub reads : Reads (old.depot.name slot) old.depot new.depot
   pub looked : IfOk result (λ s. Looked c port slot old new s)
-  pub stops : IsTrue old.seen.told → IfErr result (λ e. IsStopped e → StopsFirst c port (opened_at slot old) old.left e)
-  pub leaves : OnErr result (Gave slot old.seen new.seen old.reader new.reader [] × (new.left ≡ old.left))
-  pub cause : IsErrOf result fault.Read → Rose (old.seen.read_faults (old.seen.name slot)) (new.seen.read_faults (old.seen.name slot))
-  pub counts : TellsReads old.seen new.seen result
+  pub stops : IsTrue old.depot.told → IfErr result (λ e. IsStopped e → StopsFirst c port (opened_at slot old) old.budget e)
+  pub leaves : OnErr result (Gave slot old.depot new.depot old.reader new.reader [] × (new.budget ≡ old.budget))
+  pub cause : IsErrOf result fault.Read → Rose (old.depot.read_faults (old.depot.name slot)) (new.depot.read_faults (old.depot.name slot))
+  pub counts : TellsReads old.depot new.depot result
 
 -- where captures stand before they have shelves: the store, the captures, and what is left of the limits
 pub record Start : Type 0 where

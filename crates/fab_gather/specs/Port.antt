@@ -173,8 +173,8 @@ pub record LeavesPort (c : Settings) (w : ℕ) (old new : PortStand) : Type 0 wh
   pub shelf : ((new.shelf ≡ old.shelf) × (given ≡ [])) ⊎ HasSome c w given old.shelf new.shelf
 
 -- a port there, with its slot
-abbrev pub standing : ℕ → PortWalk → PortStand
-standing slot at = record { seen = at.seen; input = record { slot = slot; reader = at.reader }; shelf = at.shelf }
+abbrev pub port_stand : ℕ → PortWalk → PortStand
+port_stand slot at = record { seen = at.seen; input = record { slot = slot; reader = at.reader }; shelf = at.shelf }
 
 -- What taking the records of a window of one port does.
 pub record TakesWindow (c : Settings) (port w slot : ℕ) (old new : PortWalk) (result : Result (Unit {0}) GatherFault) : Type 0 where
@@ -182,7 +182,7 @@ pub record TakesWindow (c : Settings) (port w slot : ℕ) (old new : PortWalk) (
   pub taking : OnOk result (Taking c port w slot old new)
   pub beyond : OnOk result (IfSome new.shelf.next (λ x. window_start c x.moment ≢ w))
   pub stops : IsTrue old.seen.told → IfErr result (λ e. IsStopped e → StopsIn port w old.left (looks_from c port slot old) e)
-  pub leaves : OnErr result (LeavesPort c w (standing slot old) (standing slot new) × Spends old.left new.left old.shelf.count new.shelf.count)
+  pub leaves : OnErr result (LeavesPort c w (port_stand slot old) (port_stand slot new) × Spends old.left new.left old.shelf.count new.shelf.count)
   pub in_span : IfErr result (λ e. e ≢ fault.Limit limit.Span)
   pub cause : IsErrOf result fault.Read → Rose (old.seen.read_faults (old.seen.name slot)) (new.seen.read_faults (old.seen.name slot))
   pub counts : TellsReads old.seen new.seen result

@@ -1,8 +1,9 @@
 //! The look at the first record of each port's capture.
 ghost use Rattle.std.specs.Prelude.{◌≡◌, ◌≤◌, ◌<◌, ◌^◌, IsTrue, length};
 ghost use Rattle.fab_config.specs.Settings.{Settings};
-ghost use Rattle.fab_gather.specs.First.{AreFresh, IsFresh, LooksFirst, LooksOnce, port_start_at, start_at};
+ghost use Rattle.fab_gather.specs.First.{AreFresh, IsFresh, LooksFirst, LooksOnce, start_at};
 ghost use Rattle.fab_gather.specs.Ports.{AreInputs, slots_of};
+ghost use Rattle.pcap_file.specs.Reading.{reader_stand};
 
 use crate::fault::fault_of;
 use crate::{GatherFault, Input, Shelf};
@@ -52,8 +53,8 @@ fn look<D: Depot>(
     requires fresh { IsFresh input.old.reader }
     ensures slot { input.new.slot ≡ input.old.slot }
     ensures looks { (c : Settings) → LooksOnce c port input.old.slot
-        (port_start_at (D.seen depot.old) input.old.reader budget.old)
-        (port_start_at (D.seen depot.new) input.new.reader budget.new) result }
+        (reader_stand (D.seen depot.old) input.old.reader budget.old)
+        (reader_stand (D.seen depot.new) input.new.reader budget.new) result }
 {
     // Law: where the looks at a capture go on, and which stop a reader's step at one finds; the
     // clause looks counts in them.

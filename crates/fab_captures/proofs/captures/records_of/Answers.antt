@@ -1,5 +1,5 @@
 use Rattle.std.proofs.Common.{Ok, Err, sym, subst}
-use Rattle.pcap_file.specs.Reading.{NextReads}
+use Rattle.pcap_file.specs.Reading.{NextReads, standing as reader_stand}
 use Rattle.fab_captures.specs.Captures.{SoFar, ReadsRecords}
 use Rattle.fab_captures.proofs.CaptureLemmas.{so_far_none, so_far_more, so_far_ended, so_far_failed}
 use Rattle.fab_captures.proofs.captures.records_of.Goals as goal
@@ -16,14 +16,14 @@ loop-record-preserved g c =
     let l = c.loop-record in
     subst (SoFar c.args.port c.args.slot a (g.D.Depot.seen c.next.new.depot) c.args.reader.now c.next.new.self c.args.budget.now c.next.new.budget) (sym c.in-Ok.ensures.ok)
     (so_far_more c.args.port c.args.slot a c.args.reader.now c.args.budget.now (g.D.Depot.seen l.depot) (g.D.Depot.seen c.next.new.depot) l.reader c.next.new.self l.budget c.next.new.budget l.records l.invariant c.in-Ok-Some.record
-    (subst (λ o. NextReads c.args.slot (g.D.Depot.seen l.depot) (g.D.Depot.seen c.next.new.depot) l.reader c.next.new.self l.budget c.next.new.budget (Ok o)) c.in-Ok-Some.field-0-is c.in-Ok-Some.ensures.next))
+    (subst (λ o. NextReads c.args.slot (reader_stand (g.D.Depot.seen l.depot) l.reader l.budget) (reader_stand (g.D.Depot.seen c.next.new.depot) c.next.new.self c.next.new.budget) (Ok o)) c.in-Ok-Some.field-0-is c.in-Ok-Some.ensures.next))
 
 pub returns-in-Ok-None : goal.returns-in-Ok-None
 returns-in-Ok-None g c =
     let l = c.loop-record in
     record {
       reads = so_far_ended c.args.port c.args.slot (g.D.Depot.seen c.args.depot.now) c.args.reader.now c.args.budget.now (g.D.Depot.seen l.depot) (g.D.Depot.seen c.next.new.depot) l.reader c.next.new.self l.budget c.next.new.budget l.records l.invariant
-          (subst (λ o. NextReads c.args.slot (g.D.Depot.seen l.depot) (g.D.Depot.seen c.next.new.depot) l.reader c.next.new.self l.budget c.next.new.budget (Ok o)) c.in-Ok-None.field-0-is c.in-Ok-None.ensures.next);
+          (subst (λ o. NextReads c.args.slot (reader_stand (g.D.Depot.seen l.depot) l.reader l.budget) (reader_stand (g.D.Depot.seen c.next.new.depot) c.next.new.self c.next.new.budget) (Ok o)) c.in-Ok-None.field-0-is c.in-Ok-None.ensures.next);
     }
 
 pub returns-in-Err : goal.returns-in-Err

@@ -1,5 +1,6 @@
+use Rattle.pcap_file.specs.Reading.{reader_stand}
 use Rattle.std.proofs.Common.{Err, refl, sym, subst}
-use Rattle.fab_gather.specs.First.{LooksOnce, port_start_at}
+use Rattle.fab_gather.specs.First.{LooksOnce}
 use Rattle.fab_gather.proofs.LookLemmas.{looked, looked_failed, count_is}
 use Rattle.fab_gather.proofs.first.look.Goals as goal
 
@@ -12,6 +13,6 @@ returns-in-Ok-clause-looks g c = λ s.
 pub returns-in-Err-clause-looks : goal.returns-in-Err-clause-looks
 returns-in-Err-clause-looks g c = λ s.
     let seen = g.D.Depot.seen in
-    subst (λ e. LooksOnce s c.args.port c.args.input.now.slot (port_start_at (seen c.args.depot.now) c.args.input.now.reader c.args.budget.now) (port_start_at (seen c.next.new.depot) c.next.new.self c.next.new.budget) (Err e)) (sym c.fault_of.ensures)
+    subst (λ e. LooksOnce s c.args.port c.args.input.now.slot (reader_stand (seen c.args.depot.now) c.args.input.now.reader c.args.budget.now) (reader_stand (seen c.next.new.depot) c.next.new.self c.next.new.budget) (Err e)) (sym c.fault_of.ensures)
     (looked_failed c.looks_go_on.ensures.found c.looks_go_on.ensures.end c.steps_find_the_stop.ensures.steps s c.args.port c.args.input.now.slot (seen c.args.depot.now) (seen c.next.new.depot) c.args.input.now.reader c.next.new.self c.args.budget.now c.next.new.budget
     c.requires.fresh c.frames_left-few.ensures c.in-Err.error c.in-Err.ensures.next)
