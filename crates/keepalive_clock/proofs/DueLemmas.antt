@@ -13,7 +13,7 @@ use Rattle.sorted_lists.specs.Orders.{seen, AreThere}
 use Rattle.sorted_lists.proofs.OrderLemmas.{length-seen, some-at, seen-at}
 use Rattle.sorted_lists.proofs.IndexLemmas.{All-found, differ-ascending, below_last, none_some, some_same}
 use Rattle.keepalive_clock.specs.Clock.{VoiceClock, period_of, is_overdue, is_silent_since, has_silent, HasSilent, VoicesDiffer, IsFirstSilence, heard_of, last_of, is_silent_voice}
-use Rattle.keepalive_clock.specs.Order.{number_of, Fits, voice_number, due_of, deadline_number, IsClockKept}
+use Rattle.keepalive_clock.specs.Order.{number_of, FitsVoice, voice_number, due_of, deadline_number, IsClockKept}
 use Rattle.keepalive_clock.specs.declared.voice.Voice.{Voice}
 use Rattle.keepalive_clock.specs.declared.voice.Voice.TheVariants.{Node, Port}
 use Rattle.keepalive_clock.specs.declared.voice.LastHeard.{LastHeard}
@@ -81,7 +81,7 @@ module _ {node port most : ℕ} {s : Slab LastHeard} {vs ds : Vec ℕ Global} (k
     abbrev clock : VoiceClock
     clock = record { node_period = node; port_period = port; room = most; voices = seen s vs.items }
 
-    first_fits : Fits d
+    first_fits : FitsVoice d
     first_fits = fits_here kept p d here
 
     pub due_range : due_of node port d < 2 ^ 64
@@ -99,7 +99,7 @@ module _ {node port most : ℕ} {s : Slab LastHeard} {vs ds : Vec ℕ Global} (k
     none_before k x found =
         let index = index_kept kept in
         let below = below_last (deadline_number node port) 0 (seen s ds.items) d index.ascending (last_seen s ds.items p d kept.deadlines.sorted.there last here) _ _ (index.told k x found) in
-        by_number (due_of node port d) (due_of node port x) (number_of x.voice) (number_of d.voice) due_range (number-range x.voice (All-found Fits _ (seen s vs.items) x kept.fit found).0) (number-range d.voice first_fits.0) below
+        by_number (due_of node port d) (due_of node port x) (number_of x.voice) (number_of d.voice) due_range (number-range x.voice (All-found FitsVoice _ (seen s vs.items) x kept.fit found).0) (number-range d.voice first_fits.0) below
       where
         by_number : (a b p q : ℕ) → a < 2 ^ 64 → p < 2 ^ 56 → q < 2 ^ 56 → (2 ^ 65 - b) * 2 ^ 56 + p ≤ (2 ^ 65 - a) * 2 ^ 56 + q → a ≤ b
         by_number a b p q range low also le = omega (arith, range, low, also, le)

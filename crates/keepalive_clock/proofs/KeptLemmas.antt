@@ -16,7 +16,7 @@ use Rattle.sorted_lists.proofs.IndexLemmas.{IsIndex-without, absent_entry, IsFre
 use Rattle.sorted_lists.proofs.OrderLemmas.{itself, absent-vacant, seen-updates, length-seen, item-here, IsOrderBut-filled, IsOrder-vacated, seen-changed, IsOrder-changed, IsIndex-orders}
 use Rattle.keepalive_clock.specs.Voices.{same_voice}
 use Rattle.keepalive_clock.specs.Clock.{voice_of, heard_of, last_of, count_with, without, HearsVoice, VoicesDiffer, IsSound}
-use Rattle.keepalive_clock.specs.Order.{number_of, IsWhole, Fits, voice_number, deadline_number, heard_again, IsClockKept}
+use Rattle.keepalive_clock.specs.Order.{number_of, IsWhole, FitsVoice, voice_number, deadline_number, heard_again, IsClockKept}
 use Rattle.keepalive_clock.specs.declared.voice.Voice.{Voice}
 use Rattle.keepalive_clock.specs.declared.voice.LastHeard.{LastHeard}
 use Rattle.keepalive_clock.proofs.VoiceLemmas.{voices_same, number-range, same_number}
@@ -25,24 +25,24 @@ use Rattle.keepalive_clock.proofs.HeardLemmas.{last_of-insert, count_without, is
 -- ---- by number
 
 -- a voice is found by its number
-pub found_number : (v : Voice) (xs : List LastHeard) → IsWhole v → All Fits xs → heard_of v xs ≡ keyed.item_at voice_number (number_of v) xs
-found_number v xs whole fit = find-alike Fits _ _ xs fit (λ x fits. same_number x.voice v fits.0 whole)
+pub found_number : (v : Voice) (xs : List LastHeard) → IsWhole v → All FitsVoice xs → heard_of v xs ≡ keyed.item_at voice_number (number_of v) xs
+found_number v xs whole fit = find-alike FitsVoice _ _ xs fit (λ x fits. same_number x.voice v fits.0 whole)
 
 -- and taken out by it
-pub without_number : (v : Voice) (xs : List LastHeard) → IsWhole v → All Fits xs → without v xs ≡ keyed.without voice_number (number_of v) xs
-without_number v xs whole fit = filter-alike Fits _ _ xs fit (λ x fits. ap not (same_number x.voice v fits.0 whole))
+pub without_number : (v : Voice) (xs : List LastHeard) → IsWhole v → All FitsVoice xs → without v xs ≡ keyed.without voice_number (number_of v) xs
+without_number v xs whole fit = filter-alike FitsVoice _ _ xs fit (λ x fits. ap not (same_number x.voice v fits.0 whole))
 
 -- no voice comes twice
-differ_numbers : (k : ℕ) (xs : List LastHeard) → keyed.AscendFrom voice_number k xs → All Fits xs → VoicesDiffer xs
+differ_numbers : (k : ℕ) (xs : List LastHeard) → keyed.AscendFrom voice_number k xs → All FitsVoice xs → VoicesDiffer xs
 differ_numbers k [] ascend fit = tt
 differ_numbers k (x ∷ xs) ascend fit = (
-  found_number x.voice xs (All-head Fits x xs fit).0 (All-tail Fits x xs fit) ∙ lemmas.item_at-below voice_number (voice_number x) (voice_number x + 1) xs ascend.1 (omega arith),
-  differ_numbers (voice_number x + 1) xs ascend.1 (All-tail Fits x xs fit),
+  found_number x.voice xs (All-head FitsVoice x xs fit).0 (All-tail FitsVoice x xs fit) ∙ lemmas.item_at-below voice_number (voice_number x) (voice_number x + 1) xs ascend.1 (omega arith),
+  differ_numbers (voice_number x + 1) xs ascend.1 (All-tail FitsVoice x xs fit),
 )
 
 -- ---- a voice is heard
 
-module _ (y : LastHeard) (fits : Fits y) (xs : List LastHeard) (ascend : keyed.AscendFrom voice_number 0 xs) (fit : All Fits xs) where
+module _ (y : LastHeard) (fits : FitsVoice y) (xs : List LastHeard) (ascend : keyed.AscendFrom voice_number 0 xs) (fit : All FitsVoice xs) where
   abbrev rest : List LastHeard
   rest = without y.voice xs
 
@@ -51,7 +51,7 @@ module _ (y : LastHeard) (fits : Fits y) (xs : List LastHeard) (ascend : keyed.A
 
   absent_rest : keyed.item_at voice_number (voice_number y) rest ≡ None
   absent_rest =
-      sym (found_number y.voice rest fits.0 (All-filter _ Fits xs fit))
+      sym (found_number y.voice rest fits.0 (All-filter _ FitsVoice xs fit))
       ∙ same.item_of-all_but voice_of same_voice voices_same y.voice y.voice xs
       ∙ ap (λ b. if b then None else heard_of y.voice xs) (voices_same.self y.voice)
 
@@ -120,7 +120,7 @@ module _ (y : LastHeard) (fits : Fits y) (xs : List LastHeard) (ascend : keyed.A
 -- ---- deadlines
 
 -- deadlines of two voices have two numbers
-absent_due : (node port : ℕ) (y : LastHeard) (xs ds : List LastHeard) → Fits y → All Fits xs → IsIndex voice_number (deadline_number node port) (λ x. x) xs ds → keyed.item_at voice_number (voice_number y) xs ≡ None
+absent_due : (node port : ℕ) (y : LastHeard) (xs ds : List LastHeard) → FitsVoice y → All FitsVoice xs → IsIndex voice_number (deadline_number node port) (λ x. x) xs ds → keyed.item_at voice_number (voice_number y) xs ≡ None
     → keyed.item_at (deadline_number node port) (deadline_number node port y) ds ≡ None
 absent_due node port y xs ds fits fit index absent = absent_entry voice_number (deadline_number node port) (λ x. x) y xs ds index fresh
   where
@@ -130,7 +130,7 @@ absent_due node port y xs ds fits fit index absent = absent_entry voice_number (
     fresh : IsFresh voice_number (deadline_number node port) (λ x. x) y xs
     fresh k x found e =
         let at : voice_number x ≡ k = key_found voice_number k x xs found in
-        let low = number-range x.voice (All-found Fits _ xs x fit found).0 in
+        let low = number-range x.voice (All-found FitsVoice _ xs x fit found).0 in
         let also = number-range y.voice fits.0 in
         let same : k ≡ voice_number y = sym at ∙ apart _ _ (number_of x.voice) (number_of y.voice) low also e in
         none_some x (sym absent ∙ ap (λ i. keyed.item_at voice_number i xs) (sym same) ∙ found)
@@ -155,8 +155,8 @@ module _ {node port most : ℕ} {s : Slab LastHeard} {vs ds : Vec ℕ Global} (k
   pub found_here : (p : ℕ) (x : LastHeard) → get s p ≡ Some x → keyed.item_at voice_number (voice_number x) (seen s vs.items) ≡ Some x
   found_here p x here = item-here voice_number s p vs.items x kept.voices here
 
-  pub fits_here : (p : ℕ) (x : LastHeard) → get s p ≡ Some x → Fits x
-  fits_here p x here = All-found Fits _ (seen s vs.items) x kept.fit (found_here p x here)
+  pub fits_here : (p : ℕ) (x : LastHeard) → get s p ≡ Some x → FitsVoice x
+  fits_here p x here = All-found FitsVoice _ (seen s vs.items) x kept.fit (found_here p x here)
 
   -- ---- a voice goes
 
@@ -169,7 +169,7 @@ module _ {node port most : ℕ} {s : Slab LastHeard} {vs ds : Vec ℕ Global} (k
     kept_without fewer capacity voice_room due_room = record {
       voices = IsOrder-vacated voice_number s new p others.items voices updates fewer;
       deadlines = IsOrder-vacated (deadline_number node port) s new p later.items dues updates fewer;
-      fit = subst (All Fits) (sym seen_without) (All-filter _ Fits (seen s vs.items) kept.fit);
+      fit = subst (All FitsVoice) (sym seen_without) (All-filter _ FitsVoice (seen s vs.items) kept.fit);
       bound = omega (arith, kept.bound, voices.count, kept.voices.count);
       room = omega (arith, kept.room, capacity);
       voice_room = omega (arith, kept.voice_room);
@@ -180,7 +180,7 @@ module _ {node port most : ℕ} {s : Slab LastHeard} {vs ds : Vec ℕ Global} (k
 
   -- ---- a voice comes
 
-  module _ (p : ℕ) (y : LastHeard) (new : Slab LastHeard) (fits : Fits y) (absent : keyed.item_at voice_number (voice_number y) (seen s vs.items) ≡ None) (vacant : get s p ≡ None) (updates : Updates s new p (Some y))
+  module _ (p : ℕ) (y : LastHeard) (new : Slab LastHeard) (fits : FitsVoice y) (absent : keyed.item_at voice_number (voice_number y) (seen s vs.items) ≡ None) (vacant : get s p ≡ None) (updates : Updates s new p (Some y))
       (more : slab_len new ≡ slab_len s + 1) where
     pub voice_filled : IsOrderBut voice_number p new vs.items
     voice_filled = IsOrderBut-filled voice_number s new p y vs.items kept.voices vacant updates more
@@ -217,7 +217,7 @@ module _ {node port most : ℕ} {s : Slab LastHeard} {vs ds : Vec ℕ Global} (k
       kept_added less capacity voice_room due_room = record {
         voices = voices;
         deadlines = dues;
-        fit = subst (All Fits) (sym put_there) (lemmas.All-added voice_number Fits y (seen s vs.items) kept.fit fits);
+        fit = subst (All FitsVoice) (sym put_there) (lemmas.All-added voice_number FitsVoice y (seen s vs.items) kept.fit fits);
         bound = omega (arith, less, voices.count, kept.voices.count, more);
         room = omega (arith, kept.room, capacity);
         voice_room = omega (arith, kept.voice_room);
@@ -227,19 +227,19 @@ module _ {node port most : ℕ} {s : Slab LastHeard} {vs ds : Vec ℕ Global} (k
       }
 
   -- and there was room for it
-  pub room_kept : (y : LastHeard) → Fits y → keyed.item_at voice_number (voice_number y) (seen s vs.items) ≡ None → (IsTrue (is_some (last_of y.voice (seen s vs.items)))) ⊎ (length (seen s vs.items) < most) → length vs.items < most
+  pub room_kept : (y : LastHeard) → FitsVoice y → keyed.item_at voice_number (voice_number y) (seen s vs.items) ≡ None → (IsTrue (is_some (last_of y.voice (seen s vs.items)))) ⊎ (length (seen s vs.items) < most) → length vs.items < most
   room_kept y fits absent room = omega (arith, length_kept, room_absent y fits (seen s vs.items) kept.voices.sorted.ascending kept.fit most absent room)
 
   -- ---- a voice is heard again
 
   module _ (p now : ℕ) (x : LastHeard) (range : now < 2 ^ 63) (here : get s p ≡ Some x) where
-    fits_again : Fits (heard_again now x)
+    fits_again : FitsVoice (heard_again now x)
     fits_again = ((fits_here p x here).0, range)
 
     -- no other voice has its deadline
     pub apart_again : keyed.item_at (deadline_number node port) (deadline_number node port (heard_again now x)) (keyed.without (deadline_number node port) (deadline_number node port x) (seen s ds.items)) ≡ None
     apart_again =
-        absent_due node port (heard_again now x) _ _ fits_again (All-filter _ Fits (seen s vs.items) kept.fit)
+        absent_due node port (heard_again now x) _ _ fits_again (All-filter _ FitsVoice (seen s vs.items) kept.fit)
         (IsIndex-without voice_number (deadline_number node port) (λ w. w) (voice_number x) x (seen s vs.items) (seen s ds.items) kept.voices.sorted.ascending index_kept (found_here p x here))
         (lemmas.item_at-without voice_number (voice_number x) (voice_number x) (seen s vs.items) ∙ ap (λ b. if b then None else keyed.item_at voice_number (voice_number x) (seen s vs.items)) (itself (voice_number x)))
 
@@ -253,7 +253,7 @@ module _ {node port most : ℕ} {s : Slab LastHeard} {vs ds : Vec ℕ Global} (k
       kept_again later order same_len capacity due_room = record {
         voices = IsOrder-changed voice_number s new p x vs.items (heard_again now) (λ w. refl) kept.voices here updates same_len;
         deadlines = order;
-        fit = subst (All Fits) (sym (seen_again x.voice refl)) (lemmas.All-added voice_number Fits (heard_again now x) _ (All-filter _ Fits (seen s vs.items) kept.fit) fits_again);
+        fit = subst (All FitsVoice) (sym (seen_again x.voice refl)) (lemmas.All-added voice_number FitsVoice (heard_again now x) _ (All-filter _ FitsVoice (seen s vs.items) kept.fit) fits_again);
         bound = kept.bound;
         room = omega (arith, kept.room, capacity);
         voice_room = kept.voice_room;

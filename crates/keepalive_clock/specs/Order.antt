@@ -35,8 +35,8 @@ abbrev pub deadline_number : ℕ → ℕ → LastHeard → ℕ
 deadline_number node port x = (2 ^ 65 - due_of node port x) * 2 ^ 56 + number_of x.voice
 
 -- what is kept of each voice
-abbrev pub Fits : LastHeard → Type 0
-Fits x = IsWhole x.voice × (x.last < 2 ^ 63)
+abbrev pub FitsVoice : LastHeard → Type 0
+FitsVoice x = IsWhole x.voice × (x.last < 2 ^ 63)
 
 -- the same voice with another last moment
 abbrev pub heard_again : ℕ → LastHeard → LastHeard
@@ -52,7 +52,7 @@ HasOwnDue node port place now records by_due =
 pub record IsClockKept (node port most : ℕ) (records : Slab LastHeard) (by_voice by_due : Vec ℕ Global) : Type 0 where
   pub voices : IsOrder voice_number records by_voice.items
   pub deadlines : IsOrder (deadline_number node port) records by_due.items
-  pub fit : All Fits (seen records by_voice.items)
+  pub fit : All FitsVoice (seen records by_voice.items)
   pub bound : length by_voice.items ≤ most
   pub room : most ≤ records.capacity
   pub voice_room : most ≤ vec_capacity by_voice

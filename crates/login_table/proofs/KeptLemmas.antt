@@ -18,7 +18,7 @@ use Rattle.sorted_lists.proofs.EnodeLemmas.{number-same, same_enode-refl, same_e
 use Rattle.sorted_lists.proofs.IndexLemmas.{absent_entry, IsFresh, All-found, key_found, none_some, some_same, equal, find_by_key, first_least, none_from, find_least, find_nothing}
 use Rattle.sorted_lists.proofs.OrderLemmas.{IsIndex-orders, IsOrderBut-filled, IsOrder-changed, length-seen, seen-changed, seen-updates, slab_len-with_value}
 use Rattle.login_table.specs.Logins.{address_of, name_of, login_at, named, next_of, added, with_size, with_server, AscendFrom}
-use Rattle.login_table.specs.Sound.{behind_number, IsWholeEnode, Fits, address_behind, first_behind, IsTableKept}
+use Rattle.login_table.specs.Sound.{behind_number, IsWholeEnode, FitsLogin, address_behind, first_behind, IsTableKept}
 use Rattle.login_table.specs.declared.login.Login.{Login}
 use Rattle.login_table.proofs.LoginLemmas.{IsSound-with_server}
 
@@ -91,7 +91,7 @@ module _ {limit : ℕ} {slab : Slab Login} {ps ns es : Vec ℕ Global} (kept : I
     high : nat_le (2 ^ 24) from ≡ true → None ≡ next_of (λ l. same_enode l.enode enode) from logins
     high e = sym (ap (option_map address_of) (find_nothing address_of (λ (l : Login). nat_le from l.address && same_enode l.enode enode) 0 logins ascending (λ j y other. fails _ (λ pass.
         let at = told j y other pass in
-        absurd (omega (arith, at.1, is_from (2 ^ 24) from e, (All-found Fits _ logins y kept.fit other).1))))))
+        absurd (omega (arith, at.1, is_from (2 ^ 24) from e, (All-found FitsLogin _ logins y kept.fit other).1))))))
 
     low : (r : Option Login) → find (λ d. nat_le (enode_number enode * 2 ^ 24 + from) (behind_number d)) (seen slab es.items) ≡ r → address_behind enode r ≡ next_of (λ l. same_enode l.enode enode) from logins
     low None none = sym (ap (option_map address_of) (find_nothing address_of (λ (l : Login). nat_le from l.address && same_enode l.enode enode) 0 logins ascending (λ j y other. fails _ (λ pass.
@@ -116,8 +116,8 @@ module _ {limit : ℕ} {slab : Slab Login} {ps ns es : Vec ℕ Global} (kept : I
             let (k, x, there, e) = enodes.made (behind_number d) d mine in
             subst (λ (z : Login). login_at z.address logins ≡ Some z) e (ap (λ a. login_at a logins) (key_found address_of k x logins there) ∙ there)
 
-        fit : Fits d
-        fit = All-found Fits _ logins d kept.fit own
+        fit : FitsLogin d
+        fit = All-found FitsLogin _ logins d kept.fit own
 
         by : (b : Bool) → same_enode d.enode enode ≡ b → (if b then Some d.address else None) ≡ next_of (λ l. same_enode l.enode enode) from logins
         by true same =
@@ -128,7 +128,7 @@ module _ {limit : ℕ} {slab : Slab Login} {ps ns es : Vec ℕ Global} (kept : I
             omega (arith, least j y other passes_too, number, key_found address_of j y logins other))))
         by false other =
             sym (ap (option_map address_of) (find_nothing address_of (λ (l : Login). nat_le from l.address && same_enode l.enode enode) 0 logins ascending (λ j y also. fails _ (λ pass.
-            let number : enode_number d.enode ≡ enode_number enode = number_is (enode_number d.enode) 0 (enode_number enode) d.address y.address fit.1 (All-found Fits _ logins y kept.fit also).1 reached (least j y also pass) in
+            let number : enode_number d.enode ≡ enode_number enode = number_is (enode_number d.enode) 0 (enode_number enode) d.address y.address fit.1 (All-found FitsLogin _ logins y kept.fit also).1 reached (least j y also pass) in
             false≢true (sym other ∙ subst (λ z. same_enode z enode ≡ true) (sym (number-same d.enode enode fit.0 whole number)) (same_enode-refl enode))))))
 
     pub first_of_enode : first_behind enode from (seen slab es.items) ≡ next_of (λ l. same_enode l.enode enode) from logins
@@ -141,10 +141,10 @@ module _ {limit : ℕ} {slab : Slab Login} {ps ns es : Vec ℕ Global} (kept : I
   -- ---- one more login
 
   -- an address that is new in the other orders
-  module _ (y : Login) (fits : Fits y) (absent : login_at y.address logins ≡ None) where
+  module _ (y : Login) (fits : FitsLogin y) (absent : login_at y.address logins ≡ None) where
     fresh_enode : IsFresh address_of behind_number (λ l. l) y logins
     fresh_enode k x there e =
-        let same : x.address ≡ y.address = apart (enode_number x.enode) (enode_number y.enode) x.address y.address (All-found Fits _ logins x kept.fit there).1 fits.1 e in
+        let same : x.address ≡ y.address = apart (enode_number x.enode) (enode_number y.enode) x.address y.address (All-found FitsLogin _ logins x kept.fit there).1 fits.1 e in
         none_some x (sym absent ∙ ap (λ a. login_at a logins) (sym same ∙ key_found address_of k x logins there) ∙ there)
       where
         apart : (a b p q : ℕ) → p < 2 ^ 24 → q < 2 ^ 24 → a * 2 ^ 24 + p ≡ b * 2 ^ 24 + q → p ≡ q
@@ -185,17 +185,17 @@ module _ {limit : ℕ} {slab : Slab Login} {ps ns es : Vec ℕ Global} (kept : I
     pub seen_sized : seen (with_value slab p (with_size size x)) ps.items ≡ with_server x.address size logins
     seen_sized = seen-changed address_of slab _ p x ps.items (with_size size) (λ l. refl) kept.by_address here updates_sized
 
-    sized_fits : (l : Login) → Fits l → Fits (spec.changed_if address_of x.address (with_size size) l)
+    sized_fits : (l : Login) → FitsLogin l → FitsLogin (spec.changed_if address_of x.address (with_size size) l)
     sized_fits l fits = go (l.address == x.address)
       where
-        go : (b : Bool) → Fits (if b then with_size size l else l)
+        go : (b : Bool) → FitsLogin (if b then with_size size l else l)
         go true = fits
         go false = fits
 
     pub kept_sized : IsTableKept limit (with_value slab p (with_size size x)) ps ns es
     kept_sized = record {
       sound = rw seen_sized (IsSound-with_server x.address size _ kept.sound);
-      fit = rw seen_sized (All-map Fits (spec.changed_if address_of x.address (with_size size)) logins (λ i d lt. sized_fits _ (kept.fit i d lt)));
+      fit = rw seen_sized (All-map FitsLogin (spec.changed_if address_of x.address (with_size size)) logins (λ i d lt. sized_fits _ (kept.fit i d lt)));
       by_address = IsOrder-changed address_of slab _ p x ps.items (with_size size) (λ l. refl) kept.by_address here updates_sized same_len;
       by_name = IsOrder-changed name_of slab _ p x ns.items (with_size size) (λ l. refl) kept.by_name here updates_sized same_len;
       by_enode = IsOrder-changed behind_number slab _ p x es.items (with_size size) (λ l. refl) kept.by_enode here updates_sized same_len;

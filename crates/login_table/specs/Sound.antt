@@ -18,8 +18,8 @@ abbrev pub IsWholeEnode : Enode → Type 0
 IsWholeEnode x = enodes.IsWhole x
 
 -- what holds of each login
-abbrev pub Fits : Login → Type 0
-Fits l = IsWholeEnode l.enode × (l.address < 2 ^ 24)
+abbrev pub FitsLogin : Login → Type 0
+FitsLogin l = IsWholeEnode l.enode × (l.address < 2 ^ 24)
 
 -- ---- the first of an ENode
 
@@ -37,7 +37,7 @@ first_behind enode from logins =
 -- there is room for as many as there may be, and their number is a `u32`.
 pub record IsTableKept (limit : ℕ) (slab : Slab Login) (addresses names enodes : Vec ℕ Global) : Type 0 where
   pub sound : IsSound (record { limit = limit; logins = seen slab addresses.items })
-  pub fit : All Fits (seen slab addresses.items)
+  pub fit : All FitsLogin (seen slab addresses.items)
   pub by_address : IsOrder address_of slab addresses.items
   pub by_name : IsOrder name_of slab names.items
   pub by_enode : IsOrder behind_number slab enodes.items

@@ -45,13 +45,13 @@ impl Order<Login> for ByName {
 
 impl Order<Login> for ByEnode {
     ghost use Rattle.std.specs.Prelude.{◌≡◌};
-    ghost use Rattle.login_table.specs.Sound.{behind_number, Fits};
+    ghost use Rattle.login_table.specs.Sound.{behind_number, FitsLogin};
 
     ghost number_of = { λ _ l. behind_number l };
 
     fn number(&self, login: &Login) -> u128
         ensures value { result ≡ behind_number login.now }
-        ensures fits { Fits login.now }
+        ensures fits { FitsLogin login.now }
     {
         enode_number(&login.enode) as u128 * (1 << 24) + login.address.value() as u128
     }
@@ -59,7 +59,7 @@ impl Order<Login> for ByEnode {
 
 /// Does nothing; a caller learns that the ENode and the address are in their ranges.
 pub(crate) fn known(login: &Login)
-    ensures { kept.Fits login.now }
+    ensures { kept.FitsLogin login.now }
 {
     ByEnode.number(login);
 }

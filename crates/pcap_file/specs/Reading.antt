@@ -119,22 +119,22 @@ SparesReads old new (Err (errors.Read failed)) = Unit {0}
 SparesReads old new result = SameReadFaults old new
 
 -- Where a reading stands: the depot, the reader, and what is left of the limits.
-pub record Standing : Type 0 where
+pub record ReaderStand : Type 0 where
   pub depot : Seen
   pub reader : Reading
   pub budget : Budget
 
--- such a standing of its parts
-abbrev pub standing : Seen → Reading → Budget → Standing
-standing depot reader budget = record { depot = depot; reader = reader; budget = budget }
+-- such a stand of its parts
+abbrev pub reader_stand : Seen → Reading → Budget → ReaderStand
+reader_stand depot reader budget = record { depot = depot; reader = reader; budget = budget }
 
 -- the step of a reader that stands there, whose capture is in this slot
-abbrev pub step_at : ℕ → Standing → Step
+abbrev pub step_at : ℕ → ReaderStand → Step
 step_at slot s = step_of s.budget s.reader.at (next s.reader.head s.reader.greatest (to_come s.reader s.depot slot))
 
 -- What a reader's next record is. Where the depot tells, and no error is kept, the answer is the step, except that the
 -- depot may fail, which its count shows, and memory may be refused. A kept error is answered again and nothing is fetched.
-pub record NextReads (slot : ℕ) (before after : Standing) (result : Result (Option Record) CapError) : Type 0 where
+pub record NextReads (slot : ℕ) (before after : ReaderStand) (result : Result (Option Record) CapError) : Type 0 where
   pub reads : Reads (before.depot.name slot) before.depot after.depot
   pub says : IsTrue before.depot.told → before.reader.kept ≡ None → Says (step_at slot before) (to_come after.reader after.depot slot) result
   pub taken : IfOk result (λ o. MatchOption o (Rests before.reader after.reader before.budget after.budget) (λ r. TakesRecord before.reader after.reader before.budget after.budget r))

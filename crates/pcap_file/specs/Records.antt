@@ -10,7 +10,7 @@ use Rattle.pcap_file.specs.declared.Record.{Record}
 use Rattle.pcap_file.specs.declared.CapOpen.{CapOpen}
 use Rattle.pcap_file.specs.declared.CapOpen.TheVariants as opens
 use Rattle.pcap_file.specs.Capture.{HEAD, RECORD_HEAD, MOST_STORED, head_bytes, record_bytes, Next, Found, End, CutHead, TooLong, CutBytes, next, head_decoded, records, IsCapture}
-use Rattle.pcap_file.specs.Reading.{Reading, Why, failure, error_of, Step, Gives, Ends, Stops, step_of, to_come, place_after, Standing, step_at, ReadsRose, NextReads, OpensReader}
+use Rattle.pcap_file.specs.Reading.{Reading, Why, failure, error_of, Step, Gives, Ends, Stops, step_of, to_come, place_after, ReaderStand, step_at, ReadsRose, NextReads, OpensReader}
 
 -- these records stand one after another, and then the rest
 abbrev pub Chain : CaptureHead → ℕ → List Record → List ℕ → List ℕ → Type 0
@@ -91,7 +91,7 @@ Shows (Stops e) after result = result ≡ Err e
 -- Each step of the reader is answered, except where the depot's count rose or memory was refused.
 abbrev pub StepIsAnswered : Type 0
 StepIsAnswered =
-    (slot : ℕ) (before after : Standing) (result : Result (Option Record) CapError) → NextReads slot before after result → IsTrue before.depot.told → before.reader.kept ≡ None → ¬ ReadsRose slot before.depot after.depot → result ≢ Err errors.Memory
+    (slot : ℕ) (before after : ReaderStand) (result : Result (Option Record) CapError) → NextReads slot before after result → IsTrue before.depot.told → before.reader.kept ≡ None → ¬ ReadsRose slot before.depot after.depot → result ≢ Err errors.Memory
     → Shows (step_at slot before) (to_come after.reader after.depot slot) result
 
 -- Each fault of a head is answered, except where the budget is too small or the depot's count rose; else the head is.

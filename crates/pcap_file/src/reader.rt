@@ -1,7 +1,7 @@
 //! Reading a capture from a slot, record by record.
 ghost use Rattle.std.specs.Prelude.{◌≡◌, ◌<◌, ◌≤◌, ◌^◌, IsTrue};
 ghost use Rattle.pcap_file.specs.Reading.{Reading, OpensReader, NextReads, RecordRead};
-ghost use Rattle.pcap_file.specs.Reading.{standing, supply};
+ghost use Rattle.pcap_file.specs.Reading.{reader_stand, supply};
 
 use crate::ahead::Ahead;
 use crate::head::{HEAD, MOST_STORED, RECORD_HEAD, number_at};
@@ -89,8 +89,8 @@ impl Reader {
         budget: &mut Budget,
     ) -> Result<Option<Record>, CapError>
         requires input { IsTrue ((D.seen depot.old).input slot) }
-        ensures next { NextReads slot (standing (D.seen depot.old) self.old budget.old)
-            (standing (D.seen depot.new) self.new budget.new) result }
+        ensures next { NextReads slot (reader_stand (D.seen depot.old) self.old budget.old)
+            (reader_stand (D.seen depot.new) self.new budget.new) result }
     {
         if let Some(error) = self.kept {
             return Err(error);

@@ -7,7 +7,7 @@ use Rattle.pcap_file.specs.declared.CaptureHead.{CaptureHead}
 use Rattle.pcap_file.specs.declared.CapError.TheVariants as errors
 use Rattle.pcap_file.specs.declared.Record.{Record}
 use Rattle.pcap_file.specs.Capture.{HEAD, Next, Found, End, next, records, records_from, IsCapture}
-use Rattle.pcap_file.specs.Reading.{Reading, to_come, OpensReader, NextReads, standing}
+use Rattle.pcap_file.specs.Reading.{Reading, to_come, OpensReader, NextReads, reader_stand}
 use Rattle.pcap_file.specs.Records.{Chain, last_moment, size_of, IsFault, Taken}
 use Rattle.pcap_file.proofs.lemmas.Steps.{gives_found, ends_end, cut_fault, long_fault, bytes_passed, frames_passed}
 use Rattle.pcap_file.proofs.lemmas.Chains.{found_stands, chain_push, last-push, size-push, ascends-push, chain_size, few, records_on, go_on, ends_as_capture, fault_is_no_capture, same_ok}
@@ -43,7 +43,7 @@ taken_stays slot file rs name b c r t k is_in other = record {
 }
 
 module _ (slot : ℕ) (file : List ℕ) (rs : List Record) (b c : Seen) (r r' : Reading) (had left : Budget) (t : Taken slot file rs b r) where
-  pub taken_more : (x : Record) → NextReads slot (standing b r had) (standing c r' left) (Ok (Some x)) → Taken slot file (rs ++ x ∷ []) c r'
+  pub taken_more : (x : Record) → NextReads slot (reader_stand b r had) (reader_stand c r' left) (Ok (Some x)) → Taken slot file (rs ++ x ∷ []) c r'
   taken_more x n =
       let k = n.taken in
       let place : r'.at ≡ min (r.at + (16 + length x.caught.bytes)) (2 ^ 64 - 1) = ap (λ (q : Reading). q.at) k.moved in
@@ -70,7 +70,7 @@ module _ (slot : ℕ) (file : List ℕ) (rs : List Record) (b c : Seen) (r r' : 
     at_last : (x : Next) → next r.head r.greatest (to_come r b slot) ≡ x → next r.head (last_moment 0 rs) (to_come r b slot) ≡ x
     at_last x e = ap (λ (g : ℕ). next r.head g (to_come r b slot)) (sym t.greatest) ∙ e
 
-    pub taken_all : NextReads slot (standing b r had) (standing c r' left) (Ok None) → IsCapture r.head rs file
+    pub taken_all : NextReads slot (reader_stand b r had) (reader_stand c r' left) (Ok None) → IsCapture r.head rs file
     taken_all n =
         let h = t.chain told in
         ends_as_capture r.head rs file (to_come r b slot) h.0 h.1 (at_last End (ends_end had r.at (next r.head r.greatest (to_come r b slot)) (n.says told t.fresh).0))
@@ -78,14 +78,14 @@ module _ (slot : ℕ) (file : List ℕ) (rs : List Record) (b c : Seen) (r r' : 
     no_capture : IsFault (next r.head r.greatest (to_come r b slot)) → (k : CaptureHead) (qs : List Record) → IsCapture k qs file → ⊥
     no_capture f = let h = t.chain told in fault_is_no_capture r.head rs file (to_come r b slot) h.0 h.1 (subst IsFault (sym (at_last _ refl)) f)
 
-    pub taken_cut : (at : ℕ) → NextReads slot (standing b r had) (standing c r' left) (Err (errors.Cut at)) → (k : CaptureHead) (qs : List Record) → IsCapture k qs file → ⊥
+    pub taken_cut : (at : ℕ) → NextReads slot (reader_stand b r had) (reader_stand c r' left) (Err (errors.Cut at)) → (k : CaptureHead) (qs : List Record) → IsCapture k qs file → ⊥
     taken_cut at n = no_capture (cut_fault had r.at (next r.head r.greatest (to_come r b slot)) at (n.says told t.fresh))
 
-    pub taken_too_long : (at len : ℕ) → NextReads slot (standing b r had) (standing c r' left) (Err (errors.TooLong at len)) → (k : CaptureHead) (qs : List Record) → IsCapture k qs file → ⊥
+    pub taken_too_long : (at len : ℕ) → NextReads slot (reader_stand b r had) (reader_stand c r' left) (Err (errors.TooLong at len)) → (k : CaptureHead) (qs : List Record) → IsCapture k qs file → ⊥
     taken_too_long at len n = no_capture (long_fault had r.at (next r.head r.greatest (to_come r b slot)) at len (n.says told t.fresh))
 
     -- a limit of bytes is met only where no capture stands, or one with more bytes than those that were taken and those that are left
-    pub taken_bytes : NextReads slot (standing b r had) (standing c r' left) (Err errors.Bytes) → (k : CaptureHead) (qs : List Record) → IsCapture k qs file → had.bytes + (HEAD + size_of rs) < length file
+    pub taken_bytes : NextReads slot (reader_stand b r had) (reader_stand c r' left) (Err errors.Bytes) → (k : CaptureHead) (qs : List Record) → IsCapture k qs file → had.bytes + (HEAD + size_of rs) < length file
     taken_bytes n k qs is = elim (bytes_passed had r.at (next r.head r.greatest (to_come r b slot)) (n.says told t.fresh)) [
       | inr f ↦ absurd (no_capture f k qs is)
       | inl p ↦
@@ -96,7 +96,7 @@ module _ (slot : ℕ) (file : List ℕ) (rs : List Record) (b c : Seen) (r r' : 
     ]
 
     -- a limit of frames only where no capture stands, or one with more records
-    pub taken_frames : NextReads slot (standing b r had) (standing c r' left) (Err errors.Frames) → (k : CaptureHead) (qs : List Record) → IsCapture k qs file → (had.frames ≡ 0) × (length rs < length qs)
+    pub taken_frames : NextReads slot (reader_stand b r had) (reader_stand c r' left) (Err errors.Frames) → (k : CaptureHead) (qs : List Record) → IsCapture k qs file → (had.frames ≡ 0) × (length rs < length qs)
     taken_frames n k qs is = elim (frames_passed had r.at (next r.head r.greatest (to_come r b slot)) (n.says told t.fresh)) [
       | inr f ↦ absurd (no_capture f k qs is)
       | inl p ↦

@@ -2,7 +2,7 @@ use Rattle.std.proofs.Common.{◌≡◌, ◌∙◌, ap, arith}
 use Rattle.fab_base.proofs.KeyedLemmas as keyed
 use Rattle.sorted_lists.specs.Orders.{seen}
 use Rattle.login_table.specs.Logins.{address_of, name_of, added}
-use Rattle.login_table.specs.Sound.{behind_number, Fits}
+use Rattle.login_table.specs.Sound.{behind_number, FitsLogin}
 use Rattle.login_table.proofs.LoginLemmas.{IsSound-added, named-added}
 use Rattle.login_table.proofs.KeptLemmas.{count, named_found, absent_enode, but_address, but_name, but_enode, still_absent, seen_added}
 use Rattle.login_table.proofs.table.LoginTable.add.Goals as goal
@@ -71,7 +71,7 @@ invariant_of-self c =
     let room = rw (← c.self.view_is) at c.requires.room in
     record {
       sound = rw (items c) (IsSound-added c.args.login _ kept.sound room absent unnamed);
-      fit = rw (items c) (keyed.All-added address_of Fits c.args.login _ kept.fit c.known.ensures);
+      fit = rw (items c) (keyed.All-added address_of FitsLogin c.args.login _ kept.fit c.known.ensures);
       by_address = c.order_put.ensures.order;
       by_name = c.order_put-2.ensures.order;
       by_enode = c.order_put-3.ensures.order;

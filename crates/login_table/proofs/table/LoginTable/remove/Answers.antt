@@ -5,7 +5,7 @@ use Rattle.sorted_lists.specs.Orders.{seen}
 use Rattle.sorted_lists.proofs.IndexLemmas.{key_found}
 use Rattle.sorted_lists.proofs.OrderLemmas.{IsOrder-vacated, seen-updates}
 use Rattle.login_table.specs.Logins.{address_of, name_of, login_at, without}
-use Rattle.login_table.specs.Sound.{behind_number, Fits}
+use Rattle.login_table.specs.Sound.{behind_number, FitsLogin}
 use Rattle.login_table.proofs.LoginLemmas.{IsSound-without}
 use Rattle.login_table.proofs.table.LoginTable.remove.Goals as goal
 
@@ -30,7 +30,7 @@ invariant_of-self c =
     let kept = c.self.invariant in
     record {
       sound = rw (items c) (IsSound-without c.args.address _ kept.sound);
-      fit = rw (items c) (All-filter _ Fits _ kept.fit);
+      fit = rw (items c) (All-filter _ FitsLogin _ kept.fit);
       by_address = IsOrder-vacated address_of c.self.inside.logins c.remove.new.self c.in-Some.place _ c.order_take.ensures.but c.remove.ensures.updates c.remove.ensures.len;
       by_name = IsOrder-vacated name_of c.self.inside.logins c.remove.new.self c.in-Some.place _ c.order_take-in-Some.ensures.but c.remove.ensures.updates c.remove.ensures.len;
       by_enode = IsOrder-vacated behind_number c.self.inside.logins c.remove.new.self c.in-Some.place _ c.order_take-in-Some-2.ensures.but c.remove.ensures.updates c.remove.ensures.len;
