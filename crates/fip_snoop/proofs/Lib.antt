@@ -14,6 +14,7 @@ pub mod AloneLemmas
 pub mod MovedLemmas
 pub mod FrameLemmas
 pub mod LawLemmas
+pub mod EachLemmas
 pub mod QueueLemmas
 pub mod BridgeLemmas
 pub mod HeadLemmas

@@ -6,32 +6,18 @@ use Rattle.pcap_file.specs.declared.Record.{Record}
 use Rattle.pcap_file.specs.Records.{Ascends}
 use Rattle.fip_snoop.specs.Bridge.{Arrival, arrival, arrivals_from, with_arrival, in_order, IsBefore, IsBeforeNext, AreInOrder, ArrivalsAreInOrder}
 use Rattle.fip_snoop.specs.Queue.{AllAscend, records_of, PortsKeepTheirOrder}
+use Rattle.fip_snoop.proofs.EachLemmas.{Each, each_both, each_in_order, each_weaker}
 
 -- ---- ports from one on
 
-abbrev PortsFrom : ℕ → List Arrival → Type 0
-PortsFrom p [] = Unit {0}
-PortsFrom p (a ∷ more) = (p ≤ a.port) × PortsFrom p more
+abbrev IsPortFrom : ℕ → Arrival → Type 0
+IsPortFrom p a = p ≤ a.port
 
-ports_both : (p : ℕ) (xs ys : List Arrival) → PortsFrom p xs → PortsFrom p ys → PortsFrom p (xs ++ ys)
-ports_both p [] ys one other = other
-ports_both p (x ∷ xs) ys one other = (one.0, ports_both p xs ys one.1 other)
+abbrev PortsFrom : ℕ → List Arrival → Type 0
+PortsFrom p = Each (IsPortFrom p)
 
 ports_lower : (p q : ℕ) (xs : List Arrival) → q ≤ p → PortsFrom p xs → PortsFrom q xs
-ports_lower p q [] le all = tt
-ports_lower p q (x ∷ xs) le all = (omega (arith, le, all.0), ports_lower p q xs le all.1)
-
-ports_with : (p : ℕ) (x : Arrival) (ys : List Arrival) → p ≤ x.port → PortsFrom p ys → PortsFrom p (with_arrival x ys)
-ports_with p x [] le all = (le, tt)
-ports_with p x (y ∷ ys) le all = go (nat_le x.moment y.moment) (ports_with p x ys le all.1)
-  where
-    go : (b : Bool) → PortsFrom p (with_arrival x ys) → PortsFrom p (cond b (x ∷ y ∷ ys) (y ∷ with_arrival x ys))
-    go true later = (le, all)
-    go false later = (all.0, later)
-
-ports_order : (p : ℕ) (xs : List Arrival) → PortsFrom p xs → PortsFrom p (in_order xs)
-ports_order p [] all = tt
-ports_order p (x ∷ xs) all = ports_with p x (in_order xs) all.0 (ports_order p xs all.1)
+ports_lower p q xs le all = each_weaker (IsPortFrom p) (IsPortFrom q) (λ a from. omega (arith, le, from)) xs all
 
 ports_of : (port : ℕ) (rs : List Record) → PortsFrom port (map (arrival port) rs)
 ports_of port [] = tt
@@ -40,7 +26,7 @@ ports_of port (r ∷ rs) = (omega arith, ports_of port rs)
 ports_behind : (port : ℕ) (ins : List (List Record)) → PortsFrom port (arrivals_from port ins)
 ports_behind port [] = tt
 ports_behind port (records ∷ ins) =
-    ports_both port (map (arrival port) records) (arrivals_from (port + 1) ins) (ports_of port records) (ports_lower (port + 1) port (arrivals_from (port + 1) ins) (omega arith) (ports_behind (port + 1) ins))
+    each_both (IsPortFrom port) (map (arrival port) records) (arrivals_from (port + 1) ins) (ports_of port records) (ports_lower (port + 1) port (arrivals_from (port + 1) ins) (omega arith) (ports_behind (port + 1) ins))
 
 -- ---- by moment and then by port
 
@@ -75,7 +61,7 @@ ordered_with x (y ∷ ys) from are = go (nat_le x.moment y.moment) refl (ordered
 ordered_both : (port : ℕ) (rs : List Record) (rest : List Arrival) → PortsFrom port rest → AreInOrder (in_order rest) → AreInOrder (in_order (map (arrival port) rs ++ rest))
 ordered_both port [] rest from are = are
 ordered_both port (r ∷ rs) rest from are =
-    ordered_with (arrival port r) (in_order (map (arrival port) rs ++ rest)) (ports_order port (map (arrival port) rs ++ rest) (ports_both port (map (arrival port) rs) rest (ports_of port rs) from))
+    ordered_with (arrival port r) (in_order (map (arrival port) rs ++ rest)) (each_in_order (IsPortFrom port) (map (arrival port) rs ++ rest) (each_both (IsPortFrom port) (map (arrival port) rs) rest (ports_of port rs) from))
     (ordered_both port rs rest from are)
 
 ordered_from : (port : ℕ) (ins : List (List Record)) → AreInOrder (in_order (arrivals_from port ins))
@@ -92,33 +78,15 @@ abbrev of : ℕ → List Arrival → List Arrival
 of q xs = filter (λ a. a.port == q) xs
 
 -- those of a port have moments from this one on
+abbrev IsOwnFrom : ℕ → ℕ → Arrival → Type 0
+IsOwnFrom q m a = (a.port == q) ≡ true → m ≤ a.moment
+
 abbrev OwnFrom : ℕ → ℕ → List Arrival → Type 0
-OwnFrom q m [] = Unit {0}
-OwnFrom q m (a ∷ more) = ((a.port == q) ≡ true → m ≤ a.moment) × OwnFrom q m more
-
-own_both : (q m : ℕ) (xs ys : List Arrival) → OwnFrom q m xs → OwnFrom q m ys → OwnFrom q m (xs ++ ys)
-own_both q m [] ys one other = other
-own_both q m (x ∷ xs) ys one other = (one.0, own_both q m xs ys one.1 other)
-
-own_with : (q m : ℕ) (x : Arrival) (ys : List Arrival) → ((x.port == q) ≡ true → m ≤ x.moment) → OwnFrom q m ys → OwnFrom q m (with_arrival x ys)
-own_with q m x [] le all = (le, tt)
-own_with q m x (y ∷ ys) le all = go (nat_le x.moment y.moment) (own_with q m x ys le all.1)
-  where
-    go : (b : Bool) → OwnFrom q m (with_arrival x ys) → OwnFrom q m (cond b (x ∷ y ∷ ys) (y ∷ with_arrival x ys))
-    go true later = (le, all)
-    go false later = (all.0, later)
-
-own_order : (q m : ℕ) (xs : List Arrival) → OwnFrom q m xs → OwnFrom q m (in_order xs)
-own_order q m [] all = tt
-own_order q m (x ∷ xs) all = own_with q m x (in_order xs) all.0 (own_order q m xs all.1)
+OwnFrom q m = Each (IsOwnFrom q m)
 
 own_rises : (q m : ℕ) (rs : List Record) → Ascends m rs → OwnFrom q m (map (arrival q) rs)
 own_rises q m [] up = tt
-own_rises q m (r ∷ rs) up = ((λ here. up.0), weaker q m r.moment (map (arrival q) rs) up.0 (own_rises q r.moment rs up.1))
-  where
-    weaker : (q m n : ℕ) (xs : List Arrival) → m ≤ n → OwnFrom q n xs → OwnFrom q m xs
-    weaker q m n [] le all = tt
-    weaker q m n (x ∷ xs) le all = ((λ here. omega (arith, le, all.0 here)), weaker q m n xs le all.1)
+own_rises q m (r ∷ rs) up = ((λ here. up.0), each_weaker (IsOwnFrom q r.moment) (IsOwnFrom q m) (λ a from here. omega (arith, up.0, from here)) (map (arrival q) rs) (own_rises q r.moment rs up.1))
 
 above : (q p : ℕ) → q + 1 ≤ p → (p == q) ≡ true → ⊥
 above q p le e = grind (arith, nat_tests)
@@ -157,10 +125,10 @@ own_first q x (y ∷ ys) e from = go (nat_le x.moment y.moment) refl (own_first 
         by false other = later
 
 of_own : (q m : ℕ) (rs : List Record) (rest : List Arrival) → Ascends m rs → PortsFrom (q + 1) rest → of q (in_order (map (arrival q) rs ++ rest)) ≡ map (arrival q) rs
-of_own q m [] rest up from = none_of q (in_order rest) (ports_order (q + 1) rest from)
+of_own q m [] rest up from = none_of q (in_order rest) (each_in_order (IsPortFrom (q + 1)) rest from)
 of_own q m (r ∷ rs) rest up from =
     own_first q (arrival q r) (in_order (map (arrival q) rs ++ rest)) (itself q)
-    (own_order q r.moment (map (arrival q) rs ++ rest) (own_both q r.moment (map (arrival q) rs) rest (own_rises q r.moment rs up.1) (own_others q r.moment rest from)))
+    (each_in_order (IsOwnFrom q r.moment) (map (arrival q) rs ++ rest) (each_both (IsOwnFrom q r.moment) (map (arrival q) rs) rest (own_rises q r.moment rs up.1) (own_others q r.moment rest from)))
     ∙ ap (λ l. arrival q r ∷ l) (of_own q r.moment rs rest up.1 from)
   where
     itself : (n : ℕ) → (n == n) ≡ true

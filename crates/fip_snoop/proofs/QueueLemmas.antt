@@ -5,32 +5,18 @@ use Rattle.pcap_file.specs.declared.Record.{Record}
 use Rattle.pcap_file.specs.Records.{Ascends}
 use Rattle.fip_snoop.specs.Bridge.{Arrival, arrival, arrivals_from, with_arrival, in_order}
 use Rattle.fip_snoop.specs.Queue.{sooner, least, without_first, AllAscend, LeastIsNext, NoneIsEnd}
+use Rattle.fip_snoop.proofs.EachLemmas.{Each, each_both, each_in_order, each_weaker}
 
 -- ---- frames from a moment on
 
-abbrev AllFrom : ℕ → List Arrival → Type 0
-AllFrom m [] = Unit {0}
-AllFrom m (a ∷ more) = (m ≤ a.moment) × AllFrom m more
+abbrev IsFrom : ℕ → Arrival → Type 0
+IsFrom m a = m ≤ a.moment
 
-from_both : (m : ℕ) (xs ys : List Arrival) → AllFrom m xs → AllFrom m ys → AllFrom m (xs ++ ys)
-from_both m [] ys one other = other
-from_both m (x ∷ xs) ys one other = (one.0, from_both m xs ys one.1 other)
+abbrev AllFrom : ℕ → List Arrival → Type 0
+AllFrom m = Each (IsFrom m)
 
 from_earlier : (m n : ℕ) (xs : List Arrival) → n ≤ m → AllFrom m xs → AllFrom n xs
-from_earlier m n [] le all = tt
-from_earlier m n (x ∷ xs) le all = (omega (arith, le, all.0), from_earlier m n xs le all.1)
-
-with_from : (m : ℕ) (x : Arrival) (xs : List Arrival) → m ≤ x.moment → AllFrom m xs → AllFrom m (with_arrival x xs)
-with_from m x [] le all = (le, tt)
-with_from m x (y ∷ ys) le all = go (nat_le x.moment y.moment) (with_from m x ys le all.1)
-  where
-    go : (b : Bool) → AllFrom m (with_arrival x ys) → AllFrom m (cond b (x ∷ y ∷ ys) (y ∷ with_arrival x ys))
-    go true later = (le, all)
-    go false later = (all.0, later)
-
-order_from : (m : ℕ) (xs : List Arrival) → AllFrom m xs → AllFrom m (in_order xs)
-order_from m [] all = tt
-order_from m (x ∷ xs) all = with_from m x (in_order xs) all.0 (order_from m xs all.1)
+from_earlier m n xs le all = each_weaker (IsFrom m) (IsFrom n) (λ a from. omega (arith, le, from)) xs all
 
 -- ---- who goes first
 
@@ -50,7 +36,7 @@ goes_behind x y ys less = go (nat_le x.moment y.moment) (grind (arith, nat_tests
     go b e = ap (λ b. cond b (x ∷ y ∷ ys) (y ∷ with_arrival x ys)) e
 
 leads : (us vs : List Arrival) (x : Arrival) → AllFrom (suc x.moment) us → AllFrom x.moment vs → in_order (us ++ x ∷ vs) ≡ x ∷ in_order (us ++ vs)
-leads [] vs x later others = goes_first x (in_order vs) (order_from x.moment vs others)
+leads [] vs x later others = goes_first x (in_order vs) (each_in_order (IsFrom x.moment) vs others)
 leads (u ∷ us) vs x later others =
     ap (with_arrival u) (leads us vs x later.1 others) ∙ goes_behind u x (in_order (us ++ vs)) (omega (arith, later.0))
 
@@ -72,7 +58,7 @@ record Stands (port : ℕ) (ins : List (List Record)) (a : Arrival) : Type 0 whe
 
 all_from : (port : ℕ) (ins : List (List Record)) (a : Arrival) → Stands port ins a → AllFrom a.moment (arrivals_from port ins)
 all_from port ins a s =
-    subst (AllFrom a.moment) (sym s.are) (from_both a.moment s.before (a ∷ s.behind) (from_earlier (suc a.moment) a.moment s.before (omega arith) s.later) (omega arith, s.others))
+    subst (AllFrom a.moment) (sym s.are) (each_both (IsFrom a.moment) s.before (a ∷ s.behind) (from_earlier (suc a.moment) a.moment s.before (omega arith) s.later) (omega arith, s.others))
 
 none_there : NoneIsEnd
 none_there port [] e = refl
@@ -117,7 +103,7 @@ stands port ((r ∷ rs) ∷ ins) a up e = go (least (port + 1) ins) refl (λ b e
       are = refl;
       left = ap (arrivals_from port) (here port (r ∷ rs) ins);
       later = tt;
-      others = from_both r.moment (map (arrival port) rs) (arrivals_from (port + 1) ins) own others;
+      others = each_both (IsFrom r.moment) (map (arrival port) rs) (arrivals_from (port + 1) ins) own others;
       beyond = omega arith;
     }
 
@@ -127,7 +113,7 @@ stands port ((r ∷ rs) ∷ ins) a up e = go (least (port + 1) ins) refl (λ b e
       behind = s.behind;
       are = ap (λ l. map (arrival port) (r ∷ rs) ++ l) s.are ∙ sym (append_assoc (map (arrival port) (r ∷ rs)) s.before (b ∷ s.behind));
       left = ap (arrivals_from port) (not_here port b.port (r ∷ rs) ins s.beyond) ∙ ap (λ l. map (arrival port) (r ∷ rs) ++ l) s.left ∙ sym (append_assoc (map (arrival port) (r ∷ rs)) s.before s.behind);
-      later = from_both (suc b.moment) (map (arrival port) (r ∷ rs)) s.before (omega (arith, less), from_earlier r.moment (suc b.moment) (map (arrival port) rs) (omega (arith, less)) own) s.later;
+      later = each_both (IsFrom (suc b.moment)) (map (arrival port) (r ∷ rs)) s.before (omega (arith, less), from_earlier r.moment (suc b.moment) (map (arrival port) rs) (omega (arith, less)) own) s.later;
       others = s.others;
       beyond = omega (arith, s.beyond);
     }

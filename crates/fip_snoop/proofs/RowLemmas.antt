@@ -19,7 +19,7 @@ use Rattle.sorted_lists.proofs.IndexLemmas.{none_some, differs, All-found}
 use Rattle.sorted_lists.proofs.OrderLemmas.{seen-updates, length-seen, seen-head, item-here}
 use Rattle.sorted_lists.proofs.PlacingLemmas.{start-is, seen-put, IsOrder-put, seen-taken, IsOrderBut-taken}
 use Rattle.sorted_lists.proofs.SearchLemmas.{place-within}
-use Rattle.fip_snoop.specs.Rows.{lists, rooms, flat, row_at, IsIn, AreFrom, AreRows}
+use Rattle.fip_snoop.specs.Rows.{lists, rooms, flat, row_at, IsIn, AreFrom, AreRows, IsSpot}
 use Rattle.fip_snoop.proofs.FlatLemmas.{flat-pushed, each-row, each-set, each-nil}
 
 -- ---- lists end to end
@@ -298,22 +298,9 @@ module _ {T : Type 0} (number : T → ℕ) (slab : Slab T) where
       subst (All P) (sym (seen-append (take i ps) (drop (suc i) ps)))
       (All-append P (seen slab (take i ps)) (seen slab (drop (suc i) ps)) (all_parts P ps i all).0 (all_parts P ps (suc i) all).1)
 
-  -- A search in the row of a record's number.
-  pub record Searched (rows : List (List ℕ)) (x : T) (m i start : ℕ) (shown : List ℕ) : Type 0 where
-    pub number_is : m ≡ number x
-    pub range : number x < 2 ^ 112
-    pub row_is : i ≡ m / 2 ^ 104
-    pub shown_is : shown ≡ row_at rows (m / 2 ^ 104)
-    pub search : start ≡ unwrap_or (position (λ y. nat_le m (number y)) (seen slab shown)) (length shown)
-
-  module _ (rows : List (List ℕ)) (are : AreRows number slab rows) (x : T) (m i start : ℕ) (shown : List ℕ) (s : Searched rows x m i start shown) (sorted : AreSorted number slab (flat rows)) where
-    row_as : i ≡ number x / 2 ^ 104
-    row_as = s.row_is ∙ ap (λ k. k / 2 ^ 104) s.number_is
-
+  module _ (rows : List (List ℕ)) (are : AreRows number slab rows) (x : T) (range : number x < 2 ^ 112) (i start : ℕ) (s : IsSpot number slab rows x i start) (sorted : AreSorted number slab (flat rows)) where
     starts : start ≡ place_of number (number x) (seen slab (row_at rows (number x / 2 ^ 104)))
-    starts =
-        start-is number slab (row_at rows (number x / 2 ^ 104)) shown m (number x) start (in_row rows are (number x) s.range sorted).there
-        (s.shown_is ∙ ap (λ k. row_at rows (k / 2 ^ 104)) s.number_is) s.number_is s.search
+    starts = s.start_is ∙ ap (λ j. place_of number (number x) (seen slab (row_at rows j))) s.row_is
 
     here_in : All (IsIn number (0 + number x / 2 ^ 104)) (seen slab (row_at rows (number x / 2 ^ 104)))
     here_in = each-row (λ i r. All (IsIn number i) (seen slab r)) (λ j. All-nil (IsIn number j)) 0 (number x / 2 ^ 104) rows are.own
@@ -324,7 +311,7 @@ module _ {T : Type 0} (number : T → ℕ) (slab : Slab T) where
     module _ (p : ℕ) (but : IsOrderBut number p slab (flat rows)) (here : get slab p ≡ Some x) (none : item_at number (number x) (seen slab (flat rows)) ≡ None)
         (new : List (List ℕ)) (put : new ≡ slice_set rows i (insert (row_at rows i) start p)) where
       put_is : new ≡ slice_set rows (number x / 2 ^ 104) (insert (row_at rows (number x / 2 ^ 104)) start p)
-      put_is = put ∙ ap (λ j. slice_set rows j (insert (row_at rows j) start p)) row_as
+      put_is = put ∙ ap (λ j. slice_set rows j (insert (row_at rows j) start p)) s.row_is
 
       start_within : start ≤ length (row_at rows (number x / 2 ^ 104))
       start_within =
@@ -332,18 +319,18 @@ module _ {T : Type 0} (number : T → ℕ) (slab : Slab T) where
             arith,
             starts,
             place-within number (number x) (seen slab (row_at rows (number x / 2 ^ 104))),
-            length-seen slab (row_at rows (number x / 2 ^ 104)) (in_row rows are (number x) s.range sorted).there,
+            length-seen slab (row_at rows (number x / 2 ^ 104)) (in_row rows are (number x) range sorted).there,
           )
 
       pub order_put : IsOrder number slab (flat new)
       order_put =
-          let (before, behind, split) = at_row rows are (number x) s.range in
+          let (before, behind, split) = at_row rows are (number x) range in
           IsOrder-put number slab p x (flat rows) (flat new) (length before + start) but here none (placed_at (number x) rows before behind split sorted start starts)
           (ap flat put_is ∙ put_at (number x) rows before behind split start p start_within)
 
       pub items_put : seen slab (flat new) ≡ added number x (seen slab (flat rows))
       items_put =
-          let (before, behind, split) = at_row rows are (number x) s.range in
+          let (before, behind, split) = at_row rows are (number x) range in
           seen-put number slab p x (flat rows) (flat new) (length before + start) but here none (placed_at (number x) rows before behind split sorted start starts)
           (ap flat put_is ∙ put_at (number x) rows before behind split start p start_within)
 
@@ -356,27 +343,27 @@ module _ {T : Type 0} (number : T → ℕ) (slab : Slab T) where
       pub start_taken : start < length (row_at rows i)
       start_taken =
           let row = row_at rows (number x / 2 ^ 104) in
-          let found = sym (row_item rows are (number x) s.range) ∙ item-here number slab p (flat rows) x order here in
+          let found = sym (row_item rows are (number x) range) ∙ item-here number slab p (flat rows) x order here in
           let less = place-found number (number x) (seen slab row) x found in
-          let long = length-seen slab row (in_row rows are (number x) s.range sorted).there in
-          subst (λ j. start < length (row_at rows j)) (sym row_as) (omega (arith, starts, less, long))
+          let long = length-seen slab row (in_row rows are (number x) range sorted).there in
+          subst (λ j. start < length (row_at rows j)) (sym s.row_is) (omega (arith, starts, less, long))
 
       module _ (new : List (List ℕ)) (take : new ≡ slice_set rows i (remove (row_at rows i) start)) where
         take_is : new ≡ slice_set rows (number x / 2 ^ 104) (remove (row_at rows (number x / 2 ^ 104)) start)
-        take_is = take ∙ ap (λ j. slice_set rows j (remove (row_at rows j) start)) row_as
+        take_is = take ∙ ap (λ j. slice_set rows j (remove (row_at rows j) start)) s.row_is
 
         within : start < length (row_at rows (number x / 2 ^ 104))
-        within = subst (λ j. start < length (row_at rows j)) row_as start_taken
+        within = subst (λ j. start < length (row_at rows j)) s.row_is start_taken
 
         pub order_taken : IsOrderBut number p slab (flat new)
         order_taken =
-            let (before, behind, split) = at_row rows are (number x) s.range in
+            let (before, behind, split) = at_row rows are (number x) range in
             IsOrderBut-taken number slab p x (flat rows) (flat new) (length before + start) order here (placed_at (number x) rows before behind split sorted start starts)
             (ap flat take_is ∙ taken_at (number x) rows before behind split start within)
 
         pub items_taken : seen slab (flat new) ≡ without number (number x) (seen slab (flat rows))
         items_taken =
-            let (before, behind, split) = at_row rows are (number x) s.range in
+            let (before, behind, split) = at_row rows are (number x) range in
             seen-taken number slab p x (flat rows) (flat new) (length before + start) order here (placed_at (number x) rows before behind split sorted start starts)
             (ap flat take_is ∙ taken_at (number x) rows before behind split start within)
 
@@ -440,19 +427,22 @@ AreRows-empty {T} number slab rows none count = record {
   count = length-lists rows ∙ count;
 }
 
--- what a search in a row of the code found
-module _ {T : Type 0} (number : T → ℕ) (slab : Slab T) (rows looked : List (Vec ℕ Global)) (x : T) (m i start : ℕ) (shown : List ℕ) where
-  pub searched : m ≡ number x → number x < 2 ^ 112 → i ≡ m / 2 ^ 104 → looked ≡ rows → shown ≡ row_at (lists looked) (m / 2 ^ 104)
-      → start ≡ unwrap_or (position (λ y. nat_le m (number y)) (seen slab shown)) (length shown) → Searched number slab (lists rows) x m i start shown
-  searched is range row same found search = record {
-    number_is = is;
-    range = range;
-    row_is = row;
-    shown_is = found ∙ ap (λ l. row_at (lists l) (m / 2 ^ 104)) same;
-    search = search;
-  }
+-- what a search in the row of a record's number finds
+module _ {T : Type 0} (number : T → ℕ) (slab : Slab T) (rows : List (List ℕ)) (are : AreRows number slab rows) (sorted : AreSorted number slab (flat rows)) (x : T) (range : number x < 2 ^ 112) (m : ℕ) (is : m ≡ number x) (shown : List ℕ) (found : shown ≡ row_at rows (m / 2 ^ 104)) where
+  shown_is : shown ≡ row_at rows (number x / 2 ^ 104)
+  shown_is = found ∙ ap (λ k. row_at rows (k / 2 ^ 104)) is
 
-pub shown_sorted : {T : Type 0} (number : T → ℕ) (slab : Slab T) (rows looked : List (Vec ℕ Global)) (m : ℕ) (shown : List ℕ) → AreRows number slab (lists rows) → AreSorted number slab (flat (lists rows)) → m < 2 ^ 112
-    → looked ≡ rows → shown ≡ row_at (lists looked) (m / 2 ^ 104) → AreSorted number slab shown
-shown_sorted number slab rows looked m shown are sorted range same found =
-    subst (AreSorted number slab) (sym (found ∙ ap (λ l. row_at (lists l) (m / 2 ^ 104)) same)) (in_row number slab (lists rows) are m range sorted)
+  own_sorted : AreSorted number slab (row_at rows (number x / 2 ^ 104))
+  own_sorted = in_row number slab rows are (number x) range sorted
+
+  pub shown_sorted : AreSorted number slab shown
+  shown_sorted = subst (AreSorted number slab) (sym shown_is) own_sorted
+
+  pub is_spot : (i start : ℕ) → i ≡ m / 2 ^ 104 → start ≡ unwrap_or (position (λ y. nat_le m (number y)) (seen slab shown)) (length shown) → IsSpot number slab rows x i start
+  is_spot i start row search =
+      let row_is : i ≡ number x / 2 ^ 104 = row ∙ ap (λ k. k / 2 ^ 104) is in
+      record {
+        row_is = row_is;
+        start_is = start-is number slab (row_at rows (number x / 2 ^ 104)) shown m (number x) start own_sorted.there shown_is is search
+            ∙ ap (λ j. place_of number (number x) (seen slab (row_at rows j))) (sym row_is);
+      }

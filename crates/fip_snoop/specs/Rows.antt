@@ -1,9 +1,10 @@
 -- Items in rows, and places of a slab in rows by the top of a number of the records there.
-use Rattle.std.specs.Prelude.{◌≡◌, ℕ, zero, suc, ◌+◌, ◌-◌, ◌*◌, ◌<◌, ◌≤◌, ◌^◌, List, [], ◌∷◌, ◌++◌, length, map, Vec, vec_capacity}
+use Rattle.std.specs.Prelude.{◌≡◌, ℕ, zero, suc, ◌+◌, ◌-◌, ◌*◌, ◌/◌, ◌<◌, ◌≤◌, ◌^◌, List, [], ◌∷◌, ◌++◌, length, map, Vec, vec_capacity}
 use Rattle.std.specs.declared.alloc.Global.{Global}
 use Rattle.std.specs.List.{All}
 use Rattle.slab.specs.Slab.{Slab}
 use Rattle.sorted_lists.specs.Orders.{seen}
+use Rattle.sorted_lists.specs.Reach.{place_of}
 
 module _ {X : Type 0} where
   -- all items, one row after another
@@ -42,3 +43,8 @@ module _ {T : Type 0} (number : T → ℕ) where
   pub record AreRows (slab : Slab T) (rows : List (List ℕ)) : Type 0 where
     pub own : AreFrom 0 slab rows
     pub count : length rows ≡ 256
+
+  -- where the place of a record stands, or comes to stand: in its row, behind the places of lower numbers
+  pub record IsSpot (slab : Slab T) (rows : List (List ℕ)) (x : T) (row start : ℕ) : Type 0 where
+    pub row_is : row ≡ number x / 2 ^ 104
+    pub start_is : start ≡ place_of number (number x) (seen slab (row_at rows row))

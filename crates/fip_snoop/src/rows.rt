@@ -5,8 +5,8 @@ ghost use Rattle.std.specs.Prelude.{IfOk, OnOk, IsSome, slice_index, slice_set, 
 ghost use Rattle.std.specs.List.{insert, remove};
 ghost use Rattle.slab.specs.Slab.{get};
 ghost use Rattle.fab_base.specs.Keyed.{item_at, added, without};
-ghost use Rattle.sorted_lists.specs.Orders.{seen, IsOrder, IsOrderBut};
-ghost use Rattle.fip_snoop.specs.Rows.{lists, rooms, flat, row_at, AreRows};
+ghost use Rattle.sorted_lists.specs.Orders.{seen, AreSorted, IsOrder, IsOrderBut};
+ghost use Rattle.fip_snoop.specs.Rows.{lists, rooms, flat, row_at, AreRows, IsSpot};
 
 use crate::Binding;
 use fab_base::NoMemory;
@@ -91,11 +91,8 @@ pub(crate) fn row_put<O: Order<Binding>>(
         ≡ added (O.number_of order.now) x (seen records.now (flat (lists rows.old.items))) }
     ensures rows { AreRows (O.number_of order.now) records.now (lists rows.new.items) }
 {
-    let number = order.number(&records[place]);
-    let row = row_of(number);
-    let shown = row_for(rows, number);
-    let start = order_from(order, records, shown, number);
-    put_at(rows, row, start, place);
+    let spot = spot_of(order, records, rows, place);
+    put_at(rows, spot, place);
 }
 
 /// Takes the place of a binding out, and keeps its room.
@@ -120,22 +117,50 @@ pub(crate) fn row_take<O: Order<Binding>>(
     ensures room { (i : ℕ) → slice_index (rooms rows.old.items) i
         ≤ slice_index (rooms rows.new.items) i }
 {
+    let spot = spot_of(order, records, rows, place);
+    take_at(rows, spot);
+}
+
+// Where a place stands in the rows, or comes to stand.
+#[derive(Clone, Copy, Debug)]
+struct Spot {
+    row: usize,
+    start: usize,
+}
+
+// The spot of a binding's place.
+fn spot_of<O: Order<Binding>>(
+    order: &O,
+    records: &Slab<Binding>,
+    rows: &[Vec<usize>],
+    place: usize,
+) -> Spot
+    requires sorted { AreSorted (O.number_of order.now) records.now (flat (lists rows.now)) }
+    requires there { IsSome (get records.now place) }
+    requires rows { AreRows (O.number_of order.now) records.now (lists rows.now) }
+    requires range { (x : Binding) → get records.now place ≡ Some x
+        → O.number_of order.now x < 2 ^ 112 }
+    ensures spot { (x : Binding) → get records.now place ≡ Some x → IsSpot (O.number_of order.now)
+        records.now (lists rows.now) x result.row result.start }
+    ensures row { result.row < length rows.now }
+    ensures start { result.start ≤ length (row_at (lists rows.now) result.row) }
+{
     let number = order.number(&records[place]);
     let row = row_of(number);
     let shown = row_for(rows, number);
     let start = order_from(order, records, shown, number);
-    take_at(rows, row, start);
+    Spot { row, start }
 }
 
 // Puts a place into a row.
-fn put_at(rows: &mut Vec<Vec<usize>>, row: usize, start: usize, place: usize)
-    requires row { row < length rows.old.items }
-    requires start { start ≤ length (row_at (lists rows.old.items) row) }
-    requires room { 0 < slice_index (rooms rows.old.items) row }
-    ensures { lists rows.new.items ≡ slice_set (lists rows.old.items) row
-        (insert (row_at (lists rows.old.items) row) start place) }
+fn put_at(rows: &mut Vec<Vec<usize>>, spot: Spot, place: usize)
+    requires row { spot.row < length rows.old.items }
+    requires start { spot.start ≤ length (row_at (lists rows.old.items) spot.row) }
+    requires room { 0 < slice_index (rooms rows.old.items) spot.row }
+    ensures { lists rows.new.items ≡ slice_set (lists rows.old.items) spot.row
+        (insert (row_at (lists rows.old.items) spot.row) spot.start place) }
 {
-    put_in(&mut rows[row], start, place);
+    put_in(&mut rows[spot.row], spot.start, place);
 }
 
 fn put_in(row: &mut Vec<usize>, start: usize, place: usize)
@@ -149,15 +174,15 @@ fn put_in(row: &mut Vec<usize>, start: usize, place: usize)
 }
 
 // Takes a place out of a row, and keeps its room.
-fn take_at(rows: &mut Vec<Vec<usize>>, row: usize, start: usize)
-    requires row { row < length rows.old.items }
-    requires start { start < length (row_at (lists rows.old.items) row) }
-    ensures lists { lists rows.new.items ≡ slice_set (lists rows.old.items) row
-        (remove (row_at (lists rows.old.items) row) start) }
+fn take_at(rows: &mut Vec<Vec<usize>>, spot: Spot)
+    requires row { spot.row < length rows.old.items }
+    requires start { spot.start < length (row_at (lists rows.old.items) spot.row) }
+    ensures lists { lists rows.new.items ≡ slice_set (lists rows.old.items) spot.row
+        (remove (row_at (lists rows.old.items) spot.row) spot.start) }
     ensures room { (i : ℕ) → slice_index (rooms rows.old.items) i
         ≤ slice_index (rooms rows.new.items) i }
 {
-    take_in(&mut rows[row], start);
+    take_in(&mut rows[spot.row], spot.start);
 }
 
 fn take_in(row: &mut Vec<usize>, start: usize)
