@@ -2,15 +2,14 @@
 ghost use Rattle.std.specs.Prelude.{◌≡◌, ◌≤◌, length, IsTrue};
 ghost use Rattle.state_change.specs.Watchers as spec;
 
+use crate::held::{open, open_in};
 use crate::say::{end, end_address, end_bool, end_moment, end_number};
 use crate::words::{
     CaseFault, address, has_word, hexadecimal, moment, name, name_at, octet, small,
 };
 use case_lines::word_at;
-use fab_base::{Bytes, FcId, NoMemory, Wwn};
-use fab_config::{
-    Activation, ActivationList, NameList, PlaceList, SetList, Zone, ZoneList, ZoneSet,
-};
+use fab_base::{Bytes, FcId, NoMemory, OwnedList, Wwn};
+use fab_config::{Activation, ActivationList, SetList, Zone, ZoneList, ZoneSet};
 use state_change::Watchers;
 use std::alloc::Global;
 use zone_rules::Zones;
@@ -48,13 +47,9 @@ pub(crate) fn zone_call(
     out: &mut Vec<u8>,
 ) -> Result<(), CaseFault> {
     if name_at(line, 1) == "open" {
-        *held = Some(opened(alloc)?);
-        return end(out, "open");
+        return open(held, opened(alloc)?, out);
     }
-    match held {
-        Some(zoning) => zoning.asked(alloc, line, out),
-        None => Err(CaseFault::Closed),
-    }
+    open_in(held)?.asked(alloc, line, out)
 }
 
 fn opened(alloc: Global) -> Result<Zoning, NoMemory> {
@@ -101,38 +96,34 @@ impl Zoning {
 
 // `zone NAME MEMBER..`.
 fn zone(alloc: Global, line: &[u8]) -> Result<Zone, CaseFault> {
-    let members = members(alloc, line)?;
+    let members = listed(alloc, line, |place: usize| name(line, place))?;
     let name = Bytes::copy(alloc, word_at(line, 2))?;
     Ok(Zone { name, members })
 }
 
-fn members(alloc: Global, line: &[u8]) -> Result<NameList, CaseFault> {
-    let mut members = NameList::new(alloc)?;
-    for place in 3..1000 {
-        if !has_word(line, place) {
-            break;
-        }
-        members.push(alloc, name(line, place)?)?;
-    }
-    Ok(members)
-}
-
 // `set NAME PLACE..`.
 fn set(alloc: Global, line: &[u8]) -> Result<ZoneSet, CaseFault> {
-    let places = places(alloc, line)?;
+    let places = listed(alloc, line, |place: usize| small(line, place))?;
     let name = Bytes::copy(alloc, word_at(line, 2))?;
     Ok(ZoneSet { name, places })
 }
 
-fn places(alloc: Global, line: &[u8]) -> Result<PlaceList, CaseFault> {
-    let mut places = PlaceList::new(alloc)?;
+// What a line lists from its fourth word on.
+fn listed<T: Drop, F: Fn(usize) -> Result<T, CaseFault>>(
+    alloc: Global,
+    line: &[u8],
+    read: F,
+) -> Result<OwnedList<T>, CaseFault>
+    requires { F.IsAlwaysCallable read }
+{
+    let mut list = OwnedList::new(alloc)?;
     for place in 3..1000 {
         if !has_word(line, place) {
             break;
         }
-        places.push(alloc, small(line, place)?)?;
+        list.push(alloc, read(place)?)?;
     }
-    Ok(places)
+    Ok(list)
 }
 
 // `activation PLACE AT`.
@@ -152,13 +143,9 @@ pub(crate) fn watcher_call(
     out: &mut Vec<u8>,
 ) -> Result<(), CaseFault> {
     if name_at(line, 1) == "open" {
-        *held = Some(watchers_opened(alloc, small(line, 2)?)?);
-        return end(out, "open");
+        return open(held, watchers_opened(alloc, small(line, 2)?)?, out);
     }
-    match held {
-        Some(watched) => watched.asked(zoning, line, out),
-        None => Err(CaseFault::Closed),
-    }
+    open_in(held)?.asked(zoning, line, out)
 }
 
 fn watchers_opened(alloc: Global, room: u32) -> Result<Watched, NoMemory> {
@@ -186,7 +173,7 @@ impl Watched {
             "forget" => end_bool(out, self.watchers.forget(address(line, 2)?)),
             "function" => end_number(out, u64::from(self.watchers.function_of(address(line, 2)?))),
             _ => match zoning {
-                Some(zoning) => told(&self.watchers, &zoning.built, line, out),
+                Some(zoning) => end_recipient(&self.watchers, &zoning.built, line, out),
                 None => Err(CaseFault::Closed),
             },
         }
@@ -209,7 +196,7 @@ pub fn is_function(function: u8) -> bool
 }
 
 // `told AT AFFECTED FROM`, `changed BEFORE AT AFFECTED FROM`: the first watcher from an address on.
-fn told(
+fn end_recipient(
     watchers: &Watchers,
     zones: &Zones,
     line: &[u8],
