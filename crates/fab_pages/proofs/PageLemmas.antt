@@ -12,6 +12,7 @@ use Rattle.fab_policy.specs.Growing.{records_to}
 use Rattle.fab_policy.specs.Outputs.{Sent}
 use Rattle.fab_policy.specs.Text.{sent_bytes}
 use Rattle.fab_replies.specs.declared.message.Out.{Out}
+pub use Rattle.run_files.proofs.PageLemmas.{length-items, piece-item, length_set, set_page, own_page, other_page, page_of}
 use Rattle.fab_pages.specs.Pages.{Adds, AreEarly, items_in, piece_at}
 
 -- ---- what is sent on a port
@@ -26,10 +27,6 @@ pub other_record : (p : ℕ) (s : Sent) → s.port ≢ p → records_to p (s ∷
 other_record p s ne = ap (λ (b : Bool). flat_map sent_bytes (cond b (s ∷ []) [])) (ne_eqb s.port p ne)
 
 -- ---- pages
-
-pub length-items : (l : List (Vec ℕ Global)) → length (items_in l) ≡ length l
-length-items [] = refl
-length-items (v ∷ l) = ap suc (length-items l)
 
 pub adds_none : (pages : List (List ℕ)) → Adds [] pages pages
 adds_none pages = record { count = refl; pages = λ q lt. sym (append-nil (piece_at pages q)) }
@@ -48,32 +45,6 @@ adds_nowhere s pages lt = record {
   count = refl;
   pages = λ q within. sym (ap (λ l. piece_at pages q ++ l) (other_record (q + 1) s (λ e. absurd (omega (arith, e, lt, within)))) ∙ append-nil (piece_at pages q));
 }
-
--- the piece at a place of the code's list
-pub piece-item : (l : List (Vec ℕ Global)) (i : ℕ) (v : Vec ℕ Global) → i < length l → v ≡ get_or l i v → v.items ≡ piece_at (items_in l) i
-piece-item [] i v lt is = absurd (omega arith)
-piece-item (x ∷ l) zero v lt is = ap (λ (y : Vec ℕ Global). y.items) is
-piece-item (x ∷ l) (suc i) v lt is = piece-item l i v (omega arith) is
-
-pub length_set : (l : List (Vec ℕ Global)) (k : ℕ) (v : Vec ℕ Global) → length (items_in (slice_set l k v)) ≡ length (items_in l)
-length_set [] k v = refl
-length_set (x ∷ l) zero v = refl
-length_set (x ∷ l) (suc k) v = ap suc (length_set l k v)
-
-pub set_page : (l : List (Vec ℕ Global)) (k : ℕ) (v : Vec ℕ Global) → k < length l → piece_at (items_in (slice_set l k v)) k ≡ v.items
-set_page [] k v lt = absurd (omega (arith, lt))
-set_page (x ∷ l) zero v lt = refl
-set_page (x ∷ l) (suc k) v lt = set_page l k v (omega (arith, lt))
-
-own_page : (l : List (Vec ℕ Global)) (k : ℕ) (v w : Vec ℕ Global) (bytes : List ℕ) → k < length l → w ≡ get_or l k w → v.items ≡ w.items ++ bytes → piece_at (items_in (slice_set l k v)) k ≡ piece_at (items_in l) k ++ bytes
-own_page l k v w bytes lt is e = set_page l k v lt ∙ e ∙ ap (λ x. x ++ bytes) (piece-item l k w lt is)
-
-pub other_page : (l : List (Vec ℕ Global)) (k q : ℕ) (v : Vec ℕ Global) → q ≢ k → piece_at (items_in (slice_set l k v)) q ≡ piece_at (items_in l) q
-other_page [] k q v ne = refl
-other_page (x ∷ l) zero zero v ne = absurd (ne refl)
-other_page (x ∷ l) zero (suc q) v ne = refl
-other_page (x ∷ l) (suc k) zero v ne = refl
-other_page (x ∷ l) (suc k) (suc q) v ne = other_page l k q v (λ e. ne (ap suc e))
 
 -- a record behind the page of its port
 pub adds_record : (s : Sent) (l : List (Vec ℕ Global)) (k : ℕ) (v w : Vec ℕ Global) → s.port ≡ k + 1 → k < length l → w ≡ get_or l k w → v.items ≡ w.items ++ sent_bytes s → Adds (s ∷ []) (items_in l) (items_in (slice_set l k v))
@@ -103,29 +74,6 @@ take_next (y ∷ xs) (suc i) x e = ap (λ (n : ℕ). take n (y ∷ xs)) (let s :
 pub map_next : {X Y : Type 0} (f : X → Y) (l : List X) (x : X) → map f (l ++ x ∷ []) ≡ map f l ++ f x ∷ []
 map_next f [] x = refl
 map_next f (y ∷ l) x = ap (λ m. f y ∷ m) (map_next f l x)
-
--- new pages, and pages that were emptied
-pub pushed_page : (l : List (Vec ℕ Global)) (v : Vec ℕ Global) → items_in (l ++ v ∷ []) ≡ items_in l ++ v.items ∷ []
-pushed_page [] v = refl
-pushed_page (x ∷ l) v = ap (λ m. x.items ∷ m) (pushed_page l v)
-
-pub no_page : (l : List (Vec ℕ Global)) (q : ℕ) → length l ≤ q → piece_at (items_in l) q ≡ []
-no_page [] q le = refl
-no_page (x ∷ l) zero le = absurd (omega (arith, le))
-no_page (x ∷ l) (suc q) le = no_page l q (omega (arith, le))
-
-pub page_of : (x : List ℕ) (n q : ℕ) → q < n → piece_at (replicate n x) q ≡ x
-page_of x zero q lt = absurd (omega (arith, lt))
-page_of x (suc n) zero lt = refl
-page_of x (suc n) (suc q) lt = page_of x n q (omega (arith, lt))
-
-pub length-pages : (x : List ℕ) (n : ℕ) → length (replicate n x) ≡ n
-length-pages x zero = refl
-length-pages x (suc n) = ap suc (length-pages x n)
-
-pub one_page : (n : ℕ) (x : List ℕ) → replicate n x ++ x ∷ [] ≡ replicate (n + 1) x
-one_page zero x = refl
-one_page (suc n) x = ap (λ l. x ∷ l) (one_page n x) ∙ ap (λ (m : ℕ). replicate m x) (let e : suc (n + 1) ≡ suc n + 1 = omega arith in e)
 
 -- ---- what is sent, one after another
 

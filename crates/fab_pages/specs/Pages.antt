@@ -1,19 +1,9 @@
 -- Pages: for each port, from the first on, the bytes that its output grows by next.
-use Rattle.std.specs.Prelude.{◌≡◌, ℕ, zero, suc, ◌+◌, ◌<◌, ◌^◌, List, [], ◌∷◌, ◌++◌, length, map, Vec}
-use Rattle.std.specs.declared.alloc.Global.{Global}
+use Rattle.std.specs.Prelude.{◌≡◌, ℕ, ◌+◌, ◌<◌, ◌^◌, List, [], ◌∷◌, ◌++◌, length}
 use Rattle.fab_policy.specs.Growing.{records_to}
 use Rattle.fab_policy.specs.Outputs.{Sent}
+pub use Rattle.run_files.specs.Pages.{items_in, piece_at}
 use Rattle.fab_replies.specs.declared.message.Out.{Out}
-
--- the bytes of each page
-abbrev pub items_in : List (Vec ℕ Global) → List (List ℕ)
-items_in pages = map (λ v. v.items) pages
-
--- the piece at a place, and nothing past the last
-abbrev pub piece_at : List (List ℕ) → ℕ → List ℕ
-piece_at [] q = []
-piece_at (x ∷ xs) zero = x
-piece_at (x ∷ xs) (suc q) = piece_at xs q
 
 -- the moments of frames that are sent can be written
 abbrev pub AreEarly : List Out → Type 0

@@ -6,4 +6,5 @@ mod encoders;
 mod pages;
 
 pub use encoders::write_records_at_once;
-pub use pages::{clear_all, head_records, write_records};
+pub use pages::write_records;
+pub use run_files::{clear_all, head_records};

@@ -1,44 +1,20 @@
 //! Pages: for each port the bytes that its output grows by next.
-ghost use Rattle.std.specs.Prelude.{◌≡◌, ℕ, ◌+◌, ◌-◌, ◌<◌, ◌≤◌, ◌^◌, ◌++◌, ◌∷◌, [], length, map, replicate, take, drop, IfOk, OnOk, OnErr, IsTrue};
+ghost use Rattle.std.specs.Prelude.{◌≡◌, ◌+◌, ◌-◌, ◌<◌, ◌≤◌, ◌^◌, ◌++◌, ◌∷◌, [], length, map, take, drop, OnOk, OnErr, IsTrue};
 ghost use Rattle.fab_base.specs.Layout.{spelled_low};
-ghost use Rattle.pcap_file.specs.Capture.{head_bytes, record_bytes};
+ghost use Rattle.pcap_file.specs.Capture.{record_bytes};
 ghost use Rattle.fab_policy.specs.Text.{sent_bytes};
 ghost use Rattle.fab_replies.specs.Message.{can_send, sent_of};
-ghost use Rattle.fab_pages.specs.Pages.{Adds, AreEarly, GoOn, GoesOn, items_in, piece_at};
+ghost use Rattle.fab_pages.specs.Pages.{Adds, AreEarly, GoOn, GoesOn, items_in};
 
 use crate::cuts::{cut_all, lengths_of};
 use fab_base::{Moment, NoMemory};
 use fab_config::Config;
 use forward_core::{Drained, EventList, Out, write_out};
-use pcap_file::{LAST_SECOND, RECORD_HEAD, write_head};
+use pcap_file::{LAST_SECOND, RECORD_HEAD};
 use std::alloc::Global;
 
 /// Where the first of the two lengths of a record stands in it.
 const LENGTH_AT: usize = 8;
-
-/// A page for each of so many ports, with the head of a capture.
-pub fn head_records(alloc: Global, ports: usize) -> Result<Vec<Vec<u8>>, NoMemory>
-    ensures heads { IfOk result (λ v. items_in v.items ≡ replicate ports head_bytes) }
-    ensures count { IfOk result (λ v. length v.items ≡ ports) }
-{
-    let mut records = Vec::new(alloc);
-    for _ in 0..ports {
-        let mut record = Vec::new(alloc);
-        write_head(alloc, &mut record)?;
-        records.push(record)?;
-    }
-    Ok(records)
-}
-
-/// Empties each page, whose room is used again.
-pub fn clear_all(pages: &mut [Vec<u8>])
-    ensures nothing { (q : ℕ) → piece_at (items_in pages.new) q ≡ [] }
-    ensures count { length pages.new ≡ length pages.old }
-{
-    for page in pages.iter_mut() {
-        page.clear();
-    }
-}
 
 /// Appends the record of each frame that is sent to the page of its port, pages being in port
 /// order. A frame's bytes are copied once, from its entry into the page. Where memory is refused
