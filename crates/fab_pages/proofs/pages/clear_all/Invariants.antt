@@ -1,6 +1,0 @@
-use Rattle.std.proofs.Common.{◌≡◌, ℕ, ◌<◌, []}
-use Rattle.fab_pages.specs.Pages.{items_in, piece_at}
-use Rattle.fab_pages.proofs.pages.clear_all.Given as goal
-
-abbrev pub invariant-loop-page : goal.invariant-loop-page
-invariant-loop-page l = (q : ℕ) → q < l.page-index → piece_at (items_in l.pages) q ≡ []
