@@ -8,8 +8,10 @@ use crate::words::{
     CaseFault, address, has_word, hexadecimal, moment, name, name_at, octet, small,
 };
 use case_lines::word_at;
-use fab_base::{Bytes, FcId, NoMemory, OwnedList, Wwn};
-use fab_config::{Activation, ActivationList, SetList, Zone, ZoneList, ZoneSet};
+use fab_base::{Bytes, FcId, NoMemory, Wwn};
+use fab_config::{
+    Activation, ActivationList, NameList, PlaceList, SetList, Zone, ZoneList, ZoneSet,
+};
 use state_change::Watchers;
 use std::alloc::Global;
 use zone_rules::Zones;
@@ -96,34 +98,42 @@ impl Zoning {
 
 // `zone NAME MEMBER..`.
 fn zone(alloc: Global, line: &[u8]) -> Result<Zone, CaseFault> {
-    let members = listed(alloc, line, |place: usize| name(line, place))?;
+    let members = members(alloc, line)?;
     let name = Bytes::copy(alloc, word_at(line, 2))?;
     Ok(Zone { name, members })
 }
 
+fn members(alloc: Global, line: &[u8]) -> Result<NameList, CaseFault> {
+    let mut members = NameList::new(alloc)?;
+    for place in 3..first_empty(line) {
+        members.push(alloc, name(line, place)?)?;
+    }
+    Ok(members)
+}
+
 // `set NAME PLACE..`.
 fn set(alloc: Global, line: &[u8]) -> Result<ZoneSet, CaseFault> {
-    let places = listed(alloc, line, |place: usize| small(line, place))?;
+    let places = places(alloc, line)?;
     let name = Bytes::copy(alloc, word_at(line, 2))?;
     Ok(ZoneSet { name, places })
 }
 
-// What a line lists from its fourth word on.
-fn listed<T: Drop, F: Fn(usize) -> Result<T, CaseFault>>(
-    alloc: Global,
-    line: &[u8],
-    read: F,
-) -> Result<OwnedList<T>, CaseFault>
-    requires { F.IsAlwaysCallable read }
-{
-    let mut list = OwnedList::new(alloc)?;
+fn places(alloc: Global, line: &[u8]) -> Result<PlaceList, CaseFault> {
+    let mut places = PlaceList::new(alloc)?;
+    for place in 3..first_empty(line) {
+        places.push(alloc, small(line, place)?)?;
+    }
+    Ok(places)
+}
+
+// The first place from 3 on at which a line has no word.
+fn first_empty(line: &[u8]) -> usize {
     for place in 3..1000 {
         if !has_word(line, place) {
-            break;
+            return place;
         }
-        list.push(alloc, read(place)?)?;
     }
-    Ok(list)
+    1000
 }
 
 // `activation PLACE AT`.
