@@ -51,7 +51,7 @@ struct Given<'a> {
 }
 
 // The limits and the bytes of a fetch are in the line.
-fn given<'a>(line: &[u8], bytes: &'a [u8]) -> Given<'a> {
+fn file_in<'a>(line: &[u8], bytes: &'a [u8]) -> Given<'a> {
     let step = number_of(word_at(line, 2)).unwrap_or(5000) as usize;
     Given {
         depot: OpenFiles::one(bytes, step),
@@ -69,7 +69,7 @@ pub(crate) fn all(
     bytes: &[u8],
     out: &mut Vec<u8>,
 ) -> Result<(), AllocError> {
-    let mut given = given(line, bytes);
+    let mut given = file_in(line, bytes);
     match word_at(line, 0) {
         b"pcap" => pcap(alloc, &mut given, out)?,
         _ => pcapng(alloc, &mut given, out)?,
