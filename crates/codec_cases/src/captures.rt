@@ -43,47 +43,61 @@ pub(crate) fn head(alloc: Global, bytes: &[u8], out: &mut Vec<u8>) -> Result<(),
     }
 }
 
-fn budget_of(line: &[u8]) -> Budget {
-    Budget {
-        bytes: number_of(word_at(line, 3)).unwrap_or(0),
-        frames: number_of(word_at(line, 4)).unwrap_or(0),
+// A file, and the limits within which it is read.
+#[derive(Drop)]
+struct Given<'a> {
+    depot: OpenFiles<'a>,
+    budget: Budget,
+}
+
+// The limits and the bytes of a fetch are in the line.
+fn file_in<'a>(line: &[u8], bytes: &'a [u8]) -> Given<'a> {
+    let step = number_of(word_at(line, 2)).unwrap_or(5000) as usize;
+    Given {
+        depot: OpenFiles::one(bytes, step),
+        budget: Budget {
+            bytes: number_of(word_at(line, 3)).unwrap_or(0),
+            frames: number_of(word_at(line, 4)).unwrap_or(0),
+        },
     }
 }
 
-fn step_of(line: &[u8]) -> usize {
-    number_of(word_at(line, 2)).unwrap_or(5000) as usize
-}
-
-/// Each record of a capture, and how it ends. After a fault the reader is asked once more.
-pub(crate) fn pcap(
+/// Each record of a capture, or each packet of a file, and what is left of the limits.
+pub(crate) fn all(
     alloc: Global,
     line: &[u8],
     bytes: &[u8],
     out: &mut Vec<u8>,
 ) -> Result<(), AllocError> {
-    let mut depot = OpenFiles::one(bytes, step_of(line));
-    let mut budget = budget_of(line);
-    match Reader::open(&mut depot, 0, &mut budget) {
-        Ok(mut reader) => say_records(alloc, &mut reader, &mut depot, &mut budget, out)?,
-        Err(why) => keys::fault(alloc, out, why)?,
+    let mut given = file_in(line, bytes);
+    match word_at(line, 0) {
+        b"pcap" => pcap(alloc, &mut given, out)?,
+        _ => pcapng(alloc, &mut given, out)?,
     }
-    say_rest(&depot, &budget, out)
+    say_rest(&given, out)
+}
+
+// Each record of a capture, and how it ends. After a fault the reader is asked once more.
+fn pcap(alloc: Global, given: &mut Given<'_>, out: &mut Vec<u8>) -> Result<(), AllocError> {
+    match Reader::open(&mut given.depot, 0, &mut given.budget) {
+        Ok(mut reader) => say_records(alloc, &mut reader, given, out),
+        Err(why) => keys::fault(alloc, out, why),
+    }
 }
 
 fn say_records(
     alloc: Global,
     reader: &mut Reader,
-    depot: &mut OpenFiles<'_>,
-    budget: &mut Budget,
+    given: &mut Given<'_>,
     out: &mut Vec<u8>,
 ) -> Result<(), AllocError> {
     for _ in 0..u64::MAX {
-        match reader.next(alloc, depot, 0, budget) {
+        match reader.next(alloc, &mut given.depot, 0, &mut given.budget) {
             Ok(Some(record)) => say_record(&record.moment, &record.caught, out)?,
             Ok(None) => return Ok(()),
             Err(why) => {
                 keys::fault(alloc, out, why)?;
-                return say_again(alloc, reader, depot, budget, out);
+                return say_again(alloc, reader, given, out);
             }
         }
     }
@@ -94,23 +108,19 @@ fn say_records(
 fn say_again(
     alloc: Global,
     reader: &mut Reader,
-    depot: &mut OpenFiles<'_>,
-    budget: &mut Budget,
+    given: &mut Given<'_>,
     out: &mut Vec<u8>,
 ) -> Result<(), AllocError> {
-    let before = depot.made();
-    match reader.next(alloc, depot, 0, budget) {
+    let before = given.depot.made();
+    match reader.next(alloc, &mut given.depot, 0, &mut given.budget) {
         Ok(_) => put(out, b"again: no fault\n")?,
         Err(why) => {
             put(out, b"again: ")?;
             keys::fault(alloc, out, why)?;
         }
     }
-    keys::number(
-        out,
-        b"fetches for it: ",
-        depot.made().saturating_sub(before),
-    )?;
+    let more = given.depot.made().saturating_sub(before);
+    keys::number(out, b"fetches for it: ", more)?;
     put(out, b"\n")
 }
 
@@ -121,30 +131,22 @@ fn say_record(moment: &Moment, caught: &Caught, out: &mut Vec<u8>) -> Result<(),
     put(out, b"\n")
 }
 
-fn say_rest(depot: &OpenFiles<'_>, budget: &Budget, out: &mut Vec<u8>) -> Result<(), AllocError> {
-    keys::number(out, b"left bytes=", budget.bytes)?;
-    keys::number(out, b" frames=", budget.frames)?;
-    keys::number(out, b" fetches=", depot.made())?;
+fn say_rest(given: &Given<'_>, out: &mut Vec<u8>) -> Result<(), AllocError> {
+    keys::number(out, b"left bytes=", given.budget.bytes)?;
+    keys::number(out, b" frames=", given.budget.frames)?;
+    keys::number(out, b" fetches=", given.depot.made())?;
     put(out, b"\n")
 }
 
-/// Each packet of a file, and what is left of the limits.
-pub(crate) fn pcapng(
-    alloc: Global,
-    line: &[u8],
-    bytes: &[u8],
-    out: &mut Vec<u8>,
-) -> Result<(), AllocError> {
-    let mut depot = OpenFiles::one(bytes, step_of(line));
-    let mut budget = budget_of(line);
-    match &read_ng(alloc, &mut depot, 0, &mut budget) {
+// Each packet of a file, and the file as a capture.
+fn pcapng(alloc: Global, given: &mut Given<'_>, out: &mut Vec<u8>) -> Result<(), AllocError> {
+    match &read_ng(alloc, &mut given.depot, 0, &mut given.budget) {
         Ok(records) => {
             say_packets(records, out)?;
-            say_classic(alloc, records, out)?;
+            say_classic(alloc, records, out)
         }
-        Err(why) => keys::fault(alloc, out, *why)?,
+        Err(why) => keys::fault(alloc, out, *why),
     }
-    say_rest(&depot, &budget, out)
 }
 
 fn say_packets(records: &NgRecords, out: &mut Vec<u8>) -> Result<(), AllocError> {

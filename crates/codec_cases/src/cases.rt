@@ -113,8 +113,7 @@ fn call(alloc: Global, line: &[u8], held: &[u8], out: &mut Vec<u8>) -> Result<()
 fn call_more(alloc: Global, line: &[u8], held: &[u8], out: &mut Vec<u8>) -> Result<(), AllocError> {
     match word_at(line, 0) {
         b"pcap-head" => captures::head(alloc, held, out),
-        b"pcap" => captures::pcap(alloc, line, held, out),
-        b"pcapng" => captures::pcapng(alloc, line, held, out),
+        b"pcap" | b"pcapng" => captures::all(alloc, line, held, out),
         b"frame" => frames::whole(alloc, held, out),
         b"pieces" => frames::cut(alloc, line, out),
         b"tell" => tell::tell(alloc, line, out),

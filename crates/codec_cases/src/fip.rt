@@ -38,22 +38,12 @@ fn say(message: &FipMessage<'_>, out: &mut Vec<u8>) -> Result<(), AllocError> {
             keys::number(out, b" size=", u64::from(*size))
         }
         Message::Advertise { .. } => say_advertise(message, out),
-        Message::Login {
-            kind,
-            fp,
-            frame,
-            mac,
-        } => {
-            say_login(b" request", *kind, *fp, frame, out)?;
+        Message::Login { mac, .. } => {
+            say_login(b" request", message, out)?;
             keys::mac(out, b" mac=", mac)
         }
-        Message::LoginReply {
-            kind,
-            fp,
-            frame,
-            mac,
-        } => {
-            say_login(b" reply", *kind, *fp, frame, out)?;
+        Message::LoginReply { mac, .. } => {
+            say_login(b" reply", message, out)?;
             say_granted(mac, out)
         }
         Message::Keep { mac, port } => {
@@ -84,25 +74,36 @@ fn say(message: &FipMessage<'_>, out: &mut Vec<u8>) -> Result<(), AllocError> {
 }
 
 fn say_advertise(message: &FipMessage<'_>, out: &mut Vec<u8>) -> Result<(), AllocError> {
+    put(out, b"advertise")?;
+    if let Message::Advertise {
+        solicited,
+        available,
+        from_fcf,
+        fp,
+        ..
+    } = message
+    {
+        keys::flag(out, b" solicited=", *solicited)?;
+        keys::flag(out, b" available=", *available)?;
+        keys::flag(out, b" from-fcf=", *from_fcf)?;
+        keys::flag(out, b" fp=", *fp)?;
+    }
+    say_fcf(message, out)
+}
+
+// The descriptors of an advertisement.
+fn say_fcf(message: &FipMessage<'_>, out: &mut Vec<u8>) -> Result<(), AllocError> {
     match message {
         Message::Advertise {
-            solicited,
-            available,
-            from_fcf,
-            fp,
-            priority,
             mac,
             switch,
             map,
             fabric,
+            priority,
             quiet,
             period,
+            ..
         } => {
-            put(out, b"advertise")?;
-            keys::flag(out, b" solicited=", *solicited)?;
-            keys::flag(out, b" available=", *available)?;
-            keys::flag(out, b" from-fcf=", *from_fcf)?;
-            keys::flag(out, b" fp=", *fp)?;
             keys::number(out, b" priority=", u64::from(*priority))?;
             keys::mac(out, b" mac=", mac)?;
             keys::name(out, b" switch=", switch)?;
@@ -115,13 +116,33 @@ fn say_advertise(message: &FipMessage<'_>, out: &mut Vec<u8>) -> Result<(), Allo
     }
 }
 
+// The kind of a login, its flag FP and its frame, of a request and of a reply.
+fn login_in<'a>(message: &FipMessage<'a>) -> Option<(LoginKind, bool, &'a [u8])> {
+    match message {
+        Message::Login {
+            kind,
+            fp,
+            frame,
+            ..
+        }
+        | Message::LoginReply {
+            kind,
+            fp,
+            frame,
+            ..
+        } => { Some((*kind, *fp, *frame)) }
+        _ => None,
+    }
+}
+
 fn say_login(
     direction: &[u8],
-    kind: LoginKind,
-    fp: bool,
-    frame: &[u8],
+    message: &FipMessage<'_>,
     out: &mut Vec<u8>,
 ) -> Result<(), AllocError> {
+    let Some((kind, fp, frame)) = login_in(message) else {
+        return Ok(());
+    };
     put(out, kind_text(kind))?;
     put(out, direction)?;
     keys::flag(out, b" fp=", fp)?;
@@ -178,9 +199,9 @@ fn write(alloc: Global, message: &FipMessage<'_>, made: &mut Vec<u8>) -> Result<
         Message::Solicit {
             from_fcf,
             fp,
+            size,
             mac,
             node,
-            size,
         } => {
             let again = FipOut::Solicit {
                 from_fcf: *from_fcf,
@@ -192,40 +213,7 @@ fn write(alloc: Global, message: &FipMessage<'_>, made: &mut Vec<u8>) -> Result<
             write_fip(alloc, &again, made)
         }
         Message::Advertise { .. } => write_advertise(alloc, message, made),
-        Message::Login {
-            kind,
-            fp,
-            frame,
-            mac,
-        } => {
-            if !is_frame(frame) {
-                return Ok(());
-            }
-            let again = FipOut::Login {
-                kind: *kind,
-                fp: *fp,
-                frame,
-                mac: *mac,
-            };
-            write_fip(alloc, &again, made)
-        }
-        Message::LoginReply {
-            kind,
-            fp,
-            frame,
-            mac,
-        } => {
-            if !is_frame(frame) {
-                return Ok(());
-            }
-            let again = FipOut::LoginReply {
-                kind: *kind,
-                fp: *fp,
-                frame,
-                mac: *mac,
-            };
-            write_fip(alloc, &again, made)
-        }
+        Message::Login { .. } | Message::LoginReply { .. } => write_login(alloc, message, made),
         Message::Keep { mac, port } => {
             write_fip(
                 alloc,
@@ -251,6 +239,48 @@ fn write(alloc: Global, message: &FipMessage<'_>, made: &mut Vec<u8>) -> Result<
     }
 }
 
+fn write_login(
+    alloc: Global,
+    message: &FipMessage<'_>,
+    made: &mut Vec<u8>,
+) -> Result<(), NoMemory> {
+    let Some((kind, fp, frame)) = login_in(message) else {
+        return Ok(());
+    };
+    if !is_frame(frame) {
+        return Ok(());
+    }
+    match message {
+        Message::Login { mac, .. } => {
+            let mac = *mac;
+            write_fip(
+                alloc,
+                &FipOut::Login {
+                    kind,
+                    fp,
+                    frame,
+                    mac,
+                },
+                made,
+            )
+        }
+        Message::LoginReply { mac, .. } => {
+            let mac = *mac;
+            write_fip(
+                alloc,
+                &FipOut::LoginReply {
+                    kind,
+                    fp,
+                    frame,
+                    mac,
+                },
+                made,
+            )
+        }
+        _ => Ok(()),
+    }
+}
+
 fn is_frame(frame: &[u8]) -> bool
     ensures { result ≡ true → (length frame.now % 4 ≡ 0) × (24 ≤ length frame.now)
         × (length frame.now ≤ 1016) }
@@ -269,13 +299,13 @@ fn write_advertise(
             available,
             from_fcf,
             fp,
+            quiet,
             priority,
+            period,
             mac,
             switch,
             map,
             fabric,
-            quiet,
-            period,
         } => {
             if *map > 0xff_ffff {
                 return Ok(());

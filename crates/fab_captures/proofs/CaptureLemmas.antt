@@ -15,7 +15,7 @@ use Rattle.pcap_file.specs.declared.CapOpen.TheVariants as opens
 use Rattle.pcap_file.specs.declared.CapError.TheVariants as errors
 use Rattle.pcap_file.specs.declared.Record.{Record}
 use Rattle.pcap_file.specs.Capture.{RECORD_HEAD, next, head_decoded}
-use Rattle.pcap_file.specs.Reading.{Reading, to_come, Step, Gives, Ends, Stops, step_of, Says, NextReads, OpensReader, standing as reader_stand}
+use Rattle.pcap_file.specs.Reading.{Reading, to_come, Step, Gives, Ends, Stops, step_of, Says, NextReads, OpensReader, reader_stand}
 use Rattle.pcap_file.specs.Records.{Ascends}
 use Rattle.pcap_file.proofs.lemmas.Steps.{gives_found}
 use Rattle.pcap_file.proofs.lemmas.Chains.{found_stands, last-push, ascends-push}

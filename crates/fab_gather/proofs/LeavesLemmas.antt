@@ -5,7 +5,7 @@ use Rattle.std.proofs.lemmas.List.{append-nil}
 use Rattle.fab_base.specs.Seen.{Seen}
 use Rattle.fab_config.specs.Settings.{Settings}
 use Rattle.pcap_file.specs.Capture.{next}
-use Rattle.pcap_file.specs.Reading.{Reading, to_come, KeepsError, NextReads, standing as reader_stand}
+use Rattle.pcap_file.specs.Reading.{Reading, to_come, KeepsError, NextReads, reader_stand}
 use Rattle.pcap_file.specs.Records.{Chain, last_moment}
 use Rattle.pcap_file.specs.declared.Budget.{Budget}
 use Rattle.pcap_file.specs.declared.CapError.{CapError}

@@ -62,7 +62,7 @@ pub record WholeRead (s limit : ℕ) (old new : Seen) (result : Result (Vec ℕ 
   pub counts : CountsWhole old new result
 
 -- what an error of reading a file whole is
-abbrev pub unread_by : WholeError → OldError
-unread_by wholes.Bytes = errors.Bytes
-unread_by (wholes.Read failed) = errors.Read failed
-unread_by wholes.Memory = errors.Memory
+abbrev pub old_error_of : WholeError → OldError
+old_error_of wholes.Bytes = errors.Bytes
+old_error_of (wholes.Read failed) = errors.Read failed
+old_error_of wholes.Memory = errors.Memory

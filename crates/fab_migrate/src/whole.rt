@@ -1,6 +1,6 @@
 //! A file that is read whole.
 ghost use Rattle.std.specs.Prelude.{◌≡◌, ◌≤◌, length, IsTrue, IfOk};
-ghost use Rattle.fab_migrate.specs.OldWords.{WholeRead, unread_by};
+ghost use Rattle.fab_migrate.specs.OldWords.{WholeRead, old_error_of};
 
 use crate::old::OldError;
 use fab_base::{Depot, WholeError};
@@ -19,13 +19,13 @@ pub fn read_whole<D: Depot>(
 {
     match fab_base::read_whole(alloc, depot, slot, limit) {
         Ok(whole) => Ok(whole),
-        Err(error) => Err(unread(error)),
+        Err(error) => Err(old_error_of(error)),
     }
 }
 
 // Why a file that isn't read whole isn't migrated.
-fn unread(error: WholeError) -> OldError
-    ensures { result ≡ unread_by error }
+fn old_error_of(error: WholeError) -> OldError
+    ensures { result ≡ old_error_of error }
 {
     match error {
         WholeError::Bytes => OldError::Bytes,

@@ -1,14 +1,16 @@
 -- Pages in front of which stands what they had.
-use Rattle.std.proofs.Common.{◌≡◌, ◌≢◌, ℕ, zero, suc, ◌+◌, ◌<◌, ◌≤◌, ◌⊎◌, inl, inr, Bool, true, false, cond, eqb, List, [], ◌∷◌, ◌++◌, length, map, take, get_or, refl, sym, ap, ◌∙◌, subst, arith, append_assoc, append-nil}
+use Rattle.std.proofs.Common.{◌≡◌, ◌≢◌, ℕ, zero, suc, ◌+◌, ◌<◌, ◌≤◌, ◌⊎◌, inl, inr, Bool, true, false, cond, eqb, List, [], ◌∷◌, ◌++◌, length, map, take, drop, get_or, refl, sym, ap, ◌∙◌, subst, arith, append_assoc, append-nil}
 use Rattle.std.specs.Prelude.{Vec, slice_set, Result, Ok, Err, OnErr, is_err}
 use Rattle.std.specs.declared.alloc.Global.{Global}
 use Rattle.pcap_file.proofs.lemmas.Numbers.{le_or_lt}
 use Rattle.fab_policy.specs.Outputs.{Sent}
 use Rattle.fab_replies.specs.declared.message.Out.{Out}
-use Rattle.fab_pages.specs.Pages.{GoOn, GoesOn, items_in, piece_at}
+use Rattle.run_files.specs.Pages.{items_in, piece_at}
+use Rattle.fab_pages.specs.Pages.{Adds, GoOn, GoesOn}
 use Rattle.fab_pages.specs.declared.encoders.Encoder.{Encoder}
-use Rattle.fab_pages.specs.Encoders.{AreOut, IsEncoded, page_in}
-use Rattle.fab_pages.proofs.PageLemmas.{front_of, length_set, other_page, piece-item, set_page}
+use Rattle.fab_pages.specs.Encoders.{AreBelow, AreOut, IsEncoded, NoneRefused, page_in}
+use Rattle.fab_pages.proofs.PageLemmas.{front_of, length-items, length_set, other_page, piece-item, same_or, set_page}
+use Rattle.fab_pages.proofs.EncoderLemmas.{adds_all, below_encoded, lent}
 
 pub goes_same : (old new : List ℕ) → new ≡ old → GoesOn old new
 goes_same old new same = ([], same ∙ sym (append-nil old))
@@ -24,12 +26,6 @@ go_trans a b c h k = record {
   count = k.count ∙ h.count;
   pages = λ q lt. goes_trans (piece_at a q) (piece_at b q) (piece_at c q) (h.pages q lt) (k.pages q (subst (λ (n : ℕ). q < n) (sym h.count) lt));
 }
-
-same_or : (a b : ℕ) → (a ≡ b) ⊎ (a ≢ b)
-same_or a b = elim (le_or_lt a b) [
-  | inl le ↦ elim (le_or_lt b a) [ inl ge ↦ inl (omega (arith, le, ge)) | inr lt ↦ inr (λ e. absurd (omega (arith, e, lt))) ]
-  | inr gt ↦ inr (λ e. absurd (omega (arith, e, gt)))
-]
 
 -- one page goes on
 pub go_page : (l : List (Vec ℕ Global)) (k : ℕ) (v w : Vec ℕ Global) → k < length l → w ≡ get_or l k w → GoesOn w.items v.items → GoOn (items_in l) (items_in (slice_set l k v))
@@ -129,3 +125,40 @@ all_fronts sents outs es more old between new out len each same count back = rec
       let on = fronts_in sents q es more (piece_at between q) len each in
       (on.0, back q (subst (λ (n : ℕ). q < n) (sym same) lt) ∙ on.1 ∙ ap (λ l. l ++ on.0) (out.pages q lt));
 }
+
+-- The encoders' list is lent as a slice, each encoder does its work there, and their pages come back.
+module _ (f : Out → Sent) (ports : (o : Out) → (f o).port ≡ o.port) (outs : List Out) (slice old new : List Encoder) (n : ℕ) (before between : List (Vec ℕ Global)) (same : slice ≡ old) (count : length new ≡ length slice) (each : (k : ℕ) (x : Encoder) → k < length slice → IsEncoded (map f outs) (get_or slice k x) (get_or new k x)) (all : n ≡ length old) (out : AreOut (length before) outs old (items_in before) (items_in between)) (taken : length between ≡ length before) where
+  -- the encoders of the list again
+  abbrev here : List Encoder
+  here = take n (new ++ drop (length new) old)
+
+  back : here ≡ new
+  back = lent old new n all (count ∙ ap (λ (es : List Encoder). length es) same)
+
+  out_of : AreOut (length (items_in before)) outs slice (items_in before) (items_in between)
+  out_of =
+      subst (λ (es : List Encoder). AreOut (length (items_in before)) outs es (items_in before) (items_in between)) (sym same)
+      (subst (λ (m : ℕ). AreOut m outs old (items_in before) (items_in between)) (sym (length-items before)) out)
+
+  pub within_back : AreBelow (length between) here
+  within_back =
+      subst (AreBelow (length between)) (sym back)
+      (below_encoded (length between) (map f outs) slice new count each (subst (AreBelow (length between)) (sym same) (subst (λ (m : ℕ). AreBelow m old) (sym taken) out.within)))
+
+  module _ (after : List (Vec ℕ Global)) (put : length after ≡ length between) (pages : (q : ℕ) → q < length between → piece_at (items_in after) q ≡ page_in q here (piece_at (items_in between) q)) where
+    put_items : length (items_in after) ≡ length (items_in between)
+    put_items = length-items after ∙ put ∙ sym (length-items between)
+
+    taken_items : length (items_in between) ≡ length (items_in before)
+    taken_items = length-items between ∙ taken ∙ sym (length-items before)
+
+    page_back : (q : ℕ) → q < length (items_in between) → piece_at (items_in after) q ≡ page_in q new (piece_at (items_in between) q)
+    page_back q lt =
+        subst (λ (es : List Encoder). piece_at (items_in after) q ≡ page_in q es (piece_at (items_in between) q)) back (pages q (subst (λ (m : ℕ). q < m) (length-items between) lt))
+
+    pub adds_back : NoneRefused here → Adds (map f outs) (items_in before) (items_in after)
+    adds_back none =
+        adds_all f ports outs slice new (items_in before) (items_in between) (items_in after) out_of count each (subst NoneRefused back none) taken_items put_items page_back
+
+    pub fronts_back : GoOn (items_in before) (items_in after)
+    fronts_back = all_fronts (map f outs) outs slice new (items_in before) (items_in between) (items_in after) out_of count each taken_items put_items page_back

@@ -46,11 +46,17 @@ adds_nowhere s pages lt = record {
   pages = λ q within. sym (ap (λ l. piece_at pages q ++ l) (other_record (q + 1) s (λ e. absurd (omega (arith, e, lt, within)))) ∙ append-nil (piece_at pages q));
 }
 
+pub same_or : (a b : ℕ) → (a ≡ b) ⊎ (a ≢ b)
+same_or a b = elim (le_or_lt a b) [
+  | inl le ↦ elim (le_or_lt b a) [ inl ge ↦ inl (omega (arith, le, ge)) | inr lt ↦ inr (λ e. absurd (omega (arith, e, lt))) ]
+  | inr gt ↦ inr (λ e. absurd (omega (arith, e, gt)))
+]
+
 -- a record behind the page of its port
 pub adds_record : (s : Sent) (l : List (Vec ℕ Global)) (k : ℕ) (v w : Vec ℕ Global) → s.port ≡ k + 1 → k < length l → w ≡ get_or l k w → v.items ≡ w.items ++ sent_bytes s → Adds (s ∷ []) (items_in l) (items_in (slice_set l k v))
 adds_record s l k v w port lt is e = record {
   count = length_set l k v;
-  pages = λ q within. elim (cases_eq q k) [
+  pages = λ q within. elim (same_or q k) [
     | inl same ↦ subst (λ (x : ℕ). piece_at (items_in (slice_set l k v)) x ≡ piece_at (items_in l) x ++ records_to (x + 1) (s ∷ [])) (sym same)
         (own_page l k v w (sent_bytes s) lt is e ∙ ap (λ x. piece_at (items_in l) k ++ x) (sym (own_record (k + 1) s port)))
     | inr differ ↦
@@ -58,12 +64,6 @@ adds_record s l k v w port lt is e = record {
         ∙ sym (ap (λ x. piece_at (items_in l) q ++ x) (other_record (q + 1) s (λ f. absurd (differ (omega (arith, f, port))))) ∙ append-nil (piece_at (items_in l) q))
   ];
 }
-  where
-    cases_eq : (a b : ℕ) → (a ≡ b) ⊎ (a ≢ b)
-    cases_eq a b = elim (le_or_lt a b) [
-      | inl le ↦ elim (le_or_lt b a) [ inl ge ↦ inl (omega (arith, le, ge)) | inr lt' ↦ inr (λ e'. absurd (omega (arith, e', lt'))) ]
-      | inr gt ↦ inr (λ e'. absurd (omega (arith, e', gt)))
-    ]
 
 -- one item further
 pub take_next : {X : Type 0} (xs : List X) (i : ℕ) (x : X) → slice_get xs i ≡ Some x → take (i + 1) xs ≡ take i xs ++ x ∷ []

@@ -7,25 +7,11 @@ use Rattle.fab_config.specs.Settings.{Settings, is_in_range, is_zone_name, same_
 use Rattle.fab_config.specs.declared.Zone.{Zone}
 use Rattle.fab_config.specs.declared.ZoneSet.{ZoneSet}
 use Rattle.fab_config.specs.declared.Activation.{Activation}
-use Rattle.fab_vectors.specs.Names.{FORWARDER}
 use Rattle.fab_vectors.specs.Settings.{members, zones, settings}
 
+-- the settings of a load with other lists
 abbrev pub with_lists : List Zone → List ZoneSet → List Activation → Settings
-with_lists zs sets activations = record {
-  switch = 0x100000051e000002;
-  fcf_mac = FORWARDER;
-  fc_map = 0x0efc00;
-  vlan = 100;
-  domain = 1;
-  pool = 256;
-  priority = 128;
-  period = 8000;
-  window = 100;
-  limit = 240;
-  zones = zs;
-  sets = sets;
-  activations = activations;
-}
+with_lists zs sets activations = record settings { zones = zs; sets = sets; activations = activations }
 
 all_of : (a b c d : Bool) → a ≡ true → b ≡ true → c ≡ true → d ≡ true → (a && b && c && d) ≡ true
 all_of true true true true p q r s = refl

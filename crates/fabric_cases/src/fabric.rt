@@ -8,6 +8,7 @@ use fab_replay::write_shown;
 use forward_core::{Drained, EventList, Fabric, Out, StepFault, write_out};
 use frame_cases::{caught, config_of};
 use std::alloc::Global;
+use table_cases::held::{open, open_in};
 use table_cases::logins::said;
 use table_cases::say::{end, end_address, end_hex, end_moment, end_number, say, say_when};
 use table_cases::words::{
@@ -23,13 +24,9 @@ pub(crate) fn fabric_call(
     out: &mut Vec<u8>,
 ) -> Result<(), CaseFault> {
     if name_at(line, 1) == "open" {
-        *held = Some(opened(alloc, text, small(line, 2)?)?);
-        return end(out, "open");
+        return open(held, opened(alloc, text, small(line, 2)?)?, out);
     }
-    match held {
-        Some(fabric) => asked(alloc, fabric, line, out),
-        None => Err(CaseFault::Closed),
-    }
+    asked(alloc, open_in(held)?, line, out)
 }
 
 fn opened(alloc: Global, text: &[u8], ports: u32) -> Result<Fabric, CaseFault> {

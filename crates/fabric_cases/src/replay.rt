@@ -17,14 +17,14 @@ pub(crate) fn compared_call(
     let found = hex(alloc, line, 1)?;
     let first = hex(alloc, line, 2)?;
     let second = hex(alloc, line, 3)?;
-    match compared(found.view(), first.view(), second.view()) {
+    match first_difference(found.view(), first.view(), second.view()) {
         Ok(Some(at)) => end_number(out, at),
         Ok(None) => end(out, "same"),
         Err(Failed) => Err(CaseFault::Refused),
     }
 }
 
-fn compared(found: &[u8], first: &[u8], second: &[u8]) -> Result<Option<u64>, Failed> {
+fn first_difference(found: &[u8], first: &[u8], second: &[u8]) -> Result<Option<u64>, Failed> {
     let mut depot = OpenFiles::one(found, 3);
     let mut output = Compared::new();
     output.feed(&mut depot, 0, first)?;

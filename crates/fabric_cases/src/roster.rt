@@ -9,12 +9,12 @@ use fab_base::{FcId, Moment, NoMemory, PortNo, Wwn};
 use fab_config::Config;
 use fab_judge::{Judged, judge};
 use fab_policy::{Verdict, hear, write_frame_line};
-use fab_roster::{Request, Roster};
+use fab_roster::{Login, Request, Roster};
 use frame_cases::{caught, config_of};
-use login_table::Login;
 use std::alloc::Global;
+use table_cases::held::{open, open_in};
 use table_cases::logins::{login_of, said};
-use table_cases::registry::{is_registration, said_refusal, told};
+use table_cases::registry::{end_answer, is_registration, said_refusal};
 use table_cases::say::{end, end_address, end_bool, end_number, say_number};
 use table_cases::words::{
     CaseFault, address, enode, hex, moment, name, name_at, octet, port, short,
@@ -42,13 +42,9 @@ pub(crate) fn roster_call(
     out: &mut Vec<u8>,
 ) -> Result<(), CaseFault> {
     if name_at(line, 1) == "open" {
-        *held = Some(opened(alloc, text)?);
-        return end(out, "open");
+        return open(held, opened(alloc, text)?, out);
     }
-    match held {
-        Some(roll) => roll.asked(alloc, line, out),
-        None => Err(CaseFault::Closed),
-    }
+    open_in(held)?.asked(alloc, line, out)
 }
 
 fn opened(alloc: Global, text: &[u8]) -> Result<Roll, CaseFault> {
@@ -216,7 +212,7 @@ impl Roll {
         let tell = self
             .roster
             .answer(alloc, &self.config, &self.zones, asker, &ask)?;
-        told(alloc, &tell, out)
+        end_answer(alloc, &tell, out)
     }
 }
 

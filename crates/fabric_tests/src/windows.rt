@@ -33,7 +33,7 @@ fn windows(
     first: Reader,
     second: Reader,
     budget: &mut Budget,
-) -> Result<Vec<Come>, RunFault>
+) -> Result<Vec<Come>, GatherFault>
     requires fresh { IsFresh first × IsFresh second }
     requires budget { (budget.old.bytes + 24 < 2 ^ 64) × (budget.old.frames < 2 ^ 64) }
 {
@@ -59,7 +59,7 @@ fn all_windows(
     ins: &mut [Input],
     shelves: &mut [Shelf],
     budget: &mut Budget,
-) -> Result<Vec<Come>, RunFault>
+) -> Result<Vec<Come>, GatherFault>
     requires count { length shelves.old ≡ length ins.old }
     requires ports { length ins.old ≤ 64 }
     requires slots { slots_of ins.old ≡ 0 ∷ 1 ∷ [] }
@@ -93,7 +93,7 @@ fn gathered(
     second: &[u8],
     fetches: u64,
     frames: u64,
-) -> Result<Result<Vec<Come>, RunFault>, Fail> {
+) -> Result<Result<Vec<Come>, GatherFault>, Fail> {
     let config = settings(alloc);
     let mut depot = OpenFiles {
         first,
@@ -137,14 +137,14 @@ fn the_first_stop_ends_all(rt: HostRuntime) -> Result<(), Fail> {
     let second = capture(alloc, &[50, 350])?;
     let cut = &second[..second.len().saturating_sub(1)];
     let early = gathered(alloc, &first, cut, 1000, 5)?.err();
-    let stop = RunFault::Capture {
+    let stop = GatherFault::Capture {
         port: PortNo::at(1),
         at: 41,
         why: CapWhy::Cut,
     };
     assert_eq!(rt; early, Some(stop));
     let few = gathered(alloc, &first, &second, 1000, 4)?.err();
-    assert_eq!(rt; few, Some(RunFault::Limit(LimitKind::Frames)));
+    assert_eq!(rt; few, Some(GatherFault::Limit(LimitKind::Frames)));
     Ok(())
 }
 
@@ -159,7 +159,7 @@ fn each_fetch_fails_in_turn(rt: HostRuntime) -> Result<(), Fail> {
                 assert!(rt; fetches > 10);
                 assert_eq!(rt; come.len(), 5);
             }
-            Err(fault) => assert_eq!(rt; fault, RunFault::Read),
+            Err(fault) => assert_eq!(rt; fault, GatherFault::Read),
         }
     }
     Ok(())

@@ -101,13 +101,13 @@ fn cleared(alloc: Global, line: &[u8], out: &mut Vec<u8>) -> Result<(), CaseFaul
     let enode = enode(line, 2)?;
     let now = moment(line, 5)?;
     let mut ports = Vec::new(alloc);
-    counted(small(line, 4)?, &mut ports)?;
+    append_ports(small(line, 4)?, &mut ports)?;
     let mut outs = OutList::empty(alloc);
     clear(alloc, now, &enode, ports.as_slice(), &mut outs)?;
     said_outs(&outs, out)
 }
 
-fn counted(count: u32, ports: &mut Vec<VxPort>) -> Result<(), CaseFault> {
+fn append_ports(count: u32, ports: &mut Vec<VxPort>) -> Result<(), CaseFault> {
     for number in 0..count {
         let low = number % 256;
         let Some(address) = FcId::new(0x010100 + low) else {

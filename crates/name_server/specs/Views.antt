@@ -3,7 +3,7 @@ use Rattle.std.specs.Prelude.{ℕ, ◌==◌, if◌then◌else◌, Bool, false, L
 use Rattle.ct_messages.specs.Ask.{Ask, PortNamesOfType, NodeNamesOfType}
 use Rattle.ct_messages.specs.Answer.{has_type}
 use Rattle.ct_messages.specs.Server as server
-use Rattle.name_server.specs.Registry.{Entry, entry_at, known_of}
+use Rattle.name_server.specs.Registry.{Entry, entry_at, known_of, AreEntered, SeenAscend}
 use Rattle.name_server.specs.Places.{is_of_type}
 use Rattle.name_server.specs.declared.lists.NameOf.{NameOf}
 use Rattle.name_server.specs.declared.lists.NameOf.TheVariants.{Port, Node}
@@ -27,6 +27,11 @@ typed_if kind (Some k) = if has_type k.values.types kind then Some k else None
 abbrev pub by_name_of : NameOf → ℕ → Ask
 by_name_of Port kind = PortNamesOfType kind
 by_name_of Node kind = NodeNamesOfType kind
+
+-- What an asker may see: N_Ports that are entered, in ascending order.
+pub record AreSeen (entries : List Entry) (seen : List SeenPort) : Type 0 where
+  pub entered : AreEntered entries seen
+  pub ascending : SeenAscend 0 seen
 
 -- ---- seen N_Ports by their index
 

@@ -4,8 +4,8 @@ ghost use Rattle.ct_messages.specs.Ask as asks;
 ghost use Rattle.ct_messages.specs.CanWrite.{CanTell};
 ghost use Rattle.ct_messages.specs.Server as server;
 ghost use Rattle.ct_messages.specs.declared.CtTell.TheVariants as tell;
-ghost use Rattle.name_server.specs.Registry.{AreEntered, SeenAscend, known};
-ghost use Rattle.name_server.specs.Views.{as_known, by_name_of};
+ghost use Rattle.name_server.specs.Registry.{known};
+ghost use Rattle.name_server.specs.Views.{AreSeen, as_known, by_name_of};
 
 use crate::lists::{NameOf, addresses_of_type, all_addresses, names_of_type};
 use crate::ports::{Known, by_address, by_name, next_to};
@@ -42,8 +42,7 @@ fn next_of(
     seen: &[SeenPort],
     address: FcId,
 ) -> Result<CtTell, NoMemory>
-    requires entered { AreEntered registry.now.entries seen.now }
-    requires ascending { SeenAscend 0 seen.now }
+    requires { AreSeen registry.now.entries seen.now }
     ensures answer { IfOk result (λ t. t ≡ server.answer (known registry.now.entries seen.now)
         (asks.NextOf address)) }
     ensures writable { IfOk result CanTell }
@@ -56,8 +55,7 @@ fn next_of(
 
 #[tactic(auto, unfolding(ct_messages::specs::Server::query))]
 fn port_name_of(registry: &Registry, seen: &[SeenPort], address: FcId) -> CtTell
-    requires entered { AreEntered registry.now.entries seen.now }
-    requires ascending { SeenAscend 0 seen.now }
+    requires { AreSeen registry.now.entries seen.now }
     ensures answer { result
         ≡ server.answer (known registry.now.entries seen.now) (asks.PortNameOf address) }
     ensures writable { CanTell result }
@@ -70,8 +68,7 @@ fn port_name_of(registry: &Registry, seen: &[SeenPort], address: FcId) -> CtTell
 
 #[tactic(auto, unfolding(ct_messages::specs::Server::query))]
 fn node_name_of(registry: &Registry, seen: &[SeenPort], address: FcId) -> CtTell
-    requires entered { AreEntered registry.now.entries seen.now }
-    requires ascending { SeenAscend 0 seen.now }
+    requires { AreSeen registry.now.entries seen.now }
     ensures answer { result
         ≡ server.answer (known registry.now.entries seen.now) (asks.NodeNameOf address) }
     ensures writable { CanTell result }
@@ -84,8 +81,7 @@ fn node_name_of(registry: &Registry, seen: &[SeenPort], address: FcId) -> CtTell
 
 #[tactic(auto, unfolding(ct_messages::specs::Server::query))]
 fn types_of(registry: &Registry, seen: &[SeenPort], address: FcId) -> CtTell
-    requires entered { AreEntered registry.now.entries seen.now }
-    requires ascending { SeenAscend 0 seen.now }
+    requires { AreSeen registry.now.entries seen.now }
     ensures answer { result
         ≡ server.answer (known registry.now.entries seen.now) (asks.TypesOf address) }
     ensures writable { CanTell result }
@@ -102,8 +98,7 @@ fn types_of(registry: &Registry, seen: &[SeenPort], address: FcId) -> CtTell
 
 #[tactic(auto, unfolding(ct_messages::specs::Server::query))]
 fn features_of(registry: &Registry, seen: &[SeenPort], address: FcId) -> CtTell
-    requires entered { AreEntered registry.now.entries seen.now }
-    requires ascending { SeenAscend 0 seen.now }
+    requires { AreSeen registry.now.entries seen.now }
     ensures answer { result
         ≡ server.answer (known registry.now.entries seen.now) (asks.FeaturesOf address) }
     ensures writable { CanTell result }
@@ -116,7 +111,7 @@ fn features_of(registry: &Registry, seen: &[SeenPort], address: FcId) -> CtTell
 
 #[tactic(auto, unfolding(ct_messages::specs::Server::query))]
 fn address_of(registry: &Registry, seen: &[SeenPort], name: Wwn) -> CtTell
-    requires entered { AreEntered registry.now.entries seen.now }
+    requires { AreSeen registry.now.entries seen.now }
     ensures answer { result
         ≡ server.answer (known registry.now.entries seen.now) (asks.ByPortName name) }
     ensures writable { CanTell result }
@@ -134,8 +129,7 @@ fn of_type(
     seen: &[SeenPort],
     kind: u8,
 ) -> Result<CtTell, NoMemory>
-    requires entered { AreEntered registry.now.entries seen.now }
-    requires ascending { SeenAscend 0 seen.now }
+    requires { AreSeen registry.now.entries seen.now }
     ensures answer { IfOk result (λ t. t ≡ server.answer (known registry.now.entries seen.now)
         (asks.AddressesOfType kind)) }
     ensures writable { IfOk result CanTell }
@@ -155,8 +149,7 @@ fn named_of_type(
     kind: u8,
     name: NameOf,
 ) -> Result<CtTell, NoMemory>
-    requires entered { AreEntered registry.now.entries seen.now }
-    requires ascending { SeenAscend 0 seen.now }
+    requires { AreSeen registry.now.entries seen.now }
     ensures answer { IfOk result (λ t. t ≡ server.answer (known registry.now.entries seen.now)
         (by_name_of name kind)) }
     ensures writable { IfOk result CanTell }
@@ -193,8 +186,7 @@ pub(crate) fn answer_of(
     ask: &CtAsk<'_>,
 ) -> Result<CtTell, NoMemory>
     requires query { server.is_registration (asks.view ask.now) ≡ false }
-    requires entered { AreEntered registry.now.entries seen.now }
-    requires ascending { SeenAscend 0 seen.now }
+    requires seen { AreSeen registry.now.entries seen.now }
     requires some { 0 < length (known registry.now.entries seen.now) }
     ensures answer { IfOk result (λ t. t ≡ server.answer (known registry.now.entries seen.now)
         (asks.view ask.now)) }

@@ -1,8 +1,8 @@
 //! Lists of seen N_Ports.
 ghost use Rattle.std.specs.Prelude.{◌≡◌, IfOk};
 ghost use Rattle.ct_messages.specs.Server.{addresses, named, of_type};
-ghost use Rattle.name_server.specs.Registry.{AreEntered, SeenAscend, known};
-ghost use Rattle.name_server.specs.Views.{as_known, name_of};
+ghost use Rattle.name_server.specs.Registry.{known};
+ghost use Rattle.name_server.specs.Views.{AreSeen, as_known, name_of};
 
 use crate::ports::{Known, with_entry};
 use crate::{Registry, SeenPort};
@@ -49,8 +49,7 @@ pub(crate) fn addresses_of_type(
     seen: &[SeenPort],
     kind: u8,
 ) -> Result<IdList, NoMemory>
-    requires entered { AreEntered registry.now.entries seen.now }
-    requires ascending { SeenAscend 0 seen.now }
+    requires { AreSeen registry.now.entries seen.now }
     ensures { IfOk result (λ list. list
         ≡ addresses (of_type kind (known registry.now.entries seen.now))) }
 {
@@ -72,8 +71,7 @@ pub(crate) fn names_of_type(
     kind: u8,
     name: NameOf,
 ) -> Result<NamedList, NoMemory>
-    requires entered { AreEntered registry.now.entries seen.now }
-    requires ascending { SeenAscend 0 seen.now }
+    requires { AreSeen registry.now.entries seen.now }
     ensures { IfOk result (λ list. list ≡ named (name_of name)
         (of_type kind (known registry.now.entries seen.now))) }
 {

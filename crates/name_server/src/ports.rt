@@ -1,8 +1,8 @@
 //! A seen N_Port with what is registered of it.
 ghost use Rattle.std.specs.Prelude.{◌≡◌, ◌==◌, find, nat_lt, option_copied, option_map, slice_get};
 ghost use Rattle.ct_messages.specs.Server.{first_of, known_at, known_by_name, next_port};
-ghost use Rattle.name_server.specs.Registry.{AreEntered, SeenAscend, known, known_port};
-ghost use Rattle.name_server.specs.Views.{as_known};
+ghost use Rattle.name_server.specs.Registry.{SeenAscend, known, known_port};
+ghost use Rattle.name_server.specs.Views.{AreSeen, as_known};
 
 use crate::entry::Entry;
 use crate::{Registry, SeenPort};
@@ -50,8 +50,7 @@ pub(crate) fn by_address<'a>(
     seen: &'a [SeenPort],
     address: FcId,
 ) -> Option<Known<'a>>
-    requires entered { AreEntered registry.now.entries seen.now }
-    requires ascending { SeenAscend 0 seen.now }
+    requires { AreSeen registry.now.entries seen.now }
     ensures { option_map as_known result ≡ known_at address (known registry.now.entries seen.now) }
 {
     match find_at(seen, address) {
@@ -65,7 +64,7 @@ pub(crate) fn by_name<'a>(
     seen: &'a [SeenPort],
     name: Wwn,
 ) -> Option<Known<'a>>
-    requires entered { AreEntered registry.now.entries seen.now }
+    requires { AreSeen registry.now.entries seen.now }
     ensures { option_map as_known result
         ≡ known_by_name name (known registry.now.entries seen.now) }
 {
@@ -76,7 +75,7 @@ pub(crate) fn by_name<'a>(
 }
 
 fn least<'a>(registry: &'a Registry, seen: &'a [SeenPort]) -> Option<Known<'a>>
-    requires entered { AreEntered registry.now.entries seen.now }
+    requires { AreSeen registry.now.entries seen.now }
     ensures { option_map as_known result ≡ first_of (known registry.now.entries seen.now) }
 {
     match seen.first() {
@@ -91,8 +90,7 @@ pub(crate) fn next_to<'a>(
     seen: &'a [SeenPort],
     address: FcId,
 ) -> Option<Known<'a>>
-    requires entered { AreEntered registry.now.entries seen.now }
-    requires ascending { SeenAscend 0 seen.now }
+    requires { AreSeen registry.now.entries seen.now }
     ensures { option_map as_known result ≡ next_port address (known registry.now.entries seen.now) }
 {
     match first_above(seen, address) {

@@ -1,11 +1,14 @@
 //! Frames one after another, and the way of each.
 use crate::TextFault;
 use crate::frames::caught_of;
-use fab_base::{Mac, PortNo, Wwn};
-use fab_config::{ActivationList, Config, SetList, ZoneList};
+use fab_base::PortNo;
+use fab_config::{Config, read_config};
 use fip_snoop::{Snoop, SnoopRule, Way};
 use std::alloc::Global;
 use std::test::Fail;
+
+// The forwarder, and the VLAN on which its hosts are.
+const SETTINGS: &str = "fcf-mac 00:05:1e:00:00:02\nvlan 100\n";
 
 // Each rule and each way once: the port, the frame, and its way, which is a port's number where it
 // goes down to that one. A grant before any message of A reaches nobody.
@@ -118,24 +121,6 @@ const TWO: &str = "\
 3 data unbound
 2 keep_a moved";
 
-fn settings(alloc: Global) -> Config {
-    Config {
-        switch: Wwn(0x1000_0005_1e00_0002),
-        fcf_mac: Mac([0x00, 0x05, 0x1e, 0x00, 0x00, 0x02]),
-        fc_map: 0x0efc00,
-        vlan: 100,
-        domain: 1,
-        pool: 8192,
-        priority: 128,
-        period: 8000,
-        window: 100,
-        limit: 256,
-        zones: ZoneList::empty(alloc),
-        sets: SetList::empty(alloc),
-        activations: ActivationList::empty(alloc),
-    }
-}
-
 fn rule_word(rule: SnoopRule) -> &'static str {
     match rule {
         SnoopRule::Truncated => "truncated",
@@ -200,7 +185,14 @@ fn first_wrong(alloc: Global, bridge: &mut Snoop, lines: &str) -> Result<usize, 
 }
 
 fn first_wrong_of(alloc: Global, lines: &str) -> Result<usize, TextFault> {
-    match Snoop::new(alloc, &settings(alloc)) {
+    match read_config(alloc, SETTINGS.as_bytes()) {
+        Ok(config) => first_wrong_under(alloc, &config, lines),
+        Err(_) => Err(TextFault::Memory),
+    }
+}
+
+fn first_wrong_under(alloc: Global, config: &Config, lines: &str) -> Result<usize, TextFault> {
+    match Snoop::new(alloc, config) {
         Ok(mut bridge) => first_wrong(alloc, &mut bridge, lines),
         Err(_) => Err(TextFault::Memory),
     }

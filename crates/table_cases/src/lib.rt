@@ -3,6 +3,7 @@
 #![tactic(auto)]
 
 mod cases;
+pub mod held;
 pub mod logins;
 mod pool;
 pub mod registry;

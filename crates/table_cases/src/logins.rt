@@ -1,6 +1,7 @@
 //! The table of logins (FC-LS-2, "FLOGI" and "FDISC").
 ghost use Rattle.std.specs.Prelude.{◌≡◌};
 
+use crate::held::{open, open_in};
 use crate::say::{end, end_address, end_bool, end_number, say, say_address, say_enode, say_name};
 use crate::words::{CaseFault, address, enode, hexadecimal, name, name_at, short, small};
 use fab_base::NoMemory;
@@ -23,13 +24,9 @@ pub(crate) fn login_call(
     out: &mut Vec<u8>,
 ) -> Result<(), CaseFault> {
     if name_at(line, 1) == "open" {
-        *held = Some(opened(alloc, small(line, 2)?)?);
-        return end(out, "open");
+        return open(held, opened(alloc, small(line, 2)?)?, out);
     }
-    match held {
-        Some(logins) => logins.asked(line, out),
-        None => Err(CaseFault::Closed),
-    }
+    open_in(held)?.asked(line, out)
 }
 
 fn opened(alloc: Global, limit: u32) -> Result<Logins, NoMemory> {

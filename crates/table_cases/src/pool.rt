@@ -1,6 +1,7 @@
 //! The pool of N_Port_IDs (FC-LS-2, "FLOGI"), without a login around it.
 ghost use Rattle.std.specs.Prelude.{◌≡◌, ◌+◌, ◌<◌};
 
+use crate::held::{open, open_in};
 use crate::say::{end, end_address, end_bool};
 use crate::words::{CaseFault, address, has_word, moment, name, name_at, small};
 use fab_base::{FcId, Moment, NoMemory, Wwn};
@@ -15,15 +16,9 @@ pub(crate) fn pool_call(
     out: &mut Vec<u8>,
 ) -> Result<(), CaseFault> {
     match name_at(line, 1) {
-        "open" => {
-            *held = Some(opened(alloc, line)?);
-            end(out, "open")
-        }
+        "open" => open(held, opened(alloc, line)?, out),
         "quarantine" => quarantine(alloc, line, out),
-        _ => match held {
-            Some(pool) => asked(pool, line, out),
-            None => Err(CaseFault::Closed),
-        },
+        _ => asked(open_in(held)?, line, out),
     }
 }
 

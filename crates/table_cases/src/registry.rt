@@ -5,6 +5,7 @@ ghost use Rattle.ct_messages.specs.CanWrite.{CanTell};
 ghost use Rattle.ct_messages.specs.Server as server;
 ghost use Rattle.name_server.specs.Registry.{entry_at};
 
+use crate::held::{open, open_in};
 use crate::say::{end, end_bool, end_hex, end_name, say};
 use crate::words::{CaseFault, address, code, hex, name, name_at};
 use case_lines::{put_hex, put_line};
@@ -26,13 +27,10 @@ pub(crate) fn registry_call(
         if first.value() == second.value() {
             return Err(CaseFault::Refused);
         }
-        *held = Some(opened(alloc, first, name(line, 3)?, second, name(line, 5)?)?);
-        return end(out, "open");
+        let registry = opened(alloc, first, name(line, 3)?, second, name(line, 5)?)?;
+        return open(held, registry, out);
     }
-    match held {
-        Some(registry) => asked(alloc, registry, line, out),
-        None => Err(CaseFault::Closed),
-    }
+    asked(alloc, open_in(held)?, line, out)
 }
 
 // A registry of two N_Ports, with the names of their nodes.
@@ -126,7 +124,7 @@ fn query(
     {
         return Err(CaseFault::Refused);
     }
-    told(alloc, &answer(alloc, registry, &two, &ask)?, out)
+    end_answer(alloc, &answer(alloc, registry, &two, &ask)?, out)
 }
 
 // Two N_Ports with their names, behind one port of the forwarder.
@@ -180,7 +178,7 @@ fn answer(
 }
 
 /// The bytes of an answer.
-pub fn told(alloc: Global, tell: &CtTell, out: &mut Vec<u8>) -> Result<(), CaseFault>
+pub fn end_answer(alloc: Global, tell: &CtTell, out: &mut Vec<u8>) -> Result<(), CaseFault>
     requires { CanTell tell.now }
 {
     let mut bytes = Vec::new(alloc);

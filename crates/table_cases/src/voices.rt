@@ -1,6 +1,7 @@
 //! Who was heard when, and who is silent too long (FC-BB-5, "FIP keep alive").
 ghost use Rattle.std.specs.Prelude.{◌≡◌, ◌<◌, ◌≤◌, length};
 
+use crate::held::{open, open_in};
 use crate::say::{end, end_bool, end_moment, say, say_address, say_enode};
 use crate::words::{CaseFault, address, enode, moment, name_at, small};
 use fab_base::{Moment, NoMemory};
@@ -27,13 +28,10 @@ pub(crate) fn voice_call(
     out: &mut Vec<u8>,
 ) -> Result<(), CaseFault> {
     if name_at(line, 1) == "open" {
-        *held = Some(opened(alloc, small(line, 2)?, small(line, 3)?, small(line, 4)?)?);
-        return end(out, "open");
+        let voices = opened(alloc, small(line, 2)?, small(line, 3)?, small(line, 4)?)?;
+        return open(held, voices, out);
     }
-    match held {
-        Some(voices) => voices.asked(line, out),
-        None => Err(CaseFault::Closed),
-    }
+    open_in(held)?.asked(line, out)
 }
 
 fn opened(alloc: Global, nodes: u32, ports: u32, room: u32) -> Result<Voices, NoMemory> {

@@ -2,6 +2,7 @@
 ghost use Rattle.std.specs.Prelude.{◌≡◌, ◌≤◌, length, IsTrue};
 ghost use Rattle.state_change.specs.Watchers as spec;
 
+use crate::held::{open, open_in};
 use crate::say::{end, end_address, end_bool, end_moment, end_number};
 use crate::words::{
     CaseFault, address, has_word, hexadecimal, moment, name, name_at, octet, small,
@@ -48,13 +49,9 @@ pub(crate) fn zone_call(
     out: &mut Vec<u8>,
 ) -> Result<(), CaseFault> {
     if name_at(line, 1) == "open" {
-        *held = Some(opened(alloc)?);
-        return end(out, "open");
+        return open(held, opened(alloc)?, out);
     }
-    match held {
-        Some(zoning) => zoning.asked(alloc, line, out),
-        None => Err(CaseFault::Closed),
-    }
+    open_in(held)?.asked(alloc, line, out)
 }
 
 fn opened(alloc: Global) -> Result<Zoning, NoMemory> {
@@ -108,10 +105,7 @@ fn zone(alloc: Global, line: &[u8]) -> Result<Zone, CaseFault> {
 
 fn members(alloc: Global, line: &[u8]) -> Result<NameList, CaseFault> {
     let mut members = NameList::new(alloc)?;
-    for place in 3..1000 {
-        if !has_word(line, place) {
-            break;
-        }
+    for place in 3..first_empty(line) {
         members.push(alloc, name(line, place)?)?;
     }
     Ok(members)
@@ -126,13 +120,20 @@ fn set(alloc: Global, line: &[u8]) -> Result<ZoneSet, CaseFault> {
 
 fn places(alloc: Global, line: &[u8]) -> Result<PlaceList, CaseFault> {
     let mut places = PlaceList::new(alloc)?;
-    for place in 3..1000 {
-        if !has_word(line, place) {
-            break;
-        }
+    for place in 3..first_empty(line) {
         places.push(alloc, small(line, place)?)?;
     }
     Ok(places)
+}
+
+// The first place from 3 on at which a line has no word.
+fn first_empty(line: &[u8]) -> usize {
+    for place in 3..1000 {
+        if !has_word(line, place) {
+            return place;
+        }
+    }
+    1000
 }
 
 // `activation PLACE AT`.
@@ -152,13 +153,9 @@ pub(crate) fn watcher_call(
     out: &mut Vec<u8>,
 ) -> Result<(), CaseFault> {
     if name_at(line, 1) == "open" {
-        *held = Some(watchers_opened(alloc, small(line, 2)?)?);
-        return end(out, "open");
+        return open(held, watchers_opened(alloc, small(line, 2)?)?, out);
     }
-    match held {
-        Some(watched) => watched.asked(zoning, line, out),
-        None => Err(CaseFault::Closed),
-    }
+    open_in(held)?.asked(zoning, line, out)
 }
 
 fn watchers_opened(alloc: Global, room: u32) -> Result<Watched, NoMemory> {
@@ -186,7 +183,7 @@ impl Watched {
             "forget" => end_bool(out, self.watchers.forget(address(line, 2)?)),
             "function" => end_number(out, u64::from(self.watchers.function_of(address(line, 2)?))),
             _ => match zoning {
-                Some(zoning) => told(&self.watchers, &zoning.built, line, out),
+                Some(zoning) => end_recipient(&self.watchers, &zoning.built, line, out),
                 None => Err(CaseFault::Closed),
             },
         }
@@ -209,7 +206,7 @@ pub fn is_function(function: u8) -> bool
 }
 
 // `told AT AFFECTED FROM`, `changed BEFORE AT AFFECTED FROM`: the first watcher from an address on.
-fn told(
+fn end_recipient(
     watchers: &Watchers,
     zones: &Zones,
     line: &[u8],

@@ -1,5 +1,5 @@
 //! The calls of a gate.
-use crate::inputs::{CONFIG, HEAD, REQUEST, TWO_PORTS, depot_of, joined, words_in};
+use crate::inputs::{CONFIG, HEAD, REQUEST, TWO_PORTS, concatenated, depot_of, words_in};
 use fab_base::{FcId, Gate, MemSink, PortNo};
 use fabric_tool::fabric_tool;
 use std::sync::atomic::{AtomicU64, Ordering};
@@ -36,8 +36,8 @@ fn each_frame_passes_the_gate(rt: HostRuntime) -> Result<(), Fail> {
     let alloc = rt.alloc();
     let at_1100 = [1, 0, 0, 0, 0xa0, 0x86, 1, 0];
     let at_1200 = [1, 0, 0, 0, 0x40, 0x0d, 3, 0];
-    let first = joined(alloc, &[&REQUEST, &at_1200, &REQUEST[32..]])?;
-    let second = joined(alloc, &[&HEAD, &at_1100, &REQUEST[32..]])?;
+    let first = concatenated(alloc, &[&REQUEST, &at_1200, &REQUEST[32..]])?;
+    let second = concatenated(alloc, &[&HEAD, &at_1100, &REQUEST[32..]])?;
     let mut depot = depot_of(alloc, &CONFIG, &first, &second)?;
     let words = words_in(alloc, &TWO_PORTS)?;
     assert!(rt; depot.knows_all(&words));

@@ -46,7 +46,7 @@ pub(crate) fn words_in(alloc: Global, words: &[&str]) -> Result<Vec<String>, All
 }
 
 // These pieces, one after another.
-pub(crate) fn joined(alloc: Global, pieces: &[&[u8]]) -> Result<Vec<u8>, AllocError> {
+pub(crate) fn concatenated(alloc: Global, pieces: &[&[u8]]) -> Result<Vec<u8>, AllocError> {
     let mut bytes = Vec::new(alloc);
     for piece in pieces {
         bytes.extend_from_slice(piece)?;

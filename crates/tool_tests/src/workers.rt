@@ -1,5 +1,5 @@
 //! Two ports in one window, each with a worker of its own under gates that hold them.
-use crate::inputs::{CONFIG, REQUEST, TWO_PORTS, depot_of, joined, words_in};
+use crate::inputs::{CONFIG, REQUEST, TWO_PORTS, concatenated, depot_of, words_in};
 use fab_base::{FcId, Gate, MemDepot, MemSink, PortNo};
 use fabric_tool::fabric_tool;
 use std::alloc::Global;
@@ -171,7 +171,7 @@ const LOGIN: [u8; 220] = [
 // A login and a VLAN request of a node on a port, in one window.
 fn login_and_request(alloc: Global) -> Result<Vec<u8>, Fail> {
     let at_1010 = [1, 0, 0, 0, 0x10, 0x27, 0, 0];
-    Ok(joined(alloc, &[&LOGIN, &at_1010, &REQUEST[32..]])?)
+    Ok(concatenated(alloc, &[&LOGIN, &at_1010, &REQUEST[32..]])?)
 }
 
 // The same of the node 00:1b:21:00:00:0b: its MAC and its names end otherwise.

@@ -1,5 +1,5 @@
 use Rattle.std.proofs.Common.{Ok, Err, sym, subst}
-use Rattle.pcap_file.specs.Reading.{NextReads, standing as reader_stand}
+use Rattle.pcap_file.specs.Reading.{NextReads, reader_stand}
 use Rattle.fab_captures.specs.Captures.{SoFar, ReadsRecords}
 use Rattle.fab_captures.proofs.CaptureLemmas.{so_far_none, so_far_more, so_far_ended, so_far_failed}
 use Rattle.fab_captures.proofs.captures.records_of.Goals as goal

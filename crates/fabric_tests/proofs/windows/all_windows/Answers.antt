@@ -1,5 +1,6 @@
 use Rattle.std.proofs.Common.{[], ◌∷◌, true, false, None, ◌^◌, ◌-◌, sym, ◌∙◌}
 use Rattle.fab_base.specs.Seen.{Seen}
+use Rattle.fab_gather.specs.Ports.{walk_at}
 use Rattle.fab_gather.proofs.FirstLemmas.{none_below}
 use Rattle.fab_gather.proofs.SlotLemmas.{same_length}
 use Rattle.fabric_tests.proofs.windows.all_windows.Goals as goal
@@ -28,7 +29,8 @@ unfolding captures
 windows-smaller c =
     let i = c.windows.invariant in
     let t = c.in_ok-take_windows.ensures.takes in
-    (c.windows_move_on.ensures c.args.config.now c.in-Some.window captures captures c.windows.ins c.take_windows.new.ins c.windows.shelves c.take_windows.new.shelves c.windows.budget c.take_windows.new.budget i.count
+    (c.windows_move_on.ensures c.args.config.now c.in-Some.window (walk_at captures c.windows.ins c.windows.shelves c.windows.budget)
+    (walk_at captures c.take_windows.new.ins c.take_windows.new.shelves c.take_windows.new.budget) i.count
     (same_length c.windows.ins c.take_windows.new.ins t.slots) t.count c.in-Some.ensures.least t.took t.ready t.spent).fewer
 
 pub windows-preserved : goal.windows-preserved
