@@ -1,9 +1,6 @@
 -- The tables after a tick.
-use Rattle.std.proofs.Common.{◌≡◌, ℕ, ◌+◌, ◌*◌, ◌≤◌, ◌==◌, not, Bool, true, false, cond, List, [], ◌∷◌, map, filter, Option, Some, None, refl, sym, ap, ◌∙◌, subst, arith, if◌then◌else◌, length, ◌++◌, option_and_then, unwrap_or, IsSome, slice_index_or, suc}
+use Rattle.std.proofs.Common.{◌≡◌, ℕ, ◌+◌, ◌*◌, ◌≤◌, not, Bool, true, false, cond, List, [], ◌∷◌, map, filter, Option, Some, None, refl, sym, ap, ◌∙◌, subst, arith, if◌then◌else◌, length, ◌++◌, option_and_then, unwrap_or, suc}
 use Rattle.std.specs.Option.{option_map_or}
-use Rattle.std.specs.List.{All}
-use Rattle.std.proofs.lemmas.List.Folds.{list_any_at}
-use Rattle.std.proofs.lemmas.Bool.Decides.{nat_tests}
 use Rattle.fab_base.specs.Fabric.{Past}
 use Rattle.fab_base.specs.Keyed.{AscendFrom}
 use Rattle.fab_base.proofs.KeyedLemmas.{AscendFrom-filter, equal_by_items, list_any-keys-filter}
