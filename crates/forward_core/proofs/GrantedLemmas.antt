@@ -20,7 +20,10 @@ use Rattle.fab_policy.specs.declared.event.Event.TheVariants.{Frame}
 use Rattle.fab_policy.specs.declared.verdict.Verdict.TheVariants.{Granted}
 use Rattle.fab_roster.specs.Changes.{EndsAll, Grants, IsSoundRoll, KeepsBounds}
 use Rattle.fab_roster.specs.Roll.{Roll}
-use Rattle.forward_core.specs.Carrying.{Asks, CarriesOut, ended_by, is_ended, left_to}
+use Rattle.fab_judge.specs.Judged.{ended_by}
+use Rattle.fab_roster.specs.Roll.{Login, addresses_of}
+use Rattle.fab_sending.proofs.Counting.{addresses_same}
+use Rattle.forward_core.specs.Carrying.{Asks, CarriesOut, is_ended, left_to}
 use Rattle.forward_core.proofs.CarryLemmas.{same_roll}
 use Rattle.forward_core.proofs.TickLemmas.{in_pool, left_over, live_listed}
 
@@ -53,34 +56,34 @@ same_number a b e = grind (arith, nat_tests)
 
 -- ---- what a request ends
 
-none_left : (x : Enode) (ports : List LivePort) → filter (λ p. false && same_enode p.enode x) ports ≡ []
-none_left x [] = refl
-none_left x (p ∷ ports) = none_left x ports
+-- the addresses of the logins that a request ends
+pub ended_addresses : (r : Request) (T : Tables) (ended : List Login) → ended ≡ ended_by r T → addresses_of ended ≡ addresses (filter (is_ended r) T.ports)
+ended_addresses r T ended e = ap addresses_of e ∙ addresses_same (filter (is_ended r) T.ports)
 
-ids_are : (flogi : Bool) (x : Enode) (ports : List LivePort) → (if flogi then addresses (filter (λ p. same_enode p.enode x) ports) else []) ≡ addresses (filter (λ p. flogi && same_enode p.enode x) ports)
-ids_are true x ports = refl
-ids_are false x ports = sym (ap addresses (none_left x ports))
+-- the two tests in either order
+pub ends_turned : (x : Enode) (flogi : Bool) (ports : List LivePort) → filter (λ p. flogi && same_enode p.enode x) ports ≡ filter (λ p. same_enode p.enode x && flogi) ports
+ends_turned x flogi [] = refl
+ends_turned x flogi (p ∷ ports) =
+    ap (λ b. cond b (p ∷ filter (λ q. flogi && same_enode q.enode x) ports) (filter (λ q. flogi && same_enode q.enode x) ports)) (and_turned flogi (same_enode p.enode x))
+    ∙ ap (λ l. cond (same_enode p.enode x && flogi) (p ∷ l) l) (ends_turned x flogi ports)
 
 keys_ascend : (k : ℕ) (ports : List LivePort) → AscendFrom (λ p. p.address) k ports → AscendFrom (λ a. a) k (addresses ports)
 keys_ascend k [] up = tt
 keys_ascend k (p ∷ ports) up = (up.0, keys_ascend (p.address + 1) ports up.1)
 
-module _ (r : Request) (ids : List ℕ) (old : Roll) (sound : IsSoundRoll old) (are : ids ≡ ended_by r old.tables) where
-  pub listed : ids ≡ addresses (filter (is_ended r) old.tables.ports)
-  listed = are ∙ ids_are r.flogi r.enode old.tables.ports
-
+module _ (r : Request) (ids : List ℕ) (old : Roll) (sound : IsSoundRoll old) (are : ids ≡ addresses (filter (is_ended r) old.tables.ports)) where
   -- the addresses that end are live, and ascend
   pub ends_live : All (λ a. IsSome (port_at a old.tables.ports)) ids
-  ends_live = subst (λ l. All (λ a. IsSome (port_at a old.tables.ports)) l) (sym listed) (live_listed (is_ended r) old.lowest old.tables.ports sound.ascending.0)
+  ends_live = subst (λ l. All (λ a. IsSome (port_at a old.tables.ports)) l) (sym are) (live_listed (is_ended r) old.lowest old.tables.ports sound.ascending.0)
 
   pub ends_differ : AscendFrom (λ a. a) 0 ids
   ends_differ =
-      subst (λ l. AscendFrom (λ (a : ℕ). a) 0 l) (sym listed) (AscendFrom-weaker (λ (a : ℕ). a) 0 old.lowest (addresses (filter (is_ended r) old.tables.ports)) (omega arith)
+      subst (λ l. AscendFrom (λ (a : ℕ). a) 0 l) (sym are) (AscendFrom-weaker (λ (a : ℕ). a) 0 old.lowest (addresses (filter (is_ended r) old.tables.ports)) (omega arith)
       (keys_ascend old.lowest (filter (is_ended r) old.tables.ports) (AscendFrom-filter (λ (p : LivePort). p.address) (is_ended r) old.lowest old.tables.ports sound.ascending.0)))
 
   -- an address is one of them where its N_Port is ended
   is_among : (a : ℕ) → contains a ids ≡ option_map_or (is_ended r) (port_at a old.tables.ports) false
-  is_among a = ap (λ l. contains a l) listed ∙ list_any-keys-filter (λ (p : LivePort). p.address) (is_ended r) old.lowest a old.tables.ports sound.ascending.0
+  is_among a = ap (λ l. contains a l) are ∙ list_any-keys-filter (λ (p : LivePort). p.address) (is_ended r) old.lowest a old.tables.ports sound.ascending.0
 
 -- ---- the past of addresses
 
@@ -132,12 +135,12 @@ own_name last name at end same = ap (λ b. b || nat_lt QUARANTINE (at - end)) sa
 
 -- ---- after the ends
 
-module _ (r : Request) (ids : List ℕ) (old mid : Roll) (sound : IsSoundRoll old) (are : ids ≡ ended_by r old.tables) (ends : EndsAll ids old mid) where
+module _ (r : Request) (ids : List ℕ) (old mid : Roll) (sound : IsSoundRoll old) (are : ids ≡ addresses (filter (is_ended r) old.tables.ports)) (ends : EndsAll ids old mid) where
   -- the N_Ports that are left
   pub remain : IsSoundRoll mid → mid.tables.ports ≡ left_to r old.tables
   remain sound_mid =
       left_over (is_ended r) old.lowest old.tables.ports mid.tables.ports sound.ascending.0 (subst (λ l. AscendFrom (λ (x : LivePort). x.address) l mid.tables.ports) ends.bounds.lowest sound_mid.ascending.0)
-      (λ a. ends.ports a ∙ ap (λ l. if contains a l then None else port_at a old.tables.ports) (listed r ids old sound are))
+      (λ a. ends.ports a ∙ ap (λ l. if contains a l then None else port_at a old.tables.ports) are)
 
   -- the clock is the one before
   same_now : now_of mid.tables ≡ now_of old.tables
@@ -224,7 +227,7 @@ asked_by port index a caught r node asks =
     n_port_of : ℕ → ℕ → Enode → NPort
     n_port_of name node enode = record { name = name; node = node; enode = enode }
 
-module _ (r : Request) (ids : List ℕ) (old mid new : Roll) (sound : IsSoundRoll old) (are : ids ≡ ended_by r old.tables) (ends : EndsAll ids old mid) (a node : ℕ)
+module _ (r : Request) (ids : List ℕ) (old mid new : Roll) (sound : IsSoundRoll old) (are : ids ≡ addresses (filter (is_ended r) old.tables.ports)) (ends : EndsAll ids old mid) (a node : ℕ)
     (grants : Grants a (record { name = r.name; node = node; enode = r.enode }) mid new) where
   abbrev granted_port : NPort
   granted_port = record { name = r.name; node = node; enode = r.enode }

@@ -1,4 +1,4 @@
--- What can be read of a frame with a verdict: that of a service carries an FC frame.
+-- What can be read of a frame with a verdict.
 use Rattle.std.proofs.Common.{◌≡◌, ℕ, Option, Some, None, Ok, Err, sym, subst}
 use Rattle.fab_base.specs.declared.values.Caught.{Caught}
 use Rattle.fab_config.specs.Settings.{Settings}
@@ -10,27 +10,18 @@ use Rattle.fab_policy.specs.Rules.{rule_for}
 use Rattle.fab_policy.specs.State.{Tables}
 use Rattle.fab_policy.specs.Verdicts.{Judgement, Must, Meets, IsRight, judged, message_judged, fip_judged}
 use Rattle.fab_policy.specs.declared.verdict.Verdict.{Verdict}
-use Rattle.fab_policy.specs.declared.verdict.Verdict.TheVariants.{AliveNode, NsLogin, NsLogout, Watching, Registered, Dropped}
-use Rattle.fab_sending.specs.Asking.{CarriesFrame}
+use Rattle.fab_policy.specs.declared.verdict.Verdict.TheVariants.{AliveNode, Dropped}
 use Rattle.forward_core.specs.Carrying.{HasRight, IsDecoded}
 
--- what the verdicts that read the sender or the S_ID need
+-- what the verdict that reads the sender needs
 abbrev pub Needs : Verdict → What → Type 0
 Needs AliveNode what = IsDecoded what
-Needs NsLogin what = CarriesFrame what
-Needs NsLogout what = CarriesFrame what
-Needs (Watching f) what = CarriesFrame what
-Needs Registered what = CarriesFrame what
 Needs _ what = Unit {0}
 
--- a frame that carries another gives each what it needs
-carrying : (v : Verdict) (what : What) → IsDecoded what → CarriesFrame what → Needs v what
-carrying AliveNode what is has = is
-carrying NsLogin what is has = has
-carrying NsLogout what is has = has
-carrying (Watching f) what is has = has
-carrying Registered what is has = has
-carrying _ what is has = tt
+-- a frame that was decoded gives each what it needs
+carrying : (v : Verdict) (what : What) → IsDecoded what → Needs v what
+carrying AliveNode what is = is
+carrying _ what is = tt
 
 -- one whose verdict needs nothing of this frame
 only : (v w : Verdict) (what : What) → v ≡ w → Needs w what → Needs v what
@@ -42,7 +33,7 @@ module _ (c : Settings) (T : Tables) (port : ℕ) (caught : Caught) (v : Verdict
   in_message f (fip.Solicit from fp mac n size) right = only v _ _ right tt
   in_message f (fip.Keep mac None) right = only v _ _ right tt
   in_message f (fip.Keep mac (Some vx)) right = only v _ _ right tt
-  in_message f (fip.Login kind fp l mac) right = carrying v (Fip f (fip.Login kind fp l mac)) tt tt
+  in_message f (fip.Login kind fp l mac) right = carrying v (Fip f (fip.Login kind fp l mac)) tt
   in_message f (fip.Advertise s a b d p m w x y q z) right = only v _ _ right tt
   in_message f (fip.LoginReply kind fp l mac) right = only v _ _ right tt
   in_message f (fip.Clear mac switch ports) right = only v _ _ right tt
@@ -51,7 +42,7 @@ module _ (c : Settings) (T : Tables) (port : ℕ) (caught : Caught) (v : Verdict
   in_frame : (what : What) → Meets c T (message_judged c T port caught what) v → Needs v what
   in_frame (Bad cause) right = only v _ _ right tt
   in_frame (Fip f m) right = in_message f m right
-  in_frame (Fcoe f (Ok x)) right = carrying v (Fcoe f (Ok x)) tt tt
+  in_frame (Fcoe f (Ok x)) right = carrying v (Fcoe f (Ok x)) tt
   in_frame (Fcoe f (Err e)) right = only v _ _ right tt
 
   abbrev by_rule : Option Cause → What → Judgement

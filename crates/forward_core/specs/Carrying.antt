@@ -1,11 +1,11 @@
 -- What carrying out a verdict does to a roll. No public clause cites this module.
-use Rattle.std.specs.Prelude.{◌≡◌, ℕ, ◌+◌, ◌*◌, ◌&&◌, not, Bool, if◌then◌else◌, List, [], filter}
+use Rattle.std.specs.Prelude.{◌≡◌, ℕ, ◌+◌, ◌*◌, ◌&&◌, not, Bool, List, filter}
 use Rattle.fab_base.specs.Fabric.{same_enode}
 use Rattle.fab_base.specs.declared.values.Caught.{Caught}
 use Rattle.fab_config.specs.Settings.{Settings}
 use Rattle.fab_policy.specs.Free.{Request}
 use Rattle.fab_policy.specs.Heard.{What, Bad, Fip, Fcoe, sender, is_flogi, asked}
-use Rattle.fab_policy.specs.State.{LivePort, Tables, addresses}
+use Rattle.fab_policy.specs.State.{LivePort, Tables}
 use Rattle.fab_policy.specs.Steps.{after}
 use Rattle.fab_policy.specs.Verdicts.{IsRight}
 use Rattle.fab_policy.specs.declared.event.Event.TheVariants.{Frame}
@@ -45,10 +45,6 @@ is_ended r p = r.flogi && same_enode p.enode r.enode
 -- the N_Ports that it leaves
 abbrev pub left_to : Request → Tables → List LivePort
 left_to r T = filter (λ p. not (is_ended r p)) T.ports
-
--- the addresses that it ends
-abbrev pub ended_by : Request → Tables → List ℕ
-ended_by r T = if r.flogi then addresses (filter (λ p. same_enode p.enode r.enode) T.ports) else []
 
 -- A frame of a port is this login request, with this node name.
 pub record Asks (port : ℕ) (caught : Caught) (r : Request) (node : ℕ) : Type 0 where

@@ -1,10 +1,12 @@
 //! What a turn puts behind the entries and the frames since the last drain.
-ghost use Rattle.std.specs.Prelude.{◌≡◌, ◌<◌, ◌≤◌, List, [], ◌∷◌, ◌++◌, length, IfOk, OnOk, OnErr, Some};
+ghost use Rattle.std.specs.Prelude.{◌≡◌, ◌<◌, ◌≤◌, List, [], ◌∷◌, ◌++◌, length, IfOk, IfSome, OnOk, OnErr, Some};
+ghost use Rattle.std.specs.List.{All};
 ghost use Rattle.fab_policy.specs.Steps.{InPool};
 ghost use Rattle.fab_policy.specs.Ranged.{IsRangedEvent};
 ghost use Rattle.fab_policy.specs.declared.event.Event.{Event as Entry};
 ghost use Rattle.fab_policy.specs.declared.event.Event.TheVariants.{Frame};
 ghost use Rattle.fab_replies.specs.Message.{AreSendable, frame_at};
+ghost use Rattle.fab_roster.specs.Changes.{IsSize};
 ghost use Rattle.fab_sending.specs.Sends.{state_before};
 ghost use Rattle.forward_core.specs.Turns.{Keeps};
 
@@ -24,6 +26,7 @@ impl Fabric {
         ensures state { state_before result ≡ self.now.state }
         ensures few { length self.now.state.tables.ports ≤ 65535 }
         ensures pool { InPool self.now.settings self.now.state.tables.ports }
+        ensures sizes { All (λ p. IfSome p.server IsSize) self.now.state.tables.ports }
     {
         // For the proof: the values of the configuration are in their ranges.
         in_range(&self.config);

@@ -86,21 +86,27 @@ impl Fabric {
                 known_verdict(&verdict);
                 Ok(verdict)
             }
-            Judged::MayGrant { request, node } => {
-                let address = self.address_for(&request, wish)?;
-                self.log_in(alloc, port, index, heard, &request, node, address)?;
+            Judged::Replied { verdict, to } => {
+                self.reply(alloc, port, index, heard, &verdict, to)?;
+                // For the proof: the numbers of the verdict are in range.
+                known_verdict(&verdict);
+                Ok(verdict)
+            }
+            Judged::MayGrant(login) => {
+                let address = self.address_for(&login.request, login.free, wish)?;
+                self.log_in(alloc, port, index, heard, &login, address)?;
                 Ok(Verdict::Granted(address))
             }
-            Judged::ServerLogin { size } => {
-                self.log_in_to_server(alloc, port, index, heard, size)?;
+            Judged::ServerLogin { to, size } => {
+                self.log_in_to_server(alloc, port, index, heard, to, size)?;
                 Ok(Verdict::NsLogin)
             }
-            Judged::Registers => {
-                self.register(alloc, port, index, heard)?;
+            Judged::Registers { to } => {
+                self.register(alloc, port, index, heard, to)?;
                 Ok(Verdict::Registered)
             }
-            Judged::Answers(tell) => {
-                self.answer(alloc, port, index, heard, &tell)?;
+            Judged::Answers { to, tell, size } => {
+                self.answer(alloc, port, index, heard, to, &tell, size)?;
                 Ok(Verdict::Answered)
             }
         }

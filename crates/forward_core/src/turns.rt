@@ -1,22 +1,27 @@
 //! The turns of frames, one for each kind of judgement: what the frame sends is made first, then
 //! the entry is kept, and then the tables change, which takes no memory.
 ghost use Rattle.std.specs.Prelude.{◌≡◌, OnOk, OnErr, IsSome, IsTrue};
-ghost use Rattle.fab_judge.specs.Judged.{VerdictRests, GrantRests, ServerRests, RegistrationRests, AnswerRests};
+ghost use Rattle.fab_judge.specs.Judged.{VerdictRests, ReplyRests, GrantRests, ServerRests, RegistrationRests, AnswerRests};
 ghost use Rattle.fab_policy.specs.Free.{is_free};
 ghost use Rattle.fab_policy.specs.Heard.{carried, is_flogi, sender};
+ghost use Rattle.fab_policy.specs.Replies.{asker_of};
 ghost use Rattle.fab_policy.specs.Standing.{Takes};
 ghost use Rattle.fab_policy.specs.Verdicts.{IsRight};
 ghost use Rattle.fab_policy.specs.declared.event.Event.TheVariants.{Frame};
 ghost use Rattle.fab_policy.specs.declared.verdict.Verdict.TheVariants.{Answered, Granted, NsLogin, Registered};
 
 use crate::Fabric;
-use crate::carrying::{carry_out, ended, grant, log_in_to_server, register};
+use crate::carrying::{carry_out, carry_out_reply, grant, log_in_to_server, register};
 use crate::payload::payload_of;
 use ct_messages::{CtTell, read_ask};
-use fab_base::{FcId, NoMemory, PortNo, Wwn};
+use fab_base::{FcId, NoMemory, PortNo};
+use fab_judge::Candidate;
 use fab_policy::{Heard, Verdict, tables_change};
-use fab_roster::Request;
-use fab_sending::{answer_sends, frame_sends, grant_sends, registration_sends, right_frames_suit};
+use fab_replies::Asker;
+use fab_sending::{
+    Grant, answer_sends, frame_sends, grant_sends, registration_sends, reply_sends,
+    right_frames_suit,
+};
 use std::alloc::Global;
 
 impl Fabric {
@@ -45,6 +50,32 @@ impl Fabric {
         Ok(())
     }
 
+    // A verdict that is replied to the sender of the frame, and needs nothing else.
+    pub(crate) fn reply(
+        &mut self,
+        alloc: Global,
+        port: PortNo,
+        index: u64,
+        heard: &Heard<'_>,
+        verdict: &Verdict,
+        to: Asker,
+    ) -> Result<(), NoMemory>
+        requires clock { IsSome self.old.state.tables.clock }
+        requires right { IsRight self.old.settings self.old.state.tables port heard.now.caught.now
+            verdict.now }
+        requires rests { ReplyRests self.old.state.tables (carried heard.now.caught.now)
+            verdict.now }
+        requires to { to ≡ asker_of heard.now.caught.now }
+        ensures takes { OnOk result
+            (Takes self.old (Frame port index heard.now.caught.now verdict.now) self.new) }
+        ensures err { OnErr result (self.new ≡ self.old) }
+    {
+        let sends = reply_sends(alloc, &self.before(), port, heard, *verdict, to)?;
+        self.keep_frame(alloc, port, index, heard, *verdict, sends)?;
+        carry_out_reply(&mut self.roster, heard, *verdict, to);
+        Ok(())
+    }
+
     // A login is granted an address that is free for it.
     pub(crate) fn log_in(
         &mut self,
@@ -52,8 +83,7 @@ impl Fabric {
         port: PortNo,
         index: u64,
         heard: &Heard<'_>,
-        request: &Request,
-        node: Wwn,
+        login: &Candidate,
         address: FcId,
     ) -> Result<(), NoMemory>
         requires clock { IsSome self.old.state.tables.clock }
@@ -61,16 +91,28 @@ impl Fabric {
             (Granted address) }
         requires rests { GrantRests self.old.settings self.old.state.tables
             (sender port heard.now.caught.now) (is_flogi heard.now.caught.now)
-            (carried heard.now.caught.now) request.now node }
-        requires free { IsTrue (is_free self.old.state.tables request.now address) }
+            (carried heard.now.caught.now) login.now }
+        requires free { IsTrue (is_free self.old.state.tables login.now.request address) }
         ensures takes { OnOk result
             (Takes self.old (Frame port index heard.now.caught.now (Granted address)) self.new) }
         ensures err { OnErr result (self.new ≡ self.old) }
     {
-        let sends = grant_sends(alloc, &self.before(), port, heard, request, address)?;
-        let ended = ended(alloc, &self.roster, request)?;
+        let granted = Grant {
+            request: &login.request,
+            to: login.to,
+            several: login.several,
+            address,
+            ended: &login.ended,
+        };
+        let sends = grant_sends(alloc, &self.before(), port, heard, &granted)?;
         self.keep_frame(alloc, port, index, heard, Verdict::Granted(address), sends)?;
-        grant(&mut self.roster, request, node, address, &ended);
+        grant(
+            &mut self.roster,
+            &login.request,
+            login.node,
+            address,
+            &login.ended,
+        );
         Ok(())
     }
 
@@ -81,19 +123,20 @@ impl Fabric {
         port: PortNo,
         index: u64,
         heard: &Heard<'_>,
+        to: Asker,
         size: u16,
     ) -> Result<(), NoMemory>
         requires right { IsRight self.old.settings self.old.state.tables port heard.now.caught.now
             NsLogin }
         requires rests { ServerRests self.old.state.tables (carried heard.now.caught.now) size }
+        requires to { to ≡ asker_of heard.now.caught.now }
         ensures takes { OnOk result
             (Takes self.old (Frame port index heard.now.caught.now NsLogin) self.new) }
         ensures err { OnErr result (self.new ≡ self.old) }
     {
-        let place = self.events.len();
-        let sends = frame_sends(alloc, &self.before(), port, place, heard, Verdict::NsLogin)?;
+        let sends = reply_sends(alloc, &self.before(), port, heard, Verdict::NsLogin, to)?;
         self.keep_frame(alloc, port, index, heard, Verdict::NsLogin, sends)?;
-        log_in_to_server(&mut self.roster, heard, size);
+        log_in_to_server(&mut self.roster, heard, to, size);
         Ok(())
     }
 
@@ -104,10 +147,12 @@ impl Fabric {
         port: PortNo,
         index: u64,
         heard: &Heard<'_>,
+        to: Asker,
     ) -> Result<(), NoMemory>
         requires right { IsRight self.old.settings self.old.state.tables port heard.now.caught.now
             Registered }
         requires rests { RegistrationRests self.old.state.tables (carried heard.now.caught.now) }
+        requires to { to ≡ asker_of heard.now.caught.now }
         ensures takes { OnOk result
             (Takes self.old (Frame port index heard.now.caught.now Registered) self.new) }
         ensures err { OnErr result (self.new ≡ self.old) }
@@ -117,9 +162,9 @@ impl Fabric {
         let Ok(ask) = read_ask(payload_of(heard)) else {
             unreachable!()
         };
-        let sends = registration_sends(alloc, &self.before(), port, heard, &ask)?;
+        let sends = registration_sends(alloc, &self.before(), port, heard, to, &ask)?;
         self.keep_frame(alloc, port, index, heard, Verdict::Registered, sends)?;
-        register(&mut self.roster, heard, &ask);
+        register(&mut self.roster, heard, to, &ask);
         Ok(())
     }
 
@@ -130,22 +175,22 @@ impl Fabric {
         port: PortNo,
         index: u64,
         heard: &Heard<'_>,
+        to: Asker,
         tell: &CtTell,
+        size: u16,
     ) -> Result<(), NoMemory>
         requires right { IsRight self.old.settings self.old.state.tables port heard.now.caught.now
             Answered }
         requires rests { AnswerRests self.old.settings self.old.state.tables
-            (carried heard.now.caught.now) tell.now }
+            (carried heard.now.caught.now) tell.now size }
+        requires to { to ≡ asker_of heard.now.caught.now }
         ensures takes { OnOk result
             (Takes self.old (Frame port index heard.now.caught.now Answered) self.new) }
         ensures err { OnErr result (self.new ≡ self.old) }
     {
-        // Law: an answer leaves the tables as they are, and a right verdict suits what the frame is
-        // decoded as: here a query.
+        // Law: an answer leaves the tables as they are.
         tables_change();
-        right_frames_suit();
-        let size = self.size_of(heard);
-        let sends = answer_sends(alloc, &self.before(), port, heard, tell, size)?;
+        let sends = answer_sends(alloc, &self.before(), port, heard, to, tell, size)?;
         self.keep_frame(alloc, port, index, heard, Verdict::Answered, sends)?;
         Ok(())
     }

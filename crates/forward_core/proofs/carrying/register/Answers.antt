@@ -5,14 +5,10 @@ use Rattle.fab_policy.specs.declared.verdict.Verdict.TheVariants.{Registered}
 use Rattle.ct_messages.specs.Ask.{view}
 use Rattle.fab_policy.specs.Heard.{s_id}
 use Rattle.forward_core.proofs.CarryLemmas.{changed, found_one}
-use Rattle.forward_core.proofs.ReadLemmas.{needed}
 use Rattle.forward_core.proofs.carrying.register.Goals as goal
-
-pub asker-requires : goal.asker-requires
-asker-requires c = needed c.args.roster.now.tables c.args.heard.now.caught.now Registered c.requires.right
 
 pub returns : goal.returns
 returns c port =
-    changed c.tables_change.ensures.frame port c.args.heard.now.caught.now Registered Registered c.args.roster.now c.register-2.new.self refl refl
+    changed c.tables_change.ensures.frame port c.args.heard.now.caught.now Registered Registered c.args.roster.now c.register.new.self refl refl
     (λ a p e. (c.requires.rests.registers, c.requires.rests.byte, found_one (λ (q : LivePort). length q.values.features ≡ 256) a c.args.roster.now.tables.ports p c.requires.sound.features e)) _
-    (ap (λ x. with_values x.s_id (view c.args.ask.now)) (c.register.view_is ∙ c.asker.ensures) ∙ ap (λ ask. with_values (s_id c.args.heard.now.caught.now) ask) c.requires.ask) c.register-2.ensures.change c.register-2.ensures.sound
+    (ap (λ x. with_values x.s_id (view c.args.ask.now)) (c.to.view_is ∙ c.requires.to) ∙ ap (λ ask. with_values (s_id c.args.heard.now.caught.now) ask) c.requires.ask) c.register.ensures.change c.register.ensures.sound

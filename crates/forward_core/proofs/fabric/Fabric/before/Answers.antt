@@ -1,6 +1,8 @@
-use Rattle.std.proofs.Common.{◌≡◌, ◌≤◌, ℕ, length, arith, subst}
+use Rattle.std.proofs.Common.{◌≡◌, ◌≤◌, ℕ, IfSome, length, arith, subst}
+use Rattle.std.specs.List.{All}
 use Rattle.fab_policy.specs.Standing.{Contents}
 use Rattle.fab_policy.specs.Steps.{InPool}
+use Rattle.fab_roster.specs.Changes.{IsSize}
 use Rattle.forward_core.proofs.TickLemmas.{in_pool}
 use Rattle.forward_core.proofs.fabric.Fabric.before.Goals as goal
 
@@ -12,3 +14,6 @@ returns-clause-few c = subst (λ (F : Contents). length F.state.tables.ports ≤
 
 pub returns-clause-pool : goal.returns-clause-pool
 returns-clause-pool c = subst (λ (F : Contents). InPool F.settings F.state.tables.ports) c.self.view_is (in_pool c.self.inside.config c.self.inside.roster c.self.invariant.lowest c.self.invariant.pool c.self.invariant.sound)
+
+pub returns-clause-sizes : goal.returns-clause-sizes
+returns-clause-sizes c = subst (λ (F : Contents). All (λ p. IfSome p.server IsSize) F.state.tables.ports) c.self.view_is c.self.invariant.sound.sizes
