@@ -8,7 +8,6 @@ use Rattle.fab_policy.specs.Journal.{Journal}
 use Rattle.fab_policy.specs.Keeping.{IsAhead}
 use Rattle.fab_policy.specs.Looks.{Stop, stop}
 use Rattle.fab_policy.specs.Standing.{Contents}
-use Rattle.fab_policy.specs.Text.{text}
 use Rattle.pcap_file.specs.declared.Budget.{Budget}
 use Rattle.fab_gather.specs.declared.shelf.Input.{Input}
 use Rattle.fab_gather.specs.declared.shelf.Shelf.{Shelf}
@@ -22,7 +21,7 @@ use Rattle.run_files.specs.Faults.{NoFaults, IsStopped, fault_from}
 use Rattle.run_files.proofs.FaultLemmas.{none_then}
 use Rattle.fab_gather.specs.Ports.{slots_of, name_of, NameIn, AreInputs, stop_from, walk_at}
 use Rattle.fab_windows.specs.declared.Done.{Done}
-use Rattle.fab_windows.specs.Files.{AreFiles, Written, Pending, Wholes, WholesBut, Fronts, Writes, captures}
+use Rattle.fab_windows.specs.Files.{AreFiles, Written, Pending, Wholes, WholesBut, Fronts, Writes}
 use Rattle.fab_windows.specs.Run.{Interrupted, Stopped, Ends}
 use Rattle.fab_windows.specs.Turns.{Laws, Task, captures_in, Touched, Reached, Ended, IsUnwritten}
 use Rattle.fab_gather.specs.Gather.{Gathers}

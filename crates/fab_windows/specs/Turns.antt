@@ -8,7 +8,7 @@ use Rattle.pcap_file.specs.declared.Record.{Record}
 use Rattle.fab_policy.specs.Growing.{records_to, FollowedByParts, SentByParts, TextGrows, EgressGrows, NothingIsWritten, NothingIsRun}
 use Rattle.fab_policy.specs.Keeping.{KeepsBefore, KeepsJust}
 use Rattle.fab_policy.specs.Journal.{Journal, frame_count}
-use Rattle.fab_policy.specs.Looks.{Opened, Stop, stop, in_order, first_window}
+use Rattle.fab_policy.specs.Looks.{Opened, stop, in_order, first_window}
 use Rattle.fab_policy.specs.Outputs.{Sent}
 use Rattle.fab_policy.specs.Standing.{Contents, drained}
 use Rattle.fab_policy.specs.declared.event.Event.{Event}
@@ -23,7 +23,7 @@ use Rattle.fab_gather.specs.First.{Start, start_at, opened_in, IsNextWindow}
 use Rattle.fab_gather.specs.Gather.{Gathers}
 use Rattle.fab_gather.specs.Laws.{LooksAhead, NextIsAhead, NextIsFirst, NoneIsLeft, WindowMoves, ReadsOn, ReadStays, ReadIsBelow, ReadSplits, ReadIsAll}
 use Rattle.fab_gather.specs.Port.{Spends}
-use Rattle.fab_gather.specs.Ports.{Walk, walk_at, slots_of, NameIn, AreReady, rests, joined, counts_of, stop_from, stop_after}
+use Rattle.fab_gather.specs.Ports.{Walk, walk_at, slots_of, NameIn, AreReady, rests, joined, counts_of, stop_after}
 use Rattle.fab_gather.specs.Reads.{HaveRead, batches_of}
 use Rattle.fab_windows.specs.declared.Done.{Done}
 use Rattle.run_files.specs.Faults.{NoFaults}

@@ -1,4 +1,4 @@
-use Rattle.std.proofs.Common.{◌≡◌, ◌∙◌, ap, sym, subst, length, Some, Err, arith}
+use Rattle.std.proofs.Common.{◌∙◌, ap, sym, subst, length, Some, Err, arith}
 use Rattle.fab_gather.specs.First.{IsNextWindow}
 use Rattle.fab_gather.specs.Ports.{AreReady}
 use Rattle.fab_windows.specs.Pages.{FlushedFor, pending}
