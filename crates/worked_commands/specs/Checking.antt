@@ -20,7 +20,8 @@ use Rattle.fab_replay.specs.Showing.{shown}
 use Rattle.fab_replay.proofs.OneLemmas.{same_frames}
 use Rattle.fab_windows.specs.Run.{IsRunOver}
 use Rattle.fabric_tool.specs.Checking.{HasMatter, budget_of, output_in, Finds, IsLegalJournal, IsShownJournal}
-use Rattle.fabric_tool.specs.Command.{RunNames, Replay, Show, Among, command}
+use Rattle.run_files.specs.Names.{Among}
+use Rattle.fabric_tool.specs.Command.{RunNames, Replay, Show, command}
 use Rattle.fabric_tool.specs.Inputs.{AreOpened, MOST_BYTES}
 use Rattle.fabric_tool.specs.Left.{HasRun, IsSafe, AreDistinct}
 use Rattle.fabric_tool.specs.Rechecking.{HasWritten, IsRechecked, without_outputs}
