@@ -191,7 +191,7 @@ impl Roll {
             port,
             &hear(&caught),
         )?;
-        said_judged(alloc, &self.roster, port, &judged, out)
+        said_judged(alloc, port, &judged, out)
     }
 
     // `query ASKER PAYLOAD`: what the name server answers an N_Port that is logged in.
@@ -250,20 +250,17 @@ fn said_heard(out: &mut Vec<u8>, heard: Option<(Moment, Moment)>) -> Result<(), 
 
 fn said_judged(
     alloc: Global,
-    roster: &Roster,
     port: PortNo,
     judged: &Judged,
     out: &mut Vec<u8>,
 ) -> Result<(), CaseFault> {
     let verdict = match judged {
         Judged::Must(verdict) => *verdict,
-        Judged::MayGrant { request, .. } => match roster.find(request) {
-            Some(address) => Verdict::Granted(address),
-            None => return Err(CaseFault::Refused),
-        },
+        Judged::Replied { verdict, .. } => *verdict,
+        Judged::MayGrant(login) => Verdict::Granted(login.free),
         Judged::ServerLogin { .. } => Verdict::NsLogin,
-        Judged::Registers => Verdict::Registered,
-        Judged::Answers(_) => Verdict::Answered,
+        Judged::Registers { .. } => Verdict::Registered,
+        Judged::Answers { .. } => Verdict::Answered,
     };
     write_frame_line(alloc, port, 0, &verdict, out)?;
     Ok(())

@@ -1,21 +1,21 @@
 //! What is sent where no roster is needed: replies, pieces of an answer, advertisements, clear link
 //! messages.
-ghost use Rattle.std.specs.Prelude.{◌≢◌, ◌≤◌, ◌^◌};
+ghost use Rattle.std.specs.Prelude.{◌≡◌, ◌≤◌, ◌^◌, true};
 ghost use Rattle.ct_messages.specs.CanWrite.{CanTell};
 ghost use Rattle.ct_messages.specs.Answer.{size_of};
 ghost use Rattle.fab_policy.specs.Heard.{What as Decoded};
-ghost use Rattle.fab_policy.specs.declared.verdict.Verdict.TheVariants.{Answered};
 ghost use Rattle.fab_sending.specs.Replies.{IsBody, Suits};
+ghost use Rattle.fab_sending.specs.Sends.{is_replied};
 
 use crate::frames::caught;
 use crate::sent::said_outs;
 use ct_messages::{CtTell, NextPort, TypeMap};
 use fab_base::{Bytes, FcId, Mac, Moment, NoMemory, PortNo, Wwn};
 use fab_config::Config;
-use fab_policy::{Heard, Verdict, What, hear};
+use fab_policy::{Heard, Verdict, What, frames_are_carried, hear};
 use fab_replies::{Asker, OutList};
-use fab_sending::replies::replies;
-use fab_sending::{advertise, answer, clear};
+use fab_sending::replies::{frames_of, reply};
+use fab_sending::{advertise, clear, frames_of_answer};
 use fip_codec::VxPort;
 use std::alloc::Global;
 use table_cases::words::{
@@ -70,7 +70,7 @@ fn pieces(alloc: Global, line: &[u8], out: &mut Vec<u8>) -> Result<(), CaseFault
         name(line, 5)?,
     );
     said_outs(
-        &answer(alloc, Moment(5), PortNo::at(0), to, &next, size)?,
+        &frames_of_answer(alloc, Moment(5), PortNo::at(0), to, &next, size)?,
         out,
     )
 }
@@ -135,7 +135,7 @@ fn made(alloc: Global, line: &[u8], heard: &Heard<'_>) -> Result<OutList, CaseFa
         "vlans" => in_fip(alloc, now, port, heard),
         "forwarded" => {
             let to = table_cases::words::port(line, 5)?;
-            to_body(alloc, now, port, heard, Verdict::Forwarded(to))
+            sent_on(alloc, now, port, heard, to)
         }
         "ns-logout" => to_body(alloc, now, port, heard, Verdict::NsLogout),
         "refused" => {
@@ -154,12 +154,27 @@ fn in_fip(
     heard: &Heard<'_>,
 ) -> Result<OutList, CaseFault> {
     match &heard.what {
-        What::Fip { .. } => Ok(replies(alloc, now, port, 3, heard, Verdict::Vlans)?),
+        What::Fip { .. } => Ok(frames_of(alloc, now, port, 3, heard, Verdict::Vlans)?),
         _ => Err(CaseFault::Refused),
     }
 }
 
-// What a body of FCoE sends, in the entry at place 3.
+// A body of FCoE goes on to a port, in the entry at place 3.
+fn sent_on(
+    alloc: Global,
+    now: Moment,
+    port: PortNo,
+    heard: &Heard<'_>,
+    to: PortNo,
+) -> Result<OutList, CaseFault> {
+    let verdict = Verdict::Forwarded(to);
+    match &heard.what {
+        What::Fcoe { read: Ok(_), .. } => Ok(frames_of(alloc, now, port, 3, heard, verdict)?),
+        _ => Err(CaseFault::Refused),
+    }
+}
+
+// The reply to a body of FCoE.
 fn to_body(
     alloc: Global,
     now: Moment,
@@ -168,10 +183,24 @@ fn to_body(
     verdict: Verdict,
 ) -> Result<OutList, CaseFault>
     requires suits { (what : Decoded) → IsBody what → Suits what verdict }
-    requires other { verdict ≢ Answered }
+    requires replied { is_replied verdict ≡ true }
 {
+    // Law: what a decoded frame says is what a journal reads from its bytes.
+    frames_are_carried();
     match &heard.what {
-        What::Fcoe { read: Ok(_), .. } => Ok(replies(alloc, now, port, 3, heard, verdict)?),
+        What::Fcoe {
+            eth,
+            read: Ok(body),
+        } => {
+            let head = &body.frame.head;
+            let to = Asker {
+                mac: eth.src,
+                d_id: head.d_id,
+                s_id: head.s_id,
+                ox_id: head.ox_id,
+            };
+            Ok(reply(alloc, now, port, heard, verdict, to)?)
+        }
         _ => Err(CaseFault::Refused),
     }
 }
