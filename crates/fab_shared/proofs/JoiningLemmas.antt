@@ -1,5 +1,5 @@
 -- Passes are taken back.
-use Rattle.std.proofs.Common.{◌≡◌, ◌⊎◌, inl, inr, ⊎_elim, ℕ, ◌<◌, Bool, true, false, ◌||◌, All, List, [], ◌∷◌, ◌++◌, length, refl, sym, ap, ◌∙◌, subst, arith}
+use Rattle.std.proofs.Common.{◌≡◌, ⊎_elim, ℕ, ◌<◌, Bool, true, false, ◌||◌, All, List, [], ◌∷◌, ◌++◌, refl, sym, ap, ◌∙◌, subst, arith}
 use mathlib.Core.Logic.{dite}
 use native.Mathlib.Decide.{ℕ_discrete}
 use Rattle.fab_gather.specs.declared.shelf.Shelf.{Shelf}
@@ -8,7 +8,7 @@ use Rattle.fab_shared.specs.declared.locked.LockedFabric.{LockedFabric}
 use Rattle.fab_shared.specs.declared.shared.SharedFabric.{SharedFabric}
 use Rattle.fab_turn.specs.declared.board.Pass.{Pass}
 use Rattle.fab_turn.specs.Lock.{own, given, kept, IsRootOf, IsIdle, AllJoined}
-use Rattle.fab_turn.specs.Views.{has_port, has_kept, kept_list}
+use Rattle.fab_turn.specs.Views.{has_kept, kept_list}
 use Rattle.fab_turn.proofs.PortLists.{or_cases, kept_here, kept_there}
 use Rattle.fab_shared.specs.Workers.{IsReady, IsDone, HasWorkers, IsTaken, AreTaken}
 use Rattle.fab_shared.specs.declared.worker.Worker.{Worker}

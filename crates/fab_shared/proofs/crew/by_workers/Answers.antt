@@ -1,4 +1,4 @@
-use Rattle.std.proofs.Common.{◌≡◌, ◌<◌, ℕ, List, All, length, get_or, rules, sym, ap, ◌∙◌, subst}
+use Rattle.std.proofs.Common.{◌≡◌, ◌<◌, List, All, length, get_or, rules, sym, ap, ◌∙◌, subst}
 use Rattle.fab_shared.specs.Workers.{IsDone, HasWorkers}
 use Rattle.fab_shared.specs.declared.worker.Worker.{Worker}
 use Rattle.fab_shared.proofs.ClosingLemmas.{handled}

@@ -1,4 +1,4 @@
-use Rattle.std.proofs.Common.{◌≡◌, ◌+◌, ℕ, List, arith, false, sym, ap, ◌∙◌, subst}
+use Rattle.std.proofs.Common.{◌+◌, ℕ, List, arith, false, sym, ap, ◌∙◌, subst}
 use Rattle.fab_turn.specs.Lock.{given}
 use Rattle.fab_turn.specs.Views.{has_port}
 use Rattle.fab_shared.specs.Workers.{AreHired}
