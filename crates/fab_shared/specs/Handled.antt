@@ -1,19 +1,12 @@
 -- What it is to handle the frames of a window.
-use Rattle.std.specs.Prelude.{◌≡◌, ◌≢◌, ℕ, ◌+◌, List, [], ◌∷◌, map, Option, Some, None}
+use Rattle.std.specs.Prelude.{◌≡◌, ◌≢◌, ℕ, ◌+◌, List, [], ◌∷◌, map}
 use Rattle.fab_policy.specs.Journal.{followed}
 use Rattle.fab_policy.specs.Legal.{HasPorts, of_port, numbered_from}
 use Rattle.fab_policy.specs.Standing.{Contents, Grown}
 use Rattle.fab_policy.specs.declared.event.Event.{Event}
-use Rattle.fab_policy.specs.declared.verdict.Verdict.{Verdict}
-use Rattle.fab_policy.specs.declared.verdict.Verdict.TheVariants.{Granted}
 use Rattle.pcap_file.specs.declared.Record.{Record}
 use Rattle.fab_gather.specs.declared.shelf.Shelf.{Shelf}
 use Rattle.fab_gather.specs.Reads.{first_index}
-
--- the address that a verdict grants, if it grants one
-abbrev pub granted_by : Verdict → Option ℕ
-granted_by (Granted address) = Some address
-granted_by _ = None
 
 -- the numbers of the first records on shelves
 abbrev pub firsts_of : List Shelf → List ℕ

@@ -1,13 +1,12 @@
 //! The frames of a window, one port after another.
 ghost use Rattle.std.specs.Prelude.{◌≡◌, ◌+◌, ◌<◌, ◌≤◌, ◌∷◌, [], IfOk, IsSome, OnOk, length};
 ghost use Rattle.fab_gather.specs.Reads.{batches_of, first_index};
-ghost use Rattle.fab_shared.specs.Handled as spec;
 ghost use Rattle.fab_shared.specs.Handled.{Handled, HandledPort, firsts_of};
 
-use fab_base::{FcId, Gate, NoMemory, PortNo};
+use fab_base::{Gate, NoMemory, PortNo};
 use fab_gather::Shelf;
 use fab_policy::{Verdict, entries_come_in_parts, fabric_steps, hear};
-use forward_core::{Fabric, StepFault};
+use forward_core::{Fabric, StepFault, granted_address};
 use pcap_file::Record;
 use std::alloc::Global;
 
@@ -53,7 +52,7 @@ fn take_port<G: Gate>(
         let index = first + place as u64;
         gate.pass(port, index);
         let verdict = take_record(alloc, fabric, port, index, record)?;
-        gate.done(port, index, granted(&verdict));
+        gate.done(port, index, granted_address(&verdict));
     }
     Ok(())
 }
@@ -76,15 +75,5 @@ fn take_record(
         Ok(verdict) => Ok(verdict),
         Err(StepFault::Memory) => Err(NoMemory),
         Err(StepFault::WishTaken) => unreachable!(),
-    }
-}
-
-// The address that a verdict grants.
-pub(crate) fn granted(verdict: &Verdict) -> Option<FcId>
-    ensures { result ≡ spec.granted_by verdict.now }
-{
-    match verdict {
-        Verdict::Granted(address) => Some(*address),
-        _ => None,
     }
 }

@@ -6,11 +6,11 @@ ghost use Rattle.fab_turn.specs.Lock.{own, IsPassOf, IsIdle};
 ghost use Rattle.fab_shared.specs.Shared.{opened};
 ghost use Rattle.fab_shared.specs.Workers.{frames_in, IsReady, IsNew, IsDone};
 
-use crate::frames::granted;
 use crate::{Pass, SharedFabric};
 use fab_base::{Gate, NoMemory, PortNo};
 use fab_gather::Shelf;
 use fab_policy::hear;
+use forward_core::granted_address;
 use std::alloc::Global;
 use std::sync::Wait;
 
@@ -68,7 +68,7 @@ fn take_batch<R: Wait, G: Gate>(
         let index = first + place as u64;
         gate.pass(port, index);
         let verdict = shared.submit(rt, alloc, pass, index, &hear(&record.caught))?;
-        gate.done(port, index, granted(&verdict));
+        gate.done(port, index, granted_address(&verdict));
     }
     Ok(())
 }

@@ -9,7 +9,8 @@ use Rattle.fab_policy.specs.Outputs.{State}
 use Rattle.fab_policy.specs.Standing.{Contents, Stands, Takes}
 use Rattle.fab_policy.specs.declared.event.Event.{Event}
 use Rattle.fab_policy.specs.declared.event.Event.TheVariants.{Tick}
-use Rattle.fab_windows.specs.Window.{AreTicksTo, IsTickOf, Ticked}
+use Rattle.fab_windows.specs.Window.{AreTicksTo, Ticked}
+use Rattle.forward_core.specs.Fabric.{IsTickOf}
 
 -- a fabric's clock is that of its journals
 pub same_clock : (F : Contents) (J : Journal) → Stands F J → F.state.tables.clock ≡ clock J

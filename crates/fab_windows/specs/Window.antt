@@ -6,15 +6,9 @@ use Rattle.fab_policy.specs.Legal.{Legal, IsNextTick}
 use Rattle.fab_policy.specs.Standing.{Contents, Stands}
 use Rattle.fab_policy.specs.declared.event.Event.{Event}
 use Rattle.fab_policy.specs.declared.event.Event.TheVariants.{Tick, Frame}
-pub use Rattle.fab_shared.specs.Handled.{granted_by, firsts_of, HandledPort, HoldBatches, Handled}
+pub use Rattle.fab_shared.specs.Handled.{firsts_of, HandledPort, HoldBatches, Handled}
 
 -- ---- ticks
-
--- A moment is the next tick of a fabric on the way to a window.
-pub record IsTickOf (w : ℕ) (F : Contents) (m : ℕ) : Type 0 where
-  pub above : IfSome F.state.tables.clock (λ t. t < m)
-  pub within : m ≤ w
-  pub next : (J : Journal) → Stands F J → IsNextTick F.settings J w m
 
 -- ticks one after another, each the next one on the way to a window, the last of them at it
 abbrev pub AreTicksTo : Settings → ℕ → Journal → List Event → Type 0
