@@ -1,5 +1,5 @@
 use Rattle.std.proofs.Common.{subst, arith}
-use Rattle.std.proofs.Math.Facts.{FitsVoice-of_lt}
+use Rattle.std.proofs.Math.Facts.{Fits-of_lt}
 use Rattle.keepalive_clock.specs.Clock.{IsSound}
 use Rattle.keepalive_clock.proofs.KeptLemmas.{sound_kept}
 use Rattle.keepalive_clock.proofs.DueLemmas.{last_there, first_silence, due_range, silent_by_voice, none_due}
@@ -9,7 +9,7 @@ pub index-requires : goal.index-requires
 index-requires c = last_there c.self.invariant c.in-Some.place.now (rw c.deref.ensures.value at c.in-Some.ensures.value)
 
 pub overflow_cast-result : goal.overflow_cast-result
-overflow_cast-result c = FitsVoice-of_lt (omega (arith, c.due.ensures.moment, due_range c.self.invariant c.in-Some.place.now c.index.result.now (rw c.deref.ensures.value at c.in-Some.ensures.value) c.index.ensures))
+overflow_cast-result c = Fits-of_lt (omega (arith, c.due.ensures.moment, due_range c.self.invariant c.in-Some.place.now c.index.result.now (rw c.deref.ensures.value at c.in-Some.ensures.value) c.index.ensures))
 
 pub returns-in-Some-clause-first : goal.returns-in-Some-clause-first
 returns-in-Some-clause-first c =
