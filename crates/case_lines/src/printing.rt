@@ -1,11 +1,10 @@
 //! How answers are appended. Where memory is refused, a front of the text may stand there.
 ghost use Rattle.std.specs.Prelude.{◌≡◌, ◌++◌, ◌∷◌, [], OnOk, decimal};
 ghost use Rattle.fab_base.specs.Texts.{hex, hex_bytes};
-ghost use Rattle.fab_config.specs.Written.{octets_text};
 ghost use Rattle.case_lines.specs.Printing as spec;
 
 use fab_base::{FcId, Mac, Wwn, address_text, wwn_text};
-use fab_config::{octet_text, put_octets};
+use fab_config::octet_text;
 use itoa::Buffer;
 use std::alloc::AllocError;
 
@@ -40,24 +39,62 @@ pub fn put_hex(out: &mut Vec<u8>, bytes: &[u8]) -> Result<(), AllocError>
     if bytes.is_empty() {
         return out.extend_from_slice(b"-");
     }
-    put_pairs(out, bytes)
+    put_octets(out, bytes)
 }
 
 // Appends two digits for each byte.
-fn put_pairs(out: &mut Vec<u8>, bytes: &[u8]) -> Result<(), AllocError>
+fn put_octets(out: &mut Vec<u8>, bytes: &[u8]) -> Result<(), AllocError>
     ensures { OnOk result (out.new.items ≡ out.old.items ++ hex_bytes bytes.now) }
 {
     for byte in bytes {
-        out.extend_from_slice(&octet_text(*byte))?;
+        put_octet(out, *byte)?;
     }
     Ok(())
 }
 
+// Appends a byte's two digits.
+fn put_octet(out: &mut Vec<u8>, byte: u8) -> Result<(), AllocError>
+    ensures { OnOk result (out.new.items ≡ out.old.items ++ hex 2 byte) }
+{
+    out.extend_from_slice(&octet_text(byte))
+}
+
 /// Appends a MAC with colons.
 pub fn put_mac(out: &mut Vec<u8>, mac: &Mac) -> Result<(), AllocError>
-    ensures { OnOk result (out.new.items ≡ out.old.items ++ octets_text mac.now) }
+    ensures { OnOk result (out.new.items ≡ out.old.items ++ spec.with_colons mac.now) }
 {
-    put_octets(&mac.0, out)
+    put_with_colons(out, &mac.0)
+}
+
+// Appends the digits of bytes with colons between them.
+fn put_with_colons(out: &mut Vec<u8>, bytes: &[u8]) -> Result<(), AllocError>
+    ensures { OnOk result (out.new.items ≡ out.old.items ++ spec.with_colons bytes.now) }
+{
+    match bytes.split_first() {
+        None => Ok(()),
+        Some((first, rest)) => {
+            put_octet(out, *first)?;
+            put_behind_colons(out, rest)
+        }
+    }
+}
+
+// Appends the digits of bytes with a colon before each.
+fn put_behind_colons(out: &mut Vec<u8>, bytes: &[u8]) -> Result<(), AllocError>
+    ensures { OnOk result (out.new.items ≡ out.old.items ++ spec.behind_colons bytes.now) }
+{
+    for byte in bytes {
+        put_behind_colon(out, *byte)?;
+    }
+    Ok(())
+}
+
+fn put_behind_colon(out: &mut Vec<u8>, byte: u8) -> Result<(), AllocError>
+    ensures { OnOk result (out.new.items ≡ out.old.items ++ 58 ∷ hex 2 byte) }
+{
+    out.extend_from_slice(b":")?;
+    put_octet(out, byte)?;
+    Ok(())
 }
 
 /// Appends the sixteen digits of a worldwide name.

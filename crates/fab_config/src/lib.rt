@@ -20,7 +20,7 @@ pub use reading::{ConfigError, read_config};
 use std::marker::Model;
 use thiserror::Error;
 pub use words::next_word;
-pub use writing::{octet_text, put_octets, write_config};
+pub use writing::{octet_text, write_config};
 
 /// Port names.
 pub type NameList = OwnedList<Wwn>;

@@ -100,9 +100,7 @@ fn write_octets(key: &[u8], bytes: &[u8], out: &mut Vec<u8>) -> Result<(), Alloc
     out.extend_from_slice(b"\n")
 }
 
-/// Appends octets as `read_mac` and `read_name` read them, in lower case. Where memory is refused,
-/// a front of them may stand there.
-pub fn put_octets(bytes: &[u8], out: &mut Vec<u8>) -> Result<(), AllocError>
+fn put_octets(bytes: &[u8], out: &mut Vec<u8>) -> Result<(), AllocError>
     ensures { OnOk result (out.new.items ≡ out.old.items ++ spec.octets_text bytes.now) }
 {
     let Some((first, rest)) = bytes.split_first() else {

@@ -1,6 +1,6 @@
 use Rattle.std.proofs.Common.{◌≡◌, ◌++◌, drop}
 use Rattle.fab_base.specs.Texts.{hex_bytes}
-use Rattle.case_lines.proofs.printing.put_pairs.Given as goal
+use Rattle.case_lines.proofs.printing.put_octets.Given as goal
 
 abbrev pub invariant-loop-byte : goal.invariant-loop-byte
 invariant-loop-byte l = l.out.items ++ hex_bytes (drop l.byte-index l.bytes) ≡ l.initial.out.items ++ hex_bytes l.bytes
