@@ -54,7 +54,7 @@ is_read : (x : GatherFault) → IsErrOf {T = List Record} (Err x) faults.Read �
 is_read x e = cc
 
 module _ (port slot : ℕ) (a : Seen) (r : Reading) (had : Budget) where
-  pub so_far_none : IsTrue (a.input slot) → r.kept ≡ None → r.at + had.bytes < 2 ^ 64 → SoFar port slot a a r r had had []
+  pub so_far_none : IsTrue (a.input slot) → r.kept ≡ None → r.at + had.bytes < 2 ^ 64 → SoFar port slot (reader_stand a r had) (reader_stand a r had) []
   so_far_none input fresh place = record {
     reads = reads_refl (a.name slot) a;
     input = input;
@@ -65,11 +65,11 @@ module _ (port slot : ℕ) (a : Seen) (r : Reading) (had : Budget) where
     frames = omega arith;
     ascends = tt;
     last = refl;
-    taken = λ told n less. (n, less, sym (in_front_none (to_take n port r slot a had)));
+    taken = λ told n less. (n, less, sym (in_front_none (to_take n port slot (reader_stand a r had))));
     counts = λ m. refl;
   }
 
-  module _ (b c : Seen) (s t : Reading) (left now : Budget) (records : List Record) (f : SoFar port slot a b r s had left records) where
+  module _ (b c : Seen) (s t : Reading) (left now : Budget) (records : List Record) (f : SoFar port slot (reader_stand a r had) (reader_stand b s left) records) where
     told_b : IsTrue a.told → IsTrue b.told
     told_b told = told_stays (a.name slot) a b f.reads.keeps told
 
@@ -84,9 +84,9 @@ module _ (port slot : ℕ) (a : Seen) (r : Reading) (had : Budget) where
     more_b m moment caught rest = records_by m port s.head (s.at + (RECORD_HEAD + length caught.bytes)) moment (without_record left caught) rest
 
     stepped : (x : Record) (whole : Result Taken GatherFault) (rest : List ℕ) (t : Reading) (now : Budget) → step_b ≡ Gives x.moment x.caught (to_come t c slot) → length (to_come s b slot) ≡ 16 + length x.caught.bytes + length (to_come t c slot)
-        → ((q : ℕ) → more_b q x.moment x.caught (to_come t c slot) ≡ to_take q port t slot c now)
-        → (q : ℕ) → length (to_come s b slot) < q → whole ≡ in_front records (to_take q port s slot b left)
-        → (q : ℕ) × (length (to_come t c slot) < q) × (whole ≡ in_front (records ++ x ∷ []) (to_take q port t slot c now))
+        → ((q : ℕ) → more_b q x.moment x.caught (to_come t c slot) ≡ to_take q port slot (reader_stand c t now))
+        → (q : ℕ) → length (to_come s b slot) < q → whole ≡ in_front records (to_take q port slot (reader_stand b s left))
+        → (q : ℕ) × (length (to_come t c slot) < q) × (whole ≡ in_front (records ++ x ∷ []) (to_take q port slot (reader_stand c t now)))
     stepped x whole rest t now gives size same zero less e = absurd (omega (arith, less))
     stepped x whole rest t now gives size same (suc q) less e = (
       q,
@@ -95,7 +95,7 @@ module _ (port slot : ℕ) (a : Seen) (r : Reading) (had : Budget) where
     )
 
     -- one record more
-    pub so_far_more : (x : Record) → NextReads slot (reader_stand b s left) (reader_stand c t now) (Ok (Some x)) → SoFar port slot a c r t had now (records ++ x ∷ [])
+    pub so_far_more : (x : Record) → NextReads slot (reader_stand b s left) (reader_stand c t now) (Ok (Some x)) → SoFar port slot (reader_stand a r had) (reader_stand c t now) (records ++ x ∷ [])
     so_far_more x n =
         let k = n.taken in
         let at : t.at ≡ min (s.at + (16 + length x.caught.bytes)) (2 ^ 64 - 1) = ap (λ (q : Reading). q.at) k.moved in
@@ -118,36 +118,36 @@ module _ (port slot : ℕ) (a : Seen) (r : Reading) (had : Budget) where
               let size = (found_stands s.head s.greatest (to_come s b slot) x.moment x.caught (to_come t c slot) (gives_found left s.at (next s.head s.greatest (to_come s b slot)) x.moment x.caught (to_come t c slot) gives)).size in
               let place : s.at + (16 + length x.caught.bytes) ≡ t.at = omega (arith, f.place, k.bytes, at) in
               let budget : without_record left x.caught ≡ now = same_budget (without_record left x.caught) now (omega (arith, k.bytes)) (omega (arith, k.frames)) in
-              let same : (q : ℕ) → more_b q x.moment x.caught (to_come t c slot) ≡ to_take q port t slot c now = λ q.
+              let same : (q : ℕ) → more_b q x.moment x.caught (to_come t c slot) ≡ to_take q port slot (reader_stand c t now) = λ q.
               ap (λ (z : CaptureHead). records_by q port z (s.at + (RECORD_HEAD + length x.caught.bytes)) x.moment (without_record left x.caught) (to_come t c slot)) (sym head)
               ∙ ap (λ z. records_by q port t.head z x.moment (without_record left x.caught) (to_come t c slot)) place
               ∙ ap (λ z. records_by q port t.head t.at z (without_record left x.caught) (to_come t c slot)) (sym greatest)
               ∙ ap (λ z. records_by q port t.head t.at t.greatest z (to_come t c slot)) budget in
-              stepped x (to_take m port r slot a had) (to_come t c slot) t now gives size same h.0 h.1 h.2;
+              stepped x (to_take m port slot (reader_stand a r had)) (to_come t c slot) t now gives size same h.0 h.1 h.2;
           counts = λ m. n.counts m ∙ f.counts m;
         }
 
     -- the last step
-    last_step : (step : Step) → step_b ≡ step → (whole : Result Taken GatherFault) (q : ℕ) → length (to_come s b slot) < q → whole ≡ in_front records (to_take q port s slot b left)
+    last_step : (step : Step) → step_b ≡ step → (whole : Result Taken GatherFault) (q : ℕ) → length (to_come s b slot) < q → whole ≡ in_front records (to_take q port slot (reader_stand b s left))
         → (m : ℕ) × (whole ≡ in_front records (by_step (more_b m) port left step))
     last_step step is whole zero less e = absurd (omega (arith, less))
     last_step step is whole (suc q) less e = (q, e ∙ ap (λ z. in_front records (by_step (more_b q) port left z)) is)
 
-    pub so_far_ended : NextReads slot (reader_stand b s left) (reader_stand c t now) (Ok None) → ReadsRecords port slot a c r had now (Ok records)
+    pub so_far_ended : NextReads slot (reader_stand b s left) (reader_stand c t now) (Ok None) → ReadsRecords port slot (reader_stand a r had) (reader_stand c t now) (Ok records)
     so_far_ended n = record {
       reads = reads_c n;
       fit = (f.fit, f.ascends);
       frames = ap (λ (z : Budget). z.frames + length records) n.taken.budget ∙ f.frames;
       taken = λ told m less.
           let h = f.taken told m less in
-          let end = last_step Ends (n.says (told_b told) f.fresh).0 (to_take m port r slot a had) h.0 h.1 h.2 in
+          let end = last_step Ends (n.says (told_b told) f.fresh).0 (to_take m port slot (reader_stand a r had)) h.0 h.1 h.2 in
           end.1 ∙ ap (λ rs. Ok (record { records = rs; left = left })) (append-nil records) ∙ ap (λ z. Ok (record { records = records; left = z })) (sym n.taken.budget);
       stops = λ told m less. tt;
       cause = λ e. absurd (cc);
       counts = λ other m. n.counts m ∙ f.counts m;
     }
 
-    pub so_far_failed : (e : CapError) → NextReads slot (reader_stand b s left) (reader_stand c t now) (Err e) → ReadsRecords port slot a c r had now (Err (fault_by e port))
+    pub so_far_failed : (e : CapError) → NextReads slot (reader_stand b s left) (reader_stand c t now) (Err e) → ReadsRecords port slot (reader_stand a r had) (reader_stand c t now) (Err (fault_by e port))
     so_far_failed e n = record {
       reads = reads_c n;
       fit = tt;
@@ -155,7 +155,7 @@ module _ (port slot : ℕ) (a : Seen) (r : Reading) (had : Budget) where
       taken = λ told m less. tt;
       stops = λ told m less stopped.
           let h = f.taken told m less in
-          (last_step (Stops e) (stops_by step_b (to_come t c slot) e port (n.says (told_b told) f.fresh) stopped) (to_take m port r slot a had) h.0 h.1 h.2).1;
+          (last_step (Stops e) (stops_by step_b (to_come t c slot) e port (n.says (told_b told) f.fresh) stopped) (to_take m port slot (reader_stand a r had)) h.0 h.1 h.2).1;
       cause = λ is.
           let failed = read_of port e (is_read (fault_by e port) is) in
           let rose = n.cause f.fresh failed.0 (ap Err failed.1) in
@@ -171,7 +171,7 @@ module _ (port slot : ℕ) (a b : Seen) (had left : Budget) (input : IsTrue (a.i
   whole_place r o range = let at : r.at ≡ 24 = o.begins.0 in let bytes : left.bytes + 24 ≡ had.bytes = o.taken.0 in omega (arith, at, bytes, range)
 
   -- the capture is what is taken behind its head
-  whole_is : (r : Reading) → OpensReader slot a b had left (Ok r) → IsTrue a.told → capture_by port had (a.left slot) ≡ to_take (suc (length (a.left slot))) port r slot b left
+  whole_is : (r : Reading) → OpensReader slot a b had left (Ok r) → IsTrue a.told → capture_by port had (a.left slot) ≡ to_take (suc (length (a.left slot))) port slot (reader_stand b r left)
   unfolding capture_by
   whole_is r o told =
       let bytes : left.bytes + 24 ≡ had.bytes = o.taken.0 in
@@ -189,8 +189,8 @@ module _ (port slot : ℕ) (a b : Seen) (had left : Budget) (input : IsTrue (a.i
   whole_less : (r : Reading) → OpensReader slot a b had left (Ok r) → IsTrue a.told → length (to_come r b slot) < suc (length (a.left slot))
   whole_less r o told = omega (arith, ap length (o.head told).1, length-drop 24 (a.left slot))
 
-  pub whole_read : (c : Seen) (r : Reading) (now : Budget) (result : Result (List Record) GatherFault) → OpensReader slot a b had left (Ok r) → ReadsRecords port slot b c r left now result → ReadsCapture port slot a c had now result
-  whole_read c r now result o k =
+  pub whole_read : (c : Seen) (r r' : Reading) (now : Budget) (result : Result (List Record) GatherFault) → OpensReader slot a b had left (Ok r) → ReadsRecords port slot (reader_stand b r left) (reader_stand c r' now) result → ReadsCapture port slot a c had now result
+  whole_read c r r' now result o k =
       let name = input_name (a.name slot) a b o.reads.keeps slot input in
       record {
         reads = reads_trans (a.name slot) a b c o.reads (subst (λ m. Reads m b c) name k.reads);

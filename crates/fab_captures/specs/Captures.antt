@@ -10,7 +10,7 @@ use Rattle.pcap_file.specs.declared.CapOpen.{CapOpen}
 use Rattle.pcap_file.specs.declared.CapOpen.TheVariants as opens
 use Rattle.pcap_file.specs.declared.Record.{Record}
 use Rattle.pcap_file.specs.Capture.{HEAD, RECORD_HEAD, next, head_decoded}
-use Rattle.pcap_file.specs.Reading.{Reading, to_come, Step, Gives, Ends, Stops, step_of}
+use Rattle.pcap_file.specs.Reading.{ReaderStand, to_come, Step, Gives, Ends, Stops, step_of}
 use Rattle.pcap_file.specs.Records.{Ascends, last_moment}
 use Rattle.fab_gather.specs.declared.fault.CapWhy.{CapWhy}
 use Rattle.fab_gather.specs.declared.fault.CapWhy.TheVariants as why
@@ -102,30 +102,30 @@ in_front records (Err fault) = Err fault
 in_front records (Ok t) = Ok (record { records = records ++ t.records; left = t.left })
 
 -- what a reader's records are from where it stands
-abbrev pub to_take : ℕ → ℕ → Reading → ℕ → Seen → Budget → Result Taken GatherFault
-to_take n port r slot d budget = records_by n port r.head r.at r.greatest budget (to_come r d slot)
+abbrev pub to_take : ℕ → ℕ → ℕ → ReaderStand → Result Taken GatherFault
+to_take n port slot s = records_by n port s.reader.head s.reader.at s.reader.greatest s.budget (to_come s.reader s.depot slot)
 
 -- What reading the records behind a head does, with more than enough steps.
-pub record ReadsRecords (port slot : ℕ) (a b : Seen) (r : Reading) (had left : Budget) (result : Result (List Record) GatherFault) : Type 0 where
-  pub reads : Reads (a.name slot) a b
-  pub fit : IfOk result (λ records. AreFit records × Ascends r.greatest records)
-  pub frames : IfOk result (λ records. left.frames + length records ≡ had.frames)
-  pub taken : IsTrue a.told → (n : ℕ) → length (to_come r a slot) < n → IfOk result (λ records. to_take n port r slot a had ≡ Ok (record { records = records; left = left }))
-  pub stops : IsTrue a.told → (n : ℕ) → length (to_come r a slot) < n → IfErr result (λ e. IsStopped e → to_take n port r slot a had ≡ Err e)
-  pub cause : IsErrOf result faults.Read → Rose (a.read_faults (a.name slot)) (b.read_faults (a.name slot))
-  pub counts : TellsReads a b result
+pub record ReadsRecords (port slot : ℕ) (before after : ReaderStand) (result : Result (List Record) GatherFault) : Type 0 where
+  pub reads : Reads (before.depot.name slot) before.depot after.depot
+  pub fit : IfOk result (λ records. AreFit records × Ascends before.reader.greatest records)
+  pub frames : IfOk result (λ records. after.budget.frames + length records ≡ before.budget.frames)
+  pub taken : IsTrue before.depot.told → (n : ℕ) → length (to_come before.reader before.depot slot) < n → IfOk result (λ records. to_take n port slot before ≡ Ok (record { records = records; left = after.budget }))
+  pub stops : IsTrue before.depot.told → (n : ℕ) → length (to_come before.reader before.depot slot) < n → IfErr result (λ e. IsStopped e → to_take n port slot before ≡ Err e)
+  pub cause : IsErrOf result faults.Read → Rose (before.depot.read_faults (before.depot.name slot)) (after.depot.read_faults (before.depot.name slot))
+  pub counts : TellsReads before.depot after.depot result
 
 -- What stands while they are read: these records were taken.
-pub record SoFar (port slot : ℕ) (a b : Seen) (r s : Reading) (had left : Budget) (records : List Record) : Type 0 where
-  pub reads : Reads (a.name slot) a b
-  pub input : IsTrue (b.input slot)
-  pub name : b.name slot ≡ a.name slot
-  pub fresh : s.kept ≡ None
-  pub place : s.at + left.bytes < 2 ^ 64
+pub record SoFar (port slot : ℕ) (begin now : ReaderStand) (records : List Record) : Type 0 where
+  pub reads : Reads (begin.depot.name slot) begin.depot now.depot
+  pub input : IsTrue (now.depot.input slot)
+  pub name : now.depot.name slot ≡ begin.depot.name slot
+  pub fresh : now.reader.kept ≡ None
+  pub place : now.reader.at + now.budget.bytes < 2 ^ 64
   pub fit : AreFit records
-  pub frames : left.frames + length records ≡ had.frames
-  pub ascends : Ascends r.greatest records
-  pub last : s.greatest ≡ last_moment r.greatest records
-  pub taken : IsTrue a.told → (n : ℕ) → length (to_come r a slot) < n →
-      (m : ℕ) × (length (to_come s b slot) < m) × (to_take n port r slot a had ≡ in_front records (to_take m port s slot b left))
-  pub counts : SameReadFaults a b
+  pub frames : now.budget.frames + length records ≡ begin.budget.frames
+  pub ascends : Ascends begin.reader.greatest records
+  pub last : now.reader.greatest ≡ last_moment begin.reader.greatest records
+  pub taken : IsTrue begin.depot.told → (n : ℕ) → length (to_come begin.reader begin.depot slot) < n →
+      (m : ℕ) × (length (to_come now.reader now.depot slot) < m) × (to_take n port slot begin ≡ in_front records (to_take m port slot now))
+  pub counts : SameReadFaults begin.depot now.depot

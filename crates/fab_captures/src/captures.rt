@@ -1,5 +1,6 @@
 //! Reading a capture whole.
 ghost use Rattle.std.specs.Prelude.{◌≡◌, ◌+◌, ◌<◌, ◌^◌, IsTrue, None};
+ghost use Rattle.pcap_file.specs.Reading.{reader_stand};
 ghost use Rattle.fab_captures.specs.Captures.{ReadsCapture, ReadsRecords, unopened_by, why_of};
 
 use fab_base::{Depot, OwnedList, PortNo};
@@ -43,8 +44,8 @@ fn records_of<D: Depot>(
     requires input { IsTrue ((D.seen depot.old).input slot) }
     requires fresh { reader.old.kept ≡ None }
     requires place { reader.old.at + budget.old.bytes < 2 ^ 64 }
-    ensures reads { ReadsRecords port slot (D.seen depot.old) (D.seen depot.new) reader.old
-        budget.old budget.new result }
+    ensures reads { ReadsRecords port slot (reader_stand (D.seen depot.old) reader.old budget.old)
+        (reader_stand (D.seen depot.new) reader.new budget.new) result }
 {
     let mut records = OwnedList::empty(alloc);
     loop {

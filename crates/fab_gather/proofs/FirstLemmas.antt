@@ -26,7 +26,7 @@ use Rattle.fab_gather.specs.Ports.{AreInputs, At, slots_of, NameIn, TakesFrom, r
 use Rattle.fab_gather.specs.Reads.{HasRead, HaveRead}
 use Rattle.fab_gather.proofs.OrderLemmas.{After, AllNotBefore, TakesAt, taken_at, Later, ordered, later_looks, before_by}
 use Rattle.fab_gather.proofs.LeavesLemmas.{gave_none, gave_between, gave_first}
-use Rattle.fab_gather.proofs.PortsLemmas.{same_looks, smaller}
+use Rattle.fab_gather.proofs.PortsLemmas.{same_looks, smaller, Row, row_at}
 use Rattle.fab_gather.proofs.SlotLemmas.{some_is, item_at, push_last, push_before, get_set_same, get_set_other, slots_set, same_length, open_now, touches_on, others_left, rose_on}
 
 -- ---- a first look among others
@@ -142,17 +142,17 @@ none_below c None = tt
 none_below c (Some x) = omega arith
 
 -- One port's looks begin with its first, which has no window, and go on with these; what others have to read stays.
-record OneLooks (c : Settings) (k p : ℕ) (b d : Seen) (x : Look) (others : List Look) (ins : List Input) (shelves : List Shelf) : Type 0 where
-  count : length shelves ≡ k
-  within : k < length ins
-  port : x.port ≡ p + k
+record OneLooks (c : Settings) (k : ℕ) (row : Row) (d : Seen) (x : Look) (others : List Look) : Type 0 where
+  count : length row.shelves ≡ k
+  within : k < length row.ins
+  port : x.port ≡ row.number + k
   first : x.window ≡ None
-  own : (n : ℕ) (i : Input) → n ≡ p + k → slice_get ins k ≡ Some i → looks c n (first_spot (opened_by b i.slot i.reader)) ≡ x ∷ others
+  own : (n : ℕ) (i : Input) → n ≡ row.number + k → slice_get row.ins k ≡ Some i → looks c n (first_spot (opened_by row.seen i.slot i.reader)) ≡ x ∷ others
   behind_ : AllBehind x.port others
-  same : (q : ℕ) (i : Input) → q ≢ k → slice_get ins q ≡ Some i → d.left i.slot ≡ b.left i.slot
-  last : (q : ℕ) (i : Input) (s : Shelf) → At q ins shelves i s → IfSome s.next (λ y. i.reader.greatest ≡ y.moment)
+  same : (q : ℕ) (i : Input) → q ≢ k → slice_get row.ins q ≡ Some i → d.left i.slot ≡ row.seen.left i.slot
+  last : (q : ℕ) (i : Input) (s : Shelf) → At q row.ins row.shelves i s → IfSome s.next (λ y. i.reader.greatest ≡ y.moment)
 
-looks_at : LooksFound → LooksEnd → (c : Settings) (k p : ℕ) (b d : Seen) (x : Look) (others : List Look) (ins : List Input) (shelves : List Shelf) → OneLooks c k p b d x others ins shelves →
+looks_at : LooksFound → LooksEnd → (c : Settings) (k p : ℕ) (b d : Seen) (x : Look) (others : List Look) (ins : List Input) (shelves : List Shelf) → OneLooks c k (row_at b p ins shelves) d x others →
     TakesAt k (x ∷ []) (fronts c p b ins shelves) (set (fronts c p d ins shelves) k others)
 looks_at found end_ c k p b d x others [] shelves t = let w = t.within in absurd (omega arith)
 looks_at found end_ c zero p b d x others (i ∷ ins) (s ∷ shelves) t = let n = t.count in absurd (omega arith)
@@ -271,7 +271,7 @@ module _ (found_law : LooksFound) (end_law : LooksEnd) (c : Settings) (k : ℕ) 
 
     -- its looks come first, behind those that were made
     module _ (d : Seen) (others : List Look) (are_looks : looks c (k + 1) (first_spot (opened_by b i1.slot i1.reader)) ≡ own_look ∷ others) (behind_ : AllBehind (k + 1) others) (same : (q : ℕ) (j : Input) → q ≢ k → slice_get ins' q ≡ Some j → d.left j.slot ≡ b.left j.slot) where
-      one_looks : OneLooks c k 1 b d own_look others ins' shelves
+      one_looks : OneLooks c k (row_at b 1 ins' shelves) d own_look others
       one_looks = record {
         count = see.count;
         within = let l = long in omega arith;

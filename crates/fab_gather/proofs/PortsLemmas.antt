@@ -84,15 +84,25 @@ each_rests c p d made (i ∷ ins) (s ∷ shelves) h =
     each-append made (look_of c p d i s) (joined (rests c (p + 1) d ins shelves)) (h 0 p i s (omega arith) (record { input = refl; shelf = refl }))
     (each_rests c (p + 1) d made ins shelves (λ q n j t e at. h (suc q) n j t (omega arith) (record { input = at.input; shelf = at.shelf })))
 
--- one port's looks are some that were made, and others; all looks of ports before it come later, and those of ports behind it too
-pub record OneTakes (c : Settings) (k p : ℕ) (b d : Seen) (made behind_ : List Look) (ins : List Input) (shelves : List Shelf) : Type 0 where
-  pub own : (n : ℕ) (i : Input) (s : Shelf) → n ≡ p + k → At k ins shelves i s → look_of c n b i s ≡ made ++ behind_
-  pub leads : Leads made behind_
-  pub same : (q : ℕ) (i : Input) (s : Shelf) → q ≢ k → At q ins shelves i s → d.left i.slot ≡ b.left i.slot
-  pub before : (q n : ℕ) (i : Input) (s : Shelf) → n ≡ p + q → q < k → At q ins shelves i s → AllNotBefore (look_of c n d i s) made
-  pub behind : (q n : ℕ) (i : Input) (s : Shelf) → n ≡ p + q → k < q → At q ins shelves i s → EachBefore made (look_of c n d i s)
+-- A row of ports as they stand: the store, the number of the first of them, their captures and their shelves.
+pub record Row : Type 0 where
+  pub seen : Seen
+  pub number : ℕ
+  pub ins : List Input
+  pub shelves : List Shelf
 
-pub takes_at : (c : Settings) (k p : ℕ) (b d : Seen) (made behind_ : List Look) (ins : List Input) (shelves : List Shelf) → k < length ins → length shelves ≡ length ins → OneTakes c k p b d made behind_ ins shelves →
+abbrev pub row_at : Seen → ℕ → List Input → List Shelf → Row
+row_at seen number ins shelves = record { seen = seen; number = number; ins = ins; shelves = shelves }
+
+-- one port's looks are some that were made, and others; all looks of ports before it come later, and those of ports behind it too
+pub record OneTakes (c : Settings) (k : ℕ) (row : Row) (d : Seen) (made behind_ : List Look) : Type 0 where
+  pub own : (n : ℕ) (i : Input) (s : Shelf) → n ≡ row.number + k → At k row.ins row.shelves i s → look_of c n row.seen i s ≡ made ++ behind_
+  pub leads : Leads made behind_
+  pub same : (q : ℕ) (i : Input) (s : Shelf) → q ≢ k → At q row.ins row.shelves i s → d.left i.slot ≡ row.seen.left i.slot
+  pub before : (q n : ℕ) (i : Input) (s : Shelf) → n ≡ row.number + q → q < k → At q row.ins row.shelves i s → AllNotBefore (look_of c n d i s) made
+  pub behind : (q n : ℕ) (i : Input) (s : Shelf) → n ≡ row.number + q → k < q → At q row.ins row.shelves i s → EachBefore made (look_of c n d i s)
+
+pub takes_at : (c : Settings) (k p : ℕ) (b d : Seen) (made behind_ : List Look) (ins : List Input) (shelves : List Shelf) → k < length ins → length shelves ≡ length ins → OneTakes c k (row_at b p ins shelves) d made behind_ →
     TakesAt k made (rests c p b ins shelves) (set (rests c p d ins shelves) k behind_)
 takes_at c k p b d made behind_ [] shelves lt count t = absurd (omega arith)
 takes_at c k p b d made behind_ (i ∷ ins) [] lt count t = absurd (omega arith)
@@ -182,7 +192,7 @@ module _ (c : Settings) (w k : ℕ) (a b : Seen) (ins ins' : List Input) (shelve
       others_at q j u ne h = record { input = sym (get_set_other ins' k q i2 ne) ∙ h.input; shelf = sym (get_set_other shelves' k q s2 ne) ∙ h.shelf }
 
       -- looks that were made of this port, and those behind them
-      one_takes : (e : Seen) (made behind_ : List Look) → ((q : ℕ) (j : Input) (u : Shelf) → q ≢ k → At q ins' shelves' j u → e.left j.slot ≡ b.left j.slot) → to_look c (k + 1) b i1.slot i1.reader s1.count s1.next ≡ made ++ behind_ → AreOf (k + 1) w made → OneTakes c k 1 b e made behind_ ins' shelves'
+      one_takes : (e : Seen) (made behind_ : List Look) → ((q : ℕ) (j : Input) (u : Shelf) → q ≢ k → At q ins' shelves' j u → e.left j.slot ≡ b.left j.slot) → to_look c (k + 1) b i1.slot i1.reader s1.count s1.next ≡ made ++ behind_ → AreOf (k + 1) w made → OneTakes c k (row_at b 1 ins' shelves') e made behind_
       one_takes e made behind_ same is of = record {
         own = λ n j u f h.
             let number : k + 1 ≡ n = omega arith in
@@ -201,7 +211,7 @@ module _ (c : Settings) (w k : ℕ) (a b : Seen) (ins ins' : List Input) (shelve
             made_before (k + 1) w n w 0 made (look_of c n e j u) of (later_looks c n e j.slot j.reader u.count u.next w last from) (omega arith) (omega arith);
       }
 
-      in_front : (e : Seen) (made behind_ : List Look) → OneTakes c k 1 b e made behind_ ins' shelves' → in_order (joined (rests c 1 b ins' shelves')) ≡ made ++ in_order (joined (set (rests c 1 e ins' shelves') k behind_))
+      in_front : (e : Seen) (made behind_ : List Look) → OneTakes c k (row_at b 1 ins' shelves') e made behind_ → in_order (joined (rests c 1 b ins' shelves')) ≡ made ++ in_order (joined (set (rests c 1 e ins' shelves') k behind_))
       in_front e made behind_ t = taken_at k made _ _ (takes_at c k 1 b e made behind_ ins' shelves' (let l = long in omega arith) wide t)
 
       pub turn_failed : (f : GatherFault) → TakesWindow c (k + 1) w i1.slot (port_walk_at b i1.reader s1 mid) (port_walk_at d i2.reader s2 left) (Err f) → TakesAll c w (walk_at a ins shelves had) (walk_at d (set ins' k i2) (set shelves' k s2) left) (Err f)

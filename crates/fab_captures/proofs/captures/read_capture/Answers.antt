@@ -9,7 +9,7 @@ records_of-requires-clause-place g c = whole_place c.args.port c.args.slot (g.D.
 pub returns-in-Ok : goal.returns-in-Ok
 returns-in-Ok g c = record {
   reads = whole_read c.args.port c.args.slot (g.D.Depot.seen c.args.depot.now) (g.D.Depot.seen c.open.new.depot) c.args.budget.now c.open.new.budget c.requires.input
-      (g.D.Depot.seen c.records_of.new.depot) c.in-Ok.reader c.records_of.new.budget c.records_of.result c.in-Ok.ensures.opens c.records_of.ensures.reads;
+      (g.D.Depot.seen c.records_of.new.depot) c.in-Ok.reader c.records_of.new.reader c.records_of.new.budget c.records_of.result c.in-Ok.ensures.opens c.records_of.ensures.reads;
 }
 
 pub returns-in-Err : goal.returns-in-Err

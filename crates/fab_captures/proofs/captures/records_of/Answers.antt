@@ -7,14 +7,15 @@ use Rattle.fab_captures.proofs.captures.records_of.Goals as goal
 pub loop-record-init : goal.loop-record-init
 loop-record-init g c =
     let a = g.D.Depot.seen c.args.depot.now in
-    subst (SoFar c.args.port c.args.slot a a c.args.reader.now c.args.reader.now c.args.budget.now c.args.budget.now) (sym c.empty-records.ensures)
+    let begin = reader_stand a c.args.reader.now c.args.budget.now in
+    subst (SoFar c.args.port c.args.slot begin begin) (sym c.empty-records.ensures)
     (so_far_none c.args.port c.args.slot a c.args.reader.now c.args.budget.now c.requires.input c.requires.fresh c.requires.place)
 
 pub loop-record-preserved : goal.loop-record-preserved
 loop-record-preserved g c =
     let a = g.D.Depot.seen c.args.depot.now in
     let l = c.loop-record in
-    subst (SoFar c.args.port c.args.slot a (g.D.Depot.seen c.next.new.depot) c.args.reader.now c.next.new.self c.args.budget.now c.next.new.budget) (sym c.in-Ok.ensures.ok)
+    subst (SoFar c.args.port c.args.slot (reader_stand a c.args.reader.now c.args.budget.now) (reader_stand (g.D.Depot.seen c.next.new.depot) c.next.new.self c.next.new.budget)) (sym c.in-Ok.ensures.ok)
     (so_far_more c.args.port c.args.slot a c.args.reader.now c.args.budget.now (g.D.Depot.seen l.depot) (g.D.Depot.seen c.next.new.depot) l.reader c.next.new.self l.budget c.next.new.budget l.records l.invariant c.in-Ok-Some.record
     (subst (λ o. NextReads c.args.slot (reader_stand (g.D.Depot.seen l.depot) l.reader l.budget) (reader_stand (g.D.Depot.seen c.next.new.depot) c.next.new.self c.next.new.budget) (Ok o)) c.in-Ok-Some.field-0-is c.in-Ok-Some.ensures.next))
 
@@ -32,6 +33,6 @@ returns-in-Err g c =
     let a = g.D.Depot.seen c.args.depot.now in
     let b = g.D.Depot.seen c.next.new.depot in
     record {
-      reads = subst (λ e. ReadsRecords c.args.port c.args.slot a b c.args.reader.now c.args.budget.now c.next.new.budget (Err e)) (sym c.fault_of.ensures)
+      reads = subst (λ e. ReadsRecords c.args.port c.args.slot (reader_stand a c.args.reader.now c.args.budget.now) (reader_stand b c.next.new.self c.next.new.budget) (Err e)) (sym c.fault_of.ensures)
           (so_far_failed c.args.port c.args.slot a c.args.reader.now c.args.budget.now (g.D.Depot.seen l.depot) b l.reader c.next.new.self l.budget c.next.new.budget l.records l.invariant c.in-Err.error c.in-Err.ensures.next);
     }
