@@ -1,5 +1,5 @@
 //! One file of a load, written page by page.
-ghost use Rattle.std.specs.Prelude.{◌≡◌, IsTrue, IfOk, flat_map};
+ghost use Rattle.std.specs.Prelude.{◌≡◌, IsTrue, IfOk, OnOk, flat_map};
 ghost use Rattle.fab_vectors.specs.Files.{Adds};
 ghost use Rattle.fab_vectors.specs.Frames as spec;
 ghost use Rattle.fab_vectors.specs.Load.{capture, record_of};
@@ -9,7 +9,7 @@ use crate::MakeFault;
 use crate::frame::LoadFrame;
 use crate::plan::frames_of;
 use crate::records::write_records;
-use fab_base::{Depot, PortNo, put_all};
+use fab_base::{Depot, NoMemory, PortNo, put_all};
 use pcap_file::write_head;
 use std::alloc::Global;
 
@@ -87,7 +87,11 @@ fn put_pages<D: Depot>(
     let mut rest = frames;
     while !rest.is_empty() {
         let (now, later) = rest.split_at(rest.len().min(PAGE));
-        match put_records(alloc, depot, port, slot, now, counted, buffers) {
+        match fill_page(alloc, port, now, counted, buffers) {
+            Ok(()) => {}
+            Err(_) => return Err(MakeFault::Memory),
+        }
+        match put_page(depot, slot, &buffers.page) {
             Ok(()) => {}
             Err(fault) => return Err(fault),
         }
@@ -96,33 +100,26 @@ fn put_pages<D: Depot>(
     Ok(())
 }
 
-// Puts the records of a few frames of a port.
-fn put_records<D: Depot>(
+// Fills the page with the records of a few frames of a port.
+fn fill_page(
     alloc: Global,
-    depot: &mut D,
     port: PortNo,
-    slot: u32,
     frames: &[LoadFrame],
     counted: &[u8],
     buffers: &mut Buffers,
-) -> Result<(), MakeFault>
-    requires counted { counted.now ≡ spec.counted spec.COUNTED }
-    requires output { IsTrue ((D.seen depot.old).output slot) }
-    ensures adds { Adds slot (flat_map (record_of port) frames.now) (D.seen depot.old)
-        (D.seen depot.new) result }
+) -> Result<(), NoMemory>
+    requires { counted.now ≡ spec.counted spec.COUNTED }
+    ensures { OnOk result (buffers.new.page.items ≡ flat_map (record_of port) frames.now) }
 {
     buffers.page.clear();
-    match write_records(
+    write_records(
         alloc,
         port,
         frames,
         counted,
         &mut buffers.frame,
         &mut buffers.page,
-    ) {
-        Ok(()) => put_page(depot, slot, &buffers.page),
-        Err(_) => Err(MakeFault::Memory),
-    }
+    )
 }
 
 /// Puts bytes to a slot.

@@ -1,6 +1,6 @@
 -- How a clock keeps its voices: each with its last moment at a place of a slab, and the places in two orders, that of a number
 -- which each voice has, and that of the deadlines. No public clause cites this module.
-use Rattle.std.specs.Prelude.{◌≡◌, ℕ, ◌+◌, ◌-◌, ◌*◌, ◌/◌, ◌<◌, ◌≤◌, ◌^◌, List, length, Some, None, Vec, vec_capacity}
+use Rattle.std.specs.Prelude.{◌≡◌, ℕ, ◌+◌, ◌-◌, ◌*◌, ◌/◌, ◌<◌, ◌≤◌, ◌^◌, List, length, Some, None, IsSome, Vec, vec_capacity}
 use Rattle.std.specs.declared.alloc.Global.{Global}
 use Rattle.std.specs.List.{All}
 use Rattle.slab.specs.Slab.{Slab, get}
@@ -47,6 +47,12 @@ abbrev pub HasOwnDue : ℕ → ℕ → ℕ → ℕ → Slab LastHeard → List �
 HasOwnDue node port place now records by_due =
     (x : LastHeard) → get records place ≡ Some x
     → item_at (deadline_number node port) (deadline_number node port (heard_again now x)) (without (deadline_number node port) (deadline_number node port x) (seen records by_due)) ≡ None
+
+-- What stands before the voice at this place is heard again: the places are in the order of the deadlines, and it is among them.
+pub record CanHear (node port place now : ℕ) (records : Slab LastHeard) (by_due : List ℕ) : Type 0 where
+  pub order : IsOrder (deadline_number node port) records by_due
+  pub there : IsSome (get records place)
+  pub apart : HasOwnDue node port place now records by_due
 
 -- The places stand in both orders, and there is room for as many as there may be.
 pub record IsClockKept (node port most : ℕ) (records : Slab LastHeard) (by_voice by_due : Vec ℕ Global) : Type 0 where

@@ -3,7 +3,7 @@ ghost use Rattle.std.specs.Prelude.{◌≡◌, ◌<◌, ◌^◌, length, Some, N
 ghost use Rattle.slab.specs.Slab.{get, slab_len, Updates};
 ghost use Rattle.fab_base.specs.Keyed.{item_at};
 ghost use Rattle.sorted_lists.specs.Orders.{seen, IsOrder, IsOrderBut};
-ghost use Rattle.keepalive_clock.specs.Order.{deadline_number, heard_again, HasOwnDue};
+ghost use Rattle.keepalive_clock.specs.Order.{deadline_number, heard_again, CanHear};
 ghost use Rattle.keepalive_clock.specs.declared.voice.LastHeard.{LastHeard};
 
 use crate::{LastHeard, Voice};
@@ -66,10 +66,7 @@ pub(crate) fn hear_again(
     place: usize,
     now: Moment,
 )
-    requires order { IsOrder (deadline_number order.now.node_period order.now.port_period)
-        records.old by_due.old.items }
-    requires there { IsSome (get records.old place) }
-    requires apart { HasOwnDue order.now.node_period order.now.port_period place now records.old
+    requires { CanHear order.now.node_period order.now.port_period place now records.old
         by_due.old.items }
     ensures order { IsOrder (deadline_number order.now.node_period order.now.port_period)
         records.new by_due.new.items }
@@ -91,10 +88,7 @@ fn take_out(
     place: usize,
     now: Moment,
 )
-    requires order { IsOrder (deadline_number order.now.node_period order.now.port_period)
-        records.old by_due.old.items }
-    requires there { IsSome (get records.old place) }
-    requires apart { HasOwnDue order.now.node_period order.now.port_period place now records.old
+    requires { CanHear order.now.node_period order.now.port_period place now records.old
         by_due.old.items }
     ensures but { IsOrderBut (deadline_number order.now.node_period order.now.port_period) place
         records.new by_due.new.items }

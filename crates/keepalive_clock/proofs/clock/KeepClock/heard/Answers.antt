@@ -34,8 +34,12 @@ again c =
     let (x, here) = was c in
     lemmas.seen_again c.self.invariant c.in-Some.place c.args.now x c.requires.range here c.hear_again.new.records (c.hear_again.ensures.updates x here) c.args.voice (alike c)
 
-pub hear_again-requires-clause-apart : goal.hear_again-requires-clause-apart
-hear_again-requires-clause-apart c = λ x here. lemmas.apart_again c.self.invariant c.in-Some.place c.args.now x c.requires.range here
+pub hear_again-requires : goal.hear_again-requires
+hear_again-requires c = record {
+  order = c.self.invariant.deadlines;
+  there = c.in-Some.ensures.there;
+  apart = λ x here. lemmas.apart_again c.self.invariant c.in-Some.place c.args.now x c.requires.range here;
+}
 
 pub invariant_of-self : goal.invariant_of-self
 invariant_of-self c =
