@@ -123,6 +123,11 @@ Rests c T x flogi f (ServerLogin to size) = ServerRests T f size × (to ≡ aske
 Rests c T x flogi f (Registers to) = RegistrationRests T f × (to ≡ asker_by x.mac f.head)
 Rests c T x flogi f (Answers to tell size) = AnswerRests c T f tell size × (to ≡ asker_by x.mac f.head)
 
+-- A request to the name server is judged: this is said of the live N_Port that sent it, and what the judgement rests on holds.
+pub record IsAskJudged (c : Settings) (T : Tables) (f : fc.Frame) (to : Asker) (said : LivePort → Judgement) (j : Judged) : Type 0 where
+  pub judged : (p : LivePort) → port_at f.head.s_id T.ports ≡ Some p → judgement_of j ≡ said p
+  pub grounds : (x : Enode) (flogi : Bool) → to ≡ asker_by x.mac f.head → Rests c T x flogi f j
+
 -- What the verdict of a frame rests on.
 abbrev pub Grounds : Settings → Tables → ℕ → Caught → Judged → Type 0
 Grounds c T port caught j = Rests c T (sender port caught) (is_flogi caught) (carried caught) j

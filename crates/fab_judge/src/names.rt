@@ -1,15 +1,14 @@
 //! Requests to the name server (FC-GS-6, "Name Server").
-ghost use Rattle.std.specs.Prelude.{◌≡◌, Bool, true, false, Some, Ok};
-ghost use Rattle.std.specs.Prelude.{Err, IfOk, IsSome, option_map};
+ghost use Rattle.std.specs.Prelude.{◌≡◌, true, Some, Ok};
+ghost use Rattle.std.specs.Prelude.{IfOk, IsSome, option_map};
 ghost use Rattle.ct_messages.specs.Ask.{view};
 ghost use Rattle.ct_messages.specs.CanWrite.{CanWrite, HasByte};
 ghost use Rattle.ct_messages.specs.Ct as ct;
 ghost use Rattle.ct_messages.specs.Server as server;
-ghost use Rattle.fab_base.specs.declared.values.Enode.{Enode};
 ghost use Rattle.fab_config.specs.Settings.{Settings};
-ghost use Rattle.fab_judge.specs.Judged.{asker_by, judgement_of, Rests};
+ghost use Rattle.fab_judge.specs.Judged.{IsAskJudged};
 ghost use Rattle.fab_judge.specs.Told.{told_as, unless_refusal};
-ghost use Rattle.fab_policy.specs.Queries.{fault_refusal, known_to};
+ghost use Rattle.fab_policy.specs.Queries.{fault_refusal};
 ghost use Rattle.fab_policy.specs.State.{LivePort, port_at};
 ghost use Rattle.fab_policy.specs.Verdicts as verdicts;
 ghost use Rattle.fab_roster.specs.Reaching.{zones_of};
@@ -43,12 +42,8 @@ pub(crate) fn judge_ask(
     requires zones { zones.now ≡ zones_of config.now }
     requires live { option_map login_of (port_at frame.now.head.s_id roster.now.tables.ports)
         ≡ Some login.now }
-    ensures judged { IfOk result (λ j. (p : LivePort)
-        → port_at frame.now.head.s_id roster.now.tables.ports ≡ Some p → judgement_of j
-        ≡ verdicts.ct_judged config.now roster.now.tables p frame.now.payload.now) }
-    ensures grounds { IfOk result (λ j. (x : Enode) (flogi : Bool)
-        → to ≡ asker_by x.mac frame.now.head
-        → Rests config.now roster.now.tables x flogi (fc_view frame.now) j) }
+    ensures { IfOk result (IsAskJudged config.now roster.now.tables (fc_view frame.now) to
+        (λ p. verdicts.ct_judged config.now roster.now.tables p frame.now.payload.now)) }
 {
     let Some(size) = login.server_size else {
         return Ok(refused(to, UNABLE_TO_PERFORM, ACCESS_DENIED));
@@ -80,18 +75,18 @@ fn judge_read(
     requires read { ct.decoded frame.now.payload.now ≡ Ok (view ask.now) }
     requires writes { server.is_registration (view ask.now) ≡ true → CanWrite (view ask.now) }
     requires byte { HasByte (view ask.now) }
-    ensures judged { IfOk result (λ j. (p : LivePort)
-        → port_at frame.now.head.s_id roster.now.tables.ports ≡ Some p → judgement_of j
-        ≡ verdicts.ct_judged config.now roster.now.tables p frame.now.payload.now) }
-    ensures grounds { IfOk result (λ j. (x : Enode) (flogi : Bool)
-        → to ≡ asker_by x.mac frame.now.head
-        → Rests config.now roster.now.tables x flogi (fc_view frame.now) j) }
+    ensures { IfOk result (IsAskJudged config.now roster.now.tables (fc_view frame.now) to
+        (λ p. verdicts.ct_judged config.now roster.now.tables p frame.now.payload.now)) }
 {
     if is_registration(ask) {
         return Ok(judge_registration(roster, frame, ask, to));
     }
-    let judged = judge_query(alloc, config, zones, roster, frame, ask, to, size)?;
-    Ok(judged)
+    // Law: the answer to a query is never a reject, so none stands behind a judged Answered.
+    a_query_is_no_reject();
+    match roster.answer(alloc, config, zones, frame.head.s_id, ask) {
+        Ok(tell) => Ok(answered(to, tell, size)),
+        Err(NoMemory) => Err(NoMemory),
+    }
 }
 
 // The judgement of a registration.
@@ -101,13 +96,10 @@ fn judge_registration(roster: &Roster, frame: &FcFrame<'_>, ask: &CtAsk<'_>, to:
     requires registration { server.is_registration (view ask.now) ≡ true }
     requires writes { CanWrite (view ask.now) }
     requires byte { HasByte (view ask.now) }
-    ensures judged { (p : LivePort) → port_at frame.now.head.s_id roster.now.tables.ports ≡ Some p
-        → judgement_of result ≡ unless_refusal
+    ensures { (c : Settings) → IsAskJudged c roster.now.tables (fc_view frame.now) to
+        (λ p. unless_refusal
         (server.registration_refusal p.address p.values.node_name (view ask.now))
-        (verdicts.Must Verdict.Registered) }
-    ensures grounds { (c : Settings) (x : Enode) (flogi : Bool)
-        → to ≡ asker_by x.mac frame.now.head
-        → Rests c roster.now.tables x flogi (fc_view frame.now) result }
+        (verdicts.Must Verdict.Registered)) result }
 {
     match roster.refusal(frame.head.s_id, ask) {
         Some(
@@ -117,40 +109,6 @@ fn judge_registration(roster: &Roster, frame: &FcFrame<'_>, ask: &CtAsk<'_>, to:
             },
         ) => refused(to, reason, explanation),
         None => Judged::Registers { to },
-    }
-}
-
-// The judgement of a query.
-fn judge_query(
-    alloc: Global,
-    config: &Config,
-    zones: &Zones,
-    roster: &Roster,
-    frame: &FcFrame<'_>,
-    ask: &CtAsk<'_>,
-    to: Asker,
-    size: u16,
-) -> Result<Judged, NoMemory>
-    requires zones { zones.now ≡ zones_of config.now }
-    requires live { IsSome (port_at frame.now.head.s_id roster.now.tables.ports) }
-    requires server { (p : LivePort)
-        → port_at frame.now.head.s_id roster.now.tables.ports ≡ Some p → p.server ≡ Some size }
-    requires read { ct.decoded frame.now.payload.now ≡ Ok (view ask.now) }
-    requires query { server.is_registration (view ask.now) ≡ false }
-    ensures judged { IfOk result (λ j. (p : LivePort)
-        → port_at frame.now.head.s_id roster.now.tables.ports ≡ Some p
-        → judgement_of j ≡ unless_refusal
-        (server.query_refusal (known_to config.now roster.now.tables p) (view ask.now))
-        (verdicts.Must Verdict.Answered)) }
-    ensures grounds { IfOk result (λ j. (x : Enode) (flogi : Bool)
-        → to ≡ asker_by x.mac frame.now.head
-        → Rests config.now roster.now.tables x flogi (fc_view frame.now) j) }
-{
-    // Law: the answer to a query is never a reject, so none stands behind a judged Answered.
-    a_query_is_no_reject();
-    match roster.answer(alloc, config, zones, frame.head.s_id, ask) {
-        Ok(tell) => Ok(answered(to, tell, size)),
-        Err(NoMemory) => Err(NoMemory),
     }
 }
 
