@@ -10,16 +10,22 @@ use crate::pages::Pages;
 use fab_base::{Depot, Failed, put_all};
 use run_files::put_each;
 
+/// Where a run writes: the slot of the journal, and those of the outputs in port order.
+#[derive(Clone, Copy, Debug)]
+pub(crate) struct Slots<'a> {
+    pub(crate) journal: u32,
+    pub(crate) outs: &'a [u32],
+}
+
 /// Writes what the pages hold, and empties them. Its one fault is `Write`.
 pub(crate) fn flush<D: Depot>(
     depot: &mut D,
-    journal: u32,
-    outs: &[u32],
+    slots: &Slots<'_>,
     pages: &mut Pages,
 ) -> Result<(), RunFault>
-    requires count { length outs.now ≡ length pages.old.records.items }
-    requires files { AreFiles (D.seen depot.old) journal outs.now }
-    ensures writes { let W = Writes journal outs.now pages.old.lines.items
+    requires count { length slots.now.outs.now ≡ length pages.old.records.items }
+    requires files { AreFiles (D.seen depot.old) slots.now.journal slots.now.outs.now }
+    ensures writes { let W = Writes slots.now.journal slots.now.outs.now pages.old.lines.items
         (items_in pages.old.records.items) (D.seen depot.old) (D.seen depot.new) in
         MatchResult result (λ _. W (Ok tt)) (λ _. (f : of_files.Failed) × W (Err f)) }
     ensures fault { IfErr result (λ e. e ≡ RunFault.Write) }
@@ -27,7 +33,7 @@ pub(crate) fn flush<D: Depot>(
     ensures count { OnOk result (length pages.new.records.items
         ≡ length pages.old.records.items) }
 {
-    match write_pages(depot, journal, outs, &pages.lines, &pages.records) {
+    match write_pages(depot, slots, &pages.lines, &pages.records) {
         Ok(()) => {
             pages.clear();
             Ok(())
@@ -40,17 +46,16 @@ pub(crate) fn flush<D: Depot>(
 /// fault, or `Write`.
 pub(crate) fn flush_for<D: Depot>(
     depot: &mut D,
-    journal: u32,
-    outs: &[u32],
+    slots: &Slots<'_>,
     pages: &mut Pages,
     fault: RunFault,
 ) -> RunFault
-    requires count { length outs.now ≡ length pages.old.records.items }
-    requires files { AreFiles (D.seen depot.old) journal outs.now }
-    ensures { FlushedFor journal outs.now (pending pages.old) (D.seen depot.old)
-        (D.seen depot.new) fault result }
+    requires count { length slots.now.outs.now ≡ length pages.old.records.items }
+    requires files { AreFiles (D.seen depot.old) slots.now.journal slots.now.outs.now }
+    ensures { FlushedFor slots.now.journal slots.now.outs.now (pending pages.old)
+        (D.seen depot.old) (D.seen depot.new) fault result }
 {
-    match flush(depot, journal, outs, pages) {
+    match flush(depot, slots, pages) {
         Ok(()) => fault,
         Err(failed) => failed,
     }
@@ -59,21 +64,20 @@ pub(crate) fn flush_for<D: Depot>(
 // The lines of the journal, and then the records of each output, in port order.
 fn write_pages<D: Depot>(
     depot: &mut D,
-    journal: u32,
-    outs: &[u32],
+    slots: &Slots<'_>,
     lines: &[u8],
     records: &[Vec<u8>],
 ) -> Result<(), Failed>
-    requires count { length outs.now ≡ length records.now }
-    requires files { AreFiles (D.seen depot.old) journal outs.now }
-    ensures writes { Writes journal outs.now lines.now (items_in records.now) (D.seen depot.old)
-        (D.seen depot.new) result }
+    requires count { length slots.now.outs.now ≡ length records.now }
+    requires files { AreFiles (D.seen depot.old) slots.now.journal slots.now.outs.now }
+    ensures writes { Writes slots.now.journal slots.now.outs.now lines.now
+        (items_in records.now) (D.seen depot.old) (D.seen depot.new) result }
 {
-    match put_all(depot, journal, lines) {
+    match put_all(depot, slots.journal, lines) {
         Ok(()) => {}
         Err(failed) => return Err(failed),
     }
-    match put_each(depot, outs, records) {
+    match put_each(depot, slots.outs, records) {
         Ok(()) => Ok(()),
         Err(failed) => Err(failed),
     }

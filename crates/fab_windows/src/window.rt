@@ -15,7 +15,7 @@ ghost use Rattle.std.specs.Prelude.{ℕ, List};
 ghost use Rattle.fab_gather.specs.declared.shelf.Input as of_gather;
 ghost use Rattle.pcap_file.specs.declared.Budget as of_captures;
 
-use crate::files::{flush, flush_for};
+use crate::files::{Slots, flush, flush_for};
 use crate::laws::laws_of_runs;
 use crate::pages::Pages;
 use crate::plan::tick_to;
@@ -31,9 +31,19 @@ use std::alloc::Global;
 use std::sync::Wait;
 use std::thread::Threads;
 
-/// What a run keeps from window to window.
+/// What the work of a run is done by, and the gate that each frame passes.
+#[derive(Clone, Copy)]
+pub(crate) struct Means<'a, R: Threads + Wait + Sync, G: Gate + Sync> {
+    pub(crate) rt: &'a R,
+    pub(crate) alloc: Global,
+    pub(crate) gate: &'a G,
+}
+
+/// What a run keeps from window to window: the start of its first one, the records that were looked
+/// at, what is still to be written, and the numbers so far.
 #[derive(Debug, Drop)]
 pub(crate) struct Run {
+    pub(crate) first: u64,
     pub(crate) shelves: Vec<Shelf>,
     pub(crate) pages: Pages,
     pub(crate) done: Done,
@@ -42,34 +52,33 @@ pub(crate) struct Run {
 /// Takes the next window of all ports, handles its frames and adds what they made to the pages.
 /// Where the window can't be taken, the pages are written before the run ends.
 pub(crate) fn run_window<R: Threads + Wait + Sync, D: Depot, G: Gate + Sync>(
-    rt: &R,
-    alloc: Global,
+    means: &Means<'_, R, G>,
     depot: &mut D,
     fabric: Fabric,
-    first: u64,
     window: u64,
     ins: &mut [Input],
     run: &mut Run,
     budget: &mut Budget,
-    journal: u32,
-    outs: &[u32],
-    gate: &G,
+    slots: &Slots<'_>,
 ) -> Result<Fabric, RunFault>
-    requires going { (s : Start) × Going (task_of s fabric.settings journal outs.now) window first
-        fabric (walk_at (D.seen depot.old) ins.old run.old.shelves.items budget.old) run.old.done
+    requires going { (s : Start)
+        × Going (task_of s fabric.settings slots.now.journal slots.now.outs.now) window
+        run.old.first fabric
+        (walk_at (D.seen depot.old) ins.old run.old.shelves.items budget.old) run.old.done
         (pending run.old.pages) }
     requires next { IsNextWindow fabric.settings run.old.shelves.items (Some window) }
     requires start { window % fabric.settings.window ≡ 0 }
     requires range { window < 2 ^ 43 }
-    requires pages { length run.old.pages.records.items ≡ length outs.now }
-    ensures runs { (s : Start) → let k = task_of s fabric.settings journal outs.now in
-        Going k window first fabric
+    requires pages { length run.old.pages.records.items ≡ length slots.now.outs.now }
+    ensures runs { (s : Start)
+        → let k = task_of s fabric.settings slots.now.journal slots.now.outs.now in
+        Going k window run.old.first fabric
         (walk_at (D.seen depot.old) ins.old run.old.shelves.items budget.old) run.old.done
         (pending run.old.pages) → MatchResult result
-        (λ f. Going k (window + 1) first f
+        (λ f. Going k (window + 1) run.new.first f
         (walk_at (D.seen depot.new) ins.new run.new.shelves.items budget.new) run.new.done
         (pending run.new.pages)) (λ e. Ended k (D.seen depot.new) e) }
-    ensures pages { OnOk result (length run.new.pages.records.items ≡ length outs.now) }
+    ensures pages { OnOk result (length run.new.pages.records.items ≡ length slots.now.outs.now) }
     ensures short { OnOk result (AreShort (pending run.new.pages)) }
     ensures settings { IfOk result (λ f. f.settings ≡ fabric.settings) }
     ensures clock { IfOk result (λ f. f.state.tables.clock ≡ Some window) }
@@ -78,52 +87,50 @@ pub(crate) fn run_window<R: Threads + Wait + Sync, D: Depot, G: Gate + Sync>(
     // Law: what further entries and records change, and where reading stops; Going goes on by them.
     laws_of_runs();
     match gather(
-        alloc,
+        means.alloc,
         depot,
         fabric.config(),
-        first,
+        run.first,
         window,
         ins,
         &mut run.shelves,
         budget,
     ) {
-        Ok(()) => run_gathered(rt, alloc, depot, fabric, window, run, journal, outs, gate),
+        Ok(()) => run_gathered(means, depot, fabric, window, run, slots),
         Err(fault) => {
             let ending = RunFault::from(fault);
-            Err(flush_for(depot, journal, outs, &mut run.pages, ending))
+            Err(flush_for(depot, slots, &mut run.pages, ending))
         }
     }
 }
 
 // Handles the frames on the shelves, adds what they made to the pages and counts it.
 fn run_gathered<R: Threads + Wait + Sync, D: Depot, G: Gate + Sync>(
-    rt: &R,
-    alloc: Global,
+    means: &Means<'_, R, G>,
     depot: &mut D,
     fabric: Fabric,
     window: u64,
     run: &mut Run,
-    journal: u32,
-    outs: &[u32],
-    gate: &G,
+    slots: &Slots<'_>,
 ) -> Result<Fabric, RunFault>
-    requires gathered { (s : Start) × (first : ℕ) × (ins : List of_gather.Input)
+    requires gathered { (s : Start) × (ins : List of_gather.Input)
         × (left : of_captures.Budget)
-        × Gathered (task_of s fabric.settings journal outs.now) window first fabric
+        × Gathered (task_of s fabric.settings slots.now.journal slots.now.outs.now) window
+        run.old.first fabric
         (walk_at (D.seen depot.old) ins run.old.shelves.items left) run.old.done
         (pending run.old.pages) }
     requires start { window % fabric.settings.window ≡ 0 }
     requires range { window < 2 ^ 43 }
-    requires pages { length run.old.pages.records.items ≡ length outs.now }
-    ensures runs { (s : Start) (first : ℕ) (ins : List of_gather.Input) (left : of_captures.Budget)
-        → let k = task_of s fabric.settings journal outs.now in
-        Gathered k window first fabric
+    requires pages { length run.old.pages.records.items ≡ length slots.now.outs.now }
+    ensures runs { (s : Start) (ins : List of_gather.Input) (left : of_captures.Budget)
+        → let k = task_of s fabric.settings slots.now.journal slots.now.outs.now in
+        Gathered k window run.old.first fabric
         (walk_at (D.seen depot.old) ins run.old.shelves.items left) run.old.done
         (pending run.old.pages) → MatchResult result
-        (λ f. Going k (window + 1) first f
+        (λ f. Going k (window + 1) run.new.first f
         (walk_at (D.seen depot.new) ins run.new.shelves.items left) run.new.done
         (pending run.new.pages)) (λ e. Ended k (D.seen depot.new) e) }
-    ensures pages { OnOk result (length run.new.pages.records.items ≡ length outs.now) }
+    ensures pages { OnOk result (length run.new.pages.records.items ≡ length slots.now.outs.now) }
     ensures short { OnOk result (AreShort (pending run.new.pages)) }
     ensures settings { IfOk result (λ f. f.settings ≡ fabric.settings) }
     ensures clock { IfOk result (λ f. f.state.tables.clock ≡ Some window) }
@@ -131,17 +138,15 @@ fn run_gathered<R: Threads + Wait + Sync, D: Depot, G: Gate + Sync>(
     // Law: what further entries and records change, and where reading stops; Going goes on by them.
     laws_of_runs();
     let clock = fabric.clock().unwrap_or(Moment(0));
-    let (fabric, drained) = drain_window(rt, alloc, fabric, window, &run.shelves, gate)?;
+    let (fabric, drained) = drain_window(means, fabric, window, &run.shelves)?;
     publish(
-        rt,
-        alloc,
+        means,
         depot,
         fabric.config(),
         clock,
         &drained,
         &mut run.pages,
-        journal,
-        outs,
+        slots,
     )?;
     run.done = done_after(run.done, &drained.events);
     Ok(fabric)
@@ -149,12 +154,10 @@ fn run_gathered<R: Threads + Wait + Sync, D: Depot, G: Gate + Sync>(
 
 // Makes the ticks up to a window and handles its frames.
 fn drain_window<R: Threads + Wait + Sync, G: Gate + Sync>(
-    rt: &R,
-    alloc: Global,
+    means: &Means<'_, R, G>,
     fabric: Fabric,
     window: u64,
     shelves: &[Shelf],
-    gate: &G,
 ) -> Result<(Fabric, Drained), NoMemory>
     requires range { window < 2 ^ 43 }
     requires start { window % fabric.settings.window ≡ 0 }
@@ -165,42 +168,40 @@ fn drain_window<R: Threads + Wait + Sync, G: Gate + Sync>(
         Handles window shelves.now fabric p.0 p.1.events p.1.outs) }
 {
     let mut fabric = fabric;
-    tick_to(alloc, &mut fabric, window)?;
-    let mut fabric = take_frames(rt, alloc, fabric, shelves, gate)?;
+    tick_to(means.alloc, &mut fabric, window)?;
+    let mut fabric = take_frames(means.rt, means.alloc, fabric, shelves, means.gate)?;
     let drained = fabric.drain();
     Ok((fabric, drained))
 }
 
 // Adds the lines of entries, from a clock on, and the records of what they sent to the pages, which
 // are written where they are full.
-fn publish<R: Threads + Sync, D: Depot>(
-    rt: &R,
-    alloc: Global,
+fn publish<R: Threads + Wait + Sync, D: Depot, G: Gate + Sync>(
+    means: &Means<'_, R, G>,
     depot: &mut D,
     config: &Config,
     clock: Moment,
     drained: &Drained,
     pages: &mut Pages,
-    journal: u32,
-    outs: &[u32],
+    slots: &Slots<'_>,
 ) -> Result<(), RunFault>
-    requires files { AreFiles (D.seen depot.old) journal outs.now }
-    requires count { length pages.old.records.items ≡ length outs.now }
+    requires files { AreFiles (D.seen depot.old) slots.now.journal slots.now.outs.now }
+    requires count { length pages.old.records.items ≡ length slots.now.outs.now }
     requires ranged { All IsRangedEvent drained.now.events }
     requires early { AreEarly drained.now.outs }
-    ensures publishes { Publishes (file_slots journal outs.now)
+    ensures publishes { Publishes (file_slots slots.now.journal slots.now.outs.now)
         (lines_from clock drained.now.events)
         (map (sent_of config.now drained.now.events) drained.now.outs)
         (paged_at (D.seen depot.old) (pending pages.old))
         (paged_at (D.seen depot.new) (pending pages.new)) result }
-    ensures count { OnOk result (length pages.new.records.items ≡ length outs.now) }
+    ensures count { OnOk result (length pages.new.records.items ≡ length slots.now.outs.now) }
     ensures short { OnOk result (AreShort (pending pages.new)) }
 {
-    pages.add(rt, alloc, config, clock, drained)?;
+    pages.add(means.rt, means.alloc, config, clock, drained)?;
     if !pages.are_full() {
         return Ok(());
     }
-    flush(depot, journal, outs, pages)?;
+    flush(depot, slots, pages)?;
     Ok(())
 }
 

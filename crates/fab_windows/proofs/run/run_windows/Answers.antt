@@ -43,7 +43,7 @@ windows-init g c =
     let next = next_as c.config.result.now c.args.fabric.settings c.deref.result.now shelves c.next_window.result c.config.ensures c.deref.ensures.value c.next_window.ensures.least in
     record {
       v = 0;
-      going = subst (λ (f : ℕ). Going k 0 f c.args.fabric (walk_at (seen c.begin.new.depot) c.begin.new.ins shelves c.begin.new.budget) c.in_ok-run.run'.done (pending c.in_ok-run.run'.pages)) (sym c.unwrap_or-first.ensures)
+      going = subst (λ (f : ℕ). Going k 0 f c.args.fabric (walk_at (seen c.begin.new.depot) c.begin.new.ins shelves c.begin.new.budget) c.in_ok-run.run'.done (pending c.in_ok-run.run'.pages)) (sym c.unwrap_or.ensures)
           (going_first c.laws_of_runs.ensures k (seen c.begin.new.depot) c.begin.new.ins shelves c.begin.new.budget (c.in_ok-run.ensures.begins c.args.fabric.settings) c.args.fabric c.next_window.result c.in_ok-run.run'.done (pending c.in_ok-run.run'.pages) c.in_ok-run.ensures.nothing
           refl c.requires.count c.requires.state c.requires.nothing.0 c.requires.nothing.1 next c.in_ok-run.ensures.done.0 c.in_ok-run.ensures.done.1);
       settings = refl;
@@ -62,8 +62,8 @@ run_window-requires-clause-going g c = λ κs within.
     let l = c.windows in
     let next = next_as c.config-in-windows.result.now c.args.fabric.settings c.deref-in-windows.result.now l.run.shelves.items (Some c.in-Some.window) (c.config-in-windows.ensures ∙ l.invariant.settings) c.deref-in-windows.ensures.value c.in-Some.ensures.least in (
       s,
-      subst (λ (x : Settings). Going (task_of s x c.args.journal c.args.outs.now) c.in-Some.window c.unwrap_or-first.result l.fabric (walk_at (seen l.depot) l.ins l.run.shelves.items l.budget) l.run.done (pending l.run.pages)) (sym l.invariant.settings)
-          (going_next c.laws_of_runs.ensures k l.invariant.v c.in-Some.window c.unwrap_or-first.result l.fabric (seen l.depot) l.ins l.run.shelves.items l.budget l.run.done (pending l.run.pages) l.invariant.going next),
+      subst (λ (x : Settings). Going (task_of s x c.args.journal c.args.outs.now) c.in-Some.window l.run.first l.fabric (walk_at (seen l.depot) l.ins l.run.shelves.items l.budget) l.run.done (pending l.run.pages)) (sym l.invariant.settings)
+          (going_next c.laws_of_runs.ensures k l.invariant.v c.in-Some.window l.run.first l.fabric (seen l.depot) l.ins l.run.shelves.items l.budget l.run.done (pending l.run.pages) l.invariant.going next),
     )
 
 pub run_window-requires-clause-next : goal.run_window-requires-clause-next
@@ -80,7 +80,7 @@ run_window-requires-clause-range g c = λ κs within.
     let k = task_of s c.args.fabric.settings c.args.journal c.args.outs.now in
     let l = c.windows in
     let next = next_as c.config-in-windows.result.now c.args.fabric.settings c.deref-in-windows.result.now l.run.shelves.items (Some c.in-Some.window) (c.config-in-windows.ensures ∙ l.invariant.settings) c.deref-in-windows.ensures.value c.in-Some.ensures.least in
-    next_early c.laws_of_runs.ensures k l.invariant.v c.in-Some.window c.unwrap_or-first.result l.fabric (seen l.depot) l.ins l.run.shelves.items l.budget l.run.done (pending l.run.pages) l.invariant.going next
+    next_early c.laws_of_runs.ensures k l.invariant.v c.in-Some.window l.run.first l.fabric (seen l.depot) l.ins l.run.shelves.items l.budget l.run.done (pending l.run.pages) l.invariant.going next
 
 pub run_window-requires-clause-pages : goal.run_window-requires-clause-pages
 run_window-requires-clause-pages g c = λ κs within. c.windows.invariant.pages
@@ -93,8 +93,8 @@ returns-in_err-fabric g c =
     let l = c.windows in
     let e = c.in_err-fabric.field-0.0 in
     let next = next_as c.config-in-windows.result.now c.args.fabric.settings c.deref-in-windows.result.now l.run.shelves.items (Some c.in-Some.window) (c.config-in-windows.ensures ∙ l.invariant.settings) c.deref-in-windows.ensures.value c.in-Some.ensures.least in
-    let going = subst (λ (x : Settings). Going (task_of s x c.args.journal c.args.outs.now) c.in-Some.window c.unwrap_or-first.result l.fabric (walk_at (seen l.depot) l.ins l.run.shelves.items l.budget) l.run.done (pending l.run.pages)) (sym l.invariant.settings)
-    (going_next c.laws_of_runs.ensures k l.invariant.v c.in-Some.window c.unwrap_or-first.result l.fabric (seen l.depot) l.ins l.run.shelves.items l.budget l.run.done (pending l.run.pages) l.invariant.going next) in
+    let going = subst (λ (x : Settings). Going (task_of s x c.args.journal c.args.outs.now) c.in-Some.window l.run.first l.fabric (walk_at (seen l.depot) l.ins l.run.shelves.items l.budget) l.run.done (pending l.run.pages)) (sym l.invariant.settings)
+    (going_next c.laws_of_runs.ensures k l.invariant.v c.in-Some.window l.run.first l.fabric (seen l.depot) l.ins l.run.shelves.items l.budget l.run.done (pending l.run.pages) l.invariant.going next) in
     record {
       runs = subst (λ r. Runs c.args.fabric.settings (start_at (seen c.args.depot.now) c.args.ins.now c.args.budget.now) (seen c.run_window.new.depot) (file_slots c.args.journal c.args.outs.now) r)
           (err_is c.from_residual-in_err-fabric.result e c.from_residual-in_err-fabric.ensures.1)
@@ -109,8 +109,8 @@ windows-smaller g c =
     let k = task_of s c.args.fabric.settings c.args.journal c.args.outs.now in
     let l = c.windows in
     let next = next_as c.config-in-windows.result.now c.args.fabric.settings c.deref-in-windows.result.now l.run.shelves.items (Some c.in-Some.window) (c.config-in-windows.ensures ∙ l.invariant.settings) c.deref-in-windows.ensures.value c.in-Some.ensures.least in
-    let going = going_next c.laws_of_runs.ensures k l.invariant.v c.in-Some.window c.unwrap_or-first.result l.fabric (seen l.depot) l.ins l.run.shelves.items l.budget l.run.done (pending l.run.pages) l.invariant.going next in
-    let early = next_early c.laws_of_runs.ensures k l.invariant.v c.in-Some.window c.unwrap_or-first.result l.fabric (seen l.depot) l.ins l.run.shelves.items l.budget l.run.done (pending l.run.pages) l.invariant.going next in
+    let going = going_next c.laws_of_runs.ensures k l.invariant.v c.in-Some.window l.run.first l.fabric (seen l.depot) l.ins l.run.shelves.items l.budget l.run.done (pending l.run.pages) l.invariant.going next in
+    let early = next_early c.laws_of_runs.ensures k l.invariant.v c.in-Some.window l.run.first l.fabric (seen l.depot) l.ins l.run.shelves.items l.budget l.run.done (pending l.run.pages) l.invariant.going next in
     nearer (2 ^ 43) c.in-Some.window l.fabric.state.tables.clock c.in_ok-fabric.fabric.state.tables.clock going.reached.clock early c.in_ok-fabric.ensures.clock
 
 pub windows-preserved : goal.windows-preserved
@@ -120,11 +120,11 @@ windows-preserved g c =
     let k = task_of s c.args.fabric.settings c.args.journal c.args.outs.now in
     let l = c.windows in
     let next = next_as c.config-in-windows.result.now c.args.fabric.settings c.deref-in-windows.result.now l.run.shelves.items (Some c.in-Some.window) (c.config-in-windows.ensures ∙ l.invariant.settings) c.deref-in-windows.ensures.value c.in-Some.ensures.least in
-    let going = subst (λ (x : Settings). Going (task_of s x c.args.journal c.args.outs.now) c.in-Some.window c.unwrap_or-first.result l.fabric (walk_at (seen l.depot) l.ins l.run.shelves.items l.budget) l.run.done (pending l.run.pages)) (sym l.invariant.settings)
-    (going_next c.laws_of_runs.ensures k l.invariant.v c.in-Some.window c.unwrap_or-first.result l.fabric (seen l.depot) l.ins l.run.shelves.items l.budget l.run.done (pending l.run.pages) l.invariant.going next) in
+    let going = subst (λ (x : Settings). Going (task_of s x c.args.journal c.args.outs.now) c.in-Some.window l.run.first l.fabric (walk_at (seen l.depot) l.ins l.run.shelves.items l.budget) l.run.done (pending l.run.pages)) (sym l.invariant.settings)
+    (going_next c.laws_of_runs.ensures k l.invariant.v c.in-Some.window l.run.first l.fabric (seen l.depot) l.ins l.run.shelves.items l.budget l.run.done (pending l.run.pages) l.invariant.going next) in
     record {
       v = c.in-Some.window + 1;
-      going = subst (λ (x : Settings). Going (task_of s x c.args.journal c.args.outs.now) (c.in-Some.window + 1) c.unwrap_or-first.result c.in_ok-fabric.fabric (walk_at (seen c.run_window.new.depot) c.run_window.new.ins c.run_window.new.run.shelves.items c.run_window.new.budget) c.run_window.new.run.done (pending c.run_window.new.run.pages)) l.invariant.settings
+      going = subst (λ (x : Settings). Going (task_of s x c.args.journal c.args.outs.now) (c.in-Some.window + 1) c.run_window.new.run.first c.in_ok-fabric.fabric (walk_at (seen c.run_window.new.depot) c.run_window.new.ins c.run_window.new.run.shelves.items c.run_window.new.budget) c.run_window.new.run.done (pending c.run_window.new.run.pages)) l.invariant.settings
           (c.in_ok-fabric.ensures.runs s going);
       settings = c.in_ok-fabric.ensures.settings ∙ l.invariant.settings;
       pages = c.in_ok-fabric.ensures.pages;
@@ -140,7 +140,7 @@ finish-requires-clause-files g c =
     let s : Start = start_at (seen c.args.depot.now) c.args.ins.now c.args.budget.now in
     let k = task_of s c.args.fabric.settings c.args.journal c.args.outs.now in
     let l = c.windows in
-    files_now c.laws_of_runs.ensures k l.invariant.v c.unwrap_or-first.result l.fabric (seen l.depot) l.ins l.run.shelves.items l.budget l.invariant.going.reached
+    files_now c.laws_of_runs.ensures k l.invariant.v l.run.first l.fabric (seen l.depot) l.ins l.run.shelves.items l.budget l.invariant.going.reached
 
 pub returns : goal.returns
 returns g c =
@@ -150,6 +150,6 @@ returns g c =
     let l = c.windows in
     let next = next_as c.config-in-windows.result.now c.args.fabric.settings c.deref-in-windows.result.now l.run.shelves.items None (c.config-in-windows.ensures ∙ l.invariant.settings) c.deref-in-windows.ensures.value c.in_default.ensures.least in
     record {
-      runs = ended_by c.laws_of_runs.ensures k l.invariant.v c.unwrap_or-first.result l.fabric (seen l.depot) l.ins l.run.shelves.items l.budget l.run.done (pending l.run.pages) l.invariant.going next (seen c.finish.new.depot) c.finish.result c.finish.ensures;
+      runs = ended_by c.laws_of_runs.ensures k l.invariant.v l.run.first l.fabric (seen l.depot) l.ins l.run.shelves.items l.budget l.run.done (pending l.run.pages) l.invariant.going next (seen c.finish.new.depot) c.finish.result c.finish.ensures;
       takes = l.invariant.takes;
     }

@@ -12,7 +12,7 @@ invariant-windows g l =
     let s : Start = start_at (seen l.fn.depot) l.fn.ins l.fn.budget in
     record {
       v : ℕ;
-      going : Going (task_of s l.fn.fabric.settings l.journal l.outs) v l.first l.fabric (walk_at (seen l.depot) l.ins l.run.shelves.items l.budget) l.run.done (pending l.run.pages);
+      going : Going (task_of s l.fn.fabric.settings l.journal l.outs) v l.run.first l.fabric (walk_at (seen l.depot) l.ins l.run.shelves.items l.budget) l.run.done (pending l.run.pages);
       settings : l.fabric.settings ≡ l.fn.fabric.settings;
       pages : length l.run.pages.records.items ≡ length l.outs;
       takes : TakesFrom l.fn.ins l.ins l.fn.budget l.budget;

@@ -15,13 +15,13 @@ returns-in_err-add-clause-publishes g c =
     let lines = lines_from c.args.clock c.args.drained.now.events in
     let sents = map (sent_of c.args.config.now c.args.drained.now.events) c.args.drained.now.outs in
     let p = pending c.args.pages.now in
-    subst (Publishes (file_slots c.args.journal c.args.outs.now) lines sents (paged_at d p) (paged_at d (pending c.add.new.self))) (err_is c.from_residual.result fault.Memory c.from_residual.ensures.1)
-    (publishes_nothing c.args.journal c.args.outs.now lines sents p d (pending c.add.new.self))
+    subst (Publishes (file_slots c.args.slots.now.journal c.args.slots.now.outs.now) lines sents (paged_at d p) (paged_at d (pending c.add.new.self))) (err_is c.from_residual.result fault.Memory c.from_residual.ensures.1)
+    (publishes_nothing c.args.slots.now.journal c.args.slots.now.outs.now lines sents p d (pending c.add.new.self))
 
 pub returns-then-not-are_full-clause-publishes : goal.returns-then-not-are_full-clause-publishes
 returns-then-not-are_full-clause-publishes g c =
     let f = c.in_ok-add.ensures in
-    publishes_later c.args.journal c.args.outs.now (lines_from c.args.clock c.args.drained.now.events) (map (sent_of c.args.config.now c.args.drained.now.events) c.args.drained.now.outs) (pending c.args.pages.now) (g.D.Depot.seen c.args.depot.now)
+    publishes_later c.args.slots.now.journal c.args.slots.now.outs.now (lines_from c.args.clock c.args.drained.now.events) (map (sent_of c.args.config.now c.args.drained.now.events) c.args.drained.now.outs) (pending c.args.pages.now) (g.D.Depot.seen c.args.depot.now)
     (pending c.add.new.self) f.lines (λ q lt. f.records q (omega (arith, lt, c.requires.count)))
 
 pub returns-in_err-flush-clause-publishes : goal.returns-in_err-flush-clause-publishes
@@ -34,15 +34,15 @@ returns-in_err-flush-clause-publishes g c =
     let w = c.in_err-flush.ensures in
     let p = pending c.args.pages.now in
     let p' = pending c.flush.new.pages in
-    subst (Publishes (file_slots c.args.journal c.args.outs.now) lines sents (paged_at a p) (paged_at b p'))
+    subst (Publishes (file_slots c.args.slots.now.journal c.args.slots.now.outs.now) lines sents (paged_at a p) (paged_at b p'))
     (ap (λ e. Err e) (sym w.fault) ∙ err_is c.from_residual-in_err-flush.result c.in_err-flush.field-0.0 c.from_residual-in_err-flush.ensures.1)
-    (publishes_front c.args.journal c.args.outs.now lines sents p a (pending c.add.new.self) f.lines (λ q lt. f.records q (omega (arith, lt, c.requires.count))) b p' w.writes.0 w.writes.1)
+    (publishes_front c.args.slots.now.journal c.args.slots.now.outs.now lines sents p a (pending c.add.new.self) f.lines (λ q lt. f.records q (omega (arith, lt, c.requires.count))) b p' w.writes.0 w.writes.1)
 
 pub returns-clause-publishes : goal.returns-clause-publishes
 returns-clause-publishes g c =
     let f = c.in_ok-add.ensures in
     let w = c.in_ok-flush.ensures in
-    publishes_all c.args.journal c.args.outs.now (lines_from c.args.clock c.args.drained.now.events) (map (sent_of c.args.config.now c.args.drained.now.events) c.args.drained.now.outs) (pending c.args.pages.now) (g.D.Depot.seen c.args.depot.now)
+    publishes_all c.args.slots.now.journal c.args.slots.now.outs.now (lines_from c.args.clock c.args.drained.now.events) (map (sent_of c.args.config.now c.args.drained.now.events) c.args.drained.now.outs) (pending c.args.pages.now) (g.D.Depot.seen c.args.depot.now)
     (pending c.add.new.self) f.lines (λ q lt. f.records q (omega (arith, lt, c.requires.count))) (g.D.Depot.seen c.flush.new.depot) (pending c.flush.new.pages) w.nothing w.writes
 
 pub returns-then-not-are_full-clause-short : goal.returns-then-not-are_full-clause-short

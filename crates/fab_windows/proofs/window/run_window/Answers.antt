@@ -13,15 +13,15 @@ gather-requires-clause-count g c = ap length c.deref_mut.ensures.value ∙ c.req
 
 pub gather-requires-clause-ports : goal.gather-requires-clause-ports
 gather-requires-clause-ports g c =
-    let k = task_of c.requires.going.0 c.args.fabric.settings c.args.journal c.args.outs.now in
+    let k = task_of c.requires.going.0 c.args.fabric.settings c.args.slots.now.journal c.args.slots.now.outs.now in
     let r = c.requires.going.1.reached in
     omega (arith, same_ports k.ins c.args.ins.now r.slots, r.ports.1)
 
 pub gather-requires-clause-inputs : goal.gather-requires-clause-inputs
 gather-requires-clause-inputs g c =
-    let k = task_of c.requires.going.0 c.args.fabric.settings c.args.journal c.args.outs.now in
+    let k = task_of c.requires.going.0 c.args.fabric.settings c.args.slots.now.journal c.args.slots.now.outs.now in
     let r = c.requires.going.1.reached in
-    inputs_now c.laws_of_runs.ensures k c.args.window c.args.first c.args.fabric (g.D.Depot.seen c.args.depot.now) c.args.ins.now c.args.run.now.shelves.items c.args.budget.now r
+    inputs_now c.laws_of_runs.ensures k c.args.window c.args.run.now.first c.args.fabric (g.D.Depot.seen c.args.depot.now) c.args.ins.now c.args.run.now.shelves.items c.args.budget.now r
 
 pub gather-requires-clause-ready : goal.gather-requires-clause-ready
 gather-requires-clause-ready g c =
@@ -35,13 +35,12 @@ gather-requires-clause-next g c =
 
 pub run_gathered-requires-clause-gathered : goal.run_gathered-requires-clause-gathered
 run_gathered-requires-clause-gathered g c = λ κs within.
-    let k = task_of c.requires.going.0 c.args.fabric.settings c.args.journal c.args.outs.now in
+    let k = task_of c.requires.going.0 c.args.fabric.settings c.args.slots.now.journal c.args.slots.now.outs.now in
     let seen = g.D.Depot.seen in (
       c.requires.going.0,
-      c.args.first,
       c.gather.new.ins,
       c.gather.new.budget,
-      gathered_by k c.args.window c.args.first c.args.fabric (seen c.args.depot.now) c.args.ins.now c.args.run.now.shelves.items c.args.budget.now (seen c.gather.new.depot) c.gather.new.ins c.gather.new.shelves c.gather.new.budget
+      gathered_by k c.args.window c.args.run.now.first c.args.fabric (seen c.args.depot.now) c.args.ins.now c.args.run.now.shelves.items c.args.budget.now (seen c.gather.new.depot) c.gather.new.ins c.gather.new.shelves c.gather.new.budget
           c.config.result.now c.config.ensures c.deref_mut.result.now c.deref_mut.ensures.value c.args.run.now.done (pending c.args.run.now.pages) c.requires.going.1 c.requires.next c.args.run.now.shelves.len c.args.run.now.shelves.ok.0 c.in-Ok.ensures.gathers,
     )
 
@@ -59,30 +58,30 @@ flush_for-requires-clause-count g c = sym c.requires.pages
 
 pub flush_for-requires-clause-files : goal.flush_for-requires-clause-files
 flush_for-requires-clause-files g c =
-    let k = task_of c.requires.going.0 c.args.fabric.settings c.args.journal c.args.outs.now in
+    let k = task_of c.requires.going.0 c.args.fabric.settings c.args.slots.now.journal c.args.slots.now.outs.now in
     let seen = g.D.Depot.seen in
-    let t = gathers_as k c.args.window c.args.first c.args.fabric (seen c.args.depot.now) c.args.ins.now c.args.run.now.shelves.items c.args.budget.now (seen c.gather.new.depot) c.gather.new.ins c.gather.new.shelves c.gather.new.budget
+    let t = gathers_as k c.args.window c.args.run.now.first c.args.fabric (seen c.args.depot.now) c.args.ins.now c.args.run.now.shelves.items c.args.budget.now (seen c.gather.new.depot) c.gather.new.ins c.gather.new.shelves c.gather.new.budget
     c.config.result.now c.config.ensures c.deref_mut.result.now c.deref_mut.ensures.value (Err c.in-Err.fault) c.in-Err.ensures.gathers in
-    files_then c.laws_of_runs.ensures k c.args.window c.args.first c.args.fabric (seen c.args.depot.now) c.args.ins.now c.args.run.now.shelves.items c.args.budget.now c.args.run.now.done (pending c.args.run.now.pages) c.requires.going.1 (seen c.gather.new.depot) t.touches
+    files_then c.laws_of_runs.ensures k c.args.window c.args.run.now.first c.args.fabric (seen c.args.depot.now) c.args.ins.now c.args.run.now.shelves.items c.args.budget.now c.args.run.now.done (pending c.args.run.now.pages) c.requires.going.1 (seen c.gather.new.depot) t.touches
 
 pub returns-in-Err-clause-runs : goal.returns-in-Err-clause-runs
 returns-in-Err-clause-runs g c = λ s going.
-    let k = task_of s c.args.fabric.settings c.args.journal c.args.outs.now in
+    let k = task_of s c.args.fabric.settings c.args.slots.now.journal c.args.slots.now.outs.now in
     let seen = g.D.Depot.seen in
     let shelves = c.args.run.now.shelves.items in
     let e = c.in-Err.fault in
-    window_ends c.laws_of_runs.ensures k c.args.window c.args.first c.args.fabric (seen c.args.depot.now) c.args.ins.now shelves c.args.budget.now c.args.run.now.done (pending c.args.run.now.pages) going (seen c.gather.new.depot) c.gather.new.ins c.gather.new.shelves c.gather.new.budget e
-    (gathers_as k c.args.window c.args.first c.args.fabric (seen c.args.depot.now) c.args.ins.now shelves c.args.budget.now (seen c.gather.new.depot) c.gather.new.ins c.gather.new.shelves c.gather.new.budget
+    window_ends c.laws_of_runs.ensures k c.args.window c.args.run.now.first c.args.fabric (seen c.args.depot.now) c.args.ins.now shelves c.args.budget.now c.args.run.now.done (pending c.args.run.now.pages) going (seen c.gather.new.depot) c.gather.new.ins c.gather.new.shelves c.gather.new.budget e
+    (gathers_as k c.args.window c.args.run.now.first c.args.fabric (seen c.args.depot.now) c.args.ins.now shelves c.args.budget.now (seen c.gather.new.depot) c.gather.new.ins c.gather.new.shelves c.gather.new.budget
     c.config.result.now c.config.ensures c.deref_mut.result.now c.deref_mut.ensures.value (Err e) c.in-Err.ensures.gathers) (seen c.flush_for.new.depot) c.flush_for.result
-    (subst (λ x. FlushedFor c.args.journal c.args.outs.now (pending c.args.run.now.pages) (seen c.gather.new.depot) (seen c.flush_for.new.depot) x c.flush_for.result) c.from-ending.ensures c.flush_for.ensures)
+    (subst (λ x. FlushedFor c.args.slots.now.journal c.args.slots.now.outs.now (pending c.args.run.now.pages) (seen c.gather.new.depot) (seen c.flush_for.new.depot) x c.flush_for.result) c.from-ending.ensures c.flush_for.ensures)
 
 pub returns-in-Ok-clause-runs : goal.returns-in-Ok-clause-runs
 returns-in-Ok-clause-runs g c = λ s going.
-    let k = task_of s c.args.fabric.settings c.args.journal c.args.outs.now in
+    let k = task_of s c.args.fabric.settings c.args.slots.now.journal c.args.slots.now.outs.now in
     let seen = g.D.Depot.seen in
     let shelves = c.args.run.now.shelves.items in
-    c.run_gathered.ensures.runs s c.args.first c.gather.new.ins c.gather.new.budget
-    (gathered_by k c.args.window c.args.first c.args.fabric (seen c.args.depot.now) c.args.ins.now shelves c.args.budget.now (seen c.gather.new.depot) c.gather.new.ins c.gather.new.shelves c.gather.new.budget
+    c.run_gathered.ensures.runs s c.gather.new.ins c.gather.new.budget
+    (gathered_by k c.args.window c.args.run.now.first c.args.fabric (seen c.args.depot.now) c.args.ins.now shelves c.args.budget.now (seen c.gather.new.depot) c.gather.new.ins c.gather.new.shelves c.gather.new.budget
     c.config.result.now c.config.ensures c.deref_mut.result.now c.deref_mut.ensures.value c.args.run.now.done (pending c.args.run.now.pages) going c.requires.next c.args.run.now.shelves.len c.args.run.now.shelves.ok.0 c.in-Ok.ensures.gathers)
 
 pub returns-in-Ok-clause-takes : goal.returns-in-Ok-clause-takes
