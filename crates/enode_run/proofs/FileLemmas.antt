@@ -24,7 +24,7 @@ use Rattle.enode_core.specs.Phases.{phase_of}
 use Rattle.enode_core.specs.RunLaws.{RunsAreGranted}
 use Rattle.enode_core.specs.Runs.{is_too_long}
 use Rattle.enode_run.specs.Files as files
-use Rattle.enode_run.specs.Files.{KeepsBut, RunsNode, unless_too_long}
+use Rattle.enode_run.specs.Files.{KeepsBut, RunsNode, node_task, unless_too_long}
 use Rattle.enode_run.specs.Steps as steps
 use Rattle.enode_run.specs.Steps.{ReadsInput, WritesFile}
 
@@ -134,20 +134,20 @@ unwritten to bytes a b failed o = record {
 
 module _ (own : Identity) (start : ℕ) (from to : List ℕ) (budget : Budget) (a b : Seen) where
   -- an input that isn't taken
-  stopped_by : (g : GatherFault) → ReadsInput start from budget a b (Err g) → RunsNode own start from to budget a b (Err (fault_from g))
+  stopped_by : (g : GatherFault) → ReadsInput start from budget a b (Err g) → RunsNode (node_task own start from to budget) a b (Err (fault_from g))
   stopped_by (gather.Capture port at why) h = (h.reads.files, λ told. h.stops told tt)
   stopped_by (gather.Limit kind) h = (h.reads.files, λ told. h.stops told tt)
   stopped_by gather.Read h = (h.reads.files, h.cause refl)
   stopped_by gather.Memory h = h.reads.files
 
-  pub stopped : (g : GatherFault) (e : RunFault) → e ≡ fault_from g → ReadsInput start from budget a b (Err g) → RunsNode own start from to budget a b (Err e)
-  stopped g e is h = subst (λ x. RunsNode own start from to budget a b (Err x)) (sym is) (stopped_by g h)
+  pub stopped : (g : GatherFault) (e : RunFault) → e ≡ fault_from g → ReadsInput start from budget a b (Err g) → RunsNode (node_task own start from to budget) a b (Err e)
+  stopped g e is h = subst (λ x. RunsNode (node_task own start from to budget) a b (Err x)) (sym is) (stopped_by g h)
 
   pub stopped_tells : (g : GatherFault) (e : RunFault) → e ≡ fault_from g → ReadsInput start from budget a b (Err g) → run_faults.TellsReads {T = Phase} a b (Err e)
   stopped_tells g e is h other = h.counts (λ same. other (ap (λ x. Err x) (is ∙ ap fault_from (let read : g ≡ gather.Read = cc in read))))
 
   module _ (records : List Record) (h : ReadsInput start from budget a b (Ok records)) where
-    pub no_room : RunsNode own start from to budget a b (Err faults.Memory)
+    pub no_room : RunsNode (node_task own start from to budget) a b (Err faults.Memory)
     no_room = h.reads.files
 
     told_then : IsTrue a.told → IsTrue b.told
@@ -157,7 +157,7 @@ module _ (own : Identity) (start : ℕ) (from to : List ℕ) (budget : Budget) (
       pub others : (r : Result (Unit {0}) Failed) → WritesFile {T = Unit {0}} {E = Failed} to bytes b c r → KeepsBut to a c
       others r w m ne = w.keeps.files m ne ∙ h.reads.files m
 
-      pub played : WritesFile {T = Unit {0}} {E = Failed} to bytes b c (Ok tt) → (phase : Phase) → phase ≡ phase_of s → IsTyped own → RunsAreGranted → RunsNode own start from to budget a c (Ok phase)
+      pub played : WritesFile {T = Unit {0}} {E = Failed} to bytes b c (Ok tt) → (phase : Phase) → phase ≡ phase_of s → IsTyped own → RunsAreGranted → RunsNode (node_task own start from to budget) a c (Ok phase)
       played w phase is typed granted = λ told.
           let t = h.taken told in
           record {
@@ -172,13 +172,13 @@ module _ (own : Identity) (start : ℕ) (from to : List ℕ) (budget : Budget) (
             granted = granted own start records at.given typed at.begins;
           }
 
-      front : steps.IsPart to bytes b c → IsTrue a.told → files.IsFront own start from to budget a c
+      front : steps.IsPart to bytes b c → IsTrue a.told → files.IsFront (node_task own start from to budget) a c
       front (steps.As e) told = files.Same (e ∙ h.reads.files to)
       front (steps.Front n e) told =
           let t = h.taken told in
           files.Front t.bytes records at.given n t.found t.says at.begins (e ∙ ap (λ (l : List ℕ). Some (take n l)) (same ∙ at.holds))
 
-      pub unwritten_run : (failed : Failed) → WritesFile {T = Unit {0}} {E = Failed} to bytes b c (Err failed) → RunsNode own start from to budget a c (Err faults.Write)
+      pub unwritten_run : (failed : Failed) → WritesFile {T = Unit {0}} {E = Failed} to bytes b c (Err failed) → RunsNode (node_task own start from to budget) a c (Err faults.Write)
       unwritten_run failed w = (
         rose_later _ _ _ ((reads_touches from a b h.reads).writes_rise to) w.cause,
         λ told. front (w.part (told_then told)) told,

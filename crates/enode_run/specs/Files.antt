@@ -15,6 +15,19 @@ use Rattle.enode_core.specs.Phases.{phase_of}
 use Rattle.enode_core.specs.Runs.{Input, IsRun, is_too_long, stands, all_sent, capture}
 use Rattle.enode_core.specs.RunLaws.{IsGrantedBy}
 
+-- What a node is run for: who it is, the moment that it starts at, the names of its input and its output, and the limits of the
+-- input.
+pub record NodeTask : Type 0 where
+  pub own : Identity
+  pub start : ℕ
+  pub from : List ℕ
+  pub to : List ℕ
+  pub budget : Budget
+
+-- such a task of its parts
+abbrev pub node_task : Identity → ℕ → List ℕ → List ℕ → Budget → NodeTask
+node_task own start from to budget = record { own = own; start = start; from = from; to = to; budget = budget }
+
 -- ---- the input
 
 -- a capture that reaches too far isn't taken
@@ -37,32 +50,32 @@ pub record IsUntaken (start : ℕ) (from : List ℕ) (budget : Budget) (d : Seen
 -- The input that was found is a capture within the limits, the node was given all its records from the start on, the output is the
 -- capture of what it sent, and this is its phase in the end. Where a forwarder has sent all these records, the node was granted the
 -- address that it is up with.
-pub record Played (own : Identity) (start : ℕ) (from to : List ℕ) (budget : Budget) (old new : Seen) (phase : Phase) : Type 0 where
+pub record Played (task : NodeTask) (old new : Seen) (phase : Phase) : Type 0 where
   pub bytes : List ℕ
   pub records : List Record
   pub inputs : List Input
-  pub found : old.file from ≡ Some bytes
-  pub taken : taken_by budget start bytes ≡ Ok records
-  pub run : IsRun own start records inputs
-  pub output : new.file to ≡ Some (capture (all_sent own start inputs))
-  pub stands_so : phase ≡ phase_of (stands own start inputs)
-  pub granted : IsGrantedBy own start records inputs
+  pub found : old.file task.from ≡ Some bytes
+  pub taken : taken_by task.budget task.start bytes ≡ Ok records
+  pub run : IsRun task.own task.start records inputs
+  pub output : new.file task.to ≡ Some (capture (all_sent task.own task.start inputs))
+  pub stands_so : phase ≡ phase_of (stands task.own task.start inputs)
+  pub granted : IsGrantedBy task.own task.start records inputs
 
 -- The output is as it was, or it holds a front of the capture of what the node sends over the input that was found.
-pub data IsFront (own : Identity) (start : ℕ) (from to : List ℕ) (budget : Budget) (old new : Seen) : Type 0 where
-  Same : new.file to ≡ old.file to → IsFront own start from to budget old new
-  Front : (bytes : List ℕ) (records : List Record) (inputs : List Input) (n : ℕ) → old.file from ≡ Some bytes → taken_by budget start bytes ≡ Ok records → IsRun own start records inputs →
-      new.file to ≡ Some (take n (capture (all_sent own start inputs))) → IsFront own start from to budget old new
+pub data IsFront (task : NodeTask) (old new : Seen) : Type 0 where
+  Same : new.file task.to ≡ old.file task.to → IsFront task old new
+  Front : (bytes : List ℕ) (records : List Record) (inputs : List Input) (n : ℕ) → old.file task.from ≡ Some bytes → taken_by task.budget task.start bytes ≡ Ok records → IsRun task.own task.start records inputs →
+      new.file task.to ≡ Some (take n (capture (all_sent task.own task.start inputs))) → IsFront task old new
 
 -- How running a node over files ends. The output is opened only behind the whole input and all that is sent for it: only where it
 -- couldn't be written, a front of it may stand.
-abbrev pub RunsNode : Identity → ℕ → List ℕ → List ℕ → Budget → Seen → Seen → Result Phase RunFault → Type 0
-RunsNode own start from to budget old new (Ok phase) = IsTrue old.told → Played own start from to budget old new phase
-RunsNode own start from to budget old new (Err (faults.Capture port at why)) = SameFiles old new × (IsTrue old.told → IsUntaken start from budget old (gather.Capture port at why))
-RunsNode own start from to budget old new (Err (faults.Limit kind)) = SameFiles old new × (IsTrue old.told → IsUntaken start from budget old (gather.Limit kind))
-RunsNode own start from to budget old new (Err faults.Read) = SameFiles old new × Rose (old.read_faults from) (new.read_faults from)
-RunsNode own start from to budget old new (Err faults.Write) = Rose (old.write_faults to) (new.write_faults to) × (IsTrue old.told → IsFront own start from to budget old new)
-RunsNode own start from to budget old new (Err faults.Memory) = SameFiles old new
+abbrev pub RunsNode : NodeTask → Seen → Seen → Result Phase RunFault → Type 0
+RunsNode task old new (Ok phase) = IsTrue old.told → Played task old new phase
+RunsNode task old new (Err (faults.Capture port at why)) = SameFiles old new × (IsTrue old.told → IsUntaken task.start task.from task.budget old (gather.Capture port at why))
+RunsNode task old new (Err (faults.Limit kind)) = SameFiles old new × (IsTrue old.told → IsUntaken task.start task.from task.budget old (gather.Limit kind))
+RunsNode task old new (Err faults.Read) = SameFiles old new × Rose (old.read_faults task.from) (new.read_faults task.from)
+RunsNode task old new (Err faults.Write) = Rose (old.write_faults task.to) (new.write_faults task.to) × (IsTrue old.told → IsFront task old new)
+RunsNode task old new (Err faults.Memory) = SameFiles old new
 
 -- no file changes but the output
 abbrev pub KeepsBut : List ℕ → Seen → Seen → Type 0

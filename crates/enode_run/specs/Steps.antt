@@ -1,5 +1,5 @@
 -- What the two steps of a run over files do; private functions alone cite this.
-use Rattle.std.specs.Prelude.{◌≡◌, ◌≢◌, ℕ, IsTrue, List, take, Some, Result, Ok, IfOk, IfErr, OnOk, OnErr, IsErrOf}
+use Rattle.std.specs.Prelude.{◌≡◌, ℕ, IsTrue, List, take, Some, Result, Ok, IfOk, IfErr, OnOk, OnErr, IsErrOf}
 use Rattle.fab_base.specs.Seen.{Seen, Keeps, Reads, Rose, SameReadFaults, SameWriteFaults}
 use Rattle.pcap_file.specs.declared.Budget.{Budget}
 use Rattle.pcap_file.specs.declared.Record.{Record}

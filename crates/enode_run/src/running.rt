@@ -2,7 +2,7 @@
 ghost use Rattle.std.specs.Prelude.{◌≡◌, ◌≤◌, ◌<◌, ◌^◌, IsTrue, length};
 ghost use Rattle.enode_core.specs.Laws.{IsTyped};
 ghost use Rattle.enode_core.specs.Phases.{phase_of};
-ghost use Rattle.enode_run.specs.Files.{KeepsBut, RunsNode};
+ghost use Rattle.enode_run.specs.Files.{KeepsBut, RunsNode, node_task};
 ghost use Rattle.run_files.specs.Faults.{TellsReads, TellsWrites};
 
 use crate::input::read_input;
@@ -30,7 +30,7 @@ pub fn run_node<D: Depot>(
     requires from { IsTrue ((D.seen depot.old).knows from.now) }
     requires to { IsTrue ((D.seen depot.old).knows to.now) }
     requires start { start ≤ 4294967295999 }
-    ensures plays { RunsNode own start from.now to.now budget (D.seen depot.old)
+    ensures plays { RunsNode (node_task own start from.now to.now budget) (D.seen depot.old)
         (D.seen depot.new) result }
     ensures others { KeepsBut to.now (D.seen depot.old) (D.seen depot.new) }
     // No other answer, want of memory neither, hides a fault of the store.

@@ -15,13 +15,13 @@ use Rattle.enode_core.specs.declared.node.Phase.{Phase}
 use Rattle.enode_core.specs.Phases.{phase_of}
 use Rattle.enode_core.specs.Runs.{Input, IsRun, stands, all_sent, capture}
 use Rattle.enode_core.proofs.RunLemmas.{runs_are_one}
-use Rattle.enode_run.specs.Files.{IsUntaken, Same, Front, KeepsBut, RunsNode, taken_by}
+use Rattle.enode_run.specs.Files.{IsUntaken, Same, Front, KeepsBut, RunsNode, node_task, taken_by}
 use Rattle.run_files.specs.Faults.{fault_from, TellsReads, TellsWrites}
 use Rattle.run_files.specs.declared.fault.RunFault.{RunFault}
 use Rattle.run_files.specs.declared.fault.RunFault.TheVariants as faults
 use Rattle.fabric_tool.specs.Command.{EnodeNames, Enode, KeepsOthers}
 use Rattle.fabric_tool.specs.Ends.{TakesMemory}
-use Rattle.fabric_tool.specs.Enode.{HasPlayed, HasEnodeFront, EnodeHolds, IsEnodeRefused, EnodeForms, EnodeSays}
+use Rattle.fabric_tool.specs.Enode.{task_of, HasPlayed, HasEnodeFront, EnodeHolds, IsEnodeRefused, EnodeForms, EnodeSays}
 use Rattle.fabric_tool.specs.Inputs.{LIMITS}
 use Rattle.fabric_tool.specs.Opening.{stopped_by, stood_by}
 use Rattle.fabric_tool.specs.Outcome.{status_of}
@@ -164,7 +164,7 @@ module _ (k : EnodeNames) (a b : Seen) (others : KeepsBut k.to a b) where
   keeps : KeepsOthers (Enode k) a b
   keeps m none = others m (λ e. differs k.to m (or_false (bytes_eq k.to m) _ none).0 (sym e))
 
-  ran : (r : Result Phase RunFault) → RunsNode k.own k.start k.from k.to LIMITS a b r → TellsReads a b r → TellsWrites a b r → EnodeHolds k a b (stood_by r)
+  ran : (r : Result Phase RunFault) → RunsNode (task_of k) a b r → TellsReads a b r → TellsWrites a b r → EnodeHolds k a b (stood_by r)
   ran (Ok last) runs reads writes = (keeps, runs, (reads (λ is. cc), writes (λ is. cc)))
   ran (Err (faults.Capture port at why)) runs reads writes = (runs.0, runs.1, (reads (λ is. cc), writes (λ is. cc)))
   ran (Err (faults.Limit kind)) runs reads writes = (runs.0, runs.1, (reads (λ is. cc), writes (λ is. cc)))
@@ -174,11 +174,11 @@ module _ (k : EnodeNames) (a b : Seen) (others : KeepsBut k.to a b) where
 
 -- the node and the files that words name
 pub ran_as : (own : Identity) (start : ℕ) (from to : List ℕ) (k : EnodeNames) (a b : Seen) (r : Result Phase RunFault) (o : Outcome) → own ≡ k.own → start ≡ k.start → from ≡ k.from → to ≡ k.to →
-    RunsNode own start from to LIMITS a b r → KeepsBut to a b → TellsReads a b r → TellsWrites a b r → o ≡ stood_by r → EnodeHolds k a b o
+    RunsNode (node_task own start from to LIMITS) a b r → KeepsBut to a b → TellsReads a b r → TellsWrites a b r → o ≡ stood_by r → EnodeHolds k a b o
 ran_as own start from to k a b r o own_is start_is from_is to_is runs others reads writes is =
     let there =
-    subst (λ l. RunsNode k.own k.start k.from l LIMITS a b r) to_is
-    (subst (λ l. RunsNode k.own k.start l to LIMITS a b r) from_is
-    (subst (λ (n : ℕ). RunsNode k.own n from to LIMITS a b r) start_is
-    (subst (λ (x : Identity). RunsNode x start from to LIMITS a b r) own_is runs))) in
+    subst (λ l. RunsNode (node_task k.own k.start k.from l LIMITS) a b r) to_is
+    (subst (λ l. RunsNode (node_task k.own k.start l to LIMITS) a b r) from_is
+    (subst (λ (n : ℕ). RunsNode (node_task k.own n from to LIMITS) a b r) start_is
+    (subst (λ (x : Identity). RunsNode (node_task x start from to LIMITS) a b r) own_is runs))) in
     subst (EnodeHolds k a b) (sym is) (ran k a b (subst (λ l. KeepsBut l a b) to_is others) r there reads writes)

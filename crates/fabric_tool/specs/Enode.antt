@@ -8,7 +8,7 @@ use Rattle.fab_gather.specs.declared.fault.GatherFault.TheVariants as gather
 use Rattle.enode_core.specs.declared.node.Phase.{Phase}
 use Rattle.enode_core.specs.Phases.{phase_of}
 use Rattle.enode_core.specs.Runs.{Input, IsRun, stands}
-use Rattle.enode_run.specs.Files.{Played, IsUntaken, IsFront, taken_by}
+use Rattle.enode_run.specs.Files.{NodeTask, node_task, Played, IsUntaken, IsFront, taken_by}
 use Rattle.fabric_tool.specs.Command.{EnodeNames, Enode, ReadRose, WriteRose, KeepsOthers}
 use Rattle.run_files.specs.Faults.{NoFaults}
 use Rattle.fabric_tool.specs.Inputs.{LIMITS}
@@ -18,15 +18,19 @@ use Rattle.fabric_tool.specs.declared.outcome.Outcome.TheVariants as ends
 
 -- ---- what holds where it ends so
 
+-- what the command runs its node for
+abbrev pub task_of : EnodeNames → NodeTask
+task_of k = node_task k.own k.start k.from k.to LIMITS
+
 -- The headline. The input as the call found it is a capture within the limits, of which all was read; the output is the capture of
 -- what the machine of a node sends over its records from the start on, and this is its phase in the end. Whenever the node is up
 -- by what it was given, a forwarder that sent all these records has granted its address (`granted` of `Played`).
 abbrev pub HasPlayed : EnodeNames → Seen → Seen → Phase → Type 0
-HasPlayed k old new last = Played k.own k.start k.from k.to LIMITS old new last
+HasPlayed k old new last = Played (task_of k) old new last
 
 -- Whatever the end: the output is as it was, or holds a front of what it would hold.
 abbrev pub HasEnodeFront : EnodeNames → Seen → Seen → Type 0
-HasEnodeFront k old new = IsFront k.own k.start k.from k.to LIMITS old new
+HasEnodeFront k old new = IsFront (task_of k) old new
 
 -- What holds where `enode` ends so. The output is opened only behind the whole input and all that is sent for it, and the line of a
 -- phase takes no memory. What is said of bytes needs a depot that tells them. No fault of the depot is passed over: where it isn't
