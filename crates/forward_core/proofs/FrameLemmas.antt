@@ -1,5 +1,5 @@
 -- The turn of a frame.
-use Rattle.std.proofs.Common.{◌≡◌, ℕ, ◌+◌, ◌*◌, List, [], ◌∷◌, ◌++◌, length, Some, is_some, refl, sym, ap, ◌∙◌, subst, slice_get, option_and_then}
+use Rattle.std.proofs.Common.{◌≡◌, ℕ, ◌+◌, ◌*◌, List, [], ◌∷◌, ◌++◌, length, Some, is_some, Ok, refl, sym, ap, ◌∙◌, subst, slice_get, option_and_then}
 use Rattle.fab_base.specs.declared.values.Caught.{Caught}
 use Rattle.fab_config.specs.Settings.{Settings}
 use Rattle.fab_policy.specs.Standing.{Contents, Takes}
@@ -15,7 +15,7 @@ use Rattle.fab_sending.specs.Sends.{AreSent}
 use Rattle.fab_sending.specs.declared.sends.Sends.{Sends}
 use Rattle.forward_core.specs.Carrying.{CarriesOut, IsRollOf}
 use Rattle.forward_core.specs.Fabric.{contents_of, IsFabric}
-use Rattle.forward_core.specs.Turns.{Keeps}
+use Rattle.forward_core.specs.Turns.{Keeps, TakesOrStays}
 use Rattle.forward_core.specs.declared.fabric.Fabric.TheInside.{Inside}
 use Rattle.forward_core.proofs.TakeLemmas.{takes}
 
@@ -72,6 +72,6 @@ tables_after F i f port index caught v s new k done =
 pub carried_takes : (F : Contents) (i : Inside) → IsFabric i → (port index : ℕ) (caught : Caught) (v : Verdict) (s : Sends) (new : Roll) →
     Keeps F (Frame port index caught v) s (contents_of i) →
     ((events : List Event) → frame_at (length F.events) events ≡ Some caught → AreSent F.settings F.count F.state (Frame port index caught v) events s) →
-    CarriesOut port caught v i.roster new → Takes F (Frame port index caught v) (contents_of (record i { roster = new }))
+    CarriesOut port caught v i.roster new → TakesOrStays F (Frame port index caught v) (Ok tt) (contents_of (record i { roster = new }))
 carried_takes F i f port index caught v s new k sent done =
-    frame_takes F i port index caught v s new k sent (tables_after F i f port index caught v s new k done)
+    record { takes = frame_takes F i port index caught v s new k sent (tables_after F i f port index caught v s new k done); err = tt }

@@ -1,14 +1,14 @@
 //! The turns of frames, one for each kind of judgement: what the frame sends is made first, then
 //! the entry is kept, and then the tables change, which takes no memory.
-ghost use Rattle.std.specs.Prelude.{◌≡◌, OnOk, OnErr, IsSome, IsTrue};
+ghost use Rattle.std.specs.Prelude.{◌≡◌, IsSome, IsTrue};
 ghost use Rattle.fab_judge.specs.Judged.{VerdictRests, ReplyRests, GrantRests, ServerRests, RegistrationRests, AnswerRests};
 ghost use Rattle.fab_policy.specs.Free.{is_free};
 ghost use Rattle.fab_policy.specs.Heard.{carried, is_flogi, sender};
 ghost use Rattle.fab_policy.specs.Replies.{asker_of};
-ghost use Rattle.fab_policy.specs.Standing.{Takes};
 ghost use Rattle.fab_policy.specs.Verdicts.{IsRight};
 ghost use Rattle.fab_policy.specs.declared.event.Event.TheVariants.{Frame};
 ghost use Rattle.fab_policy.specs.declared.verdict.Verdict.TheVariants.{Answered, Granted, NsLogin, Registered};
+ghost use Rattle.forward_core.specs.Turns.{TakesOrStays};
 
 use crate::Fabric;
 use crate::carrying::{carry_out, carry_out_reply, grant, log_in_to_server, register};
@@ -39,9 +39,8 @@ impl Fabric {
             verdict.now }
         requires rests { VerdictRests self.old.state.tables (sender port heard.now.caught.now)
             (carried heard.now.caught.now) verdict.now }
-        ensures takes { OnOk result
-            (Takes self.old (Frame port index heard.now.caught.now verdict.now) self.new) }
-        ensures err { OnErr result (self.new ≡ self.old) }
+        ensures { TakesOrStays self.old (Frame port index heard.now.caught.now verdict.now) result
+            self.new }
     {
         let place = self.events.len();
         let sends = frame_sends(alloc, &self.before(), port, place, heard, *verdict)?;
@@ -66,9 +65,8 @@ impl Fabric {
         requires rests { ReplyRests self.old.state.tables (carried heard.now.caught.now)
             verdict.now }
         requires to { to ≡ asker_of heard.now.caught.now }
-        ensures takes { OnOk result
-            (Takes self.old (Frame port index heard.now.caught.now verdict.now) self.new) }
-        ensures err { OnErr result (self.new ≡ self.old) }
+        ensures { TakesOrStays self.old (Frame port index heard.now.caught.now verdict.now) result
+            self.new }
     {
         let sends = reply_sends(alloc, &self.before(), port, heard, *verdict, to)?;
         self.keep_frame(alloc, port, index, heard, *verdict, sends)?;
@@ -93,9 +91,8 @@ impl Fabric {
             (sender port heard.now.caught.now) (is_flogi heard.now.caught.now)
             (carried heard.now.caught.now) login.now }
         requires free { IsTrue (is_free self.old.state.tables login.now.request address) }
-        ensures takes { OnOk result
-            (Takes self.old (Frame port index heard.now.caught.now (Granted address)) self.new) }
-        ensures err { OnErr result (self.new ≡ self.old) }
+        ensures { TakesOrStays self.old (Frame port index heard.now.caught.now (Granted address))
+            result self.new }
     {
         let granted = Grant {
             request: &login.request,
@@ -130,9 +127,8 @@ impl Fabric {
             NsLogin }
         requires rests { ServerRests self.old.state.tables (carried heard.now.caught.now) size }
         requires to { to ≡ asker_of heard.now.caught.now }
-        ensures takes { OnOk result
-            (Takes self.old (Frame port index heard.now.caught.now NsLogin) self.new) }
-        ensures err { OnErr result (self.new ≡ self.old) }
+        ensures { TakesOrStays self.old (Frame port index heard.now.caught.now NsLogin) result
+            self.new }
     {
         let sends = reply_sends(alloc, &self.before(), port, heard, Verdict::NsLogin, to)?;
         self.keep_frame(alloc, port, index, heard, Verdict::NsLogin, sends)?;
@@ -153,9 +149,8 @@ impl Fabric {
             Registered }
         requires rests { RegistrationRests self.old.state.tables (carried heard.now.caught.now) }
         requires to { to ≡ asker_of heard.now.caught.now }
-        ensures takes { OnOk result
-            (Takes self.old (Frame port index heard.now.caught.now Registered) self.new) }
-        ensures err { OnErr result (self.new ≡ self.old) }
+        ensures { TakesOrStays self.old (Frame port index heard.now.caught.now Registered) result
+            self.new }
     {
         // Law: a right verdict suits what the frame was decoded as: here a registration.
         right_frames_suit();
@@ -184,9 +179,8 @@ impl Fabric {
         requires rests { AnswerRests self.old.settings self.old.state.tables
             (carried heard.now.caught.now) tell.now size }
         requires to { to ≡ asker_of heard.now.caught.now }
-        ensures takes { OnOk result
-            (Takes self.old (Frame port index heard.now.caught.now Answered) self.new) }
-        ensures err { OnErr result (self.new ≡ self.old) }
+        ensures { TakesOrStays self.old (Frame port index heard.now.caught.now Answered) result
+            self.new }
     {
         // Law: an answer leaves the tables as they are.
         tables_change();

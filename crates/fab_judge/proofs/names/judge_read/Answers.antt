@@ -1,33 +1,23 @@
-use Rattle.std.proofs.Common.{◌≡◌, ap, ◌∙◌, rules}
+use Rattle.std.proofs.Common.{ap, ◌∙◌, rules}
 use Rattle.ct_messages.specs.Ask.{view}
 use Rattle.ct_messages.specs.Server as server
 use Rattle.fab_policy.specs.Queries.{known_to}
-use Rattle.fab_policy.specs.Verdicts as policy
-use Rattle.fab_policy.specs.declared.verdict.Verdict.TheVariants.{Answered}
 use Rattle.fab_judge.specs.Judged.{judgement_of}
-use Rattle.fab_judge.specs.Told.{told_as, unless_refusal}
+use Rattle.fab_judge.specs.Told.{told_as}
 use Rattle.fab_judge.proofs.AskLemmas.{told}
 use Rattle.fab_judge.proofs.names.judge_read.Goals as goal
 
 pub returns-then-is_registration : goal.returns-then-is_registration
 returns-then-is_registration c =
     let judged = c.judge_registration.ensures c.args.config.now in
-    record {
-      judged = λ p live.
-          let says = judged.judged p live in
-          let at = c.requires.server p live in
-          search rules;
-      grounds = judged.grounds;
-    }
+    record { judged = λ p live. let says = judged.judged p live in let at = c.requires.server p live in search rules; grounds = judged.grounds }
 
 pub returns-in-Ok : goal.returns-in-Ok
 returns-in-Ok c = record {
   judged = λ p live.
       let ports = known_to c.args.config.now c.args.roster.now.tables p in
       let ask = view c.args.ask.now in
-      let says : judgement_of c.answered.result ≡ unless_refusal (server.query_refusal ports ask) (policy.Must Answered) =
-      ap judgement_of c.answered.ensures
-      ∙ ap (λ t. judgement_of (told_as c.args.to c.args.size t)) (c.in-Ok.ensures.answer p live)
+      let says = ap judgement_of c.answered.ensures ∙ ap (λ t. judgement_of (told_as c.args.to c.args.size t)) (c.in-Ok.ensures.answer p live)
       ∙ told c.args.to c.args.size (server.query_refusal ports ask) (server.query ports ask) (c.a_query_is_no_reject.ensures.query ports ask) in
       let at = c.requires.server p live in
       search rules;

@@ -26,14 +26,17 @@ keep_frame-requires-clause-sendable c = (c.in_ok-sends.ensures (length c.args.se
 pub keep_frame-requires-clause-rscns : goal.keep_frame-requires-clause-rscns
 keep_frame-requires-clause-rscns c = (c.in_ok-sends.ensures 0).few
 
-pub returns-clause-takes : goal.returns-clause-takes
-returns-clause-takes c =
+pub returns : goal.returns
+returns c =
     let F = c.args.self.now in
     let K = c.keep_frame.new.self in
     let caught = c.args.heard.now.caught.now in
     let e = Frame c.args.port c.args.index caught Answered in
     let k = c.in_ok-keep_frame.ensures.ok in
-    takes F K e c.in_ok-sends.sends K.state.tables K.state.advertised k
-    (frame_sent c.before-2.result F c.args.port c.args.index (length F.events) caught Answered (F.events ++ e ∷ []) c.in_ok-sends.sends c.before-2.ensures.config c.before-2.ensures.ports c.before-2.ensures.state
-    (c.in_ok-sends.ensures (length F.events)) tt (frame_there c.args.port c.args.index caught Answered F.events))
-    (k.tables ∙ answered_stays c.tables_change.ensures.frame F.settings c.args.port c.args.index caught F.state.tables c.before-2.ensures.pool) k.advertised
+    record {
+      takes = takes F K e c.in_ok-sends.sends K.state.tables K.state.advertised k
+          (frame_sent c.before-2.result F c.args.port c.args.index (length F.events) caught Answered (F.events ++ e ∷ []) c.in_ok-sends.sends c.before-2.ensures.config c.before-2.ensures.ports c.before-2.ensures.state
+          (c.in_ok-sends.ensures (length F.events)) tt (frame_there c.args.port c.args.index caught Answered F.events))
+          (k.tables ∙ answered_stays c.tables_change.ensures.frame F.settings c.args.port c.args.index caught F.state.tables c.before-2.ensures.pool) k.advertised;
+      err = tt;
+    }

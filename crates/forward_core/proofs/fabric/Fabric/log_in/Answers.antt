@@ -36,8 +36,8 @@ invariant_of-self c =
     carried_fabric c.self.inside c.self.invariant c.args.port c.args.heard.now.caught.now (Granted c.args.address) c.grant.new.roster
     (c.grant.ensures.carries c.args.port c.args.heard.now.caught.now (record { flogi = c.requires.rests.flogi_is; enode = c.requires.rests.enode; name = c.requires.rests.name; node_is = c.requires.rests.node_is }))
 
-pub returns-clause-takes : goal.returns-clause-takes
-returns-clause-takes c =
+pub returns : goal.returns
+returns c =
     let F = c.args.self.now in
     let caught = c.args.heard.now.caught.now in
     let v = Granted c.args.address in

@@ -20,8 +20,8 @@ keep_frame-requires-clause-rscns c = (c.in_ok-sends.ensures 0).few
 pub invariant_of-self : goal.invariant_of-self
 invariant_of-self c = carried_fabric c.self.inside c.self.invariant c.args.port c.args.heard.now.caught.now c.args.verdict.now c.carry_out_reply.new.roster (c.carry_out_reply.ensures c.args.port)
 
-pub returns-clause-takes : goal.returns-clause-takes
-returns-clause-takes c =
+pub returns : goal.returns
+returns c =
     let F = c.args.self.now in
     let caught = c.args.heard.now.caught.now in
     let kept = subst (λ (K : Contents). Keeps F (Frame c.args.port c.args.index caught c.args.verdict.now) c.in_ok-sends.sends K) (sym c.self.view_is) c.in_ok-keep_frame.ensures.ok in

@@ -26,8 +26,8 @@ keep_frame-requires-clause-rscns c = c.in_ok-sends.ensures.few
 pub invariant_of-self : goal.invariant_of-self
 invariant_of-self c = carried_fabric c.self-2.inside c.self-2.invariant c.args.port c.args.heard.now.caught.now c.args.verdict.now c.carry_out.new.roster c.carry_out.ensures
 
-pub returns-clause-takes : goal.returns-clause-takes
-returns-clause-takes c =
+pub returns : goal.returns
+returns c =
     let F = c.args.self.now in
     let caught = c.args.heard.now.caught.now in
     let v = c.args.verdict.now in
