@@ -11,7 +11,7 @@ ghost use Rattle.fab_pages.specs.Pages.{AreEarly};
 ghost use Rattle.fab_windows.specs.Files.{AreFiles, file_slots};
 ghost use Rattle.fab_windows.specs.Pages.{AreShort, pending};
 ghost use Rattle.fab_windows.specs.Turns.{task_of, Going, Gathered, Ended, Handles, Publishes, paged_at};
-ghost use Rattle.std.specs.Prelude.{ℕ, List};
+ghost use Rattle.std.specs.Prelude.{List};
 ghost use Rattle.fab_gather.specs.declared.shelf.Input as of_gather;
 ghost use Rattle.pcap_file.specs.declared.Budget as of_captures;
 
@@ -33,7 +33,7 @@ use std::thread::Threads;
 
 /// What the work of a run is done by, and the gate that each frame passes.
 #[derive(Clone, Copy)]
-pub(crate) struct Means<'a, R: Threads + Wait + Sync, G: Gate + Sync> {
+pub(crate) struct Means<'a, R, G> {
     pub(crate) rt: &'a R,
     pub(crate) alloc: Global,
     pub(crate) gate: &'a G,
@@ -176,7 +176,7 @@ fn drain_window<R: Threads + Wait + Sync, G: Gate + Sync>(
 
 // Adds the lines of entries, from a clock on, and the records of what they sent to the pages, which
 // are written where they are full.
-fn publish<R: Threads + Wait + Sync, D: Depot, G: Gate + Sync>(
+fn publish<R: Threads + Sync, D: Depot, G>(
     means: &Means<'_, R, G>,
     depot: &mut D,
     config: &Config,
