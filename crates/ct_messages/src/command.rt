@@ -1,6 +1,7 @@
 //! The commands of the name server (FC-GS-6, "Name Server").
 ghost use Rattle.std.specs.Prelude.{◌≡◌, ◌+◌, ◌≤◌, length};
 ghost use Rattle.ct_messages.specs.Ask.{view};
+ghost use Rattle.ct_messages.specs.Server as server;
 ghost use Rattle.ct_messages.specs.Table.{row_of, command_with};
 
 use crate::fields::{address_of, byte_or_zero, text_at, types_at};
@@ -116,6 +117,23 @@ impl Command {
             },
             Command::RsnnNn => CtAsk::SetNodeSymbol(name_at(payload, 16), text_at(payload, 24)),
             Command::DaId => CtAsk::Erase(address_of(payload)),
+        }
+    }
+}
+
+impl CtAsk<'_> {
+    /// Whether it registers something or takes it back; any other request is a query.
+    pub fn is_registration(&self) -> bool
+        ensures { result ≡ server.is_registration (view self.now) }
+    {
+        match self {
+            CtAsk::SetNode(..)
+            | CtAsk::SetTypes(..)
+            | CtAsk::SetSymbol(..)
+            | CtAsk::SetFeature { .. }
+            | CtAsk::SetNodeSymbol(..)
+            | CtAsk::Erase(_) => true,
+            _ => false,
         }
     }
 }

@@ -78,7 +78,7 @@ fn judge_read(
     ensures { IfOk result (IsAskJudged config.now roster.now.tables (fc_view frame.now) to
         (λ p. verdicts.ct_judged config.now roster.now.tables p frame.now.payload.now)) }
 {
-    if is_registration(ask) {
+    if ask.is_registration() {
         return Ok(judge_registration(roster, frame, ask, to));
     }
     // Law: the answer to a query is never a reject, so none stands behind a judged Answered.
@@ -141,19 +141,5 @@ fn answered(to: Asker, tell: CtTell, size: u16) -> Judged
             explanation,
         } => refused(to, reason, explanation),
         tell => Judged::Answers { to, tell, size },
-    }
-}
-
-fn is_registration(ask: &CtAsk<'_>) -> bool
-    ensures { result ≡ server.is_registration (view ask.now) }
-{
-    match ask {
-        CtAsk::SetNode(..)
-        | CtAsk::SetTypes(..)
-        | CtAsk::SetSymbol(..)
-        | CtAsk::SetFeature { .. }
-        | CtAsk::SetNodeSymbol(..)
-        | CtAsk::Erase(_) => true,
-        _ => false,
     }
 }

@@ -1,4 +1,5 @@
 pub mod Cause
+pub mod Classes
 pub mod Journal
 pub mod Heard
 pub mod View

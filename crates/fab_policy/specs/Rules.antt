@@ -82,15 +82,6 @@ abbrev pub is_solicitation : fip.Fip → Bool
 is_solicitation (fip.Solicit _ _ _ _ _) = true
 is_solicitation _ = false
 
--- a message that only a forwarder sends
-abbrev pub is_forwarders : fip.Fip → Bool
-is_forwarders (fip.Advertise _ _ _ _ _ _ _ _ _ _ _) = true
-is_forwarders (fip.LoginReply _ _ _ _) = true
-is_forwarders (fip.Clear _ _ _) = true
-is_forwarders (fip.VlanTell _ _) = true
-is_forwarders (fip.Solicit from_fcf _ _ _ _) = from_fcf
-is_forwarders _ = false
-
 -- the MAC that a solicitation, a VLAN request or an ENode's keep alive names for its sender
 abbrev pub named_mac : fip.Fip → Option (List ℕ)
 named_mac (fip.Solicit _ _ mac _ _) = Some mac
@@ -152,7 +143,7 @@ abbrev pub fip_frame_rows : Settings → eth.Eth → fip.Fip → List (Bool × C
 fip_frame_rows c f m =
     (is_wrong_vlan c f (is_vlan_request m), plain rule.Vlan)
     ∷ (not (is_to_forwarder c f m), plain rule.FipDest)
-    ∷ (is_forwarders m, plain rule.FipRole)
+    ∷ (fip.is_forwarders m, plain rule.FipRole)
     ∷ (names_another f m, plain rule.FipMac)
     ∷ []
 

@@ -12,7 +12,7 @@ use crate::{Dropped, Heard, Rule, What};
 use eth_frames::{ALL_FCFS, EthFrame};
 use fab_base::Mac;
 use fab_config::Config;
-use fip_codec::FipMessage;
+use fip_codec::{FipMessage, is_forwarders};
 
 /// The first rule on the frame itself that drops it: it can't be read, or its VLAN, its
 /// destination, its kind or the MAC that it names is wrong. It doesn't go by who is logged in.
@@ -106,20 +106,6 @@ fn is_solicitation(message: &FipMessage<'_>) -> bool
 {
     match message {
         FipMessage::Solicit { .. } => true,
-        _ => false,
-    }
-}
-
-// Whether only a forwarder sends this message.
-fn is_forwarders(message: &FipMessage<'_>) -> bool
-    ensures { result ≡ rules.is_forwarders (fip_view message.now) }
-{
-    match message {
-        FipMessage::Solicit { from_fcf, .. } => *from_fcf,
-        FipMessage::Advertise { .. }
-        | FipMessage::LoginReply { .. }
-        | FipMessage::Clear { .. }
-        | FipMessage::VlanTell { .. } => true,
         _ => false,
     }
 }

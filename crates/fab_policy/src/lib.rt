@@ -2,6 +2,7 @@
 #![tactic(auto)]
 
 mod bytes;
+mod classes;
 mod event;
 mod frame_rules;
 mod growing;
@@ -18,6 +19,7 @@ mod verdict;
 mod verdict_words;
 mod words;
 
+pub use classes::{Replied, Settled};
 pub use event::Event;
 pub use frame_rules::frame_rule;
 pub use growing::{entries_add_to_files, entries_come_in_parts, records_come_later};

@@ -36,7 +36,14 @@ pub fn known_verdict(verdict: &Verdict)
         Verdict::Dropped(dropped) => {
             let _ = dropped.number();
         }
-        _ => {}
+        Verdict::Vlans
+        | Verdict::Advertised
+        | Verdict::AliveNode
+        | Verdict::NsLogin
+        | Verdict::NsLogout
+        | Verdict::Registered
+        | Verdict::Answered
+        | Verdict::Noted => {}
     }
 }
 

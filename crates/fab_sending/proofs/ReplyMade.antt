@@ -12,7 +12,7 @@ use Rattle.fab_policy.specs.Cause.{Cause}
 use Rattle.fab_policy.specs.Free.{Request}
 use Rattle.fab_policy.specs.Heard.{What, Bad, Fip, Fcoe, NO_FRAME, decoded, fc_of, plain}
 use Rattle.fab_policy.specs.Queries.{refusal}
-use Rattle.fab_policy.specs.Rules.{NAME_SERVER, SERVICES, fip_login_rows, first_row, holds, is_els_reply, is_els_request, is_forwarders, is_keepalive_unknown, is_to_forwarder, is_unreadable, is_vlan_request, is_wrong_login, is_wrong_vlan, names_another, rule_for}
+use Rattle.fab_policy.specs.Rules.{NAME_SERVER, SERVICES, fip_login_rows, first_row, holds, is_els_reply, is_els_request, is_keepalive_unknown, is_to_forwarder, is_unreadable, is_vlan_request, is_wrong_login, is_wrong_vlan, names_another, rule_for}
 use Rattle.fab_policy.specs.State.{LivePort, Tables, port_at}
 use Rattle.fab_policy.specs.Verdicts.{Judgement, Must, MayGrant, IsRight, Meets, ct_judged, els_judged, fcoe_judged, fip_judged, frame_judged, judged, login_judged, message_judged, is_function, is_own_logout, login_rows as rows_of, request_of, service_judged, unless_refused}
 use Rattle.fab_policy.specs.declared.verdict.Verdict.{Verdict}
@@ -62,11 +62,11 @@ unfolding rule_for
 read_fip c T port caught f m h =
     let logins : List (Bool × Cause) = fip_login_rows c T port caught m in
     let fourth : List (Bool × Cause) = (names_another f m, plain rule.FipMac) ∷ logins in
-    let third : List (Bool × Cause) = (is_forwarders m, plain rule.FipRole) ∷ fourth in
+    let third : List (Bool × Cause) = (fip.is_forwarders m, plain rule.FipRole) ∷ fourth in
     let second : List (Bool × Cause) = (not (is_to_forwarder c f m), plain rule.FipDest) ∷ third in
     here (is_unreadable m) (plain rule.ElsShort) ((is_wrong_login m, plain rule.ElsKind) ∷ (is_keepalive_unknown c T port caught m, plain rule.KeepaliveUnknown) ∷ [])
     (skip (names_another f m) (plain rule.FipMac) logins
-    (skip (is_forwarders m) (plain rule.FipRole) fourth
+    (skip (fip.is_forwarders m) (plain rule.FipRole) fourth
     (skip (not (is_to_forwarder c f m)) (plain rule.FipDest) third
     (skip (is_wrong_vlan c f (is_vlan_request m)) (plain rule.Vlan) second h))))
 

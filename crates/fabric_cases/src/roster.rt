@@ -14,7 +14,7 @@ use frame_cases::{caught, config_of};
 use std::alloc::Global;
 use table_cases::held::{open, open_in};
 use table_cases::logins::{login_of, said};
-use table_cases::registry::{end_answer, is_registration, said_refusal};
+use table_cases::registry::{end_answer, said_refusal};
 use table_cases::say::{end, end_address, end_bool, end_number, say_number};
 use table_cases::words::{
     CaseFault, address, enode, hex, moment, name, name_at, octet, port, short,
@@ -204,7 +204,7 @@ impl Roll {
         if self.roster.by_address(asker).is_none() {
             return Err(CaseFault::Refused);
         }
-        if is_registration(&ask) {
+        if ask.is_registration() {
             said_refusal(out, self.roster.refusal(asker, &ask))?;
             let noticed = self.roster.is_noticed(asker, &ask);
             return end(out, if noticed { "noticed" } else { "quiet" });

@@ -1,5 +1,5 @@
 -- FIP messages as values, and the one way in which the forwarder writes each (FC-BB-5, "FIP operations").
-use Rattle.std.specs.Prelude.{ℕ, ◌+◌, ◌/◌, Bool, if◌then◌else◌, List, [], ◌∷◌, ◌++◌, length, flat_map, Option, Some, None}
+use Rattle.std.specs.Prelude.{ℕ, ◌+◌, ◌/◌, Bool, true, false, if◌then◌else◌, List, [], ◌∷◌, ◌++◌, length, flat_map, Option, Some, None}
 use Rattle.std.specs.Borrow.{Bor}
 use Rattle.fab_base.specs.Layout.{spelled, zeros}
 use Rattle.fip_codec.specs.declared.message.LoginKind.{LoginKind}
@@ -37,6 +37,15 @@ view m = plain (λ ports. ports) (λ vlans. vlans) m
 
 abbrev pub view_out : Message (Bor (List VxPort)) (Bor (List ℕ)) → Fip
 view_out m = plain (λ ports. ports.now) (λ vlans. vlans.now) m
+
+-- only a forwarder sends it (FC-BB-5, "FIP operations")
+abbrev pub is_forwarders : Fip → Bool
+is_forwarders (Advertise _ _ _ _ _ _ _ _ _ _ _) = true
+is_forwarders (LoginReply _ _ _ _) = true
+is_forwarders (Clear _ _ _) = true
+is_forwarders (VlanTell _ _) = true
+is_forwarders (Solicit from_fcf _ _ _ _) = from_fcf
+is_forwarders _ = false
 
 -- ---- written descriptors: type, length in words, and the rest
 

@@ -1,5 +1,8 @@
 //! FIP messages, as they are read and as they are written (FC-BB-5, "FIP operations").
 
+ghost use Rattle.std.specs.Prelude.{◌≡◌};
+ghost use Rattle.fip_codec.specs.Message as spec;
+
 use crate::{VlanList, VxList};
 use fab_base::{FcId, Mac, Wwn};
 
@@ -87,4 +90,18 @@ pub enum Message<'a, P, V> {
         mac: Mac,
         vlans: V,
     },
+}
+
+/// Whether only a forwarder sends this message; a solicitation says so itself.
+pub fn is_forwarders(message: &FipMessage<'_>) -> bool
+    ensures { result ≡ spec.is_forwarders (spec.view message.now) }
+{
+    match message {
+        Message::Solicit { from_fcf, .. } => *from_fcf,
+        Message::Advertise { .. }
+        | Message::LoginReply { .. }
+        | Message::Clear { .. }
+        | Message::VlanTell { .. } => true,
+        Message::Login { .. } | Message::Keep { .. } | Message::VlanAsk { .. } => false,
+    }
 }

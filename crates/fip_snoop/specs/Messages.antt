@@ -94,15 +94,6 @@ clears mac _ = false
 
 -- ---- kinds of message
 
--- only a forwarder sends these
-abbrev pub is_forwarders : fip.Fip → Bool
-is_forwarders (fip.Advertise _ _ _ _ _ _ _ _ _ _ _) = true
-is_forwarders (fip.LoginReply _ _ _ _) = true
-is_forwarders (fip.Clear _ _ _) = true
-is_forwarders (fip.VlanTell _ _) = true
-is_forwarders (fip.Solicit from_fcf _ _ _ _) = from_fcf
-is_forwarders _ = false
-
 -- may come without a tag
 abbrev pub is_of_vlans : fip.Fip → Bool
 is_of_vlans (fip.VlanAsk _ _) = true

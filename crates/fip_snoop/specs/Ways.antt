@@ -11,7 +11,7 @@ use Rattle.eth_frames.specs.Ethernet as eth
 use Rattle.fcoe_codec.specs.Fcoe as capsule
 use Rattle.fip_codec.specs.Message as fip
 use Rattle.fip_codec.specs.declared.message.VxPort.{VxPort}
-use Rattle.fip_snoop.specs.Messages.{is_forwarders, is_of_vlans, is_port_alive}
+use Rattle.fip_snoop.specs.Messages.{is_of_vlans, is_port_alive}
 use Rattle.fip_snoop.specs.History.{History, home, bound, has_moved}
 use Rattle.fip_snoop.specs.declared.bindings.Binding.{Binding}
 use Rattle.fip_snoop.specs.declared.forwarder.Forwarder.{Forwarder}
@@ -64,7 +64,7 @@ is_to_forwarders w dst = same_bytes dst w.mac || same_bytes dst ALL_FCFS
 abbrev pub up_rows : Forwarder → ℕ → eth.Eth → fip.Fip → Option Binding → Bool → List (Bool × SnoopRule)
 up_rows w port f m b moved =
     (is_wrong_vlan w f (is_of_vlans m), rule.Vlan)
-    ∷ (is_forwarders m, rule.Role)
+    ∷ (fip.is_forwarders m, rule.Role)
     ∷ (not (is_to_forwarders w f.dst), rule.Dest)
     ∷ (not (is_port_alive m) && moved, rule.Moved)
     ∷ (is_port_alive m && not (is_on port b), rule.Unbound)

@@ -11,6 +11,20 @@ pub fn granted_address(verdict: &Verdict) -> Option<FcId>
 {
     match verdict {
         Verdict::Granted(address) => Some(*address),
-        _ => None,
+        Verdict::Vlans
+        | Verdict::Advertised
+        | Verdict::Rejected(..)
+        | Verdict::Logout(_)
+        | Verdict::AliveNode
+        | Verdict::AlivePort(_)
+        | Verdict::NsLogin
+        | Verdict::NsLogout
+        | Verdict::Watching(_)
+        | Verdict::Registered
+        | Verdict::Answered
+        | Verdict::Refused(..)
+        | Verdict::Noted
+        | Verdict::Forwarded(_)
+        | Verdict::Dropped(_) => None,
     }
 }

@@ -81,7 +81,7 @@ fn register(
     let Ok(ask) = read_ask(payload) else {
         return Err(CaseFault::Words);
     };
-    if !is_registration(&ask) || registry.node_name(asker).is_none() {
+    if !ask.is_registration() || registry.node_name(asker).is_none() {
         return Err(CaseFault::Refused);
     }
     said_refusal(out, registry.refusal(asker, &ask))?;
@@ -114,7 +114,7 @@ fn query(
     let Ok(ask) = read_ask(payload) else {
         return Err(CaseFault::Words);
     };
-    if is_registration(&ask) {
+    if ask.is_registration() {
         return Err(CaseFault::Refused);
     }
     let two = two_of(line)?;
@@ -184,21 +184,6 @@ pub fn end_answer(alloc: Global, tell: &CtTell, out: &mut Vec<u8>) -> Result<(),
     let mut bytes = Vec::new(alloc);
     write_tell(alloc, tell, &mut bytes)?;
     end_hex(out, &bytes)
-}
-
-/// Whether a request registers something.
-pub fn is_registration(ask: &CtAsk<'_>) -> bool
-    ensures { result ≡ server.is_registration (view ask.now) }
-{
-    match ask {
-        CtAsk::SetNode(..)
-        | CtAsk::SetTypes(..)
-        | CtAsk::SetSymbol(..)
-        | CtAsk::SetFeature { .. }
-        | CtAsk::SetNodeSymbol(..)
-        | CtAsk::Erase(_) => true,
-        _ => false,
-    }
 }
 
 /// `allowed`, or the codes with which a registration is refused.

@@ -1,0 +1,75 @@
+//! Verdicts by what carrying them out needs beside the frame.
+ghost use Rattle.std.specs.Prelude.{◌≡◌};
+ghost use Rattle.fab_policy.specs.Classes.{of_replied, of_settled};
+
+use crate::{Dropped, Verdict};
+use fab_base::{FcId, PortNo};
+
+/// A verdict that needs nothing but the frame: it sends a FIP answer, the frame itself, or nothing.
+#[derive(Clone, Copy, Debug, PartialEq, Eq)]
+pub enum Settled {
+    /// `vlans`.
+    Vlans,
+    /// `advertised`.
+    Advertised,
+    /// `alive` of an ENode.
+    AliveNode,
+    /// `alive` of this VN_Port.
+    AlivePort(FcId),
+    /// `noted`.
+    Noted,
+    /// `forwarded` to this port.
+    Forwarded(PortNo),
+    /// `dropped` by a rule.
+    Dropped(Dropped),
+}
+
+/// A verdict that is replied to the sender of the frame, with what the tables then keep of it.
+#[derive(Clone, Copy, Debug, PartialEq, Eq)]
+pub enum Replied {
+    /// `rejected`: reason and explanation.
+    Rejected(u8, u8),
+    /// `logout`: the login of this address ends.
+    Logout(FcId),
+    /// `ns-login`, with the receive size that the login names.
+    NsLogin(u16),
+    /// `ns-logout`.
+    NsLogout,
+    /// `watching` with this function.
+    Watching(u8),
+    /// `refused`: reason and explanation.
+    Refused(u8, u8),
+}
+
+impl Settled {
+    /// The verdict that it is.
+    pub fn verdict(self) -> Verdict
+        ensures { result ≡ of_settled self }
+    {
+        match self {
+            Settled::Vlans => Verdict::Vlans,
+            Settled::Advertised => Verdict::Advertised,
+            Settled::AliveNode => Verdict::AliveNode,
+            Settled::AlivePort(address) => Verdict::AlivePort(address),
+            Settled::Noted => Verdict::Noted,
+            Settled::Forwarded(port) => Verdict::Forwarded(port),
+            Settled::Dropped(cause) => Verdict::Dropped(cause),
+        }
+    }
+}
+
+impl Replied {
+    /// The verdict that it is.
+    pub fn verdict(self) -> Verdict
+        ensures { result ≡ of_replied self }
+    {
+        match self {
+            Replied::Rejected(reason, explanation) => Verdict::Rejected(reason, explanation),
+            Replied::Logout(address) => Verdict::Logout(address),
+            Replied::NsLogin(_) => Verdict::NsLogin,
+            Replied::NsLogout => Verdict::NsLogout,
+            Replied::Watching(function) => Verdict::Watching(function),
+            Replied::Refused(reason, explanation) => Verdict::Refused(reason, explanation),
+        }
+    }
+}
