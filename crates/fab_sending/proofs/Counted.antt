@@ -1,5 +1,5 @@
 -- The state changes of frames, from what is told of each address.
-use Rattle.std.proofs.Common.{◌≡◌, Bool, true, false, ℕ, cond, List, [], ◌∷◌, ◌++◌, map, filter, Option, Some, None, option_map, option_to_list, refl, sym, ap, ◌∙◌}
+use Rattle.std.proofs.Common.{◌≡◌, Bool, true, false, ℕ, cond, List, [], ◌∷◌, ◌++◌, filter, Option, Some, None, option_map, option_to_list, refl, sym, ap, ◌∙◌}
 use Rattle.std.proofs.lemmas.List.{append-nil}
 use Rattle.std.specs.Option.{option_map_or}
 use Rattle.fab_base.specs.declared.values.Caught.{Caught}
@@ -15,7 +15,7 @@ use Rattle.fab_sending.specs.Notices.{ended_by_grant, notices_of_frame, told_of_
 use Rattle.fab_sending.specs.Sends.{IsGrant}
 use Rattle.fab_sending.specs.declared.sends.Grant.{Grant}
 use Rattle.fab_sending.proofs.Counting.{addresses_same, first_changes, logins_told, named_told, with_changes-twice}
-use Rattle.fab_sending.proofs.Finding.{found_address}
+use Rattle.fab_policy.proofs.Found.{found_address}
 
 -- of the one that may be there
 one_of : (c : Settings) (T : Tables) (but : List ℕ) (o : Option LivePort) → option_map_or (λ p. told_of_name c T but p.address p.name) o [] ≡ told_of_each c T but (option_to_list o)

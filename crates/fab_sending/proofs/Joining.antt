@@ -1,6 +1,6 @@
 -- The replies to a frame and its state changes are what the frame sends.
-use Rattle.std.proofs.Common.{◌≡◌, ℕ, ◌+◌, ◌*◌, ◌%◌, ◌^◌, ◌≤◌, ◌<◌, Bool, true, false, List, [], ◌∷◌, ◌++◌, length, map, filter, option_to_list, Option, Some, None, Ok, Err, IsSome, unwrap_or, refl, sym, ap, subst, ◌∙◌}
-use Rattle.std.proofs.lemmas.List.{append-nil, map-append}
+use Rattle.std.proofs.Common.{◌≡◌, ℕ, ◌+◌, ◌*◌, ◌%◌, ◌^◌, ◌≤◌, ◌<◌, true, List, [], ◌∷◌, ◌++◌, length, map, filter, option_to_list, Option, Some, None, IsSome, unwrap_or, refl, sym, ap, subst, ◌∙◌}
+use Rattle.std.proofs.lemmas.List.{map-append}
 use Rattle.std.proofs.lemmas.List.Elements.{All-nil, All-cons, All-append}
 use Rattle.fab_base.specs.declared.values.Caught.{Caught}
 use Rattle.fab_config.specs.Settings.{Settings}
@@ -9,16 +9,21 @@ use Rattle.ct_messages.specs.Ct.{Ask}
 use Rattle.ct_messages.specs.Server as server
 use Rattle.ct_messages.specs.declared.CtTell.{CtTell}
 use Rattle.fc_frames.specs.Pieces.{pieces}
+use Rattle.fab_policy.specs.Classes.{of_replied, of_settled}
 use Rattle.fab_policy.specs.Heard.{ask_of, s_id}
-use Rattle.fab_policy.specs.Outputs.{Notice, State, notices}
+use Rattle.fab_policy.specs.Outputs.{Notice, State}
 use Rattle.fab_policy.specs.Queries.{query}
 use Rattle.fab_policy.specs.Replies.{Asker, asker_of}
 use Rattle.fab_policy.specs.State.{LivePort, Tables, addresses, now_of, overdue, port_at}
-use Rattle.fab_policy.specs.Steps.{AreAscending, InPool, after}
+use Rattle.fab_policy.specs.Steps.{AreAscending, InPool}
+use Rattle.fab_policy.specs.declared.classes.Replied.{Replied}
+use Rattle.fab_policy.specs.declared.classes.Replied.TheVariants.{NsLogout}
+use Rattle.fab_policy.specs.declared.classes.Settled.{Settled}
+use Rattle.fab_policy.specs.declared.classes.Settled.TheVariants.{Vlans}
 use Rattle.fab_policy.specs.declared.event.Event.{Event}
 use Rattle.fab_policy.specs.declared.event.Event.TheVariants.{Frame, Tick}
 use Rattle.fab_policy.specs.declared.verdict.Verdict.{Verdict}
-use Rattle.fab_policy.specs.declared.verdict.Verdict.TheVariants.{Granted, Logout, Registered, Answered}
+use Rattle.fab_policy.specs.declared.verdict.Verdict.TheVariants.{Answered}
 use Rattle.fab_replies.specs.Laws.{in_frames, messages, numbered, on}
 use Rattle.fab_replies.specs.Message.{AreSendable, can_send, frame_at, sent_of}
 use Rattle.fab_replies.specs.declared.message.Out.{Out}
@@ -26,7 +31,7 @@ use Rattle.fab_replies.specs.declared.message.OutMessage.{OutMessage}
 use Rattle.fab_sending.specs.Laws.{FramesSend, FramesTell, TicksSend, TicksTell}
 use Rattle.fab_sending.specs.Messages.{advertisements_owed, at_moment, changes, clears, tick_messages}
 use Rattle.fab_sending.specs.Notices.{changed_at, notices_of_frame, notices_of_tick, told_of_each}
-use Rattle.fab_sending.specs.Sends.{AreParts, AreSent, CanFollow, FrameSends, is_replied, is_settled, state_before}
+use Rattle.fab_sending.specs.Sends.{AreParts, AreSent, CanFollow, FrameSends, state_before}
 use Rattle.fab_sending.specs.declared.sends.Before.{Before}
 use Rattle.fab_sending.specs.declared.sends.Sends.{Sends}
 use Rattle.fab_sending.proofs.AnswerFits.{answer_short}
@@ -82,22 +87,18 @@ sends_made send tell b port entry caught v replies changed s pool outs counted f
 -- ---- verdicts that need nothing else
 
 module _ (c : Settings) (T : Tables) (port : ℕ) (caught : Caught) where
-  pub settled_follows : (index : ℕ) (v : Verdict) → is_settled v ≡ true → CanFollow c T port index caught v
-  settled_follows index (Granted a) h = cc
-  settled_follows index Registered h = cc
-  settled_follows index _ h = tt
+  pub settled_follows : (index : ℕ) (v : Settled) → CanFollow c T port index caught (of_settled v)
+  settled_follows index Vlans = tt
+  settled_follows index _ = tt
 
-  pub replied_follows : (index : ℕ) (v : Verdict) → is_replied v ≡ true → CanFollow c T port index caught v
-  replied_follows index (Granted a) h = cc
-  replied_follows index Registered h = cc
-  replied_follows index _ h = tt
+  pub replied_follows : (index : ℕ) (v : Replied) → CanFollow c T port index caught (of_replied v)
+  replied_follows index NsLogout = tt
+  replied_follows index _ = tt
 
   -- a settled one changes nothing that is told
-  pub settled_tells : (v : Verdict) → is_settled v ≡ true → [] ≡ notices_of_frame c T port caught v
-  settled_tells (Granted a) h = cc
-  settled_tells (Logout a) h = cc
-  settled_tells Registered h = cc
-  settled_tells _ h = refl
+  pub settled_tells : (v : Settled) → [] ≡ notices_of_frame c T port caught (of_settled v)
+  settled_tells Vlans = refl
+  settled_tells _ = refl
 
 -- the frames of an answer to a live N_Port
 pub answer_frames : (c : Settings) (T : Tables) (port entry size : ℕ) (caught : Caught) (tell : CtTell) → IsSome (port_at (s_id caught) T.ports) →

@@ -1,6 +1,6 @@
 -- Right verdicts are about frames that suit them.
-use Rattle.std.proofs.Common.{◌≡◌, ℕ, Bool, true, false, not, ◌==◌, ◌||◌, nat_lt, if◌then◌else◌, List, [], ◌∷◌, Option, Some, None, Ok, Err, Result, refl, sym, ap, subst, ◌∙◌}
-use Rattle.std.specs.Prelude.{IsOkAnd, IsTrue}
+use Rattle.std.proofs.Common.{◌≡◌, ℕ, Bool, true, false, not, ◌==◌, ◌||◌, nat_lt, if◌then◌else◌, List, [], ◌∷◌, Option, Some, None, Ok, Err, Result, refl, sym, subst}
+use Rattle.std.specs.Prelude.{IsOkAnd}
 use Rattle.els_messages.specs.Els as els
 use Rattle.els_messages.specs.declared.ElsFault.{ElsFault}
 use Rattle.els_messages.specs.declared.ElsFault.TheVariants.{Short, Page}
@@ -10,7 +10,7 @@ use Rattle.fab_base.specs.declared.values.Caught.{Caught}
 use Rattle.fab_config.specs.Settings.{Settings}
 use Rattle.fab_policy.specs.Cause.{Cause}
 use Rattle.fab_policy.specs.Free.{Request}
-use Rattle.fab_policy.specs.Heard.{What, Bad, Fip, Fcoe, NO_FRAME, decoded, fc_of, plain}
+use Rattle.fab_policy.specs.Heard.{What, Bad, Fip, Fcoe, decoded, fc_of, plain}
 use Rattle.fab_policy.specs.Queries.{refusal}
 use Rattle.fab_policy.specs.Rules.{NAME_SERVER, SERVICES, fip_login_rows, first_row, holds, is_els_reply, is_els_request, is_keepalive_unknown, is_to_forwarder, is_unreadable, is_vlan_request, is_wrong_login, is_wrong_vlan, names_another, rule_for}
 use Rattle.fab_policy.specs.State.{LivePort, Tables, port_at}
@@ -20,7 +20,6 @@ use Rattle.fab_policy.specs.declared.verdict.Verdict.TheVariants.{Vlans, Adverti
 use Rattle.fab_policy.specs.declared.verdict.Rule.TheVariants as rule
 use Rattle.fab_sending.specs.Replies.{IsRequest, Suits}
 use Rattle.fc_frames.specs.Frame as fc
-use Rattle.fc_frames.specs.declared.FcFault.{FcFault}
 use Rattle.fcoe_codec.specs.Fcoe as capsule
 use Rattle.fip_codec.specs.Message as fip
 use Rattle.fip_codec.specs.declared.message.LoginKind.{LoginKind}

@@ -1,6 +1,6 @@
 -- Messages that can be sent.
 use Rattle.std.proofs.Common.{◌≡◌, ℕ, List, [], ◌∷◌, true}
-use Rattle.std.proofs.lemmas.List.Elements.{All-nil, All-cons, All-head, All-map, All-tail, All-weaker}
+use Rattle.std.proofs.lemmas.List.Elements.{All-nil, All-cons, All-head, All-tail}
 use Rattle.std.specs.List.{All}
 use Rattle.fab_policy.specs.declared.event.Event.{Event}
 use Rattle.fab_replies.specs.Message.{AreSendable, can_send}

@@ -1,8 +1,7 @@
 -- Messages and the frames that they stand for.
-use Rattle.std.proofs.Common.{◌≡◌, ℕ, ◌+◌, ◌*◌, ◌%◌, ◌==◌, Bool, true, false, if◌then◌else◌, List, [], ◌∷◌, ◌++◌, length, map, filter, flat_map, Option, Some, None, refl, sym, ap, ◌∙◌, append_assoc}
+use Rattle.std.proofs.Common.{◌≡◌, ℕ, ◌+◌, ◌*◌, ◌%◌, Bool, true, false, if◌then◌else◌, List, [], ◌∷◌, ◌++◌, length, map, filter, flat_map, Option, refl, sym, ap, ◌∙◌}
 use Rattle.std.proofs.lemmas.List.{append-nil, map-append}
 use Rattle.fab_base.specs.Fabric.{same_enode}
-use Rattle.fab_base.specs.declared.values.Caught.{Caught}
 use Rattle.fab_base.specs.declared.values.Enode.{Enode}
 use Rattle.fab_config.specs.Settings.{Settings}
 use Rattle.fab_policy.specs.Logins.{counting}
@@ -13,14 +12,13 @@ use Rattle.fab_policy.specs.State.{LivePort, addresses, is_overdue, now_of, over
 use Rattle.fab_policy.specs.Steps.{after}
 use Rattle.fab_policy.specs.declared.event.Event.{Event}
 use Rattle.fab_policy.specs.declared.event.Event.TheVariants.{Tick, Frame}
-use Rattle.fab_policy.specs.declared.verdict.Verdict.{Verdict}
 use Rattle.fab_replies.specs.Laws.{RepliesFit, messages}
-use Rattle.fab_replies.specs.Message.{bytes_of, frame_at, sent_of}
+use Rattle.fab_replies.specs.Message.{bytes_of, sent_of}
 use Rattle.fab_replies.specs.declared.message.OutMessage.{OutMessage}
 use Rattle.fab_replies.specs.declared.message.OutMessage.TheVariants as out
 use Rattle.fab_sending.proofs.Finding.{filter-listed}
 use Rattle.fab_sending.specs.Laws.{FramesSend, FramesTell, TicksSend, TicksTell}
-use Rattle.fab_sending.specs.Messages.{advertisements, advertisements_owed, at_moment, changes, clears, clears_to, frame_messages, tick_messages}
+use Rattle.fab_sending.specs.Messages.{advertisements, advertisements_owed, at_moment, changes, clears, clears_to, frame_messages}
 use Rattle.fab_sending.specs.Notices.{notices_of_frame, notices_of_tick}
 
 -- a message with its port, in bytes

@@ -1,29 +1,33 @@
 -- The state changes of an entry follow from the tables before it.
-use Rattle.std.proofs.Common.{◌≡◌, ℕ, ◌+◌, ◌*◌, ◌==◌, ◌&&◌, ◌||◌, not, Bool, true, false, List, [], ◌∷◌, ◌++◌, map, filter, flat_map, Option, Some, None, option_to_list, option_and_then, is_some, IsSome, IsTrue, cond, if◌then◌else◌, refl, sym, ap, subst, ◌∙◌, arith}
+use Rattle.std.proofs.Common.{◌≡◌, ℕ, ◌+◌, ◌*◌, ◌==◌, ◌&&◌, Bool, true, false, List, [], ◌∷◌, ◌++◌, map, filter, flat_map, Option, Some, None, option_to_list, option_and_then, is_some, IsSome, IsTrue, if◌then◌else◌, refl, sym, ap, subst, ◌∙◌, arith}
 use Rattle.std.proofs.lemmas.Bool.{eqb-true}
+use Rattle.std.proofs.lemmas.Bool.Decides.{nat_tests}
 use Rattle.std.proofs.lemmas.Grind.{flat_map-append}
 use Rattle.std.proofs.lemmas.List.{append-nil}
+use Rattle.fab_base.proofs.SamenessLemmas.{found_passes}
 use Rattle.fab_base.specs.Fabric.{Past, may_have, past_at, same_enode}
 use Rattle.fab_base.specs.declared.values.Caught.{Caught}
 use Rattle.fab_config.specs.Settings.{Settings}
 use Rattle.ct_messages.specs.Server as server
 use Rattle.zone_rules.specs.Joined.{contains}
-use Rattle.fab_policy.specs.Changes.{PortsStay, TickSteps, now_after, stays_as}
+use Rattle.fab_policy.specs.Changes.{PortsStay, TickSteps, now_after}
 use Rattle.fab_policy.specs.Free.{is_free, is_open}
 use Rattle.fab_policy.specs.Heard.{asked, ask_of, is_flogi, s_id, sender}
-use Rattle.fab_policy.specs.Logins.{ends, grants, n_port, pool}
+use Rattle.fab_policy.specs.Logins.{ends, grants, n_port}
 use Rattle.fab_policy.specs.Outputs.{Notice, differs, has_changed, notices, told, told_of, told_of_zones, watchers}
 use Rattle.fab_policy.specs.Rules.{joined}
 use Rattle.fab_policy.specs.State.{LivePort, Tables, addresses, is_overdue, now_of, overdue, port_at}
 use Rattle.fab_policy.specs.Steps.{FoundByAddress, InPool, after, fresh, port_after, touched}
 use Rattle.fab_policy.specs.declared.event.Event.{Event}
 use Rattle.fab_policy.specs.declared.event.Event.TheVariants.{Tick, Frame}
-use Rattle.fab_policy.specs.declared.verdict.Verdict.{Verdict}
 use Rattle.fab_policy.specs.declared.verdict.Verdict.TheVariants.{Granted, Logout, Registered, Watching}
 use Rattle.fab_sending.specs.Laws.{FramesTell, TicksTell}
-use Rattle.fab_sending.specs.Notices.{changed_at, ended_by_grant, notices_of_frame, notices_of_tick, staying_at, told_of_change, told_of_changes, told_of_each, told_of_name}
+use Rattle.fab_sending.specs.Notices.{changed_at, ended_by_grant, notices_of_frame, staying_at, told_of_change, told_of_each, told_of_name}
 use Rattle.fab_sending.specs.Sends.{CanFollow, request_from}
-use Rattle.fab_sending.proofs.Finding.{AreAddressed, eqb_same, eqb_swap, filter-address, filter-listed, filter-none, found_address, found_at, listed_of, place_of}
+use Rattle.fab_policy.proofs.Found.{found_address}
+use Rattle.fab_policy.proofs.Steps.{AreAddressed}
+use Rattle.fab_roster.proofs.Found.{same as same_number}
+use Rattle.fab_sending.proofs.Finding.{filter-address, filter-listed, filter-none, found_at, listed_of}
 use Rattle.fab_sending.proofs.Lists.{flat_map-same}
 use Rattle.fab_sending.proofs.Watching.{Leaves, told_after}
 
@@ -109,19 +113,17 @@ granted_at : (c : Settings) (T : Tables) (port index a : ℕ) (caught : Caught) 
     IsSome (port_at a (after c T e).ports) → port_at a (after c T e).ports ≡ Some (fresh (now_after T e) a (n_port e)))
 granted_at c T port index a caught live =
     let e : Event = Frame port index caught (Granted a) in
-    found_at (after_at T e) (after_addressed T e) a (fresh (now_after T e) a (n_port e))
-    (ap (λ b. if b then Some (fresh (now_after T e) a (n_port e)) else option_and_then (λ q. if ends a q.enode e then None else Some (touched (now_after T e) a e q)) (port_at a T.ports)) (eqb_same a))
-    (pool c) (place_of (after_at T e) (after_addressed T e) a (pool c) live)
+    found_at (after_at T e) (after_at T e) (after_addressed T e) (after_addressed T e) c.pool (c.domain * 65536 + 256) a live
+    ∙ ap (λ b. if b then Some (fresh (now_after T e) a (n_port e)) else option_and_then (λ q. if ends a q.enode e then None else Some (touched (now_after T e) a e q)) (port_at a T.ports)) (same_number a)
 
 -- a live N_Port stays live after a registration
 registered_at : FoundByAddress → (c : Settings) (T : Tables) (port index a : ℕ) (caught : Caught) (p : LivePort) → InPool c T.ports → port_at a T.ports ≡ Some p →
     (let e = Frame port index caught Registered in port_at a (after c T e).ports ≡ Some (touched (now_after T e) a e p))
 registered_at found c T port index a caught p asc is =
     let e : Event = Frame port index caught Registered in
-    found_at (after_at T e) (after_addressed T e) a (touched (now_after T e) a e p)
-    (ap (λ o. option_and_then (λ q. Some (touched (now_after T e) a e q)) o) is) (pool c)
-    (place_of (λ b. port_at b T.ports) (λ b q. found_address b T.ports q) a (pool c)
-    (subst (λ ps. IsSome (port_at a ps)) (found c T.ports (λ b. port_at b T.ports) asc (λ b l r. refl)) (ap is_some is)))
+    found_at (after_at T e) (λ b. port_at b T.ports) (after_addressed T e) (λ b q. found_address b T.ports q) c.pool (c.domain * 65536 + 256) a
+    (subst (λ ps. IsSome (port_at a ps)) (found c T.ports (λ b. port_at b T.ports) asc (λ b l r. refl)) (ap is_some is))
+    ∙ ap (option_and_then (λ q. Some (touched (now_after T e) a e q))) is
 
 -- ---- frames that tell nothing
 
@@ -131,11 +133,7 @@ silent c T U = ap (λ ps. flat_map (told_of c T U) (ps ++ [] ++ []) ++ []) (filt
 -- ---- a logout
 
 one_listed : (a b : ℕ) → contains b (a ∷ []) ≡ b == a
-one_listed a b = last (a == b) ∙ eqb_swap a b
-  where
-    last : (x : Bool) → x || false ≡ x
-    last true = refl
-    last false = refl
+one_listed a b = grind (arith, nat_tests)
 
 logout_leaves : (T : Tables) (port index a : ℕ) (caught : Caught) → Leaves T (Frame port index caught (Logout a)) (a ∷ [])
 logout_leaves T port index a caught = record { calm = λ b. refl; ended = λ b p e. one_listed a b; granted = λ b p g e. cc }
@@ -151,17 +149,6 @@ logout_tells found c T port index a caught asc =
     ∙ append-nil (told_of_each c T (a ∷ []) (option_to_list (port_at a T.ports)))
 
 -- ---- a grant
-
-past_address : (a : ℕ) (past : List Past) (b : Past) → past_at a past ≡ Some b → b.address ≡ a
-past_address a [] b e = cc
-past_address a (x ∷ past) b e = go (x.address == a) refl e (past_address a past b)
-  where
-    same : Some x ≡ Some b → x ≡ b
-    same i = cc
-
-    go : (t : Bool) → x.address == a ≡ t → cond t (Some x) (past_at a past) ≡ Some b → (past_at a past ≡ Some b → b.address ≡ a) → b.address ≡ a
-    go true t i ih = ap (λ y. y.address) (sym (same i)) ∙ eqb-true x.address a t
-    go false t i ih = ih i
 
 -- an address that is granted and live is one of those that the grant ends
 abbrev EndsOrFree : Tables → ℕ → ℕ → Caught → Type 0
@@ -187,7 +174,7 @@ ends_or_free T port a caught free p live = by_past (past_at a T.past) refl free
 
     by_past : (o : Option Past) → past_at a T.past ≡ o → elim o as (λ _. Bool) [ None ↦ false | Some b ↦ is_open T (request_from port caught) b ] ≡ true → (same_enode p.enode (sender port caught) && is_flogi caught) ≡ true
     by_past None e t = cc
-    by_past (Some b) e t = by_port (port_at b.address T.ports) (ap (λ x. port_at x T.ports) (past_address a T.past b e) ∙ live) b t
+    by_past (Some b) e t = by_port (port_at b.address T.ports) (ap (λ x. port_at x T.ports) (eqb-true b.address a (found_passes (λ (x : Past). x.address == a) b T.past e)) ∙ live) b t
 
 abbrev goes : ℕ → Caught → LivePort → Bool
 goes port caught p = same_enode p.enode (sender port caught) && is_flogi caught
@@ -237,7 +224,7 @@ registered_change found stay c T port index caught asc can (Some p) is =
     ap (λ x. filter (λ q. x) (p ∷ []))
     (ap (has_changed p) (registered_at found c T port index p.address caught p asc live)
     ∙ ap (λ q. server.has_changed p.values q.values) (stay at port index caught Registered p (can p is))
-    ∙ ap (λ b. server.has_changed p.values (let q : LivePort = if b then record p { values = server.after p.node (ask_of caught) p.values } else p in q).values) (ap (λ a. a == s_id caught) here ∙ eqb_same (s_id caught)))
+    ∙ ap (λ b. server.has_changed p.values (let q : LivePort = if b then record p { values = server.after p.node (ask_of caught) p.values } else p in q).values) (ap (λ a. a == s_id caught) here ∙ same_number (s_id caught)))
 
 registered_tells : FoundByAddress → PortsStay → (c : Settings) (T : Tables) (port index : ℕ) (caught : Caught) → InPool c T.ports → CanFollow c T port index caught Registered →
     (let e = Frame port index caught Registered in notices c T (after c T e) e ≡ notices_of_frame c T port caught Registered)

@@ -1,5 +1,5 @@
 -- The watchers after an entry, by those before it.
-use Rattle.std.proofs.Common.{◌≡◌, ℕ, ◌+◌, ◌*◌, ◌==◌, ◌&&◌, ◌||◌, not, Bool, true, false, if◌then◌else◌, List, [], ◌∷◌, map, filter, filter_map, Option, Some, None, option_and_then, unwrap_or, refl, sym, ap, subst, ◌∙◌, arith}
+use Rattle.std.proofs.Common.{◌≡◌, ℕ, ◌&&◌, not, Bool, true, false, if◌then◌else◌, List, map, filter, Option, Some, None, option_and_then, unwrap_or, refl, sym, ap, ◌∙◌}
 use Rattle.fab_base.specs.Fabric.{asks_fabric}
 use Rattle.fab_config.specs.Settings.{Settings}
 use Rattle.zone_rules.specs.Joined.{contains}
@@ -9,7 +9,7 @@ use Rattle.fab_policy.specs.Outputs.{Notice, is_watcher, told, watchers}
 use Rattle.fab_policy.specs.State.{LivePort, Tables, port_at}
 use Rattle.fab_policy.specs.Steps.{FoundByAddress, InPool, after, fresh, port_after, touched}
 use Rattle.fab_policy.specs.declared.event.Event.{Event}
-use Rattle.fab_sending.proofs.Finding.{found_address}
+use Rattle.fab_policy.proofs.Found.{found_address}
 use Rattle.fab_sending.proofs.Lists.{pick, filter-filter, filter_map-picked, filter_map-same}
 
 -- An entry ends the logins of these addresses, asks for no state changes, and grants no address that stays live.

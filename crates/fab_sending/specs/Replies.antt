@@ -1,5 +1,5 @@
 -- Which frames a verdict can be about.
-use Rattle.std.specs.Prelude.{ℕ, Ok, Err, IsOkAnd, ⊤}
+use Rattle.std.specs.Prelude.{ℕ, Ok, IsOkAnd, ⊤}
 use Rattle.els_messages.specs.Els as els
 use Rattle.fab_base.specs.declared.values.Caught.{Caught}
 use Rattle.fab_config.specs.Settings.{Settings}

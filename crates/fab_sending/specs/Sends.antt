@@ -1,5 +1,5 @@
 -- What an entry sends, and what the code knows before it.
-use Rattle.std.specs.Prelude.{◌≡◌, Bool, true, false, ℕ, ◌+◌, ◌%◌, ◌<◌, List, length, map, IsSome, IsTrue, Some}
+use Rattle.std.specs.Prelude.{◌≡◌, ℕ, ◌+◌, ◌%◌, ◌<◌, List, length, map, IsSome, IsTrue, Some}
 use Rattle.fab_base.specs.declared.values.Caught.{Caught}
 use Rattle.fab_config.specs.Settings.{Settings}
 use Rattle.fab_policy.specs.Changes.{CanStay}
@@ -12,7 +12,7 @@ use Rattle.fab_policy.specs.Steps.{after}
 use Rattle.fab_policy.specs.declared.event.Event.{Event}
 use Rattle.fab_policy.specs.declared.event.Event.TheVariants.{Frame}
 use Rattle.fab_policy.specs.declared.verdict.Verdict.{Verdict}
-use Rattle.fab_policy.specs.declared.verdict.Verdict.TheVariants.{Dropped, Vlans, Advertised, Granted, Rejected, Logout, AliveNode, AlivePort, NsLogin, NsLogout, Watching, Registered, Refused, Noted, Forwarded}
+use Rattle.fab_policy.specs.declared.verdict.Verdict.TheVariants.{Granted, Registered}
 use Rattle.els_messages.specs.Els as els
 use Rattle.fab_replies.specs.Laws.{messages}
 use Rattle.fab_replies.specs.Message.{AreSendable, frame_at, sent_of}
@@ -46,27 +46,6 @@ CanFollow c T port index caught (Granted a) =
     IsTrue (is_free T (request_from port caught) a) × IsSome (port_at a (after c T (Frame port index caught (Granted a))).ports)
 CanFollow c T port index caught Registered = (p : LivePort) → port_at (s_id caught) T.ports ≡ Some p → CanStay caught Registered p
 CanFollow c T port index caught _ = Unit {0}
-
--- a verdict that sends no reply, or one that needs nothing but the frame
-abbrev pub is_settled : Verdict → Bool
-is_settled (Dropped cause) = true
-is_settled Vlans = true
-is_settled Advertised = true
-is_settled AliveNode = true
-is_settled (AlivePort a) = true
-is_settled Noted = true
-is_settled (Forwarded port) = true
-is_settled _ = false
-
--- a verdict that is replied to the sender of the frame, and needs nothing else
-abbrev pub is_replied : Verdict → Bool
-is_replied (Rejected reason explanation) = true
-is_replied (Logout a) = true
-is_replied NsLogin = true
-is_replied NsLogout = true
-is_replied (Watching function) = true
-is_replied (Refused reason explanation) = true
-is_replied _ = false
 
 -- What a frame of a port sends that gets this verdict and stands in the entry at this place: what the policy says, where the
 -- verdict can be carried out. All of it can be sent, and state changes are counted modulo 65535.

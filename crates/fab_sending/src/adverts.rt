@@ -30,7 +30,8 @@ pub fn advertise(
     }
 }
 
-/// Whether a period has passed since the last advertisements, so that advertisements are owed again.
+/// Whether a period has passed since the last advertisements, so that advertisements are owed
+/// again.
 pub fn is_owed(config: &Config, last: Option<Moment>, moment: Moment) -> bool
     ensures { result ≡ is_owed config.now last moment }
 {

@@ -4,6 +4,7 @@ ghost use Rattle.ct_messages.specs.Ask.{view};
 ghost use Rattle.ct_messages.specs.CanWrite.{CanTell};
 ghost use Rattle.ct_messages.specs.Server.{is_registration};
 ghost use Rattle.fab_base.specs.declared.values.Caught.{Caught as Captured};
+ghost use Rattle.fab_policy.specs.Classes.{of_replied, of_settled};
 ghost use Rattle.fab_policy.specs.Heard.{ask_of, s_id};
 ghost use Rattle.fab_policy.specs.Queries.{query};
 ghost use Rattle.fab_policy.specs.Replies.{asker_of};
@@ -15,7 +16,7 @@ ghost use Rattle.fab_policy.specs.declared.verdict.Verdict.TheVariants.{Answered
 ghost use Rattle.fab_roster.specs.Changes.{IsSize};
 ghost use Rattle.fab_sending.specs.Messages.{at_moment, changes};
 ghost use Rattle.fab_sending.specs.Notices.{notices_of_frame};
-ghost use Rattle.fab_sending.specs.Sends.{AreParts, FrameSends, IsGrant, is_replied, is_settled};
+ghost use Rattle.fab_sending.specs.Sends.{AreParts, FrameSends, IsGrant};
 
 use crate::answers::frames_of_answer;
 use crate::changing::{grant_changes, logout_changes, now, registration_changes};
@@ -25,25 +26,25 @@ use crate::replies::{accept, frames_of, reply};
 use crate::{Before, Grant, Sends};
 use ct_messages::{CtAsk, CtTell};
 use fab_base::{Moment, NoMemory, PortNo};
-use fab_policy::{Heard, Verdict};
+use fab_policy::{Heard, Replied, Settled};
 use fab_replies::{Asker, OutList};
 use fc_frames::MOST_PAYLOAD;
 use std::alloc::Global;
 
-/// What a frame of a port sends by a right verdict that sends no reply, or one that needs nothing
-/// but the frame: an answer in FIP, or itself. It stands in the entry at this place of the entries.
+/// What a frame of a port sends by a right verdict that needs nothing but the frame: an answer in
+/// FIP, itself, or nothing. It stands in the entry at this place of the entries.
 pub fn frame_sends(
     alloc: Global,
     before: &Before<'_>,
     port: PortNo,
     entry: usize,
     heard: &Heard<'_>,
-    verdict: Verdict,
+    verdict: Settled,
 ) -> Result<Sends, NoMemory>
-    requires right { IsRight before.now.config.now before.now.roster.now.tables port
-        heard.now.caught.now verdict }
-    requires settled { is_settled verdict ≡ true }
-    ensures { IfOk result (FrameSends before.now port entry heard.now.caught.now verdict) }
+    requires { IsRight before.now.config.now before.now.roster.now.tables port
+        heard.now.caught.now (of_settled verdict) }
+    ensures { IfOk result (FrameSends before.now port entry heard.now.caught.now
+        (of_settled verdict)) }
 {
     let frames = frames_of(alloc, now(before.roster), port, entry, heard, verdict)?;
     let changes = OutList::empty(alloc);
@@ -58,15 +59,14 @@ pub fn reply_sends(
     before: &Before<'_>,
     port: PortNo,
     heard: &Heard<'_>,
-    verdict: Verdict,
+    verdict: Replied,
     to: Asker,
 ) -> Result<Sends, NoMemory>
     requires right { IsRight before.now.config.now before.now.roster.now.tables port
-        heard.now.caught.now verdict }
-    requires replied { is_replied verdict ≡ true }
+        heard.now.caught.now (of_replied verdict) }
     requires to { to ≡ asker_of heard.now.caught.now }
     ensures { IfOk result (λ s. (entry : ℕ)
-        → FrameSends before.now port entry heard.now.caught.now verdict s) }
+        → FrameSends before.now port entry heard.now.caught.now (of_replied verdict) s) }
 {
     let moment = clock(before);
     let changes = reply_changes(alloc, before, &verdict)?;
@@ -183,31 +183,20 @@ fn sends_of(
 }
 
 // The state changes of a frame that is replied to.
-fn reply_changes(alloc: Global, before: &Before<'_>, verdict: &Verdict) -> Result<OutList, NoMemory>
-    requires pool { InPool before.now.config.now before.now.roster.now.tables.ports }
-    requires replied { is_replied verdict.now ≡ true }
+fn reply_changes(alloc: Global, before: &Before<'_>, verdict: &Replied) -> Result<OutList, NoMemory>
+    requires { InPool before.now.config.now before.now.roster.now.tables.ports }
     ensures { IfOk result (λ outs. (port : ℕ) (caught : Captured) → outs
         ≡ at_moment (now_of before.now.roster.now.tables) (changes before.now.rscns
         (notices_of_frame before.now.config.now before.now.roster.now.tables port caught
-        verdict.now))) }
+        (of_replied verdict.now)))) }
 {
     match verdict {
-        Verdict::Logout(address) => logout_changes(alloc, before, *address),
-        Verdict::Rejected(..)
-        | Verdict::NsLogin
-        | Verdict::NsLogout
-        | Verdict::Watching(_)
-        | Verdict::Refused(..) => Ok(OutList::empty(alloc)),
-        Verdict::Dropped(_)
-        | Verdict::Vlans
-        | Verdict::Advertised
-        | Verdict::Granted(_)
-        | Verdict::AliveNode
-        | Verdict::AlivePort(_)
-        | Verdict::Registered
-        | Verdict::Answered
-        | Verdict::Noted
-        | Verdict::Forwarded(_) => unreachable!(),
+        Replied::Logout(address) => logout_changes(alloc, before, *address),
+        Replied::Rejected(..)
+        | Replied::NsLogin(_)
+        | Replied::NsLogout
+        | Replied::Watching(_)
+        | Replied::Refused(..) => Ok(OutList::empty(alloc)),
     }
 }
 

@@ -2,6 +2,7 @@
 ghost use Rattle.std.specs.Prelude.{◌≡◌, ◌∷◌, [], ℕ, List, IfOk, Some, is_some, true, option_map, if◌then◌else◌};
 ghost use Rattle.els_messages.specs.Els as spec;
 ghost use Rattle.fab_config.specs.Settings.{Settings};
+ghost use Rattle.fab_policy.specs.Classes.{of_replied, of_settled};
 ghost use Rattle.fab_policy.specs.Heard.{asked, d_id, decoded, login_of, source};
 ghost use Rattle.fab_policy.specs.Replies.{asker_of, is_untagged, kind_asked, size_asked};
 ghost use Rattle.fab_policy.specs.State.{Tables};
@@ -15,13 +16,12 @@ ghost use Rattle.fab_sending.specs.Asking.{CarriesFrame};
 ghost use Rattle.fab_sending.specs.Messages.{at_moment};
 ghost use Rattle.fab_sending.specs.Replies.{AsksAddress, InFip, IsBody, IsFip};
 ghost use Rattle.fab_sending.specs.Replies.{IsSolicit, RightFramesSuit, Suits};
-ghost use Rattle.fab_sending.specs.Sends.{is_replied, is_settled};
 
 use crate::Grant;
 use crate::answers::frames_of_answer;
 use ct_messages::CtTell;
 use fab_base::{Moment, NoMemory, PortNo};
-use fab_policy::{Heard, Verdict, What, frames_are_carried};
+use fab_policy::{Heard, Replied, Settled, What, frames_are_carried};
 use fab_replies::{Answer, Asker, Out, OutList, OutMessage, data_frames_go_on};
 use fc_frames::MOST_PAYLOAD;
 use fip_codec::{FipMessage, LoginKind};
@@ -33,39 +33,30 @@ pub fn right_frames_suit()
     ensures { RightFramesSuit }
 {}
 
-/// What a verdict sends that sends no reply, or one that needs nothing but the frame: an answer in
-/// FIP, or the frame itself where it goes on. The frame stands in the entry at this place.
+/// What a verdict sends that needs nothing but the frame: an answer in FIP, the frame itself where
+/// it goes on, or nothing. The frame stands in the entry at this place.
 pub fn frames_of(
     alloc: Global,
     moment: Moment,
     port: PortNo,
     entry: usize,
     heard: &Heard<'_>,
-    verdict: Verdict,
+    verdict: Settled,
 ) -> Result<OutList, NoMemory>
-    requires suits { Suits (decoded heard.now.caught.now) verdict }
-    requires settled { is_settled verdict ≡ true }
+    requires { Suits (decoded heard.now.caught.now) (of_settled verdict) }
     ensures made { IfOk result (λ outs. (c : Settings) (T : Tables) → outs
-        ≡ at_moment moment (messages c T port entry heard.now.caught.now verdict)) }
+        ≡ at_moment moment (messages c T port entry heard.now.caught.now
+        (of_settled verdict))) }
     ensures sendable { IfOk result (λ outs. (events : List Entry)
         → frame_at entry events ≡ Some heard.now.caught.now → AreSendable events outs) }
 {
     match verdict {
-        Verdict::Forwarded(to) => single_message(alloc, moment, to, forwarded(entry, heard)),
-        Verdict::Vlans => single_message(alloc, moment, port, vlans(heard)),
-        Verdict::Advertised => single_message(alloc, moment, port, solicited(heard)),
-        Verdict::Dropped(_) | Verdict::AliveNode | Verdict::AlivePort(_) | Verdict::Noted => {
+        Settled::Forwarded(to) => single_message(alloc, moment, to, forwarded(entry, heard)),
+        Settled::Vlans => single_message(alloc, moment, port, vlans(heard)),
+        Settled::Advertised => single_message(alloc, moment, port, solicited(heard)),
+        Settled::Dropped(_) | Settled::AliveNode | Settled::AlivePort(_) | Settled::Noted => {
             Ok(OutList::empty(alloc))
         }
-        Verdict::Granted(_)
-        | Verdict::Rejected(..)
-        | Verdict::Logout(_)
-        | Verdict::NsLogin
-        | Verdict::NsLogout
-        | Verdict::Watching(_)
-        | Verdict::Registered
-        | Verdict::Answered
-        | Verdict::Refused(..) => unreachable!(),
     }
 }
 
@@ -75,39 +66,29 @@ pub fn reply(
     moment: Moment,
     port: PortNo,
     heard: &Heard<'_>,
-    verdict: Verdict,
+    verdict: Replied,
     to: Asker,
 ) -> Result<OutList, NoMemory>
-    requires suits { Suits (decoded heard.now.caught.now) verdict }
-    requires replied { is_replied verdict ≡ true }
+    requires suits { Suits (decoded heard.now.caught.now) (of_replied verdict) }
     requires to { to ≡ asker_of heard.now.caught.now }
     ensures made { IfOk result (λ outs. (c : Settings) (T : Tables) (entry : ℕ) → outs
-        ≡ at_moment moment (messages c T port entry heard.now.caught.now verdict)) }
+        ≡ at_moment moment (messages c T port entry heard.now.caught.now
+        (of_replied verdict))) }
     ensures sendable { IfOk result (λ outs. (events : List Entry) → AreSendable events outs) }
 {
     let message = match verdict {
-        Verdict::Rejected(reason, explanation) => rejected(heard, to, reason, explanation),
-        Verdict::Logout(_) => logged_out(heard, to),
-        Verdict::NsLogin => served(to, Answer::ServerLogin),
-        Verdict::NsLogout => served(to, Answer::Accept),
-        Verdict::Watching(_) => served(to, Answer::Accept),
-        Verdict::Refused(reason, explanation) => {
+        Replied::Rejected(reason, explanation) => rejected(heard, to, reason, explanation),
+        Replied::Logout(_) => logged_out(heard, to),
+        Replied::NsLogin(_) => served(to, Answer::ServerLogin),
+        Replied::NsLogout => served(to, Answer::Accept),
+        Replied::Watching(_) => served(to, Answer::Accept),
+        Replied::Refused(reason, explanation) => {
             let tell = CtTell::Reject {
                 reason,
                 explanation,
             };
             return frames_of_answer(alloc, moment, port, to, &tell, MOST_PAYLOAD);
         }
-        Verdict::Dropped(_)
-        | Verdict::Vlans
-        | Verdict::Advertised
-        | Verdict::Granted(_)
-        | Verdict::AliveNode
-        | Verdict::AlivePort(_)
-        | Verdict::Registered
-        | Verdict::Answered
-        | Verdict::Noted
-        | Verdict::Forwarded(_) => unreachable!(),
     };
     single_message(alloc, moment, port, message)
 }

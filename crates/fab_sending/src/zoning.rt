@@ -49,7 +49,8 @@ fn tell_of_changes(
     requires { InPool before.now.config.now before.now.roster.now.tables.ports }
     ensures { OnOk result (outs.new ≡ with_changes moment before.now.rscns outs.old
         (flat_map (told_of_change before.now.config.now before.now.roster.now.tables since moment
-        (addresses_of ended.now)) (staying_at before.now.config.now before.now.roster.now.tables moment))) }
+        (addresses_of ended.now)) (staying_at before.now.config.now before.now.roster.now.tables
+        moment))) }
 {
     let config = before.config;
     if !has_turned(config.activations.items(), since, moment) {

@@ -1,4 +1,4 @@
-use Rattle.std.proofs.Common.{◌∙◌, ◌≡◌, ◌%◌, ℕ, ap, List, length, subst, arith}
+use Rattle.std.proofs.Common.{◌∙◌, ◌≡◌, ℕ, subst, arith}
 use Rattle.ct_messages.specs.Answer.{written}
 use Rattle.fc_frames.specs.Pieces.{Cuts}
 use Rattle.fab_sending.proofs.FrameMade.{answer_made, answer_sendable, written_first}

@@ -1,4 +1,5 @@
 use Rattle.std.proofs.Common.{◌∙◌, ap}
+use Rattle.fab_policy.specs.Classes.{of_settled}
 use Rattle.fab_policy.specs.State.{now_of}
 use Rattle.fab_replies.specs.Laws.{messages}
 use Rattle.fab_sending.specs.Messages.{at_moment, changes}
@@ -6,19 +7,19 @@ use Rattle.fab_sending.proofs.Joining.{at_clock, settled_tells}
 use Rattle.fab_sending.proofs.ReplyMade.{right_suits}
 use Rattle.fab_sending.proofs.frame.frame_sends.Goals as goal
 
-pub frames_of-requires-clause-suits : goal.frames_of-requires-clause-suits
-frames_of-requires-clause-suits c =
+pub frames_of-requires : goal.frames_of-requires
+frames_of-requires c =
     let b = c.args.before.now in
-    right_suits b.config.now b.roster.now.tables c.args.port c.args.heard.now.caught.now c.args.verdict c.requires.right
+    right_suits b.config.now b.roster.now.tables c.args.port c.args.heard.now.caught.now (of_settled c.args.verdict) c.requires
 
 pub returns : goal.returns
 returns c =
     let b = c.args.before.now in
     let T = b.roster.now.tables in
     let caught = c.args.heard.now.caught.now in
-    let v = c.args.verdict in
+    let v = of_settled c.args.verdict in
     c.in_ok-sends.ensures c.args.port c.args.entry caught v (record {
       made = at_clock _ _ (messages b.config.now T c.args.port c.args.entry caught v) c.in_ok-frames.frames c.now.ensures (c.in_ok-frames.ensures.made b.config.now T);
       sendable = c.in_ok-frames.ensures.sendable;
-      changes_are = c.empty-changes.ensures ∙ ap (λ ns. at_moment (now_of T) (changes b.rscns ns)) (settled_tells b.config.now T c.args.port caught v c.requires.settled);
+      changes_are = c.empty-changes.ensures ∙ ap (λ ns. at_moment (now_of T) (changes b.rscns ns)) (settled_tells b.config.now T c.args.port caught c.args.verdict);
     })

@@ -1,7 +1,6 @@
-use Rattle.std.proofs.Common.{◌∙◌, ap, sym, subst, IsSome}
+use Rattle.std.proofs.Common.{◌∙◌, ap}
 use Rattle.ct_messages.specs.declared.CtTell.TheVariants.{Done}
 use Rattle.fab_policy.specs.Replies.{Asker}
-use Rattle.fab_policy.specs.State.{port_at}
 use Rattle.fab_policy.specs.declared.verdict.Verdict.TheVariants.{Registered}
 use Rattle.fab_sending.proofs.Joining.{answer_at, registered_told}
 use Rattle.fab_sending.proofs.frame.registration_sends.Goals as goal

@@ -1,3 +1,4 @@
+use Rattle.fab_policy.specs.Classes.{of_replied}
 use Rattle.fab_replies.specs.Laws.{messages}
 use Rattle.fab_sending.proofs.Joining.{at_clock}
 use Rattle.fab_sending.proofs.ReplyMade.{right_suits}
@@ -6,14 +7,14 @@ use Rattle.fab_sending.proofs.frame.reply_sends.Goals as goal
 pub reply-requires-clause-suits : goal.reply-requires-clause-suits
 reply-requires-clause-suits c =
     let b = c.args.before.now in
-    right_suits b.config.now b.roster.now.tables c.args.port c.args.heard.now.caught.now c.args.verdict c.requires.right
+    right_suits b.config.now b.roster.now.tables c.args.port c.args.heard.now.caught.now (of_replied c.args.verdict) c.requires.right
 
 pub returns : goal.returns
 returns c = λ entry.
     let b = c.args.before.now in
     let T = b.roster.now.tables in
     let caught = c.args.heard.now.caught.now in
-    let v = c.args.verdict in
+    let v = of_replied c.args.verdict in
     c.in_ok-sends.ensures c.args.port entry caught v (record {
       made = at_clock _ _ (messages b.config.now T c.args.port entry caught v) c.in_ok-frames.frames c.clock-moment.ensures.now (c.in_ok-frames.ensures.made b.config.now T entry);
       sendable = λ events at. c.in_ok-frames.ensures.sendable events;
