@@ -1,7 +1,7 @@
 -- Advertisements on all ports, one more at a time.
 use Rattle.std.proofs.Common.{◌≡◌, ℕ, zero, suc, ◌+◌, List, [], ◌∷◌, ◌++◌, map, refl, sym, ap, subst, ◌∙◌, arith}
 use Rattle.std.proofs.lemmas.List.{map-append}
-use Rattle.std.proofs.lemmas.List.Elements.{All-nil, All-cons}
+use Rattle.std.proofs.lemmas.List.Elements.{All-map}
 use Rattle.std.specs.List.{All}
 use Rattle.fab_policy.specs.Logins.{counting}
 use Rattle.fab_policy.specs.declared.event.Event.{Event}
@@ -28,9 +28,7 @@ advertised_more moment index port before after at was now =
     ∙ map-append _ (advertisements index) ((1 + index, out.Advertisement) ∷ []))
 
 all_advertise : (events : List Event) (from n : ℕ) → All (CanBeSent events) (map (λ p. (p, out.Advertisement)) (counting from n))
-all_advertise events from zero = All-nil (CanBeSent events)
-all_advertise events from (suc n) =
-    All-cons (CanBeSent events) (from, out.Advertisement) (map (λ p. (p, out.Advertisement)) (counting (from + 1) n)) refl (all_advertise events (from + 1) n)
+all_advertise events from n = All-map (CanBeSent events) (λ (p : ℕ). (p, out.Advertisement)) (counting from n) (λ i d lt. refl)
 
 pub advertisements_sendable : (events : List Event) (moment n : ℕ) (outs : List Out) → outs ≡ at_moment moment (advertisements n) → AreSendable events outs
 advertisements_sendable events moment n outs e = subst (AreSendable events) (sym e) (sendable_at events moment (advertisements n) (all_advertise events 1 n))

@@ -1,6 +1,7 @@
 -- The answer to a query: its size, and who asks.
-use Rattle.std.proofs.Common.{ℕ, ◌+◌, ◌*◌, ◌≤◌, ◌^◌, ◌==◌, ◌||◌, Bool, true, false, cond, List, [], ◌∷◌, length, filter, Option, Some, None, arith}
+use Rattle.std.proofs.Common.{ℕ, ◌+◌, ◌*◌, ◌≤◌, ◌^◌, ◌==◌, ◌||◌, not, Bool, List, length, filter, Option, Some, None, refl, arith}
 use Rattle.std.proofs.lemmas.List.{length-map}
+use Rattle.std.proofs.lemmas.List.Filters.{length-filter_both}
 use Rattle.std.specs.Option.{option_map_or}
 use Rattle.ct_messages.specs.Answer.{has_type, size_of}
 use Rattle.ct_messages.specs.Ask.{Ask, NextOf, PortNameOf, NodeNameOf, TypesOf, FeaturesOf, ByPortName, AddressesOfType, PortNamesOfType, NodeNamesOfType, AddressesOfPortType, SetNode, SetTypes, SetSymbol, SetFeature, SetNodeSymbol, Erase, Unknown}
@@ -14,12 +15,7 @@ use Rattle.fab_policy.specs.State.{LivePort, Tables}
 use Rattle.ct_messages.specs.declared.Named.{Named}
 
 filter_fewer : {X : Type 0} (p : X → Bool) (xs : List X) → length (filter p xs) ≤ length xs
-filter_fewer p [] = omega arith
-filter_fewer {X = X} p (x ∷ xs) = by_test (p x) (filter_fewer p xs)
-  where
-    by_test : (b : Bool) → length (filter p xs) ≤ length xs → length (cond b (x ∷ filter p xs) (filter p xs)) ≤ length (x ∷ xs)
-    by_test true h = omega (arith, h)
-    by_test false h = omega (arith, h)
+filter_fewer p xs = omega (arith, length-filter_both p (λ x. not (p x)) (λ x. refl) xs)
 
 addresses_short : (ports : List Known) → length ports ≤ 65535 → 16 + 4 * length (addresses ports) ≤ 2 ^ 20
 addresses_short ports few = omega (arith, few, length-map ports (λ (p : Known). p.address))

@@ -1,10 +1,12 @@
 -- Clear link messages: the order of ENodes, the N_Ports of each, and groups of a hundred.
 use Rattle.std.proofs.Common.{◌≡◌, ℕ, zero, suc, ◌+◌, ◌-◌, ◌<◌, ◌≤◌, ◌==◌, ◌||◌, Bool, true, false, cond, min, if◌then◌else◌, List, [], ◌∷◌, ◌++◌, length, take, drop, get_or, map, filter, flat_map, Some, slice_get, refl, sym, ap, subst, inl, inr, ◌∙◌, append_assoc, arith}
-use Rattle.std.proofs.lemmas.Bool.{cases_order, le-leb}
+use Rattle.std.proofs.Math.Seq.{drop-cons}
+use Rattle.std.proofs.lemmas.Bool.{cases_lt, le-leb}
 use Rattle.std.proofs.lemmas.Bool.Decides.{nat_tests}
 use Rattle.std.proofs.lemmas.Grind.{flat_map-append}
 use Rattle.std.proofs.lemmas.List.{append-nil, drop-drop, drop_all, length-drop, drop-map, length-map, length-take, map-append, take-map, take_all}
 use Rattle.std.proofs.lemmas.List.Elements.{All-nil, All-append, All-cons, filter-append}
+use Rattle.std.proofs.lemmas.Option.{get_or_from_slice_get, slice_get_within}
 use Rattle.std.specs.List.{All, insert}
 use Rattle.fab_base.specs.Fabric.{same_enode}
 use Rattle.fab_base.specs.declared.values.Enode.{Enode}
@@ -84,9 +86,7 @@ put_at x ys slice after place d at all other now =
 -- ---- ENodes and N_Ports of logins
 
 drop_slice : {X : Type 0} (xs : List X) (i : ℕ) (x : X) → slice_get xs i ≡ Some x → drop i xs ≡ x ∷ drop (suc i) xs
-drop_slice [] i x e = absurd (cc)
-drop_slice (y ∷ ys) zero x e = let is : y ≡ x = cc in ap (λ z. z ∷ ys) is
-drop_slice (y ∷ ys) (suc i) x e = drop_slice ys i x e
+drop_slice xs i x e = drop-cons xs i x (slice_get_within xs i x e) ∙ ap (λ y. y ∷ drop (suc i) xs) (get_or_from_slice_get xs i x x e)
 
 -- the ENode of one more login, from behind
 pub enode_more : (logins : List Login) (done : ℕ) (l : Login) (before after : List Enode) → done < length logins →
@@ -143,21 +143,15 @@ hundreds-more X (x ∷ l) some =
     ∙ ap (λ r. take 100 (x ∷ l) ∷ r) (hundreds-fuel X (length l) (length (drop 100 (x ∷ l))) (drop 100 (x ∷ l)) (omega (arith, size)) (omega arith))
 
 take_hundred : (X : Type 0) (n : ℕ) (l : List X) → n ≡ min 100 (length l) → take n l ≡ take 100 l
-take_hundred X n l e = elim (cases_order 100 (length l)) [
-  | inl same ↦ (let is : n ≡ 100 = omega arith in ap (λ (k : ℕ). take k l) is)
-  | inr other ↦ elim other [
-    | inl less ↦ (let is : n ≡ 100 = omega arith in ap (λ (k : ℕ). take k l) is)
-    | inr more ↦ take_all n l (omega arith) ∙ sym (take_all 100 l (omega arith))
-  ]
+take_hundred X n l e = elim (cases_lt (length l) 100) [
+  | inl few ↦ take_all n l (omega arith) ∙ sym (take_all 100 l (omega arith))
+  | inr many ↦ (let is : n ≡ 100 = omega arith in ap (λ (k : ℕ). take k l) is)
 ]
 
 left_hundred : (X : Type 0) (from to : ℕ) (l : List X) → from ≤ length l → to ≡ from + min 100 (length l - from) → drop to l ≡ drop 100 (drop from l)
-left_hundred X from to l h e = elim (cases_order 100 (length l - from)) [
-  | inl same ↦ (let is : to ≡ from + 100 = omega arith in ap (λ (k : ℕ). drop k l) is ∙ sym (drop-drop 100 from l))
-  | inr other ↦ elim other [
-    | inl less ↦ (let is : to ≡ from + 100 = omega arith in ap (λ (k : ℕ). drop k l) is ∙ sym (drop-drop 100 from l))
-    | inr more ↦ drop_all to l (omega arith) ∙ sym (drop_all (from + 100) l (omega arith)) ∙ sym (drop-drop 100 from l)
-  ]
+left_hundred X from to l h e = elim (cases_lt (length l - from) 100) [
+  | inl few ↦ drop_all to l (omega arith) ∙ sym (drop_all (from + 100) l (omega arith)) ∙ sym (drop-drop 100 from l)
+  | inr many ↦ (let is : to ≡ from + 100 = omega arith in ap (λ (k : ℕ). drop k l) is ∙ sym (drop-drop 100 from l))
 ]
 
 -- one more group

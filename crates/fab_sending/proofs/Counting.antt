@@ -1,11 +1,12 @@
 -- State changes that are added to a list one after another.
-use Rattle.std.proofs.Common.{◌≡◌, Bool, ℕ, zero, suc, ◌+◌, ◌<◌, ◌%◌, List, [], ◌∷◌, ◌++◌, length, take, get_or, map, filter, flat_map, Option, Some, None, option_map, is_some, IsSome, slice_get, refl, sym, ap, subst, ◌∙◌, append_assoc, arith}
+use Rattle.std.proofs.Common.{◌≡◌, Bool, ℕ, suc, ◌+◌, ◌<◌, ◌%◌, List, [], ◌∷◌, ◌++◌, length, take, get_or, map, filter, flat_map, Option, Some, None, option_map, is_some, IsSome, slice_get, refl, sym, ap, subst, ◌∙◌, append_assoc, arith}
 use Rattle.std.proofs.lemmas.Grind.{flat_map-append}
 use Rattle.std.proofs.lemmas.List.{append-nil, length-append, map-append, take_more}
 use Rattle.std.proofs.lemmas.List.Folds.{flat_map-map}
 use Rattle.std.proofs.lemmas.List.Elements.{All-filter, All-head, All-map, All-tail, All-weaker}
 use Rattle.std.specs.List.{All}
 use Rattle.std.specs.Option.{option_map_or}
+use Rattle.fab_config.proofs.ListLemmas.{take_slice}
 use Rattle.fab_config.specs.Settings.{Settings}
 use Rattle.fab_policy.specs.Outputs.{Notice, told}
 use Rattle.fab_policy.specs.State.{LivePort, Tables, addresses, overdue, port_at}
@@ -16,11 +17,6 @@ use Rattle.fab_sending.specs.Counting.{told_at_address, told_of_logins, with_cha
 use Rattle.fab_sending.specs.Messages.{at_moment, changes}
 use Rattle.fab_sending.specs.Notices.{notices_of_tick, staying_at, told_of_change, told_of_each, told_of_name}
 use Rattle.fab_sending.proofs.Finding.{Ascend, IsFoundIn, found_in}
-
-pub take_slice : {X : Type 0} (xs : List X) (i : ℕ) (x : X) → slice_get xs i ≡ Some x → take (i + 1) xs ≡ take i xs ++ x ∷ []
-take_slice [] i x e = absurd (cc)
-take_slice (y ∷ ys) zero x e = let is : y ≡ x = cc in ap (λ z. z ∷ []) is
-take_slice (y ∷ ys) (suc i) x e = ap (λ (n : ℕ). take n (y ∷ ys)) (let s : suc i + 1 ≡ suc (i + 1) = omega arith in s) ∙ ap (λ l. y ∷ l) (take_slice ys i x e)
 
 pub length-changes : (moment n : ℕ) (ns : List Notice) → length (at_moment moment (changes n ns)) ≡ length ns
 length-changes moment n [] = refl

@@ -135,13 +135,7 @@ module _ (c : Settings) (T : Tables) (g : Eth) (x : capsule.Fcoe) (v : Verdict) 
       by_payload to_names (els.Scr function) =
           by_if c T body v to_names unsupported (unless_refused (scr_rows function) (Must (Watching function)))
           (rejected 0x0b 0x2c) (refused_or (scr_rows function) (Must (Watching function)) (must c T body v (Watching function) tt))
-      by_payload to_names (els.Flogi parms) = rejected 0x0b 0x2c
-      by_payload to_names (els.Fdisc parms) = rejected 0x0b 0x2c
-      by_payload to_names (els.Rscn pages) = rejected 0x0b 0x2c
-      by_payload to_names (els.LoginAccept parms) = rejected 0x0b 0x2c
-      by_payload to_names els.Accept = rejected 0x0b 0x2c
-      by_payload to_names (els.Reject reason explanation) = rejected 0x0b 0x2c
-      by_payload to_names (els.Other command) = rejected 0x0b 0x2c
+      by_payload to_names _ = rejected 0x0b 0x2c
 
   ct_suited : (p : LivePort) (payload : List ℕ) → AreSuited c T body v (ct_judged c T p payload)
   ct_suited p payload = by_read (ct.decoded payload) (refusal c T p (ct.decoded payload))
@@ -200,9 +194,6 @@ module _ (c : Settings) (T : Tables) (port : ℕ) (caught : Caught) (g : Eth) (k
       logo_rows : ℕ → ℕ → List (Bool × Refusal)
       logo_rows address name = (not (holds (is_own_logout c T port caught mac address name) (port_at (fc_of l).head.s_id T.ports)), (3, 0)) ∷ []
 
-      other : AreSuited c T login v (Must (Dropped (plain rule.ElsKind)))
-      other = must c T login v (Dropped (plain rule.ElsKind)) tt
-
       by_payload : (e : els.Els) → els.decoded (fc_of l).payload ≡ Ok e → AreSuited c T login v (elim e [
         | els.Flogi p ↦ login_judged c T port caught fp kind p
         | els.Fdisc p ↦ login_judged c T port caught fp kind p
@@ -214,13 +205,7 @@ module _ (c : Settings) (T : Tables) (port : ℕ) (caught : Caught) (g : Eth) (k
       by_payload (els.Logo address name) e =
           by_refusal c T login v (first_row (logo_rows address name)) (Must (Logout (fc_of l).head.s_id)) (λ why. must c T login v (Rejected why.0 why.1) tt)
           (must c T login v (Logout (fc_of l).head.s_id) tt)
-      by_payload (els.Plogi p) e = other
-      by_payload (els.Scr function) e = other
-      by_payload (els.Rscn pages) e = other
-      by_payload (els.LoginAccept p) e = other
-      by_payload els.Accept e = other
-      by_payload (els.Reject reason explanation) e = other
-      by_payload (els.Other command) e = other
+      by_payload _ e = must c T login v (Dropped (plain rule.ElsKind)) tt
 
 -- ---- any frame
 
@@ -230,10 +215,7 @@ fip_suited c T port caught g (fip.Solicit from_fcf fp mac node size) v h = must 
 fip_suited c T port caught g (fip.Keep mac None) v h = must c T (Fip g (fip.Keep mac None)) v AliveNode tt
 fip_suited c T port caught g (fip.Keep mac (Some vx)) v h = must c T (Fip g (fip.Keep mac (Some vx))) v (AlivePort vx.address) tt
 fip_suited c T port caught g (fip.Login kind fp l mac) v h = login_suited c T port caught g kind fp l mac v (readable (fc_of l).payload h)
-fip_suited c T port caught g (fip.Advertise solicited available from_fcf fp priority mac switch fc_map fabric quiet period) v h = must c T (Fip g (fip.Advertise solicited available from_fcf fp priority mac switch fc_map fabric quiet period)) v (Dropped (plain rule.FipRole)) tt
-fip_suited c T port caught g (fip.LoginReply kind fp frame mac) v h = must c T (Fip g (fip.LoginReply kind fp frame mac)) v (Dropped (plain rule.FipRole)) tt
-fip_suited c T port caught g (fip.Clear mac switch ports) v h = must c T (Fip g (fip.Clear mac switch ports)) v (Dropped (plain rule.FipRole)) tt
-fip_suited c T port caught g (fip.VlanTell mac vlans) v h = must c T (Fip g (fip.VlanTell mac vlans)) v (Dropped (plain rule.FipRole)) tt
+fip_suited c T port caught g m v h = must c T (Fip g m) v (Dropped (plain rule.FipRole)) tt
 
 message_suited : (c : Settings) (T : Tables) (port : ℕ) (caught : Caught) (what : What) (v : Verdict) → rule_for c T port caught what ≡ None → AreSuited c T what v (message_judged c T port caught what)
 message_suited c T port caught (Bad cause) v h = must c T (Bad cause) v (Dropped cause) tt

@@ -1,7 +1,7 @@
 -- Where no activation comes between two moments, the same names are joined at both.
 use Rattle.std.proofs.Common.{◌≡◌, ℕ, ◌&&◌, ◌||◌, not, nat_le, nat_eq, Bool, true, false, cond, List, [], ◌∷◌, ◌++◌, map, filter, find, flat_map, reverse, Some, None, option_map, refl, sym, ap, subst, ◌∙◌}
 use Rattle.std.proofs.lemmas.List.{append-nil, reverse-append}
-use Rattle.std.proofs.lemmas.List.Elements.{All-nil, All-cons, All-head, All-tail}
+use Rattle.std.proofs.lemmas.List.Elements.{All-nil, All-cons, All-head, All-tail, filter_agree}
 use Rattle.std.proofs.lemmas.List.Folds.{find-append}
 use Rattle.std.specs.List.{All, list_any}
 use Rattle.std.specs.Option.{option_or}
@@ -13,6 +13,7 @@ use Rattle.zone_rules.specs.Joined.{contains, has_zone_of, is_active, is_other, 
 use Rattle.fab_policy.specs.Outputs.{differs, is_watcher, told}
 use Rattle.fab_policy.specs.State.{LivePort, Tables}
 use Rattle.fab_replies.specs.declared.message.Out.{Out}
+use Rattle.fab_sending.proofs.Finding.{filter-none}
 use Rattle.fab_sending.specs.Counting.{is_turned, with_changes}
 use Rattle.fab_sending.specs.Notices.{staying_at, told_of_change}
 
@@ -59,14 +60,11 @@ never_differs c since at x y h =
 
 none_told : (c : Settings) (since at name : ℕ) (but : List ℕ) (ports : List LivePort) → All (Stays since at) c.activations →
     filter (λ w. not (contains w.address but) && is_watcher w && differs c since at w.name name) ports ≡ []
-none_told c since at name but [] h = refl
-none_told c since at name but (w ∷ ports) h =
-    ap (λ b. cond (not (contains w.address but) && is_watcher w && b) (w ∷ rest) rest) (never_differs c since at w.name name h)
-    ∙ ap (λ b. cond b (w ∷ rest) rest) (never (not (contains w.address but) && is_watcher w)) ∙ none_told c since at name but ports h
+none_told c since at name but ports h =
+    filter_agree (λ w. not (contains w.address but) && is_watcher w && differs c since at w.name name) (λ w. false)
+    (λ w. ap (λ b. not (contains w.address but) && is_watcher w && b) (never_differs c since at w.name name h) ∙ never (not (contains w.address but) && is_watcher w)) ports
+    ∙ filter-none ports
   where
-    rest : List LivePort
-    rest = filter (λ v. not (contains v.address but) && is_watcher v && differs c since at v.name name) ports
-
     never : (b : Bool) → b && false ≡ false
     never true = refl
     never false = refl

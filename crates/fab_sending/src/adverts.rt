@@ -48,16 +48,12 @@ fn on_all_ports(alloc: Global, ports: u32, moment: Moment) -> Result<OutList, No
 {
     let mut outs = OutList::empty(alloc);
     for index in 0..ports as usize {
-        let port = PortNo::at(index);
-        let message = OutMessage::Advertisement;
-        outs.push(
-            alloc,
-            Out {
-                port,
-                moment,
-                message,
-            },
-        )?;
+        let out = Out {
+            port: PortNo::at(index),
+            moment,
+            message: OutMessage::Advertisement,
+        };
+        outs.push(alloc, out)?;
     }
     Ok(outs)
 }
