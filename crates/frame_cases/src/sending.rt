@@ -1,18 +1,18 @@
 //! What is sent where no roster is needed: replies, pieces of an answer, advertisements, clear link
 //! messages.
-ghost use Rattle.std.specs.Prelude.{◌≡◌, ◌≤◌, ◌^◌, true};
+ghost use Rattle.std.specs.Prelude.{◌≤◌, ◌^◌};
 ghost use Rattle.ct_messages.specs.CanWrite.{CanTell};
 ghost use Rattle.ct_messages.specs.Answer.{size_of};
+ghost use Rattle.fab_policy.specs.Classes.{of_replied};
 ghost use Rattle.fab_policy.specs.Heard.{What as Decoded};
 ghost use Rattle.fab_sending.specs.Replies.{IsBody, Suits};
-ghost use Rattle.fab_sending.specs.Sends.{is_replied};
 
 use crate::frames::caught;
 use crate::sent::said_outs;
 use ct_messages::{CtTell, NextPort, TypeMap};
 use fab_base::{Bytes, FcId, Mac, Moment, NoMemory, PortNo, Wwn};
 use fab_config::Config;
-use fab_policy::{Heard, Verdict, What, frames_are_carried, hear};
+use fab_policy::{Heard, Replied, Settled, What, frames_are_carried, hear};
 use fab_replies::{Asker, OutList};
 use fab_sending::replies::{frames_of, reply};
 use fab_sending::{advertise, clear, frames_of_answer};
@@ -137,9 +137,9 @@ fn made(alloc: Global, line: &[u8], heard: &Heard<'_>) -> Result<OutList, CaseFa
             let to = table_cases::words::port(line, 5)?;
             sent_on(alloc, now, port, heard, to)
         }
-        "ns-logout" => to_body(alloc, now, port, heard, Verdict::NsLogout),
+        "ns-logout" => to_body(alloc, now, port, heard, Replied::NsLogout),
         "refused" => {
-            let verdict = Verdict::Refused(code(line, 5)?, code(line, 6)?);
+            let verdict = Replied::Refused(code(line, 5)?, code(line, 6)?);
             to_body(alloc, now, port, heard, verdict)
         }
         _ => Err(CaseFault::Words),
@@ -154,7 +154,7 @@ fn in_fip(
     heard: &Heard<'_>,
 ) -> Result<OutList, CaseFault> {
     match &heard.what {
-        What::Fip { .. } => Ok(frames_of(alloc, now, port, 3, heard, Verdict::Vlans)?),
+        What::Fip { .. } => Ok(frames_of(alloc, now, port, 3, heard, Settled::Vlans)?),
         _ => Err(CaseFault::Refused),
     }
 }
@@ -167,7 +167,7 @@ fn sent_on(
     heard: &Heard<'_>,
     to: PortNo,
 ) -> Result<OutList, CaseFault> {
-    let verdict = Verdict::Forwarded(to);
+    let verdict = Settled::Forwarded(to);
     match &heard.what {
         What::Fcoe { read: Ok(_), .. } => Ok(frames_of(alloc, now, port, 3, heard, verdict)?),
         _ => Err(CaseFault::Refused),
@@ -180,10 +180,9 @@ fn to_body(
     now: Moment,
     port: PortNo,
     heard: &Heard<'_>,
-    verdict: Verdict,
+    verdict: Replied,
 ) -> Result<OutList, CaseFault>
-    requires suits { (what : Decoded) → IsBody what → Suits what verdict }
-    requires replied { is_replied verdict ≡ true }
+    requires { (what : Decoded) → IsBody what → Suits what (of_replied verdict) }
 {
     // Law: what a decoded frame says is what a journal reads from its bytes.
     frames_are_carried();
