@@ -60,10 +60,7 @@ one_more f moment first i x xs start before after at was now =
 -- the port of a login that was found
 port_found : (o : Option LivePort) (login : Login) → Some login ≡ option_map login_of o → login.enode.port ≡ option_map_or (λ p. p.enode.port) o 0
 port_found None login e = cc
-port_found (Some p) login e = ap (λ l. l.enode.port) (same e)
-  where
-    same : Some login ≡ Some (login_of p) → login ≡ login_of p
-    same i = cc
+port_found (Some p) login e = let same : login ≡ login_of p = cc in ap (λ l. l.enode.port) same
 
 pub one_told : (moment first affected watcher ox_id : ℕ) (ports : List LivePort) (login : Login) (before after : List Out) →
     Some login ≡ option_map login_of (port_at watcher ports) → ox_id ≡ (first + length before) % 65535 →
@@ -94,10 +91,9 @@ told_found affected ports (w ∷ ws) h =
 pub named_told : (c : Settings) (T : Tables) (but : List ℕ) (a : ℕ) (login : Login) → (o : Option LivePort) → Some login ≡ option_map login_of o → ((p : LivePort) → o ≡ Some p → p.address ≡ a) →
     told_of_name c T but a login.name ≡ option_map_or (λ p. told_of_name c T but p.address p.name) o []
 named_told c T but a login None e is = cc
-named_told c T but a login (Some p) e is = ap (λ x. told_of_name c T but x login.name) (sym (is p refl)) ∙ ap (λ (l : Login). told_of_name c T but p.address l.name) (same e)
-  where
-    same : Some login ≡ Some (login_of p) → login ≡ login_of p
-    same i = cc
+named_told c T but a login (Some p) e is =
+    let same : login ≡ login_of p = cc in
+    ap (λ x. told_of_name c T but x login.name) (sym (is p refl)) ∙ ap (λ (l : Login). told_of_name c T but p.address l.name) same
 
 -- the addresses of those that pass are live, and what they are told of an address is what those that pass are
 pub live_ids : (q : LivePort → Bool) (from : ℕ) (ports : List LivePort) (ids : List ℕ) → Ascend from ports → ids ≡ addresses (filter q ports) → All (λ a. IsSome (port_at a ports)) ids
@@ -133,7 +129,7 @@ ends_told c T m first ended start mid e none was =
     ∙ ap (with_changes m first []) (logins_told c T (addresses (overdue c T m)) (overdue c T m))
 
 -- what changes of zones tell, by the clock
-abbrev told_by_clock : Settings → Tables → ℕ → List ℕ → Option ℕ → List Notice
+abbrev pub told_by_clock : Settings → Tables → ℕ → List ℕ → Option ℕ → List Notice
 told_by_clock c T m but clock = elim clock [ None ↦ [] | Some t ↦ flat_map (told_of_change c T t m but) (staying_at c T m) ]
 
 pub before_clock : (c : Settings) (T : Tables) (m first : ℕ) (ended : List Login) (start mid : List Out) → ended ≡ map login_of (overdue c T m) → start ≡ [] → T.clock ≡ None →

@@ -28,6 +28,7 @@ use Rattle.fab_replies.specs.Laws.{in_frames, messages, numbered, on}
 use Rattle.fab_replies.specs.Message.{AreSendable, can_send, frame_at, sent_of}
 use Rattle.fab_replies.specs.declared.message.Out.{Out}
 use Rattle.fab_replies.specs.declared.message.OutMessage.{OutMessage}
+use Rattle.fab_roster.proofs.Found.{some_found}
 use Rattle.fab_sending.specs.Laws.{FramesSend, FramesTell, TicksSend, TicksTell}
 use Rattle.fab_sending.specs.Messages.{advertisements_owed, at_moment, changes, clears, tick_messages}
 use Rattle.fab_sending.specs.Notices.{changed_at, notices_of_frame, notices_of_tick, told_of_each}
@@ -53,36 +54,28 @@ all_sendable events frames told outs moment n ns h is made =
     subst (AreSendable events) (sym (made ∙ ap (λ l. frames ++ l) is))
     (All-append (λ (out : Out). can_send events out.message ≡ true) frames (at_moment moment (changes n ns)) h (changes_sendable events moment n ns))
 
--- the replies and the state changes are what the frame sends
-pub frame_sent : FramesSend → FramesTell → (c : Settings) (n : ℕ) (S : State) (port index entry : ℕ) (caught : Caught) (v : Verdict) (events : List Event) (s : Sends) (frames told : List Out) →
-    InPool c S.tables.ports → CanFollow c S.tables port index caught v → frame_at entry events ≡ Some caught →
-    frames ≡ at_moment (now_of S.tables) (messages c S.tables port entry caught v) → told ≡ at_moment (now_of S.tables) (changes S.rscns (notices_of_frame c S.tables port caught v)) →
-    s.outs ≡ frames ++ told → s.rscns ≡ (S.rscns + length told) % 65535 → AreSendable events s.outs → AreSent c n S (Frame port index caught v) events s
-frame_sent send tell c n S port index entry caught v events s frames told asc can at replied changed made counted sendable =
-    let m : ℕ = now_of S.tables in
-    let ms : List (ℕ × OutMessage) = messages c S.tables port entry caught v in
-    let ns : List Notice = notices_of_frame c S.tables port caught v in
-    record {
-      outs = ap (map (sent_of c events)) (made ∙ ap (λ l. l ++ told) replied ∙ ap (λ l. at_moment m ms ++ l) changed ∙ sym (map-append _ ms (changes S.rscns ns)))
-          ∙ send c n S port index entry caught v events asc can at;
-      rscns = counted ∙ ap (λ k. (S.rscns + k) % 65535) (ap length changed ∙ length-changes m S.rscns ns ∙ ap length (sym (tell c S.tables port index caught v asc can)));
-      sendable = sendable;
-    }
-
 -- the parts of what a frame sends are what it sends
 pub sends_made : FramesSend → FramesTell → (b : Before) (port entry : ℕ) (caught : Caught) (v : Verdict) (replies changed : List Out) (s : Sends) →
     InPool b.config.now b.roster.now.tables.ports → s.outs ≡ replies ++ changed → s.rscns ≡ (b.rscns + length changed) % 65535 → s.rscns < 65535 →
     AreParts b port entry caught v replies changed → FrameSends b port entry caught v s
-sends_made send tell b port entry caught v replies changed s pool outs counted few parts = record {
-  sent = λ index events at follows.
-      frame_sent send tell b.config.now b.ports (state_before b) port index entry caught v events s replies changed pool follows at parts.made parts.changes_are outs counted (sendable events at);
-  sendable = sendable;
-  few = few;
-}
-  where
-    sendable : (events : List Event) → frame_at entry events ≡ Some caught → AreSendable events s.outs
-    sendable events at =
-        all_sendable events replies changed s.outs (now_of b.roster.now.tables) b.rscns (notices_of_frame b.config.now b.roster.now.tables port caught v) (parts.sendable events at) parts.changes_are outs
+sends_made send tell b port entry caught v replies changed s pool outs counted few parts =
+    let c : Settings = b.config.now in
+    let T : Tables = b.roster.now.tables in
+    let m : ℕ = now_of T in
+    let ms : List (ℕ × OutMessage) = messages c T port entry caught v in
+    let ns : List Notice = notices_of_frame c T port caught v in
+    let sendable : ((events : List Event) → frame_at entry events ≡ Some caught → AreSendable events s.outs) =
+    λ events at. all_sendable events replies changed s.outs m b.rscns ns (parts.sendable events at) parts.changes_are outs in
+    record {
+      sent = λ index events at follows. record {
+        outs = ap (map (sent_of c events)) (outs ∙ ap (λ l. l ++ changed) parts.made ∙ ap (λ l. at_moment m ms ++ l) parts.changes_are ∙ sym (map-append _ ms (changes b.rscns ns)))
+            ∙ send c b.ports (state_before b) port index entry caught v events pool follows at;
+        rscns = counted ∙ ap (λ k. (b.rscns + k) % 65535) (ap length parts.changes_are ∙ length-changes m b.rscns ns ∙ ap length (sym (tell c T port index caught v pool follows)));
+        sendable = sendable events at;
+      };
+      sendable = sendable;
+      few = few;
+    }
 
 -- ---- verdicts that need nothing else
 
@@ -104,12 +97,10 @@ module _ (c : Settings) (T : Tables) (port : ℕ) (caught : Caught) where
 pub answer_frames : (c : Settings) (T : Tables) (port entry size : ℕ) (caught : Caught) (tell : CtTell) → IsSome (port_at (s_id caught) T.ports) →
     ((b : LivePort) → port_at (s_id caught) T.ports ≡ Some b → tell ≡ query c T b (ask_of caught)) → ((b : LivePort) → port_at (s_id caught) T.ports ≡ Some b → size ≡ unwrap_or b.server 2112) →
     on port (in_frames caught size tell) ≡ messages c T port entry caught Answered
-answer_frames c T port entry size caught tell live told asked = go (port_at (s_id caught) T.ports) live told asked
-  where
-    go : (o : Option LivePort) → IsSome o → ((b : LivePort) → o ≡ Some b → tell ≡ query c T b (ask_of caught)) → ((b : LivePort) → o ≡ Some b → size ≡ unwrap_or b.server 2112) →
-        on port (in_frames caught size tell) ≡ elim o as (λ _. List (ℕ × OutMessage)) [ None ↦ [] | Some b ↦ on port (in_frames caught (unwrap_or b.server 2112) (query c T b (ask_of caught))) ]
-    go None i t a = cc
-    go (Some b) i t a = ap (λ n. on port (in_frames caught n tell)) (a b refl) ∙ ap (λ x. on port (in_frames caught (unwrap_or b.server 2112) x)) (t b refl)
+answer_frames c T port entry size caught tell live told asked =
+    let b = some_found (port_at (s_id caught) T.ports) live in
+    ap (λ n. on port (in_frames caught n tell)) (asked b.0 b.1) ∙ ap (λ x. on port (in_frames caught (unwrap_or b.0.server 2112) x)) (told b.0 b.1)
+    ∙ sym (ap (λ o. elim o as (λ _. List (ℕ × OutMessage)) [ None ↦ [] | Some p ↦ on port (in_frames caught (unwrap_or p.server 2112) (query c T p (ask_of caught))) ]) b.1)
 
 -- ---- at the clock
 
@@ -161,8 +152,6 @@ tick_sent send tell c n S m ended events s cleared told advertised mid asc ends 
 -- an answer to a live N_Port is short enough to be cut
 pub answer_fits : (c : Settings) (T : Tables) (caught : Caught) (tell : CtTell) → IsSome (port_at (s_id caught) T.ports) →
     ((b : LivePort) → port_at (s_id caught) T.ports ≡ Some b → tell ≡ query c T b (ask_of caught)) → length T.ports ≤ 65535 → size_of tell ≤ 2 ^ 20
-answer_fits c T caught tell live told few = go (port_at (s_id caught) T.ports) live told
-  where
-    go : (o : Option LivePort) → IsSome o → ((b : LivePort) → o ≡ Some b → tell ≡ query c T b (ask_of caught)) → size_of tell ≤ 2 ^ 20
-    go None i t = cc
-    go (Some b) i t = subst (λ x. size_of x ≤ 2 ^ 20) (sym (t b refl)) (answer_short c T b (ask_of caught) few)
+answer_fits c T caught tell live told few =
+    let b = some_found (port_at (s_id caught) T.ports) live in
+    subst (λ x. size_of x ≤ 2 ^ 20) (sym (told b.0 b.1)) (answer_short c T b.0 (ask_of caught) few)

@@ -27,6 +27,7 @@ use Rattle.fab_sending.specs.Sends.{CanFollow, request_from}
 use Rattle.fab_policy.proofs.Found.{found_address}
 use Rattle.fab_policy.proofs.Steps.{AreAddressed}
 use Rattle.fab_roster.proofs.Found.{same as same_number}
+use Rattle.fab_sending.proofs.Counting.{told_by_clock}
 use Rattle.fab_sending.proofs.Finding.{filter-address, filter-listed, filter-none, found_at, listed_of}
 use Rattle.fab_sending.proofs.Lists.{flat_map-same}
 use Rattle.fab_sending.proofs.Watching.{Leaves, told_after}
@@ -51,11 +52,8 @@ told_at_clock c U m clock =
       | Some t ↦ flat_map (λ b. map (λ w. told w b.address) (filter (λ w. differs c t m w.name b.name) (watchers U))) U.ports
     ]
 
-abbrev told_before : Settings → Tables → ℕ → List ℕ → Option ℕ → List Notice
-told_before c T m but clock = elim clock [ None ↦ [] | Some t ↦ flat_map (told_of_change c T t m but) (staying_at c T m) ]
-
 zones_tell : FoundByAddress → TickSteps → (c : Settings) (T : Tables) (m : ℕ) → InPool c T.ports → (clock : Option ℕ) →
-    (let ends = addresses (overdue c T m) in told_at_clock c (after c T (Tick m ends)) m clock ≡ told_before c T m ends clock)
+    (let ends = addresses (overdue c T m) in told_at_clock c (after c T (Tick m ends)) m clock ≡ told_by_clock c T m ends clock)
 zones_tell found steps c T m asc None = refl
 zones_tell found steps c T m asc (Some t) =
     let ends : List ℕ = addresses (overdue c T m) in
@@ -91,10 +89,7 @@ abbrev after_at : Tables → Event → ℕ → Option LivePort
 after_at T e a = port_after (now_after T e) a e (port_at a T.ports)
 
 same_address : (x p : LivePort) → Some x ≡ Some p → p.address ≡ x.address
-same_address x p e = ap (λ y. y.address) (sym (same e))
-  where
-    same : Some x ≡ Some p → x ≡ p
-    same i = cc
+same_address x p e = let same : x ≡ p = cc in ap (λ y. y.address) (sym same)
 
 after_addressed : (T : Tables) (e : Event) → AreAddressed (after_at T e)
 after_addressed T e a p is = by_grant (grants a e) (port_at a T.ports) is
@@ -167,10 +162,9 @@ ends_or_free T port a caught free p live = by_past (past_at a T.past) refl free
         elim o as (λ _. Bool) [ Some q ↦ is_flogi caught && same_enode q.enode (sender port caught) && q.name == (asked caught).port_name | None ↦ may_have (asked caught).port_name (now_of T) b.name b.ended ] ≡ true →
         (same_enode p.enode (sender port caught) && is_flogi caught) ≡ true
     by_port None e b t = cc
-    by_port (Some q) e b t = ap (λ (x : LivePort). same_enode x.enode (sender port caught) && is_flogi caught) (sym (same e)) ∙ turned (is_flogi caught) (same_enode q.enode (sender port caught)) (q.name == (asked caught).port_name) t
-      where
-        same : Some q ≡ Some p → q ≡ p
-        same i = cc
+    by_port (Some q) e b t =
+        let same : q ≡ p = cc in
+        ap (λ (x : LivePort). same_enode x.enode (sender port caught) && is_flogi caught) (sym same) ∙ turned (is_flogi caught) (same_enode q.enode (sender port caught)) (q.name == (asked caught).port_name) t
 
     by_past : (o : Option Past) → past_at a T.past ≡ o → elim o as (λ _. Bool) [ None ↦ false | Some b ↦ is_open T (request_from port caught) b ] ≡ true → (same_enode p.enode (sender port caught) && is_flogi caught) ≡ true
     by_past None e t = cc

@@ -33,6 +33,7 @@ use std::alloc::Global;
 
 /// What a frame of a port sends by a right verdict that needs nothing but the frame: an answer in
 /// FIP, itself, or nothing. It stands in the entry at this place of the entries.
+#[tactic(auto, using(crate::proofs::ReplyMade::right_suits))]
 pub fn frame_sends(
     alloc: Global,
     before: &Before<'_>,
@@ -54,6 +55,7 @@ pub fn frame_sends(
 
 /// What a frame sends by a right verdict that is replied to its sender: the reply, and the state
 /// changes.
+#[tactic(auto, using(crate::proofs::ReplyMade::right_suits))]
 pub fn reply_sends(
     alloc: Global,
     before: &Before<'_>,
@@ -76,6 +78,7 @@ pub fn reply_sends(
 }
 
 /// What a login sends that gets an address: its accept, and the state changes.
+#[tactic(auto, using(crate::proofs::ReplyMade::right_suits))]
 pub fn grant_sends(
     alloc: Global,
     before: &Before<'_>,

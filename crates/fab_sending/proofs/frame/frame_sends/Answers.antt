@@ -4,13 +4,7 @@ use Rattle.fab_policy.specs.State.{now_of}
 use Rattle.fab_replies.specs.Laws.{messages}
 use Rattle.fab_sending.specs.Messages.{at_moment, changes}
 use Rattle.fab_sending.proofs.Joining.{at_clock, settled_tells}
-use Rattle.fab_sending.proofs.ReplyMade.{right_suits}
 use Rattle.fab_sending.proofs.frame.frame_sends.Goals as goal
-
-pub frames_of-requires : goal.frames_of-requires
-frames_of-requires c =
-    let b = c.args.before.now in
-    right_suits b.config.now b.roster.now.tables c.args.port c.args.heard.now.caught.now (of_settled c.args.verdict) c.requires
 
 pub returns : goal.returns
 returns c =

@@ -1,13 +1,7 @@
 use Rattle.fab_policy.specs.declared.verdict.Verdict.TheVariants.{Granted}
 use Rattle.fab_replies.specs.Laws.{messages}
 use Rattle.fab_sending.proofs.Joining.{at_clock}
-use Rattle.fab_sending.proofs.ReplyMade.{right_suits}
 use Rattle.fab_sending.proofs.frame.grant_sends.Goals as goal
-
-pub accept-requires : goal.accept-requires
-accept-requires c =
-    let b = c.args.before.now in
-    right_suits b.config.now b.roster.now.tables c.args.port c.args.heard.now.caught.now (Granted c.args.grant.now.address) c.requires.right
 
 pub returns : goal.returns
 returns c = λ entry.

@@ -1,13 +1,7 @@
 use Rattle.fab_policy.specs.Classes.{of_replied}
 use Rattle.fab_replies.specs.Laws.{messages}
 use Rattle.fab_sending.proofs.Joining.{at_clock}
-use Rattle.fab_sending.proofs.ReplyMade.{right_suits}
 use Rattle.fab_sending.proofs.frame.reply_sends.Goals as goal
-
-pub reply-requires-clause-suits : goal.reply-requires-clause-suits
-reply-requires-clause-suits c =
-    let b = c.args.before.now in
-    right_suits b.config.now b.roster.now.tables c.args.port c.args.heard.now.caught.now (of_replied c.args.verdict) c.requires.right
 
 pub returns : goal.returns
 returns c = λ entry.
