@@ -16,9 +16,9 @@ counting-suc from zero = ap (λ k. k ∷ []) (omega arith)
 counting-suc from (suc n) = ap (λ l. from ∷ l) (counting-suc (from + 1) n ∙ ap (λ k. counting (from + 1) n ++ k ∷ []) (omega arith))
 
 -- one more port has one more
-pub advertised_more : (moment index port : ℕ) (before after : List Out) → port ≡ index + 1 → before ≡ at_moment moment (advertisements index) →
+pub one_more : (moment index port : ℕ) (before after : List Out) → port ≡ index + 1 → before ≡ at_moment moment (advertisements index) →
     after ≡ before ++ record { port = port; moment = moment; message = out.Advertisement } ∷ [] → after ≡ at_moment moment (advertisements (index + 1))
-advertised_more moment index port before after at was now =
+one_more moment index port before after at was now =
     let one : Out = record { port = 1 + index; moment = moment; message = out.Advertisement } in
     now ∙ ap (λ outs. outs ++ record { port = port; moment = moment; message = out.Advertisement } ∷ []) was
     ∙ ap (λ p. at_moment moment (advertisements index) ++ record { port = p; moment = moment; message = out.Advertisement } ∷ []) (at ∙ omega arith)
@@ -30,5 +30,5 @@ advertised_more moment index port before after at was now =
 all_advertise : (events : List Event) (from n : ℕ) → All (CanBeSent events) (map (λ p. (p, out.Advertisement)) (counting from n))
 all_advertise events from n = All-map (CanBeSent events) (λ (p : ℕ). (p, out.Advertisement)) (counting from n) (λ i d lt. refl)
 
-pub advertisements_sendable : (events : List Event) (moment n : ℕ) (outs : List Out) → outs ≡ at_moment moment (advertisements n) → AreSendable events outs
-advertisements_sendable events moment n outs e = subst (AreSendable events) (sym e) (sendable_at events moment (advertisements n) (all_advertise events 1 n))
+pub sendable : (events : List Event) (moment n : ℕ) (outs : List Out) → outs ≡ at_moment moment (advertisements n) → AreSendable events outs
+sendable events moment n outs e = subst (AreSendable events) (sym e) (sendable_at events moment (advertisements n) (all_advertise events 1 n))

@@ -1,5 +1,5 @@
 -- The replies to a frame and its state changes are what the frame sends.
-use Rattle.std.proofs.Common.{◌≡◌, ℕ, ◌+◌, ◌*◌, ◌%◌, ◌^◌, ◌≤◌, ◌<◌, true, List, [], ◌∷◌, ◌++◌, length, map, filter, option_to_list, Option, Some, None, IsSome, unwrap_or, refl, sym, ap, subst, ◌∙◌}
+use Rattle.std.proofs.Common.{◌≡◌, ℕ, ◌+◌, ◌*◌, ◌%◌, ◌^◌, ◌≤◌, ◌<◌, true, List, [], ◌∷◌, ◌++◌, length, map, filter, option_to_list, Some, None, IsSome, unwrap_or, refl, sym, ap, subst, ◌∙◌}
 use Rattle.std.proofs.lemmas.List.{map-append}
 use Rattle.std.proofs.lemmas.List.Elements.{All-nil, All-cons, All-append}
 use Rattle.fab_base.specs.declared.values.Caught.{Caught}
@@ -21,7 +21,7 @@ use Rattle.fab_policy.specs.declared.classes.Replied.TheVariants.{NsLogout}
 use Rattle.fab_policy.specs.declared.classes.Settled.{Settled}
 use Rattle.fab_policy.specs.declared.classes.Settled.TheVariants.{Vlans}
 use Rattle.fab_policy.specs.declared.event.Event.{Event}
-use Rattle.fab_policy.specs.declared.event.Event.TheVariants.{Frame, Tick}
+use Rattle.fab_policy.specs.declared.event.Event.TheVariants.{Tick}
 use Rattle.fab_policy.specs.declared.verdict.Verdict.{Verdict}
 use Rattle.fab_policy.specs.declared.verdict.Verdict.TheVariants.{Answered}
 use Rattle.fab_replies.specs.Laws.{in_frames, messages, numbered, on}

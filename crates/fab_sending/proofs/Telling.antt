@@ -22,7 +22,7 @@ use Rattle.fab_policy.specs.declared.event.Event.{Event}
 use Rattle.fab_policy.specs.declared.event.Event.TheVariants.{Tick, Frame}
 use Rattle.fab_policy.specs.declared.verdict.Verdict.TheVariants.{Granted, Logout, Registered, Watching}
 use Rattle.fab_sending.specs.Laws.{FramesTell, TicksTell}
-use Rattle.fab_sending.specs.Notices.{changed_at, ended_by_grant, notices_of_frame, staying_at, told_of_change, told_of_each, told_of_name}
+use Rattle.fab_sending.specs.Notices.{changed_at, ended_by_grant, notices_of_frame, told_of_change, told_of_each, told_of_name}
 use Rattle.fab_sending.specs.Sends.{CanFollow, request_from}
 use Rattle.fab_policy.proofs.Found.{found_address}
 use Rattle.fab_policy.proofs.Steps.{AreAddressed}

@@ -41,6 +41,7 @@ pub fn is_owed(config: &Config, last: Option<Moment>, moment: Moment) -> bool
     }
 }
 
+#[tactic(auto, using(crate::proofs::AdvertMade::one_more, crate::proofs::AdvertMade::sendable))]
 fn on_all_ports(alloc: Global, ports: u32, moment: Moment) -> Result<OutList, NoMemory>
     requires { ports ≤ 64 }
     ensures made { IfOk result (λ outs. outs ≡ at_moment moment (advertisements ports)) }

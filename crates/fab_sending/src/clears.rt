@@ -157,6 +157,7 @@ fn is_before(one: &Enode, other: &Enode) -> bool
 }
 
 // Whether bytes come before others, compared as numbers are.
+#[tactic(auto, using(crate::proofs::ClearMade::not_before))]
 fn are_before(one: &[u8], other: &[u8]) -> bool
     ensures { result ≡ spec.bytes_before one.now other.now }
 {

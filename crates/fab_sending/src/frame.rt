@@ -204,6 +204,7 @@ fn reply_changes(alloc: Global, before: &Before<'_>, verdict: &Replied) -> Resul
 }
 
 // The clock before an entry, 0 before the first tick.
+#[tactic(auto, using(crate::proofs::Joining::in_pool))]
 fn clock(before: &Before<'_>) -> Moment
     ensures now { result ≡ now_of before.now.roster.now.tables }
     ensures pool { InPool before.now.config.now before.now.roster.now.tables.ports }

@@ -15,6 +15,7 @@ pub fn ticks_tell()
 }
 
 /// The state changes of a frame follow from the tables before it.
+#[tactic(auto, using(crate::proofs::Telling::frames_tell))]
 pub fn frames_tell()
     ensures { FramesTell }
 {
@@ -32,6 +33,7 @@ pub fn ticks_send()
 }
 
 /// The messages of a frame are what it sends.
+#[tactic(auto, using(crate::proofs::Sending::frames_send))]
 pub fn frames_send()
     ensures { FramesSend }
 {

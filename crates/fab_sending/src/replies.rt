@@ -29,6 +29,7 @@ use std::alloc::Global;
 
 /// A right verdict of a frame suits what the frame was decoded as. This function does nothing: its
 /// contract is the law.
+#[tactic(auto, using(crate::proofs::ReplyMade::right_suits))]
 pub fn right_frames_suit()
     ensures { RightFramesSuit }
 {}
