@@ -22,22 +22,23 @@ pub(crate) fn message_call(
     line: &[u8],
     out: &mut Vec<u8>,
 ) -> Result<(), CaseFault> {
-    match name_at(line, 1) {
+    let kind = name_at(line, 1);
+    match kind {
         "ct" => said_ct(alloc, config, line, out),
         "clear" => said_clear(alloc, config, line, out),
         "forwarded" => said_forwarded(alloc, config, line, out),
         _ => {
-            let message = plain(line)?;
+            let message = plain(kind, line)?;
             said(alloc, config, &EventList::empty(alloc), message, out)
         }
     }
 }
 
 // A message that can always be sent.
-fn plain(line: &[u8]) -> Result<OutMessage, CaseFault>
+fn plain(kind: &str, line: &[u8]) -> Result<OutMessage, CaseFault>
     ensures { IfOk result (λ m. IsTrue (can_send [] m)) }
 {
-    match name_at(line, 1) {
+    match kind {
         "vlans" => Ok(OutMessage::Vlans {
             to: mac(line, 2)?,
             untagged: name_at(line, 3) == "untagged",
