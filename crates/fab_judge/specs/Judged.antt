@@ -13,6 +13,7 @@ use Rattle.ct_messages.specs.CanWrite.{CanTell, CanWrite, HasByte}
 use Rattle.ct_messages.specs.Server.{is_registration, registration_refusal}
 use Rattle.ct_messages.specs.declared.CtTell.{CtTell}
 use Rattle.state_change.specs.Watchers.{is_function}
+use Rattle.fab_policy.specs.Classes.{of_replied, of_settled}
 use Rattle.fab_policy.specs.Free.{Request, is_free}
 use Rattle.fab_policy.specs.Heard.{sender, is_flogi, carried}
 use Rattle.fab_policy.specs.Queries.{query}
@@ -20,20 +21,22 @@ use Rattle.fab_policy.specs.Replies.{Asker}
 use Rattle.fab_policy.specs.State.{LivePort, Tables, port_at}
 use Rattle.fab_policy.specs.Verdicts as policy
 use Rattle.fab_policy.specs.Verdicts.{Judgement, staying}
-use Rattle.fab_policy.specs.declared.verdict.Verdict.{Verdict}
-use Rattle.fab_policy.specs.declared.verdict.Verdict.TheVariants.{Dropped, Vlans, Advertised, Rejected, Logout, AliveNode, AlivePort, NsLogin, NsLogout, Watching, Registered, Answered, Refused, Noted, Forwarded}
+use Rattle.fab_policy.specs.declared.classes.Replied.{Replied as Reply}
+use Rattle.fab_policy.specs.declared.classes.Replied.TheVariants.{Rejected, Logout, NsLogin, NsLogout, Watching, Refused}
+use Rattle.fab_policy.specs.declared.classes.Settled.{Settled}
+use Rattle.fab_policy.specs.declared.classes.Settled.TheVariants.{Dropped, Vlans, Advertised, AliveNode, AlivePort, Noted, Forwarded}
+use Rattle.fab_policy.specs.declared.verdict.Verdict.TheVariants.{Registered, Answered}
 use Rattle.fab_roster.specs.Changes.{IsSize}
 use Rattle.fab_roster.specs.Roll.{Login, login_of}
 use Rattle.fab_judge.specs.declared.judging.Candidate.{Candidate}
 use Rattle.fab_judge.specs.declared.judging.Judged.{Judged}
-use Rattle.fab_judge.specs.declared.judging.Judged.TheVariants.{Must, Replied, MayGrant, ServerLogin, Registers, Answers}
+use Rattle.fab_judge.specs.declared.judging.Judged.TheVariants.{Must, Replied, MayGrant, Registers, Answers}
 
 -- the judgement of the policy that it stands for
 abbrev pub judgement_of : Judged → Judgement
-judgement_of (Must verdict) = policy.Must verdict
-judgement_of (Replied verdict to) = policy.Must verdict
+judgement_of (Must verdict) = policy.Must (of_settled verdict)
+judgement_of (Replied verdict to) = policy.Must (of_replied verdict)
 judgement_of (MayGrant login) = policy.MayGrant login.request
-judgement_of (ServerLogin to size) = policy.Must NsLogin
 judgement_of (Registers to) = policy.Must Registered
 judgement_of (Answers to tell size) = policy.Must Answered
 
@@ -59,25 +62,30 @@ GoesTo T f port = (q : LivePort) × (port_at f.head.d_id T.ports ≡ Some q) × 
 abbrev pub ended_by : Request → Tables → List Login
 ended_by r T = map login_of (filter (λ p. r.flogi && same_enode p.enode r.enode) T.ports)
 
--- A verdict that sends no reply, or one that needs nothing but the frame.
-abbrev pub VerdictRests : Tables → Enode → fc.Frame → Verdict → Type 0
-VerdictRests T x f (Dropped cause) = Unit {0}
-VerdictRests T x f Vlans = Unit {0}
-VerdictRests T x f Advertised = Unit {0}
-VerdictRests T x f AliveNode = list_any (λ p. same_enode p.enode x) T.ports ≡ true
-VerdictRests T x f (AlivePort a) = IsSome (port_at a T.ports)
-VerdictRests T x f Noted = HasSource T f
-VerdictRests T x f (Forwarded port) = GoesTo T f port
-VerdictRests T x f _ = ⊥
+-- A verdict that needs nothing but the frame.
+abbrev pub SettledRests : Tables → Enode → fc.Frame → Settled → Type 0
+SettledRests T x f Vlans = Unit {0}
+SettledRests T x f Advertised = Unit {0}
+SettledRests T x f AliveNode = list_any (λ p. same_enode p.enode x) T.ports ≡ true
+SettledRests T x f (AlivePort a) = IsSome (port_at a T.ports)
+SettledRests T x f Noted = HasSource T f
+SettledRests T x f (Forwarded port) = GoesTo T f port
+SettledRests T x f (Dropped cause) = Unit {0}
 
--- A verdict that is replied to the sender of the frame, and needs nothing else.
-abbrev pub ReplyRests : Tables → fc.Frame → Verdict → Type 0
+-- A login to the name server of a live N_Port, with a receive size at which answers can be cut.
+pub record ServerRests (T : Tables) (f : fc.Frame) (size : ℕ) : Type 0 where
+  pub live : HasSource T f
+  pub size_is : size ≡ els.receive_size (els.parms_of f.payload)
+  pub fits : IsSize size
+
+-- A verdict that is replied to the sender of the frame.
+abbrev pub ReplyRests : Tables → fc.Frame → Reply → Type 0
 ReplyRests T f (Rejected reason explanation) = Unit {0}
 ReplyRests T f (Logout a) = IsSome (port_at a T.ports)
+ReplyRests T f (NsLogin size) = ServerRests T f size
 ReplyRests T f NsLogout = HasSource T f
 ReplyRests T f (Watching function) = HasSource T f × IsTrue (is_function function)
 ReplyRests T f (Refused reason explanation) = HasSource T f
-ReplyRests T f _ = ⊥
 
 -- A login that may be granted: it asks for itself, its name is new, this address is free for it, and there is room.
 pub record GrantRests (c : Settings) (T : Tables) (x : Enode) (flogi : Bool) (f : fc.Frame) (login : Candidate) : Type 0 where
@@ -91,12 +99,6 @@ pub record GrantRests (c : Settings) (T : Tables) (x : Enode) (flogi : Bool) (f 
   pub ended_is : login.ended ≡ ended_by login.request T
   pub fresh : list_any (λ q. q.name == login.request.name) (staying c T login.request) ≡ false
   pub room : length (staying c T login.request) < c.limit
-
--- A login to the name server of a live N_Port, with a receive size at which answers can be cut.
-pub record ServerRests (T : Tables) (f : fc.Frame) (size : ℕ) : Type 0 where
-  pub live : HasSource T f
-  pub size_is : size ≡ els.receive_size (els.parms_of f.payload)
-  pub fits : IsSize size
 
 -- A registration of a live N_Port that isn't refused.
 pub record RegistrationRests (T : Tables) (f : fc.Frame) : Type 0 where
@@ -116,10 +118,9 @@ pub record AnswerRests (c : Settings) (T : Tables) (f : fc.Frame) (tell : CtTell
 
 -- What a judgement rests on: x is the ENode that sent the frame, and whom a reply answers is its sender.
 abbrev pub Rests : Settings → Tables → Enode → Bool → fc.Frame → Judged → Type 0
-Rests c T x flogi f (Must verdict) = VerdictRests T x f verdict
+Rests c T x flogi f (Must verdict) = SettledRests T x f verdict
 Rests c T x flogi f (Replied verdict to) = ReplyRests T f verdict × (to ≡ asker_by x.mac f.head)
 Rests c T x flogi f (MayGrant login) = GrantRests c T x flogi f login
-Rests c T x flogi f (ServerLogin to size) = ServerRests T f size × (to ≡ asker_by x.mac f.head)
 Rests c T x flogi f (Registers to) = RegistrationRests T f × (to ≡ asker_by x.mac f.head)
 Rests c T x flogi f (Answers to tell size) = AnswerRests c T f tell size × (to ≡ asker_by x.mac f.head)
 

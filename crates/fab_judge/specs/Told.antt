@@ -6,6 +6,7 @@ use Rattle.ct_messages.specs.declared.CtTell.TheVariants.{Reject}
 use Rattle.fab_policy.specs.Replies.{Asker}
 use Rattle.fab_policy.specs.Verdicts as policy
 use Rattle.fab_policy.specs.Verdicts.{Judgement}
+use Rattle.fab_policy.specs.declared.classes.Replied.TheVariants as replied
 use Rattle.fab_policy.specs.declared.verdict.Verdict.TheVariants.{Refused}
 use Rattle.fab_judge.specs.declared.judging.Judged.{Judged}
 use Rattle.fab_judge.specs.declared.judging.Judged.TheVariants.{Replied, Answers}
@@ -17,5 +18,5 @@ unless_refusal None else_ = else_
 
 -- an answer is a judgement: refused where it rejects, and else answered
 abbrev pub told_as : Asker → ℕ → CtTell → Judged
-told_as to size (Reject reason explanation) = Replied (Refused reason explanation) to
+told_as to size (Reject reason explanation) = Replied (replied.Refused reason explanation) to
 told_as to size tell = Answers to tell size

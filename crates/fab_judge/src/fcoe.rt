@@ -22,7 +22,7 @@ use crate::verdicts::dropped;
 use eth_frames::EthFrame;
 use fab_base::{Moment, NoMemory, PortNo};
 use fab_config::Config;
-use fab_policy::{Rule, Verdict};
+use fab_policy::{Rule, Settled};
 use fab_replies::Asker;
 use fab_roster::{Login, Roster};
 use fc_frames::SERVICES;
@@ -123,5 +123,5 @@ fn judge_data(
     if !zones.joined(now, login.name, to.name) {
         return dropped(Rule::Zone);
     }
-    Judged::Must(Verdict::Forwarded(to.enode.port))
+    Judged::Must(Settled::Forwarded(to.enode.port))
 }

@@ -20,7 +20,7 @@ use crate::sender::Sender;
 use crate::verdicts::dropped;
 use fab_base::{Mac, NoMemory};
 use fab_config::Config;
-use fab_policy::{Rule, Verdict, frames_are_carried};
+use fab_policy::{Rule, Settled, frames_are_carried};
 use fab_roster::Roster;
 use fip_codec::{FipMessage, VxPort};
 use std::alloc::Global;
@@ -43,8 +43,8 @@ pub(crate) fn judge_fip(
         Grounds config.now roster.now.tables from.now.port from.now.caught j) }
 {
     match message {
-        FipMessage::VlanAsk { .. } => Ok(Judged::Must(Verdict::Vlans)),
-        FipMessage::Solicit { .. } => Ok(Judged::Must(Verdict::Advertised)),
+        FipMessage::VlanAsk { .. } => Ok(Judged::Must(Settled::Vlans)),
+        FipMessage::Solicit { .. } => Ok(Judged::Must(Settled::Advertised)),
         FipMessage::Keep { mac, port } => Ok(judge_keep(config, roster, from, mac, port)),
         FipMessage::Login {
             kind,
@@ -83,11 +83,11 @@ fn judge_keep(
 {
     match port {
         None if !is_known(roster, from) => dropped(Rule::KeepaliveUnknown),
-        None => Judged::Must(Verdict::AliveNode),
+        None => Judged::Must(Settled::AliveNode),
         Some(vx) if is_unknown_port(config, roster, from, mac, vx) => {
             dropped(Rule::KeepaliveUnknown)
         }
-        Some(vx) => Judged::Must(Verdict::AlivePort(vx.address)),
+        Some(vx) => Judged::Must(Settled::AlivePort(vx.address)),
     }
 }
 

@@ -18,7 +18,7 @@ use ct_messages::CtTell;
 use eth_frames::EthFrame;
 use fab_base::{FcId, NoMemory, PortNo, Wwn};
 use fab_config::Config;
-use fab_policy::{Heard, Rule, Verdict, What, frame_rule, frames_are_carried};
+use fab_policy::{Heard, Replied, Rule, Settled, What, frame_rule, frames_are_carried};
 use fab_replies::Asker;
 use fab_roster::{LoginList, Request, Roster};
 use fcoe_codec::{FcoeFault, FcoeFrame};
@@ -28,14 +28,12 @@ use zone_rules::Zones;
 /// What the tables say of a frame, with what a step needs to carry it out.
 #[derive(Debug, Drop)]
 pub enum Judged {
-    /// This verdict, which sends no reply, or one that needs nothing but the frame.
-    Must(Verdict),
+    /// This verdict, which needs nothing but the frame.
+    Must(Settled),
     /// This verdict, which is replied to the sender of the frame.
-    Replied { verdict: Verdict, to: Asker },
+    Replied { verdict: Replied, to: Asker },
     /// A login to which any free address may be granted.
     MayGrant(Candidate),
-    /// A login to the name server, with this receive size: `ns-login`.
-    ServerLogin { to: Asker, size: u16 },
     /// A registration that isn't refused: `registered`. The request is read again from the frame.
     Registers { to: Asker },
     /// A query that isn't refused, with its answer, and the receive size at which it is cut:
@@ -76,7 +74,7 @@ pub fn judge(
         Grounds config.now roster.now.tables port heard.now.caught.now j) }
 {
     if let Some(cause) = frame_rule(config, heard) {
-        return Ok(Judged::Must(Verdict::Dropped(cause)));
+        return Ok(Judged::Must(Settled::Dropped(cause)));
     }
     // Law: what a decoded frame says is what a journal reads from its bytes.
     frames_are_carried();
@@ -116,7 +114,7 @@ fn judge_body(
 
 // A body is dropped for its fault.
 fn dropped_for(fault: FcoeFault) -> Judged
-    ensures { result ≡ Judged.Must (Verdict.Dropped (rule_of fault)) }
+    ensures { result ≡ Judged.Must (Settled.Dropped (rule_of fault)) }
 {
     dropped(match fault {
         FcoeFault::Length => Rule::FcoeLength,

@@ -15,6 +15,7 @@ ghost use Rattle.fab_policy.specs.Rules as rules;
 ghost use Rattle.fab_policy.specs.State.{port_at};
 ghost use Rattle.fab_policy.specs.Verdicts as verdicts;
 ghost use Rattle.fab_policy.specs.Written.{HaveDifferentNames};
+ghost use Rattle.fab_policy.specs.declared.verdict.Verdict.TheVariants.{Logout};
 ghost use Rattle.fc_frames.specs.Frame.{Frame, view as fc_view};
 ghost use Rattle.fip_codec.specs.Message as fip;
 
@@ -30,7 +31,7 @@ use els_messages::reject::{
 use els_messages::{Els, FDISC, FLOGI, Feature, LOGO, LoginParms, read_els};
 use fab_base::{Enode, FcId, Mac, NoMemory, Wwn};
 use fab_config::Config;
-use fab_policy::{Rule, Verdict};
+use fab_policy::{Replied, Rule};
 use fab_replies::Asker;
 use fab_roster::{LoginList, Request, Roster};
 use fc_frames::{FABRIC_PORT, FcFrame, read_frame};
@@ -292,14 +293,14 @@ fn judge_logout(
               from.now.caught mac.now address name) (port_at to.s_id roster.now.tables.ports)),
           (3, 0),
         ) ∷ [])
-        (verdicts.Must (Verdict.Logout to.s_id)) }
+        (verdicts.Must (Logout to.s_id)) }
     ensures grounds { (x : Enode) (flogi : Bool) (f : Frame) → to ≡ asker_by x.mac f.head
         → Rests config.now roster.now.tables x flogi f result }
 {
     if !is_own_logout(config, roster, from, to.s_id, mac, address, name) {
         return rejected(to, LOGICAL_ERROR, NO_EXPLANATION);
     }
-    let verdict = Verdict::Logout(to.s_id);
+    let verdict = Replied::Logout(to.s_id);
     Judged::Replied { verdict, to }
 }
 

@@ -11,6 +11,7 @@ ghost use Rattle.fab_judge.specs.Told.{told_as, unless_refusal};
 ghost use Rattle.fab_policy.specs.Queries.{fault_refusal};
 ghost use Rattle.fab_policy.specs.State.{LivePort, port_at};
 ghost use Rattle.fab_policy.specs.Verdicts as verdicts;
+ghost use Rattle.fab_policy.specs.declared.verdict.Verdict.TheVariants.{Registered};
 ghost use Rattle.fab_roster.specs.Reaching.{zones_of};
 ghost use Rattle.fab_roster.specs.Roll.{login_of};
 ghost use Rattle.fc_frames.specs.Frame.{view as fc_view};
@@ -22,7 +23,7 @@ use ct_messages::reject::{
 use ct_messages::{CtAsk, CtFault, CtTell, a_query_is_no_reject, read_ask};
 use fab_base::NoMemory;
 use fab_config::Config;
-use fab_policy::Verdict;
+use fab_policy::Replied;
 use fab_replies::Asker;
 use fab_roster::{Login, RegFault, Roster};
 use fc_frames::FcFrame;
@@ -99,7 +100,7 @@ fn judge_registration(roster: &Roster, frame: &FcFrame<'_>, ask: &CtAsk<'_>, to:
     ensures { (c : Settings) → IsAskJudged c roster.now.tables (fc_view frame.now) to
         (λ p. unless_refusal
         (server.registration_refusal p.address p.values.node_name (view ask.now))
-        (verdicts.Must Verdict.Registered)) result }
+        (verdicts.Must Registered)) result }
 {
     match roster.refusal(frame.head.s_id, ask) {
         Some(
@@ -114,16 +115,16 @@ fn judge_registration(roster: &Roster, frame: &FcFrame<'_>, ask: &CtAsk<'_>, to:
 
 // A request is refused: reason and explanation.
 fn refused(to: Asker, reason: u8, explanation: u8) -> Judged
-    ensures { result ≡ Judged.Replied (Verdict.Refused reason explanation) to }
+    ensures { result ≡ Judged.Replied (Replied.Refused reason explanation) to }
 {
-    let verdict = Verdict::Refused(reason, explanation);
+    let verdict = Replied::Refused(reason, explanation);
     Judged::Replied { verdict, to }
 }
 
 // A request that can't be read is refused for its fault.
 fn refused_for(to: Asker, fault: CtFault) -> Judged
     ensures { let why = fault_refusal fault in
-        result ≡ Judged.Replied (Verdict.Refused why.0 why.1) to }
+        result ≡ Judged.Replied (Replied.Refused why.0 why.1) to }
 {
     match fault {
         CtFault::Short | CtFault::Size => refused(to, INVALID_SIZE, NO_EXPLANATION),

@@ -13,6 +13,7 @@ ghost use Rattle.fab_policy.specs.State.{LivePort, Tables, port_at};
 ghost use Rattle.fab_policy.specs.Verdicts as verdicts;
 ghost use Rattle.fab_policy.specs.Verdicts.{fcoe_judged, unless_refused};
 ghost use Rattle.fab_policy.specs.Heard.{plain};
+ghost use Rattle.fab_policy.specs.declared.verdict.Verdict.TheVariants.{NsLogin, Watching};
 ghost use Rattle.fab_roster.specs.Reaching.{zones_of};
 ghost use Rattle.fab_roster.specs.Roll.{login_of};
 ghost use Rattle.fc_frames.specs.Frame.{Frame, view as fc_view};
@@ -30,7 +31,7 @@ use els_messages::scr::{CLEAR, FABRIC_DETECTED, FULL, NX_PORT_DETECTED};
 use els_messages::{Els, LoginParms, read_els};
 use fab_base::{NoMemory, PortNo};
 use fab_config::Config;
-use fab_policy::{Rule, Verdict};
+use fab_policy::{Replied, Rule, Settled};
 use fab_replies::Asker;
 use fab_roster::{Login, Roster};
 use fc_frames::FcFrame;
@@ -71,7 +72,7 @@ pub(crate) fn judge_request(
         return Ok(dropped(Rule::ServiceFrame));
     }
     if is_els_reply(frame) {
-        return Ok(Judged::Must(Verdict::Noted));
+        return Ok(Judged::Must(Settled::Noted));
     }
     if is_els_request(frame) {
         return Ok(judge_service(login, frame, to));
@@ -118,7 +119,7 @@ fn to_name_server(login: &Login, els: &Els<'_>, to: Asker) -> Judged
     match els {
         Els::Plogi(parms) => judge_server_login(login, parms, to),
         Els::Logo { .. } => Judged::Replied {
-            verdict: Verdict::NsLogout,
+            verdict: Replied::NsLogout,
             to,
         },
         _ => rejected(to, COMMAND_NOT_SUPPORTED, REQUEST_NOT_SUPPORTED),
@@ -130,7 +131,7 @@ fn judge_server_login(login: &Login, parms: &LoginParms, to: Asker) -> Judged
     ensures judged { judgement_of result ≡ unless_refused
         ((not (spec.offers_class3 parms.now), (0x0b, 0))
         ∷ (not (parms.now.port_name == login.now.name) || nat_lt parms.now.size 256, (3, 0)) ∷ [])
-        (verdicts.Must Verdict.NsLogin) }
+        (verdicts.Must NsLogin) }
     ensures grounds { (c : Settings) (T : Tables) (x : Enode) (flogi : Bool) (f : Frame)
         → HasSource T f → to ≡ asker_by x.mac f.head → spec.parms_of f.payload ≡ parms.now
         → Rests c T x flogi f result }
@@ -141,10 +142,8 @@ fn judge_server_login(login: &Login, parms: &LoginParms, to: Asker) -> Judged
     if parms.port_name != login.name || parms.size < LEAST_SIZE {
         return rejected(to, LOGICAL_ERROR, NO_EXPLANATION);
     }
-    Judged::ServerLogin {
-        to,
-        size: parms.receive_size(),
-    }
+    let verdict = Replied::NsLogin(parms.receive_size());
+    Judged::Replied { verdict, to }
 }
 
 // The judgement of a link service to the fabric controller.
@@ -166,7 +165,7 @@ fn to_controller(els: &Els<'_>, to: Asker) -> Judged
 fn judge_watch(function: u8, to: Asker) -> Judged
     ensures judged { judgement_of result ≡ unless_refused
         ((not (verdicts.is_function function), (3, 0)) ∷ [])
-        (verdicts.Must (Verdict.Watching function)) }
+        (verdicts.Must (Watching function)) }
     ensures grounds { (c : Settings) (T : Tables) (x : Enode) (flogi : Bool) (f : Frame)
         → HasSource T f → to ≡ asker_by x.mac f.head → Rests c T x flogi f result }
 {
@@ -175,7 +174,7 @@ fn judge_watch(function: u8, to: Asker) -> Judged
         || function == FULL
         || function == CLEAR
     {
-        let verdict = Verdict::Watching(function);
+        let verdict = Replied::Watching(function);
         Judged::Replied { verdict, to }
     } else {
         rejected(to, LOGICAL_ERROR, NO_EXPLANATION)
