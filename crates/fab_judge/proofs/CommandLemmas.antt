@@ -1,26 +1,15 @@
 -- The judgement of a login by its link service, and what a FIP frame carries.
 use Rattle.std.proofs.Common.{◌≡◌, ℕ, Bool, true, false, List, Some, Result, Ok, Err, refl, ap}
 use Rattle.fab_base.specs.declared.values.Caught.{Caught}
-use Rattle.fab_config.specs.Settings.{Settings}
 use Rattle.fc_frames.specs.Frame as fc
 use Rattle.fc_frames.specs.declared.FcFault.{FcFault}
 use Rattle.fip_codec.specs.Message as fip
 use Rattle.fip_codec.specs.declared.message.LoginKind.{LoginKind}
 use Rattle.fip_codec.specs.declared.message.LoginKind.TheVariants.{Flogi, Fdisc, Logo}
 use Rattle.els_messages.specs.Els as els
-use Rattle.els_messages.specs.declared.LoginParms.{LoginParms}
 use Rattle.fab_policy.specs.Heard.{login_of, is_flogi, NO_FRAME}
 use Rattle.fab_policy.specs.Rules.{is_unreadable}
-use Rattle.fab_policy.specs.State.{Tables}
-use Rattle.fab_policy.specs.Verdicts.{login_judged, frame_judged}
 use Rattle.fab_judge.specs.Origin.{is_flogi_by}
-
-module _ (c : Settings) (T : Tables) (port : ℕ) (caught : Caught) (fp : Bool) (kind : LoginKind) (f : fc.Frame) (mac : List ℕ) (p : LoginParms) where
-  pub by_flogi : els.payload_of f.payload ≡ els.Flogi p → frame_judged c T port caught fp kind f mac ≡ login_judged c T port caught fp kind p
-  by_flogi e = rw (frame_judged, e) refl
-
-  pub by_fdisc : els.payload_of f.payload ≡ els.Fdisc p → frame_judged c T port caught fp kind f mac ≡ login_judged c T port caught fp kind p
-  by_fdisc e = rw (frame_judged, e) refl
 
 -- a login whose FC frame can't be read has no link service that can
 pub no_frame : (kind : LoginKind) (fp : Bool) (l mac : List ℕ) (fault : FcFault) → fc.decoded l ≡ Err fault → is_unreadable (fip.Login kind fp l mac) ≡ true

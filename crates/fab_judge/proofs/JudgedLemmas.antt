@@ -19,21 +19,13 @@ use Rattle.fab_judge.specs.Rows.{unless_dropped, body_judged, IsCarried}
 -- rows behind others count where none of those holds
 first : (rows more : List (Bool × Cause)) (cause : Cause) → first_row rows ≡ Some cause → first_row (rows ++ more) ≡ Some cause
 first [] more cause e = cc
-first (row ∷ rows) more cause e = by_test row.0 e (first rows more cause)
-  where
-    by_test : (b : Bool) → (elim b as (λ _. Option Cause) [ true ↦ Some row.1 | false ↦ first_row rows ]) ≡ Some cause → (first_row rows ≡ Some cause → first_row (rows ++ more) ≡ Some cause) →
-        (elim b as (λ _. Option Cause) [ true ↦ Some row.1 | false ↦ first_row (rows ++ more) ]) ≡ Some cause
-    by_test true e ih = e
-    by_test false e ih = ih e
+first ((true, _) ∷ rows) more cause e = e
+first ((false, _) ∷ rows) more cause e = first rows more cause e
 
 behind : (rows more : List (Bool × Cause)) → first_row rows ≡ None → first_row (rows ++ more) ≡ first_row more
 behind [] more e = refl
-behind (row ∷ rows) more e = by_test row.0 e (behind rows more)
-  where
-    by_test : (b : Bool) → (elim b as (λ _. Option Cause) [ true ↦ Some row.1 | false ↦ first_row rows ]) ≡ None → (first_row rows ≡ None → first_row (rows ++ more) ≡ first_row more) →
-        (elim b as (λ _. Option Cause) [ true ↦ Some row.1 | false ↦ first_row (rows ++ more) ]) ≡ first_row more
-    by_test true e ih = cc
-    by_test false e ih = ih e
+behind ((true, _) ∷ rows) more e = cc
+behind ((false, _) ∷ rows) more e = behind rows more e
 
 abbrev by_rule : Option Cause → Judgement → Judgement
 by_rule o j = elim o [ Some cause ↦ Must (Dropped cause) | None ↦ j ]

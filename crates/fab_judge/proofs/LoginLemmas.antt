@@ -5,8 +5,6 @@ use Rattle.std.proofs.lemmas.List.{length-map}
 use Rattle.std.specs.List.{list_any}
 use Rattle.fab_roster.specs.Roll.{Login, login_of}
 use Rattle.fab_policy.specs.State.{LivePort}
-use Rattle.fab_policy.specs.Verdicts.{Judgement, Must, unless_refused}
-use Rattle.fab_policy.specs.declared.verdict.Verdict.TheVariants.{Rejected}
 use Rattle.fab_policy.specs.Written.{IsNew, HaveDifferentNames}
 
 at_least_zero : (n : ℕ) → nat_le 0 n ≡ true
@@ -83,38 +81,9 @@ module _ (name : ℕ) (keeps : LivePort → Bool) where
       by_test false s e ih true k = ap (λ b. b || list_any (λ p. p.name == name) (filter keeps ports)) s ∙ ih e
       by_test false s e ih false k = ih e
 
--- ---- the rows of a login, by the answers of their tests
-
-abbrev pub login_by : (fp missing offers name full : Bool) → Judgement → Judgement
-login_by fp missing offers name full j =
-    unless_refused ((not fp, (0x0b, 0x2c)) ∷ (missing, (9, 0)) ∷ (not offers, (0x0b, 0)) ∷ (name, (3, 0)) ∷ (full, (9, 0x29)) ∷ []) j
-
-pub missing_row : (fp missing offers name full : Bool) (j : Judgement) → fp ≡ true → missing ≡ true → login_by fp missing offers name full j ≡ Must (Rejected 9 0)
-missing_row fp missing offers name full j e1 e2 = rw (e1, e2) refl
-
-pub class3_row : (fp missing offers name full : Bool) (j : Judgement) → fp ≡ true → missing ≡ false → offers ≡ false → login_by fp missing offers name full j ≡ Must (Rejected 0x0b 0)
-class3_row fp missing offers name full j e1 e2 e3 = rw (e1, e2, e3) refl
-
-pub name_row : (fp missing offers name full : Bool) (j : Judgement) → fp ≡ true → missing ≡ false → offers ≡ true → name ≡ true → login_by fp missing offers name full j ≡ Must (Rejected 3 0)
-name_row fp missing offers name full j e1 e2 e3 e4 = rw (e1, e2, e3, e4) refl
-
-pub full_row : (fp missing offers name full : Bool) (j : Judgement) → fp ≡ true → missing ≡ false → offers ≡ true → name ≡ false → full ≡ true →
-    login_by fp missing offers name full j ≡ Must (Rejected 9 0x29)
-full_row fp missing offers name full j e1 e2 e3 e4 e5 = rw (e1, e2, e3, e4, e5) refl
-
-pub no_row : (fp missing offers name full : Bool) (j : Judgement) → fp ≡ true → missing ≡ false → offers ≡ true → name ≡ false → full ≡ false → login_by fp missing offers name full j ≡ j
-no_row fp missing offers name full j e1 e2 e3 e4 e5 = rw (e1, e2, e3, e4, e5) refl
-
-pub or_false : (a b : Bool) → a || b ≡ false → (a ≡ false) × (b ≡ false)
-or_false true b e = cc
-or_false false b e = (refl, e)
-
--- whether there is no room or no address, by the room
+-- ---- whether there is no room or no address, by the room
 pub no_room : (limit left : ℕ) (free : Bool) → limit ≤ left → true ≡ nat_le limit left || not free
 no_room limit left free h = let is : true ≡ nat_le limit left = grind (arith, nat_tests) in ap (λ b. b || not free) is
 
 pub some_room : (limit left : ℕ) (free : Bool) → left < limit → not free ≡ nat_le limit left || not free
 some_room limit left free h = let is : false ≡ nat_le limit left = grind (arith, nat_tests) in ap (λ b. b || not free) is
-
-pub has_room : (limit left : ℕ) → nat_le limit left ≡ false → left < limit
-has_room limit left e = grind (arith, nat_tests)

@@ -85,7 +85,10 @@ pub fn judge(
             let judged = judge_fip(alloc, config, roster, &from, message)?;
             Ok(judged)
         }
-        What::Fcoe { eth, read } => judge_body(alloc, config, zones, roster, port, eth, read),
+        What::Fcoe { eth, read } => {
+            let judged = judge_body(alloc, config, zones, roster, port, eth, read)?;
+            Ok(judged)
+        }
     }
 }
 
@@ -107,7 +110,10 @@ fn judge_body(
         → Rests config.now roster.now.tables x flogi f j) }
 {
     match read {
-        Ok(body) => judge_fcoe(alloc, config, zones, roster, port, eth, body),
+        Ok(body) => {
+            let judged = judge_fcoe(alloc, config, zones, roster, port, eth, body)?;
+            Ok(judged)
+        }
         Err(fault) => Ok(dropped_for(*fault)),
     }
 }

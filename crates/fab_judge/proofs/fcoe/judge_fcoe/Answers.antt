@@ -1,26 +1,18 @@
-use Rattle.std.proofs.Common.{sym, ◌∙◌, drop, ap}
+use Rattle.std.proofs.Common.{sym, ◌∙◌, ap}
 use Rattle.eth_frames.specs.Ethernet.{view as eth_view}
-use Rattle.fcoe_codec.specs.Fcoe.{view as fcoe_view}
 use Rattle.fab_config.specs.Settings.{same_bytes}
-use Rattle.fab_policy.specs.Logins.{granted_mac}
-use Rattle.fab_policy.specs.Rules.{is_class3, fcoe_rows}
-use Rattle.fab_policy.specs.Verdicts.{fcoe_judged}
 use Rattle.fab_judge.specs.Judged.{asker_by}
-use Rattle.fab_judge.proofs.RowLemmas.{of_class3}
 use Rattle.fab_judge.proofs.fcoe.judge_fcoe.Goals as goal
 
 pub returns-clause-judged : goal.returns-clause-judged
 returns-clause-judged c =
-    let C = c.args.config.now in
-    let T = c.args.roster.now.tables in
     let f = eth_view c.args.eth.now in
-    let x = fcoe_view c.args.body.now in
-    let rows = fcoe_rows C T c.args.port f x in
     c.in_ok-judged.ensures.judged f
-    ∙ sym (of_class3 (is_class3 x) (same_bytes f.dst C.fcf_mac) (same_bytes f.src (granted_mac C x.frame.head.s_id)) (drop 3 rows) (fcoe_judged C T x.frame)
-    (sym c.is_class3.ensures ∙ c.if-not-is_class3.false)
-    (ap (λ s. same_bytes f.dst s.fcf_mac) (sym c.config.view_is) ∙ (sym c.is_same.ensures ∙ c.if-not-is_same.false))
-    (ap (same_bytes f.src) (sym c.granted_mac.ensures) ∙ (sym c.is_same-2.ensures ∙ c.if-not-is_same-2.false)))
+    ∙ sym (rw (
+      sym c.is_class3.ensures ∙ c.if-not-is_class3.false,
+      ap (λ s. same_bytes f.dst s.fcf_mac) (sym c.config.view_is) ∙ (sym c.is_same.ensures ∙ c.if-not-is_same.false),
+      ap (same_bytes f.src) (sym c.granted_mac.ensures) ∙ (sym c.is_same-2.ensures ∙ c.if-not-is_same-2.false),
+    ))
 
 pub returns-clause-grounds : goal.returns-clause-grounds
 returns-clause-grounds c = λ x flogi mac. c.in_ok-judged.ensures.grounds x flogi (c.asker-to.ensures ∙ ap (λ m. asker_by m c.args.body.now.frame.head) (sym mac))

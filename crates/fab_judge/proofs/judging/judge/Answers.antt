@@ -1,15 +1,11 @@
-use Rattle.std.proofs.Common.{◌≡◌, Bool, ap, sym, ◌∙◌}
+use Rattle.std.proofs.Common.{ap, sym, ◌∙◌}
 use Rattle.eth_frames.specs.Ethernet as eth
-use Rattle.fab_base.specs.declared.values.Enode.{Enode}
-use Rattle.fc_frames.specs.Frame.{Frame}
 use Rattle.fip_codec.specs.Message as fip
 use Rattle.fab_policy.specs.Heard.{decoded, carried, is_flogi, sender}
 use Rattle.fab_policy.specs.Rules.{frame_rule, fip_login_rows}
-use Rattle.fab_policy.specs.Verdicts.{judged, fip_judged}
+use Rattle.fab_policy.specs.Verdicts.{fip_judged}
 use Rattle.fab_policy.specs.View.{view, read_view}
-use Rattle.fab_judge.specs.Judged.{judgement_of, Rests, Grounds}
-use Rattle.fab_judge.specs.Rows.{unless_dropped, body_judged, IsCarried}
-use Rattle.fab_judge.proofs.RowLemmas.{if_ok}
+use Rattle.fab_judge.specs.Rows.{unless_dropped}
 use Rattle.fab_judge.proofs.JudgedLemmas.{judged_by_rule, judged_fip, judged_fcoe, carried_by}
 use Rattle.fab_judge.proofs.judging.judge.Goals as goal
 
@@ -32,26 +28,21 @@ returns-in_ok-judged-in-Fip-clause-judged c =
     ∙ ap (λ o. unless_dropped (fip_login_rows C T o.port o.caught m) (fip_judged C T o.port o.caught m)) c.of-from.ensures
     ∙ sym (judged_fip C T c.args.port c.args.heard.now.caught.now (eth.view c.in-Fip.eth) m is none)
 
-pub returns-in-Fcoe-clause-judged : goal.returns-in-Fcoe-clause-judged
-returns-in-Fcoe-clause-judged c =
+pub returns-in_ok-judged-in-Fcoe-clause-judged : goal.returns-in_ok-judged-in-Fcoe-clause-judged
+returns-in_ok-judged-in-Fcoe-clause-judged c =
     let C = c.args.config.now in
     let T = c.args.roster.now.tables in
-    let caught = c.args.heard.now.caught.now in
     let f = eth.view c.in-Fcoe.eth in
     let read = read_view c.in-Fcoe.read in
     let is = sym c.args.heard.now.decoded ∙ ap view c.in-Fcoe.is in
     let none = ap (frame_rule C) (sym is) ∙ (sym c.frame_rule.ensures ∙ c.in_default.is) in
-    if_ok (λ j. judgement_of j ≡ body_judged C T c.args.port f read) (λ j. judgement_of j ≡ judged C T c.args.port caught) c.judge_body.result
-    (λ j e. e ∙ sym (judged_fcoe C T c.args.port caught f read is none)) c.judge_body.ensures.judged
+    c.in_ok-judged-in-Fcoe.ensures.judged ∙ sym (judged_fcoe C T c.args.port c.args.heard.now.caught.now f read is none)
 
-pub returns-in-Fcoe-clause-grounds : goal.returns-in-Fcoe-clause-grounds
-returns-in-Fcoe-clause-grounds c =
-    let C = c.args.config.now in
-    let T = c.args.roster.now.tables in
+pub returns-in_ok-judged-in-Fcoe-clause-grounds : goal.returns-in_ok-judged-in-Fcoe-clause-grounds
+returns-in_ok-judged-in-Fcoe-clause-grounds c =
     let caught = c.args.heard.now.caught.now in
     let f = eth.view c.in-Fcoe.eth in
     let read = read_view c.in-Fcoe.read in
     let is = sym c.args.heard.now.decoded ∙ ap view c.in-Fcoe.is in
-    if_ok (λ j. (x : Enode) (flogi : Bool) (g : Frame) → x.mac ≡ f.src → IsCarried read g → Rests C T x flogi g j) (λ j. Grounds C T c.args.port caught j) c.judge_body.result
-    (λ j rests. rests (sender c.args.port caught) (is_flogi caught) (carried caught) (c.frames_are_carried.ensures.source.1 caught f read is) (carried_by c.frames_are_carried.ensures.body caught f read is))
-    c.judge_body.ensures.grounds
+    c.in_ok-judged-in-Fcoe.ensures.grounds (sender c.args.port caught) (is_flogi caught) (carried caught) (c.frames_are_carried.ensures.source.1 caught f read is)
+    (carried_by c.frames_are_carried.ensures.body caught f read is)

@@ -1,7 +1,7 @@
 use Rattle.std.proofs.Common.{◌≡◌, ap, ◌∙◌, sym, not, ◌&&◌, ◌==◌, find, Some, None, option_map}
 use Rattle.fab_base.specs.Fabric.{same_enode}
 use Rattle.fab_roster.specs.Roll.{login_of}
-use Rattle.fab_judge.proofs.RowLemmas.{found, not_found}
+use Rattle.fab_judge.proofs.RowLemmas.{by_found, not_found}
 use Rattle.fab_judge.proofs.LoginLemmas.{kept, none_kept}
 use Rattle.fab_judge.proofs.logins.is_taken.Goals as goal
 
@@ -11,10 +11,10 @@ returns-in-Some c = λ c'.
     let ports = c.args.roster.now.tables.ports in
     let inside : Some c.in-Some.login.now ≡ option_map login_of (find (λ p. p.name == c.request.inside.name) ports) = c.in-Some.ensures in
     let named = inside ∙ ap (λ r. option_map login_of (find (λ p. p.name == r.name) ports)) c.request.view_is in
-    let q = found (find (λ p. p.name == r.name) ports) c.in-Some.login.now (sym named) in
+    by_found (find (λ p. p.name == r.name) ports) c.in-Some.login.now (sym named) λ q at is.
     c.is_left.ensures
-    ∙ ap (λ l. not (r.flogi && same_enode l.enode r.enode)) (sym q.2)
-    ∙ sym (kept r.name (λ p. not (r.flogi && same_enode p.enode r.enode)) ports q.0 c.requires q.1)
+    ∙ ap (λ l. not (r.flogi && same_enode l.enode r.enode)) (sym is)
+    ∙ sym (kept r.name (λ p. not (r.flogi && same_enode p.enode r.enode)) ports q c.requires at)
 
 pub returns-in-None : goal.returns-in-None
 returns-in-None c = λ c'.

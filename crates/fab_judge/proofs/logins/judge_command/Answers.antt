@@ -2,9 +2,9 @@ use Rattle.std.proofs.Common.{◌≡◌, ap, sym, subst, inl, inr, ◌∙◌}
 use Rattle.els_messages.specs.Els as els
 use Rattle.els_messages.specs.declared.Els.TheVariants as variants
 use Rattle.fab_policy.specs.Heard.{sender}
+use Rattle.fab_policy.specs.Verdicts.{frame_judged}
 use Rattle.fc_frames.specs.Frame.{view as fc_view}
 use Rattle.fab_judge.specs.Origin.{is_flogi_by}
-use Rattle.fab_judge.proofs.CommandLemmas.{by_flogi, by_fdisc}
 use Rattle.fab_judge.proofs.logins.judge_command.Goals as goal
 
 pub returns-in-Logo-clause-grounds : goal.returns-in-Logo-clause-grounds
@@ -13,16 +13,8 @@ returns-in-Logo-clause-grounds c =
 
 pub returns-in_ok-judged-in-Flogi-clause-judged : goal.returns-in_ok-judged-in-Flogi-clause-judged
 returns-in_ok-judged-in-Flogi-clause-judged c =
-    let C = c.args.config.now in
-    let T = c.args.roster.now.tables in
-    let port = c.args.from.now.port in
-    let caught = c.args.from.now.caught in
-    let f = fc_view c.args.frame.now in
     c.in_ok-judged-in-Flogi.ensures.judged
-    ∙ elim c.in-Flogi.is [
-      | inl e ↦ sym (by_flogi C T port caught c.args.asked.now.fp c.args.asked.now.kind f c.args.asked.now.mac c.in-Flogi.parms (c.requires.value ∙ ap els.view e))
-      | inr e ↦ sym (by_fdisc C T port caught c.args.asked.now.fp c.args.asked.now.kind f c.args.asked.now.mac c.in-Flogi.parms (c.requires.value ∙ ap els.view e))
-    ]
+    ∙ elim c.in-Flogi.is [ inl e ↦ sym (rw (frame_judged, c.requires.value ∙ ap els.view e)) | inr e ↦ sym (rw (frame_judged, c.requires.value ∙ ap els.view e)) ]
 
 pub returns-in_ok-judged-in-Flogi-clause-grounds : goal.returns-in_ok-judged-in-Flogi-clause-grounds
 returns-in_ok-judged-in-Flogi-clause-grounds c =
