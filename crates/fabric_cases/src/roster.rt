@@ -251,10 +251,9 @@ fn said_judged(
     out: &mut Vec<u8>,
 ) -> Result<(), CaseFault> {
     let verdict = match judged {
-        Judged::Must(verdict) => *verdict,
-        Judged::Replied { verdict, .. } => *verdict,
+        Judged::Must(verdict) => verdict.verdict(),
+        Judged::Replied { verdict, .. } => verdict.verdict(),
         Judged::MayGrant(login) => Verdict::Granted(login.free),
-        Judged::ServerLogin { .. } => Verdict::NsLogin,
         Judged::Registers { .. } => Verdict::Registered,
         Judged::Answers { .. } => Verdict::Answered,
     };
