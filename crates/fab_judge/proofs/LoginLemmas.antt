@@ -48,10 +48,3 @@ module _ (name : ℕ) (keeps : LivePort → Bool) where
     ]
     | inr s ↦ elim (cases_Bool (keeps p)) [ inl k ↦ rw (k, s) (kept ports h.1) | inr k ↦ rw (k, s) (kept ports h.1) ]
   ]
-
--- whether there is no room or no address, by the room
-pub no_room : (limit left : ℕ) (free : Bool) → limit ≤ left → true ≡ nat_le limit left || not free
-no_room limit left free h = let is : true ≡ nat_le limit left = grind (arith, nat_tests) in ap (λ b. b || not free) is
-
-pub some_room : (limit left : ℕ) (free : Bool) → left < limit → not free ≡ nat_le limit left || not free
-some_room limit left free h = let is : false ≡ nat_le limit left = grind (arith, nat_tests) in ap (λ b. b || not free) is

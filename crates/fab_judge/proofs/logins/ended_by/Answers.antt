@@ -9,6 +9,4 @@ use Rattle.fab_judge.proofs.logins.ended_by.Goals as goal
 pub returns-then-not-request : goal.returns-then-not-request
 returns-then-not-request c =
     let T = c.args.roster.now.tables in
-    let own = λ (p : LivePort). same_enode p.enode c.request.inside.enode in
-    c.empty.ensures
-    ∙ sym (ap (λ r. ended_by r T) (sym c.request.view_is) ∙ (ap (λ b. map login_of (filter (λ p. b && own p) T.ports)) c.if-not-request.true ∙ ap (map login_of) (none_pass own T.ports)))
+    c.empty.ensures ∙ sym (rw (← c.request.view_is, c.if-not-request.true) (ap (map login_of) (none_pass (λ p. same_enode p.enode c.request.inside.enode) T.ports)))

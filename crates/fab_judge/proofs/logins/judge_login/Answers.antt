@@ -10,12 +10,4 @@ use Rattle.fab_judge.proofs.CommandLemmas.{no_frame}
 use Rattle.fab_judge.proofs.logins.judge_login.Goals as goal
 
 pub returns-in_default-clause-judged : goal.returns-in_default-clause-judged
-returns-in_default-clause-judged c =
-    let l = c.args.frame.now in
-    let kind = c.args.asked.now.kind in
-    let fp = c.args.asked.now.fp in
-    let mac = c.args.asked.now.mac in
-    ap judgement_of c.dropped.ensures
-    ∙ ap (λ b. unless_dropped ((b, plain rule.ElsShort) ∷ (is_wrong_login (fip.Login kind fp l mac), plain rule.ElsKind) ∷ [])
-    (frame_judged c.args.config.now c.args.roster.now.tables c.args.from.now.port c.args.from.now.caught fp kind (fc_of l) mac))
-    (sym (no_frame kind fp l mac c.in_default.field-0 c.in_default.ensures.exact))
+returns-in_default-clause-judged c = rw (c.dropped.ensures, no_frame c.args.asked.now.kind c.args.asked.now.fp c.args.frame.now c.args.asked.now.mac c.in_default.field-0 c.in_default.ensures.exact)
