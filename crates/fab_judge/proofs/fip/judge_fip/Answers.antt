@@ -1,10 +1,8 @@
-use Rattle.std.proofs.Common.{ap, sym, subst, ◌∙◌}
+use Rattle.std.proofs.Common.{ap, sym, ◌∙◌}
 use Rattle.fip_codec.specs.Message as fip
-use Rattle.fab_policy.specs.Heard.{Fip, carried, sender}
+use Rattle.fab_policy.specs.Heard.{Fip}
 use Rattle.fab_policy.specs.Rules.{fip_login_rows}
 use Rattle.fab_policy.specs.Verdicts.{fip_judged}
-use Rattle.fab_judge.specs.Judged.{Rests}
-use Rattle.fab_judge.specs.Origin.{is_flogi_by}
 use Rattle.fab_judge.specs.Rows.{unless_dropped}
 use Rattle.fab_judge.proofs.CommandLemmas.{flogi_is}
 use Rattle.fab_judge.proofs.fip.judge_fip.Goals as goal
@@ -20,12 +18,8 @@ returns-in_ok-judged-in-Login-clause-judged c =
 
 pub returns-in_ok-judged-in-Login-clause-grounds : goal.returns-in_ok-judged-in-Login-clause-grounds
 returns-in_ok-judged-in-Login-clause-grounds c =
-    let C = c.args.config.now in
-    let T = c.args.roster.now.tables in
-    let port = c.args.from.now.port in
     let caught = c.args.from.now.caught in
     let l = c.in-Login.frame.now in
     let message = c.requires.1 ∙ ap (λ m. Fip c.requires.0 (fip.view m)) c.in-Login.is in
     let login = c.frames_are_carried.ensures.login caught c.requires.0 c.in-Login.kind c.in-Login.fp l c.in-Login.mac message in
-    subst (λ b. Rests C T (sender port caught) b (carried caught) c.in_ok-judged-in-Login.judged) (sym (flogi_is caught c.in-Login.kind l login.0))
-    (subst (λ f. Rests C T (sender port caught) (is_flogi_by c.in-Login.kind caught) f c.in_ok-judged-in-Login.judged) (sym login.1) c.in_ok-judged-in-Login.ensures.grounds)
+    rw (flogi_is caught c.in-Login.kind l login.0, login.1) c.in_ok-judged-in-Login.ensures.grounds

@@ -36,7 +36,7 @@ returns-in_ok-judged-in-Fcoe-clause-judged c =
     let read = read_view c.in-Fcoe.read in
     let is = sym c.args.heard.now.decoded ∙ ap view c.in-Fcoe.is in
     let none = ap (frame_rule C) (sym is) ∙ (sym c.frame_rule.ensures ∙ c.in_default.is) in
-    c.in_ok-judged-in-Fcoe.ensures.judged ∙ sym (judged_fcoe C T c.args.port c.args.heard.now.caught.now f read is none)
+    rw (judged_fcoe C T c.args.port c.args.heard.now.caught.now f read is none) c.in_ok-judged-in-Fcoe.ensures.judged
 
 pub returns-in_ok-judged-in-Fcoe-clause-grounds : goal.returns-in_ok-judged-in-Fcoe-clause-grounds
 returns-in_ok-judged-in-Fcoe-clause-grounds c =

@@ -1,8 +1,6 @@
-use Rattle.std.proofs.Common.{◌&&◌, map, filter, ap, sym, ◌∙◌}
+use Rattle.std.proofs.Common.{map, ap, sym, ◌∙◌}
 use Rattle.fab_base.specs.Fabric.{same_enode}
-use Rattle.fab_policy.specs.State.{LivePort}
 use Rattle.fab_roster.specs.Roll.{login_of}
-use Rattle.fab_judge.specs.Judged.{ended_by}
 use Rattle.fab_judge.proofs.LoginLemmas.{none_pass}
 use Rattle.fab_judge.proofs.logins.ended_by.Goals as goal
 

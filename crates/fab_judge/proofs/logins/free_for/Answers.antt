@@ -1,7 +1,6 @@
-use Rattle.std.proofs.Common.{◌≤◌, ◌<◌, not, length, ap, ◌∙◌, arith}
+use Rattle.std.proofs.Common.{◌≤◌, ◌<◌, not, length, ap, arith}
 use Rattle.std.proofs.lemmas.Bool.{le-leb, lt-leb}
 use Rattle.fab_config.specs.Settings.{Settings}
-use Rattle.fab_policy.specs.Free.{has_free}
 use Rattle.fab_policy.specs.Verdicts.{staying}
 use Rattle.fab_judge.proofs.logins.free_for.Goals as goal
 

@@ -1,6 +1,4 @@
-use Rattle.std.proofs.Common.{◌≡◌, ◌==◌, ◌||◌, false, ap, sym, ◌∙◌}
-use Rattle.std.specs.List.{list_any}
-use Rattle.fab_policy.specs.Verdicts.{staying}
+use Rattle.std.proofs.Common.{◌==◌, ap, sym, ◌∙◌}
 use Rattle.fab_judge.proofs.logins.is_name_refused.Goals as goal
 
 pub returns-else-eq : goal.returns-else-eq

@@ -1,6 +1,5 @@
-use Rattle.std.proofs.Common.{◌≡◌, ap, sym, subst, inl, inr, ◌∙◌}
+use Rattle.std.proofs.Common.{◌≡◌, ap, sym, inl, inr, ◌∙◌}
 use Rattle.els_messages.specs.Els as els
-use Rattle.els_messages.specs.declared.Els.TheVariants as variants
 use Rattle.fab_policy.specs.Heard.{sender}
 use Rattle.fab_policy.specs.Verdicts.{frame_judged}
 use Rattle.fc_frames.specs.Frame.{view as fc_view}
@@ -19,8 +18,5 @@ returns-in_ok-judged-in-Flogi-clause-judged c =
 pub returns-in_ok-judged-in-Flogi-clause-grounds : goal.returns-in_ok-judged-in-Flogi-clause-grounds
 returns-in_ok-judged-in-Flogi-clause-grounds c =
     let f = fc_view c.args.frame.now in
-    let parms : els.parms_of f.payload ≡ c.in-Flogi.parms = elim c.in-Flogi.is [
-      | inl e ↦ (let read : els.IsEls (els.view (variants.Flogi c.in-Flogi.parms)) f.payload = subst (λ v. els.IsEls (els.view v) f.payload) e c.requires.grammar in read.1)
-      | inr e ↦ (let read : els.IsEls (els.view (variants.Fdisc c.in-Flogi.parms)) f.payload = subst (λ v. els.IsEls (els.view v) f.payload) e c.requires.grammar in read.1)
-    ] in
+    let parms : els.parms_of f.payload ≡ c.in-Flogi.parms = elim c.in-Flogi.is [ inl e ↦ (rw e at c.requires.grammar).1 | inr e ↦ (rw e at c.requires.grammar).1 ] in
     c.in_ok-judged-in-Flogi.ensures.grounds f parms c.asker-to.ensures

@@ -1,11 +1,3 @@
-use Rattle.std.proofs.Common.{[], ◌∷◌, ap, sym, ◌∙◌}
-use Rattle.fip_codec.specs.Message as fip
-use Rattle.fab_policy.specs.Heard.{fc_of, plain}
-use Rattle.fab_policy.specs.Rules.{is_wrong_login}
-use Rattle.fab_policy.specs.Verdicts.{frame_judged}
-use Rattle.fab_policy.specs.declared.verdict.Rule.TheVariants as rule
-use Rattle.fab_judge.specs.Judged.{judgement_of}
-use Rattle.fab_judge.specs.Rows.{unless_dropped}
 use Rattle.fab_judge.proofs.CommandLemmas.{no_frame}
 use Rattle.fab_judge.proofs.logins.judge_login.Goals as goal
 
