@@ -2,29 +2,41 @@
 use Rattle.std.proofs.Common.{◌≡◌, ℕ, ◌==◌, Bool, true, false, cond, List, [], ◌∷◌, Option, Some, None, option_map, refl, sym, ap, ◌∙◌, subst, IsSome}
 use Rattle.std.specs.List.{All}
 use Rattle.std.proofs.lemmas.List.Elements.{All-head, All-tail}
-use Rattle.fab_base.specs.declared.values.Caught.{Caught}
 use Rattle.fab_config.specs.Settings.{Settings}
 use Rattle.fab_policy.specs.Changes.{CanStay, FrameSteps, LogoutSteps, leaves_logins, stays_as}
-use Rattle.fab_policy.specs.State.{LivePort, now_of, port_at}
+use Rattle.fab_policy.specs.Heard.{s_id}
+use Rattle.fab_policy.specs.State.{LivePort, Tables, now_of, port_at}
 use Rattle.fab_policy.specs.declared.verdict.Verdict.{Verdict}
-use Rattle.fab_policy.specs.declared.verdict.Verdict.TheVariants.{Logout}
+use Rattle.fab_policy.specs.declared.verdict.Verdict.TheVariants.{Granted, Logout, Registered}
 use Rattle.fab_roster.specs.Changes.{ChangesPorts, Ends, IsSoundRoll, KeepsBounds}
 use Rattle.fab_roster.specs.Roll.{Roll}
+use Rattle.fab_sending.specs.Sends.{CanFollow}
+use Rattle.forward_core.specs.Arrived.{caught_of}
 use Rattle.forward_core.specs.Carrying.{CarriesOut, IsRollOf}
+use Rattle.forward_core.specs.declared.arrived.Arrived.{Arrived}
 use Rattle.forward_core.proofs.TickLemmas.{in_pool}
 
 -- a roll with the same bounds as one that was made for a configuration
 pub same_roll : (c : Settings) (old new : Roll) → KeepsBounds old new → IsRollOf c old → IsRollOf c new
 same_roll c old new bounds of = record { lowest = bounds.lowest ∙ of.lowest; count = bounds.count ∙ of.count }
 
+-- what is told can follow where nobody logs in
+stay_follows : (c : Settings) (T : Tables) (frame : Arrived) (v : Verdict) → leaves_logins v ≡ true → ((a : ℕ) (p : LivePort) → port_at a T.ports ≡ Some p → CanStay (caught_of frame) v p) →
+    CanFollow c T frame.port frame.index (caught_of frame) v
+stay_follows c T frame (Granted a) leaves can = cc
+stay_follows c T frame Registered leaves can = can (s_id (caught_of frame))
+stay_follows c T frame _ leaves can = tt
+
 -- each N_Port stays as the verdict says
-pub stayed : FrameSteps → (port : ℕ) (caught : Caught) (v : Verdict) (old new : Roll) → leaves_logins v ≡ true → ((a : ℕ) (p : LivePort) → port_at a old.tables.ports ≡ Some p → CanStay caught v p) →
-    ChangesPorts (stays_as (now_of old.tables) port caught v) old new → IsSoundRoll new → CarriesOut port caught v old new
-stayed steps port caught v old new leaves can change sound = record {
+pub stayed : FrameSteps → (frame : Arrived) (v : Verdict) (old new : Roll) → leaves_logins v ≡ true → ((a : ℕ) (p : LivePort) → port_at a old.tables.ports ≡ Some p → CanStay (caught_of frame) v p) →
+    ChangesPorts (stays_as (now_of old.tables) frame.port (caught_of frame) v) old new → IsSoundRoll new → CarriesOut frame v old new
+stayed steps frame v old new leaves can change sound = record {
   bounds = change.bounds;
   sound = sound;
-  tables = λ c index of. let is = same_roll c old new change.bounds of in
-      steps c port index caught v old.tables new.tables leaves can change.clock (in_pool c new is.lowest is.count sound) change.ports change.past;
+  clock = change.clock;
+  tables = λ c of. let is = same_roll c old new change.bounds of in
+      steps c frame.port frame.index (caught_of frame) v old.tables new.tables leaves can change.clock (in_pool c new is.lowest is.count sound) change.ports change.past;
+  follows = λ c of. stay_follows c old.tables frame v leaves can;
 }
 
 same_bounds : (r : Roll) → KeepsBounds r r
@@ -35,30 +47,32 @@ unchanged f same None = refl
 unchanged f same (Some p) = ap Some (sym (same p))
 
 -- nothing changes
-pub left : FrameSteps → (port : ℕ) (caught : Caught) (v : Verdict) (r : Roll) → leaves_logins v ≡ true → ((p : LivePort) → CanStay caught v p) → ((at : ℕ) (p : LivePort) → stays_as at port caught v p ≡ p) →
-    IsSoundRoll r → CarriesOut port caught v r r
-left steps port caught v r leaves can same sound =
-    stayed steps port caught v r r leaves (λ a p e. can p) (record {
+pub left : FrameSteps → (frame : Arrived) (v : Verdict) (r : Roll) → leaves_logins v ≡ true → ((p : LivePort) → CanStay (caught_of frame) v p) →
+    ((at : ℕ) (p : LivePort) → stays_as at frame.port (caught_of frame) v p ≡ p) → IsSoundRoll r → CarriesOut frame v r r
+left steps frame v r leaves can same sound =
+    stayed steps frame v r r leaves (λ a p e. can p) (record {
       bounds = same_bounds r;
       clock = refl;
       past = refl;
-      ports = λ a. unchanged (stays_as (now_of r.tables) port caught v) (same (now_of r.tables)) (port_at a r.tables.ports);
+      ports = λ a. unchanged (stays_as (now_of r.tables) frame.port (caught_of frame) v) (same (now_of r.tables)) (port_at a r.tables.ports);
     }) sound
 
 -- a live login ended
-pub ended : LogoutSteps → (port a : ℕ) (caught : Caught) (old new : Roll) → IsSome (port_at a old.tables.ports) → Ends a old new → IsSoundRoll new → CarriesOut port caught (Logout a) old new
-ended steps port a caught old new live ends sound = record {
+pub ended : LogoutSteps → (frame : Arrived) (a : ℕ) (old new : Roll) → IsSome (port_at a old.tables.ports) → Ends a old new → IsSoundRoll new → CarriesOut frame (Logout a) old new
+ended steps frame a old new live ends sound = record {
   bounds = ends.bounds;
   sound = sound;
-  tables = λ c index of. let is = same_roll c old new ends.bounds of in
-      steps c port index a caught old.tables new.tables live ends.clock (in_pool c new is.lowest is.count sound) ends.ports ends.past;
+  clock = ends.clock;
+  tables = λ c of. let is = same_roll c old new ends.bounds of in
+      steps c frame.port frame.index a (caught_of frame) old.tables new.tables live ends.clock (in_pool c new is.lowest is.count sound) ends.ports ends.past;
+  follows = λ c of. tt;
 }
 
 -- a verdict that is this one, by what it does to each N_Port
-pub changed : FrameSteps → (port : ℕ) (caught : Caught) (v w : Verdict) (old new : Roll) → v ≡ w → leaves_logins w ≡ true → ((a : ℕ) (p : LivePort) → port_at a old.tables.ports ≡ Some p → CanStay caught w p) →
-    (f : LivePort → LivePort) → f ≡ stays_as (now_of old.tables) port caught w → ChangesPorts f old new → IsSoundRoll new → CarriesOut port caught v old new
-changed steps port caught v w old new same leaves can f is change sound =
-    subst (λ u. CarriesOut port caught u old new) (sym same) (stayed steps port caught w old new leaves can (subst (λ g. ChangesPorts g old new) is change) sound)
+pub changed : FrameSteps → (frame : Arrived) (v w : Verdict) (old new : Roll) → v ≡ w → leaves_logins w ≡ true → ((a : ℕ) (p : LivePort) → port_at a old.tables.ports ≡ Some p → CanStay (caught_of frame) w p) →
+    (f : LivePort → LivePort) → f ≡ stays_as (now_of old.tables) frame.port (caught_of frame) w → ChangesPorts f old new → IsSoundRoll new → CarriesOut frame v old new
+changed steps frame v w old new same leaves can f is change sound =
+    subst (λ u. CarriesOut frame u old new) (sym same) (stayed steps frame w old new leaves can (subst (λ g. ChangesPorts g old new) is change) sound)
 
 none_some : (p : LivePort) → None ≡ Some p → ⊥
 none_some p e = cc

@@ -6,31 +6,30 @@ use Rattle.std.specs.Prelude.{is_none}
 use Rattle.std.proofs.lemmas.Bool.Decides.{nat_tests}
 use Rattle.fab_base.specs.Fabric.{Past, past_at, may_have, same_enode, QUARANTINE}
 use Rattle.fab_base.specs.Keyed.{AscendFrom}
-use Rattle.fab_base.specs.declared.values.Caught.{Caught}
 use Rattle.fab_base.specs.declared.values.Enode.{Enode}
+use Rattle.fab_config.specs.Settings.{Settings}
 use Rattle.fab_base.proofs.KeyedLemmas.{AscendFrom-filter, AscendFrom-weaker, list_any-keys-filter}
 use Rattle.zone_rules.specs.Joined.{contains}
 use Rattle.fab_policy.specs.Changes.{GrantSteps, all_ended, granted_to, heard_node, left_by}
 use Rattle.fab_policy.specs.Free.{Request, is_free, is_open}
-use Rattle.fab_policy.specs.Heard.{is_flogi, asked}
+use Rattle.fab_policy.specs.Heard.{is_flogi}
 use Rattle.fab_policy.specs.Logins.{NPort, n_port}
 use Rattle.fab_policy.specs.State.{LivePort, Tables, addresses, now_of, port_at}
-use Rattle.fab_policy.specs.Steps.{fresh}
-use Rattle.fab_policy.specs.declared.event.Event.TheVariants.{Frame}
+use Rattle.fab_policy.specs.Steps.{after, fresh}
 use Rattle.fab_policy.specs.declared.verdict.Verdict.TheVariants.{Granted}
 use Rattle.fab_roster.specs.Changes.{EndsAll, Grants, IsSoundRoll, KeepsBounds}
 use Rattle.fab_roster.specs.Roll.{Roll}
 use Rattle.fab_judge.specs.Judged.{ended_by}
 use Rattle.fab_roster.specs.Roll.{Login, addresses_of}
 use Rattle.fab_sending.proofs.Counting.{addresses_same}
-use Rattle.forward_core.specs.Carrying.{Asks, CarriesOut, is_ended, left_to}
+use Rattle.fab_sending.specs.Sends.{request_from}
+use Rattle.forward_core.specs.Arrived.{caught_of, entry_of}
+use Rattle.forward_core.specs.Carrying.{Asks, CarriesOut, IsRollOf, is_ended, left_to}
+use Rattle.forward_core.specs.declared.arrived.Arrived.{Arrived}
 use Rattle.forward_core.proofs.CarryLemmas.{same_roll}
 use Rattle.forward_core.proofs.TickLemmas.{in_pool, left_over, live_listed}
 
 -- ---- tests
-
-false_true : false ≡ true → ⊥
-false_true e = cc
 
 true_false : true ≡ false → ⊥
 true_false e = cc
@@ -42,8 +41,8 @@ and_two false b d e = e
 
 and_last : (a b d : Bool) → (a && b && d) ≡ true → d ≡ true
 and_last true true d e = e
-and_last true false d e = absurd (false_true e)
-and_last false b d e = absurd (false_true e)
+and_last true false d e = cc
+and_last false b d e = cc
 
 and_turned : (b d : Bool) → (b && d) ≡ (d && b)
 and_turned true true = refl
@@ -220,12 +219,11 @@ abbrev PastIs : ℕ → ℕ → Bool → NPort → Tables → Tables → Type 0
 PastIs at a flogi n T U = U.past ≡ map (past_by at a flogi n T) T.past
 
 -- the N_Port of a login that is this request
-asked_by : (port index a : ℕ) (caught : Caught) (r : Request) (node : ℕ) → Asks port caught r node → record { name = r.name; node = node; enode = r.enode } ≡ n_port (Frame port index caught (Granted a))
-asked_by port index a caught r node asks =
-    ap (λ n. n_port_of n node r.enode) asks.name ∙ (ap (λ n. n_port_of (asked caught).port_name n r.enode) asks.node_is ∙ ap (λ x. n_port_of (asked caught).port_name (asked caught).node_name x) asks.enode)
+asked_by : (frame : Arrived) (a : ℕ) (r : Request) (node : ℕ) → Asks frame r node → record { name = r.name; node = node; enode = r.enode } ≡ n_port (entry_of frame (Granted a))
+asked_by frame a r node asks = ap (λ (q : Request). n_port_of q node) asks.request ∙ ap (n_port_of (request_from frame.port (caught_of frame))) asks.node_is
   where
-    n_port_of : ℕ → ℕ → Enode → NPort
-    n_port_of name node enode = record { name = name; node = node; enode = enode }
+    n_port_of : Request → ℕ → NPort
+    n_port_of q node = record { name = q.name; node = node; enode = q.enode }
 
 module _ (r : Request) (ids : List ℕ) (old mid new : Roll) (sound : IsSoundRoll old) (are : ids ≡ addresses (filter (is_ended r) old.tables.ports)) (ends : EndsAll ids old mid) (a node : ℕ)
     (grants : Grants a (record { name = r.name; node = node; enode = r.enode }) mid new) where
@@ -260,17 +258,14 @@ module _ (r : Request) (ids : List ℕ) (old mid new : Roll) (sound : IsSoundRol
       same p =
           ap (λ b. if b then record { address = p.address; name = p.name; ended = Some (now_of old.tables) } else p) (is_among r ids old sound are p.address ∙ is_gone (port_at p.address old.tables.ports))
 
-  -- the roll after the grant has the tables after its frame
-  pub granted : GrantSteps → IsSoundRoll new → (port : ℕ) (caught : Caught) → Asks port caught r node → CarriesOut port caught (Granted a) old new
-  granted steps sound_new port caught asks = record {
+  -- the roll after the grant has the tables after its frame, in which the address is live
+  pub granted : GrantSteps → IsSoundRoll new → IsTrue (is_free old.tables r a) → (frame : Arrived) → Asks frame r node → CarriesOut frame (Granted a) old new
+  granted steps sound_new free frame asks = record {
     bounds = bounds;
     sound = sound_new;
-    tables = λ c index of. let is = same_roll c old new bounds of in let e = Frame port index caught (Granted a) in
-        steps c port index a caught old.tables new.tables (grants.clock ∙ ends.clock) (in_pool c new is.lowest is.count sound_new)
-        (subst (λ n. PortsAre (now_of old.tables) a (is_flogi caught) n old.tables new.tables) (asked_by port index a caught r node asks)
-        (subst (λ f. PortsAre (now_of old.tables) a f granted_port old.tables new.tables) asks.flogi ports_are))
-        (subst (λ n. PastIs (now_of old.tables) a (is_flogi caught) n old.tables new.tables) (asked_by port index a caught r node asks)
-        (subst (λ f. PastIs (now_of old.tables) a f granted_port old.tables new.tables) asks.flogi past_is));
+    clock = grants.clock ∙ ends.clock;
+    tables = tables;
+    follows = λ c of. (subst (λ q. IsTrue (is_free old.tables q a)) asks.request free, subst (λ (U : Tables). IsSome (port_at a U.ports)) (tables c of) (is_live _ _ _ _ (grants.ports a) (same a)));
   }
     where
       bounds : KeepsBounds old new
@@ -280,3 +275,18 @@ module _ (r : Request) (ids : List ℕ) (old mid new : Roll) (sound : IsSoundRol
         limit = grants.bounds.limit ∙ ends.bounds.limit;
         period = grants.bounds.period ∙ ends.bounds.period;
       }
+
+      tables : (c : Settings) → IsRollOf c old → new.tables ≡ after c old.tables (entry_of frame (Granted a))
+      tables c of =
+          let is = same_roll c old new bounds of in
+          steps c frame.port frame.index a (caught_of frame) old.tables new.tables (grants.clock ∙ ends.clock) (in_pool c new is.lowest is.count sound_new)
+          (subst (λ n. PortsAre (now_of old.tables) a (is_flogi (caught_of frame)) n old.tables new.tables) (asked_by frame a r node asks)
+          (subst (λ f. PortsAre (now_of old.tables) a f granted_port old.tables new.tables) (ap (λ (q : Request). q.flogi) asks.request) ports_are))
+          (subst (λ n. PastIs (now_of old.tables) a (is_flogi (caught_of frame)) n old.tables new.tables) (asked_by frame a r node asks)
+          (subst (λ f. PastIs (now_of old.tables) a f granted_port old.tables new.tables) (ap (λ (q : Request). q.flogi) asks.request) past_is))
+
+      same : (n : ℕ) → n == n ≡ true
+      same n = grind (arith, nat_tests)
+
+      is_live : (o q : Option LivePort) (x : LivePort) (b : Bool) → o ≡ (if b then Some x else q) → b ≡ true → IsSome o
+      is_live o q x b e t = ap is_some (e ∙ ap (λ k. if k then Some x else q) t)

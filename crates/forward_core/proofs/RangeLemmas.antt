@@ -1,12 +1,9 @@
 -- What the range of a configuration says of its values.
-use Rattle.std.proofs.Common.{◌≡◌, ℕ, ◌≤◌, Bool, true, false, IsTrue, refl}
+use Rattle.std.proofs.Common.{ℕ, ◌≤◌, Bool, true, false, IsTrue, refl}
 use Rattle.std.specs.Prelude.{nat_le, ◌&&◌}
 use Rattle.std.proofs.lemmas.Bool.{leb-true}
 use Rattle.fab_config.specs.Settings.{Settings, is_between, is_in_range}
 use Rattle.forward_core.specs.Ranges.{Ranges}
-
-false_true : false ≡ true → ⊥
-false_true e = cc
 
 left : (a b : Bool) → IsTrue (a && b) → IsTrue a
 left true b t = refl
@@ -14,7 +11,7 @@ left false b t = t
 
 right : (a b : Bool) → IsTrue (a && b) → IsTrue b
 right true b t = t
-right false b t = absurd (false_true t)
+right false b t = cc
 
 at_least : (least most n : ℕ) → IsTrue (is_between least most n) → least ≤ n
 at_least least most n h = leb-true least n (left (nat_le least n) (nat_le n most) h)

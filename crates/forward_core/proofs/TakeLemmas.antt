@@ -1,20 +1,19 @@
 -- A turn: an entry is kept with what it sends, and the tables are those after it.
-use Rattle.std.proofs.Common.{◌≡◌, ℕ, ◌%◌, ◌<◌, List, [], ◌∷◌, ◌++◌, Option, Some, sym, ap, ◌∙◌, arith, subst}
+use Rattle.std.proofs.Common.{◌≡◌, ℕ, ◌%◌, ◌<◌, List, [], ◌∷◌, ◌++◌, length, Option, Some, refl, sym, ap, ◌∙◌, arith, subst, slice_get, option_and_then}
 use Rattle.std.proofs.Math.Nat.{mod-lt}
-use Rattle.fab_base.specs.declared.values.Caught.{Caught}
-use Rattle.fab_config.specs.Settings.{Settings}
 use Rattle.fab_policy.specs.Outputs.{State, advertised_after}
 use Rattle.fab_policy.specs.State.{Tables}
 use Rattle.fab_policy.specs.Standing.{Contents, Takes}
 use Rattle.fab_policy.specs.Steps.{after}
 use Rattle.fab_policy.specs.declared.event.Event.{Event}
-use Rattle.fab_policy.specs.declared.event.Event.TheVariants.{Frame}
 use Rattle.fab_policy.specs.declared.verdict.Verdict.{Verdict}
-use Rattle.fab_replies.specs.Message.{frame_at}
-use Rattle.fab_sending.specs.Sends.{AreSent, CanFollow, FrameSends, state_before}
+use Rattle.fab_replies.specs.Message.{caught_in, frame_at}
+use Rattle.fab_sending.specs.Sends.{AreSent, CanFollow, state_before}
 use Rattle.fab_sending.specs.declared.sends.Before.{Before}
 use Rattle.fab_sending.specs.declared.sends.Sends.{Sends}
-use Rattle.forward_core.specs.Turns.{Keeps}
+use Rattle.forward_core.specs.Arrived.{caught_of, entry_of}
+use Rattle.forward_core.specs.Turns.{IsBefore, IsSent, Keeps}
+use Rattle.forward_core.specs.declared.arrived.Arrived.{Arrived}
 
 -- the contents with other tables and another moment of the last advertisement
 abbrev pub with_state : Contents → Tables → Option ℕ → Contents
@@ -45,16 +44,25 @@ takes F K e s T advertised k sent tables advert = record {
 pub few_changes : (n r : ℕ) → r ≡ n % 65535 → r < 65535
 few_changes n r e = let some : 0 < 65535 = omega arith in let l : n % 65535 < 65535 = mod-lt n some in omega (arith, e, l)
 
--- what is sent by values that are the same
-pub sent_for : (c d : Settings) (n k : ℕ) (S T : State) (e : Event) (events : List Event) (s : Sends) → c ≡ d → n ≡ k → S ≡ T → AreSent c n S e events s → AreSent d k T e events s
-sent_for c d n k S T e events s to_d to_k to_T sent =
-    subst (λ x. AreSent d k x e events s) to_T (subst (λ x. AreSent d x S e events s) to_k (subst (λ x. AreSent x n S e events s) to_d sent))
+-- what is sent by what was known before an entry
+pub sent_for : (b : Before) (F : Contents) (e : Event) (events : List Event) (s : Sends) → IsBefore b F → AreSent b.config.now b.ports (state_before b) e events s → AreSent F.settings F.count F.state e events s
+sent_for b F e events s is sent =
+    subst (λ x. AreSent F.settings F.count x e events s) is.state (subst (λ x. AreSent F.settings x (state_before b) e events s) is.ports (subst (λ x. AreSent x b.ports (state_before b) e events s) is.config sent))
+
+-- the entry behind others stands at the place of their number
+last_there : (e : Event) (es : List Event) → slice_get (es ++ e ∷ []) (length es) ≡ Some e
+last_there e [] = refl
+last_there e (x ∷ es) = last_there e es
+
+pub frame_there : (frame : Arrived) (v : Verdict) (es : List Event) → frame_at (length es) (es ++ entry_of frame v ∷ []) ≡ Some (caught_of frame)
+frame_there frame v es = ap (λ o. option_and_then caught_in o) (last_there (entry_of frame v) es)
 
 -- what a frame sends that was judged by the contents before it
-pub frame_sent : (b : Before) (F : Contents) (port index entry : ℕ) (caught : Caught) (v : Verdict) (events : List Event) (s : Sends) → b.config.now ≡ F.settings → b.ports ≡ F.count → state_before b ≡ F.state →
-    FrameSends b port entry caught v s → CanFollow F.settings F.state.tables port index caught v → frame_at entry events ≡ Some caught →
-    AreSent F.settings F.count F.state (Frame port index caught v) events s
-frame_sent b F port index entry caught v events s to_c to_n to_S sends follows at =
-    sent_for b.config.now F.settings b.ports F.count (state_before b) F.state (Frame port index caught v) events s to_c to_n to_S
-    (sends.sent index events at (subst (λ c. CanFollow c b.roster.now.tables port index caught v) (sym to_c)
-    (subst (λ T. CanFollow F.settings T port index caught v) (sym (ap (λ (S : State). S.tables) to_S)) follows)))
+pub frame_sent : (F : Contents) (frame : Arrived) (v : Verdict) (s : Sends) → IsSent F frame v s → CanFollow F.settings F.state.tables frame.port frame.index (caught_of frame) v →
+    AreSent F.settings F.count F.state (entry_of frame v) (F.events ++ entry_of frame v ∷ []) s
+frame_sent F frame v s made follows =
+    let b = made.before in
+    sent_for b F (entry_of frame v) (F.events ++ entry_of frame v ∷ []) s made.is
+    (made.sends.sent frame.index (F.events ++ entry_of frame v ∷ []) (frame_there frame v F.events)
+    (subst (λ c. CanFollow c b.roster.now.tables frame.port frame.index (caught_of frame) v) (sym made.is.config)
+    (subst (λ T. CanFollow F.settings T frame.port frame.index (caught_of frame) v) (sym (ap (λ (S : State). S.tables) made.is.state)) follows)))

@@ -23,9 +23,6 @@ use Rattle.forward_core.specs.Turns.{Keeps}
 use Rattle.forward_core.specs.declared.fabric.Fabric.TheInside.{Inside}
 use Rattle.forward_core.proofs.TakeLemmas.{takes}
 
-false_true : false ≡ true → ⊥
-false_true e = cc
-
 -- N_Ports that are found where they aren't listed are those that aren't overdue
 pub left_over : (p : LivePort → Bool) (k : ℕ) (old new : List LivePort) → AscendFrom (λ x. x.address) k old → AscendFrom (λ x. x.address) k new →
     ((a : ℕ) → port_at a new ≡ (if contains a (addresses (filter p old)) then None else port_at a old)) → new ≡ filter (λ x. not (p x)) old

@@ -1,3 +1,4 @@
+pub mod Arrived
 pub mod Carrying
 pub mod Due
 pub mod Fabric

@@ -1,19 +1,17 @@
 //! What a turn puts behind the entries and the frames since the last drain.
-ghost use Rattle.std.specs.Prelude.{◌≡◌, ◌<◌, ◌≤◌, List, [], ◌∷◌, ◌++◌, length, IfOk, IfSome, OnOk, OnErr, Some};
+ghost use Rattle.std.specs.Prelude.{◌≡◌, ◌<◌, ◌≤◌, [], ◌∷◌, ◌++◌, length, IfOk, IfSome, OnOk, OnErr};
 ghost use Rattle.std.specs.List.{All};
 ghost use Rattle.fab_policy.specs.Steps.{InPool};
 ghost use Rattle.fab_policy.specs.Ranged.{IsRangedEvent};
-ghost use Rattle.fab_policy.specs.declared.event.Event.{Event as Entry};
-ghost use Rattle.fab_policy.specs.declared.event.Event.TheVariants.{Frame};
-ghost use Rattle.fab_replies.specs.Message.{AreSendable, frame_at};
+ghost use Rattle.fab_replies.specs.Message.{AreSendable};
 ghost use Rattle.fab_roster.specs.Changes.{IsSize};
-ghost use Rattle.fab_sending.specs.Sends.{state_before};
-ghost use Rattle.forward_core.specs.Turns.{Keeps};
+ghost use Rattle.forward_core.specs.Turns.{IsBefore, IsSent, Keeps, KeepsFrame};
 
 use crate::Fabric;
+use crate::arrived::Arrived;
 use crate::due::in_range;
-use fab_base::{Bytes, Caught, NoMemory, PortNo};
-use fab_policy::{Event, Heard, Verdict, known};
+use fab_base::{Bytes, Caught, NoMemory};
+use fab_policy::{Event, Verdict, known};
 use fab_replies::messages_are_kept;
 use fab_sending::{Before, Sends};
 use std::alloc::Global;
@@ -21,9 +19,7 @@ use std::alloc::Global;
 impl Fabric {
     // What is known before an entry.
     pub(crate) fn before(&self) -> Before<'_>
-        ensures config { result.config.now ≡ self.now.settings }
-        ensures ports { result.ports ≡ self.now.count }
-        ensures state { state_before result ≡ self.now.state }
+        ensures is { IsBefore result self.now }
         ensures few { length self.now.state.tables.ports ≤ 65535 }
         ensures pool { InPool self.now.settings self.now.state.tables.ports }
         ensures sizes { All (λ p. IfSome p.server IsSize) self.now.state.tables.ports }
@@ -60,30 +56,31 @@ impl Fabric {
         Ok(())
     }
 
+    // The place of the next entry.
+    pub(crate) fn place(&self) -> usize
+        ensures { result ≡ length self.now.events }
+    {
+        self.events.len()
+    }
+
     // Puts the entry of a frame and what it sends behind the others, or nothing where memory is
     // refused. Its bytes are copied here, and nowhere else.
     pub(crate) fn keep_frame(
         &mut self,
         alloc: Global,
-        port: PortNo,
-        index: u64,
-        heard: &Heard<'_>,
+        arrived: &Arrived<'_>,
         verdict: Verdict,
         sends: Sends,
     ) -> Result<(), NoMemory>
-        requires sendable { (events : List Entry)
-            → frame_at (length self.old.events) events ≡ Some heard.now.caught.now
-            → AreSendable events sends.outs }
-        requires rscns { sends.rscns < 65535 }
-        ensures ok { OnOk result
-            (Keeps self.old (Frame port index heard.now.caught.now verdict) sends self.new) }
+        requires { IsSent self.old arrived.now verdict sends }
+        ensures ok { OnOk result (KeepsFrame self.old arrived.now verdict self.new) }
         ensures err { OnErr result (self.new ≡ self.old) }
     {
-        let bytes = copied(alloc, heard.caught.bytes.view())?;
-        let whole = heard.caught.whole;
+        let bytes = copied(alloc, arrived.heard.caught.bytes.view())?;
+        let whole = arrived.heard.caught.whole;
         let entry = Event::Frame {
-            port,
-            index,
+            port: arrived.port,
+            index: arrived.index,
             caught: Caught { bytes, whole },
             verdict,
         };

@@ -1,6 +1,7 @@
 //! The fabric of one thread: it logs in, forwards, watches silence, names and notifies.
 #![tactic(auto)]
 
+mod arrived;
 mod carrying;
 mod drained;
 mod due;

@@ -10,6 +10,7 @@ ghost use Rattle.fab_policy.specs.declared.verdict.Verdict.TheVariants.{Granted}
 ghost use Rattle.forward_core.specs.Fabric.{IsTaken};
 
 use crate::Fabric;
+use crate::arrived::Arrived;
 use crate::granting::WishTaken;
 use fab_base::{FcId, NoMemory, PortNo};
 use fab_judge::{Judged, judge};
@@ -79,36 +80,39 @@ impl Fabric {
         // which is legal if the one before was; the clause journal says so.
         fabric_steps();
         let judged = judge(alloc, &self.config, &self.zones, &self.roster, port, heard)?;
+        let arrived = Arrived { port, index, heard };
         match judged {
             Judged::Must(verdict) => {
-                self.settle(alloc, port, index, heard, &verdict)?;
-                // For the proof: the numbers of the verdict are in range.
-                known_verdict(&verdict);
-                Ok(verdict)
+                self.settle(alloc, &arrived, &verdict)?;
+                Ok(ranged(verdict.verdict()))
             }
             Judged::Replied { verdict, to } => {
-                self.reply(alloc, port, index, heard, &verdict, to)?;
-                // For the proof: the numbers of the verdict are in range.
-                known_verdict(&verdict);
-                Ok(verdict)
+                self.reply(alloc, &arrived, &verdict, to)?;
+                Ok(ranged(verdict.verdict()))
             }
             Judged::MayGrant(login) => {
                 let address = self.address_for(&login.request, login.free, wish)?;
-                self.log_in(alloc, port, index, heard, &login, address)?;
+                self.log_in(alloc, &arrived, &login, address)?;
                 Ok(Verdict::Granted(address))
             }
-            Judged::ServerLogin { to, size } => {
-                self.log_in_to_server(alloc, port, index, heard, to, size)?;
-                Ok(Verdict::NsLogin)
-            }
             Judged::Registers { to } => {
-                self.register(alloc, port, index, heard, to)?;
+                self.register(alloc, &arrived, to)?;
                 Ok(Verdict::Registered)
             }
             Judged::Answers { to, tell, size } => {
-                self.answer(alloc, port, index, heard, to, &tell, size)?;
+                self.answer(alloc, &arrived, to, &tell, size)?;
                 Ok(Verdict::Answered)
             }
         }
     }
+}
+
+// This verdict, whose numbers are in range.
+fn ranged(verdict: Verdict) -> Verdict
+    ensures same { result ≡ verdict }
+    ensures ranged { IsRangedVerdict result }
+{
+    // For the proof: the numbers of a verdict are in range.
+    known_verdict(&verdict);
+    verdict
 }

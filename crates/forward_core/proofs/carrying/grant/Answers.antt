@@ -1,8 +1,7 @@
-use Rattle.std.proofs.Common.{◌≡◌, ◌<◌, ◌==◌, ◌∙◌, ℕ, Bool, Option, Some, IsSome, is_some, true, false, length, List, IsTrue, arith, ap, sym, subst, if◌then◌else◌}
-use Rattle.std.proofs.lemmas.Bool.Decides.{nat_tests}
+use Rattle.std.proofs.Common.{◌≡◌, ◌<◌, ◌==◌, false, length, List, IsTrue, sym, subst}
 use Rattle.std.specs.List.{list_any}
 use Rattle.fab_policy.specs.Free.{Request, is_free}
-use Rattle.fab_policy.specs.State.{LivePort, port_at}
+use Rattle.fab_policy.specs.State.{LivePort}
 use Rattle.fab_roster.specs.Changes.{Grants}
 use Rattle.fab_roster.specs.Roll.{addresses_of}
 use Rattle.forward_core.specs.Carrying.{left_to}
@@ -32,17 +31,8 @@ grant-requires-clause-room c =
     (subst (λ (l : List LivePort). length l < c.args.roster.now.limit)
     (sym (remain c.args.request.now (addresses_of c.args.ended.now) c.args.roster.now c.end_all.new.self c.requires.sound (ended_addresses c.args.request.now c.args.roster.now.tables c.args.ended.now c.requires.ended) c.end_all.ensures.change c.end_all.ensures.sound)) c.requires.room)
 
-pub returns-clause-carries : goal.returns-clause-carries
-returns-clause-carries c =
+pub returns : goal.returns
+returns c =
     granted c.args.request.now (addresses_of c.args.ended.now) c.args.roster.now c.end_all.new.self c.grant.new.self c.requires.sound (ended_addresses c.args.request.now c.args.roster.now.tables c.args.ended.now c.requires.ended) c.end_all.ensures.change c.args.address c.args.node
     (subst (λ (q : Request). Grants c.args.address (record { name = q.name; node = c.args.node; enode = q.enode }) c.end_all.new.self c.grant.new.self) c.request.view_is c.grant.ensures.change)
-    c.tables_change.ensures.grant c.grant.ensures.sound
-
-pub returns-clause-live : goal.returns-clause-live
-returns-clause-live c = is_live (port_at c.args.address c.grant.new.self.tables.ports) _ _ _ (c.grant.ensures.change.ports c.args.address) (same c.args.address)
-  where
-    same : (n : ℕ) → n == n ≡ true
-    same n = grind (arith, nat_tests)
-
-    is_live : (o q : Option LivePort) (x : LivePort) (b : Bool) → o ≡ (if b then Some x else q) → b ≡ true → IsSome o
-    is_live o q x b e t = ap is_some (e ∙ ap (λ k. if k then Some x else q) t)
+    c.tables_change.ensures.grant c.grant.ensures.sound c.requires.free c.args.arrived.now c.requires.asks

@@ -4,11 +4,13 @@ use Rattle.fab_policy.specs.State.{LivePort}
 use Rattle.fab_policy.specs.declared.verdict.Verdict.TheVariants.{Registered}
 use Rattle.ct_messages.specs.Ask.{view}
 use Rattle.fab_policy.specs.Heard.{s_id}
+use Rattle.forward_core.specs.Arrived.{caught_of}
 use Rattle.forward_core.proofs.CarryLemmas.{changed, found_one}
 use Rattle.forward_core.proofs.carrying.register.Goals as goal
 
 pub returns : goal.returns
-returns c port =
-    changed c.tables_change.ensures.frame port c.args.heard.now.caught.now Registered Registered c.args.roster.now c.register.new.self refl refl
-    (λ a p e. (c.requires.rests.registers, c.requires.rests.byte, found_one (λ (q : LivePort). length q.values.features ≡ 256) a c.args.roster.now.tables.ports p c.requires.sound.features e)) _
-    (ap (λ x. with_values x.s_id (view c.args.ask.now)) (c.to.view_is ∙ c.requires.to) ∙ ap (λ ask. with_values (s_id c.args.heard.now.caught.now) ask) c.requires.ask) c.register.ensures.change c.register.ensures.sound
+returns c =
+    let rests = c.requires.judged.1.rests in
+    changed c.tables_change.ensures.frame c.args.arrived.now Registered Registered c.args.roster.now c.register.new.self refl refl
+    (λ a p e. (rests.0.registers, rests.0.byte, found_one (λ (q : LivePort). length q.values.features ≡ 256) a c.args.roster.now.tables.ports p c.requires.sound.features e)) _
+    (ap (λ x. with_values x.s_id (view c.args.ask.now)) (c.to.view_is ∙ rests.1) ∙ ap (λ ask. with_values (s_id (caught_of c.args.arrived.now)) ask) c.requires.ask) c.register.ensures.change c.register.ensures.sound

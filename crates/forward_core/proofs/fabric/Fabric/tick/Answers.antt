@@ -15,9 +15,8 @@ use Rattle.forward_core.proofs.fabric.Fabric.tick.Goals as goal
 
 pub keep-requires-clause-sendable : goal.keep-requires-clause-sendable
 keep-requires-clause-sendable c =
-    let b = c.before-2.result in
-    (sent_for b.config.now c.args.self.now.settings b.ports c.args.self.now.count (state_before b) c.args.self.now.state (Tick c.args.moment (addresses_of c.in_ok-ended.ended)) (c.args.self.now.events ++ Tick c.args.moment c.in_ok-addresses.addresses ∷ []) c.in_ok-sends.sends
-    c.before-2.ensures.config c.before-2.ensures.ports c.before-2.ensures.state (c.in_ok-sends.ensures.sent (c.args.self.now.events ++ Tick c.args.moment c.in_ok-addresses.addresses ∷ []))).sendable
+    let events = c.args.self.now.events ++ Tick c.args.moment c.in_ok-addresses.addresses ∷ [] in
+    (sent_for c.before-2.result c.args.self.now (Tick c.args.moment (addresses_of c.in_ok-ended.ended)) events c.in_ok-sends.sends c.before-2.ensures.is (c.in_ok-sends.ensures.sent events)).sendable
 
 pub keep-requires-clause-rscns : goal.keep-requires-clause-rscns
 keep-requires-clause-rscns c =
@@ -28,13 +27,12 @@ keep-requires-clause-rscns c =
 turn : (c : goal.After-drop-ended-inside-2) → Takes c.args.self.now (Tick c.args.moment (addresses (overdue c.args.self.now.settings c.args.self.now.state.tables c.args.moment)))
     (contents_of (record c.self.inside { roster = c.end_all.new.self; advertised = c.advertised_after-self-inside.result }))
 turn c =
-    let b = c.before-2.result in
     let F = c.args.self.now in
     tick_takes c.tables_change.ensures.tick F c.self.inside c.self.invariant c.args.moment c.in_ok-addresses.addresses (addresses_of c.in_ok-ended.ended) c.in_ok-sends.sends c.set_clock.new.self c.end_all.new.self c.advertised_after-self-inside.result
     (subst (λ (K : Contents). Keeps F (Tick c.args.moment c.in_ok-addresses.addresses) c.in_ok-sends.sends K) (sym c.self.view_is) c.in_ok-keep.ensures.ok)
     (subst (λ l. AreSent F.settings F.count F.state (Tick c.args.moment l) (F.events ++ Tick c.args.moment l ∷ []) c.in_ok-sends.sends) (sym c.in_ok-addresses.ensures)
-    (sent_for b.config.now F.settings b.ports F.count (state_before b) F.state (Tick c.args.moment (addresses_of c.in_ok-ended.ended)) (F.events ++ Tick c.args.moment (addresses_of c.in_ok-ended.ended) ∷ []) c.in_ok-sends.sends
-    c.before-2.ensures.config c.before-2.ensures.ports c.before-2.ensures.state (c.in_ok-sends.ensures.sent (F.events ++ Tick c.args.moment (addresses_of c.in_ok-ended.ended) ∷ []))))
+    (sent_for c.before-2.result F (Tick c.args.moment (addresses_of c.in_ok-ended.ended)) (F.events ++ Tick c.args.moment (addresses_of c.in_ok-ended.ended) ∷ []) c.in_ok-sends.sends c.before-2.ensures.is
+    (c.in_ok-sends.ensures.sent (F.events ++ Tick c.args.moment (addresses_of c.in_ok-ended.ended) ∷ []))))
     c.in_ok-addresses.ensures (ap addresses_of c.in_ok-ended.ensures.logins ∙ addresses_same (overdue F.settings F.state.tables c.args.moment)) c.set_clock.ensures.change c.end_all.ensures.change c.end_all.ensures.sound (c.advertised_after-self-inside.ensures.after (addresses_of c.in_ok-ended.ended))
 
 pub returns-clause-takes : goal.returns-clause-takes
