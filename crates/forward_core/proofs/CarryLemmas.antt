@@ -1,5 +1,5 @@
 -- Tables changed by a frame that grants nothing are those of the policy.
-use Rattle.std.proofs.Common.{◌≡◌, ℕ, ◌==◌, Bool, true, false, cond, List, [], ◌∷◌, Option, Some, None, option_map, refl, sym, ap, ◌∙◌, subst, IsSome}
+use Rattle.std.proofs.Common.{◌≡◌, ℕ, ◌==◌, Bool, true, false, cond, List, [], ◌∷◌, Option, Some, None, option_map, refl, sym, ap, ◌∙◌, subst, IsSome, IfSome}
 use Rattle.std.specs.List.{All}
 use Rattle.std.proofs.lemmas.List.Elements.{All-head, All-tail}
 use Rattle.fab_config.specs.Settings.{Settings}
@@ -74,17 +74,11 @@ pub changed : FrameSteps → (frame : Arrived) (v w : Verdict) (old new : Roll) 
 changed steps frame v w old new same leaves can f is change sound =
     subst (λ u. CarriesOut frame u old new) (sym same) (stayed steps frame w old new leaves can (subst (λ g. ChangesPorts g old new) is change) sound)
 
-none_some : (p : LivePort) → None ≡ Some p → ⊥
-none_some p e = cc
-
-some_same : (p q : LivePort) → Some p ≡ Some q → p ≡ q
-some_same p q e = cc
-
 -- what holds of each N_Port holds of one that is found
-pub found_one : (P : LivePort → Type 0) (a : ℕ) (ports : List LivePort) (p : LivePort) → All P ports → port_at a ports ≡ Some p → P p
-found_one P a [] p all found = absurd (none_some p found)
-found_one P a (q ∷ ports) p all found = go (q.address == a) (λ e. found_one P a ports p (All-tail P q ports all) e) found
+pub found_one : (P : LivePort → Type 0) (a : ℕ) (ports : List LivePort) → All P ports → IfSome (port_at a ports) P
+found_one P a [] all = tt
+found_one P a (q ∷ ports) all = go (q.address == a) (found_one P a ports (All-tail P q ports all))
   where
-    go : (b : Bool) → (port_at a ports ≡ Some p → P p) → cond b (Some q) (port_at a ports) ≡ Some p → P p
-    go true later e = subst P (some_same q p e) (All-head P q ports all)
-    go false later e = later e
+    go : (b : Bool) → IfSome (port_at a ports) P → IfSome (cond b (Some q) (port_at a ports)) P
+    go true later = All-head P q ports all
+    go false later = later

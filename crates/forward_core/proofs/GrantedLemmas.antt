@@ -1,5 +1,5 @@
 -- A grant: the logins that it ends are gone, its address is free after that, and the tables are the policy's.
-use Rattle.std.proofs.Common.{◌≡◌, ℕ, ◌+◌, ◌-◌, ◌==◌, ◌&&◌, ◌||◌, Bool, true, false, cond, if◌then◌else◌, List, [], ◌∷◌, map, filter, Option, Some, None, option_map, option_and_then, unwrap_or, is_some, IsSome, IsTrue, refl, sym, ap, ◌∙◌, subst, nat_lt, arith}
+use Rattle.std.proofs.Common.{◌≡◌, ℕ, ◌-◌, ◌==◌, ◌&&◌, ◌||◌, Bool, true, false, cond, if◌then◌else◌, List, [], ◌∷◌, map, filter, Option, Some, None, option_map, option_and_then, unwrap_or, is_some, IsSome, IsTrue, refl, sym, ap, ◌∙◌, subst, nat_lt, arith}
 use Rattle.std.specs.List.{All}
 use Rattle.std.specs.Option.{option_map_or}
 use Rattle.std.specs.Prelude.{is_none}
@@ -8,7 +8,8 @@ use Rattle.fab_base.specs.Fabric.{Past, past_at, may_have, same_enode, QUARANTIN
 use Rattle.fab_base.specs.Keyed.{AscendFrom}
 use Rattle.fab_base.specs.declared.values.Enode.{Enode}
 use Rattle.fab_config.specs.Settings.{Settings}
-use Rattle.fab_base.proofs.KeyedLemmas.{AscendFrom-filter, AscendFrom-weaker, list_any-keys-filter}
+use Rattle.fab_base.proofs.KeyedLemmas.{AscendFrom-filter, AscendFrom-keys, AscendFrom-weaker, list_any-keys-filter}
+use Rattle.fab_base.proofs.SamenessLemmas.{find-map}
 use Rattle.zone_rules.specs.Joined.{contains}
 use Rattle.fab_policy.specs.Changes.{GrantSteps, all_ended, granted_to, heard_node, left_by}
 use Rattle.fab_policy.specs.Free.{Request, is_free, is_open}
@@ -19,6 +20,7 @@ use Rattle.fab_policy.specs.Steps.{after, fresh}
 use Rattle.fab_policy.specs.declared.verdict.Verdict.TheVariants.{Granted}
 use Rattle.fab_roster.specs.Changes.{EndsAll, Grants, IsSoundRoll, KeepsBounds}
 use Rattle.fab_roster.specs.Roll.{Roll}
+use Rattle.fab_roster.proofs.Found.{find-passes}
 use Rattle.fab_judge.specs.Judged.{ended_by}
 use Rattle.fab_roster.specs.Roll.{Login, addresses_of}
 use Rattle.fab_sending.proofs.Counting.{addresses_same}
@@ -66,10 +68,6 @@ ends_turned x flogi (p ∷ ports) =
     ap (λ b. cond b (p ∷ filter (λ q. flogi && same_enode q.enode x) ports) (filter (λ q. flogi && same_enode q.enode x) ports)) (and_turned flogi (same_enode p.enode x))
     ∙ ap (λ l. cond (same_enode p.enode x && flogi) (p ∷ l) l) (ends_turned x flogi ports)
 
-keys_ascend : (k : ℕ) (ports : List LivePort) → AscendFrom (λ p. p.address) k ports → AscendFrom (λ a. a) k (addresses ports)
-keys_ascend k [] up = tt
-keys_ascend k (p ∷ ports) up = (up.0, keys_ascend (p.address + 1) ports up.1)
-
 module _ (r : Request) (ids : List ℕ) (old : Roll) (sound : IsSoundRoll old) (are : ids ≡ addresses (filter (is_ended r) old.tables.ports)) where
   -- the addresses that end are live, and ascend
   pub ends_live : All (λ a. IsSome (port_at a old.tables.ports)) ids
@@ -78,35 +76,13 @@ module _ (r : Request) (ids : List ℕ) (old : Roll) (sound : IsSoundRoll old) (
   pub ends_differ : AscendFrom (λ a. a) 0 ids
   ends_differ =
       subst (λ l. AscendFrom (λ (a : ℕ). a) 0 l) (sym are) (AscendFrom-weaker (λ (a : ℕ). a) 0 old.lowest (addresses (filter (is_ended r) old.tables.ports)) (omega arith)
-      (keys_ascend old.lowest (filter (is_ended r) old.tables.ports) (AscendFrom-filter (λ (p : LivePort). p.address) (is_ended r) old.lowest old.tables.ports sound.ascending.0)))
+      (AscendFrom-keys (λ (p : LivePort). p.address) old.lowest (filter (is_ended r) old.tables.ports) (AscendFrom-filter (λ (p : LivePort). p.address) (is_ended r) old.lowest old.tables.ports sound.ascending.0)))
 
   -- an address is one of them where its N_Port is ended
   is_among : (a : ℕ) → contains a ids ≡ option_map_or (is_ended r) (port_at a old.tables.ports) false
   is_among a = ap (λ l. contains a l) are ∙ list_any-keys-filter (λ (p : LivePort). p.address) (is_ended r) old.lowest a old.tables.ports sound.ascending.0
 
 -- ---- the past of addresses
-
-past_map : (f : Past → Past) → ((p : Past) → (f p).address ≡ p.address) → (a : ℕ) (past : List Past) → past_at a (map f past) ≡ option_map f (past_at a past)
-past_map f keeps a [] = refl
-past_map f keeps a (p ∷ past) = ap (λ n. cond (n == a) (Some (f p)) (past_at a (map f past))) (keeps p) ∙ go (p.address == a) (past_map f keeps a past)
-  where
-    go : (b : Bool) → past_at a (map f past) ≡ option_map f (past_at a past) → cond b (Some (f p)) (past_at a (map f past)) ≡ option_map f (cond b (Some p) (past_at a past))
-    go true others = refl
-    go false others = others
-
-same_past : (x y : Past) → Some x ≡ Some y → x ≡ y
-same_past x y e = cc
-
-none_past : (x : Past) → None ≡ Some x → ⊥
-none_past x e = cc
-
-past_found : (a : ℕ) (p : Past) (past : List Past) → past_at a past ≡ Some p → p.address == a ≡ true
-past_found a p [] found = absurd (none_past p found)
-past_found a p (q ∷ past) found = go (q.address == a) refl (λ e. past_found a p past e) found
-  where
-    go : (b : Bool) → q.address == a ≡ b → (past_at a past ≡ Some p → p.address == a ≡ true) → cond b (Some q) (past_at a past) ≡ Some p → p.address == a ≡ true
-    go true this later e = subst (λ (x : Past). x.address == a ≡ true) (same_past q p e) this
-    go false other later e = later e
 
 ended_keeps : (ids : List ℕ) (at : ℕ) (p : Past) → (all_ended ids at p).address ≡ p.address
 ended_keeps ids at p = go (contains p.address ids)
@@ -154,7 +130,7 @@ module _ (r : Request) (ids : List ℕ) (old mid : Roll) (sound : IsSoundRoll ol
       go (Some q) = ap (λ d. if d then None else Some q) (and_turned r.flogi (same_enode q.enode r.enode))
 
   past_left : (b : ℕ) → past_at b mid.tables.past ≡ option_map (all_ended ids (now_of old.tables)) (past_at b old.tables.past)
-  past_left b = ap (λ (l : List Past). past_at b l) ends.past ∙ past_map (all_ended ids (now_of old.tables)) (ended_keeps ids (now_of old.tables)) b old.tables.past
+  past_left b = ap (λ (l : List Past). past_at b l) ends.past ∙ find-map (λ (p : Past). p.address == b) (all_ended ids (now_of old.tables)) (λ p. ap (λ n. n == b) (ended_keeps ids (now_of old.tables) p)) old.tables.past
 
   -- what is open to the request is open, once its logins ended, to one that ends nothing
   still_open : (a : ℕ) (p : Past) → past_at a old.tables.past ≡ Some p → is_open old.tables r p ≡ true → is_open mid.tables (again r) (all_ended ids (now_of old.tables) p) ≡ true
@@ -171,7 +147,7 @@ module _ (r : Request) (ids : List ℕ) (old mid : Roll) (sound : IsSoundRoll ol
       named : (q : LivePort) → port_at p.address old.tables.ports ≡ Some q → p.name ≡ Some q.name
       named q at =
           let held : past_at a old.tables.past ≡ Some (record { address = p.address; name = Some q.name; ended = None }) =
-          subst (λ n. past_at n old.tables.past ≡ Some (record { address = p.address; name = Some q.name; ended = None })) (same_number p.address a (past_found a p old.tables.past found)) (sound.held p.address q at) in
+          subst (λ n. past_at n old.tables.past ≡ Some (record { address = p.address; name = Some q.name; ended = None })) (same_number p.address a (find-passes (λ (x : Past). x.address == a) old.tables.past p found)) (sound.held p.address q at) in
           ap (λ (o : Option Past). option_and_then (λ (x : Past). x.name) o) (sym found ∙ held)
 
       go : (b : Bool) → contains p.address ids ≡ b → (o : Option LivePort) → port_at p.address old.tables.ports ≡ o → open_by r (now_of old.tables) p.name p.ended o ≡ true →

@@ -36,8 +36,8 @@ grant_before b S port caught g is grant = subst (λ (x : State). IsGrant x.table
 
 -- the receive size of a live N_Port is one
 pub size_fits : (a : ℕ) (ports : List LivePort) (size : ℕ) → All (λ p. IfSome p.server IsSize) ports → IsSome (port_at a ports) → ((b : LivePort) → port_at a ports ≡ Some b → b.server ≡ Some size) → IsSize size
-size_fits a ports size all live is = go (port_at a ports) refl live
+size_fits a ports size all live is = go (port_at a ports) refl live (found_one (λ p. IfSome p.server IsSize) a ports all)
   where
-    go : (o : Option LivePort) → port_at a ports ≡ o → IsSome o → IsSize size
-    go None e h = cc
-    go (Some b) e h = subst (λ o. IfSome o IsSize) (is b e) (found_one (λ p. IfSome p.server IsSize) a ports b all e)
+    go : (o : Option LivePort) → port_at a ports ≡ o → IsSome o → IfSome o (λ p. IfSome p.server IsSize) → IsSize size
+    go None e h fits = cc
+    go (Some b) e h fits = subst (λ o. IfSome o IsSize) (is b e) fits

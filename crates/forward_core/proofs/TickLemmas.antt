@@ -1,6 +1,8 @@
 -- The tables after a tick.
-use Rattle.std.proofs.Common.{◌≡◌, ℕ, ◌+◌, ◌*◌, ◌≤◌, not, Bool, true, false, cond, List, [], ◌∷◌, map, filter, Option, Some, None, refl, sym, ap, ◌∙◌, subst, arith, if◌then◌else◌, length, ◌++◌, option_and_then, unwrap_or, suc}
+use Rattle.std.proofs.Common.{◌≡◌, ℕ, ◌+◌, ◌*◌, ◌≤◌, not, Bool, true, false, List, [], ◌∷◌, map, filter, Option, Some, None, refl, sym, ap, ◌∙◌, subst, arith, if◌then◌else◌, length, ◌++◌, option_and_then, unwrap_or}
 use Rattle.std.specs.Option.{option_map_or}
+use Rattle.std.proofs.lemmas.List.{length-map}
+use Rattle.std.proofs.lemmas.List.Filters.{length-filter_both}
 use Rattle.fab_base.specs.Fabric.{Past}
 use Rattle.fab_base.specs.Keyed.{AscendFrom}
 use Rattle.fab_base.proofs.KeyedLemmas.{AscendFrom-filter, equal_by_items, list_any-keys-filter}
@@ -8,7 +10,7 @@ use Rattle.fab_config.specs.Settings.{Settings}
 use Rattle.zone_rules.specs.Joined.{contains}
 use Rattle.fab_policy.specs.Changes.{all_ended, TickSteps}
 use Rattle.fab_policy.specs.State.{LivePort, Tables, addresses, is_overdue, now_of, overdue, port_at}
-use Rattle.fab_policy.specs.Steps.{after, AreAscending, InPool}
+use Rattle.fab_policy.specs.Steps.{after, InPool}
 use Rattle.fab_policy.specs.declared.event.Event.TheVariants.{Tick}
 use Rattle.fab_roster.specs.Changes.{EndsAll, IsSoundRoll, Moves}
 use Rattle.fab_roster.specs.Roll.{Roll}
@@ -17,6 +19,7 @@ use Rattle.fab_policy.specs.Outputs.{advertised_after}
 use Rattle.fab_policy.specs.Standing.{Contents, Takes}
 use Rattle.fab_sending.specs.Sends.{AreSent}
 use Rattle.fab_sending.specs.declared.sends.Sends.{Sends}
+use Rattle.fab_sending.proofs.Joining.{in_pool as pool_of}
 pub use Rattle.fab_sending.proofs.Counting.{live_filter as live_listed}
 use Rattle.forward_core.specs.Fabric.{contents_of, IsFabric}
 use Rattle.forward_core.specs.Turns.{Keeps}
@@ -40,20 +43,14 @@ left_over p k old new up up_new found =
     same (Some x) = one x (p x)
 
 pub few_listed : (p : LivePort → Bool) (limit : ℕ) (ports : List LivePort) → length ports ≤ limit → limit ≤ 1000 → length (addresses (filter p ports)) ≤ 1000
-few_listed p limit ports few most = let l : length (addresses (filter p ports)) ≤ length ports = shorter ports in omega (arith, l, few, most)
-  where
-    shorter : (xs : List LivePort) → length (addresses (filter p xs)) ≤ length xs
-    shorter [] = omega arith
-    shorter (x ∷ xs) = go (p x) (shorter xs)
-      where
-        go : (b : Bool) → length (addresses (filter p xs)) ≤ length xs → length (addresses (cond b (x ∷ filter p xs) (filter p xs))) ≤ suc (length xs)
-        go true h = omega (arith, h)
-        go false h = omega (arith, h)
+few_listed p limit ports few most =
+    let all = length-filter_both p (λ x. not (p x)) (λ x. refl) ports in
+    let same = length-map (filter p ports) (λ (x : LivePort). x.address) in
+    omega (arith, all, same, few, most)
 
 -- N_Ports of a sound roster are those of the pool
 pub in_pool : (c : Settings) (r : Roll) → r.lowest ≡ c.domain * 65536 + 256 → r.count ≡ c.pool → IsSoundRoll r → InPool c r.tables.ports
-in_pool c r low many sound =
-    subst (λ n. AreAscending (c.domain * 65536 + 256) (c.domain * 65536 + 256 + n) r.tables.ports) many (subst (λ l. AreAscending l (l + r.count) r.tables.ports) low sound.ascending)
+in_pool c r low many sound = pool_of c r.lowest r.count r.tables.ports low many sound.ascending
 
 abbrev made : Option ℕ → List LivePort → List Past → Tables
 made clock ports past = record { clock = clock; ports = ports; past = past }

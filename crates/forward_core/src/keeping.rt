@@ -5,6 +5,7 @@ ghost use Rattle.fab_policy.specs.Steps.{InPool};
 ghost use Rattle.fab_policy.specs.Ranged.{IsRangedEvent};
 ghost use Rattle.fab_replies.specs.Message.{AreSendable};
 ghost use Rattle.fab_roster.specs.Changes.{IsSize};
+ghost use Rattle.forward_core.specs.Arrived.{entry_of};
 ghost use Rattle.forward_core.specs.Turns.{IsBefore, IsSent, Keeps, KeepsFrame};
 
 use crate::Fabric;
@@ -64,7 +65,7 @@ impl Fabric {
     }
 
     // Puts the entry of a frame and what it sends behind the others, or nothing where memory is
-    // refused. Its bytes are copied here, and nowhere else.
+    // refused.
     pub(crate) fn keep_frame(
         &mut self,
         alloc: Global,
@@ -76,19 +77,26 @@ impl Fabric {
         ensures ok { OnOk result (KeepsFrame self.old arrived.now verdict self.new) }
         ensures err { OnErr result (self.new ≡ self.old) }
     {
-        let bytes = copied(alloc, arrived.heard.caught.bytes.view())?;
-        let whole = arrived.heard.caught.whole;
-        let entry = Event::Frame {
-            port: arrived.port,
-            index: arrived.index,
-            caught: Caught { bytes, whole },
-            verdict,
-        };
+        let entry = entry_of(alloc, arrived, verdict)?;
         // For the proof: the numbers of the entry are in range, as keep wants it.
         known(&entry);
         self.keep(alloc, entry, sends)?;
         Ok(())
     }
+}
+
+// The entry of a frame with this verdict. Its bytes are copied here, and nowhere else.
+fn entry_of(alloc: Global, arrived: &Arrived<'_>, verdict: Verdict) -> Result<Event, NoMemory>
+    ensures { IfOk result (λ e. e ≡ entry_of arrived.now verdict) }
+{
+    let bytes = copied(alloc, arrived.heard.caught.bytes.view())?;
+    let whole = arrived.heard.caught.whole;
+    Ok(Event::Frame {
+        port: arrived.port,
+        index: arrived.index,
+        caught: Caught { bytes, whole },
+        verdict,
+    })
 }
 
 // A copy of bytes, in one move.

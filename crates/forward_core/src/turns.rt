@@ -36,14 +36,8 @@ impl Fabric {
             (judged.Must verdict.now) (of_settled verdict.now) }
         ensures { TakesOrStays self.old arrived.now (of_settled verdict.now) result self.new }
     {
-        let sends = frame_sends(
-            alloc,
-            &self.before(),
-            arrived.port,
-            self.place(),
-            arrived.heard,
-            *verdict,
-        )?;
+        let &Arrived { port, heard, .. } = arrived;
+        let sends = frame_sends(alloc, &self.before(), port, self.place(), heard, *verdict)?;
         self.keep_frame(alloc, arrived, verdict.verdict(), sends)?;
         carry_out(&mut self.roster, arrived, *verdict);
         Ok(())
@@ -61,14 +55,8 @@ impl Fabric {
             (judged.Replied verdict.now to) (of_replied verdict.now) }
         ensures { TakesOrStays self.old arrived.now (of_replied verdict.now) result self.new }
     {
-        let sends = reply_sends(
-            alloc,
-            &self.before(),
-            arrived.port,
-            arrived.heard,
-            *verdict,
-            to,
-        )?;
+        let &Arrived { port, heard, .. } = arrived;
+        let sends = reply_sends(alloc, &self.before(), port, heard, *verdict, to)?;
         self.keep_frame(alloc, arrived, verdict.verdict(), sends)?;
         carry_out_reply(&mut self.roster, arrived, *verdict, to);
         Ok(())
@@ -87,6 +75,7 @@ impl Fabric {
         requires free { IsTrue (is_free self.old.state.tables login.now.request address) }
         ensures { TakesOrStays self.old arrived.now (Granted address) result self.new }
     {
+        let &Arrived { port, heard, .. } = arrived;
         let granted = Grant {
             request: &login.request,
             to: login.to,
@@ -94,7 +83,7 @@ impl Fabric {
             address,
             ended: &login.ended,
         };
-        let sends = grant_sends(alloc, &self.before(), arrived.port, arrived.heard, &granted)?;
+        let sends = grant_sends(alloc, &self.before(), port, heard, &granted)?;
         self.keep_frame(alloc, arrived, Verdict::Granted(address), sends)?;
         grant(
             &mut self.roster,
@@ -118,19 +107,13 @@ impl Fabric {
             (judged.Registers to) Registered }
         ensures { TakesOrStays self.old arrived.now Registered result self.new }
     {
+        let &Arrived { port, heard, .. } = arrived;
         // Law: a right verdict suits what the frame was decoded as: here a registration.
         right_frames_suit();
-        let Ok(ask) = read_ask(payload_of(arrived.heard)) else {
+        let Ok(ask) = read_ask(payload_of(heard)) else {
             unreachable!()
         };
-        let sends = registration_sends(
-            alloc,
-            &self.before(),
-            arrived.port,
-            arrived.heard,
-            to,
-            &ask,
-        )?;
+        let sends = registration_sends(alloc, &self.before(), port, heard, to, &ask)?;
         self.keep_frame(alloc, arrived, Verdict::Registered, sends)?;
         register(&mut self.roster, arrived, to, &ask);
         Ok(())
@@ -149,17 +132,10 @@ impl Fabric {
             (judged.Answers to tell.now size) Answered }
         ensures { TakesOrStays self.old arrived.now Answered result self.new }
     {
+        let &Arrived { port, heard, .. } = arrived;
         // Law: an answer leaves the tables as they are.
         tables_change();
-        let sends = answer_sends(
-            alloc,
-            &self.before(),
-            arrived.port,
-            arrived.heard,
-            to,
-            tell,
-            size,
-        )?;
+        let sends = answer_sends(alloc, &self.before(), port, heard, to, tell, size)?;
         self.keep_frame(alloc, arrived, Verdict::Answered, sends)?;
         // For the proof: the roster is the one before.
         let _ = &self.roster;

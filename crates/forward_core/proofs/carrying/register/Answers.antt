@@ -1,4 +1,4 @@
-use Rattle.std.proofs.Common.{◌≡◌, length, refl, ap, ◌∙◌}
+use Rattle.std.proofs.Common.{◌≡◌, Option, IfSome, length, refl, ap, subst, ◌∙◌}
 use Rattle.fab_policy.specs.Changes.{with_values}
 use Rattle.fab_policy.specs.State.{LivePort}
 use Rattle.fab_policy.specs.declared.verdict.Verdict.TheVariants.{Registered}
@@ -12,5 +12,5 @@ pub returns : goal.returns
 returns c =
     let rests = c.requires.judged.1.rests in
     changed c.tables_change.ensures.frame c.args.arrived.now Registered Registered c.args.roster.now c.register.new.self refl refl
-    (λ a p e. (rests.0.registers, rests.0.byte, found_one (λ (q : LivePort). length q.values.features ≡ 256) a c.args.roster.now.tables.ports p c.requires.sound.features e)) _
+    (λ a p e. (rests.0.registers, rests.0.byte, subst (λ (o : Option LivePort). IfSome o (λ q. length q.values.features ≡ 256)) e (found_one (λ q. length q.values.features ≡ 256) a c.args.roster.now.tables.ports c.requires.sound.features))) _
     (ap (λ x. with_values x.s_id (view c.args.ask.now)) (c.to.view_is ∙ rests.1) ∙ ap (λ ask. with_values (s_id (caught_of c.args.arrived.now)) ask) c.requires.ask) c.register.ensures.change c.register.ensures.sound
