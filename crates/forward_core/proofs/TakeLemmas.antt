@@ -1,6 +1,5 @@
 -- A turn: an entry is kept with what it sends, and the tables are those after it.
-use Rattle.std.proofs.Common.{◌≡◌, ℕ, ◌%◌, ◌<◌, List, [], ◌∷◌, ◌++◌, length, Option, Some, refl, sym, ap, ◌∙◌, arith, subst, slice_get, option_and_then}
-use Rattle.std.proofs.Math.Nat.{mod-lt}
+use Rattle.std.proofs.Common.{◌≡◌, ℕ, List, [], ◌∷◌, ◌++◌, length, Option, Some, refl, sym, ap, ◌∙◌, subst, slice_get, option_and_then}
 use Rattle.fab_policy.specs.Outputs.{State, advertised_after}
 use Rattle.fab_policy.specs.State.{Tables}
 use Rattle.fab_policy.specs.Standing.{Contents, Takes}
@@ -39,10 +38,6 @@ takes F K e s T advertised k sent tables advert = record {
   events = k.events;
   outs = k.outs ∙ ap (λ l. F.outs ++ l) sent.outs;
 }
-
--- state changes are counted below 65535
-pub few_changes : (n r : ℕ) → r ≡ n % 65535 → r < 65535
-few_changes n r e = let some : 0 < 65535 = omega arith in let l : n % 65535 < 65535 = mod-lt n some in omega (arith, e, l)
 
 -- what is sent by what was known before an entry
 pub sent_for : (b : Before) (F : Contents) (e : Event) (events : List Event) (s : Sends) → IsBefore b F → AreSent b.config.now b.ports (state_before b) e events s → AreSent F.settings F.count F.state e events s

@@ -1,4 +1,6 @@
 //! What a verdict does to the tables.
+#![tactic(auto, using(crate::proofs::CarryLemmas::changed, crate::proofs::ReadLemmas::sender_read))]
+
 ghost use Rattle.std.specs.Prelude.{◌≡◌, ◌<◌, ◌==◌, length, IsSome, IsTrue, false};
 ghost use Rattle.std.specs.List.{list_any};
 ghost use Rattle.ct_messages.specs.Ask.{view};

@@ -1,7 +1,6 @@
 //! What a turn puts behind the entries and the frames since the last drain.
 ghost use Rattle.std.specs.Prelude.{◌≡◌, ◌<◌, ◌≤◌, [], ◌∷◌, ◌++◌, length, IfOk, IfSome, OnOk, OnErr};
 ghost use Rattle.std.specs.List.{All};
-ghost use Rattle.fab_policy.specs.Steps.{InPool};
 ghost use Rattle.fab_policy.specs.Ranged.{IsRangedEvent};
 ghost use Rattle.fab_replies.specs.Message.{AreSendable};
 ghost use Rattle.fab_roster.specs.Changes.{IsSize};
@@ -21,8 +20,7 @@ impl Fabric {
     // What is known before an entry.
     pub(crate) fn before(&self) -> Before<'_>
         ensures is { IsBefore result self.now }
-        ensures few { length self.now.state.tables.ports ≤ 65535 }
-        ensures pool { InPool self.now.settings self.now.state.tables.ports }
+        ensures few { length result.roster.now.tables.ports ≤ 65535 }
         ensures sizes { All (λ p. IfSome p.server IsSize) self.now.state.tables.ports }
     {
         // For the proof: the values of the configuration are in their ranges.

@@ -1,13 +1,10 @@
-use Rattle.std.proofs.Common.{◌≡◌, ◌≤◌, Some, unwrap_or, length, ap, sym, subst}
+use Rattle.std.proofs.Common.{◌≡◌, Some, unwrap_or, ap, sym, subst}
 use Rattle.fab_policy.specs.Heard.{s_id}
 use Rattle.fab_policy.specs.Outputs.{State}
 use Rattle.fab_policy.specs.State.{port_at}
 use Rattle.forward_core.specs.Arrived.{caught_of}
 use Rattle.forward_core.proofs.ServiceLemmas.{size_fits}
 use Rattle.forward_core.proofs.fabric.Fabric.answer.Goals as goal
-
-pub answer_sends-requires-clause-few : goal.answer_sends-requires-clause-few
-answer_sends-requires-clause-few c = subst (λ (S : State). length S.tables.ports ≤ 65535) (sym c.before-2.ensures.is.state) c.before-2.ensures.few
 
 pub answer_sends-requires-clause-asked : goal.answer_sends-requires-clause-asked
 answer_sends-requires-clause-asked c = λ b at.

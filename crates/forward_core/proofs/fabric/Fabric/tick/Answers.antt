@@ -1,15 +1,13 @@
-use Rattle.std.proofs.Common.{◌+◌, ◌∙◌, [], ◌∷◌, ◌++◌, length, ap, refl, sym, subst}
-use Rattle.fab_policy.specs.Outputs.{notices}
+use Rattle.std.proofs.Common.{◌∙◌, [], ◌∷◌, ◌++◌, ap, refl, sym, subst}
 use Rattle.fab_policy.specs.Standing.{Contents, Takes}
 use Rattle.fab_policy.specs.State.{addresses, overdue}
-use Rattle.fab_policy.specs.Steps.{after}
 use Rattle.fab_policy.specs.declared.event.Event.TheVariants.{Tick}
 use Rattle.fab_roster.specs.Roll.{addresses_of}
 use Rattle.fab_sending.proofs.Counting.{addresses_same}
-use Rattle.fab_sending.specs.Sends.{AreSent, state_before}
+use Rattle.fab_sending.specs.Sends.{AreSent}
 use Rattle.forward_core.specs.Fabric.{contents_of}
 use Rattle.forward_core.specs.Turns.{Keeps}
-use Rattle.forward_core.proofs.TakeLemmas.{few_changes, sent_for}
+use Rattle.forward_core.proofs.TakeLemmas.{sent_for}
 use Rattle.forward_core.proofs.TickLemmas.{tick_takes}
 use Rattle.forward_core.proofs.fabric.Fabric.tick.Goals as goal
 
@@ -17,12 +15,6 @@ pub keep-requires-clause-sendable : goal.keep-requires-clause-sendable
 keep-requires-clause-sendable c =
     let events = c.args.self.now.events ++ Tick c.args.moment c.in_ok-addresses.addresses ∷ [] in
     (sent_for c.before-2.result c.args.self.now (Tick c.args.moment (addresses_of c.in_ok-ended.ended)) events c.in_ok-sends.sends c.before-2.ensures.is (c.in_ok-sends.ensures.sent events)).sendable
-
-pub keep-requires-clause-rscns : goal.keep-requires-clause-rscns
-keep-requires-clause-rscns c =
-    let b = c.before-2.result in
-    few_changes ((state_before b).rscns + length (notices b.config.now (state_before b).tables (after b.config.now (state_before b).tables (Tick c.args.moment (addresses_of c.in_ok-ended.ended))) (Tick c.args.moment (addresses_of c.in_ok-ended.ended))))
-    c.in_ok-sends.sends.rscns (c.in_ok-sends.ensures.sent []).rscns
 
 turn : (c : goal.After-drop-ended-inside-2) → Takes c.args.self.now (Tick c.args.moment (addresses (overdue c.args.self.now.settings c.args.self.now.state.tables c.args.moment)))
     (contents_of (record c.self.inside { roster = c.end_all.new.self; advertised = c.advertised_after-self-inside.result }))
