@@ -1,14 +1,14 @@
 -- Tables changed by a frame that grants nothing are those of the policy.
-use Rattle.std.proofs.Common.{◌≡◌, ℕ, ◌==◌, Bool, true, false, cond, List, [], ◌∷◌, Option, Some, None, option_map, refl, sym, ap, ◌∙◌, subst, IsSome, IfSome}
+use Rattle.std.proofs.Common.{◌≡◌, ℕ, ◌==◌, Bool, true, false, cond, List, [], ◌∷◌, Some, sym, ◌∙◌, subst, IfSome}
 use Rattle.std.specs.List.{All}
 use Rattle.std.proofs.lemmas.List.Elements.{All-head, All-tail}
 use Rattle.fab_config.specs.Settings.{Settings}
-use Rattle.fab_policy.specs.Changes.{CanStay, FrameSteps, LogoutSteps, leaves_logins, stays_as}
+use Rattle.fab_policy.specs.Changes.{CanStay, FrameSteps, leaves_logins, stays_as}
 use Rattle.fab_policy.specs.Heard.{s_id}
 use Rattle.fab_policy.specs.State.{LivePort, Tables, now_of, port_at}
 use Rattle.fab_policy.specs.declared.verdict.Verdict.{Verdict}
-use Rattle.fab_policy.specs.declared.verdict.Verdict.TheVariants.{Granted, Logout, Registered}
-use Rattle.fab_roster.specs.Changes.{ChangesPorts, Ends, IsSoundRoll, KeepsBounds}
+use Rattle.fab_policy.specs.declared.verdict.Verdict.TheVariants.{Granted, Registered}
+use Rattle.fab_roster.specs.Changes.{ChangesPorts, IsSoundRoll, KeepsBounds}
 use Rattle.fab_roster.specs.Roll.{Roll}
 use Rattle.fab_sending.specs.Sends.{CanFollow}
 use Rattle.forward_core.specs.Arrived.{caught_of}
@@ -37,35 +37,6 @@ stayed steps frame v old new leaves can change sound = record {
   tables = λ c of. let is = same_roll c old new change.bounds of in
       steps c frame.port frame.index (caught_of frame) v old.tables new.tables leaves can change.clock (in_pool c new is.lowest is.count sound) change.ports change.past;
   follows = λ c of. stay_follows c old.tables frame v leaves can;
-}
-
-same_bounds : (r : Roll) → KeepsBounds r r
-same_bounds r = record { lowest = refl; count = refl; limit = refl; period = refl }
-
-unchanged : (f : LivePort → LivePort) → ((p : LivePort) → f p ≡ p) → (o : Option LivePort) → o ≡ option_map f o
-unchanged f same None = refl
-unchanged f same (Some p) = ap Some (sym (same p))
-
--- nothing changes
-pub left : FrameSteps → (frame : Arrived) (v : Verdict) (r : Roll) → leaves_logins v ≡ true → ((p : LivePort) → CanStay (caught_of frame) v p) →
-    ((at : ℕ) (p : LivePort) → stays_as at frame.port (caught_of frame) v p ≡ p) → IsSoundRoll r → CarriesOut frame v r r
-left steps frame v r leaves can same sound =
-    stayed steps frame v r r leaves (λ a p e. can p) (record {
-      bounds = same_bounds r;
-      clock = refl;
-      past = refl;
-      ports = λ a. unchanged (stays_as (now_of r.tables) frame.port (caught_of frame) v) (same (now_of r.tables)) (port_at a r.tables.ports);
-    }) sound
-
--- a live login ended
-pub ended : LogoutSteps → (frame : Arrived) (a : ℕ) (old new : Roll) → IsSome (port_at a old.tables.ports) → Ends a old new → IsSoundRoll new → CarriesOut frame (Logout a) old new
-ended steps frame a old new live ends sound = record {
-  bounds = ends.bounds;
-  sound = sound;
-  clock = ends.clock;
-  tables = λ c of. let is = same_roll c old new ends.bounds of in
-      steps c frame.port frame.index a (caught_of frame) old.tables new.tables live ends.clock (in_pool c new is.lowest is.count sound) ends.ports ends.past;
-  follows = λ c of. tt;
 }
 
 -- a verdict that is this one, by what it does to each N_Port

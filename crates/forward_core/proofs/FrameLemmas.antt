@@ -1,10 +1,9 @@
 -- The turn of a frame.
-use Rattle.std.proofs.Common.{◌≡◌, ℕ, ◌+◌, ◌*◌, length, is_some, Ok, sym, ap, ◌∙◌, subst}
+use Rattle.std.proofs.Common.{◌≡◌, ℕ, ◌+◌, ◌*◌, length, Ok, sym, subst}
 use Rattle.fab_config.specs.Settings.{Settings}
 use Rattle.fab_policy.specs.Standing.{Contents}
 use Rattle.fab_policy.specs.Steps.{after}
 use Rattle.fab_policy.specs.declared.verdict.Verdict.{Verdict}
-use Rattle.fab_roster.specs.Changes.{IsSoundRoll, KeepsBounds}
 use Rattle.fab_roster.specs.Roll.{Roll}
 use Rattle.fab_sending.specs.Sends.{CanFollow, FrameSends}
 use Rattle.fab_sending.specs.declared.sends.Before.{Before}
@@ -20,24 +19,6 @@ use Rattle.forward_core.proofs.TakeLemmas.{frame_sent, takes}
 -- the roster of a fabric was made for its configuration
 roll_of : (i : Inside) → IsFabric i → (c : Settings) → i.config ≡ c → IsRollOf c i.roster
 roll_of i f c same = record { lowest = subst (λ (s : Settings). i.roster.lowest ≡ s.domain * 65536 + 256) same f.lowest; count = subst (λ (s : Settings). i.roster.count ≡ s.pool) same f.pool }
-
--- a fabric whose roster carried a verdict out
-pub framed : (i : Inside) → IsFabric i → (new : Roll) → KeepsBounds i.roster new → IsSoundRoll new → new.tables.clock ≡ i.roster.tables.clock → IsFabric (record i { roster = new })
-framed i f new bounds sound clock = record {
-  least = f.least;
-  most = f.most;
-  lowest = bounds.lowest ∙ f.lowest;
-  pool = bounds.count ∙ f.pool;
-  limit = bounds.limit ∙ f.limit;
-  period = bounds.period ∙ f.period;
-  sound = sound;
-  zones = f.zones;
-  advertised = f.advertised ∙ ap is_some (sym clock);
-  range = f.range;
-  rscns = f.rscns;
-  ranged = f.ranged;
-  sendable = f.sendable;
-}
 
 -- its turn: the entry was kept with what it sends
 pub carried_takes : (i : Inside) → IsFabric i → (frame : Arrived) (v : Verdict) (new : Roll) → CarriesOut frame v i.roster new → (F K : Contents) → contents_of i ≡ K → KeepsFrame F frame v K →
