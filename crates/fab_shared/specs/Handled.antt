@@ -1,12 +1,18 @@
 -- What it is to handle the frames of a window.
-use Rattle.std.specs.Prelude.{◌≡◌, ◌≢◌, ℕ, ◌+◌, List, [], ◌∷◌, map}
+use Rattle.std.specs.Prelude.{◌≡◌, ◌≢◌, ℕ, ◌+◌, ◌≤◌, List, [], ◌∷◌, length, map, IsSome}
 use Rattle.fab_policy.specs.Journal.{followed}
 use Rattle.fab_policy.specs.Legal.{HasPorts, of_port, numbered_from}
 use Rattle.fab_policy.specs.Standing.{Contents, Grown}
 use Rattle.fab_policy.specs.declared.event.Event.{Event}
 use Rattle.pcap_file.specs.declared.Record.{Record}
 use Rattle.fab_gather.specs.declared.shelf.Shelf.{Shelf}
-use Rattle.fab_gather.specs.Reads.{first_index}
+use Rattle.fab_gather.specs.Reads.{batches_of, first_index}
+
+-- What a fabric has to be to handle what lies on shelves: it has a clock and a port a shelf, which are 64 at most.
+pub record CanTake (F : Contents) (shelves : List Shelf) : Type 0 where
+  pub clock : IsSome F.state.tables.clock
+  pub ports : F.count ≡ length shelves
+  pub few : length shelves ≤ 64
 
 -- the numbers of the first records on shelves
 abbrev pub firsts_of : List Shelf → List ℕ
@@ -30,3 +36,7 @@ pub record Handled (firsts : List ℕ) (batches : List (List Record)) (F G : Con
   pub grown : Grown F G
   pub ports : HasPorts F.count (followed [] grown.later)
   pub held : HoldBatches grown.later 1 firsts batches
+
+-- the records are those on shelves
+abbrev pub HandledShelves : List Shelf → Contents → Contents → Type 0
+HandledShelves shelves F G = Handled (firsts_of shelves) (batches_of shelves) F G

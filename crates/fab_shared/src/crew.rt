@@ -1,10 +1,9 @@
 //! The workers of a window, each in a thread of its own.
 ghost use Rattle.std.specs.Prelude.{◌≡◌, ◌<◌, ◌≤◌, ◌+◌, ℕ, List, [], Some, All, IsSome, IfOk, false, length, vec_capacity, slice_get, slice_index_or};
-ghost use Rattle.fab_gather.specs.Reads.{batches_of};
 ghost use Rattle.fab_gather.specs.declared.shelf.Shelf as of_gather;
 ghost use Rattle.fab_turn.specs.Lock.{own, given, kept, IsRootOf, IsIdle, AllJoined};
 ghost use Rattle.fab_shared.specs.Shared.{opened};
-ghost use Rattle.fab_shared.specs.Handled.{Handled, firsts_of};
+ghost use Rattle.fab_shared.specs.Handled.{CanTake, HandledShelves};
 ghost use Rattle.fab_shared.specs.Workers.{IsReady, IsNew, IsDone, HasWorkers, AreHired, AreTaken};
 ghost use Rattle.fab_shared.specs.declared.worker.Worker as of_workers;
 
@@ -18,51 +17,23 @@ use std::sync::Wait;
 use std::thread;
 use std::thread::Threads;
 
-/// Has a worker for each port with a frame handle the frames of that port. All memory for the
-/// workers is asked for before a port is given out.
-pub(crate) fn at_once<R: Threads + Wait + Sync, G: Gate + Sync>(
-    rt: &R,
-    alloc: Global,
-    fabric: Fabric,
-    shelves: &[Shelf],
-    gate: &G,
-) -> Result<Fabric, NoMemory>
-    requires clock { IsSome fabric.state.tables.clock }
-    requires ports { fabric.count ≡ length shelves.now }
-    requires few { length shelves.now ≤ 64 }
-    ensures handled { IfOk result (λ f.
-        Handled (firsts_of shelves.now) (batches_of shelves.now) fabric f) }
-{
-    let Ok(workers) = Vec::with_capacity(alloc, shelves.len()) else {
-        return Err(NoMemory);
-    };
-    match SharedFabric::open(alloc, fabric) {
-        Ok((shared, root)) => by_workers(rt, alloc, shared, root, workers, shelves, gate),
-        Err(_) => Err(NoMemory),
-    }
-}
-
-// Hires workers, has them work and takes their passes back.
-fn by_workers<R: Threads + Wait + Sync, G: Gate + Sync>(
+/// Has a worker for each port with a frame handle the frames of that port, and takes their passes
+/// back. All memory for the workers is asked for before a port is given out.
+pub(crate) fn by_workers<R: Threads + Wait + Sync, G: Gate + Sync>(
     rt: &R,
     alloc: Global,
     shared: SharedFabric,
     root: Pass,
-    workers: Vec<Worker>,
     shelves: &[Shelf],
     gate: &G,
 ) -> Result<Fabric, NoMemory>
     requires root { IsRootOf shared.lock root × IsIdle root }
     requires lists { (given root ≡ []) × (kept root ≡ []) }
-    requires room { (workers.items ≡ []) × (length shelves.now ≤ vec_capacity workers) }
-    requires clock { IsSome (opened shared).state.tables.clock }
-    requires ports { (opened shared).count ≡ length shelves.now }
-    requires few { length shelves.now ≤ 64 }
-    ensures handled { IfOk result (λ f.
-        Handled (firsts_of shelves.now) (batches_of shelves.now) (opened shared) f) }
+    requires can { CanTake (opened shared) shelves.now }
+    ensures handled { IfOk result (λ f. HandledShelves shelves.now (opened shared) f) }
 {
     let mut root = root;
-    let mut workers = workers;
+    let mut workers = Vec::with_capacity(alloc, shelves.len())?;
     hire(&shared, &mut root, &mut workers, shelves);
     work_all(rt, alloc, &shared, shelves, gate, workers.as_mut_slice());
     let refused = join_all(&shared, &mut root, workers);

@@ -1,7 +1,7 @@
 //! The frames of a window, one port after another.
-ghost use Rattle.std.specs.Prelude.{◌≡◌, ◌+◌, ◌<◌, ◌≤◌, ◌∷◌, [], IfOk, IsSome, OnOk, length};
-ghost use Rattle.fab_gather.specs.Reads.{batches_of, first_index};
-ghost use Rattle.fab_shared.specs.Handled.{Handled, HandledPort, firsts_of};
+ghost use Rattle.std.specs.Prelude.{◌≤◌, ◌∷◌, [], IsSome, OnOk};
+ghost use Rattle.fab_gather.specs.Reads.{first_index};
+ghost use Rattle.fab_shared.specs.Handled.{CanTake, HandledPort, HandledShelves};
 
 use fab_base::{Gate, NoMemory, PortNo};
 use fab_gather::Shelf;
@@ -13,23 +13,19 @@ use std::alloc::Global;
 /// Handles the records on the shelves, those of one port after those of another, under a gate.
 pub(crate) fn in_turn<G: Gate>(
     alloc: Global,
-    fabric: Fabric,
+    fabric: &mut Fabric,
     shelves: &[Shelf],
     gate: &G,
-) -> Result<Fabric, NoMemory>
-    requires clock { IsSome fabric.state.tables.clock }
-    requires ports { fabric.count ≡ length shelves.now }
-    requires few { length shelves.now ≤ 64 }
-    ensures handled { IfOk result (λ f.
-        Handled (firsts_of shelves.now) (batches_of shelves.now) fabric f) }
+) -> Result<(), NoMemory>
+    requires { CanTake fabric.old shelves.now }
+    ensures handled { OnOk result (HandledShelves shelves.now fabric.old fabric.new) }
 {
     // Law: entries may come in two parts; each port's come behind those of the ports before it.
     entries_come_in_parts();
-    let mut fabric = fabric;
     for (place, shelf) in shelves.iter().enumerate() {
-        take_port(alloc, &mut fabric, PortNo::at(place), shelf, gate)?;
+        take_port(alloc, fabric, PortNo::at(place), shelf, gate)?;
     }
-    Ok(fabric)
+    Ok(())
 }
 
 // Handles the records on a port's shelf in their order.

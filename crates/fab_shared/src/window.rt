@@ -1,10 +1,10 @@
 //! The frames of a window.
-ghost use Rattle.std.specs.Prelude.{◌≡◌, ◌≤◌, IfOk, IsSome, length, nat_lt};
+ghost use Rattle.std.specs.Prelude.{◌≡◌, IfOk, length, nat_lt};
 ghost use Rattle.std.specs.List.{filter};
-ghost use Rattle.fab_gather.specs.Reads.{batches_of};
-ghost use Rattle.fab_shared.specs.Handled.{Handled, firsts_of};
+ghost use Rattle.fab_shared.specs.Handled.{CanTake, HandledShelves};
 
-use crate::crew::at_once;
+use crate::SharedFabric;
+use crate::crew::by_workers;
 use crate::frames::in_turn;
 use crate::sizes::lacking;
 use fab_base::{Gate, NoMemory};
@@ -28,16 +28,18 @@ pub fn take_frames<R: Threads + Wait + Sync, G: Gate + Sync>(
     shelves: &[Shelf],
     gate: &G,
 ) -> Result<Fabric, NoMemory>
-    requires clock { IsSome fabric.state.tables.clock }
-    requires ports { fabric.count ≡ length shelves.now }
-    requires few { length shelves.now ≤ 64 }
-    ensures handled { IfOk result (λ f.
-        Handled (firsts_of shelves.now) (batches_of shelves.now) fabric f) }
+    requires { CanTake fabric shelves.now }
+    ensures handled { IfOk result (λ f. HandledShelves shelves.now fabric f) }
 {
     if busy(shelves) > 1 && (G::HOLDS || lacking(shelves, WORTH_WORKERS) == 0) {
-        at_once(rt, alloc, fabric, shelves, gate)
+        match SharedFabric::open(alloc, fabric) {
+            Ok((shared, root)) => by_workers(rt, alloc, shared, root, shelves, gate),
+            Err(_) => Err(NoMemory),
+        }
     } else {
-        in_turn(alloc, fabric, shelves, gate)
+        let mut fabric = fabric;
+        in_turn(alloc, &mut fabric, shelves, gate)?;
+        Ok(fabric)
     }
 }
 

@@ -27,5 +27,5 @@ returns-else-refused g c =
     let j = c.join_all-refused.ensures in
     let done = subst (λ (ws : List Worker). All (λ w. IsDone shelves w) ws) (sym (lent old new c.hire.new.workers.len c.hire.new.workers.ok.0 len)) c.work_all.ensures.done in
     record {
-      handled = handled _ c.close-fabric.result root shelves c.close-fabric.ensures j.joined (out_same (length shelves) shelves c.hire.new.root root j.given c.hire.ensures.out) (j.taken c.if-refused.false shelves done) c.requires.ports;
+      handled = handled _ c.close-fabric.result root shelves c.close-fabric.ensures j.joined (out_same (length shelves) shelves c.hire.new.root root j.given c.hire.ensures.out) (j.taken c.if-refused.false shelves done) c.requires.can.ports;
     }
