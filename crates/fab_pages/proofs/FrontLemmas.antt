@@ -1,6 +1,6 @@
 -- Pages in front of which stands what they had.
-use Rattle.std.proofs.Common.{◌≡◌, ◌≢◌, ℕ, zero, suc, ◌+◌, ◌<◌, ◌≤◌, ◌⊎◌, inl, inr, Bool, true, false, cond, eqb, List, [], ◌∷◌, ◌++◌, length, map, take, drop, get_or, refl, sym, ap, ◌∙◌, subst, arith, append_assoc, append-nil}
-use Rattle.std.specs.Prelude.{Vec, slice_set, Result, Ok, Err, OnErr, is_err}
+use Rattle.std.proofs.Common.{◌≡◌, ◌≢◌, ℕ, zero, suc, ◌+◌, ◌<◌, ◌≤◌, inl, inr, Bool, true, false, cond, eqb, List, [], ◌∷◌, ◌++◌, length, map, take, drop, get_or, refl, sym, ap, ◌∙◌, subst, arith, append_assoc, append-nil}
+use Rattle.std.specs.Prelude.{Vec, slice_set}
 use Rattle.std.specs.declared.alloc.Global.{Global}
 use Rattle.pcap_file.proofs.lemmas.Numbers.{le_or_lt}
 use Rattle.fab_policy.specs.Outputs.{Sent}
@@ -89,14 +89,6 @@ pages_back lengths old now back are on len each = same_pages old back (len ∙ o
     let more = on.pages q lt in
     let size : get_or lengths q 0 ≡ length (piece_at old q) = ap (λ l. get_or l q 0) are ∙ length-at old q lt in
     each q (subst (λ (n : ℕ). q < n) (sym on.count) lt) ∙ ap (take (get_or lengths q 0)) more.1 ∙ front_of (piece_at old q) more.0 (get_or lengths q 0) size)
-
-pub err_holds : {A E : Type 0} (r : Result A E) (P : Type 0) → P → OnErr r P
-err_holds (Ok a) P p = tt
-err_holds (Err e) P p = p
-
-pub no_err : {A E : Type 0} (r : Result A E) (P : Type 0) → is_err r ≡ false → OnErr r P
-no_err (Ok a) P none = tt
-no_err (Err e) P none = absurd cc
 
 -- ---- pages that were out with encoders
 

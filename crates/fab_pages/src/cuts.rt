@@ -1,6 +1,6 @@
 //! What pages had, so that a refusal leaves them that.
-ghost use Rattle.std.specs.Prelude.{◌≡◌, ◌≢◌, ℕ, ◌<◌, length, map, take, IfOk, slice_index};
-ghost use Rattle.fab_pages.specs.Pages.{items_in, piece_at};
+ghost use Rattle.std.specs.Prelude.{◌≡◌, ◌≢◌, ℕ, ◌<◌, List, length, map, take, IfOk};
+ghost use Rattle.fab_pages.specs.Pages.{GoOn, items_in, piece_at};
 
 use fab_base::NoMemory;
 use std::alloc::Global;
@@ -16,12 +16,12 @@ pub(crate) fn lengths_of(alloc: Global, pages: &[Vec<u8>]) -> Result<Vec<usize>,
     Ok(lengths)
 }
 
-// Cuts each page to its length of before.
+// Cuts each page to its length of before, so that they have what they had.
 pub(crate) fn cut_all(lengths: &[usize], pages: &mut [Vec<u8>])
     requires { length lengths.now ≡ length pages.old }
     ensures count { length pages.new ≡ length pages.old }
-    ensures pages { (q : ℕ) → q < length pages.old → piece_at (items_in pages.new) q
-        ≡ take (slice_index lengths.now q) (piece_at (items_in pages.old) q) }
+    ensures back { (old : List (List ℕ)) → lengths.now ≡ map (λ page. length page) old
+        → GoOn old (items_in pages.old) → items_in pages.new ≡ old }
 {
     for place in 0..pages.len() {
         cut(pages, place, lengths[place]);

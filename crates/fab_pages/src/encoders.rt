@@ -1,15 +1,14 @@
 //! The records of several ports at once, those of each port in a thread of its own.
-ghost use Rattle.std.specs.Prelude.{◌≡◌, ℕ, ◌+◌, ◌<◌, ◌≤◌, ◌^◌, ◌++◌, ◌∷◌, [], false, List, length, map, IsTrue, OnOk, OnErr, vec_capacity, vec_len, slice_index_or, slice_set};
+ghost use Rattle.std.specs.Prelude.{◌≡◌, ℕ, ◌+◌, ◌<◌, ◌≤◌, ◌^◌, ◌++◌, ◌∷◌, [], false, List, length, IsTrue, OnOk, vec_capacity, vec_len, slice_index_or, slice_set};
 ghost use Rattle.fab_policy.specs.Growing.{records_to};
-ghost use Rattle.fab_replies.specs.Message.{can_send, sent_of};
-ghost use Rattle.fab_pages.specs.Pages.{Adds, AreEarly, GoOn, GoesOn, items_in, piece_at};
+ghost use Rattle.fab_replies.specs.Message.{can_send};
+ghost use Rattle.fab_pages.specs.Pages.{Adds, AreEarly, GoOn, GoesOn, Writes, items_in, piece_at, sent_by, sents_of};
 ghost use Rattle.fab_pages.specs.Encoders.{AreBelow, AreOut, IsEncoded, NoneFor, NoneRefused, page_in};
 ghost use Rattle.fab_pages.specs.declared.encoders.Encoder as of_pages;
 
 use crate::cuts::{cut_all, lengths_of};
-use crate::pages::{write_each, write_sent};
+use crate::pages::Sendings;
 use fab_base::NoMemory;
-use fab_config::Config;
 use fab_policy::Event;
 use forward_core::{Drained, EventList, Out, OutMessage};
 use std::alloc::Global;
@@ -30,54 +29,48 @@ pub(crate) struct Encoder {
     pub(crate) refused: bool,
 }
 
-/// As `write_records`; where there are many bytes, a thread for each port that has a record.
-pub fn write_records_at_once<R: Threads + Sync>(
-    rt: &R,
-    alloc: Global,
-    config: &Config,
-    drained: &Drained,
-    pages: &mut [Vec<u8>],
-) -> Result<(), NoMemory>
-    requires early { AreEarly drained.now.outs }
-    ensures adds { OnOk result (Adds (map (sent_of config.now drained.now.events) drained.now.outs)
-        (items_in pages.old) (items_in pages.new)) }
-    ensures err { OnErr result (items_in pages.new ≡ items_in pages.old) }
-    ensures count { length pages.new ≡ length pages.old }
-{
-    let lengths = lengths_of(alloc, pages)?;
-    let written = write_each_at_once(rt, alloc, config, drained, pages);
-    if written.is_err() {
-        cut_all(&lengths, pages);
-    }
-    written
-}
-
-// The same; where memory is refused, behind the pages stands some of it.
-fn write_each_at_once<R: Threads + Sync>(
-    rt: &R,
-    alloc: Global,
-    config: &Config,
-    drained: &Drained,
-    pages: &mut [Vec<u8>],
-) -> Result<(), NoMemory>
-    requires early { AreEarly drained.now.outs }
-    ensures adds { OnOk result (Adds (map (sent_of config.now drained.now.events) drained.now.outs)
-        (items_in pages.old) (items_in pages.new)) }
-    ensures fronts { GoOn (items_in pages.old) (items_in pages.new) }
-{
-    if are_few(drained) {
-        return write_each(alloc, config, drained, pages);
-    }
-    let Ok(mut encoders) = Vec::with_capacity(alloc, pages.len()) else {
-        return Err(NoMemory);
-    };
-    take_pages(alloc, drained, pages, &mut encoders);
-    encode_all(rt, alloc, config, drained, encoders.as_mut_slice());
-    if put_back(encoders, pages) {
-        Err(NoMemory)
-    } else {
+impl Sendings<'_> {
+    /// As `write_records`; where there are many bytes, a thread for each port that has a record.
+    pub fn write_records_at_once<R: Threads + Sync>(
+        &self,
+        rt: &R,
+        alloc: Global,
+        pages: &mut [Vec<u8>],
+    ) -> Result<(), NoMemory>
+        requires { AreEarly self.now.drained.now.outs }
+        ensures { Writes (sents_of self.now) pages.old pages.new result }
+    {
+        if are_few(self.drained) {
+            return self.write_records(alloc, pages);
+        }
+        let lengths = lengths_of(alloc, pages)?;
+        let encoders = Vec::with_capacity(alloc, pages.len())?;
+        if write_by(rt, alloc, self, encoders, pages) {
+            cut_all(&lengths, pages);
+            return Err(NoMemory);
+        }
         Ok(())
     }
+}
+
+// Appends the records by encoders. Whether memory was refused; then only some of them stand there.
+fn write_by<R: Threads + Sync>(
+    rt: &R,
+    alloc: Global,
+    sendings: &Sendings<'_>,
+    encoders: Vec<Encoder>,
+    pages: &mut [Vec<u8>],
+) -> bool
+    requires early { AreEarly sendings.now.drained.now.outs }
+    requires room { (encoders.items ≡ []) × (length pages.old ≤ vec_capacity encoders) }
+    ensures adds { result ≡ false → Adds (sents_of sendings.now) (items_in pages.old)
+        (items_in pages.new) }
+    ensures fronts { GoOn (items_in pages.old) (items_in pages.new) }
+{
+    let mut encoders = encoders;
+    take_pages(alloc, sendings.drained, pages, &mut encoders);
+    encode_all(rt, alloc, sendings, encoders.as_mut_slice());
+    put_back(encoders, pages)
 }
 
 // Whether what is sent has less than many bytes.
@@ -106,8 +99,7 @@ fn size_of(events: &EventList, message: &OutMessage) -> usize {
 
 // Takes the page of each port that has a record out.
 fn take_pages(alloc: Global, drained: &Drained, pages: &mut [Vec<u8>], encoders: &mut Vec<Encoder>)
-    requires empty { encoders.old.items ≡ [] }
-    requires room { length pages.old ≤ vec_capacity encoders.old }
+    requires { (encoders.old.items ≡ []) × (length pages.old ≤ vec_capacity encoders.old) }
     ensures count { length pages.new ≡ length pages.old }
     ensures out { AreOut (length pages.old) drained.now.outs encoders.new.items
         (items_in pages.old) (items_in pages.new) }
@@ -164,14 +156,13 @@ fn has_record(drained: &Drained, place: usize) -> bool
 fn encode_all<R: Threads + Sync>(
     rt: &R,
     alloc: Global,
-    config: &Config,
-    drained: &Drained,
+    sendings: &Sendings<'_>,
     encoders: &mut [Encoder],
 )
-    requires early { AreEarly drained.now.outs }
-    ensures each { (k : ℕ) (d : of_pages.Encoder) → k < length encoders.old → IsEncoded
-        (map (sent_of config.now drained.now.events) drained.now.outs)
-        (slice_index_or encoders.old k d) (slice_index_or encoders.new k d) }
+    requires { AreEarly sendings.now.drained.now.outs }
+    ensures { (k : ℕ) (d : of_pages.Encoder) → k < length encoders.old
+        → IsEncoded (sents_of sendings.now) (slice_index_or encoders.old k d)
+        (slice_index_or encoders.new k d) }
 {
     if encoders.is_empty() {
         return;
@@ -182,42 +173,39 @@ fn encode_all<R: Threads + Sync>(
         encoders,
         threads,
         &|_: usize, encoder: &mut Encoder|
-            requires { AreEarly drained.now.outs }
-            ensures { IsEncoded (map (sent_of config.entry.now drained.entry.now.events)
-                drained.entry.now.outs) encoder.old encoder.new }
-        { encode(alloc, config, drained, encoder) },
+            requires { AreEarly sendings.now.drained.now.outs }
+            ensures { IsEncoded (sents_of sendings.entry.now) encoder.old encoder.new }
+        { encode(alloc, sendings, encoder) },
     );
 }
 
 // Appends the records of an encoder's port.
-fn encode(alloc: Global, config: &Config, drained: &Drained, encoder: &mut Encoder)
-    requires early { AreEarly drained.now.outs }
-    ensures { IsEncoded (map (sent_of config.now drained.now.events) drained.now.outs)
-        encoder.old encoder.new }
+fn encode(alloc: Global, sendings: &Sendings<'_>, encoder: &mut Encoder)
+    requires { AreEarly sendings.now.drained.now.outs }
+    ensures { IsEncoded (sents_of sendings.now) encoder.old encoder.new }
 {
     let place = encoder.place;
-    let written = write_port(alloc, config, drained, place, &mut encoder.page);
+    let written = write_port(alloc, sendings, place, &mut encoder.page);
     encoder.refused = written.is_err();
 }
 
 // Appends the records of the frames that are sent on the port at a place.
 fn write_port(
     alloc: Global,
-    config: &Config,
-    drained: &Drained,
+    sendings: &Sendings<'_>,
     place: usize,
     page: &mut Vec<u8>,
 ) -> Result<(), NoMemory>
-    requires early { AreEarly drained.now.outs }
-    ensures ok { OnOk result (page.new.items ≡ page.old.items ++ records_to (place + 1)
-        (map (sent_of config.now drained.now.events) drained.now.outs)) }
+    requires { AreEarly sendings.now.drained.now.outs }
+    ensures ok { OnOk result (page.new.items
+        ≡ page.old.items ++ records_to (place + 1) (sents_of sendings.now)) }
     ensures front { GoesOn page.old.items page.new.items }
 {
-    for index in 0..drained.outs.len() {
-        let Some(out) = drained.outs.at(index) else {
+    for index in 0..sendings.drained.outs.len() {
+        let Some(out) = sendings.drained.outs.at(index) else {
             unreachable!()
         };
-        write_own(alloc, config, &drained.events, out, place, page)?;
+        write_own(alloc, sendings, out, place, page)?;
     }
     Ok(())
 }
@@ -225,22 +213,21 @@ fn write_port(
 // Appends the record of a frame that is sent, where it is of the port at a place.
 fn write_own(
     alloc: Global,
-    config: &Config,
-    events: &EventList,
+    sendings: &Sendings<'_>,
     out: &Out,
     place: usize,
     page: &mut Vec<u8>,
 ) -> Result<(), NoMemory>
-    requires can { IsTrue (can_send events.now out.now.message) }
+    requires can { IsTrue (can_send sendings.now.drained.now.events out.now.message) }
     requires early { out.now.moment < 2 ^ 53 }
-    ensures ok { OnOk result (page.new.items ≡ page.old.items ++ records_to (place + 1)
-        (sent_of config.now events.now out.now ∷ [])) }
+    ensures ok { OnOk result (page.new.items
+        ≡ page.old.items ++ records_to (place + 1) (sent_by sendings.now out.now ∷ [])) }
     ensures front { GoesOn page.old.items page.new.items }
 {
     if out.port.index() != place {
         return Ok(());
     }
-    write_sent(alloc, config, events, out, page)?;
+    sendings.write_sent(alloc, out, page)?;
     Ok(())
 }
 

@@ -5,6 +5,5 @@ mod cuts;
 mod encoders;
 mod pages;
 
-pub use encoders::write_records_at_once;
-pub use pages::write_records;
+pub use pages::Sendings;
 pub use run_files::{clear_all, head_records};

@@ -1,107 +1,95 @@
 //! Pages: for each port the bytes that its output grows by next.
-ghost use Rattle.std.specs.Prelude.{◌≡◌, ◌+◌, ◌-◌, ◌<◌, ◌≤◌, ◌^◌, ◌++◌, ◌∷◌, [], length, map, take, drop, OnOk, OnErr, IsTrue};
+ghost use Rattle.std.specs.Prelude.{◌≡◌, ◌-◌, ◌<◌, ◌≤◌, ◌^◌, ◌++◌, ◌∷◌, [], length, take, drop, OnOk, OnErr, IsTrue};
 ghost use Rattle.fab_base.specs.Layout.{spelled_low};
 ghost use Rattle.pcap_file.specs.Capture.{record_bytes};
 ghost use Rattle.fab_policy.specs.Text.{sent_bytes};
-ghost use Rattle.fab_replies.specs.Message.{can_send, sent_of};
-ghost use Rattle.fab_pages.specs.Pages.{Adds, AreEarly, GoOn, GoesOn, items_in};
+ghost use Rattle.fab_replies.specs.Message.{can_send};
+ghost use Rattle.fab_pages.specs.Pages.{AreEarly, GrowBy, GoesOn, Writes, items_in, sent_by, sents_of};
 
 use crate::cuts::{cut_all, lengths_of};
 use fab_base::{Moment, NoMemory};
 use fab_config::Config;
-use forward_core::{Drained, EventList, Out, write_out};
+use forward_core::{Drained, Out, write_out};
 use pcap_file::{LAST_SECOND, RECORD_HEAD};
 use std::alloc::Global;
 
 /// Where the first of the two lengths of a record stands in it.
 const LENGTH_AT: usize = 8;
 
-/// Appends the record of each frame that is sent to the page of its port, pages being in port
-/// order. A frame's bytes are copied once, from its entry into the page. Where memory is refused
-/// the pages have what they had.
-pub fn write_records(
-    alloc: Global,
-    config: &Config,
-    drained: &Drained,
-    pages: &mut [Vec<u8>],
-) -> Result<(), NoMemory>
-    requires early { AreEarly drained.now.outs }
-    ensures adds { OnOk result (Adds (map (sent_of config.now drained.now.events) drained.now.outs)
-        (items_in pages.old) (items_in pages.new)) }
-    ensures err { OnErr result (items_in pages.new ≡ items_in pages.old) }
-    ensures count { length pages.new ≡ length pages.old }
-{
-    let lengths = lengths_of(alloc, pages)?;
-    let written = write_each(alloc, config, drained, pages);
-    if written.is_err() {
-        cut_all(&lengths, pages);
-    }
-    written
+/// What a fabric made, and the configuration by which its frames are sent.
+#[derive(Clone, Copy)]
+pub struct Sendings<'a> {
+    pub config: &'a Config,
+    pub drained: &'a Drained,
 }
 
-// The same; where memory is refused, behind the pages stands some of it.
-pub(crate) fn write_each(
-    alloc: Global,
-    config: &Config,
-    drained: &Drained,
-    pages: &mut [Vec<u8>],
-) -> Result<(), NoMemory>
-    requires early { AreEarly drained.now.outs }
-    ensures adds { OnOk result (Adds (map (sent_of config.now drained.now.events) drained.now.outs)
-        (items_in pages.old) (items_in pages.new)) }
-    ensures fronts { GoOn (items_in pages.old) (items_in pages.new) }
-{
-    for index in 0..drained.outs.len() {
-        let Some(out) = drained.outs.at(index) else {
-            unreachable!()
-        };
-        write_to_port(alloc, config, &drained.events, out, pages)?;
+impl Sendings<'_> {
+    /// Appends the record of each frame that is sent to the page of its port, pages being in port
+    /// order. A frame's bytes are copied once, from its entry into the page. Where memory is
+    /// refused the pages have what they had.
+    pub fn write_records(&self, alloc: Global, pages: &mut [Vec<u8>]) -> Result<(), NoMemory>
+        requires { AreEarly self.now.drained.now.outs }
+        ensures { Writes (sents_of self.now) pages.old pages.new result }
+    {
+        let lengths = lengths_of(alloc, pages)?;
+        match self.write_each(alloc, pages) {
+            Ok(()) => Ok(()),
+            Err(NoMemory) => {
+                cut_all(&lengths, pages);
+                Err(NoMemory)
+            }
+        }
     }
-    Ok(())
-}
 
-// Appends the record of a frame that is sent to the page of its port; other ports have none.
-fn write_to_port(
-    alloc: Global,
-    config: &Config,
-    events: &EventList,
-    out: &Out,
-    pages: &mut [Vec<u8>],
-) -> Result<(), NoMemory>
-    requires can { IsTrue (can_send events.now out.now.message) }
-    requires early { out.now.moment < 2 ^ 53 }
-    ensures adds { OnOk result (Adds (sent_of config.now events.now out.now ∷ [])
-        (items_in pages.old) (items_in pages.new)) }
-    ensures fronts { GoOn (items_in pages.old) (items_in pages.new) }
-{
-    let port = out.port.index();
-    if port >= pages.len() {
-        return Ok(());
+    // The same; where memory is refused, behind the pages stands some of it.
+    fn write_each(&self, alloc: Global, pages: &mut [Vec<u8>]) -> Result<(), NoMemory>
+        requires { AreEarly self.now.drained.now.outs }
+        ensures { GrowBy (sents_of self.now) (items_in pages.old) (items_in pages.new) result }
+    {
+        for index in 0..self.drained.outs.len() {
+            let Some(out) = self.drained.outs.at(index) else {
+                unreachable!()
+            };
+            self.write_to_port(alloc, out, pages)?;
+        }
+        Ok(())
     }
-    write_sent(alloc, config, events, out, &mut pages[port])?;
-    Ok(())
-}
 
-// Appends the record of a frame that is sent. Its lengths are set once the frame stands there, so
-// that no byte of a frame is copied twice.
-pub(crate) fn write_sent(
-    alloc: Global,
-    config: &Config,
-    events: &EventList,
-    out: &Out,
-    page: &mut Vec<u8>,
-) -> Result<(), NoMemory>
-    requires can { IsTrue (can_send events.now out.now.message) }
-    requires early { out.now.moment < 2 ^ 53 }
-    ensures ok { OnOk result (page.new.items
-        ≡ page.old.items ++ sent_bytes (sent_of config.now events.now out.now)) }
-    ensures front { GoesOn page.old.items page.new.items }
-{
-    let begin = page.len();
-    write_front(out.moment, page)?;
-    write_out(alloc, config, events, out, page)?;
-    set_length(&mut page[begin..]);
-    Ok(())
+    // Appends the record of a frame that is sent to the page of its port; other ports have none.
+    fn write_to_port(&self, alloc: Global, out: &Out, pages: &mut [Vec<u8>]) -> Result<(), NoMemory>
+        requires can { IsTrue (can_send self.now.drained.now.events out.now.message) }
+        requires early { out.now.moment < 2 ^ 53 }
+        ensures { GrowBy (sent_by self.now out.now ∷ []) (items_in pages.old)
+            (items_in pages.new) result }
+    {
+        let port = out.port.index();
+        if port >= pages.len() {
+            return Ok(());
+        }
+        self.write_sent(alloc, out, &mut pages[port])?;
+        Ok(())
+    }
+
+    // Appends the record of a frame that is sent. Its lengths are set once the frame stands there,
+    // so that no byte of a frame is copied twice.
+    pub(crate) fn write_sent(
+        &self,
+        alloc: Global,
+        out: &Out,
+        page: &mut Vec<u8>,
+    ) -> Result<(), NoMemory>
+        requires can { IsTrue (can_send self.now.drained.now.events out.now.message) }
+        requires early { out.now.moment < 2 ^ 53 }
+        ensures ok { OnOk result (page.new.items
+            ≡ page.old.items ++ sent_bytes (sent_by self.now out.now)) }
+        ensures front { GoesOn page.old.items page.new.items }
+    {
+        let begin = page.len();
+        write_front(out.moment, page)?;
+        write_out(alloc, self.config, &self.drained.events, out, page)?;
+        set_length(&mut page[begin..]);
+        Ok(())
+    }
 }
 
 // Appends what stands before a frame that is sent at a moment: its time, and lengths of 0. Where

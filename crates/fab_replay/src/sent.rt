@@ -7,7 +7,7 @@ ghost use Rattle.forward_core.specs.Fabric.{AreRanged};
 ghost use Rattle.fab_replay.specs.Owed.{AreSoon};
 
 use fab_base::NoMemory;
-use fab_pages::write_records;
+use fab_pages::Sendings;
 use forward_core::{Drained, Fabric};
 use std::alloc::Global;
 
@@ -26,6 +26,10 @@ pub(crate) fn take_sent(
     ensures count { length pages.new ≡ length pages.old }
 {
     let drained = fabric.drain();
-    write_records(alloc, fabric.config(), &drained, pages)?;
+    let sendings = Sendings {
+        config: fabric.config(),
+        drained: &drained,
+    };
+    sendings.write_records(alloc, pages)?;
     Ok(drained)
 }

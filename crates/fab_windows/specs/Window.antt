@@ -1,5 +1,5 @@
 -- One window: the ticks up to it. What it is to handle its frames stands in fab_shared.
-use Rattle.std.specs.Prelude.{◌≡◌, ℕ, ◌<◌, ◌≤◌, List, [], ◌∷◌, ◌++◌, Some, IfSome}
+use Rattle.std.specs.Prelude.{◌≡◌, ℕ, List, [], ◌∷◌, ◌++◌, Some}
 use Rattle.fab_config.specs.Settings.{Settings}
 use Rattle.fab_policy.specs.Journal.{Journal, followed, clock}
 use Rattle.fab_policy.specs.Legal.{Legal, IsNextTick}

@@ -1,21 +1,19 @@
 //! What is still to be written to the files, in buffers that are used again.
-ghost use Rattle.std.specs.Prelude.{◌≡◌, ℕ, ◌+◌, ◌<◌, ◌++◌, length, map, nat_le, vec_len, IfOk, OnOk};
+ghost use Rattle.std.specs.Prelude.{◌≡◌, ℕ, ◌+◌, ◌<◌, ◌++◌, length, nat_le, vec_len, IfOk, OnOk};
 ghost use Rattle.std.specs.List.{All, list_any};
 ghost use Rattle.pcap_file.specs.Capture.{head_bytes};
 ghost use Rattle.fab_policy.specs.Growing.{clock_after, lines_from, records_to};
 ghost use Rattle.fab_policy.specs.Text.{head_line};
 ghost use Rattle.fab_policy.specs.Ranged.{IsRangedEvent};
-ghost use Rattle.fab_replies.specs.Message.{sent_of};
-ghost use Rattle.fab_pages.specs.Pages.{AreEarly};
+ghost use Rattle.fab_pages.specs.Pages.{AreEarly, sents_of};
 ghost use Rattle.run_files.specs.Pages.{items_in, piece_at};
 ghost use Rattle.fab_windows.specs.Pages as spec;
 ghost use Rattle.fab_windows.specs.Pages.{IsNothing, pending};
 
 use fab_base::{Moment, NoMemory};
-use fab_config::Config;
-use fab_pages::write_records_at_once;
+use fab_pages::Sendings;
 use fab_policy::{Event, write_head_line, write_line};
-use forward_core::{Drained, EventList};
+use forward_core::EventList;
 use run_files::{clear_all, head_records};
 use std::alloc::Global;
 use std::thread::Threads;
@@ -49,24 +47,22 @@ impl Pages {
         &mut self,
         rt: &R,
         alloc: Global,
-        config: &Config,
         clock: Moment,
-        drained: &Drained,
+        sendings: &Sendings<'_>,
     ) -> Result<(), NoMemory>
-        requires ranged { All IsRangedEvent drained.now.events }
-        requires early { AreEarly drained.now.outs }
+        requires ranged { All IsRangedEvent sendings.now.drained.now.events }
+        requires early { AreEarly sendings.now.drained.now.outs }
         ensures lines { OnOk result (self.new.lines.items
-            ≡ self.old.lines.items ++ lines_from clock drained.now.events) }
+            ≡ self.old.lines.items ++ lines_from clock sendings.now.drained.now.events) }
         ensures count { OnOk result (length self.new.records.items
             ≡ length self.old.records.items) }
         ensures records { OnOk result ((q : ℕ) → q < length self.old.records.items
             → piece_at (items_in self.new.records.items) q
             ≡ piece_at (items_in self.old.records.items) q
-            ++ records_to (q + 1) (map (sent_of config.now drained.now.events)
-            drained.now.outs)) }
+            ++ records_to (q + 1) (sents_of sendings.now)) }
     {
-        write_lines(alloc, clock, &drained.events, &mut self.lines)?;
-        write_records_at_once(rt, alloc, config, drained, &mut self.records)?;
+        write_lines(alloc, clock, &sendings.drained.events, &mut self.lines)?;
+        sendings.write_records_at_once(rt, alloc, &mut self.records)?;
         Ok(())
     }
 

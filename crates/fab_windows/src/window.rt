@@ -1,13 +1,12 @@
 //! One window: gathered, handled and put behind what is still to be written.
-ghost use Rattle.std.specs.Prelude.{[], ◌∷◌, ◌≡◌, ◌+◌, ◌≤◌, ◌<◌, ◌^◌, ◌%◌, Some, length, map, IfSome, IfOk, OnOk, MatchResult};
+ghost use Rattle.std.specs.Prelude.{[], ◌∷◌, ◌≡◌, ◌+◌, ◌≤◌, ◌<◌, ◌^◌, ◌%◌, Some, length, IfSome, IfOk, OnOk, MatchResult};
 ghost use Rattle.std.specs.List.{All};
 ghost use Rattle.fab_policy.specs.Growing.{lines_from};
 ghost use Rattle.fab_policy.specs.Journal.{frame_count};
 ghost use Rattle.fab_policy.specs.Ranged.{IsRangedEvent};
-ghost use Rattle.fab_replies.specs.Message.{sent_of};
 ghost use Rattle.fab_gather.specs.First.{IsNextWindow, Start};
 ghost use Rattle.fab_gather.specs.Ports.{TakesFrom, walk_at};
-ghost use Rattle.fab_pages.specs.Pages.{AreEarly};
+ghost use Rattle.fab_pages.specs.Pages.{AreEarly, sents_of};
 ghost use Rattle.fab_windows.specs.Files.{AreFiles, file_slots};
 ghost use Rattle.fab_windows.specs.Pages.{AreShort, pending};
 ghost use Rattle.fab_windows.specs.Turns.{task_of, Going, Gathered, Ended, Handles, Publishes, paged_at};
@@ -21,8 +20,8 @@ use crate::pages::Pages;
 use crate::plan::tick_to;
 use crate::{Done, Input, RunFault};
 use fab_base::{Depot, Gate, Moment, NoMemory};
-use fab_config::Config;
 use fab_gather::{Shelf, gather};
+use fab_pages::Sendings;
 use fab_policy::Event;
 use fab_shared::take_frames;
 use forward_core::{Drained, EventList, Fabric};
@@ -139,15 +138,11 @@ fn run_gathered<R: Threads + Wait + Sync, D: Depot, G: Gate + Sync>(
     laws_of_runs();
     let clock = fabric.clock().unwrap_or(Moment(0));
     let (fabric, drained) = drain_window(means, fabric, window, &run.shelves)?;
-    publish(
-        means,
-        depot,
-        fabric.config(),
-        clock,
-        &drained,
-        &mut run.pages,
-        slots,
-    )?;
+    let sendings = Sendings {
+        config: fabric.config(),
+        drained: &drained,
+    };
+    publish(means, depot, clock, &sendings, &mut run.pages, slots)?;
     run.done = done_after(run.done, &drained.events);
     Ok(fabric)
 }
@@ -179,25 +174,23 @@ fn drain_window<R: Threads + Wait + Sync, G: Gate + Sync>(
 fn publish<R: Threads + Sync, D: Depot, G>(
     means: &Means<'_, R, G>,
     depot: &mut D,
-    config: &Config,
     clock: Moment,
-    drained: &Drained,
+    sendings: &Sendings<'_>,
     pages: &mut Pages,
     slots: &Slots<'_>,
 ) -> Result<(), RunFault>
     requires files { AreFiles (D.seen depot.old) slots.now.journal slots.now.outs.now }
     requires count { length pages.old.records.items ≡ length slots.now.outs.now }
-    requires ranged { All IsRangedEvent drained.now.events }
-    requires early { AreEarly drained.now.outs }
+    requires ranged { All IsRangedEvent sendings.now.drained.now.events }
+    requires early { AreEarly sendings.now.drained.now.outs }
     ensures publishes { Publishes (file_slots slots.now.journal slots.now.outs.now)
-        (lines_from clock drained.now.events)
-        (map (sent_of config.now drained.now.events) drained.now.outs)
+        (lines_from clock sendings.now.drained.now.events) (sents_of sendings.now)
         (paged_at (D.seen depot.old) (pending pages.old))
         (paged_at (D.seen depot.new) (pending pages.new)) result }
     ensures count { OnOk result (length pages.new.records.items ≡ length slots.now.outs.now) }
     ensures short { OnOk result (AreShort (pending pages.new)) }
 {
-    pages.add(means.rt, means.alloc, config, clock, drained)?;
+    pages.add(means.rt, means.alloc, clock, sendings)?;
     if !pages.are_full() {
         return Ok(());
     }

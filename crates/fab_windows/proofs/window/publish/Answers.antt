@@ -1,5 +1,5 @@
-use Rattle.std.proofs.Common.{◌∙◌, ap, sym, subst, map, Err, arith}
-use Rattle.fab_replies.specs.Message.{sent_of}
+use Rattle.std.proofs.Common.{◌∙◌, ap, sym, subst, Err, arith}
+use Rattle.fab_pages.specs.Pages.{sents_of}
 use Rattle.fab_policy.specs.Growing.{lines_from}
 use Rattle.run_files.specs.declared.fault.RunFault.TheVariants as fault
 use Rattle.fab_windows.specs.Pages.{pending}
@@ -12,8 +12,8 @@ use Rattle.fab_windows.proofs.window.publish.Goals as goal
 pub returns-in_err-add-clause-publishes : goal.returns-in_err-add-clause-publishes
 returns-in_err-add-clause-publishes g c =
     let d = g.D.Depot.seen c.args.depot.now in
-    let lines = lines_from c.args.clock c.args.drained.now.events in
-    let sents = map (sent_of c.args.config.now c.args.drained.now.events) c.args.drained.now.outs in
+    let lines = lines_from c.args.clock c.args.sendings.now.drained.now.events in
+    let sents = sents_of c.args.sendings.now in
     let p = pending c.args.pages.now in
     subst (Publishes (file_slots c.args.slots.now.journal c.args.slots.now.outs.now) lines sents (paged_at d p) (paged_at d (pending c.add.new.self))) (err_is c.from_residual.result fault.Memory c.from_residual.ensures.1)
     (publishes_nothing c.args.slots.now.journal c.args.slots.now.outs.now lines sents p d (pending c.add.new.self))
@@ -21,15 +21,15 @@ returns-in_err-add-clause-publishes g c =
 pub returns-then-not-are_full-clause-publishes : goal.returns-then-not-are_full-clause-publishes
 returns-then-not-are_full-clause-publishes g c =
     let f = c.in_ok-add.ensures in
-    publishes_later c.args.slots.now.journal c.args.slots.now.outs.now (lines_from c.args.clock c.args.drained.now.events) (map (sent_of c.args.config.now c.args.drained.now.events) c.args.drained.now.outs) (pending c.args.pages.now) (g.D.Depot.seen c.args.depot.now)
+    publishes_later c.args.slots.now.journal c.args.slots.now.outs.now (lines_from c.args.clock c.args.sendings.now.drained.now.events) (sents_of c.args.sendings.now) (pending c.args.pages.now) (g.D.Depot.seen c.args.depot.now)
     (pending c.add.new.self) f.lines (λ q lt. f.records q (omega (arith, lt, c.requires.count)))
 
 pub returns-in_err-flush-clause-publishes : goal.returns-in_err-flush-clause-publishes
 returns-in_err-flush-clause-publishes g c =
     let a = g.D.Depot.seen c.args.depot.now in
     let b = g.D.Depot.seen c.flush.new.depot in
-    let lines = lines_from c.args.clock c.args.drained.now.events in
-    let sents = map (sent_of c.args.config.now c.args.drained.now.events) c.args.drained.now.outs in
+    let lines = lines_from c.args.clock c.args.sendings.now.drained.now.events in
+    let sents = sents_of c.args.sendings.now in
     let f = c.in_ok-add.ensures in
     let w = c.in_err-flush.ensures in
     let p = pending c.args.pages.now in
@@ -42,7 +42,7 @@ pub returns-clause-publishes : goal.returns-clause-publishes
 returns-clause-publishes g c =
     let f = c.in_ok-add.ensures in
     let w = c.in_ok-flush.ensures in
-    publishes_all c.args.slots.now.journal c.args.slots.now.outs.now (lines_from c.args.clock c.args.drained.now.events) (map (sent_of c.args.config.now c.args.drained.now.events) c.args.drained.now.outs) (pending c.args.pages.now) (g.D.Depot.seen c.args.depot.now)
+    publishes_all c.args.slots.now.journal c.args.slots.now.outs.now (lines_from c.args.clock c.args.sendings.now.drained.now.events) (sents_of c.args.sendings.now) (pending c.args.pages.now) (g.D.Depot.seen c.args.depot.now)
     (pending c.add.new.self) f.lines (λ q lt. f.records q (omega (arith, lt, c.requires.count))) (g.D.Depot.seen c.flush.new.depot) (pending c.flush.new.pages) w.nothing w.writes
 
 pub returns-then-not-are_full-clause-short : goal.returns-then-not-are_full-clause-short

@@ -76,13 +76,11 @@ pub returns-in_err-publish-clause-runs : goal.returns-in_err-publish-clause-runs
 returns-in_err-publish-clause-runs g c = λ s ins left x.
     let k = task_of s c.args.fabric.settings c.args.slots.now.journal c.args.slots.now.outs.now in
     let seen = g.D.Depot.seen in
-    let shelves = c.args.run.now.shelves.items in
-    let E = c.in_ok-fabric.fabric in
     let d = c.in_ok-fabric.drained in
-    let h = subst (λ l. Handles c.args.window l c.args.fabric E d.events d.outs) c.deref.ensures.value c.in_ok-fabric.ensures.handles in
+    let h = subst (λ l. Handles c.args.window l c.args.fabric c.in_ok-fabric.fabric d.events d.outs) c.deref.ensures.value c.in_ok-fabric.ensures.handles in
     let clock = c.unwrap_or-clock.ensures ∙ ap (λ o. unwrap_or o 0) c.clock.ensures in
     told_on c.from_residual-in_err-publish.result c.in_err-publish.field-0.0 _ _ c.from_residual-in_err-publish.ensures.1
-    (gathered_unwritten c.laws_of_runs.ensures k c.args.window c.args.run.now.first c.args.fabric (seen c.args.depot.now) ins shelves left c.args.run.now.done (pending c.args.run.now.pages) x E d.events d.outs h (seen c.publish.new.depot) (pending c.publish.new.pages)
+    (gathered_unwritten c.laws_of_runs.ensures k c.args.window c.args.run.now.first c.args.fabric (seen c.args.depot.now) ins c.args.run.now.shelves.items left c.args.run.now.done (pending c.args.run.now.pages) x c.in_ok-fabric.fabric d.events d.outs h (seen c.publish.new.depot) (pending c.publish.new.pages)
     c.unwrap_or-clock.result clock c.config.result.now c.config.ensures c.in_err-publish.field-0.0 c.in_err-publish.ensures.publishes)
 
 pub returns-in_err-publish-clause-pages : goal.returns-in_err-publish-clause-pages
@@ -98,12 +96,10 @@ pub returns-clause-runs : goal.returns-clause-runs
 returns-clause-runs g c = λ s ins left x.
     let k = task_of s c.args.fabric.settings c.args.slots.now.journal c.args.slots.now.outs.now in
     let seen = g.D.Depot.seen in
-    let shelves = c.args.run.now.shelves.items in
-    let E = c.in_ok-fabric.fabric in
     let d = c.in_ok-fabric.drained in
-    let h = subst (λ l. Handles c.args.window l c.args.fabric E d.events d.outs) c.deref.ensures.value c.in_ok-fabric.ensures.handles in
+    let h = subst (λ l. Handles c.args.window l c.args.fabric c.in_ok-fabric.fabric d.events d.outs) c.deref.ensures.value c.in_ok-fabric.ensures.handles in
     let clock = c.unwrap_or-clock.ensures ∙ ap (λ o. unwrap_or o 0) c.clock.ensures in
-    gathered_done c.laws_of_runs.ensures k c.args.window c.args.run.now.first c.args.fabric (seen c.args.depot.now) ins shelves left c.args.run.now.done (pending c.args.run.now.pages) x E d.events d.outs h (seen c.publish.new.depot) (pending c.publish.new.pages)
+    gathered_done c.laws_of_runs.ensures k c.args.window c.args.run.now.first c.args.fabric (seen c.args.depot.now) ins c.args.run.now.shelves.items left c.args.run.now.done (pending c.args.run.now.pages) x c.in_ok-fabric.fabric d.events d.outs h (seen c.publish.new.depot) (pending c.publish.new.pages)
     c.unwrap_or-clock.result clock c.config.result.now c.config.ensures c.done_after-run.result c.in_ok-publish.ensures.publishes c.done_after-run.ensures.frames c.done_after-run.ensures.entries
 
 pub returns-clause-settings : goal.returns-clause-settings
