@@ -1,10 +1,11 @@
 -- Pages that are out with encoders.
-use Rattle.std.proofs.Common.{◌≡◌, ◌≢◌, ℕ, zero, suc, ◌+◌, ◌<◌, Bool, true, false, cond, eqb, ◌||◌, ◌⊎◌, inl, inr, List, [], ◌∷◌, ◌++◌, length, map, take, drop, get_or, Some, refl, sym, ap, ◌∙◌, subst, arith, append_assoc, append-nil}
+use Rattle.std.proofs.Common.{◌≡◌, ◌≢◌, ℕ, zero, suc, ◌+◌, ◌<◌, Bool, true, false, cond, eqb, ◌||◌, inl, inr, List, [], ◌∷◌, ◌++◌, length, map, take, drop, get_or, Some, refl, sym, ap, ◌∙◌, subst, arith, append_assoc, append-nil}
 use Rattle.std.specs.Prelude.{IsTrue, Vec, slice_get, slice_set, flat_map, filter}
 use Rattle.std.specs.declared.alloc.Global.{Global}
-use Rattle.std.proofs.lemmas.Bool.{ne_eqb, eqb-true, eqb-false}
+use Rattle.std.proofs.lemmas.Bool.{cases_Bool, ne_eqb, eqb-true, eqb-false}
+use Rattle.std.proofs.lemmas.List.{map-append}
 use Rattle.std.proofs.lemmas.List.Elements.{filter-append}
-use Rattle.pcap_file.proofs.lemmas.Numbers.{le_or_lt}
+use Rattle.fab_config.proofs.ListLemmas.{take_slice}
 use Rattle.fab_policy.specs.Growing.{records_to}
 use Rattle.fab_policy.specs.Outputs.{Sent}
 use Rattle.fab_policy.specs.Text.{sent_bytes}
@@ -14,23 +15,23 @@ use Rattle.fab_replies.specs.Message.{AreSendable, can_send}
 use Rattle.fab_pages.specs.Pages.{Adds, items_in, piece_at}
 use Rattle.fab_pages.specs.declared.encoders.Encoder.{Encoder}
 use Rattle.fab_pages.specs.Encoders.{AreBelow, AreOut, IsEncoded, NoneFor, NoneRefused, has_place, page_in}
-use Rattle.fab_pages.proofs.PageLemmas.{records-append, take_next, map_next, set_page, other_page, piece-item, front_of, length-items}
+use Rattle.fab_pages.proofs.PageLemmas.{below_or, records-append, set_page, other_page, piece-item, front_of, length-items}
 
-true_or : (b : Bool) → (b ≡ true) ⊎ (b ≡ false)
-true_or true = inl refl
-true_or false = inr refl
+neither : (a b : Bool) → (a || b) ≡ false → (a ≡ false) × (b ≡ false)
+neither true b e = absurd cc
+neither false b e = (refl, e)
 
 -- ---- the records of one port
 
 pub records_next : (p : ℕ) (f : Out → Sent) (outs : List Out) (i : ℕ) (o : Out) (old a b : List ℕ) → slice_get outs i ≡ Some o → a ≡ old ++ records_to p (map f (take i outs)) → b ≡ a ++ records_to p (f o ∷ []) → b ≡ old ++ records_to p (map f (take (i + 1) outs))
 records_next p f outs i o old a b at so_far next =
     next ∙ ap (λ l. l ++ records_to p (f o ∷ [])) so_far ∙ append_assoc old (records_to p (map f (take i outs))) (records_to p (f o ∷ []))
-    ∙ ap (λ l. old ++ l) (sym (ap (λ l. records_to p (map f l)) (take_next outs i o at) ∙ ap (records_to p) (map_next f (take i outs) o) ∙ records-append p (map f (take i outs)) (f o ∷ [])))
+    ∙ ap (λ l. old ++ l) (sym (ap (λ l. records_to p (map f l)) (take_slice outs i o at) ∙ ap (records_to p) (map-append f (take i outs) (o ∷ [])) ∙ records-append p (map f (take i outs)) (f o ∷ [])))
 
 pub none_next : (q : ℕ) (outs : List Out) (i : ℕ) (o : Out) → slice_get outs i ≡ Some o → o.port ≢ q + 1 → NoneFor q (take i outs) → NoneFor q (take (i + 1) outs)
 none_next q outs i o at ne none =
     let P : Out → Bool = λ x. eqb x.port (q + 1) in
-    ap (filter P) (take_next outs i o at) ∙ filter-append P (take i outs) (o ∷ []) ∙ ap (λ l. l ++ filter P (o ∷ [])) none ∙ ap (λ (b : Bool). cond b (o ∷ []) []) (ne_eqb o.port (q + 1) ne)
+    ap (filter P) (take_slice outs i o at) ∙ filter-append P (take i outs) (o ∷ []) ∙ ap (λ l. l ++ filter P (o ∷ [])) none ∙ ap (λ (b : Bool). cond b (o ∷ []) []) (ne_eqb o.port (q + 1) ne)
 
 sent_step : (f : Out → Sent) (o : Out) (kept : List Out) (sents : List Sent) → (kept ≡ [] → flat_map sent_bytes sents ≡ []) → (b : Bool) → cond b (o ∷ kept) kept ≡ [] → flat_map sent_bytes (cond b (f o ∷ sents) sents) ≡ []
 sent_step f o kept sents later true e = absurd cc
@@ -49,25 +50,13 @@ pub page_in-snoc : (q : ℕ) (es : List Encoder) (e : Encoder) (d : List ℕ) �
 page_in-snoc q [] e d = refl
 page_in-snoc q (x ∷ es) e d = ap (λ l. cond (eqb x.place q) x.page.items l) (page_in-snoc q es e d)
 
-or_false : (b a c : Bool) → (b || a) ≡ false → (a ≡ false → c ≡ false) → (b || c) ≡ false
-or_false true a c n h = absurd cc
-or_false false a c n h = h n
-
-or_right : (b a : Bool) → (b || a) ≡ false → a ≡ false
-or_right true a n = absurd cc
-or_right false a n = n
-
-or_left : (b a : Bool) → (b || a) ≡ false → b ≡ false
-or_left true a n = absurd cc
-or_left false a n = refl
-
 has_before : (q : ℕ) (es : List Encoder) (e : Encoder) → has_place q (es ++ e ∷ []) ≡ false → has_place q es ≡ false
 has_before q [] e away = refl
-has_before q (x ∷ es) e away = or_false (eqb x.place q) (has_place q (es ++ e ∷ [])) (has_place q es) away (λ n. has_before q es e n)
+has_before q (x ∷ es) e away = let no = neither (eqb x.place q) (has_place q (es ++ e ∷ [])) away in ap (λ (b : Bool). b || has_place q es) no.0 ∙ has_before q es e no.1
 
 has_last : (q : ℕ) (es : List Encoder) (e : Encoder) → has_place q (es ++ e ∷ []) ≡ false → e.place ≢ q
-has_last q [] e away same = eqb-false e.place q (or_left (eqb e.place q) false away) same
-has_last q (x ∷ es) e away same = has_last q es e (or_right (eqb x.place q) (has_place q (es ++ e ∷ [])) away) same
+has_last q [] e away same = eqb-false e.place q (neither (eqb e.place q) false away).0 same
+has_last q (x ∷ es) e away same = has_last q es e (neither (eqb x.place q) (has_place q (es ++ e ∷ [])) away).1 same
 
 wider : (k : ℕ) (es : List Encoder) → AreBelow k es → AreBelow (k + 1) es
 wider k [] h = h
@@ -97,11 +86,8 @@ pub out_idle : (k : ℕ) (outs : List Out) (es : List Encoder) (old new : List (
 out_idle k outs es old new none o = record {
   within = wider k es o.within;
   pages = o.pages;
-  others = λ q lt away. elim (here_or q k lt) [ inl same ↦ subst (λ (x : ℕ). NoneFor x outs) (sym same) none | inr less ↦ o.others q less away ];
+  others = λ q lt away. elim (below_or q k lt) [ inl same ↦ subst (λ (x : ℕ). NoneFor x outs) (sym same) none | inr less ↦ o.others q less away ];
 }
-  where
-    here_or : (q k : ℕ) → q < k + 1 → (q ≡ k) ⊎ (q < k)
-    here_or q k lt = elim (le_or_lt k q) [ inl le ↦ inl (omega (arith, le, lt)) | inr less ↦ inr less ]
 
 -- a page goes out
 pub out_more : (k : ℕ) (outs : List Out) (es : List Encoder) (old : List (List ℕ)) (l : List (Vec ℕ Global)) (v w : Vec ℕ Global) (e : Encoder) → k < length l → v ≡ get_or l k v → e.place ≡ k → e.page ≡ v
@@ -109,14 +95,11 @@ pub out_more : (k : ℕ) (outs : List Out) (es : List Encoder) (old : List (List
 out_more k outs es old l v w e within is place page o = record {
   within = below_more (k + 1) es e (wider k es o.within) (omega (arith, place));
   pages = λ q lt. page_in-snoc q es e (piece_at (items_in (slice_set l k w)) q) ∙ ap (page_in q es) (piece q) ∙ o.pages q lt;
-  others = λ q lt away. o.others q (let before = has_last q es e away in less q lt (λ same. before (place ∙ sym same))) (has_before q es e away);
+  others = λ q lt away. elim (below_or q k lt) [ inl same ↦ absurd (has_last q es e away (place ∙ sym same)) | inr less ↦ o.others q less (has_before q es e away) ];
 }
   where
-    less : (q : ℕ) → q < k + 1 → q ≢ k → q < k
-    less q lt ne = elim (le_or_lt k q) [ inl le ↦ absurd (ne (omega (arith, le, lt))) | inr l' ↦ l' ]
-
     piece : (q : ℕ) → cond (eqb e.place q) e.page.items (piece_at (items_in (slice_set l k w)) q) ≡ piece_at (items_in l) q
-    piece q = elim (true_or (eqb k q)) [
+    piece q = elim (cases_Bool (eqb k q)) [
       | inl hit ↦
           let same : k ≡ q = eqb-true k q hit in
           ap (λ (b : Bool). cond b e.page.items (piece_at (items_in (slice_set l k w)) q)) (ap (λ (n : ℕ). eqb n q) place ∙ hit) ∙ ap (λ (x : Vec ℕ Global). x.items) page ∙ piece-item l k v within is ∙ ap (piece_at (items_in l)) same
@@ -134,10 +117,6 @@ pub record AreLeft (all left : List Encoder) (first pages : List (List ℕ)) (re
   pub page : (q : ℕ) → q < length first → page_in q left (piece_at pages q) ≡ page_in q all (piece_at first q)
   pub none : refused ≡ false → NoneRefused left → NoneRefused all
 
-none_refused : (a b : Bool) → (a || b) ≡ false → (a ≡ false) × (b ≡ false)
-none_refused true b e = absurd cc
-none_refused false b e = (refl, e)
-
 pub left_all : (all : List Encoder) (first : List (List ℕ)) → AreBelow (length first) all → AreLeft all all first first false
 left_all all first within = record { within = within; count = refl; page = λ q lt. refl; none = λ e h. h }
 
@@ -147,7 +126,7 @@ left_fewer all left rest first l refused e is so_far same = record {
   within = below_front (length first) rest e below;
   count = same ∙ so_far.count;
   page = λ q lt. sym (ap (page_in q rest) (piece q)) ∙ sym (ap (λ es. page_in q es (piece_at (items_in l) q)) is ∙ page_in-snoc q rest e (piece_at (items_in l) q)) ∙ so_far.page q lt;
-  none = λ n h. let both = none_refused refused e.refused n in so_far.none both.0 (subst NoneRefused (sym is) (refused_more rest e h both.1));
+  none = λ n h. let both = neither refused e.refused n in so_far.none both.0 (subst NoneRefused (sym is) (refused_more rest e h both.1));
 }
   where
     below : AreBelow (length first) (rest ++ e ∷ [])
@@ -157,7 +136,7 @@ left_fewer all left rest first l refused e is so_far same = record {
     within = let lt = below_last (length first) rest e below in let n = so_far.count in omega (arith, lt, n)
 
     piece : (q : ℕ) → cond (eqb e.place q) e.page.items (piece_at (items_in l) q) ≡ piece_at (items_in (slice_set l e.place e.page)) q
-    piece q = elim (true_or (eqb e.place q)) [
+    piece q = elim (cases_Bool (eqb e.place q)) [
       | inl hit ↦
           let place : e.place ≡ q = eqb-true e.place q hit in
           ap (λ (b : Bool). cond b e.page.items (piece_at (items_in l) q)) hit ∙ sym (ap (piece_at (items_in (slice_set l e.place e.page))) (sym place) ∙ set_page l e.place e.page (subst (λ (n : ℕ). e.place < n) (length-items l) within))

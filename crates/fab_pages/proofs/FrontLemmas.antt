@@ -2,14 +2,14 @@
 use Rattle.std.proofs.Common.{◌≡◌, ◌≢◌, ℕ, zero, suc, ◌+◌, ◌<◌, ◌≤◌, inl, inr, Bool, true, false, cond, eqb, List, [], ◌∷◌, ◌++◌, length, map, take, drop, get_or, refl, sym, ap, ◌∙◌, subst, arith, append_assoc, append-nil}
 use Rattle.std.specs.Prelude.{Vec, slice_set}
 use Rattle.std.specs.declared.alloc.Global.{Global}
-use Rattle.pcap_file.proofs.lemmas.Numbers.{le_or_lt}
+use Rattle.std.proofs.lemmas.Bool.{cases_eq}
 use Rattle.fab_policy.specs.Outputs.{Sent}
 use Rattle.fab_replies.specs.declared.message.Out.{Out}
 use Rattle.run_files.specs.Pages.{items_in, piece_at}
 use Rattle.fab_pages.specs.Pages.{Adds, GoOn, GoesOn}
 use Rattle.fab_pages.specs.declared.encoders.Encoder.{Encoder}
 use Rattle.fab_pages.specs.Encoders.{AreBelow, AreOut, IsEncoded, NoneRefused, page_in}
-use Rattle.fab_pages.proofs.PageLemmas.{front_of, length-items, length_set, other_page, piece-item, same_or, set_page}
+use Rattle.fab_pages.proofs.PageLemmas.{front_of, length-items, length_set, other_page, piece-item, below_or, set_page}
 use Rattle.fab_pages.proofs.EncoderLemmas.{adds_all, below_encoded, lent}
 
 pub goes_same : (old new : List ℕ) → new ≡ old → GoesOn old new
@@ -31,7 +31,7 @@ go_trans a b c h k = record {
 pub go_page : (l : List (Vec ℕ Global)) (k : ℕ) (v w : Vec ℕ Global) → k < length l → w ≡ get_or l k w → GoesOn w.items v.items → GoOn (items_in l) (items_in (slice_set l k v))
 go_page l k v w within is on = record {
   count = length_set l k v;
-  pages = λ q lt. elim (same_or q k) [
+  pages = λ q lt. elim (cases_eq q k) [
     | inl same ↦ subst (λ (x : ℕ). GoesOn (piece_at (items_in l) x) (piece_at (items_in (slice_set l k v)) x)) (sym same)
         (on.0, set_page l k v within ∙ on.1 ∙ ap (λ x. x ++ on.0) (piece-item l k w within is))
     | inr differ ↦ goes_same (piece_at (items_in l) q) (piece_at (items_in (slice_set l k v)) q) (other_page l k q v differ)
@@ -73,15 +73,12 @@ pub cut_more : (k : ℕ) (lengths : List ℕ) (old now new : List (List ℕ)) �
     → ((q : ℕ) → q ≢ k → piece_at new q ≡ piece_at now q) → AreCut (k + 1) lengths old new
 cut_more k lengths old now new h len own others = record {
   count = len ∙ h.count;
-  pages = λ q lt. elim (same_or q k) [
+  pages = λ q lt. elim (below_or q k lt) [
     | inl same ↦ subst (λ (x : ℕ). piece_at new x ≡ take (get_or lengths x 0) (piece_at old x)) (sym same) (own ∙ ap (take (get_or lengths k 0)) (h.others k (omega arith)))
-    | inr differ ↦ others q differ ∙ h.pages q (less q k lt differ)
+    | inr less ↦ others q (λ e. absurd (omega (arith, e, less))) ∙ h.pages q less
   ];
   others = λ q le. others q (λ e. absurd (omega (arith, e, le))) ∙ h.others q (omega (arith, le));
 }
-  where
-    less : (q k : ℕ) → q < k + 1 → q ≢ k → q < k
-    less q k lt ne = elim (le_or_lt k q) [ inl le ↦ absurd (ne (omega (arith, le, lt))) | inr l ↦ l ]
 
 pub pages_back : (lengths : List ℕ) (old now back : List (List ℕ)) → lengths ≡ map (λ page. length page) old → GoOn old now → length back ≡ length now
     → ((q : ℕ) → q < length now → piece_at back q ≡ take (get_or lengths q 0) (piece_at now q)) → back ≡ old
@@ -148,9 +145,8 @@ module _ (f : Out → Sent) (ports : (o : Out) → (f o).port ≡ o.port) (outs 
     page_back q lt =
         subst (λ (es : List Encoder). piece_at (items_in after) q ≡ page_in q es (piece_at (items_in between) q)) back (pages q (subst (λ (m : ℕ). q < m) (length-items between) lt))
 
-    pub adds_back : NoneRefused here → Adds (map f outs) (items_in before) (items_in after)
-    adds_back none =
-        adds_all f ports outs slice new (items_in before) (items_in between) (items_in after) out_of count each (subst NoneRefused back none) taken_items put_items page_back
-
-    pub fronts_back : GoOn (items_in before) (items_in after)
-    fronts_back = all_fronts (map f outs) outs slice new (items_in before) (items_in between) (items_in after) out_of count each taken_items put_items page_back
+    pub written_back : {R : Type 0} → (R → NoneRefused here) → (R → Adds (map f outs) (items_in before) (items_in after)) × GoOn (items_in before) (items_in after)
+    written_back none = (
+      λ r. adds_all f ports outs slice new (items_in before) (items_in between) (items_in after) out_of count each (subst NoneRefused back (none r)) taken_items put_items page_back,
+      all_fronts (map f outs) outs slice new (items_in before) (items_in between) (items_in after) out_of count each taken_items put_items page_back,
+    )

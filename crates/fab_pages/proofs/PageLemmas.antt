@@ -1,13 +1,15 @@
 -- Pages that grow by records.
-use Rattle.std.proofs.Common.{◌≡◌, ◌≢◌, ℕ, zero, suc, ◌+◌, ◌-◌, ◌^◌, ◌<◌, ◌≤◌, ◌⊎◌, inl, inr, Bool, cond, eqb, List, [], ◌∷◌, ◌++◌, length, map, take, drop, get_or, Some, refl, sym, ap, ◌∙◌, subst, arith, append_assoc, append-nil, length-append}
+use Rattle.std.proofs.Common.{◌≡◌, ◌≢◌, ℕ, zero, suc, ◌+◌, ◌-◌, ◌^◌, ◌<◌, ◌⊎◌, inl, inr, Bool, cond, eqb, List, [], ◌∷◌, ◌++◌, length, map, take, drop, get_or, Some, refl, sym, ap, ◌∙◌, subst, arith, append_assoc, append-nil, length-append}
 use Rattle.std.specs.Prelude.{Vec, slice_get, slice_set, flat_map, filter}
 use Rattle.std.specs.declared.alloc.Global.{Global}
-use Rattle.std.proofs.lemmas.Bool.{eq-eqb, ne_eqb}
+use Rattle.std.proofs.Math.Seq.{drop-append_seam, drop-length, take-append_seam, take-length}
+use Rattle.std.proofs.lemmas.Bool.{cases_eq, cases_lt, eq-eqb, ne_eqb}
 use Rattle.std.proofs.lemmas.Grind.{flat_map-append}
+use Rattle.std.proofs.lemmas.List.{map-append}
 use Rattle.std.proofs.lemmas.List.Elements.{filter-append}
 use Rattle.fab_base.specs.Layout.{spelled_low}
 use Rattle.pcap_file.specs.Capture.{record_bytes}
-use Rattle.pcap_file.proofs.lemmas.Numbers.{le_or_lt}
+use Rattle.fab_config.proofs.ListLemmas.{take_slice}
 use Rattle.fab_policy.specs.Growing.{records_to}
 use Rattle.fab_policy.specs.Outputs.{Sent}
 use Rattle.fab_policy.specs.Text.{sent_bytes}
@@ -46,17 +48,14 @@ adds_nowhere s pages lt = record {
   pages = λ q within. sym (ap (λ l. piece_at pages q ++ l) (other_record (q + 1) s (λ e. absurd (omega (arith, e, lt, within)))) ∙ append-nil (piece_at pages q));
 }
 
-pub same_or : (a b : ℕ) → (a ≡ b) ⊎ (a ≢ b)
-same_or a b = elim (le_or_lt a b) [
-  | inl le ↦ elim (le_or_lt b a) [ inl ge ↦ inl (omega (arith, le, ge)) | inr lt ↦ inr (λ e. absurd (omega (arith, e, lt))) ]
-  | inr gt ↦ inr (λ e. absurd (omega (arith, e, gt)))
-]
+pub below_or : (q k : ℕ) → q < k + 1 → (q ≡ k) ⊎ (q < k)
+below_or q k lt = elim (cases_lt q k) [ inl less ↦ inr less | inr le ↦ inl (omega (arith, lt, le)) ]
 
 -- a record behind the page of its port
 pub adds_record : (s : Sent) (l : List (Vec ℕ Global)) (k : ℕ) (v w : Vec ℕ Global) → s.port ≡ k + 1 → k < length l → w ≡ get_or l k w → v.items ≡ w.items ++ sent_bytes s → Adds (s ∷ []) (items_in l) (items_in (slice_set l k v))
 adds_record s l k v w port lt is e = record {
   count = length_set l k v;
-  pages = λ q within. elim (same_or q k) [
+  pages = λ q within. elim (cases_eq q k) [
     | inl same ↦ subst (λ (x : ℕ). piece_at (items_in (slice_set l k v)) x ≡ piece_at (items_in l) x ++ records_to (x + 1) (s ∷ [])) (sym same)
         (own_page l k v w (sent_bytes s) lt is e ∙ ap (λ x. piece_at (items_in l) k ++ x) (sym (own_record (k + 1) s port)))
     | inr differ ↦
@@ -64,16 +63,6 @@ adds_record s l k v w port lt is e = record {
         ∙ sym (ap (λ x. piece_at (items_in l) q ++ x) (other_record (q + 1) s (λ f. absurd (differ (omega (arith, f, port))))) ∙ append-nil (piece_at (items_in l) q))
   ];
 }
-
--- one item further
-pub take_next : {X : Type 0} (xs : List X) (i : ℕ) (x : X) → slice_get xs i ≡ Some x → take (i + 1) xs ≡ take i xs ++ x ∷ []
-take_next [] i x e = absurd (cc)
-take_next (y ∷ xs) zero x e = let same : y ≡ x = cc in ap (λ z. z ∷ []) same
-take_next (y ∷ xs) (suc i) x e = ap (λ (n : ℕ). take n (y ∷ xs)) (let s : suc i + 1 ≡ suc (i + 1) = omega arith in s) ∙ ap (λ l. y ∷ l) (take_next xs i x e)
-
-pub map_next : {X Y : Type 0} (f : X → Y) (l : List X) (x : X) → map f (l ++ x ∷ []) ≡ map f l ++ f x ∷ []
-map_next f [] x = refl
-map_next f (y ∷ l) x = ap (λ m. f y ∷ m) (map_next f l x)
 
 -- ---- what is sent, one after another
 
@@ -84,34 +73,15 @@ early_at (x ∷ outs) (suc i) o h e = early_at outs i o h.1 e
 
 pub adds_next : (f : Out → Sent) (outs : List Out) (i : ℕ) (o : Out) (a b c : List (List ℕ)) → slice_get outs i ≡ Some o → Adds (map f (take i outs)) a b → Adds (f o ∷ []) b c → Adds (map f (take (i + 1) outs)) a c
 adds_next f outs i o a b c at h k =
-    subst (λ l. Adds l a c) (sym (ap (map f) (take_next outs i o at) ∙ map_next f (take i outs) o)) (adds_more (map f (take i outs)) (f o ∷ []) a b c h k)
+    subst (λ l. Adds l a c) (sym (ap (map f) (take_slice outs i o at) ∙ map-append f (take i outs) (o ∷ []))) (adds_more (map f (take i outs)) (f o ∷ []) a b c h k)
 
 -- ---- a record, whose lengths are set behind its frame
 
 pub front_of : {X : Type 0} (l m : List X) (n : ℕ) → n ≡ length l → take n (l ++ m) ≡ l
-front_of {X} [] m n e = ap (λ (k : ℕ). take k m) e ∙ take_none m
-  where
-    take_none : (m : List X) → take 0 m ≡ []
-    take_none [] = refl
-    take_none (x ∷ m) = refl
-front_of (x ∷ l) m n e = ap (λ (k : ℕ). take k (x ∷ l ++ m)) e ∙ ap (λ k. x ∷ k) (front_of l m (length l) refl)
-
-whole_of : (l : List ℕ) → take (length l) l ≡ l
-whole_of l = ap (take (length l)) (sym (append-nil l)) ∙ front_of l [] (length l) refl
+front_of l m n e = ap (λ (k : ℕ). take k (l ++ m)) e ∙ take-append_seam l m
 
 behind_front : (l m : List ℕ) (n : ℕ) → n ≡ length l → drop n (l ++ m) ≡ m
-behind_front [] m n e = ap (λ (k : ℕ). drop k m) e ∙ drop_none m
-  where
-    drop_none : (m : List ℕ) → drop 0 m ≡ m
-    drop_none [] = refl
-    drop_none (x ∷ m) = refl
-behind_front (x ∷ l) m n e = ap (λ (k : ℕ). drop k (x ∷ l ++ m)) e ∙ behind_front l m (length l) refl
-
-past_all : (l : List ℕ) (n : ℕ) → length l ≤ n → drop n l ≡ []
-past_all [] zero le = refl
-past_all [] (suc n) le = refl
-past_all (x ∷ l) zero le = absurd (omega (arith, le))
-past_all (x ∷ l) (suc n) le = past_all l n (omega (arith, le))
+behind_front l m n e = ap (λ (k : ℕ). drop k (l ++ m)) e ∙ drop-append_seam l m
 
 -- the head of a record of nothing, with the length of the frame that stands behind it
 length_set_later : (m : ℕ) (bytes X R : List ℕ) → X ≡ record_bytes m [] ++ bytes → R ≡ take 8 X ++ spelled_low 4 (length X - 16) ++ spelled_low 4 (length X - 16) ++ drop 16 X → R ≡ record_bytes m bytes
@@ -132,9 +102,9 @@ sent_made old P X R W b n m bytes begin is part set all =
     let front : take b P ≡ old = ap (take b) parts ∙ front_of old L b begin in
     let size : length P ≡ length old + length L = ap length parts ∙ length-append old L in
     let within : length P - b ≡ length L = omega (arith, size, begin) in
-    let whole : X ≡ L = part ∙ (λ i. take (within i) (rest i)) ∙ whole_of L in
+    let whole : X ≡ L = part ∙ (λ i. take (within i) (rest i)) ∙ take-length L in
     let made = length_set_later m bytes X R whole set in
-    let nothing : drop (length P - b) (drop b P) ≡ [] = (λ i. drop (within i) (rest i)) ∙ past_all L (length L) (omega arith) in
+    let nothing : drop (length P - b) (drop b P) ≡ [] = (λ i. drop (within i) (rest i)) ∙ drop-length L in
     let lengths : length (record_bytes m bytes) ≡ length L = omega arith in
     (λ i. take n ((front i ++ (made i ++ nothing i)) ++ W))
     ∙ ap (λ l. take n ((old ++ l) ++ W)) (append-nil (record_bytes m bytes))
