@@ -22,6 +22,7 @@ pub mod SameLemmas
 pub mod SentLemmas
 pub mod ShowLemmas
 pub mod SlotsLemmas
+pub mod SpotLemmas
 pub mod StayLemmas
 pub mod StepLemmas
 pub mod VerdictLemmas

@@ -1,5 +1,5 @@
 -- The frames of a window on the shelves, and the next frames of the ports.
-use Rattle.std.proofs.Common.{◌≡◌, ℕ, zero, suc, ◌+◌, ◌<◌, ◌≤◌, Bool, true, false, eqb, ltb, MatchBool, get_or, ◌^◌, List, [], ◌∷◌, ◌++◌, length, length-append, drop, set, slice_get, Option, Some, None, IfSome, IsTrue, Result, Ok, Err, OnOk, MatchResult, refl, sym, ap, ◌∙◌, subst, arith}
+use Rattle.std.proofs.Common.{◌≡◌, ℕ, zero, suc, ◌+◌, ◌<◌, ◌≤◌, Bool, true, false, eqb, ltb, MatchBool, get_or, ◌^◌, List, [], ◌∷◌, ◌++◌, length, length-append, drop, set, slice_get, Option, Some, None, IfSome, refl, sym, ap, ◌∙◌, subst, arith}
 use Rattle.std.specs.Prelude.{replicate}
 use Rattle.std.specs.List.{list_any}
 use Rattle.std.proofs.lemmas.Bool.{eqb-true, eqb-false, eq-eqb, ltb-true, ltb-false}
@@ -16,15 +16,10 @@ use Rattle.fab_gather.specs.Port.{AreIn}
 use Rattle.fab_gather.specs.declared.shelf.Shelf.{Shelf}
 use Rattle.pcap_file.specs.declared.Record.{Record}
 use Rattle.fab_replay.specs.Front.{IsNextFrame, expects_tick, is_at}
-use Rattle.fab_replay.specs.Steps.{AllDone, AreCounted, At, HasLeft, HoldSame, IsAlong, IsDone, HasLeftAt, IsGathered, IsFound, IsOnShelf, IsPortIn, IsReached, IsWindow, Left, Scene}
-use Rattle.fab_replay.specs.Owed.{PagesGrow}
-use Rattle.fab_replay.specs.declared.fault.CheckFault.{CheckFault}
-use Rattle.fab_replay.specs.declared.lines.Place.{Place}
-use Rattle.fab_policy.specs.Standing.{Contents}
+use Rattle.fab_replay.specs.Steps.{AllDone, AreCounted, At, HasLeft, HoldSame, IsDone, HasLeftAt, IsGathered, IsOnShelf, IsPortIn, IsWindow, Scene}
 use Rattle.fab_replay.proofs.FrontLemmas.{of_port_own, of_port_other}
 use Rattle.fab_replay.proofs.LeftLemmas.{left_all, left_some, start_of, tick_unexpected}
 use Rattle.fab_replay.proofs.ListLemmas.{at_inside, inside_at, next_of, rest_at}
-use Rattle.fab_replay.proofs.SentLemmas.{grow_more}
 
 -- a record on the shelf is of the window
 in_at : (c : Settings) (w : ℕ) (batch : List Record) (k : ℕ) (r : Record) → AreIn c w batch → slice_get batch k ≡ Some r → window_start c r.moment ≡ w
@@ -322,17 +317,3 @@ zeros_of n = replicate n 0
 pub length-zeros : (n : ℕ) → length (zeros_of n) ≡ n
 length-zeros zero = refl
 length-zeros (suc n) = ap suc (length-zeros n)
-
--- once each frame on the shelves has a line
-pub shelves_end : (x : Scene) (w : ℕ) (shelves : List Shelf) (G : Contents) (q : Place) (done : List ℕ) (I J : Journal) (a b d : List (List ℕ)) → PagesGrow x.settings (length x.records) I J a b → (r : Result (Unit {0}) CheckFault) →
-    MatchResult r (λ _. (K : Journal) × IsReached x K G q × IsWindow x w K shelves done × PagesGrow x.settings (length x.records) J K b d) (λ e. IsFound x e) → OnOk r (AllDone shelves done) → length done ≡ length shelves →
-    MatchResult r (λ _. (K : Journal) × IsReached x K G q × AreCounted K shelves × PagesGrow x.settings (length x.records) I K a d) (λ e. IsFound x e)
-shelves_end x w shelves G q done I J a b d g (Ok u) h all width = (h.0, h.1, counted_all x w h.0 shelves done h.2 width all, grow_more x.settings (length x.records) I J h.0 a b d g h.3)
-shelves_end x w shelves G q done I J a b d g (Err e) h all width = h
-
--- the same of what the fabric stands for
-pub shelves_left : (x : Scene) (told : Bool) (w : ℕ) (shelves : List Shelf) (G : Contents) (q : Place) (done : List ℕ) → (r : Result (Unit {0}) CheckFault) →
-    MatchResult r (λ _. (K : Journal) × IsAlong x told K G q × (IsTrue told → IsWindow x w K shelves done)) (λ e. Left x told G e) → OnOk r (AllDone shelves done) → length done ≡ length shelves →
-    MatchResult r (λ _. (K : Journal) × IsAlong x told K G q × (IsTrue told → AreCounted K shelves)) (λ e. Left x told G e)
-shelves_left x told w shelves G q done (Ok u) h all width = (h.0, h.1, λ t. counted_all x w h.0 shelves done (h.2 t) width all)
-shelves_left x told w shelves G q done (Err e) h all width = h

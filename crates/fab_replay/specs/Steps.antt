@@ -1,5 +1,6 @@
 -- What stands between two lines of a journal, while a window of the captures is checked. No public clause cites this module.
-use Rattle.std.specs.Prelude.{◌≡◌, ℕ, ◌+◌, ◌^◌, ◌≤◌, ◌<◌, ◌⊎◌, Bool, true, IfSome, IsTrue, List, [], ◌∷◌, ◌++◌, length, drop, Option, Some, slice_get, Result, Err, OnOk}
+use Rattle.std.specs.Prelude.{◌≡◌, ℕ, ◌+◌, ◌^◌, ◌≤◌, ◌<◌, ◌⊎◌, Bool, true, IfErr, IfSome, IsTrue, List, [], ◌∷◌, ◌++◌, length, drop, MatchResult, Option, Some, slice_get, replicate, Result, Err, OnOk, Vec}
+use Rattle.std.specs.declared.alloc.Global.{Global}
 use Rattle.fab_base.specs.declared.values.Caught.{Caught}
 use Rattle.fab_config.specs.Settings.{Settings}
 use Rattle.pcap_file.specs.declared.Record.{Record}
@@ -17,12 +18,15 @@ use Rattle.fab_policy.specs.declared.verdict.Verdict.{Verdict}
 use Rattle.fab_gather.specs.Port.{AreIn}
 use Rattle.fab_gather.specs.Reads.{first_index}
 use Rattle.fab_gather.specs.declared.shelf.Shelf.{Shelf}
+use Rattle.fab_pages.specs.Pages.{items_in}
 use Rattle.fab_replay.specs.Front.{IsFront, IsFirstWrong, expects_tick}
-use Rattle.fab_replay.specs.Lines.{IsBehind, IsInside, number_behind}
+use Rattle.fab_replay.specs.Lines.{IsBehind, IsInside, IsOfLine, number_behind}
+use Rattle.fab_replay.specs.Owed.{PagesGrow}
 use Rattle.fab_replay.specs.Remains.{IsBegun, Remains}
 use Rattle.fab_replay.specs.declared.fault.CheckFault.{CheckFault}
 use Rattle.fab_replay.specs.declared.fault.CheckFault.TheVariants as fault
 use Rattle.fab_replay.specs.declared.fault.LineWhy.TheVariants as why
+use Rattle.fab_replay.specs.declared.frames.Gathered.{Gathered}
 use Rattle.fab_replay.specs.declared.lines.Place.{Place}
 use Rattle.fab_replay.specs.declared.verdicts.Misjudged.{Misjudged}
 use Rattle.fab_replay.specs.declared.verdicts.Misjudged.TheVariants as misjudged
@@ -77,6 +81,26 @@ pub record Advances (moment : ℕ) (F G : Contents) (text : List ℕ) (p : Place
   pub clock_ : OnOk result (G.state.tables.clock ≡ Some moment)
   pub idle : OnOk result (IsIdle G)
 
+-- Where a check stands between two lines: its fabric, its place in the text, and the pages of the outputs.
+pub record Spot : Type 0 where
+  pub fabric : Contents
+  pub place : Place
+  pub pages : List (Vec ℕ Global)
+
+abbrev pub spot_at : Contents → Place → List (Vec ℕ Global) → Spot
+spot_at F p pages = record { fabric = F; place = p; pages = pages }
+
+-- What a check of some lines makes of those before them, from which something holds: all are right, and so what is to hold then, and
+-- the pages grew by what the lines' entries send; or a fault is found. Whether or not the captures are known, it says what is left.
+pub record ChecksLines (moment : ℕ) (from : Scene → Journal → Type 0) (to : Scene → Journal → Journal → Type 0) (text : List ℕ) (a b : Spot) (result : Result (Unit {0}) CheckFault) : Type 0 where
+  pub checks : (x : Scene) (J : Journal) → x.bytes ≡ text → IsReached x J a.fabric a.place → from x J →
+      MatchResult result (λ _. (K : Journal) × IsReached x K b.fabric b.place × to x J K × PagesGrow x.settings (length x.records) J K (items_in a.pages) (items_in b.pages)) (λ e. IsFound x e)
+  pub left : (x : Scene) (told : Bool) (J : Journal) → x.bytes ≡ text → IsAlong x told J a.fabric a.place → (IsTrue told → from x J) →
+      MatchResult result (λ _. (K : Journal) × IsAlong x told K b.fabric b.place × (IsTrue told → to x J K)) (λ e. Left x told b.fabric e)
+  pub advances : Advances moment a.fabric b.fabric text b.place result
+  pub pages : length b.pages ≡ length a.pages
+  pub only : IfErr result IsOfLine
+
 -- the entries of each port are the same in two journals
 abbrev pub HoldSame : Journal → Journal → Type 0
 HoldSame J K = (port : ℕ) → of_port port K ≡ of_port port J
@@ -115,16 +139,22 @@ pub record IsWindow (x : Scene) (w : ℕ) (J : Journal) (shelves : List Shelf) (
   pub ports : (q : ℕ) (s : Shelf) (k : ℕ) → At q shelves done s k → IsPortIn x w J q s k
   pub clock_ : clock J ≡ Some w
 
--- A check stands among the frames of a window: between two lines of the text, with nothing undrained, at the window's moment, and
--- with a count of lines for each port.
-pub record IsAmong (window : ℕ) (F : Contents) (text : List ℕ) (p : Place) (shelves : List Shelf) (done : List ℕ) : Type 0 where
+-- So many records of each port's shelf have lines.
+abbrev pub HasDone : Gathered → List ℕ → Scene → Journal → Type 0
+HasDone g done x J = IsWindow x g.window J g.shelves.now done
+
+-- none has yet
+abbrev pub HasNone : Gathered → Scene → Journal → Type 0
+HasNone g x J = HasDone g (replicate (length g.shelves.now) 0) x J
+
+-- A check stands among the frames of a window: between two lines of the text, with nothing undrained, and at the window's moment.
+pub record IsAmong (g : Gathered) (text : List ℕ) (F : Contents) (p : Place) : Type 0 where
   pub inside : IsInside text p
-  pub clock_ : F.state.tables.clock ≡ Some window
-  pub early : window < 2 ^ 53
+  pub clock_ : F.state.tables.clock ≡ Some g.window
+  pub early : g.window < 2 ^ 53
   pub idle : IsIdle F
-  pub few : length shelves ≤ 64
-  pub count : F.count ≡ length shelves
-  pub width : length done ≡ length shelves
+  pub few : length g.shelves.now ≤ 64
+  pub count : F.count ≡ length g.shelves.now
 
 -- The record of a port is the next one on its shelf, with this index; a line that tells the clock tells this one.
 pub record IsOnShelf (shelves : List Shelf) (done : List ℕ) (w port index : ℕ) (told : Option ℕ) (r : Record) : Type 0 where

@@ -1,5 +1,5 @@
 //! The lines of the frames of a window.
-ghost use Rattle.std.specs.Prelude.{◌≡◌, ◌+◌, ◌<◌, ◌≤◌, ◌^◌, ◌∷◌, ℕ, Bool, IsTrue, IsSome, IfSome, MatchOption, MatchResult, MatchBool, OnOk, IfErr, Some, length, option_copied, slice_get, [], false, true};
+ghost use Rattle.std.specs.Prelude.{◌≡◌, ◌+◌, ◌<◌, ◌≤◌, ◌^◌, ◌∷◌, ℕ, IsSome, IfOk, IfSome, MatchOption, MatchBool, OnOk, IfErr, length, option_copied, replicate, slice_get};
 ghost use Rattle.fab_policy.specs.Journal.{Journal};
 ghost use Rattle.fab_policy.specs.Legal.{Legal};
 ghost use Rattle.fab_policy.specs.Ranged.{IsRangedEvent};
@@ -9,7 +9,7 @@ ghost use Rattle.fab_pages.specs.Pages.{items_in};
 ghost use Rattle.fab_replay.specs.Lines.{IsOfLine};
 ghost use Rattle.fab_replay.specs.Steps as spec;
 ghost use Rattle.fab_replay.specs.Owed.{PagesGrow};
-ghost use Rattle.fab_replay.specs.Steps.{Advances, AllDone, HasLeft, HasTurned, IsAlong, IsAmong, IsFound, IsIdle, IsOnShelf, IsReached, IsRefused, IsWindow, Left, Scene};
+ghost use Rattle.fab_replay.specs.Steps.{AllDone, AreCounted, ChecksLines, HasDone, HasLeft, HasNone, HasTurned, IsAmong, IsIdle, IsOnShelf, IsRefused, spot_at};
 ghost use Rattle.pcap_file.specs.declared.Record.{Record as of_captures};
 
 use crate::lines::{fault_at, next_line};
@@ -47,40 +47,29 @@ pub(crate) fn check_frames(
     journal: &[u8],
     place: &mut Place,
     gathered: &Gathered<'_>,
-    done: &mut [usize],
     pages: &mut [Vec<u8>],
 ) -> Result<(), CheckFault>
-    requires among { IsAmong gathered.now.window fabric.old journal.now place.old
-        gathered.now.shelves.now done.old }
-    ensures checks { (x : Scene) (J : Journal) → x.bytes ≡ journal.now
-        → IsReached x J fabric.old place.old
-        → IsWindow x gathered.now.window J gathered.now.shelves.now done.old
-        → MatchResult result
-        (λ _. (K : Journal) × IsReached x K fabric.new place.new
-        × IsWindow x gathered.now.window K gathered.now.shelves.now done.new
-        × PagesGrow x.settings (length x.records) J K (items_in pages.old) (items_in pages.new))
-        (λ e. IsFound x e) }
-    ensures left { (x : Scene) (told : Bool) (J : Journal) → x.bytes ≡ journal.now
-        → IsAlong x told J fabric.old place.old
-        → (IsTrue told → IsWindow x gathered.now.window J gathered.now.shelves.now done.old)
-        → MatchResult result
-        (λ _. (K : Journal) × IsAlong x told K fabric.new place.new
-        × (IsTrue told → IsWindow x gathered.now.window K gathered.now.shelves.now done.new))
-        (λ e. Left x told fabric.new e) }
-    ensures all { OnOk result (AllDone gathered.now.shelves.now done.new) }
-    ensures advances { let w = gathered.now.window in
-        Advances w fabric.old fabric.new journal.now place.new result }
-    ensures pages { length pages.new ≡ length pages.old }
-    ensures only { IfErr result IsOfLine }
-    ensures width { length done.new ≡ length done.old }
+    requires { IsAmong gathered.now journal.now fabric.old place.old }
+    ensures { let g = gathered.now in
+        ChecksLines g.window (HasNone g) (λ x J K. AreCounted K g.shelves.now) journal.now
+        (spot_at fabric.old place.old pages.old) (spot_at fabric.new place.new pages.new) result }
 {
     // For the checker: a fault that is handed on by `?` holds these enums.
     let _verdicts: &[Verdict] = &[];
     let _whys: &[LineWhy] = &[];
+    let mut counts = zeros(alloc, gathered.shelves.len())?;
+    let done: &mut [usize] = &mut counts;
     'lines: while has_left(gathered.shelves, done) {
         check_frame(alloc, fabric, journal, place, gathered, done, pages)?;
     }
     Ok(())
+}
+
+// So many zeros.
+fn zeros(alloc: Global, count: usize) -> Result<Vec<usize>, NoMemory>
+    ensures zeros { IfOk result (λ v. v.items ≡ replicate count 0) }
+{
+    Ok(Vec::from_elem(alloc, 0, count)?)
 }
 
 // Checks the line of a frame, and has the fabric handle it.
@@ -93,29 +82,13 @@ fn check_frame(
     done: &mut [usize],
     pages: &mut [Vec<u8>],
 ) -> Result<(), CheckFault>
-    requires among { IsAmong gathered.now.window fabric.old journal.now place.old
-        gathered.now.shelves.now done.old }
+    requires among { IsAmong gathered.now journal.now fabric.old place.old }
+    requires width { length done.old ≡ length gathered.now.shelves.now }
     requires left { HasLeft gathered.now.shelves.now done.old }
-    ensures checks { (x : Scene) (J : Journal) → x.bytes ≡ journal.now
-        → IsReached x J fabric.old place.old
-        → IsWindow x gathered.now.window J gathered.now.shelves.now done.old
-        → MatchResult result
-        (λ _. (K : Journal) × IsReached x K fabric.new place.new
-        × IsWindow x gathered.now.window K gathered.now.shelves.now done.new
-        × PagesGrow x.settings (length x.records) J K (items_in pages.old) (items_in pages.new))
-        (λ e. IsFound x e) }
-    ensures left { (x : Scene) (told : Bool) (J : Journal) → x.bytes ≡ journal.now
-        → IsAlong x told J fabric.old place.old
-        → (IsTrue told → IsWindow x gathered.now.window J gathered.now.shelves.now done.old)
-        → MatchResult result
-        (λ _. (K : Journal) × IsAlong x told K fabric.new place.new
-        × (IsTrue told → IsWindow x gathered.now.window K gathered.now.shelves.now done.new))
-        (λ e. Left x told fabric.new e) }
-    ensures advances { let w = gathered.now.window in
-        Advances w fabric.old fabric.new journal.now place.new result }
+    ensures lines { let g = gathered.now in
+        ChecksLines g.window (HasDone g done.old) (λ x J. HasDone g done.new x) journal.now
+        (spot_at fabric.old place.old pages.old) (spot_at fabric.new place.new pages.new) result }
     ensures onward { OnOk result (place.old.at < place.new.at) }
-    ensures pages { length pages.new ≡ length pages.old }
-    ensures only { IfErr result IsOfLine }
     ensures width { length done.new ≡ length done.old }
 {
     let before = *place;

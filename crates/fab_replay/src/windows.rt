@@ -1,15 +1,14 @@
 //! The windows of the captures: each is gathered, and then its lines checked.
-ghost use Rattle.std.specs.Prelude.{◌≡◌, ◌<◌, ◌≤◌, ◌^◌, ◌%◌, ℕ, Bool, IfErr, IfOk, IfSome, IsErrOf, IsTrue, MatchResult, OnOk, Err, None, Some, length, replicate};
+ghost use Rattle.std.specs.Prelude.{◌≡◌, ◌<◌, ◌≤◌, ◌^◌, ◌%◌, ℕ, Bool, IfSome, IsErrOf, IsTrue, MatchResult, OnOk, Err, None, length};
 ghost use Rattle.fab_base.specs.Seen.{Nothing, Seen, Touches};
 ghost use Rattle.fab_gather.specs.First.{IsNextWindow};
 ghost use Rattle.fab_gather.specs.Ports.{AreInputs, NameIn, TakesFrom, walk_at};
-ghost use Rattle.fab_pages.specs.Pages.{items_in};
 ghost use Rattle.fab_policy.specs.Journal.{Journal};
-ghost use Rattle.fab_replay.specs.Lines.{IsInside, IsOfLine};
+ghost use Rattle.fab_replay.specs.Lines.{IsInside};
 ghost use Rattle.fab_replay.specs.AllOutputs.{OneRose};
 ghost use Rattle.fab_replay.specs.Counts.{TellsFaults};
-ghost use Rattle.fab_replay.specs.Owed.{AreMany, IsOwed, PagesGrow};
-ghost use Rattle.fab_replay.specs.Steps.{Advances, AreCounted, IsAlong, IsFound, IsGathered, IsIdle, IsReached, Left, Scene};
+ghost use Rattle.fab_replay.specs.Owed.{AreMany, IsOwed};
+ghost use Rattle.fab_replay.specs.Steps.{Advances, AreCounted, ChecksLines, IsAlong, IsFound, IsGathered, IsIdle, IsReached, Left, Scene, spot_at};
 ghost use Rattle.fab_replay.specs.Windows as spec;
 ghost use Rattle.fab_replay.specs.Check.{Task};
 ghost use Rattle.fab_replay.specs.Windows.{Ends, Going, IsOf, stand_at};
@@ -19,7 +18,7 @@ use crate::laws::laws_of_windows;
 use crate::owed::Owed;
 use crate::ticks::check_ticks;
 use crate::{CheckFault, LineWhy, Place};
-use fab_base::{Depot, NoMemory};
+use fab_base::Depot;
 use fab_gather::{GatherFault, Input, Shelf, gather, next_window};
 use fab_policy::Verdict;
 use forward_core::Fabric;
@@ -175,33 +174,20 @@ fn check_shelves(
     requires idle { IsIdle fabric.old }
     requires ports { length shelves.now ≤ 64 }
     requires count { fabric.old.count ≡ length shelves.now }
-    ensures checks { (x : Scene) (J : Journal) → x.bytes ≡ journal.now
-        → IsReached x J fabric.old place.old → IsGathered x window J shelves.now
-        → MatchResult result
-        (λ _. (K : Journal) × IsReached x K fabric.new place.new × AreCounted K shelves.now
-        × PagesGrow x.settings (length x.records) J K (items_in pages.old) (items_in pages.new))
-        (λ e. IsFound x e) }
-    ensures left { (x : Scene) (told : Bool) (J : Journal) → x.bytes ≡ journal.now
-        → IsAlong x told J fabric.old place.old
-        → (IsTrue told → IsGathered x window J shelves.now) → MatchResult result
-        (λ _. (K : Journal) × IsAlong x told K fabric.new place.new
-        × (IsTrue told → AreCounted K shelves.now)) (λ e. Left x told fabric.new e) }
-    ensures advances { Advances window fabric.old fabric.new journal.now place.new result }
-    ensures pages { length pages.new ≡ length pages.old }
-    ensures only { IfErr result IsOfLine }
+    ensures { ChecksLines window (λ x J. IsGathered x window J shelves.now)
+        (λ x J K. AreCounted K shelves.now) journal.now
+        (spot_at fabric.old place.old pages.old) (spot_at fabric.new place.new pages.new) result }
 {
     // For the checker: a fault that is handed on by `?` holds these enums.
     let _verdicts: &[Verdict] = &[];
     let _whys: &[LineWhy] = &[];
-    let mut done = zeros(alloc, shelves.len())?;
     check_ticks(alloc, fabric, journal, place, window, pages)?;
-    let gathered = Gathered { window, shelves };
-    check_frames(alloc, fabric, journal, place, &gathered, &mut done, pages)
-}
-
-// So many zeros.
-fn zeros(alloc: Global, count: usize) -> Result<Vec<usize>, NoMemory>
-    ensures zeros { IfOk result (λ v. v.items ≡ replicate count 0) }
-{
-    Ok(Vec::from_elem(alloc, 0, count)?)
+    check_frames(
+        alloc,
+        fabric,
+        journal,
+        place,
+        &Gathered { window, shelves },
+        pages,
+    )
 }
