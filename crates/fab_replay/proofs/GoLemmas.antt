@@ -39,6 +39,7 @@ use Rattle.fab_replay.specs.declared.fault.CheckFault.TheVariants as fault
 use Rattle.fab_replay.specs.declared.lines.Place.{Place}
 use Rattle.fab_replay.specs.declared.owed.Owed.{Owed}
 use Rattle.fab_replay.specs.declared.windows.Course.{Course}
+use Rattle.fab_replay.specs.declared.windows.Written.{Written}
 use Rattle.fab_replay.proofs.FrontLemmas.{front_run}
 use Rattle.fab_replay.proofs.LeftLemmas.{left_none, tick_never}
 use Rattle.fab_replay.proofs.LeaveLemmas.{all_found, left_line, left_stopped}
@@ -366,10 +367,10 @@ module _ (laws : Laws) (k : Task) (w : ℕ) (here : Stand) (g : Going k w here) 
         by_result (Ok u) h = h
         by_result (Err f) h = h
 
-        lines_left : (bytes outs : List ℕ) → IsOf k bytes outs → (r : Result (Unit {0}) CheckFault) →
-            (IsTrue b.told → (x : Scene) (J : Journal) (start : Seen) → x.bytes ≡ bytes → IsReached x J F p → IsGathered x w J shelves' → IsOwed x.settings (length x.records) start b outs J o →
-            MatchResult r (λ _. (K : Journal) × IsReached x K G q × AreCounted K shelves' × IsOwed x.settings (length x.records) start e outs K o') (λ f. IsFound x f)) → Lines r
-        lines_left bytes outs same r h = by_result r (λ told.
+        lines_left : (v : Written) → IsOf k v → (r : Result (Unit {0}) CheckFault) →
+            (IsTrue b.told → (x : Scene) (J : Journal) (start : Seen) → x.bytes ≡ v.journal.now → IsReached x J F p → IsGathered x w J shelves' → IsOwed x.settings (length x.records) start b v.outs.now J o →
+            MatchResult r (λ _. (K : Journal) × IsReached x K G q × AreCounted K shelves' × IsOwed x.settings (length x.records) start e v.outs.now K o') (λ f. IsFound x f)) → Lines r
+        lines_left v same r h = by_result r (λ told.
             let l = g.lines told in
             subst (λ s. MatchResult r (λ _. (K : Journal) × IsReached (scene_of k) K G q × AreCounted K shelves' × IsOwed k.settings (length (scene_of k).records) k.start.seen e s K o') (λ f. IsFound (scene_of k) f)) (sym same.outputs)
             (h (told_b told) (scene_of k) l.0 k.start.seen same.journal l.1 (gathered_now told) (subst (λ s. IsOwed k.settings (length (scene_of k).records) k.start.seen b s l.0 o) same.outputs (owed_now told))))
@@ -425,15 +426,15 @@ module _ (laws : Laws) (k : Task) (w : ℕ) (here : Stand) (g : Going k w here) 
         }
 
         -- the same by the clauses of the code, which speak of its own journal and outputs
-        pub turned : (bytes outs : List ℕ) → IsOf k bytes outs → (r : Result (Unit {0}) CheckFault) →
-            (IsTrue b.told → (x : Scene) (J : Journal) (start : Seen) → x.bytes ≡ bytes → IsReached x J F p → IsGathered x w J shelves' → IsOwed x.settings (length x.records) start b outs J o →
-            MatchResult r (λ _. (K : Journal) × IsReached x K G q × AreCounted K shelves' × IsOwed x.settings (length x.records) start e outs K o') (λ f. IsFound x f)) →
-            ((x : Scene) (told : Bool) (J : Journal) → x.bytes ≡ bytes → IsAlong x told J F p → (IsTrue told → IsGathered x w J shelves') →
+        pub turned : (v : Written) → IsOf k v → (r : Result (Unit {0}) CheckFault) →
+            (IsTrue b.told → (x : Scene) (J : Journal) (start : Seen) → x.bytes ≡ v.journal.now → IsReached x J F p → IsGathered x w J shelves' → IsOwed x.settings (length x.records) start b v.outs.now J o →
+            MatchResult r (λ _. (K : Journal) × IsReached x K G q × AreCounted K shelves' × IsOwed x.settings (length x.records) start e v.outs.now K o') (λ f. IsFound x f)) →
+            ((x : Scene) (told : Bool) (J : Journal) → x.bytes ≡ v.journal.now → IsAlong x told J F p → (IsTrue told → IsGathered x w J shelves') →
             MatchResult r (λ _. (K : Journal) × IsAlong x told K G q × (IsTrue told → AreCounted K shelves')) (λ f. Left x told G f)) →
-            Touches Nothing (NameIn b outs) b e → (r ≡ Err fault.Read → OneRose outs b e) → OnOk r (AreMany (length outs) o') → Advances w F G bytes q r → to.first ≡ first → MatchResult r (λ _. Going k (w + 1) (stand_at G to (walk_at e ins' shelves' left'))) (λ f. Ends k e G (Err f))
-        turned bytes outs same r checks along touched cause many on same_first =
+            Touches Nothing (NameIn b v.outs.now) b e → (r ≡ Err fault.Read → OneRose v.outs.now b e) → OnOk r (AreMany (length v.outs.now) o') → Advances w F G v.journal.now q r → to.first ≡ first → MatchResult r (λ _. Going k (w + 1) (stand_at G to (walk_at e ins' shelves' left'))) (λ f. Ends k e G (Err f))
+        turned v same r checks along touched cause many on same_first =
             let outs_are = sym same.outputs in
-            turn_ends r (lines_left bytes outs same r checks) (along (scene_of k) k.start.seen.told g.stood.0 same.journal g.stood.1 left_now)
+            turn_ends r (lines_left v same r checks) (along (scene_of k) k.start.seen.told g.stood.0 same.journal g.stood.1 left_now)
             (subst (λ s. Touches Nothing (NameIn b s) b e) outs_are touched)
             (λ is. subst (λ s. OneRose s b e) outs_are (cause is))
             (subst (λ s. OnOk r (AreMany (length s) o')) outs_are many)

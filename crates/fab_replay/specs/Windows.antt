@@ -1,5 +1,5 @@
 -- What stands between the windows of a check. No public clause cites this module.
-use Rattle.std.specs.Prelude.{◌≡◌, ℕ, ◌+◌, ◌<◌, ◌≤◌, IsTrue, IfSome, List, length, Some, Result, Err, slice_get}
+use Rattle.std.specs.Prelude.{◌≡◌, ℕ, ◌+◌, ◌<◌, ◌≤◌, IsTrue, IfSome, List, length, MatchResult, None, Some, Result, Err, slice_get}
 use Rattle.fab_base.specs.Seen.{Seen, Touches, Nothing}
 use Rattle.pcap_file.specs.declared.Record.{Record}
 use Rattle.fab_policy.specs.Journal.{Journal}
@@ -8,22 +8,25 @@ use Rattle.fab_policy.specs.Looks.{stop, all_records}
 use Rattle.fab_policy.specs.Standing.{Contents}
 use Rattle.fab_gather.specs.declared.fault.GatherFault.{GatherFault}
 use Rattle.fab_gather.specs.declared.fault.GatherFault.TheVariants as gather_fault
-use Rattle.fab_gather.specs.Ports.{slots_of, NameIn, AreInputs, AreReady, Walk, stop_after}
+use Rattle.fab_gather.specs.First.{IsNextWindow}
+use Rattle.fab_gather.specs.Ports.{slots_of, NameIn, AreInputs, AreReady, TakesFrom, Walk, stop_after}
 use Rattle.fab_gather.specs.Reads.{HaveRead}
 use Rattle.fab_replay.specs.Check.{Checks, Leaves, Task, captures_in, matter_of, slots_in}
+use Rattle.fab_replay.specs.Counts.{TellsFaults}
 use Rattle.fab_replay.specs.Lines.{IsInside}
 use Rattle.fab_replay.specs.Owed.{AreMany, IsOwed}
 use Rattle.fab_replay.specs.Steps.{Scene, IsAlong, IsIdle, IsReached}
 use Rattle.fab_replay.specs.declared.fault.CheckFault.{CheckFault}
 use Rattle.fab_replay.specs.declared.fault.CheckFault.TheVariants as fault
 use Rattle.fab_replay.specs.declared.windows.Course.{Course}
+use Rattle.fab_replay.specs.declared.windows.Written.{Written}
 
 -- ---- between windows
 
 -- a task has this journal and these outputs
-pub record IsOf (k : Task) (bytes outs : List ℕ) : Type 0 where
-  pub journal : k.bytes ≡ bytes
-  pub outputs : k.outs ≡ outs
+pub record IsOf (k : Task) (w : Written) : Type 0 where
+  pub journal : k.bytes ≡ w.journal.now
+  pub outputs : k.outs ≡ w.outs.now
 
 abbrev pub scene_of : Task → Scene
 scene_of k = record {
@@ -89,6 +92,14 @@ LeftBy k F e = RemainsOf k F (Err e)
 pub record Ends (k : Task) (d : Seen) (F : Contents) (result : Result ℕ CheckFault) : Type 0 where
   pub checks : Checks k d F result
   pub leaves : RemainsOf k F result
+
+-- What the check of all windows comes to: none is left, or the check ended. However it ends, the configuration and the slots of the
+-- captures stay, the budget isn't raised, and the faults are counted that it tells.
+pub record Turns (w : Written) (a b : Stand) (result : Result (Unit {0}) CheckFault) : Type 0 where
+  pub turns : (k : Task) → IsOf k w → Going k 0 a → MatchResult result (λ _. (v : ℕ) × Going k v b × IsNextWindow k.settings b.walk.shelves None) (λ e. Ends k b.walk.seen b.fabric (Err e))
+  pub settings : b.fabric.settings ≡ a.fabric.settings
+  pub takes : TakesFrom a.walk.ins b.walk.ins a.walk.left b.walk.left
+  pub counts : TellsFaults a.walk.seen b.walk.seen result
 
 -- ---- one window
 

@@ -117,10 +117,10 @@ fn check_begun<D: Depot>(
     budget: &mut Budget,
     begun: &mut Begun,
 ) -> Result<u64, CheckFault>
-    requires going { (k : Task) × IsOf k written.now.journal.now written.now.outs.now
+    requires going { (k : Task) × IsOf k written.now
         × Going k 0 (stand_at fabric.old begun.old.course
         (walk_at (D.seen depot.old) ins.old begun.old.shelves.items budget.old)) }
-    ensures ends { (k : Task) → IsOf k written.now.journal.now written.now.outs.now
+    ensures ends { (k : Task) → IsOf k written.now
         → Going k 0 (stand_at fabric.old begun.old.course
         (walk_at (D.seen depot.old) ins.old begun.old.shelves.items budget.old))
         → Ends k (D.seen depot.new) fabric.new result }

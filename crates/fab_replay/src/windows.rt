@@ -1,8 +1,7 @@
 //! The windows of the captures: each is gathered, and then its lines checked.
 ghost use Rattle.std.specs.Prelude.{◌≡◌, ◌<◌, ◌≤◌, ◌^◌, ◌%◌, ℕ, Bool, IfSome, IsErrOf, IsTrue, MatchResult, OnOk, Err, None, length};
 ghost use Rattle.fab_base.specs.Seen.{Nothing, Seen, Touches};
-ghost use Rattle.fab_gather.specs.First.{IsNextWindow};
-ghost use Rattle.fab_gather.specs.Ports.{AreInputs, NameIn, TakesFrom, walk_at};
+ghost use Rattle.fab_gather.specs.Ports.{AreInputs, NameIn, walk_at};
 ghost use Rattle.fab_policy.specs.Journal.{Journal};
 ghost use Rattle.fab_replay.specs.Lines.{IsInside};
 ghost use Rattle.fab_replay.specs.AllOutputs.{OneRose};
@@ -11,7 +10,7 @@ ghost use Rattle.fab_replay.specs.Owed.{AreMany, IsOwed};
 ghost use Rattle.fab_replay.specs.Steps.{Advances, AreCounted, ChecksLines, IsAlong, IsFound, IsGathered, IsIdle, IsReached, Left, Scene, spot_at};
 ghost use Rattle.fab_replay.specs.Windows as spec;
 ghost use Rattle.fab_replay.specs.Check.{Task};
-ghost use Rattle.fab_replay.specs.Windows.{Ends, Going, IsOf, stand_at};
+ghost use Rattle.fab_replay.specs.Windows.{Going, IsOf, Turns, stand_at};
 
 use crate::frames::{Gathered, check_frames};
 use crate::laws::laws_of_windows;
@@ -52,19 +51,12 @@ pub(crate) fn check_windows<D: Depot>(
     budget: &mut Budget,
     course: &mut Course,
 ) -> Result<(), CheckFault>
-    requires going { (k : Task) × IsOf k written.now.journal.now written.now.outs.now
-        × Going k 0 (stand_at fabric.old course.old
+    requires going { (k : Task) × IsOf k written.now × Going k 0 (stand_at fabric.old course.old
         (walk_at (D.seen depot.old) ins.old shelves.old budget.old)) }
-    ensures turns { (k : Task) → IsOf k written.now.journal.now written.now.outs.now
-        → Going k 0 (stand_at fabric.old course.old
-        (walk_at (D.seen depot.old) ins.old shelves.old budget.old)) → MatchResult result
-        (λ _. (w : ℕ) × Going k w (stand_at fabric.new course.new
-        (walk_at (D.seen depot.new) ins.new shelves.new budget.new))
-        × IsNextWindow k.settings shelves.new None)
-        (λ e. Ends k (D.seen depot.new) fabric.new (Err e)) }
-    ensures settings { fabric.new.settings ≡ fabric.old.settings }
-    ensures takes { TakesFrom ins.old ins.new budget.old budget.new }
-    ensures counts { TellsFaults (D.seen depot.old) (D.seen depot.new) result }
+    ensures { let seen = D.seen in Turns written.now
+        (stand_at fabric.old course.old (walk_at (seen depot.old) ins.old shelves.old budget.old))
+        (stand_at fabric.new course.new (walk_at (seen depot.new) ins.new shelves.new budget.new))
+        result }
 {
     // Law: what the looks to come are, what was read and what a stop keeps; Going goes on by them.
     laws_of_windows();

@@ -34,25 +34,23 @@ gather-requires g c =
       next = subst (λ s. IsNextWindow s c.windows.shelves (Some c.in-Some.window)) (c.config.ensures ∙ sym c.config-config.ensures) c.in-Some.ensures.least;
     }
 
-pub returns-in-Err-clause-turns : goal.returns-in-Err-clause-turns
-returns-in-Err-clause-turns g c = λ k same start.
-    let at = c.windows.invariant.turns k same start in
-    let h = window_here c.laws_of_windows.ensures k at.0 _ at.1 _ c.config.ensures c.in-Some.window c.in-Some.ensures.least in
-    subst (λ e. Ends k (g.D.Depot.seen c.gather.new.depot) c.windows.fabric (Err e)) (sym c.fault_of.ensures)
-    (ends_gathering c.laws_of_windows.ensures k c.in-Some.window _ h.going _ c.in-Err.fault (gathers_as (c.config-config.ensures ∙ h.going.settings_) c.in-Err.ensures.gathers))
-
-pub returns-in-Err-clause-takes : goal.returns-in-Err-clause-takes
-returns-in-Err-clause-takes g c =
-    let l = c.windows in
-    takes_then c.args.ins.now l.ins c.gather.new.ins c.args.budget.now l.budget c.gather.new.budget l.invariant.takes c.in-Err.ensures.gathers.takes
-
-pub returns-in-Err-clause-counts : goal.returns-in-Err-clause-counts
-returns-in-Err-clause-counts g c =
+pub returns-in-Err : goal.returns-in-Err
+returns-in-Err g c =
     let seen = g.D.Depot.seen in
     let l = c.windows in
+    let n = c.gather.new in
     let t = c.in-Err.ensures.gathers in
-    counts_then (seen c.args.depot.now) (seen l.depot) (seen c.gather.new.depot) _ l.invariant.counts.0 l.invariant.counts.1
-    (counts_gathering (seen l.depot) (seen c.gather.new.depot) c.in-Err.fault c.fault_of.result c.fault_of.ensures t.counts t.writes)
+    record {
+      turns = λ k same start.
+          let at = l.invariant.turns k same start in
+          let h = window_here c.laws_of_windows.ensures k at.0 _ at.1 _ c.config.ensures c.in-Some.window c.in-Some.ensures.least in
+          subst (λ e. Ends k (seen n.depot) l.fabric (Err e)) (sym c.fault_of.ensures)
+          (ends_gathering c.laws_of_windows.ensures k c.in-Some.window _ h.going _ c.in-Err.fault (gathers_as (c.config-config.ensures ∙ h.going.settings_) t));
+      settings = l.invariant.settings;
+      takes = takes_then c.args.ins.now l.ins n.ins c.args.budget.now l.budget n.budget l.invariant.takes t.takes;
+      counts = counts_then (seen c.args.depot.now) (seen l.depot) (seen n.depot) _ l.invariant.counts.0 l.invariant.counts.1
+          (counts_gathering (seen l.depot) (seen n.depot) c.in-Err.fault c.fault_of.result c.fault_of.ensures t.counts t.writes);
+    }
 
 -- ---- checking its lines
 
@@ -80,16 +78,26 @@ check_gathered-requires g c =
       many = subst (λ o. AreMany (length o) c.windows.course.owed) same.outputs h.going.many;
     }
 
-pub returns-in_err-check_gathered-clause-turns : goal.returns-in_err-check_gathered-clause-turns
-returns-in_err-check_gathered-clause-turns g c = λ k same start.
-    let at = c.windows.invariant.turns k same start in
-    let h = window_here c.laws_of_windows.ensures k at.0 _ at.1 _ c.config.ensures c.in-Some.window c.in-Some.ensures.least in
-    let t = gathers_as (c.config-config.ensures ∙ h.going.settings_) c.in-Ok.ensures.gathers in
+pub returns-in_err-check_gathered : goal.returns-in_err-check_gathered
+returns-in_err-check_gathered g c =
+    let seen = g.D.Depot.seen in
+    let l = c.windows in
     let n = c.check_gathered.new in
     let e = c.in_err-check_gathered.ensures in
     let f = c.in_err-check_gathered.field-0.0 in
-    told_on c.from_residual.result f _ _ c.from_residual.ensures.1
-    (turned c.laws_of_windows.ensures k c.in-Some.window _ h.going _ t h.next n.fabric n.course (g.D.Depot.seen n.depot) _ _ same (Err f) e.checks e.left e.touches e.cause e.many e.advances e.first)
+    let r = c.from_residual.result in
+    let t = c.in-Ok.ensures.gathers in
+    record {
+      turns = λ k same start.
+          let at = l.invariant.turns k same start in
+          let h = window_here c.laws_of_windows.ensures k at.0 _ at.1 _ c.config.ensures c.in-Some.window c.in-Some.ensures.least in
+          told_on r f _ _ c.from_residual.ensures.1
+          (turned c.laws_of_windows.ensures k c.in-Some.window _ h.going _ (gathers_as (c.config-config.ensures ∙ h.going.settings_) t) h.next n.fabric n.course (seen n.depot) _ same (Err f) e.checks e.left e.touches e.cause e.many e.advances e.first);
+      settings = e.advances.settings ∙ l.invariant.settings;
+      takes = takes_then c.args.ins.now l.ins c.gather.new.ins c.args.budget.now l.budget c.gather.new.budget l.invariant.takes t.takes;
+      counts = counts_then (seen c.args.depot.now) (seen l.depot) (seen n.depot) r l.invariant.counts.0 l.invariant.counts.1
+          (counts_then (seen l.depot) (seen c.gather.new.depot) (seen n.depot) r (t.counts (not_ok tt gather_fault.Read)) t.writes (counts_on (seen c.gather.new.depot) (seen n.depot) f r c.from_residual.ensures.1 e.counts));
+    }
 
 pub windows-preserved : goal.windows-preserved
 windows-preserved g c =
@@ -103,7 +111,7 @@ windows-preserved g c =
           let h = window_here c.laws_of_windows.ensures k at.0 _ at.1 _ c.config.ensures c.in-Some.window c.in-Some.ensures.least in
           let t = gathers_as (c.config-config.ensures ∙ h.going.settings_) gathered in (
             c.in-Some.window + 1,
-            turned c.laws_of_windows.ensures k c.in-Some.window _ h.going _ t h.next n.fabric n.course (g.D.Depot.seen n.depot) _ _ same (Ok tt) e.checks e.left e.touches e.cause e.many e.advances e.first,
+            turned c.laws_of_windows.ensures k c.in-Some.window _ h.going _ t h.next n.fabric n.course (g.D.Depot.seen n.depot) _ same (Ok tt) e.checks e.left e.touches e.cause e.many e.advances e.first,
           );
       settings = e.advances.settings ∙ l.invariant.settings;
       takes = takes_then c.args.ins.now l.ins c.gather.new.ins c.args.budget.now l.budget c.gather.new.budget l.invariant.takes gathered.takes;
@@ -120,31 +128,16 @@ windows-smaller g c =
     let h = window_here c.laws_of_windows.ensures k at.0 _ at.1 _ c.config.ensures c.in-Some.window c.in-Some.ensures.least in
     nearer (2 ^ 43) c.in-Some.window c.windows.fabric.state.tables.clock c.check_gathered.new.fabric.state.tables.clock h.going.clock h.early c.in_ok-check_gathered.ensures.advances.clock_
 
-pub returns-in_err-check_gathered-clause-takes : goal.returns-in_err-check_gathered-clause-takes
-returns-in_err-check_gathered-clause-takes g c =
-    let l = c.windows in
-    takes_then c.args.ins.now l.ins c.gather.new.ins c.args.budget.now l.budget c.gather.new.budget l.invariant.takes c.in-Ok.ensures.gathers.takes
-
-pub returns-in_err-check_gathered-clause-counts : goal.returns-in_err-check_gathered-clause-counts
-returns-in_err-check_gathered-clause-counts g c =
-    let seen = g.D.Depot.seen in
-    let l = c.windows in
-    let b = seen c.gather.new.depot in
-    let d = seen c.check_gathered.new.depot in
-    let r = c.from_residual.result in
-    let t = c.in-Ok.ensures.gathers in
-    counts_then (seen c.args.depot.now) (seen l.depot) d r l.invariant.counts.0 l.invariant.counts.1
-    (counts_then (seen l.depot) b d r (t.counts (not_ok tt gather_fault.Read)) t.writes (counts_on b d c.in_err-check_gathered.field-0.0 r c.from_residual.ensures.1 c.in_err-check_gathered.ensures.counts))
-
 -- ---- no window is left
 
-pub returns-clause-turns : goal.returns-clause-turns
-returns-clause-turns g c = λ k same start.
-    let at = c.windows.invariant.turns k same start in
-    (at.0, at.1, next_here c.laws_of_windows.ensures k at.0 _ at.1 _ c.config.ensures None c.in_default.ensures.least)
-
-pub returns-clause-takes : goal.returns-clause-takes
-returns-clause-takes g c = c.windows.invariant.takes
-
-pub returns-clause-counts : goal.returns-clause-counts
-returns-clause-counts g c = record { reads = λ not. c.windows.invariant.counts.0; writes = c.windows.invariant.counts.1 }
+pub returns : goal.returns
+returns g c =
+    let l = c.windows.invariant in
+    record {
+      turns = λ k same start.
+          let at = l.turns k same start in
+          (at.0, at.1, next_here c.laws_of_windows.ensures k at.0 _ at.1 _ c.config.ensures None c.in_default.ensures.least);
+      settings = l.settings;
+      takes = l.takes;
+      counts = record { reads = λ not. l.counts.0; writes = l.counts.1 };
+    }

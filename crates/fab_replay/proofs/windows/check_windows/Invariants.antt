@@ -10,7 +10,7 @@ abbrev pub invariant-windows : goal.invariant-windows
 invariant-windows g l =
     let seen = g.D.Depot.seen in
     record {
-      turns : (k : Task) → IsOf k l.written.journal.now l.written.outs.now → Going k 0 (stand_at l.fn.fabric l.fn.course (walk_at (seen l.fn.depot) l.fn.ins l.fn.shelves l.fn.budget)) →
+      turns : (k : Task) → IsOf k l.written → Going k 0 (stand_at l.fn.fabric l.fn.course (walk_at (seen l.fn.depot) l.fn.ins l.fn.shelves l.fn.budget)) →
           (v : ℕ) × Going k v (stand_at l.fabric l.course (walk_at (seen l.depot) l.ins l.shelves l.budget));
       settings : l.fabric.settings ≡ l.fn.fabric.settings;
       takes : TakesFrom l.fn.ins l.ins l.fn.budget l.budget;
