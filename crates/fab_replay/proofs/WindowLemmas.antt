@@ -156,11 +156,11 @@ module _ (x : Scene) (w : ℕ) (J : Journal) (shelves : List Shelf) (done : List
 
   pub left_here : HasLeft shelves done → list_any (is_at (clock J)) (windows_left x.settings 1 x.records J) ≡ true
   left_here h =
-      let i = win.ports h.port h.shelf h.done_ h.at in
-      let r = inside_at h.shelf.batch.items h.done_ h.more in
-      let left : left_of (h.port + 1) i.records J ≡ r.0 ∷ (drop (suc h.done_) h.shelf.batch.items ++ i.later) = i.left ∙ ap (λ l. l ++ i.later) (rest_at h.shelf.batch.items h.done_ r.0 r.1) in
-      let here : window_start x.settings r.0.moment ≡ w = in_at x.settings w h.shelf.batch.items h.done_ r.0 i.own r.1 in
-      left_some x.settings (is_at (clock J)) 1 x.records J h.port (h.port + 1) i.records r.0 (drop (suc h.done_) h.shelf.batch.items ++ i.later) i.are (let e : h.port + 1 ≡ 1 + h.port = omega arith in e) left
+      let i = win.ports h.0 h.1.shelf h.1.done_ h.1.at in
+      let r = inside_at h.1.shelf.batch.items h.1.done_ h.1.more in
+      let left : left_of (h.0 + 1) i.records J ≡ r.0 ∷ (drop (suc h.1.done_) h.1.shelf.batch.items ++ i.later) = i.left ∙ ap (λ l. l ++ i.later) (rest_at h.1.shelf.batch.items h.1.done_ r.0 r.1) in
+      let here : window_start x.settings r.0.moment ≡ w = in_at x.settings w h.1.shelf.batch.items h.1.done_ r.0 i.own r.1 in
+      left_some x.settings (is_at (clock J)) 1 x.records J h.0 (h.0 + 1) i.records r.0 (drop (suc h.1.done_) h.1.shelf.batch.items ++ i.later) i.are (let e : h.0 + 1 ≡ 1 + h.0 = omega arith in e) left
       (ap (λ (o : Option ℕ). is_at o (start_of x.settings r.0)) win.clock_ ∙ eq-eqb (start_of x.settings r.0) w here)
 
   pub no_tick_here : HasLeft shelves done → expects_tick x.settings x.records J ≡ false
@@ -220,7 +220,7 @@ least_window x w J shelves done win width h =
     let lt = at_inside shelves q s at in
     let k = inside_at done q (omega (arith, lt, width)) in
     (k.0, win.ports q s k.0 (record { shelf = at; done_ = k.1 })))
-    h.port h.shelf h.done_ (win.ports h.port h.shelf h.done_ h.at) h.more
+    h.0 h.1.shelf h.1.done_ (win.ports h.0 h.1.shelf h.1.done_ h.1.at) h.1.more
 
 -- ---- a window that was gathered
 
@@ -274,7 +274,7 @@ pub left_case : (shelves : List Shelf) (done : List ℕ) (port : ℕ) (s : Shelf
 left_case shelves done port s count size at own is = go (ltb count size) refl
   where
     go : (b : Bool) → ltb count size ≡ b → MatchBool b (HasLeftAt shelves done port) (IsDone shelves done port)
-    go true e = let lt = ltb-true count size e in (s, count, record { shelf = at; done_ = own }, omega (arith, lt, is))
+    go true e = let lt = ltb-true count size e in record { shelf = s; done_ = count; at = record { shelf = at; done_ = own }; more = omega (arith, lt, is) }
     go false e = λ t k here.
         let le = ltb-false count size e in
         let one : Some s ≡ Some t = sym at ∙ here.shelf in

@@ -1,5 +1,5 @@
 -- What stands between two lines of a journal, while a window of the captures is checked. No public clause cites this module.
-use Rattle.std.specs.Prelude.{◌≡◌, ℕ, ◌+◌, ◌^◌, ◌≤◌, ◌<◌, ◌⊎◌, Bool, true, IfErr, IfSome, IsTrue, List, [], ◌∷◌, ◌++◌, length, drop, MatchResult, Option, Some, slice_get, replicate, Result, Err, OnOk, Vec}
+use Rattle.std.specs.Prelude.{◌≡◌, ℕ, ◌+◌, ◌%◌, ◌^◌, ◌≤◌, ◌<◌, ◌⊎◌, Bool, true, IfErr, IfSome, IsTrue, List, [], ◌∷◌, ◌++◌, length, drop, MatchResult, Option, Some, slice_get, replicate, Result, Err, OnOk, Vec}
 use Rattle.std.specs.declared.alloc.Global.{Global}
 use Rattle.fab_base.specs.declared.values.Caught.{Caught}
 use Rattle.fab_config.specs.Settings.{Settings}
@@ -167,17 +167,16 @@ pub record IsOnShelf (shelves : List Shelf) (done : List ℕ) (w port index : �
   pub number : index ≡ first_index shelf + done_
   pub clock_ : IfSome told (λ t. t ≡ w)
 
--- a record of some port has no line yet
-pub record HasLeft (shelves : List Shelf) (done : List ℕ) : Type 0 where
-  pub port : ℕ
+-- a record of a port has no line yet
+pub record HasLeftAt (shelves : List Shelf) (done : List ℕ) (q : ℕ) : Type 0 where
   pub shelf : Shelf
   pub done_ : ℕ
-  pub at : At port shelves done shelf done_
+  pub at : At q shelves done shelf done_
   pub more : done_ < length shelf.batch.items
 
--- a record of a port has no line yet
-abbrev pub HasLeftAt : List Shelf → List ℕ → ℕ → Type 0
-HasLeftAt shelves done q = (s : Shelf) × (k : ℕ) × At q shelves done s k × (k < length s.batch.items)
+-- a record of some port has none
+abbrev pub HasLeft : List Shelf → List ℕ → Type 0
+HasLeft shelves done = (q : ℕ) × HasLeftAt shelves done q
 
 -- each record of a port has a line
 abbrev pub IsDone : List Shelf → List ℕ → ℕ → Type 0
@@ -209,6 +208,16 @@ refusal p found (misjudged.Wrong made) = fault.Line (number_behind p.format p.en
 refusal p found misjudged.Memory = fault.Memory
 
 -- ---- a window
+
+-- A check stands before the lines of a window: between two lines of the text, with nothing undrained, and at an earlier moment.
+pub record IsBefore (w : ℕ) (shelves : List Shelf) (text : List ℕ) (F : Contents) (p : Place) : Type 0 where
+  pub inside : IsInside text p
+  pub early : w < 2 ^ 53
+  pub start : w % F.settings.window ≡ 0
+  pub order : IfSome F.state.tables.clock (λ t. t < w)
+  pub idle : IsIdle F
+  pub few : length shelves ≤ 64
+  pub count : F.count ≡ length shelves
 
 -- What is on the shelves when a window was gathered, of which no frame has a line yet: some record of the window is there.
 pub record IsGathered (x : Scene) (w : ℕ) (J : Journal) (shelves : List Shelf) : Type 0 where

@@ -1,13 +1,12 @@
 //! The windows of the captures: each is gathered, and then its lines checked.
-ghost use Rattle.std.specs.Prelude.{◌≡◌, ◌<◌, ◌≤◌, ◌^◌, ◌%◌, ℕ, Bool, IfSome, IsErrOf, IsTrue, MatchResult, OnOk, Err, None, length};
+ghost use Rattle.std.specs.Prelude.{◌≡◌, ℕ, Bool, IsErrOf, IsTrue, MatchResult, OnOk, length};
 ghost use Rattle.fab_base.specs.Seen.{Nothing, Seen, Touches};
 ghost use Rattle.fab_gather.specs.Ports.{AreInputs, NameIn, walk_at};
 ghost use Rattle.fab_policy.specs.Journal.{Journal};
-ghost use Rattle.fab_replay.specs.Lines.{IsInside};
 ghost use Rattle.fab_replay.specs.AllOutputs.{OneRose};
 ghost use Rattle.fab_replay.specs.Counts.{TellsFaults};
 ghost use Rattle.fab_replay.specs.Owed.{AreMany, IsOwed};
-ghost use Rattle.fab_replay.specs.Steps.{Advances, AreCounted, ChecksLines, IsAlong, IsFound, IsGathered, IsIdle, IsReached, Left, Scene, spot_at};
+ghost use Rattle.fab_replay.specs.Steps.{Advances, AreCounted, ChecksLines, IsAlong, IsBefore, IsFound, IsGathered, IsReached, Left, Scene, spot_at};
 ghost use Rattle.fab_replay.specs.Windows as spec;
 ghost use Rattle.fab_replay.specs.Check.{Task};
 ghost use Rattle.fab_replay.specs.Windows.{Going, IsOf, Turns, stand_at};
@@ -98,13 +97,8 @@ fn check_gathered<D: Depot>(
     shelves: &[Shelf],
     course: &mut Course,
 ) -> Result<(), CheckFault>
-    requires inside { IsInside written.now.journal.now course.old.place }
-    requires range { window < 2 ^ 53 }
-    requires start { window % fabric.old.settings.window ≡ 0 }
-    requires order { IfSome fabric.old.state.tables.clock (λ t. t < window) }
-    requires idle { IsIdle fabric.old }
-    requires ports { length shelves.now ≤ 64 }
-    requires count { fabric.old.count ≡ length shelves.now }
+    requires before { let text = written.now.journal.now in
+        IsBefore window shelves.now text fabric.old course.old.place }
     requires inputs { AreInputs (D.seen depot.old) written.now.outs.now }
     requires many { AreMany (length written.now.outs.now) course.old.owed }
     ensures checks { IsTrue (D.seen depot.old).told → (x : Scene) (J : Journal) (start : Seen)
@@ -159,13 +153,7 @@ fn check_shelves(
     shelves: &[Shelf],
     pages: &mut [Vec<u8>],
 ) -> Result<(), CheckFault>
-    requires inside { IsInside journal.now place.old }
-    requires range { window < 2 ^ 53 }
-    requires start { window % fabric.old.settings.window ≡ 0 }
-    requires order { IfSome fabric.old.state.tables.clock (λ t. t < window) }
-    requires idle { IsIdle fabric.old }
-    requires ports { length shelves.now ≤ 64 }
-    requires count { fabric.old.count ≡ length shelves.now }
+    requires { IsBefore window shelves.now journal.now fabric.old place.old }
     ensures { ChecksLines window (λ x J. IsGathered x window J shelves.now)
         (λ x J K. AreCounted K shelves.now) journal.now
         (spot_at fabric.old place.old pages.old) (spot_at fabric.new place.new pages.new) result }

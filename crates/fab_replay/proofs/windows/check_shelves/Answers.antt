@@ -18,7 +18,7 @@ returns-in_err-check_ticks c =
 pub check_frames-requires : goal.check_frames-requires
 check_frames-requires c =
     let t = c.in_ok-check_ticks.ensures.advances in
-    record { inside = t.inside; clock_ = t.clock_; early = c.requires.range; idle = t.idle; few = c.requires.ports; count = t.count ∙ c.requires.count }
+    record { inside = t.inside; clock_ = t.clock_; early = c.requires.early; idle = t.idle; few = c.requires.few; count = t.count ∙ c.requires.count }
 
 pub returns : goal.returns
 returns c =

@@ -67,13 +67,15 @@ check_gathered-requires g c =
     let on = t.count in
     let early = h.early in
     record {
-      inside = subst (λ b. IsInside b c.windows.course.place) same.journal h.going.inside;
-      range = omega (arith, early);
-      start = ap (λ (x : Settings). c.in-Some.window % x.window) (sym c.config.ensures) ∙ c.in-Some.ensures.start;
-      order = h.going.clock;
-      idle = h.going.idle;
-      ports = omega (arith, ports, few, count, on);
-      count = h.going.count_ ∙ sym (on ∙ count ∙ ports);
+      before = record {
+        inside = subst (λ b. IsInside b c.windows.course.place) same.journal h.going.inside;
+        early = omega (arith, early);
+        start = ap (λ (x : Settings). c.in-Some.window % x.window) (sym c.config.ensures) ∙ c.in-Some.ensures.start;
+        order = h.going.clock;
+        idle = h.going.idle;
+        few = omega (arith, ports, few, count, on);
+        count = h.going.count_ ∙ sym (on ∙ count ∙ ports);
+      };
       inputs = subst (AreInputs (g.D.Depot.seen c.gather.new.depot)) same.outputs (outputs_b c.laws_of_windows.ensures k c.in-Some.window _ h.going _ t h.next);
       many = subst (λ o. AreMany (length o) c.windows.course.owed) same.outputs h.going.many;
     }
