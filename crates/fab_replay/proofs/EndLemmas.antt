@@ -49,11 +49,5 @@ module _ (x : Scene) (J : Journal) (F : Contents) (p : Place) (h : IsReached x J
   pub text_behind : (e : CheckFault) → (drop p.at x.bytes ≡ [] → ⊥) → IsUnread x.bytes p e → IsFound x e
   text_behind (fault.Line n why.Rest) ne u = absurd (ne u.1)
   text_behind (fault.Line n why.Text) ne u = wrong_here x J F p h all_gathered n why.Text u.0 (u.1, u.2)
-  text_behind (fault.Line n why.Tick) ne u = absurd u
-  text_behind (fault.Line n why.Frame) ne u = absurd u
-  text_behind (fault.Line n (why.Verdict found made)) ne u = absurd u
-  text_behind (fault.Output port at) ne u = absurd u
-  text_behind (fault.Capture port at w) ne u = absurd u
-  text_behind (fault.Limit kind) ne u = absurd u
-  text_behind fault.Read ne u = absurd u
   text_behind fault.Memory ne u = tt
+  text_behind _ ne u = absurd u

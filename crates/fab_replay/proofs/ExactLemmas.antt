@@ -94,13 +94,5 @@ answer_is_one c budget m (Err (fault.Limit kind)) (Err (fault.Capture p x v)) a 
 answer_is_one c budget m (Err (fault.Limit kind)) (Err (fault.Limit other)) a b = ap (λ (e : GatherFault). Err (check_fault e)) (stop_once c budget m (gather_fault.Limit kind) (gather_fault.Limit other) a b)
 answer_is_one c budget m (Err fault.Read) s a b = absurd a
 answer_is_one c budget m (Err fault.Memory) s a b = absurd a
-answer_is_one c budget m (Ok n) (Err fault.Read) a b = absurd b
-answer_is_one c budget m (Ok n) (Err fault.Memory) a b = absurd b
-answer_is_one c budget m (Err (fault.Line line why)) (Err fault.Read) a b = absurd b
-answer_is_one c budget m (Err (fault.Line line why)) (Err fault.Memory) a b = absurd b
-answer_is_one c budget m (Err (fault.Output port at)) (Err fault.Read) a b = absurd b
-answer_is_one c budget m (Err (fault.Output port at)) (Err fault.Memory) a b = absurd b
-answer_is_one c budget m (Err (fault.Capture port at w)) (Err fault.Read) a b = absurd b
-answer_is_one c budget m (Err (fault.Capture port at w)) (Err fault.Memory) a b = absurd b
-answer_is_one c budget m (Err (fault.Limit kind)) (Err fault.Read) a b = absurd b
-answer_is_one c budget m (Err (fault.Limit kind)) (Err fault.Memory) a b = absurd b
+answer_is_one c budget m _ (Err fault.Read) a b = absurd b
+answer_is_one c budget m _ (Err fault.Memory) a b = absurd b

@@ -78,19 +78,14 @@ right_lines x J F p h = record {
 -- a fault of a line ends the check
 pub says_found : (k : Task) (F : Contents) (e : CheckFault) → IsFound (scene_of k) e → Says k.settings k.start.left (matter_of k) F (Err e)
 says_found k F (fault.Line n y) h = h
-says_found k F (fault.Output port at) h = absurd h
-says_found k F (fault.Capture port at w) h = absurd h
-says_found k F (fault.Limit kind) h = absurd h
 says_found k F fault.Read h = tt
 says_found k F fault.Memory h = tt
+says_found k F _ h = absurd h
 
 pub not_read : (e : CheckFault) → IsOfLine e → e ≡ fault.Read → ⊥
 not_read (fault.Line n y) h is = cc
-not_read (fault.Output port at) h is = absurd h
-not_read (fault.Capture port at w) h is = absurd h
-not_read (fault.Limit kind) h is = absurd h
-not_read fault.Read h is = absurd h
 not_read fault.Memory h is = cc
+not_read _ h is = absurd h
 
 -- the cause of a fault of reading, if this is one
 abbrev pub Caused : Task → Seen → CheckFault → Type 0
@@ -530,10 +525,7 @@ module _ (laws : Laws) (k : Task) (w : ℕ) (here : Stand) (g : Going k w here) 
   left_out none (fault.Output port at) only =
       record { remains = stays (scene_of k) k.start.seen.told g.stood.0 F p g.stood.1 (Err (fault.Output port at)) refl (λ told. tt); all = λ told. left_all none told }
   left_out none fault.Read only = record { remains = stays (scene_of k) k.start.seen.told g.stood.0 F p g.stood.1 (Err fault.Read) refl (λ told. tt); all = λ told. tt }
-  left_out none (fault.Line n y) only = absurd only
-  left_out none (fault.Capture port at w) only = absurd only
-  left_out none (fault.Limit kind) only = absurd only
-  left_out none fault.Memory only = absurd only
+  left_out none _ only = absurd only
 
   left_well : RemainsOf k F (Ok p.entries)
   left_well = record { remains = stays (scene_of k) k.start.seen.told g.stood.0 F p g.stood.1 (Ok p.entries) (g.stood.1.behind.entries, refl) (λ told. tt); all = λ told. tt }
@@ -566,10 +558,7 @@ module _ (laws : Laws) (k : Task) (w : ℕ) (here : Stand) (g : Going k w here) 
       says = λ told. tt;
       read = λ is. rose_in_all (OfTask k) k.start.seen d g.touches (slots_in k) g.inputs e (rose_back xs k.outs d e (r.cause refl));
     }
-    ended_out (fault.Line n y) r E = absurd r.only
-    ended_out (fault.Capture port at w) r E = absurd r.only
-    ended_out (fault.Limit kind) r E = absurd r.only
-    ended_out fault.Memory r E = absurd r.only
+    ended_out _ r E = absurd r.only
 
     ended_well : ReadsOut k.outs d e o (Ok tt) → Checks k e F (Ok p.entries)
     ended_well r = record {

@@ -31,20 +31,15 @@ holds_nothing c s p (records ∷ ins) none =
 -- a fault of a line needs no frames more
 pub all_found : (c : Settings) (budget : Budget) (m : Matter) (J : Journal) (x : Scene) (e : CheckFault) → IsFound x e → HasAll c budget m J (Err e)
 all_found c budget m J x (fault.Line n y) h = tt
-all_found c budget m J x (fault.Output port at) h = absurd h
-all_found c budget m J x (fault.Capture port at w) h = absurd h
-all_found c budget m J x (fault.Limit kind) h = absurd h
 all_found c budget m J x fault.Read h = tt
 all_found c budget m J x fault.Memory h = tt
+all_found c budget m J x _ h = absurd h
 
 -- a fault of a line
 pub left_line : (k : Task) (F : Contents) (e : CheckFault) → IsOfLine e → Left (scene_of k) k.start.seen.told F e → LeftBy k F e
 left_line k F (fault.Line n y) only h = record { remains = h; all = λ told. tt }
 left_line k F fault.Memory only h = record { remains = h; all = λ told. tt }
-left_line k F (fault.Output port at) only h = absurd only
-left_line k F (fault.Capture port at w) only h = absurd only
-left_line k F (fault.Limit kind) only h = absurd only
-left_line k F fault.Read only h = absurd only
+left_line k F _ only h = absurd only
 
 -- a fault of gathering
 pub left_stopped : (k : Task) (J : Journal) (F : Contents) (p : Place) → IsAlong (scene_of k) k.start.seen.told J F p → (e : GatherFault) → (IsTrue k.start.seen.told → IsStopped e → HasKept k.settings k.start.left (matter_of k) J) → LeftBy k F (check_fault e)

@@ -67,14 +67,8 @@ module _ (x : Scene) (told : Bool) (J : Journal) (F : Contents) (p : Place) (h :
   pub stays_unread : (e : CheckFault) → IsUnread x.bytes p e → Left x told F e
   stays_unread (fault.Line n why.Rest) u = stays (Err (fault.Line n why.Rest)) (number_is n u.0, refl) (λ t. tt)
   stays_unread (fault.Line n why.Text) u = stays (Err (fault.Line n why.Text)) (number_is n u.0, refl) (λ t. tt)
-  stays_unread (fault.Line n why.Tick) u = absurd u
-  stays_unread (fault.Line n why.Frame) u = absurd u
-  stays_unread (fault.Line n (why.Verdict found made)) u = absurd u
-  stays_unread (fault.Output port at) u = absurd u
-  stays_unread (fault.Capture port at w) u = absurd u
-  stays_unread (fault.Limit kind) u = absurd u
-  stays_unread fault.Read u = absurd u
   stays_unread fault.Memory u = stays_refused
+  stays_unread _ u = absurd u
 
   -- a tick where none is expected, and a frame that isn't the next
   pub stays_tick : (n : ℕ) → n ≡ number_behind p.format p.entries → (IsTrue told → expects_tick x.settings x.records J ≡ false) → Left x told F (fault.Line n why.Tick)
@@ -146,14 +140,7 @@ module _ (x : Scene) (told : Bool) (J : Journal) (F : Contents) (p : Place) (h :
       | inr some ↦
           left_with G (event.Frame port index r.caught some.0 ∷ []) (Err fault.Memory) (omega arith) (subst (λ (s : Settings). Legal s (event.Frame port index r.caught some.0 ∷ J)) h.settings some.1) some.2 (begun_with some.0) (λ t. tt)
     ]
-    left_frame T G (fault.Line n why.Rest) u t = absurd u
-    left_frame T G (fault.Line n why.Text) u t = absurd u
-    left_frame T G (fault.Line n why.Tick) u t = absurd u
-    left_frame T G (fault.Line n why.Frame) u t = absurd u
-    left_frame T G (fault.Output o at) u t = absurd u
-    left_frame T G (fault.Capture o at w) u t = absurd u
-    left_frame T G (fault.Limit kind) u t = absurd u
-    left_frame T G fault.Read u t = absurd u
+    left_frame T G _ u t = absurd u
 
     pub along_frame : (G : Contents) → (Legal F.settings J → Stands F J → Legal F.settings (event.Frame port index r.caught verdict ∷ J) × Stands G (event.Frame port index r.caught verdict ∷ J)) → IsRangedEvent (event.Frame port index r.caught verdict) → G.settings ≡ F.settings →
         IsAlong x told (event.Frame port index r.caught verdict ∷ J) G q

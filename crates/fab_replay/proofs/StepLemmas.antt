@@ -67,14 +67,8 @@ module _ (x : Scene) (J : Journal) (F : Contents) (p : Place) (h : IsReached x J
   pub unread_here : IsGatheredTo c x.records x.stop J → (e : CheckFault) → has_left c x.records J ≡ true → IsUnread x.bytes p e → IsFound x e
   unread_here gathered (fault.Line n why.Rest) left u = wrong_here gathered n why.Rest u.0 (u.1, left)
   unread_here gathered (fault.Line n why.Text) left u = wrong_here gathered n why.Text u.0 (u.1, u.2)
-  unread_here gathered (fault.Line n why.Tick) left u = absurd u
-  unread_here gathered (fault.Line n why.Frame) left u = absurd u
-  unread_here gathered (fault.Line n (why.Verdict found made)) left u = absurd u
-  unread_here gathered (fault.Output port at) left u = absurd u
-  unread_here gathered (fault.Capture port at w) left u = absurd u
-  unread_here gathered (fault.Limit kind) left u = absurd u
-  unread_here gathered fault.Read left u = absurd u
   unread_here gathered fault.Memory left u = tt
+  unread_here gathered _ left u = absurd u
 
   -- ---- a tick
 
@@ -166,15 +160,8 @@ module _ (x : Scene) (J : Journal) (F : Contents) (p : Place) (h : IsReached x J
               λ right. u.2 (from_journal found right),
               to_journal made u.3,
             )
-        refused_here (fault.Line n why.Rest) u = absurd u
-        refused_here (fault.Line n why.Text) u = absurd u
-        refused_here (fault.Line n why.Tick) u = absurd u
-        refused_here (fault.Line n why.Frame) u = absurd u
-        refused_here (fault.Output o at) u = absurd u
-        refused_here (fault.Capture o at w) u = absurd u
-        refused_here (fault.Limit kind) u = absurd u
-        refused_here fault.Read u = absurd u
         refused_here fault.Memory u = tt
+        refused_here _ u = absurd u
 
         pub frame_reached : (G : Contents) → (Legal F.settings J → Stands F J → Legal F.settings (e ∷ J) × Stands G (e ∷ J)) → IsRangedEvent e → G.settings ≡ F.settings → G.count ≡ F.count → IsReached x (e ∷ J) G q
         frame_reached G goes ranged settings count =

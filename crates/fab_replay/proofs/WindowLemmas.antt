@@ -294,16 +294,23 @@ done_room done batch r at place first index own here room port is q k e other =
     let lt = at_inside batch place r here in
     omega (arith, lt, equal, room)
 
--- the counts once the record of a port has a line
-pub counts_more : (done : List ℕ) (at place k : ℕ) → at ≡ place → slice_get done place ≡ Some k → set done at (get_or done at 0 + 1) ≡ set done place (k + 1)
-counts_more done at place k e own =
-    let value : get_or done at 0 ≡ k = ap (λ (n : ℕ). get_or done n 0) e ∙ get_or_from_slice_get done place k 0 own in
-    λ i. set done (e i) (value i + 1)
+-- ---- the place of a record's port
 
-pub count_fits : (done : List ℕ) (at place k : ℕ) → at ≡ place → slice_get done place ≡ Some k → k + 1 < 2 ^ 64 → get_or done at 0 + 1 < 2 ^ 64
-count_fits done at place k e own room =
-    let value : get_or done at 0 ≡ k = ap (λ (n : ℕ). get_or done n 0) e ∙ get_or_from_slice_get done place k 0 own in
-    omega (arith, value, room)
+place_is : {shelves : List Shelf} {done : List ℕ} {w port index : ℕ} {told : Option ℕ} {r : Record} (o : IsOnShelf shelves done w port index told r) (at : ℕ) → at + 1 ≡ port → at ≡ o.place
+place_is o at e = let is = o.is in omega (arith, e, is)
+
+pub place_inside : {shelves : List Shelf} {done : List ℕ} {w port index : ℕ} {told : Option ℕ} {r : Record} → IsOnShelf shelves done w port index told r → (at : ℕ) → at + 1 ≡ port → at < length done
+place_inside {shelves} {done} o at e = let lt = at_inside done o.place o.done_ o.at.done_ in let same = place_is o at e in omega (arith, lt, same)
+
+count_is : {shelves : List Shelf} {done : List ℕ} {w port index : ℕ} {told : Option ℕ} {r : Record} (o : IsOnShelf shelves done w port index told r) (at : ℕ) → at + 1 ≡ port → get_or done at 0 ≡ o.done_
+count_is {shelves} {done} o at e = ap (λ (n : ℕ). get_or done n 0) (place_is o at e) ∙ get_or_from_slice_get done o.place o.done_ 0 o.at.done_
+
+-- the counts once the record has a line
+pub counts_more : {shelves : List Shelf} {done : List ℕ} {w port index : ℕ} {told : Option ℕ} {r : Record} (o : IsOnShelf shelves done w port index told r) (at : ℕ) → at + 1 ≡ port → set done at (get_or done at 0 + 1) ≡ set done o.place (o.done_ + 1)
+counts_more {shelves} {done} o at e = λ i. set done (place_is o at e i) (count_is o at e i + 1)
+
+pub count_fits : {shelves : List Shelf} {done : List ℕ} {w port index : ℕ} {told : Option ℕ} {r : Record} → IsOnShelf shelves done w port index told r → (at : ℕ) → at + 1 ≡ port → ((q k : ℕ) → port ≡ q + 1 → slice_get done q ≡ Some k → k + 1 < 2 ^ 64) → get_or done at 0 + 1 < 2 ^ 64
+count_fits o at e room = let fits = room o.place o.done_ o.is o.at.done_ in let value = count_is o at e in omega (arith, value, fits)
 
 -- ---- the end of a window
 

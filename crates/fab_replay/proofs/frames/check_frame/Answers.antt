@@ -1,14 +1,13 @@
-use Rattle.std.proofs.Common.{◌≡◌, ◌∙◌, ◌∷◌, refl, arith}
+use Rattle.std.proofs.Common.{◌∙◌, ◌∷◌, refl, arith}
 use Rattle.fab_policy.specs.declared.event.Event.TheVariants as event
 use Rattle.fab_policy.specs.Journal.{Journal}
 use Rattle.fab_pages.specs.Pages.{items_in}
 use Rattle.fab_replay.proofs.LineLemmas.{line_as, unread_as}
-use Rattle.fab_replay.proofs.ListLemmas.{at_inside}
 use Rattle.fab_replay.proofs.RemainLemmas.{along_frame, left_frame, legal_old, stays_frame, stays_tick, stays_unread}
 use Rattle.fab_replay.proofs.SentLemmas.{grow_reached, legal_there}
 use Rattle.fab_replay.proofs.SpotLemmas.{failed}
 use Rattle.fab_replay.proofs.StepLemmas.{frame_reached, gathered_here, has_left_here, other_frame, refused_here, tick_here, unread_here}
-use Rattle.fab_replay.proofs.WindowLemmas.{count_fits, counts_more, no_tick_here, window_more}
+use Rattle.fab_replay.proofs.WindowLemmas.{count_fits, counts_more, no_tick_here, place_inside, window_more}
 use Rattle.fab_replay.proofs.frames.check_frame.Goals as goal
 
 -- ---- what the line makes of the lines before it
@@ -47,10 +46,7 @@ returns-in_err-take_frame-clause-lines c =
 pub returns-clause-lines : goal.returns-clause-lines
 returns-clause-lines c =
     let on = c.in-Some.ensures.named in
-    let is = on.is in
-    let value = c.index.ensures.value in
-    let place : c.index.result ≡ on.place = omega (arith, is, value) in
-    let more = counts_more c.args.done.now c.index.result on.place on.done_ place on.at.done_ in
+    let more = counts_more on _ c.index.ensures.value in
     let step = c.in_ok-take_frame.ensures in
     let K = λ (J : Journal). event.Frame c.in-Frame.port c.in-Frame.index c.in-Some.found.now.caught c.in-Frame.verdict ∷ J in
     record {
@@ -73,26 +69,10 @@ returns-clause-lines c =
 -- ---- the count of the port's lines
 
 pub bounds-done-index : goal.bounds-done-index
-bounds-done-index c =
-    let on = c.in-Some.ensures.named in
-    let lt = at_inside c.args.done.now on.place on.done_ on.at.done_ in
-    let is = on.is in
-    let value = c.index.ensures.value in
-    omega (arith, lt, is, value)
+bounds-done-index c = place_inside c.in-Some.ensures.named _ c.index.ensures.value
 
 pub bounds-done-index-2 : goal.bounds-done-index-2
-bounds-done-index-2 c =
-    let on = c.in-Some.ensures.named in
-    let lt = at_inside c.args.done.now on.place on.done_ on.at.done_ in
-    let is = on.is in
-    let value = c.index.ensures.value in
-    omega (arith, lt, is, value)
+bounds-done-index-2 c = place_inside c.in-Some.ensures.named _ c.index.ensures.value
 
 pub overflow_add-done : goal.overflow_add-done
-overflow_add-done c =
-    let on = c.in-Some.ensures.named in
-    let is = on.is in
-    let value = c.index.ensures.value in
-    let place : c.index.result ≡ on.place = omega (arith, is, value) in
-    let fits = count_fits c.args.done.now c.index.result on.place on.done_ place on.at.done_ (c.in-Some.ensures.room on.place on.done_ on.is on.at.done_) in
-    omega (arith, fits)
+overflow_add-done c = let fits = count_fits c.in-Some.ensures.named _ c.index.ensures.value c.in-Some.ensures.room in omega (arith, fits)
