@@ -64,7 +64,8 @@ below_at : (o : Option ℕ) (w : ℕ) (l : List ℕ) → IfSome o (λ t. t < w) 
 below_at None w l lt all = none_any l
 below_at (Some t) w l lt all = none_below w t l all lt
 
-any_of : (test : ℕ → Bool) (l : List ℕ) → list_any test l ≡ true → list_any (λ w. true) l ≡ true
+-- some is, where some passes a test
+pub any_of : (test : ℕ → Bool) (l : List ℕ) → list_any test l ≡ true → list_any (λ w. true) l ≡ true
 any_of test [] h = absurd (cc)
 any_of test (m ∷ l) h = refl
 

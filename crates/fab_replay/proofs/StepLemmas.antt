@@ -1,7 +1,6 @@
 -- What the line at a place makes of the lines before it: one more entry, or the first fault.
-use Rattle.std.proofs.Common.{◌≡◌, ℕ, ◌+◌, ◌<◌, ◌≤◌, inl, inr, Bool, true, List, [], ◌∷◌, ◌++◌, length, drop, Option, Some, None, IfSome, refl, sym, ap, ◌∙◌, subst, arith}
+use Rattle.std.proofs.Common.{◌≡◌, ℕ, ◌+◌, ◌<◌, ◌≤◌, inl, inr, true, eqb, List, ◌∷◌, ◌++◌, length, drop, Option, Some, None, IfSome, refl, sym, ap, ◌∙◌, subst, arith}
 use Rattle.std.specs.Prelude.{unwrap_or}
-use Rattle.std.specs.List.{list_any}
 use Rattle.fab_base.specs.declared.values.Caught.{Caught}
 use Rattle.fab_config.specs.Settings.{Settings}
 use Rattle.fab_policy.specs.Journal.{Journal, clock, now}
@@ -34,9 +33,9 @@ use Rattle.fab_replay.specs.declared.lines.Place.{Place}
 use Rattle.fab_replay.specs.declared.verdicts.Misjudged.{Misjudged}
 use Rattle.fab_replay.specs.declared.verdicts.Misjudged.TheVariants.{Wrong, Memory}
 use Rattle.fab_replay.proofs.FrontLemmas.{front_frame, front_tick, same_clock, same_tables}
-use Rattle.fab_replay.proofs.LeftLemmas.{gathered_next, left_same, tick_expected}
+use Rattle.fab_replay.proofs.LeftLemmas.{any_of, gathered_next, left_same, tick_expected}
 use Rattle.fab_replay.proofs.LineLemmas.{behind_more}
-use Rattle.fab_replay.proofs.WindowLemmas.{any_left, from_next, least_window, left_here, next_from, no_tick_here}
+use Rattle.fab_replay.proofs.WindowLemmas.{from_next, least_window, left_here, next_from, no_tick_here}
 
 -- the line of a frame, which tells the clock where its format does
 pub frame_line : (port index : ℕ) (caught : Caught) (v : Verdict) (f : Format) (t : ℕ) (o : Option ℕ) → HasClockOf f o → IfSome o (λ k. k ≡ t) → Frame port index v o ≡ line_of f t (event.Frame port index caught v)
@@ -74,7 +73,7 @@ module _ (x : Scene) (J : Journal) (F : Contents) (p : Place) (h : IsReached x J
 
   module _ (m : ℕ) (t : IsTickNow x J m) where
     pub left_then : has_left c x.records J ≡ true
-    left_then = any_left (windows_left c 1 x.records J) t.window t.least.0
+    left_then = any_of (λ n. eqb n t.window) (windows_left c 1 x.records J) t.least.0
 
     abbrev ends : List ℕ
     ends = addresses (overdue F.settings F.state.tables m)
@@ -113,15 +112,12 @@ module _ (x : Scene) (J : Journal) (F : Contents) (p : Place) (h : IsReached x J
   -- ---- a frame
 
   module _ (w : ℕ) (shelves : List Shelf) (done : List ℕ) (win : IsWindow x w J shelves done) (left : HasLeft shelves done) (width : length done ≡ length shelves) where
-    pub gathered_here : IsGatheredTo c x.records x.stop J
+    gathered_here : IsGatheredTo c x.records x.stop J
     gathered_here = gathered_next c x.records x.stop J w (least_window x w J shelves done win width left) win.ahead
 
-    pub has_left_here : has_left c x.records J ≡ true
-    has_left_here = any_is (is_at (clock J)) (windows_left c 1 x.records J) (left_here x w J shelves done win left)
-      where
-        any_is : (test : ℕ → Bool) (l : List ℕ) → list_any test l ≡ true → list_any (λ v. true) l ≡ true
-        any_is test [] e = absurd (cc)
-        any_is test (v ∷ l) e = refl
+    -- no line that can be read
+    pub no_line_here : (e : CheckFault) → IsUnread x.bytes p e → IsFound x e
+    no_line_here e u = unread_here gathered_here e (any_of (is_at (clock J)) (windows_left c 1 x.records J) (left_here x w J shelves done win left)) u
 
     -- a tick where none is expected
     pub tick_here : (n : ℕ) (q : Place) (m : ℕ) (ended : List ℕ) → n ≡ number_behind p.format p.entries → IsLineAt x.bytes p q (Tick m ended) → IsFirstWrong c x.records x.stop x.bytes n why.Tick

@@ -31,6 +31,19 @@ in_at c w (s ∷ batch) (suc k) r own at = in_at c w batch k r own.1 at
 at_rest : {X : Type 0} (xs : List X) (k : ℕ) (x : X) (more : List X) → drop k xs ≡ x ∷ more → slice_get xs k ≡ Some x
 at_rest xs k x more e = (next_of xs k x more e).at
 
+-- what a port has stays where its entries do
+port_same : (x : Scene) (w : ℕ) (J K : Journal) (q : ℕ) (s : Shelf) (k : ℕ) → of_port (q + 1) K ≡ of_port (q + 1) J → IsPortIn x w J q s k → IsPortIn x w K q s k
+port_same x w J K q s k same i = record {
+  records = i.records;
+  are = i.are;
+  own = i.own;
+  few = i.few;
+  later = i.later;
+  left = ap (λ (l : List (ℕ × Caught)). drop (length l) i.records) same ∙ i.left;
+  from = i.from;
+  count = ap length same ∙ i.count;
+}
+
 module _ (x : Scene) (w : ℕ) (J : Journal) (shelves : List Shelf) (done : List ℕ) (win : IsWindow x w J shelves done) where
   -- ---- what a line may name
 
@@ -119,19 +132,7 @@ module _ (x : Scene) (w : ℕ) (J : Journal) (shelves : List Shelf) (done : List
         })
 
     other_more : (q : ℕ) (s : Shelf) (k : ℕ) → (q ≡ o.place → ⊥) → At q shelves done s k → IsPortIn x w K q s k
-    other_more q s k ne at =
-        let i = win.ports q s k at in
-        let same : of_port (q + 1) K ≡ of_port (q + 1) J = of_port_other port index (q + 1) r.caught v J (λ e. ne (let is = o.is in omega (arith, e, is))) in
-        record {
-          records = i.records;
-          are = i.are;
-          own = i.own;
-          few = i.few;
-          later = i.later;
-          left = ap (λ (l : List (ℕ × Caught)). drop (length l) i.records) same ∙ i.left;
-          from = i.from;
-          count = ap length same ∙ i.count;
-        }
+    other_more q s k ne at = port_same x w J K q s k (of_port_other port index (q + 1) r.caught v J (λ e. ne (let is = o.is in omega (arith, e, is)))) (win.ports q s k at)
 
     pub window_more : (done' : List ℕ) → done' ≡ set done o.place (o.done_ + 1) → IsWindow x w K shelves done'
     window_more done' is = record {
@@ -176,10 +177,6 @@ module _ (x : Scene) (w : ℕ) (J : Journal) (shelves : List Shelf) (done : List
       let few = i.few in
       let c = i.count in
       omega (arith, c, most, few)
-
-pub any_left : (l : List ℕ) (w : ℕ) → list_any (λ m. eqb m w) l ≡ true → list_any (λ m. true) l ≡ true
-any_left [] w h = absurd (cc)
-any_left (m ∷ l) w h = refl
 
 -- ---- the window of the next frames
 
@@ -237,19 +234,7 @@ module _ (x : Scene) (w : ℕ) (J : Journal) (shelves : List Shelf) (g : IsGathe
   window_first K n same at = record {
     width = g.width;
     ahead = g.ahead;
-    ports = λ q s k here.
-        let i = g.ports q s here.shelf in
-        let none : k ≡ 0 = zeros_at n q k here.done_ in
-        subst (λ (d : ℕ). IsPortIn x w K q s d) (sym none) (record {
-          records = i.records;
-          are = i.are;
-          own = i.own;
-          few = i.few;
-          later = i.later;
-          left = ap (λ (l : List (ℕ × Caught)). drop (length l) i.records) (same (q + 1)) ∙ i.left;
-          from = i.from;
-          count = ap length (same (q + 1)) ∙ i.count;
-        });
+    ports = λ q s k here. subst (λ (d : ℕ). IsPortIn x w K q s d) (sym (zeros_at n q k here.done_)) (port_same x w J K q s 0 (same (q + 1)) (g.ports q s here.shelf));
     clock_ = at;
   }
 

@@ -6,7 +6,7 @@ use Rattle.fab_replay.proofs.LineLemmas.{line_as, unread_as}
 use Rattle.fab_replay.proofs.RemainLemmas.{along_frame, left_frame, legal_old, stays_frame, stays_tick, stays_unread}
 use Rattle.fab_replay.proofs.SentLemmas.{grow_reached, legal_there}
 use Rattle.fab_replay.proofs.SpotLemmas.{failed}
-use Rattle.fab_replay.proofs.StepLemmas.{frame_reached, gathered_here, has_left_here, other_frame, refused_here, tick_here, unread_here}
+use Rattle.fab_replay.proofs.StepLemmas.{frame_reached, no_line_here, other_frame, refused_here, tick_here}
 use Rattle.fab_replay.proofs.WindowLemmas.{count_fits, counts_more, no_tick_here, place_inside, window_more}
 use Rattle.fab_replay.proofs.frames.check_frame.Goals as goal
 
@@ -17,7 +17,7 @@ returns-in_err-line-clause-lines c =
     let e = c.in_err-line.field-0.0 in
     let unread = c.in_err-line.ensures.unread.0 in
     failed c.from_residual.ensures.1 c.in_err-line.ensures.only refl refl refl
-    (λ x J same h win. unread_here x J _ _ h (gathered_here x J _ _ h _ _ _ win c.requires.left c.requires.width) e (has_left_here x J _ _ h _ _ _ win c.requires.left c.requires.width) (unread_as c.args.place.now e same unread))
+    (λ x J same h win. no_line_here x J _ _ h _ _ _ win c.requires.left c.requires.width e (unread_as c.args.place.now e same unread))
     (λ x told J same h win. stays_unread x told J _ _ h e (unread_as c.args.place.now e same unread))
 
 pub returns-in_default-clause-lines : goal.returns-in_default-clause-lines
