@@ -27,12 +27,6 @@ same_clock F J s = ap (λ (S : State). S.tables.clock) s.state
 pub same_tables : (F : Contents) (J : Journal) → Stands F J → F.state.tables ≡ tables_of F.settings J
 same_tables F J s = ap (λ (S : State). S.tables) s.state
 
--- ---- a tick
-
-pub front_tick : (c : Settings) (ins : List (List Record)) (J : Journal) (w m : ℕ) (ended : List ℕ) → IsFront c ins J → IsLeastOf (windows_left c 1 ins J) w → IsNextTick c J w m →
-    Legal c (Tick m ended ∷ J) → IsRangedEvent (Tick m ended) → IsFront c ins (Tick m ended ∷ J)
-front_tick c ins J w m ended h least next legal ranged = record { ranged = (h.ranged, ranged); ports = h.ports; frames = h.frames; legal = legal; timed = (h.timed, (w, least, next)) }
-
 -- ---- a frame
 
 numbered_end : (n : ℕ) (l : List Record) (r : Record) → numbered_from n (l ++ r ∷ []) ≡ numbered_from n l ++ (n + length l, r.caught) ∷ []
@@ -98,12 +92,6 @@ module _ (c : Settings) (ins : List (List Record)) (J : Journal) (port index : �
     frames = frames_more;
     timed = (h.timed, subst (λ o. IfSome o (λ (s : Record). clock J ≡ Some (window_start c s.moment))) (sym record_is) n.time);
   }
-
-pub front_frame : (c : Settings) (ins : List (List Record)) (J : Journal) (port index : ℕ) (told : Option ℕ) (r : Record) (v : Verdict) → IsFront c ins J → IsNextFrame c ins J port index told r →
-    Legal c (Frame port index r.caught v ∷ J) → IsRangedEvent (Frame port index r.caught v) → IsFront c ins (Frame port index r.caught v ∷ J)
-front_frame c ins J port index told r v h n legal ranged =
-    let b = begun_frame c ins J port index told r v (record { ports = h.ports; frames = h.frames; timed = h.timed }) n in
-    record { ranged = (h.ranged, ranged); ports = b.ports; frames = b.frames; legal = legal; timed = b.timed }
 
 -- ---- all frames
 

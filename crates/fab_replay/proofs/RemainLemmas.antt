@@ -1,5 +1,5 @@
 -- What a fabric stands for while the lines of a journal are checked, and where the check ends.
-use Rattle.std.proofs.Common.{◌≡◌, ℕ, inl, inr, Bool, false, List, [], ◌∷◌, ◌++◌, length, drop, Option, Some, IsTrue, IsSome, Result, Err, refl, sym, ap, ◌∙◌, subst, arith}
+use Rattle.std.proofs.Common.{◌≡◌, ℕ, inl, inr, Bool, true, false, List, [], ◌∷◌, ◌++◌, length, drop, Option, Some, IsTrue, IsSome, Result, Err, refl, sym, ap, ◌∙◌, subst, arith}
 use Rattle.std.specs.Prelude.{unwrap_or}
 use Rattle.fab_base.specs.declared.values.Caught.{Caught}
 use Rattle.fab_config.specs.Settings.{Settings}
@@ -21,7 +21,7 @@ use Rattle.pcap_file.specs.declared.Record.{Record}
 use Rattle.fab_replay.specs.Front.{expects_tick}
 use Rattle.fab_replay.specs.Lines.{IsLineAt, IsUnread, first_line, format_of, number_behind, text_in}
 use Rattle.fab_replay.specs.Remains.{HasTick, IsBegun, IsTaken, IsTickIf, Remains}
-use Rattle.fab_replay.specs.Steps.{HasTurned, IsAlong, IsOnShelf, IsRefused, IsTickNow, IsWindow, Left, Scene, refusal}
+use Rattle.fab_replay.specs.Steps.{HasTurned, IsAlong, IsOnShelf, IsReached, IsRefused, IsTickNow, IsWindow, Left, Scene, refusal}
 use Rattle.fab_replay.specs.Verdicts.{IsAfter, IsMisjudged}
 use Rattle.fab_replay.specs.declared.fault.CheckFault.{CheckFault}
 use Rattle.fab_replay.specs.declared.fault.CheckFault.TheVariants as fault
@@ -33,6 +33,22 @@ use Rattle.fab_replay.proofs.FrontLemmas.{begun_frame, same_clock}
 use Rattle.fab_replay.proofs.LineLemmas.{behind_more}
 use Rattle.fab_replay.proofs.StepLemmas.{frame_line}
 use Rattle.fab_replay.proofs.WindowLemmas.{next_from}
+
+-- the lines before a place are right exactly where a fabric stands there for a beginning of a run over as many ports as it has
+pub along_as : {x : Scene} {J : Journal} {F : Contents} {p : Place} → IsReached x J F p → IsAlong x true J F p
+along_as h = record {
+  behind = h.behind;
+  ranged = h.front.ranged;
+  legal = h.front.legal;
+  stands = h.stands;
+  settings = h.settings;
+  begun = λ t. record { ports = h.front.ports; frames = h.front.frames; timed = h.front.timed };
+}
+
+pub reached_as : {x : Scene} {J : Journal} {F : Contents} {p : Place} → IsAlong x true J F p → F.count ≡ length x.records → IsReached x J F p
+reached_as h count =
+    let b = h.begun refl in
+    record { front = record { ranged = h.ranged; ports = b.ports; frames = b.frames; legal = h.legal; timed = b.timed }; behind = h.behind; stands = h.stands; settings = h.settings; count = count }
 
 module _ (x : Scene) (told : Bool) (J : Journal) (F : Contents) (p : Place) (h : IsAlong x told J F p) where
   abbrev rest : List ℕ

@@ -1,14 +1,16 @@
 -- Checks of lines that come one behind another.
-use Rattle.std.proofs.Common.{◌≡◌, ℕ, Bool, IsTrue, List, length, Result, Ok, Err, MatchResult, refl, ◌∙◌, subst}
+use Rattle.std.proofs.Common.{◌≡◌, ℕ, Bool, true, IsTrue, List, length, Result, Ok, Err, MatchResult, refl, ◌∙◌, subst}
 use Rattle.std.specs.Result.{IsErrAnd}
 use Rattle.fab_pages.specs.Pages.{items_in}
 use Rattle.fab_policy.specs.Journal.{Journal}
 use Rattle.fab_policy.specs.Standing.{Contents, Stands}
 use Rattle.fab_replay.specs.Steps.{Advances, ChecksLines, IsAlong, IsAmong, IsFound, IsReached, Left, Scene, Spot}
 use Rattle.fab_replay.specs.Lines.{IsOfLine}
+use Rattle.fab_replay.specs.Owed.{PagesGrow}
 use Rattle.fab_replay.specs.declared.fault.CheckFault.{CheckFault}
 use Rattle.fab_replay.specs.declared.frames.Gathered.{Gathered}
 use Rattle.fab_replay.specs.declared.lines.Place.{Place}
+use Rattle.fab_replay.proofs.RemainLemmas.{along_as, reached_as}
 use Rattle.fab_replay.proofs.ResultLemmas.{err_is}
 use Rattle.fab_replay.proofs.SentLemmas.{grow_more, grow_none}
 
@@ -19,6 +21,20 @@ none_checked {g} {text} {a} {A} {B} among holds = record {
   left = λ x told J same h from. (J, h, λ t. holds x J (from t));
   advances = record { settings = refl; count = refl; inside = among.inside; clock_ = among.clock_; idle = among.idle };
   pages = refl;
+  only = tt;
+}
+
+-- lines are right: what the fabric stands for says so, and the pages grew
+pub right_checked : {m : ℕ} {A : Scene → Journal → Type 0} {B : Scene → Journal → Journal → Type 0} {text : List ℕ} {a b : Spot} →
+    (goes : (x : Scene) (told : Bool) (J : Journal) → x.bytes ≡ text → IsAlong x told J a.fabric a.place → (IsTrue told → A x J) → (K : Journal) × IsAlong x told K b.fabric b.place × (IsTrue told → B x J K)) →
+    Advances m a.fabric b.fabric text b.place (Ok tt) → length b.pages ≡ length a.pages →
+    ((x : Scene) (J : Journal) (same : x.bytes ≡ text) (h : IsReached x J a.fabric a.place) (from : A x J) → PagesGrow x.settings (length x.records) J (goes x true J same (along_as h) (λ t. from)).0 (items_in a.pages) (items_in b.pages)) →
+    ChecksLines m A B text a b (Ok tt)
+right_checked goes advances pages grow = record {
+  checks = λ x J same h from. let k = goes x true J same (along_as h) (λ t. from) in (k.0, reached_as k.1 (advances.count ∙ h.count), k.2 refl, grow x J same h from);
+  left = goes;
+  advances = advances;
+  pages = pages;
   only = tt;
 }
 

@@ -32,7 +32,7 @@ use Rattle.fab_replay.specs.Verdicts.{IsMisjudged}
 use Rattle.fab_replay.specs.declared.lines.Place.{Place}
 use Rattle.fab_replay.specs.declared.verdicts.Misjudged.{Misjudged}
 use Rattle.fab_replay.specs.declared.verdicts.Misjudged.TheVariants.{Wrong, Memory}
-use Rattle.fab_replay.proofs.FrontLemmas.{front_frame, front_tick, same_clock, same_tables}
+use Rattle.fab_replay.proofs.FrontLemmas.{same_clock, same_tables}
 use Rattle.fab_replay.proofs.LeftLemmas.{any_of, gathered_next, left_same, tick_expected}
 use Rattle.fab_replay.proofs.LineLemmas.{behind_more}
 use Rattle.fab_replay.proofs.WindowLemmas.{from_next, least_window, left_here, next_from, no_tick_here}
@@ -96,19 +96,6 @@ module _ (x : Scene) (J : Journal) (F : Contents) (p : Place) (h : IsReached x J
       ),
     )
 
-    pub tick_reached : (G : Contents) (q : Place) (l : Line) (ended : List ℕ) → IsLineAt x.bytes p q l → l ≡ Tick m ended →
-        (Legal F.settings J → Stands F J → Legal F.settings (event.Tick m ended ∷ J) × Stands G (event.Tick m ended ∷ J)) → G.settings ≡ F.settings → G.count ≡ F.count → IsReached x (event.Tick m ended ∷ J) G q
-    tick_reached G q l ended at is on settings count =
-        let both = on (subst (λ (s : Settings). Legal s J) (sym h.settings) h.front.legal) h.stands in
-        let spells : Spells p.format (first_line (drop p.at x.bytes)) (Tick m ended) = subst (Spells p.format (first_line (drop p.at x.bytes))) is at.spells in
-        record {
-          front = front_tick c x.records J t.window m ended h.front t.least t.next (subst (λ (s : Settings). Legal s (event.Tick m ended ∷ J)) h.settings both.0) spells.ranged;
-          behind = behind_more x.bytes p q J (event.Tick m ended) l h.behind at is;
-          stands = both.1;
-          settings = settings ∙ h.settings;
-          count = count ∙ h.count;
-        }
-
   -- ---- a frame
 
   module _ (w : ℕ) (shelves : List Shelf) (done : List ℕ) (win : IsWindow x w J shelves done) (left : HasLeft shelves done) (width : length done ≡ length shelves) where
@@ -158,18 +145,6 @@ module _ (x : Scene) (J : Journal) (F : Contents) (p : Place) (h : IsReached x J
             )
         refused_here fault.Memory u = tt
         refused_here _ u = absurd u
-
-        pub frame_reached : (G : Contents) → (Legal F.settings J → Stands F J → Legal F.settings (e ∷ J) × Stands G (e ∷ J)) → IsRangedEvent e → G.settings ≡ F.settings → G.count ≡ F.count → IsReached x (e ∷ J) G q
-        frame_reached G goes ranged settings count =
-            let both = goes (subst (λ (s : Settings). Legal s J) (sym h.settings) h.front.legal) h.stands in
-            let t : w ≡ now (e ∷ J) = sym (ap (λ (o : Option ℕ). unwrap_or o 0) win.clock_) in
-            record {
-              front = front_frame c x.records J port index told r verdict h.front next_is (subst (λ (s : Settings). Legal s (e ∷ J)) h.settings both.0) ranged;
-              behind = behind_more x.bytes p q J e (Frame port index verdict told) h.behind at (frame_line port index r.caught verdict p.format w told at.spells.ranged.4 on.clock_ ∙ ap (λ (n : ℕ). line_of p.format n e) t);
-              stands = both.1;
-              settings = settings ∙ h.settings;
-              count = count ∙ h.count;
-            }
 
 -- ---- the next tick
 

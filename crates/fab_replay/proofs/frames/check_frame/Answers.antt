@@ -1,12 +1,11 @@
 use Rattle.std.proofs.Common.{◌∙◌, ◌∷◌, refl, arith}
 use Rattle.fab_policy.specs.declared.event.Event.TheVariants as event
-use Rattle.fab_policy.specs.Journal.{Journal}
 use Rattle.fab_pages.specs.Pages.{items_in}
 use Rattle.fab_replay.proofs.LineLemmas.{line_as, unread_as}
 use Rattle.fab_replay.proofs.RemainLemmas.{along_frame, left_frame, legal_old, stays_frame, stays_tick, stays_unread}
 use Rattle.fab_replay.proofs.SentLemmas.{grow_reached, legal_there}
-use Rattle.fab_replay.proofs.SpotLemmas.{failed}
-use Rattle.fab_replay.proofs.StepLemmas.{frame_reached, no_line_here, other_frame, refused_here, tick_here}
+use Rattle.fab_replay.proofs.SpotLemmas.{failed, right_checked}
+use Rattle.fab_replay.proofs.StepLemmas.{no_line_here, other_frame, refused_here, tick_here}
 use Rattle.fab_replay.proofs.WindowLemmas.{count_fits, counts_more, no_tick_here, place_inside, window_more}
 use Rattle.fab_replay.proofs.frames.check_frame.Goals as goal
 
@@ -46,25 +45,16 @@ returns-in_err-take_frame-clause-lines c =
 pub returns-clause-lines : goal.returns-clause-lines
 returns-clause-lines c =
     let on = c.in-Some.ensures.named in
-    let more = counts_more on _ c.index.ensures.value in
     let step = c.in_ok-take_frame.ensures in
-    let K = λ (J : Journal). event.Frame c.in-Frame.port c.in-Frame.index c.in-Some.found.now.caught c.in-Frame.verdict ∷ J in
-    record {
-      checks = λ x J same h win. (
-        K J,
-        frame_reached x J _ _ h _ _ _ win c.requires.left c.requires.width _ _ _ _ _ (line_as same c.in-Frame.is c.in_ok-line.ensures.line) _ on c.take_frame.new.fabric (λ l s. let j = step.journal J l s in (j.0, j.1)) step.ranged step.settings.0 step.settings.1,
-        window_more x _ J _ _ win _ _ _ _ c.in-Frame.verdict on _ more,
-        grow_reached x J _ _ _ (items_in c.args.pages.now) (items_in c.take_frame.new.pages) h (step.journal J (legal_there x J _ _ h) h.stands).2,
-      );
-      left = λ x told J same h win. (
-        K J,
-        along_frame x told J _ _ h _ c.requires.among.clock_ _ _ win _ _ _ _ _ (line_as same c.in-Frame.is c.in_ok-line.ensures.line) _ on c.take_frame.new.fabric (λ l s. let j = step.journal J l s in (j.0, j.1)) step.ranged step.settings.0,
-        λ t. window_more x _ J _ _ (win t) _ _ _ _ c.in-Frame.verdict on _ more,
-      );
-      advances = record { settings = step.settings.0; count = step.settings.1; inside = c.in_ok-line.ensures.line.inside; clock_ = step.clock ∙ c.requires.among.clock_; idle = step.idle };
-      pages = step.pages;
-      only = tt;
-    }
+    right_checked
+    (λ x told J same h win. (
+      event.Frame c.in-Frame.port c.in-Frame.index c.in-Some.found.now.caught c.in-Frame.verdict ∷ J,
+      along_frame x told J _ _ h _ c.requires.among.clock_ _ _ win _ _ _ _ _ (line_as same c.in-Frame.is c.in_ok-line.ensures.line) _ on c.take_frame.new.fabric (λ l s. let j = step.journal J l s in (j.0, j.1)) step.ranged step.settings.0,
+      λ t. window_more x _ J _ _ (win t) _ _ _ _ c.in-Frame.verdict on _ (counts_more on _ c.index.ensures.value),
+    ))
+    (record { settings = step.settings.0; count = step.settings.1; inside = c.in_ok-line.ensures.line.inside; clock_ = step.clock ∙ c.requires.among.clock_; idle = step.idle })
+    step.pages
+    (λ x J same h win. grow_reached x J _ _ _ (items_in c.args.pages.now) (items_in c.take_frame.new.pages) h (step.journal J (legal_there x J _ _ h) h.stands).2)
 
 -- ---- the count of the port's lines
 

@@ -1,4 +1,4 @@
-use Rattle.std.proofs.Common.{◌∙◌, ◌∷◌, refl, sym, ap, subst}
+use Rattle.std.proofs.Common.{◌∙◌, ◌∷◌, true, refl, sym, ap, subst}
 use Rattle.fab_policy.specs.State.{addresses, overdue}
 use Rattle.fab_policy.specs.declared.event.Event.TheVariants as event
 use Rattle.fab_pages.specs.Pages.{items_in}
@@ -6,10 +6,10 @@ use Rattle.fab_replay.specs.Steps.{IsFound, Left}
 use Rattle.fab_replay.specs.declared.fault.CheckFault.TheVariants as fault
 use Rattle.fab_replay.proofs.LeftLemmas.{gathered_next}
 use Rattle.fab_replay.proofs.LineLemmas.{line_as, unread_as}
-use Rattle.fab_replay.proofs.RemainLemmas.{along_tick, left_refused, left_tick, stays_refused, stays_unread}
+use Rattle.fab_replay.proofs.RemainLemmas.{along_as, along_tick, left_refused, left_tick, reached_as, stays_refused, stays_unread}
 use Rattle.fab_replay.proofs.ResultLemmas.{if_false, if_true, told_on}
 use Rattle.fab_replay.proofs.SentLemmas.{grow_reached, grow_taken, legal_there, stands_drained, tick_soon, took_one}
-use Rattle.fab_replay.proofs.StepLemmas.{left_then, other_tick, tick_reached, unread_here}
+use Rattle.fab_replay.proofs.StepLemmas.{left_then, other_tick, unread_here}
 use Rattle.fab_replay.proofs.ticks.check_tick.Goals as goal
 
 -- ---- what the line makes of the lines before it
@@ -49,10 +49,9 @@ returns-clause-checks c = λ x J t same h ahead.
     let old = items_in c.args.pages.now in
     let new = items_in c.take_sent.new.pages in (
       ends,
-      tick_reached x J _ _ h _ t G c.next_line.new.place c.in_ok-line.line ends (line_as same refl c.in_ok-line.ensures.line)
-          (if_true c.is_line_of.result _ _ c.if-not-is_line_of.false (c.is_line_of.ensures c.args.moment ends events)) goes
-          (ap (λ G. G.settings) c.take_sent.ensures.fabric ∙ c.in_ok-tick.ensures.takes.settings)
-          (ap (λ G. G.count) c.take_sent.ensures.fabric ∙ c.in_ok-tick.ensures.takes.count),
+      reached_as (along_tick x true J F _ (along_as h) c.args.moment ends (λ known. t) G goes c.next_line.new.place c.in_ok-line.line (line_as same refl c.in_ok-line.ensures.line)
+          (if_true c.is_line_of.result _ _ c.if-not-is_line_of.false (c.is_line_of.ensures c.args.moment ends events)) (ap (λ G. G.settings) c.take_sent.ensures.fabric ∙ c.in_ok-tick.ensures.takes.settings))
+          (ap (λ G. G.count) c.take_sent.ensures.fabric ∙ c.in_ok-tick.ensures.takes.count ∙ h.count),
       grow_reached x J (e ∷ J) _ _ old new h
           (grow_taken F c.tick.new.self e J old new c.requires.idle c.in_ok-tick.ensures.takes (c.in_ok-tick.ensures.journal J (legal_there x J _ _ h) h.stands).1 c.in_ok-drained.ensures.adds),
     )
