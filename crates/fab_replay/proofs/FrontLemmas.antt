@@ -6,13 +6,13 @@ use Rattle.std.proofs.lemmas.List.{append-nil}
 use Rattle.fab_base.specs.declared.values.Caught.{Caught}
 use Rattle.fab_config.specs.Settings.{Settings}
 use Rattle.fab_policy.specs.Journal.{Journal, clock}
-use Rattle.fab_policy.specs.Legal.{HoldsFrames, IsLeastOf, IsNextTick, Legal, Run, left_of, numbered_from, of_port, record_of, window_start, windows_left}
+use Rattle.fab_policy.specs.Legal.{HoldsFrames, Run, left_of, numbered_from, of_port, record_of, window_start}
 use Rattle.fab_policy.specs.Outputs.{State}
 use Rattle.fab_policy.specs.Ranged.{IsRangedEvent}
 use Rattle.fab_policy.specs.Standing.{Contents, Stands}
 use Rattle.fab_policy.specs.State.{tables_of}
 use Rattle.fab_policy.specs.declared.event.Event.{Event}
-use Rattle.fab_policy.specs.declared.event.Event.TheVariants.{Tick, Frame}
+use Rattle.fab_policy.specs.declared.event.Event.TheVariants.{Frame}
 use Rattle.fab_policy.specs.declared.verdict.Verdict.{Verdict}
 use Rattle.forward_core.specs.Fabric.{AreRanged}
 use Rattle.pcap_file.specs.declared.Record.{Record}

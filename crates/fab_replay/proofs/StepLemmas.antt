@@ -1,12 +1,10 @@
 -- What the line at a place makes of the lines before it: one more entry, or the first fault.
-use Rattle.std.proofs.Common.{◌≡◌, ℕ, ◌+◌, ◌<◌, ◌≤◌, inl, inr, true, eqb, List, ◌∷◌, ◌++◌, length, drop, Option, Some, None, IfSome, refl, sym, ap, ◌∙◌, subst, arith}
-use Rattle.std.specs.Prelude.{unwrap_or}
+use Rattle.std.proofs.Common.{◌≡◌, ℕ, ◌+◌, ◌<◌, ◌≤◌, inl, inr, true, eqb, List, ◌++◌, length, drop, Option, Some, None, IfSome, refl, sym, ap, ◌∙◌, subst, arith}
 use Rattle.fab_base.specs.declared.values.Caught.{Caught}
 use Rattle.fab_config.specs.Settings.{Settings}
-use Rattle.fab_policy.specs.Journal.{Journal, clock, now}
+use Rattle.fab_policy.specs.Journal.{Journal, clock}
 use Rattle.fab_policy.specs.Keeping.{IsAhead}
-use Rattle.fab_policy.specs.Legal.{IsLeastOf, IsNextTick, Legal, windows_left}
-use Rattle.fab_policy.specs.Ranged.{IsRangedEvent}
+use Rattle.fab_policy.specs.Legal.{IsLeastOf, IsNextTick, windows_left}
 use Rattle.fab_policy.specs.Spelling.{HasClockOf, Spells, line_of}
 use Rattle.fab_policy.specs.Standing.{Contents, Stands}
 use Rattle.fab_policy.specs.State.{Tables, addresses, overdue, tables_of}
@@ -34,7 +32,6 @@ use Rattle.fab_replay.specs.declared.verdicts.Misjudged.{Misjudged}
 use Rattle.fab_replay.specs.declared.verdicts.Misjudged.TheVariants.{Wrong, Memory}
 use Rattle.fab_replay.proofs.FrontLemmas.{same_clock, same_tables}
 use Rattle.fab_replay.proofs.LeftLemmas.{any_of, gathered_next, left_same, tick_expected}
-use Rattle.fab_replay.proofs.LineLemmas.{behind_more}
 use Rattle.fab_replay.proofs.WindowLemmas.{from_next, least_window, left_here, next_from, no_tick_here}
 
 -- the line of a frame, which tells the clock where its format does

@@ -1,6 +1,5 @@
 use Rattle.std.proofs.Common.{◌∙◌, ap, length, refl, subst, sym}
 use Rattle.fab_replay.specs.Steps.{HasDone}
-use Rattle.fab_replay.specs.declared.fault.CheckFault.TheVariants as fault
 use Rattle.fab_replay.proofs.RemainLemmas.{stays_refused}
 use Rattle.fab_replay.proofs.ResultLemmas.{if_false}
 use Rattle.fab_replay.proofs.SpotLemmas.{among_then, failed, handed_on, none_checked, then_checked}
