@@ -34,7 +34,7 @@ use Rattle.fab_replay.proofs.LineLemmas.{behind_more}
 use Rattle.fab_replay.proofs.StepLemmas.{frame_line}
 use Rattle.fab_replay.proofs.WindowLemmas.{next_from}
 
--- the lines before a place are right exactly where a fabric stands there for a beginning of a run over as many ports as it has
+-- A fabric stands for lines that are right, and lines are right for which it stands where the captures are known, of as many ports.
 pub along_as : {x : Scene} {J : Journal} {F : Contents} {p : Place} → IsReached x J F p → IsAlong x true J F p
 along_as h = record {
   behind = h.behind;

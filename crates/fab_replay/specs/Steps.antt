@@ -90,8 +90,9 @@ pub record Spot : Type 0 where
 abbrev pub spot_at : Contents → Place → List (Vec ℕ Global) → Spot
 spot_at F p pages = record { fabric = F; place = p; pages = pages }
 
--- What a check of some lines makes of those before them, from which something holds: all are right, and so what is to hold then, and
--- the pages grew by what the lines' entries send; or a fault is found. Whether or not the captures are known, it says what is left.
+-- What a check of some lines comes to, from one place to another. Where the lines before are right and their journal is as it has to
+-- be, the lines are right, the journal that they go on to is as promised, and the pages grew by what they send; or this is the first
+-- fault. What the fabric stands for goes on likewise, whether or not the captures are known.
 pub record ChecksLines (moment : ℕ) (from : Scene → Journal → Type 0) (to : Scene → Journal → Journal → Type 0) (text : List ℕ) (a b : Spot) (result : Result (Unit {0}) CheckFault) : Type 0 where
   pub checks : (x : Scene) (J : Journal) → x.bytes ≡ text → IsReached x J a.fabric a.place → from x J →
       MatchResult result (λ _. (K : Journal) × IsReached x K b.fabric b.place × to x J K × PagesGrow x.settings (length x.records) J K (items_in a.pages) (items_in b.pages)) (λ e. IsFound x e)
