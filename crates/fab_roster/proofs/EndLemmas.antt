@@ -1,31 +1,35 @@
 -- The tables after the end of a login.
-use Rattle.std.proofs.Common.{◌≡◌, ℕ, ◌*◌, ◌≤◌, map, ◌==◌, ◌&&◌, not, Bool, true, false, Option, Some, None, option_map, is_some, is_none, IsSome, MatchOption, refl, sym, ap, subst, ◌∙◌, if◌then◌else◌, unwrap_or}
+use Rattle.std.proofs.Common.{◌≡◌, ℕ, map, ◌==◌, ◌&&◌, not, Bool, true, false, Option, Some, None, option_map, is_some, is_none, IsSome, MatchOption, refl, sym, ap, subst, ◌∙◌, if◌then◌else◌, unwrap_or}
 use Rattle.std.specs.List.{list_any}
 use Rattle.std.specs.Option.{option_map_or}
 use Rattle.fab_base.specs.Fabric.{past_at, same_enode}
 use Rattle.fab_base.specs.declared.values.Enode.{Enode}
 use Rattle.fc_addresses.specs.Pool as pool
+use Rattle.login_table.specs.Logins as logins
 use Rattle.login_table.specs.Logins.{login_at, address_of}
 use Rattle.login_table.specs.declared.login.Login.{Login}
+use Rattle.keepalive_clock.specs.Clock as clocks
 use Rattle.keepalive_clock.specs.Clock.{last_of, KeepsLimits}
 use Rattle.keepalive_clock.specs.declared.voice.Voice.{Voice}
 use Rattle.keepalive_clock.specs.declared.voice.Voice.TheVariants.{Node, Port}
+use Rattle.name_server.specs.Registry as registry
 use Rattle.name_server.specs.Registry.{entry_at}
+use Rattle.state_change.specs.Watchers as watching
 use Rattle.state_change.specs.Watchers.{watcher_at}
 use Rattle.state_change.specs.declared.watcher.Watcher.{Watcher}
 use Rattle.fab_policy.specs.State.{port_at}
 use Rattle.fab_policy.specs.Changes.{ended_at}
-use Rattle.fab_roster.specs.Agreement.{Agree, AreSound, IsKnown, IsHeldBy, SpeaksFor, is_silenced}
+use Rattle.fab_roster.specs.Agreement.{Agree, IsHeldBy, SpeaksFor, is_silenced}
 use Rattle.fab_roster.specs.Changes.{Ends}
-use Rattle.fab_roster.specs.Roll.{live_of, ports_of}
+use Rattle.fab_roster.specs.Roll.{live_of, ports_of, roll_of}
 use Rattle.fab_roster.specs.declared.roster.Roster.TheInside.{Inside}
 use Rattle.fab_roster.proofs.Found.{any-item_at, enode_refl, enode_same, equal, find-any, item_at-key, true_false, turned}
 use Rattle.fab_roster.proofs.Lookups.{port_of_login}
-use Rattle.fab_roster.proofs.SoundLemmas.{roll_of}
 
 -- What the calls say of the tables after them.
 pub record AfterEnd (a now : ℕ) (gone : Login) (old new : Inside) : Type 0 where
   pub was : login_at a old.logins.logins ≡ Some gone
+  pub sound_logins : logins.IsSound new.logins
   pub limit : new.logins.limit ≡ old.logins.limit
   pub logins : (b : ℕ) → login_at b new.logins.logins ≡ (if a == b then None else login_at b old.logins.logins)
   pub past : new.pool ≡ pool.released old.pool a now
@@ -38,10 +42,15 @@ pub record AfterEnd (a now : ℕ) (gone : Login) (old new : Inside) : Type 0 whe
   pub entries : (b : ℕ) → entry_at b new.registry.entries ≡ (if a == b then None else entry_at b old.registry.entries)
   pub watcher_room : new.watchers.room ≡ old.watchers.room
   pub watchers : (b : ℕ) → watcher_at b new.watchers.watchers ≡ (if a == b then None else watcher_at b old.watchers.watchers)
-  pub sound : AreSound new.logins new.voices new.registry new.watchers
+  pub sound_voices : clocks.IsSound new.voices
+  pub sound_entries : registry.IsSound new.registry
+  pub sound_watchers : watching.IsSound new.watchers
 
-module _ (a now : ℕ) (gone : Login) (old new : Inside)
-    (agree : Agree old.lowest old.count (Some now) old.pool old.logins old.voices old.registry old.watchers) (s : AfterEnd a now gone old new) where
+-- the tables after them
+abbrev pub ended : Inside → Inside → Inside
+ended old new = record old { pool = new.pool; logins = new.logins; voices = new.voices; registry = new.registry; watchers = new.watchers }
+
+module _ {a now : ℕ} {gone : Login} {old new : Inside} (agree : Agree old) (clock : old.clock ≡ Some now) (s : AfterEnd a now gone old new) where
   -- a login that is left was there, at another address
   left : (b : ℕ) (l : Login) → login_at b new.logins.logins ≡ Some l → (a == b ≡ false) × (login_at b old.logins.logins ≡ Some l)
   left b l e = go (a == b) refl (sym (s.logins b) ∙ e)
@@ -80,16 +89,6 @@ module _ (a now : ℕ) (gone : Login) (old new : Inside)
   watcher_stays : (b : ℕ) (l : Login) → login_at b new.logins.logins ≡ Some l → watcher_at l.address new.watchers.watchers ≡ watcher_at l.address old.watchers.watchers
   watcher_stays b l e = s.watchers l.address ∙ ap (λ x. if x then None else watcher_at l.address old.watchers.watchers) (apart b l e)
 
-  known_after : (b : ℕ) (l : Login) → login_at b new.logins.logins ≡ Some l → IsKnown new.voices.voices new.registry.entries l
-  known_after b l e =
-      let n = agree.known b l (left b l e).1 in
-      record {
-        node_voice = subst (λ o. IsSome o) (sym (node_stays b l e)) n.node_voice;
-        port_voice = subst (λ o. IsSome o) (sym (port_stays b l e)) n.port_voice;
-        entry = (n.entry.0, entry_stays b l e ∙ n.entry.1, n.entry.2);
-        size = n.size;
-      }
-
   -- one that is there is left, but for the one that is gone
   stays : (b : ℕ) (l : Login) → a == b ≡ false → login_at b old.logins.logins ≡ Some l → login_at b new.logins.logins ≡ Some l
   stays b l h e = s.logins b ∙ (ap (λ x. if x then None else login_at b old.logins.logins) h ∙ e)
@@ -105,7 +104,7 @@ module _ (a now : ℕ) (gone : Login) (old new : Inside)
     where
       by_any : (z : Bool) → list_any (λ x. same_enode x.enode gone.enode) new.logins.logins ≡ z → same_enode gone.enode y ≡ true → (m : Login) × (login_at m.address new.logins.logins ≡ Some m) × (same_enode m.enode y ≡ true)
       by_any true g o =
-          let f = any-item_at address_of (λ x. same_enode x.enode gone.enode) 0 new.logins.logins s.sound.logins.ascending g in
+          let f = any-item_at address_of (λ x. same_enode x.enode gone.enode) 0 new.logins.logins s.sound_logins.ascending g in
           (f.0, f.1, subst (λ x. same_enode x y ≡ true) (sym (enode_same f.0.enode gone.enode f.2)) o)
       by_any false g o = absurd (true_false (sym (ap (λ x. x && not (list_any (λ x. same_enode x.enode gone.enode) new.logins.logins)) o ∙ ap (λ x. true && not x) g) ∙ q))
 
@@ -125,12 +124,12 @@ module _ (a now : ℕ) (gone : Login) (old new : Inside)
     where
       go : (x : Bool) → is_silenced new.logins.logins gone v ≡ x → IsSome (if x then None else last_of v old.voices.voices) → (l : Login) × (login_at l.address new.logins.logins ≡ Some l) × SpeaksFor v l
       go true q i = absurd (true_false (sym i))
-      go false q i = by_voice v q (agree.voices v i)
+      go false q i = by_voice v q (agree.voices.speak v i)
 
   -- ---- the addresses of the pool
 
   was_held : past_at a old.pool ≡ Some (pool.held a gone.name)
-  was_held = subst (λ o. IsHeldBy a old.pool o) s.was (agree.held a)
+  was_held = subst (λ o. IsHeldBy a old.pool o) s.was (agree.pool.held a)
 
   held_after : (b : ℕ) → IsHeldBy b new.pool (login_at b new.logins.logins)
   held_after b = go (a == b) refl
@@ -145,7 +144,7 @@ module _ (a now : ℕ) (gone : Login) (old new : Inside)
       go false e =
           let login : login_at b new.logins.logins ≡ login_at b old.logins.logins = s.logins b ∙ ap (λ x. if x then None else login_at b old.logins.logins) e in
           let past : past_at b new.pool ≡ past_at b old.pool = s.addresses b ∙ ap (λ x. if x then option_map (pool.ended_at now) (past_at b old.pool) else past_at b old.pool) e in
-          subst (λ o. IsHeldBy b new.pool o) (sym login) (subst (λ p. MatchOption (login_at b old.logins.logins) (option_map_or (λ q. is_some q.name && is_none q.ended) p false ≡ false) (λ l. p ≡ Some (pool.held b l.name))) (sym past) (agree.held b))
+          subst (λ o. IsHeldBy b new.pool o) (sym login) (subst (λ p. MatchOption (login_at b old.logins.logins) (option_map_or (λ q. is_some q.name && is_none q.ended) p false ≡ false) (λ l. p ≡ Some (pool.held b l.name))) (sym past) (agree.pool.held b))
 
   -- ---- entries and watchers
 
@@ -154,78 +153,66 @@ module _ (a now : ℕ) (gone : Login) (old new : Inside)
     where
       go : (x : Bool) → a == b ≡ x → IsSome (if x then None else entry_at b old.registry.entries) → IsSome (login_at b new.logins.logins)
       go true e i = absurd (true_false (sym i))
-      go false e i = subst (λ o. IsSome o) (sym (s.logins b ∙ ap (λ x. if x then None else login_at b old.logins.logins) e)) (agree.entries b i)
+      go false e i = subst (λ o. IsSome o) (sym (s.logins b ∙ ap (λ x. if x then None else login_at b old.logins.logins) e)) (agree.entries.only b i)
 
   watchers_after : (b : ℕ) (x : Watcher) → watcher_at b new.watchers.watchers ≡ Some x → (l : Login) × (login_at b new.logins.logins ≡ Some l) × (x.name ≡ l.name)
   watchers_after b x h = go (a == b) refl (sym (s.watchers b) ∙ h)
     where
       go : (y : Bool) → a == b ≡ y → (if y then None else watcher_at b old.watchers.watchers) ≡ Some x → (l : Login) × (login_at b new.logins.logins ≡ Some l) × (x.name ≡ l.name)
       go true e i = cc
-      go false e i = let f = agree.watchers b x i in (f.0, stays b f.0 e f.1, f.2)
+      go false e i = let f = agree.watchers.known b x i in (f.0, stays b f.0 e f.1, f.2)
+
+  pub end_keeps : Agree (ended old new)
+  end_keeps = record {
+    logins = record { sound = s.sound_logins; limit = s.limit ∙ agree.logins.limit; sizes = λ b l e. agree.logins.sizes b l (left b l e).1 };
+    voices = record {
+      sound = s.sound_voices;
+      node_period = s.limits.node_period ∙ agree.voices.node_period;
+      port_period = s.limits.port_period ∙ agree.voices.port_period;
+      room = s.limits.room ∙ agree.voices.room;
+      nodes = λ b l e. subst (λ o. IsSome o) (sym (node_stays b l e)) (agree.voices.nodes b l (left b l e).1);
+      ports = λ b l e. subst (λ o. IsSome o) (sym (port_stays b l e)) (agree.voices.ports b l (left b l e).1);
+      speak = voices_after;
+    };
+    entries = record {
+      sound = s.sound_entries;
+      room = s.entry_room ∙ agree.entries.room;
+      known = λ b l e. let n = agree.entries.known b l (left b l e).1 in (n.0, entry_stays b l e ∙ n.1, n.2);
+      only = entries_after;
+    };
+    watchers = record { sound = s.sound_watchers; room = s.watcher_room ∙ agree.watchers.room; known = watchers_after };
+    pool = record {
+      held = held_after;
+      places = s.places ∙ agree.pool.places;
+      ended = subst (λ o. pool.AreEndedBy (unwrap_or o 0) new.pool) (sym clock) s.order;
+      range = agree.pool.range;
+    };
+  }
 
   -- ---- the N_Ports that are left
 
   -- what the tables say of a login that is left
-  left_same : (b : ℕ) (l : Login) → login_at b new.logins.logins ≡ Some l → live_of new.voices.voices new.registry.entries new.watchers.watchers l ≡ live_of old.voices.voices old.registry.entries old.watchers.watchers l
-  left_same b l e = same_live l (node_stays b l e) (port_stays b l e) (entry_stays b l e) (watcher_stays b l e)
-    where
-      same_live : (l : Login) → last_of (Node l.enode) new.voices.voices ≡ last_of (Node l.enode) old.voices.voices → last_of (Port l.address) new.voices.voices ≡ last_of (Port l.address) old.voices.voices →
-          entry_at l.address new.registry.entries ≡ entry_at l.address old.registry.entries → watcher_at l.address new.watchers.watchers ≡ watcher_at l.address old.watchers.watchers →
-          live_of new.voices.voices new.registry.entries new.watchers.watchers l ≡ live_of old.voices.voices old.registry.entries old.watchers.watchers l
-      same_live l e1 e2 e3 e4 = cc
+  left_same : (b : ℕ) (l : Login) → login_at b new.logins.logins ≡ Some l → live_of new l ≡ live_of old l
+  left_same b l e = cc (node_stays b l e, port_stays b l e, entry_stays b l e, watcher_stays b l e)
 
-  ports_after : (b : ℕ) → port_at b (ports_of new.voices.voices new.registry.entries new.watchers.watchers new.logins.logins) ≡ (if b == a then None else port_at b (ports_of old.voices.voices old.registry.entries old.watchers.watchers old.logins.logins))
-  ports_after b = port_of_login new.voices.voices new.registry.entries new.watchers.watchers new.logins.logins b
-      ∙ (go (a == b) refl
-      ∙ (ap (λ o. if a == b then None else o) (sym (port_of_login old.voices.voices old.registry.entries old.watchers.watchers old.logins.logins b))
-      ∙ ap (λ x. if x then None else port_at b (ports_of old.voices.voices old.registry.entries old.watchers.watchers old.logins.logins)) (turned a b)))
+  ports_after : (b : ℕ) → port_at b (ports_of new) ≡ (if b == a then None else port_at b (ports_of old))
+  ports_after b = port_of_login new b
+      ∙ (each (login_at b new.logins.logins) refl
+      ∙ (ap (option_map (live_of old)) (s.logins b ∙ ap (λ x. if x then None else login_at b old.logins.logins) (turned a b))
+      ∙ (out (b == a) ∙ ap (λ o. if b == a then None else o) (sym (port_of_login old b)))))
     where
-      each : (o : Option Login) → login_at b new.logins.logins ≡ o → option_map (live_of new.voices.voices new.registry.entries new.watchers.watchers) o ≡ option_map (live_of old.voices.voices old.registry.entries old.watchers.watchers) o
+      each : (o : Option Login) → login_at b new.logins.logins ≡ o → option_map (live_of new) o ≡ option_map (live_of old) o
       each None e = refl
       each (Some l) e = ap (λ p. Some p) (left_same b l e)
 
-      go : (x : Bool) → a == b ≡ x → option_map (live_of new.voices.voices new.registry.entries new.watchers.watchers) (login_at b new.logins.logins) ≡ (if a == b then None else option_map (live_of old.voices.voices old.registry.entries old.watchers.watchers) (login_at b old.logins.logins))
-      go true e = ap (λ o. option_map (live_of new.voices.voices new.registry.entries new.watchers.watchers) o) (s.logins b ∙ ap (λ x. if x then None else login_at b old.logins.logins) e)
-          ∙ ap (λ x. if x then None else option_map (live_of old.voices.voices old.registry.entries old.watchers.watchers) (login_at b old.logins.logins)) (sym e)
-      go false e = each (login_at b new.logins.logins) refl
-          ∙ (ap (λ o. option_map (live_of old.voices.voices old.registry.entries old.watchers.watchers) o) (s.logins b ∙ ap (λ x. if x then None else login_at b old.logins.logins) e)
-          ∙ ap (λ x. if x then None else option_map (live_of old.voices.voices old.registry.entries old.watchers.watchers) (login_at b old.logins.logins)) (sym e))
+      out : (x : Bool) → option_map (live_of old) (if x then None else login_at b old.logins.logins) ≡ (if x then None else option_map (live_of old) (login_at b old.logins.logins))
+      out true = refl
+      out false = refl
 
-  agree_after : Agree old.lowest old.count (Some now) new.pool new.logins new.voices new.registry new.watchers
-  agree_after = record {
-    known = known_after;
-    voices = voices_after;
-    entries = entries_after;
-    watchers = watchers_after;
-    held = held_after;
-    places = s.places ∙ agree.places;
-    ended = s.order;
-    range = agree.range;
-    port_period = s.limits.port_period ∙ agree.port_period;
-    limit = subst (λ n. n ≤ 1000) (sym s.limit) agree.limit;
-    voice_room = s.limits.room ∙ (agree.voice_room ∙ ap (λ n. 2 * n) (sym s.limit));
-    entry_room = s.entry_room ∙ (agree.entry_room ∙ sym s.limit);
-    watcher_room = s.watcher_room ∙ (agree.watcher_room ∙ sym s.limit);
-    sound = s.sound;
-  }
-
--- ---- the two goals of the call, over plain tables
-
-module _ (a now : ℕ) (gone : Login) (old new : Inside) where
-  pub end_keeps : old.clock ≡ Some now → Agree old.lowest old.count old.clock old.pool old.logins old.voices old.registry old.watchers × (old.logins.limit ≡ old.limit) × (old.voices.node_period ≡ old.period) → AfterEnd a now gone old new →
-      Agree old.lowest old.count old.clock new.pool new.logins new.voices new.registry new.watchers × (new.logins.limit ≡ old.limit) × (new.voices.node_period ≡ old.period)
-  end_keeps e h s =
-      let was = subst (λ x. Agree old.lowest old.count x old.pool old.logins old.voices old.registry old.watchers) e h.0 in (
-        subst (λ x. Agree old.lowest old.count x new.pool new.logins new.voices new.registry new.watchers) (sym e) (agree_after a now gone old new was s),
-        s.limit ∙ h.1,
-        s.limits.node_period ∙ h.2,
-      )
-
-  pub end_ends : old.clock ≡ Some now → Agree old.lowest old.count old.clock old.pool old.logins old.voices old.registry old.watchers × (old.logins.limit ≡ old.limit) × (old.voices.node_period ≡ old.period) → AfterEnd a now gone old new →
-      Ends a (roll_of old.lowest old.count old.limit old.period old.clock old.pool old.logins old.voices old.registry old.watchers) (roll_of old.lowest old.count old.limit old.period old.clock new.pool new.logins new.voices new.registry new.watchers)
-  end_ends e h s = record {
+  pub end_ends : Ends a (roll_of old) (roll_of (ended old new))
+  end_ends = record {
     bounds = record { lowest = refl; count = refl; limit = refl; period = refl };
     clock = refl;
-    past = s.past ∙ ap (λ (x : Option ℕ). map (ended_at a (unwrap_or x 0)) old.pool) (sym e);
-    ports = ports_after a now gone old new (subst (λ x. Agree old.lowest old.count x old.pool old.logins old.voices old.registry old.watchers) e h.0) s;
+    past = s.past ∙ ap (λ (x : Option ℕ). map (ended_at a (unwrap_or x 0)) old.pool) (sym clock);
+    ports = ports_after;
   }

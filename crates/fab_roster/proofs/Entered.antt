@@ -1,22 +1,21 @@
 -- What N_Ports register: an N_Port as it is entered, and the tables and the N_Ports after a registration.
 use Rattle.std.proofs.Common.{◌≡◌, ℕ, ◌==◌, Bool, true, false, List, Option, Some, None, option_map, is_some, IsSome, refl, sym, ap, subst, ◌∙◌, if◌then◌else◌}
 use Rattle.std.specs.Option.{option_map_or}
-use Rattle.fab_base.specs.Fabric.{Past}
 use Rattle.ct_messages.specs.Ask.{Ask}
 use Rattle.ct_messages.specs.Server as server
 use Rattle.ct_messages.specs.Server.{Values, first_values, has_changed, registration_refusal}
 use Rattle.fab_policy.specs.Changes.{with_values}
 use Rattle.fab_policy.specs.State.{LivePort, port_at}
-use Rattle.keepalive_clock.specs.Clock.{VoiceClock}
 use Rattle.login_table.specs.Logins as logins
-use Rattle.login_table.specs.Logins.{Logins, login_at}
 use Rattle.login_table.specs.declared.login.Login.{Login}
 use Rattle.name_server.specs.Registry as registry
 use Rattle.name_server.specs.Registry.{Entry, Registrations, entry_at, registered, refusal, is_noticed}
-use Rattle.state_change.specs.Watchers.{Watching}
 use Rattle.fab_roster.specs.Agreement.{Agree}
-use Rattle.fab_roster.specs.Roll.{live_of, ports_of}
+use Rattle.fab_roster.specs.Changes.{ChangesPorts}
+use Rattle.fab_roster.specs.Roll.{Roll, live_of, roll_of}
+use Rattle.fab_roster.specs.declared.roster.Roster.TheInside.{Inside}
 use Rattle.fab_roster.proofs.Found.{item_at-key}
+use Rattle.fab_roster.proofs.Heard.{each_changed}
 use Rattle.fab_roster.proofs.Lookups.{login_there, live_there}
 use Rattle.fab_roster.proofs.Served.{some_same}
 
@@ -28,38 +27,36 @@ pub record IsEntered (a : ℕ) (R : List Entry) (p : LivePort) : Type 0 where
   pub node : entry.node ≡ p.node
   pub values : entry.values ≡ p.values
 
-module _ (lowest count : ℕ) (clock : Option ℕ) (A : List Past) (t : Logins) (k : VoiceClock) (r : Registrations) (w : Watching)
-    (agree : Agree lowest count clock A t k r w) where
-  pub entered : (a : ℕ) (p : LivePort) → port_at a (ports_of k.voices r.entries w.watchers t.logins) ≡ Some p → IsEntered a r.entries p
-  entered a p e =
-      let f = login_there k.voices r.entries w.watchers t.logins a (ap (λ o. is_some o) e) in
-      let n = (agree.known a f.0 f.1).entry in
-      subst (λ (q : LivePort). IsEntered a r.entries q)
-      (some_same (live_of k.voices r.entries w.watchers f.0) p (sym (live_there k.voices r.entries w.watchers t.logins a f.0 f.1) ∙ e))
-      (record {
-        entry = n.0;
-        found = subst (λ (b : ℕ). entry_at b r.entries ≡ Some n.0) (item_at-key logins.address_of a t.logins f.0 f.1) n.1;
-        address = item_at-key registry.address_of f.0.address r.entries n.0 n.1;
-        node = n.2;
-        values = sym (ap (λ o. option_map_or (λ (x : Entry). x.values) o (first_values f.0.node)) n.1);
-      })
+module _ {t : Inside} (agree : Agree t) where
+  module _ {R : Roll} (view : roll_of t ≡ R) (a : ℕ) (p : LivePort) (is : port_at a R.tables.ports ≡ Some p) where
+    pub entered : IsEntered a t.registry.entries p
+    entered =
+        let here = ap (λ (r : Roll). port_at a r.tables.ports) view ∙ is in
+        let f = login_there t view a (ap (λ o. is_some o) is) in
+        let n = agree.entries.known a f.0 f.1 in
+        subst (λ (q : LivePort). IsEntered a t.registry.entries q)
+        (some_same (live_of t f.0) p (sym (live_there t a f.0 f.1) ∙ here))
+        (record {
+          entry = n.0;
+          found = subst (λ (b : ℕ). entry_at b t.registry.entries ≡ Some n.0) (item_at-key logins.address_of a t.logins.logins f.0 f.1) n.1;
+          address = item_at-key registry.address_of f.0.address t.registry.entries n.0 n.1;
+          node = n.2;
+          values = sym (ap (λ o. option_map_or (λ (x : Entry). x.values) o (first_values f.0.node)) n.1);
+        })
 
-  -- why a registration is refused, and whether it is noticed, is the same of the entry and of the N_Port
-  pub refusal_here : (a : ℕ) (p : LivePort) (ask : Ask) → port_at a (ports_of k.voices r.entries w.watchers t.logins) ≡ Some p →
-      refusal ask (entry_at a r.entries) ≡ registration_refusal p.address p.values.node_name ask
-  refusal_here a p ask e =
-      let n = entered a p e in
-      ap (λ o. refusal ask o) n.found
-      ∙ (ap (λ b. registration_refusal b n.entry.values.node_name ask) n.address ∙ ap (λ (v : Values). registration_refusal p.address v.node_name ask) n.values)
+    -- why a registration is refused, and whether it is noticed, is the same of the entry and of the N_Port
+    pub refusal_here : (ask : Ask) → refusal ask (entry_at a t.registry.entries) ≡ registration_refusal p.address p.values.node_name ask
+    refusal_here ask =
+        ap (λ o. refusal ask o) entered.found
+        ∙ (ap (λ b. registration_refusal b entered.entry.values.node_name ask) entered.address ∙ ap (λ (v : Values). registration_refusal p.address v.node_name ask) entered.values)
 
-  pub noticed_here : (a : ℕ) (p : LivePort) (ask : Ask) → port_at a (ports_of k.voices r.entries w.watchers t.logins) ≡ Some p →
-      is_noticed ask (entry_at a r.entries) ≡ has_changed p.values (server.after p.node ask p.values)
-  noticed_here a p ask e =
-      let n = entered a p e in
-      ap (λ o. is_noticed ask o) n.found
-      ∙ (ap (λ b. has_changed n.entry.values (server.after b ask n.entry.values)) n.node ∙ ap (λ (v : Values). has_changed v (server.after p.node ask v)) n.values)
+    pub noticed_here : (ask : Ask) → is_noticed ask (entry_at a t.registry.entries) ≡ has_changed p.values (server.after p.node ask p.values)
+    noticed_here ask =
+        let n = entered in
+        ap (λ o. is_noticed ask o) n.found
+        ∙ (ap (λ b. has_changed n.entry.values (server.after b ask n.entry.values)) n.node ∙ ap (λ (v : Values). has_changed v (server.after p.node ask v)) n.values)
 
-  module _ (r' : Registrations) (a : ℕ) (ask : Ask) (found : (b : ℕ) → entry_at b r'.entries ≡ option_map (registered a ask) (entry_at b r.entries)) where
+  module _ (r : Registrations) (a : ℕ) (ask : Ask) (found : (b : ℕ) → entry_at b r.entries ≡ option_map (registered a ask) (entry_at b t.registry.entries)) where
     same_node : (e : Entry) → (registered a ask e).node ≡ e.node
     same_node e = go (e.address == a)
       where
@@ -67,48 +64,38 @@ module _ (lowest count : ℕ) (clock : Option ℕ) (A : List Past) (t : Logins) 
         go true = refl
         go false = refl
 
-    was_entered : (b : ℕ) → IsSome (entry_at b r'.entries) → IsSome (entry_at b r.entries)
-    was_entered b h = go (entry_at b r.entries) (subst (λ o. IsSome o) (found b) h)
+    was_entered : (b : ℕ) → IsSome (entry_at b r.entries) → IsSome (entry_at b t.registry.entries)
+    was_entered b h = go (entry_at b t.registry.entries) (subst (λ o. IsSome o) (found b) h)
       where
         go : (o : Option Entry) → IsSome (option_map (registered a ask) o) → IsSome o
         go None i = i
         go (Some e) i = refl
 
-    pub register_agrees : r'.room ≡ r.room → registry.IsSound r' → Agree lowest count clock A t k r' w
+    pub register_agrees : r.room ≡ t.registry.room → registry.IsSound r → Agree (record t { registry = r })
     register_agrees room sound = record {
-      known = λ b l e. let n = agree.known b l e in record {
-        node_voice = n.node_voice;
-        port_voice = n.port_voice;
-        entry = (registered a ask n.entry.0, found l.address ∙ ap (λ o. option_map (registered a ask) o) n.entry.1, same_node n.entry.0 ∙ n.entry.2);
-        size = n.size;
-      };
+      logins = agree.logins;
       voices = agree.voices;
-      entries = λ b h. agree.entries b (was_entered b h);
+      entries = record {
+        sound = sound;
+        room = room ∙ agree.entries.room;
+        known = λ b l e. let n = agree.entries.known b l e in (registered a ask n.0, found l.address ∙ ap (λ o. option_map (registered a ask) o) n.1, same_node n.0 ∙ n.2);
+        only = λ b h. agree.entries.only b (was_entered b h);
+      };
       watchers = agree.watchers;
-      held = agree.held;
-      places = agree.places;
-      ended = agree.ended;
-      range = agree.range;
-      port_period = agree.port_period;
-      limit = agree.limit;
-      voice_room = agree.voice_room;
-      entry_room = room ∙ agree.entry_room;
-      watcher_room = agree.watcher_room;
-      sound = record { logins = agree.sound.logins; voices = agree.sound.voices; entries = sound; watchers = agree.sound.watchers };
+      pool = agree.pool;
     }
 
-    pub register_live : (b : ℕ) (l : Login) → login_at b t.logins ≡ Some l →
-        live_of k.voices r'.entries w.watchers l ≡ with_values a ask (live_of k.voices r.entries w.watchers l)
-    register_live b l is =
-        let n = (agree.known b l is).entry in
-        ap (λ o. made o) (found l.address ∙ ap (λ o. option_map (registered a ask) o) n.1)
-        ∙ (ap (λ c. made (Some (if c == a then record n.0 { values = server.after n.0.node ask n.0.values } else n.0))) (item_at-key registry.address_of l.address r.entries n.0 n.1)
-        ∙ (go n.0 n.2 (l.address == a) ∙ ap (λ o. with_values a ask (made o)) (sym n.1)))
+    pub register_changes : ChangesPorts (with_values a ask) (roll_of t) (roll_of (record t { registry = r }))
+    register_changes = each_changed t t.voices r t.watchers (with_values a ask) (λ b l is.
+        let n = agree.entries.known b l is in
+        ap (λ o. made l o) (found l.address ∙ ap (λ o. option_map (registered a ask) o) n.1)
+        ∙ (ap (λ c. made l (Some (if c == a then record n.0 { values = server.after n.0.node ask n.0.values } else n.0))) (item_at-key registry.address_of l.address t.registry.entries n.0 n.1)
+        ∙ (go l n.0 n.2 (l.address == a) ∙ ap (λ o. with_values a ask (made l o)) (sym n.1))))
       where
-        made : Option Entry → LivePort
-        made o = record (live_of k.voices r.entries w.watchers l) { values = option_map_or (λ (x : Entry). x.values) o (first_values l.node) }
+        made : Login → Option Entry → LivePort
+        made l o = record (live_of t l) { values = option_map_or (λ (x : Entry). x.values) o (first_values l.node) }
 
-        go : (e : Entry) → e.node ≡ l.node → (c : Bool) → made (Some (if c then record e { values = server.after e.node ask e.values } else e))
-            ≡ (if c then record (made (Some e)) { values = server.after l.node ask e.values } else made (Some e))
-        go e node true = ap (λ m. record (live_of k.voices r.entries w.watchers l) { values = server.after m ask e.values }) node
-        go e node false = refl
+        go : (l : Login) (e : Entry) → e.node ≡ l.node → (c : Bool) → made l (Some (if c then record e { values = server.after e.node ask e.values } else e))
+            ≡ (if c then record (made l (Some e)) { values = server.after l.node ask e.values } else made l (Some e))
+        go l e node true = ap (λ m. record (live_of t l) { values = server.after m ask e.values }) node
+        go l e node false = refl

@@ -1,16 +1,19 @@
 -- The tables after a grant.
-use Rattle.std.proofs.Common.{◌≡◌, ℕ, ◌*◌, ◌≤◌, ◌==◌, ◌&&◌, Bool, true, false, Option, Some, None, option_map, is_some, is_none, IsSome, IfSome, MatchOption, refl, sym, ap, subst, ◌∙◌, if◌then◌else◌, unwrap_or, slice_index_or}
+use Rattle.std.proofs.Common.{◌≡◌, ℕ, ◌≤◌, ◌==◌, ◌&&◌, Bool, true, false, Option, Some, None, option_map, is_some, is_none, IsSome, IfSome, MatchOption, refl, sym, ap, subst, ◌∙◌, if◌then◌else◌, unwrap_or, slice_index_or}
 use Rattle.std.specs.Option.{option_map_or}
 use Rattle.std.proofs.lemmas.List.Elements.{All-map}
 use Rattle.fab_base.specs.Fabric.{Past, past_at, same_enode}
 use Rattle.fc_addresses.specs.Pool as pool
+use Rattle.login_table.specs.Logins as logins
 use Rattle.login_table.specs.Logins.{login_at, address_of}
 use Rattle.login_table.specs.declared.login.Login.{Login}
+use Rattle.keepalive_clock.specs.Clock as clocks
 use Rattle.keepalive_clock.specs.Clock.{last_of, KeepsLimits}
 use Rattle.keepalive_clock.specs.Voices.{same_voice}
 use Rattle.keepalive_clock.specs.declared.voice.Voice.{Voice}
 use Rattle.keepalive_clock.specs.declared.voice.Voice.TheVariants.{Node, Port}
 use Rattle.ct_messages.specs.Server.{first_values}
+use Rattle.name_server.specs.Registry as registry
 use Rattle.name_server.specs.Registry.{Entry, entered, entry_at}
 use Rattle.state_change.specs.Watchers.{watcher_at}
 use Rattle.state_change.specs.declared.watcher.Watcher.{Watcher}
@@ -18,13 +21,12 @@ use Rattle.fab_policy.specs.Changes.{heard_node}
 use Rattle.fab_policy.specs.Logins.{NPort}
 use Rattle.fab_policy.specs.State.{LivePort, port_at}
 use Rattle.fab_policy.specs.Steps.{fresh}
-use Rattle.fab_roster.specs.Agreement.{Agree, AreSound, IsKnown, IsHeldBy, SpeaksFor}
+use Rattle.fab_roster.specs.Agreement.{Agree, IsHeldBy, SpeaksFor}
 use Rattle.fab_roster.specs.Changes.{Grants, IsSize}
-use Rattle.fab_roster.specs.Roll.{live_of, ports_of}
+use Rattle.fab_roster.specs.Roll.{live_of, ports_of, roll_of}
 use Rattle.fab_roster.specs.declared.roster.Roster.TheInside.{Inside}
 use Rattle.fab_roster.proofs.Found.{enode_refl, enode_turned, equal, item_at-key, same, turned, voice_same}
 use Rattle.fab_roster.proofs.Lookups.{port_of_login}
-use Rattle.fab_roster.proofs.SoundLemmas.{roll_of}
 
 -- when a voice was last heard after both voices of a login were
 abbrev pub heard_both : ℕ → Login → Voice → Option ℕ → Option ℕ
@@ -34,6 +36,7 @@ heard_both now x v before = if same_voice (Port x.address) v then Some now else 
 pub record AfterGrant (now : ℕ) (x : Login) (old new : Inside) : Type 0 where
   pub absent : login_at x.address old.logins.logins ≡ None
   pub server : x.server_size ≡ None
+  pub sound_logins : logins.IsSound new.logins
   pub limit : new.logins.limit ≡ old.logins.limit
   pub logins : (b : ℕ) → login_at b new.logins.logins ≡ (if x.address == b then Some x else login_at b old.logins.logins)
   pub past : new.pool ≡ pool.taken old.pool x.address x.name
@@ -43,10 +46,14 @@ pub record AfterGrant (now : ℕ) (x : Login) (old new : Inside) : Type 0 where
   pub voices : (v : Voice) → last_of v new.voices.voices ≡ heard_both now x v (last_of v old.voices.voices)
   pub entry_room : new.registry.room ≡ old.registry.room
   pub entries : (b : ℕ) → entry_at b new.registry.entries ≡ (if x.address == b then Some (entered x.address x.node) else entry_at b old.registry.entries)
-  pub sound : AreSound new.logins new.voices new.registry old.watchers
+  pub sound_voices : clocks.IsSound new.voices
+  pub sound_entries : registry.IsSound new.registry
 
-module _ (now : ℕ) (x : Login) (old new : Inside)
-    (agree : Agree old.lowest old.count (Some now) old.pool old.logins old.voices old.registry old.watchers) (s : AfterGrant now x old new) where
+-- the tables after them
+abbrev pub granted : Inside → Inside → Inside
+granted old new = record old { pool = new.pool; logins = new.logins; voices = new.voices; registry = new.registry }
+
+module _ {now : ℕ} {x : Login} {old new : Inside} (agree : Agree old) (s : AfterGrant now x old new) where
   -- a login that was there is at another address
   other : (b : ℕ) (l : Login) → login_at b old.logins.logins ≡ Some l → x.address == b ≡ false
   other b l e = go (x.address == b) refl
@@ -86,7 +93,7 @@ module _ (now : ℕ) (x : Login) (old new : Inside)
           (l : Login) × (login_at l.address new.logins.logins ≡ Some l) × SpeaksFor v l
       go true e c f i = (x, new_at, subst (λ u. SpeaksFor u x) (voice_same (Port x.address) v e) refl)
       go false e true f i = (x, new_at, subst (λ u. SpeaksFor u x) (voice_same (Node x.enode) v f) (enode_refl x.enode))
-      go false e false f i = let g = agree.voices v i in (g.0, stays g.0.address g.0 g.1, g.2)
+      go false e false f i = let g = agree.voices.speak v i in (g.0, stays g.0.address g.0 g.1, g.2)
 
   -- ---- each login stands in each table
 
@@ -96,38 +103,28 @@ module _ (now : ℕ) (x : Login) (old new : Inside)
   entry_stays : (b : ℕ) → x.address == b ≡ false → entry_at b new.registry.entries ≡ entry_at b old.registry.entries
   entry_stays b e = s.entries b ∙ ap (λ c. if c then Some (entered x.address x.node) else entry_at b old.registry.entries) e
 
-  known_new : IsKnown new.voices.voices new.registry.entries x
-  known_new = record {
-    node_voice = ap (λ o. is_some o) node_now;
-    port_voice = ap (λ o. is_some o) port_now;
-    entry = (entered x.address x.node, entry_new, refl);
-    size = subst (λ o. IfSome o IsSize) (sym s.server) tt;
-  }
-
-  known_after : (b : ℕ) (l : Login) → login_at b new.logins.logins ≡ Some l → IsKnown new.voices.voices new.registry.entries l
-  known_after b l e = go (x.address == b) refl (sym (s.logins b) ∙ e)
+  -- what holds of the new one, and of each other that was there, holds of all
+  each_after : (P : Login → Type 0) → P x → ((b : ℕ) (l : Login) → x.address == b ≡ false → login_at b old.logins.logins ≡ Some l → P l) → (b : ℕ) (l : Login) → login_at b new.logins.logins ≡ Some l → P l
+  each_after P this each b l e = go (x.address == b) refl (sym (s.logins b) ∙ e)
     where
-      go : (c : Bool) → x.address == b ≡ c → (if c then Some x else login_at b old.logins.logins) ≡ Some l → IsKnown new.voices.voices new.registry.entries l
-      go true f i = let is : x ≡ l = cc in subst (λ m. IsKnown new.voices.voices new.registry.entries m) is known_new
-      go false f i =
-          let n = agree.known b l i in
-          let at : l.address ≡ b = item_at-key address_of b old.logins.logins l i in
-          record {
-            node_voice = there_still (Node l.enode) n.node_voice;
-            port_voice = there_still (Port l.address) n.port_voice;
-            entry = (n.entry.0, entry_stays l.address (ap (λ a. x.address == a) at ∙ f) ∙ n.entry.1, n.entry.2);
-            size = n.size;
-          }
+      go : (c : Bool) → x.address == b ≡ c → (if c then Some x else login_at b old.logins.logins) ≡ Some l → P l
+      go true f i = let is : x ≡ l = cc in subst P is this
+      go false f i = each b l f i
+
+  entry_known : (b : ℕ) (l : Login) → x.address == b ≡ false → login_at b old.logins.logins ≡ Some l → (e : Entry) × (entry_at l.address new.registry.entries ≡ Some e) × (e.node ≡ l.node)
+  entry_known b l f i =
+      let n = agree.entries.known b l i in
+      (n.0, entry_stays l.address (ap (λ a. x.address == a) (item_at-key address_of b old.logins.logins l i) ∙ f) ∙ n.1, n.2)
 
   entries_after : (b : ℕ) → IsSome (entry_at b new.registry.entries) → IsSome (login_at b new.logins.logins)
   entries_after b h = go (x.address == b) refl (subst (λ o. IsSome o) (s.entries b) h)
     where
       go : (c : Bool) → x.address == b ≡ c → IsSome (if c then Some (entered x.address x.node) else entry_at b old.registry.entries) → IsSome (login_at b new.logins.logins)
       go true f i = subst (λ o. IsSome o) (sym (s.logins b ∙ ap (λ c. if c then Some x else login_at b old.logins.logins) f)) refl
-      go false f i = subst (λ o. IsSome o) (sym (s.logins b ∙ ap (λ c. if c then Some x else login_at b old.logins.logins) f)) (agree.entries b i)
+      go false f i = subst (λ o. IsSome o) (sym (s.logins b ∙ ap (λ c. if c then Some x else login_at b old.logins.logins) f)) (agree.entries.only b i)
 
   watchers_after : (b : ℕ) (y : Watcher) → watcher_at b old.watchers.watchers ≡ Some y → (l : Login) × (login_at b new.logins.logins ≡ Some l) × (y.name ≡ l.name)
-  watchers_after b y e = let f = agree.watchers b y e in (f.0, stays b f.0 f.1, f.2)
+  watchers_after b y e = let f = agree.watchers.known b y e in (f.0, stays b f.0 f.1, f.2)
 
   -- ---- the addresses of the pool
 
@@ -142,33 +139,41 @@ module _ (now : ℕ) (x : Login) (old new : Inside)
       go false f =
           let past : past_at b new.pool ≡ past_at b old.pool = s.addresses b ∙ ap (λ c. if c then Some (pool.held x.address x.name) else past_at b old.pool) f in
           subst (λ o. IsHeldBy b new.pool o) (sym (s.logins b ∙ ap (λ c. if c then Some x else login_at b old.logins.logins) f))
-          (subst (λ p. MatchOption (login_at b old.logins.logins) (option_map_or (λ q. is_some q.name && is_none q.ended) p false ≡ false) (λ l. p ≡ Some (pool.held b l.name))) (sym past) (agree.held b))
+          (subst (λ p. MatchOption (login_at b old.logins.logins) (option_map_or (λ q. is_some q.name && is_none q.ended) p false ≡ false) (λ l. p ≡ Some (pool.held b l.name))) (sym past) (agree.pool.held b))
 
-  ends_order : pool.AreEndedBy now new.pool
-  ends_order = subst (λ l. pool.AreEndedBy now l) (sym s.past)
-      (All-map (λ p. IfSome p.ended (λ end. end ≤ now)) (λ p. if p.address == x.address then pool.held p.address x.name else p) old.pool
-      (λ i d lt. one (slice_index_or old.pool i d) ((slice_index_or old.pool i d).address == x.address) (agree.ended i d lt)))
+  ends_order : pool.AreEndedBy (unwrap_or old.clock 0) new.pool
+  ends_order = subst (λ l. pool.AreEndedBy (unwrap_or old.clock 0) l) (sym s.past)
+      (All-map (λ p. IfSome p.ended (λ end. end ≤ unwrap_or old.clock 0)) (λ p. if p.address == x.address then pool.held p.address x.name else p) old.pool
+      (λ i d lt. one (slice_index_or old.pool i d) ((slice_index_or old.pool i d).address == x.address) (agree.pool.ended i d lt)))
     where
-      one : (p : Past) (b : Bool) → IfSome p.ended (λ end. end ≤ now) → IfSome (if b then pool.held p.address x.name else p).ended (λ end. end ≤ now)
+      one : (p : Past) (b : Bool) → IfSome p.ended (λ end. end ≤ unwrap_or old.clock 0) → IfSome (if b then pool.held p.address x.name else p).ended (λ end. end ≤ unwrap_or old.clock 0)
       one p true h = tt
       one p false h = h
 
-  agree_after : Agree old.lowest old.count (Some now) new.pool new.logins new.voices new.registry old.watchers
-  agree_after = record {
-    known = known_after;
-    voices = voices_after;
-    entries = entries_after;
-    watchers = watchers_after;
-    held = held_after;
-    places = s.places ∙ agree.places;
-    ended = ends_order;
-    range = agree.range;
-    port_period = s.limits.port_period ∙ agree.port_period;
-    limit = subst (λ n. n ≤ 1000) (sym s.limit) agree.limit;
-    voice_room = s.limits.room ∙ (agree.voice_room ∙ ap (λ n. 2 * n) (sym s.limit));
-    entry_room = s.entry_room ∙ (agree.entry_room ∙ sym s.limit);
-    watcher_room = agree.watcher_room ∙ sym s.limit;
-    sound = s.sound;
+  pub grant_keeps : Agree (granted old new)
+  grant_keeps = record {
+    logins = record {
+      sound = s.sound_logins;
+      limit = s.limit ∙ agree.logins.limit;
+      sizes = each_after (λ l. IfSome l.server_size IsSize) (subst (λ o. IfSome o IsSize) (sym s.server) tt) (λ b l f i. agree.logins.sizes b l i);
+    };
+    voices = record {
+      sound = s.sound_voices;
+      node_period = s.limits.node_period ∙ agree.voices.node_period;
+      port_period = s.limits.port_period ∙ agree.voices.port_period;
+      room = s.limits.room ∙ agree.voices.room;
+      nodes = each_after (λ l. IsSome (last_of (Node l.enode) new.voices.voices)) (ap (λ o. is_some o) node_now) (λ b l f i. there_still (Node l.enode) (agree.voices.nodes b l i));
+      ports = each_after (λ l. IsSome (last_of (Port l.address) new.voices.voices)) (ap (λ o. is_some o) port_now) (λ b l f i. there_still (Port l.address) (agree.voices.ports b l i));
+      speak = voices_after;
+    };
+    entries = record {
+      sound = s.sound_entries;
+      room = s.entry_room ∙ agree.entries.room;
+      known = each_after (λ l. (e : Entry) × (entry_at l.address new.registry.entries ≡ Some e) × (e.node ≡ l.node)) (entered x.address x.node, entry_new, refl) entry_known;
+      only = entries_after;
+    };
+    watchers = record { sound = agree.watchers.sound; room = agree.watchers.room; known = watchers_after };
+    pool = record { held = held_after; places = s.places ∙ agree.pool.places; ended = ends_order; range = agree.pool.range };
   }
 
   -- ---- the N_Ports
@@ -197,15 +202,15 @@ module _ (now : ℕ) (x : Login) (old new : Inside)
     where
       go : (o : Option Watcher) → watcher_at x.address old.watchers.watchers ≡ o → o ≡ None
       go None e = refl
-      go (Some y) e = let f = (agree.watchers x.address y e).1 in let none : login_at x.address old.logins.logins ≡ None = s.absent in cc
+      go (Some y) e = let f = (agree.watchers.known x.address y e).1 in let none : login_at x.address old.logins.logins ≡ None = s.absent in cc
 
   -- the new one is fresh
-  live_new : live_of new.voices.voices new.registry.entries old.watchers.watchers x ≡ fresh now x.address n_port
+  live_new : live_of (granted old new) x ≡ fresh now x.address n_port
   live_new = same_made x x.server_size None (last_of (Node x.enode) new.voices.voices) (Some now) (last_of (Port x.address) new.voices.voices) (Some now)
       (watcher_at x.address old.watchers.watchers) None (entry_at x.address new.registry.entries) (Some (entered x.address x.node)) s.server node_now port_now unwatched entry_new
 
   -- another is heard with its ENode
-  live_other : (b : ℕ) (l : Login) → login_at b old.logins.logins ≡ Some l → live_of new.voices.voices new.registry.entries old.watchers.watchers l ≡ heard_node x.enode now (live_of old.voices.voices old.registry.entries old.watchers.watchers l)
+  live_other : (b : ℕ) (l : Login) → login_at b old.logins.logins ≡ Some l → live_of (granted old new) l ≡ heard_node x.enode now (live_of old l)
   live_other b l e =
       let apart : x.address == l.address ≡ false = ap (λ a. x.address == a) (item_at-key address_of b old.logins.logins l e) ∙ other b l e in
       same_made l l.server_size l.server_size (last_of (Node l.enode) new.voices.voices) (if same_enode l.enode x.enode then Some now else last_of (Node l.enode) old.voices.voices)
@@ -218,49 +223,29 @@ module _ (now : ℕ) (x : Login) (old new : Inside)
       ∙ by_node (same_enode l.enode x.enode)
     where
       by_node : (c : Bool) → made l l.server_size (if c then Some now else last_of (Node l.enode) old.voices.voices) (last_of (Port l.address) old.voices.voices) (watcher_at l.address old.watchers.watchers) (entry_at l.address old.registry.entries)
-          ≡ (if c then record (live_of old.voices.voices old.registry.entries old.watchers.watchers l) { node_heard = now } else live_of old.voices.voices old.registry.entries old.watchers.watchers l)
+          ≡ (if c then record (live_of old l) { node_heard = now } else live_of old l)
       by_node true = refl
       by_node false = refl
 
-  ports_after : (b : ℕ) → port_at b (ports_of new.voices.voices new.registry.entries old.watchers.watchers new.logins.logins)
-      ≡ (if b == x.address then Some (fresh now x.address n_port) else option_map (heard_node x.enode now) (port_at b (ports_of old.voices.voices old.registry.entries old.watchers.watchers old.logins.logins)))
-  ports_after b = port_of_login new.voices.voices new.registry.entries old.watchers.watchers new.logins.logins b
-      ∙ (go (x.address == b) refl
-      ∙ (ap (λ o. if x.address == b then Some (fresh now x.address n_port) else option_map (heard_node x.enode now) o) (sym (port_of_login old.voices.voices old.registry.entries old.watchers.watchers old.logins.logins b))
-      ∙ ap (λ c. if c then Some (fresh now x.address n_port) else option_map (heard_node x.enode now) (port_at b (ports_of old.voices.voices old.registry.entries old.watchers.watchers old.logins.logins))) (turned x.address b)))
+  ports_after : (b : ℕ) → port_at b (ports_of (granted old new)) ≡ (if b == x.address then Some (fresh now x.address n_port) else option_map (heard_node x.enode now) (port_at b (ports_of old)))
+  ports_after b = port_of_login (granted old new) b
+      ∙ (ap (option_map (live_of (granted old new))) (s.logins b ∙ ap (λ c. if c then Some x else login_at b old.logins.logins) (turned x.address b))
+      ∙ (out (b == x.address) ∙ ap (λ o. if b == x.address then Some (fresh now x.address n_port) else option_map (heard_node x.enode now) o) (sym (port_of_login old b))))
     where
-      each : (o : Option Login) → login_at b old.logins.logins ≡ o → option_map (live_of new.voices.voices new.registry.entries old.watchers.watchers) o ≡ option_map (heard_node x.enode now) (option_map (live_of old.voices.voices old.registry.entries old.watchers.watchers) o)
+      each : (o : Option Login) → login_at b old.logins.logins ≡ o → option_map (live_of (granted old new)) o ≡ option_map (heard_node x.enode now) (option_map (live_of old) o)
       each None e = refl
       each (Some l) e = ap (λ p. Some p) (live_other b l e)
 
-      go : (c : Bool) → x.address == b ≡ c → option_map (live_of new.voices.voices new.registry.entries old.watchers.watchers) (login_at b new.logins.logins)
-          ≡ (if x.address == b then Some (fresh now x.address n_port) else option_map (heard_node x.enode now) (option_map (live_of old.voices.voices old.registry.entries old.watchers.watchers) (login_at b old.logins.logins)))
-      go true e = ap (λ o. option_map (live_of new.voices.voices new.registry.entries old.watchers.watchers) o) (s.logins b ∙ ap (λ c. if c then Some x else login_at b old.logins.logins) e)
-          ∙ (ap (λ p. Some p) live_new
-          ∙ ap (λ c. if c then Some (fresh now x.address n_port) else option_map (heard_node x.enode now) (option_map (live_of old.voices.voices old.registry.entries old.watchers.watchers) (login_at b old.logins.logins))) (sym e))
-      go false e = ap (λ o. option_map (live_of new.voices.voices new.registry.entries old.watchers.watchers) o) (s.logins b ∙ ap (λ c. if c then Some x else login_at b old.logins.logins) e)
-          ∙ (each (login_at b old.logins.logins) refl
-          ∙ ap (λ c. if c then Some (fresh now x.address n_port) else option_map (heard_node x.enode now) (option_map (live_of old.voices.voices old.registry.entries old.watchers.watchers) (login_at b old.logins.logins))) (sym e))
+      out : (c : Bool) → option_map (live_of (granted old new)) (if c then Some x else login_at b old.logins.logins)
+          ≡ (if c then Some (fresh now x.address n_port) else option_map (heard_node x.enode now) (option_map (live_of old) (login_at b old.logins.logins)))
+      out true = ap (λ p. Some p) live_new
+      out false = each (login_at b old.logins.logins) refl
 
--- ---- the two goals of the call, over plain tables
-
-module _ (now : ℕ) (x : Login) (old new : Inside) where
-  pub grant_keeps : old.clock ≡ Some now → Agree old.lowest old.count old.clock old.pool old.logins old.voices old.registry old.watchers × (old.logins.limit ≡ old.limit) × (old.voices.node_period ≡ old.period) → AfterGrant now x old new →
-      Agree old.lowest old.count old.clock new.pool new.logins new.voices new.registry old.watchers × (new.logins.limit ≡ old.limit) × (new.voices.node_period ≡ old.period)
-  grant_keeps e h s =
-      let was = subst (λ o. Agree old.lowest old.count o old.pool old.logins old.voices old.registry old.watchers) e h.0 in (
-        subst (λ o. Agree old.lowest old.count o new.pool new.logins new.voices new.registry old.watchers) (sym e) (agree_after now x old new was s),
-        s.limit ∙ h.1,
-        s.limits.node_period ∙ h.2,
-      )
-
-  pub grant_grants : old.clock ≡ Some now → Agree old.lowest old.count old.clock old.pool old.logins old.voices old.registry old.watchers × (old.logins.limit ≡ old.limit) × (old.voices.node_period ≡ old.period) → AfterGrant now x old new →
-      Grants x.address (record { name = x.name; node = x.node; enode = x.enode }) (roll_of old.lowest old.count old.limit old.period old.clock old.pool old.logins old.voices old.registry old.watchers) (roll_of old.lowest old.count old.limit old.period old.clock new.pool new.logins new.voices new.registry old.watchers)
-  grant_grants e h s = record {
+  pub grant_grants : old.clock ≡ Some now → Grants x.address n_port (roll_of old) (roll_of (granted old new))
+  grant_grants clock = record {
     bounds = record { lowest = refl; count = refl; limit = refl; period = refl };
     clock = refl;
     past = s.past;
-    ports = λ b. ports_after now x old new (subst (λ o. Agree old.lowest old.count o old.pool old.logins old.voices old.registry old.watchers) e h.0) s b
-        ∙ ap (λ (n : ℕ). if b == x.address then Some (fresh n x.address (record { name = x.name; node = x.node; enode = x.enode })) else option_map (heard_node x.enode n) (port_at b (ports_of old.voices.voices old.registry.entries old.watchers.watchers old.logins.logins)))
-        (ap (λ (o : Option ℕ). unwrap_or o 0) (sym e));
+    ports = λ b. ports_after b
+        ∙ ap (λ (o : Option ℕ). if b == x.address then Some (fresh (unwrap_or o 0) x.address n_port) else option_map (heard_node x.enode (unwrap_or o 0)) (port_at b (ports_of old))) (sym clock);
   }

@@ -1,5 +1,5 @@
 -- The tables of a new roster.
-use Rattle.std.proofs.Common.{◌≡◌, ℕ, zero, suc, ◌+◌, ◌*◌, ◌≤◌, ◌==◌, ◌&&◌, Bool, true, false, cond, List, [], Some, None, IfSome, is_some, is_none, IsTrue, refl, sym, ap, subst, arith}
+use Rattle.std.proofs.Common.{◌≡◌, ℕ, zero, suc, ◌+◌, ◌*◌, ◌≤◌, ◌==◌, ◌&&◌, Bool, true, false, cond, List, [], Some, None, IfSome, is_some, is_none, IsTrue, refl, sym, subst, arith}
 use Rattle.std.specs.Option.{option_map_or}
 use Rattle.std.proofs.lemmas.List.Elements.{All-nil, All-cons}
 use Rattle.fab_base.specs.Fabric.{Past, past_at, PORT_PERIOD}
@@ -10,6 +10,7 @@ use Rattle.name_server.specs.Registry.{Entry, Registrations, IsKept}
 use Rattle.state_change.specs.Watchers.{Watching, is_asking}
 use Rattle.state_change.specs.declared.watcher.Watcher.{Watcher}
 use Rattle.fab_roster.specs.Agreement.{Agree}
+use Rattle.fab_roster.specs.declared.roster.Roster.TheInside.{Inside}
 use Rattle.fab_roster.proofs.Found.{true_false}
 
 -- nobody holds an address
@@ -27,6 +28,21 @@ unended first zero = All-nil _
 unended first (suc count) = All-cons (λ (p : Past). IfSome p.ended (λ end. end ≤ 0)) (record { address = first; name = None; ended = None }) (unused (first + 1) count) tt (unended (first + 1) count)
 
 module _ (lowest count limit period : ℕ) where
+  -- a roster before the first tick
+  abbrev with : List Past → Logins → VoiceClock → Registrations → Watching → Inside
+  with A s k r w = record {
+    lowest = lowest;
+    count = count;
+    limit = limit;
+    period = period;
+    clock = None;
+    pool = A;
+    logins = s;
+    voices = k;
+    registry = r;
+    watchers = w;
+  }
+
   abbrev pub no_logins : Logins
   no_logins = record { limit = limit; logins = [] }
 
@@ -39,37 +55,34 @@ module _ (lowest count limit period : ℕ) where
   abbrev pub no_watchers : Watching
   no_watchers = record { room = limit; watchers = [] }
 
-  empty_agrees : limit ≤ 1000 → Agree lowest count None (unused lowest count) no_logins no_voices no_entries no_watchers
-  empty_agrees few = record {
-    known = λ a l e. cc;
-    voices = λ v h. absurd (true_false (sym h));
-    entries = λ a h. absurd (true_false (sym h));
-    watchers = λ a x e. cc;
-    held = λ a. unheld a lowest count;
-    places = refl;
-    ended = unended lowest count;
-    range = omega arith;
-    port_period = refl;
-    limit = few;
-    voice_room = refl;
-    entry_room = refl;
-    watcher_room = refl;
-    sound = record {
-      logins = record { ascending = tt; names = tt; bound = omega arith };
-      voices = record { differ = tt; bound = omega arith };
-      entries = record { ascending = tt; kept = All-nil (λ (e : Entry). IsKept e.values); bound = omega arith };
-      watchers = record { ascending = tt; functions = All-nil (λ (w : Watcher). IsTrue (is_asking w.function)); bound = omega arith };
+  empty_agrees : Agree (with (unused lowest count) no_logins no_voices no_entries no_watchers)
+  empty_agrees = record {
+    logins = record { sound = record { ascending = tt; names = tt; bound = omega arith }; limit = refl; sizes = λ a l e. cc };
+    voices = record {
+      sound = record { differ = tt; bound = omega arith };
+      node_period = refl;
+      port_period = refl;
+      room = refl;
+      nodes = λ a l e. cc;
+      ports = λ a l e. cc;
+      speak = λ v h. absurd (true_false (sym h));
     };
+    entries = record {
+      sound = record { ascending = tt; kept = All-nil (λ (e : Entry). IsKept e.values); bound = omega arith };
+      room = refl;
+      known = λ a l e. cc;
+      only = λ a h. absurd (true_false (sym h));
+    };
+    watchers = record {
+      sound = record { ascending = tt; functions = All-nil (λ (w : Watcher). IsTrue (is_asking w.function)); bound = omega arith };
+      room = refl;
+      known = λ a x e. cc;
+    };
+    pool = record { held = λ a. unheld a lowest count; places = refl; ended = unended lowest count; range = omega arith };
   }
 
-  pub new_agrees : limit ≤ 1000 → (A : List Past) → A ≡ unused lowest count → (t : Logins) → t ≡ no_logins → (k : VoiceClock) → k ≡ no_voices → (r : Registrations) → r ≡ no_entries →
-      (w : Watching) → w ≡ no_watchers → Agree lowest count None A t k r w × (t.limit ≡ limit) × (k.node_period ≡ period)
-  new_agrees few A eA t et k ek r er w ew = (
-    subst (λ x. Agree lowest count None x t k r w) (sym eA)
-        (subst (λ x. Agree lowest count None (unused lowest count) x k r w) (sym et)
-        (subst (λ x. Agree lowest count None (unused lowest count) no_logins x r w) (sym ek)
-        (subst (λ x. Agree lowest count None (unused lowest count) no_logins no_voices x w) (sym er)
-        (subst (λ x. Agree lowest count None (unused lowest count) no_logins no_voices no_entries x) (sym ew) (empty_agrees few))))),
-    ap (λ (x : Logins). x.limit) et,
-    ap (λ (x : VoiceClock). x.node_period) ek,
-  )
+  pub new_agrees : (A : List Past) (s : Logins) (k : VoiceClock) (r : Registrations) (w : Watching) →
+      A ≡ unused lowest count → s ≡ no_logins → k ≡ no_voices → r ≡ no_entries → w ≡ no_watchers → Agree (with A s k r w)
+  new_agrees A s k r w e1 e2 e3 e4 e5 =
+      let same : with A s k r w ≡ with (unused lowest count) no_logins no_voices no_entries no_watchers = cc in
+      subst Agree (sym same) empty_agrees

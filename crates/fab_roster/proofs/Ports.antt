@@ -1,24 +1,22 @@
 -- The N_Ports of a roll ascend, and a walk over the logins is a walk over them.
-use Rattle.std.proofs.Common.{◌≡◌, ℕ, ◌+◌, ◌&&◌, nat_le, Bool, true, false, cond, List, [], ◌∷◌, find, Some, option_map, sym, ap, ◌∙◌, refl}
+use Rattle.std.proofs.Common.{◌≡◌, ℕ, ◌+◌, ◌&&◌, nat_le, Bool, true, false, cond, List, [], ◌∷◌, map, find, Some, option_map, sym, ap, ◌∙◌, refl}
 use Rattle.fab_base.specs.Keyed.{AscendFrom}
-use Rattle.keepalive_clock.specs.declared.voice.LastHeard.{LastHeard}
 use Rattle.login_table.specs.Logins as logins
 use Rattle.login_table.specs.Logins.{Logins, next_of}
 use Rattle.login_table.specs.declared.login.Login.{Login}
-use Rattle.name_server.specs.Registry.{Entry}
-use Rattle.state_change.specs.declared.watcher.Watcher.{Watcher}
 use Rattle.fab_policy.specs.State.{LivePort}
 use Rattle.fab_roster.specs.Changes.{IsSoundRoll}
-use Rattle.fab_roster.specs.Roll.{Roll, ports_of}
+use Rattle.fab_roster.specs.Roll.{Roll, live_of}
+use Rattle.fab_roster.specs.declared.roster.Roster.TheInside.{Inside}
 use Rattle.fab_roster.proofs.Walks.{IsNext, first_key, next_some}
 
 -- the key of an N_Port
 abbrev pub address : LivePort → ℕ
 address p = p.address
 
-pub ports_ascend : (V : List LastHeard) (R : List Entry) (W : List Watcher) (from : ℕ) (ls : List Login) → AscendFrom logins.address_of from ls → AscendFrom address from (ports_of V R W ls)
-ports_ascend V R W from [] ascend = tt
-ports_ascend V R W from (l ∷ ls) ascend = (ascend.0, ports_ascend V R W (l.address + 1) ls ascend.1)
+pub ports_ascend : (t : Inside) (from : ℕ) (ls : List Login) → AscendFrom logins.address_of from ls → AscendFrom address from (map (live_of t) ls)
+ports_ascend t from [] ascend = tt
+ports_ascend t from (l ∷ ls) ascend = (ascend.0, ports_ascend t (l.address + 1) ls ascend.1)
 
 pub and_true : (b : Bool) → b ≡ b && true
 and_true true = refl

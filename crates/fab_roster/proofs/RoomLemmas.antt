@@ -3,7 +3,6 @@ use Rattle.std.proofs.Common.{◌≡◌, ℕ, suc, ◌+◌, ◌*◌, ◌<◌, �
 use Rattle.std.specs.List.{list_any}
 use Rattle.std.proofs.lemmas.Bool.Decides.{nat_tests}
 use Rattle.std.proofs.lemmas.List.{length-map}
-use Rattle.fab_base.specs.Fabric.{Past}
 use Rattle.fab_base.proofs.KeyedLemmas as keyed
 use Rattle.fab_base.proofs.SamenessLemmas as sameness
 use Rattle.keepalive_clock.specs.Clock.{VoiceClock, KeepsLimits, last_of, heard_of, without, count_with, VoicesDiffer}
@@ -11,14 +10,14 @@ use Rattle.keepalive_clock.specs.Voices.{same_voice}
 use Rattle.keepalive_clock.specs.declared.voice.LastHeard.{LastHeard}
 use Rattle.keepalive_clock.specs.declared.voice.Voice.{Voice}
 use Rattle.keepalive_clock.specs.declared.voice.Voice.TheVariants.{Node, Port}
-use Rattle.login_table.specs.Logins.{Logins, login_at, address_of}
+use Rattle.login_table.specs.Logins.{login_at, address_of}
 use Rattle.login_table.specs.Logins as logins
 use Rattle.login_table.specs.declared.login.Login.{Login}
-use Rattle.name_server.specs.Registry.{Entry, Registrations, entry_at}
+use Rattle.name_server.specs.Registry.{Entry, entry_at}
 use Rattle.name_server.specs.Registry as registry
-use Rattle.state_change.specs.Watchers.{Watching}
 use Rattle.fab_roster.specs.Agreement.{Agree, SpeaksFor}
-use Rattle.fab_roster.specs.Roll.{live_of, ports_of}
+use Rattle.fab_roster.specs.Roll.{Roll, live_of, roll_of}
+use Rattle.fab_roster.specs.declared.roster.Roster.TheInside.{Inside}
 use Rattle.fab_roster.proofs.Found.{same, true_false, voice_refl, voice_same}
 
 -- nothing is found where nothing passes
@@ -129,19 +128,18 @@ entries_within es ls above below within = keyed.length-within registry.address_o
 
 -- ---- the rooms of the tables, while there are fewer logins than the limit
 
-module _ (lowest count limit : ℕ) (clock : Option ℕ) (A : List Past) (t : Logins) (k : VoiceClock) (r : Registrations) (w : Watching) (agree : Agree lowest count clock A t k r w)
-    (same_limit : t.limit ≡ limit) (few : length (ports_of k.voices r.entries w.watchers t.logins) < limit) where
-  fewer : length t.logins < t.limit
-  fewer = omega (arith, length-map t.logins (live_of k.voices r.entries w.watchers), same_limit, few)
+module _ {t : Inside} {R : Roll} (agree : Agree t) (view : roll_of t ≡ R) (few : length R.tables.ports < R.limit) where
+  fewer : length t.logins.logins < t.limit
+  fewer = omega (arith, length-map t.logins.logins (live_of t), subst (λ (r : Roll). length r.tables.ports < r.limit) (sym view) few)
 
-  voices_few : length k.voices ≤ 2 * length t.logins
-  voices_few = at_most_two t.logins k.voices agree.sound.voices.differ agree.voices
+  voices_few : length t.voices.voices ≤ 2 * length t.logins.logins
+  voices_few = at_most_two t.logins.logins t.voices.voices agree.voices.sound.differ agree.voices.speak
 
-  pub voice_room : length k.voices < k.room
-  voice_room = omega (arith, fewer, voices_few, agree.voice_room)
+  pub voice_room : length t.voices.voices < t.voices.room
+  voice_room = omega (arith, fewer, voices_few, agree.voices.room)
 
-  pub voice_room_again : (v : Voice) (k' : VoiceClock) → KeepsLimits k k' → length k'.voices ≡ count_with v k.voices → length k'.voices < k'.room
-  voice_room_again v k' keeps counts = omega (arith, fewer, voices_few, agree.voice_room, keeps.room, one_more v k.voices k'.voices counts)
+  pub voice_room_again : (v : Voice) (k : VoiceClock) → KeepsLimits t.voices k → length k.voices ≡ count_with v t.voices.voices → length k.voices < k.room
+  voice_room_again v k keeps counts = omega (arith, fewer, voices_few, agree.voices.room, keeps.room, one_more v t.voices.voices k.voices counts)
 
-  pub entry_room : length r.entries < r.room
-  entry_room = omega (arith, fewer, entries_within r.entries t.logins agree.sound.entries.ascending agree.sound.logins.ascending agree.entries, agree.entry_room)
+  pub entry_room : length t.registry.entries < t.registry.room
+  entry_room = omega (arith, fewer, entries_within t.registry.entries t.logins.logins agree.entries.sound.ascending agree.logins.sound.ascending agree.entries.only, agree.entries.room)

@@ -1,21 +1,16 @@
 -- What a login sees, by a walk over the logins, and what the registry knows of it.
-use Rattle.std.proofs.Common.{◌≡◌, ℕ, ◌+◌, ◌<◌, ◌≤◌, ◌==◌, ◌||◌, Bool, true, false, cond, List, [], ◌∷◌, ◌++◌, map, filter, Option, Some, None, option_map, is_some, IsSome, unwrap_or, refl, sym, ap, subst, ◌∙◌, arith}
+use Rattle.std.proofs.Common.{◌≡◌, ℕ, ◌+◌, ◌<◌, ◌≤◌, ◌==◌, ◌||◌, Bool, true, false, cond, List, [], ◌∷◌, ◌++◌, map, filter, Option, Some, None, option_map, is_some, IsSome, refl, sym, ap, subst, ◌∙◌, arith}
 use Rattle.std.proofs.lemmas.List.Elements.{All-append, All-cons, All-filter, All-head, All-map, All-nil, All-tail, All-weaker}
 use Rattle.std.specs.List.{All, cons_option}
 use Rattle.std.specs.Option.{option_map_or}
 use Rattle.fab_base.proofs.KeyedLemmas.{is_some-item_at-filter}
-use Rattle.fab_base.specs.Fabric.{Past}
 use Rattle.fab_config.specs.Settings.{Settings}
 use Rattle.ct_messages.specs.Server.{first_values}
-use Rattle.keepalive_clock.specs.Clock.{VoiceClock}
-use Rattle.keepalive_clock.specs.declared.voice.LastHeard.{LastHeard}
-use Rattle.login_table.specs.Logins.{Logins, address_of, login_at}
+use Rattle.login_table.specs.Logins.{address_of, login_at}
 use Rattle.login_table.specs.declared.login.Login.{Login}
 use Rattle.name_server.specs.Registry as registry
-use Rattle.name_server.specs.Registry.{AreEntered, Entry, Registrations, entry_at, known_port, seen_at}
+use Rattle.name_server.specs.Registry.{AreEntered, Entry, entry_at, known_port, seen_at}
 use Rattle.name_server.specs.declared.seen.SeenPort.{SeenPort}
-use Rattle.state_change.specs.Watchers.{Watching}
-use Rattle.state_change.specs.declared.watcher.Watcher.{Watcher}
 use Rattle.zone_rules.specs.Joined as zones
 use Rattle.zone_rules.specs.Rules.{ZoneRules}
 use Rattle.fab_policy.specs.Queries.{fport, known, known_to}
@@ -23,10 +18,10 @@ use Rattle.fab_policy.specs.Rules.{joined}
 use Rattle.fab_policy.specs.State.{LivePort, Tables, now_of, port_at}
 use Rattle.fab_roster.specs.Agreement.{Agree}
 use Rattle.fab_roster.specs.Reaching.{may_see, seen_port, zones_of}
-use Rattle.fab_roster.specs.Roll.{Roll, live_of, ports_of}
+use Rattle.fab_roster.specs.Roll.{Roll, live_of, roll_of}
+use Rattle.fab_roster.specs.declared.roster.Roster.TheInside.{Inside}
 use Rattle.fab_roster.proofs.Found.{All-item_at, same}
 use Rattle.fab_roster.proofs.Lookups.{find_map, live_there}
-use Rattle.fab_roster.proofs.SoundLemmas.{roll_of}
 use Rattle.fab_roster.proofs.Walks.{IsNext, Walked, one_picked, none_picked}
 
 -- what a login sees of others at a moment
@@ -67,44 +62,44 @@ module _ (from v : ℕ) (le : from ≤ v) (out new : List SeenPort) where
 
 -- ---- what the registry knows
 
-module _ (c : Settings) (V : List LastHeard) (R : List Entry) (W : List Watcher) where
-  one_known : (l : Login) → IsSome (entry_at l.address R) → known_port R (seen_port c l) ≡ Some (known c (live_of V R W l))
-  one_known l some = go (entry_at l.address R) some
+module _ (c : Settings) (t : Inside) where
+  one_known : (l : Login) → IsSome (entry_at l.address t.registry.entries) → known_port t.registry.entries (seen_port c l) ≡ Some (known c (live_of t l))
+  one_known l some = go (entry_at l.address t.registry.entries) some
     where
       go : (o : Option Entry) → IsSome o → option_map (registry.known_of (seen_port c l)) o ≡ Some (record { address = l.address; name = l.name; fabric_port = fport c l.enode.port; values = option_map_or (λ x. x.values) o (first_values l.node) })
       go None i = cc
       go (Some x) i = refl
 
   -- what it knows of the logins that pass is what is known of their N_Ports
-  seen_are_known : (q : Login → Bool) (p : LivePort → Bool) → ((l : Login) → p (live_of V R W l) ≡ q l) → (ls : List Login) → All (λ l. IsSome (entry_at l.address R)) ls →
-      registry.known R (map (seen_port c) (filter q ls)) ≡ map (known c) (filter p (ports_of V R W ls))
+  seen_are_known : (q : Login → Bool) (p : LivePort → Bool) → ((l : Login) → p (live_of t l) ≡ q l) → (ls : List Login) → All (λ l. IsSome (entry_at l.address t.registry.entries)) ls →
+      registry.known t.registry.entries (map (seen_port c) (filter q ls)) ≡ map (known c) (filter p (map (live_of t) ls))
   seen_are_known q p as_login [] entered = refl
   seen_are_known q p as_login (l ∷ ls) entered =
-      go (q l) (seen_are_known q p as_login ls (All-tail (λ x. IsSome (entry_at x.address R)) l ls entered))
-      ∙ ap (λ b. map (known c) (cond b (live_of V R W l ∷ filter p (ports_of V R W ls)) (filter p (ports_of V R W ls)))) (sym (as_login l))
+      go (q l) (seen_are_known q p as_login ls (All-tail (λ x. IsSome (entry_at x.address t.registry.entries)) l ls entered))
+      ∙ ap (λ b. map (known c) (cond b (live_of t l ∷ filter p (map (live_of t) ls)) (filter p (map (live_of t) ls)))) (sym (as_login l))
     where
-      go : (b : Bool) → registry.known R (map (seen_port c) (filter q ls)) ≡ map (known c) (filter p (ports_of V R W ls)) →
-          registry.known R (map (seen_port c) (cond b (l ∷ filter q ls) (filter q ls))) ≡ map (known c) (cond b (live_of V R W l ∷ filter p (ports_of V R W ls)) (filter p (ports_of V R W ls)))
+      go : (b : Bool) → registry.known t.registry.entries (map (seen_port c) (filter q ls)) ≡ map (known c) (filter p (map (live_of t) ls)) →
+          registry.known t.registry.entries (map (seen_port c) (cond b (l ∷ filter q ls) (filter q ls))) ≡ map (known c) (cond b (live_of t l ∷ filter p (map (live_of t) ls)) (filter p (map (live_of t) ls)))
       go true others =
-          ap (λ o. cons_option o (registry.known R (map (seen_port c) (filter q ls)))) (one_known l (All-head (λ x. IsSome (entry_at x.address R)) l ls entered))
-          ∙ ap (λ ks. known c (live_of V R W l) ∷ ks) others
+          ap (λ o. cons_option o (registry.known t.registry.entries (map (seen_port c) (filter q ls)))) (one_known l (All-head (λ x. IsSome (entry_at x.address t.registry.entries)) l ls entered))
+          ∙ ap (λ ks. known c (live_of t l) ∷ ks) others
       go false others = others
 
-module _ (lowest count : ℕ) (clock : Option ℕ) (A : List Past) (t : Logins) (k : VoiceClock) (r : Registrations) (w : Watching) (agree : Agree lowest count clock A t k r w) (c : Settings) (z : ZoneRules) (at a : ℕ) (l : Login) (found : login_at a t.logins ≡ Some l) where
-  all_entered : All (λ (x : Login). IsSome (entry_at x.address r.entries)) t.logins
-  all_entered = All-item_at address_of (λ x. IsSome (entry_at x.address r.entries)) 0 t.logins agree.sound.logins.ascending (λ x i. ap is_some (agree.known x.address x i).entry.1)
+module _ {t : Inside} (agree : Agree t) (c : Settings) (z : ZoneRules) (at a : ℕ) (l : Login) (found : login_at a t.logins.logins ≡ Some l) where
+  all_entered : All (λ (x : Login). IsSome (entry_at x.address t.registry.entries)) t.logins.logins
+  all_entered = All-item_at address_of (λ x. IsSome (entry_at x.address t.registry.entries)) 0 t.logins.logins agree.logins.sound.ascending (λ x i. ap is_some (agree.entries.known x.address x i).1)
 
-  pub seen_entered : AreEntered r.entries (seen_of c z at l t.logins)
+  pub seen_entered : AreEntered t.registry.entries (seen_of c z at l t.logins.logins)
   seen_entered =
-      All-map (λ (s : SeenPort). IsSome (entry_at s.address r.entries)) (seen_port c) (filter (may_see z at l) t.logins)
-      (All-filter (may_see z at l) (λ (x : Login). IsSome (entry_at x.address r.entries)) t.logins all_entered)
+      All-map (λ (s : SeenPort). IsSome (entry_at s.address t.registry.entries)) (seen_port c) (filter (may_see z at l) t.logins.logins)
+      (All-filter (may_see z at l) (λ (x : Login). IsSome (entry_at x.address t.registry.entries)) t.logins.logins all_entered)
 
   -- the asker sees itself
-  pub seen_itself : IsSome (seen_at a (seen_of c z at l t.logins))
+  pub seen_itself : IsSome (seen_at a (seen_of c z at l t.logins.logins))
   seen_itself =
-      ap is_some (find_map (seen_port c) (λ (s : SeenPort). s.address == a) (λ (x : Login). x.address == a) (filter (may_see z at l) t.logins) (λ x. refl))
-      ∙ (is_some-map (login_at a (filter (may_see z at l) t.logins))
-      ∙ (is_some-item_at-filter address_of (may_see z at l) 0 a t.logins agree.sound.logins.ascending
+      ap is_some (find_map (seen_port c) (λ (s : SeenPort). s.address == a) (λ (x : Login). x.address == a) (filter (may_see z at l) t.logins.logins) (λ x. refl))
+      ∙ (is_some-map (login_at a (filter (may_see z at l) t.logins.logins))
+      ∙ (is_some-item_at-filter address_of (may_see z at l) 0 a t.logins.logins agree.logins.sound.ascending
       ∙ (ap (λ o. option_map_or (may_see z at l) o false) found
       ∙ ap (λ b. b || zones.joined z.zones z.sets z.activations at l.name l.name) (same l.address))))
     where
@@ -112,16 +107,11 @@ module _ (lowest count : ℕ) (clock : Option ℕ) (A : List Past) (t : Logins) 
       is_some-map None = refl
       is_some-map (Some x) = refl
 
-  module _ (limit period : ℕ) (is_zones : z ≡ zones_of c) where
-    at_roll : at ≡ unwrap_or clock 0 → (b : LivePort) → port_at a (ports_of k.voices r.entries w.watchers t.logins) ≡ Some b →
-        registry.known r.entries (seen_of c z at l t.logins) ≡ known_to c (roll_of lowest count limit period clock A t k r w).tables b
-    at_roll now b there =
-        let T : Tables = (roll_of lowest count limit period clock A t k r w).tables in
-        let is : live_of k.voices r.entries w.watchers l ≡ b = cc (live_there k.voices r.entries w.watchers t.logins a l found) in
-        seen_are_known c k.voices r.entries w.watchers (may_see z at l) (λ p. p.address == l.address || joined c T p.name l.name)
-        (λ x. sym (ap (λ y. may_see y at l x) is_zones ∙ ap (λ m. may_see (zones_of c) m l x) now)) t.logins all_entered
-        ∙ ap (λ p. known_to c T p) is
-
-    pub answer_law : (R : Roll) → roll_of lowest count limit period clock A t k r w ≡ R → at ≡ now_of R.tables → (b : LivePort) → port_at a R.tables.ports ≡ Some b →
-        registry.known r.entries (seen_of c z at l t.logins) ≡ known_to c R.tables b
-    answer_law R view = subst (λ (x : Roll). at ≡ now_of x.tables → (b : LivePort) → port_at a x.tables.ports ≡ Some b → registry.known r.entries (seen_of c z at l t.logins) ≡ known_to c x.tables b) view at_roll
+  pub answer_law : {R : Roll} → z ≡ zones_of c → roll_of t ≡ R → at ≡ now_of R.tables → (b : LivePort) → port_at a R.tables.ports ≡ Some b →
+      registry.known t.registry.entries (seen_of c z at l t.logins.logins) ≡ known_to c R.tables b
+  answer_law is_zones view = subst (λ (x : Roll). at ≡ now_of x.tables → (b : LivePort) → port_at a x.tables.ports ≡ Some b → registry.known t.registry.entries (seen_of c z at l t.logins.logins) ≡ known_to c x.tables b) view (λ now b there.
+      let T : Tables = (roll_of t).tables in
+      let is : live_of t l ≡ b = cc (live_there t a l found) in
+      seen_are_known c t (may_see z at l) (λ p. p.address == l.address || joined c T p.name l.name)
+      (λ x. sym (ap (λ y. may_see y at l x) is_zones ∙ ap (λ m. may_see (zones_of c) m l x) now)) t.logins.logins all_entered
+      ∙ ap (λ p. known_to c T p) is)

@@ -31,26 +31,14 @@ pub struct Roster {
 }
 
 impl Model for Roster {
-    ghost use Rattle.fab_roster.specs.Roll.{Roll, ports_of};
+    ghost use Rattle.fab_roster.specs.Roll.{Roll, roll_of};
     ghost use Rattle.fab_roster.specs.Agreement.{Agree};
-    ghost use Rattle.std.specs.Prelude.{◌≡◌};
 
     ghost Value = { Roll };
 
-    ghost view = { λ r. record {
-      lowest = r.lowest;
-      count = r.count;
-      limit = r.limit;
-      period = r.period;
-      tables = record {
-        clock = r.clock;
-        ports = ports_of r.voices.voices r.registry.entries r.watchers.watchers r.logins.logins;
-        past = r.pool;
-      };
-    } };
+    ghost view = { roll_of };
 
-    ghost invariant = { λ r. Agree r.lowest r.count r.clock r.pool r.logins r.voices r.registry
-        r.watchers × (r.logins.limit ≡ r.limit) × (r.voices.node_period ≡ r.period) };
+    ghost invariant = { Agree };
 }
 
 impl Roster {

@@ -8,29 +8,23 @@ use Rattle.name_server.specs.Registry.{AreEntered, seen_at}
 use Rattle.name_server.specs.declared.seen.SeenPort.{SeenPort}
 use Rattle.fab_policy.specs.Queries.{known_to}
 use Rattle.fab_policy.specs.State.{LivePort, port_at}
-use Rattle.fab_roster.specs.Roll.{Roll}
 use Rattle.fab_roster.proofs.Lookups.{login_there}
 use Rattle.fab_roster.proofs.Seen.{answer_law, seen_entered, seen_itself}
 use Rattle.fab_roster.proofs.roster.Roster.answer.Goals as goal
 
 pub unreachable-requires : goal.unreachable-requires
 unreachable-requires c =
-    let i = c.self.inside in
-    let live = subst (λ (x : Roll). IsSome (port_at c.args.asker x.tables.ports)) (sym c.self.view_is) c.requires.live in
-    let found = login_there i.voices.voices i.registry.entries i.watchers.watchers i.logins.logins c.args.asker live in
-    cc (found.1, c.in_default.ensures.login)
+    let found = login_there c.self.inside c.self.view_is c.args.asker c.requires.live in cc (found.1, c.in_default.ensures.login)
 
 pub answer-requires-clause-entered : goal.answer-requires-clause-entered
 answer-requires-clause-entered c =
-    let i = c.self.inside in
-    subst (AreEntered i.registry.entries) (sym c.in_ok-seen.ensures)
-    (seen_entered i.lowest i.count i.clock i.pool i.logins i.voices i.registry i.watchers c.self.invariant.0 c.args.config.now c.args.zones.now c.now.result c.args.asker c.in-Some.login.now (sym c.in-Some.ensures.login))
+    subst (AreEntered c.self.inside.registry.entries) (sym c.in_ok-seen.ensures)
+    (seen_entered c.self.invariant c.args.config.now c.args.zones.now c.now.result c.args.asker c.in-Some.login.now (sym c.in-Some.ensures.login))
 
 pub answer-requires-clause-asker : goal.answer-requires-clause-asker
 answer-requires-clause-asker c =
-    let i = c.self.inside in
     subst (λ (s : List SeenPort). IsSome (seen_at c.args.asker s)) (sym c.in_ok-seen.ensures)
-    (seen_itself i.lowest i.count i.clock i.pool i.logins i.voices i.registry i.watchers c.self.invariant.0 c.args.config.now c.args.zones.now c.now.result c.args.asker c.in-Some.login.now (sym c.in-Some.ensures.login))
+    (seen_itself c.self.invariant c.args.config.now c.args.zones.now c.now.result c.args.asker c.in-Some.login.now (sym c.in-Some.ensures.login))
 
 pub returns-clause-answer : goal.returns-clause-answer
 returns-clause-answer c =
@@ -40,6 +34,5 @@ returns-clause-answer c =
     (λ tell. tell ≡ answers (registry.known i.registry.entries c.in_ok-seen.seen))
     (λ tell. (b : LivePort) → port_at c.args.asker c.args.self.now.tables.ports ≡ Some b → tell ≡ answers (known_to c.args.config.now c.args.self.now.tables b))
     (λ tell is b there. is ∙ ap answers (ap (registry.known i.registry.entries) c.in_ok-seen.ensures
-    ∙ answer_law i.lowest i.count i.clock i.pool i.logins i.voices i.registry i.watchers c.self.invariant.0 c.args.config.now c.args.zones.now c.now.result c.args.asker c.in-Some.login.now (sym c.in-Some.ensures.login)
-    i.limit i.period c.requires.zones c.args.self.now c.self.view_is c.now.ensures b there))
+    ∙ answer_law c.self.invariant c.args.config.now c.args.zones.now c.now.result c.args.asker c.in-Some.login.now (sym c.in-Some.ensures.login) c.requires.zones c.self.view_is c.now.ensures b there))
     c.answer.ensures.answer

@@ -6,6 +6,5 @@ use Rattle.fab_roster.proofs.roster.Roster.by_name.Goals as goal
 
 pub returns : goal.returns
 returns c =
-    let i = c.self.inside in
-    c.by_name.ensures.login ∙ login_named i.voices.voices i.registry.entries i.watchers.watchers i.logins.logins c.args.name
+    c.by_name.ensures.login ∙ login_named c.self.inside c.args.name
     ∙ ap (λ (r : Roll). option_map login_of (find (λ (p : LivePort). p.name == c.args.name) r.tables.ports)) c.self.view_is

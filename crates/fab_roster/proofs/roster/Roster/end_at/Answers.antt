@@ -1,15 +1,14 @@
-use Rattle.std.proofs.Common.{◌≡◌, Some, sym, ap, ◌∙◌, subst, IsSome, option_map}
+use Rattle.std.proofs.Common.{◌≡◌, Some, sym, ap, ◌∙◌, subst}
 use Rattle.login_table.specs.Logins.{Logins}
 use Rattle.name_server.specs.Registry.{Registrations}
 use Rattle.state_change.specs.Watchers.{Watching}
-use Rattle.fab_policy.specs.State.{port_at}
 use Rattle.fab_roster.specs.Changes.{Ends}
-use Rattle.fab_roster.specs.Roll.{Roll, live_of}
+use Rattle.fab_roster.specs.Roll.{Roll, roll_of}
 use Rattle.fab_roster.specs.declared.roster.Roster.TheInside.{Inside}
 use Rattle.fab_roster.proofs.EndLemmas.{AfterEnd, end_keeps, end_ends}
-use Rattle.fab_roster.proofs.Found.{true_false}
-use Rattle.fab_roster.proofs.Lookups.{port_of_login}
-use Rattle.fab_roster.proofs.SoundLemmas.{roll_of, sound_roll}
+use Rattle.fab_roster.proofs.Lookups.{login_there}
+use Rattle.fab_roster.proofs.Served.{none_some}
+use Rattle.fab_roster.proofs.SoundLemmas.{sound_roll}
 use Rattle.fab_roster.proofs.roster.Roster.end_at.Goals as goal
 
 -- the tables after the end
@@ -31,33 +30,24 @@ after c = record {
   entries = c.forget.ensures.found;
   watcher_room = ap (λ (w : Watching). w.room) c.forget-2.ensures.watchers;
   watchers = c.forget-2.ensures.found;
-  sound = record {
-    logins = c.remove.ensures.sound;
-    voices = c.forget_voices.ensures.sound;
-    entries = c.forget.ensures.sound;
-    watchers = c.forget-2.ensures.sound;
-  };
+  sound_logins = c.remove.ensures.sound;
+  sound_voices = c.forget_voices.ensures.sound;
+  sound_entries = c.forget.ensures.sound;
+  sound_watchers = c.forget-2.ensures.sound;
 }
 
+clock : (c : goal.After-forget-2) → c.self.inside.clock ≡ Some c.args.now
+clock c = ap (λ (r : Roll). r.tables.clock) c.self.view_is ∙ c.requires.clock
+
 pub invariant_of-self : goal.invariant_of-self
-invariant_of-self c =
-    let i = c.self.inside in
-    end_keeps c.args.address c.args.now c.in-Some.gone i (left c) (subst (λ (r : Roll). r.tables.clock ≡ Some c.args.now) (sym c.self.view_is) c.requires.clock) c.self.invariant (after c)
+invariant_of-self c = end_keeps c.self.invariant (clock c) (after c)
 
 pub returns-clause-change : goal.returns-clause-change
-returns-clause-change c =
-    let i = c.self.inside in
-    let new = roll_of i.lowest i.count i.limit i.period i.clock c.release.new.self c.remove.new.self c.forget_voices.new.voices c.forget.new.self c.forget-2.new.self in
-    subst (λ (old : Roll). Ends c.args.address old new) c.self.view_is
-    (end_ends c.args.address c.args.now c.in-Some.gone i (left c) (subst (λ (r : Roll). r.tables.clock ≡ Some c.args.now) (sym c.self.view_is) c.requires.clock) c.self.invariant (after c))
+returns-clause-change c = subst (λ (r : Roll). Ends c.args.address r (roll_of (left c))) c.self.view_is (end_ends c.self.invariant (clock c) (after c))
 
 pub unreachable-requires : goal.unreachable-requires
 unreachable-requires c =
-    let i = c.self.inside in
-    true_false (sym (subst (λ o. IsSome o) (port_of_login i.voices.voices i.registry.entries i.watchers.watchers i.logins.logins c.args.address ∙ ap (λ o. option_map (live_of i.voices.voices i.registry.entries i.watchers.watchers) o) (sym c.remove.ensures.login ∙ c.in_default.is))
-    (subst (λ (r : Roll). IsSome (port_at c.args.address r.tables.ports)) (sym c.self.view_is) c.requires.live)))
+    let f = login_there c.self.inside c.self.view_is c.args.address c.requires.live in none_some f.0 (sym c.in_default.is ∙ (c.remove.ensures.login ∙ f.1))
 
 pub returns-clause-sound : goal.returns-clause-sound
-returns-clause-sound c =
-    let i = c.self.inside in
-    sound_roll i.lowest i.count i.limit i.period i.clock c.release.new.self c.remove.new.self c.forget_voices.new.voices c.forget.new.self c.forget-2.new.self (invariant_of-self c).0 (invariant_of-self c).1
+returns-clause-sound c = sound_roll (invariant_of-self c)

@@ -13,7 +13,7 @@ module _ (c : goal.After-least_of) where
       let i = c.self.inside in
       let q = c.args.request.now in
       subst (λ (r : Roll). IfSome c.find-free.result (λ a. IsTrue (is_free r.tables q a))) c.self.view_is
-      (pool_free i.lowest i.count i.clock i.pool i.logins i.voices i.registry i.watchers c.self.invariant.0 q c.find-free.result
+      (pool_free c.self.invariant q c.find-free.result
       (subst (λ (n : ℕ). IfSome c.find-free.result (λ a. IsTrue (pool.is_free i.pool q.name n a))) (c.now.ensures ∙ ap (λ (r : Roll). now_of r.tables) (sym c.self.view_is))
       (subst (λ (x : Request). IfSome c.find-free.result (λ a. IsTrue (pool.is_free i.pool x.name c.now.result a))) c.request.view_is c.find-free.ensures.free)))
 
@@ -28,7 +28,7 @@ returns-clause-some c =
     let i = c.self.inside in
     let q = c.args.request.now in
     c.least_of.ensures.some
-    ∙ found_some i.lowest i.count i.clock i.pool i.logins i.voices i.registry i.watchers c.self.invariant.0 q c.own-own.result c.find-free.result
+    ∙ found_some c.self.invariant q c.own-own.result c.find-free.result
     (subst (λ (r : Roll). IfSome c.own-own.result (λ a. IsTrue (is_free r.tables q a))) (sym c.self.view_is) c.own-own.ensures.free)
     (subst (λ (r : Roll). c.own-own.result ≡ None → (a : ℕ) (p : LivePort) → port_at a r.tables.ports ≡ Some p → (q.flogi && same_enode p.enode q.enode && p.name == q.name) ≡ false)
     (sym c.self.view_is) c.own-own.ensures.none)

@@ -7,8 +7,7 @@ use Rattle.fab_roster.proofs.roster.Roster.first_of.Goals as goal
 
 pub returns : goal.returns
 returns c =
-    let i = c.self.inside in
     let x = c.args.enode.now in
     c.first_of.ensures.first
-    ∙ next_port i.voices.voices i.registry.entries i.watchers.watchers i.logins.logins c.args.from (λ p. nat_le c.args.from p.address && same_enode p.enode x) (λ l. same_enode l.enode x) (λ l. refl)
+    ∙ next_port c.self.inside c.args.from (λ p. nat_le c.args.from p.address && same_enode p.enode x) (λ l. same_enode l.enode x) (λ l. refl)
     ∙ ap (λ (r : Roll). option_map (λ (p : LivePort). p.address) (find (λ (p : LivePort). nat_le c.args.from p.address && same_enode p.enode x) r.tables.ports)) c.self.view_is

@@ -1,4 +1,4 @@
-use Rattle.std.proofs.Common.{◌<◌, ◌==◌, ◌∙◌, IsTrue, ap, false, inr, length, refl, subst, sym, if◌then◌else◌, Some}
+use Rattle.std.proofs.Common.{◌==◌, ◌∙◌, IsTrue, ap, false, inr, refl, subst, sym, if◌then◌else◌, Some}
 use Rattle.std.specs.List.{list_any}
 use Rattle.login_table.specs.Logins.{Logins}
 use Rattle.login_table.specs.declared.login.Login.{Login}
@@ -8,13 +8,13 @@ use Rattle.name_server.specs.Registry.{Registrations}
 use Rattle.fab_policy.specs.Free.{Request, is_free}
 use Rattle.fab_policy.specs.State.{LivePort}
 use Rattle.fab_roster.specs.Changes.{Grants}
-use Rattle.fab_roster.specs.Roll.{Roll}
+use Rattle.fab_roster.specs.Roll.{Roll, roll_of}
 use Rattle.fab_roster.specs.declared.roster.Roster.TheInside.{Inside}
 use Rattle.fab_roster.proofs.FreeLemmas.{free_absent}
 use Rattle.fab_roster.proofs.GrantLemmas.{AfterGrant, grant_grants, grant_keeps}
 use Rattle.fab_roster.proofs.Lookups.{any_login}
 use Rattle.fab_roster.proofs.RoomLemmas.{entry_room, find-no_any, voice_room, voice_room_again}
-use Rattle.fab_roster.proofs.SoundLemmas.{roll_of, sound_roll}
+use Rattle.fab_roster.proofs.SoundLemmas.{sound_roll}
 use Rattle.fab_roster.proofs.roster.Roster.grant.Goals as goal
 
 pub add-requires-clause-name : goal.add-requires-clause-name
@@ -22,27 +22,16 @@ add-requires-clause-name c =
     let i = c.self.inside in
     let n = c.args.login.name in
     find-no_any (λ (l : Login). l.name == n) i.logins.logins
-    (sym (any_login i.voices.voices i.registry.entries i.watchers.watchers i.logins.logins (λ (p : LivePort). p.name == n) (λ (l : Login). l.name == n) (λ l. refl))
-    ∙ ap (λ (r : Roll). list_any (λ (p : LivePort). p.name == n) r.tables.ports) c.self.view_is ∙ c.requires.name)
+    (sym (any_login i (λ (p : LivePort). p.name == n) (λ (l : Login). l.name == n) (λ l. refl)) ∙ ap (λ (r : Roll). list_any (λ (p : LivePort). p.name == n) r.tables.ports) c.self.view_is ∙ c.requires.name)
 
 pub heard-requires-clause-room : goal.heard-requires-clause-room
-heard-requires-clause-room c =
-    let i = c.self.inside in
-    inr (voice_room i.lowest i.count i.limit i.clock i.pool i.logins i.voices i.registry i.watchers c.self.invariant.0 c.self.invariant.1
-    (subst (λ (r : Roll). length r.tables.ports < r.limit) (sym c.self.view_is) c.requires.room))
+heard-requires-clause-room c = inr (voice_room c.self.invariant c.self.view_is c.requires.room)
 
 pub heard-requires-2-clause-room : goal.heard-requires-2-clause-room
-heard-requires-2-clause-room c =
-    let i = c.self.inside in
-    inr (voice_room_again i.lowest i.count i.limit i.clock i.pool i.logins i.voices i.registry i.watchers c.self.invariant.0 c.self.invariant.1
-    (subst (λ (r : Roll). length r.tables.ports < r.limit) (sym c.self.view_is) c.requires.room)
-    (Node c.args.login.enode) c.heard.new.self c.heard.ensures.limits c.heard.ensures.count)
+heard-requires-2-clause-room c = inr (voice_room_again c.self.invariant c.self.view_is c.requires.room (Node c.args.login.enode) c.heard.new.self c.heard.ensures.limits c.heard.ensures.count)
 
 pub enter-requires-clause-room : goal.enter-requires-clause-room
-enter-requires-clause-room c =
-    let i = c.self.inside in
-    entry_room i.lowest i.count i.limit i.clock i.pool i.logins i.voices i.registry i.watchers c.self.invariant.0 c.self.invariant.1
-    (subst (λ (r : Roll). length r.tables.ports < r.limit) (sym c.self.view_is) c.requires.room)
+enter-requires-clause-room c = entry_room c.self.invariant c.self.view_is c.requires.room
 
 -- the tables after the grant
 abbrev held : (c : goal.After-enter) → Inside
@@ -50,10 +39,9 @@ held c = record c.self.inside { pool = c.take.new.self; logins = c.add.new.self;
 
 after : (c : goal.After-enter) → AfterGrant c.in-Some.now c.args.login c.self.inside (held c)
 after c =
-    let i = c.self.inside in
     let x = c.args.login in
     let q : Request = record { flogi = false; enode = x.enode; name = x.name } in record {
-      absent = free_absent i.lowest i.count i.clock i.pool i.logins i.voices i.registry i.watchers c.self.invariant.0 q refl x.address
+      absent = free_absent c.self.invariant q refl x.address
           (subst (λ (r : Roll). IsTrue (is_free r.tables q x.address)) (sym c.self.view_is) c.requires.free);
       server = c.requires.server;
       limit = ap (λ (t : Logins). t.limit) c.add.ensures.logins;
@@ -69,28 +57,19 @@ after c =
       voices = λ v. c.heard-2.ensures.last v ∙ ap (λ o. if same_voice (Port x.address) v then Some c.in-Some.now else o) (c.heard.ensures.last v);
       entry_room = ap (λ (r : Registrations). r.room) c.enter.ensures.entries;
       entries = c.enter.ensures.found;
-      sound = record {
-        logins = c.add.ensures.sound;
-        voices = c.heard-2.ensures.sound;
-        entries = c.enter.ensures.sound;
-        watchers = c.self.invariant.0.sound.watchers;
-      };
+      sound_logins = c.add.ensures.sound;
+      sound_voices = c.heard-2.ensures.sound;
+      sound_entries = c.enter.ensures.sound;
     }
 
 pub invariant_of-self : goal.invariant_of-self
-invariant_of-self c =
-    let i = c.self.inside in
-    grant_keeps c.in-Some.now c.args.login i (held c) c.in-Some.is c.self.invariant (after c)
+invariant_of-self c = grant_keeps c.self.invariant (after c)
 
 pub returns-clause-change : goal.returns-clause-change
 returns-clause-change c =
-    let i = c.self.inside in
     let x = c.args.login in
-    let new = roll_of i.lowest i.count i.limit i.period i.clock c.take.new.self c.add.new.self c.heard-2.new.self c.enter.new.self i.watchers in
-    subst (λ (old : Roll). Grants x.address (record { name = x.name; node = x.node; enode = x.enode }) old new) c.self.view_is
-    (grant_grants c.in-Some.now x i (held c) c.in-Some.is c.self.invariant (after c))
+    subst (λ (old : Roll). Grants x.address (record { name = x.name; node = x.node; enode = x.enode }) old (roll_of (held c))) c.self.view_is
+    (grant_grants c.self.invariant (after c) c.in-Some.is)
 
 pub returns-clause-sound : goal.returns-clause-sound
-returns-clause-sound c =
-    let i = c.self.inside in
-    sound_roll i.lowest i.count i.limit i.period i.clock c.take.new.self c.add.new.self c.heard-2.new.self c.enter.new.self i.watchers (invariant_of-self c).0 (invariant_of-self c).1
+returns-clause-sound c = sound_roll (invariant_of-self c)

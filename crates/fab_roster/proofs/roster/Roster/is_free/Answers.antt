@@ -8,10 +8,9 @@ use Rattle.fab_roster.proofs.roster.Roster.is_free.Goals as goal
 
 pub returns-in-Some : goal.returns-in-Some
 returns-in-Some c =
-    let i = c.self.inside in
     let q = c.args.request.now in
     c.replaces.ensures
-    ∙ free_live i.lowest i.count i.clock i.pool i.logins i.voices i.registry i.watchers c.self.invariant.0 q c.args.address c.in-Some.login.now (sym c.in-Some.ensures.login)
+    ∙ free_live c.self.invariant q c.args.address c.in-Some.login.now (sym c.in-Some.ensures.login)
     ∙ ap (λ (r : Roll). is_free r.tables q c.args.address) c.self.view_is
 
 pub returns-in-None : goal.returns-in-None
@@ -21,5 +20,5 @@ returns-in-None c =
     c.is_free.ensures.free
     ∙ ap (λ (x : Request). pool.is_free i.pool x.name c.now.result c.args.address) c.request.view_is
     ∙ ap (λ (n : ℕ). pool.is_free i.pool q.name n c.args.address) (c.now.ensures ∙ ap (λ (r : Roll). now_of r.tables) (sym c.self.view_is))
-    ∙ free_dead i.lowest i.count i.clock i.pool i.logins i.voices i.registry i.watchers c.self.invariant.0 q c.args.address (sym c.in-None.ensures.login)
+    ∙ free_dead c.self.invariant q c.args.address (sym c.in-None.ensures.login)
     ∙ ap (λ (r : Roll). is_free r.tables q c.args.address) c.self.view_is

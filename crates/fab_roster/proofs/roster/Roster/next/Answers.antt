@@ -8,7 +8,6 @@ use Rattle.fab_roster.proofs.roster.Roster.next.Goals as goal
 
 pub returns : goal.returns
 returns c =
-    let i = c.self.inside in
     c.after.ensures.first
-    ∙ next_port i.voices.voices i.registry.entries i.watchers.watchers i.logins.logins c.args.from (λ p. nat_le c.args.from p.address) (λ l. true) (λ (l : Login). and_true (nat_le c.args.from l.address))
+    ∙ next_port c.self.inside c.args.from (λ p. nat_le c.args.from p.address) (λ l. true) (λ (l : Login). and_true (nat_le c.args.from l.address))
     ∙ ap (λ (r : Roll). option_map (λ (p : LivePort). p.address) (find (λ (p : LivePort). nat_le c.args.from p.address) r.tables.ports)) c.self.view_is

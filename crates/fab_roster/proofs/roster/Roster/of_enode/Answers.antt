@@ -14,6 +14,6 @@ returns c =
     (λ ls. ls ≡ filter (λ l. same_enode l.enode x) i.logins.logins)
     (λ ls. ls ≡ map login_of (filter (λ p. same_enode p.enode x) c.args.self.now.tables.ports))
     (λ ls is. is
-    ∙ (logins_pass i.voices.voices i.registry.entries i.watchers.watchers (λ p. same_enode p.enode x) (λ l. same_enode l.enode x) (λ l. refl) i.logins.logins
+    ∙ (logins_pass i (λ p. same_enode p.enode x) (λ l. same_enode l.enode x) (λ l. refl) i.logins.logins
     ∙ ap (λ (r : Roll). map login_of (filter (λ (p : LivePort). same_enode p.enode x) r.tables.ports)) c.self.view_is))
     c.logins_of.ensures

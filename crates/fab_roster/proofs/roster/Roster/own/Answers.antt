@@ -14,22 +14,22 @@ returns-in-Some-clause-free c =
     let q = c.args.request.now in
     let l = c.in-Some.login.now in
     let found : named q.name i.logins.logins ≡ Some l = sym (c.in-Some.ensures.login ∙ ap (λ (x : Request). named x.name i.logins.logins) c.request.view_is) in
-    let at : login_at l.address i.logins.logins ≡ Some l = at_name i.lowest i.count i.clock i.pool i.logins i.voices i.registry i.watchers c.self.invariant.0 q l found in
+    let at : login_at l.address i.logins.logins ≡ Some l = at_name c.self.invariant q l found in
     subst (λ (r : Roll). IsTrue (is_free r.tables q l.address)) c.self.view_is
-    (sym (free_live i.lowest i.count i.clock i.pool i.logins i.voices i.registry i.watchers c.self.invariant.0 q l.address l at) ∙ (sym c.replaces.ensures ∙ c.if-replaces.true))
+    (sym (free_live c.self.invariant q l.address l at) ∙ (sym c.replaces.ensures ∙ c.if-replaces.true))
 
 pub returns-in_default-clause-none : goal.returns-in_default-clause-none
 returns-in_default-clause-none c =
     let i = c.self.inside in
     let q = c.args.request.now in
     λ e a p is.
-    let at : login_at a i.logins.logins ≡ Some (login_of p) = login_of_port i.voices.voices i.registry.entries i.watchers.watchers i.logins.logins a
+    let at : login_at a i.logins.logins ≡ Some (login_of p) = login_of_port i a
     ∙ ap (λ o. option_map login_of o) (subst (λ (r : Roll). port_at a r.tables.ports ≡ Some p) (sym c.self.view_is) is) in
     elim c.in_default.branch [
       | in_default-via-in-Some+else-replaces w ↦
-          one_named i.lowest i.count i.clock i.pool i.logins i.voices i.registry i.watchers c.self.invariant.0 q w.in-Some.login.now
+          one_named c.self.invariant q w.in-Some.login.now
           (sym (w.in-Some.ensures.login ∙ ap (λ (x : Request). named x.name i.logins.logins) c.request.view_is))
           (sym w.replaces.ensures ∙ w.if-replaces.false) a (login_of p) at
       | in_default-via-in_default w ↦
-          none_named i.lowest i.count i.clock i.pool i.logins i.voices i.registry i.watchers c.self.invariant.0 q (sym (w.in_default.ensures.login ∙ ap (λ (x : Request). named x.name i.logins.logins) c.request.view_is)) a (login_of p) at
+          none_named c.self.invariant q (sym (w.in_default.ensures.login ∙ ap (λ (x : Request). named x.name i.logins.logins) c.request.view_is)) a (login_of p) at
     ]

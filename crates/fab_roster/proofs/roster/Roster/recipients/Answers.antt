@@ -15,6 +15,6 @@ returns c =
     IfOk-weaker c.reached.result
     (λ ids. ids ≡ left but (recipients c.args.zones.now c.now.result c.args.name i.watchers.watchers))
     (λ ids. (s : Settings) → c.args.zones.now ≡ zones_of s → ids ≡ addresses (told_at s c.args.self.now.tables c.args.name but))
-    (λ ids is s same. is ∙ told_law i.lowest i.count i.clock i.pool i.logins i.voices i.registry i.watchers c.self.invariant.0 i.limit i.period c.args.self.now c.self.view_is
+    (λ ids is s same. is ∙ told_law c.self.invariant c.self.view_is
     s c.args.zones.now same c.now.result c.args.name but c.now.ensures)
     c.reached.ensures

@@ -7,7 +7,6 @@ use Rattle.fab_roster.proofs.roster.Roster.types.Goals as goal
 
 pub returns : goal.returns
 returns c =
-    let i = c.self.inside in
     c.types.ensures.types
-    ∙ value_there i.lowest i.count i.clock i.pool i.logins i.voices i.registry i.watchers c.self.invariant.0 (λ (v : Values). v.types) c.args.address
+    ∙ value_there c.self.invariant (λ (v : Values). v.types) c.args.address
     ∙ ap (λ (r : Roll). option_map (λ (p : LivePort). p.values.types) (port_at c.args.address r.tables.ports)) c.self.view_is

@@ -7,7 +7,6 @@ use Rattle.fab_roster.proofs.roster.Roster.watch_of.Goals as goal
 
 pub returns : goal.returns
 returns c =
-    let i = c.self.inside in
     c.function_of.ensures.function
-    ∙ watch_there i.lowest i.count i.clock i.pool i.logins i.voices i.registry i.watchers c.self.invariant.0 c.args.address
+    ∙ watch_there c.self.invariant c.args.address
     ∙ ap (λ (r : Roll). option_map_or (λ (p : LivePort). p.watch) (port_at c.args.address r.tables.ports) 0) c.self.view_is
