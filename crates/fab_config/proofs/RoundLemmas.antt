@@ -28,7 +28,7 @@ use Rattle.fab_config.proofs.FoldLemmas.{line_step}
 use Rattle.fab_config.specs.Typed.{IsTyped}
 use Rattle.fab_config.specs.Text.{decoded}
 use Rattle.fab_config.proofs.LengthLemmas.{name_short, octets_length, zones_length, sets_length, activations_length, word_length, number_length}
-use Rattle.fab_config.proofs.RangeLemmas.{Parts, parts}
+use Rattle.fab_config.proofs.RangeLemmas.{between}
 use Rattle.fab_config.proofs.ListBack.{is_typed, AreNames, are_names, name_at_ok, zones_read, sets_read, activations_read}
 use Rattle.fab_config.proofs.ListLemmas.{all_more}
 use Rattle.fab_config.proofs.ListedLemmas.{zone_check, zone_of, zones_of, set_check, set_of, sets_of}
@@ -39,8 +39,8 @@ regroup a b c d e f g h i j r = simp append_assoc
 one_word : (w : List ℕ) → (is_word w && leb 1 (length w)) ≡ true → are_words (w ∷ []) ≡ true
 one_word w h = and_from (is_word w && leb 1 (length w)) true h refl
 
--- the keys of a configuration
-pub record HasKeys (c : Settings) : Type 0 where
+-- each value of a configuration is in its range
+pub record HasRanges (c : Settings) : Type 0 where
   pub mac : is_station c.fcf_mac ≡ true
   pub bytes : are_bytes c.fcf_mac ≡ true
   pub six : length c.fcf_mac ≡ 6
@@ -53,9 +53,44 @@ pub record HasKeys (c : Settings) : Type 0 where
   pub period : is_between 250 90000 c.period ≡ true
   pub window : is_between 10 1000 c.window ≡ true
   pub limit : is_between 1 1000 c.limit ≡ true
+  pub zones : are_zones c.zones ≡ true
+  pub sets : are_sets (length c.zones) c.sets ≡ true
+  pub activations : are_activations (length c.sets) c.activations ≡ true
+
+pub ranges_of : (c : Settings) → IsTrue (is_in_range c) → IsTyped c → HasRanges c
+ranges_of c h typed =
+    let activations = and_parts _ _ h in
+    let sets = and_parts _ _ activations.0 in
+    let zones = and_parts _ _ sets.0 in
+    let limit = and_parts _ _ zones.0 in
+    let window = and_parts _ _ limit.0 in
+    let period = and_parts _ _ window.0 in
+    let priority = and_parts _ _ period.0 in
+    let pool = and_parts _ _ priority.0 in
+    let domain = and_parts _ _ pool.0 in
+    let vlan = and_parts _ _ domain.0 in
+    let map = and_parts _ _ vlan.0 in
+    let mac = and_parts _ _ map.0 in
+    record {
+      mac = mac.1;
+      bytes = typed.bytes;
+      six = eqb-true (length c.fcf_mac) 6 (and_parts _ _ (and_parts _ _ mac.1).0).0;
+      switch = ltb-true c.switch (2 ^ 64) mac.0;
+      map = map.1;
+      vlan = vlan.1;
+      domain = domain.1;
+      pool = pool.1;
+      priority = and_from (leb 0 c.priority) (leb c.priority 255) (le-leb 0 c.priority (omega arith)) priority.1;
+      period = period.1;
+      window = window.1;
+      limit = limit.1;
+      zones = zones.1;
+      sets = sets.1;
+      activations = activations.1;
+    }
 
 small : (least most n : ℕ) → most < 2 ^ 64 → is_between least most n ≡ true → n < 2 ^ 64
-small least most n lt h = let m : n ≤ most = leb-true n most (and_parts (leb least n) (leb n most) h).1 in omega (arith, m, lt)
+small least most n lt h = omega (arith, (between least most n h).1, lt)
 
 abbrev pub keys_draft : Settings → Draft
 keys_draft c = record {
@@ -74,21 +109,18 @@ keys_draft c = record {
   activations = [];
 }
 
-station_back : (c : Settings) → HasKeys c → station (octets_text c.fcf_mac) ≡ Some c.fcf_mac
+station_back : (c : Settings) → HasRanges c → station (octets_text c.fcf_mac) ≡ Some c.fcf_mac
 station_back c h =
     ap (λ (o : Option (List ℕ)). option_and_then (λ (mac : List ℕ). cond (is_station mac) (Some mac) None) o) (octets_of_back 6 c.fcf_mac (omega arith) h.six h.bytes)
     ∙ ap (λ t. cond t (Some c.fcf_mac) None) h.mac
 
 map_back : (n : ℕ) → is_between 0x0efc00 0x0efcff n ≡ true → fc_map (octets_text (spelled 3 n)) ≡ Some n
 map_back n h =
-    let fits : n < 256 ^ 3 = small_map n h in
+    let fits : n < 256 ^ 3 = omega (arith, (between 0x0efc00 0x0efcff n h).1) in
     ap (λ (o : Option (List ℕ)). option_and_then (λ (l : List ℕ). cond (is_between 0x0efc00 0x0efcff (big_endian l)) (Some (big_endian l)) None) o) (octets_of_back 3 (spelled 3 n) (omega arith) (length-spelled 3 n) (spelled_bytes 3 n))
     ∙ ap (λ (m : ℕ). cond (is_between 0x0efc00 0x0efcff m) (Some m) None) (big_endian-spelled 3 n fits) ∙ ap (λ t. cond t (Some n) None) h
-  where
-    small_map : (n : ℕ) → is_between 0x0efc00 0x0efcff n ≡ true → n < 256 ^ 3
-    small_map n h = let m : n ≤ 0x0efcff = leb-true n 0x0efcff (and_parts (leb 0x0efc00 n) (leb n 0x0efcff) h).1 in omega (arith, m)
 
-pub keys_read : (c : Settings) (rest : List ℕ) → HasKeys c → lines_read 1 NOTHING (lines_of (addresses_text c ++ (numbers_text c ++ rest))) ≡ lines_read 11 (keys_draft c) (lines_of rest)
+pub keys_read : (c : Settings) (rest : List ℕ) → HasRanges c → lines_read 1 NOTHING (lines_of (addresses_text c ++ (numbers_text c ++ rest))) ≡ lines_read 11 (keys_draft c) (lines_of rest)
 unfolding keyword_of
 keys_read c rest h =
     let b : (least most n : ℕ) → most < 2 ^ 64 → is_between least most n ≡ true → number_between least most (decimal n) ≡ Some n = λ least most n lt k. between_back least most n (small least most n lt k) k in
@@ -135,29 +167,6 @@ keys_read c rest h =
     ∙ line_step 10 d9 d10 (codes "limit") (decimal c.limit ∷ []) (Number Logins) rest refl (omega arith) refl refl
     (w 1 1000 c.limit (omega arith) h.limit) (ap (λ (o : Option ℕ). changed (set_once None o) (λ x. record d9 { limit = x })) (b 1 1000 c.limit (omega arith) h.limit))
 
--- all lines of a written configuration
-pub lines_back : (c : Settings) → HasKeys c → are_zones c.zones ≡ true → list_all is_typed c.zones ≡ true → are_sets (length c.zones) c.sets ≡ true → are_activations (length c.sets) c.activations ≡ true
-    → AreNames (zone_names c.zones) → AreNames (set_names c.sets) → lines_read 1 NOTHING (lines_of (written c)) ≡ Ok c
-unfolding written finished
-lines_back c keys zones typed sets activations zone_ok set_ok =
-    let z = flat_map zone_line c.zones in
-    let s = flat_map (set_line c.zones) c.sets in
-    let a = flat_map (activation_line c.sets) c.activations in
-    let d1 : Draft = record (keys_draft c) { zones = c.zones } in
-    let d2 : Draft = record d1 { sets = c.sets } in
-    let d3 : Draft = record d2 { activations = c.activations } in
-    ap (λ l. lines_read 1 NOTHING (lines_of l)) (order (addresses_text c) (numbers_text c) z s a)
-    ∙ keys_read c (z ++ (s ++ (a ++ []))) keys
-    ∙ zones_read 11 (keys_draft c) c.zones (s ++ (a ++ [])) (zones, typed)
-    ∙ sets_read (11 + length c.zones) d1 c.sets (a ++ []) zone_ok sets
-    ∙ activations_read (11 + length c.zones + length c.sets) d2 c.activations [] set_ok activations
-  where
-    order : (k n z s a : List ℕ) → k ++ n ++ z ++ s ++ a ≡ k ++ (n ++ (z ++ (s ++ (a ++ []))))
-    order k n z s a = flat k n z s a ∙ ap (λ l. k ++ (n ++ (z ++ (s ++ l)))) (sym (append-nil a))
-      where
-        flat : (k n z s a : List ℕ) → k ++ n ++ z ++ s ++ a ≡ k ++ (n ++ (z ++ (s ++ a)))
-        flat k n z s a = simp append_assoc
-
 zone_names_are : (l : List Zone) → are_zones l ≡ true → list_all (λ (z : Zone). is_zone_name z.name) l ≡ true
 zone_names_are l h = all_more zone_check (λ (z : Zone). is_zone_name z.name) (λ z k. (zone_of z k).is_name) l (zones_of l h).checked
 
@@ -169,40 +178,29 @@ set_names_ok n l h =
     let are = sets_of n l h in
     are_names (λ (s : ZoneSet). s.name) l are.differ (all_more (set_check n) (λ (s : ZoneSet). is_zone_name s.name) (λ s k. (set_of n s k).is_name) l are.checked)
 
-pub parts_of : (c : Settings) → IsTrue (is_in_range c) → Parts (ltb c.switch (2 ^ 64)) (is_station c.fcf_mac) (is_between 0x0efc00 0x0efcff c.fc_map) (is_between 1 4094 c.vlan) (is_between 1 239 c.domain) (is_between 1 60000 c.pool) (leb c.priority 255)
-    (is_between 250 90000 c.period) (is_between 10 1000 c.window) (is_between 1 1000 c.limit) (are_zones c.zones) (are_sets (length c.zones) c.sets) (are_activations (length c.sets) c.activations)
-parts_of c h =
-    parts (ltb c.switch (2 ^ 64)) (is_station c.fcf_mac) (is_between 0x0efc00 0x0efcff c.fc_map) (is_between 1 4094 c.vlan) (is_between 1 239 c.domain) (is_between 1 60000 c.pool) (leb c.priority 255)
-    (is_between 250 90000 c.period) (is_between 10 1000 c.window) (is_between 1 1000 c.limit) (are_zones c.zones) (are_sets (length c.zones) c.sets) (are_activations (length c.sets) c.activations) h
+-- all lines of a written configuration
+pub lines_back : (c : Settings) → HasRanges c → IsTyped c → lines_read 1 NOTHING (lines_of (written c)) ≡ Ok c
+unfolding written finished
+lines_back c h typed =
+    let z = flat_map zone_line c.zones in
+    let s = flat_map (set_line c.zones) c.sets in
+    let a = flat_map (activation_line c.sets) c.activations in
+    let d1 : Draft = record (keys_draft c) { zones = c.zones } in
+    let d2 : Draft = record d1 { sets = c.sets } in
+    let d3 : Draft = record d2 { activations = c.activations } in
+    ap (λ l. lines_read 1 NOTHING (lines_of l)) (order (addresses_text c) (numbers_text c) z s a)
+    ∙ keys_read c (z ++ (s ++ (a ++ []))) h
+    ∙ zones_read 11 (keys_draft c) c.zones (s ++ (a ++ [])) (h.zones, typed.members)
+    ∙ sets_read (11 + length c.zones) d1 c.sets (a ++ []) (zone_names_ok c.zones h.zones) h.sets
+    ∙ activations_read (11 + length c.zones + length c.sets) d2 c.activations [] (set_names_ok (length c.zones) c.sets h.sets) h.activations
+  where
+    order : (k n z s a : List ℕ) → k ++ n ++ z ++ s ++ a ≡ k ++ (n ++ (z ++ (s ++ (a ++ []))))
+    order k n z s a = flat k n z s a ∙ ap (λ l. k ++ (n ++ (z ++ (s ++ l)))) (sym (append-nil a))
+      where
+        flat : (k n z s a : List ℕ) → k ++ n ++ z ++ s ++ a ≡ k ++ (n ++ (z ++ (s ++ a)))
+        flat k n z s a = simp append_assoc
 
-pub keys_of : (c : Settings) → IsTrue (is_in_range c) → IsTyped c → HasKeys c
-keys_of c h typed =
-    let p = parts_of c h in
-    let len = and_parts (eqb (length c.fcf_mac) 6) (eqb (get_or c.fcf_mac 0 0 % 2) 0) (and_parts (eqb (length c.fcf_mac) 6 && eqb (get_or c.fcf_mac 0 0 % 2) 0) (list_any (λ b. ltb 0 b) c.fcf_mac) p.b_is).0 in
-    record {
-      mac = p.b_is;
-      bytes = typed.bytes;
-      six = eqb-true (length c.fcf_mac) 6 len.0;
-      switch = ltb-true c.switch (2 ^ 64) p.a_is;
-      map = p.c_is;
-      vlan = p.d_is;
-      domain = p.e_is;
-      pool = p.f_is;
-      priority = and_from (leb 0 c.priority) (leb c.priority 255) (le-leb 0 c.priority (omega arith)) p.g_is;
-      period = p.h_is;
-      window = p.i_is;
-      limit = p.j_is;
-    }
-
-pub written_back : (c : Settings) → IsTrue (is_in_range c) → IsTyped c → lines_read 1 NOTHING (lines_of (written c)) ≡ Ok c
-written_back c h typed =
-    let p = parts_of c h in
-    lines_back c (keys_of c h typed) p.k_is typed.members p.l_is p.m_is (zone_names_ok c.zones p.k_is) (set_names_ok (length c.zones) c.sets p.l_is)
-
-top : (least most n : ℕ) → is_between least most n ≡ true → n ≤ most
-top least most n h = leb-true n most (and_parts (leb least n) (leb n most) h).1
-
-keys_length : (c : Settings) → HasKeys c → length (addresses_text c) + length (numbers_text c) ≤ 300
+keys_length : (c : Settings) → HasRanges c → length (addresses_text c) + length (numbers_text c) ≤ 300
 keys_length c h =
     let l1 = line_text (codes "fcf-mac") (octets_text c.fcf_mac ∷ []) in
     let l2 = number_line (codes "vlan") c.vlan in
@@ -215,15 +213,15 @@ keys_length c h =
     let l9 = number_line (codes "window") c.window in
     let l10 = number_line (codes "limit") c.limit in
     let a1 : length l1 ≤ 30 = (let w = word_length (codes "fcf-mac") (octets_text c.fcf_mac) in let o = octets_length c.fcf_mac in let s = h.six in omega (arith, w, o, s)) in
-    let a2 : length l2 ≤ 30 = (let t = top 1 4094 c.vlan h.vlan in let n = number_length (codes "vlan") c.vlan (omega (arith, t)) in omega (arith, n)) in
+    let a2 : length l2 ≤ 30 = (let t = (between 1 4094 c.vlan h.vlan).1 in let n = number_length (codes "vlan") c.vlan (omega (arith, t)) in omega (arith, n)) in
     let a3 : length l3 ≤ 40 = (let w = word_length (codes "switch") (name_text c.switch) in let o = octets_length (spelled 8 c.switch) in let s = length-spelled 8 c.switch in omega (arith, w, o, s)) in
     let a4 : length l4 ≤ 30 = (let w = word_length (codes "fc-map") (octets_text (spelled 3 c.fc_map)) in let o = octets_length (spelled 3 c.fc_map) in let s = length-spelled 3 c.fc_map in omega (arith, w, o, s)) in
-    let a5 : length l5 ≤ 20 = (let t = top 1 239 c.domain h.domain in let n = number_length (codes "domain") c.domain (omega (arith, t)) in omega (arith, n)) in
-    let a6 : length l6 ≤ 20 = (let t = top 1 60000 c.pool h.pool in let n = number_length (codes "pool") c.pool (omega (arith, t)) in omega (arith, n)) in
-    let a7 : length l7 ≤ 20 = (let t = top 0 255 c.priority h.priority in let n = number_length (codes "priority") c.priority (omega (arith, t)) in omega (arith, n)) in
-    let a8 : length l8 ≤ 20 = (let t = top 250 90000 c.period h.period in let n = number_length (codes "period") c.period (omega (arith, t)) in omega (arith, n)) in
-    let a9 : length l9 ≤ 20 = (let t = top 10 1000 c.window h.window in let n = number_length (codes "window") c.window (omega (arith, t)) in omega (arith, n)) in
-    let a10 : length l10 ≤ 20 = (let t = top 1 1000 c.limit h.limit in let n = number_length (codes "limit") c.limit (omega (arith, t)) in omega (arith, n)) in
+    let a5 : length l5 ≤ 20 = (let t = (between 1 239 c.domain h.domain).1 in let n = number_length (codes "domain") c.domain (omega (arith, t)) in omega (arith, n)) in
+    let a6 : length l6 ≤ 20 = (let t = (between 1 60000 c.pool h.pool).1 in let n = number_length (codes "pool") c.pool (omega (arith, t)) in omega (arith, n)) in
+    let a7 : length l7 ≤ 20 = (let t = (between 0 255 c.priority h.priority).1 in let n = number_length (codes "priority") c.priority (omega (arith, t)) in omega (arith, n)) in
+    let a8 : length l8 ≤ 20 = (let t = (between 250 90000 c.period h.period).1 in let n = number_length (codes "period") c.period (omega (arith, t)) in omega (arith, n)) in
+    let a9 : length l9 ≤ 20 = (let t = (between 10 1000 c.window h.window).1 in let n = number_length (codes "window") c.window (omega (arith, t)) in omega (arith, n)) in
+    let a10 : length l10 ≤ 20 = (let t = (between 1 1000 c.limit h.limit).1 in let n = number_length (codes "limit") c.limit (omega (arith, t)) in omega (arith, n)) in
     four l1 l2 l3 l4 l5 l6 l7 l8 l9 l10 a1 a2 a3 a4 a5 a6 a7 a8 a9 a10
   where
     four : (l1 l2 l3 l4 l5 l6 l7 l8 l9 l10 : List ℕ) → length l1 ≤ 30 → length l2 ≤ 30 → length l3 ≤ 40 → length l4 ≤ 30 → length l5 ≤ 20 → length l6 ≤ 20 → length l7 ≤ 20 → length l8 ≤ 20 → length l9 ≤ 20 → length l10 ≤ 20
@@ -239,23 +237,22 @@ keys_length c h =
         let e6 = length-append l5 l6 in
         omega (arith, e4, e3, e2, e10, e9, e8, e7, e6)
 
-written_length : (c : Settings) → IsTrue (is_in_range c) → IsTyped c → length (written c) ≤ 1048576
+written_length : (c : Settings) → HasRanges c → length (written c) ≤ 1048576
 unfolding written
-written_length c h typed =
-    let p = parts_of c h in
-    let keys = keys_length c (keys_of c h typed) in
+written_length c h =
+    let keys = keys_length c h in
     let z = flat_map zone_line c.zones in
     let s = flat_map (set_line c.zones) c.sets in
     let a = flat_map (activation_line c.sets) c.activations in
     let n = length c.zones in
-    let zones = zones_of c.zones p.k_is in
-    let sets = sets_of n c.sets p.l_is in
-    let names = zone_names_are c.zones p.k_is in
+    let zones = zones_of c.zones h.zones in
+    let sets = sets_of n c.sets h.sets in
+    let names = zone_names_are c.zones h.zones in
     let set_ok : list_all (λ (y : ZoneSet). is_zone_name y.name) c.sets ≡ true = all_more (set_check n) (λ (y : ZoneSet). is_zone_name y.name) (λ y k. (set_of n y k).is_name) c.sets sets.checked in
     let lz = zones_length c.zones names in
     let ls = sets_length c.zones (length c.zones) (λ q lt. name_short (name_at (zone_names c.zones) q) (name_at_ok (λ (y : Zone). y.name) c.zones q lt names)) c.sets
     (all_more (set_check n) (λ (y : ZoneSet). is_zone_name y.name && list_all (λ p. ltb p n) y.places) (λ y k. let q = set_of n y k in and_from (is_zone_name y.name) (list_all (λ p. ltb p n) y.places) q.is_name q.below) c.sets sets.checked) in
-    let acts = and_parts (list_all (λ (y : Activation). ltb y.set (length c.sets) && leb y.moment 4294967295999) c.activations && do_rise c.activations) (leb (length c.activations) 64) p.m_is in
+    let acts = and_parts (list_all (λ (y : Activation). ltb y.set (length c.sets) && leb y.moment 4294967295999) c.activations && do_rise c.activations) (leb (length c.activations) 64) h.activations in
     let la = activations_length c.sets (length c.sets) (λ q lt. name_short (name_at (set_names c.sets) q) (name_at_ok (λ (y : ZoneSet). y.name) c.sets q lt set_ok)) c.activations
     (and_parts (list_all (λ (y : Activation). ltb y.set (length c.sets) && leb y.moment 4294967295999) c.activations) (do_rise c.activations) acts.0).0 in
     let few_a : length c.activations ≤ 64 = leb-true (length c.activations) 64 acts.1 in
@@ -277,8 +274,8 @@ written_length c h typed =
 pub decoded_back : (c : Settings) → IsTrue (is_in_range c) → IsTyped c → decoded (written c) ≡ Ok c
 unfolding decoded
 decoded_back c h typed =
-    ap (λ t. elim t as (λ _. Result Settings ConfigFault) [ true ↦ Err (record { line = 0; why = why.Long }) | false ↦ lines_read 1 NOTHING (lines_of (written c)) ]) (fits (length (written c)) (written_length c h typed))
-    ∙ written_back c h typed
+    ap (λ t. elim t as (λ _. Result Settings ConfigFault) [ true ↦ Err (record { line = 0; why = why.Long }) | false ↦ lines_read 1 NOTHING (lines_of (written c)) ]) (fits (length (written c)) (written_length c (ranges_of c h typed)))
+    ∙ lines_back c (ranges_of c h typed) typed
   where
     fits : (n : ℕ) → n ≤ 1048576 → ltb 1048576 n ≡ false
     fits n le = by (ltb 1048576 n) refl
