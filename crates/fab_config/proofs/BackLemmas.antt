@@ -20,7 +20,7 @@ ascii_byte : (b c : ℕ) → (is_between 32 126 b || eqb b 9) ≡ true → c ≡
 ascii_byte b c h is = ne_eqb b c (λ e. by (is_between 32 126 b) refl (eqb b 9) refl h (e ∙ is))
   where
     by : (s : Bool) → is_between 32 126 b ≡ s → (t : Bool) → eqb b 9 ≡ t → (s || t) ≡ true → b ≡ 10 → ⊥
-    by true f t g k e = let both = and_parts (leb 32 b) (leb b 126) f in let low : 32 ≤ b = leb-true 32 b both.0 in omega (arith, low, e)
+    by true f t g k e = let both = and_parts _ _ f in let low : 32 ≤ b = leb-true 32 b both.0 in omega (arith, low, e)
     by false f true g k e = let n : b ≡ 9 = eqb-true b 9 g in omega (arith, n, e)
     by false f false g k e = cc
 
@@ -28,21 +28,21 @@ ascii_byte_13 : (b : ℕ) → (is_between 32 126 b || eqb b 9) ≡ true → eqb 
 ascii_byte_13 b h = ne_eqb b 13 (λ e. by (is_between 32 126 b) refl (eqb b 9) refl h e)
   where
     by : (s : Bool) → is_between 32 126 b ≡ s → (t : Bool) → eqb b 9 ≡ t → (s || t) ≡ true → b ≡ 13 → ⊥
-    by true f t g k e = let both = and_parts (leb 32 b) (leb b 126) f in let low : 32 ≤ b = leb-true 32 b both.0 in omega (arith, low, e)
+    by true f t g k e = let both = and_parts _ _ f in let low : 32 ≤ b = leb-true 32 b both.0 in omega (arith, low, e)
     by false f true g k e = let n : b ≡ 9 = eqb-true b 9 g in omega (arith, n, e)
     by false f false g k e = cc
 
 pieces_line : (l rest : List ℕ) → is_ascii l ≡ true → pieces (l ++ 10 ∷ rest) ≡ l ∷ pieces rest
 pieces_line [] rest h = refl
 pieces_line (b ∷ l) rest h =
-    let both = and_parts (is_between 32 126 b || eqb b 9) (is_ascii l) h in
+    let both = and_parts _ _ h in
     ap (λ t. elim t as (λ _. List (List ℕ)) [ true ↦ [] ∷ pieces (l ++ 10 ∷ rest) | false ↦ with_byte b (pieces (l ++ 10 ∷ rest)) ]) (ascii_byte b 10 both.0 refl)
     ∙ ap (with_byte b) (pieces_line l rest both.1)
 
 without_return_line : (l : List ℕ) → is_ascii l ≡ true → without_return l ≡ l
 without_return_line [] h = refl
-without_return_line (b ∷ []) h = ap (λ t. cond t [] (b ∷ [])) (ascii_byte_13 b (and_parts (is_between 32 126 b || eqb b 9) true h).0)
-without_return_line (b ∷ c ∷ l) h = ap (λ m. b ∷ m) (without_return_line (c ∷ l) (and_parts (is_between 32 126 b || eqb b 9) (is_ascii (c ∷ l)) h).1)
+without_return_line (b ∷ []) h = ap (λ t. cond t [] (b ∷ [])) (ascii_byte_13 b (and_parts _ _ h).0)
+without_return_line (b ∷ c ∷ l) h = ap (λ m. b ∷ m) (without_return_line (c ∷ l) (and_parts _ _ h).1)
 
 -- a line feed ends a line
 pub lines_line : (l rest : List ℕ) → is_ascii l ≡ true → lines_of (l ++ 10 ∷ rest) ≡ l ∷ lines_of rest
@@ -54,7 +54,7 @@ lines_line l rest h =
 
 sign_no_blank : (b : ℕ) → is_sign b ≡ true → is_blank b ≡ false
 sign_no_blank b h =
-    let low : 33 ≤ b = leb-true 33 b (and_parts (leb 33 b) (leb b 126) h).0 in
+    let low : 33 ≤ b = leb-true 33 b (and_parts _ _ h).0 in
     ap (λ t. t || eqb b 9) (ne_eqb b 32 (λ e. omega (arith, low, e))) ∙ ne_eqb b 9 (λ e. omega (arith, low, e))
 
 by_blank : List ℕ → ℕ → List ℕ → Bool → List (List ℕ)
@@ -68,7 +68,7 @@ pub words_through : (acc w rest : List ℕ) → is_word w ≡ true → words_fro
 unfolding by_blank
 words_through acc [] rest h = ap (λ m. words_from m rest) (sym (Rattle.std.proofs.lemmas.List.append-nil acc))
 words_through acc (b ∷ w) rest h =
-    let both = and_parts (is_sign b) (is_word w) h in
+    let both = and_parts _ _ h in
     ap (by_blank acc b (w ++ rest)) (sign_no_blank b both.0) ∙ words_through (acc ++ b ∷ []) w rest both.1 ∙ ap (λ m. words_from m rest) (append_assoc acc (b ∷ []) w)
 
 -- a word, and words after one space each
@@ -81,8 +81,8 @@ not_zero w some = ne_eqb (length w) 0 (λ e. omega arith)
 words_spaced : (acc : List ℕ) (ws : List (List ℕ)) → 1 ≤ length acc → are_words ws ≡ true → words_from acc (flat_map spaced ws) ≡ acc ∷ ws
 words_spaced acc [] some h = ap (λ t. cond t [] (acc ∷ [])) (not_zero acc some)
 words_spaced acc (w ∷ ws) some h =
-    let both = and_parts (is_word w && leb 1 (length w)) (are_words ws) h in
-    let one = and_parts (is_word w) (leb 1 (length w)) both.0 in
+    let both = and_parts _ _ h in
+    let one = and_parts _ _ both.0 in
     ap (λ t. cond t (words_from [] (w ++ flat_map spaced ws)) (acc ∷ words_from [] (w ++ flat_map spaced ws))) (not_zero acc some)
     ∙ ap (λ m. acc ∷ m) (words_through [] w (flat_map spaced ws) one.0 ∙ words_spaced w ws (leb-true 1 (length w) one.1) both.1)
 
@@ -92,23 +92,23 @@ words_back key ws k some h = words_through [] key (flat_map spaced ws) k ∙ wor
 -- and such a line holds printed signs and spaces alone
 ascii_append : (l m : List ℕ) → is_ascii l ≡ true → is_ascii m ≡ true → is_ascii (l ++ m) ≡ true
 ascii_append [] m h k = k
-ascii_append (b ∷ l) m h k = let both = and_parts (is_between 32 126 b || eqb b 9) (is_ascii l) h in ap (λ c. c && is_ascii (l ++ m)) both.0 ∙ ascii_append l m both.1 k
+ascii_append (b ∷ l) m h k = let both = and_parts _ _ h in ap (λ c. c && is_ascii (l ++ m)) both.0 ∙ ascii_append l m both.1 k
 
 sign_ascii : (b : ℕ) → is_sign b ≡ true → (is_between 32 126 b || eqb b 9) ≡ true
 sign_ascii b h =
-    let both = and_parts (leb 33 b) (leb b 126) h in
+    let both = and_parts _ _ h in
     let low : 33 ≤ b = leb-true 33 b both.0 in
     ap (λ t. (t && leb b 126) || eqb b 9) (Rattle.std.proofs.lemmas.Bool.le-leb 32 b (omega (arith, low))) ∙ ap (λ t. t || eqb b 9) both.1
 
 word_ascii : (w : List ℕ) → is_word w ≡ true → is_ascii w ≡ true
 word_ascii [] h = refl
-word_ascii (b ∷ w) h = let both = and_parts (is_sign b) (is_word w) h in ap (λ c. c && is_ascii w) (sign_ascii b both.0) ∙ word_ascii w both.1
+word_ascii (b ∷ w) h = let both = and_parts _ _ h in ap (λ c. c && is_ascii w) (sign_ascii b both.0) ∙ word_ascii w both.1
 
 spaced_ascii : (ws : List (List ℕ)) → are_words ws ≡ true → is_ascii (flat_map spaced ws) ≡ true
 spaced_ascii [] h = refl
 spaced_ascii (w ∷ ws) h =
-    let both = and_parts (is_word w && leb 1 (length w)) (are_words ws) h in
-    ascii_append w (flat_map spaced ws) (word_ascii w (and_parts (is_word w) (leb 1 (length w)) both.0).0) (spaced_ascii ws both.1)
+    let both = and_parts _ _ h in
+    ascii_append w (flat_map spaced ws) (word_ascii w (and_parts _ _ both.0).0) (spaced_ascii ws both.1)
 
 pub line_ascii : (key : List ℕ) (ws : List (List ℕ)) → is_word key ≡ true → are_words ws ≡ true → is_ascii (key ++ flat_map spaced ws) ≡ true
 line_ascii key ws k h = ascii_append key (flat_map spaced ws) (word_ascii key k) (spaced_ascii ws h)

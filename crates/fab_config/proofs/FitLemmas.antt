@@ -133,7 +133,7 @@ all_below says n below (w ∷ ws) l e = by (says w) (all_of says ws) refl (all_b
 
 once_all : (test : ℕ → Bool) (acc xs : List ℕ) → list_all test xs ≡ true → list_all test (once_from acc xs) ≡ true
 once_all test acc [] h = refl
-once_all test acc (x ∷ xs) h = by (list_any (λ y. eqb x y) acc) (and_parts (test x) (list_all test xs) h).0 (once_all test acc xs (and_parts (test x) (list_all test xs) h).1) (once_all test (acc ++ x ∷ []) xs (and_parts (test x) (list_all test xs) h).1)
+once_all test acc (x ∷ xs) h = by (list_any (λ y. eqb x y) acc) (and_parts _ _ h).0 (once_all test acc xs (and_parts _ _ h).1) (once_all test (acc ++ x ∷ []) xs (and_parts _ _ h).1)
   where
     by : (t : Bool) → test x ≡ true → list_all test (once_from acc xs) ≡ true → list_all test (once_from (acc ++ x ∷ []) xs) ≡ true → list_all test (cond t (once_from acc xs) (x ∷ once_from (acc ++ x ∷ []) xs)) ≡ true
     by true e old new = old
@@ -170,8 +170,8 @@ sets_more m n sets le fit =
     let are = sets_of m sets fit in
     are_from (λ (y : ZoneSet). y.name) (λ (y : ZoneSet). y.places) (set_check n) 64 4000 sets (record {
       checked = all_more (set_check m) (set_check n) (λ s h.
-          let a = and_parts (is_zone_name s.name && ltb 0 (length s.places) && list_all (λ p. ltb p m) s.places) (all_differ (λ x y. eqb x y) s.places) h in
-          let b = and_parts (is_zone_name s.name && ltb 0 (length s.places)) (list_all (λ p. ltb p m) s.places) a.0 in
+          let a = and_parts _ _ h in
+          let b = and_parts _ _ a.0 in
           and_from (is_zone_name s.name && ltb 0 (length s.places) && list_all (λ p. ltb p n) s.places) (all_differ (λ x y. eqb x y) s.places)
           (and_from (is_zone_name s.name && ltb 0 (length s.places)) (list_all (λ p. ltb p n) s.places) b.0 (all_more (λ p. ltb p m) (λ p. ltb p n) (λ p. lt_more m n p le) s.places b.1)) a.1) sets are.checked;
       differ = are.differ;
@@ -182,10 +182,10 @@ sets_more m n sets le fit =
 activations_more : (m n : ℕ) (l : List Activation) → m ≤ n → are_activations m l ≡ true → are_activations n l ≡ true
 activations_more m n l le fit =
     let check : ℕ → Activation → Bool = λ (k : ℕ) (a : Activation). ltb a.set k && leb a.moment 4294967295999 in
-    let one = and_parts (list_all (check m) l && do_rise l) (leb (length l) 64) fit in
-    let two = and_parts (list_all (check m) l) (do_rise l) one.0 in
+    let one = and_parts _ _ fit in
+    let two = and_parts _ _ one.0 in
     and_from (list_all (check n) l && do_rise l) (leb (length l) 64)
-    (and_from (list_all (check n) l) (do_rise l) (all_more (check m) (check n) (λ a h. let both = and_parts (ltb a.set m) (leb a.moment 4294967295999) h in and_from (ltb a.set n) (leb a.moment 4294967295999) (lt_more m n a.set le both.0) both.1) l two.0) two.1)
+    (and_from (list_all (check n) l) (do_rise l) (all_more (check m) (check n) (λ a h. let both = and_parts _ _ h in and_from (ltb a.set n) (leb a.moment 4294967295999) (lt_more m n a.set le both.0) both.1) l two.0) two.1)
     one.1
 
 -- ---- activations
@@ -194,8 +194,8 @@ rise_push : (l : List Activation) (a : Activation) → do_rise l ≡ true → is
 rise_push [] a rise later = refl
 rise_push (x ∷ []) a rise later = later
 rise_push (x ∷ y ∷ l) a rise later =
-    let both = and_parts (ltb x.moment y.moment) (do_rise (y ∷ l)) rise in
-    and_from (ltb x.moment y.moment) (do_rise ((y ∷ l) ++ a ∷ [])) both.0 (rise_push (y ∷ l) a both.1 (and_parts (ltb x.moment a.moment) (is_later (y ∷ l) a.moment) later).1)
+    let both = and_parts _ _ rise in
+    and_from (ltb x.moment y.moment) (do_rise ((y ∷ l) ++ a ∷ [])) both.0 (rise_push (y ∷ l) a both.1 (and_parts _ _ later).1)
 
 pub record IsNext (n : ℕ) (l : List Activation) (a : Activation) : Type 0 where
   pub set : ltb a.set n ≡ true
@@ -221,7 +221,7 @@ next_of sets l (w ∷ v ∷ []) a e = by (place w (set_names sets)) (number v) r
 
     between : (p m : ℕ) (t : Bool) → ltb p (length sets) ≡ true → is_between 0 4294967295999 m ≡ t → activated l p (cond t (Some m) None) ≡ Some a → IsNext (length sets) l a
     between p m false b c h = absurd (cc)
-    between p m true b c h = last p m (is_later l m) b (and_parts (leb 0 m) (leb m 4294967295999) c).1 refl h
+    between p m true b c h = last p m (is_later l m) b (and_parts _ _ c).1 refl h
 
     by : (o : Option ℕ) (q : Option ℕ) → place w (set_names sets) ≡ o
         → option_and_then (λ (p : ℕ). activated l p (option_and_then (λ (n : ℕ). cond (is_between 0 4294967295999 n) (Some n) None) q)) o ≡ Some a → IsNext (length sets) l a
@@ -238,8 +238,8 @@ activations_fit_after sets l more ws e fit = by (activation sets l ws) refl e
     put a false next f h =
         let is : l ++ a ∷ [] ≡ more = cc in
         let check : Activation → Bool = λ (a : Activation). ltb a.set (length sets) && leb a.moment 4294967295999 in
-        let one = and_parts (list_all check l && do_rise l) (leb (length l) 64) fit in
-        let two = and_parts (list_all check l) (do_rise l) one.0 in
+        let one = and_parts _ _ fit in
+        let two = and_parts _ _ one.0 in
         let long = l ++ a ∷ [] in
         ap (are_activations (length sets)) (sym is)
         ∙ and_from (list_all check long && do_rise long) (leb (length long) 64)
@@ -271,7 +271,7 @@ in_range k = is_between (range_of k).0 (range_of k).1
 
 low : (o : Option ℕ) → passes (in_range Priority) o ≡ true → passes (λ n. leb n 255) o ≡ true
 low None h = refl
-low (Some n) h = (and_parts (leb 0 n) (leb n 255) h).1
+low (Some n) h = (and_parts _ _ h).1
 
 number_fits : (d e : Draft) (k : NumberKey) (n : Option ℕ) → with_number d k n ≡ Ok e → passes (in_range k) n ≡ true → Fits d → Fits e
 number_fits d e Vlan n h p fit = let c = changes_of (set_once d.vlan n) (λ x. record d { vlan = x }) e h in subst Fits c.is (record { fcf_mac = fit.fcf_mac; vlan = once_passes (in_range Vlan) d.vlan n c.x c.read p; map = fit.map; domain = fit.domain; pool = fit.pool; priority = fit.priority; period = fit.period; window = fit.window; limit = fit.limit; zones = fit.zones; sets = fit.sets; activations = fit.activations })

@@ -76,7 +76,7 @@ module _ {X : Type 0} (same : X → X → Bool) (comm : (x y : X) → same x y �
   pub differs_before : (x : X) (l xs : List X) → all_differ same (l ++ x ∷ xs) ≡ true → list_any (λ y. same x y) l ≡ false
   differs_before x [] xs h = refl
   differs_before x (y ∷ l) xs h =
-      let both = and_parts (not (list_any (same y) (l ++ x ∷ xs))) (all_differ same (l ++ x ∷ xs)) h in
+      let both = and_parts _ _ h in
       ap (λ t. t || list_any (λ z. same x z) l) (comm x y ∙ apart (same y) x l xs both.0) ∙ differs_before x l xs both.1
 
 -- numbers that differ each count once
@@ -94,10 +94,10 @@ listed_back says word (x ∷ l) some all differ = ap (λ (o : Option (List ℕ))
 pub all_of_back : (says : List ℕ → Option ℕ) (word : ℕ → List ℕ) (test : ℕ → Bool) → ((x : ℕ) → test x ≡ true → says (word x) ≡ Some x) → (l : List ℕ) → list_all test l ≡ true → all_of says (map word l) ≡ Some l
 all_of_back says word test back [] h = refl
 all_of_back says word test back (x ∷ l) h =
-    let both = and_parts (test x) (list_all test l) h in
+    let both = and_parts _ _ h in
     ap (λ (o : Option ℕ). option_and_then (λ (y : ℕ). option_map (λ (ys : List ℕ). y ∷ ys) (all_of says (map word l))) o) (back x both.0)
     ∙ ap (λ (o : Option (List ℕ)). option_map (λ (ys : List ℕ). x ∷ ys) o) (all_of_back says word test back l both.1)
 
 pub words_of : (word : ℕ → List ℕ) (test : ℕ → Bool) → ((x : ℕ) → test x ≡ true → (is_word (word x) && leb 1 (length (word x))) ≡ true) → (l : List ℕ) → list_all test l ≡ true → are_words (map word l) ≡ true
 words_of word test ok [] h = refl
-words_of word test ok (x ∷ l) h = let both = and_parts (test x) (list_all test l) h in and_from (is_word (word x) && leb 1 (length (word x))) (are_words (map word l)) (ok x both.0) (words_of word test ok l both.1)
+words_of word test ok (x ∷ l) h = let both = and_parts _ _ h in and_from (is_word (word x) && leb 1 (length (word x))) (are_words (map word l)) (ok x both.0) (words_of word test ok l both.1)

@@ -7,7 +7,7 @@ use Rattle.std.proofs.lemmas.List.{length-append}
 use Rattle.std.proofs.lemmas.List.Sums.{sum_by-cons}
 use Rattle.std.proofs.lemmas.Bool.{ltb-true, and_parts}
 use Rattle.fab_base.specs.Texts.{hex}
-use Rattle.fab_config.specs.Settings.{is_zone_name, is_letter, is_name_sign}
+use Rattle.fab_config.specs.Settings.{is_zone_name}
 use Rattle.fab_config.specs.Names.{zone_names, set_names}
 use Rattle.fab_config.specs.Written.{spaced, line_text, number_line, name_text, octets_text, name_at, zone_line, set_line, activation_line}
 use Rattle.fab_config.specs.declared.Zone.{Zone}
@@ -16,7 +16,7 @@ use Rattle.fab_config.specs.declared.Activation.{Activation}
 
 pub name_short : (n : List ℕ) → is_zone_name n ≡ true → length n ≤ 64
 name_short [] h = omega arith
-name_short (b ∷ l) h = let lt : length l < 64 = ltb-true (length l) 64 (and_parts (is_letter b && list_all is_name_sign l) (ltb (length l) 64) h).1 in omega (arith, lt)
+name_short (b ∷ l) h = let lt : length l < 64 = ltb-true (length l) 64 (and_parts _ _ h).1 in omega (arith, lt)
 
 line_length : (key : List ℕ) (ws : List (List ℕ)) → length (line_text key ws) ≡ length key + length (flat_map spaced ws) + 1
 line_length key ws = length-append (key ++ flat_map spaced ws) (10 ∷ []) ∙ ap (λ (n : ℕ). n + 1) (length-append key (flat_map spaced ws))
@@ -25,7 +25,7 @@ line_length key ws = length-append (key ++ flat_map spaced ws) (10 ∷ []) ∙ a
 words_length : (f : ℕ → List ℕ) (test : ℕ → Bool) (most : ℕ) → ((x : ℕ) → test x ≡ true → length (f x) + 1 ≤ most) → (l : List ℕ) → list_all test l ≡ true → length (flat_map spaced (map f l)) ≤ most * length l
 words_length f test most short [] h = omega arith
 words_length f test most short (x ∷ l) h =
-    let two = and_parts (test x) (list_all test l) h in
+    let two = and_parts _ _ h in
     let rest = words_length f test most short l two.1 in
     let here = short x two.0 in
     let e = length-append (spaced (f x)) (flat_map spaced (map f l)) in
@@ -58,7 +58,7 @@ zone_length z h =
 pub zones_length : (l : List Zone) → list_all (λ (z : Zone). is_zone_name z.name) l ≡ true → length (flat_map zone_line l) ≤ 70 * length l + 24 * sum_by (λ (z : Zone). length z.members) l
 zones_length [] h = omega arith
 zones_length (z ∷ l) h =
-    let two = and_parts (is_zone_name z.name) (list_all (λ (z : Zone). is_zone_name z.name) l) h in
+    let two = and_parts _ _ h in
     let here = zone_length z two.0 in
     let rest = zones_length l two.1 in
     let a = length-append (zone_line z) (flat_map zone_line l) in
@@ -77,8 +77,8 @@ module _ (zones : List Zone) (count : ℕ) (short : (p : ℕ) → p < count → 
   pub sets_length : (l : List ZoneSet) → list_all (λ (s : ZoneSet). is_zone_name s.name && list_all (λ p. ltb p count) s.places) l ≡ true → length (flat_map (set_line zones) l) ≤ 73 * length l + 65 * sum_by (λ (s : ZoneSet). length s.places) l
   sets_length [] h = omega arith
   sets_length (s ∷ l) h =
-      let two = and_parts (is_zone_name s.name && list_all (λ p. ltb p count) s.places) (list_all (λ (s : ZoneSet). is_zone_name s.name && list_all (λ p. ltb p count) s.places) l) h in
-      let own = and_parts (is_zone_name s.name) (list_all (λ p. ltb p count) s.places) two.0 in
+      let two = and_parts _ _ h in
+      let own = and_parts _ _ two.0 in
       let here = set_length s own.0 own.1 in
       let rest = sets_length l two.1 in
       let a = length-append (set_line zones s) (flat_map (set_line zones) l) in
@@ -98,8 +98,8 @@ module _ (sets : List ZoneSet) (count : ℕ) (short : (p : ℕ) → p < count �
   pub activations_length : (l : List Activation) → list_all (λ (a : Activation). ltb a.set count && leb a.moment 4294967295999) l ≡ true → length (flat_map (activation_line sets) l) ≤ 88 * length l
   activations_length [] h = omega arith
   activations_length (a ∷ l) h =
-      let two = and_parts (ltb a.set count && leb a.moment 4294967295999) (list_all (λ (a : Activation). ltb a.set count && leb a.moment 4294967295999) l) h in
-      let own = and_parts (ltb a.set count) (leb a.moment 4294967295999) two.0 in
+      let two = and_parts _ _ h in
+      let own = and_parts _ _ two.0 in
       let here = activation_length a (ltb-true a.set count own.0) (Rattle.std.proofs.lemmas.Bool.leb-true a.moment 4294967295999 own.1) in
       let rest = activations_length l two.1 in
       let b = length-append (activation_line sets a) (flat_map (activation_line sets) l) in

@@ -67,7 +67,7 @@ return_no (b ∷ c ∷ l) (suc n) e is = ap (λ m. b ∷ m) (return_no (c ∷ l)
 
 pub without_return_yes : (l : List ℕ) → ends_in_return l ≡ true → without_return l ≡ take (length l - 1) l
 without_return_yes l e =
-    let both = and_parts (ltb 0 (length l)) (eqb (get_or l (length l - 1) 0) 13) e in
+    let both = and_parts _ _ e in
     return_yes l (length l - 1) (let h : 0 < length l = ltb-true 0 (length l) both.0 in omega (arith, h)) (eqb-true (get_or l (length l - 1) 0) 13 both.1)
 
 pub without_return_no : (l : List ℕ) → ends_in_return l ≡ false → without_return l ≡ l

@@ -36,7 +36,7 @@ letter_sign b h = by (is_between 0x41 0x5a b) refl h
   where
     within : (least most : ℕ) → 33 ≤ least → most ≤ 126 → is_between least most b ≡ true → is_sign b ≡ true
     within least most low high k =
-        let both = and_parts (leb least b) (leb b most) k in
+        let both = and_parts _ _ k in
         let a : least ≤ b = leb-true least b both.0 in
         let c : b ≤ most = leb-true b most both.1 in
         and_from (leb 33 b) (leb b 126) (le-leb 33 b (omega (arith, a, low))) (le-leb b 126 (omega (arith, c, high)))
@@ -53,7 +53,7 @@ name_sign b h = by (is_letter b) (is_between 0x30 0x39 b) (eqb b 0x24) (eqb b 0x
 
     digit : is_between 0x30 0x39 b ≡ true → is_sign b ≡ true
     digit k =
-        let both = and_parts (leb 0x30 b) (leb b 0x39) k in
+        let both = and_parts _ _ k in
         let a : 0x30 ≤ b = leb-true 0x30 b both.0 in
         let c : b ≤ 0x39 = leb-true b 0x39 both.1 in
         and_from (leb 33 b) (leb b 126) (le-leb 33 b (omega (arith, a))) (le-leb b 126 (omega (arith, c)))
@@ -69,13 +69,13 @@ name_sign b h = by (is_letter b) (is_between 0x30 0x39 b) (eqb b 0x24) (eqb b 0x
 
 signs_word : (l : List ℕ) → list_all is_name_sign l ≡ true → is_word l ≡ true
 signs_word [] h = refl
-signs_word (b ∷ l) h = let both = and_parts (is_name_sign b) (list_all is_name_sign l) h in and_from (is_sign b) (is_word l) (name_sign b both.0) (signs_word l both.1)
+signs_word (b ∷ l) h = let both = and_parts _ _ h in and_from (is_sign b) (is_word l) (name_sign b both.0) (signs_word l both.1)
 
 pub zone_name_word : (n : List ℕ) → is_zone_name n ≡ true → (is_word n && leb 1 (length n)) ≡ true
 zone_name_word [] h = absurd (cc)
 zone_name_word (b ∷ l) h =
-    let one = and_parts (is_letter b && list_all is_name_sign l) (ltb (length l) 64) h in
-    let two = and_parts (is_letter b) (list_all is_name_sign l) one.0 in
+    let one = and_parts _ _ h in
+    let two = and_parts _ _ one.0 in
     and_from (is_sign b && is_word l) (leb 1 (suc (length l))) (and_from (is_sign b) (is_word l) (letter_sign b two.0) (signs_word l two.1)) (le-leb 1 (suc (length l)) (omega arith))
 
 member_word : (m : ℕ) → ltb m (2 ^ 64) ≡ true → (is_word (name_text m) && leb 1 (length (name_text m))) ≡ true
@@ -87,7 +87,7 @@ abbrev pub is_typed : Zone → Bool
 is_typed z = list_all (λ m. ltb m (2 ^ 64)) z.members
 
 last_all : {X : Type 0} (p : X → Bool) (l xs : List X) (x : X) → list_all p (l ++ x ∷ xs) ≡ true → p x ≡ true
-last_all p l xs x h = (and_parts (p x) (list_all p xs) (and_parts (list_all p l) (list_all p (x ∷ xs)) (sym (list_all-append p l (x ∷ xs)) ∙ h)).1).0
+last_all p l xs x h = (and_parts _ _ (and_parts _ _ (sym (list_all-append p l (x ∷ xs)) ∙ h)).1).0
 
 abbrev pub ZonesFit : List Zone → Type 0
 ZonesFit l = (are_zones l ≡ true) × (list_all is_typed l ≡ true)
@@ -119,7 +119,7 @@ place_back : (k p : ℕ) (names : List (List ℕ)) → p < length names → all_
 place_back k p [] lt differ = absurd (omega arith)
 place_back k zero (x ∷ names) lt differ = ap (λ t. cond t (Some k) (place_from (k + 1) x names)) (nat_list_eq_equiv.refl x) ∙ ap (λ (n : ℕ). Some n) (let e : k ≡ k + 0 = omega arith in e)
 place_back k (suc p) (x ∷ names) lt differ =
-    let both = and_parts (not (list_any (same_bytes x) names)) (all_differ same_bytes names) differ in
+    let both = and_parts _ _ differ in
     ap (λ t. cond t (Some k) (place_from (k + 1) (name_at names p) names)) (nat_list_eq_equiv.symm (name_at names p) x ∙ other names p (omega arith) both.0)
     ∙ place_back (k + 1) p names (omega arith) both.1 ∙ ap (λ (n : ℕ). Some n) (let e : k + 1 + p ≡ k + suc p = omega arith in e)
   where
@@ -136,14 +136,14 @@ place_back k (suc p) (x ∷ names) lt differ =
 names_differ : {X : Type 0} (named : X → List ℕ) (l : List X) → all_differ (λ (x : X) (y : X). same_bytes (named x) (named y)) l ≡ true → all_differ same_bytes (map named l) ≡ true
 names_differ named [] h = refl
 names_differ named (x ∷ l) h =
-    let both = and_parts (not (list_any (λ y. same_bytes (named x) (named y)) l)) (all_differ (λ x y. same_bytes (named x) (named y)) l) h in
+    let both = and_parts _ _ h in
     and_from (not (list_any (same_bytes (named x)) (map named l))) (all_differ same_bytes (map named l)) (ap not (any_map (same_bytes (named x)) named l) ∙ both.0) (names_differ named l both.1)
 
 -- the name at a place is that of an item
 pub name_at_ok : {X : Type 0} (named : X → List ℕ) (l : List X) (p : ℕ) → p < length l → list_all (λ x. is_zone_name (named x)) l ≡ true → is_zone_name (name_at (map named l) p) ≡ true
 name_at_ok named [] p lt h = absurd (omega arith)
-name_at_ok named (x ∷ l) zero lt h = (and_parts (is_zone_name (named x)) (list_all (λ x. is_zone_name (named x)) l) h).0
-name_at_ok named (x ∷ l) (suc p) lt h = name_at_ok named l p (omega arith) (and_parts (is_zone_name (named x)) (list_all (λ x. is_zone_name (named x)) l) h).1
+name_at_ok named (x ∷ l) zero lt h = (and_parts _ _ h).0
+name_at_ok named (x ∷ l) (suc p) lt h = name_at_ok named l p (omega arith) (and_parts _ _ h).1
 
 -- names that are read by their places
 pub record AreNames (names : List (List ℕ)) : Type 0 where
@@ -184,12 +184,12 @@ sets_read n d ss rest names fit = items_read (λ (l : List ZoneSet). record d { 
 
 rise_later : (l more : List Activation) (a : Activation) → do_rise (l ++ a ∷ more) ≡ true → is_later l a.moment ≡ true
 rise_later [] more a h = refl
-rise_later (x ∷ []) more a h = and_from (ltb x.moment a.moment) true (and_parts (ltb x.moment a.moment) (do_rise (a ∷ more)) h).0 refl
+rise_later (x ∷ []) more a h = and_from (ltb x.moment a.moment) true (and_parts _ _ h).0 refl
 rise_later (x ∷ y ∷ l) more a h =
-    let both = and_parts (ltb x.moment y.moment) (do_rise ((y ∷ l) ++ a ∷ more)) h in
+    let both = and_parts _ _ h in
     let rest = rise_later (y ∷ l) more a both.1 in
     let low : x.moment < y.moment = ltb-true x.moment y.moment both.0 in
-    let high : y.moment < a.moment = ltb-true y.moment a.moment (and_parts (ltb y.moment a.moment) (is_later l a.moment) rest).0 in
+    let high : y.moment < a.moment = ltb-true y.moment a.moment (and_parts _ _ rest).0 in
     and_from (ltb x.moment a.moment) (is_later (y ∷ l) a.moment) (lt-ltb x.moment a.moment (omega (arith, low, high))) rest
 
 activation_read : (d : Draft) → AreNames (set_names d.sets) → (n : ℕ) (done more : List Activation) (a : Activation) (rest : List ℕ) → are_activations (length d.sets) (done ++ a ∷ more) ≡ true
@@ -198,9 +198,9 @@ unfolding keyword_of activations_with
 activation_read d names n done more a rest fit =
     let all = done ++ a ∷ more in
     let check : Activation → Bool = λ (z : Activation). ltb z.set (length d.sets) && leb z.moment 4294967295999 in
-    let one = and_parts (list_all check all && do_rise all) (leb (length all) 64) fit in
-    let two = and_parts (list_all check all) (do_rise all) one.0 in
-    let own = and_parts (ltb a.set (length d.sets)) (leb a.moment 4294967295999) (last_all check done more a two.0) in
+    let one = and_parts _ _ fit in
+    let two = and_parts _ _ one.0 in
+    let own = and_parts _ _ (last_all check done more a two.0) in
     let low : a.set < length d.sets = ltb-true a.set (length d.sets) own.0 in
     let most : a.moment ≤ 4294967295999 = leb-true a.moment 4294967295999 own.1 in
     let size = length-map d.sets (λ (y : ZoneSet). y.name) in

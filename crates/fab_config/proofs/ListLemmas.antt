@@ -11,7 +11,7 @@ any_map f v (x ∷ xs) = ap (λ b. f (v x) || b) (any_map f v xs)
 -- what a test tells of each item
 pub all_more : {X : Type 0} (p q : X → Bool) → ((x : X) → p x ≡ true → q x ≡ true) → (xs : List X) → list_all p xs ≡ true → list_all q xs ≡ true
 all_more p q more [] h = refl
-all_more p q more (x ∷ xs) h = let both = and_parts (p x) (list_all p xs) h in and_from (q x) (list_all q xs) (more x both.0) (all_more p q more xs both.1)
+all_more p q more (x ∷ xs) h = let both = and_parts _ _ h in and_from (q x) (list_all q xs) (more x both.0) (all_more p q more xs both.1)
 
 -- one item more
 pub take_slice : {X : Type 0} (xs : List X) (i : ℕ) (x : X) → slice_get xs i ≡ Some x → take (i + 1) xs ≡ take i xs ++ x ∷ []

@@ -26,7 +26,7 @@ any_same f g e (x ∷ xs) = ap (λ b. b || list_any f xs) (e x) ∙ ap (λ b. g 
 pub differ_push : {X : Type 0} (same : X → X → Bool) (xs : List X) (x : X) → all_differ same xs ≡ true → list_any (λ y. same y x) xs ≡ false → all_differ same (xs ++ x ∷ []) ≡ true
 differ_push same [] x all none = refl
 differ_push {X} same (y ∷ xs) x all none =
-    let parts = and_parts (not (list_any (same y) xs)) (all_differ same xs) all in
+    let parts = and_parts _ _ all in
     let split = or_parts (same y x) (list_any (λ z. same z x) xs) none in
     and_from (not (list_any (same y) (xs ++ x ∷ []))) (all_differ same (xs ++ x ∷ []))
     (ap not (list_any-append (same y) xs (x ∷ [])) ∙ new (list_any (same y) xs) (same y x) parts.0 split.0)
@@ -72,9 +72,9 @@ module _ {X : Type 0} (named numbers : X → List ℕ) (check : X → Bool) (mos
       → AreListed named numbers check most most_numbers l
   are_of l h =
       let same : X → X → Bool = λ (x : X) (y : X). same_bytes (named x) (named y) in
-      let one = and_parts (list_all check l && all_differ same l && leb (length l) most) (leb (sum_by (λ (x : X). length (numbers x)) l) most_numbers) h in
-      let two = and_parts (list_all check l && all_differ same l) (leb (length l) most) one.0 in
-      let three = and_parts (list_all check l) (all_differ same l) two.0 in
+      let one = and_parts _ _ h in
+      let two = and_parts _ _ one.0 in
+      let three = and_parts _ _ two.0 in
       record { checked = three.0; differ = three.1; few = two.1; few_numbers = one.1 }
 
   pub are_from : (l : List X) → AreListed named numbers check most most_numbers l
@@ -135,8 +135,8 @@ pub record IsZone (z : Zone) : Type 0 where
 
 pub zone_of : (z : Zone) → zone_check z ≡ true → IsZone z
 zone_of z h =
-    let one = and_parts (is_zone_name z.name && ltb 0 (length z.members)) (all_differ (λ x y. eqb x y) z.members) h in
-    let two = and_parts (is_zone_name z.name) (ltb 0 (length z.members)) one.0 in
+    let one = and_parts _ _ h in
+    let two = and_parts _ _ one.0 in
     record { is_name = two.0; some = two.1; differ = one.1 }
 
 abbrev pub AreZones : List Zone → Type 0
@@ -158,9 +158,9 @@ pub record IsSet (n : ℕ) (s : ZoneSet) : Type 0 where
 
 pub set_of : (n : ℕ) (s : ZoneSet) → set_check n s ≡ true → IsSet n s
 set_of n s h =
-    let one = and_parts (is_zone_name s.name && ltb 0 (length s.places) && list_all (λ p. ltb p n) s.places) (all_differ (λ x y. eqb x y) s.places) h in
-    let two = and_parts (is_zone_name s.name && ltb 0 (length s.places)) (list_all (λ p. ltb p n) s.places) one.0 in
-    let three = and_parts (is_zone_name s.name) (ltb 0 (length s.places)) two.0 in
+    let one = and_parts _ _ h in
+    let two = and_parts _ _ one.0 in
+    let three = and_parts _ _ two.0 in
     record { is_name = three.0; some = three.1; below = two.1; differ = one.1 }
 
 abbrev pub AreSets : ℕ → List ZoneSet → Type 0

@@ -1,14 +1,14 @@
 -- A written configuration is read back.
-use Rattle.std.proofs.Common.{◌≡◌, ℕ, ◌+◌, ◌*◌, ◌%◌, ◌^◌, ◌<◌, ◌≤◌, List, [], ◌∷◌, ◌++◌, length, get_or, Bool, true, false, cond, eqb, ltb, leb, ◌&&◌, Option, Some, None, Result, Ok, Err, codes, refl, sym, ◌∙◌, ap, arith}
+use Rattle.std.proofs.Common.{◌≡◌, ℕ, ◌+◌, ◌*◌, ◌^◌, ◌<◌, ◌≤◌, List, [], ◌∷◌, ◌++◌, length, Bool, true, false, cond, ltb, leb, ◌&&◌, Option, Some, None, Result, Ok, Err, codes, refl, sym, ◌∙◌, ap, arith}
 use Rattle.std.specs.Prelude.{IsTrue}
-use Rattle.std.specs.List.{list_all, list_any, flat_map, sum_by}
+use Rattle.std.specs.List.{list_all, flat_map, sum_by}
 use Rattle.std.specs.Option.{option_and_then}
 use Rattle.std.specs.Fmt.{decimal}
 use Rattle.std.proofs.lemmas.List.{append_assoc, append-nil, length-append}
 use Rattle.std.proofs.lemmas.Bool.{leb-true, le-leb, ltb-true, eqb-true, and_parts, and_from}
 use Rattle.fab_base.specs.Layout.{spelled, big_endian}
 use Rattle.fab_base.proofs.LayoutLemmas.{length-spelled, big_endian-spelled}
-use Rattle.fab_config.specs.Settings.{Settings, is_between, is_station, is_zone_name, are_zones, are_sets, are_activations, do_rise, is_in_range}
+use Rattle.fab_config.specs.Settings.{Settings, is_between, is_station, is_zone_name, are_zones, are_sets, are_activations, is_in_range}
 use Rattle.fab_config.specs.Lines.{lines_of}
 use Rattle.fab_config.specs.Names.{zone_names, set_names}
 use Rattle.fab_config.specs.Values.{station, fc_map, number_between}
@@ -16,7 +16,6 @@ use Rattle.fab_config.specs.Text.{NOTHING, keyword_of, lines_read, finished, set
 use Rattle.fab_config.specs.Written.{written, addresses_text, numbers_text, octets_text, name_text, zone_line, set_line, activation_line, line_text, number_line, name_at}
 use Rattle.fab_config.specs.declared.Zone.{Zone}
 use Rattle.fab_config.specs.declared.ZoneSet.{ZoneSet}
-use Rattle.fab_config.specs.declared.Activation.{Activation}
 use Rattle.fab_config.specs.declared.ConfigWhy.TheVariants as why
 use Rattle.fab_config.specs.declared.ConfigFault.{ConfigFault}
 use Rattle.fab_config.specs.declared.draft.Draft.{Draft}
@@ -29,7 +28,7 @@ use Rattle.fab_config.specs.Typed.{IsTyped}
 use Rattle.fab_config.specs.Text.{decoded}
 use Rattle.fab_config.proofs.LengthLemmas.{name_short, octets_length, zones_length, sets_length, activations_length, word_length, number_length}
 use Rattle.fab_config.proofs.RangeLemmas.{between}
-use Rattle.fab_config.proofs.ListBack.{is_typed, AreNames, are_names, name_at_ok, zones_read, sets_read, activations_read}
+use Rattle.fab_config.proofs.ListBack.{AreNames, are_names, name_at_ok, zones_read, sets_read, activations_read}
 use Rattle.fab_config.proofs.ListLemmas.{all_more}
 use Rattle.fab_config.proofs.ListedLemmas.{zone_check, zone_of, zones_of, set_check, set_of, sets_of}
 
@@ -252,9 +251,9 @@ written_length c h =
     let lz = zones_length c.zones names in
     let ls = sets_length c.zones (length c.zones) (λ q lt. name_short (name_at (zone_names c.zones) q) (name_at_ok (λ (y : Zone). y.name) c.zones q lt names)) c.sets
     (all_more (set_check n) (λ (y : ZoneSet). is_zone_name y.name && list_all (λ p. ltb p n) y.places) (λ y k. let q = set_of n y k in and_from (is_zone_name y.name) (list_all (λ p. ltb p n) y.places) q.is_name q.below) c.sets sets.checked) in
-    let acts = and_parts (list_all (λ (y : Activation). ltb y.set (length c.sets) && leb y.moment 4294967295999) c.activations && do_rise c.activations) (leb (length c.activations) 64) h.activations in
+    let acts = and_parts _ _ h.activations in
     let la = activations_length c.sets (length c.sets) (λ q lt. name_short (name_at (set_names c.sets) q) (name_at_ok (λ (y : ZoneSet). y.name) c.sets q lt set_ok)) c.activations
-    (and_parts (list_all (λ (y : Activation). ltb y.set (length c.sets) && leb y.moment 4294967295999) c.activations) (do_rise c.activations) acts.0).0 in
+    (and_parts _ _ acts.0).0 in
     let few_a : length c.activations ≤ 64 = leb-true (length c.activations) 64 acts.1 in
     let f4 = length-append (addresses_text c ++ numbers_text c ++ z ++ s) a in
     let f3 = length-append (addresses_text c ++ numbers_text c ++ z) s in

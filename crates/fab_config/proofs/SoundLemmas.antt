@@ -1,7 +1,7 @@
 -- What a text says is in its range, and typed.
-use Rattle.std.proofs.Common.{◌≡◌, ℕ, zero, suc, ◌+◌, ◌-◌, ◌*◌, ◌%◌, ◌^◌, ◌<◌, List, [], ◌∷◌, ◌++◌, length, get_or, Bool, true, false, cond, eqb, ltb, ◌&&◌, ◌||◌, Option, Some, None, Result, Ok, Err, refl, sym, ◌∙◌, ap, subst, arith}
+use Rattle.std.proofs.Common.{◌≡◌, ℕ, zero, suc, ◌+◌, ◌-◌, ◌*◌, ◌%◌, ◌^◌, ◌<◌, List, [], ◌∷◌, ◌++◌, length, get_or, Bool, true, false, cond, eqb, ltb, ◌||◌, Option, Some, None, Result, Ok, Err, refl, sym, ◌∙◌, ap, subst, arith}
 use Rattle.std.specs.Prelude.{IsTrue}
-use Rattle.std.specs.List.{list_all, list_any, sum_by}
+use Rattle.std.specs.List.{list_all, sum_by}
 use Rattle.std.specs.Option.{option_map, option_and_then, unwrap_or}
 use Rattle.std.proofs.lemmas.Bool.{ltb-true, lt-ltb, eqb-true, and_parts, and_from}
 use Rattle.fab_base.specs.Layout.{big_endian}
@@ -79,8 +79,8 @@ octets_of_bytes count w l e = by (octets w) refl e
 
 bytes_of : (l : List ℕ) → are_bytes l ≡ true → AreBytes l
 bytes_of [] h i = omega arith
-bytes_of (b ∷ l) h zero = ltb-true b 256 (and_parts (ltb b 256) (are_bytes l) h).0
-bytes_of (b ∷ l) h (suc i) = bytes_of l (and_parts (ltb b 256) (are_bytes l) h).1 i
+bytes_of (b ∷ l) h zero = ltb-true b 256 (and_parts _ _ h).0
+bytes_of (b ∷ l) h (suc i) = bytes_of l (and_parts _ _ h).1 i
 
 name_below : (w : List ℕ) (n : ℕ) → name w ≡ Some n → n < 2 ^ 64
 name_below w n e = by (octets_of 8 w) refl e
@@ -168,7 +168,7 @@ switch_small : (o : Option ℕ) (mac : List ℕ) → passes (λ n. ltb n (2 ^ 64
 switch_small (Some n) mac h s b = ltb-true n (2 ^ 64) h
 switch_small None mac h s b =
     let even = eqb (get_or mac 0 0 % 2) 0 in
-    let six = eqb-true (length mac) 6 (and_parts (eqb (length mac) 6) even (and_parts (eqb (length mac) 6 && even) (list_any (λ x. ltb 0 x) mac) s).0).0 in
+    let six = eqb-true (length mac) 6 (and_parts _ _ (and_parts _ _ s).0).0 in
     let fits = big_endian-fits mac (bytes_of mac b) in
     let m : 256 ^ length mac ≡ 2 ^ 48 = ap (λ (k : ℕ). 256 ^ k) six in
     omega (arith, fits, m)

@@ -51,7 +51,7 @@ decimal_is n fits = decimal_by_steps IsDecimal one_digit more_digits n fits
 
 number_of : (ds : List ℕ) → 1 ≤ length ds → list_all is_digit ds ≡ true → (get_or ds 0 0 ≡ 48 → ⊥) → number ds ≡ Some (digits_value 0 ds)
 number_of [] some all ne = absurd (omega arith)
-number_of (b ∷ []) some all ne = ap (λ t. cond t (Some (b - 48)) None) (and_parts (is_digit b) true all).0 ∙ ap (λ (m : ℕ). Some m) (let e : b - 48 ≡ 10 * 0 + (b - 48) = omega arith in e)
+number_of (b ∷ []) some all ne = ap (λ t. cond t (Some (b - 48)) None) (and_parts _ _ all).0 ∙ ap (λ (m : ℕ). Some m) (let e : b - 48 ≡ 10 * 0 + (b - 48) = omega arith in e)
 number_of (b ∷ c ∷ ds) some all ne = ap (λ t. cond t (Some (digits_value 0 (b ∷ c ∷ ds))) None) (and_from (not (eqb b 48)) (list_all is_digit (b ∷ c ∷ ds)) (by (eqb b 48) refl) all)
   where
     by : (t : Bool) → eqb b 48 ≡ t → not t ≡ true
@@ -77,8 +77,8 @@ between_back least most n fits h = ap (λ (o : Option ℕ). option_and_then (λ 
 digits_word : (ds : List ℕ) → list_all is_digit ds ≡ true → is_word ds ≡ true
 digits_word [] h = refl
 digits_word (b ∷ ds) h =
-    let both = and_parts (is_digit b) (list_all is_digit ds) h in
-    let parts = and_parts (leb 48 b) (leb b 57) both.0 in
+    let both = and_parts _ _ h in
+    let parts = and_parts _ _ both.0 in
     let low : 48 ≤ b = leb-true 48 b parts.0 in
     let high : b ≤ 57 = leb-true b 57 parts.1 in
     and_from (is_sign b) (is_word ds) (between_is 33 126 b (omega (arith, low)) (omega (arith, high))) (digits_word ds both.1)
@@ -103,7 +103,7 @@ are_bytes l = list_all (λ b. ltb b 256) l
 behind_back : (l : List ℕ) → are_bytes l ≡ true → behind (flat_map (λ c. 58 ∷ hex 2 c) l) ≡ Some l
 behind_back [] h = refl
 behind_back (b ∷ l) h =
-    let both = and_parts (ltb b 256) (are_bytes l) h in
+    let both = and_parts _ _ h in
     octets_step (hex_digit (b / 16 % 16)) (hex_digit (b % 16)) (flat_map (λ c. 58 ∷ hex 2 c) l)
     ∙ ap (λ (o : Option ℕ). with_octet o (behind (flat_map (λ c. 58 ∷ hex 2 c) l))) (octet_back b (ltb-true b 256 both.0))
     ∙ ap (λ (o : Option (List ℕ)). with_octet (Some b) o) (behind_back l both.1)
@@ -111,7 +111,7 @@ behind_back (b ∷ l) h =
 pub octets_back : (l : List ℕ) → 1 ≤ length l → are_bytes l ≡ true → octets (octets_text l) ≡ Some l
 octets_back [] some h = absurd (omega arith)
 octets_back (b ∷ l) some h =
-    let both = and_parts (ltb b 256) (are_bytes l) h in
+    let both = and_parts _ _ h in
     octets_step (hex_digit (b / 16 % 16)) (hex_digit (b % 16)) (flat_map (λ c. 58 ∷ hex 2 c) l)
     ∙ ap (λ (o : Option ℕ). with_octet o (behind (flat_map (λ c. 58 ∷ hex 2 c) l))) (octet_back b (ltb-true b 256 both.0))
     ∙ ap (λ (o : Option (List ℕ)). with_octet (Some b) o) (behind_back l both.1)
@@ -142,7 +142,7 @@ digit_sign d lt = by (ltb d 10)
 colons_word : (l : List ℕ) → are_bytes l ≡ true → is_word (flat_map (λ c. 58 ∷ hex 2 c) l) ≡ true
 colons_word [] h = refl
 colons_word (b ∷ l) h =
-    let both = and_parts (ltb b 256) (are_bytes l) h in
+    let both = and_parts _ _ h in
     let rest = flat_map (λ c. 58 ∷ hex 2 c) l in
     and_from (is_sign (hex_digit (b / 16 % 16))) (is_sign (hex_digit (b % 16)) && is_word rest) (digit_sign (b / 16 % 16) (omega arith))
     (and_from (is_sign (hex_digit (b % 16))) (is_word rest) (digit_sign (b % 16) (omega arith)) (colons_word l both.1))
@@ -150,7 +150,7 @@ colons_word (b ∷ l) h =
 pub octets_word : (l : List ℕ) → 1 ≤ length l → are_bytes l ≡ true → (is_word (octets_text l) && leb 1 (length (octets_text l))) ≡ true
 octets_word [] some h = absurd (omega arith)
 octets_word (b ∷ l) some h =
-    let both = and_parts (ltb b 256) (are_bytes l) h in
+    let both = and_parts _ _ h in
     let rest = flat_map (λ c. 58 ∷ hex 2 c) l in
     and_from (is_sign (hex_digit (b / 16 % 16)) && (is_sign (hex_digit (b % 16)) && is_word rest)) (leb 1 (suc (suc (length rest))))
     (and_from (is_sign (hex_digit (b / 16 % 16))) (is_sign (hex_digit (b % 16)) && is_word rest) (digit_sign (b / 16 % 16) (omega arith))
