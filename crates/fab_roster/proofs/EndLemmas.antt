@@ -19,11 +19,12 @@ use Rattle.state_change.specs.Watchers.{watcher_at}
 use Rattle.state_change.specs.declared.watcher.Watcher.{Watcher}
 use Rattle.fab_policy.specs.State.{port_at}
 use Rattle.fab_policy.specs.Changes.{ended_at}
+use Rattle.fab_base.proofs.SamenessLemmas.{list_any-found}
 use Rattle.fab_roster.specs.Agreement.{Agree, IsHeldBy, SpeaksFor, is_silenced}
 use Rattle.fab_roster.specs.Changes.{Ends}
 use Rattle.fab_roster.specs.Roll.{live_of, ports_of, roll_of}
 use Rattle.fab_roster.specs.declared.roster.Roster.TheInside.{Inside}
-use Rattle.fab_roster.proofs.Found.{any-item_at, enode_refl, enode_same, equal, find-any, item_at-key, true_false, turned}
+use Rattle.fab_roster.proofs.Found.{any-item_at, equal, item_at-key, true_false, turned, enode_refl, enode_same}
 use Rattle.fab_roster.proofs.Lookups.{port_of_login}
 
 -- What the calls say of the tables after them.
@@ -68,7 +69,7 @@ module _ {a now : ℕ} {gone : Login} {old new : Inside} (agree : Agree old) (cl
     where
       go : (x : Bool) → same_enode gone.enode l.enode ≡ x → x && not (list_any (λ y. same_enode y.enode gone.enode) new.logins.logins) ≡ false
       go false h = refl
-      go true h = ap (λ y. true && not y) (find-any (λ (y : Login). same_enode y.enode gone.enode) (λ y. y.address == b) new.logins.logins l e
+      go true h = ap (λ y. true && not y) (list_any-found (λ y. y.address == b) (λ y. same_enode y.enode gone.enode) l new.logins.logins e
           (subst (λ x. same_enode l.enode x ≡ true) (sym (enode_same gone.enode l.enode h)) (enode_refl l.enode)))
 
   apart : (b : ℕ) (l : Login) → login_at b new.logins.logins ≡ Some l → a == l.address ≡ false

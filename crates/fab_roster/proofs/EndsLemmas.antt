@@ -1,5 +1,5 @@
 -- One end after another.
-use Rattle.std.proofs.Common.{◌≡◌, ℕ, zero, suc, ◌+◌, ◌<◌, ◌≤◌, ◌==◌, ◌||◌, Bool, true, false, List, [], ◌∷◌, length, take, get_or, map, Option, Some, None, if◌then◌else◌, unwrap_or, refl, sym, ap, ◌∙◌, arith}
+use Rattle.std.proofs.Common.{◌≡◌, ℕ, zero, suc, ◌+◌, ◌<◌, ◌≤◌, ◌==◌, ◌||◌, false, List, [], ◌∷◌, length, take, get_or, map, Option, None, if◌then◌else◌, unwrap_or, refl, sym, ap, ◌∙◌, arith}
 use Rattle.std.proofs.lemmas.Bool.Decides.{nat_tests}
 use Rattle.std.proofs.lemmas.List.Folds.{list_any_more}
 use Rattle.std.proofs.lemmas.List.{length-map, take_all}
@@ -12,7 +12,6 @@ use Rattle.fab_policy.specs.Changes.{all_ended, ended_at}
 use Rattle.fab_policy.specs.State.{LivePort, now_of, port_at}
 use Rattle.fab_roster.specs.Changes.{Ends, EndsAll, KeepsBounds}
 use Rattle.fab_roster.specs.Roll.{Login, Roll, addresses_of}
-use Rattle.fab_roster.proofs.Found.{turned}
 
 -- the login at a place has the address at that place
 pub address_is : (items ls : List Login) (i : ℕ) (l : Login) → items ≡ ls → i < length items → l ≡ get_or items i l → (i < length (addresses_of ls)) × (l.address ≡ get_or (addresses_of ls) i l.address)
@@ -67,27 +66,10 @@ module _ (ids : List ℕ) (i a : ℕ) (lt : i < length ids) (at : a ≡ get_or i
   more b = list_any_more (λ y. y == b) ids i a lt ∙ ap (λ y. contains b (take i ids) || y == b) (sym at)
 
   one_past : (n : ℕ) (p : Past) → ended_at a n (all_ended (take i ids) n p) ≡ all_ended (take (i + 1) ids) n p
-  one_past n p = go (contains p.address (take i ids)) ∙ ap (λ x. if x then record { address = p.address; name = p.name; ended = Some n } else p) (sym (more p.address))
-    where
-      by_turn : (y : Bool) → a == p.address ≡ y → (if p.address == a then record { address = p.address; name = p.name; ended = Some n } else p) ≡ (if y then record { address = p.address; name = p.name; ended = Some n } else p)
-      by_turn y e = ap (λ x. if x then record { address = p.address; name = p.name; ended = Some n } else p) (turned p.address a ∙ e)
-
-      same : (x : Bool) (q : Past) → (if x then q else q) ≡ q
-      same true q = refl
-      same false q = refl
-
-      go : (x : Bool) → ended_at a n (if x then record { address = p.address; name = p.name; ended = Some n } else p) ≡ (if x || a == p.address then record { address = p.address; name = p.name; ended = Some n } else p)
-      go true = same (p.address == a) (record { address = p.address; name = p.name; ended = Some n })
-      go false = by_turn (a == p.address) refl
+  one_past n p = grind (arith, nat_tests, more p.address)
 
   one_port : (b : ℕ) (o : Option LivePort) → (if b == a then None else if contains b (take i ids) then None else o) ≡ (if contains b (take (i + 1) ids) then None else o)
-  one_port b o = ap (λ x. if x then None else if contains b (take i ids) then None else o) (turned b a) ∙ (go (contains b (take i ids)) (a == b) ∙ ap (λ x. if x then None else o) (sym (more b)))
-    where
-      go : (x y : Bool) → (if y then None else if x then None else o) ≡ (if x || y then None else o)
-      go true true = refl
-      go true false = refl
-      go false true = refl
-      go false false = refl
+  one_port b o = grind (arith, nat_tests, more b)
 
   pub ends_more : (old mid new : Roll) → EndsAll (take i ids) old mid → Ends a mid new → EndsAll (take (i + 1) ids) old new
   ends_more old mid new f g = record {

@@ -1,5 +1,7 @@
 -- Which addresses may be granted, by the pool and the logins.
-use Rattle.std.proofs.Common.{◌≡◌, ℕ, ◌==◌, ◌&&◌, ◌||◌, Bool, true, false, cond, List, [], ◌∷◌, find, Option, Some, None, option_map, IfSome, IsTrue, is_some, refl, sym, ap, subst, ◌∙◌}
+use Rattle.std.proofs.Common.{◌≡◌, ℕ, ◌==◌, ◌&&◌, ◌||◌, Bool, true, false, List, [], ◌∷◌, find, Option, Some, None, option_map, IfSome, IsTrue, is_some, refl, sym, ap, subst, ◌∙◌, arith}
+use Rattle.std.proofs.Math.Bool.{and-false}
+use Rattle.std.proofs.lemmas.Bool.Decides.{nat_tests}
 use Rattle.std.specs.Option.{option_map_or}
 use Rattle.fab_base.specs.Fabric.{Past, past_at, same_enode, may_have}
 use Rattle.fc_addresses.specs.Pool as pool
@@ -10,43 +12,24 @@ use Rattle.fab_policy.specs.State.{LivePort, Tables, now_of, port_at}
 use Rattle.fab_roster.specs.Agreement.{Agree, IsHeldBy}
 use Rattle.fab_roster.specs.Roll.{live_of, roll_of}
 use Rattle.fab_roster.specs.declared.roster.Roster.TheInside.{Inside}
-use Rattle.fab_roster.proofs.Found.{equal, find-item_at, item_at-key, same, true_false}
+use Rattle.fab_roster.proofs.Found.{equal, find-item_at, item_at-key, true_false}
 use Rattle.fab_roster.proofs.Lookups.{live_there, port_of_login}
 
 -- ---- look-ups
 
 find-some : {X : Type 0} (p q : X → Bool) (xs : List X) (x : X) → find q xs ≡ Some x → p x ≡ true → is_some (find p xs) ≡ true
 find-some p q [] x e t = cc
-find-some p q (y ∷ xs) x e t = go (p y) refl (q y) e (λ i. find-some p q xs x i t)
-  where
-    go : (b : Bool) → p y ≡ b → (c : Bool) → cond c (Some y) (find q xs) ≡ Some x → (find q xs ≡ Some x → is_some (find p xs) ≡ true) → is_some (cond b (Some y) (find p xs)) ≡ true
-    go true f c i ih = refl
-    go false f false i ih = ih i
-    go false f true i ih = let is : x ≡ y = cc in absurd (true_false (sym t ∙ (ap (λ z. p z) is ∙ f)))
+find-some p q (y ∷ xs) x e t = grind (arith, nat_tests, λ (later : find q xs ≡ Some x). find-some p q xs x later t)
 
 -- where no item passes one test, and all that pass another pass it too, none passes the other
 find-none : {X : Type 0} (p q : X → Bool) (xs : List X) → ((x : X) → q x ≡ false → p x ≡ false) → find q xs ≡ None → find p xs ≡ None
 find-none p q [] weaker e = refl
-find-none p q (x ∷ xs) weaker e = go (q x) refl e (find-none p q xs weaker)
-  where
-    go : (b : Bool) → q x ≡ b → cond b (Some x) (find q xs) ≡ None → (find q xs ≡ None → find p xs ≡ None) → find p (x ∷ xs) ≡ None
-    go true f i ih = cc
-    go false f i ih = ap (λ b. cond b (Some x) (find p xs)) (weaker x f) ∙ ih i
+find-none p q (x ∷ xs) weaker e = grind (arith, nat_tests, weaker x, λ (later : find q xs ≡ None). find-none p q xs weaker later)
 
 -- a login is the one of its name
 pub named_found : (a : ℕ) (ls : List Login) (l : Login) → NamesDiffer ls → login_at a ls ≡ Some l → named l.name ls ≡ Some l
 named_found a [] l differ e = cc
-named_found a (x ∷ ls) l differ e = go (x.address == a) e (named_found a ls l differ.1)
-  where
-    other : (b : Bool) → x.name == l.name ≡ b → named l.name ls ≡ Some l → cond b (Some x) (named l.name ls) ≡ Some l
-    other false t i = i
-    other true t i = let gone : named l.name ls ≡ None = ap (λ n. named n ls) (sym (equal x.name l.name t)) ∙ differ.0 in cc
-
-    go : (b : Bool) → cond b (Some x) (login_at a ls) ≡ Some l → (login_at a ls ≡ Some l → named l.name ls ≡ Some l) → named l.name (x ∷ ls) ≡ Some l
-    go true i ih =
-        let is : x ≡ l = cc in
-        subst (λ (m : Login). named m.name (x ∷ ls) ≡ Some m) is (ap (λ b. cond b (Some x) (named x.name ls)) (same x.name))
-    go false i ih = other (x.name == l.name) refl (ih i)
+named_found a (x ∷ ls) l differ e = grind (arith, nat_tests, differ.0, λ (later : login_at a ls ≡ Some l). named_found a ls l differ.1 later)
 
 -- ---- the request
 
@@ -127,32 +110,19 @@ module _ {t : Inside} (agree : Agree t) (q : Request) where
 
   -- ---- the login of the name
 
-  pub none_named : named q.name t.logins.logins ≡ None → (a : ℕ) (l : Login) → login_at a t.logins.logins ≡ Some l → replaces q l ≡ false
-  none_named none a l e = go (l.name == q.name) refl
+  -- no other login is replaced
+  named_only : ((m : Login) → named q.name t.logins.logins ≡ Some m → replaces q m ≡ false) → (a : ℕ) (l : Login) → login_at a t.logins.logins ≡ Some l → replaces q l ≡ false
+  named_only not a l e = go (l.name == q.name) refl
     where
-      and_false : (b : Bool) → b && false ≡ false
-      and_false true = refl
-      and_false false = refl
-
       go : (b : Bool) → l.name == q.name ≡ b → replaces q l ≡ false
-      go false f = ap (λ b. q.flogi && same_enode l.enode q.enode && b) f ∙ and_false (q.flogi && same_enode l.enode q.enode)
-      go true f =
-          let found : named q.name t.logins.logins ≡ Some l = subst (λ n. named n t.logins.logins ≡ Some l) (equal l.name q.name f) (named_found a t.logins.logins l agree.logins.sound.names e) in
-          cc
+      go false f = ap (λ b. q.flogi && same_enode l.enode q.enode && b) f ∙ and-false (q.flogi && same_enode l.enode q.enode)
+      go true f = not l (subst (λ n. named n t.logins.logins ≡ Some l) (equal l.name q.name f) (named_found a t.logins.logins l agree.logins.sound.names e))
+
+  pub none_named : named q.name t.logins.logins ≡ None → (a : ℕ) (l : Login) → login_at a t.logins.logins ≡ Some l → replaces q l ≡ false
+  none_named none = named_only (λ m found. cc)
 
   pub one_named : (m : Login) → named q.name t.logins.logins ≡ Some m → replaces q m ≡ false → (a : ℕ) (l : Login) → login_at a t.logins.logins ≡ Some l → replaces q l ≡ false
-  one_named m found not a l e = go (l.name == q.name) refl
-    where
-      and_false : (b : Bool) → b && false ≡ false
-      and_false true = refl
-      and_false false = refl
-
-      go : (b : Bool) → l.name == q.name ≡ b → replaces q l ≡ false
-      go false f = ap (λ b. q.flogi && same_enode l.enode q.enode && b) f ∙ and_false (q.flogi && same_enode l.enode q.enode)
-      go true f =
-          let at : named q.name t.logins.logins ≡ Some l = subst (λ n. named n t.logins.logins ≡ Some l) (equal l.name q.name f) (named_found a t.logins.logins l agree.logins.sound.names e) in
-          let is : m ≡ l = cc in
-          subst (λ (x : Login). replaces q x ≡ false) is not
+  one_named m found not = named_only (λ x at. let is : m ≡ x = cc in subst (λ (y : Login). replaces q y ≡ false) is not)
 
   -- the login of a name stands at its address
   pub at_name : (m : Login) → named q.name t.logins.logins ≡ Some m → login_at m.address t.logins.logins ≡ Some m

@@ -19,14 +19,16 @@ use Rattle.state_change.specs.Watchers.{watcher_at}
 use Rattle.state_change.specs.declared.watcher.Watcher.{Watcher}
 use Rattle.fab_policy.specs.Changes.{heard_node}
 use Rattle.fab_policy.specs.Logins.{NPort}
-use Rattle.fab_policy.specs.State.{LivePort, port_at}
+use Rattle.fab_policy.specs.State.{port_at}
 use Rattle.fab_policy.specs.Steps.{fresh}
+use Rattle.keepalive_clock.proofs.VoiceLemmas.{voices_same}
 use Rattle.fab_roster.specs.Agreement.{Agree, IsHeldBy, SpeaksFor}
 use Rattle.fab_roster.specs.Changes.{Grants, IsSize}
 use Rattle.fab_roster.specs.Roll.{live_of, ports_of, roll_of}
 use Rattle.fab_roster.specs.declared.roster.Roster.TheInside.{Inside}
-use Rattle.fab_roster.proofs.Found.{enode_refl, enode_turned, equal, item_at-key, same, turned, voice_same}
+use Rattle.fab_roster.proofs.Found.{enode_turned, equal, item_at-key, same, turned, enode_refl}
 use Rattle.fab_roster.proofs.Lookups.{port_of_login}
+use Rattle.fab_roster.proofs.TablesRead.{absent_watcher}
 
 -- when a voice was last heard after both voices of a login were
 abbrev pub heard_both : ℕ → Login → Voice → Option ℕ → Option ℕ
@@ -91,8 +93,8 @@ module _ {now : ℕ} {x : Login} {old new : Inside} (agree : Agree old) (s : Aft
     where
       go : (b : Bool) → same_voice (Port x.address) v ≡ b → (c : Bool) → same_voice (Node x.enode) v ≡ c → IsSome (if b then Some now else if c then Some now else last_of v old.voices.voices) →
           (l : Login) × (login_at l.address new.logins.logins ≡ Some l) × SpeaksFor v l
-      go true e c f i = (x, new_at, subst (λ u. SpeaksFor u x) (voice_same (Port x.address) v e) refl)
-      go false e true f i = (x, new_at, subst (λ u. SpeaksFor u x) (voice_same (Node x.enode) v f) (enode_refl x.enode))
+      go true e c f i = (x, new_at, subst (λ u. SpeaksFor u x) (voices_same.equal (Port x.address) v e) refl)
+      go false e true f i = (x, new_at, subst (λ u. SpeaksFor u x) (voices_same.equal (Node x.enode) v f) (enode_refl x.enode))
       go false e false f i = let g = agree.voices.speak v i in (g.0, stays g.0.address g.0 g.1, g.2)
 
   -- ---- each login stands in each table
@@ -181,51 +183,35 @@ module _ {now : ℕ} {x : Login} {old new : Inside} (agree : Agree old) (s : Aft
   abbrev n_port : NPort
   n_port = record { name = x.name; node = x.node; enode = x.enode }
 
-  abbrev made : Login → Option ℕ → Option ℕ → Option ℕ → Option Watcher → Option Entry → LivePort
-  made l size n p y e = record {
-    address = l.address;
-    name = l.name;
-    node = l.node;
-    enode = l.enode;
-    server = size;
-    node_heard = unwrap_or n 0;
-    port_heard = unwrap_or p 0;
-    watch = option_map_or (λ (z : Watcher). z.function) y 0;
-    values = option_map_or (λ (z : Entry). z.values) e (first_values l.node);
-  }
-
-  same_made : (l : Login) (s s' n n' p p' : Option ℕ) (y y' : Option Watcher) (e e' : Option Entry) → s ≡ s' → n ≡ n' → p ≡ p' → y ≡ y' → e ≡ e' → made l s n p y e ≡ made l s' n' p' y' e'
-  same_made l s s' n n' p p' y y' e e' e1 e2 e3 e4 e5 = cc
-
-  unwatched : watcher_at x.address old.watchers.watchers ≡ None
-  unwatched = go (watcher_at x.address old.watchers.watchers) refl
-    where
-      go : (o : Option Watcher) → watcher_at x.address old.watchers.watchers ≡ o → o ≡ None
-      go None e = refl
-      go (Some y) e = let f = (agree.watchers.known x.address y e).1 in let none : login_at x.address old.logins.logins ≡ None = s.absent in cc
+  heard : {o : Option ℕ} → o ≡ Some now → unwrap_or o 0 ≡ now
+  heard e = ap (λ o. unwrap_or o 0) e
 
   -- the new one is fresh
   live_new : live_of (granted old new) x ≡ fresh now x.address n_port
-  live_new = same_made x x.server_size None (last_of (Node x.enode) new.voices.voices) (Some now) (last_of (Port x.address) new.voices.voices) (Some now)
-      (watcher_at x.address old.watchers.watchers) None (entry_at x.address new.registry.entries) (Some (entered x.address x.node)) s.server node_now port_now unwatched entry_new
+  live_new = cc (
+    s.server,
+    heard node_now,
+    heard port_now,
+    ap (λ o. option_map_or (λ (z : Watcher). z.function) o 0) (absent_watcher agree x.address s.absent),
+    ap (λ o. option_map_or (λ (z : Entry). z.values) o (first_values x.node)) entry_new,
+  )
 
   -- another is heard with its ENode
   live_other : (b : ℕ) (l : Login) → login_at b old.logins.logins ≡ Some l → live_of (granted old new) l ≡ heard_node x.enode now (live_of old l)
-  live_other b l e =
-      let apart : x.address == l.address ≡ false = ap (λ a. x.address == a) (item_at-key address_of b old.logins.logins l e) ∙ other b l e in
-      same_made l l.server_size l.server_size (last_of (Node l.enode) new.voices.voices) (if same_enode l.enode x.enode then Some now else last_of (Node l.enode) old.voices.voices)
-      (last_of (Port l.address) new.voices.voices) (last_of (Port l.address) old.voices.voices) (watcher_at l.address old.watchers.watchers) (watcher_at l.address old.watchers.watchers) (entry_at l.address new.registry.entries) (entry_at l.address old.registry.entries)
-      refl
-      (s.voices (Node l.enode) ∙ ap (λ c. if c then Some now else last_of (Node l.enode) old.voices.voices) (enode_turned x.enode l.enode))
-      (s.voices (Port l.address) ∙ ap (λ c. if c then Some now else last_of (Port l.address) old.voices.voices) apart)
-      refl
-      (entry_stays l.address apart)
-      ∙ by_node (same_enode l.enode x.enode)
+  live_other b l e = go (same_enode l.enode x.enode) refl
     where
-      by_node : (c : Bool) → made l l.server_size (if c then Some now else last_of (Node l.enode) old.voices.voices) (last_of (Port l.address) old.voices.voices) (watcher_at l.address old.watchers.watchers) (entry_at l.address old.registry.entries)
-          ≡ (if c then record (live_of old l) { node_heard = now } else live_of old l)
-      by_node true = refl
-      by_node false = refl
+      apart : x.address == l.address ≡ false
+      apart = ap (λ a. x.address == a) (item_at-key address_of b old.logins.logins l e) ∙ other b l e
+
+      port : last_of (Port l.address) new.voices.voices ≡ last_of (Port l.address) old.voices.voices
+      port = s.voices (Port l.address) ∙ ap (λ c. if c then Some now else last_of (Port l.address) old.voices.voices) apart
+
+      node : (c : Bool) → same_enode l.enode x.enode ≡ c → last_of (Node l.enode) new.voices.voices ≡ (if c then Some now else last_of (Node l.enode) old.voices.voices)
+      node c f = s.voices (Node l.enode) ∙ ap (λ d. if d then Some now else last_of (Node l.enode) old.voices.voices) (enode_turned x.enode l.enode ∙ f)
+
+      go : (c : Bool) → same_enode l.enode x.enode ≡ c → live_of (granted old new) l ≡ (if c then record (live_of old l) { node_heard = now } else live_of old l)
+      go true f = cc (heard (node true f), port, entry_stays l.address apart)
+      go false f = cc (node false f, port, entry_stays l.address apart)
 
   ports_after : (b : ℕ) → port_at b (ports_of (granted old new)) ≡ (if b == x.address then Some (fresh now x.address n_port) else option_map (heard_node x.enode now) (port_at b (ports_of old)))
   ports_after b = port_of_login (granted old new) b

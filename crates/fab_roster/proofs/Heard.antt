@@ -14,11 +14,12 @@ use Rattle.login_table.specs.Logins.{Logins, login_at}
 use Rattle.login_table.specs.declared.login.Login.{Login}
 use Rattle.name_server.specs.Registry.{Registrations}
 use Rattle.state_change.specs.Watchers.{Watching}
+use Rattle.keepalive_clock.proofs.VoiceLemmas.{voices_same}
 use Rattle.fab_roster.specs.Agreement.{Agree, SpeaksFor}
 use Rattle.fab_roster.specs.Changes.{ChangesPorts}
 use Rattle.fab_roster.specs.Roll.{Roll, live_of, ports_of, roll_of}
 use Rattle.fab_roster.specs.declared.roster.Roster.TheInside.{Inside}
-use Rattle.fab_roster.proofs.Found.{any-item_at, turned, enode_turned, voice_same}
+use Rattle.fab_roster.proofs.Found.{any-item_at, turned, enode_turned}
 use Rattle.fab_roster.proofs.Lookups.{any_login, port_of_login}
 
 -- ---- tables that change the N_Ports of a roll alone
@@ -81,7 +82,7 @@ module _ (t : Inside) (k : VoiceClock) (now : ℕ) (v : Voice) (last : HearsVoic
   }
     where
       by_voice : (u : Voice) (b : Bool) → same_voice v u ≡ b → IsSome (if b then Some now else last_of u t.voices.voices) → (m : Login) × (login_at m.address t.logins.logins ≡ Some m) × SpeaksFor u m
-      by_voice u true e h = (l, is, subst (λ x. SpeaksFor x l) (voice_same v u e) speaks)
+      by_voice u true e h = (l, is, subst (λ x. SpeaksFor x l) (voices_same.equal v u e) speaks)
       by_voice u false e h = agree.voices.speak u h
 
   -- the N_Ports change by what the voice changes at the clock

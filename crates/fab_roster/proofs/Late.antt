@@ -1,6 +1,7 @@
 -- Who is overdue, by a walk over all N_Ports.
-use Rattle.std.proofs.Common.{◌≡◌, ℕ, ◌||◌, not, if◌then◌else◌, Bool, true, false, cond, List, [], ◌∷◌, map, filter, refl, sym, ap, ◌∙◌}
+use Rattle.std.proofs.Common.{◌≡◌, ℕ, not, if◌then◌else◌, Bool, true, false, List, [], ◌∷◌, map, filter, refl, sym, ap, ◌∙◌, arith}
 use mathlib.Core.Bool.{beq}
+use Rattle.std.proofs.lemmas.Bool.Decides.{nat_tests}
 use Rattle.std.specs.List.{list_any}
 use Rattle.fab_config.specs.Settings.{Settings}
 use Rattle.fab_policy.specs.State.{LivePort, is_overdue, overdue}
@@ -21,11 +22,7 @@ so_is false false t x e f = ap not (sym e) ∙ f
 -- where nobody passes a test, none is left by it
 pub filter-nobody : {X : Type 0} (p : X → Bool) (xs : List X) → list_any p xs ≡ false → filter p xs ≡ []
 filter-nobody p [] nobody = refl
-filter-nobody p (x ∷ xs) nobody = go (p x) refl nobody (filter-nobody p xs)
-  where
-    go : (b : Bool) → p x ≡ b → b || list_any p xs ≡ false → (list_any p xs ≡ false → filter p xs ≡ []) → filter p (x ∷ xs) ≡ []
-    go true e none others = cc
-    go false e none others = ap (λ b. cond b (x ∷ filter p xs) (filter p xs)) e ∙ others none
+filter-nobody p (x ∷ xs) nobody = grind (arith, nat_tests, λ (later : list_any p xs ≡ false). filter-nobody p xs later)
 
 -- where nobody is overdue, or nobody is live, no login is
 module _ (R : Roll) (m : ℕ) (s : Settings) (same : s.period ≡ R.period) where

@@ -1,6 +1,8 @@
 -- Look-ups in the list of N_Ports that the tables make are look-ups among logins.
-use Rattle.std.proofs.Common.{◌≡◌, ℕ, ◌==◌, ◌&&◌, ◌||◌, nat_le, Bool, true, false, cond, List, [], ◌∷◌, map, find, Option, Some, None, option_map, IsSome, refl, sym, ap, ◌∙◌}
+use Rattle.std.proofs.Common.{◌≡◌, ℕ, ◌==◌, ◌&&◌, ◌||◌, nat_le, Bool, List, [], ◌∷◌, map, find, Option, Some, None, option_map, IsSome, refl, sym, ap, ◌∙◌, arith}
+use Rattle.std.proofs.lemmas.Bool.Decides.{nat_tests}
 use Rattle.std.specs.List.{list_any}
+use Rattle.fab_config.proofs.ListLemmas.{any_map}
 use Rattle.login_table.specs.Logins.{login_at, named, next_of}
 use Rattle.login_table.specs.declared.login.Login.{Login}
 use Rattle.fab_policy.specs.State.{LivePort, port_at}
@@ -11,15 +13,7 @@ use Rattle.fab_roster.proofs.Found.{item_at-key, some_found}
 -- a list whose items are changed and pass as before
 pub find_map : {X Y : Type 0} (f : X → Y) (p : Y → Bool) (q : X → Bool) (xs : List X) → ((x : X) → p (f x) ≡ q x) → find p (map f xs) ≡ option_map f (find q xs)
 find_map f p q [] same = refl
-find_map f p q (x ∷ xs) same = ap (λ b. cond b (Some (f x)) (find p (map f xs))) (same x) ∙ (ap (λ o. cond (q x) (Some (f x)) o) (find_map f p q xs same) ∙ sym (out (q x)))
-  where
-    out : (b : Bool) → option_map f (cond b (Some x) (find q xs)) ≡ cond b (Some (f x)) (option_map f (find q xs))
-    out true = refl
-    out false = refl
-
-pub list_any-map : {X Y : Type 0} (f : X → Y) (p : Y → Bool) (xs : List X) → list_any p (map f xs) ≡ list_any (λ x. p (f x)) xs
-list_any-map f p [] = refl
-list_any-map f p (x ∷ xs) = ap (λ b. p (f x) || b) (list_any-map f p xs)
+find_map f p q (x ∷ xs) same = grind (arith, nat_tests, same x, find_map f p q xs same)
 
 pub option_map-map : {X Y Z : Type 0} (g : Y → Z) (f : X → Y) (o : Option X) → option_map g (option_map f o) ≡ option_map (λ x. g (f x)) o
 option_map-map g f None = refl
@@ -68,7 +62,7 @@ module _ (t : Inside) where
 
   -- some login passes where some N_Port does
   pub any_login : (p : LivePort → Bool) (q : Login → Bool) → ((l : Login) → p (live_of t l) ≡ q l) → list_any p (ports_of t) ≡ list_any q t.logins.logins
-  any_login p q as_login = list_any-map (live_of t) p t.logins.logins ∙ each t.logins.logins
+  any_login p q as_login = any_map p (live_of t) t.logins.logins ∙ each t.logins.logins
     where
       each : (xs : List Login) → list_any (λ l. p (live_of t l)) xs ≡ list_any q xs
       each [] = refl

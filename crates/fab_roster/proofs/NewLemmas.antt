@@ -1,8 +1,8 @@
 -- The tables of a new roster.
-use Rattle.std.proofs.Common.{◌≡◌, ℕ, zero, suc, ◌+◌, ◌*◌, ◌≤◌, ◌==◌, ◌&&◌, Bool, true, false, cond, List, [], Some, None, IfSome, is_some, is_none, IsTrue, refl, sym, subst, arith}
-use Rattle.std.specs.Option.{option_map_or}
+use Rattle.std.proofs.Common.{◌≡◌, ℕ, zero, suc, ◌+◌, ◌*◌, ◌≤◌, false, List, [], None, IfSome, IsTrue, refl, sym, subst, arith}
+use Rattle.std.proofs.lemmas.Bool.Decides.{nat_tests}
 use Rattle.std.proofs.lemmas.List.Elements.{All-nil, All-cons}
-use Rattle.fab_base.specs.Fabric.{Past, past_at, PORT_PERIOD}
+use Rattle.fab_base.specs.Fabric.{Past, PORT_PERIOD}
 use Rattle.fc_addresses.specs.Pool.{unused, is_held, AreEndedBy}
 use Rattle.login_table.specs.Logins.{Logins}
 use Rattle.keepalive_clock.specs.Clock.{VoiceClock}
@@ -16,12 +16,7 @@ use Rattle.fab_roster.proofs.Found.{true_false}
 -- nobody holds an address
 unheld : (a first count : ℕ) → is_held (unused first count) a ≡ false
 unheld a first zero = refl
-unheld a first (suc count) = go (first == a) (unheld a (first + 1) count)
-  where
-    go : (b : Bool) → is_held (unused (first + 1) count) a ≡ false →
-        option_map_or (λ (p : Past). is_some p.name && is_none p.ended) (cond b (Some (record { address = first; name = None; ended = None })) (past_at a (unused (first + 1) count))) false ≡ false
-    go true ih = refl
-    go false ih = ih
+unheld a first (suc count) = grind (arith, nat_tests, unheld a (first + 1) count)
 
 unended : (first count : ℕ) → AreEndedBy 0 (unused first count)
 unended first zero = All-nil _

@@ -1,5 +1,7 @@
 -- Somebody is overdue exactly where some voice is silent.
 use Rattle.std.proofs.Common.{◌≡◌, ℕ, ◌||◌, ◌==◌, Bool, true, false, List, [], ◌∷◌, map, IsSome, Some, unwrap_or, is_some, IsTrue, ◌↔◌, ◌⊎◌, inl, inr, refl, sym, ap, subst, ◌∙◌, cond}
+use Rattle.std.proofs.Math.Bool.{or-true}
+use Rattle.std.specs.Cmp.{both_ways}
 use Rattle.std.specs.List.{list_any}
 use Rattle.fab_base.specs.Fabric.{is_silent, PORT_PERIOD}
 use Rattle.fab_policy.specs.State.{LivePort}
@@ -9,25 +11,17 @@ use Rattle.keepalive_clock.specs.declared.voice.Voice.TheVariants.{Node, Port}
 use Rattle.login_table.specs.Logins as logins
 use Rattle.login_table.specs.Logins.{login_at}
 use Rattle.login_table.specs.declared.login.Login.{Login}
+use Rattle.fab_base.proofs.SamenessLemmas.{list_any-found}
 use Rattle.fab_roster.specs.Agreement.{Agree, SpeaksFor}
 use Rattle.fab_roster.specs.Changes.{IsFirstOverdue, is_late}
 use Rattle.fab_roster.specs.Roll.{Roll, live_of, ports_of, roll_of}
 use Rattle.fab_roster.specs.declared.roster.Roster.TheInside.{Inside}
-use Rattle.fab_roster.proofs.Found.{true_false, same, some_found, any-item_at, find-any, enode_same}
+use Rattle.fab_roster.proofs.Found.{true_false, same, some_found, any-item_at, enode_same}
 use Rattle.fab_roster.proofs.Lookups.{any_login}
-
-or_true : (b : Bool) → b || true ≡ true
-or_true true = refl
-or_true false = refl
 
 or_parts : (a b : Bool) → a || b ≡ true → (a ≡ true) ⊎ (b ≡ true)
 or_parts true b e = inl refl
 or_parts false b e = inr e
-
-both_ways : (a b : Bool) → (a ≡ true → b ≡ true) → (b ≡ true → a ≡ true) → a ≡ b
-both_ways true b there back = sym (there refl)
-both_ways false true there back = back refl
-both_ways false false there back = refl
 
 module _ {t : Inside} (agree : Agree t) (silent : (m : ℕ) → IsTrue (has_silent t.voices m) ↔ HasSilent t.voices m) where
   -- an N_Port is overdue, by the periods of the clock
@@ -43,7 +37,7 @@ module _ {t : Inside} (agree : Agree t) (silent : (m : ℕ) → IsTrue (has_sile
   by_voice m h (Port a) l speaks last is =
       let heard : unwrap_or (last_of (Port l.address) t.voices.voices) 0 ≡ h = ap (λ y. unwrap_or (last_of (Port y) t.voices.voices) 0) speaks ∙ ap (λ o. unwrap_or o 0) last in
       ap (λ n. is_silent t.voices.node_period (unwrap_or (last_of (Node l.enode) t.voices.voices) 0) m || is_silent PORT_PERIOD n m) heard
-      ∙ (ap (λ b. is_silent t.voices.node_period (unwrap_or (last_of (Node l.enode) t.voices.voices) 0) m || b) (ap (λ n. is_silent n h m) (sym agree.voices.port_period) ∙ is) ∙ or_true (is_silent t.voices.node_period (unwrap_or (last_of (Node l.enode) t.voices.voices) 0) m))
+      ∙ (ap (λ b. is_silent t.voices.node_period (unwrap_or (last_of (Node l.enode) t.voices.voices) 0) m || b) (ap (λ n. is_silent n h m) (sym agree.voices.port_period) ∙ is) ∙ or-true (is_silent t.voices.node_period (unwrap_or (last_of (Node l.enode) t.voices.voices) 0) m))
 
   -- a login that is overdue has a silent voice
   by_login : (m a : ℕ) (l : Login) → login_at a t.logins.logins ≡ Some l → overdue_at m (live_of t l) ≡ true → HasSilent t.voices m
@@ -70,7 +64,7 @@ module _ {t : Inside} (agree : Agree t) (silent : (m : ℕ) → IsTrue (has_sile
       back e =
           let s = (silent m).0 e in
           let f = agree.voices.speak s.0 (ap (λ o. is_some o) s.2) in
-          as_logins ∙ find-any (λ l. overdue_at m (live_of t l)) (λ l. l.address == f.0.address) t.logins.logins f.0 f.1 (by_voice m s.1 s.0 f.0 f.2 s.2 s.3)
+          as_logins ∙ list_any-found (λ l. l.address == f.0.address) (λ l. overdue_at m (live_of t l)) f.0 t.logins.logins f.1 (by_voice m s.1 s.0 f.0 f.2 s.2 s.3)
 
   pub first_overdue : {R : Roll} (m : ℕ) → roll_of t ≡ R → IsFirstSilence t.voices m → IsFirstOverdue R m
   first_overdue m view first = subst (λ r. IsFirstOverdue r m) view (subst (λ n. IsFirstOverdue (roll_of (record t { period = n })) m) agree.voices.node_period (record {

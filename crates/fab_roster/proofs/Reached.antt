@@ -1,6 +1,7 @@
 -- Whom a change reaches, by the watchers and by the N_Ports.
-use Rattle.std.proofs.Common.{◌≡◌, ℕ, ◌&&◌, Bool, true, false, cond, not, List, [], ◌∷◌, map, filter, Option, Some, None, option_map, unwrap_or, refl, sym, ap, ◌∙◌}
-use Rattle.std.proofs.Math.Bool.{and_assoc}
+use Rattle.std.proofs.Common.{◌≡◌, ℕ, ◌&&◌, Bool, false, not, List, [], ◌∷◌, map, filter, Option, Some, None, option_map, unwrap_or, refl, sym, ap, ◌∙◌, arith}
+use Rattle.std.proofs.Math.Bool.{and-false, and_assoc}
+use Rattle.std.proofs.lemmas.Bool.Decides.{nat_tests}
 use Rattle.std.specs.Option.{option_map_or}
 use Rattle.fab_base.proofs.KeyedLemmas.{AscendFrom-filter, AscendFrom-keys, list_any-keys-filter, equal_by_members}
 use Rattle.fab_base.specs.Fabric.{asks_fabric}
@@ -33,21 +34,11 @@ left but ws = picked address_of (λ w. not (contains w.address but)) ws
 module _ {X : Type 0} (p q : X → Bool) where
   filter-filter : (xs : List X) → filter p (filter q xs) ≡ filter (λ x. p x && q x) xs
   filter-filter [] = refl
-  filter-filter (x ∷ xs) = go (p x) refl (q x) (filter-filter xs)
-    where
-      go : (b : Bool) → p x ≡ b → (c : Bool) → filter p (filter q xs) ≡ filter (λ y. p y && q y) xs → filter p (cond c (x ∷ filter q xs) (filter q xs)) ≡ cond (b && c) (x ∷ filter (λ y. p y && q y) xs) (filter (λ y. p y && q y) xs)
-      go true e true others = ap (λ d. cond d (x ∷ filter p (filter q xs)) (filter p (filter q xs))) e ∙ ap (λ l. x ∷ l) others
-      go false e true others = ap (λ d. cond d (x ∷ filter p (filter q xs)) (filter p (filter q xs))) e ∙ others
-      go true e false others = others
-      go false e false others = others
+  filter-filter (x ∷ xs) = grind (arith, nat_tests, filter-filter xs)
 
   pub filter-same : ((x : X) → p x ≡ q x) → (xs : List X) → filter p xs ≡ filter q xs
   filter-same same [] = refl
-  filter-same same (x ∷ xs) = ap (λ b. cond b (x ∷ filter p xs) (filter p xs)) (same x) ∙ ap (λ l. cond (q x) (x ∷ l) l) (filter-same same xs)
-
-and_false : (b : Bool) → b && false ≡ false
-and_false true = refl
-and_false false = refl
+  filter-same same (x ∷ xs) = grind (arith, nat_tests, same x, filter-same same xs)
 
 -- ---- watchers and N_Ports
 
@@ -95,7 +86,7 @@ module _ {t : Inside} (agree : Agree t) where
       left but (filter (λ x. asks_fabric x.function && reaches x.name) t.watchers.watchers) ≡ addresses (filter (λ p. not (contains p.address but) && is_watcher p && reaches p.name) (ports_of t))
   left_are_told but reaches =
       ap (map address_of) (filter-filter (λ x. not (contains x.address but)) (λ x. asks_fabric x.function && reaches x.name) t.watchers.watchers)
-      ∙ (watchers_are_ports (λ a f n. not (contains a but) && (asks_fabric f && reaches n)) (λ a n. and_false (not (contains a but)))
+      ∙ (watchers_are_ports (λ a f n. not (contains a but) && (asks_fabric f && reaches n)) (λ a n. and-false (not (contains a but)))
       ∙ sym (ap addresses (filter-same (λ p. not (contains p.address but) && is_watcher p && reaches p.name) (λ p. not (contains p.address but) && (is_watcher p && reaches p.name)) (λ p. and_assoc (not (contains p.address but)) (is_watcher p) (reaches p.name)) (ports_of t))))
 
   -- the tables make this roll
@@ -117,10 +108,4 @@ module _ {t : Inside} (agree : Agree t) where
 pub logins_pass : (t : Inside) (p : LivePort → Bool) (q : Login → Bool) → ((l : Login) → p (live_of t l) ≡ q l) → (ls : List Login) →
     filter q ls ≡ map login_of (filter p (map (live_of t) ls))
 logins_pass t p q as_login [] = refl
-logins_pass t p q as_login (l ∷ ls) =
-    go (q l) (logins_pass t p q as_login ls) ∙ ap (λ b. map login_of (cond b (live_of t l ∷ filter p (map (live_of t) ls)) (filter p (map (live_of t) ls)))) (sym (as_login l))
-  where
-    go : (b : Bool) → filter q ls ≡ map login_of (filter p (map (live_of t) ls)) →
-        cond b (l ∷ filter q ls) (filter q ls) ≡ map login_of (cond b (live_of t l ∷ filter p (map (live_of t) ls)) (filter p (map (live_of t) ls)))
-    go true others = ap (λ ls. l ∷ ls) others
-    go false others = others
+logins_pass t p q as_login (l ∷ ls) = grind (arith, nat_tests, as_login l, logins_pass t p q as_login ls)

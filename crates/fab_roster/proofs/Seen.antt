@@ -1,7 +1,8 @@
 -- What a login sees, by a walk over the logins, and what the registry knows of it.
-use Rattle.std.proofs.Common.{◌≡◌, ℕ, ◌+◌, ◌<◌, ◌≤◌, ◌==◌, ◌||◌, Bool, true, false, cond, List, [], ◌∷◌, ◌++◌, map, filter, Option, Some, None, option_map, is_some, IsSome, refl, sym, ap, subst, ◌∙◌, arith}
+use Rattle.std.proofs.Common.{◌≡◌, ℕ, ◌+◌, ◌<◌, ◌≤◌, ◌==◌, ◌||◌, Bool, true, false, List, [], ◌∷◌, ◌++◌, map, filter, Option, Some, None, option_map, is_some, IsSome, refl, sym, ap, subst, ◌∙◌, arith}
+use Rattle.std.proofs.lemmas.Bool.Decides.{nat_tests}
 use Rattle.std.proofs.lemmas.List.Elements.{All-append, All-cons, All-filter, All-head, All-map, All-nil, All-tail, All-weaker}
-use Rattle.std.specs.List.{All, cons_option}
+use Rattle.std.specs.List.{All}
 use Rattle.std.specs.Option.{option_map_or}
 use Rattle.fab_base.proofs.KeyedLemmas.{is_some-item_at-filter}
 use Rattle.fab_config.specs.Settings.{Settings}
@@ -75,15 +76,13 @@ module _ (c : Settings) (t : Inside) where
       registry.known t.registry.entries (map (seen_port c) (filter q ls)) ≡ map (known c) (filter p (map (live_of t) ls))
   seen_are_known q p as_login [] entered = refl
   seen_are_known q p as_login (l ∷ ls) entered =
-      go (q l) (seen_are_known q p as_login ls (All-tail (λ x. IsSome (entry_at x.address t.registry.entries)) l ls entered))
-      ∙ ap (λ b. map (known c) (cond b (live_of t l ∷ filter p (map (live_of t) ls)) (filter p (map (live_of t) ls)))) (sym (as_login l))
-    where
-      go : (b : Bool) → registry.known t.registry.entries (map (seen_port c) (filter q ls)) ≡ map (known c) (filter p (map (live_of t) ls)) →
-          registry.known t.registry.entries (map (seen_port c) (cond b (l ∷ filter q ls) (filter q ls))) ≡ map (known c) (cond b (live_of t l ∷ filter p (map (live_of t) ls)) (filter p (map (live_of t) ls)))
-      go true others =
-          ap (λ o. cons_option o (registry.known t.registry.entries (map (seen_port c) (filter q ls)))) (one_known l (All-head (λ x. IsSome (entry_at x.address t.registry.entries)) l ls entered))
-          ∙ ap (λ ks. known c (live_of t l) ∷ ks) others
-      go false others = others
+      grind (
+        arith,
+        nat_tests,
+        as_login l,
+        one_known l (All-head (λ x. IsSome (entry_at x.address t.registry.entries)) l ls entered),
+        seen_are_known q p as_login ls (All-tail (λ x. IsSome (entry_at x.address t.registry.entries)) l ls entered),
+      )
 
 module _ {t : Inside} (agree : Agree t) (c : Settings) (z : ZoneRules) (at a : ℕ) (l : Login) (found : login_at a t.logins.logins ≡ Some l) where
   all_entered : All (λ (x : Login). IsSome (entry_at x.address t.registry.entries)) t.logins.logins

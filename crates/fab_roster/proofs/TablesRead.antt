@@ -48,7 +48,7 @@ module _ {t : Inside} (agree : Agree t) where
 
   -- ---- watchers
 
-  absent_watcher : (a : ℕ) → login_at a t.logins.logins ≡ None → watcher_at a t.watchers.watchers ≡ None
+  pub absent_watcher : (a : ℕ) → login_at a t.logins.logins ≡ None → watcher_at a t.watchers.watchers ≡ None
   absent_watcher a none = go (watcher_at a t.watchers.watchers) refl
     where
       go : (o : Option Watcher) → watcher_at a t.watchers.watchers ≡ o → o ≡ None

@@ -1,6 +1,7 @@
 -- The voices that are forgotten with a login.
-use Rattle.std.proofs.Common.{◌≡◌, ℕ, ◌&&◌, ◌||◌, nat_le, is_some, Bool, true, false, not, cond, List, [], ◌∷◌, find, Some, None, option_map, refl, sym, ap, ◌∙◌, arith, if◌then◌else◌}
+use Rattle.std.proofs.Common.{◌≡◌, ◌&&◌, is_some, Bool, true, false, not, List, [], ◌∷◌, None, refl, sym, ap, ◌∙◌, arith, if◌then◌else◌}
 use Rattle.std.proofs.lemmas.Bool.Decides.{nat_tests}
+use Rattle.std.proofs.Math.Bool.{and-false, and-true}
 use Rattle.std.specs.List.{list_any}
 use Rattle.fab_base.specs.Fabric.{same_enode}
 use Rattle.keepalive_clock.specs.Clock.{last_of, ForgetsVoice}
@@ -14,29 +15,14 @@ use Rattle.fab_roster.specs.Agreement.{is_silenced}
 -- some login passes where the first from 0 on is found
 pub first_any : (p : Login → Bool) (ls : List Login) → is_some (next_of p 0 ls) ≡ list_any p ls
 first_any p [] = refl
-first_any p (l ∷ ls) = ap (λ y. is_some (option_map (λ x. x.address) (cond (y && p l) (Some l) (find (λ x. nat_le 0 x.address && p x) ls)))) (le l.address) ∙ go (p l) (first_any p ls)
-  where
-    le : (x : ℕ) → nat_le 0 x ≡ true
-    le x = grind (arith, nat_tests)
-
-    go : (b : Bool) → is_some (next_of p 0 ls) ≡ list_any p ls → is_some (option_map (λ (x : Login). x.address) (cond (true && b) (Some l) (find (λ x. nat_le 0 x.address && p x) ls))) ≡ b || list_any p ls
-    go true ih = refl
-    go false ih = ih
-
-and_false : (b : Bool) → b && false ≡ false
-and_false true = refl
-and_false false = refl
-
-and_true : (b : Bool) → b && true ≡ b
-and_true true = refl
-and_true false = refl
+first_any p (l ∷ ls) = grind (arith, nat_tests, first_any p ls)
 
 module _ (ls : List Login) (gone : Login) (xs ys zs : List LastHeard) (port : ForgetsVoice (Port gone.address) xs ys) where
   -- another login of the ENode is left
   pub left_one : list_any (λ l. same_enode l.enode gone.enode) ls ≡ true → (v : Voice) → last_of v ys ≡ (if is_silenced ls gone v then None else last_of v xs)
   left_one h (Port a) = port (Port a)
   left_one h (Node x) = port (Node x)
-      ∙ ap (λ b. if b then None else last_of (Node x) xs) (sym (ap (λ y. same_enode gone.enode x && not y) h ∙ and_false (same_enode gone.enode x)))
+      ∙ ap (λ b. if b then None else last_of (Node x) xs) (sym (ap (λ y. same_enode gone.enode x && not y) h ∙ and-false (same_enode gone.enode x)))
 
   -- none is left
   pub left_none : list_any (λ l. same_enode l.enode gone.enode) ls ≡ false → ForgetsVoice (Node gone.enode) ys zs → (v : Voice) →
@@ -44,4 +30,4 @@ module _ (ls : List Login) (gone : Login) (xs ys zs : List LastHeard) (port : Fo
   left_none h node (Port a) = node (Port a) ∙ port (Port a)
   left_none h node (Node x) = node (Node x)
       ∙ (ap (λ o. if same_enode gone.enode x then None else o) (port (Node x))
-      ∙ ap (λ b. if b then None else last_of (Node x) xs) (sym (ap (λ y. same_enode gone.enode x && not y) h ∙ and_true (same_enode gone.enode x))))
+      ∙ ap (λ b. if b then None else last_of (Node x) xs) (sym (ap (λ y. same_enode gone.enode x && not y) h ∙ and-true (same_enode gone.enode x))))

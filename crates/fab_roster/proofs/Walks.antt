@@ -1,5 +1,5 @@
 -- Walks over items with ascending keys: ask for the first from a bound on, take it, and go on behind it.
-use Rattle.std.proofs.Common.{◌≡◌, ℕ, ◌+◌, ◌-◌, ◌^◌, ◌<◌, ◌≤◌, ◌==◌, nat_le, Bool, true, false, cond, if◌then◌else◌, List, [], ◌∷◌, ◌++◌, map, filter, find, Option, Some, None, option_map, append_assoc, refl, sym, ap, ◌∙◌, arith}
+use Rattle.std.proofs.Common.{◌≡◌, ℕ, ◌+◌, ◌-◌, ◌^◌, ◌<◌, ◌≤◌, nat_le, Bool, true, false, cond, if◌then◌else◌, List, [], ◌∷◌, ◌++◌, map, filter, find, Option, Some, None, option_map, append_assoc, append-nil, refl, sym, ap, ◌∙◌, arith}
 use Rattle.std.proofs.lemmas.Bool.Decides.{nat_tests}
 use Rattle.fab_base.specs.Keyed.{item_at, AscendFrom}
 
@@ -21,25 +21,13 @@ module _ {X : Type 0} (key : X → ℕ) where
     pub above : from ≤ a
     pub rest : from_on from xs ≡ item ∷ from_on (a + 1) xs
 
-  le_true : (j k : ℕ) → j ≤ k → nat_le j k ≡ true
-  le_true j k le = grind (arith, nat_tests)
-
-  le_false : (j k : ℕ) → k < j → nat_le j k ≡ false
-  le_false j k lt = grind (arith, nat_tests)
-
-  eq_false : (j k : ℕ) → j < k → j == k ≡ false
-  eq_false j k lt = grind (arith, nat_tests)
-
-  eq_true : (j k : ℕ) → j ≡ k → j == k ≡ true
-  eq_true j k is = grind (arith, nat_tests)
-
   from_on-ascending : (j k : ℕ) (xs : List X) → j ≤ k → AscendFrom key k xs → from_on j xs ≡ xs
   from_on-ascending j k [] le ascend = refl
-  from_on-ascending j k (x ∷ xs) le ascend = ap (λ b. cond b (x ∷ xs) (from_on j xs)) (le_true j (key x) (omega (arith, ascend.0)))
+  from_on-ascending j k (x ∷ xs) le ascend = grind (arith, nat_tests, ascend.0)
 
   from_on-all : (xs : List X) → from_on 0 xs ≡ xs
   from_on-all [] = refl
-  from_on-all (x ∷ xs) = ap (λ b. cond b (x ∷ xs) (from_on 0 xs)) (le_true 0 (key x) (omega arith))
+  from_on-all (x ∷ xs) = grind (arith, nat_tests)
 
   pub next_some : (k from a : ℕ) (xs : List X) → AscendFrom key k xs → Some a ≡ first_key from xs → IsNext from xs a
   next_some k from a [] ascend is = cc
@@ -48,36 +36,16 @@ module _ {X : Type 0} (key : X → ℕ) where
       go : (b : Bool) → nat_le from (key x) ≡ b → Some a ≡ option_map key (cond b (Some x) (find (λ y. nat_le from (key y)) xs)) → (Some a ≡ first_key from xs → IsNext from xs a) → IsNext from (x ∷ xs) a
       go true t i later =
           let at : key x ≡ a = cc in
-          record {
-            item = x;
-            at = at;
-            found = ap (λ b. cond b (Some x) (item_at key a xs)) (eq_true (key x) a at);
-            above = grind (arith, nat_tests);
-            rest =
-                ap (λ b. cond b (x ∷ xs) (from_on from xs)) t
-                ∙ ap (λ l. x ∷ l) (sym (ap (λ b. cond b (x ∷ xs) (from_on (a + 1) xs)) (le_false (a + 1) (key x) (omega arith)) ∙ from_on-ascending (a + 1) (key x + 1) xs (omega arith) ascend.1));
-          }
+          let rest : from_on (a + 1) xs ≡ xs = from_on-ascending (a + 1) (key x + 1) xs (omega arith) ascend.1 in
+          record { item = x; at = at; found = grind (arith, nat_tests); above = grind (arith, nat_tests); rest = grind (arith, nat_tests, rest) }
       go false f i later =
           let n : IsNext from xs a = later i in
-          let lt : key x < from = grind (arith, nat_tests) in
-          let behind : key x < a = omega (arith, n.above) in
-          record {
-            item = n.item;
-            at = n.at;
-            found = ap (λ b. cond b (Some x) (item_at key a xs)) (eq_false (key x) a behind) ∙ n.found;
-            above = n.above;
-            rest =
-                ap (λ b. cond b (x ∷ xs) (from_on from xs)) f
-                ∙ (n.rest ∙ ap (λ l. n.item ∷ l) (sym (ap (λ b. cond b (x ∷ xs) (from_on (a + 1) xs)) (le_false (a + 1) (key x) (omega arith)))));
-          }
+          let behind : key x < a = grind (arith, nat_tests, n.above) in
+          record { item = n.item; at = n.at; found = grind (arith, nat_tests, n.found); above = n.above; rest = grind (arith, nat_tests, n.rest) }
 
   next_none : (from : ℕ) (xs : List X) → None ≡ first_key from xs → from_on from xs ≡ []
   next_none from [] is = refl
-  next_none from (x ∷ xs) is = go (nat_le from (key x)) refl is (next_none from xs)
-    where
-      go : (b : Bool) → nat_le from (key x) ≡ b → None ≡ option_map key (cond b (Some x) (find (λ y. nat_le from (key y)) xs)) → (None ≡ first_key from xs → from_on from xs ≡ []) → from_on from (x ∷ xs) ≡ []
-      go true t i later = cc
-      go false f i later = ap (λ b. cond b (x ∷ xs) (from_on from xs)) f ∙ later i
+  next_none from (x ∷ xs) is = grind (arith, nat_tests, λ (later : None ≡ first_key from xs). next_none from xs later)
 
   -- ---- what a walk has made so far
 
@@ -100,11 +68,7 @@ module _ {X : Type 0} (key : X → ℕ) where
 
     pub walk_ends : (from : ℕ) (xs : List X) (out : List Z) → made [] ≡ [] → None ≡ first_key from xs → Walked from xs out → out ≡ made xs
     walk_ends from xs out nothing none so_far =
-        sym (append_nil out) ∙ (ap (λ l. out ++ l) (sym (ap made (next_none from xs none) ∙ nothing)) ∙ so_far)
-      where
-        append_nil : (l : List Z) → l ++ [] ≡ l
-        append_nil [] = refl
-        append_nil (z ∷ l) = ap (λ m. z ∷ m) (append_nil l)
+        sym (append-nil out) ∙ (ap (λ l. out ++ l) (sym (ap made (next_none from xs none) ∙ nothing)) ∙ so_far)
 
 -- ---- the measure of a walk
 

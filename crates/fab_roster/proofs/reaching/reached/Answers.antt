@@ -4,9 +4,9 @@ use Rattle.fab_base.proofs.KeyedLemmas.{AscendFrom-filter}
 use Rattle.login_table.specs.Logins as logins
 use Rattle.state_change.specs.Watchers.{address_of}
 use Rattle.zone_rules.specs.Joined.{contains}
+use Rattle.fab_config.proofs.ListLemmas.{any_map}
 use Rattle.fab_roster.specs.Reaching.{is_reached}
 use Rattle.fab_roster.specs.Roll.{Login, addresses_of}
-use Rattle.fab_roster.proofs.Lookups.{list_any-map}
 use Rattle.fab_roster.proofs.Reached.{left}
 use Rattle.fab_roster.proofs.Walks.{IsNext, next_some, one_picked, none_picked, walk_starts, walk_goes_on, walk_ends}
 use Rattle.fab_roster.proofs.reaching.reached.Goals as goal
@@ -31,7 +31,7 @@ loop-address-preserved c =
     let ws = filter (is_reached c.args.zones.now c.args.name c.args.reach.now) c.args.watchers.now.watchers in
     let but = addresses_of c.args.but.now in
     let n = next c in
-    let tested = ap (λ a. not (contains a but)) n.at ∙ ap not (list_any-map logins.address_of (λ y. y == c.in-Some.address) c.args.but.now ∙ (ap (list_any (λ (l : Login). l.address == c.in-Some.address)) (sym c.items.ensures) ∙ sym c.hold.ensures)) in
+    let tested = ap (λ a. not (contains a but)) n.at ∙ ap not (any_map (λ y. y == c.in-Some.address) logins.address_of c.args.but.now ∙ (ap (list_any (λ (l : Login). l.address == c.in-Some.address)) (sym c.items.ensures) ∙ sym c.hold.ensures)) in
     elim c.if-not-hold.branch [
       | then-not-hold+in_ok-push w ↦
           one_picked address_of address_of (λ x. not (contains x.address but)) c.loop-address.from c.in-Some.address c.value-from.result ws c.loop-address.ids c.if-not-hold.ids
