@@ -1,5 +1,6 @@
 -- The tables after the end of a login.
-use Rattle.std.proofs.Common.{◌≡◌, ℕ, map, ◌==◌, ◌&&◌, not, Bool, true, false, Option, Some, None, option_map, is_some, is_none, IsSome, MatchOption, refl, sym, ap, subst, ◌∙◌, if◌then◌else◌, unwrap_or}
+use Rattle.std.proofs.Common.{◌≡◌, ℕ, map, ◌==◌, ◌&&◌, not, Bool, true, false, Option, Some, None, option_map, is_some, is_none, IsSome, refl, sym, ap, subst, ◌∙◌, if◌then◌else◌, unwrap_or, arith}
+use Rattle.std.proofs.lemmas.Bool.Decides.{nat_tests}
 use Rattle.std.specs.List.{list_any}
 use Rattle.std.specs.Option.{option_map_or}
 use Rattle.fab_base.specs.Fabric.{past_at, same_enode}
@@ -22,10 +23,11 @@ use Rattle.fab_policy.specs.Changes.{ended_at}
 use Rattle.fab_base.proofs.SamenessLemmas.{list_any-found}
 use Rattle.fab_roster.specs.Agreement.{Agree, IsHeldBy, SpeaksFor, is_silenced}
 use Rattle.fab_roster.specs.Changes.{Ends}
-use Rattle.fab_roster.specs.Roll.{live_of, ports_of, roll_of}
+use Rattle.fab_roster.specs.Roll.{Roll, live_of, ports_of, roll_of}
 use Rattle.fab_roster.specs.declared.roster.Roster.TheInside.{Inside}
 use Rattle.fab_roster.proofs.Found.{any-item_at, equal, item_at-key, true_false, turned, enode_refl, enode_same}
 use Rattle.fab_roster.proofs.Lookups.{port_of_login}
+use Rattle.fab_roster.proofs.TablesRead.{held_same}
 
 -- What the calls say of the tables after them.
 pub record AfterEnd (a now : ℕ) (gone : Login) (old new : Inside) : Type 0 where
@@ -54,11 +56,7 @@ ended old new = record old { pool = new.pool; logins = new.logins; voices = new.
 module _ {a now : ℕ} {gone : Login} {old new : Inside} (agree : Agree old) (clock : old.clock ≡ Some now) (s : AfterEnd a now gone old new) where
   -- a login that is left was there, at another address
   left : (b : ℕ) (l : Login) → login_at b new.logins.logins ≡ Some l → (a == b ≡ false) × (login_at b old.logins.logins ≡ Some l)
-  left b l e = go (a == b) refl (sym (s.logins b) ∙ e)
-    where
-      go : (x : Bool) → a == b ≡ x → (if x then None else login_at b old.logins.logins) ≡ Some l → (a == b ≡ false) × (login_at b old.logins.logins ≡ Some l)
-      go true f i = cc
-      go false f i = (f, i)
+  left b l e = (grind (arith, nat_tests, s.logins b, e), grind (arith, nat_tests, s.logins b, e))
 
   gone_at : gone.address ≡ a
   gone_at = item_at-key address_of a old.logins.logins gone s.was
@@ -145,16 +143,12 @@ module _ {a now : ℕ} {gone : Login} {old new : Inside} (agree : Agree old) (cl
       go false e =
           let login : login_at b new.logins.logins ≡ login_at b old.logins.logins = s.logins b ∙ ap (λ x. if x then None else login_at b old.logins.logins) e in
           let past : past_at b new.pool ≡ past_at b old.pool = s.addresses b ∙ ap (λ x. if x then option_map (pool.ended_at now) (past_at b old.pool) else past_at b old.pool) e in
-          subst (λ o. IsHeldBy b new.pool o) (sym login) (subst (λ p. MatchOption (login_at b old.logins.logins) (option_map_or (λ q. is_some q.name && is_none q.ended) p false ≡ false) (λ l. p ≡ Some (pool.held b l.name))) (sym past) (agree.pool.held b))
+          subst (λ o. IsHeldBy b new.pool o) (sym login) (held_same b old.pool new.pool (login_at b old.logins.logins) past (agree.pool.held b))
 
   -- ---- entries and watchers
 
   entries_after : (b : ℕ) → IsSome (entry_at b new.registry.entries) → IsSome (login_at b new.logins.logins)
-  entries_after b h = go (a == b) refl (subst (λ o. IsSome o) (s.entries b) h)
-    where
-      go : (x : Bool) → a == b ≡ x → IsSome (if x then None else entry_at b old.registry.entries) → IsSome (login_at b new.logins.logins)
-      go true e i = absurd (true_false (sym i))
-      go false e i = subst (λ o. IsSome o) (sym (s.logins b ∙ ap (λ x. if x then None else login_at b old.logins.logins) e)) (agree.entries.only b i)
+  entries_after b h = grind (arith, nat_tests, s.logins b, s.entries b, h, λ (there : IsSome (entry_at b old.registry.entries)). agree.entries.only b there)
 
   watchers_after : (b : ℕ) (x : Watcher) → watcher_at b new.watchers.watchers ≡ Some x → (l : Login) × (login_at b new.logins.logins ≡ Some l) × (x.name ≡ l.name)
   watchers_after b x h = go (a == b) refl (sym (s.watchers b) ∙ h)
@@ -210,10 +204,10 @@ module _ {a now : ℕ} {gone : Login} {old new : Inside} (agree : Agree old) (cl
       out true = refl
       out false = refl
 
-  pub end_ends : Ends a (roll_of old) (roll_of (ended old new))
-  end_ends = record {
+  pub end_ends : {R : Roll} → roll_of old ≡ R → Ends a R (roll_of (ended old new))
+  end_ends view = subst (λ r. Ends a r (roll_of (ended old new))) view (record {
     bounds = record { lowest = refl; count = refl; limit = refl; period = refl };
     clock = refl;
     past = s.past ∙ ap (λ (x : Option ℕ). map (ended_at a (unwrap_or x 0)) old.pool) (sym clock);
     ports = ports_after;
-  }
+  })

@@ -1,5 +1,6 @@
 -- What N_Ports register: an N_Port as it is entered, and the tables and the N_Ports after a registration.
-use Rattle.std.proofs.Common.{◌≡◌, ℕ, ◌==◌, Bool, true, false, List, Option, Some, None, option_map, is_some, IsSome, refl, sym, ap, subst, ◌∙◌, if◌then◌else◌}
+use Rattle.std.proofs.Common.{◌≡◌, ℕ, List, Option, Some, None, option_map, is_some, IsSome, refl, sym, ap, subst, ◌∙◌, arith}
+use Rattle.std.proofs.lemmas.Bool.Decides.{nat_tests}
 use Rattle.std.specs.Option.{option_map_or}
 use Rattle.ct_messages.specs.Ask.{Ask}
 use Rattle.ct_messages.specs.Server as server
@@ -7,7 +8,6 @@ use Rattle.ct_messages.specs.Server.{Values, first_values, has_changed, registra
 use Rattle.fab_policy.specs.Changes.{with_values}
 use Rattle.fab_policy.specs.State.{LivePort, port_at}
 use Rattle.login_table.specs.Logins as logins
-use Rattle.login_table.specs.declared.login.Login.{Login}
 use Rattle.name_server.specs.Registry as registry
 use Rattle.name_server.specs.Registry.{Entry, Registrations, entry_at, registered, refusal, is_noticed}
 use Rattle.fab_roster.specs.Agreement.{Agree}
@@ -58,11 +58,7 @@ module _ {t : Inside} (agree : Agree t) where
 
   module _ (r : Registrations) (a : ℕ) (ask : Ask) (found : (b : ℕ) → entry_at b r.entries ≡ option_map (registered a ask) (entry_at b t.registry.entries)) where
     same_node : (e : Entry) → (registered a ask e).node ≡ e.node
-    same_node e = go (e.address == a)
-      where
-        go : (b : Bool) → (if b then record e { values = server.after e.node ask e.values } else e).node ≡ e.node
-        go true = refl
-        go false = refl
+    same_node e = grind (arith, nat_tests)
 
     was_entered : (b : ℕ) → IsSome (entry_at b r.entries) → IsSome (entry_at b t.registry.entries)
     was_entered b h = go (entry_at b t.registry.entries) (subst (λ o. IsSome o) (found b) h)
@@ -85,17 +81,9 @@ module _ {t : Inside} (agree : Agree t) where
       pool = agree.pool;
     }
 
-    pub register_changes : ChangesPorts (with_values a ask) (roll_of t) (roll_of (record t { registry = r }))
-    register_changes = each_changed t t.voices r t.watchers (with_values a ask) (λ b l is.
+    pub register_changes : {R : Roll} → roll_of t ≡ R → ChangesPorts (with_values a ask) R (roll_of (record t { registry = r }))
+    register_changes view = each_changed t view (with_values a ask) t.voices r t.watchers (λ b l is.
         let n = agree.entries.known b l is in
-        ap (λ o. made l o) (found l.address ∙ ap (λ o. option_map (registered a ask) o) n.1)
-        ∙ (ap (λ c. made l (Some (if c == a then record n.0 { values = server.after n.0.node ask n.0.values } else n.0))) (item_at-key registry.address_of l.address t.registry.entries n.0 n.1)
-        ∙ (go l n.0 n.2 (l.address == a) ∙ ap (λ o. with_values a ask (made l o)) (sym n.1))))
-      where
-        made : Login → Option Entry → LivePort
-        made l o = record (live_of t l) { values = option_map_or (λ (x : Entry). x.values) o (first_values l.node) }
-
-        go : (l : Login) (e : Entry) → e.node ≡ l.node → (c : Bool) → made l (Some (if c then record e { values = server.after e.node ask e.values } else e))
-            ≡ (if c then record (made l (Some e)) { values = server.after l.node ask e.values } else made l (Some e))
-        go l e node true = ap (λ m. record (live_of t l) { values = server.after m ask e.values }) node
-        go l e node false = refl
+        let key = item_at-key registry.address_of l.address t.registry.entries n.0 n.1 in
+        let values : Option Entry → Values = λ o. option_map_or (λ (x : Entry). x.values) o (first_values l.node) in
+        grind (arith, nat_tests, key, n.2, ap values n.1, ap values (found l.address ∙ ap (λ o. option_map (registered a ask) o) n.1)))

@@ -1,8 +1,9 @@
 -- The tables after a grant.
-use Rattle.std.proofs.Common.{◌≡◌, ℕ, ◌≤◌, ◌==◌, ◌&&◌, Bool, true, false, Option, Some, None, option_map, is_some, is_none, IsSome, IfSome, MatchOption, refl, sym, ap, subst, ◌∙◌, if◌then◌else◌, unwrap_or, slice_index_or}
+use Rattle.std.proofs.Common.{◌≡◌, ℕ, ◌≤◌, ◌==◌, Bool, true, false, Option, Some, None, option_map, is_some, IsSome, IfSome, refl, sym, ap, subst, ◌∙◌, if◌then◌else◌, unwrap_or, slice_index_or, arith}
+use Rattle.std.proofs.lemmas.Bool.Decides.{nat_tests}
 use Rattle.std.specs.Option.{option_map_or}
 use Rattle.std.proofs.lemmas.List.Elements.{All-map}
-use Rattle.fab_base.specs.Fabric.{Past, past_at, same_enode}
+use Rattle.fab_base.specs.Fabric.{Past, past_at}
 use Rattle.fc_addresses.specs.Pool as pool
 use Rattle.login_table.specs.Logins as logins
 use Rattle.login_table.specs.Logins.{login_at, address_of}
@@ -24,11 +25,11 @@ use Rattle.fab_policy.specs.Steps.{fresh}
 use Rattle.keepalive_clock.proofs.VoiceLemmas.{voices_same}
 use Rattle.fab_roster.specs.Agreement.{Agree, IsHeldBy, SpeaksFor}
 use Rattle.fab_roster.specs.Changes.{Grants, IsSize}
-use Rattle.fab_roster.specs.Roll.{live_of, ports_of, roll_of}
+use Rattle.fab_roster.specs.Roll.{Roll, live_of, ports_of, roll_of}
 use Rattle.fab_roster.specs.declared.roster.Roster.TheInside.{Inside}
 use Rattle.fab_roster.proofs.Found.{enode_turned, equal, item_at-key, same, turned, enode_refl}
 use Rattle.fab_roster.proofs.Lookups.{port_of_login}
-use Rattle.fab_roster.proofs.TablesRead.{absent_watcher}
+use Rattle.fab_roster.proofs.TablesRead.{absent_watcher, held_same}
 
 -- when a voice was last heard after both voices of a login were
 abbrev pub heard_both : ℕ → Login → Voice → Option ℕ → Option ℕ
@@ -58,11 +59,7 @@ granted old new = record old { pool = new.pool; logins = new.logins; voices = ne
 module _ {now : ℕ} {x : Login} {old new : Inside} (agree : Agree old) (s : AfterGrant now x old new) where
   -- a login that was there is at another address
   other : (b : ℕ) (l : Login) → login_at b old.logins.logins ≡ Some l → x.address == b ≡ false
-  other b l e = go (x.address == b) refl
-    where
-      go : (c : Bool) → x.address == b ≡ c → c ≡ false
-      go false f = refl
-      go true f = let none : login_at b old.logins.logins ≡ None = ap (λ a. login_at a old.logins.logins) (sym (equal x.address b f)) ∙ s.absent in cc
+  other b l e = grind (arith, nat_tests, s.absent, e)
 
   -- so it stays
   stays : (b : ℕ) (l : Login) → login_at b old.logins.logins ≡ Some l → login_at b new.logins.logins ≡ Some l
@@ -81,12 +78,7 @@ module _ {now : ℕ} {x : Login} {old new : Inside} (agree : Agree old) (s : Aft
   port_now = s.voices (Port x.address) ∙ ap (λ c. if c then Some now else last_of (Port x.address) old.voices.voices) (same x.address)
 
   there_still : (v : Voice) → IsSome (last_of v old.voices.voices) → IsSome (last_of v new.voices.voices)
-  there_still v h = subst (λ o. IsSome o) (sym (s.voices v)) (go (same_voice (Port x.address) v) (same_voice (Node x.enode) v))
-    where
-      go : (b c : Bool) → IsSome (if b then Some now else if c then Some now else last_of v old.voices.voices)
-      go true c = refl
-      go false true = refl
-      go false false = h
+  there_still v h = grind (arith, nat_tests, s.voices v, h)
 
   voices_after : (v : Voice) → IsSome (last_of v new.voices.voices) → (l : Login) × (login_at l.address new.logins.logins ≡ Some l) × SpeaksFor v l
   voices_after v h = go (same_voice (Port x.address) v) refl (same_voice (Node x.enode) v) refl (subst (λ o. IsSome o) (s.voices v) h)
@@ -119,11 +111,7 @@ module _ {now : ℕ} {x : Login} {old new : Inside} (agree : Agree old) (s : Aft
       (n.0, entry_stays l.address (ap (λ a. x.address == a) (item_at-key address_of b old.logins.logins l i) ∙ f) ∙ n.1, n.2)
 
   entries_after : (b : ℕ) → IsSome (entry_at b new.registry.entries) → IsSome (login_at b new.logins.logins)
-  entries_after b h = go (x.address == b) refl (subst (λ o. IsSome o) (s.entries b) h)
-    where
-      go : (c : Bool) → x.address == b ≡ c → IsSome (if c then Some (entered x.address x.node) else entry_at b old.registry.entries) → IsSome (login_at b new.logins.logins)
-      go true f i = subst (λ o. IsSome o) (sym (s.logins b ∙ ap (λ c. if c then Some x else login_at b old.logins.logins) f)) refl
-      go false f i = subst (λ o. IsSome o) (sym (s.logins b ∙ ap (λ c. if c then Some x else login_at b old.logins.logins) f)) (agree.entries.only b i)
+  entries_after b h = grind (arith, nat_tests, s.logins b, s.entries b, h, λ (there : IsSome (entry_at b old.registry.entries)). agree.entries.only b there)
 
   watchers_after : (b : ℕ) (y : Watcher) → watcher_at b old.watchers.watchers ≡ Some y → (l : Login) × (login_at b new.logins.logins ≡ Some l) × (y.name ≡ l.name)
   watchers_after b y e = let f = agree.watchers.known b y e in (f.0, stays b f.0 f.1, f.2)
@@ -141,7 +129,7 @@ module _ {now : ℕ} {x : Login} {old new : Inside} (agree : Agree old) (s : Aft
       go false f =
           let past : past_at b new.pool ≡ past_at b old.pool = s.addresses b ∙ ap (λ c. if c then Some (pool.held x.address x.name) else past_at b old.pool) f in
           subst (λ o. IsHeldBy b new.pool o) (sym (s.logins b ∙ ap (λ c. if c then Some x else login_at b old.logins.logins) f))
-          (subst (λ p. MatchOption (login_at b old.logins.logins) (option_map_or (λ q. is_some q.name && is_none q.ended) p false ≡ false) (λ l. p ≡ Some (pool.held b l.name))) (sym past) (agree.pool.held b))
+          (held_same b old.pool new.pool (login_at b old.logins.logins) past (agree.pool.held b))
 
   ends_order : pool.AreEndedBy (unwrap_or old.clock 0) new.pool
   ends_order = subst (λ l. pool.AreEndedBy (unwrap_or old.clock 0) l) (sym s.past)
@@ -198,20 +186,9 @@ module _ {now : ℕ} {x : Login} {old new : Inside} (agree : Agree old) (s : Aft
 
   -- another is heard with its ENode
   live_other : (b : ℕ) (l : Login) → login_at b old.logins.logins ≡ Some l → live_of (granted old new) l ≡ heard_node x.enode now (live_of old l)
-  live_other b l e = go (same_enode l.enode x.enode) refl
-    where
-      apart : x.address == l.address ≡ false
-      apart = ap (λ a. x.address == a) (item_at-key address_of b old.logins.logins l e) ∙ other b l e
-
-      port : last_of (Port l.address) new.voices.voices ≡ last_of (Port l.address) old.voices.voices
-      port = s.voices (Port l.address) ∙ ap (λ c. if c then Some now else last_of (Port l.address) old.voices.voices) apart
-
-      node : (c : Bool) → same_enode l.enode x.enode ≡ c → last_of (Node l.enode) new.voices.voices ≡ (if c then Some now else last_of (Node l.enode) old.voices.voices)
-      node c f = s.voices (Node l.enode) ∙ ap (λ d. if d then Some now else last_of (Node l.enode) old.voices.voices) (enode_turned x.enode l.enode ∙ f)
-
-      go : (c : Bool) → same_enode l.enode x.enode ≡ c → live_of (granted old new) l ≡ (if c then record (live_of old l) { node_heard = now } else live_of old l)
-      go true f = cc (heard (node true f), port, entry_stays l.address apart)
-      go false f = cc (node false f, port, entry_stays l.address apart)
+  live_other b l e =
+      let apart : x.address == l.address ≡ false = ap (λ a. x.address == a) (item_at-key address_of b old.logins.logins l e) ∙ other b l e in
+      grind (arith, nat_tests, apart, ap (λ o. unwrap_or o 0) (s.voices (Node l.enode)), ap (λ o. unwrap_or o 0) (s.voices (Port l.address)), entry_stays l.address apart, enode_turned x.enode l.enode)
 
   ports_after : (b : ℕ) → port_at b (ports_of (granted old new)) ≡ (if b == x.address then Some (fresh now x.address n_port) else option_map (heard_node x.enode now) (port_at b (ports_of old)))
   ports_after b = port_of_login (granted old new) b
@@ -227,11 +204,11 @@ module _ {now : ℕ} {x : Login} {old new : Inside} (agree : Agree old) (s : Aft
       out true = ap (λ p. Some p) live_new
       out false = each (login_at b old.logins.logins) refl
 
-  pub grant_grants : old.clock ≡ Some now → Grants x.address n_port (roll_of old) (roll_of (granted old new))
-  grant_grants clock = record {
+  pub grant_grants : {R : Roll} → roll_of old ≡ R → old.clock ≡ Some now → Grants x.address n_port R (roll_of (granted old new))
+  grant_grants view clock = subst (λ r. Grants x.address n_port r (roll_of (granted old new))) view (record {
     bounds = record { lowest = refl; count = refl; limit = refl; period = refl };
     clock = refl;
     past = s.past;
     ports = λ b. ports_after b
         ∙ ap (λ (o : Option ℕ). if b == x.address then Some (fresh (unwrap_or o 0) x.address n_port) else option_map (heard_node x.enode (unwrap_or o 0)) (port_at b (ports_of old))) (sym clock);
-  }
+  })

@@ -1,5 +1,5 @@
 -- Look-ups in the list of N_Ports that the tables make are look-ups among logins.
-use Rattle.std.proofs.Common.{◌≡◌, ℕ, ◌==◌, ◌&&◌, ◌||◌, nat_le, Bool, List, [], ◌∷◌, map, find, Option, Some, None, option_map, IsSome, refl, sym, ap, ◌∙◌, arith}
+use Rattle.std.proofs.Common.{◌≡◌, ℕ, ◌==◌, ◌&&◌, nat_le, Bool, List, [], ◌∷◌, map, find, Option, Some, None, option_map, IsSome, refl, sym, ap, ◌∙◌, arith}
 use Rattle.std.proofs.lemmas.Bool.Decides.{nat_tests}
 use Rattle.std.specs.List.{list_any}
 use Rattle.fab_config.proofs.ListLemmas.{any_map}
@@ -42,43 +42,40 @@ module _ (t : Inside) where
   pub port_of_login : (a : ℕ) → port_at a (ports_of t) ≡ option_map (live_of t) (login_at a t.logins.logins)
   port_of_login a = find_map (live_of t) (λ p. p.address == a) (λ l. l.address == a) t.logins.logins (λ l. refl)
 
-  -- a test that asks an N_Port for no more than its login finds that login
-  pub login_found : (p : LivePort → Bool) (q : Login → Bool) → ((l : Login) → p (live_of t l) ≡ q l) → find q t.logins.logins ≡ option_map login_of (find p (ports_of t))
-  login_found p q as_login =
-      sym (ap (λ o. option_map login_of o) (find_map (live_of t) p q t.logins.logins as_login) ∙ (option_map-map login_of (live_of t) (find q t.logins.logins) ∙ option_map-same _ (find q t.logins.logins) (λ l. refl)))
-
-  pub login_of_port : (a : ℕ) → login_at a t.logins.logins ≡ option_map login_of (port_at a (ports_of t))
-  login_of_port a = login_found (λ p. p.address == a) (λ l. l.address == a) (λ l. refl)
-
-  pub login_named : (n : ℕ) → named n t.logins.logins ≡ option_map login_of (find (λ (p : LivePort). p.name == n) (ports_of t))
-  login_named n = login_found (λ p. p.name == n) (λ l. l.name == n) (λ l. refl)
-
-  -- the next address
-  pub next_port : (k : ℕ) (p : LivePort → Bool) (q : Login → Bool) → ((l : Login) → p (live_of t l) ≡ (nat_le k l.address && q l)) →
-      next_of q k t.logins.logins ≡ option_map (λ (p : LivePort). p.address) (find p (ports_of t))
-  next_port k p q as_login =
-      ap (λ o. option_map (λ l. l.address) o) (login_found p (λ l. nat_le k l.address && q l) as_login)
-      ∙ option_map-map (λ (l : Login). l.address) login_of (find p (ports_of t))
-
-  -- some login passes where some N_Port does
-  pub any_login : (p : LivePort → Bool) (q : Login → Bool) → ((l : Login) → p (live_of t l) ≡ q l) → list_any p (ports_of t) ≡ list_any q t.logins.logins
-  any_login p q as_login = any_map p (live_of t) t.logins.logins ∙ each t.logins.logins
-    where
-      each : (xs : List Login) → list_any (λ l. p (live_of t l)) xs ≡ list_any q xs
-      each [] = refl
-      each (x ∷ xs) = ap (λ b. b || list_any (λ l. p (live_of t l)) xs) (as_login x) ∙ ap (λ b. q x || b) (each xs)
-
   -- an address with a login is live
   pub live_there : (a : ℕ) (l : Login) → login_at a t.logins.logins ≡ Some l → port_at a (ports_of t) ≡ Some (live_of t l)
   live_there a l e = port_of_login a ∙ ap (λ o. option_map (live_of t) o) e
 
+  -- ---- what the roll says
+
   module _ {R : Roll} (view : roll_of t ≡ R) where
+    -- a test that asks an N_Port for no more than its login finds that login
+    pub login_found : (p : LivePort → Bool) (q : Login → Bool) → ((l : Login) → p (live_of t l) ≡ q l) → find q t.logins.logins ≡ option_map login_of (find p R.tables.ports)
+    login_found p q as_login =
+        sym (ap (λ o. option_map login_of o) (find_map (live_of t) p q t.logins.logins as_login) ∙ (option_map-map login_of (live_of t) (find q t.logins.logins) ∙ option_map-same _ (find q t.logins.logins) (λ l. refl)))
+        ∙ ap (λ (r : Roll). option_map login_of (find p r.tables.ports)) view
+
+    pub login_of_port : (a : ℕ) → login_at a t.logins.logins ≡ option_map login_of (port_at a R.tables.ports)
+    login_of_port a = login_found (λ p. p.address == a) (λ l. l.address == a) (λ l. refl)
+
+    pub login_named : (n : ℕ) → named n t.logins.logins ≡ option_map login_of (find (λ (p : LivePort). p.name == n) R.tables.ports)
+    login_named n = login_found (λ p. p.name == n) (λ l. l.name == n) (λ l. refl)
+
+    -- the next address
+    pub next_port : (k : ℕ) (p : LivePort → Bool) (q : Login → Bool) → ((l : Login) → p (live_of t l) ≡ (nat_le k l.address && q l)) →
+        next_of q k t.logins.logins ≡ option_map (λ (p : LivePort). p.address) (find p R.tables.ports)
+    next_port k p q as_login =
+        ap (λ o. option_map (λ l. l.address) o) (login_found p (λ l. nat_le k l.address && q l) as_login)
+        ∙ option_map-map (λ (l : Login). l.address) login_of (find p R.tables.ports)
+
+    -- some login passes where some N_Port does
+    pub any_login : (p : LivePort → Bool) (q : Login → Bool) → ((l : Login) → p (live_of t l) ≡ q l) → list_any q t.logins.logins ≡ list_any p R.tables.ports
+    any_login p q as_login = sym (any_map p (live_of t) t.logins.logins ∙ each t.logins.logins) ∙ ap (λ (r : Roll). list_any p r.tables.ports) view
+      where
+        each : (xs : List Login) → list_any (λ l. p (live_of t l)) xs ≡ list_any q xs
+        each [] = refl
+        each (x ∷ xs) = grind (arith, nat_tests, as_login x, each xs)
+
     -- a live address has its login
     pub login_there : (a : ℕ) → IsSome (port_at a R.tables.ports) → (l : Login) × (login_at a t.logins.logins ≡ Some l)
-    login_there a h =
-        let f = some_found (port_at a R.tables.ports) h in
-        (login_of f.0, login_of_port a ∙ (ap (λ (r : Roll). option_map login_of (port_at a r.tables.ports)) view ∙ ap (λ o. option_map login_of o) f.1))
-
-    -- the login that the N_Port of an address shows stands in the table
-    pub login_in : (a : ℕ) (l : Login) → option_map login_of (port_at a R.tables.ports) ≡ Some l → login_at a t.logins.logins ≡ Some l
-    login_in a l e = login_of_port a ∙ (ap (λ (r : Roll). option_map login_of (port_at a r.tables.ports)) view ∙ e)
+    login_there a h = let f = some_found (port_at a R.tables.ports) h in (login_of f.0, login_of_port a ∙ ap (λ o. option_map login_of o) f.1)

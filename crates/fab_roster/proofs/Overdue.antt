@@ -53,7 +53,7 @@ module _ {t : Inside} (agree : Agree t) (silent : (m : ℕ) → IsTrue (has_sile
   same_silence m = both_ways (list_any (overdue_at m) (ports_of t)) (has_silent t.voices m) there back
     where
       as_logins : list_any (overdue_at m) (ports_of t) ≡ list_any (λ l. overdue_at m (live_of t l)) t.logins.logins
-      as_logins = any_login t (overdue_at m) (λ l. overdue_at m (live_of t l)) (λ l. refl)
+      as_logins = sym (any_login t refl (overdue_at m) (λ l. overdue_at m (live_of t l)) (λ l. refl))
 
       there : list_any (overdue_at m) (ports_of t) ≡ true → has_silent t.voices m ≡ true
       there e =

@@ -42,11 +42,7 @@ differ_without v xs differ = sameness.KeysDiffer-filter voice_of same_voice voic
 
 -- a voice that is left was there and is another
 left : (v w : Voice) (xs : List LastHeard) → IsSome (last_of w (without v xs)) → (same_voice v w ≡ false) × IsSome (last_of w xs)
-left v w xs h = go (same_voice v w) refl (subst (λ o. IsSome o) (last_of-without v xs w) h)
-  where
-    go : (b : Bool) → same_voice v w ≡ b → IsSome (if b then None else last_of w xs) → (same_voice v w ≡ false) × IsSome (last_of w xs)
-    go true e i = absurd (true_false (sym i))
-    go false e i = (e, i)
+left v w xs h = (grind (arith, nat_tests, last_of-without v xs w, h), grind (arith, nat_tests, last_of-without v xs w, h))
 
 -- ---- at most two voices for each login
 

@@ -1,11 +1,11 @@
 -- The tables and the N_Ports after a login to the name server, and after a request to watch.
 use Rattle.std.proofs.Common.{◌≡◌, ℕ, ◌==◌, Bool, true, false, Option, Some, None, option_map, is_some, IsSome, IfSome, refl, sym, ap, subst, ◌∙◌, if◌then◌else◌, arith}
+use Rattle.std.proofs.lemmas.Bool.Decides.{nat_tests}
 use Rattle.std.specs.Option.{option_map_or}
 use Rattle.fab_base.proofs.KeyedLemmas.{length-fewer}
 use Rattle.fab_base.specs.Fabric.{past_at}
 use Rattle.fc_addresses.specs.Pool as pool
 use Rattle.fab_policy.specs.Changes.{with_server, with_watch}
-use Rattle.fab_policy.specs.State.{LivePort}
 use Rattle.keepalive_clock.specs.Clock.{last_of}
 use Rattle.keepalive_clock.specs.declared.voice.Voice.{Voice}
 use Rattle.keepalive_clock.specs.declared.voice.Voice.TheVariants.{Node, Port}
@@ -18,9 +18,9 @@ use Rattle.state_change.specs.Watchers.{Watching, watcher_at, asked, HasPlace}
 use Rattle.state_change.specs.declared.watcher.Watcher.{Watcher}
 use Rattle.fab_roster.specs.Agreement.{Agree, IsHeldBy, SpeaksFor}
 use Rattle.fab_roster.specs.Changes.{ChangesPorts, IsSize}
-use Rattle.fab_roster.specs.Roll.{live_of, roll_of}
+use Rattle.fab_roster.specs.Roll.{Roll, live_of, roll_of}
 use Rattle.fab_roster.specs.declared.roster.Roster.TheInside.{Inside}
-use Rattle.fab_roster.proofs.Found.{equal, some_found, turned}
+use Rattle.fab_roster.proofs.Found.{equal, some_found}
 use Rattle.fab_roster.proofs.Heard.{changed_ports, each_changed}
 use Rattle.fab_roster.proofs.Lookups.{port_of_login}
 
@@ -44,8 +44,8 @@ module _ (t : Inside) (s : Logins) (a : ℕ) (size : Option ℕ) (found : (b : �
   abbrev served : Inside
   served = record t { logins = s }
 
-  pub server_changes : ChangesPorts (with_server a size) (roll_of t) (roll_of served)
-  server_changes = changed_ports t s t.voices t.registry t.watchers (with_server a size) (λ b.
+  pub server_changes : {R : Roll} → roll_of t ≡ R → ChangesPorts (with_server a size) R (roll_of served)
+  server_changes view = changed_ports t view (with_server a size) s t.voices t.registry t.watchers (λ b.
       port_of_login served b
       ∙ (ap (λ o. option_map (live_of t) o) (found b)
       ∙ (go (login_at b t.logins.logins) ∙ ap (λ o. option_map (with_server a size) o) (sym (port_of_login t b)))))
@@ -145,19 +145,6 @@ module _ {t : Inside} (agree : Agree t) (a f : ℕ) (l : Login) (is : login_at a
         go b x false other i = agree.watchers.known b x i
 
     -- the N_Port of the address watches as it asked
-    pub watch_changes : ChangesPorts (with_watch a f) (roll_of t) (roll_of (record t { watchers = w }))
-    watch_changes = each_changed t t.voices t.registry w (with_watch a f) (λ b m e.
-        ap (made m) (found m.address)
-        ∙ (ap (λ c. made m (if c then asked a l.name f else watcher_at m.address t.watchers.watchers)) (turned a m.address) ∙ go m (m.address == a)))
-      where
-        made : Login → Option Watcher → LivePort
-        made m o = record (live_of t m) { watch = option_map_or (λ (x : Watcher). x.function) o 0 }
-
-        by_function : (c : Bool) → option_map_or (λ (x : Watcher). x.function) (if c then None else Some (record { address = a; name = l.name; function = f })) 0 ≡ (if c then 0 else f)
-        by_function true = refl
-        by_function false = refl
-
-        go : (m : Login) (c : Bool) → made m (if c then asked a l.name f else watcher_at m.address t.watchers.watchers)
-            ≡ (if c then record (live_of t m) { watch = if f == 255 then 0 else f } else live_of t m)
-        go m true = ap (λ n. record (live_of t m) { watch = n }) (by_function (f == 255))
-        go m false = refl
+    pub watch_changes : {R : Roll} → roll_of t ≡ R → ChangesPorts (with_watch a f) R (roll_of (record t { watchers = w }))
+    watch_changes view = each_changed t view (with_watch a f) t.voices t.registry w (λ b m e.
+        grind (arith, nat_tests, ap (λ o. option_map_or (λ (x : Watcher). x.function) o 0) (found m.address)))

@@ -1,6 +1,7 @@
 -- What the tables that agree say of every roll: ascending N_Ports of the pool, no more than the limit, a clock in range, the
 -- features of all types, and what the pool keeps of live addresses.
 use Rattle.std.proofs.Common.{◌≡◌, ℕ, zero, suc, ◌+◌, ◌<◌, ◌≤◌, ◌^◌, ◌==◌, ◌||◌, Bool, true, false, cond, List, [], ◌∷◌, map, length, Option, Some, None, IfSome, option_map, is_some, unwrap_or, refl, sym, ap, ◌∙◌, subst, arith}
+use Rattle.std.proofs.lemmas.Bool.Decides.{nat_tests}
 use Rattle.std.specs.List.{All, list_any}
 use Rattle.std.specs.Option.{option_map_or}
 use Rattle.std.proofs.lemmas.List.{length-map}
@@ -48,11 +49,7 @@ AscendFrom-raise k [] h above = tt
 AscendFrom-raise k (l ∷ ls) h above = (All-head (λ m. k ≤ m.address) l ls above, h.1)
 
 named_none : (n : ℕ) (l : Login) (ls : List Login) → named n (l ∷ ls) ≡ None → (l.name == n ≡ false) × (named n ls ≡ None)
-named_none n l ls e = go (l.name == n) refl e
-  where
-    go : (b : Bool) → l.name == n ≡ b → cond b (Some l) (named n ls) ≡ None → (l.name == n ≡ false) × (named n ls ≡ None)
-    go true t i = cc
-    go false t i = (t, i)
+named_none n l ls e = (grind (arith, nat_tests, e), grind (arith, nat_tests, e))
 
 new_live : (t : Inside) (l : Login) (ls : List Login) → named l.name ls ≡ None → IsNew (live_of t l) (map (live_of t) ls)
 new_live t l [] e = tt

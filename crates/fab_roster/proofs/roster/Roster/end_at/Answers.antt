@@ -1,9 +1,8 @@
-use Rattle.std.proofs.Common.{◌≡◌, Some, sym, ap, ◌∙◌, subst}
+use Rattle.std.proofs.Common.{◌≡◌, Some, sym, ap, ◌∙◌}
 use Rattle.login_table.specs.Logins.{Logins}
 use Rattle.name_server.specs.Registry.{Registrations}
 use Rattle.state_change.specs.Watchers.{Watching}
-use Rattle.fab_roster.specs.Changes.{Ends}
-use Rattle.fab_roster.specs.Roll.{Roll, roll_of}
+use Rattle.fab_roster.specs.Roll.{Roll}
 use Rattle.fab_roster.specs.declared.roster.Roster.TheInside.{Inside}
 use Rattle.fab_roster.proofs.EndLemmas.{AfterEnd, end_keeps, end_ends}
 use Rattle.fab_roster.proofs.Lookups.{login_there}
@@ -43,7 +42,7 @@ pub invariant_of-self : goal.invariant_of-self
 invariant_of-self c = end_keeps c.self.invariant (clock c) (after c)
 
 pub returns-clause-change : goal.returns-clause-change
-returns-clause-change c = subst (λ (r : Roll). Ends c.args.address r (roll_of (left c))) c.self.view_is (end_ends c.self.invariant (clock c) (after c))
+returns-clause-change c = end_ends c.self.invariant (clock c) (after c) c.self.view_is
 
 pub unreachable-requires : goal.unreachable-requires
 unreachable-requires c =

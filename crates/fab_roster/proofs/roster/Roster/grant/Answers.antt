@@ -1,5 +1,4 @@
 use Rattle.std.proofs.Common.{◌==◌, ◌∙◌, IsTrue, ap, false, inr, refl, subst, sym, if◌then◌else◌, Some}
-use Rattle.std.specs.List.{list_any}
 use Rattle.login_table.specs.Logins.{Logins}
 use Rattle.login_table.specs.declared.login.Login.{Login}
 use Rattle.keepalive_clock.specs.Voices.{same_voice}
@@ -7,8 +6,7 @@ use Rattle.keepalive_clock.specs.declared.voice.Voice.TheVariants.{Node, Port}
 use Rattle.name_server.specs.Registry.{Registrations}
 use Rattle.fab_policy.specs.Free.{Request, is_free}
 use Rattle.fab_policy.specs.State.{LivePort}
-use Rattle.fab_roster.specs.Changes.{Grants}
-use Rattle.fab_roster.specs.Roll.{Roll, roll_of}
+use Rattle.fab_roster.specs.Roll.{Roll}
 use Rattle.fab_roster.specs.declared.roster.Roster.TheInside.{Inside}
 use Rattle.fab_roster.proofs.FreeLemmas.{free_absent}
 use Rattle.fab_roster.proofs.GrantLemmas.{AfterGrant, grant_grants, grant_keeps}
@@ -21,8 +19,7 @@ pub add-requires-clause-name : goal.add-requires-clause-name
 add-requires-clause-name c =
     let i = c.self.inside in
     let n = c.args.login.name in
-    find-no_any (λ (l : Login). l.name == n) i.logins.logins
-    (sym (any_login i (λ (p : LivePort). p.name == n) (λ (l : Login). l.name == n) (λ l. refl)) ∙ ap (λ (r : Roll). list_any (λ (p : LivePort). p.name == n) r.tables.ports) c.self.view_is ∙ c.requires.name)
+    find-no_any (λ (l : Login). l.name == n) i.logins.logins (any_login i c.self.view_is (λ (p : LivePort). p.name == n) (λ (l : Login). l.name == n) (λ l. refl) ∙ c.requires.name)
 
 pub heard-requires-clause-room : goal.heard-requires-clause-room
 heard-requires-clause-room c = inr (voice_room c.self.invariant c.self.view_is c.requires.room)
@@ -66,10 +63,7 @@ pub invariant_of-self : goal.invariant_of-self
 invariant_of-self c = grant_keeps c.self.invariant (after c)
 
 pub returns-clause-change : goal.returns-clause-change
-returns-clause-change c =
-    let x = c.args.login in
-    subst (λ (old : Roll). Grants x.address (record { name = x.name; node = x.node; enode = x.enode }) old (roll_of (held c))) c.self.view_is
-    (grant_grants c.self.invariant (after c) c.in-Some.is)
+returns-clause-change c = grant_grants c.self.invariant (after c) c.self.view_is c.in-Some.is
 
 pub returns-clause-sound : goal.returns-clause-sound
 returns-clause-sound c = sound_roll (invariant_of-self c)

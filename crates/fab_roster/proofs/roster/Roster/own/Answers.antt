@@ -1,7 +1,6 @@
 use Rattle.std.proofs.Common.{◌≡◌, Some, IsTrue, option_map, sym, ap, ◌∙◌, subst}
 use Rattle.login_table.specs.Logins.{login_at, named}
 use Rattle.fab_policy.specs.Free.{Request, is_free}
-use Rattle.fab_policy.specs.State.{port_at}
 use Rattle.fab_roster.specs.Roll.{Roll, login_of}
 use Rattle.fab_roster.proofs.FreeLemmas.{at_name, free_live, none_named, one_named}
 use Rattle.fab_roster.proofs.Lookups.{login_of_port}
@@ -23,8 +22,7 @@ returns-in_default-clause-none c =
     let i = c.self.inside in
     let q = c.args.request.now in
     λ e a p is.
-    let at : login_at a i.logins.logins ≡ Some (login_of p) = login_of_port i a
-    ∙ ap (λ o. option_map login_of o) (subst (λ (r : Roll). port_at a r.tables.ports ≡ Some p) (sym c.self.view_is) is) in
+    let at : login_at a i.logins.logins ≡ Some (login_of p) = login_of_port i c.self.view_is a ∙ ap (λ o. option_map login_of o) is in
     elim c.in_default.branch [
       | in_default-via-in-Some+else-replaces w ↦
           one_named c.self.invariant q w.in-Some.login.now

@@ -1,9 +1,6 @@
-use Rattle.std.proofs.Common.{is_some, subst, sym, ◌∙◌, ap}
+use Rattle.std.proofs.Common.{is_some, sym, ◌∙◌, ap}
 use Rattle.ct_messages.specs.Ask.{view}
-use Rattle.fab_policy.specs.Changes.{with_values}
 use Rattle.name_server.specs.Registry.{Registrations}
-use Rattle.fab_roster.specs.Changes.{ChangesPorts}
-use Rattle.fab_roster.specs.Roll.{Roll, roll_of}
 use Rattle.fab_roster.proofs.Entered.{entered, refusal_here, register_agrees, register_changes}
 use Rattle.fab_roster.proofs.Found.{some_found}
 use Rattle.fab_roster.proofs.Served.{none_some}
@@ -23,12 +20,7 @@ invariant_of-self c =
     register_agrees c.self.invariant c.register.new.self c.args.address (view c.args.ask.now) c.in-Ok.ensures.found (ap (λ (r : Registrations). r.room) c.in-Ok.ensures.entries) c.register.ensures.sound
 
 pub returns-clause-change : goal.returns-clause-change
-returns-clause-change c =
-    let i = c.self.inside in
-    let ask = view c.args.ask.now in
-    let r = c.register.new.self in
-    subst (λ (x : Roll). ChangesPorts (with_values c.args.address ask) x (roll_of (record i { registry = r }))) c.self.view_is
-    (register_changes c.self.invariant r c.args.address ask c.in-Ok.ensures.found)
+returns-clause-change c = register_changes c.self.invariant c.register.new.self c.args.address (view c.args.ask.now) c.in-Ok.ensures.found c.self.view_is
 
 pub returns-clause-sound : goal.returns-clause-sound
 returns-clause-sound c = sound_roll (invariant_of-self c)

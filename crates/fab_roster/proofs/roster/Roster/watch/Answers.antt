@@ -1,8 +1,5 @@
-use Rattle.std.proofs.Common.{subst, sym, ◌∙◌, ap}
-use Rattle.fab_policy.specs.Changes.{with_watch}
+use Rattle.std.proofs.Common.{sym, ◌∙◌, ap}
 use Rattle.state_change.specs.Watchers.{Watching}
-use Rattle.fab_roster.specs.Changes.{ChangesPorts}
-use Rattle.fab_roster.specs.Roll.{Roll, roll_of}
 use Rattle.fab_roster.proofs.Lookups.{login_there}
 use Rattle.fab_roster.proofs.Served.{none_some, has_place, watch_agrees, watch_changes}
 use Rattle.fab_roster.proofs.SoundLemmas.{sound_roll}
@@ -21,10 +18,7 @@ invariant_of-self c =
 
 pub returns-clause-change : goal.returns-clause-change
 returns-clause-change c =
-    let i = c.self.inside in
-    let w = c.set.new.self in
-    subst (λ (r : Roll). ChangesPorts (with_watch c.args.address c.args.function) r (roll_of (record i { watchers = w }))) c.self.view_is
-    (watch_changes c.self.invariant c.args.address c.args.function c.in-Some.login.now (sym c.in-Some.ensures.login) w c.set.ensures.found)
+    watch_changes c.self.invariant c.args.address c.args.function c.in-Some.login.now (sym c.in-Some.ensures.login) c.set.new.self c.set.ensures.found c.self.view_is
 
 pub returns-clause-sound : goal.returns-clause-sound
 returns-clause-sound c = sound_roll (invariant_of-self c)
