@@ -27,7 +27,7 @@ SpeaksFor (Port a) l = l.address ≡ a
 abbrev pub IsHeldBy : ℕ → List Past → Option Login → Type 0
 IsHeldBy a addresses held = MatchOption held (pool.is_held addresses a ≡ false) (λ l. past_at a addresses ≡ Some (pool.held a l.name))
 
--- The logins are as many as the roster has room for, and their receive sizes are sizes.
+-- There may be as many logins as in the roster, and each receive size is one that answers can be cut at.
 pub record LoginsFit (n : ℕ) (t : Logins) : Type 0 where
   pub sound : logins.IsSound t
   pub limit : t.limit ≡ n
