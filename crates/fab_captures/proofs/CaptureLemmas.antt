@@ -22,9 +22,9 @@ use Rattle.pcap_file.proofs.lemmas.Chains.{found_stands, last-push, ascends-push
 use Rattle.fab_gather.specs.declared.fault.LimitKind.TheVariants as limit
 use Rattle.fab_gather.specs.declared.fault.GatherFault.{GatherFault}
 use Rattle.fab_gather.specs.declared.fault.GatherFault.TheVariants as faults
-use Rattle.fab_gather.specs.Port.{fault_by, IsStopped, TellsReads}
+use Rattle.fab_gather.specs.Port.{fault_by, open_fault_by, IsStopped, TellsReads}
 use Rattle.fab_gather.proofs.PortLemmas.{read_of, spared}
-use Rattle.fab_captures.specs.Captures.{Taken, unless_stopped, without_head, without_record, body_by, capture_by, unopened_by, with_record, by_step, records_by, AreFit, in_front, to_take, ReadsCapture, ReadsRecords, SoFar}
+use Rattle.fab_captures.specs.Captures.{Taken, unless_stopped, without_head, without_record, body_by, capture_by, with_record, by_step, records_by, AreFit, in_front, to_take, ReadsCapture, ReadsRecords, SoFar}
 
 in_front_none : (t : Result Taken GatherFault) → in_front [] t ≡ t
 in_front_none (Err e) = refl
@@ -212,7 +212,7 @@ module _ (port slot : ℕ) (a b : Seen) (had left : Budget) (input : IsTrue (a.i
       stops_as (Err f) e h = λ stopped. e ∙ h stopped
 
   -- a head that isn't taken
-  not_opened : (e : CapOpen) → OpensReader slot a b had left (Err e) → IsTrue a.told → IsStopped (unopened_by e port) → capture_by port had (a.left slot) ≡ Err (unopened_by e port)
+  not_opened : (e : CapOpen) → OpensReader slot a b had left (Err e) → IsTrue a.told → IsStopped (open_fault_by e port) → capture_by port had (a.left slot) ≡ Err (open_fault_by e port)
   unfolding capture_by
   not_opened (opens.Head fault) o told stopped =
       let l = a.left slot in
@@ -225,7 +225,7 @@ module _ (port slot : ℕ) (a b : Seen) (had left : Budget) (input : IsTrue (a.i
   not_opened opens.Bytes o told stopped =
       ap (λ t. cond t (Err (faults.Limit limit.Bytes)) (body_by port had (a.left slot) (head_decoded (a.left slot)))) (lt-ltb had.bytes 24 (o.bytes.0 refl))
 
-  pub whole_refused : (e : CapOpen) → OpensReader slot a b had left (Err e) → ReadsCapture port slot a b had left (Err (unopened_by e port))
+  pub whole_refused : (e : CapOpen) → OpensReader slot a b had left (Err e) → ReadsCapture port slot a b had left (Err (open_fault_by e port))
   whole_refused e o = record {
     reads = o.reads;
     fit = tt;
@@ -236,12 +236,12 @@ module _ (port slot : ℕ) (a b : Seen) (had left : Budget) (input : IsTrue (a.i
     counts = spared_by e o;
   }
     where
-      spared_by : (e : CapOpen) → OpensReader slot a b had left (Err e) → TellsReads {T = List Record} a b (Err (unopened_by e port))
+      spared_by : (e : CapOpen) → OpensReader slot a b had left (Err e) → TellsReads {T = List Record} a b (Err (open_fault_by e port))
       spared_by (opens.Head fault) o other = o.counts
       spared_by (opens.Read failed) o other = absurd (other refl)
       spared_by opens.Bytes o other = o.counts
 
-      caused : (e : CapOpen) → OpensReader slot a b had left (Err e) → IsErrOf {T = List Record} (Err (unopened_by e port)) faults.Read → Rose (a.read_faults (a.name slot)) (b.read_faults (a.name slot))
+      caused : (e : CapOpen) → OpensReader slot a b had left (Err e) → IsErrOf {T = List Record} (Err (open_fault_by e port)) faults.Read → Rose (a.read_faults (a.name slot)) (b.read_faults (a.name slot))
       caused (opens.Head fault) o is = absurd (cc)
       caused (opens.Read failed) o is = o.refused
       caused opens.Bytes o is = absurd (cc)

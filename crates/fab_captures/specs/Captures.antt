@@ -5,19 +5,14 @@ use Rattle.fab_base.specs.declared.values.Caught.{Caught}
 use Rattle.pcap_file.specs.declared.Budget.{Budget}
 use Rattle.pcap_file.specs.declared.CaptureHead.{CaptureHead}
 use Rattle.pcap_file.specs.declared.CapFault.{CapFault}
-use Rattle.pcap_file.specs.declared.CapFault.TheVariants as heads
-use Rattle.pcap_file.specs.declared.CapOpen.{CapOpen}
-use Rattle.pcap_file.specs.declared.CapOpen.TheVariants as opens
 use Rattle.pcap_file.specs.declared.Record.{Record}
 use Rattle.pcap_file.specs.Capture.{HEAD, RECORD_HEAD, next, head_decoded}
 use Rattle.pcap_file.specs.Reading.{ReaderStand, to_come, Step, Gives, Ends, Stops, step_of}
 use Rattle.pcap_file.specs.Records.{Ascends, last_moment}
-use Rattle.fab_gather.specs.declared.fault.CapWhy.{CapWhy}
-use Rattle.fab_gather.specs.declared.fault.CapWhy.TheVariants as why
 use Rattle.fab_gather.specs.declared.fault.LimitKind.TheVariants as limit
 use Rattle.fab_gather.specs.declared.fault.GatherFault.{GatherFault}
 use Rattle.fab_gather.specs.declared.fault.GatherFault.TheVariants as faults
-use Rattle.fab_gather.specs.Port.{fault_by, IsStopped, TellsReads}
+use Rattle.fab_gather.specs.Port.{why_of, fault_by, IsStopped, TellsReads}
 
 -- The records of a capture, and what is left of the budget.
 pub record Taken : Type 0 where
@@ -50,19 +45,6 @@ abbrev pub records_by : ℕ → ℕ → CaptureHead → ℕ → ℕ → Budget �
 records_by zero port h at greatest budget l = Ok (record { records = []; left = budget })
 records_by (suc n) port h at greatest budget l =
     by_step (λ moment caught rest. records_by n port h (at + (RECORD_HEAD + length caught.bytes)) moment (without_record budget caught) rest) port budget (step_of budget at (next h greatest l))
-
--- the word for the fault of a head
-abbrev pub why_of : CapFault → CapWhy
-why_of heads.Short = why.Short
-why_of heads.BadMagic = why.Magic
-why_of heads.BadVersion = why.Version
-why_of heads.NotEthernet = why.Link
-
--- what an error of opening a port's capture ends the reading with
-abbrev pub unopened_by : CapOpen → ℕ → GatherFault
-unopened_by (opens.Head fault) port = faults.Capture port 0 (why_of fault)
-unopened_by (opens.Read failed) port = faults.Read
-unopened_by opens.Bytes port = faults.Limit limit.Bytes
 
 abbrev pub body_by : ℕ → Budget → List ℕ → Result CaptureHead CapFault → Result Taken GatherFault
 body_by port budget l (Err fault) = Err (faults.Capture port 0 (why_of fault))

@@ -1,11 +1,11 @@
 //! Reading a capture whole.
 ghost use Rattle.std.specs.Prelude.{◌≡◌, ◌+◌, ◌<◌, ◌^◌, IsTrue, None};
 ghost use Rattle.pcap_file.specs.Reading.{reader_stand};
-ghost use Rattle.fab_captures.specs.Captures.{ReadsCapture, ReadsRecords, unopened_by, why_of};
+ghost use Rattle.fab_captures.specs.Captures.{ReadsCapture, ReadsRecords};
 
 use fab_base::{Depot, OwnedList, PortNo};
-use fab_gather::{CapWhy, GatherFault, LimitKind, fault_of};
-use pcap_file::{Budget, CapFault, CapOpen, Reader, Record};
+use fab_gather::{GatherFault, fault_of, open_fault_of};
+use pcap_file::{Budget, Reader, Record};
 use std::alloc::Global;
 
 /// The records of a capture, in its order.
@@ -28,7 +28,7 @@ pub fn read_capture<D: Depot>(
     let _bytes = budget.bytes;
     match Reader::open(depot, slot, budget) {
         Ok(mut reader) => records_of(alloc, depot, port, slot, &mut reader, budget),
-        Err(error) => Err(unopened(error, port)),
+        Err(error) => Err(open_fault_of(error, port)),
     }
 }
 
@@ -57,30 +57,5 @@ fn records_of<D: Depot>(
             Ok(None) => return Ok(records),
             Err(error) => return Err(fault_of(error, port)),
         }
-    }
-}
-
-fn unopened(error: CapOpen, port: PortNo) -> GatherFault
-    ensures { result ≡ unopened_by error port }
-{
-    match error {
-        CapOpen::Head(fault) => GatherFault::Capture {
-            port,
-            at: 0,
-            why: why(fault),
-        },
-        CapOpen::Read(_) => GatherFault::Read,
-        CapOpen::Bytes => GatherFault::Limit(LimitKind::Bytes),
-    }
-}
-
-fn why(fault: CapFault) -> CapWhy
-    ensures { result ≡ why_of fault }
-{
-    match fault {
-        CapFault::Short => CapWhy::Short,
-        CapFault::BadMagic => CapWhy::Magic,
-        CapFault::BadVersion => CapWhy::Version,
-        CapFault::NotEthernet => CapWhy::Link,
     }
 }

@@ -239,273 +239,290 @@ taken_from ins ins' had left found slots s = let f = s.frames in let b = s.bytes
 pub any : Settings
 any = record { switch = 0; fcf_mac = []; fc_map = 0; vlan = 0; domain = 0; pool = 0; priority = 0; period = 0; window = 0; limit = 0; zones = []; sets = []; activations = [] }
 
-module _ (found_law : LooksFound) (end_law : LooksEnd) (c : Settings) (k : ℕ) (a b : Seen) (ins ins' : List Input) (shelves : List Shelf) (had mid : Budget) (are : AreInputs a (slots_of ins)) (fresh : AreFresh ins) (lt : k < length ins) (see : Seeing c k (start_at a ins had) (walk_at b ins' shelves mid)) where
+-- A port's turn: the ports before it were looked at, and this is it.
+pub record LookTurn (c : Settings) (k : ℕ) (old : Start) (new : Walk) (i : Input) : Type 0 where
+  pub found_law : LooksFound
+  pub end_law : LooksEnd
+  pub are : AreInputs old.seen (slots_of old.ins)
+  pub fresh : AreFresh old.ins
+  pub lt : k < length old.ins
+  pub see : Seeing c k old new
+  pub at : slice_get new.ins k ≡ Some i
+
+pub look_turn : {c : Settings} {k : ℕ} {a b : Seen} {ins ins' : List Input} {shelves : List Shelf} {had mid : Budget} → LooksFound → LooksEnd → AreInputs a (slots_of ins) → AreFresh ins → k < length ins → Seeing c k (start_at a ins had) (walk_at b ins' shelves mid) → (i : Input) →
+    LookTurn c k (start_at a ins had) (walk_at b ins' shelves mid) (get_or ins' k i)
+look_turn {c} {k} {a} {b} {ins} {ins'} {shelves} {had} {mid} found_law end_law are fresh lt see i =
+    let long = same_length ins ins' see.slots in
+    record { found_law = found_law; end_law = end_law; are = are; fresh = fresh; lt = lt; see = see; at = slice_get-get_or ins' k i (omega arith) }
+
+module _ {c : Settings} {k : ℕ} {a b : Seen} {ins ins' : List Input} {shelves : List Shelf} {had mid : Budget} {i1 : Input} (turn : LookTurn c k (start_at a ins had) (walk_at b ins' shelves mid) i1) where
   told_b : IsTrue a.told → IsTrue b.told
-  told_b told = subst IsTrue (sym see.touches.told) told
+  told_b told = subst IsTrue (sym turn.see.touches.told) told
 
   long : length ins' ≡ length ins
-  long = same_length ins ins' see.slots
+  long = same_length ins ins' turn.see.slots
 
-  -- the port whose turn it is
-  module _ (i1 : Input) (at : slice_get ins' k ≡ Some i1) where
-    pub look_open : IsTrue (b.input i1.slot)
-    look_open = open_now a b ins ins' are see.touches see.slots k i1 at
+  here : k < length ins'
+  here = let lt = turn.lt in let l = long in omega arith
 
-    abbrev i : Input
-    i = get_or ins k i1
+  pub look_open : IsTrue (b.input i1.slot)
+  look_open = open_now a b ins ins' turn.are turn.see.touches turn.see.slots k i1 turn.at
 
-    at_begin : slice_get ins k ≡ Some i
-    at_begin = slice_get-get_or ins k i1 lt
+  abbrev i : Input
+  i = get_or ins k i1
 
-    still : Still a b i i1
-    still = see.waits k i i1 (omega arith) at_begin at
+  at_begin : slice_get ins k ≡ Some i
+  at_begin = slice_get-get_or ins k i1 turn.lt
 
-    pub look_fresh : IsFresh i1.reader
-    look_fresh = subst (λ (y : Input). IsFresh y.reader) (sym still.input) (fresh_at ins k i fresh at_begin)
+  still : Still a b i i1
+  still = turn.see.waits k i i1 (omega arith) at_begin turn.at
 
-    same_opened : opened_by b i1.slot i1.reader ≡ opened_by a i.slot i.reader
-    same_opened = ap (λ (y : Input). opened_by b y.slot y.reader) still.input ∙ ap (λ (l : List ℕ). record { head = i.reader.head; body = i.reader.held ++ l }) still.rest
+  pub look_fresh : IsFresh i1.reader
+  look_fresh = subst (λ (y : Input). IsFresh y.reader) (sym still.input) (fresh_at ins k i turn.fresh at_begin)
 
-    abbrev own_look : Look
-    own_look = first_look (k + 1) (opened_by b i1.slot i1.reader)
+  same_opened : opened_by b i1.slot i1.reader ≡ opened_by a i.slot i.reader
+  same_opened = ap (λ (y : Input). opened_by b y.slot y.reader) still.input ∙ ap (λ (l : List ℕ). record { head = i.reader.head; body = i.reader.held ++ l }) still.rest
 
-    -- its looks come first, behind those that were made
-    module _ (d : Seen) (others : List Look) (are_looks : looks c (k + 1) (first_spot (opened_by b i1.slot i1.reader)) ≡ own_look ∷ others) (behind_ : AllBehind (k + 1) others) (same : (q : ℕ) (j : Input) → q ≢ k → slice_get ins' q ≡ Some j → d.left j.slot ≡ b.left j.slot) where
-      one_looks : OneLooks c k (row_at b 1 ins' shelves) d own_look others
-      one_looks = record {
-        count = see.count;
-        within = let l = long in omega arith;
-        port = omega arith;
-        first = refl;
-        own = λ n j e h.
-            let number : k + 1 ≡ n = omega arith in
-            let same_j = some_is (slice_get ins' k) i1 j at h in
-            subst (λ (m : ℕ). looks c m (first_spot (opened_by b j.slot j.reader)) ≡ own_look ∷ others) number
-            (subst (λ (y : Input). looks c (k + 1) (first_spot (opened_by b y.slot y.reader)) ≡ own_look ∷ others) same_j are_looks);
-        behind_ = behind_;
-        same = same;
-        last = λ q j s h. let own = see.done q (get_or ins q j) j s (first_of q j h.input) h in own.ready.last;
-      }
-        where
-          first_of : (q : ℕ) (j : Input) → slice_get ins' q ≡ Some j → slice_get ins q ≡ Some (get_or ins q j)
-          first_of q j h = let less = slice_get_within ins' q j h in let l = long in slice_get-get_or ins q j (omega arith)
+  abbrev own_look : Look
+  own_look = first_look (k + 1) (opened_by b i1.slot i1.reader)
 
-      in_front : in_order (joined (fronts c 1 b ins' shelves)) ≡ own_look ∷ in_order (joined (set (fronts c 1 d ins' shelves) k others))
-      in_front = taken_at k (own_look ∷ []) _ _ (looks_at found_law end_law c k 1 b d own_look others ins' shelves one_looks)
+  -- its looks come first, behind those that were made
+  module _ (d : Seen) (others : List Look) (are_looks : looks c (k + 1) (first_spot (opened_by b i1.slot i1.reader)) ≡ own_look ∷ others) (behind_ : AllBehind (k + 1) others) (same : (q : ℕ) (j : Input) → q ≢ k → slice_get ins' q ≡ Some j → d.left j.slot ≡ b.left j.slot) where
+    one_looks : OneLooks c k (row_at b 1 ins' shelves) d own_look others
+    one_looks = record {
+      count = turn.see.count;
+      within = here;
+      port = omega arith;
+      first = refl;
+      own = λ n j e h.
+          let number : k + 1 ≡ n = omega arith in
+          let same_j = some_is (slice_get ins' k) i1 j turn.at h in
+          subst (λ (m : ℕ). looks c m (first_spot (opened_by b j.slot j.reader)) ≡ own_look ∷ others) number
+          (subst (λ (y : Input). looks c (k + 1) (first_spot (opened_by b y.slot y.reader)) ≡ own_look ∷ others) same_j are_looks);
+      behind_ = behind_;
+      same = same;
+      last = λ q j s h. let own = turn.see.done q (get_or ins q j) j s (first_of q j h.input) h in own.ready.last;
+    }
+      where
+        first_of : (q : ℕ) (j : Input) → slice_get ins' q ≡ Some j → slice_get ins q ≡ Some (get_or ins q j)
+        first_of q j h = let less = slice_get_within ins' q j h in let l = long in slice_get-get_or ins q j (omega arith)
 
-    module _ (d : Seen) (i2 : Input) (left : Budget) (slot : i2.slot ≡ i1.slot) where
-      slots_on : slots_of (set ins' k i2) ≡ slots_of ins
-      slots_on = slots_set ins' k i1 i2 at slot ∙ see.slots
+    in_front : in_order (joined (fronts c 1 b ins' shelves)) ≡ own_look ∷ in_order (joined (set (fronts c 1 d ins' shelves) k others))
+    in_front = taken_at k (own_look ∷ []) _ _ (looks_at turn.found_law turn.end_law c k 1 b d own_look others ins' shelves one_looks)
 
-      spent_on : (s : Shelf) → Looked c (k + 1) i1.slot (reader_stand b i1.reader mid) (reader_stand d i2.reader left) s → Spends had left 0 (counts_of shelves + s.count)
-      spent_on s l =
-          let own = l.spent in
-          let so_far = see.spent in
-          let f = own.frames in
-          let g = so_far.frames in
-          let m = own.bytes in
-          let n = so_far.bytes in
-          record { frames = omega arith; bytes = omega arith }
+  module _ (d : Seen) (i2 : Input) (left : Budget) (slot : i2.slot ≡ i1.slot) where
+    slots_on : slots_of (set ins' k i2) ≡ slots_of ins
+    slots_on = slots_set ins' k i1 i2 turn.at slot ∙ turn.see.slots
 
-      -- what is left of each port, where the one whose turn it is gave this
-      module _ (given : Option Record) (gave : Gave i1.slot b d i1.reader i2.reader (option_to_list given)) (reads : Reads (b.name i1.slot) b d) where
-        own_left : LeavesFirst a d i i2
-        own_left = record {
-          slot = slot ∙ ap (λ (y : Input). y.slot) still.input;
-          given = given;
-          gave = gave_between i.slot a b d d i.reader i2.reader (option_to_list given) told_b still.rest refl (subst (λ (y : Input). Gave y.slot b d y.reader i2.reader (option_to_list given)) still.input gave);
-        }
+    spent_on : (s : Shelf) → Looked c (k + 1) i1.slot (reader_stand b i1.reader mid) (reader_stand d i2.reader left) s → Spends had left 0 (counts_of shelves + s.count)
+    spent_on s l =
+        let own = l.spent in
+        let so_far = turn.see.spent in
+        let f = own.frames in
+        let g = so_far.frames in
+        let m = own.bytes in
+        let n = so_far.bytes in
+        record { frames = omega arith; bytes = omega arith }
 
-        same_left : (q : ℕ) (j : Input) → q ≢ k → slice_get ins' q ≡ Some j → d.left j.slot ≡ b.left j.slot
-        same_left = others_left a b ins ins' are see.touches see.slots k i1 at d reads
-
-        earlier_left : (q : ℕ) (j j' : Input) → q < k → slice_get ins q ≡ Some j → slice_get ins' q ≡ Some j' → LeavesFirst a d j j'
-        earlier_left q j j' less first now =
-            let u = item_at shelves q (let n = see.count in omega arith) in
-            let g = see.done q j j' u.0 first (record { input = now; shelf = u.1 }) in
-            let zero = (fresh_at ins q j fresh first).greatest in
-            record {
-              slot = g.slot;
-              given = u.0.next;
-              gave = record {
-                head = g.read.head;
-                greatest = g.read.greatest ∙ ap (λ (n : ℕ). last_moment n (option_to_list u.0.next)) (sym zero);
-                rest = to_come j'.reader b j'.slot;
-                chain = λ told. subst (λ (n : ℕ). Chain j.reader.head n (option_to_list u.0.next) (to_come j.reader a j.slot) (to_come j'.reader b j'.slot)) (sym zero) (g.read.chain (told_b told));
-                stands = λ told none. ap (λ (l : List ℕ). j'.reader.held ++ l) (sym (same_left q j' (λ e. omega arith) now)) ∙ ap (λ (n : ℕ). j'.reader.held ++ d.left n) g.slot;
-              };
-            }
-
-        later_left : (q : ℕ) (j j' : Input) → k < q → slice_get ins q ≡ Some j → slice_get ins' q ≡ Some j' → LeavesFirst a d j j'
-        later_left q j j' more first now =
-            let h = see.waits q j j' (omega arith) first now in
-            let same = subst (λ (y : Input). d.left y.slot ≡ b.left y.slot) h.input (same_left q j' (λ e. omega arith) now) in
-            record {
-              slot = ap (λ (y : Input). y.slot) h.input;
-              given = None;
-              gave = subst (λ (y : Input). Gave j.slot a d j.reader y.reader []) (sym h.input) (gave_none j.slot a d j.reader (same ∙ h.rest));
-            }
-
-        left_first : (q : ℕ) (j j' : Input) → slice_get ins q ≡ Some j → slice_get (set ins' k i2) q ≡ Some j' → LeavesFirst a d j j'
-        left_first q j j' first now = elim (le_or_lt k q) [
-          | inl le ↦ elim (le_or_lt q k) [
-            | inl back ↦
-                let same : k ≡ q = omega arith in
-                let is_j = some_is (slice_get ins k) i j at_begin (ap (slice_get ins) same ∙ first) in
-                let is_j' = some_is (slice_get (set ins' k i2) k) i2 j' (get_set_same ins' k i2 (let e = long in omega arith)) (ap (slice_get (set ins' k i2)) same ∙ now) in
-                subst (λ (y : Input). LeavesFirst a d j y) is_j' (subst (λ (y : Input). LeavesFirst a d y i2) is_j own_left)
-            | inr more ↦ later_left q j j' more first (sym (get_set_other ins' k q i2 (λ e. omega arith)) ∙ now)
-          ]
-          | inr less ↦ earlier_left q j j' less first (sym (get_set_other ins' k q i2 (λ e. omega arith)) ∙ now)
-        ]
-
-      pub look_failed : (f : GatherFault) → LooksOnce c (k + 1) i1.slot (reader_stand b i1.reader mid) (reader_stand d i2.reader left) (Err f) → LooksFirst c (start_at a ins had) (start_at d (set ins' k i2) left) (Err f)
-      look_failed f t = record {
-        touches = touches_on a b ins ins' are see.touches see.slots k i1 at d t.reads;
-        slots = slots_on;
-        count = tt;
-        ready = tt;
-        read = tt;
-        spent = tt;
-        leaves = left_first None t.leaves.0 t.reads;
-        found = (counts_of shelves, subst (λ (x : Budget). Spends had x 0 (counts_of shelves)) (sym t.leaves.1) see.spent);
-        takes = taken_from ins (set ins' k i2) had left (counts_of shelves) slots_on (subst (λ (x : Budget). Spends had x 0 (counts_of shelves)) (sym t.leaves.1) see.spent);
-        looks_ = λ told. tt;
-        stops = λ told stopped. stop_is told (t.stops (told_b told) stopped);
-        cause = λ is. (k, lt, rose_on a b ins ins' are see.touches see.slots k i1 at d (t.cause (let same : f ≡ fault.Read = cc in ap Err same)));
-        counts = λ other m. t.counts (λ is. other (let same : f ≡ fault.Read = cc in ap Err same)) m ∙ see.counts m;
-        writes = λ m. t.reads.writes m ∙ see.writes m;
-      }
-        where
-          stop_is : IsTrue a.told → StopsFirst c (k + 1) (opened_by b i1.slot i1.reader) mid f → (s : Stop) × (stop c had.bytes had.frames (opened_in a ins) ≡ Some s) × (ending s ≡ f) × (s.window ≡ None)
-          stop_is told st =
-              let first = first_window (in_order (looks_of c 1 (opened_in a ins))) in
-              let more = in_order (joined (set (fronts c 1 b ins' shelves) k st.behind)) in
-              let says = st.says first more in (
-                says.0,
-                stop_as c had.bytes had.frames (opened_in a ins)
-                    ∙ see.passes told first
-                    ∙ ap (stop_in first mid.bytes mid.frames) (in_front b st.behind st.are (rest_behind found_law end_law c (k + 1) (opened_by b i1.slot i1.reader) st.behind st.are) (λ q j ne h. refl))
-                    ∙ says.1,
-                says.2,
-                says.3,
-              )
-
-      -- memory is refused for its shelf
-      pub look_lost : (s : Shelf) → LooksOnce c (k + 1) i1.slot (reader_stand b i1.reader mid) (reader_stand d i2.reader left) (Ok s) → LooksFirst c (start_at a ins had) (start_at d (set ins' k i2) left) (Err fault.Memory)
-      look_lost s t = record {
-        touches = touches_on a b ins ins' are see.touches see.slots k i1 at d t.reads;
-        slots = slots_on;
-        count = tt;
-        ready = tt;
-        read = tt;
-        spent = tt;
-        leaves = left_first s.next (gave_first c (k + 1) i1.slot b d i1.reader i2.reader s mid left look_fresh.greatest t.looked) t.reads;
-        found = (counts_of shelves + s.count, spent_on s t.looked);
-        takes = taken_from ins (set ins' k i2) had left (counts_of shelves + s.count) slots_on (spent_on s t.looked);
-        looks_ = λ told. tt;
-        stops = λ told stopped. absurd stopped;
-        cause = λ is. absurd (cc);
-        counts = λ other m. t.counts (λ is. cc) m ∙ see.counts m;
-        writes = λ m. t.reads.writes m ∙ see.writes m;
+    -- what is left of each port, where the one whose turn it is gave this
+    module _ (given : Option Record) (gave : Gave i1.slot b d i1.reader i2.reader (option_to_list given)) (reads : Reads (b.name i1.slot) b d) where
+      own_left : LeavesFirst a d i i2
+      own_left = record {
+        slot = slot ∙ ap (λ (y : Input). y.slot) still.input;
+        given = given;
+        gave = gave_between i.slot a b d d i.reader i2.reader (option_to_list given) told_b still.rest refl (subst (λ (y : Input). Gave y.slot b d y.reader i2.reader (option_to_list given)) still.input gave);
       }
 
-      abbrev others : Shelf → List Look
-      others s = to_look c (k + 1) d i1.slot i2.reader s.count s.next
+      same_left : (q : ℕ) (j : Input) → q ≢ k → slice_get ins' q ≡ Some j → d.left j.slot ≡ b.left j.slot
+      same_left = others_left a b ins ins' turn.are turn.see.touches turn.see.slots k i1 turn.at d reads
 
-      pub looked_on : (s : Shelf) → LooksOnce c (k + 1) i1.slot (reader_stand b i1.reader mid) (reader_stand d i2.reader left) (Ok s) → Seeing c (k + 1) (start_at a ins had) (walk_at d (set ins' k i2) (shelves ++ s ∷ []) left)
-      looked_on s t =
-          let l = t.looked in
+      earlier_left : (q : ℕ) (j j' : Input) → q < k → slice_get ins q ≡ Some j → slice_get ins' q ≡ Some j' → LeavesFirst a d j j'
+      earlier_left q j j' less first now =
+          let u = item_at shelves q (let n = turn.see.count in omega arith) in
+          let g = turn.see.done q j j' u.0 first (record { input = now; shelf = u.1 }) in
+          let zero = (fresh_at ins q j turn.fresh first).greatest in
           record {
-            touches = touches_on a b ins ins' are see.touches see.slots k i1 at d t.reads;
-            slots = slots_on;
-            count = let e = length-append shelves (s ∷ []) in let n = see.count in omega arith;
-            done = λ q j j' u first now. elim (le_or_lt k q) [
-              | inl le ↦
-                  let less = slice_get_within (shelves ++ s ∷ []) q u now.shelf in
-                  let many = length-append shelves (s ∷ []) in
-                  let n = see.count in
-                  let same : k ≡ q = omega arith in
-                  let is_j = some_is (slice_get ins k) i j at_begin (ap (slice_get ins) same ∙ first) in
-                  let is_j' = some_is (slice_get (set ins' k i2) k) i2 j' (get_set_same ins' k i2 (let e = long in omega arith)) (ap (slice_get (set ins' k i2)) same ∙ now.input) in
-                  let is_u = push_last shelves k s u n (ap (slice_get (shelves ++ s ∷ [])) same ∙ now.shelf) in
-                  coe_began is_j is_j' (sym is_u) (own_began l)
-              | inr more ↦
-                  let n = see.count in
-                  let before : At q ins' shelves j' u = record { input = sym (get_set_other ins' k q i2 (λ e. omega arith)) ∙ now.input; shelf = push_before shelves q s u (omega arith) now.shelf } in
-                  others_began q j j' u (λ e. omega arith) before.input (see.done q j j' u first before)
-            ];
-            waits = λ q j j' le first now.
-                let before = sym (get_set_other ins' k q i2 (λ e. omega arith)) ∙ now in
-                let h = see.waits q j j' (omega arith) first before in
-                let same = others_left a b ins ins' are see.touches see.slots k i1 at d t.reads q j' (λ e. omega arith) before in
-                record { input = h.input; rest = subst (λ (y : Input). d.left y.slot ≡ b.left y.slot) h.input same ∙ h.rest };
-            spent =
-                let own = l.spent in
-                let so_far = see.spent in
-                let f = own.frames in
-                let g = so_far.frames in
-                let m = own.bytes in
-                let n = so_far.bytes in
-                let sum = counts-push shelves s in
-                record { frames = omega arith; bytes = omega arith };
-            passes = λ told first.
-                see.passes told first
-                ∙ ap (stop_in first mid.bytes mid.frames) (front_now told)
-                ∙ l.passes (told_b told) first (in_order (joined (set (fronts c 1 d ins' shelves) k (others s))))
-                ∙ ap (λ ls. stop_in first left.bytes left.frames (in_order (joined ls))) set_now;
-            first_is = λ told. see.first_is told ∙ ap first_window (front_now told) ∙ ap (λ ls. first_window (in_order (joined ls))) set_now;
-            counts = λ m. t.counts (λ is. cc) m ∙ see.counts m;
-            writes = λ m. t.reads.writes m ∙ see.writes m;
-          }
-        where
-          front_now : IsTrue a.told → in_order (joined (fronts c 1 b ins' shelves)) ≡ own_look ∷ in_order (joined (set (fronts c 1 d ins' shelves) k (others s)))
-          front_now told =
-              let l = t.looked in
-              in_front d (others s) (l.looks_ (told_b told)) (rest_behind found_law end_law c (k + 1) (opened_by b i1.slot i1.reader) (others s) (l.looks_ (told_b told)))
-              (others_left a b ins ins' are see.touches see.slots k i1 at d t.reads)
-
-          set_now : set (fronts c 1 d ins' shelves) k (others s) ≡ fronts c 1 d (set ins' k i2) (shelves ++ s ∷ [])
-          set_now =
-              fronts_set c k 1 d ins' shelves i2 s (others s) (let e = long in omega arith) see.count
-              (λ n e. let number : k + 1 ≡ n = omega arith in λ z. to_look c (sym number z) d (slot z) i2.reader s.count s.next)
-
-          coe_began : {y z y' z' : Input} {u v : Shelf} → y ≡ z → y' ≡ z' → u ≡ v → Began c a d y y' u left → Began c a d z z' v left
-          coe_began {y} {z} {y'} {z'} {u} {v} e f g h = subst (λ q. Began c a d z z' q left) g (subst (λ q. Began c a d z q u left) f (subst (λ q. Began c a d q y' u left) e h))
-
-          own_began : Looked c (k + 1) i1.slot (reader_stand b i1.reader mid) (reader_stand d i2.reader left) s → Began c a d i i2 s left
-          own_began l = record {
-            slot = slot ∙ ap (λ (y : Input). y.slot) still.input;
-            ready = l.ready;
-            read = record {
-              head = l.head ∙ ap (λ (y : Input). y.reader.head) still.input;
-              greatest = l.greatest;
-              count = l.count;
-              below = tt;
-              chain = λ now.
-                  subst (λ (n : ℕ). Chain i.reader.head 0 (option_to_list s.next) (to_come i.reader a i.slot) (to_come i2.reader d n)) (sym slot)
-                  (subst (λ (o : Opened). Chain o.head 0 (option_to_list s.next) o.body (to_come i2.reader d i1.slot)) same_opened (l.chain (subst IsTrue t.reads.keeps.told now)));
-              ended = λ now none. subst (λ (n : ℕ). to_come i2.reader d n ≡ []) (sym slot) (l.ended (subst IsTrue t.reads.keeps.told now) none);
+            slot = g.slot;
+            given = u.0.next;
+            gave = record {
+              head = g.read.head;
+              greatest = g.read.greatest ∙ ap (λ (n : ℕ). last_moment n (option_to_list u.0.next)) (sym zero);
+              rest = to_come j'.reader b j'.slot;
+              chain = λ told. subst (λ (n : ℕ). Chain j.reader.head n (option_to_list u.0.next) (to_come j.reader a j.slot) (to_come j'.reader b j'.slot)) (sym zero) (g.read.chain (told_b told));
+              stands = λ told none. ap (λ (l : List ℕ). j'.reader.held ++ l) (sym (same_left q j' (λ e. omega arith) now)) ∙ ap (λ (n : ℕ). j'.reader.held ++ d.left n) g.slot;
             };
           }
 
-          others_began : (q : ℕ) (j j' : Input) (u : Shelf) → q ≢ k → slice_get ins' q ≡ Some j' → Began c a b j j' u mid → Began c a d j j' u left
-          others_began q j j' u ne h g =
-              let same = others_left a b ins ins' are see.touches see.slots k i1 at d t.reads q j' ne h in
-              let own = t.looked.spent in
+      later_left : (q : ℕ) (j j' : Input) → k < q → slice_get ins q ≡ Some j → slice_get ins' q ≡ Some j' → LeavesFirst a d j j'
+      later_left q j j' more first now =
+          let h = turn.see.waits q j j' (omega arith) first now in
+          let same = subst (λ (y : Input). d.left y.slot ≡ b.left y.slot) h.input (same_left q j' (λ e. omega arith) now) in
+          record {
+            slot = ap (λ (y : Input). y.slot) h.input;
+            given = None;
+            gave = subst (λ (y : Input). Gave j.slot a d j.reader y.reader []) (sym h.input) (gave_none j.slot a d j.reader (same ∙ h.rest));
+          }
+
+      left_first : (q : ℕ) (j j' : Input) → slice_get ins q ≡ Some j → slice_get (set ins' k i2) q ≡ Some j' → LeavesFirst a d j j'
+      left_first q j j' first now = elim (le_or_lt k q) [
+        | inl le ↦ elim (le_or_lt q k) [
+          | inl back ↦
+              let same : k ≡ q = omega arith in
+              let is_j = some_is (slice_get ins k) i j at_begin (ap (slice_get ins) same ∙ first) in
+              let is_j' = some_is (slice_get (set ins' k i2) k) i2 j' (get_set_same ins' k i2 here) (ap (slice_get (set ins' k i2)) same ∙ now) in
+              subst (λ (y : Input). LeavesFirst a d j y) is_j' (subst (λ (y : Input). LeavesFirst a d y i2) is_j own_left)
+          | inr more ↦ later_left q j j' more first (sym (get_set_other ins' k q i2 (λ e. omega arith)) ∙ now)
+        ]
+        | inr less ↦ earlier_left q j j' less first (sym (get_set_other ins' k q i2 (λ e. omega arith)) ∙ now)
+      ]
+
+    pub look_failed : (f : GatherFault) → LooksOnce c (k + 1) i1.slot (reader_stand b i1.reader mid) (reader_stand d i2.reader left) (Err f) → LooksFirst c (start_at a ins had) (start_at d (set ins' k i2) left) (Err f)
+    look_failed f t = record {
+      touches = touches_on a b ins ins' turn.are turn.see.touches turn.see.slots k i1 turn.at d t.reads;
+      slots = slots_on;
+      count = tt;
+      ready = tt;
+      read = tt;
+      spent = tt;
+      leaves = left_first None t.leaves.0 t.reads;
+      found = (counts_of shelves, subst (λ (x : Budget). Spends had x 0 (counts_of shelves)) (sym t.leaves.1) turn.see.spent);
+      takes = taken_from ins (set ins' k i2) had left (counts_of shelves) slots_on (subst (λ (x : Budget). Spends had x 0 (counts_of shelves)) (sym t.leaves.1) turn.see.spent);
+      looks_ = λ told. tt;
+      stops = λ told stopped. stop_is told (t.stops (told_b told) stopped);
+      cause = λ is. (k, turn.lt, rose_on a b ins ins' turn.are turn.see.touches turn.see.slots k i1 turn.at d (t.cause (let same : f ≡ fault.Read = cc in ap Err same)));
+      counts = λ other m. t.counts (λ is. other (let same : f ≡ fault.Read = cc in ap Err same)) m ∙ turn.see.counts m;
+      writes = λ m. t.reads.writes m ∙ turn.see.writes m;
+    }
+      where
+        stop_is : IsTrue a.told → StopsFirst c (k + 1) (opened_by b i1.slot i1.reader) mid f → (s : Stop) × (stop c had.bytes had.frames (opened_in a ins) ≡ Some s) × (ending s ≡ f) × (s.window ≡ None)
+        stop_is told st =
+            let first = first_window (in_order (looks_of c 1 (opened_in a ins))) in
+            let more = in_order (joined (set (fronts c 1 b ins' shelves) k st.behind)) in
+            let says = st.says first more in (
+              says.0,
+              stop_as c had.bytes had.frames (opened_in a ins)
+                  ∙ turn.see.passes told first
+                  ∙ ap (stop_in first mid.bytes mid.frames) (in_front b st.behind st.are (rest_behind turn.found_law turn.end_law c (k + 1) (opened_by b i1.slot i1.reader) st.behind st.are) (λ q j ne h. refl))
+                  ∙ says.1,
+              says.2,
+              says.3,
+            )
+
+    -- memory is refused for its shelf
+    pub look_lost : (s : Shelf) → LooksOnce c (k + 1) i1.slot (reader_stand b i1.reader mid) (reader_stand d i2.reader left) (Ok s) → LooksFirst c (start_at a ins had) (start_at d (set ins' k i2) left) (Err fault.Memory)
+    look_lost s t = record {
+      touches = touches_on a b ins ins' turn.are turn.see.touches turn.see.slots k i1 turn.at d t.reads;
+      slots = slots_on;
+      count = tt;
+      ready = tt;
+      read = tt;
+      spent = tt;
+      leaves = left_first s.next (gave_first c (k + 1) i1.slot b d i1.reader i2.reader s mid left look_fresh.greatest t.looked) t.reads;
+      found = (counts_of shelves + s.count, spent_on s t.looked);
+      takes = taken_from ins (set ins' k i2) had left (counts_of shelves + s.count) slots_on (spent_on s t.looked);
+      looks_ = λ told. tt;
+      stops = λ told stopped. absurd stopped;
+      cause = λ is. absurd (cc);
+      counts = λ other m. t.counts (λ is. cc) m ∙ turn.see.counts m;
+      writes = λ m. t.reads.writes m ∙ turn.see.writes m;
+    }
+
+    abbrev others : Shelf → List Look
+    others s = to_look c (k + 1) d i1.slot i2.reader s.count s.next
+
+    pub looked_on : (s : Shelf) → LooksOnce c (k + 1) i1.slot (reader_stand b i1.reader mid) (reader_stand d i2.reader left) (Ok s) → Seeing c (k + 1) (start_at a ins had) (walk_at d (set ins' k i2) (shelves ++ s ∷ []) left)
+    looked_on s t =
+        let l = t.looked in
+        record {
+          touches = touches_on a b ins ins' turn.are turn.see.touches turn.see.slots k i1 turn.at d t.reads;
+          slots = slots_on;
+          count = let e = length-append shelves (s ∷ []) in let n = turn.see.count in omega arith;
+          done = λ q j j' u first now. elim (le_or_lt k q) [
+            | inl le ↦
+                let less = slice_get_within (shelves ++ s ∷ []) q u now.shelf in
+                let many = length-append shelves (s ∷ []) in
+                let n = turn.see.count in
+                let same : k ≡ q = omega arith in
+                let is_j = some_is (slice_get ins k) i j at_begin (ap (slice_get ins) same ∙ first) in
+                let is_j' = some_is (slice_get (set ins' k i2) k) i2 j' (get_set_same ins' k i2 here) (ap (slice_get (set ins' k i2)) same ∙ now.input) in
+                let is_u = push_last shelves k s u n (ap (slice_get (shelves ++ s ∷ [])) same ∙ now.shelf) in
+                coe_began is_j is_j' (sym is_u) (own_began l)
+            | inr more ↦
+                let n = turn.see.count in
+                let before : At q ins' shelves j' u = record { input = sym (get_set_other ins' k q i2 (λ e. omega arith)) ∙ now.input; shelf = push_before shelves q s u (omega arith) now.shelf } in
+                others_began q j j' u (λ e. omega arith) before.input (turn.see.done q j j' u first before)
+          ];
+          waits = λ q j j' le first now.
+              let before = sym (get_set_other ins' k q i2 (λ e. omega arith)) ∙ now in
+              let h = turn.see.waits q j j' (omega arith) first before in
+              let same = others_left a b ins ins' turn.are turn.see.touches turn.see.slots k i1 turn.at d t.reads q j' (λ e. omega arith) before in
+              record { input = h.input; rest = subst (λ (y : Input). d.left y.slot ≡ b.left y.slot) h.input same ∙ h.rest };
+          spent =
+              let own = l.spent in
+              let so_far = turn.see.spent in
               let f = own.frames in
-              record {
-                slot = g.slot;
-                ready = smaller j'.reader u.next u.count mid left (omega arith) g.ready;
-                read = record {
-                  head = g.read.head;
-                  greatest = g.read.greatest;
-                  count = g.read.count;
-                  below = tt;
-                  chain = λ now. subst (λ (l : List ℕ). Chain j.reader.head 0 (option_to_list u.next) (to_come j.reader a j.slot) (j'.reader.held ++ l)) (sym same) (g.read.chain (subst IsTrue t.reads.keeps.told now));
-                  ended = λ now none. ap (λ (l : List ℕ). j'.reader.held ++ l) same ∙ g.read.ended (subst IsTrue t.reads.keeps.told now) none;
-                };
-              }
+              let g = so_far.frames in
+              let m = own.bytes in
+              let n = so_far.bytes in
+              let sum = counts-push shelves s in
+              record { frames = omega arith; bytes = omega arith };
+          passes = λ told first.
+              turn.see.passes told first
+              ∙ ap (stop_in first mid.bytes mid.frames) (front_now told)
+              ∙ l.passes (told_b told) first (in_order (joined (set (fronts c 1 d ins' shelves) k (others s))))
+              ∙ ap (λ ls. stop_in first left.bytes left.frames (in_order (joined ls))) set_now;
+          first_is = λ told. turn.see.first_is told ∙ ap first_window (front_now told) ∙ ap (λ ls. first_window (in_order (joined ls))) set_now;
+          counts = λ m. t.counts (λ is. cc) m ∙ turn.see.counts m;
+          writes = λ m. t.reads.writes m ∙ turn.see.writes m;
+        }
+      where
+        front_now : IsTrue a.told → in_order (joined (fronts c 1 b ins' shelves)) ≡ own_look ∷ in_order (joined (set (fronts c 1 d ins' shelves) k (others s)))
+        front_now told =
+            let l = t.looked in
+            in_front d (others s) (l.looks_ (told_b told)) (rest_behind turn.found_law turn.end_law c (k + 1) (opened_by b i1.slot i1.reader) (others s) (l.looks_ (told_b told)))
+            (others_left a b ins ins' turn.are turn.see.touches turn.see.slots k i1 turn.at d t.reads)
+
+        set_now : set (fronts c 1 d ins' shelves) k (others s) ≡ fronts c 1 d (set ins' k i2) (shelves ++ s ∷ [])
+        set_now =
+            fronts_set c k 1 d ins' shelves i2 s (others s) here turn.see.count
+            (λ n e. let number : k + 1 ≡ n = omega arith in λ z. to_look c (sym number z) d (slot z) i2.reader s.count s.next)
+
+        coe_began : {y z y' z' : Input} {u v : Shelf} → y ≡ z → y' ≡ z' → u ≡ v → Began c a d y y' u left → Began c a d z z' v left
+        coe_began {y} {z} {y'} {z'} {u} {v} e f g h = subst (λ q. Began c a d z z' q left) g (subst (λ q. Began c a d z q u left) f (subst (λ q. Began c a d q y' u left) e h))
+
+        own_began : Looked c (k + 1) i1.slot (reader_stand b i1.reader mid) (reader_stand d i2.reader left) s → Began c a d i i2 s left
+        own_began l = record {
+          slot = slot ∙ ap (λ (y : Input). y.slot) still.input;
+          ready = l.ready;
+          read = record {
+            head = l.head ∙ ap (λ (y : Input). y.reader.head) still.input;
+            greatest = l.greatest;
+            count = l.count;
+            below = tt;
+            chain = λ now.
+                subst (λ (n : ℕ). Chain i.reader.head 0 (option_to_list s.next) (to_come i.reader a i.slot) (to_come i2.reader d n)) (sym slot)
+                (subst (λ (o : Opened). Chain o.head 0 (option_to_list s.next) o.body (to_come i2.reader d i1.slot)) same_opened (l.chain (subst IsTrue t.reads.keeps.told now)));
+            ended = λ now none. subst (λ (n : ℕ). to_come i2.reader d n ≡ []) (sym slot) (l.ended (subst IsTrue t.reads.keeps.told now) none);
+          };
+        }
+
+        others_began : (q : ℕ) (j j' : Input) (u : Shelf) → q ≢ k → slice_get ins' q ≡ Some j' → Began c a b j j' u mid → Began c a d j j' u left
+        others_began q j j' u ne h g =
+            let same = others_left a b ins ins' turn.are turn.see.touches turn.see.slots k i1 turn.at d t.reads q j' ne h in
+            let own = t.looked.spent in
+            let f = own.frames in
+            record {
+              slot = g.slot;
+              ready = smaller j'.reader u.next u.count mid left (omega arith) g.ready;
+              read = record {
+                head = g.read.head;
+                greatest = g.read.greatest;
+                count = g.read.count;
+                below = tt;
+                chain = λ now. subst (λ (l : List ℕ). Chain j.reader.head 0 (option_to_list u.next) (to_come j.reader a j.slot) (j'.reader.held ++ l)) (sym same) (g.read.chain (subst IsTrue t.reads.keeps.told now));
+                ended = λ now none. ap (λ (l : List ℕ). j'.reader.held ++ l) same ∙ g.read.ended (subst IsTrue t.reads.keeps.told now) none;
+              };
+            }
 
 -- before the first port
 pub seeing_none : (c : Settings) (a : Seen) (ins : List Input) (had : Budget) → Seeing c 0 (start_at a ins had) (walk_at a ins [] had)

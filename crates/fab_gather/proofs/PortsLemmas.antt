@@ -144,15 +144,36 @@ beyond_is c w g g' (Some x) (Some y) last from last' other le still =
     let up = window_start-mono c x.moment y.moment (omega arith) in
     elim (le_or_lt (window_start c y.moment) w) [ inl small ↦ absurd (other (omega arith)) | inr large ↦ omega arith ]
 
-module _ (c : Settings) (w k : ℕ) (a b : Seen) (ins ins' : List Input) (shelves shelves' : List Shelf) (had mid : Budget) (are : AreInputs a (slots_of ins)) (count : length shelves ≡ length ins) (lt : k < length ins) (round : Round c w k (walk_at a ins shelves had) (walk_at b ins' shelves' mid)) where
+-- A port's turn: the ports before it had theirs, and these are it and its shelf.
+pub record Turn (c : Settings) (w k : ℕ) (old new : Walk) (i : Input) (s : Shelf) : Type 0 where
+  pub are : AreInputs old.seen (slots_of old.ins)
+  pub count : length old.shelves ≡ length old.ins
+  pub lt : k < length old.ins
+  pub round : Round c w k old new
+  pub at : At k new.ins new.shelves i s
+
+pub turn_of : {c : Settings} {w k : ℕ} {a b : Seen} {ins ins' : List Input} {shelves shelves' : List Shelf} {had mid : Budget} → AreInputs a (slots_of ins) → length ins ≡ length shelves → k < length ins → Round c w k (walk_at a ins shelves had) (walk_at b ins' shelves' mid) → (i : Input) (s : Shelf) →
+    Turn c w k (walk_at a ins shelves had) (walk_at b ins' shelves' mid) (get_or ins' k i) (get_or shelves' k s)
+turn_of {c} {w} {k} {a} {b} {ins} {ins'} {shelves} {shelves'} {had} {mid} are count lt round i s =
+    let long = same_length ins ins' round.slots in
+    let wide = round.count in
+    record { are = are; count = sym count; lt = lt; round = round; at = record { input = slice_get-get_or ins' k i (omega arith); shelf = slice_get-get_or shelves' k s (omega arith) } }
+
+module _ {c : Settings} {w k : ℕ} {a b : Seen} {ins ins' : List Input} {shelves shelves' : List Shelf} {had mid : Budget} {i1 : Input} {s1 : Shelf} (turn : Turn c w k (walk_at a ins shelves had) (walk_at b ins' shelves' mid) i1 s1) where
   told_b : IsTrue a.told → IsTrue b.told
-  told_b told = subst IsTrue (sym round.touches.told) told
+  told_b told = subst IsTrue (sym turn.round.touches.told) told
 
   long : length ins' ≡ length ins
-  long = same_length ins ins' round.slots
+  long = same_length ins ins' turn.round.slots
 
   wide : length shelves' ≡ length ins'
-  wide = round.count ∙ count ∙ sym long
+  wide = turn.round.count ∙ turn.count ∙ sym long
+
+  here : k < length ins'
+  here = let lt = turn.lt in let l = long in omega arith
+
+  there : k < length shelves'
+  there = let lt = here in let l = wide in omega arith
 
   -- each current port has its first state
   first_at : (q : ℕ) (i' : Input) (s' : Shelf) → At q ins' shelves' i' s' → At q ins shelves (get_or ins q i') (get_or shelves q s')
@@ -161,244 +182,242 @@ module _ (c : Settings) (w k : ℕ) (a b : Seen) (ins ins' : List Input) (shelve
       let l = long in
       record { input = slice_get-get_or ins q i' (omega arith); shelf = slice_get-get_or shelves q s' (omega arith) }
 
-  -- the port whose turn it is
-  module _ (i1 : Input) (s1 : Shelf) (at : At k ins' shelves' i1 s1) where
-    pub turn_open : IsTrue (b.input i1.slot)
-    turn_open = open_now a b ins ins' are round.touches round.slots k i1 at.input
+  pub turn_open : IsTrue (b.input i1.slot)
+  turn_open = open_now a b ins ins' turn.are turn.round.touches turn.round.slots k i1 turn.at.input
 
-    abbrev i : Input
-    i = get_or ins k i1
+  abbrev i : Input
+  i = get_or ins k i1
 
-    abbrev s : Shelf
-    s = get_or shelves k s1
+  abbrev s : Shelf
+  s = get_or shelves k s1
 
-    waits : Waits c w (stand_at a i s) (stand_at b i1 s1) mid
-    waits = round.waits k i i1 s s1 (omega arith) (first_at k i1 s1 at) at
+  waits : Waits c w (stand_at a i s) (stand_at b i1 s1) mid
+  waits = turn.round.waits k i i1 s s1 (omega arith) (first_at k i1 s1 turn.at) turn.at
 
-    pub turn_ready : IsReady i1.reader s1.next s1.count mid
-    turn_ready = subst (λ (x : Input). IsReady x.reader s1.next s1.count mid) (sym waits.input) (subst (λ (y : Shelf). IsReady i.reader y.next y.count mid) (sym waits.shelf) waits.ready)
+  pub turn_ready : IsReady i1.reader s1.next s1.count mid
+  turn_ready = subst (λ (x : Input). IsReady x.reader s1.next s1.count mid) (sym waits.input) (subst (λ (y : Shelf). IsReady i.reader y.next y.count mid) (sym waits.shelf) waits.ready)
 
-    from_now : IfSome s1.next (λ x. w ≤ window_start c x.moment)
-    from_now = subst (λ (y : Shelf). IfSome y.next (λ x. w ≤ window_start c x.moment)) (sym waits.shelf) waits.from
+  from_now : IfSome s1.next (λ x. w ≤ window_start c x.moment)
+  from_now = subst (λ (y : Shelf). IfSome y.next (λ x. w ≤ window_start c x.moment)) (sym waits.shelf) waits.from
 
-    module _ (d : Seen) (i2 : Input) (s2 : Shelf) (left : Budget) (slot : i2.slot ≡ i1.slot) where
-      slots_on : slots_of (set ins' k i2) ≡ slots_of ins
-      slots_on = slots_set ins' k i1 i2 at.input slot ∙ round.slots
+  module _ (d : Seen) (i2 : Input) (s2 : Shelf) (left : Budget) (slot : i2.slot ≡ i1.slot) where
+    slots_on : slots_of (set ins' k i2) ≡ slots_of ins
+    slots_on = slots_set ins' k i1 i2 turn.at.input slot ∙ turn.round.slots
 
-      count_on : length (set shelves' k s2) ≡ length shelves
-      count_on = length-set shelves' k s2 ∙ round.count
+    count_on : length (set shelves' k s2) ≡ length shelves
+    count_on = length-set shelves' k s2 ∙ turn.round.count
 
-      others_at : (q : ℕ) (j : Input) (u : Shelf) → q ≢ k → At q (set ins' k i2) (set shelves' k s2) j u → At q ins' shelves' j u
-      others_at q j u ne h = record { input = sym (get_set_other ins' k q i2 ne) ∙ h.input; shelf = sym (get_set_other shelves' k q s2 ne) ∙ h.shelf }
+    others_at : (q : ℕ) (j : Input) (u : Shelf) → q ≢ k → At q (set ins' k i2) (set shelves' k s2) j u → At q ins' shelves' j u
+    others_at q j u ne h = record { input = sym (get_set_other ins' k q i2 ne) ∙ h.input; shelf = sym (get_set_other shelves' k q s2 ne) ∙ h.shelf }
 
-      -- looks that were made of this port, and those behind them
-      one_takes : (e : Seen) (made behind_ : List Look) → ((q : ℕ) (j : Input) (u : Shelf) → q ≢ k → At q ins' shelves' j u → e.left j.slot ≡ b.left j.slot) → to_look c (k + 1) b i1.slot i1.reader s1.count s1.next ≡ made ++ behind_ → AreOf (k + 1) w made → OneTakes c k (row_at b 1 ins' shelves') e made behind_
-      one_takes e made behind_ same is of = record {
-        own = λ n j u f h.
-            let number : k + 1 ≡ n = omega arith in
-            subst (λ (m : ℕ). look_of c m b j u ≡ made ++ behind_) number
-            (subst (λ (x : Input). look_of c (k + 1) b x u ≡ made ++ behind_) (some_is (slice_get ins' k) i1 j at.input h.input)
-            (subst (λ (y : Shelf). look_of c (k + 1) b i1 y ≡ made ++ behind_) (some_is (slice_get shelves' k) s1 u at.shelf h.shelf) is));
-        leads = sorted_leads made behind_ (subst Sorted is (sorted_looks c (k + 1) b i1.slot i1.reader s1.count s1.next turn_ready.last));
-        same = same;
-        before = λ q n j u f less h.
-            let own = round.done q (get_or ins q j) j (get_or shelves q u) u less (first_at q j u h) h in
-            later_not_before n (w + 1) 0 (k + 1) w (look_of c n e j u) made (later_looks c n e j.slot j.reader u.count u.next (w + 1) own.ready.last own.beyond) (omega arith) of;
-        behind = λ q n j u f more h.
-            let own = round.waits q (get_or ins q j) j (get_or shelves q u) u (omega arith) (first_at q j u h) h in
-            let last = subst (λ (x : Input). IfSome u.next (λ y. x.reader.greatest ≡ y.moment)) (sym own.input) (subst (λ (y : Shelf). IfSome y.next (λ z. (get_or ins q j).reader.greatest ≡ z.moment)) (sym own.shelf) own.ready.last) in
-            let from = subst (λ (y : Shelf). IfSome y.next (λ z. w ≤ window_start c z.moment)) (sym own.shelf) own.from in
-            made_before (k + 1) w n w 0 made (look_of c n e j u) of (later_looks c n e j.slot j.reader u.count u.next w last from) (omega arith) (omega arith);
-      }
+    -- looks that were made of this port, and those behind them
+    one_takes : (e : Seen) (made behind_ : List Look) → ((q : ℕ) (j : Input) (u : Shelf) → q ≢ k → At q ins' shelves' j u → e.left j.slot ≡ b.left j.slot) → to_look c (k + 1) b i1.slot i1.reader s1.count s1.next ≡ made ++ behind_ → AreOf (k + 1) w made → OneTakes c k (row_at b 1 ins' shelves') e made behind_
+    one_takes e made behind_ same is of = record {
+      own = λ n j u f h.
+          let number : k + 1 ≡ n = omega arith in
+          subst (λ (m : ℕ). look_of c m b j u ≡ made ++ behind_) number
+          (subst (λ (x : Input). look_of c (k + 1) b x u ≡ made ++ behind_) (some_is (slice_get ins' k) i1 j turn.at.input h.input)
+          (subst (λ (y : Shelf). look_of c (k + 1) b i1 y ≡ made ++ behind_) (some_is (slice_get shelves' k) s1 u turn.at.shelf h.shelf) is));
+      leads = sorted_leads made behind_ (subst Sorted is (sorted_looks c (k + 1) b i1.slot i1.reader s1.count s1.next turn_ready.last));
+      same = same;
+      before = λ q n j u f less h.
+          let own = turn.round.done q (get_or ins q j) j (get_or shelves q u) u less (first_at q j u h) h in
+          later_not_before n (w + 1) 0 (k + 1) w (look_of c n e j u) made (later_looks c n e j.slot j.reader u.count u.next (w + 1) own.ready.last own.beyond) (omega arith) of;
+      behind = λ q n j u f more h.
+          let own = turn.round.waits q (get_or ins q j) j (get_or shelves q u) u (omega arith) (first_at q j u h) h in
+          let last = subst (λ (x : Input). IfSome u.next (λ y. x.reader.greatest ≡ y.moment)) (sym own.input) (subst (λ (y : Shelf). IfSome y.next (λ z. (get_or ins q j).reader.greatest ≡ z.moment)) (sym own.shelf) own.ready.last) in
+          let from = subst (λ (y : Shelf). IfSome y.next (λ z. w ≤ window_start c z.moment)) (sym own.shelf) own.from in
+          made_before (k + 1) w n w 0 made (look_of c n e j u) of (later_looks c n e j.slot j.reader u.count u.next w last from) (omega arith) (omega arith);
+    }
 
-      in_front : (e : Seen) (made behind_ : List Look) → OneTakes c k (row_at b 1 ins' shelves') e made behind_ → in_order (joined (rests c 1 b ins' shelves')) ≡ made ++ in_order (joined (set (rests c 1 e ins' shelves') k behind_))
-      in_front e made behind_ t = taken_at k made _ _ (takes_at c k 1 b e made behind_ ins' shelves' (let l = long in omega arith) wide t)
+    in_front : (e : Seen) (made behind_ : List Look) → OneTakes c k (row_at b 1 ins' shelves') e made behind_ → in_order (joined (rests c 1 b ins' shelves')) ≡ made ++ in_order (joined (set (rests c 1 e ins' shelves') k behind_))
+    in_front e made behind_ t = taken_at k made _ _ (takes_at c k 1 b e made behind_ ins' shelves' here wide t)
 
-      pub turn_failed : (f : GatherFault) → TakesWindow c (k + 1) w i1.slot (port_walk_at b i1.reader s1 mid) (port_walk_at d i2.reader s2 left) (Err f) → TakesAll c w (walk_at a ins shelves had) (walk_at d (set ins' k i2) (set shelves' k s2) left) (Err f)
-      turn_failed f t = record {
-        touches = touches_on a b ins ins' are round.touches round.slots k i1 at.input d t.reads;
-        slots = slots_on;
-        count = count_on;
-        ready = tt;
-        took = tt;
-        spent =
-            let own = t.leaves.1 in
-            let so_far = round.spent in
-            let f = own.frames in
-            let g = so_far.frames in
-            let m = own.bytes in
-            let n = so_far.bytes in
-            let sum = counts_set shelves' k s1 s2 at.shelf in
-            record { frames = omega arith; bytes = omega arith };
-        takes =
-            let own = t.leaves.1 in
-            let more = t.leaves.0.count in
-            let f = own.frames in
-            let m = own.bytes in
-            record { slots = slots_on; bytes = let h = round.bytes in omega arith; frames = let h = round.frames in omega arith };
-        leaves = λ q j j' u u' first now. elim (le_or_lt k q) [
-          | inl le ↦ elim (le_or_lt q k) [
-            | inl back ↦
+    pub turn_failed : (f : GatherFault) → TakesWindow c (k + 1) w i1.slot (port_walk_at b i1.reader s1 mid) (port_walk_at d i2.reader s2 left) (Err f) → TakesAll c w (walk_at a ins shelves had) (walk_at d (set ins' k i2) (set shelves' k s2) left) (Err f)
+    turn_failed f t = record {
+      touches = touches_on a b ins ins' turn.are turn.round.touches turn.round.slots k i1 turn.at.input d t.reads;
+      slots = slots_on;
+      count = count_on;
+      ready = tt;
+      took = tt;
+      spent =
+          let own = t.leaves.1 in
+          let so_far = turn.round.spent in
+          let f = own.frames in
+          let g = so_far.frames in
+          let m = own.bytes in
+          let n = so_far.bytes in
+          let sum = counts_set shelves' k s1 s2 turn.at.shelf in
+          record { frames = omega arith; bytes = omega arith };
+      takes =
+          let own = t.leaves.1 in
+          let more = t.leaves.0.count in
+          let f = own.frames in
+          let m = own.bytes in
+          record { slots = slots_on; bytes = let h = turn.round.bytes in omega arith; frames = let h = turn.round.frames in omega arith };
+      leaves = λ q j j' u u' first now. elim (le_or_lt k q) [
+        | inl le ↦ elim (le_or_lt q k) [
+          | inl back ↦
+              let same : k ≡ q = omega arith in
+              let is_j = some_is (slice_get ins k) i j (first_at k i1 s1 turn.at).input (ap (slice_get ins) same ∙ first.input) in
+              let is_u = some_is (slice_get shelves k) s u (first_at k i1 s1 turn.at).shelf (ap (slice_get shelves) same ∙ first.shelf) in
+              let is_j' = some_is (slice_get (set ins' k i2) k) i2 j' (get_set_same ins' k i2 here) (ap (slice_get (set ins' k i2)) same ∙ now.input) in
+              let is_u' = some_is (slice_get (set shelves' k s2) k) s2 u' (get_set_same shelves' k s2 there) (ap (slice_get (set shelves' k s2)) same ∙ now.shelf) in
+              coe_left is_j is_j' is_u is_u' own_left
+          | inr more ↦ later_left q j j' u u' more first (others_at q j' u' (λ e. omega arith) now)
+        ]
+        | inr less ↦ earlier_left q j j' u u' less first (others_at q j' u' (λ e. omega arith) now)
+      ];
+      looks = λ told. tt;
+      stops = λ told stopped first late.
+          let st = t.stops (told_b told) stopped in
+          let of = are_of-push (k + 1) w st.made st.failing st.before st.at.0 st.at.1 in
+          let whole = st.are ∙ sym (append_assoc st.made (st.failing ∷ []) st.behind) in
+          let one = one_takes b (st.made ++ st.failing ∷ []) st.behind (λ q j u ne h. refl) whole of in
+          let more = in_order (joined (set (rests c 1 b ins' shelves') k st.behind)) in
+          let says = st.says first more late in (
+            says.0,
+            turn.round.looks told first late
+                ∙ ap (stop_in first mid.bytes mid.frames) (in_front b (st.made ++ st.failing ∷ []) st.behind one ∙ append_assoc st.made (st.failing ∷ []) more)
+                ∙ says.1,
+            says.2,
+            says.3,
+          );
+      cause = λ is. (k, turn.lt, rose_on a b ins ins' turn.are turn.round.touches turn.round.slots k i1 turn.at.input d (t.cause is));
+      in_span = t.in_span;
+      counts = λ other m. t.counts other m ∙ turn.round.counts m;
+      writes = λ m. t.reads.writes m ∙ turn.round.writes m;
+    }
+      where
+        Left : Input → Input → Shelf → Shelf → Type 0
+        Left j j' u u' = (j'.slot ≡ j.slot) × LeavesPort c w (stand_at a j u) (stand_at d j' u')
+
+        coe_left : {x y x' y' : Input} {v z v' z' : Shelf} → x ≡ y → x' ≡ y' → v ≡ z → v' ≡ z' → Left x x' v v' → Left y y' z z'
+        coe_left {x} {y} {x'} {y'} {v} {z} {v'} {z'} e f g h l = subst (λ q. Left y y' z q) h (subst (λ q. Left y y' q v') g (subst (λ q. Left y q v v') f (subst (λ q. Left q x' v v') e l)))
+
+        own_left : Left i i2 s s2
+        own_left =
+            let from_i = subst (λ (x : Input). LeavesPort c w (stand_at b (record { slot = x.slot; reader = x.reader }) s1) (stand_at d (record { slot = x.slot; reader = i2.reader }) s2)) waits.input t.leaves.0 in
+            let from_s = subst (λ (y : Shelf). LeavesPort c w (stand_at b (record { slot = i.slot; reader = i.reader }) y) (stand_at d (record { slot = i.slot; reader = i2.reader }) s2)) waits.shelf from_i in
+            (slot ∙ ap (λ (x : Input). x.slot) waits.input, leaves_from c w a b d i i2 s s2 told_b waits.rest from_s)
+
+        earlier_left : (q : ℕ) (j j' : Input) (u u' : Shelf) → q < k → At q ins shelves j u → At q ins' shelves' j' u' → Left j j' u u'
+        earlier_left q j j' u u' less first now =
+            let h = turn.round.done q j j' u u' less first now in
+            let same = others_left a b ins ins' turn.are turn.round.touches turn.round.slots k i1 turn.at.input d t.reads q j' (λ e. omega arith) now.input in
+            (h.took.slot, took_leaves c w a b d j j' u u' (subst (λ (n : ℕ). d.left n ≡ b.left n) h.took.slot same) h.took)
+
+        later_left : (q : ℕ) (j j' : Input) (u u' : Shelf) → k < q → At q ins shelves j u → At q ins' shelves' j' u' → Left j j' u u'
+        later_left q j j' u u' more first now =
+            let h = turn.round.waits q j j' u u' (omega arith) first now in
+            let same = others_left a b ins ins' turn.are turn.round.touches turn.round.slots k i1 turn.at.input d t.reads q j' (λ e. omega arith) now.input in
+            (ap (λ (x : Input). x.slot) h.input, waits_leaves c w a d j j' u u' h.input h.shelf (subst (λ (x : Input). d.left x.slot ≡ b.left x.slot) h.input same ∙ h.rest))
+
+    pub turn_taken : TakesWindow c (k + 1) w i1.slot (port_walk_at b i1.reader s1 mid) (port_walk_at d i2.reader s2 left) (Ok tt) → Round c w (k + 1) (walk_at a ins shelves had) (walk_at d (set ins' k i2) (set shelves' k s2) left)
+    turn_taken t =
+        let g = subst (λ (y : Shelf). Taking c (k + 1) w i.slot (port_walk_at b i.reader y mid) (port_walk_at d i2.reader s2 left)) waits.shelf (subst (λ (x : Input). Taking c (k + 1) w x.slot (port_walk_at b x.reader s1 mid) (port_walk_at d i2.reader s2 left)) waits.input t.taking) in
+        record {
+          touches = touches_on a b ins ins' turn.are turn.round.touches turn.round.slots k i1 turn.at.input d t.reads;
+          slots = slots_on;
+          count = count_on;
+          done = λ q j j' u u' less first now. elim (le_or_lt k q) [
+            | inl le ↦
                 let same : k ≡ q = omega arith in
-                let is_j = some_is (slice_get ins k) i j (first_at k i1 s1 at).input (ap (slice_get ins) same ∙ first.input) in
-                let is_u = some_is (slice_get shelves k) s u (first_at k i1 s1 at).shelf (ap (slice_get shelves) same ∙ first.shelf) in
-                let is_j' = some_is (slice_get (set ins' k i2) k) i2 j' (get_set_same ins' k i2 (let l = long in omega arith)) (ap (slice_get (set ins' k i2)) same ∙ now.input) in
-                let is_u' = some_is (slice_get (set shelves' k s2) k) s2 u' (get_set_same shelves' k s2 (let l = long in let m = wide in omega arith)) (ap (slice_get (set shelves' k s2)) same ∙ now.shelf) in
-                coe_left is_j is_j' is_u is_u' own_left
-            | inr more ↦ later_left q j j' u u' more first (others_at q j' u' (λ e. omega arith) now)
-          ]
-          | inr less ↦ earlier_left q j j' u u' less first (others_at q j' u' (λ e. omega arith) now)
-        ];
-        looks = λ told. tt;
-        stops = λ told stopped first late.
-            let st = t.stops (told_b told) stopped in
-            let of = are_of-push (k + 1) w st.made st.failing st.before st.at.0 st.at.1 in
-            let whole = st.are ∙ sym (append_assoc st.made (st.failing ∷ []) st.behind) in
-            let one = one_takes b (st.made ++ st.failing ∷ []) st.behind (λ q j u ne h. refl) whole of in
-            let more = in_order (joined (set (rests c 1 b ins' shelves') k st.behind)) in
-            let says = st.says first more late in (
-              says.0,
-              round.looks told first late
-                  ∙ ap (stop_in first mid.bytes mid.frames) (in_front b (st.made ++ st.failing ∷ []) st.behind one ∙ append_assoc st.made (st.failing ∷ []) more)
-                  ∙ says.1,
-              says.2,
-              says.3,
-            );
-        cause = λ is. (k, lt, rose_on a b ins ins' are round.touches round.slots k i1 at.input d (t.cause is));
-        in_span = t.in_span;
-        counts = λ other m. t.counts other m ∙ round.counts m;
-        writes = λ m. t.reads.writes m ∙ round.writes m;
-      }
-        where
-          Left : Input → Input → Shelf → Shelf → Type 0
-          Left j j' u u' = (j'.slot ≡ j.slot) × LeavesPort c w (stand_at a j u) (stand_at d j' u')
-
-          coe_left : {x y x' y' : Input} {v z v' z' : Shelf} → x ≡ y → x' ≡ y' → v ≡ z → v' ≡ z' → Left x x' v v' → Left y y' z z'
-          coe_left {x} {y} {x'} {y'} {v} {z} {v'} {z'} e f g h l = subst (λ q. Left y y' z q) h (subst (λ q. Left y y' q v') g (subst (λ q. Left y q v v') f (subst (λ q. Left q x' v v') e l)))
-
-          own_left : Left i i2 s s2
-          own_left =
-              let from_i = subst (λ (x : Input). LeavesPort c w (stand_at b (record { slot = x.slot; reader = x.reader }) s1) (stand_at d (record { slot = x.slot; reader = i2.reader }) s2)) waits.input t.leaves.0 in
-              let from_s = subst (λ (y : Shelf). LeavesPort c w (stand_at b (record { slot = i.slot; reader = i.reader }) y) (stand_at d (record { slot = i.slot; reader = i2.reader }) s2)) waits.shelf from_i in
-              (slot ∙ ap (λ (x : Input). x.slot) waits.input, leaves_from c w a b d i i2 s s2 told_b waits.rest from_s)
-
-          earlier_left : (q : ℕ) (j j' : Input) (u u' : Shelf) → q < k → At q ins shelves j u → At q ins' shelves' j' u' → Left j j' u u'
-          earlier_left q j j' u u' less first now =
-              let h = round.done q j j' u u' less first now in
-              let same = others_left a b ins ins' are round.touches round.slots k i1 at.input d t.reads q j' (λ e. omega arith) now.input in
-              (h.took.slot, took_leaves c w a b d j j' u u' (subst (λ (n : ℕ). d.left n ≡ b.left n) h.took.slot same) h.took)
-
-          later_left : (q : ℕ) (j j' : Input) (u u' : Shelf) → k < q → At q ins shelves j u → At q ins' shelves' j' u' → Left j j' u u'
-          later_left q j j' u u' more first now =
-              let h = round.waits q j j' u u' (omega arith) first now in
-              let same = others_left a b ins ins' are round.touches round.slots k i1 at.input d t.reads q j' (λ e. omega arith) now.input in
-              (ap (λ (x : Input). x.slot) h.input, waits_leaves c w a d j j' u u' h.input h.shelf (subst (λ (x : Input). d.left x.slot ≡ b.left x.slot) h.input same ∙ h.rest))
-
-      pub turn_taken : TakesWindow c (k + 1) w i1.slot (port_walk_at b i1.reader s1 mid) (port_walk_at d i2.reader s2 left) (Ok tt) → Round c w (k + 1) (walk_at a ins shelves had) (walk_at d (set ins' k i2) (set shelves' k s2) left)
-      turn_taken t =
-          let g = subst (λ (y : Shelf). Taking c (k + 1) w i.slot (port_walk_at b i.reader y mid) (port_walk_at d i2.reader s2 left)) waits.shelf (subst (λ (x : Input). Taking c (k + 1) w x.slot (port_walk_at b x.reader s1 mid) (port_walk_at d i2.reader s2 left)) waits.input t.taking) in
-          record {
-            touches = touches_on a b ins ins' are round.touches round.slots k i1 at.input d t.reads;
-            slots = slots_on;
-            count = count_on;
-            done = λ q j j' u u' less first now. elim (le_or_lt k q) [
-              | inl le ↦
-                  let same : k ≡ q = omega arith in
-                  let is_j = some_is (slice_get ins k) i j (first_at k i1 s1 at).input (ap (slice_get ins) same ∙ first.input) in
-                  let is_u = some_is (slice_get shelves k) s u (first_at k i1 s1 at).shelf (ap (slice_get shelves) same ∙ first.shelf) in
-                  let is_j' = some_is (slice_get (set ins' k i2) k) i2 j' (get_set_same ins' k i2 (let l = long in omega arith)) (ap (slice_get (set ins' k i2)) same ∙ now.input) in
-                  let is_u' = some_is (slice_get (set shelves' k s2) k) s2 u' (get_set_same shelves' k s2 (let l = long in let m = wide in omega arith)) (ap (slice_get (set shelves' k s2)) same ∙ now.shelf) in
-                  coe_done is_j is_j' is_u is_u' (own_done g t)
-              | inr more ↦ others_done q j j' u u' more first (others_at q j' u' (λ e. omega arith) now) t
-            ];
-            waits = λ q j j' u u' le first now. others_wait q j j' u u' (omega arith) first (others_at q j' u' (λ e. omega arith) now) t;
-            spent =
-                let own = t.taking.spent in
-                let so_far = round.spent in
-                let f = own.frames in
-                let g = so_far.frames in
-                let m = own.bytes in
-                let n = so_far.bytes in
-                let sum = counts_set shelves' k s1 s2 at.shelf in
-                record { frames = omega arith; bytes = omega arith };
-            bytes = let own = t.taking.spent in let m = own.bytes in let n = t.taking.count in let h = round.bytes in omega arith;
-            frames = let own = t.taking.spent in let m = own.frames in let n = t.taking.count in let h = round.frames in omega arith;
-            looks = λ told first late.
-                let l = t.taking.looks (told_b told) in
-                let one = one_takes d l.0 (to_look c (k + 1) d i1.slot i2.reader s2.count s2.next) (λ q j u ne h. others_left a b ins ins' are round.touches round.slots k i1 at.input d t.reads q j ne h.input) l.1 l.2 in
-                round.looks told first late
-                ∙ ap (stop_in first mid.bytes mid.frames) (in_front d l.0 _ one)
-                ∙ l.3 first (in_order (joined (set (rests c 1 d ins' shelves') k (to_look c (k + 1) d i1.slot i2.reader s2.count s2.next)))) late
-                ∙ ap (λ ls. stop_in first left.bytes left.frames (in_order (joined ls)))
-                (rests_set c k 1 d ins' shelves' i2 s2 (to_look c (k + 1) d i1.slot i2.reader s2.count s2.next) (let m = long in omega arith) wide
-                (λ n e. let number : k + 1 ≡ n = omega arith in λ x. to_look c (number_sym n number x) d (slot x) i2.reader s2.count s2.next));
-            counts = λ m. t.taking.counts m ∙ round.counts m;
-            writes = λ m. t.reads.writes m ∙ round.writes m;
-          }
-        where
-          coe_done : {x y x' y' : Input} {v z v' z' : Shelf} → x ≡ y → x' ≡ y' → v ≡ z → v' ≡ z' → Done c w (stand_at a x v) (stand_at d x' v') left → Done c w (stand_at a y z) (stand_at d y' z') left
-          coe_done {x} {y} {x'} {y'} {v} {z} {v'} {z'} e f g h d0 = subst (λ q. Done c w (stand_at a y z) (stand_at d y' q) left) h (subst (λ q. Done c w (stand_at a y q) (stand_at d y' v') left) g (subst (λ q. Done c w (stand_at a y v) (stand_at d q v') left) f (subst (λ q. Done c w (stand_at a q v) (stand_at d x' v') left) e d0)))
-
-          number_sym : (n : ℕ) → k + 1 ≡ n → n ≡ k + 1
-          number_sym n e = sym e
-
-          own_done : Taking c (k + 1) w i.slot (port_walk_at b i.reader s mid) (port_walk_at d i2.reader s2 left) → TakesWindow c (k + 1) w i1.slot (port_walk_at b i1.reader s1 mid) (port_walk_at d i2.reader s2 left) (Ok tt) → Done c w (stand_at a i s) (stand_at d i2 s2) left
-          own_done g t = record {
-            took = record {
-              slot = slot ∙ ap (λ (x : Input). x.slot) waits.input;
-              in_window = g.in_window;
-              given = g.given;
-              order = g.order;
-              count = g.count;
-              head = g.head;
-              greatest = g.greatest;
-              chain = λ told. subst (λ (l : List ℕ). Chain i.reader.head i.reader.greatest g.given (i.reader.held ++ l) (to_come i2.reader d i.slot)) waits.rest (g.chain (told_b told));
-              ended = λ told some none. g.ended (told_b told) some none;
-            };
-            ready = g.ready;
-            beyond = beyond_is c w i.reader.greatest i2.reader.greatest s.next s2.next waits.ready.last waits.from g.ready.last t.beyond g.onward g.still;
-          }
-
-          less_is : TakesWindow c (k + 1) w i1.slot (port_walk_at b i1.reader s1 mid) (port_walk_at d i2.reader s2 left) (Ok tt) → left.frames ≤ mid.frames
-          less_is t =
+                let is_j = some_is (slice_get ins k) i j (first_at k i1 s1 turn.at).input (ap (slice_get ins) same ∙ first.input) in
+                let is_u = some_is (slice_get shelves k) s u (first_at k i1 s1 turn.at).shelf (ap (slice_get shelves) same ∙ first.shelf) in
+                let is_j' = some_is (slice_get (set ins' k i2) k) i2 j' (get_set_same ins' k i2 here) (ap (slice_get (set ins' k i2)) same ∙ now.input) in
+                let is_u' = some_is (slice_get (set shelves' k s2) k) s2 u' (get_set_same shelves' k s2 there) (ap (slice_get (set shelves' k s2)) same ∙ now.shelf) in
+                coe_done is_j is_j' is_u is_u' (own_done g t)
+            | inr more ↦ others_done q j j' u u' more first (others_at q j' u' (λ e. omega arith) now) t
+          ];
+          waits = λ q j j' u u' le first now. others_wait q j j' u u' (omega arith) first (others_at q j' u' (λ e. omega arith) now) t;
+          spent =
               let own = t.taking.spent in
+              let so_far = turn.round.spent in
               let f = own.frames in
-              let n = t.taking.count in omega arith
+              let g = so_far.frames in
+              let m = own.bytes in
+              let n = so_far.bytes in
+              let sum = counts_set shelves' k s1 s2 turn.at.shelf in
+              record { frames = omega arith; bytes = omega arith };
+          bytes = let own = t.taking.spent in let m = own.bytes in let n = t.taking.count in let h = turn.round.bytes in omega arith;
+          frames = let own = t.taking.spent in let m = own.frames in let n = t.taking.count in let h = turn.round.frames in omega arith;
+          looks = λ told first late.
+              let l = t.taking.looks (told_b told) in
+              let one = one_takes d l.0 (to_look c (k + 1) d i1.slot i2.reader s2.count s2.next) (λ q j u ne h. others_left a b ins ins' turn.are turn.round.touches turn.round.slots k i1 turn.at.input d t.reads q j ne h.input) l.1 l.2 in
+              turn.round.looks told first late
+              ∙ ap (stop_in first mid.bytes mid.frames) (in_front d l.0 _ one)
+              ∙ l.3 first (in_order (joined (set (rests c 1 d ins' shelves') k (to_look c (k + 1) d i1.slot i2.reader s2.count s2.next)))) late
+              ∙ ap (λ ls. stop_in first left.bytes left.frames (in_order (joined ls)))
+              (rests_set c k 1 d ins' shelves' i2 s2 (to_look c (k + 1) d i1.slot i2.reader s2.count s2.next) here wide
+              (λ n e. let number : k + 1 ≡ n = omega arith in λ x. to_look c (number_sym n number x) d (slot x) i2.reader s2.count s2.next));
+          counts = λ m. t.taking.counts m ∙ turn.round.counts m;
+          writes = λ m. t.reads.writes m ∙ turn.round.writes m;
+        }
+      where
+        coe_done : {x y x' y' : Input} {v z v' z' : Shelf} → x ≡ y → x' ≡ y' → v ≡ z → v' ≡ z' → Done c w (stand_at a x v) (stand_at d x' v') left → Done c w (stand_at a y z) (stand_at d y' z') left
+        coe_done {x} {y} {x'} {y'} {v} {z} {v'} {z'} e f g h d0 = subst (λ q. Done c w (stand_at a y z) (stand_at d y' q) left) h (subst (λ q. Done c w (stand_at a y q) (stand_at d y' v') left) g (subst (λ q. Done c w (stand_at a y v) (stand_at d q v') left) f (subst (λ q. Done c w (stand_at a q v) (stand_at d x' v') left) e d0)))
 
-          others_done : (q : ℕ) (j j' : Input) (u u' : Shelf) → q < k → At q ins shelves j u → At q ins' shelves' j' u' → TakesWindow c (k + 1) w i1.slot (port_walk_at b i1.reader s1 mid) (port_walk_at d i2.reader s2 left) (Ok tt) → Done c w (stand_at a j u) (stand_at d j' u') left
-          others_done q j j' u u' less first now t =
-              let h = round.done q j j' u u' less first now in
-              let same = others_left a b ins ins' are round.touches round.slots k i1 at.input d t.reads q j' (λ e. omega arith) now.input in
-              let at_j : d.left j.slot ≡ b.left j.slot = subst (λ (n : ℕ). d.left n ≡ b.left n) h.took.slot same in
-              let fewer = less_is t in
-              record {
-                took = record {
-                  slot = h.took.slot;
-                  in_window = h.took.in_window;
-                  given = h.took.given;
-                  order = h.took.order;
-                  count = h.took.count;
-                  head = h.took.head;
-                  greatest = h.took.greatest;
-                  chain = λ told. subst (λ (l : List ℕ). Chain j.reader.head j.reader.greatest h.took.given (to_come j.reader a j.slot) (j'.reader.held ++ l)) (sym at_j) (h.took.chain told);
-                  ended = λ told some none. ap (λ (l : List ℕ). j'.reader.held ++ l) at_j ∙ h.took.ended told some none;
-                };
-                ready = smaller j'.reader u'.next u'.count mid left fewer h.ready;
-                beyond = h.beyond;
-              }
+        number_sym : (n : ℕ) → k + 1 ≡ n → n ≡ k + 1
+        number_sym n e = sym e
 
-          others_wait : (q : ℕ) (j j' : Input) (u u' : Shelf) → k < q → At q ins shelves j u → At q ins' shelves' j' u' → TakesWindow c (k + 1) w i1.slot (port_walk_at b i1.reader s1 mid) (port_walk_at d i2.reader s2 left) (Ok tt) → Waits c w (stand_at a j u) (stand_at d j' u') left
-          others_wait q j j' u u' more first now t =
-              let h = round.waits q j j' u u' (omega arith) first now in
-              let same = others_left a b ins ins' are round.touches round.slots k i1 at.input d t.reads q j' (λ e. omega arith) now.input in
-              let fewer = less_is t in
-              record {
-                input = h.input;
-                shelf = h.shelf;
-                rest = subst (λ (x : Input). d.left x.slot ≡ b.left x.slot) h.input same ∙ h.rest;
-                ready = smaller j.reader u.next u.count mid left fewer h.ready;
-                from = h.from;
-              }
+        own_done : Taking c (k + 1) w i.slot (port_walk_at b i.reader s mid) (port_walk_at d i2.reader s2 left) → TakesWindow c (k + 1) w i1.slot (port_walk_at b i1.reader s1 mid) (port_walk_at d i2.reader s2 left) (Ok tt) → Done c w (stand_at a i s) (stand_at d i2 s2) left
+        own_done g t = record {
+          took = record {
+            slot = slot ∙ ap (λ (x : Input). x.slot) waits.input;
+            in_window = g.in_window;
+            given = g.given;
+            order = g.order;
+            count = g.count;
+            head = g.head;
+            greatest = g.greatest;
+            chain = λ told. subst (λ (l : List ℕ). Chain i.reader.head i.reader.greatest g.given (i.reader.held ++ l) (to_come i2.reader d i.slot)) waits.rest (g.chain (told_b told));
+            ended = λ told some none. g.ended (told_b told) some none;
+          };
+          ready = g.ready;
+          beyond = beyond_is c w i.reader.greatest i2.reader.greatest s.next s2.next waits.ready.last waits.from g.ready.last t.beyond g.onward g.still;
+        }
+
+        less_is : TakesWindow c (k + 1) w i1.slot (port_walk_at b i1.reader s1 mid) (port_walk_at d i2.reader s2 left) (Ok tt) → left.frames ≤ mid.frames
+        less_is t =
+            let own = t.taking.spent in
+            let f = own.frames in
+            let n = t.taking.count in omega arith
+
+        others_done : (q : ℕ) (j j' : Input) (u u' : Shelf) → q < k → At q ins shelves j u → At q ins' shelves' j' u' → TakesWindow c (k + 1) w i1.slot (port_walk_at b i1.reader s1 mid) (port_walk_at d i2.reader s2 left) (Ok tt) → Done c w (stand_at a j u) (stand_at d j' u') left
+        others_done q j j' u u' less first now t =
+            let h = turn.round.done q j j' u u' less first now in
+            let same = others_left a b ins ins' turn.are turn.round.touches turn.round.slots k i1 turn.at.input d t.reads q j' (λ e. omega arith) now.input in
+            let at_j : d.left j.slot ≡ b.left j.slot = subst (λ (n : ℕ). d.left n ≡ b.left n) h.took.slot same in
+            let fewer = less_is t in
+            record {
+              took = record {
+                slot = h.took.slot;
+                in_window = h.took.in_window;
+                given = h.took.given;
+                order = h.took.order;
+                count = h.took.count;
+                head = h.took.head;
+                greatest = h.took.greatest;
+                chain = λ told. subst (λ (l : List ℕ). Chain j.reader.head j.reader.greatest h.took.given (to_come j.reader a j.slot) (j'.reader.held ++ l)) (sym at_j) (h.took.chain told);
+                ended = λ told some none. ap (λ (l : List ℕ). j'.reader.held ++ l) at_j ∙ h.took.ended told some none;
+              };
+              ready = smaller j'.reader u'.next u'.count mid left fewer h.ready;
+              beyond = h.beyond;
+            }
+
+        others_wait : (q : ℕ) (j j' : Input) (u u' : Shelf) → k < q → At q ins shelves j u → At q ins' shelves' j' u' → TakesWindow c (k + 1) w i1.slot (port_walk_at b i1.reader s1 mid) (port_walk_at d i2.reader s2 left) (Ok tt) → Waits c w (stand_at a j u) (stand_at d j' u') left
+        others_wait q j j' u u' more first now t =
+            let h = turn.round.waits q j j' u u' (omega arith) first now in
+            let same = others_left a b ins ins' turn.are turn.round.touches turn.round.slots k i1 turn.at.input d t.reads q j' (λ e. omega arith) now.input in
+            let fewer = less_is t in
+            record {
+              input = h.input;
+              shelf = h.shelf;
+              rest = subst (λ (x : Input). d.left x.slot ≡ b.left x.slot) h.input same ∙ h.rest;
+              ready = smaller j.reader u.next u.count mid left fewer h.ready;
+              from = h.from;
+            }
 
 -- before the first port
 pub round_none : (c : Settings) (w : ℕ) (a : Seen) (ins : List Input) (shelves : List Shelf) (had : Budget) → AreReady c w ins shelves had → Round c w 0 (walk_at a ins shelves had) (walk_at a ins shelves had)

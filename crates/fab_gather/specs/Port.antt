@@ -10,15 +10,33 @@ use Rattle.pcap_file.specs.Records.{Chain, last_moment}
 use Rattle.pcap_file.specs.declared.Budget.{Budget}
 use Rattle.pcap_file.specs.declared.CapError.{CapError}
 use Rattle.pcap_file.specs.declared.CapError.TheVariants as errors
+use Rattle.pcap_file.specs.declared.CapFault.{CapFault}
+use Rattle.pcap_file.specs.declared.CapFault.TheVariants as heads
+use Rattle.pcap_file.specs.declared.CapOpen.{CapOpen}
+use Rattle.pcap_file.specs.declared.CapOpen.TheVariants as opens
 use Rattle.pcap_file.specs.declared.Record.{Record}
 use Rattle.fab_gather.specs.declared.shelf.Input.{Input}
 use Rattle.fab_gather.specs.declared.shelf.Shelf.{Shelf}
+use Rattle.fab_gather.specs.declared.fault.CapWhy.{CapWhy}
 use Rattle.fab_gather.specs.declared.fault.CapWhy.TheVariants as why
 use Rattle.fab_gather.specs.declared.fault.LimitKind.TheVariants as limit
 use Rattle.fab_gather.specs.declared.fault.GatherFault.{GatherFault}
 use Rattle.fab_gather.specs.declared.fault.GatherFault.TheVariants as fault
 
 -- ---- endings
+
+-- the word for the fault of a head
+abbrev pub why_of : CapFault → CapWhy
+why_of heads.Short = why.Short
+why_of heads.BadMagic = why.Magic
+why_of heads.BadVersion = why.Version
+why_of heads.NotEthernet = why.Link
+
+-- what an error of opening a port's capture ends the reading with
+abbrev pub open_fault_by : CapOpen → ℕ → GatherFault
+open_fault_by (opens.Head head) port = fault.Capture port 0 (why_of head)
+open_fault_by (opens.Read failed) port = fault.Read
+open_fault_by opens.Bytes port = fault.Limit limit.Bytes
 
 -- what an error of the reader of a port ends the reading with
 abbrev pub fault_by : CapError → ℕ → GatherFault

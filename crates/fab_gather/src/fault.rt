@@ -1,9 +1,9 @@
 //! How the reading of captures ends early.
 ghost use Rattle.std.specs.Prelude.{◌≡◌};
-ghost use Rattle.fab_gather.specs.Port.{fault_by};
+ghost use Rattle.fab_gather.specs.Port.{fault_by, open_fault_by, why_of};
 
 use fab_base::{NoMemory, PortNo};
-use pcap_file::CapError;
+use pcap_file::{CapError, CapFault, CapOpen};
 
 /// Why a capture isn't taken. The first four speak of its head, the others of a record.
 #[derive(Clone, Copy, Debug, PartialEq, Eq)]
@@ -54,6 +54,33 @@ impl From<NoMemory> for GatherFault {
 
     fn from(_refused: NoMemory) -> GatherFault {
         GatherFault::Memory
+    }
+}
+
+/// What an error of opening a port's capture ends the reading with.
+pub fn open_fault_of(error: CapOpen, port: PortNo) -> GatherFault
+    ensures { result ≡ open_fault_by error port }
+{
+    match error {
+        CapOpen::Head(fault) => GatherFault::Capture {
+            port,
+            at: 0,
+            why: why(fault),
+        },
+        CapOpen::Read(_) => GatherFault::Read,
+        CapOpen::Bytes => GatherFault::Limit(LimitKind::Bytes),
+    }
+}
+
+// The word for the fault of a head.
+fn why(fault: CapFault) -> CapWhy
+    ensures { result ≡ why_of fault }
+{
+    match fault {
+        CapFault::Short => CapWhy::Short,
+        CapFault::BadMagic => CapWhy::Magic,
+        CapFault::BadVersion => CapWhy::Version,
+        CapFault::NotEthernet => CapWhy::Link,
     }
 }
 

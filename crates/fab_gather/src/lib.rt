@@ -10,7 +10,7 @@ mod ports;
 mod shelf;
 mod window;
 
-pub use fault::{CapWhy, GatherFault, LimitKind, fault_of};
+pub use fault::{CapWhy, GatherFault, LimitKind, fault_of, open_fault_of};
 pub use first::first_looks;
 pub use gathering::{MOST_SPAN, gather};
 pub use laws::{looks_to_come, records_are_read, windows_move_on};

@@ -17,6 +17,6 @@ returns-in-Err g c =
     let a = g.D.Depot.seen c.args.depot.now in
     let b = g.D.Depot.seen c.open.new.depot in
     record {
-      reads = subst (λ e. ReadsCapture c.args.port c.args.slot a b c.args.budget.now c.open.new.budget (Err e)) (sym c.unopened.ensures)
+      reads = subst (λ e. ReadsCapture c.args.port c.args.slot a b c.args.budget.now c.open.new.budget (Err e)) (sym c.open_fault_of.ensures)
           (whole_refused c.args.port c.args.slot a b c.args.budget.now c.open.new.budget c.requires.input c.in-Err.error c.in-Err.ensures.opens);
     }

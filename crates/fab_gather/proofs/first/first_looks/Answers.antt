@@ -1,6 +1,5 @@
-use Rattle.std.proofs.Common.{◌<◌, sym, arith, length, slice_index_or}
-use Rattle.std.proofs.lemmas.Option.{slice_get-get_or}
-use Rattle.fab_gather.proofs.FirstLemmas.{any, seeing_as, seeing_none, looks_all, look_open, look_fresh, look_lost, look_failed, looked_on, once_as}
+use Rattle.std.proofs.Common.{sym, arith}
+use Rattle.fab_gather.proofs.FirstLemmas.{any, seeing_as, seeing_none, looks_all, look_turn, look_open, look_fresh, look_lost, look_failed, looked_on, once_as}
 use Rattle.fab_gather.proofs.first.first_looks.Goals as goal
 
 pub loop-port-init : goal.loop-port-init
@@ -8,47 +7,30 @@ loop-port-init g c = λ s. seeing_as (sym c.new-shelves.ensures.items) (seeing_n
 
 pub look-requires-clause-input : goal.look-requires-clause-input
 look-requires-clause-input g c =
-    let seen = g.D.Depot.seen in
-    let within : c.loop-port.port < length c.loop-port.ins = let t = c.loop-port-test.true in let a = c.loop-port.auto.ins in omega arith in
-    let first : c.loop-port.port < length c.args.ins.now = let a = c.loop-port.auto.ins in omega arith in
-    look_open c.looks_go_on.ensures.found c.looks_go_on.ensures.end any c.loop-port.port (seen c.args.depot.now) (seen c.loop-port.depot) c.args.ins.now c.loop-port.ins c.loop-port.shelves.items c.args.budget.now c.loop-port.budget c.requires.inputs c.requires.fresh first (c.loop-port.invariant any)
-    (slice_index_or c.loop-port.ins c.loop-port.port c.index-ins-port.result) (slice_get-get_or c.loop-port.ins c.loop-port.port c.index-ins-port.result within)
+    look_open (look_turn c.looks_go_on.ensures.found c.looks_go_on.ensures.end c.requires.inputs c.requires.fresh c.loop-port-test.true (c.loop-port.invariant any) c.index-ins-port.result)
 
 pub look-requires-clause-fresh : goal.look-requires-clause-fresh
 look-requires-clause-fresh g c =
-    let seen = g.D.Depot.seen in
-    let within : c.loop-port.port < length c.loop-port.ins = let t = c.loop-port-test.true in let a = c.loop-port.auto.ins in omega arith in
-    let first : c.loop-port.port < length c.args.ins.now = let a = c.loop-port.auto.ins in omega arith in
-    look_fresh c.looks_go_on.ensures.found c.looks_go_on.ensures.end any c.loop-port.port (seen c.args.depot.now) (seen c.loop-port.depot) c.args.ins.now c.loop-port.ins c.loop-port.shelves.items c.args.budget.now c.loop-port.budget c.requires.inputs c.requires.fresh first (c.loop-port.invariant any)
-    (slice_index_or c.loop-port.ins c.loop-port.port c.index-ins-port.result) (slice_get-get_or c.loop-port.ins c.loop-port.port c.index-ins-port.result within)
+    look_fresh (look_turn c.looks_go_on.ensures.found c.looks_go_on.ensures.end c.requires.inputs c.requires.fresh c.loop-port-test.true (c.loop-port.invariant any) c.index-ins-port.result)
 
 pub returns-in-Err-push : goal.returns-in-Err-push
-returns-in-Err-push g c =
-    let seen = g.D.Depot.seen in
-    let within : c.loop-port.port < length c.loop-port.ins = let t = c.loop-port-test.true in let a = c.loop-port.auto.ins in omega arith in
-    let first : c.loop-port.port < length c.args.ins.now = let a = c.loop-port.auto.ins in omega arith in
-    record {
-      looks = λ s. look_lost c.looks_go_on.ensures.found c.looks_go_on.ensures.end s c.loop-port.port (seen c.args.depot.now) (seen c.loop-port.depot) c.args.ins.now c.loop-port.ins c.loop-port.shelves.items c.args.budget.now c.loop-port.budget c.requires.inputs c.requires.fresh first (c.loop-port.invariant s)
-          (slice_index_or c.loop-port.ins c.loop-port.port c.index-ins-port.result) (slice_get-get_or c.loop-port.ins c.loop-port.port c.index-ins-port.result within) (seen c.look.new.depot) c.look.new.input c.look.new.budget c.in-Ok.ensures.slot c.in-Ok.shelf (once_as c.at.ensures (c.in-Ok.ensures.looks s));
-    }
+returns-in-Err-push g c = record {
+  looks = λ s.
+      let turn = look_turn c.looks_go_on.ensures.found c.looks_go_on.ensures.end c.requires.inputs c.requires.fresh c.loop-port-test.true (c.loop-port.invariant s) c.index-ins-port.result in
+      look_lost turn _ c.look.new.input _ c.in-Ok.ensures.slot c.in-Ok.shelf (once_as c.at.ensures (c.in-Ok.ensures.looks s));
+}
 
 pub returns-in-Err : goal.returns-in-Err
-returns-in-Err g c =
-    let seen = g.D.Depot.seen in
-    let within : c.loop-port.port < length c.loop-port.ins = let t = c.loop-port-test.true in let a = c.loop-port.auto.ins in omega arith in
-    let first : c.loop-port.port < length c.args.ins.now = let a = c.loop-port.auto.ins in omega arith in
-    record {
-      looks = λ s. look_failed c.looks_go_on.ensures.found c.looks_go_on.ensures.end s c.loop-port.port (seen c.args.depot.now) (seen c.loop-port.depot) c.args.ins.now c.loop-port.ins c.loop-port.shelves.items c.args.budget.now c.loop-port.budget c.requires.inputs c.requires.fresh first (c.loop-port.invariant s)
-          (slice_index_or c.loop-port.ins c.loop-port.port c.index-ins-port.result) (slice_get-get_or c.loop-port.ins c.loop-port.port c.index-ins-port.result within) (seen c.look.new.depot) c.look.new.input c.look.new.budget c.in-Err.ensures.slot c.in-Err.fault (once_as c.at.ensures (c.in-Err.ensures.looks s));
-    }
+returns-in-Err g c = record {
+  looks = λ s.
+      let turn = look_turn c.looks_go_on.ensures.found c.looks_go_on.ensures.end c.requires.inputs c.requires.fresh c.loop-port-test.true (c.loop-port.invariant s) c.index-ins-port.result in
+      look_failed turn _ c.look.new.input _ c.in-Err.ensures.slot c.in-Err.fault (once_as c.at.ensures (c.in-Err.ensures.looks s));
+}
 
 pub loop-port-preserved : goal.loop-port-preserved
-loop-port-preserved g c =
-    let seen = g.D.Depot.seen in
-    let within : c.loop-port.port < length c.loop-port.ins = let t = c.loop-port-test.true in let a = c.loop-port.auto.ins in omega arith in
-    let first : c.loop-port.port < length c.args.ins.now = let a = c.loop-port.auto.ins in omega arith in
-    λ s. seeing_as (sym c.in-Ok-push.ensures.items) (looked_on c.looks_go_on.ensures.found c.looks_go_on.ensures.end s c.loop-port.port (seen c.args.depot.now) (seen c.loop-port.depot) c.args.ins.now c.loop-port.ins c.loop-port.shelves.items c.args.budget.now c.loop-port.budget c.requires.inputs c.requires.fresh first (c.loop-port.invariant s)
-    (slice_index_or c.loop-port.ins c.loop-port.port c.index-ins-port.result) (slice_get-get_or c.loop-port.ins c.loop-port.port c.index-ins-port.result within) (seen c.look.new.depot) c.look.new.input c.look.new.budget c.in-Ok.ensures.slot c.in-Ok.shelf (once_as c.at.ensures (c.in-Ok.ensures.looks s)))
+loop-port-preserved g c = λ s.
+    let turn = look_turn c.looks_go_on.ensures.found c.looks_go_on.ensures.end c.requires.inputs c.requires.fresh c.loop-port-test.true (c.loop-port.invariant s) c.index-ins-port.result in
+    seeing_as (sym c.in-Ok-push.ensures.items) (looked_on turn _ c.look.new.input _ c.in-Ok.ensures.slot c.in-Ok.shelf (once_as c.at.ensures (c.in-Ok.ensures.looks s)))
 
 pub returns : goal.returns
 returns g c =
