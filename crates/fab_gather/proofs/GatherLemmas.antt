@@ -1,5 +1,5 @@
 -- A window that is gathered, which may start too long after the first.
-use Rattle.std.proofs.Common.{◌≡◌, ℕ, ◌-◌, List, length, slice_get, Some, Result, Ok, Err, refl, sym, ap, ◌∙◌, arith, true, false}
+use Rattle.std.proofs.Common.{◌≡◌, ℕ, ◌-◌, List, length, slice_get, Some, Err, refl, ap, arith, true}
 use Rattle.std.specs.Prelude.{nat_lt}
 use Rattle.fab_base.specs.Seen.{Seen, Nothing}
 use Rattle.fab_base.proofs.SeenLemmas.{touches_refl}
@@ -9,11 +9,10 @@ use Rattle.pcap_file.specs.declared.Budget.{Budget}
 use Rattle.fab_gather.specs.declared.shelf.Input.{Input}
 use Rattle.fab_gather.specs.declared.shelf.Shelf.{Shelf}
 use Rattle.fab_gather.specs.declared.fault.LimitKind.TheVariants as limit
-use Rattle.fab_gather.specs.declared.fault.GatherFault.{GatherFault}
 use Rattle.fab_gather.specs.declared.fault.GatherFault.TheVariants as fault
 use Rattle.fab_gather.specs.First.{IsNextWindow}
 use Rattle.fab_gather.specs.Laws.{LateEnds}
-use Rattle.fab_gather.specs.Ports.{NameIn, slots_of, AreReady, TakesAll, walk_at}
+use Rattle.fab_gather.specs.Ports.{NameIn, slots_of, AreReady, walk_at}
 use Rattle.fab_gather.specs.Gather.{Gathers}
 use Rattle.fab_gather.proofs.LeavesLemmas.{waits_leaves}
 use Rattle.fab_gather.proofs.SlotLemmas.{some_is}
@@ -39,41 +38,4 @@ module _ (c : Settings) (first w : ℕ) where
     same = λ x. (refl, refl, refl, refl);
     counts = λ other m. refl;
     writes = λ m. refl;
-  }
-
-  pub gathers_all : (a b : Seen) (ins ins' : List Input) (shelves shelves' : List Shelf) (had left : Budget) (r : Result (Unit {0}) GatherFault) → nat_lt MOST_SPAN (w - first) ≡ false →
-      TakesAll c w (walk_at a ins shelves had) (walk_at b ins' shelves' left) r → Gathers c first w (walk_at a ins shelves had) (walk_at b ins' shelves' left) r
-  gathers_all a b ins ins' shelves shelves' had left (Ok u) in_time t = record {
-    touches = t.touches;
-    slots = t.slots;
-    count = t.count;
-    ready = t.ready;
-    took = t.took;
-    spent = t.spent;
-    leaves = tt;
-    takes = t.takes;
-    looks = λ told. t.looks told first in_time;
-    stops = λ told. tt;
-    cause = t.cause;
-    late = (λ x. absurd (cc), λ x. let both : true ≡ false = sym x ∙ in_time in absurd (cc));
-    same = λ x. absurd (cc);
-    counts = t.counts;
-    writes = t.writes;
-  }
-  gathers_all a b ins ins' shelves shelves' had left (Err e) in_time t = record {
-    touches = t.touches;
-    slots = t.slots;
-    count = t.count;
-    ready = tt;
-    took = tt;
-    spent = t.spent;
-    leaves = t.leaves;
-    takes = t.takes;
-    looks = λ told. tt;
-    stops = λ told stops. t.stops told stops first in_time;
-    cause = t.cause;
-    late = (λ x. absurd (t.in_span (let same : e ≡ fault.Limit limit.Span = cc in same)), λ x. let both : true ≡ false = sym x ∙ in_time in absurd (cc));
-    same = λ x. absurd (t.in_span (let same : e ≡ fault.Limit limit.Span = cc in same));
-    counts = t.counts;
-    writes = t.writes;
   }

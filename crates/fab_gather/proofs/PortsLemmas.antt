@@ -1,6 +1,6 @@
 -- The records of a window, taken of one port after another.
-use Rattle.std.proofs.Common.{◌≡◌, ◌≢◌, ℕ, zero, suc, ◌+◌, ◌-◌, ◌<◌, ◌≤◌, inl, inr, false, List, [], ◌∷◌, ◌++◌, length, slice_get, set, get_or, Option, Some, None, IfSome, Ok, Err, IsTrue, refl, sym, ap, ◌∙◌, subst, arith, append_assoc}
-use Rattle.std.specs.Prelude.{nat_lt, Result}
+use Rattle.std.proofs.Common.{◌≡◌, ◌≢◌, ℕ, zero, suc, ◌+◌, ◌-◌, ◌<◌, ◌≤◌, inl, inr, true, false, List, [], ◌∷◌, ◌++◌, length, slice_get, set, get_or, Option, Some, None, IfSome, Ok, Err, IsTrue, refl, sym, ap, ◌∙◌, subst, arith, append_assoc}
+use Rattle.std.specs.Prelude.{nat_lt, Result, IsErrOf}
 use Rattle.std.proofs.lemmas.List.{length-set}
 use Rattle.std.proofs.lemmas.Option.{slice_get_within, slice_get-get_or}
 use Rattle.fab_base.specs.Seen.{Seen, Touches, Nothing, SameReadFaults, SameWriteFaults}
@@ -16,8 +16,11 @@ use Rattle.pcap_file.proofs.lemmas.Numbers.{le_or_lt}
 use Rattle.fab_gather.specs.declared.shelf.Input.{Input}
 use Rattle.fab_gather.specs.declared.shelf.Shelf.{Shelf}
 use Rattle.fab_gather.specs.declared.fault.GatherFault.{GatherFault}
+use Rattle.fab_gather.specs.declared.fault.GatherFault.TheVariants as fault
+use Rattle.fab_gather.specs.declared.fault.LimitKind.TheVariants as limit
+use Rattle.fab_gather.specs.Gather.{TakesAll}
 use Rattle.fab_gather.specs.Port.{IsReady, Spends, AreOf, Taking, TakesWindow, PortStand, stand_at, port_walk_at, LeavesPort, to_look}
-use Rattle.fab_gather.specs.Ports.{AreInputs, AreReady, At, Walk, walk_at, Took, TakesAll, slots_of, NameIn, rests, joined, stop_after, counts_of}
+use Rattle.fab_gather.specs.Ports.{AreInputs, AreReady, At, Walk, walk_at, Took, slots_of, NameIn, rests, joined, stop_after, counts_of}
 use Rattle.fab_gather.proofs.OrderLemmas.{TakesAt, taken_at, Sorted, AllNotBefore, Leads, EachBefore, each-append, each-nil, leads_more, sorted_leads, sorted_looks, later_looks, later_not_before, made_before}
 use Rattle.fab_gather.proofs.LeavesLemmas.{took_leaves, waits_leaves, leaves_from}
 use Rattle.fab_gather.proofs.PortLemmas.{are_of-push}
@@ -234,7 +237,7 @@ module _ {c : Settings} {w k : ℕ} {a b : Seen} {ins ins' : List Input} {shelve
     in_front e made behind_ t = taken_at k made _ _ (takes_at c k 1 b e made behind_ ins' shelves' here wide t)
 
     pub turn_failed : (f : GatherFault) → TakesWindow c (k + 1) w i1.slot (port_walk_at b i1.reader s1 mid) (port_walk_at d i2.reader s2 left) (Err f) → TakesAll c w (walk_at a ins shelves had) (walk_at d (set ins' k i2) (set shelves' k s2) left) (Err f)
-    turn_failed f t = record {
+    turn_failed f t = λ first in_time. record {
       touches = touches_on a b ins ins' turn.are turn.round.touches turn.round.slots k i1 turn.at.input d t.reads;
       slots = slots_on;
       count = count_on;
@@ -255,40 +258,44 @@ module _ {c : Settings} {w k : ℕ} {a b : Seen} {ins ins' : List Input} {shelve
           let f = own.frames in
           let m = own.bytes in
           record { slots = slots_on; bytes = let h = turn.round.bytes in omega arith; frames = let h = turn.round.frames in omega arith };
-      leaves = λ q j j' u u' first now. elim (le_or_lt k q) [
+      leaves = λ q j j' u u' was now. elim (le_or_lt k q) [
         | inl le ↦ elim (le_or_lt q k) [
           | inl back ↦
               let same : k ≡ q = omega arith in
-              let is_j = some_is (slice_get ins k) i j (first_at k i1 s1 turn.at).input (ap (slice_get ins) same ∙ first.input) in
-              let is_u = some_is (slice_get shelves k) s u (first_at k i1 s1 turn.at).shelf (ap (slice_get shelves) same ∙ first.shelf) in
+              let is_j = some_is (slice_get ins k) i j (first_at k i1 s1 turn.at).input (ap (slice_get ins) same ∙ was.input) in
+              let is_u = some_is (slice_get shelves k) s u (first_at k i1 s1 turn.at).shelf (ap (slice_get shelves) same ∙ was.shelf) in
               let is_j' = some_is (slice_get (set ins' k i2) k) i2 j' (get_set_same ins' k i2 here) (ap (slice_get (set ins' k i2)) same ∙ now.input) in
               let is_u' = some_is (slice_get (set shelves' k s2) k) s2 u' (get_set_same shelves' k s2 there) (ap (slice_get (set shelves' k s2)) same ∙ now.shelf) in
               coe_left is_j is_j' is_u is_u' own_left
-          | inr more ↦ later_left q j j' u u' more first (others_at q j' u' (λ e. omega arith) now)
+          | inr more ↦ later_left q j j' u u' more was (others_at q j' u' (λ e. omega arith) now)
         ]
-        | inr less ↦ earlier_left q j j' u u' less first (others_at q j' u' (λ e. omega arith) now)
+        | inr less ↦ earlier_left q j j' u u' less was (others_at q j' u' (λ e. omega arith) now)
       ];
       looks = λ told. tt;
-      stops = λ told stopped first late.
+      stops = λ told stopped.
           let st = t.stops (told_b told) stopped in
           let of = are_of-push (k + 1) w st.made st.failing st.before st.at.0 st.at.1 in
           let whole = st.are ∙ sym (append_assoc st.made (st.failing ∷ []) st.behind) in
           let one = one_takes b (st.made ++ st.failing ∷ []) st.behind (λ q j u ne h. refl) whole of in
           let more = in_order (joined (set (rests c 1 b ins' shelves') k st.behind)) in
-          let says = st.says first more late in (
+          let says = st.says first more in_time in (
             says.0,
-            turn.round.looks told first late
+            turn.round.looks told first in_time
                 ∙ ap (stop_in first mid.bytes mid.frames) (in_front b (st.made ++ st.failing ∷ []) st.behind one ∙ append_assoc st.made (st.failing ∷ []) more)
                 ∙ says.1,
             says.2,
             says.3,
           );
       cause = λ is. (k, turn.lt, rose_on a b ins ins' turn.are turn.round.touches turn.round.slots k i1 turn.at.input d (t.cause is));
-      in_span = t.in_span;
+      late = (λ x. absurd (over x), λ x. let both : true ≡ false = sym x ∙ in_time in absurd (cc));
+      same = λ x. absurd (over x);
       counts = λ other m. t.counts other m ∙ turn.round.counts m;
       writes = λ m. t.reads.writes m ∙ turn.round.writes m;
     }
       where
+        over : IsErrOf {T = Unit {0}} (Err f) (fault.Limit limit.Span) → ⊥
+        over x = t.in_span (let same : f ≡ fault.Limit limit.Span = cc in same)
+
         Left : Input → Input → Shelf → Shelf → Type 0
         Left j j' u u' = (j'.slot ≡ j.slot) × LeavesPort c w (stand_at a j u) (stand_at d j' u')
 
@@ -439,7 +446,7 @@ round_none c w a ins shelves had ready = record {
 
 -- behind the last
 pub round_all : (c : Settings) (w k : ℕ) (a b : Seen) (ins ins' : List Input) (shelves shelves' : List Shelf) (had left : Budget) → length ins ≤ k → length shelves ≡ length ins → Round c w k (walk_at a ins shelves had) (walk_at b ins' shelves' left) → TakesAll c w (walk_at a ins shelves had) (walk_at b ins' shelves' left) (Ok tt)
-round_all c w k a b ins ins' shelves shelves' had left le count r = record {
+round_all c w k a b ins ins' shelves shelves' had left le count r = λ first in_time. record {
   touches = r.touches;
   slots = r.slots;
   count = r.count;
@@ -447,14 +454,15 @@ round_all c w k a b ins ins' shelves shelves' had left le count r = record {
       let less = slice_get_within ins' q i' now.input in
       let l = same_length ins ins' r.slots in
       let h = r.done q (get_or ins q i') i' (get_or shelves q s') s' (omega arith) (record { input = slice_get-get_or ins q i' (omega arith); shelf = slice_get-get_or shelves q s' (omega arith) }) now in (h.ready, h.beyond);
-  took = λ q i i' s s' first now. let less = slice_get_within ins q i first.input in (r.done q i i' s s' (omega arith) first now).took;
+  took = λ q i i' s s' was now. let less = slice_get_within ins q i was.input in (r.done q i i' s s' (omega arith) was now).took;
   spent = r.spent;
   leaves = tt;
   takes = record { slots = r.slots; bytes = r.bytes; frames = r.frames };
-  looks = λ told first late. r.looks told first late;
+  looks = λ told. r.looks told first in_time;
   stops = λ told. tt;
   cause = λ e. absurd (cc);
-  in_span = tt;
+  late = (λ x. absurd (cc), λ x. let both : true ≡ false = sym x ∙ in_time in absurd (cc));
+  same = λ x. absurd (cc);
   counts = λ other. r.counts;
   writes = r.writes;
 }

@@ -1,5 +1,5 @@
 -- The next window of captures, with the most span.
-use Rattle.std.specs.Prelude.{◌≡◌, ℕ, ◌+◌, ◌-◌, ◌<◌, ◌↔◌, true, nat_lt, IsTrue, length, Some, Result, OnOk, OnErr, IfErr, IsErrOf}
+use Rattle.std.specs.Prelude.{◌≡◌, ℕ, ◌+◌, ◌-◌, ◌<◌, ◌↔◌, true, false, nat_lt, IsTrue, length, Some, Result, OnOk, OnErr, IfErr, IsErrOf}
 use Rattle.fab_base.specs.Seen.{Touches, Nothing, Rose, SameWriteFaults}
 use Rattle.fab_config.specs.Settings.{Settings}
 use Rattle.fab_policy.specs.Looks.{Stop, MOST_SPAN}
@@ -28,3 +28,7 @@ pub record Gathers (c : Settings) (first w : ℕ) (old new : Walk) (result : Res
   pub same : IsErrOf result (fault.Limit limit.Span) → (new.seen ≡ old.seen) × (new.ins ≡ old.ins) × (new.shelves ≡ old.shelves) × (new.left ≡ old.left)
   pub counts : TellsReads old.seen new.seen result
   pub writes : SameWriteFaults old.seen new.seen
+
+-- What taking the records of a window of all ports does: for each first window to which it isn't too late, what gathering it does.
+abbrev pub TakesAll : Settings → ℕ → Walk → Walk → Result (Unit {0}) GatherFault → Type 0
+TakesAll c w old new result = (first : ℕ) → nat_lt MOST_SPAN (w - first) ≡ false → Gathers c first w old new result

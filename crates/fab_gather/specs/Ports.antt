@@ -1,19 +1,16 @@
 -- The records of a window, taken of all ports in their order.
-use Rattle.std.specs.Prelude.{◌≡◌, ◌≢◌, ℕ, ◌+◌, ◌-◌, ◌≤◌, ◌<◌, false, IsTrue, List, [], ◌∷◌, ◌++◌, length, map, Option, Some, None, IfSome, Result, OnOk, OnErr, IfErr, IsErrOf, option_to_list, nat_lt, slice_get, slice_index}
-use Rattle.fab_base.specs.Seen.{Seen, Rose, Touches, Nothing, SameWriteFaults}
+use Rattle.std.specs.Prelude.{◌≡◌, ◌≢◌, ℕ, ◌+◌, ◌≤◌, ◌<◌, IsTrue, List, [], ◌∷◌, ◌++◌, length, map, Option, Some, None, IfSome, option_to_list, slice_get, slice_index}
+use Rattle.fab_base.specs.Seen.{Seen}
 use Rattle.fab_config.specs.Settings.{Settings}
 use Rattle.fab_policy.specs.Legal.{window_start}
-use Rattle.fab_policy.specs.Looks.{Look, in_order, stop_in, Stop, MOST_SPAN}
+use Rattle.fab_policy.specs.Looks.{Look, in_order, stop_in, Stop}
 use Rattle.pcap_file.specs.Reading.{to_come}
 use Rattle.pcap_file.specs.Records.{Chain, last_moment}
 use Rattle.pcap_file.specs.declared.Budget.{Budget}
 use Rattle.pcap_file.specs.declared.Record.{Record}
 use Rattle.fab_gather.specs.declared.shelf.Input.{Input}
 use Rattle.fab_gather.specs.declared.shelf.Shelf.{Shelf}
-use Rattle.fab_gather.specs.declared.fault.LimitKind.TheVariants as limit
-use Rattle.fab_gather.specs.declared.fault.GatherFault.{GatherFault}
-use Rattle.fab_gather.specs.declared.fault.GatherFault.TheVariants as fault
-use Rattle.fab_gather.specs.Port.{IsReady, Spends, AreIn, to_look, ending, IsStopped, PortStand, stand_at, LeavesPort, TellsReads}
+use Rattle.fab_gather.specs.Port.{IsReady, AreIn, to_look, PortStand, stand_at, LeavesPort}
 
 -- ---- slots
 
@@ -110,23 +107,3 @@ LeavesAll c w old new =
 -- where the looks to come stop, from there on
 abbrev pub stop_after : Settings → ℕ → Walk → Option Stop
 stop_after c first at = stop_from c first at.seen at.ins at.shelves at.left
-
--- What taking the records of a window of all ports does: after it the looks to come stop where they stopped before it, or it
--- ends as the first stop among them says.
-pub record TakesAll (c : Settings) (w : ℕ) (old new : Walk) (result : Result (Unit {0}) GatherFault) : Type 0 where
-  pub touches : Touches Nothing (NameIn old.seen (slots_of old.ins)) old.seen new.seen
-  pub slots : slots_of new.ins ≡ slots_of old.ins
-  pub count : length new.shelves ≡ length old.shelves
-  pub ready : OnOk result (AreReady c (w + 1) new.ins new.shelves new.left)
-  pub took : OnOk result (TookAll c w old new)
-  pub spent : Spends old.left new.left (counts_of old.shelves) (counts_of new.shelves)
-  pub leaves : OnErr result (LeavesAll c w old new)
-  pub takes : TakesFrom old.ins new.ins old.left new.left
-  pub looks : IsTrue old.seen.told → OnOk result ((first : ℕ) → nat_lt MOST_SPAN (w - first) ≡ false → stop_after c first old ≡ stop_after c first new)
-  pub stops : IsTrue old.seen.told →
-      IfErr result (λ e. IsStopped e → (first : ℕ) → nat_lt MOST_SPAN (w - first) ≡ false → (s : Stop) × (stop_after c first old ≡ Some s) × (ending s ≡ e) × (s.window ≡ Some w))
-  pub cause : IsErrOf result fault.Read →
-      (q : ℕ) × (q < length old.ins) × Rose (old.seen.read_faults (name_of old.seen (slots_of old.ins) q)) (new.seen.read_faults (name_of old.seen (slots_of old.ins) q))
-  pub in_span : IfErr result (λ e. e ≢ fault.Limit limit.Span)
-  pub counts : TellsReads old.seen new.seen result
-  pub writes : SameWriteFaults old.seen new.seen

@@ -1,6 +1,7 @@
 //! The records of a window, taken of all ports in their order.
 ghost use Rattle.std.specs.Prelude.{◌≡◌, ◌≤◌, length};
-ghost use Rattle.fab_gather.specs.Ports.{AreInputs, AreReady, TakesAll, slots_of, walk_at};
+ghost use Rattle.fab_gather.specs.Gather.{TakesAll};
+ghost use Rattle.fab_gather.specs.Ports.{AreInputs, AreReady, slots_of, walk_at};
 
 use crate::port::take_window;
 use crate::{GatherFault, Input, Shelf};
