@@ -1,8 +1,8 @@
-use Rattle.std.proofs.Common.{◌≡◌, ◌<◌, ℕ, List, length, sym, ap, subst, arith}
+use Rattle.std.proofs.Common.{◌<◌, ℕ, List, length, sym, ap, subst, arith}
 use Rattle.std.specs.Prelude.{slice_index, Vec}
 use Rattle.std.specs.declared.alloc.Global.{Global}
 use Rattle.slab.specs.Slab.{get}
-use Rattle.fip_snoop.specs.Rows.{lists, rooms, row_at}
+use Rattle.fip_snoop.specs.Rows.{lists, rooms}
 use Rattle.sorted_lists.proofs.OrderLemmas.{some_is}
 use Rattle.fip_snoop.proofs.RowLemmas.{order_put, items_put, rows_put}
 use Rattle.fip_snoop.proofs.rows.row_put.Goals as goal

@@ -1,4 +1,4 @@
-use Rattle.std.proofs.Common.{◌≡◌, ◌∙◌, ◌/◌, ◌<◌, ◌^◌, ℕ, List, Some, length, sym, ap, subst, arith}
+use Rattle.std.proofs.Common.{◌∙◌, ◌<◌, ◌^◌, ℕ, List, length, sym, ap, subst, arith}
 use Rattle.fip_snoop.specs.Rows.{lists, row_at}
 use Rattle.sorted_lists.proofs.IndexLemmas.{some_same}
 use Rattle.fip_snoop.proofs.RowLemmas.{length-lists, shown_sorted, is_spot}
