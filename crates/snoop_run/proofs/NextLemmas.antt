@@ -1,8 +1,9 @@
 -- The next frame of captures, by how many frames of each were handled.
-use Rattle.std.proofs.Common.{◌≡◌, ℕ, zero, suc, ◌+◌, ◌-◌, ◌^◌, ◌≤◌, ◌<◌, ◌==◌, nat_le, Bool, true, false, cond, List, [], ◌∷◌, length, length-append, map, drop, Option, Some, None, option_map, refl, sym, ◌∙◌, ap, subst, arith}
+use Rattle.std.proofs.Common.{◌≡◌, ℕ, zero, suc, ◌+◌, ◌-◌, ◌^◌, ◌≤◌, ◌<◌, ◌==◌, nat_le, Bool, true, false, cond, List, [], ◌∷◌, length, length-append, map, drop, get_or, Option, Some, None, option_map, refl, sym, ◌∙◌, ap, subst, arith}
 use Rattle.std.specs.Prelude.{slice_get, slice_set, replicate}
 use Rattle.std.proofs.lemmas.Bool.Decides.{nat_tests}
 use Rattle.std.proofs.lemmas.List.{length-map}
+use Rattle.std.proofs.lemmas.Option.{slice_get-get_or}
 use Rattle.pcap_file.specs.declared.Record.{Record}
 use Rattle.pcap_file.specs.Records.{Ascends}
 use Rattle.fab_captures.specs.Captures.{AreFit}
@@ -11,7 +12,7 @@ use Rattle.fip_snoop.specs.Queue.{sooner, least, without_first, AllAscend, left_
 use Rattle.fip_snoop.specs.declared.queue.Head.{Head}
 use Rattle.fip_snoop.proofs.QueueLemmas.{least_is_next, none_is_end}
 use Rattle.snoop_run.specs.Records.{AllFit, count_in}
-use Rattle.snoop_run.specs.State.{IsNext}
+use Rattle.snoop_run.specs.State.{IsNext, IsFound}
 
 pub some_is : {X : Type 0} {x y : X} → Some x ≡ Some y → x ≡ y
 some_is e = cc
@@ -75,9 +76,11 @@ at_front (x ∷ rs) zero r rest e = cc
 at_front (x ∷ rs) (suc k) r rest e = at_front rs k r rest e
 
 -- the record of the next frame
-pub next_record : (ins : List (List Record)) (places : List ℕ) (i : ℕ) (rs : List Record) (k : ℕ) (a : Arrival) → slice_get ins i ≡ Some rs → slice_get places i ≡ Some k → least 1 (left_in ins places) ≡ Some a → a.port ≡ i + 1 →
-    (r : Record) × (slice_get rs k ≡ Some r) × (a ≡ arrival (i + 1) r)
-next_record ins places i rs k a here place is port =
+pub next_record : (ins : List (List Record)) (places : List ℕ) (i : ℕ) (rs : List Record) → IsNext i ins places → slice_get ins i ≡ Some rs → (a : Arrival) → least 1 (left_in ins places) ≡ Some a → a.port ≡ i + 1 →
+    (r : Record) × (slice_get rs (get_or places i 0) ≡ Some r) × (a ≡ arrival (i + 1) r)
+next_record ins places i rs n here a is port =
+    let k = get_or places i 0 in
+    let place = slice_get-get_or places i 0 (omega (arith, n.count, n.within)) in
     let p = least_at 1 (left_in ins places) a is in
     let same : p.place ≡ i = let e = ap (λ (x : Arrival). x.port) p.is in omega (arith, e, port) in
     let left : drop k rs ≡ p.found ∷ p.rest = some_is (sym (left_get ins places i rs k here place) ∙ ap (slice_get (left_in ins places)) (sym same) ∙ p.there) in (
@@ -217,6 +220,14 @@ all_fit_at [] i rs fit e = absurd (cc)
 all_fit_at (x ∷ ins) zero rs fit e = subst AreFit (some_is e) fit.0
 all_fit_at (x ∷ ins) (suc i) rs fit e = all_fit_at ins i rs fit.1 e
 
--- a record of one of several captures can be written
-pub fit_there : (ins : List (List Record)) (i : ℕ) (rs : List Record) (k : ℕ) (r : Record) → AllFit ins → slice_get ins i ≡ Some rs → slice_get rs k ≡ Some r → (r.moment < 2 ^ 53) × (length r.caught.bytes ≤ 65535)
-fit_there ins i rs k r fit here at = fit_at rs k r (all_fit_at ins i rs fit here) at
+-- the record that is found
+pub is_found : (ins : List (List Record)) (places : List ℕ) (i : ℕ) (rs : List Record) (r : Record) → IsNext i ins places → AllFit ins → count_in ins < 2 ^ 64 → slice_get ins i ≡ Some rs → slice_get rs (get_or places i 0) ≡ Some r → IsFound i ins places r
+is_found ins places i rs r n fit few here at =
+    let can = fit_at rs (get_or places i 0) r (all_fit_at ins i rs fit here) at in
+    let room = next_room ins i (get_or places i 0) rs r here at in
+    record {
+      moment = can.0;
+      bytes = can.1;
+      room = omega (arith, room, few);
+      next = λ a is port. let found = next_record ins places i rs n here a is port in found.2 ∙ ap (arrival (i + 1)) (some_is (sym found.1 ∙ at));
+    }

@@ -1,5 +1,5 @@
 -- What stands of a bridge between two frames.
-use Rattle.std.specs.Prelude.{◌≡◌, ℕ, ◌+◌, ◌<◌, ◌⊎◌, IsTrue, List, [], ◌∷◌, ◌++◌, length, replicate, Some, Result, IfOk, IfErr, OnOk}
+use Rattle.std.specs.Prelude.{◌≡◌, ℕ, ◌+◌, ◌^◌, ◌<◌, ◌≤◌, ◌⊎◌, IsTrue, List, [], ◌∷◌, ◌++◌, length, replicate, slice_index, Some, Result, IfOk, IfErr, OnOk}
 use Rattle.fab_base.specs.Seen.{Seen, Rose, SameReadFaults, Touches}
 use Rattle.fab_base.specs.declared.values.Failed.{Failed}
 use Rattle.fab_policy.specs.Written.{IsPrefixOf}
@@ -34,6 +34,13 @@ pub record IsNext (place : ℕ) (ins : List (List Record)) (places : List ℕ) :
   pub frame_ : Arrival
   pub is : least 1 (left_in ins places) ≡ Some frame_
   pub port_ : frame_.port ≡ place + 1
+
+-- Its record, which can be written: one more can be counted of its capture.
+pub record IsFound (place : ℕ) (ins : List (List Record)) (places : List ℕ) (found : Record) : Type 0 where
+  pub moment : found.moment < 2 ^ 53
+  pub bytes : length found.caught.bytes ≤ 65535
+  pub room : slice_index places place + 1 < 2 ^ 64
+  pub next : (a : Arrival) → least 1 (left_in ins places) ≡ Some a → a.port ≡ place + 1 → a ≡ arrival (place + 1) found
 
 -- These frames were handled, and the others of all captures are to come.
 pub record Stands (w : Forwarder) (ins : List (List Record)) (done : List Arrival) (b : Bridge) : Type 0 where

@@ -1,13 +1,12 @@
 //! A bridge between captures and pages: which frames were handled, and what they left.
-ghost use Rattle.std.specs.Prelude.{◌≡◌, ℕ, ◌+◌, ◌-◌, ◌<◌, ◌≤◌, ◌^◌, ◌++◌, if◌then◌else◌, Some};
+ghost use Rattle.std.specs.Prelude.{◌≡◌, ℕ, ◌+◌, ◌-◌, ◌<◌, ◌≤◌, ◌^◌, ◌++◌, if◌then◌else◌};
 ghost use Rattle.std.specs.Prelude.{IfOk, OnOk, length, replicate, slice_index, slice_set};
-ghost use Rattle.fip_snoop.specs.Bridge.{Arrival, arrival};
 ghost use Rattle.fip_snoop.specs.Bridge as bridging;
 ghost use Rattle.fip_snoop.specs.Messages.{forwarder_of};
-ghost use Rattle.fip_snoop.specs.Queue.{AllAscend, least, left_in};
+ghost use Rattle.fip_snoop.specs.Queue.{AllAscend};
 ghost use Rattle.run_files.specs.Pages.{items_in, piece_at};
 ghost use Rattle.snoop_run.specs.Records.{AllFit, count_in};
-ghost use Rattle.snoop_run.specs.State.{IsNew, IsNext, Passes, PassesNext};
+ghost use Rattle.snoop_run.specs.State.{IsFound, IsNew, IsNext, Passes, PassesNext};
 
 use fab_base::{NoMemory, OwnedList, PortNo};
 use fab_config::Config;
@@ -110,11 +109,7 @@ fn next_record<'a>(ins: &'a [OwnedList<Record>], places: &[usize], place: usize)
     requires fit { AllFit ins.now }
     requires frames { count_in ins.now < 2 ^ 64 }
     requires next { IsNext place ins.now places.now }
-    ensures moment { result.now.moment < 2 ^ 53 }
-    ensures bytes { length result.now.caught.bytes ≤ 65535 }
-    ensures room { slice_index places.now place + 1 < 2 ^ 64 }
-    ensures next { (a : Arrival) → least 1 (left_in ins.now places.now) ≡ Some a
-        → a.port ≡ place + 1 → a ≡ arrival (place + 1) result.now }
+    ensures { IsFound place ins.now places.now result.now }
 {
     let Some(found) = ins[place].at(places[place]) else {
         unreachable!()
