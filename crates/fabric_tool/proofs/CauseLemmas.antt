@@ -24,8 +24,8 @@ use Rattle.fabric_tool.specs.Statuses.{IsRefused, HasFront, HasForms, IsQuiet, M
 use Rattle.fabric_tool.specs.declared.outcome.Outcome.{Outcome}
 use Rattle.fabric_tool.specs.declared.outcome.Outcome.TheVariants as ends
 use Rattle.fabric_tool.proofs.OutcomeCases.{run_cases, convert_cases, migrate_cases, make_cases, replay_files, show_files, whole_front, whole_journal, whole_load}
-use Rattle.fabric_tool.proofs.SnoopLemmas.{snoop_refused, snoop_others, snoop_front, snoop_said, snoop_completed}
-use Rattle.fabric_tool.proofs.EnodeLemmas.{enode_refused, enode_others, enode_front, enode_said, enode_completed}
+use Rattle.fabric_tool.proofs.SnoopLemmas.{snoop_others, snoop_front, snoop_said, snoop_completed}
+use Rattle.fabric_tool.proofs.EnodeLemmas.{enode_others, enode_front, enode_said, enode_completed}
 use Rattle.fabric_tool.proofs.PartLemmas.{ran_part, stopped_part, part_front}
 use Rattle.fabric_tool.proofs.LegalLemmas.{legal_end, shown_end}
 use Rattle.fabric_tool.proofs.FaultLemmas.{PrintsAlike, alike, replay_said, show_said}
@@ -61,42 +61,19 @@ pub is_limit : (o : Outcome) → 6 ≡ status_of o → (kind : LimitKind) × (o 
 is_limit o is = subst (λ (n : ℕ). Alone n o) (sym is) (alone o)
 
 pub refused_of : (k : Command) (old new : Seen) (o : Outcome) → Holds k old new o → 1 ≡ status_of o → IsRefused k old new
-refused_of (Run k) old new o holds is = run_cases k old new (λ o. 1 ≡ status_of o → IsRefused (Run k) old new)
-    (λ frames entries h is. absurd (omega arith))
-    (λ fault h is. inl (fault, h))
-    (λ port at reason h is. inr (port, at, reason, h))
-    (λ kind h is. absurd (omega arith))
-    (λ h is. absurd (omega arith))
-    (λ h is. absurd (omega arith))
-    (λ h is. absurd (omega arith))
-    o holds is
-refused_of (Replay k) old new o holds is = (o, sym is, holds)
-refused_of (Show k) old new o holds is = (o, sym is, holds)
-refused_of (Convert k) old new o holds is = convert_cases k old new (λ o. 1 ≡ status_of o → IsRefused (Convert k) old new)
-    (λ records h is. absurd (omega arith))
-    (λ at fault h is. (at, fault, h))
-    (λ kind h is. absurd (omega arith))
-    (λ h is. absurd (omega arith))
-    (λ h is. absurd (omega arith))
-    (λ h is. absurd (omega arith))
-    o holds is
-refused_of (Migrate k) old new o holds is = migrate_cases k old new (λ o. 1 ≡ status_of o → IsRefused (Migrate k) old new)
-    (λ entries h is. absurd (omega arith))
-    (λ line fault h is. (line, fault, h))
-    (λ kind h is. absurd (omega arith))
-    (λ h is. absurd (omega arith))
-    (λ h is. absurd (omega arith))
-    (λ h is. absurd (omega arith))
-    o holds is
-refused_of (Make k) old new o holds is = make_cases k old new (λ o. 1 ≡ status_of o → IsRefused (Make k) old new)
-    (λ frames h is. absurd (omega arith))
-    (λ h is. absurd (omega arith))
-    (λ h is. absurd (omega arith))
-    o holds is
-refused_of (Snoop k) old new o holds is = snoop_refused k old new o holds is
-refused_of (Enode k) old new o holds is = enode_refused k old new o holds is
-refused_of Help old new o holds is = let other : 1 ≡ 0 = is ∙ ap status_of holds.0 in absurd (omega (arith, other))
-refused_of Version old new o holds is = let other : 1 ≡ 0 = is ∙ ap status_of holds.0 in absurd (omega (arith, other))
+refused_of (Run k) old new (ends.Config fault) h is = inl (fault, h)
+refused_of (Run k) old new (ends.Capture port at reason) h is = inr (port, at, reason, h)
+refused_of (Replay k) old new o h is = (o, sym is, h)
+refused_of (Show k) old new o h is = (o, sym is, h)
+refused_of (Convert k) old new (ends.BadBlock at fault) h is = (at, fault, h)
+refused_of (Migrate k) old new (ends.BadLine line fault) h is = (line, fault, h)
+refused_of (Make k) old new ends.Memory h is = absurd (omega arith)
+refused_of (Snoop k) old new (ends.Config fault) h is = inl (fault, h)
+refused_of (Snoop k) old new (ends.Capture port at reason) h is = inr (port, at, reason, h)
+refused_of (Enode k) old new (ends.Capture port at reason) h is = (port, at, reason, h)
+refused_of Help old new o h is = let other : 1 ≡ 0 = is ∙ ap status_of h.0 in absurd (omega (arith, other))
+refused_of Version old new o h is = let other : 1 ≡ 0 = is ∙ ap status_of h.0 in absurd (omega (arith, other))
+refused_of k old new o h is = absurd (omega arith)
 
 -- no file but the outputs has changed, whatever the outcome
 pub others_kept : (k : Command) (old new : Seen) (o : Outcome) → Holds k old new o → KeepsOthers k old new

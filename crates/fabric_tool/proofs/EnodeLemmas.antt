@@ -21,7 +21,7 @@ use Rattle.run_files.specs.declared.fault.RunFault.{RunFault}
 use Rattle.run_files.specs.declared.fault.RunFault.TheVariants as faults
 use Rattle.fabric_tool.specs.Command.{EnodeNames, Enode, KeepsOthers}
 use Rattle.fabric_tool.specs.Ends.{TakesMemory}
-use Rattle.fabric_tool.specs.Enode.{task_of, HasPlayed, HasEnodeFront, EnodeHolds, IsEnodeRefused, EnodeForms, EnodeSays}
+use Rattle.fabric_tool.specs.Enode.{task_of, HasPlayed, HasEnodeFront, EnodeHolds, EnodeForms, EnodeSays}
 use Rattle.fabric_tool.specs.Inputs.{LIMITS}
 use Rattle.fabric_tool.specs.Opening.{stopped_by, stood_by}
 use Rattle.fabric_tool.specs.Outcome.{status_of}
@@ -74,23 +74,9 @@ enode_front k old new told = enode_cases k old new (λ o. HasEnodeFront k old ne
 
 -- want of memory for the line of an outcome says less
 pub enode_memory : (k : EnodeNames) (old new : Seen) (o : Outcome) → EnodeHolds k old new o → TakesMemory o → EnodeHolds k old new ends.Memory
-enode_memory k old new = enode_cases k old new (λ o. TakesMemory o → EnodeHolds k old new ends.Memory)
-    (λ last h takes. absurd takes)
-    (λ port at reason h takes. (h.0, h.2))
-    (λ kind h takes. (h.0, h.2))
-    (λ h takes. absurd takes)
-    (λ h takes. absurd takes)
-    (λ h takes. absurd takes)
-
--- status 1 is of one kind
-pub enode_refused : (k : EnodeNames) (old new : Seen) (o : Outcome) → EnodeHolds k old new o → 1 ≡ status_of o → IsEnodeRefused k old new
-enode_refused k old new = enode_cases k old new (λ o. 1 ≡ status_of o → IsEnodeRefused k old new)
-    (λ last h is. absurd (omega arith))
-    (λ port at reason h is. (port, at, reason, h))
-    (λ kind h is. absurd (omega arith))
-    (λ h is. absurd (omega arith))
-    (λ h is. absurd (omega arith))
-    (λ h is. absurd (omega arith))
+enode_memory k old new (ends.Capture port at reason) h takes = (h.0, h.2)
+enode_memory k old new (ends.Limit kind) h takes = (h.0, h.2)
+enode_memory k old new o h takes = absurd (omega arith)
 
 -- ---- where nothing fails
 

@@ -9,14 +9,14 @@ use Rattle.pcap_file.specs.Capture.{HEAD, head_decoded}
 use Rattle.pcap_file.specs.declared.CapFault.{CapFault}
 use Rattle.pcap_file.specs.declared.CaptureHead.{CaptureHead}
 use Rattle.fab_policy.specs.Looks.{Opened, Stop}
-use Rattle.fab_gather.specs.Port.{ending}
+use Rattle.fab_gather.specs.Port.{why_of, ending}
 use Rattle.fab_gather.specs.declared.fault.CapWhy.{CapWhy}
 use Rattle.run_files.specs.Faults.{fault_from}
 use Rattle.run_files.specs.declared.fault.RunFault.{RunFault}
 use Rattle.run_files.specs.declared.fault.RunFault.TheVariants as faults
 use Rattle.fabric_tool.specs.Command.{RunNames, Run}
 use Rattle.fabric_tool.specs.Ends.{RunHolds}
-use Rattle.fabric_tool.specs.Inputs.{HasFault, IsOpened, AreOpened, HasInputs, HasNoHead, HasBadHead, StopsBy, stop_of, why_of}
+use Rattle.fabric_tool.specs.Inputs.{HasFault, IsOpened, AreOpened, HasInputs, HasNoHead, HasBadHead, StopsBy, stop_of}
 use Rattle.fabric_tool.specs.Opening.{ran_by}
 use Rattle.fabric_tool.specs.Outcome.{status_of}
 use Rattle.fabric_tool.specs.Statuses.{IsQuiet, RunSays, RunForms}

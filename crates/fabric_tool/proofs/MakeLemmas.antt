@@ -109,7 +109,7 @@ module _ (words : List (String Global)) (make : is_make words ≡ true) (b : See
   name_of_file : (q : ℕ) → q < 9 → b.name (slice_index slots q) ≡ file_name (make_of words) q
   name_of_file q lt = (a_file q lt).named ∙ sym (name_counted (file_at words) 9 q lt)
 
-  module _ (a d : Seen) (opens : Opens (make_of words).files a b) (same : SameWriteFaults a b) (r : Result ℕ MakeFault) (m : Makes (make_of words).number slots b d r) where
+  module _ {a d : Seen} (opens : Opens (make_of words).files a b) (same : SameWriteFaults a b) {r : Result ℕ MakeFault} (m : Makes (make_of words).number slots b d r) where
     keeps : KeepsOthers (Make (make_of words)) a d
     keeps n none =
         let not_one = none_among (make_of words).files n none in

@@ -140,42 +140,25 @@ whole_front k old new records c = Front c.bytes c.packets (length (classic_bytes
 
 -- want of memory for the line of an outcome says less than that outcome
 memory_holds : (k : Command) (old new : Seen) (o : Outcome) → Holds k old new o → TakesMemory o → Holds k old new ends.Memory
-memory_holds (Run k) old new o holds takes = run_cases k old new (λ o. TakesMemory o → Holds (Run k) old new ends.Memory)
-    (λ frames entries h takes. (h.0, λ told. inr (ran_part k frames entries old new (h.1 told)), h.2))
-    (λ fault h takes. (λ m other. h.0 m, λ told. inl h.0, h.2))
-    (λ port at reason h takes. (h.0, λ told. elim (h.1 told) [ inl bad ↦ inl bad.0 | inr stopped ↦ inr (stopped_part k old new (faults.Capture port at reason) stopped) ], h.2))
-    (λ kind h takes. (h.0, λ told. inr (stopped_part k old new (faults.Limit kind) (h.1 told)), h.2))
-    (λ h takes. absurd takes)
-    (λ h takes. absurd takes)
-    (λ h takes. absurd takes)
-    o holds takes
-memory_holds (Replay k) old new o holds takes = replay_memory k old new o holds takes
-memory_holds (Show k) old new o holds takes = show_memory k old new o holds takes
-memory_holds (Convert k) old new o holds takes = convert_cases k old new (λ o. TakesMemory o → Holds (Convert k) old new ends.Memory)
-    (λ records h takes. (h.0, λ told. whole_front k old new records (h.1 told), h.2))
-    (λ at fault h takes. (λ m other. h.0 m, λ told. Same (h.0 k.to), h.2))
-    (λ kind h takes. (λ m other. h.0 m, λ told. Same (h.0 k.to), h.2))
-    (λ h takes. absurd takes)
-    (λ h takes. absurd takes)
-    (λ h takes. absurd takes)
-    o holds takes
-memory_holds (Migrate k) old new o holds takes = migrate_cases k old new (λ o. TakesMemory o → Holds (Migrate k) old new ends.Memory)
-    (λ entries h takes. (h.0, λ told. whole_journal k old new entries (h.1 told), h.2))
-    (λ line fault h takes. (λ m other. h.0 m, λ told. Untouched (h.0 k.to), h.2))
-    (λ kind h takes. (λ m other. h.0 m, λ told. Untouched (h.0 k.to), h.3))
-    (λ h takes. absurd takes)
-    (λ h takes. absurd takes)
-    (λ h takes. absurd takes)
-    o holds takes
-memory_holds (Make k) old new o holds takes = make_cases k old new (λ o. TakesMemory o → Holds (Make k) old new ends.Memory)
-    (λ frames h takes. (h.0, λ told. whole_load k old new (h.2 told), h.3))
-    (λ h takes. absurd takes)
-    (λ h takes. absurd takes)
-    o holds takes
-memory_holds (Snoop k) old new o holds takes = snoop_memory k old new o holds takes
-memory_holds (Enode k) old new o holds takes = enode_memory k old new o holds takes
-memory_holds Help old new o holds takes = absurd (subst TakesMemory holds.0 takes)
-memory_holds Version old new o holds takes = absurd (subst TakesMemory holds.0 takes)
+memory_holds (Run k) old new (ends.Ran frames entries) h takes = (h.0, λ told. inr (ran_part k frames entries old new (h.1 told)), h.2)
+memory_holds (Run k) old new (ends.Config fault) h takes = (λ m other. h.0 m, λ told. inl h.0, h.2)
+memory_holds (Run k) old new (ends.Capture port at reason) h takes =
+    (h.0, λ told. elim (h.1 told) [ inl bad ↦ inl bad.0 | inr stopped ↦ inr (stopped_part k old new (faults.Capture port at reason) stopped) ], h.2)
+memory_holds (Run k) old new (ends.Limit kind) h takes = (h.0, λ told. inr (stopped_part k old new (faults.Limit kind) (h.1 told)), h.2)
+memory_holds (Replay k) old new o h takes = replay_memory k old new o h takes
+memory_holds (Show k) old new o h takes = show_memory k old new o h takes
+memory_holds (Convert k) old new (ends.Converted records) h takes = (h.0, λ told. whole_front k old new records (h.1 told), h.2)
+memory_holds (Convert k) old new (ends.BadBlock at fault) h takes = (λ m other. h.0 m, λ told. Same (h.0 k.to), h.2)
+memory_holds (Convert k) old new (ends.Limit kind) h takes = (λ m other. h.0 m, λ told. Same (h.0 k.to), h.2)
+memory_holds (Migrate k) old new (ends.Migrated entries) h takes = (h.0, λ told. whole_journal k old new entries (h.1 told), h.2)
+memory_holds (Migrate k) old new (ends.BadLine line fault) h takes = (λ m other. h.0 m, λ told. Untouched (h.0 k.to), h.2)
+memory_holds (Migrate k) old new (ends.Limit kind) h takes = (λ m other. h.0 m, λ told. Untouched (h.0 k.to), h.3)
+memory_holds (Make k) old new (ends.Made frames) h takes = (h.0, λ told. whole_load k old new (h.2 told), h.3)
+memory_holds (Snoop k) old new o h takes = snoop_memory k old new o h takes
+memory_holds (Enode k) old new o h takes = enode_memory k old new o h takes
+memory_holds Help old new o h takes = absurd (subst TakesMemory h.0 takes)
+memory_holds Version old new o h takes = absurd (subst TakesMemory h.0 takes)
+memory_holds k old new o h takes = absurd (omega arith)
 
 memory_holds_for : (c : Option Command) (old new : Seen) (o : Outcome) → HoldsFor c old new o → TakesMemory o → HoldsFor c old new ends.Memory
 memory_holds_for None old new o holds takes = absurd (subst TakesMemory holds.0 takes)

@@ -59,10 +59,10 @@ others_same k old new same m none = same m
 pub config_as : {m n : List ℕ} {a b : Seen} {r : Result Settings Outcome} → m ≡ n → ConfigRead m a b r → ConfigRead n a b r
 config_as {m} {n} {a} {b} {r} e read = subst (λ l. ConfigRead l a b r) e read
 
-pub config_touched : (k : RunNames) (old new : Seen) {r : Result Settings Outcome} → ConfigRead k.config old new r → Touches Nothing (Among (k.config ∷ k.ins)) old new
+config_touched : (k : RunNames) (old new : Seen) {r : Result Settings Outcome} → ConfigRead k.config old new r → Touches Nothing (Among (k.config ∷ k.ins)) old new
 config_touched k old new read = touches_wider Nothing (Only k.config) Nothing (Among (k.config ∷ k.ins)) old new (λ m x. x) (λ m x. inl x) (reads_touches k.config old new read.reads)
 
-pub config_ended : (k : RunNames) (old new : Seen) (x : Outcome) → ConfigRead k.config old new (Err x) → RunHolds k old new x
+config_ended : (k : RunNames) (old new : Seen) (x : Outcome) → ConfigRead k.config old new (Err x) → RunHolds k old new x
 config_ended k old new x read = elim read.only [
   | inl fault ↦ subst (RunHolds k old new) (sym fault.1) (read.reads.files, λ told. read.fault told fault.0 fault.1, (read.counts (λ is. let e = fault.1 in absurd (cc)), read.reads.writes))
   | inr other ↦ elim other [
@@ -73,68 +73,85 @@ config_ended k old new x read = elim read.only [
   ]
 ]
 
+-- what holds where the command ends before a fabric is made
+unprepared : (k : RunNames) (old new : Seen) (x : Outcome) → Touches Nothing (Among (k.config ∷ k.ins)) old new → RunHolds k old new x → IsPrepared k old new (Err x)
+unprepared k old new x touches ended = record { touches = touches; fabric = tt; config = λ told. tt; heads = tt; left = tt; ended = ended; counts = tt }
+
+pub no_config : (k : RunNames) {old new : Seen} {x : Outcome} → ConfigRead k.config old new (Err x) → IsPrepared k old new (Err x)
+no_config k {old} {new} {x} read = unprepared k old new x (config_touched k old new read) (config_ended k old new x read)
+
 -- the heads of all ports are within the limit
 pub room_in : (words : List (String Global)) → are_pairs words ≡ true → HEAD * length (run_of words).ins ≤ MOST_BYTES
 room_in words run = let n = length-counted (input_at words) 0 (port_count words) in let few = (pairs words run).few in omega arith
 
--- the configuration was read, and a head can't be
-module _ (k : RunNames) (c : Settings) (old b new : Seen) (config : ConfigRead k.config old b (Ok c)) where
+-- the configuration was read
+module _ (k : RunNames) {c : Settings} {old b : Seen} (config : ConfigRead k.config old b (Ok c)) where
   told_b : IsTrue old.told → IsTrue b.told
   told_b told = subst IsTrue (sym config.reads.keeps.told) told
 
   touched : Touches Nothing (Only k.config) old b
   touched = reads_touches k.config old b config.reads
 
-  pub heads_ended : HEAD * length k.ins ≤ MOST_BYTES → (left : Budget) (x : Outcome) → HeadsRead k.ins b new LIMITS left (Err x) → RunHolds k old new x
-  heads_ended room left x read = go x read.ended read.counts
-    where
-      same : SameFiles old new
-      same m = read.touches.files m (λ y. y) ∙ config.reads.files m
+  module _ {new : Seen} where
+    heads_ended : HEAD * length k.ins ≤ MOST_BYTES → (left : Budget) (x : Outcome) → HeadsRead k.ins b new LIMITS left (Err x) → RunHolds k old new x
+    heads_ended room left x read = go x read.ended read.counts
+      where
+        same : SameFiles old new
+        same m = read.touches.files m (λ y. y) ∙ config.reads.files m
 
-      writes : SameWriteFaults old new
-      writes m = read.writes m ∙ config.reads.writes m
+        writes : SameWriteFaults old new
+        writes m = read.writes m ∙ config.reads.writes m
 
-      none : {x : Outcome} → TellsReads {T = Vec Input Global} b new (Err x) → (IsErrOf {T = Vec Input Global} (Err x) ends.ReadFault → ⊥) → NoFaults old new
-      none tells silent = (λ m. tells silent m ∙ config.counts (not_unread c) m, writes)
+        none : {x : Outcome} → TellsReads {T = Vec Input Global} b new (Err x) → (IsErrOf {T = Vec Input Global} (Err x) ends.ReadFault → ⊥) → NoFaults old new
+        none tells silent = (λ m. tells silent m ∙ config.counts (not_unread c) m, writes)
 
-      go : (x : Outcome) → HeadsEnd k.ins MOST_BYTES b new x → TellsReads {T = Vec Input Global} b new (Err x) → RunHolds k old new x
-      go (ends.Capture port at reason) e tells = (
-        λ m other. same m,
-        λ told. inl (same, e.0, record { settings = c; config = config.ok told; first = without_since old b config.reads.files refl (e.2 (told_b told)) }),
-        none tells (λ is. absurd (cc)),
-      )
-      go (ends.Limit kind) e tells = let few = e.1 in absurd (omega arith)
-      go ends.ReadFault e tells = (
-        λ m other. same m,
-        inr (rose_since old.read_faults b.read_faults new.read_faults touched.reads_rise k.ins e.0),
-        λ told. inr (inl (same, record { settings = c; config = config.ok told; first = unread_since old b config.reads.files refl new touched.reads_rise (e.1 (told_b told)) })),
-        writes,
-      )
-      go ends.Memory e tells = (λ m other. same m, λ told. inl same, none tells (λ is. absurd (cc)))
-      go x e tells = absurd e
+        go : (x : Outcome) → HeadsEnd k.ins MOST_BYTES b new x → TellsReads {T = Vec Input Global} b new (Err x) → RunHolds k old new x
+        go (ends.Capture port at reason) e tells = (
+          λ m other. same m,
+          λ told. inl (same, e.0, record { settings = c; config = config.ok told; first = without_since old b config.reads.files refl (e.2 (told_b told)) }),
+          none tells (λ is. absurd (cc)),
+        )
+        go (ends.Limit kind) e tells = let few = e.1 in absurd (omega arith)
+        go ends.ReadFault e tells = (
+          λ m other. same m,
+          inr (rose_since old.read_faults b.read_faults new.read_faults touched.reads_rise k.ins e.0),
+          λ told. inr (inl (same, record { settings = c; config = config.ok told; first = unread_since old b config.reads.files refl new touched.reads_rise (e.1 (told_b told)) })),
+          writes,
+        )
+        go ends.Memory e tells = (λ m other. same m, λ told. inl same, none tells (λ is. absurd (cc)))
+        go x e tells = absurd e
 
-  -- what reading the configuration and the heads changes
-  pub inputs_touched : Touches Nothing (Among k.ins) b new → Touches Nothing (Among (k.config ∷ k.ins)) old new
-  inputs_touched heads = touches_trans Nothing (Among (k.config ∷ k.ins)) old b new
-      (config_touched k old b config)
-      (touches_wider Nothing (Among k.ins) Nothing (Among (k.config ∷ k.ins)) b new (λ m x. x) (λ m x. inr x) heads)
+    -- what reading the configuration and the heads changes
+    inputs_touched : Touches Nothing (Among k.ins) b new → Touches Nothing (Among (k.config ∷ k.ins)) old new
+    inputs_touched heads = touches_trans Nothing (Among (k.config ∷ k.ins)) old b new
+        (config_touched k old b config)
+        (touches_wider Nothing (Among k.ins) Nothing (Among (k.config ∷ k.ins)) b new (λ m x. x) (λ m x. inr x) heads)
 
-  pub inputs_read : (ins : List Input) → AreHeads b new k.ins ins → AreHeads old new k.ins ins
-  inputs_read ins heads = heads_since old b new config.reads.files told_b k.ins ins heads
+    -- a head can't be read
+    pub no_heads : {left : Budget} {x : Outcome} → HEAD * length k.ins ≤ MOST_BYTES → HeadsRead k.ins b new LIMITS left (Err x) → IsPrepared k old new (Err x)
+    no_heads {left} {x} room read = unprepared k old new x (inputs_touched read.touches) (heads_ended room left x read)
 
-  -- no fault was counted up to there
-  pub none_yet : NoFaults b new → NoFaults old new
-  none_yet none = none_then old b new (config.counts (not_unread c), config.reads.writes) none
+    -- all heads are read, and no fault was counted up to there
+    module _ {left : Budget} {ins : Vec Input Global} (read : HeadsRead k.ins b new LIMITS left (Ok ins)) where
+      none_yet : NoFaults old new
+      none_yet = none_then old b new (config.counts (not_unread c), config.reads.writes) (read.counts (not_unread ins), read.writes)
 
-  -- memory is refused
-  pub no_fabric : Touches Nothing (Among k.ins) b new → NoFaults b new → RunHolds k old new ends.Memory
-  no_fabric heads none =
-      let same : SameFiles old new = λ m. heads.files m (λ y. y) ∙ config.reads.files m in
-      (λ m other. same m, λ told. inl same, none_yet none)
+      -- memory is refused
+      pub no_fabric : IsPrepared k old new (Err ends.Memory)
+      no_fabric =
+          let same : SameFiles old new = λ m. read.touches.files m (λ y. y) ∙ config.reads.files m in
+          unprepared k old new ends.Memory (inputs_touched read.touches) (λ m other. same m, λ told. inl same, none_yet)
 
--- what holds where the command ends before a fabric is made
-pub unprepared : (k : RunNames) (old new : Seen) (x : Outcome) → Touches Nothing (Among (k.config ∷ k.ins)) old new → RunHolds k old new x → IsPrepared k old new (Err x)
-unprepared k old new x touches ended = record { touches = touches; fabric = tt; config = λ told. tt; heads = tt; left = tt; ended = ended; counts = tt }
+      pub with_fabric : (F : Contents) → F.settings ≡ c → IsNew F k.ins → IsPrepared k old new (Ok (record { fabric = F; ins = ins; budget = left }))
+      with_fabric F is made = record {
+        touches = inputs_touched read.touches;
+        fabric = made;
+        config = λ told. subst (λ (s : Settings). HasConfig old k.config s) (sym is) (config.ok told);
+        heads = heads_since old b new config.reads.files told_b k.ins ins.items read.heads;
+        left = read.taken;
+        ended = tt;
+        counts = none_yet;
+      }
 
 -- a fabric that was made of it
 pub new_as : (words : List (String Global)) (F : Contents) (c : Settings) → F.settings ≡ c → IsTrue (is_in_range c) → F.count ≡ port_count words → F.state ≡ state_of c [] → (F.events ≡ []) × (F.outs ≡ []) → IsNew F (run_of words).ins
@@ -167,13 +184,13 @@ module _ (k : RunNames) (c : Settings) (old m a : Seen) (ins : List Input)
 
 -- ---- what is handed to the windows
 
-module _ (words : List (String Global)) (run : are_pairs words ≡ true) (old m a : Seen) (ins : List Input) (journal : ℕ) (outs : List ℕ)
+module _ (words : List (String Global)) (run : are_pairs words ≡ true) (old : Seen) {m a : Seen} (ins : List Input) {journal : ℕ} (outs : List ℕ)
     (heads : AreHeads old m (run_of words).ins ins) (opens : Opens ((run_of words).journal ∷ (run_of words).outs) m a) (outputs : AreEmptyOutputs a ((run_of words).journal ∷ (run_of words).outs) (journal ∷ outs)) where
   pub heads_after : AreHeads old a (run_of words).ins ins
   heads_after = heads_still old m a (run_of words).ins ins (Among ((run_of words).journal ∷ (run_of words).outs)) (Among ((run_of words).journal ∷ (run_of words).outs)) opens.touches (inputs_apart words run) heads
 
   -- the lists as they are lent
-  module _ (i : List Input) (o : List ℕ) (is : i ≡ ins) (are : o ≡ outs) where
+  module _ {i : List Input} {o : List ℕ} (is : i ≡ ins) (are : o ≡ outs) where
     ports_are : length i ≡ port_count words
     ports_are = ap length is ∙ ins_count words run old a ins journal outs heads_after outputs
 

@@ -30,7 +30,7 @@ use Rattle.fabric_tool.specs.Inputs.{HasConfig, HasFault, LIMITS}
 use Rattle.fabric_tool.specs.Opening.{stopped_by, crossed_by}
 use Rattle.fabric_tool.specs.Outcome.{status_of}
 use Rattle.fabric_tool.specs.Reading.{ConfigRead}
-use Rattle.fabric_tool.specs.Snooping.{HasSnooped, HasSnoopedFront, HasSnoopFront, IsStopped, SnoopHolds, IsSnoopRefused, SnoopForms, SnoopSays, crossing_of}
+use Rattle.fabric_tool.specs.Snooping.{HasSnooped, HasSnoopedFront, HasSnoopFront, IsStopped, SnoopHolds, SnoopForms, SnoopSays, crossing_of}
 use Rattle.fabric_tool.specs.Statuses.{IsQuiet}
 use Rattle.fabric_tool.specs.declared.outcome.Outcome.{Outcome}
 use Rattle.fabric_tool.specs.declared.outcome.Outcome.TheVariants as ends
@@ -92,25 +92,11 @@ snoop_front k old new told = snoop_cases k old new (λ o. HasSnoopFront k old ne
 
 -- want of memory for the line of an outcome says less
 pub snoop_memory : (k : SnoopNames) (old new : Seen) (o : Outcome) → SnoopHolds k old new o → TakesMemory o → SnoopHolds k old new ends.Memory
-snoop_memory k old new = snoop_cases k old new (λ o. TakesMemory o → SnoopHolds k old new ends.Memory)
-    (λ passes drops h takes. (h.0, λ told. inr (whole_captures k passes drops old new (h.1 told)), h.2))
-    (λ fault h takes. (λ m other. h.0 m, λ told. inl h.0, h.2))
-    (λ port at reason h takes. (λ m other. h.0 m, λ told. inl h.0, h.2))
-    (λ kind h takes. (λ m other. h.0 m, λ told. inl h.0, h.2))
-    (λ h takes. absurd takes)
-    (λ h takes. absurd takes)
-    (λ h takes. absurd takes)
-
--- status 1 is of two kinds
-pub snoop_refused : (k : SnoopNames) (old new : Seen) (o : Outcome) → SnoopHolds k old new o → 1 ≡ status_of o → IsSnoopRefused k old new
-snoop_refused k old new = snoop_cases k old new (λ o. 1 ≡ status_of o → IsSnoopRefused k old new)
-    (λ passes drops h is. absurd (omega arith))
-    (λ fault h is. inl (fault, h))
-    (λ port at reason h is. inr (port, at, reason, h))
-    (λ kind h is. absurd (omega arith))
-    (λ h is. absurd (omega arith))
-    (λ h is. absurd (omega arith))
-    (λ h is. absurd (omega arith))
+snoop_memory k old new (ends.Bridged passes drops) h takes = (h.0, λ told. inr (whole_captures k passes drops old new (h.1 told)), h.2)
+snoop_memory k old new (ends.Config fault) h takes = (λ m other. h.0 m, λ told. inl h.0, h.2)
+snoop_memory k old new (ends.Capture port at reason) h takes = (λ m other. h.0 m, λ told. inl h.0, h.2)
+snoop_memory k old new (ends.Limit kind) h takes = (λ m other. h.0 m, λ told. inl h.0, h.2)
+snoop_memory k old new o h takes = absurd (omega arith)
 
 -- ---- where nothing fails
 

@@ -3,7 +3,6 @@ use Rattle.std.specs.Prelude.{◌≡◌, ℕ, ◌+◌, ◌-◌, ◌*◌, ◌<◌
 use Rattle.fab_base.specs.Seen.{Seen, Rose}
 use Rattle.pcap_file.specs.declared.Budget.{Budget}
 use Rattle.pcap_file.specs.declared.CapFault.{CapFault}
-use Rattle.pcap_file.specs.declared.CapFault.TheVariants as faults
 use Rattle.pcap_file.specs.declared.CaptureHead.{CaptureHead}
 use Rattle.pcap_file.specs.declared.Record.{Record}
 use Rattle.pcap_file.specs.Capture.{HEAD, IsCapture, head_decoded}
@@ -12,10 +11,9 @@ use Rattle.fab_config.specs.Text.{decoded}
 use Rattle.fab_config.specs.declared.ConfigFault.{ConfigFault}
 use Rattle.fab_policy.specs.Looks.{Opened, Stop, stop, kept, all_records}
 use Rattle.fab_gather.specs.declared.fault.CapWhy.{CapWhy}
-use Rattle.fab_gather.specs.declared.fault.CapWhy.TheVariants as why
 use Rattle.run_files.specs.Faults.{fault_from}
 use Rattle.run_files.specs.declared.fault.RunFault.{RunFault}
-use Rattle.fab_gather.specs.Port.{ending}
+use Rattle.fab_gather.specs.Port.{why_of, ending}
 use Rattle.pcapng_file.specs.declared.NgRecord.{NgRecord}
 use Rattle.pcapng_file.specs.File.{IsNg}
 use Rattle.pcapng_file.specs.Laws.{Within}
@@ -87,13 +85,6 @@ stop_of c opened = stop c (MOST_BYTES - HEAD * length opened) MOST_FRAMES opened
 -- the records of each port that are kept
 abbrev pub kept_of : Settings → List Opened → List (List Record)
 kept_of c opened = map (kept c (stop_of c opened)) (all_records opened)
-
--- the word for the fault of a head
-abbrev pub why_of : CapFault → CapWhy
-why_of faults.Short = why.Short
-why_of faults.BadMagic = why.Magic
-why_of faults.BadVersion = why.Version
-why_of faults.NotEthernet = why.Link
 
 -- a name's file doesn't begin with the head of a capture, for this reason
 pub record HasNoHead (d : Seen) (name : List ℕ) (reason : CapWhy) : Type 0 where

@@ -8,16 +8,18 @@ use Rattle.fab_config.specs.declared.ConfigFault.{ConfigFault}
 use Rattle.pcap_file.specs.Capture.{HEAD}
 use Rattle.pcap_file.specs.declared.Budget.{Budget}
 use Rattle.pcap_file.specs.declared.CapOpen.{CapOpen}
-use Rattle.pcap_file.specs.declared.CapOpen.TheVariants as opens
 use Rattle.pcapng_file.specs.declared.fault.NgError.{NgError}
 use Rattle.pcapng_file.specs.declared.fault.NgError.TheVariants as ng
 use Rattle.fab_gather.specs.First.{IsFresh, opened_by}
+use Rattle.fab_gather.specs.Port.{open_fault_by}
 use Rattle.fab_gather.specs.declared.shelf.Input.{Input}
 use Rattle.fab_gather.specs.declared.fault.LimitKind.TheVariants as kinds
 use Rattle.fab_migrate.specs.declared.old.OldError.{OldError}
 use Rattle.fab_migrate.specs.declared.old.OldError.TheVariants as olds
+use Rattle.run_files.specs.Faults.{fault_from}
 use Rattle.run_files.specs.Names.{AnyRose, Among}
-use Rattle.fabric_tool.specs.Inputs.{HasConfig, HasFault, IsOpened, HasNoHead, IsFirstWithout, HaveNoRoom, IsFirstUnread, why_of}
+use Rattle.fabric_tool.specs.Inputs.{HasConfig, HasFault, IsOpened, HasNoHead, IsFirstWithout, HaveNoRoom, IsFirstUnread}
+use Rattle.fabric_tool.specs.Opening.{stopped_by}
 use Rattle.fabric_tool.specs.Outcome.{kind_of}
 use Rattle.fabric_tool.specs.declared.outcome.Outcome.{Outcome}
 use Rattle.fabric_tool.specs.declared.outcome.Outcome.TheVariants as ends
@@ -54,9 +56,7 @@ pub record ConfigRead (name : List ℕ) (old new : Seen) (result : Result Settin
 
 -- what an error of opening a port's capture ends a command with
 abbrev pub unopened_by : CapOpen → ℕ → Outcome
-unopened_by (opens.Head fault) port = ends.Capture port 0 (why_of fault)
-unopened_by (opens.Read failed) port = ends.ReadFault
-unopened_by opens.Bytes port = ends.Limit kinds.Bytes
+unopened_by error port = stopped_by (fault_from (open_fault_by error port))
 
 -- an input under a name, of which the head was read and nothing else is given yet
 pub record IsHead (old d : Seen) (name : List ℕ) (i : Input) : Type 0 where

@@ -1,14 +1,15 @@
 //! The heads of the captures.
 ghost use Rattle.std.specs.Prelude.{◌≡◌, IsTrue, true};
 ghost use Rattle.fabric_tool.specs.Command as spec;
-ghost use Rattle.fabric_tool.specs.Inputs.{why_of};
 ghost use Rattle.fabric_tool.specs.Reading.{HeadRead, HeadsRead, unopened_by};
 
 use crate::command::{Width, count_of, input_of};
 use crate::outcome::Outcome;
+use crate::running::stopped;
 use fab_base::{Depot, PortNo};
-use fab_gather::{CapWhy, Input, LimitKind};
-use pcap_file::{Budget, CapFault, CapOpen, Reader};
+use fab_gather::{Input, open_fault_of};
+use pcap_file::{Budget, CapOpen, Reader};
+use run_files::RunFault;
 use std::alloc::Global;
 
 /// Opens the captures of all ports, in port order, and reads their heads. Each takes 24 bytes from
@@ -63,26 +64,5 @@ fn head_of<D: Depot>(
 fn unopened(error: CapOpen, port: PortNo) -> Outcome
     ensures { result ≡ unopened_by error port }
 {
-    match error {
-        CapOpen::Head(fault) => Outcome::Capture {
-            port,
-            at: 0,
-            why: why(fault),
-        },
-        CapOpen::Read(_) => Outcome::ReadFault,
-        CapOpen::Bytes => Outcome::Limit {
-            kind: LimitKind::Bytes,
-        },
-    }
-}
-
-fn why(fault: CapFault) -> CapWhy
-    ensures { result ≡ why_of fault }
-{
-    match fault {
-        CapFault::Short => CapWhy::Short,
-        CapFault::BadMagic => CapWhy::Magic,
-        CapFault::BadVersion => CapWhy::Version,
-        CapFault::NotEthernet => CapWhy::Link,
-    }
+    stopped(&RunFault::from(open_fault_of(error, port)))
 }

@@ -15,27 +15,15 @@ make_load-requires g c =
 
 pub returns-in-Ok-make_load : goal.returns-in-Ok-make_load
 returns-in-Ok-make_load g c =
-    let seen = g.D.Depot.seen in
     let opened = c.in-Ok.ensures.opens in
-    record {
-      holds = made_whole c.args.words.now c.requires.make (seen c.open_files.new.depot) c.in-Ok.files.slots.items opened.slots (seen c.args.depot.now) (seen c.make_load.new.depot) opened.opens opened.counts
-          c.make_load.result (makes_as c.number_at-number.ensures c.as_slice.ensures.value c.make_load.ensures.makes) c.in-Ok-make_load.frames c.in-Ok-make_load.is;
-    }
+    record { holds = made_whole c.args.words.now c.requires.make _ _ opened.slots opened.opens opened.counts (makes_as c.number_at-number.ensures c.as_slice.ensures.value c.make_load.ensures.makes) c.in-Ok-make_load.frames c.in-Ok-make_load.is }
 
 pub returns-in-Err-Write : goal.returns-in-Err-Write
 returns-in-Err-Write g c =
-    let seen = g.D.Depot.seen in
     let opened = c.in-Ok.ensures.opens in
-    record {
-      holds = made_failed c.args.words.now c.requires.make (seen c.open_files.new.depot) c.in-Ok.files.slots.items opened.slots (seen c.args.depot.now) (seen c.make_load.new.depot) opened.opens opened.counts
-          c.make_load.result (makes_as c.number_at-number.ensures c.as_slice.ensures.value c.make_load.ensures.makes) (c.in-Err-Write.is ∙ ap (λ e. Err e) c.in-Err-Write.field-0-is);
-    }
+    record { holds = made_failed c.args.words.now c.requires.make _ _ opened.slots opened.opens opened.counts (makes_as c.number_at-number.ensures c.as_slice.ensures.value c.make_load.ensures.makes) (c.in-Err-Write.is ∙ ap (λ e. Err e) c.in-Err-Write.field-0-is) }
 
 pub returns-in-Err-Memory : goal.returns-in-Err-Memory
 returns-in-Err-Memory g c =
-    let seen = g.D.Depot.seen in
     let opened = c.in-Ok.ensures.opens in
-    record {
-      holds = made_memory c.args.words.now c.requires.make (seen c.open_files.new.depot) c.in-Ok.files.slots.items opened.slots (seen c.args.depot.now) (seen c.make_load.new.depot) opened.opens opened.counts
-          c.make_load.result (makes_as c.number_at-number.ensures c.as_slice.ensures.value c.make_load.ensures.makes) (c.in-Err-Memory.is ∙ ap (λ e. Err e) c.in-Err-Memory.field-0-is);
-    }
+    record { holds = made_memory c.args.words.now c.requires.make _ _ opened.slots opened.opens opened.counts (makes_as c.number_at-number.ensures c.as_slice.ensures.value c.make_load.ensures.makes) (c.in-Err-Memory.is ∙ ap (λ e. Err e) c.in-Err-Memory.field-0-is) }

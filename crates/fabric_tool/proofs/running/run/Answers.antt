@@ -22,31 +22,23 @@ returns-in-Err-open_outputs g c =
 
 pub run_windows-requires-clause-ports : goal.run_windows-requires-clause-ports
 run_windows-requires-clause-ports g c κs within =
-    let seen = g.D.Depot.seen in
     let opens = c.in-Ok-open_outputs.ensures.opens in
-    some_ports c.args.words.now c.requires.run (seen c.args.depot.now) (seen c.prepare.new.depot) (seen c.open_outputs.new.depot) c.in-Ok.ready.ins.items c.in-Ok-open_outputs.outputs.journal c.in-Ok-open_outputs.outputs.outs.items
-    c.in-Ok.ensures.prepares.heads opens.opens opens.slots c.deref_mut.result.now c.as_slice.result.now c.deref_mut.ensures.value c.as_slice.ensures.value
+    some_ports c.args.words.now c.requires.run _ _ _ c.in-Ok.ensures.prepares.heads opens.opens opens.slots c.deref_mut.ensures.value c.as_slice.ensures.value
 
 pub run_windows-requires-clause-outputs : goal.run_windows-requires-clause-outputs
 run_windows-requires-clause-outputs g c κs within =
-    let seen = g.D.Depot.seen in
     let opens = c.in-Ok-open_outputs.ensures.opens in
-    same_count c.args.words.now c.requires.run (seen c.args.depot.now) (seen c.prepare.new.depot) (seen c.open_outputs.new.depot) c.in-Ok.ready.ins.items c.in-Ok-open_outputs.outputs.journal c.in-Ok-open_outputs.outputs.outs.items
-    c.in-Ok.ensures.prepares.heads opens.opens opens.slots c.deref_mut.result.now c.as_slice.result.now c.deref_mut.ensures.value c.as_slice.ensures.value
+    same_count c.args.words.now c.requires.run _ _ _ c.in-Ok.ensures.prepares.heads opens.opens opens.slots c.deref_mut.ensures.value c.as_slice.ensures.value
 
 pub run_windows-requires-clause-given : goal.run_windows-requires-clause-given
 run_windows-requires-clause-given g c κs within =
-    let seen = g.D.Depot.seen in
     let opens = c.in-Ok-open_outputs.ensures.opens in
-    given_as c.args.words.now c.requires.run (seen c.args.depot.now) (seen c.prepare.new.depot) (seen c.open_outputs.new.depot) c.in-Ok.ready.ins.items c.in-Ok-open_outputs.outputs.journal c.in-Ok-open_outputs.outputs.outs.items
-    c.in-Ok.ensures.prepares.heads opens.opens opens.slots c.deref_mut.result.now c.as_slice.result.now c.deref_mut.ensures.value c.as_slice.ensures.value
+    given_as c.args.words.now c.requires.run _ _ _ c.in-Ok.ensures.prepares.heads opens.opens opens.slots c.deref_mut.ensures.value c.as_slice.ensures.value
 
 pub run_windows-requires-clause-count : goal.run_windows-requires-clause-count
 run_windows-requires-clause-count g c κs within =
-    let seen = g.D.Depot.seen in
     let opens = c.in-Ok-open_outputs.ensures.opens in
-    one_a_port c.args.words.now c.requires.run (seen c.args.depot.now) (seen c.prepare.new.depot) (seen c.open_outputs.new.depot) c.in-Ok.ready.ins.items c.in-Ok-open_outputs.outputs.journal c.in-Ok-open_outputs.outputs.outs.items
-    c.in-Ok.ensures.prepares.heads opens.opens opens.slots c.deref_mut.result.now c.as_slice.result.now c.deref_mut.ensures.value c.as_slice.ensures.value
+    one_a_port c.args.words.now c.requires.run _ _ _ c.in-Ok.ensures.prepares.heads opens.opens opens.slots c.deref_mut.ensures.value c.as_slice.ensures.value
     c.in-Ok.ready.fabric.count (c.in-Ok.ensures.prepares.fabric.count ∙ length-counted (input_at c.args.words.now) 0 (port_count c.args.words.now))
 
 pub returns : goal.returns
