@@ -1,10 +1,12 @@
 //! Two passes take turns with one fabric, in one thread.
 ghost use Rattle.std.specs.Prelude.{◌≡◌, IfSome, IsNone, IsSome, true};
+ghost use Rattle.fab_shared.specs.Shared.{opened};
+ghost use Rattle.fabric_tests.specs.Passes.{IsOf, IsSplit};
 
 use crate::settings::settings;
 use fab_base::{Bytes, Caught, Moment, NoMemory, PortNo};
 use fab_policy::{Event, Verdict, hear};
-use fab_shared::SharedFabric;
+use fab_shared::{Pass, SharedFabric};
 use forward_core::{EventList, Fabric};
 use std::alloc::Global;
 use std::sync::Wait;
@@ -48,6 +50,37 @@ pub(crate) fn request(alloc: Global) -> Result<Caught, NoMemory> {
     })
 }
 
+// A fabric under a lock, its root, and the passes of its two ports.
+pub(crate) fn passes_of(alloc: Global, fabric: Fabric) -> Option<(SharedFabric, Pass, Pass, Pass)>
+    requires clock { IsSome fabric.state.tables.clock }
+    ensures { IfSome result (λ r. IsSplit r.0 r.1 × IsOf r.0 1 r.2 × IsOf r.0 2 r.3
+        × IsSome (opened r.0).state.tables.clock) }
+{
+    let Ok((shared, mut root)) = SharedFabric::open(alloc, fabric) else {
+        return None;
+    };
+    let first = shared.split(&mut root, PortNo::at(0));
+    let second = shared.split(&mut root, PortNo::at(1));
+    Some((shared, root, first, second))
+}
+
+// What the fabric did, once both passes are joined.
+pub(crate) fn events_of(
+    shared: SharedFabric,
+    mut root: Pass,
+    first: Pass,
+    second: Pass,
+) -> EventList
+    requires root { IsSplit shared root }
+    requires first { IsOf shared 1 first }
+    requires second { IsOf shared 2 second }
+{
+    shared.join(&mut root, first);
+    shared.join(&mut root, second);
+    let mut fabric = shared.close(root);
+    fabric.drain().events
+}
+
 // What a fabric did of which two ports submit a frame each, the second port first.
 fn taken_in_turns<R: Wait>(
     rt: &R,
@@ -57,17 +90,10 @@ fn taken_in_turns<R: Wait>(
 ) -> Option<EventList>
     requires clock { IsSome fabric.state.tables.clock }
 {
-    let Ok((shared, mut root)) = SharedFabric::open(alloc, fabric) else {
-        return None;
-    };
-    let mut first = shared.split(&mut root, PortNo::at(0));
-    let mut second = shared.split(&mut root, PortNo::at(1));
+    let (shared, root, mut first, mut second) = passes_of(alloc, fabric)?;
     let _later = shared.submit(rt, alloc, &mut second, 7, &hear(frame));
     let _last = shared.submit(rt, alloc, &mut first, 5, &hear(frame));
-    shared.join(&mut root, first);
-    shared.join(&mut root, second);
-    let mut fabric = shared.close(root);
-    Some(fabric.drain().events)
+    Some(events_of(shared, root, first, second))
 }
 
 // Whether an entry is an answered request of this port, with this index.

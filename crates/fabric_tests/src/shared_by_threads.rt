@@ -1,9 +1,9 @@
 //! Two threads submit the frames of their ports to one fabric.
-ghost use Rattle.std.specs.Prelude.{◌≡◌, IsSome, Some};
-ghost use Rattle.fab_turn.specs.Lock.{IsPassOf, IsIdle};
+ghost use Rattle.std.specs.Prelude.{IsSome};
 ghost use Rattle.fab_shared.specs.Shared.{opened};
+ghost use Rattle.fabric_tests.specs.Passes.{IsOf};
 
-use crate::shared::{is_answered, request, ticked};
+use crate::shared::{events_of, is_answered, passes_of, request, ticked};
 use fab_base::{Caught, PortNo};
 use fab_policy::hear;
 use fab_shared::{Pass, SharedFabric};
@@ -27,9 +27,9 @@ fn submit_all<R: Wait>(
     port: PortNo,
     frame: &Caught,
 ) -> Pass
-    requires pass { IsPassOf shared.now.lock pass × IsIdle pass × (pass.port ≡ Some port) }
+    requires pass { IsOf shared.now port pass }
     requires clock { IsSome (opened shared.now).state.tables.clock }
-    ensures { IsPassOf shared.now.lock result × IsIdle result × (result.port ≡ Some port) }
+    ensures { IsOf shared.now port result }
 {
     let heard = hear(frame);
     for index in 0..FRAMES {
@@ -47,35 +47,24 @@ fn by_two_threads<R: Threads + Wait + Sync>(
 ) -> Option<EventList>
     requires clock { IsSome fabric.state.tables.clock }
 {
-    let Ok((shared, mut root)) = SharedFabric::open(alloc, fabric) else {
-        return None;
-    };
+    let (shared, root, first, second) = passes_of(alloc, fabric)?;
     let one = PortNo::at(0);
     let other = PortNo::at(1);
-    let first = shared.split(&mut root, one);
-    let second = shared.split(&mut root, other);
     let lent = &shared;
     let (first, second) = thread::join(
         rt,
         move || -> Pass
-            requires pass { IsPassOf lent.now.lock first × IsIdle first
-                × (first.port ≡ Some one) }
+            requires pass { IsOf lent.now one first }
             requires clock { IsSome (opened lent.now).state.tables.clock }
-            ensures { IsPassOf lent.entry.now.lock result × IsIdle result
-                × (result.port ≡ Some one) }
+            ensures { IsOf lent.entry.now one result }
         { submit_all(rt, alloc, lent, first, one, frame) },
         move || -> Pass
-            requires pass { IsPassOf lent.now.lock second × IsIdle second
-                × (second.port ≡ Some other) }
+            requires pass { IsOf lent.now other second }
             requires clock { IsSome (opened lent.now).state.tables.clock }
-            ensures { IsPassOf lent.entry.now.lock result × IsIdle result
-                × (result.port ≡ Some other) }
+            ensures { IsOf lent.entry.now other result }
         { submit_all(rt, alloc, lent, second, other, frame) },
     );
-    shared.join(&mut root, first);
-    shared.join(&mut root, second);
-    let mut fabric = shared.close(root);
-    Some(fabric.drain().events)
+    Some(events_of(shared, root, first, second))
 }
 
 // Whether the frames of a port stand among these entries, all of them and in order.
