@@ -9,15 +9,13 @@ use Rattle.ct_messages.specs.Ct.{Ask}
 use Rattle.ct_messages.specs.Server as server
 use Rattle.ct_messages.specs.declared.CtTell.{CtTell}
 use Rattle.fc_frames.specs.Pieces.{pieces}
-use Rattle.fab_policy.specs.Classes.{of_replied, of_settled}
+use Rattle.fab_policy.specs.Classes.{of_settled}
 use Rattle.fab_policy.specs.Heard.{ask_of, s_id}
 use Rattle.fab_policy.specs.Outputs.{Notice, State}
 use Rattle.fab_policy.specs.Queries.{query}
 use Rattle.fab_policy.specs.Replies.{Asker, asker_of}
 use Rattle.fab_policy.specs.State.{LivePort, Tables, addresses, now_of, overdue, port_at}
 use Rattle.fab_policy.specs.Steps.{AreAscending, InPool}
-use Rattle.fab_policy.specs.declared.classes.Replied.{Replied}
-use Rattle.fab_policy.specs.declared.classes.Replied.TheVariants.{NsLogout}
 use Rattle.fab_policy.specs.declared.classes.Settled.{Settled}
 use Rattle.fab_policy.specs.declared.classes.Settled.TheVariants.{Vlans}
 use Rattle.fab_policy.specs.declared.event.Event.{Event}
@@ -32,7 +30,7 @@ use Rattle.fab_roster.proofs.Found.{some_found}
 use Rattle.fab_sending.specs.Laws.{FramesSend, FramesTell, TicksSend, TicksTell}
 use Rattle.fab_sending.specs.Messages.{advertisements_owed, at_moment, changes, clears, tick_messages}
 use Rattle.fab_sending.specs.Notices.{changed_at, notices_of_frame, notices_of_tick, told_of_each}
-use Rattle.fab_sending.specs.Sends.{AreParts, AreSent, CanFollow, FrameSends, state_before}
+use Rattle.fab_sending.specs.Sends.{AreParts, AreSent, FrameSends, state_before}
 use Rattle.fab_sending.specs.declared.sends.Before.{Before}
 use Rattle.fab_sending.specs.declared.sends.Sends.{Sends}
 use Rattle.fab_sending.proofs.AnswerFits.{answer_short}
@@ -80,14 +78,6 @@ sends_made send tell b port entry caught v replies changed s pool outs counted f
 -- ---- verdicts that need nothing else
 
 module _ (c : Settings) (T : Tables) (port : ℕ) (caught : Caught) where
-  pub settled_follows : (index : ℕ) (v : Settled) → CanFollow c T port index caught (of_settled v)
-  settled_follows index Vlans = tt
-  settled_follows index _ = tt
-
-  pub replied_follows : (index : ℕ) (v : Replied) → CanFollow c T port index caught (of_replied v)
-  replied_follows index NsLogout = tt
-  replied_follows index _ = tt
-
   -- a settled one changes nothing that is told
   pub settled_tells : (v : Settled) → [] ≡ notices_of_frame c T port caught (of_settled v)
   settled_tells Vlans = refl

@@ -9,7 +9,7 @@ use Rattle.fab_base.specs.Keyed.{AscendFrom}
 use Rattle.fab_base.specs.declared.values.Enode.{Enode}
 use Rattle.fab_config.specs.Settings.{Settings}
 use Rattle.fab_base.proofs.KeyedLemmas.{AscendFrom-filter, AscendFrom-keys, AscendFrom-weaker, list_any-keys-filter}
-use Rattle.fab_base.proofs.SamenessLemmas.{find-map}
+use Rattle.fab_base.proofs.SamenessLemmas.{find-map, found_passes}
 use Rattle.zone_rules.specs.Joined.{contains}
 use Rattle.fab_policy.specs.Changes.{GrantSteps, all_ended, granted_to, heard_node, left_by}
 use Rattle.fab_policy.specs.Free.{Request, is_free, is_open}
@@ -20,7 +20,6 @@ use Rattle.fab_policy.specs.Steps.{after, fresh}
 use Rattle.fab_policy.specs.declared.verdict.Verdict.TheVariants.{Granted}
 use Rattle.fab_roster.specs.Changes.{EndsAll, Grants, IsSoundRoll, KeepsBounds}
 use Rattle.fab_roster.specs.Roll.{Roll}
-use Rattle.fab_roster.proofs.Found.{find-passes}
 use Rattle.fab_judge.specs.Judged.{ended_by}
 use Rattle.fab_roster.specs.Roll.{Login, addresses_of}
 use Rattle.fab_sending.proofs.Counting.{addresses_same}
@@ -147,7 +146,7 @@ module _ (r : Request) (ids : List ℕ) (old mid : Roll) (sound : IsSoundRoll ol
       named : (q : LivePort) → port_at p.address old.tables.ports ≡ Some q → p.name ≡ Some q.name
       named q at =
           let held : past_at a old.tables.past ≡ Some (record { address = p.address; name = Some q.name; ended = None }) =
-          subst (λ n. past_at n old.tables.past ≡ Some (record { address = p.address; name = Some q.name; ended = None })) (same_number p.address a (find-passes (λ (x : Past). x.address == a) old.tables.past p found)) (sound.held p.address q at) in
+          subst (λ n. past_at n old.tables.past ≡ Some (record { address = p.address; name = Some q.name; ended = None })) (same_number p.address a (found_passes (λ (x : Past). x.address == a) p old.tables.past found)) (sound.held p.address q at) in
           ap (λ (o : Option Past). option_and_then (λ (x : Past). x.name) o) (sym found ∙ held)
 
       go : (b : Bool) → contains p.address ids ≡ b → (o : Option LivePort) → port_at p.address old.tables.ports ≡ o → open_by r (now_of old.tables) p.name p.ended o ≡ true →
