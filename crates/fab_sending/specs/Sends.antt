@@ -14,9 +14,9 @@ use Rattle.fab_policy.specs.declared.event.Event.TheVariants.{Frame}
 use Rattle.fab_policy.specs.declared.verdict.Verdict.{Verdict}
 use Rattle.fab_policy.specs.declared.verdict.Verdict.TheVariants.{Granted, Registered}
 use Rattle.els_messages.specs.Els as els
-use Rattle.fab_replies.specs.Laws.{messages}
-use Rattle.fab_replies.specs.Message.{AreSendable, frame_at, sent_of}
-use Rattle.fab_replies.specs.declared.message.Out.{Out}
+use Rattle.fab_messages.specs.Laws.{messages}
+use Rattle.fab_messages.specs.Message.{AreSendable, frame_at, sent_of}
+use Rattle.fab_messages.specs.declared.message.Out.{Out}
 use Rattle.fab_roster.specs.Roll.{login_of}
 use Rattle.fab_sending.specs.Messages.{at_moment, changes}
 use Rattle.fab_sending.specs.Notices.{ended_by_grant, notices_of_frame}

@@ -3,8 +3,8 @@ ghost use Rattle.std.specs.Prelude.{◌≡◌, ◌<◌, ◌≤◌, ◌^◌, All,
 ghost use Rattle.ct_messages.specs.Answer as ct;
 ghost use Rattle.ct_messages.specs.CanWrite.{CanTell};
 ghost use Rattle.fab_policy.specs.declared.event.Event.{Event as Entry};
-ghost use Rattle.fab_replies.specs.Laws.{numbered, on};
-ghost use Rattle.fab_replies.specs.Message.{AreSendable};
+ghost use Rattle.fab_messages.specs.Laws.{numbered, on};
+ghost use Rattle.fab_messages.specs.Message.{AreSendable};
 ghost use Rattle.fab_roster.specs.Changes.{IsSize};
 ghost use Rattle.fab_sending.specs.Framed.{framed};
 ghost use Rattle.fab_sending.specs.Messages.{at_moment};
@@ -12,7 +12,7 @@ ghost use Rattle.fc_frames.specs.Pieces as fc;
 
 use ct_messages::{CtTell, write_tell};
 use fab_base::{Bytes, Moment, NoMemory, PortNo};
-use fab_replies::{Asker, Out, OutList, OutMessage};
+use fab_messages::{Asker, Out, OutList, OutMessage};
 use fc_frames::{Piece, pieces, ranges_have_the_pieces};
 use std::alloc::Global;
 

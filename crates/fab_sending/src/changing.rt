@@ -15,7 +15,7 @@ use crate::noticing::{tell_of, tell_of_ends};
 use crate::{Before, Grant};
 use ct_messages::CtAsk;
 use fab_base::{FcId, Moment, NoMemory};
-use fab_replies::OutList;
+use fab_messages::OutList;
 use fab_roster::{LoginList, Roster};
 use std::alloc::Global;
 

@@ -2,8 +2,8 @@
 //! contracts are the laws.
 ghost use Rattle.fab_sending.specs.Laws.{FramesSend, FramesTell, TicksSend, TicksTell};
 
+use fab_messages::replies_fit;
 use fab_policy::{journal_steps, tables_change};
-use fab_replies::replies_fit;
 
 /// The state changes of a tick follow from the tables before it.
 pub fn ticks_tell()

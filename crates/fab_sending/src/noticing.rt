@@ -10,7 +10,7 @@ ghost use Rattle.fab_sending.specs.Notices.{told_of_name};
 
 use crate::Before;
 use fab_base::{FcId, IdList, Moment, NoMemory, Wwn};
-use fab_replies::{Out, OutList, OutMessage};
+use fab_messages::{Out, OutList, OutMessage};
 use fab_roster::LoginList;
 use std::alloc::Global;
 

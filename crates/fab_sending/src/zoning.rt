@@ -12,7 +12,7 @@ use crate::Before;
 use crate::noticing::{tell_of_ends, tell_of_zones};
 use fab_base::{Moment, NoMemory};
 use fab_config::Activation;
-use fab_replies::OutList;
+use fab_messages::OutList;
 use fab_roster::LoginList;
 use std::alloc::Global;
 

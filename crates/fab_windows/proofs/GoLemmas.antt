@@ -10,8 +10,8 @@ use Rattle.fab_policy.specs.Legal.{Legal}
 use Rattle.fab_policy.specs.Standing.{Contents, drained, sent_after}
 use Rattle.fab_policy.specs.Text.{text}
 use Rattle.fab_policy.specs.declared.event.Event.{Event}
-use Rattle.fab_replies.specs.Message.{sent_of}
-use Rattle.fab_replies.specs.declared.message.Out.{Out}
+use Rattle.fab_messages.specs.Message.{sent_of}
+use Rattle.fab_messages.specs.declared.message.Out.{Out}
 use Rattle.forward_core.specs.Fabric.{AreRanged}
 use Rattle.pcap_file.specs.declared.Budget.{Budget}
 use Rattle.pcap_file.specs.declared.Record.{Record}

@@ -9,8 +9,8 @@ use Rattle.fab_policy.specs.Standing.{Contents, Stands, AreFrames, sent_after}
 use Rattle.fab_policy.specs.declared.event.Event.{Event}
 use Rattle.fab_policy.specs.declared.event.Event.TheVariants.{Tick, Frame}
 use Rattle.fab_policy.proofs.Standing.{stands_older}
-use Rattle.fab_replies.specs.Message.{sent_of}
-use Rattle.fab_replies.specs.declared.message.Out.{Out}
+use Rattle.fab_messages.specs.Message.{sent_of}
+use Rattle.fab_messages.specs.declared.message.Out.{Out}
 use Rattle.pcap_file.specs.declared.Record.{Record}
 use Rattle.fab_pages.specs.Pages.{AreEarly}
 use Rattle.fab_windows.specs.Turns.{Laws}

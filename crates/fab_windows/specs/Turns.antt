@@ -12,8 +12,8 @@ use Rattle.fab_policy.specs.Looks.{Opened, stop, in_order, first_window}
 use Rattle.fab_policy.specs.Outputs.{Sent}
 use Rattle.fab_policy.specs.Standing.{Contents, drained}
 use Rattle.fab_policy.specs.declared.event.Event.{Event}
-use Rattle.fab_replies.specs.Message.{sent_of}
-use Rattle.fab_replies.specs.declared.message.Out.{Out}
+use Rattle.fab_messages.specs.Message.{sent_of}
+use Rattle.fab_messages.specs.declared.message.Out.{Out}
 use Rattle.forward_core.specs.Fabric.{AreRanged}
 use Rattle.fab_gather.specs.declared.shelf.Input.{Input}
 use Rattle.fab_gather.specs.declared.shelf.Shelf.{Shelf}

@@ -13,7 +13,7 @@ use Rattle.fab_policy.specs.Verdicts.{judged, MayGrant}
 use Rattle.fab_policy.specs.declared.event.Event.{Event}
 use Rattle.fab_policy.specs.declared.verdict.Verdict.{Verdict}
 use Rattle.fab_policy.specs.declared.verdict.Verdict.TheVariants.{Granted}
-use Rattle.fab_replies.specs.Message.{sent_of, AreSendable}
+use Rattle.fab_messages.specs.Message.{sent_of, AreSendable}
 use Rattle.fab_roster.specs.Reaching.{zones_of}
 use Rattle.fab_roster.specs.Changes.{IsSoundRoll}
 use Rattle.fab_roster.specs.Roll.{Roll}

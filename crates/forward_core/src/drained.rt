@@ -1,7 +1,7 @@
 //! What a fabric hands out.
-ghost use Rattle.fab_replies.specs.Message.{AreSendable};
+ghost use Rattle.fab_messages.specs.Message.{AreSendable};
 
-use fab_replies::{EventList, OutList};
+use fab_messages::{EventList, OutList};
 
 /// What happened and was sent since the last time, in order.
 #[derive(Debug, Drop)]

@@ -1,13 +1,13 @@
 //! Each kind of message that a forwarder sends, byte by byte (FC-BB-5 "FIP messages", FC-LS-2,
 //! FC-GS-6).
 ghost use Rattle.std.specs.Prelude.{◌≡◌, ◌<◌, IsTrue, [], IfOk, Some};
-ghost use Rattle.fab_replies.specs.Message.{can_send, frame_at};
+ghost use Rattle.fab_messages.specs.Message.{can_send, frame_at};
 
 use crate::frames::caught;
 use fab_base::{Caught, Moment, NoMemory, PortNo};
 use fab_config::Config;
+use fab_messages::{Answer, Asker, EventList, Out, OutMessage, VxPorts, write_out};
 use fab_policy::{Event, Verdict};
-use fab_replies::{Answer, Asker, EventList, Out, OutMessage, VxPorts, write_out};
 use fip_codec::{LoginKind, VxPort};
 use std::alloc::Global;
 use table_cases::say::end_hex;
