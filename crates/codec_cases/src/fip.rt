@@ -23,20 +23,7 @@ pub(crate) fn fip(alloc: Global, body: &[u8], out: &mut Vec<u8>) -> Result<(), A
 
 fn say(message: &FipMessage<'_>, out: &mut Vec<u8>) -> Result<(), AllocError> {
     match message {
-        Message::Solicit {
-            from_fcf,
-            fp,
-            mac,
-            node,
-            size,
-        } => {
-            put(out, b"solicit")?;
-            keys::flag(out, b" from-fcf=", *from_fcf)?;
-            keys::flag(out, b" fp=", *fp)?;
-            keys::mac(out, b" mac=", mac)?;
-            keys::name(out, b" node=", node)?;
-            keys::number(out, b" size=", u64::from(*size))
-        }
+        Message::Solicit { .. } => say_solicit(message, out),
         Message::Advertise { .. } => say_advertise(message, out),
         Message::Login { mac, .. } => {
             say_login(b" request", message, out)?;
@@ -57,19 +44,40 @@ fn say(message: &FipMessage<'_>, out: &mut Vec<u8>) -> Result<(), AllocError> {
             keys::name(out, b" switch=", switch)?;
             say_ports(ports, out)
         }
-        Message::VlanAsk { mac, node } => {
-            put(out, b"vlan-request")?;
-            keys::mac(out, b" mac=", mac)?;
-            match node {
-                Some(node) => keys::name(out, b" node=", node),
-                None => Ok(()),
-            }
-        }
+        Message::VlanAsk { mac, node } => say_vlan_ask(mac, node, out),
         Message::VlanTell { mac, vlans } => {
             put(out, b"vlan-notification")?;
             keys::mac(out, b" mac=", mac)?;
             say_vlans(vlans, out)
         }
+    }
+}
+
+fn say_solicit(message: &FipMessage<'_>, out: &mut Vec<u8>) -> Result<(), AllocError> {
+    put(out, b"solicit")?;
+    if let Message::Solicit {
+        from_fcf,
+        fp,
+        mac,
+        node,
+        size,
+    } = message
+    {
+        keys::flag(out, b" from-fcf=", *from_fcf)?;
+        keys::flag(out, b" fp=", *fp)?;
+        keys::mac(out, b" mac=", mac)?;
+        keys::name(out, b" node=", node)?;
+        keys::number(out, b" size=", u64::from(*size))?;
+    }
+    Ok(())
+}
+
+fn say_vlan_ask(mac: &Mac, node: &Option<Wwn>, out: &mut Vec<u8>) -> Result<(), AllocError> {
+    put(out, b"vlan-request")?;
+    keys::mac(out, b" mac=", mac)?;
+    match node {
+        Some(node) => keys::name(out, b" node=", node),
+        None => Ok(()),
     }
 }
 
@@ -196,47 +204,45 @@ fn say_vlans(vlans: &VlanList<'_>, out: &mut Vec<u8>) -> Result<(), AllocError> 
 // Writes a message as it was read. What no writer takes is left out.
 fn write(alloc: Global, message: &FipMessage<'_>, made: &mut Vec<u8>) -> Result<(), NoMemory> {
     match message {
-        Message::Solicit {
-            from_fcf,
-            fp,
-            size,
-            mac,
-            node,
-        } => {
-            let again = FipOut::Solicit {
-                from_fcf: *from_fcf,
-                fp: *fp,
-                mac: *mac,
-                node: *node,
-                size: *size,
-            };
-            write_fip(alloc, &again, made)
-        }
+        Message::Solicit { .. } => write_solicit(alloc, message, made),
         Message::Advertise { .. } => write_advertise(alloc, message, made),
         Message::Login { .. } | Message::LoginReply { .. } => write_login(alloc, message, made),
         Message::Keep { mac, port } => {
-            write_fip(
-                alloc,
-                &FipOut::Keep {
-                    mac: *mac,
-                    port: *port,
-                },
-                made,
-            )
+            let (mac, port) = (*mac, *port);
+            write_fip(alloc, &FipOut::Keep { mac, port }, made)
         }
         Message::Clear { mac, switch, ports } => write_clear(alloc, mac, switch, ports, made),
         Message::VlanAsk { mac, node } => {
-            write_fip(
-                alloc,
-                &FipOut::VlanAsk {
-                    mac: *mac,
-                    node: *node,
-                },
-                made,
-            )
+            let (mac, node) = (*mac, *node);
+            write_fip(alloc, &FipOut::VlanAsk { mac, node }, made)
         }
         Message::VlanTell { mac, vlans } => write_vlan(alloc, mac, vlans, made),
     }
+}
+
+fn write_solicit(
+    alloc: Global,
+    message: &FipMessage<'_>,
+    made: &mut Vec<u8>,
+) -> Result<(), NoMemory> {
+    let Message::Solicit {
+        from_fcf,
+        fp,
+        mac,
+        node,
+        size,
+    } = message
+    else {
+        return Ok(());
+    };
+    let again = FipOut::Solicit {
+        from_fcf: *from_fcf,
+        fp: *fp,
+        mac: *mac,
+        node: *node,
+        size: *size,
+    };
+    write_fip(alloc, &again, made)
 }
 
 fn write_login(
