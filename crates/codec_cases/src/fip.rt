@@ -228,9 +228,9 @@ fn write_solicit(
     let Message::Solicit {
         from_fcf,
         fp,
+        size,
         mac,
         node,
-        size,
     } = message
     else {
         return Ok(());
