@@ -63,7 +63,7 @@ class Difference:
 
 
 @dataclass
-class Answer:
+class Compared:
     """A request of a host with both answers."""
 
     port: int
@@ -89,14 +89,14 @@ class Answer:
 class Comparison:
     """All that was compared."""
 
-    answers: list[Answer] = field(default_factory=list)
+    answers: list[Compared] = field(default_factory=list)
     forwarded: Counter[str] = field(default_factory=Counter)
-    forwards: list[Answer] = field(default_factory=list)
-    notices: list[Answer] = field(default_factory=list)
-    advertisements: list[Answer] = field(default_factory=list)
+    forwards: list[Compared] = field(default_factory=list)
+    notices: list[Compared] = field(default_factory=list)
+    advertisements: list[Compared] = field(default_factory=list)
     others: Counter[str] = field(default_factory=Counter)
 
-    def all(self) -> list[Answer]:
+    def all(self) -> list[Compared]:
         return [*self.answers, *self.forwards, *self.notices, *self.advertisements]
 
 
@@ -154,13 +154,13 @@ def read_reply(frames: list[Heard], asked: Optional[int]) -> Fields:
     return fields
 
 
-def compared(port: Port, at: int, reply: Optional[int], sent: list[Sent], entry: Frame) -> Answer:
+def both_answers(port: Port, at: int, reply: Optional[int], sent: list[Sent], entry: Frame) -> Compared:
     """A request's two answers."""
     heard, record = port.heard[at], port.records[at]
     asked = heard.fc.command if heard.is_fcoe and heard.fc else None
     real = parts(port, reply) if reply is not None else []
     ours = [it.heard for it in sent]
-    answer = Answer(port.number, record.number, entry.index, record.milliseconds, heard.kind, real[0].kind if real else "no answer", ours[0].kind if ours else f"no answer ({entry.verdict})")
+    answer = Compared(port.number, record.number, entry.index, record.milliseconds, heard.kind, real[0].kind if real else "no answer", ours[0].kind if ours else f"no answer ({entry.verdict})")
     if real and ours:
         answer.differences = differing(read_reply(real, asked), read_reply(ours, asked), answer.switch)
     elif real or ours:
@@ -168,7 +168,7 @@ def compared(port: Port, at: int, reply: Optional[int], sent: list[Sent], entry:
     return answer
 
 
-def explain(answer: Answer, cause: tuple[str, bool]) -> None:
+def explain(answer: Compared, cause: tuple[str, bool]) -> None:
     """Says of each difference that isn't a choice of its own why it may be, and whether that leaves it open."""
     for it in answer.differences:
         if not it.note:
@@ -215,7 +215,7 @@ def compare_answers(run: Run, walk: Walk, found: Comparison) -> set[tuple[int, i
         sent = [it for it in walk.sent[place] if it.port == entry.port and it.heard.kind != "RSCN"] if entry.word in ANSWERED else []
         if reply is not None:
             used.add((entry.port, reply))
-        answer = compared(port, at, reply, sent, entry)
+        answer = both_answers(port, at, reply, sent, entry)
         if answer.differences:
             explain(answer, cause_of(run, walk, place))
         found.answers.append(answer)
@@ -228,10 +228,10 @@ def data_key(heard: Heard) -> Optional[bytes]:
     return heard.data[fc.at : fc.end] if heard.is_fcoe and fc is not None and fc.d_id < 0xFF0000 and fc.s_id < 0xFF0000 else None
 
 
-def forwarding(port: Port, at: int, was_sent: bool, entry: Frame) -> Answer:
+def forwarding(port: Port, at: int, was_sent: bool, entry: Frame) -> Compared:
     """A data frame that one of the two sent on."""
     record, words = port.records[at], ("sent on" if was_sent else "not sent on", entry.verdict)
-    return Answer(entry.port, record.number, entry.index, record.milliseconds, port.heard[at].kind, *words, [Difference("forwarding", *words)])
+    return Compared(entry.port, record.number, entry.index, record.milliseconds, port.heard[at].kind, *words, [Difference("forwarding", *words)])
 
 
 def compare_forwards(run: Run, walk: Walk, found: Comparison, used: set[tuple[int, int]]) -> None:
@@ -312,26 +312,26 @@ def compare_notices(run: Run, walk: Walk, found: Comparison, used: set[tuple[int
             continue
         key = (sent.port, fc.d_id, affected(sent.heard)[0])
         place = nearest(told.get(key, []), sent.record.milliseconds)
-        answer = Answer(sent.port, 0, -1, sent.record.milliseconds, notice(key), "sent", "sent")
+        answer = Compared(sent.port, 0, -1, sent.record.milliseconds, notice(key), "sent", "sent")
         if place is None:
             answer.switch, answer.differences = "missing", [Difference("RSCN", "missing", "sent")]
         else:
             answer.frame = told[key].pop(place)[1]
         found.notices.append(answer)
     for key, rest in told.items():
-        found.notices += [Answer(key[0], frame, -1, moment, notice(key), "sent", "none", [Difference("RSCN", "too many", "none")]) for moment, frame in rest]
+        found.notices += [Compared(key[0], frame, -1, moment, notice(key), "sent", "none", [Difference("RSCN", "too many", "none")]) for moment, frame in rest]
 
 
-def cleared(port: Port, at: int, left: list[Sent]) -> Answer:
+def cleared(port: Port, at: int, left: list[Sent]) -> Compared:
     """A clear link message of the switch, beside the forwarder's to the same ENode, which is taken from what is left."""
     heard, record = port.heard[at], port.records[at]
     what = f"Clear links to {colons(heard.destination)}"
     same = next((it for it in left if it.heard.destination == heard.destination), None)
     if same is None:
-        return Answer(port.number, record.number, -1, record.milliseconds, what, "sent", "none", [Difference("Clear links", "sent", "none")])
+        return Compared(port.number, record.number, -1, record.milliseconds, what, "sent", "none", [Difference("Clear links", "sent", "none")])
     left.remove(same)
     apart = differing(read_reply([heard], None), read_reply([same.heard], None), what)
-    return Answer(port.number, record.number, -1, record.milliseconds, what, "sent", "sent", apart)
+    return Compared(port.number, record.number, -1, record.milliseconds, what, "sent", "sent", apart)
 
 
 def compare_clears(run: Run, walk: Walk, found: Comparison, used: set[tuple[int, int]]) -> None:
@@ -344,7 +344,7 @@ def compare_clears(run: Run, walk: Walk, found: Comparison, used: set[tuple[int,
         found.notices += [cleared(port, at, left) for at in real]
         for it in left if port.replies else []:
             what = f"Clear links to {colons(it.heard.destination)}"
-            found.notices.append(Answer(port.number, 0, -1, it.record.milliseconds, what, "missing", "sent", [Difference("Clear links", "missing", "sent")]))
+            found.notices.append(Compared(port.number, 0, -1, it.record.milliseconds, what, "missing", "sent", [Difference("Clear links", "missing", "sent")]))
 
 
 def compare_advertisements(run: Run, walk: Walk, found: Comparison, used: set[tuple[int, int]]) -> None:
@@ -361,7 +361,7 @@ def compare_advertisements(run: Run, walk: Walk, found: Comparison, used: set[tu
                 continue
             seen.add(heard.data)
             record = port.records[at]
-            answer = Answer(port.number, record.number, -1, record.milliseconds, "Advertisement to all", "sent", "sent" if ours else "none yet (no period passed)")
+            answer = Compared(port.number, record.number, -1, record.milliseconds, "Advertisement to all", "sent", "sent" if ours else "none yet (no period passed)")
             answer.differences = differing(read_reply([heard], None), read_reply([ours], None), "Advertisement") if ours else []
             found.advertisements.append(answer)
 
@@ -400,4 +400,4 @@ def by_kind(found: Comparison) -> dict[str, Counter[str]]:
     return kinds
 
 
-__all__ = ["STATES", "Answer", "Comparison", "Difference", "by_kind", "compare", "counted", "totals"]
+__all__ = ["STATES", "Compared", "Comparison", "Difference", "by_kind", "compare", "counted", "totals"]

@@ -6,7 +6,10 @@ from typing import Iterable, Optional
 
 from .captures import bytes_of
 from .errors import Refused
-from .frames import ADVERTISE, LOGIN, SOLICIT, VLAN_REQUEST, Heard, colons, is_login, login_names, number
+from .frames import ADVERTISE, LOGIN, SOLICIT, VLAN_REQUEST, VLAN_TELL, Heard, colons, is_login, login_names, number
+
+
+FPMA = b"\x0e\xfc"  # how the MACs that fabrics grant begin, and those of their services
 
 
 @dataclass
@@ -120,10 +123,11 @@ def most(counts: "Counter[bytes]") -> Optional[bytes]:
 
 
 def called_upon(frames: Iterable[Heard]) -> "Counter[bytes]":
-    """To which MACs hosts send logins and FCoE frames."""
+    """To which MACs hosts send logins and FCoE frames, granted MACs and those of services (FPMAs) aside."""
     counts: "Counter[bytes]" = Counter()
     for it in frames:
-        if it.is_fabric and it.destination and not it.destination[0] % 2 and (it.is_fcoe or it.operation == LOGIN):
+        is_one = it.is_fabric and it.destination and not it.destination[0] % 2 and it.destination[:2] != FPMA
+        if is_one and (it.is_fcoe or it.operation == LOGIN):
             counts[it.destination] += 1
     return counts
 
@@ -156,17 +160,26 @@ def switch_of(frames: list[Heard], wanted: Optional[bytes]) -> tuple[Optional[by
     return found, "as hosts send to it; no frame of the switch is here", known
 
 
+def vlan_told(frames: list[Heard]) -> Optional[int]:
+    """The VLAN that a switch names in its VLAN notification."""
+    found = (it.descriptor(14) for it in frames if it.operation == VLAN_TELL)
+    return next((number(it.data[2:4]) & 0xFFF for it in found if it is not None and len(it.data) >= 4), None)
+
+
 def vlan_of(frames: list[Heard], mac: bytes) -> Optional[int]:
-    """The VLAN of most frames to and from the forwarder, VLAN discovery aside."""
+    """The VLAN that the switch names, or else that of most frames to and from it, VLAN discovery aside."""
+    told = vlan_told(frames)
+    if told:
+        return told
     counts = Counter(
-        it.vlan for it in frames if it.is_fabric and it.operation not in (VLAN_REQUEST, (4, 2)) and (mac in (it.source, it.destination) or it.operation == SOLICIT)
+        it.vlan for it in frames if it.is_fabric and it.operation not in (VLAN_REQUEST, VLAN_TELL) and (mac in (it.source, it.destination) or it.operation == SOLICIT)
     )
     return max(counts, key=lambda it: (counts[it], it)) if counts else None
 
 
 def map_of(frames: list[Heard]) -> Optional[bytes]:
     """The FC-MAP of the sources of FCoE frames: their first three bytes where the rest is the S_ID."""
-    counts = Counter(it.source[:3] for it in frames if it.is_fcoe and it.fc and number(it.source[3:]) == it.fc.s_id and it.source[:2] == b"\x0e\xfc")
+    counts = Counter(it.source[:3] for it in frames if it.is_fcoe and it.fc and number(it.source[3:]) == it.fc.s_id and it.source[:2] == FPMA)
     return most(counts)
 
 

@@ -8,6 +8,7 @@ ALL_ENODES, ALL_FCFS = bytes.fromhex("011018010001"), bytes.fromhex("01101801000
 FABRIC_PORT, CONTROLLER, NAME_SERVER = 0xFFFFFE, 0xFFFFFD, 0xFFFFFC
 SOLICIT, ADVERTISE, LOGIN, LOGIN_REPLY = (1, 1), (1, 2), (2, 1), (2, 2)
 KEEP_ALIVE, CLEAR, VLAN_REQUEST, VLAN_TELL = (3, 1), (3, 2), (4, 1), (4, 2)
+VN2VN = 5  # the operation of ENodes among themselves, without a forwarder
 FIP = {
     SOLICIT: "Solicitation",
     ADVERTISE: "Advertisement",
@@ -209,7 +210,7 @@ def take_fip(heard: Heard) -> None:
         return
     heard.operation, heard.flags = (number(body[2:4]), body[5]), number(body[8:10])
     heard.descriptors = list(walked(heard.data, heard.at))
-    heard.kind = FIP.get(heard.operation, "FIP")
+    heard.kind = "VN2VN" if heard.operation[0] == VN2VN else FIP.get(heard.operation, "FIP")
     for it in heard.descriptors:
         if it.kind in LOGINS and heard.operation in (LOGIN, LOGIN_REPLY) and len(it.data) >= 28:
             heard.fc = Fc(heard.data, it.at + 4, it.at + len(it.data))

@@ -5,7 +5,8 @@ from typing import Optional
 from .captures import Capture, Record, read_capture
 from .configs import Config, Drawn, draw, forwarders, octets, read_config
 from .errors import Refused, counted
-from .frames import LOGIN_REPLY, TAG_TYPE, VLAN_REQUEST, VLAN_TELL, Heard, colons, hear
+from .frames import TAG_TYPE, VLAN_REQUEST, VLAN_TELL, Heard, colons, hear
+from .hosts import switches_in
 
 
 @dataclass
@@ -139,15 +140,6 @@ def together(ports: list[Port], remarks: list[str]) -> list[Port]:
     return [Port(1, label, ports[0].file, made, heard_of(made))]
 
 
-def switches_in(frames: list[Heard], config: Config) -> set[bytes]:
-    """The MACs that send what a forwarder alone sends: advertisements, replies of FIP, and FCoE frames to granted MACs."""
-    found = set(forwarders(frames)) | {config.mac}
-    for it in frames:
-        if it.operation in (LOGIN_REPLY, VLAN_TELL) or it.is_fcoe and it.destination[:3] == config.fc_map != it.source[:3]:
-            found.add(it.source)
-    return found
-
-
 def gather(names: list[str], room: str, options: Options) -> Inputs:
     """The ports of all captures, and the configuration that they tell or that was given."""
     remarks: list[str] = []
@@ -168,7 +160,7 @@ def gather(names: list[str], room: str, options: Options) -> Inputs:
     if not any(it.is_fabric for it in frames):
         raise Refused(f"{names[0]}: neither FIP nor FCoE frames (Ethertypes 8914, 8906): capture on the host's converged port, `tcpdump -i eth0 -s 0 -w FILE`")
     drawn = draw(frames, options.switch, options.window, options.zones)
-    inputs = Inputs(ports, drawn.config, "\n".join(drawn.lines) + "\n", remarks, switches_in(frames, drawn.config), True)
+    inputs = Inputs(ports, drawn.config, "\n".join(drawn.lines) + "\n", remarks, set(), True)
     if options.config is not None:
         with open(options.config, encoding="latin-1") as file:
             inputs.text = file.read()
@@ -176,6 +168,8 @@ def gather(names: list[str], room: str, options: Options) -> Inputs:
         check_config(inputs, drawn, options.config)
     else:
         remarks += drawn.remarks
+    chosen_macs = {it for it in (options.switch, inputs.config.mac) if it}
+    inputs.switches = switches_in(frames, chosen_macs, drawn.config.fc_map)
     check_directions(inputs)
     return inputs
 
@@ -188,7 +182,6 @@ def check_config(inputs: Inputs, drawn: Drawn, name: str) -> None:
         inputs.remarks.append(f"{name}: has fcf-mac {colons(inputs.config.mac)}, the captures have the switch {colons(seen.mac)}")
     if inputs.config.vlan != seen.vlan:
         inputs.remarks.append(f"{name}: has vlan {inputs.config.vlan}, the captures have VLAN {seen.vlan}")
-    inputs.switches.add(inputs.config.mac)
 
 
 def check_directions(inputs: Inputs) -> None:

@@ -2,7 +2,7 @@
 import json
 from typing import Any, Iterable, Optional
 
-from .compare import STATES, Answer, Comparison, by_kind, totals
+from .compare import STATES, Compared, Comparison, by_kind, totals
 from .looking import Look
 from .moments import short, stamp
 from .places import text_of
@@ -95,7 +95,7 @@ def troubles_text(rows: list[Row]) -> list[str]:
     return lines or ["  nothing was dropped, rejected or refused"]
 
 
-def answer_lines(it: Answer, first: int) -> list[str]:
+def answer_lines(it: Compared, first: int) -> list[str]:
     where = f"port {it.port}" + (f", frame {it.frame}" if it.frame else "")
     lines = [f"  {where}, {short(it.clock, first)}: {it.request}: switch {it.switch}, forwarder {it.forwarder}"]
     for difference in it.differences:
