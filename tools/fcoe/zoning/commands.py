@@ -1,0 +1,51 @@
+"""The words of `zones` and `look zones --from`, and what they write."""
+import argparse
+from typing import Optional
+
+from ..errors import Refused
+from ..words import Parser
+from .config import config_lines
+from .model import LoginRow, Vendor, Which
+from .taking import Wanted, take, take_all
+from .vendors import commands
+
+
+def add_taking(made: Parser) -> None:
+    """The words that say which zones are taken of which files."""
+    add = made.add_argument
+    add("--from", dest="source", action="append", default=[], metavar="FILE", help="what a switch prints of its zoning, or a configuration; may stand many times")
+    add("--vsan", type=int, metavar="N", help="the VSAN, where a file has several; with --to nxos the VSAN of the commands")
+    add("--set", metavar="NAME", help="the zone set that is taken, in place of the active one")
+    add("--defined", action="store_true", help="the defined zoning, where files have the active one too")
+    add("--all", action="store_true", help="all zone sets that are defined")
+    add("--logins", action="append", default=[], metavar="FILE", help="a switch's list of logins: it says which WWPN an FCID, an interface or a port is")
+    add("--skip", action="store_true", help="goes on without members that can't be said; each is named")
+    add("--to", choices=[it.value for it in Vendor], default=Vendor.CONFIG.value, help="what is written: lines of the configuration (config), or a switch's commands")
+
+
+def wanted_of(said: argparse.Namespace, files: list[str]) -> Wanted:
+    return Wanted(files, said.vsan, said.set, Which.FULL if said.defined else Which.ACTIVE, said.skip)
+
+
+def written(wanted: Wanted, rows: list[LoginRow], said: argparse.Namespace) -> tuple[list[str], list[str]]:
+    """The lines that say the zones of files, and what is to be said of them."""
+    vendor = Vendor(said.to)
+    if said.all:
+        if vendor is not Vendor.CONFIG:
+            raise Refused("--all: the commands of a switch make one zone set: take it with --set")
+        found, active = take_all(wanted, rows)
+        lines, more = config_lines([it.plan for it in found], active)
+        return lines, [remark for it in found for remark in it.remarks] + more
+    taken = take(wanted, rows)
+    others = [f"zone sets {', '.join(taken.others)} aren't written: --set NAME takes another, --all takes all"] if taken.others else []
+    if vendor is Vendor.CONFIG:
+        lines, more = config_lines([taken.plan], taken.plan.name)
+    else:
+        lines, more = commands(vendor, taken.plan, said.vsan)
+    return lines, taken.remarks + others + more
+
+
+def plan_files(said: Optional[list[str]], word: str) -> list[str]:
+    if not said:
+        raise Refused(f"words: --{word} FILE is wanted: `look --help` has them all")
+    return said
