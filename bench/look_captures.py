@@ -9,7 +9,8 @@ from typing import Callable, Optional
 TOP = pathlib.Path(__file__).resolve().parent.parent
 sys.path.insert(0, str(TOP / "tools"))
 
-from fcoe.captures import Record, classic, write_classic  # pylint: disable=wrong-import-position
+from fcoe.captures import classic, write_classic  # pylint: disable=wrong-import-position
+from fcoe.columns import Record  # pylint: disable=wrong-import-position
 from fcoe.frames import Heard, fc_check, hear  # pylint: disable=wrong-import-position
 
 DEMO = TOP / "demo"

@@ -1,11 +1,13 @@
 """What the switch of the captures answered, beside what the forwarder answered to the same frames."""
+from bisect import bisect_right
 from collections import Counter
 from dataclasses import dataclass, field
-from typing import Optional
+from typing import Iterator, Optional
 
 from .configs import Config, is_advertisement
 from .fabric import ANSWERED, Sent, Walk
 from .fields import Fields, fields_of
+from .forwards import Marked, data_ends, sent_on
 from .frames import ADVERTISE, ALL_ENODES, CLEAR, Heard, colons, fcid, number
 from .inputs import Port
 from .journals import Frame, counted
@@ -126,12 +128,14 @@ def differing(switch: Fields, forwarder: Fields, kind: str) -> list[Difference]:
 
 def parts(port: Port, at: int) -> list[Heard]:
     """The frames of a reply of the switch that begins there: the further ones count up."""
-    first = port.heard[at]
+    frames = port.frames
+    first = frames.heard(at)
     found = [first]
     if first.fc is None or not first.is_fcoe or first.fc.kind != 0x20 or first.fc.f_ctl & 0x100000:
         return found
     key = (first.fc.s_id, first.fc.d_id, first.fc.ox_id)
-    for heard in (port.heard[it] for it in port.replies if it > at):
+    behind = bisect_right(port.switch_messages, at)
+    for heard in (frames.heard(it) for it in port.switch_messages[behind:]):
         fc = heard.fc
         if heard.is_fcoe and fc and (fc.s_id, fc.d_id, fc.ox_id) == key and fc.seq_cnt == len(found):
             found.append(heard)
@@ -156,11 +160,12 @@ def read_reply(frames: list[Heard], asked: Optional[int]) -> Fields:
 
 def both_answers(port: Port, at: int, reply: Optional[int], sent: list[Sent], entry: Frame) -> Compared:
     """A request's two answers."""
-    heard, record = port.heard[at], port.records[at]
+    frames = port.frames
+    heard = frames.heard(at)
     asked = heard.fc.command if heard.is_fcoe and heard.fc else None
     real = parts(port, reply) if reply is not None else []
     ours = [it.heard for it in sent]
-    answer = Compared(port.number, record.number, entry.index, record.milliseconds, heard.kind, real[0].kind if real else "no answer", ours[0].kind if ours else f"no answer ({entry.verdict})")
+    answer = Compared(port.number, frames.number(at), entry.index, frames.milliseconds(at), heard.kind, real[0].kind if real else "no answer", ours[0].kind if ours else f"no answer ({entry.verdict})")
     if real and ours:
         answer.differences = differing(read_reply(real, asked), read_reply(ours, asked), answer.switch)
     elif real or ours:
@@ -180,11 +185,10 @@ def cause_of(run: Run, walk: Walk, place: int) -> tuple[str, bool]:
     entry = run.entries[place]
     if not isinstance(entry, Frame):
         return "", False
-    heard = run.ports[entry.port - 1].host(entry.index)
-    known = {it.address for it in walk.fabric.logins}
+    heard = run.ports[entry.port - 1].like(entry.index)
     ends = {role: address for role, address in ends_of(heard) if address < 0xFF0000}
     lost = {"dropped source-login": "source", "dropped dest-login": "destination", "refused 09 01": "asked for"}.get(entry.verdict)
-    if lost in ends and ends[lost] not in known:
+    if lost in ends and not walk.fabric.of_address(ends[lost]):
         return f"{fcid(ends[lost])} wasn't seen to log in: before the capture began, or on a port that wasn't captured", True
     if is_otherwise(run, walk, entry, place):
         return f"by the window: {otherwise(run.config.window)} decides otherwise", True
@@ -200,21 +204,28 @@ def profile_note(entry: Frame, heard: Heard) -> str:
     return ""
 
 
-def compare_answers(run: Run, walk: Walk, found: Comparison) -> set[tuple[int, int]]:
+def message_entries(run: Run) -> Iterator[tuple[int, Frame]]:
+    """The entries of FIP, link services and CT, with their places."""
+    told = [set(port.host_messages) for port in run.ports]
+    entries = run.entries
+    for place, (port, index) in enumerate(zip(entries.ports, entries.indexes)):
+        if port and run.ports[port - 1].hosts[index] in told[port - 1]:
+            yield place, entries.frame(place)
+
+
+def compare_answers(run: Run, walk: Walk, found: Comparison) -> Marked:
     """Each request to the switch; gives the places of the switch's frames that are replies."""
     pairs = {port.number: replies_of(port, run.config.mac) for port in run.ports}
-    used: set[tuple[int, int]] = set()
-    for place, entry in enumerate(run.entries):
-        if not isinstance(entry, Frame):
-            continue
+    used = Marked(run.ports)
+    for place, entry in message_entries(run):
         port = run.ports[entry.port - 1]
         at = port.hosts[entry.index]
-        if not port.replies or asks(port.heard[at]) is None:
+        if not port.replies or asks(port.frames.heard(at)) is None:
             continue
         reply = pairs[entry.port].get(at)
         sent = [it for it in walk.sent[place] if it.port == entry.port and it.heard.kind != "RSCN"] if entry.word in ANSWERED else []
         if reply is not None:
-            used.add((entry.port, reply))
+            used.add(entry.port, reply)
         answer = both_answers(port, at, reply, sent, entry)
         if answer.differences:
             explain(answer, cause_of(run, walk, place))
@@ -222,45 +233,33 @@ def compare_answers(run: Run, walk: Walk, found: Comparison) -> set[tuple[int, i
     return used
 
 
-def data_key(heard: Heard) -> Optional[bytes]:
-    """What stays the same of a data frame that goes on: header and payload."""
-    fc = heard.fc
-    return heard.data[fc.at : fc.end] if heard.is_fcoe and fc is not None and fc.d_id < 0xFF0000 and fc.s_id < 0xFF0000 else None
-
-
 def forwarding(port: Port, at: int, was_sent: bool, entry: Frame) -> Compared:
     """A data frame that one of the two sent on."""
-    record, words = port.records[at], ("sent on" if was_sent else "not sent on", entry.verdict)
-    return Compared(entry.port, record.number, entry.index, record.milliseconds, port.heard[at].kind, *words, [Difference("forwarding", *words)])
+    frames, words = port.frames, ("sent on" if was_sent else "not sent on", entry.verdict)
+    return Compared(entry.port, frames.number(at), entry.index, frames.milliseconds(at), frames.like(at).kind, *words, [Difference("forwarding", *words)])
 
 
-def compare_forwards(run: Run, walk: Walk, found: Comparison, used: set[tuple[int, int]]) -> None:
+def compare_forwards(run: Run, walk: Walk, found: Comparison, used: Marked) -> None:
     """Each data frame: whether the switch sent it on, where the capture can show that."""
-    gone: dict[bytes, list[tuple[int, int]]] = {}
-    for port in run.ports:
-        for at in port.replies:
-            key = data_key(port.heard[at])
-            if key is not None:
-                gone.setdefault(key, []).append((port.number, at))
     can_show = {port.number for port in run.ports if port.replies}
-    for place, entry in enumerate(run.entries):
-        if not isinstance(entry, Frame) or not can_show:
+    went = sent_on(run, used)
+    entries = run.entries
+    targets = [int(it.split(" ")[1]) if it.startswith("forwarded ") else None for it in entries.verdicts]
+    is_data = {port.number: [data_ends(it.heard) is not None for it in port.frames.flows] for port in run.ports}
+    for place, (number_, index, said) in enumerate(zip(entries.ports, entries.indexes, entries.said)):
+        if not number_:
             continue
-        port = run.ports[entry.port - 1]
-        at = port.hosts[entry.index]
-        key = data_key(port.heard[at])
-        if key is None:
+        port = run.ports[number_ - 1]
+        at = port.hosts[index]
+        if not is_data[number_][port.frames.flow_of[at]]:
             continue
-        there = gone.get(key, [])
-        was_sent = bool(there)
-        if there:
-            used.add(there.pop(0))
-        target = int(entry.words[1]) if entry.word == "forwarded" else None
+        was_sent, target = went.has(number_, at), targets[said]
         if target is not None and not was_sent and target not in can_show:
             found.forwarded["can't be told: no frames of the switch in that port's capture"] += 1
         elif was_sent == (target is not None):
             found.forwarded["sent on by both" if was_sent else "by neither"] += 1
         else:
+            entry = entries.frame(place)
             found.forwarded["by the switch alone" if was_sent else "by the forwarder alone"] += 1
             found.forwards.append(forwarding(port, at, was_sent, entry))
             explain(found.forwards[-1], cause_of(run, walk, place))
@@ -284,16 +283,16 @@ def notice(told: Told) -> str:
     return f"RSCN to {fcid(told[1])} of {fcid(told[2])}"
 
 
-def told_by_switch(run: Run, used: set[tuple[int, int]]) -> dict[Told, list[tuple[int, int]]]:
+def told_by_switch(run: Run, used: Marked) -> dict[Told, list[tuple[int, int]]]:
     """The state changes of the switch: moment and frame number."""
     told: dict[Told, list[tuple[int, int]]] = {}
     for port in run.ports:
-        for at in port.replies:
-            heard = port.heard[at]
+        for at in port.switch_messages:
+            heard = port.frames.heard(at)
             if heard.kind == "RSCN" and heard.fc:
-                used.add((port.number, at))
+                used.add(port.number, at)
                 for address in affected(heard):
-                    told.setdefault((port.number, heard.fc.d_id, address), []).append((port.records[at].milliseconds, port.records[at].number))
+                    told.setdefault((port.number, heard.fc.d_id, address), []).append((port.frames.milliseconds(at), port.frames.number(at)))
     return told
 
 
@@ -303,16 +302,16 @@ def nearest(moments: list[tuple[int, int]], clock: int, within: int = 10_000) ->
     return best if best is not None and abs(moments[best][0] - clock) <= within else None
 
 
-def compare_notices(run: Run, walk: Walk, found: Comparison, used: set[tuple[int, int]]) -> None:
+def compare_notices(run: Run, walk: Walk, found: Comparison, used: Marked) -> None:
     """State changes: those that are missing, and those that are too many."""
     told = told_by_switch(run, used)
-    for sent in [it for some in walk.sent for it in some if it.heard.kind == "RSCN" and it.heard.fc]:
+    for sent in [it for it in walk.sent.own() if it.heard.kind == "RSCN" and it.heard.fc]:
         port, fc = run.ports[sent.port - 1], sent.heard.fc
         if fc is None or not port.replies:
             continue
         key = (sent.port, fc.d_id, affected(sent.heard)[0])
-        place = nearest(told.get(key, []), sent.record.milliseconds)
-        answer = Compared(sent.port, 0, -1, sent.record.milliseconds, notice(key), "sent", "sent")
+        place = nearest(told.get(key, []), sent.milliseconds)
+        answer = Compared(sent.port, 0, -1, sent.milliseconds, notice(key), "sent", "sent")
         if place is None:
             answer.switch, answer.differences = "missing", [Difference("RSCN", "missing", "sent")]
         else:
@@ -324,44 +323,44 @@ def compare_notices(run: Run, walk: Walk, found: Comparison, used: set[tuple[int
 
 def cleared(port: Port, at: int, left: list[Sent]) -> Compared:
     """A clear link message of the switch, beside the forwarder's to the same ENode, which is taken from what is left."""
-    heard, record = port.heard[at], port.records[at]
+    heard, number_, clock = port.frames.heard(at), port.frames.number(at), port.frames.milliseconds(at)
     what = f"Clear links to {colons(heard.destination)}"
     same = next((it for it in left if it.heard.destination == heard.destination), None)
     if same is None:
-        return Compared(port.number, record.number, -1, record.milliseconds, what, "sent", "none", [Difference("Clear links", "sent", "none")])
+        return Compared(port.number, number_, -1, clock, what, "sent", "none", [Difference("Clear links", "sent", "none")])
     left.remove(same)
     apart = differing(read_reply([heard], None), read_reply([same.heard], None), what)
-    return Compared(port.number, record.number, -1, record.milliseconds, what, "sent", "sent", apart)
+    return Compared(port.number, number_, -1, clock, what, "sent", "sent", apart)
 
 
-def compare_clears(run: Run, walk: Walk, found: Comparison, used: set[tuple[int, int]]) -> None:
+def compare_clears(run: Run, walk: Walk, found: Comparison, used: Marked) -> None:
     """Clear virtual links, by ENode."""
-    ours = [it for some in walk.sent for it in some if it.heard.operation == CLEAR]
+    ours = [it for it in walk.sent.own() if it.heard.operation == CLEAR]
     for port in run.ports:
-        real = [at for at in port.replies if port.heard[at].operation == CLEAR]
-        used.update((port.number, at) for at in real)
+        real = [at for at in port.switch_messages if port.frames.heard(at).operation == CLEAR]
+        for at in real:
+            used.add(port.number, at)
         left = [it for it in ours if it.port == port.number]
         found.notices += [cleared(port, at, left) for at in real]
         for it in left if port.replies else []:
             what = f"Clear links to {colons(it.heard.destination)}"
-            found.notices.append(Compared(port.number, 0, -1, it.record.milliseconds, what, "missing", "sent", [Difference("Clear links", "missing", "sent")]))
+            found.notices.append(Compared(port.number, 0, -1, it.milliseconds, what, "missing", "sent", [Difference("Clear links", "missing", "sent")]))
 
 
-def compare_advertisements(run: Run, walk: Walk, found: Comparison, used: set[tuple[int, int]]) -> None:
+def compare_advertisements(run: Run, walk: Walk, found: Comparison, used: Marked) -> None:
     """Advertisements to all ENodes: each spelling of the switch once, beside the forwarder's."""
-    ours = next((it.heard for some in walk.sent for it in some if is_advertisement(it.heard) and it.heard.destination == ALL_ENODES), None)
+    ours = next((it.heard for it in walk.sent.own() if is_advertisement(it.heard) and it.heard.destination == ALL_ENODES), None)
     for port in run.ports:
         seen: set[bytes] = set()
-        for at in port.replies:
-            heard = port.heard[at]
+        for at in port.switch_messages:
+            heard = port.frames.heard(at)
             if not is_advertisement(heard) or heard.destination != ALL_ENODES:
                 continue
-            used.add((port.number, at))
+            used.add(port.number, at)
             if heard.data in seen or heard.source != run.config.mac:
                 continue
             seen.add(heard.data)
-            record = port.records[at]
-            answer = Compared(port.number, record.number, -1, record.milliseconds, "Advertisement to all", "sent", "sent" if ours else "none yet (no period passed)")
+            answer = Compared(port.number, port.frames.number(at), -1, port.frames.milliseconds(at), "Advertisement to all", "sent", "sent" if ours else "none yet (no period passed)")
             answer.differences = differing(read_reply([heard], None), read_reply([ours], None), "Advertisement") if ours else []
             found.advertisements.append(answer)
 
@@ -378,9 +377,11 @@ def compare(run: Run, walk: Walk) -> Optional[Comparison]:
     compare_advertisements(run, walk, found, used)
     for port in run.ports:
         for at in port.replies:
-            heard, fc = port.heard[at], port.heard[at].fc
-            if (port.number, at) not in used and heard.is_fabric and not (fc and heard.is_fcoe and fc.s_id in SERVICES and fc.seq_cnt):
-                found.others[heard.kind] += 1
+            if not used.has(port.number, at):
+                heard = port.frames.like(at)
+                fc = heard.fc
+                if heard.is_fabric and not (fc and heard.is_fcoe and fc.s_id in SERVICES and fc.seq_cnt):
+                    found.others[heard.kind] += 1
     return found
 
 

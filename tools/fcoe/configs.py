@@ -128,7 +128,7 @@ def called_upon(frames: Iterable[Heard]) -> "Counter[bytes]":
     for it in frames:
         is_one = it.is_fabric and it.destination and not it.destination[0] % 2 and it.destination[:2] != FPMA
         if is_one and (it.is_fcoe or it.operation == LOGIN):
-            counts[it.destination] += 1
+            counts[it.destination] += it.count
     return counts
 
 
@@ -171,15 +171,19 @@ def vlan_of(frames: list[Heard], mac: bytes) -> Optional[int]:
     told = vlan_told(frames)
     if told:
         return told
-    counts = Counter(
-        it.vlan for it in frames if it.is_fabric and it.operation not in (VLAN_REQUEST, VLAN_TELL) and (mac in (it.source, it.destination) or it.operation == SOLICIT)
-    )
+    counts: Counter[int] = Counter()
+    for it in frames:
+        if it.is_fabric and it.operation not in (VLAN_REQUEST, VLAN_TELL) and (mac in (it.source, it.destination) or it.operation == SOLICIT):
+            counts[it.vlan] += it.count
     return max(counts, key=lambda it: (counts[it], it)) if counts else None
 
 
 def map_of(frames: list[Heard]) -> Optional[bytes]:
     """The FC-MAP of the sources of FCoE frames: their first three bytes where the rest is the S_ID."""
-    counts = Counter(it.source[:3] for it in frames if it.is_fcoe and it.fc and number(it.source[3:]) == it.fc.s_id and it.source[:2] == FPMA)
+    counts: Counter[bytes] = Counter()
+    for it in frames:
+        if it.is_fcoe and it.fc and number(it.source[3:]) == it.fc.s_id and it.source[:2] == FPMA:
+            counts[it.source[:3]] += it.count
     return most(counts)
 
 

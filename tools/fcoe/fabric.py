@@ -1,12 +1,12 @@
 """What a journal says of the fabric, entry by entry: who is logged in, what is registered, who watches, and which frames an entry sends."""
-from collections import deque
+from array import array
 from dataclasses import dataclass, field
 from typing import Iterator, Optional
 
-from .captures import Record
+from .columns import MILLISECOND, Frames, Record
 from .configs import Config
 from .errors import Refused
-from .frames import ALL_ENODES, Heard, fcid, hear, login_names, number
+from .frames import ALL_ENODES, Heard, fcid, login_names, number
 from .journals import Entry, Frame, Tick
 from .runs import Run
 
@@ -83,6 +83,7 @@ class Fabric:
         self.clock: Optional[int] = None
         self.live: dict[int, Login] = {}
         self.logins: list[Login] = []
+        self.by_address: dict[int, list[Login]] = {}
         self.lists: dict[bytes, set[str]] = {}
         for zone, members in config.zones.items():
             for name in members:
@@ -91,6 +92,10 @@ class Fabric:
     def joined(self, clock: int, one: bytes, other: bytes) -> bool:
         both = self.lists.get(one, set()) & self.lists.get(other, set())
         return one != other and bool(both and both & set(self.config.active(clock)[1]))
+
+    def of_address(self, address: int) -> list[Login]:
+        """The logins that held an address, in order."""
+        return self.by_address.get(address, [])
 
     def watchers(self) -> list[Login]:
         return [self.live[it] for it in sorted(self.live) if self.live[it].watch in (1, 3)]
@@ -112,6 +117,7 @@ class Fabric:
         login.port_heard, login.node_name = entry.clock, names[1]
         self.live[address] = login
         self.logins.append(login)
+        self.by_address.setdefault(address, []).append(login)
         for it in self.live.values():
             if (it.port, it.enode) == (entry.port, heard.source):
                 it.node_heard = entry.clock
@@ -180,55 +186,95 @@ class Fabric:
 # ---- which frames an entry sends
 
 
-@dataclass
+@dataclass(slots=True)
 class Sent:
-    """A frame that was sent, and by which entry."""
+    """A frame that was sent: its port, its place in the output, and which entry sent it."""
 
     port: int
     place: int
-    record: Record
-    heard: Heard
+    frames: Frames
     entry: int
+
+    @property
+    def record(self) -> Record:
+        return self.frames.record(self.place)
+
+    @property
+    def heard(self) -> Heard:
+        return self.frames.heard(self.place)
+
+    @property
+    def like(self) -> Heard:
+        """A frame that is like it: of data its ends and kind alone are right."""
+        return self.frames.like(self.place)
+
+    @property
+    def milliseconds(self) -> int:
+        return self.frames.milliseconds(self.place)
+
+
+class SentFrames:
+    """The frames that each entry sends, in order: of a forwarded frame its place in the output is kept, of others the frames."""
+
+    def __init__(self, run: Run) -> None:
+        self.run = run
+        self.forwarded = array("I", bytes(4 * len(run.entries)))
+        self.others: dict[int, list[Sent]] = {}
+
+    def __getitem__(self, place: int) -> list[Sent]:
+        entries = self.run.entries
+        if entries.verdicts[entries.said[place]].startswith("forwarded "):
+            port = int(entries.frame(place).words[1])
+            return [Sent(port, self.forwarded[place], self.run.outputs[port - 1], place)]
+        return self.others.get(place, [])
+
+    def own(self) -> Iterator[Sent]:
+        """The frames that the forwarder made itself: all but those that it forwarded."""
+        for some in self.others.values():
+            yield from some
 
 
 class Sender:
     """Takes the sent frames of all ports apart, entry by entry, in the order in which they were written."""
 
     def __init__(self, run: Run) -> None:
-        self.queues = [deque((at, it, hear(it.data)) for at, it in enumerate(records)) for records in run.outputs]
+        self.outputs = run.outputs
+        self.next = [0] * len(run.outputs)
 
-    def front(self, port: int, clock: int) -> Optional[Heard]:
-        queue = self.queues[port - 1] if 0 < port <= len(self.queues) else deque()
-        return queue[0][2] if queue and queue[0][1].milliseconds == clock else None
+    def is_due(self, port: int, clock: int) -> bool:
+        """The next frame of a port was sent at this clock."""
+        if not 0 < port <= len(self.outputs):
+            return False
+        moments, at = self.outputs[port - 1].moments, self.next[port - 1]
+        return at < len(moments) and moments[at] // MILLISECOND == clock
 
     def pop(self, port: int, entry: int) -> Sent:
-        place, record, heard = self.queues[port - 1].popleft()
-        return Sent(port, place, record, heard, entry)
+        at = self.next[port - 1]
+        self.next[port - 1] = at + 1
+        return Sent(port, at, self.outputs[port - 1], entry)
 
     def one(self, port: int, clock: int, entry: int, wanted: str) -> Sent:
-        if self.front(port, clock) is None:
+        if not self.is_due(port, clock):
             raise Refused(f"output of port {port}: lacks {wanted} at {clock}: these files aren't of one run; `fcoe_tool replay` tells the first byte")
         return self.pop(port, entry)
 
     def answer(self, entry: Frame, place: int) -> list[Sent]:
-        """What answers a frame on its port, or goes on to another."""
-        if entry.word == "forwarded":
-            return [self.one(int(entry.words[1]), entry.clock, place, "a forwarded frame")]
+        """What answers a frame on its port."""
         if entry.word not in ANSWERED:
             return []
         sent = [self.one(entry.port, entry.clock, place, f"the reply to index {entry.index}")]
-        while entry.word == "answered" and sent[-1].heard.fc and not sent[-1].heard.fc.f_ctl & 0x100000:
+        while entry.word == "answered" and (fc := sent[-1].heard.fc) and not fc.f_ctl & 0x100000:
             sent.append(self.one(entry.port, entry.clock, place, f"a part of the reply to index {entry.index}"))
         return sent
 
     def all_like(self, clock: int, place: int, kind: str, most: int) -> list[Sent]:
         """The frames of a kind that stand next on each port."""
         sent = []
-        for port in range(1, len(self.queues) + 1):
+        for port in range(1, len(self.outputs) + 1):
             left = most
-            while left:
-                front = self.front(port, clock)
-                if front is None or front.kind != kind or kind == "Advertisement" and front.destination != ALL_ENODES:
+            while left and self.is_due(port, clock):
+                front = self.outputs[port - 1].like(self.next[port - 1])
+                if front.kind != kind or kind == "Advertisement" and front.destination != ALL_ENODES:
                     break
                 sent.append(self.pop(port, place))
                 left -= 1
@@ -238,19 +284,20 @@ class Sender:
         sent = []
         for port, watcher, affected in notices:
             it = self.one(port, clock, place, f"a state change for {fcid(watcher)}")
-            if it.heard.kind != "RSCN" or it.heard.fc is None or (it.heard.fc.d_id, number(it.heard.fc.payload[5:8])) != (watcher, affected):
+            heard = it.heard
+            if heard.kind != "RSCN" or heard.fc is None or (heard.fc.d_id, number(heard.fc.payload[5:8])) != (watcher, affected):
                 raise Refused(f"output of port {port}: record {it.place} isn't the state change of {fcid(affected)}: these files aren't of one run")
             sent.append(it)
         return sent
 
     def check_end(self) -> None:
-        for port, queue in enumerate(self.queues, 1):
-            if queue:
-                raise Refused(f"output of port {port}: {len(queue)} frames too many, from record {queue[0][0]} on: these files aren't of one run")
+        for port, (frames, at) in enumerate(zip(self.outputs, self.next), 1):
+            if at < len(frames):
+                raise Refused(f"output of port {port}: {len(frames) - at} frames too many, from record {at} on: these files aren't of one run")
 
 
 def step(fabric: Fabric, sender: Sender, run: Run, place: int) -> list[Sent]:
-    """Takes an entry, and gives the frames that it sends."""
+    """Takes an entry but a forwarded frame's, and gives the frames that it sends."""
     entry, before = run.entries[place], fabric.clock
     if isinstance(entry, Tick):
         affected = fabric.take(entry, None, place)
@@ -268,13 +315,33 @@ class Walk:
     """A run walked from its begin to its end."""
 
     fabric: Fabric
-    sent: list[list[Sent]]
+    sent: SentFrames
+
+
+QUIET = {"dropped", "noted"}  # verdicts of frames that send nothing and change nothing
 
 
 def walk(run: Run) -> Walk:
     """Which frames each entry sends; refuses files that aren't of one run."""
-    fabric, sender = Fabric(run.config), Sender(run)
-    sent = [step(fabric, sender, run, place) for place in range(len(run.entries))]
+    fabric, sender, sent = Fabric(run.config), Sender(run), SentFrames(run)
+    words = [it.split(" ") for it in run.entries.verdicts]
+    targets = [int(it[1]) if it[0] == "forwarded" else 0 for it in words]
+    is_quiet = [it[0] in QUIET for it in words]
+    clock = None
+    for place, (moment, said) in enumerate(zip(run.entries.clocks, run.entries.said)):
+        target = targets[said]
+        if target:
+            if not sender.is_due(target, moment):
+                sender.one(target, moment, place, "a forwarded frame")
+            sent.forwarded[place] = sender.next[target - 1]
+            sender.next[target - 1] += 1
+        elif not is_quiet[said]:
+            fabric.clock = clock
+            some = step(fabric, sender, run, place)
+            if some:
+                sent.others[place] = some
+        clock = moment
+    fabric.clock = clock
     sender.check_end()
     return Walk(fabric, sent)
 
@@ -282,7 +349,10 @@ def walk(run: Run) -> Walk:
 def fabric_at(run: Run, last: int) -> Fabric:
     """The fabric behind so many entries."""
     fabric = Fabric(run.config)
-    for place, entry in enumerate(run.entries[:last]):
-        heard = run.ports[entry.port - 1].host(entry.index) if isinstance(entry, Frame) else None
-        fabric.take(entry, heard, place)
+    quiet = [it.split(" ")[0] in QUIET or it.startswith("forwarded ") for it in run.entries.verdicts]
+    for place in range(last):
+        if not quiet[run.entries.said[place]]:
+            entry = run.entries[place]
+            heard = run.ports[entry.port - 1].host(entry.index) if isinstance(entry, Frame) else None
+            fabric.take(entry, heard, place)
     return fabric

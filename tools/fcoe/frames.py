@@ -78,7 +78,7 @@ def colons(data: bytes) -> str:
     return data.hex(":")
 
 
-@dataclass
+@dataclass(slots=True)
 class Fc:
     """An FC frame inside a frame: header at a place, payload up to another."""
 
@@ -144,7 +144,7 @@ class Fc:
         return (self.kind, self.r_ctl) in ((0x01, 0x23), (0x20, 0x03))
 
 
-@dataclass
+@dataclass(slots=True)
 class Descriptor:
     """A descriptor of FIP, at its place in the frame."""
 
@@ -153,9 +153,9 @@ class Descriptor:
     data: bytes
 
 
-@dataclass
+@dataclass(slots=True)
 class Heard:
-    """A frame as the tools see it."""
+    """A frame as the tools see it; where it stands for frames that are alike, with their count."""
 
     data: bytes
     destination: bytes = b""
@@ -168,6 +168,7 @@ class Heard:
     flags: int = 0
     descriptors: list[Descriptor] = field(default_factory=list)
     fc: Optional[Fc] = None
+    count: int = 1
 
     @property
     def is_fip(self) -> bool:

@@ -1,8 +1,13 @@
 """Ports from captures: interfaces taken apart, directions told apart, and the configuration found."""
+import os
+from array import array
+from bisect import bisect_left, bisect_right
 from dataclasses import dataclass, field
-from typing import Optional
+from itertools import accumulate, islice
+from typing import Iterator, Optional, Sequence
 
-from .captures import Capture, Record, read_capture
+from .captures import Capture, classic, read_capture, write_classic
+from .columns import Frames, Listed, Record
 from .configs import Config, Drawn, draw, forwarders, octets, read_config
 from .errors import Refused, counted
 from .frames import TAG_TYPE, VLAN_REQUEST, VLAN_TELL, Heard, colons, hear
@@ -11,32 +16,60 @@ from .hosts import switches_in
 
 @dataclass
 class Port:
-    """A port of the forwarder: all records of its capture, and which of them hosts sent (the journal's INDEX counts these)."""
+    """A port of the forwarder: all frames of its capture, and the places of those that hosts sent (the journal's INDEX counts these)."""
 
     number: int
     label: str
     file: str
-    records: list[Record]
-    heard: list[Heard]
-    hosts: list[int] = field(default_factory=list)
-    replies: list[int] = field(default_factory=list)
-    index_of: dict[int, int] = field(default_factory=dict)
+    frames: Frames
+    hosts: Sequence[int] = ()
+    replies: Sequence[int] = ()
+    host_messages: Sequence[int] = ()
+    switch_messages: Sequence[int] = ()
 
     def divide(self, switches: set[bytes]) -> None:
-        """Tells the switch's own frames from those of hosts."""
-        self.hosts = [at for at, it in enumerate(self.heard) if it.source not in switches]
-        self.replies = [at for at, it in enumerate(self.heard) if it.source in switches]
-        self.index_of = {at: index for index, at in enumerate(self.hosts)}
+        """Tells the switch's own frames from those of hosts, and FIP, link services and CT of both from data."""
+        frames = self.frames
+        own = [it.heard.source in switches for it in frames.flows]
+        if any(own):
+            self.hosts = array("I", (at for at, flow in enumerate(frames.flow_of) if not own[flow]))
+            self.replies = array("I", (at for at, flow in enumerate(frames.flow_of) if own[flow]))
+        else:
+            self.hosts, self.replies = range(len(frames)), ()
+        messages = frames.messages()
+        self.host_messages = [at for at in messages if not own[frames.flow_of[at]]]
+        self.switch_messages = [at for at in messages if own[frames.flow_of[at]]]
+
+    @property
+    def records(self) -> Listed[Record]:
+        return self.frames.records
+
+    @property
+    def heard(self) -> Listed[Heard]:
+        return Listed(len(self.frames), self.frames.heard)
 
     def host(self, index: int) -> Heard:
         """The frame that the journal calls by this index."""
-        return self.heard[self.hosts[index]]
+        return self.frames.heard(self.hosts[index])
+
+    def like(self, index: int) -> Heard:
+        """A frame that is like that one: of data its ends and kind alone are right."""
+        return self.frames.like(self.hosts[index])
 
     def record(self, index: int) -> Record:
-        return self.records[self.hosts[index]]
+        return self.frames.record(self.hosts[index])
 
-    def inputs(self) -> list[Record]:
-        return [self.records[at] for at in self.hosts]
+    def moment(self, index: int) -> int:
+        return self.frames.moments[self.hosts[index]]
+
+    def frame_number(self, index: int) -> int:
+        """The number that Wireshark shows of the frame that the journal calls by this index."""
+        return self.frames.number(self.hosts[index])
+
+    def index(self, at: int) -> Optional[int]:
+        """What the journal calls a place of the capture; none where the frame is the switch's own."""
+        index = bisect_left(self.hosts, at)
+        return index if index < len(self.hosts) and self.hosts[index] == at else None
 
 
 @dataclass
@@ -64,80 +97,107 @@ class Inputs:
     is_drawn: bool
 
 
-def heard_of(records: list[Record]) -> list[Heard]:
-    return [hear(it.data) for it in records]
-
-
 def remarks_on(port: Port) -> list[str]:
     """What stands out in a capture."""
-    said = []
-    back = [b.number for a, b in zip(port.records, port.records[1:]) if b.moment < a.moment]
+    said, frames = [], port.frames
+    back = [at for at, (a, b) in enumerate(zip(frames.moments, islice(frames.moments, 1, None)), 1) if b < a]
     if back:
-        said.append(f"{port.label}: times go back {counted(len(back), 'time')} (first at frame {back[0]}): a frame counts at the latest time so far; `reordercap` sorts a capture")
-    short = [it.number for it in port.records if it.length > len(it.data)]
+        said.append(f"{port.label}: times go back {counted(len(back), 'time')} (first at frame {frames.number(back[0])}): a frame counts at the latest time so far; `reordercap` sorts a capture")
+    short = [at for at, (size, length) in enumerate(zip(frames.sizes, frames.lengths)) if length > size]
     if short:
-        said.append(f"{port.label}: {counted(len(short), 'frame')} cut by the snap length (first: frame {short[0]}) and dropped as `truncated`: capture with `-s 0`")
+        said.append(f"{port.label}: {counted(len(short), 'frame')} cut by the snap length (first: frame {frames.number(short[0])}) and dropped as `truncated`: capture with `-s 0`")
     return said
 
 
-def chosen(capture: Capture, wanted: Optional[str]) -> list[tuple[str, list[Record]]]:
-    """The records of each interface that is taken, with a label."""
+def of_interface(frames: Frames, place: int) -> Frames:
+    """The frames of one interface."""
+    if not frames.interfaces:
+        return frames if place == 0 else frames.part(())
+    return frames.part([at for at, it in enumerate(frames.interfaces) if it == place])
+
+
+def chosen(capture: Capture, wanted: Optional[str]) -> list[tuple[str, Frames]]:
+    """The frames of each interface that is taken, with a label."""
     names = capture.interfaces
     if wanted is not None:
         place = names.index(wanted) if wanted in names else int(wanted) if wanted.isdigit() and int(wanted) < max(len(names), 1) else None
         if place is None:
             raise Refused(f"{capture.name}: has no interface {wanted}; it has {', '.join(names) or 'one without a name'} (numbers from 0)")
-        return [(f"{capture.name}:{names[place] if names else place}", [it for it in capture.records if it.interface == place])]
+        return [(f"{capture.name}:{names[place] if names else place}", of_interface(capture.frames, place))]
     if len(names) < 2:
-        return [(capture.name, capture.records)]
-    return [(f"{capture.name}:{name}", [it for it in capture.records if it.interface == place]) for place, name in enumerate(names)]
+        return [(capture.name, capture.frames)]
+    return [(f"{capture.name}:{name}", of_interface(capture.frames, place)) for place, name in enumerate(names)]
 
 
 def is_one_way(part: Port, switches: set[bytes]) -> bool:
     """FIP and FCoE frames of switches alone."""
-    return any(it.is_fabric for it in part.heard) and all(it.source in switches or not it.is_fabric for it in part.heard)
+    told = part.frames.telling()
+    return any(it.is_fabric for it in told) and all(it.source in switches or not it.is_fabric for it in told)
 
 
 def divided(capture: Capture, wanted: Optional[str], remarks: list[str]) -> list[Port]:
     """The ports of a file: one for each interface, unless one holds only the switch's frames."""
-    parts = [Port(0, label, capture.name, records, heard_of(records)) for label, records in chosen(capture, wanted)]
+    parts = [Port(0, label, capture.name, frames) for label, frames in chosen(capture, wanted)]
     if len(parts) > 1:
-        known = set(forwarders([it for part in parts for it in part.heard]))
+        known = set(forwarders([it for part in parts for it in part.frames.telling()]))
         if any(is_one_way(part, known) for part in parts):
             remarks.append(f"{capture.name}: {len(parts)} interfaces, of which one has no host's frames: all of them are one port")
-            return [Port(0, capture.name, capture.name, capture.records, heard_of(capture.records))]
+            return [Port(0, capture.name, capture.name, capture.frames)]
         remarks.append(f"{capture.name}: {len(parts)} interfaces, each a port of its own (--interface NAME or NUMBER takes one)")
     return parts
 
 
-def check_tags(ports: list[Port], vlan: Optional[int], remarks: list[str]) -> None:
+def wants_tag(heard: Heard) -> bool:
+    """FIP and FCoE without a tag, VLAN discovery aside."""
+    return heard.is_fabric and heard.vlan == 0 and heard.operation not in (VLAN_REQUEST, VLAN_TELL)
+
+
+def with_tags(frames: Frames, vlan: int) -> Iterator[Record]:
+    """The frames with the tag of a VLAN put back."""
+    tag = TAG_TYPE.to_bytes(2, "big") + vlan.to_bytes(2, "big")
+    for it in frames.records:
+        is_bare = wants_tag(hear(it.data))
+        yield Record(it.moment, it.data[:12] + tag + it.data[12:], it.length + 4, it.number) if is_bare else it
+
+
+def rewritten(frames: Frames, records: Iterator[Record], room: str) -> Frames:
+    """The frames with other bytes, which stand in a file of the room; moments and numbers stay."""
+    name = os.path.join(room, f"rewritten{len(os.listdir(room))}")
+    write_classic(name, records)
+    made = classic(name).frames
+    made.numbers, made.interfaces = frames.numbers, frames.interfaces
+    return made
+
+
+def check_tags(ports: list[Port], vlan: Optional[int], remarks: list[str], room: str) -> None:
     """FIP and FCoE frames without their tag are those of a VLAN interface."""
     for port in ports:
-        of_fabric = [it for it in port.heard if it.is_fabric and it.operation not in (VLAN_REQUEST, VLAN_TELL)]
-        bare = [it for it in of_fabric if it.vlan == 0]
-        if not bare or len(bare) < len(of_fabric):
+        of_fabric = [it for it in port.frames.telling() if it.is_fabric and it.operation not in (VLAN_REQUEST, VLAN_TELL)]
+        if not of_fabric or not all(it.vlan == 0 for it in of_fabric):
             continue
         if vlan is None:
             raise Refused(
                 f"{port.label}: vlan: no FIP or FCoE frame has a VLAN tag: captured on the VLAN interface; "
                 "capture on the Ethernet port below it (`ip -d link`), or look with `--vlan N`, which puts the tags back"
             )
-        for at, it in enumerate(port.heard):
-            if it.is_fabric and it.vlan == 0 and it.operation not in (VLAN_REQUEST, VLAN_TELL):
-                tag = TAG_TYPE.to_bytes(2, "big") + vlan.to_bytes(2, "big")
-                record = port.records[at]
-                port.records[at] = Record(record.moment, record.data[:12] + tag + record.data[12:], record.length + 4, record.number, record.interface)
-                port.heard[at] = hear(port.records[at].data)
+        port.frames = rewritten(port.frames, with_tags(port.frames, vlan), room)
         remarks.append(f"{port.label}: the tag of VLAN {vlan} is put back, as --vlan says")
 
 
-def together(ports: list[Port], remarks: list[str]) -> list[Port]:
+def together(ports: list[Port], remarks: list[str], room: str) -> list[Port]:
     """All captures as one port, in the order of time, so that the order of their frames is the captures' own."""
-    records = sorted((it for port in ports for it in port.records), key=lambda it: it.moment)
-    made = [Record(it.moment, it.data, it.length, number) for number, it in enumerate(records, 1)]
+    moments = [it for port in ports for it in port.frames.moments]
+    firsts = [0, *accumulate(len(port.frames) for port in ports)]
+    name = os.path.join(room, f"together{len(os.listdir(room))}")
+
+    def record(place: int) -> Record:
+        number = bisect_right(firsts, place) - 1
+        return ports[number].frames.record(place - firsts[number])
+
+    write_classic(name, map(record, sorted(range(len(moments)), key=moments.__getitem__)))
     label = " + ".join(port.label for port in ports)
     remarks.append(f"{len(ports)} captures are one port, as --together says; frame numbers are those of their merged file (`mergecap -w`)")
-    return [Port(1, label, ports[0].file, made, heard_of(made))]
+    return [Port(1, label, ports[0].file, classic(name).frames)]
 
 
 def gather(names: list[str], room: str, options: Options) -> Inputs:
@@ -149,14 +209,14 @@ def gather(names: list[str], room: str, options: Options) -> Inputs:
         remarks += [f"{name}: {it}" for it in capture.remarks]
         ports += divided(capture, options.interface, remarks)
     if options.is_together and len(ports) > 1:
-        ports = together(ports, remarks)
+        ports = together(ports, remarks, room)
     for number, port in enumerate(ports, 1):
         port.number = number
         remarks += remarks_on(port)
     if len(ports) > 64:
         raise Refused(f"{names[0]}: {len(ports)} ports in all, the forwarder has 64 at most: name fewer captures")
-    check_tags(ports, options.vlan, remarks)
-    frames = [it for port in ports for it in port.heard]
+    check_tags(ports, options.vlan, remarks, room)
+    frames = [it for port in ports for it in port.frames.telling()]
     if not any(it.is_fabric for it in frames):
         raise Refused(f"{names[0]}: neither FIP nor FCoE frames (Ethertypes 8914, 8906): capture on the host's converged port, `tcpdump -i eth0 -s 0 -w FILE`")
     drawn = draw(frames, options.switch, options.window, options.zones)
@@ -188,14 +248,13 @@ def check_directions(inputs: Inputs) -> None:
     """Which frames are the switch's own; a port without a host's frames can't be looked at."""
     for port in inputs.ports:
         port.divide(inputs.switches)
-        of_hosts = sum(1 for at in port.hosts if port.heard[at].is_fabric)
-        if port.replies and not of_hosts:
+        has_hosts = any(it.heard.is_fabric and it.heard.source not in inputs.switches for it in port.frames.used())
+        if port.replies and not has_hosts:
             raise Refused(f"{port.label}: only the switch's own frames: merge it with the host's (`mergecap -w both.pcapng HOST SWITCH`) and look at that")
-        if not of_hosts:
+        if not has_hosts:
             inputs.remarks.append(f"{port.label}: no FIP or FCoE frame of a host")
         both = f", {len(port.replies)} of the switch (left out, compared with the forwarder's)" if port.replies else ", none of the switch"
-        first = port.records[0].number if port.records else 0
-        last = port.records[-1].number if port.records else 0
+        first, last = (port.frames.number(0), port.frames.number(len(port.frames) - 1)) if port.frames else (0, 0)
         inputs.remarks.append(f"port {port.number} is {port.label}, frames {first} to {last}: {len(port.hosts)} of hosts{both}")
 
 

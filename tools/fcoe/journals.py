@@ -1,17 +1,18 @@
 """Journals in both formats (docs/JOURNAL.md), and the rows of that page."""
 import pathlib
 import re
+from array import array
+from bisect import bisect_right
 from dataclasses import dataclass
 from functools import lru_cache
-from typing import Optional, Union
+from typing import Callable, Iterator, Optional, Sequence, Union, overload
 
-from .captures import bytes_of
 from .errors import Refused
 
 PAGE = pathlib.Path(__file__).resolve().parent.parent.parent / "docs" / "JOURNAL.md"
 
 
-@dataclass
+@dataclass(slots=True)
 class Tick:
     """The clock moves, and logins end."""
 
@@ -19,7 +20,7 @@ class Tick:
     ended: list[int]
 
 
-@dataclass
+@dataclass(slots=True)
 class Frame:
     """A frame of a port and its verdict."""
 
@@ -44,6 +45,81 @@ class Frame:
 
 
 Entry = Union[Tick, Frame]
+TICK = 0  # the number of a tick among verdicts, and its port
+
+
+class Entries(Sequence[Entry]):
+    """The entries of a journal in columns; each is made when it is asked for."""
+
+    def __init__(self) -> None:
+        self.clocks = array("q")
+        self.ports = array("B")
+        self.indexes = array("I")
+        self.said = array("I")  # the number of the verdict
+        self.verdicts = ["tick"]
+        self.numbers = {"tick": TICK}
+        self.ended: dict[int, list[int]] = {}  # the addresses of ticks that end logins, by their places
+
+    def __len__(self) -> int:
+        return len(self.clocks)
+
+    @overload
+    def __getitem__(self, place: int) -> Entry: ...
+
+    @overload
+    def __getitem__(self, place: slice) -> list[Entry]: ...
+
+    def __getitem__(self, place: Union[int, slice]) -> Union[Entry, list[Entry]]:
+        if isinstance(place, slice):
+            return [self.at(it) for it in range(*place.indices(len(self)))]
+        return self.at(place if place >= 0 else place + len(self))
+
+    def __iter__(self) -> Iterator[Entry]:
+        return map(self.at, range(len(self)))
+
+    def at(self, place: int) -> Entry:
+        said = self.said[place]
+        if said == TICK:
+            return Tick(self.clocks[place], self.ended.get(place, []))
+        return Frame(self.clocks[place], self.ports[place], self.indexes[place], self.verdicts[said])
+
+    def frame(self, place: int) -> Frame:
+        """The entry of a frame."""
+        return Frame(self.clocks[place], self.ports[place], self.indexes[place], self.verdicts[self.said[place]])
+
+    def places(self, wanted: Callable[[str], bool]) -> list[int]:
+        """The places of the frames whose verdict is wanted."""
+        some = [at != TICK and wanted(verdict) for at, verdict in enumerate(self.verdicts)]
+        return [place for place, said in enumerate(self.said) if some[said]]
+
+    def with_words(self, *words: str) -> list[tuple[int, Frame]]:
+        """The frames whose verdict begins with one of these words, with their places."""
+        return [(it, self.frame(it)) for it in self.places(lambda verdict: verdict.split(" ")[0] in words)]
+
+    def place_of(self, port: int, index: int) -> Optional[int]:
+        """The place of a port's frame."""
+        return next((place for place, it in enumerate(zip(self.ports, self.indexes)) if it == (port, index)), None)
+
+    def until(self, clock: int) -> int:
+        """How many entries there are up to a moment."""
+        return bisect_right(self.clocks, clock)
+
+    def add(self, entry: Entry) -> None:
+        if isinstance(entry, Tick):
+            if entry.ended:
+                self.ended[len(self.clocks)] = entry.ended
+            self.put(entry.clock, TICK, 0, TICK)
+        else:
+            said = self.numbers.setdefault(entry.verdict, len(self.verdicts))
+            if said == len(self.verdicts):
+                self.verdicts.append(entry.verdict)
+            self.put(entry.clock, entry.port, entry.index, said)
+
+    def put(self, clock: int, port: int, index: int, said: int) -> None:
+        self.clocks.append(clock)
+        self.ports.append(port)
+        self.indexes.append(index)
+        self.said.append(said)
 
 
 def entry_of(words: list[str], clock: Optional[int], is_second: bool) -> Entry:
@@ -59,26 +135,31 @@ def entry_of(words: list[str], clock: Optional[int], is_second: bool) -> Entry:
     return Frame(clock, int(words[0]), int(words[1]), " ".join(words[2:]))
 
 
-def read_journal(name: str) -> list[Entry]:
+def read_journal(name: str) -> Entries:
     """The entries of a journal, in order."""
-    lines = bytes_of(name).decode("latin-1").split("\n")
-    is_second = lines[0] == "journal 2"
-    entries: list[Entry] = []
+    entries = Entries()
+    known: dict[bytes, int] = {}  # verdicts that were met, with the line's end
     clock: Optional[int] = None
-    for number, line in enumerate(lines, 1):
-        if number == 1 and is_second or number == len(lines) and not line:
-            continue
-        try:
-            entry = entry_of(line.split(" "), clock, is_second)
-        except (ValueError, IndexError):
-            raise Refused(f"{name}: line {number} is no line of a journal: name the journal that `run` wrote") from None
-        clock = entry.clock
-        entries.append(entry)
+    with open(name, "rb") as file:
+        is_second = file.readline().removesuffix(b"\n") == b"journal 2"
+        if not is_second:
+            file.seek(0)
+        for number, line in enumerate(file, 2 if is_second else 1):
+            words = line.split(b" ", 3)
+            said = known.get(words[3]) if is_second and len(words) == 4 else None
+            try:
+                if said is not None:
+                    clock = int(words[0])
+                    entries.put(clock, int(words[1]), int(words[2]), said)
+                    continue
+                entry = entry_of(line.decode("latin-1").removesuffix("\n").split(" "), clock, is_second)
+                entries.add(entry)
+            except (ValueError, IndexError, OverflowError):
+                raise Refused(f"{name}: line {number} is no line of a journal: name the journal that `run` wrote") from None
+            clock = entry.clock
+            if isinstance(entry, Frame) and len(words) == 4:
+                known[words[3]] = entries.said[-1]
     return entries
-
-
-def frames_of(entries: list[Entry]) -> list[Frame]:
-    return [it for it in entries if isinstance(it, Frame)]
 
 
 @dataclass

@@ -76,16 +76,17 @@ class Picture:
             self.rows.append(arrow)
 
     def heard(self, entry: Frame) -> None:
-        heard = self.look.ports[entry.port - 1].host(entry.index)
+        heard = self.look.ports[entry.port - 1].like(entry.index)
         node = self.node(entry.port, heard.source)
         self.add(Arrow(entry.clock, node, True, label(heard, True), "" if entry.word == "forwarded" else entry.verdict))
 
     def sent(self, it: Sent, clock: int) -> None:
-        if it.heard.destination[0] % 2:
+        heard = it.like
+        if heard.destination[0] % 2:
             for node in [node for node in self.nodes if node[0] == it.port]:
-                self.add(Arrow(clock, node, False, label(it.heard, False)))
+                self.add(Arrow(clock, node, False, label(heard, False)))
         else:
-            self.add(Arrow(clock, self.node(it.port, it.heard.destination), False, label(it.heard, False)))
+            self.add(Arrow(clock, self.node(it.port, heard.destination), False, label(heard, False)))
 
     def change(self, place: int) -> None:
         """Takes the logins that an entry makes and ends."""

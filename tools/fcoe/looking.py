@@ -1,6 +1,6 @@
 """The look itself: captures, a run over them, and addresses rewritten until the run's grants stand still."""
 import os
-from dataclasses import dataclass
+from dataclasses import dataclass, field, replace
 from typing import Optional
 
 from .compare import Comparison, compare
@@ -8,12 +8,13 @@ from .captures import classic
 from .configs import map_of, read_config
 from .errors import Refused, counted
 from .fabric import Walk, walk
-from .inputs import Inputs, Options, Port, gather, heard_of
+from .inputs import Inputs, Options, Port, gather
 from .readdress import Request, grants_seen, readdressed
 from .journals import read_journal
 from .runs import Run, check_fits, run_program
 
 TURNS = 12
+PLENTY = 100_000  # data frames, from which on the grants are found without them
 Grants = dict[Request, tuple[int, Optional[int]]]
 
 
@@ -46,30 +47,74 @@ class Look:
 
 def granted_by(run: Run, seen: dict[Request, int]) -> Grants:
     """For each login request the switch's address, and the run's."""
-    places = {(it.port, run.ports[it.port - 1].hosts[it.index]): it.address for it in run.frames() if it.word == "granted"}
+    granted = [it for _, it in run.entries.with_words("granted")]
+    places = {(it.port, run.ports[it.port - 1].hosts[it.index]): it.address for it in granted}
     return {request: (old, places.get(request)) for request, old in seen.items()}
+
+
+@dataclass
+class Settling:
+    """What is known on the way to grants that stand still: those of the switch, the run's as they were found last, and in how many runs."""
+
+    program: str
+    inputs: Inputs
+    room: str
+    seen: dict[Request, int]
+    grants: Grants
+    fc_map: bytes
+    turns: int = 0
+    strangers: dict[int, int] = field(default_factory=dict)
+
+    def run(self, ports: list[Port], seen: dict[Request, int], grants: Grants) -> tuple[Run, Grants]:
+        """A run over ports with the switch's addresses rewritten; and what it granted."""
+        folder = os.path.join(self.room, f"run{len(os.listdir(self.room))}")
+        os.mkdir(folder)
+        made = ports
+        if seen:
+            made, self.strangers = readdressed(ports, self.inputs.config, grants, self.fc_map, self.room)
+        run = run_program(self.program, replace(self.inputs, ports=made), folder)
+        return run, granted_by(run, seen)
+
+    def settle_messages(self, ports: list[Port]) -> None:
+        """Finds the grants by the messages alone, as data frames decide nothing over them."""
+        light = [of_messages(port, self.inputs.switches) for port in ports]
+        place = {port.number: {at: place for place, at in enumerate(port.frames.messages())} for port in ports}
+        seen = {(port, place[port][at]): old for (port, at), old in self.seen.items()}
+        while self.turns < TURNS:
+            self.turns += 1
+            before = {(port, place[port][at]): pair for (port, at), pair in self.grants.items()}
+            _, made = self.run(light, seen, before)
+            if made == before:
+                self.turns -= 1  # the run over all frames is this one
+                return
+            self.grants = {request: made[request[0], place[request[0]][request[1]]] for request in self.grants}
+
+
+def of_messages(port: Port, switches: set[bytes]) -> Port:
+    """A port without data frames."""
+    made = replace(port, frames=port.frames.part(port.frames.messages()))
+    made.divide(switches)
+    return made
 
 
 def settle(program: str, inputs: Inputs, room: str) -> tuple[Run, Grants, int]:
     """Runs the program over the captures with the switch's addresses rewritten to the run's own, until the run's grants stand still."""
     captured = inputs.ports
     seen = grants_seen(captured, inputs.config.mac)
-    fc_map = map_of([it for port in captured for it in port.heard]) or inputs.config.fc_map
-    grants: Grants = {request: (old, old) for request, old in seen.items()}
-    strangers: dict[int, int] = {}
-    for turn in range(1, TURNS + 1):
-        folder = os.path.join(room, f"run{turn}")
-        os.mkdir(folder)
-        if seen:
-            inputs.ports, strangers = readdressed(captured, inputs.config, grants, fc_map)
-        run = run_program(program, inputs, folder)
-        made = granted_by(run, seen)
-        if made == grants:
-            if strangers:
-                pairs = ", ".join(f"{old:06x} as {new:06x}" for old, new in sorted(strangers.items())[:6])
-                inputs.remarks.append(f"{counted(len(strangers), 'address', 'es')} that nobody here was granted would be the run's own: moved out of its way ({pairs})")
-            return run, grants, turn
-        grants = made
+    fc_map = map_of([it for port in captured for it in port.frames.telling()]) or inputs.config.fc_map
+    found = Settling(program, inputs, room, seen, {request: (old, old) for request, old in seen.items()}, fc_map)
+    if seen and sum(len(port.frames) - len(port.frames.messages()) for port in captured) > PLENTY:
+        found.settle_messages(captured)
+    while found.turns < TURNS:
+        found.turns += 1
+        run, made = found.run(captured, seen, found.grants)
+        if made == found.grants:
+            inputs.ports = run.ports
+            if found.strangers:
+                pairs = ", ".join(f"{old:06x} as {new:06x}" for old, new in sorted(found.strangers.items())[:6])
+                inputs.remarks.append(f"{counted(len(found.strangers), 'address', 'es')} that nobody here was granted would be the run's own: moved out of its way ({pairs})")
+            return run, made, found.turns
+        found.grants = made
     raise Refused(f"{captured[0].file}: the run's grants don't stand still after {TURNS} turns: look at one host at a time (tshark -Y 'eth.addr == MAC' -w OUT)")
 
 
@@ -95,10 +140,11 @@ def of_run(config: str, journal: str, names: list[str]) -> Look:
         raise Refused(f"{journal}: --journal wants the captures as for `run`: IN OUT [IN OUT ..]")
     ports = []
     for number, name in enumerate(names[0::2], 1):
-        records = classic(name).records
-        ports.append(Port(number, name, name, records, heard_of(records), list(range(len(records))), [], {it: it for it in range(len(records))}))
+        port = Port(number, name, name, classic(name).frames)
+        port.divide(set())
+        ports.append(port)
     settings = read_config(config)
-    run = Run(settings, ports, read_journal(journal), [classic(name).records for name in names[1::2]])
+    run = Run(settings, ports, read_journal(journal), [classic(name).frames for name in names[1::2]])
     check_fits(run, [journal])
     with open(config, encoding="latin-1") as file:
         text = file.read()

@@ -3,7 +3,8 @@ import os
 import shutil
 from typing import Any, Iterable
 
-from .captures import Record, called, last_line, refuse_inputs, write_classic
+from .captures import called, last_line, refuse_inputs, write_classic
+from .columns import Record
 from .errors import Refused
 from .fabric import Sent
 from .frames import hear
@@ -20,7 +21,7 @@ def causes(look: Look) -> list[int]:
     found = []
     for entry in look.run.entries:
         if isinstance(entry, Frame):
-            greatest[entry.port] = max(greatest[entry.port], look.ports[entry.port - 1].record(entry.index).moment)
+            greatest[entry.port] = max(greatest[entry.port], look.ports[entry.port - 1].moment(entry.index))
             found.append(greatest[entry.port])
         else:
             found.append(entry.clock * 1_000_000)

@@ -1,10 +1,12 @@
 """Which reply of a capture answers which request, and what was asked in an exchange."""
+from itertools import accumulate
 from typing import Hashable, Iterator, Optional, TypeVar
 
 from .frames import LOGIN, LOGIN_REPLY, NAME_SERVER, SOLICIT, VLAN_REQUEST, VLAN_TELL, ADVERTISE, CONTROLLER, FABRIC_PORT, Fc, Heard
 from .inputs import Port
 
 Place = tuple[int, int]  # of a frame: moment, and place in its capture
+Moment = tuple[int, int, int]  # of a frame among those of all ports: moment, port, and place in its capture
 K = TypeVar("K", bound=Hashable)
 SERVICES = (NAME_SERVER, CONTROLLER, FABRIC_PORT)
 
@@ -47,7 +49,7 @@ def matched(requests: list[Place], replies: list[Place]) -> dict[int, int]:
 
 def other_forwarders(port: Port, mac: bytes) -> set[bytes]:
     """Further forwarders on the port, whose replies in FIP aren't those of the switch that is looked at."""
-    found = {it.source for it in port.heard if it.operation == ADVERTISE}
+    found = {it.source for at in port.frames.messages() for it in [port.frames.heard(at)] if it.operation == ADVERTISE}
     return found - {mac} if mac in found else set()
 
 
@@ -56,15 +58,16 @@ def replies_of(port: Port, mac: bytes) -> dict[int, int]:
     others = other_forwarders(port, mac)
     asked: dict[tuple[object, ...], list[Place]] = {}
     told: dict[tuple[object, ...], list[Place]] = {}
-    for at in port.hosts:
-        key = asks(port.heard[at])
+    frames = port.frames
+    for at in port.host_messages:
+        key = asks(frames.heard(at))
         if key is not None:
-            asked.setdefault(key, []).append((port.records[at].moment, at))
-    for at in port.replies:
-        heard = port.heard[at]
+            asked.setdefault(key, []).append((frames.moments[at], at))
+    for at in port.switch_messages:
+        heard = frames.heard(at)
         key = None if heard.is_fip and heard.source in others else answers(heard)
         if key is not None:
-            told.setdefault(key, []).append((port.records[at].moment, at))
+            told.setdefault(key, []).append((frames.moments[at], at))
     found: dict[int, int] = {}
     for key, requests in asked.items():
         found.update(matched(requests, told.get(key, [])))
@@ -90,13 +93,11 @@ class Exchanges:
         return self.commands.get(back), offset
 
 
-def in_order(ports: list[Port]) -> Iterator[tuple[Port, int]]:
-    """The frames of all ports by time; times don't go back within a port."""
-    frames = []
+def in_order(ports: list[Port]) -> Iterator[tuple[Moment, Port, int]]:
+    """The messages of all ports by time, which doesn't go back within a port."""
+    found: list[tuple[Moment, Port, int]] = []
     for port in ports:
-        greatest = 0
-        for at, record in enumerate(port.records):
-            greatest = max(greatest, record.moment)
-            frames.append((greatest, port.number, at, port))
-    for _, _, at, port in sorted(frames, key=lambda it: it[:3]):
-        yield port, at
+        times: Iterator[int] = accumulate(port.frames.moments, max)
+        told = port.frames.is_message_at()
+        found += [((moment, port.number, at), port, at) for at, (moment, is_told) in enumerate(zip(times, told)) if is_told]
+    yield from sorted(found, key=lambda it: it[0])

@@ -3,13 +3,13 @@ import base64
 import pathlib
 from typing import Any
 
-from .captures import Record
+from .columns import Record
 from .compare import STATES, by_kind, totals
 from .errors import Refused
 from .fabric import ANSWERED
 from .fields import fields_of, in_line
 from .frames import Heard, colons, login_names
-from .journals import Entry, Frame, Tick, counted, row_of, rows
+from .journals import Frame, counted, row_of, rows
 from .ladder import drawing
 from .looking import Look
 from .moments import short, stamp
@@ -113,7 +113,7 @@ def frame_rows(look: Look) -> dict[str, Any]:
 def bar_rows(look: Look) -> dict[str, Any]:
     """Logins as bars over time."""
     own = logins(look, None)
-    clocks = [it.clock for it in look.run.entries]
+    clocks = look.run.entries.clocks
     first, last = (min(clocks), max(clocks)) if clocks else (0, 1)
     span = max(last - first, 1)
 
@@ -163,8 +163,7 @@ def values_of(look: Look) -> dict[str, Any]:
     """What the template shows."""
     found = summary(look)
     picture = "\n".join(drawing(look, most=LADDER_ROWS))
-    rules = sorted({counted(it.verdict) for it in look.run.frames()})
-    ended: list[Entry] = [it for it in look.run.entries if isinstance(it, Tick) and it.ended]
+    rules = sorted({counted(it) for it in look.run.entries.verdicts[1:]})
     return {
         "files": ", ".join(port.label for port in look.ports),
         "found": found,
@@ -180,7 +179,7 @@ def values_of(look: Look) -> dict[str, Any]:
         "frames": frame_rows(look),
         "rules": rules,
         "meanings": {word: row.meaning for word, row in rows().items()},
-        "silent": len(ended),
+        "silent": len(look.run.entries.ended),
         "names": names(look, busiest(look)),
         "busiest": stamp(busiest(look)),
     }

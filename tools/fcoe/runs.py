@@ -6,11 +6,12 @@ import subprocess
 from dataclasses import dataclass
 from typing import Optional
 
-from .captures import Record, classic, write_classic
+from .captures import classic, write_frames
+from .columns import MILLISECOND, Frames
 from .configs import Config
 from .errors import Refused
 from .inputs import Inputs, Port
-from .journals import Entry, Frame, frames_of, read_journal
+from .journals import TICK, Entries, read_journal
 
 TOP = pathlib.Path(__file__).resolve().parent.parent.parent
 BUILT = TOP / "crates" / "fcoe_tool" / "out" / "fcoe_tool"
@@ -27,14 +28,11 @@ class Run:
 
     config: Config
     ports: list[Port]
-    entries: list[Entry]
-    outputs: list[list[Record]]
+    entries: Entries
+    outputs: list[Frames]
     printed: str = ""
     checked: str = ""
     folder: str = ""
-
-    def frames(self) -> list[Frame]:
-        return frames_of(self.entries)
 
 
 def program_of(named: Optional[str]) -> str:
@@ -78,7 +76,7 @@ def run_program(program: str, inputs: Inputs, folder: str) -> Run:
     with open(os.path.join(folder, "fabric.conf"), "w", encoding="latin-1") as file:
         file.write(inputs.text)
     for port in inputs.ports:
-        write_classic(os.path.join(folder, f"in{port.number}.pcap"), port.inputs())
+        write_frames(os.path.join(folder, f"in{port.number}.pcap"), port.frames, port.hosts)
     names = names_of(len(inputs.ports))
     ran = say([program, "run", "fabric.conf", "journal", *names], folder)
     printed = ran.stdout.strip()
@@ -87,7 +85,7 @@ def run_program(program: str, inputs: Inputs, folder: str) -> Run:
     checked = say([program, "replay", "fabric.conf", "journal", *names], folder)
     if checked.returncode or checked.stdout.strip() != f"legal {printed.split()[-1]}":
         raise Refused(f"{folder}: `replay` says '{checked.stdout.strip()}' of this run: keep its files with --keep and report it")
-    outputs = [classic(os.path.join(folder, f"out{port.number}.pcap")).records for port in inputs.ports]
+    outputs = [classic(os.path.join(folder, f"out{port.number}.pcap")).frames for port in inputs.ports]
     entries = read_journal(os.path.join(folder, "journal"))
     return Run(inputs.config, inputs.ports, entries, outputs, printed, checked.stdout.strip(), folder)
 
@@ -100,26 +98,42 @@ def shown_at_end(program: str, run: Run) -> list[str]:
     return ran.stdout.splitlines()
 
 
-def fits(frames: list[Frame], moments: list[int], window: int) -> bool:
+Told = list[tuple[int, int]]  # of the frames of a port: INDEX and clock
+
+
+def told_by_port(entries: Entries) -> dict[int, Told]:
+    """What a journal says of each port's frames."""
+    found: dict[int, Told] = {}
+    for port, index, clock, said in zip(entries.ports, entries.indexes, entries.clocks, entries.said):
+        if said != TICK:
+            found.setdefault(port, []).append((index, clock))
+    return found
+
+
+def fits(told: Told, moments: list[int], window: int) -> bool:
     """The frames of a port are these records, by number and time (milliseconds that don't go back)."""
-    if len(frames) != len(moments):
+    if len(told) != len(moments):
         return False
     greatest = 0
-    for place, (frame, moment) in enumerate(zip(frames, moments)):
+    for place, ((index, clock), moment) in enumerate(zip(told, moments)):
         greatest = max(greatest, moment)
-        if frame.index != place or frame.clock != greatest - greatest % window:
+        if index != place or clock != greatest - greatest % window:
             return False
     return True
 
 
+def moments_of(port: Port) -> list[int]:
+    """The milliseconds of a port's frames of hosts."""
+    moments = port.frames.moments
+    return [moments[at] // MILLISECOND for at in port.hosts]
+
+
 def check_fits(run: Run, names: list[str]) -> None:
     """Refuses files that don't belong together."""
-    by_port: dict[int, list[Frame]] = {}
-    for it in run.frames():
-        by_port.setdefault(it.port, []).append(it)
+    by_port = told_by_port(run.entries)
     wrong = [it for it in by_port if it > len(run.ports)]
     if wrong:
         raise Refused(f"{names[0]}: has frames of port {min(wrong)}, of which no capture is named: name the captures as for `run`")
     for port in run.ports:
-        if not fits(by_port.get(port.number, []), [it.milliseconds for it in port.inputs()], run.config.window):
+        if not fits(by_port.get(port.number, []), moments_of(port), run.config.window):
             raise Refused(f"{names[0]}: is no journal of {port.label} as port {port.number}: name the files in the order of `run`; `fcoe_tool replay` tells the line")

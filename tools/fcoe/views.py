@@ -2,11 +2,12 @@
 from collections import Counter
 from typing import Any, Optional
 
+from .columns import MILLISECOND
 from .errors import Refused
 from .errors import counted as plural
 from .fabric import Fabric, Login, fabric_at
 from .frames import colons, fcid
-from .journals import Entry, Frame, code_rows, counted, row_of
+from .journals import TICK, Entry, Frame, code_rows, counted, row_of
 from .looking import Look
 from .places import place_of
 from .runs import shown_at_end
@@ -17,19 +18,19 @@ Row = dict[str, Any]
 
 def first_clock(look: Look) -> int:
     """When the captures begin, in milliseconds."""
-    return min((port.records[0].milliseconds for port in look.ports if port.records), default=0)
+    return min((port.frames.milliseconds(0) for port in look.ports if port.frames), default=0)
 
 
 def entries_until(look: Look, clock: Optional[int]) -> int:
     """How many entries there are up to a moment."""
     if clock is None:
         return len(look.run.entries)
-    return sum(1 for it in look.run.entries if it.clock <= clock)
+    return look.run.entries.until(clock)
 
 
 def number_of(look: Look, entry: Optional[Entry]) -> Optional[int]:
     """A frame's number as Wireshark shows it in the user's file."""
-    return look.ports[entry.port - 1].record(entry.index).number if isinstance(entry, Frame) else None
+    return look.ports[entry.port - 1].frame_number(entry.index) if isinstance(entry, Frame) else None
 
 
 def switch_address(look: Look, login: Login) -> Optional[int]:
@@ -68,9 +69,9 @@ def logins(look: Look, clock: Optional[int]) -> list[Row]:
 def refused_logins(look: Look) -> list[Row]:
     """Logins that were rejected."""
     found = []
-    for entry in look.run.frames():
+    for _, entry in look.run.entries.with_words("rejected"):
         heard = look.ports[entry.port - 1].host(entry.index)
-        if entry.word == "rejected" and heard.is_fip and heard.fc is not None:
+        if heard.is_fip and heard.fc is not None:
             payload = heard.fc.payload
             name = colons(payload[20:28]) if heard.kind != "LOGO" else colons(payload[8:16])
             found.append({"port": entry.port, "frame": number_of(look, entry), "request": heard.kind, "wwpn": name, "clock": entry.clock, "verdict": entry.verdict})
@@ -158,8 +159,10 @@ def check_with_show(look: Look) -> None:
 def counts(look: Look) -> dict[int, dict[str, int]]:
     """How often each verdict stands, by port."""
     found: dict[int, Counter[str]] = {port.number: Counter() for port in look.ports}
-    for entry in look.run.frames():
-        found[entry.port][counted(entry.verdict)] += 1
+    entries = look.run.entries
+    for (port, said), count in Counter(zip(entries.ports, entries.said)).items():
+        if said != TICK:
+            found[port][counted(entries.verdicts[said])] += count
     return {port: dict(some.most_common()) for port, some in found.items()}
 
 
@@ -171,10 +174,10 @@ def troubles(look: Look) -> list[Row]:
     """Each kind of drop, reject and refusal: rule, place in the frame, how often, where, and what to look at next."""
     found: dict[str, list[Frame]] = {}
     places: dict[tuple[int, int], int] = {}
-    for at, entry in enumerate(look.run.entries):
-        if isinstance(entry, Frame) and is_trouble(entry.verdict):
-            found.setdefault(entry.verdict, []).append(entry)
-            places[(entry.port, entry.index)] = at
+    for at in look.run.entries.places(is_trouble):
+        entry = look.run.entries.frame(at)
+        found.setdefault(entry.verdict, []).append(entry)
+        places[(entry.port, entry.index)] = at
     rows = []
     for verdict, frames in sorted(found.items(), key=lambda it: (it[0].split(" ")[0], -len(it[1]), it[0])):
         row = row_of(verdict)
@@ -184,7 +187,7 @@ def troubles(look: Look) -> list[Row]:
                 "verdict": verdict,
                 "count": len(frames),
                 "ports": sorted({it.port for it in frames}),
-                "kinds": dict(Counter(look.ports[it.port - 1].host(it.index).kind for it in frames).most_common(4)),
+                "kinds": dict(Counter(look.ports[it.port - 1].like(it.index).kind for it in frames).most_common(4)),
                 "frames": [[it.port, number_of(look, it)] for it in frames[:8]],
                 "meaning": row.meaning if row else "",
                 "standard": row.standard if row else "",
@@ -201,7 +204,7 @@ def hints(look: Look, verdict: str, frames: list[Frame]) -> list[str]:
     found = []
     if verdict in ("dropped source-login", "dropped dest-login"):
         ever = {it.address for it in look.walk.fabric.logins}
-        held = [port.host(it.index).fc for it in frames for port in [look.ports[it.port - 1]]]
+        held = [port.like(it.index).fc for it in frames for port in [look.ports[it.port - 1]]]
         ids = {(fc.s_id if verdict == "dropped source-login" else fc.d_id) for fc in held if fc is not None}
         never = sorted(ids - ever)
         if never:
@@ -209,7 +212,7 @@ def hints(look: Look, verdict: str, frames: list[Frame]) -> list[str]:
     if verdict == "dropped zone":
         found += zone_hints(look, frames)
     if verdict == "dropped vlan":
-        tags = sorted({look.ports[it.port - 1].host(it.index).vlan for it in frames})
+        tags = sorted({look.ports[it.port - 1].like(it.index).vlan for it in frames})
         found.append(f"the frames have the VLAN {', '.join(map(str, tags))}; the fabric's is {look.run.config.vlan}")
     return found
 
@@ -219,7 +222,7 @@ def zone_hints(look: Look, frames: list[Frame]) -> list[str]:
     known = {it.address: colons(it.name) for it in look.walk.fabric.logins}
     pairs: Counter[str] = Counter()
     for it in frames:
-        fc = look.ports[it.port - 1].host(it.index).fc
+        fc = look.ports[it.port - 1].like(it.index).fc
         if fc is not None:
             pairs[f"{known.get(fc.s_id, fcid(fc.s_id))} to {known.get(fc.d_id, fcid(fc.d_id))}"] += 1
     return [f"{pair}: {plural(count, 'frame')}" for pair, count in pairs.most_common(3)] + ([f"and {len(pairs) - 3} more pairs"] if len(pairs) > 3 else [])
@@ -240,12 +243,11 @@ def window_hints(look: Look, frames: list[Frame], places: dict[tuple[int, int], 
 def summary(look: Look) -> Row:
     """What a person reads first."""
     run = look.run
-    clocks = [it.clock for it in run.entries]
     return {
         "ports": [{"port": it.number, "file": it.label, "hosts": len(it.hosts), "switch": len(it.replies)} for it in look.ports],
         "from": first_clock(look),
-        "to": max((it.milliseconds for port in look.ports for it in port.records), default=0),
-        "clock": clocks[-1] if clocks else None,
+        "to": max((max(port.frames.moments) // MILLISECOND for port in look.ports if port.frames), default=0),
+        "clock": run.entries.clocks[-1] if run.entries else None,
         "switch": colons(run.config.mac),
         "vlan": run.config.vlan,
         "printed": run.printed,

@@ -28,18 +28,16 @@ def find(look: Look, port: int, number: int, is_index: bool) -> Asked:
     if not 1 <= port <= len(look.ports):
         raise Refused(f"why {port} {number}: there are the ports 1 to {len(look.ports)}, a capture or an interface each")
     here = look.ports[port - 1]
-    at = next((at for at, it in enumerate(here.records) if it.number == number), None) if not is_index else (here.hosts[number] if number < len(here.hosts) else None)
+    at = here.frames.at_number(number) if not is_index else (here.hosts[number] if number < len(here.hosts) else None)
     if at is None:
         raise Refused(f"why {port} {number}: {here.label} has no such frame")
-    if at not in here.index_of:
+    index = here.index(at)
+    if index is None:
         raise Refused(f"why {port} {number}: frame {number} of {here.label} is the switch's own: `look` compares it with the forwarder's (see the comparison)")
-    index = here.index_of[at]
-    place = next((place for place, it in enumerate(look.run.entries) if isinstance(it, Frame) and (it.port, it.index) == (port, index)), None)
+    place = look.run.entries.place_of(port, index)
     if place is None:
         raise Refused(f"why {port} {number}: the journal has no entry for it")
-    entry = look.run.entries[place]
-    assert isinstance(entry, Frame)
-    return Asked(entry, place, here.heard[at])
+    return Asked(look.run.entries.frame(place), place, here.frames.heard(at))
 
 
 def window_notes(look: Look, asked: Asked, address: int, role: str) -> list[str]:
@@ -49,7 +47,7 @@ def window_notes(look: Look, asked: Asked, address: int, role: str) -> list[str]
     for what, place, other in near:
         gap = gap_of(look.run, asked.entry, other)
         when = f"{abs(gap) / 1_000_000:.3f} ms {'before' if gap >= 0 else 'behind'} it"
-        number = look.ports[other.port - 1].record(other.index).number
+        number = look.ports[other.port - 1].frame_number(other.index)
         text = f"the {what} of {fcid(address)} ({role}) stands in the same window of {look.run.config.window} ms on port {other.port} (frame {number}), captured {when}"
         if (gap >= 0) != (place < asked.place):
             text += f", judged the other way round: {otherwise(look.run.config.window)} would decide otherwise"

@@ -10,14 +10,14 @@ from .runs import Run
 
 def login_of(walk: Walk, address: int, place: int) -> Optional[Login]:
     """The login that holds an address at an entry, or held it last before, or else gets it next."""
-    own = [it for it in walk.fabric.logins if it.address == address]
+    own = walk.fabric.of_address(address)
     before = [it for it in own if it.granted_by <= place]
     return before[-1] if before else (own[0] if own else None)
 
 
 def logins_near(walk: Walk, address: int, place: int) -> list[Login]:
     """The logins of an address that may matter at an entry: the one that holds or held it, and the one that gets it next."""
-    own = [it for it in walk.fabric.logins if it.address == address]
+    own = walk.fabric.of_address(address)
     before, behind = [it for it in own if it.granted_by <= place], [it for it in own if it.granted_by > place]
     return before[-1:] + behind[:1]
 
@@ -43,12 +43,12 @@ def in_window(run: Run, entry: Frame, login: Login) -> Iterator[tuple[str, int, 
 
 def gap_of(run: Run, entry: Frame, other: Frame) -> int:
     """Nanoseconds from another frame to this one, as they were captured."""
-    return run.ports[entry.port - 1].record(entry.index).moment - run.ports[other.port - 1].record(other.index).moment
+    return run.ports[entry.port - 1].moment(entry.index) - run.ports[other.port - 1].moment(other.index)
 
 
 def is_otherwise(run: Run, walk: Walk, entry: Frame, place: int) -> bool:
     """A grant or an end in the frame's window was captured on the other side of it than it was judged."""
-    for _, address in ends_of(run.ports[entry.port - 1].host(entry.index)):
+    for _, address in ends_of(run.ports[entry.port - 1].like(entry.index)):
         for login in logins_near(walk, address, place):
             for _, there, other in in_window(run, entry, login):
                 if (gap_of(run, entry, other) >= 0) != (there < place):

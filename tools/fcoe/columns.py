@@ -1,0 +1,224 @@
+"""A capture as columns: of each frame its moment, where it stands in its file and what it is like; its bytes are read when they are wanted."""
+import os
+from array import array
+from collections import Counter
+from dataclasses import dataclass, field, replace
+from itertools import compress
+from typing import Callable, Generic, Iterable, Iterator, Optional, Sequence, TypeVar, Union, overload
+
+from .errors import Refused
+from .frames import FCOE_TYPE, FIP_TYPE, TAG_TYPE, Heard, hear, number
+
+MILLISECOND = 1_000_000
+SCANNED, PIECE = 1 << 20, 1 << 17  # bytes that are read at once, of a file from its begin to its end and of one where frames are wanted
+KEPT = 100_000  # messages that stay decoded
+TAGGED, BARE = 41, 37  # bytes of a frame up to TYPE of its FC header, with a tag and without one
+BEHIND = 23  # and from there to the end of the least FCoE frame
+MESSAGES = (0x01, 0x20)  # TYPE of link services and of CT
+
+Row = tuple[int, int, bytes, int, int, int]  # of a record: nanoseconds, place in the file, bytes that hold it and where in them, size, length
+T = TypeVar("T")
+
+
+@dataclass(slots=True)
+class Record:
+    """A captured frame: nanoseconds, what is there of it, how long it was, its number in the file (as Wireshark counts), its interface."""
+
+    moment: int
+    data: bytes
+    length: int
+    number: int
+    interface: int = 0
+
+    @property
+    def milliseconds(self) -> int:
+        return self.moment // MILLISECOND
+
+
+class Source:
+    """A file that is read by pieces."""
+
+    def __init__(self, name: str, shown: Optional[str] = None) -> None:
+        self.name, self.shown = name, shown or name
+        self.file = open(name, "rb", buffering=0)  # pylint: disable=consider-using-with
+        self.size = os.fstat(self.file.fileno()).st_size
+        self.begin, self.piece = 0, b""
+
+    def read(self, place: int, size: int) -> bytes:
+        """So many bytes from a place on; fewer at the end of the file."""
+        return os.pread(self.file.fileno(), size, place)
+
+    def take(self, place: int, size: int) -> bytes:
+        """Bytes that were there when the file was opened."""
+        at = place - self.begin
+        if at < 0 or at + size > len(self.piece):
+            self.begin, self.piece, at = place, self.read(place, max(size, PIECE)), 0
+            if len(self.piece) < size:
+                raise Refused(f"{self.shown}: became shorter while it was read: copy it, and look at the copy")
+        return self.piece[at : at + size]
+
+
+@dataclass
+class Flow:
+    """Frames that are alike up to TYPE of their FC header: the first of them, and whether each is a message that is read on its own."""
+
+    heard: Heard
+    is_message: bool
+
+
+class Listed(Sequence[T], Generic[T]):
+    """A sequence whose items are made when they are asked for."""
+
+    def __init__(self, count: int, item: Callable[[int], T]) -> None:
+        self.places, self.item = range(count), item
+
+    def __len__(self) -> int:
+        return len(self.places)
+
+    @overload
+    def __getitem__(self, at: int) -> T: ...
+
+    @overload
+    def __getitem__(self, at: slice) -> list[T]: ...
+
+    def __getitem__(self, at: Union[int, slice]) -> Union[T, list[T]]:
+        if isinstance(at, slice):
+            return [self.item(it) for it in self.places[at]]
+        return self.item(self.places[at])
+
+    def __iter__(self) -> Iterator[T]:
+        return map(self.item, self.places)
+
+
+def front_size(kind: bytes) -> int:
+    """How many bytes of a frame tell what it is like, by those from its Ethertype on."""
+    is_tagged = number(kind[:2]) == TAG_TYPE
+    of_fabric = number(kind[4:] if is_tagged else kind[:2]) in (FIP_TYPE, FCOE_TYPE)
+    if of_fabric:
+        return TAGGED if is_tagged else BARE
+    return 18 if is_tagged else 14
+
+
+def is_message(heard: Heard) -> bool:
+    """FIP, and link services and CT in FCoE."""
+    return heard.is_fip or heard.is_fcoe and heard.fc is not None and heard.fc.kind in MESSAGES
+
+
+@dataclass
+class Frames:
+    """The frames of a file or of a part of it, in columns."""
+
+    source: Source
+    moments: "array[int]" = field(default_factory=lambda: array("q"))
+    places: "array[int]" = field(default_factory=lambda: array("Q"))
+    sizes: "array[int]" = field(default_factory=lambda: array("I"))
+    lengths: "array[int]" = field(default_factory=lambda: array("I"))
+    flow_of: "array[int]" = field(default_factory=lambda: array("I"))
+    flows: list[Flow] = field(default_factory=list)
+    numbers: Sequence[int] = ()  # in the file; none where they are 1, 2, ..
+    interfaces: Sequence[int] = ()  # none where there is one
+    decoded: dict[int, Heard] = field(default_factory=dict, repr=False)
+    told: Optional["array[int]"] = None  # the places of messages, once they were asked for
+
+    def __len__(self) -> int:
+        return len(self.moments)
+
+    def fill(self, rows: Iterable[Row]) -> None:
+        """Takes the records of a file."""
+        fronts: dict[bytes, int] = {}
+        known: dict[object, int] = {}
+        moments, places, sizes, lengths, flow_of = self.moments.append, self.places.append, self.sizes.append, self.lengths.append, self.flow_of.append
+        for moment, place, data, at, size, length in rows:
+            kind = data[at + 12 : at + 18]
+            front = fronts.get(kind)
+            if front is None:
+                front = fronts[kind] = front_size(kind)
+            if size >= front + BEHIND:
+                key: object = data[at : at + front]
+            else:  # told apart whole, as what is read of it depends on its length
+                key = (size, data[at : at + min(size, front + BEHIND)])
+            flow = known.get(key)
+            if flow is None:
+                flow = known[key] = len(self.flows)
+                heard = hear(data[at : at + size])
+                self.flows.append(Flow(heard, is_message(heard)))
+            moments(moment)
+            places(place)
+            sizes(size)
+            lengths(length)
+            flow_of(flow)
+
+    def data(self, at: int) -> bytes:
+        return self.source.take(self.places[at], self.sizes[at])
+
+    def is_whole(self, at: int) -> bool:
+        return self.lengths[at] == self.sizes[at]
+
+    def number(self, at: int) -> int:
+        """A frame's number as Wireshark shows it."""
+        return self.numbers[at] if self.numbers else at + 1
+
+    def at_number(self, number_: int) -> Optional[int]:
+        """The place of the frame with this number."""
+        if self.numbers:
+            return self.numbers.index(number_) if number_ in self.numbers else None
+        return number_ - 1 if 0 < number_ <= len(self) else None
+
+    def milliseconds(self, at: int) -> int:
+        return self.moments[at] // MILLISECOND
+
+    def record(self, at: int) -> Record:
+        return Record(self.moments[at], self.data(at), self.lengths[at], self.number(at), self.interfaces[at] if self.interfaces else 0)
+
+    def like(self, at: int) -> Heard:
+        """A frame that is like this one up to TYPE of its FC header; a message itself."""
+        flow = self.flows[self.flow_of[at]]
+        return self.heard(at) if flow.is_message else flow.heard
+
+    def heard(self, at: int) -> Heard:
+        """What a frame is."""
+        found = self.decoded.get(at)
+        if found is None:
+            found = hear(self.data(at))
+            if self.flows[self.flow_of[at]].is_message and len(self.decoded) < KEPT:
+                self.decoded[at] = found
+        return found
+
+    @property
+    def records(self) -> Listed[Record]:
+        return Listed(len(self), self.record)
+
+    def is_message_at(self) -> Iterator[bool]:
+        """Whether each frame is a message: FIP, link services and CT."""
+        told = [it.is_message for it in self.flows]
+        return map(told.__getitem__, self.flow_of)
+
+    def messages(self) -> "array[int]":
+        """The places of messages."""
+        if self.told is None:
+            self.told = array("I", compress(range(len(self)), self.is_message_at()))
+        return self.told
+
+    def used(self) -> list[Flow]:
+        """The kinds of frames that are here."""
+        return [self.flows[it] for it in sorted(set(self.flow_of))]
+
+    def telling(self) -> list[Heard]:
+        """Each message, and of other frames the first of those that are alike, with their count."""
+        found = [self.heard(at) for at in self.messages()]
+        for place, count in sorted(Counter(self.flow_of).items()):
+            flow = self.flows[place]
+            if not flow.is_message:
+                found.append(replace(flow.heard, count=count))
+        return found
+
+    def part(self, chosen: Sequence[int]) -> "Frames":
+        """Some of these frames."""
+
+        def some(kind: str, values: Sequence[int]) -> "array[int]":
+            return array(kind, (values[at] for at in chosen))
+
+        numbers = array("I", (self.number(at) for at in chosen))
+        interfaces = some("I", self.interfaces) if self.interfaces else ()
+        columns = (some("q", self.moments), some("Q", self.places), some("I", self.sizes), some("I", self.lengths), some("I", self.flow_of))
+        return Frames(self.source, *columns, self.flows, numbers, interfaces)
