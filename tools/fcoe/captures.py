@@ -45,10 +45,10 @@ def check_link(link: int, shown: str) -> None:
         raise Refused(f"{shown}: no Ethernet frames: {how}; capture on the Ethernet port itself, as in `tcpdump -i eth0 -w FILE`")
 
 
-def classic_rows(source: Source, order: str, unit: int, remarks: list[str]) -> Iterator[Row]:
-    """The records of a classic capture; what comes behind a cut is left out, and said."""
-    unpack, place, count = struct.Struct(order + "IIII").unpack_from, 24, 0
-    want = SCANNED
+def classic_rows(source: Source, order: str, unit: int, cuts: list[int]) -> Iterator[Row]:
+    """The records of a classic capture; what comes behind a cut is left out, whose place is told."""
+    unpack = struct.Struct(order + "IIII").unpack_from
+    place, want = 24, SCANNED
     while place < source.size:
         asked, data, at = want, source.read(place, want), 0
         end, want = len(data) - 16, SCANNED
@@ -57,11 +57,10 @@ def classic_rows(source: Source, order: str, unit: int, remarks: list[str]) -> I
             if at + stored > end:
                 want = max(16 + stored, want)
                 break
-            count += 1
             at += 16 + stored
             yield seconds * 1_000_000_000 + fraction * unit, place + at - stored, data, at - stored, stored, length
         if not at and (len(data) < asked or place + want > source.size):
-            remarks.append(f"cut at byte {place}, behind frame {count}: the frames before it are taken")
+            cuts.append(place)
             return
         place += at
 
@@ -75,8 +74,9 @@ def classic(name: str, shown: Optional[str] = None) -> Capture:
         raise Refused(f"{shown}: no classic capture (pcap)" if len(head) >= 24 else f"{shown}: cut in its head: no capture of {len(head)} bytes; capture it again")
     order, unit = ORDERS[head[:4]]
     check_link(struct.unpack_from(order + "I", head, 20)[0] & 0xFFFF, shown)
-    capture = Capture(shown, Frames(source))
-    capture.frames.fill(classic_rows(source, order, unit, capture.remarks))
+    capture, cuts = Capture(shown, Frames(source)), list[int]()
+    capture.frames.fill(classic_rows(source, order, unit, cuts))
+    capture.remarks += [f"cut at byte {it}, behind frame {len(capture.frames)}: the frames before it are taken" for it in cuts]
     return capture
 
 

@@ -1,9 +1,10 @@
 """A capture as columns: of each frame its moment, where it stands in its file and what it is like; its bytes are read when they are wanted."""
 import os
+import weakref
 from array import array
 from collections import Counter
 from dataclasses import dataclass, field, replace
-from itertools import compress
+from itertools import compress, islice
 from typing import Callable, Generic, Iterable, Iterator, Optional, Sequence, TypeVar, Union, overload
 
 from .errors import Refused
@@ -11,6 +12,7 @@ from .frames import FCOE_TYPE, FIP_TYPE, TAG_TYPE, Heard, hear, number
 
 MILLISECOND = 1_000_000
 SCANNED, PIECE = 1 << 20, 1 << 17  # bytes that are read at once, of a file from its begin to its end and of one where frames are wanted
+BATCH = 4096  # rows that go into the columns at once
 KEPT = 100_000  # messages that stay decoded
 TAGGED, BARE = 41, 37  # bytes of a frame up to TYPE of its FC header, with a tag and without one
 BEHIND = 23  # and from there to the end of the least FCoE frame
@@ -40,13 +42,14 @@ class Source:
 
     def __init__(self, name: str, shown: Optional[str] = None) -> None:
         self.name, self.shown = name, shown or name
-        self.file = open(name, "rb", buffering=0)  # pylint: disable=consider-using-with
-        self.size = os.fstat(self.file.fileno()).st_size
+        self.file = os.open(name, os.O_RDONLY)
+        weakref.finalize(self, os.close, self.file)
+        self.size = os.fstat(self.file).st_size
         self.begin, self.piece = 0, b""
 
     def read(self, place: int, size: int) -> bytes:
         """So many bytes from a place on; fewer at the end of the file."""
-        return os.pread(self.file.fileno(), size, place)
+        return os.pread(self.file, size, place)
 
     def take(self, place: int, size: int) -> bytes:
         """Bytes that were there when the file was opened."""
@@ -125,9 +128,15 @@ class Frames:
 
     def fill(self, rows: Iterable[Row]) -> None:
         """Takes the records of a file."""
+        columns, told = (self.moments, self.places, self.sizes, self.lengths, self.flow_of), self.told_apart(rows)
+        while some := list(islice(told, BATCH)):
+            for column, values in zip(columns, zip(*some)):
+                column.extend(values)
+
+    def told_apart(self, rows: Iterable[Row]) -> Iterator[tuple[int, int, int, int, int]]:
+        """Moment, place, size and length of records, and the number of their flow."""
         fronts: dict[bytes, int] = {}
         known: dict[object, int] = {}
-        moments, places, sizes, lengths, flow_of = self.moments.append, self.places.append, self.sizes.append, self.lengths.append, self.flow_of.append
         for moment, place, data, at, size, length in rows:
             kind = data[at + 12 : at + 18]
             front = fronts.get(kind)
@@ -136,17 +145,13 @@ class Frames:
             if size >= front + BEHIND:
                 key: object = data[at : at + front]
             else:  # told apart whole, as what is read of it depends on its length
-                key = (size, data[at : at + min(size, front + BEHIND)])
+                key = (size, data[at : at + size])
             flow = known.get(key)
             if flow is None:
                 flow = known[key] = len(self.flows)
                 heard = hear(data[at : at + size])
                 self.flows.append(Flow(heard, is_message(heard)))
-            moments(moment)
-            places(place)
-            sizes(size)
-            lengths(length)
-            flow_of(flow)
+            yield moment, place, size, length, flow
 
     def data(self, at: int) -> bytes:
         return self.source.take(self.places[at], self.sizes[at])

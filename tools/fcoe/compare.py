@@ -7,7 +7,7 @@ from typing import Iterator, Optional
 from .configs import Config, is_advertisement
 from .fabric import ANSWERED, Sent, Walk
 from .fields import Fields, fields_of
-from .forwards import Marked, data_ends, sent_on
+from .forwards import Marked, data_entries, sent_on
 from .frames import ADVERTISE, ALL_ENODES, CLEAR, Heard, colons, fcid, number
 from .inputs import Port
 from .journals import Frame, counted
@@ -243,23 +243,15 @@ def compare_forwards(run: Run, walk: Walk, found: Comparison, used: Marked) -> N
     """Each data frame: whether the switch sent it on, where the capture can show that."""
     can_show = {port.number for port in run.ports if port.replies}
     went = sent_on(run, used)
-    entries = run.entries
-    targets = [int(it.split(" ")[1]) if it.startswith("forwarded ") else None for it in entries.verdicts]
-    is_data = {port.number: [data_ends(it.heard) is not None for it in port.frames.flows] for port in run.ports}
-    for place, (number_, index, said) in enumerate(zip(entries.ports, entries.indexes, entries.said)):
-        if not number_:
-            continue
-        port = run.ports[number_ - 1]
-        at = port.hosts[index]
-        if not is_data[number_][port.frames.flow_of[at]]:
-            continue
-        was_sent, target = went.has(number_, at), targets[said]
+    targets = [int(it.split(" ")[1]) if it.startswith("forwarded ") else None for it in run.entries.verdicts]
+    for place, port, at in data_entries(run):
+        was_sent, target = went.has(port.number, at), targets[run.entries.said[place]]
         if target is not None and not was_sent and target not in can_show:
             found.forwarded["can't be told: no frames of the switch in that port's capture"] += 1
         elif was_sent == (target is not None):
             found.forwarded["sent on by both" if was_sent else "by neither"] += 1
         else:
-            entry = entries.frame(place)
+            entry = run.entries.frame(place)
             found.forwarded["by the switch alone" if was_sent else "by the forwarder alone"] += 1
             found.forwards.append(forwarding(port, at, was_sent, entry))
             explain(found.forwards[-1], cause_of(run, walk, place))

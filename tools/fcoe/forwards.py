@@ -70,3 +70,14 @@ def sent_on(run: Run, used: Marked) -> Marked:
                 used.add(*there[key].pop(0))
                 went.add(number_, at)
     return went
+
+
+def data_entries(run: Run) -> Iterator[tuple[int, Port, int]]:
+    """The entries of data frames between two N_Ports: place in the journal, port, and place in its capture."""
+    is_data = {port.number: [data_ends(it.heard) is not None for it in port.frames.flows] for port in run.ports}
+    for place, (number_, index) in enumerate(zip(run.entries.ports, run.entries.indexes)):
+        if number_:
+            port = run.ports[number_ - 1]
+            at = port.hosts[index]
+            if is_data[number_][port.frames.flow_of[at]]:
+                yield place, port, at
