@@ -1,20 +1,12 @@
 """The fields of a frame by name, as they are compared and shown (FC-BB-5, FC-FS-3, FC-LS-2, FC-GS-6)."""
 from typing import Optional
 
+from .codes import CT_EXPLANATIONS, CT_REASONS, LS_EXPLANATIONS, LS_REASONS
 from .frames import CT, ELS, EOFN, EOFT, LOGINS, SOFI3, SOFN3, Descriptor, Fc, Heard, colons, fc_check, fcid, number
 from .readdress import LISTED
 
 Fields = dict[str, str]
 FLAGS = {0x8000: "FP", 0x4000: "SP", 0x0004: "A", 0x0002: "S", 0x0001: "F"}
-REASONS = {
-    0x01: "invalid command",
-    0x03: "logical error",
-    0x04: "invalid CT_IU size",
-    0x05: "busy",
-    0x07: "protocol error",
-    0x09: "unable to perform",
-    0x0B: "command not supported",
-}
 DELIMITERS = {SOFI3: "SOFi3", SOFN3: "SOFn3", EOFN: "EOFn", EOFT: "EOFt", 0x2D: "SOFi2", 0x35: "SOFn2", 0x28: "SOFf", 0x49: "EOFni", 0x50: "EOFa"}
 FEATURES = {0x8000: "multiple N_Port_IDs asked", 0x2000: "multiple N_Port_IDs granted", 0x1000: "fabric port"}
 
@@ -97,8 +89,8 @@ def els_fields(payload: bytes) -> Fields:
         return {}
     found, command = {"command": ELS.get(payload[0], f"{payload[0]:02x}")}, payload[0]
     if command == 0x01 and len(payload) >= 8:
-        found["reason"] = f"{payload[5]:02x} ({REASONS.get(payload[5], '?')})"
-        found["explanation"] = f"{payload[6]:02x}"
+        found["reason"] = f"{payload[5]:02x} ({LS_REASONS.get(payload[5], '?')})"
+        found["explanation"] = f"{payload[6]:02x} ({LS_EXPLANATIONS.get(payload[6], 'none')})"
     elif command in (0x02, 0x03, 0x04, 0x51) and len(payload) >= 116:
         found.update(login_fields(payload))
     elif command == 0x61:
@@ -124,8 +116,8 @@ def ct_fields(payload: bytes, asked: Optional[int]) -> Fields:
     found = {"CT command": CT.get(command, f"{command:04x}"), "CT revision": f"{payload[0]:02x}", "CT options": f"{payload[6]:02x}"}
     found["CT size"] = str(number(payload[10:12]))
     if command == 0x8001:
-        found["reason"] = f"{payload[13]:02x} ({REASONS.get(payload[13], '?')})"
-        found["explanation"] = f"{payload[14]:02x}"
+        found["reason"] = f"{payload[13]:02x} ({CT_REASONS.get(payload[13], '?')})"
+        found["explanation"] = f"{payload[14]:02x} ({CT_EXPLANATIONS.get(payload[14], 'none')})"
         return found
     rest = payload[16:]
     if command == 0x8002 and asked in LISTED:

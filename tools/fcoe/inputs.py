@@ -8,9 +8,9 @@ from typing import Iterator, Optional, Sequence
 
 from .captures import Capture, classic, read_capture, write_classic
 from .columns import Frames, Listed, Record
-from .configs import Config, Drawn, draw, forwarders, octets, read_config
+from .configs import FPMA, Config, Drawn, draw, forwarders, octets, read_config
 from .errors import Refused, counted
-from .frames import TAG_TYPE, VLAN_REQUEST, VLAN_TELL, Heard, colons, hear
+from .frames import ADVERTISE, CLEAR, LOGIN_REPLY, TAG_TYPE, VLAN_REQUEST, VLAN_TELL, Heard, colons, hear
 from .hosts import switches_in
 
 
@@ -147,6 +147,11 @@ def divided(capture: Capture, wanted: Optional[str], remarks: list[str]) -> list
     return parts
 
 
+def is_answered(heard: Heard) -> bool:
+    """A frame that shows that a switch answers: its own, or one from a granted MAC."""
+    return heard.operation in (ADVERTISE, LOGIN_REPLY, CLEAR) or heard.is_fcoe and heard.source[:2] == FPMA
+
+
 def wants_tag(heard: Heard) -> bool:
     """FIP and FCoE without a tag, VLAN discovery aside."""
     return heard.is_fabric and heard.vlan == 0 and heard.operation not in (VLAN_REQUEST, VLAN_TELL)
@@ -174,6 +179,9 @@ def check_tags(ports: list[Port], vlan: Optional[int], remarks: list[str], room:
     for port in ports:
         of_fabric = [it for it in port.frames.telling() if it.is_fabric and it.operation not in (VLAN_REQUEST, VLAN_TELL)]
         if not of_fabric or not all(it.vlan == 0 for it in of_fabric):
+            continue
+        if vlan is None and not any(is_answered(it) for it in of_fabric):
+            remarks.append(f"{port.label}: no FIP or FCoE frame has a VLAN tag, and none is answered: the host sends without one; `--vlan N`, where it was captured on the VLAN interface")
             continue
         if vlan is None:
             raise Refused(

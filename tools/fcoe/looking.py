@@ -1,15 +1,17 @@
 """The look itself: captures, a run over them, and addresses rewritten until the run's grants stand still."""
 import os
 from dataclasses import dataclass, field, replace
+from functools import cached_property
 from typing import Optional
 
 from .compare import Comparison, compare
 from .captures import classic
 from .configs import map_of, read_config
 from .errors import Refused, counted
-from .fabric import Walk, walk
+from .fabric import Login, Walk, walk
 from .inputs import Inputs, Options, Port, gather
 from .readdress import Request, grants_seen, readdressed
+from .replies import Reply, replies_to
 from .journals import read_journal
 from .runs import Run, check_fits, run_program
 
@@ -35,6 +37,28 @@ class Look:
     def ports(self) -> list[Port]:
         """The ports with the run's addresses."""
         return self.run.ports
+
+    @cached_property
+    def replies(self) -> dict[Request, Reply]:
+        """What the switch replied to each request, with its own addresses."""
+        return replies_to(self.captured, self.run.config.mac)
+
+    def request_of(self, port: int, index: int) -> Request:
+        """Where the frame stands that the journal calls by this index."""
+        return port, self.ports[port - 1].hosts[index]
+
+    def on_switch(self, login: Login) -> int:
+        """The address of a login as the captures have it."""
+        found = self.grants.get(self.request_of(*login.granted_frame))
+        return found[0] if found else login.address
+
+    def replied(self, login: Login) -> Optional[bool]:
+        """Whether the switch granted this login too; nothing where the captures don't have its answer."""
+        request = self.request_of(*login.granted_frame)
+        reply = self.replies.get(request)
+        if reply is None:
+            return True if request in self.grants else False if self.captured[login.port - 1].replies else None
+        return reply.verdict.startswith("granted")
 
     def moved(self) -> dict[int, list[int]]:
         """The run's addresses for each of the switch's, where they differ."""

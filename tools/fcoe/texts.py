@@ -1,15 +1,22 @@
 """Views as text: what a person reads in a terminal."""
 import json
+from dataclasses import dataclass
 from typing import Any, Iterable, Optional
 
+from .codes import spelled, type_text
 from .compare import STATES, Compared, Comparison, by_kind, totals
 from .looking import Look
 from .moments import short, stamp
 from .places import text_of
+from .terminal import Colour, folded, painted
+from .traffic_answers import NOISE
 from .views import Row, first_clock
 
 LISTED = 12  # rows of one kind that a terminal shows
 SUMMARISED = 30  # logins that the summary shows
+ANSWERED = 5  # answers that stand on top
+UNGRANTED = ("rejected", "no answer")
+COLOURS = {"failed": Colour.BAD, "lost": Colour.BAD, "dropped": Colour.MIND, "different": Colour.MIND, "well": Colour.GOOD}
 
 
 def table(heads: list[str], rows: Iterable[list[Any]], indent: str = "  ") -> list[str]:
@@ -23,23 +30,87 @@ def as_json(value: Any) -> str:
     return json.dumps(value, indent=1, ensure_ascii=False)
 
 
+def answer_text(row: Row, first: int) -> list[str]:
+    """An answer: of whom, what, when and where; the next step; what follows from it."""
+    whom = row["wwpn"] or ""
+    whom += (" " if whom else "") + (f"(port {row['port']})" if whom else f"port {row['port']}") if row["port"] is not None else ""
+    when = ""
+    if row["from"] is not None:
+        when = short(row["from"], first) + (f" to {short(row['to'], first)}" if row["to"] != row["from"] else "")
+    where = ", ".join(f"{port}/{number}" for port, number in row["frames"][:3]) + (" .." if row["count"] > 3 else "")
+    told = "; ".join(it for it in (when, f"port/frame {where}" if where else "") if it)
+    said = f"{whom}: {row['text']}" if whom else row["text"]
+    lines = folded(said + (f" [{told}]" if told else ""), "  ")
+    if row["severity"] in COLOURS:
+        lines = [painted(it, COLOURS[row["severity"]]) for it in lines]
+    if row["next"]:
+        lines += folded(f"next: {row['next']}", "    ")
+    followers = row["followers"]
+    lines += [part for it in followers[:2] for part in folded(f"with it: {it}", "    ")]
+    return lines + ([f"    and {len(followers) - 2} more (--json)"] if len(followers) > 2 else [])
+
+
+def answers_text(rows: list[Row], first: int, most: Optional[int] = ANSWERED) -> list[str]:
+    """The answer on top: a few lines, worst first."""
+    lines = [line for row in rows[:most] for line in answer_text(row, first)]
+    return lines + ([f"  and {len(rows) - most} more (look answers)"] if most is not None and len(rows) > most else [])
+
+
+@dataclass
+class Line:
+    """A line of logins: a login, or requests of one name that were rejected alike."""
+
+    port: int
+    wwpn: str
+    by: str
+    switch: str
+    here: str
+    since: int
+    until: Optional[int]
+    why: str
+    count: int = 1
+
+    def cells(self, first: int) -> list[Any]:
+        by = self.by + (f" ×{self.count}" if self.count > 1 else "")
+        return [self.port, self.wwpn, by, self.switch or None, self.here, short(self.since, first), short(self.until, first), self.why]
+
+
+def login_line(row: Row) -> Line:
+    """A login, or a reject, as a line."""
+    if "verdict" in row:
+        return Line(row["port"], row["wwpn"], row["request"], spelled(row["switch"] or ""), spelled(row["verdict"]), row["clock"], row["clock"], "")
+    by, switch = f"FDISC of {row['parent']}" if row["kind"] == "FDISC" else "FLOGI", row["switch"] or ""
+    why = "" if switch.startswith(UNGRANTED) else row["why"]
+    return Line(row["port"], row["wwpn"], by, spelled(switch), f"granted {row['fcid']}", row["from"], row["to"], why)
+
+
+def lines_of(rows: list[Row]) -> list[Line]:
+    """Lines in the order of time, rejects that are alike as one."""
+    lines: list[Line] = []
+    alike: dict[tuple[Any, ...], Line] = {}
+    for line in sorted((login_line(row) for row in rows), key=lambda it: it.since):
+        key = (line.port, line.wwpn, line.by, line.switch, line.here)
+        if line.switch.startswith(UNGRANTED) or line.here.startswith(UNGRANTED):
+            if key in alike:
+                alike[key].count, alike[key].until = alike[key].count + 1, line.until
+                continue
+            alike[key] = line
+        lines.append(line)
+    return lines
+
+
 def logins_text(rows: list[Row], first: int, most: Optional[int] = None) -> list[str]:
-    """Logins, as a switch's list of them and beyond: over time; at most so many rows."""
+    """Logins over time, rejected ones among them: what the switch said, beside this forwarder; at most so many rows."""
     if not rows:
         return ["  nobody"]
-    if most is not None and len(rows) > most:
-        return [*logins_text(rows[:most], first), f"  and {len(rows) - most} more (look logins)"]
-    has_switch = any(row["switch_fcid"] not in (None, row["fcid"]) for row in rows)
-    heads = ["port", "FCID", "WWPN", "FPMA", "by", "from", "to", "why it ended"]
-    cells = []
-    for row in rows:
-        by = f"FDISC of {row['parent']}" if row["kind"] == "FDISC" else "FLOGI"
-        cells.append([row["port"], row["fcid"], row["wwpn"], row["fpma"], by, short(row["from"], first), short(row["to"], first), row["why"]])
-    if has_switch:
-        heads.insert(2, "on the switch")
-        for cell, row in zip(cells, rows):
-            cell.insert(2, row["switch_fcid"])
-    return table(heads, cells)
+    if any("verdict" in row or row["switch_frame"] or row["switch"] not in (None, f"granted {row['fcid']}") for row in rows):
+        lines = lines_of(rows)
+        table_lines = table(["port", "WWPN", "by", "switch", "this forwarder", "from", "to", "why it ended"], [it.cells(first) for it in lines[:most]])
+    else:
+        lines = [login_line(row) for row in rows]
+        cells = [[row["port"], row["fcid"], row["wwpn"], row["fpma"], it.by, short(it.since, first), short(it.until, first), it.why] for row, it in zip(rows[:most], lines)]
+        table_lines = table(["port", "FCID", "WWPN", "FPMA", "by", "from", "to", "why it ended"], cells)
+    return table_lines + ([f"  and {len(lines) - most} more (look logins)"] if most is not None and len(lines) > most else [])
 
 
 def names_text(rows: list[Row]) -> list[str]:
@@ -48,7 +119,7 @@ def names_text(rows: list[Row]) -> list[str]:
         return ["  nobody is logged in at that moment (--at takes another)"]
     cells = []
     for row in rows:
-        types = " ".join(f"{it:02x}" + (f":{row['features'][str(it)]}" if str(it) in row["features"] else "") for it in row["types"])
+        types = ", ".join(type_text(it, row["features"].get(str(it))) for it in row["types"])
         cells.append([row["fcid"], row["port"], row["wwpn"], row["wwnn"], types or None, row["receive_size"] or None, row["watching"] or None, row["symbolic_port_name"] or None])
     return table(["FCID", "port", "WWPN", "WWNN", "FC-4 types:features", "receive size", "SCR", "symbolic port name"], cells)
 
@@ -75,7 +146,7 @@ def verdicts_text(counts: dict[int, dict[str, int]]) -> list[str]:
         for word, count in some.items():
             words[word] = words.get(word, 0) + count
     heads = ["verdict", *(f"port {it}" for it in counts), "in all"]
-    return table(heads, ([word, *(counts[it].get(word, "") for it in counts), total] for word, total in sorted(words.items(), key=lambda it: (-it[1], it[0]))))
+    return table(heads, ([spelled(word), *(counts[it].get(word, "") for it in counts), total] for word, total in sorted(words.items(), key=lambda it: (it[0] == NOISE, -it[1], it[0]))))
 
 
 def troubles_text(rows: list[Row]) -> list[str]:
@@ -84,23 +155,36 @@ def troubles_text(rows: list[Row]) -> list[str]:
     for row in rows:
         where = ", ".join(f"{port}/{number}" for port, number in row["frames"])
         kinds = ", ".join(f"{count} {kind}" for kind, count in row["kinds"].items())
-        lines.append(f"  {row['verdict']}  ×{row['count']}  ({kinds}; port/frame {where}{' ..' if row['count'] > len(row['frames']) else ''})")
-        if row["meaning"]:
-            lines.append(f"    {row['meaning']} [{row['standard']}]")
-        if row["place"]:
-            lines.append(f"    in the first: {text_of(row['place'])}")
-        lines += [f"    {hint}" for hint in row["hints"]]
-        if row["look"]:
-            lines.append(f"    look next at: {row['look']}")
+        more = " .." if row["count"] > len(row["frames"]) else ""
+        own = folded(f"{spelled(row['verdict'])}  ×{row['count']}  ({kinds}; port/frame {where}{more})", "  ")
+        if row["verdict"] == NOISE:
+            lines += [painted(it, Colour.NOISE) for it in own]
+            continue
+        own += folded(f"{row['meaning']} [{row['standard']}]", "    ") if row["meaning"] else []
+        own += folded(f"in the first: {text_of(row['place'])}", "    ") if row["place"] else []
+        lines += own + [line for hint in row["hints"] for line in folded(hint, "    ")]
+        lines += folded(f"look next at: {row['look']}", "    ") if row["look"] else []
     return lines or ["  nothing was dropped, rejected or refused"]
 
 
-def answer_lines(it: Compared, first: int) -> list[str]:
+def together(some: list[Compared]) -> list[list[Compared]]:
+    """Those together that differ alike, whatever frame and port."""
+    groups: dict[tuple[Any, ...], list[Compared]] = {}
+    for it in some:
+        key = (it.request, it.switch, it.forwarder, *((one.field, one.switch, one.forwarder, one.note) for one in it.differences))
+        groups.setdefault(key, []).append(it)
+    return list(groups.values())
+
+
+def answer_lines(some: list[Compared], first: int) -> list[str]:
+    """What differs, of frames that differ alike: the first of them, and how many there are."""
+    it = some[0]
     where = f"port {it.port}" + (f", frame {it.frame}" if it.frame else "")
-    lines = [f"  {where}, {short(it.clock, first)}: {it.request}: switch {it.switch}, forwarder {it.forwarder}"]
+    more = f" ×{len(some)}, the last {short(some[-1].clock, first)}" if len(some) > 1 else ""
+    lines = folded(f"{where}, {short(it.clock, first)}{more}: {it.request}: switch {spelled(it.switch)}, forwarder {spelled(it.forwarder)}", "  ")
     for difference in it.differences:
         note = f"  ({difference.note})" if difference.note else ""
-        lines.append(f"    {difference.field}: switch {difference.switch[:120]} | forwarder {difference.forwarder[:120]}{note}")
+        lines += folded(f"{difference.field}: switch {spelled(difference.switch)[:120]} | forwarder {spelled(difference.forwarder)[:120]}{note}", "    ")
     return lines
 
 
@@ -112,13 +196,13 @@ def compare_text(found: Optional[Comparison], first: int) -> list[str]:
     lines = ["  " + ", ".join(f"{sums[state]} {words}" for state, words in STATES.items())]
     lines += table(["request", *STATES], ([kind, *(some[state] for state in STATES)] for kind, some in by_kind(found).items()))
     for title, state in (("Differences", "different"), ("Choices", "choice"), ("Open", "open")):
-        some = [it for it in found.all() if it.state == state]
-        if some:
+        groups = together([it for it in found.all() if it.state == state])
+        if groups:
             lines.append(f" {title}")
-        for it in some[:LISTED]:
-            lines += answer_lines(it, first)
-        if len(some) > LISTED:
-            lines.append(f"  and {len(some) - LISTED} more (--json, --report)")
+        for some in groups[:LISTED]:
+            lines += answer_lines(some, first)
+        if len(groups) > LISTED:
+            lines.append(f"  and {sum(map(len, groups[LISTED:]))} more (--json, --report)")
     if found.forwarded:
         lines.append(" Data frames: " + ", ".join(f"{count} {word}" for word, count in found.forwarded.most_common()))
     if found.others:
@@ -136,24 +220,22 @@ def compare_json(found: Optional[Comparison]) -> Any:
     return {"totals": dict(totals(found)), "answers": rows, "forwarded": dict(found.forwarded), "others": dict(found.others)}
 
 
-def rejected_text(rows: list[Row], first: int) -> list[str]:
-    if not rows:
-        return []
-    return [" Rejected", *table(["port", "frame", "request", "WWPN", "at", "verdict"], ([it["port"], it["frame"], it["request"], it["wwpn"], short(it["clock"], first), it["verdict"]] for it in rows))]
+def titled(title: str, lines: list[str]) -> list[str]:
+    return ["", painted(title, Colour.HEAD), *lines]
 
 
 def summary_text(look: Look, found: Row) -> list[str]:
-    """The answer that a person reads in a minute."""
+    """The answer that a person reads in a minute: what matters first, what was on the wire besides last."""
     first = first_clock(look)
     hosts, switch = sum(it["hosts"] for it in found["ports"]), sum(it["switch"] for it in found["ports"])
-    lines = [f"{hosts} frames of hosts and {switch} of the switch, {stamp(found['from'])} to {stamp(found['to'])} (UTC)"]
-    if found["printed"]:
-        lines.append(f"run: {found['printed']}; replay: {found['checked']}")
-    lines += ["", "Logins", *logins_text(found["logins"], first, SUMMARISED), *rejected_text(found["rejected_logins"], first)]
-    lines += ["", "Zones at the end", *zones_text(found["zones"], LISTED // 3)]
-    lines += ["", "Verdicts", *verdicts_text(found["verdicts"])]
-    lines += ["", "Dropped, rejected, refused", *troubles_text(found["troubles"])]
-    return lines + ["", "The switch's answers beside the forwarder's", *compare_text(look.compared, first)]
+    lines = [painted("Answer", Colour.HEAD), *answers_text(found["answers"], first)]
+    lines += titled("Logins", logins_text(found["logins"] + found["rejected_logins"], first, SUMMARISED))
+    lines += titled("The switch's answers beside this forwarder's", compare_text(look.compared, first))
+    lines += titled("Dropped, rejected, refused by this forwarder", troubles_text(found["troubles"]))
+    lines += titled("Verdicts", verdicts_text(found["verdicts"]))
+    lines += titled("Zones at the end", zones_text(found["zones"], LISTED // 3))
+    lines += ["", f"{hosts} frames of hosts and {switch} of the switch, {stamp(found['from'])} to {stamp(found['to'])} (UTC)"]
+    return lines + ([f"run: {found['printed']}; replay: {found['checked']}"] if found["printed"] else [])
 
 
 def end_lines(end: Row, first: int) -> list[str]:

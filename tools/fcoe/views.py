@@ -2,6 +2,8 @@
 from collections import Counter
 from typing import Any, Optional
 
+from .answering import answers_of
+from .answers import row_of as row_of_answer
 from .columns import MILLISECOND
 from .errors import Refused
 from .errors import counted as plural
@@ -11,6 +13,7 @@ from .journals import TICK, Entry, Frame, code_rows, counted, row_of
 from .looking import Look
 from .places import place_of
 from .runs import shown_at_end
+from .traffic_answers import NOISE
 from .windows import is_otherwise, otherwise
 
 Row = dict[str, Any]
@@ -40,6 +43,23 @@ def switch_address(look: Look, login: Login) -> Optional[int]:
     return found[0] if found else None
 
 
+def switch_verdict(look: Look, port: int, index: int) -> Optional[str]:
+    """What the switch answered to a frame, in the journal's words and with its own address; nothing where no answer is here."""
+    request = look.request_of(port, index)
+    reply = look.replies.get(request)
+    if reply is not None:
+        return reply.verdict
+    if request in look.grants:
+        return f"granted {fcid(look.grants[request][0])}"
+    return "no answer" if look.captured[port - 1].replies else None
+
+
+def switch_frame(look: Look, port: int, index: int) -> Optional[int]:
+    """The number of the switch's answer to a frame."""
+    reply = look.replies.get(look.request_of(port, index))
+    return reply.number if reply else None
+
+
 def login_row(look: Look, login: Login) -> Row:
     first = look.run.entries[login.granted_by]
     last = look.run.entries[login.ended_by] if login.ended_by is not None else None
@@ -52,6 +72,8 @@ def login_row(look: Look, login: Login) -> Row:
         "enode": colons(login.enode),
         "kind": "FDISC" if login.is_fdisc else "FLOGI",
         "parent": fcid(login.parent) if login.parent is not None else None,
+        "switch": switch_verdict(look, *login.granted_frame),
+        "switch_frame": switch_frame(look, *login.granted_frame),
         "switch_fcid": fcid(it) if (it := switch_address(look, login)) is not None else None,
         "from": login.since,
         "from_frame": number_of(look, first),
@@ -74,7 +96,8 @@ def refused_logins(look: Look) -> list[Row]:
         if heard.is_fip and heard.fc is not None:
             payload = heard.fc.payload
             name = colons(payload[20:28]) if heard.kind != "LOGO" else colons(payload[8:16])
-            found.append({"port": entry.port, "frame": number_of(look, entry), "request": heard.kind, "wwpn": name, "clock": entry.clock, "verdict": entry.verdict})
+            row: Row = {"port": entry.port, "frame": number_of(look, entry), "request": heard.kind, "wwpn": name, "clock": entry.clock, "verdict": entry.verdict}
+            found.append({**row, "switch": switch_verdict(look, entry.port, entry.index), "switch_frame": switch_frame(look, entry.port, entry.index)})
     return found
 
 
@@ -179,7 +202,7 @@ def troubles(look: Look) -> list[Row]:
         found.setdefault(entry.verdict, []).append(entry)
         places[(entry.port, entry.index)] = at
     rows = []
-    for verdict, frames in sorted(found.items(), key=lambda it: (it[0].split(" ")[0], -len(it[1]), it[0])):
+    for verdict, frames in sorted(found.items(), key=lambda it: (it[0] == NOISE, it[0].split(" ")[0] == "dropped", -len(it[1]), it[0])):
         row = row_of(verdict)
         heard = look.ports[frames[0].port - 1].host(frames[0].index)
         rows.append(
@@ -240,6 +263,11 @@ def window_hints(look: Look, frames: list[Frame], places: dict[tuple[int, int], 
     return [f"{len(own)} by the window: the grant or the end stands in the same window on another port ({where}): {otherwise(look.run.config.window)} decides otherwise"]
 
 
+def answers(look: Look) -> list[Row]:
+    """The answers, worst first."""
+    return [row_of_answer(it) for it in answers_of(look)]
+
+
 def summary(look: Look) -> Row:
     """What a person reads first."""
     run = look.run
@@ -254,6 +282,7 @@ def summary(look: Look) -> Row:
         "checked": run.checked,
         "runs": look.turns,
         "assumed": look.inputs.remarks,
+        "answers": answers(look),
         "logins": logins(look, None),
         "rejected_logins": refused_logins(look),
         "zones": zones(look, None),

@@ -1,0 +1,29 @@
+"""All answers of a look, worst first: for the terminal, for JSON and for the report."""
+from typing import Optional
+
+from .answers import Answer, Severity
+from .discovery import why_not_in
+from .enodes import seen_of
+from .login_answers import again, rejected, rejected_here, rejects_in, silent, silent_logins
+from .looking import Look
+from .traffic_answers import Explained, differences, drops, well
+
+
+def answers_of(look: Look) -> list[Answer]:
+    """What to know first, worst first; one that says that all is well where nothing is amiss."""
+    everyone = list(seen_of(look))
+    found: list[Answer] = []
+    told = Explained(requests={it for some in rejects_in(everyone).values() for it in some})
+    for seen in everyone:
+        answer: Optional[Answer] = why_not_in(seen)
+        if answer is not None:
+            found.append(answer)
+            told.hosts.add((seen.enode.port.number, seen.enode.mac))
+    found += rejected(look, everyone)
+    found += rejected_here(look, [it for it in everyone if (it.enode.port.number, it.enode.mac) not in told.hosts])
+    told.silent = {(it.port, it.enode) for it in silent_logins(look)}
+    found += [*silent(look), *again(look), *differences(look, told), *drops(look, told)]
+    if not any(it.severity < Severity.NOTED for it in found):
+        found.append(well(look))
+    found.sort(key=lambda it: (it.severity if it.severity != Severity.WELL else Severity.NOTED - 0.5, -it.count))
+    return found

@@ -1,0 +1,215 @@
+"""Answers on logins: those that were rejected, those that fell silent, those that were made again."""
+from collections import Counter
+from dataclasses import dataclass
+from typing import Iterable, Iterator, Optional
+
+from .answers import Answer, Severity, times
+from .codes import spelled
+from .enodes import Seen
+from .errors import counted
+from .fabric import Login
+from .frames import CLEAR, KEEP_ALIVE, LOGIN, colons, fcid, login_names
+from .inputs import Port
+from .journals import Frame
+from .looking import Look
+from .moments import short
+from .readdress import Request
+
+HEEDED = 500  # milliseconds: Linux heeds no shorter advertised period
+AGAIN = "its ENode logged in again (FLOGI)"
+STEPS = {
+    "rejected 09 29": "the switch's list of logins (`show flogi database`, `switchshow`) beside the limit of its port; for an FDISC, whether it takes NPIV",
+    "rejected 0b 2c": "the FIP flags: FP and SP say which kind of MAC the host asks for (`look fields`)",
+    "rejected 0b 00": "the class of service that the host asks for (`look fields`)",
+    "rejected 09 00": "the ENode's own FLOGI comes before its FDISC",
+}
+
+
+def entries_of(look: Look, wanted: Iterable[Request]) -> dict[Request, Frame]:
+    """The journal's entries of some requests."""
+    some, found = set(wanted), {}
+    for _, entry in look.run.entries.with_words("granted", "rejected", "dropped") if some else ():
+        request = look.request_of(entry.port, entry.index)
+        if request in some:
+            found[request] = entry
+    return found
+
+
+def beats_of(look: Look) -> dict[tuple[int, bytes], list[int]]:
+    """When each ENode was heard, by its logins and keep alives, as the captures have it."""
+    found: dict[tuple[int, bytes], list[int]] = {}
+    for port in look.captured:
+        for at in port.host_messages:
+            heard = port.frames.heard(at)
+            if heard.is_fip and heard.operation in (LOGIN, KEEP_ALIVE):
+                found.setdefault((port.number, heard.source), []).append(port.frames.milliseconds(at))
+    return found
+
+
+def last_heard(beats: dict[tuple[int, bytes], list[int]], login: Login, clock: int) -> int:
+    """When the ENode of a login was heard last before a moment."""
+    return max((it for it in beats.get((login.port, login.enode), []) if it < clock), default=login.since)
+
+
+def holder_text(look: Look, name: bytes, request: Request, clock: int) -> str:
+    """Which login holds a name at a moment, and when it ends if it stays silent."""
+    places = {look.request_of(*it.granted_frame): it for it in look.walk.fabric.logins}
+    own = [it for place, it in places.items() if it.name == name and place != request and it.is_live(clock)]
+    if not own:
+        return "no login of these captures holds the name: it is on a port that wasn't captured, or is older than the capture"
+    it = own[-1]
+    address = look.on_switch(it)
+    heard = last_heard(beats_of(look), it, clock)
+    ends = heard + look.run.config.period * 5 // 2
+    return (
+        f"the name is held by {fcid(address)} on port {it.port} (ENode {colons(it.enode)}, since {short(it.since, clock)}, "
+        f"heard last {short(heard, clock)}): it ends by its LOGO, by a FLOGI of its ENode, or by silence at {short(ends, clock)}"
+    )
+
+
+def rejects_in(all_seen: list[Seen]) -> dict[tuple[int, bytes, str, str], list[Request]]:
+    """The FLOGIs and FDISCs that the switch rejected, by port, port name, kind and verdict."""
+    found: dict[tuple[int, bytes, str, str], list[Request]] = {}
+    for seen in all_seen:
+        for at in seen.enode.all("FLOGI", "FDISC"):
+            reply, names = seen.reply(at), login_names(seen.enode.heard(at))
+            if reply and names and reply.verdict.startswith("rejected"):
+                found.setdefault((seen.enode.port.number, names[0], seen.enode.heard(at).kind, reply.verdict), []).append((seen.enode.port.number, at))
+    return found
+
+
+def here_text(verdicts: Counter[str]) -> str:
+    """What this forwarder does with the same requests."""
+    most = verdicts.most_common(1)[0][0] if verdicts else ""
+    if most.startswith("granted"):
+        return "; this forwarder grants it"
+    return f"; this forwarder answers {spelled(most)}" if most else ""
+
+
+def span_of(look: Look, requests: list[Request]) -> tuple[int, int, list[tuple[int, int]]]:
+    """The first moment, the last one, and where the frames stand in the user's files."""
+    frames = [(look.captured[port - 1].frames, at) for port, at in requests]
+    clocks = [it.milliseconds(at) for it, at in frames]
+    return min(clocks), max(clocks), [(port, it.number(at)) for (port, _), (it, at) in zip(requests, frames)]
+
+
+def step_of(look: Look, verdict: str, name: bytes, first: Request, clock: int) -> str:
+    """What to look at next, by the codes."""
+    if verdict == "rejected 03 00":
+        return holder_text(look, name, first, clock) if any(name) else "the port name is 0: the host's driver"
+    return STEPS.get(verdict, "docs/JOURNAL.md, Codes of rejects")
+
+
+def rejected(look: Look, all_seen: list[Seen]) -> Iterator[Answer]:
+    """Logins that the switch rejected, the reason first."""
+    groups = rejects_in(all_seen)
+    own = entries_of(look, [it for some in groups.values() for it in some])
+    for (port, name, kind, verdict), requests in groups.items():
+        since, until, numbers = span_of(look, requests)
+        here = Counter(own[it].verdict if own[it].word != "granted" else "granted" for it in requests if it in own)
+        got_in = any(it.name == name and it.port == port and look.replied(it) for it in look.walk.fabric.logins)
+        said = f"{'' if got_in else 'got no login: '}the switch rejected {counted(len(requests), kind)}, {spelled(verdict)[len('rejected '):]}"
+        said += "" if here[verdict] == len(requests) else here_text(here)
+        yield Answer(Severity.FAILED, said, step_of(look, verdict, name, requests[0], since), port, colons(name), since, until, numbers)
+
+
+def rejected_here(look: Look, all_seen: list[Seen]) -> Iterator[Answer]:
+    """Logins that this forwarder rejects, of hosts of which the captures don't tell what the switch said."""
+    groups: dict[tuple[int, bytes, str, str], list[Request]] = {}
+    places = {(seen.enode.port.number, at): seen.enode.heard(at) for seen in all_seen for at in seen.enode.all("FLOGI", "FDISC") if not seen.reply(at)}
+    for request, entry in entries_of(look, places).items():
+        heard = places[request]
+        names = login_names(heard)
+        if entry.word == "rejected" and names and request not in look.grants:
+            groups.setdefault((entry.port, names[0], heard.kind, entry.verdict), []).append(request)
+    for (port, name, kind, verdict), requests in groups.items():
+        span = span_of(look, requests)
+        text = f"this forwarder rejects {counted(len(requests), kind)}, {spelled(verdict)[len('rejected '):]}; the switch's answer isn't in the captures"
+        yield Answer(Severity.FAILED, text, step_of(look, verdict, name, requests[0], span[0]), port, colons(name), *span)
+
+
+def real(look: Look, logins: Iterable[Login]) -> list[Login]:
+    """The logins that the switch granted too, as far as its answers are there."""
+    return [it for it in logins if look.replied(it) is not False]
+
+
+def cleared_at(port: Port, login: Login, clock: int) -> Optional[int]:
+    """When the switch cleared the links of a login's ENode, from a moment on."""
+    frames = port.frames
+    own = (frames.milliseconds(at) for at in port.switch_messages if frames.heard(at).operation == CLEAR and frames.heard(at).destination == login.enode)
+    return next((it for it in own if it >= clock), None)
+
+
+@dataclass
+class Silence:
+    """A login whose host fell silent: when it was heard last, when its login ends by that, and why."""
+
+    login: Login
+    heard: int
+    ends: int
+    why: str
+
+    @property
+    def port(self) -> int:
+        return self.login.port
+
+    @property
+    def enode(self) -> bytes:
+        return self.login.enode
+
+
+def silent_logins(look: Look) -> list[Silence]:
+    """The logins that ended by silence, and those that stay live only because no frame of a host comes behind them."""
+    end = max((it.frames.milliseconds(-1) for it in look.captured if it.frames), default=0)
+    found, beats = [], beats_of(look)
+    for it in real(look, look.walk.fabric.logins):
+        heard = last_heard(beats, it, it.until or end + 1)
+        if it.why.startswith("silent"):
+            found.append(Silence(it, heard, it.until or end, it.why.removeprefix("silent: ")))
+        elif it.until is None and 2 * (end - heard) > 5 * look.run.config.period:
+            why = f"no keep alive of its ENode for {(end - heard) / 1000:.1f} s, up to the end of the captures"
+            found.append(Silence(it, heard, heard + look.run.config.period * 5 // 2, why))
+    return found
+
+
+def silent_text(look: Look, it: Silence) -> str:
+    """What a login's silence is, and what the switch did."""
+    port, period = look.captured[it.port - 1], look.run.config.period
+    cleared = cleared_at(port, it.login, it.heard)
+    said = f"fell silent: {it.why} (the period is {period} ms), so its login {fcid(look.on_switch(it.login))} ends {short(it.ends, it.heard)}"
+    if cleared is not None:
+        return f"{said}; the switch cleared it {short(cleared, it.heard)}"
+    return said + ("; the switch sent no clear link message" if port.replies else "")
+
+
+def by_period(look: Look, own: list[Silence]) -> Answer:
+    """Logins that fell silent by a period that Linux doesn't heed."""
+    text = f"the switch advertises a period of {look.run.config.period} ms, and Linux heeds none below {HEEDED} ms: {counted(len(own), 'login')} fell silent by it"
+    followers = [f"{colons(it.login.name)} (port {it.port}): {it.why}" for it in own]
+    return Answer(Severity.LOST, text, "set the switch's keep alive period (FKA_ADV_Period) to 8,000 ms", None, "", own[0].ends, own[-1].ends, followers=followers)
+
+
+def silent(look: Look) -> Iterator[Answer]:
+    """Logins that ended by silence; those of a period that Linux doesn't heed together."""
+    own = silent_logins(look)
+    if own and look.run.config.period < HEEDED:
+        yield by_period(look, own)
+        return
+    groups: dict[tuple[int, bytes], list[Silence]] = {}
+    for it in own:
+        groups.setdefault((it.port, it.enode), []).append(it)
+    for some in groups.values():
+        step = "what the host did then: its link, its driver, its load; a bridge that loses its keep alives"
+        followers = [f"{colons(it.login.name)}: {it.why}" for it in some[1:]]
+        yield Answer(Severity.LOST, silent_text(look, some[0]), step, some[0].port, colons(some[0].login.name), some[0].heard, some[-1].ends, followers=followers)
+
+
+def again(look: Look) -> Iterator[Answer]:
+    """Logins that their ENode made again without a LOGO."""
+    groups: dict[tuple[int, bytes], list[Login]] = {}
+    for it in real(look, (it for it in look.walk.fabric.logins if it.why == AGAIN and not it.is_fdisc)):
+        groups.setdefault((it.port, it.name), []).append(it)
+    for (port, name), logins in groups.items():
+        text = f"logged in again {times(len(logins))} without a LOGO: each ends the login before, and that of its further N_Ports"
+        step = "the host's log at that time: its link went down and up, or its driver began anew"
+        yield Answer(Severity.LOST, text, step, port, colons(name), logins[0].until, logins[-1].until)

@@ -1,0 +1,154 @@
+"""Answers on frames: those that were dropped, and those that the switch answered otherwise."""
+from dataclasses import dataclass, field
+from typing import Iterator, Optional
+
+from .answers import Answer, Severity
+from .codes import spelled
+from .compare import Compared
+from .errors import counted
+from .frames import Heard, colons, fcid
+from .hosts import WELL_KNOWN
+from .journals import Frame, row_of
+from .looking import Look
+from .readdress import Request
+
+NOISE = "dropped ethertype"
+SHOWN = 3  # differences that an answer each is made of
+
+
+@dataclass
+class Drops:
+    """Frames of one rule between the same two ends, with addresses as the captures have them."""
+
+    verdict: str
+    port: int
+    ends: tuple[str, str]
+    never: Optional[int] = None  # an end that nobody here was granted
+    entries: list[Frame] = field(default_factory=list)
+
+
+@dataclass
+class Explained:
+    """What other answers tell of, and is therefore no answer of its own: hosts without a login, by port and MAC; requests that were rejected; hosts
+    that fell silent."""
+
+    hosts: set[tuple[int, bytes]] = field(default_factory=set)
+    requests: set[Request] = field(default_factory=set)
+    silent: set[tuple[int, bytes]] = field(default_factory=set)
+
+    def has(self, look: Look, it: Compared) -> bool:
+        """Whether a difference is told of."""
+        if it.request.startswith("Clear links to "):
+            return (it.port, bytes.fromhex(it.request.rsplit(" ", 1)[1].replace(":", ""))) in self.silent
+        if it.index < 0:
+            return False
+        request = look.request_of(it.port, it.index)
+        return request in self.requests or (it.port, look.captured[it.port - 1].frames.like(request[1]).source) in self.hosts
+
+
+class Directory:
+    """Which names stand behind the run's addresses."""
+
+    def __init__(self, look: Look) -> None:
+        self.look = look
+        self.names = {it.address: colons(it.name) for it in look.walk.fabric.logins}
+
+    def of(self, address: int, said: int) -> str:
+        """A name, or else the address as the captures have it."""
+        if address >= WELL_KNOWN:
+            return fcid(address)
+        return self.names.get(address) or address_text(said, address)
+
+
+def address_text(captured: int, run: int) -> str:
+    """An address as the user's capture has it, with the run's where it is another."""
+    return fcid(captured) if captured == run else f"{fcid(captured)} ({fcid(run)} in the run)"
+
+
+def both(look: Look, entry: Frame) -> tuple[Heard, Heard]:
+    """A frame as it was captured, and as the run has it; of data its ends and kind alone are right."""
+    port, at = look.request_of(entry.port, entry.index)
+    return look.captured[port - 1].frames.like(at), look.ports[port - 1].frames.like(at)
+
+
+def dropped(look: Look, explained: Explained) -> list[Drops]:
+    """Drops by rule, port and ends; without noise, and without frames of hosts that another answer tells of."""
+    known, found = Directory(look), dict[tuple[str, int, tuple[str, str]], Drops]()
+    for place in look.run.entries.places(lambda verdict: verdict.startswith("dropped") and verdict != NOISE):
+        entry = look.run.entries.frame(place)
+        said, run = both(look, entry)
+        sender = entry.port, said.source
+        if sender in explained.hosts or sender in explained.silent and entry.verdict == "dropped keepalive-unknown":
+            continue
+        ends, never = ("", ""), None
+        if said.is_fcoe and said.fc is not None and run.fc is not None:
+            ends = known.of(run.fc.s_id, said.fc.s_id), known.of(run.fc.d_id, said.fc.d_id)
+            lost = {"dropped source-login": (run.fc.s_id, said.fc.s_id), "dropped dest-login": (run.fc.d_id, said.fc.d_id)}.get(entry.verdict)
+            never = lost[1] if lost and lost[0] not in known.names else None
+        found.setdefault((entry.verdict, entry.port, ends), Drops(entry.verdict, entry.port, ends, never)).entries.append(entry)
+    return list(found.values())
+
+
+def drop_text(it: Drops) -> tuple[Severity, str, str]:
+    """What a drop is, and what to do next."""
+    count, rule, row = counted(len(it.entries), "frame"), it.verdict.removeprefix("dropped "), row_of(it.verdict)
+    from_to = f" from {it.ends[0]} to {it.ends[1]}" if it.ends[0] else ""
+    if it.verdict == "dropped dest-login" and it.never is not None:
+        return Severity.NOTED, f"{count}{from_to}, which isn't in these captures", "add the capture of its port, to see what becomes of them"
+    if it.verdict == "dropped source-login" and it.never is not None:
+        return Severity.NOTED, f"{count}{from_to}: {fcid(it.never)} logged in before the capture began", "begin the capture before the host logs in"
+    if it.verdict == "dropped zone":
+        return Severity.DROPPED, f"{count}{from_to} dropped: no active zone joins the two", "a zone with both port names in the active zone set (`look zones`)"
+    if it.verdict in ("dropped dest-login", "dropped keepalive-unknown"):
+        return Severity.NOTED, f"{count}{from_to} behind the end of the login ({rule})", "`look why` of the first tells what ended it, and whether the window did"
+    meaning = f"{row.meaning[:1].lower()}{row.meaning[1:].rstrip('.')}" if row else rule
+    return Severity.DROPPED, f"{count}{from_to} dropped by {rule}: {meaning}", row.look if row and row.look else "`look why` of the first"
+
+
+def drops(look: Look, explained: Explained) -> Iterator[Answer]:
+    """Each kind of drop; what the switch sent on all the same stands among differences."""
+    apart = {(it.port, it.index) for it in look.compared.forwards if it.switch == "sent on"} if look.compared else set()
+    for it in dropped(look, explained):
+        it.entries = [entry for entry in it.entries if (entry.port, entry.index) not in apart]
+        if not it.entries:
+            continue
+        severity, text, step = drop_text(it)
+        numbers = [(it.port, look.ports[it.port - 1].frame_number(entry.index)) for entry in it.entries]
+        yield Answer(severity, text, step, it.port, "", it.entries[0].clock, it.entries[-1].clock, numbers)
+
+
+def difference_text(it: Compared) -> str:
+    """The first field that differs, or that none answered."""
+    if not it.differences:
+        return ""
+    first = next((one for one in it.differences if not one.note), it.differences[0])
+    more = len(it.differences) - 1
+    return f"{first.field}: {spelled(first.switch)[:60]} there, {spelled(first.forwarder)[:60]} here" + (f", and {counted(more, 'field')} more" if more else "")
+
+
+def differences(look: Look, explained: Explained) -> Iterator[Answer]:
+    """What the switch answered otherwise, alike ones together; what follows from another answer isn't among them."""
+    if look.compared is None:
+        return
+    groups: dict[tuple[str, str], list[Compared]] = {}
+    for it in look.compared.all():
+        if it.state == "different" and not explained.has(look, it):
+            groups.setdefault((it.request.split(" to ")[0], difference_text(it)), []).append(it)
+    ranked = sorted(groups.items(), key=lambda it: -len(it[1]))
+    for (request, text), some in ranked[:SHOWN]:
+        numbers = [(it.port, it.frame) for it in some if it.frame]
+        yield Answer(Severity.DIFFERENT, f"the switch answers {counted(len(some), request)} otherwise: {text}", "`look compare` has each, field by field", some[0].port, "", some[0].clock, some[-1].clock, numbers)
+    if len(ranked) > SHOWN:
+        yield Answer(Severity.DIFFERENT, f"and {len(ranked) - SHOWN} more kinds of differences from the switch", "`look compare`")
+
+
+def well(look: Look) -> Answer:
+    """What went well, in one line."""
+    run = look.run
+    names = {it.name for it in look.walk.fabric.logins}
+    went = len(run.entries.places(lambda verdict: verdict.startswith("forwarded")))
+    said = f"{counted(len(names), 'port name')} logged in, {counted(went, 'data frame')} went on; no login was rejected, none fell silent"
+    if look.compared is not None:
+        equal = sum(1 for it in look.compared.all() if it.state == "equal")
+        said += f"; {counted(equal, 'answer')} of the switch as this forwarder's"
+    return Answer(Severity.WELL, said)
