@@ -165,7 +165,7 @@ below-drop c w zero rs h = h
 below-drop c w (suc k) [] h = tt
 below-drop c w (suc k) (r ∷ rs) h = below-drop c w k rs h.1
 
-all_from : (c : Settings) (w v : ℕ) (rs : List Record) → v < w → AreFrom c w rs → IsTrue (list_all (λ m. leb v m) (map (λ (r : Record). window_start c r.moment) rs))
+all_from : (c : Settings) (w v : ℕ) (rs : List Record) → v ≤ w → AreFrom c w rs → IsTrue (list_all (λ m. leb v m) (map (λ (r : Record). window_start c r.moment) rs))
 all_from c w v [] lt h = refl
 all_from c w v (r ∷ rs) lt h = both (le-leb v (window_start c r.moment) (let a = h.0 in omega arith)) (all_from c w v rs lt h.1)
   where
@@ -195,10 +195,10 @@ module _ (c : Settings) (w v : ℕ) (J : Journal) where
   left_more p rs qs few = ap starts (drop-append-le (length (of_port p J)) rs qs few) ∙ map-more c (left_of p rs J) qs
 
   -- the window of some frame that is left lies below
-  any_below : (p : ℕ) (ins : List (List Record)) → AllBelow c w ins → IsTrue (list_any is_it (windows_left c p ins J)) → v < w
+  any_below : (p : ℕ) (ins : List (List Record)) → AllBelow c (w + 1) ins → IsTrue (list_any is_it (windows_left c p ins J)) → v < w + 1
   any_below p [] below h = absurd (cc)
   any_below p (rs ∷ ins) below h = elim (any-either is_it (starts (left_of p rs J)) (windows_left c (p + 1) ins J) h) [
-    | inl own ↦ any_from c w v (left_of p rs J) (below-drop c w (length (of_port p J)) rs below.0) own
+    | inl own ↦ any_from c (w + 1) v (left_of p rs J) (below-drop c (w + 1) (length (of_port p J)) rs below.0) own
     | inr more ↦ any_below (p + 1) ins below.1 more
   ]
 
@@ -212,7 +212,7 @@ module _ (c : Settings) (w v : ℕ) (J : Journal) where
         | inr rest ↦ any-right is_it (starts (left_of p rs J) ++ starts qs) (windows_left c (p + 1) (with_more ins more) J) (any_more (p + 1) ins more (omega arith) few.1 rest)
       ])
 
-  all_more : (p : ℕ) (ins more : List (List Record)) → v < w → length more ≡ length ins → Few J p ins → AllFrom c w more → IsTrue (list_all least (windows_left c p ins J)) → IsTrue (list_all least (windows_left c p (with_more ins more) J))
+  all_more : (p : ℕ) (ins more : List (List Record)) → v ≤ w → length more ≡ length ins → Few J p ins → AllFrom c w more → IsTrue (list_all least (windows_left c p ins J)) → IsTrue (list_all least (windows_left c p (with_more ins more) J))
   all_more p [] more lt e few from h = refl
   all_more p (rs ∷ ins) [] lt e few from h = absurd (omega arith)
   all_more p (rs ∷ ins) (qs ∷ more) lt e few from h =
@@ -259,10 +259,10 @@ frame_of index caught verdict J port p (suc k) (qs ∷ ins) rs e at h = frame_of
 
 -- ---- all entries
 
-entry_more : (c : Settings) (w : ℕ) (ins more : List (List Record)) (e : Event) (J : Journal) → HasPorts (length ins) (e ∷ J) → InFront (e ∷ J) 1 ins → InTime c ins J e → AllBelow c w ins → AllFrom c w more → length more ≡ length ins → InTime c (with_more ins more) J e
+entry_more : (c : Settings) (w : ℕ) (ins more : List (List Record)) (e : Event) (J : Journal) → HasPorts (length ins) (e ∷ J) → InFront (e ∷ J) 1 ins → InTime c ins J e → AllBelow c (w + 1) ins → AllFrom c w more → length more ≡ length ins → InTime c (with_more ins more) J e
 entry_more c w ins more (Tick m ended) J ports front t below from count =
     let few = few_in_front J 1 ins (front_before (Tick m ended) J 1 ins front) in
-    let lt = any_below c w t.0 J 1 ins below t.1.0 in
+    let lt : t.0 ≤ w = let b = any_below c w t.0 J 1 ins below t.1.0 in omega arith in
     (t.0, (any_more c w t.0 J 1 ins more count few t.1.0, all_more c w t.0 J 1 ins more lt count few from t.1.1), t.2)
 entry_more c w ins more (Frame port index caught verdict) J ports front t below from count =
     let some = ports.1 in
@@ -271,7 +271,7 @@ entry_more c w ins more (Frame port index caught verdict) J ports front t below 
     subst (λ o. IfSome o (λ r. clock J ≡ Some (window_start c r.moment)))
     (sym (at_port (port - 1) index ins more count (omega arith) (λ rs at. frame_of index caught verdict J port 1 (port - 1) ins rs place at front))) t
 
-time_more : (c : Settings) (w : ℕ) (ins more : List (List Record)) (J : Journal) → HasPorts (length ins) J → InFront J 1 ins → Timed c ins J → AllBelow c w ins → AllFrom c w more → length more ≡ length ins → Timed c (with_more ins more) J
+time_more : (c : Settings) (w : ℕ) (ins more : List (List Record)) (J : Journal) → HasPorts (length ins) J → InFront J 1 ins → Timed c ins J → AllBelow c (w + 1) ins → AllFrom c w more → length more ≡ length ins → Timed c (with_more ins more) J
 time_more c w ins more [] ports front t below from count = tt
 time_more c w ins more (Tick m ended ∷ J) ports front t below from count =
     (time_more c w ins more J ports (front_before (Tick m ended) J 1 ins front) t.0 below from count, entry_more c w ins more (Tick m ended) J ports front t.1 below from count)

@@ -1,5 +1,5 @@
 -- What further entries add to what a journal says, and what further records change of a run.
-use Rattle.std.specs.Prelude.{◌≡◌, ℕ, ◌<◌, ◌≤◌, ◌==◌, List, [], ◌∷◌, ◌++◌, length, map, filter, flat_map}
+use Rattle.std.specs.Prelude.{◌≡◌, ℕ, ◌+◌, ◌<◌, ◌≤◌, ◌==◌, List, [], ◌∷◌, ◌++◌, length, map, filter, flat_map}
 use Rattle.fab_config.specs.Settings.{Settings}
 use Rattle.pcap_file.specs.Capture.{head_bytes}
 use Rattle.pcap_file.specs.declared.Record.{Record}
@@ -81,11 +81,11 @@ abbrev pub AllFrom : Settings → ℕ → List (List Record) → Type 0
 AllFrom c w [] = Unit {0}
 AllFrom c w (records ∷ more) = AreFrom c w records × AllFrom c w more
 
--- Records of later windows change nothing of the time of what was run before them.
+-- Records of the last window or of later ones change nothing of the time of what was run before them.
 abbrev pub TimedGrows : Type 0
 TimedGrows =
     (c : Settings) (w : ℕ) (ins more : List (List Record)) (J : Journal) → HasPorts (length ins) J → HoldsFrames J 1 ins → Timed c ins J
-    → AllBelow c w ins → AllFrom c w more → length more ≡ length ins → Timed c (with_more ins more) J
+    → AllBelow c (w + 1) ins → AllFrom c w more → length more ≡ length ins → Timed c (with_more ins more) J
 
 -- A journal without entries is a run over no records of any ports, as over those in windows before the first moment.
 abbrev pub NothingIsRun : Type 0

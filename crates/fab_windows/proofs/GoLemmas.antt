@@ -1,5 +1,5 @@
 -- A window that was gathered and handled: what stands after it, before and behind its writing.
-use Rattle.std.proofs.Common.{◌≡◌, ℕ, suc, ◌+◌, ◌^◌, ◌<◌, List, [], ◌∷◌, ◌++◌, length, map, Option, Some, IfSome, IsTrue, Result, Ok, Err, inl, inr, take, drop, refl, sym, ap, ◌∙◌, subst, arith}
+use Rattle.std.proofs.Common.{◌≡◌, ℕ, suc, ◌+◌, ◌^◌, ◌<◌, ◌≤◌, List, [], ◌∷◌, ◌++◌, length, map, Option, Some, IfSome, IsTrue, Result, Ok, Err, inl, inr, take, drop, refl, sym, ap, ◌∙◌, subst, arith}
 use Rattle.std.specs.Prelude.{unwrap_or, IsErrOf}
 use Rattle.fab_base.specs.Seen.{Seen, Touches, Nothing}
 use Rattle.fab_base.specs.declared.values.Failed.{Failed}
@@ -96,7 +96,7 @@ module _ (laws : Laws) (k : Task) (w first : ℕ) (F : Contents) (d : Seen) (ins
       let n : length (batches_of shelves') ≡ length k.ins = length-batches shelves' ∙ sym width ∙ r.sofar.width in
       let frames = subst (λ l. Handled l (batches_of shelves') h.ticked h.handled) (laws.firsts_taken c (w + 1) (captures_in k) r.taken ins' shelves' b width read_on) h.frames in
       let ranged = subst AreRanged h.events_ h.ranged in
-      let s = laws.windows_run c (length k.ins) w r.taken (batches_of shelves') r.entry_list F h.ticked h.handled r.sofar n moved.batches moved.some h.ticks frames ranged in
+      let s = laws.windows_run c (length k.ins) w w r.taken (batches_of shelves') r.entry_list F h.ticked h.handled r.sofar (let le : w ≤ w + 1 = omega arith in le) n moved.batches moved.some h.ticks frames ranged in
       subst (Sofar c (length k.ins) (w + 1) taken' K) (sym h.after) (subst (λ l. Sofar c (length k.ins) (w + 1) taken' (followed r.entry_list l) (drained h.handled)) (sym h.events_) s)
 
   pub clock_on : E.state.tables.clock ≡ Some w

@@ -1,5 +1,5 @@
 -- The records of a window behind those that were taken before, and the windows that are left of them.
-use Rattle.std.proofs.Common.{◌≡◌, ℕ, zero, suc, ◌+◌, Bool, true, false, eqb, leb, ◌&&◌, ◌||◌, List, [], ◌∷◌, ◌++◌, length, drop, map, slice_get, Some, refl, sym, ap, ◌∙◌, subst, arith}
+use Rattle.std.proofs.Common.{◌≡◌, ℕ, zero, suc, ◌+◌, ◌≤◌, Bool, true, false, eqb, leb, ◌&&◌, ◌||◌, List, [], ◌∷◌, ◌++◌, length, drop, map, slice_get, Some, refl, sym, ap, ◌∙◌, subst, arith}
 use Rattle.std.specs.List.{list_any, list_all}
 use Rattle.std.proofs.lemmas.Bool.{eq-eqb, le-leb}
 use Rattle.std.proofs.lemmas.List.Folds.{list_any-append, list_all-append}
@@ -16,15 +16,23 @@ use Rattle.fab_shared.proofs.FrameLemmas.{numbered-append}
 
 -- ---- records of a window, behind earlier ones
 
-below_more : (c : Settings) (w : ℕ) (records batch : List Record) → AreBelow c w records → AreIn c w batch → AreBelow c (w + 1) (records ++ batch)
+below_more : (c : Settings) (w : ℕ) (records batch : List Record) → AreBelow c (w + 1) records → AreIn c w batch → AreBelow c (w + 1) (records ++ batch)
 below_more c w [] [] below own = tt
 below_more c w [] (r ∷ batch) below own = (let e = own.0 in omega arith, below_more c w [] batch tt own.1)
-below_more c w (r ∷ records) batch below own = (let e = below.0 in omega arith, below_more c w records batch below.1 own)
+below_more c w (r ∷ records) batch below own = (below.0, below_more c w records batch below.1 own)
 
-pub all_below_more : (c : Settings) (w : ℕ) (taken batches : List (List Record)) → length batches ≡ length taken → AllBelow c w taken → AllIn c w batches → AllBelow c (w + 1) (with_more taken batches)
+pub all_below_more : (c : Settings) (w : ℕ) (taken batches : List (List Record)) → length batches ≡ length taken → AllBelow c (w + 1) taken → AllIn c w batches → AllBelow c (w + 1) (with_more taken batches)
 all_below_more c w [] batches e below own = tt
 all_below_more c w (records ∷ taken) [] e below own = absurd (omega arith)
 all_below_more c w (records ∷ taken) (batch ∷ batches) e below own = (below_more c w records batch below.0 own.0, all_below_more c w taken batches (omega arith) below.1 own.1)
+
+below_to : (c : Settings) (v w : ℕ) (records : List Record) → v ≤ w → AreBelow c v records → AreBelow c w records
+below_to c v w [] le below = tt
+below_to c v w (r ∷ records) le below = (let e = below.0 in omega arith, below_to c v w records le below.1)
+
+pub all_below_to : (c : Settings) (v w : ℕ) (taken : List (List Record)) → v ≤ w → AllBelow c v taken → AllBelow c w taken
+all_below_to c v w [] le below = tt
+all_below_to c v w (records ∷ taken) le below = (below_to c v w records le below.0, all_below_to c v w taken le below.1)
 
 from_window : (c : Settings) (w : ℕ) (batch : List Record) → AreIn c w batch → AreFrom c w batch
 from_window c w [] own = tt

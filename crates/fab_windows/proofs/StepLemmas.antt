@@ -1,5 +1,5 @@
 -- A run goes on by the ticks and the frames of a window.
-use Rattle.std.proofs.Common.{◌≡◌, ℕ, suc, ◌+◌, ◌<◌, List, [], ◌∷◌, ◌++◌, length, length-append, map, get_or, refl, sym, ap, ◌∙◌, subst, arith}
+use Rattle.std.proofs.Common.{◌≡◌, ℕ, suc, ◌+◌, ◌<◌, ◌≤◌, List, [], ◌∷◌, ◌++◌, length, length-append, map, get_or, refl, sym, ap, ◌∙◌, subst, arith}
 use Rattle.std.specs.Prelude.{option_to_list}
 use Rattle.fab_config.specs.Settings.{Settings}
 use Rattle.fab_base.specs.Seen.{Seen}
@@ -19,7 +19,7 @@ use Rattle.pcap_file.specs.declared.Record.{Record}
 use Rattle.fab_windows.specs.Steps.{Sofar, FirstsAreTaken}
 use Rattle.fab_windows.specs.Window.{AreTicksTo, Ticked, Handled}
 use Rattle.fab_shared.proofs.FollowedLemmas.{of_port-followed, ports-followed}
-use Rattle.fab_windows.proofs.LeftLemmas.{all_below_more, all_from_window, length-with_more, holds_more, least_left}
+use Rattle.fab_windows.proofs.LeftLemmas.{all_below_more, all_below_to, all_from_window, length-with_more, holds_more, least_left}
 use Rattle.fab_windows.proofs.TimedLemmas.{ticks_hold, ticks_ports, timed_ticks, timed_frames, AllAbove, AreBehind, held_behind, frames_of}
 
 -- ---- ranges
@@ -47,7 +47,7 @@ firsts_are_taken c w (o ∷ opened) (records ∷ taken) (i ∷ ins) (s ∷ shelv
 -- ---- a window
 
 module _ (parts : FollowedByParts) (ranged : RangedByParts) (grows : TimedGrows) (still : StandsDrained)
-    (c : Settings) (n w : ℕ) (taken batches : List (List Record)) (J : Journal) (F G H : Contents) (so_far : Sofar c n w taken J F)
+    (c : Settings) (n v w : ℕ) (taken batches : List (List Record)) (J : Journal) (F G H : Contents) (so_far : Sofar c n v taken J F) (soon : v ≤ w + 1)
     (width : length batches ≡ n) (own : AllIn c w batches) (some : HasSome batches) (t : Ticked w F G) (h : Handled (map (λ records. length records) taken) batches G H) (in_range : AreRanged H.events) where
   abbrev ins : List (List Record)
   ins = with_more taken batches
@@ -98,7 +98,7 @@ module _ (parts : FollowedByParts) (ranged : RangedByParts) (grows : TimedGrows)
   frames_after = holds_more 1 taken batches J K h.grown.later same_width (λ q. of_port-followed q I h.grown.later ∙ ap (λ l. l ++ of_port q (followed [] h.grown.later)) (ticks_hold c w q J t.ticks are_ticks)) so_far.run.run.frames h.held
 
   timed_before : Timed c ins J
-  timed_before = grows c w taken batches J so_far.run.run.ports so_far.run.run.frames so_far.run.run.timed so_far.below (all_from_window c w batches own) same_width
+  timed_before = grows c w taken batches J so_far.run.run.ports so_far.run.run.frames so_far.run.run.timed (all_below_to c v (w + 1) taken soon so_far.below) (all_from_window c w batches own) same_width
 
   behind : AreBehind taken h.grown.later
   behind q records at =
@@ -122,7 +122,7 @@ module _ (parts : FollowedByParts) (ranged : RangedByParts) (grows : TimedGrows)
   window_is_run = record {
     run = record { ranged = ranged J H.events so_far.run.ranged (ranged_each H.events in_range); run = subst (Run c ins) (sym goes_on) run_after };
     width = length-with_more taken batches ∙ so_far.width;
-    below = all_below_more c w taken batches same_width so_far.below own;
+    below = all_below_more c w taken batches same_width (all_below_to c v (w + 1) taken soon so_far.below) own;
     stands = subst (Stands (drained H)) (sym goes_on) (still H K handled.1);
     settings = same_settings;
     count = same_count;

@@ -1,5 +1,5 @@
 -- What the ticks and frames of a window make of a run.
-use Rattle.std.specs.Prelude.{◌≡◌, ℕ, ◌+◌, List, [], length, map}
+use Rattle.std.specs.Prelude.{◌≡◌, ℕ, ◌+◌, ◌≤◌, List, [], length, map}
 use Rattle.fab_config.specs.Settings.{Settings}
 use Rattle.fab_policy.specs.Growing.{with_more, AllBelow}
 use Rattle.fab_policy.specs.Journal.{Journal, followed}
@@ -33,11 +33,11 @@ FirstsAreTaken =
     (c : Settings) (w : ℕ) (opened : List Opened) (taken : List (List Record)) (ins : List Input) (shelves : List Shelf) (d : Seen) → length taken ≡ length shelves
     → HaveRead c w opened (with_more taken (batches_of shelves)) ins shelves d → firsts_of shelves ≡ map (λ records. length records) taken
 
--- What stands before a window stands after it, with the window's records, once the ticks up to it are made, its frames are
--- handled and the fabric is drained.
+-- What stands before a window or in it stands after it, with records of the window, once the ticks up to it are made, their frames
+-- are handled and the fabric is drained.
 abbrev pub WindowIsRun : Type 0
 WindowIsRun =
-    (c : Settings) (n w : ℕ) (taken batches : List (List Record)) (J : Journal) (F G H : Contents) → Sofar c n w taken J F
+    (c : Settings) (n v w : ℕ) (taken batches : List (List Record)) (J : Journal) (F G H : Contents) → Sofar c n v taken J F → v ≤ w + 1
     → length batches ≡ n → AllIn c w batches → HasSome batches
     → Ticked w F G → Handled (map (λ records. length records) taken) batches G H → AreRanged H.events
     → Sofar c n (w + 1) (with_more taken batches) (followed J H.events) (drained H)

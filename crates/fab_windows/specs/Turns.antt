@@ -1,4 +1,4 @@
--- What stands between the windows of a run, and what its parts do. No public clause cites this module.
+-- What stands between the windows of a run, and what its parts do. Of the public clauses only that of the laws cites it.
 use Rattle.std.specs.Prelude.{◌≡◌, ℕ, ◌+◌, ◌<◌, ◌≤◌, ◌^◌, ◌⊎◌, IsTrue, IfSome, List, [], ◌++◌, length, map, Some, Result, Ok, Err, OnOk, IfErr, IsErrOf}
 use Rattle.fab_base.specs.Seen.{Seen, Touches, Rose, SameReadFaults, SameWriteFaults}
 use Rattle.fab_base.specs.declared.values.Failed.{Failed}

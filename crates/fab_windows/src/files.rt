@@ -12,13 +12,13 @@ use run_files::put_each;
 
 /// Where a run writes: the slot of the journal, and those of the outputs in port order.
 #[derive(Clone, Copy, Debug)]
-pub(crate) struct Slots<'a> {
-    pub(crate) journal: u32,
-    pub(crate) outs: &'a [u32],
+pub struct Slots<'a> {
+    pub journal: u32,
+    pub outs: &'a [u32],
 }
 
 /// Writes what the pages hold, and empties them. Its one fault is `Write`.
-pub(crate) fn flush<D: Depot>(
+pub fn flush<D: Depot>(
     depot: &mut D,
     slots: &Slots<'_>,
     pages: &mut Pages,

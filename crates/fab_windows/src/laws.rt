@@ -10,7 +10,7 @@ use fab_policy::{
 };
 
 /// Further entries, further records, where reading stops, and what was read.
-pub(crate) fn laws_of_runs()
+pub fn laws_of_runs()
     ensures { Laws }
 {
     // Law: what further entries add to journal and files, what later windows leave as it is, what a

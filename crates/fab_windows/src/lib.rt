@@ -10,6 +10,10 @@ mod steps;
 mod window;
 
 pub use fab_gather::{CapWhy, Input, LimitKind};
+pub use files::{Slots, flush};
+pub use laws::laws_of_runs;
+pub use pages::Pages;
+pub use plan::tick_to;
 pub use run::run_windows;
 pub use run_files::RunFault;
 

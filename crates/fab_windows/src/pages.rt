@@ -23,14 +23,14 @@ const FULL: usize = 65536;
 
 /// What is still to be written: lines of the journal, and records of the output of each port.
 #[derive(Debug, Drop)]
-pub(crate) struct Pages {
-    pub(crate) lines: Vec<u8>,
-    pub(crate) records: Vec<Vec<u8>>,
+pub struct Pages {
+    pub lines: Vec<u8>,
+    pub records: Vec<Vec<u8>>,
 }
 
 impl Pages {
     /// The head line of the journal and the head of each output.
-    pub(crate) fn heads(alloc: Global, ports: usize) -> Result<Pages, NoMemory>
+    pub fn heads(alloc: Global, ports: usize) -> Result<Pages, NoMemory>
         ensures lines { IfOk result (λ p. p.lines.items ≡ head_line) }
         ensures count { IfOk result (λ p. length p.records.items ≡ ports) }
         ensures records { IfOk result (λ p. (q : ℕ) → q < ports
@@ -43,7 +43,7 @@ impl Pages {
     }
 
     /// Adds the lines of entries, from a clock on, and the records of what they sent on each port.
-    pub(crate) fn add<R: Threads + Sync>(
+    pub fn add<R: Threads + Sync>(
         &mut self,
         rt: &R,
         alloc: Global,

@@ -8,7 +8,7 @@ use forward_core::Fabric;
 use std::alloc::Global;
 
 /// Makes the ticks up to a window: those that are owed on the way, and its own.
-pub(crate) fn tick_to(alloc: Global, fabric: &mut Fabric, window: u64) -> Result<(), NoMemory>
+pub fn tick_to(alloc: Global, fabric: &mut Fabric, window: u64) -> Result<(), NoMemory>
     requires range { window < 2 ^ 63 }
     requires start { window % fabric.old.settings.window ≡ 0 }
     requires order { IfSome fabric.old.state.tables.clock (λ t. t ≤ window) }
