@@ -76,6 +76,17 @@ def captures(cases: Cases) -> None:
     cases.case("bytes @", f"=length=117 bytes={want.hex()}")
 
 
+def ng(cases: Cases, held: tuple[str, ...], data: str, limits: str, *wants: str) -> None:
+    """A file that is read whole, and the same packet by packet: the same packets, the same end, and a fault that is kept."""
+    for word in ("pcapng", "stream"):
+        for line in held:
+            cases.add(line)
+        if word == "stream":
+            ended = "end fetches=" if not any(want.startswith("error") for want in wants) else "fetches for it: 0"
+            wants = (*(want for want in wants if want.startswith(("=original=", "original=", "error"))), ended)
+        cases.case(f"{word} {data} {limits}", *wants)
+
+
 def pcapng(cases: Cases) -> None:
     cases.section("pcapng: captures")
     cases.test("pcapng_of_one_vlan_request", "in both byte orders, by fetches of 1, 7 and 5000 bytes")
@@ -84,54 +95,63 @@ def pcapng(cases: Cases) -> None:
     ample = f"{AMPLE[0]} {AMPLE[1]}"
     for data in (little, big):
         for step in (1, 7, 5000):
-            record = f"=original=60 record moment=1000 whole=yes bytes={VLAN_REQUEST.hex()}"
-            cases.case(f"pcapng {data.hex()} {step} {ample}", record, f"left bytes={AMPLE[0] - 140} frames=199999 ")
+            record = f"=original=60 face=0 record moment=1000 whole=yes bytes={VLAN_REQUEST.hex()}"
+            ng(cases, (), data.hex(), f"{step} {ample}", record, f"left bytes={AMPLE[0] - 140} frames=199999 ")
     cases.test("pcapng_with_an_unknown_interface", "interface 1, where the section has one; nothing is taken from the limits")
     untouched = f"left bytes={AMPLE[0]} frames={AMPLE[1]} "
-    cases.case(f"pcapng {changed(little, (56, 1)).hex()} 5000 {ample}", "error Fault { at: 48, why: Interface }", untouched)
+    ng(cases, (), changed(little, (56, 1)).hex(), f"5000 {ample}", "error Fault { at: 48, why: Interface }", untouched)
     cases.test("the_first_test_that_holds_is_told", "a fault of one test, and one of a later test")
     rows = [((0, 11), (8, 0), 0, "Section"), ((8, 0x4E), (4, 29), 0, "Order"), ((4, 29), (12, 2), 0, "Length"), ((4, 24), (12, 2), 0, "Length")]
     rows += [((32, 16), (46, 5), 28, "Length"), ((60, 28), (64, 1), 56, "Length"), ((60, 40), (64, 1), 56, "Cut"), ((24, 29), (12, 2), 0, "Length")]
     rows += [((76, 5), (64, 1), 56, "Length"), ((12, 2), (36, 2), 0, "Version"), ((56, 3), (64, 1), 56, "Simple"), ((46, 5), (64, 1), 28, "Options")]
     rows += [((64, 1), (36, 2), 56, "Interface"), ((36, 2), (48, 10), 56, "Link"), ((48, 10), (71, 60), 56, "Resolution"), ((48, 0x83), (71, 60), 56, "Resolution")]
     for first, second, at, why in rows + [((44, 14), (71, 60), 56, "Offset"), ((71, 60), (80, 0), 56, "Time")]:
-        cases.case(f"pcapng {changed(SMALL, first, second).hex()} 5000 {ample}", f"error Fault {{ at: {at}, why: {why} }}", untouched)
+        ng(cases, (), changed(SMALL, first, second).hex(), f"5000 {ample}", f"error Fault {{ at: {at}, why: {why} }}", untouched)
     cases.test("limits_stand_between_the_tests", "bytes before the cut, and frames behind it")
     rows = [(27, 0, 92, "error Limit(Bytes)"), (91, 0, 80, "error Limit(Bytes)"), (92, 0, 80, "error Fault { at: 56, why: Cut }"), (92, 0, 92, "error Limit(Frames)")]
-    for left, count, given, want in rows + [(92, 1, 92, "=original=5 record moment=1 whole=no bytes=01020304")]:
-        cases.case(f"pcapng {SMALL[:given].hex()} 5000 {left} {count}", want)
+    for left, count, given, want in rows + [(92, 1, 92, "=original=5 face=0 record moment=1 whole=no bytes=01020304")]:
+        ng(cases, (), SMALL[:given].hex(), f"5000 {left} {count}", want)
     cases.test("a_file_cut_at_each_of_its_lengths", "only behind a block it is whole")
     for given in range(92):
         at = 0 if given < 29 else 28 if given < 57 else 56
         want = "as pcap " if given in (28, 56) else f"error Fault {{ at: {at}, why: Cut }}"
-        cases.case(f"pcapng {one(SMALL[:given])} 5000 {ample}", want)
+        ng(cases, (), one(SMALL[:given]), f"5000 {ample}", want)
     cases.test("sections_units_and_other_blocks", "a section in nanoseconds, another block, and a big-endian section in microseconds")
     other = bytes([5, 0, 0, 0, 12, 0, 0, 0, 12, 0, 0, 0])
-    wants = ("=original=5 record moment=1 whole=no bytes=01020304", f"=original=60 record moment=1000 whole=yes bytes={VLAN_REQUEST.hex()}")
-    cases.case(f"pcapng {(SMALL + other + big).hex()} 5000 {ample}", *wants)
+    wants = ("=original=5 face=0 record moment=1 whole=no bytes=01020304", f"=original=60 face=0 record moment=1000 whole=yes bytes={VLAN_REQUEST.hex()}")
+    ng(cases, (), (SMALL + other + big).hex(), f"5000 {ample}", *wants)
     cases.add("# a second section has no interface of the first")
     short = SMALL + BIG_HEADS[:28] + bytes([0, 0, 0, 6]) + BIG_HEADS[52:] + VLAN_REQUEST + bytes([0, 0, 0, 92])
-    cases.case(f"pcapng {short.hex()} 5000 {ample}", "error Fault { at: 120, why: Interface }")
+    ng(cases, (), short.hex(), f"5000 {ample}", "error Fault { at: 120, why: Interface }")
     cases.test("a_block_of_another_kind_goes_by", "its length twice, and all its bytes; by fetches of 7 and 5000 bytes")
     rows = [(12, 12, 12, None), (12, 16, 12, "Length"), (16, 16, 16, None), (16, 12, 16, "Length"), (16, 16, 15, "Cut"), (4096, 4096, 4096, None)]
     rows += [(4096, 4092, 4096, "Length"), (4096, 4096, 4095, "Cut"), (4096, 4096, 1000, "Cut"), (4097, 4097, 4096, "Length")]
     for size, second, given, why in rows:
         block = (b"\x05\0\0\0" + size.to_bytes(4, "little") + bytes(min(size - 12, 4084)) + second.to_bytes(4, "little"))[:given]
         for step in (7, 5000):
-            cases.add("hex " + (SMALL + block[:8]).hex())
             zeros = min(len(block) - 8, min(size - 12, 4084))
-            cases.add(f"fill {zeros} 00")
+            held = ("hex " + (SMALL + block[:8]).hex(), f"fill {zeros} 00")
             want = "as pcap " if why is None else f"error Fault {{ at: 92, why: {why} }}"
-            cases.case(f"pcapng {block[8 + zeros :].hex() or '-'} {step} {ample}", want)
+            ng(cases, held, block[8 + zeros :].hex() or "-", f"{step} {ample}", want)
     cases.test("a_packet_of_65536_bytes_is_too_long", "and one of 65,535 is not")
-    for stored, want in [(65535, "original=65535 record moment=1 whole=yes"), (65536, "error Fault { at: 56, why: Long }")]:
+    for stored, want in [(65535, "original=65535 face=0 record moment=1 whole=yes"), (65536, "error Fault { at: 56, why: Long }")]:
         size = (32 + 65536).to_bytes(4, "little")
-        cases.add("hex " + (SMALL[:60] + size + SMALL[64:76] + 2 * stored.to_bytes(4, "little")).hex())
-        cases.add("fill 65536 00")
-        cases.case(f"pcapng {size.hex()} 5000 {ample}", want)
+        held = ("hex " + (SMALL[:60] + size + SMALL[64:76] + 2 * stored.to_bytes(4, "little")).hex(), "fill 65536 00")
+        ng(cases, held, size.hex(), f"5000 {ample}", want)
     cases.test("a_file_is_converted", "to a capture in microseconds (the file that is written is told by a test)")
     want = LITTLE + bytes([0, 0, 0, 0, 0xE8, 3, 0, 0, 4, 0, 0, 0, 5, 0, 0, 0, 1, 2, 3, 4])
-    cases.case(f"pcapng {SMALL.hex()} 5000 {ample}", "=as pcap " + want.hex())
+    ng(cases, (), SMALL.hex(), f"5000 {ample}", "=as pcap " + want.hex())
+    cases.test("a_stream_waits_for_no_byte", "two packets and a block of another kind between them, by fetches that end with the first packet")
+    packet = "original=5 face=0 record moment=1 whole=no bytes=01020304"
+    both = SMALL + other + SMALL[56:]
+    for step, fetches in ((92, (1, 2, 3)), (48, (2, 3, 4)), (104, (1, 2, 3)), (5000, (1, 1, 2))):
+        answer = f"{packet}\nfetches={fetches[0]}\n{packet}\nfetches={fetches[1]}\nend fetches={fetches[2]}"
+        cases.case(f"stream {both.hex()} {step} {ample}", "==" + answer)
+    cases.test("a_fetch_of_a_stream_fails", "each in turn: the packets before it are given, and the fault is told again")
+    fault = "error Read(Failed): the file could not be read"
+    for most in range(21):
+        said = [f"{packet}\nfetches={at}" for at in (14, 20) if at <= most]
+        cases.case(f"stream {both.hex()} 7 {ample} {most}", "==" + "\n".join([*said, fault, "again: " + fault, "fetches for it: 0"]))
 
 
 FIRST = "fcf-mac 0e:fc:00:00:00:0a\nvlan 100\n"

@@ -4,8 +4,9 @@ use case_lines::{bytes_of, number_of, put, word_at};
 use fab_base::{Caught, Moment, NoMemory};
 use open_files::OpenFiles;
 use pcap_file::{Budget, CaptureHead, Reader, write_head, write_record};
-use pcapng_file::{NgRecords, classic_capture, read_ng};
+use pcapng_file::{NgRecord, NgRecords, NgStream, classic_capture, read_ng};
 use std::alloc::{AllocError, Global};
+use std::fmt;
 
 /// The greatest moment of a record that is written.
 const LAST: u64 = 4_294_967_295_999;
@@ -97,7 +98,10 @@ fn say_records(
             Ok(None) => return Ok(()),
             Err(why) => {
                 keys::fault(alloc, out, why)?;
-                return say_again(alloc, reader, given, out);
+                let before = given.depot.made();
+                let again = reader.next(alloc, &mut given.depot, 0, &mut given.budget);
+                let more = given.depot.made().saturating_sub(before);
+                return say_again(alloc, again.err(), more, out);
             }
         }
     }
@@ -105,22 +109,24 @@ fn say_records(
 }
 
 // What a reader answers after its fault, and how many fetches that took.
-fn say_again(
+fn say_again<E: fmt::Debug + fmt::Display + Drop>(
     alloc: Global,
-    reader: &mut Reader,
-    given: &mut Given<'_>,
+    again: Option<E>,
+    more: u64,
     out: &mut Vec<u8>,
 ) -> Result<(), AllocError> {
-    let before = given.depot.made();
-    match reader.next(alloc, &mut given.depot, 0, &mut given.budget) {
-        Ok(_) => put(out, b"again: no fault\n")?,
-        Err(why) => {
+    match again {
+        None => put(out, b"again: no fault\n")?,
+        Some(why) => {
             put(out, b"again: ")?;
             keys::fault(alloc, out, why)?;
         }
     }
-    let more = given.depot.made().saturating_sub(before);
-    keys::number(out, b"fetches for it: ", more)?;
+    say_fetches(b"fetches for it: ", more, out)
+}
+
+fn say_fetches(key: &[u8], count: u64, out: &mut Vec<u8>) -> Result<(), AllocError> {
+    keys::number(out, key, count)?;
     put(out, b"\n")
 }
 
@@ -152,12 +158,17 @@ fn pcapng(alloc: Global, given: &mut Given<'_>, out: &mut Vec<u8>) -> Result<(),
 fn say_packets(records: &NgRecords, out: &mut Vec<u8>) -> Result<(), AllocError> {
     for index in 0..records.len() {
         if let Some(record) = records.at(index) {
-            keys::number(out, b"original=", u64::from(record.original))?;
-            put(out, b" ")?;
-            say_record(&record.moment, &record.caught, out)?;
+            say_packet(record, out)?;
         }
     }
     Ok(())
+}
+
+fn say_packet(packet: &NgRecord, out: &mut Vec<u8>) -> Result<(), AllocError> {
+    keys::number(out, b"original=", u64::from(packet.original))?;
+    keys::number(out, b" face=", u64::from(packet.face))?;
+    put(out, b" ")?;
+    say_record(&packet.moment, &packet.caught, out)
 }
 
 // The same packets as a pcap file.
@@ -169,4 +180,50 @@ fn say_classic(alloc: Global, records: &NgRecords, out: &mut Vec<u8>) -> Result<
         }
         Err(NoMemory) => Err(AllocError),
     }
+}
+
+/// Each packet of a file as it comes, with the fetches that were made up to it, and how the file
+/// ends. A fetch fails once so many were made as a last word says. After a fault the stream is
+/// asked once more.
+pub(crate) fn stream(
+    alloc: Global,
+    line: &[u8],
+    bytes: &[u8],
+    out: &mut Vec<u8>,
+) -> Result<(), AllocError> {
+    let mut given = file_in(line, bytes);
+    if let Some(most) = number_of(word_at(line, 5)) {
+        given.depot.fetches = most;
+    }
+    let mut stream = NgStream::new(alloc, given.budget);
+    say_arriving(alloc, &mut stream, &mut given.depot, out)
+}
+
+fn say_arriving(
+    alloc: Global,
+    stream: &mut NgStream,
+    depot: &mut OpenFiles<'_>,
+    out: &mut Vec<u8>,
+) -> Result<(), AllocError> {
+    let start = depot.made();
+    for _ in 0..u64::MAX {
+        match stream.next(alloc, depot, 0) {
+            Ok(Some(packet)) => {
+                say_packet(&packet, out)?;
+                say_fetches(b"fetches=", depot.made().saturating_sub(start), out)?;
+            }
+            Ok(None) => {
+                put(out, b"end ")?;
+                return say_fetches(b"fetches=", depot.made().saturating_sub(start), out);
+            }
+            Err(why) => {
+                keys::fault(alloc, out, why)?;
+                let before = depot.made();
+                let again = stream.next(alloc, depot, 0);
+                let more = depot.made().saturating_sub(before);
+                return say_again(alloc, again.err(), more, out);
+            }
+        }
+    }
+    Ok(())
 }

@@ -114,6 +114,7 @@ fn call_more(alloc: Global, line: &[u8], held: &[u8], out: &mut Vec<u8>) -> Resu
     match word_at(line, 0) {
         b"pcap-head" => captures::head(alloc, held, out),
         b"pcap" | b"pcapng" => captures::all(alloc, line, held, out),
+        b"stream" => captures::stream(alloc, line, held, out),
         b"frame" => frames::whole(alloc, held, out),
         b"pieces" => frames::cut(alloc, line, out),
         b"tell" => tell::tell(alloc, line, out),

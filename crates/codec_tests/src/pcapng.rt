@@ -1,5 +1,5 @@
 //! Conversions, and what they write.
-use fab_base::{MemDepot, word_at};
+use fab_base::{Depot, MemDepot, word_at};
 use pcap_file::Budget;
 use pcapng_file::*;
 use std::alloc::Global;
@@ -68,5 +68,20 @@ fn a_packet_past_the_limit_is_not_converted(rt: HostRuntime) -> Result<(), Fail>
         Some(ConvertError::Input(NgError::Limit(NgLimit::Frames)))
     );
     assert!(rt; written.is_none());
+    Ok(())
+}
+
+#[test]
+fn a_stream_gives_a_packet(rt: HostRuntime) -> Result<(), Fail> {
+    let alloc = rt.alloc();
+    let mut depot = MemDepot::new(alloc)?;
+    depot.store(alloc, "in", &SMALL)?;
+    let slot = depot.open_in("in")?;
+    let mut stream = NgStream::new(alloc, AMPLE);
+    let packet = stream.next(alloc, &mut depot, slot)?.ok_or("a packet")?;
+    assert_eq!(rt; packet.moment.0, 1);
+    assert_eq!(rt; packet.face, 0);
+    assert_eq!(rt; packet.original, 5);
+    assert_eq!(rt; packet.caught.bytes.view(), [1, 2, 3, 4].as_slice());
     Ok(())
 }

@@ -180,12 +180,16 @@ supply held depot = record { held = held; depot = depot }
 abbrev pub coming : ℕ → Supply → List ℕ
 coming slot s = s.held ++ s.depot.left slot
 
--- Filling a buffer from what is held and then from a slot.
+-- Filling a buffer from what is held and then from a slot. It fetches only while it holds fewer bytes than are wanted: the depot is the
+-- same where enough is held (`still`), and where a fetch failed fewer were held and fetched than are wanted (`waits`). Each fetch may fail,
+-- and none fails unheard (`counts`), so none is made behind the last wanted byte.
 pub record Pulls (slot : ℕ) (buffer : List ℕ) (before after : Supply) (result : Result ℕ Failed) : Type 0 where
   pub reads : Reads (before.depot.name slot) before.depot after.depot
   pub bound : IfOk result (λ n. n ≤ length buffer)
   pub taken : IsTrue before.depot.told → IfOk result (λ n. take n buffer ++ coming slot after ≡ coming slot before)
   pub ended : IsTrue before.depot.told → IfOk result (λ n. n < length buffer → coming slot after ≡ [])
+  pub still : length buffer ≤ length before.held → after.depot ≡ before.depot
+  pub waits : IsTrue before.depot.told → OnErr result (length (coming slot before) < length buffer + length (after.depot.left slot))
   pub cause : OnErr result (ReadsRose slot before.depot after.depot)
   pub counts : OnOk result (SameReadFaults before.depot after.depot)
 
@@ -203,6 +207,9 @@ pub record Refills {T : Type 0} (slot : ℕ) (before after : Supply) (result : R
   pub reads : Reads (before.depot.name slot) before.depot after.depot
   pub taken : IsTrue before.depot.told → OnOk result (coming slot after ≡ coming slot before)
   pub ended : IsTrue before.depot.told → OnOk result (after.held ≡ [] → after.depot.left slot ≡ [])
+  pub still : 0 < length before.held → after ≡ before
+  pub needed : OnErr result (before.held ≡ [])
+  pub nothing : IsTrue before.depot.told → OnErr result (after.depot.left slot ≡ before.depot.left slot)
   pub cause : OnErr result (ReadsRose slot before.depot after.depot)
   pub counts : OnOk result (SameReadFaults before.depot after.depot)
 

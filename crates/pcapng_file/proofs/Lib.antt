@@ -6,3 +6,5 @@ pub mod LawLemmas
 pub mod BackLemmas
 pub mod ConvertLemmas
 pub mod PassingLemmas
+pub mod StreamLemmas
+pub mod StreamedLemmas

@@ -24,6 +24,7 @@ use Rattle.pcapng_file.specs.declared.packet.Content.TheVariants as says
 use Rattle.pcapng_file.specs.Block.{test, first, unless, kind_tests, content_of, body_read}
 use Rattle.pcapng_file.specs.File.{counted, step_in}
 use Rattle.pcapng_file.specs.Passing.{Skips, HasSecond, PassesOver, begun, from_front}
+use Rattle.std.specs.Result.{IsErrAnd}
 use Rattle.pcapng_file.proofs.StepLemmas.{inner}
 
 -- ---- piece by piece
@@ -66,16 +67,18 @@ module _ (slot n : ℕ) (a b c : Seen) (held mid : List ℕ) (is_in : IsTrue (a.
       bound = le;
       taken = more.taken;
       ended = λ told less. r.ended (told_b told) lt;
+      waits = λ told. tt;
       cause = tt;
       counts = more.counts;
     }
 
-    pub skips_failed : (wanted : ℕ) (e : Failed) → Pulls slot buffer (supply mid b) (supply rest c) (Err e) → Skips slot wanted (supply held a) (supply rest c) (Err e)
-    skips_failed wanted e r = record {
+    pub skips_failed : (wanted : ℕ) (e : Failed) → n + length buffer ≤ wanted → Pulls slot buffer (supply mid b) (supply rest c) (Err e) → Skips slot wanted (supply held a) (supply rest c) (Err e)
+    skips_failed wanted e fits r = record {
       reads = reads_trans (a.name slot) a b c p.reads (subst (λ m. Reads m b c) same r.reads);
       bound = tt;
       taken = λ told. tt;
       ended = λ told. tt;
+      waits = λ told. let before = p.taken told in omega (arith, before.0, ap length before.1, length-drop n (held ++ a.left slot), r.waits (told_b told));
       cause = rose_later _ _ _ p.reads.keeps.reads_rise (subst (λ m. Rose (b.read_faults m) (c.read_faults m)) same r.cause);
       counts = tt;
     }
@@ -86,9 +89,15 @@ module _ (slot n : ℕ) (a b c : Seen) (held mid : List ℕ) (is_in : IsTrue (a.
     bound = omega arith;
     taken = p.taken;
     ended = λ told less. absurd (omega arith);
+    waits = λ told. tt;
     cause = tt;
     counts = p.counts;
   }
+
+-- a failure, in a result that hands it on
+pub skips_handed : {slot wanted : ℕ} {a b : Seen} {held rest : List ℕ} (r : Result ℕ Failed) (e : Failed) → IsErrAnd r (λ x. x ≡ e) → Skips slot wanted (supply held a) (supply rest b) (Err e) → Skips slot wanted (supply held a) (supply rest b) r
+skips_handed {slot} {wanted} {a} {b} {held} {rest} (Ok n) e h p = absurd h
+skips_handed {slot} {wanted} {a} {b} {held} {rest} (Err x) e h p = subst (λ y. Skips slot wanted (supply held a) (supply rest b) (Err y)) (sym h) p
 
 -- ---- the second length
 
@@ -115,13 +124,20 @@ module _ (slot : ℕ) (a b : Seen) (held mid front : List ℕ) (h : Head) (sized
           ap (λ (m : ℕ). at_place h.big (take m l) (m - 4) 4) is ∙ ap (λ (m : List ℕ). at_place h.big m 8 4) (take_at front (held ++ a.left slot) 12 sized) ∙ sym told_n,
           sym (ap (λ (m : ℕ). drop m l) is ∙ drop_at front (held ++ a.left slot) 12 sized),
         );
+    waits = λ told. tt;
     cause = tt;
     counts = λ m. refl;
   }
 
   module _ (middle : ℕ) (is_size : h.size ≡ 16 + middle) where
     pub second_failed : (e : Failed) → Skips slot middle (supply held a) (supply mid b) (Err e) → HasSecond slot (begun front h) (supply held a) (supply mid b) (Err e)
-    second_failed e s = record { reads = s.reads; tells = λ told. tt; cause = s.cause; counts = tt }
+    second_failed e s = record {
+      reads = s.reads;
+      tells = λ told. tt;
+      waits = λ told. omega (arith, s.waits told, length-append front (held ++ a.left slot));
+      cause = s.cause;
+      counts = tt;
+    }
 
     pub second_cut : (k : ℕ) → Skips slot middle (supply held a) (supply mid b) (Ok k) → k < middle → HasSecond slot (begun front h) (supply held a) (supply mid b) (Ok None)
     second_cut k s lt = record {
@@ -129,6 +145,7 @@ module _ (slot : ℕ) (a b : Seen) (held mid front : List ℕ) (h : Head) (sized
       tells = λ told.
           let t = s.taken told in
           omega (arith, t.0, ap length t.1, ap length (s.ended told lt), length-drop k (held ++ a.left slot), length-append front (held ++ a.left slot));
+      waits = λ told. tt;
       cause = tt;
       counts = s.counts;
     }
@@ -155,6 +172,7 @@ module _ (slot : ℕ) (a b : Seen) (held mid front : List ℕ) (h : Head) (sized
       last_failed e r = record {
         reads = reads_trans (a.name slot) a b c s.reads (subst (λ m. Reads m b c) same_name r.reads);
         tells = λ told. tt;
+        waits = λ told. omega (arith, (behind told).0, r.waits (still told), four);
         cause = rose_later _ _ _ s.reads.keeps.reads_rise (subst (λ m. Rose (b.read_faults m) (c.read_faults m)) same_name r.cause);
         counts = tt;
       }
@@ -167,6 +185,7 @@ module _ (slot : ℕ) (a b : Seen) (held mid front : List ℕ) (h : Head) (sized
               let none_left : rest ++ c.left slot ≡ [] = r.ended (still told) (omega arith) in
               let left : length (mid ++ b.left slot) ≡ n = short_is last (rest ++ c.left slot) (mid ++ b.left slot) n r.bound none_left (r.taken (still told)) in
               omega (arith, (behind told).0, left);
+          waits = λ told. tt;
           cause = tt;
           counts = λ m. r.counts m ∙ s.counts m;
         }
@@ -184,6 +203,7 @@ module _ (slot : ℕ) (a b : Seen) (held mid front : List ℕ) (h : Head) (sized
                 last_bytes h.big h.size l last (rest ++ c.left slot) (omega arith) four whole ∙ sym is_last,
                 sym (ap (λ (m : ℕ). drop m l) split ∙ sym (drop-drop 4 (h.size - 4) l) ∙ ap (drop 4) whole ∙ drop_at last (rest ++ c.left slot) 4 four),
               );
+          waits = λ told. tt;
           cause = tt;
           counts = λ m. r.counts m ∙ s.counts m;
         }
@@ -217,6 +237,7 @@ module _ (slot : ℕ) (a b : Seen) (held rest front : List ℕ) (h : Head) (at :
       behind = λ told. tt;
       fits = tt;
       cause = λ f is. absurd (cc);
+      waits = λ told f is. absurd (cc);
       counts = s.counts;
     }
 
@@ -228,5 +249,6 @@ module _ (slot : ℕ) (a b : Seen) (held rest front : List ℕ) (h : Head) (at :
       behind = λ told. let t = s.tells told in (omega (arith, t.0), t.2 ∙ ap (λ (m : ℕ). drop m (from_front slot (begun front h) (supply held a))) (sym is));
       fits = (is, refl, tt);
       cause = λ f e. absurd (cc);
+      waits = λ told f e. absurd (cc);
       counts = s.counts;
     }

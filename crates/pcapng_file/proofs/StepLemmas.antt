@@ -1,5 +1,5 @@
 -- The next block, by what its buffers hold.
-use Rattle.std.proofs.Common.{◌≡◌, ℕ, ◌+◌, ◌-◌, ◌<◌, ◌≤◌, Bool, true, false, IsTrue, ◌&&◌, if◌then◌else◌, eqb, ltb, List, [], ◌++◌, length, length-append, take, drop, append_assoc, Option, Some, None, Ok, Err, refl, sym, ap, ◌∙◌, subst, arith}
+use Rattle.std.proofs.Common.{◌≡◌, ℕ, ◌+◌, ◌-◌, ◌<◌, ◌≤◌, inl, inr, Bool, true, false, IsTrue, ◌&&◌, if◌then◌else◌, eqb, ltb, List, [], ◌++◌, length, length-append, take, drop, append_assoc, Option, Some, None, Ok, Err, refl, sym, ap, ◌∙◌, subst, arith}
 use Rattle.std.specs.Prelude.{Result, is_some, IfOk, MatchOption}
 use Rattle.std.proofs.lemmas.Bool.{lt-ltb, le-ltb, eqb-true, ne_eqb}
 use Rattle.std.proofs.lemmas.List.{take_at, drop_at}
@@ -17,8 +17,8 @@ use Rattle.pcapng_file.specs.declared.fault.NgError.TheVariants as errors
 use Rattle.pcapng_file.specs.declared.block.Head.{Head}
 use Rattle.pcapng_file.specs.declared.packet.Content.{Content}
 use Rattle.pcapng_file.specs.declared.reading.Block.{Block}
-use Rattle.pcapng_file.specs.Block.{head_read, body_read}
-use Rattle.pcapng_file.specs.File.{Section, at_fault, and_then, frames_of, counted, step_in, step_of, found, AreKept, TellsRead, SparesReads, NotRead, place, BlockRead}
+use Rattle.pcapng_file.specs.Block.{first, unless, head_of, head_tests, head_read, body_read}
+use Rattle.pcapng_file.specs.File.{Section, at_fault, and_then, frames_of, counted, step_in, step_of, found, AreKept, TellsRead, SparesReads, NotRead, head_at, Lacks, place, BlockRead}
 use Rattle.pcapng_file.specs.Passing.{PassesOver, begun}
 use Rattle.std.specs.Result.{IsErrAnd}
 
@@ -81,6 +81,10 @@ then_err x f errors.Memory is = tt
 no_cause : (n m : ℕ) (e : NgError) → NotRead e → (f : Failed) → (let r : Result (Option Block) NgError = Err e in r ≡ Err (errors.Read f)) → Rose n m
 no_cause n m e own f is = let same : e ≡ errors.Read f = cc in absurd (subst NotRead same own)
 
+-- nor need they bytes that lack
+no_waits : (told : Type 0) (s : Section) (l left : List ℕ) (e : NgError) → NotRead e → told → (f : Failed) → (let r : Result (Option Block) NgError = Err e in r ≡ Err (errors.Read f)) → Lacks s l left
+no_waits told s l left e own is_told f is = let same : e ≡ errors.Read f = cc in absurd (subst NotRead same own)
+
 -- where no fault was counted, other errors count none
 spares_own : (a c : Seen) → SameReadFaults a c → (e : NgError) → NotRead e → SparesReads {A = Option Block} a c (Err e)
 spares_own a c none (errors.Fault at fault) own = none
@@ -119,6 +123,28 @@ passed_fits size budget least room (Ok (Some k)) is = (omega (arith, is.0), omeg
 passed_fits size budget least room (Ok None) is = absurd is
 passed_fits size budget least room (Err e) is = tt
 
+-- the first bytes aren't read
+pub block_unread : (slot : ℕ) (a b : Seen) (held mid front : List ℕ) (budget : Budget) (at : ℕ) (s : Section) → length front ≡ 12 → (f : Failed) → Pulls slot front (supply held a) (supply mid b) (Err f) → BlockRead slot (place at s budget) (supply held a) (supply mid b) (Err (errors.Read f))
+block_unread slot a b held mid front budget at s sized f first = record {
+  reads = first.reads;
+  tells = λ told. tt;
+  behind = λ told. tt;
+  ended = λ told. tt;
+  fits = tt;
+  cause = λ g is. first.cause;
+  waits = λ told g is. inl (omega (arith, first.waits told));
+  counts = tt;
+}
+
+-- what a head says that was read
+ok_of : {A : Type 0} → (o : Option NgWhy) (x y : A) → unless o x ≡ Ok y → x ≡ y
+ok_of (Some fault) x y e = absurd (cc)
+ok_of None x y e = cc
+
+head_told : (order : Option Bool) (b : List ℕ) (h : Head) → head_read order b ≡ Ok h → head_of order b ≡ h
+unfolding head_read
+head_told order b h e = ok_of (first (head_tests order b)) (head_of order b) h e
+
 module _ (slot : ℕ) (a b : Seen) (held mid front : List ℕ) (n : ℕ) (budget : Budget) (at : ℕ) (s : Section) (sized : length front ≡ 12) (first : Pulls slot front (supply held a) (supply mid b) (Ok n)) where
   pub block_end : (eqb n 0 && is_some s.order) ≡ true → BlockRead slot (place at s budget) (supply held a) (supply mid b) (Ok None)
   block_end ended =
@@ -132,6 +158,7 @@ module _ (slot : ℕ) (a b : Seen) (held mid front : List ℕ) (n : ℕ) (budget
         ended = none_left;
         fits = tt;
         cause = λ f e. absurd (cc);
+        waits = λ told f e. absurd (cc);
         counts = first.counts;
       }
 
@@ -146,6 +173,7 @@ module _ (slot : ℕ) (a b : Seen) (held mid front : List ℕ) (n : ℕ) (budget
     ended = λ told. tt;
     fits = tt;
     cause = no_cause _ _ (errors.Fault at why.Cut) tt;
+    waits = no_waits _ s _ _ (errors.Fault at why.Cut) tt;
     counts = first.counts;
   }
 
@@ -167,12 +195,16 @@ module _ (slot : ℕ) (a b : Seen) (held mid front : List ℕ) (n : ℕ) (budget
       ended = λ told. tt;
       fits = tt;
       cause = no_cause _ _ (errors.Fault at fault) tt;
+      waits = no_waits _ s _ _ (errors.Fault at fault) tt;
       counts = first.counts;
     }
 
     module _ (h : Head) (is : head_read s.order front ≡ Ok h) where
       head_is : IsTrue a.told → head_read s.order (take 12 (held ++ a.left slot)) ≡ Ok h
       head_is told = ap (head_read s.order) (at_front told) ∙ is
+
+      size_is : IsTrue a.told → (head_at s (held ++ a.left slot)).size ≡ h.size
+      size_is told = ap (λ (x : Head). x.size) (head_told s.order (take 12 (held ++ a.left slot)) h (head_is told))
 
       pub block_bytes : budget.bytes < h.size → BlockRead slot (place at s budget) (supply held a) (supply mid b) (Err (errors.Limit limits.Bytes))
       block_bytes lt = record {
@@ -182,6 +214,7 @@ module _ (slot : ℕ) (a b : Seen) (held mid front : List ℕ) (n : ℕ) (budget
         ended = λ told. tt;
         fits = tt;
         cause = no_cause _ _ (errors.Limit limits.Bytes) tt;
+        waits = no_waits _ s _ _ (errors.Limit limits.Bytes) tt;
         counts = first.counts;
       }
 
@@ -197,6 +230,7 @@ module _ (slot : ℕ) (a b : Seen) (held mid front : List ℕ) (n : ℕ) (budget
             ended = λ told. passed_ends (rest ++ c.left slot) h.size result p.fits;
             fits = passed_fits h.size budget least room result p.fits;
             cause = λ f is. rose_later _ _ _ first.reads.keeps.reads_rise (subst (λ m. Rose (b.read_faults m) (c.read_faults m)) same (p.cause f is));
+            waits = λ told f is. inr (omega (arith, p.waits (still told) f is, length-append front (mid ++ b.left slot), ap length (whole told), size_is told));
             counts = spares_behind a b c first.counts result p.counts;
           }
 
@@ -207,12 +241,37 @@ module _ (slot : ℕ) (a b : Seen) (held mid front : List ℕ) (n : ℕ) (budget
         told_b : IsTrue a.told → IsTrue b.told
         told_b told = told_stays (a.name slot) a b first.reads.keeps told
 
+        pub block_unread_body : (f : Failed) → Pulls slot body (supply mid b) (supply rest c) (Err f) → BlockRead slot (place at s budget) (supply held a) (supply rest c) (Err (errors.Read f))
+        block_unread_body f second = record {
+          reads = reads_trans (a.name slot) a b c first.reads (subst (λ m. Reads m b c) same second.reads);
+          tells = λ told. tt;
+          behind = λ told. tt;
+          ended = λ told. tt;
+          fits = tt;
+          cause = λ g is. rose_later _ _ _ first.reads.keeps.reads_rise (subst (λ m. Rose (b.read_faults m) (c.read_faults m)) same second.cause);
+          waits = λ told g is. inr (omega (arith, second.waits (told_b told), long told, size_is told));
+          counts = tt;
+        }
+
         module _ (k : ℕ) (second : Pulls slot body (supply mid b) (supply rest c) (Ok k)) where
           both : Reads (a.name slot) a c
           both = reads_trans (a.name slot) a b c first.reads (subst (λ m. Reads m b c) same second.reads)
 
           both_counts : SameReadFaults a c
           both_counts m = second.counts m ∙ first.counts m
+
+          -- memory is refused
+          pub block_refused : BlockRead slot (place at s budget) (supply held a) (supply rest c) (Err errors.Memory)
+          block_refused = record {
+            reads = both;
+            tells = λ told. tt;
+            behind = λ told. tt;
+            ended = λ told. tt;
+            fits = tt;
+            cause = no_cause _ _ errors.Memory tt;
+            waits = no_waits _ s _ _ errors.Memory tt;
+            counts = both_counts;
+          }
 
           pub block_cut : k < length body → BlockRead slot (place at s budget) (supply held a) (supply rest c) (Err (errors.Fault at why.Cut))
           block_cut lt = record {
@@ -225,6 +284,7 @@ module _ (slot : ℕ) (a b : Seen) (held mid front : List ℕ) (n : ℕ) (budget
             ended = λ told. tt;
             fits = tt;
             cause = no_cause _ _ (errors.Fault at why.Cut) tt;
+            waits = no_waits _ s _ _ (errors.Fault at why.Cut) tt;
             counts = both_counts;
           }
 
@@ -251,6 +311,7 @@ module _ (slot : ℕ) (a b : Seen) (held mid front : List ℕ) (n : ℕ) (budget
               ended = λ told. tt;
               fits = tt;
               cause = no_cause _ _ e own;
+              waits = no_waits _ s _ _ e own;
               counts = spares_own a c both_counts e own;
             }
 
@@ -266,6 +327,7 @@ module _ (slot : ℕ) (a b : Seen) (held mid front : List ℕ) (n : ℕ) (budget
                 ended = λ told. tt;
                 fits = tt;
                 cause = no_cause _ _ (errors.Limit limits.Frames) tt;
+                waits = no_waits _ s _ _ (errors.Limit limits.Frames) tt;
                 counts = both_counts;
               }
 
@@ -277,5 +339,6 @@ module _ (slot : ℕ) (a b : Seen) (held mid front : List ℕ) (n : ℕ) (budget
                 ended = λ told. tt;
                 fits = (least, room, le_frames, kept);
                 cause = λ f e. absurd (cc);
+                waits = λ told f e. absurd (cc);
                 counts = both_counts;
               }

@@ -210,7 +210,7 @@ abbrev pub caught_in : Bool → List ℕ → Caught
 caught_in big b = record { bytes = field b 28 (stored big b); whole = not (nat_lt (stored big b) (original big b)) }
 
 abbrev pub record_of : Interface → Bool → List ℕ → NgRecord
-record_of face big b = record { moment = milliseconds face big b; caught = caught_in big b; original = original big b }
+record_of face big b = record { moment = milliseconds face big b; caught = caught_in big b; original = original big b; face = at_place big b 8 4 }
 
 abbrev pub record_in : Bool → List Interface → List ℕ → NgRecord
 record_in big faces b = record_of (unwrap_or (interface_at big faces b) no_interface) big b

@@ -1,5 +1,5 @@
 -- The classic capture of the packets of a file, and what converting a file does.
-use Rattle.std.specs.Prelude.{◌≡◌, ◌≢◌, ℕ, ◌*◌, ◌/◌, ◌%◌, max, false, List, [], ◌∷◌, ◌++◌, length, take, IsTrue, Some, Result, Ok, Err}
+use Rattle.std.specs.Prelude.{◌≡◌, ◌≢◌, ℕ, ◌*◌, ◌/◌, ◌%◌, ◌≤◌, max, false, List, [], ◌∷◌, ◌++◌, length, map, take, IsTrue, Some, Result, Ok, Err}
 use Rattle.fab_base.specs.Layout.{spelled_low}
 use Rattle.fab_base.specs.Seen.{Seen, SameFiles, SameReadFaults, SameWriteFaults, Rose}
 use Rattle.pcap_file.specs.declared.Budget.{Budget}
@@ -33,6 +33,15 @@ classic_bytes v = head_bytes ++ classic_records v
 abbrev pub timed : ℕ → List NgRecord → List Record
 timed greatest [] = []
 timed greatest (r ∷ v) = record { moment = max greatest r.moment; caught = r.caught } ∷ timed (max greatest r.moment) v
+
+-- a packet as a record
+abbrev pub recorded : NgRecord → Record
+recorded r = record { moment = r.moment; caught = r.caught }
+
+-- no moment lies before the one in front of it
+abbrev pub Ascend : ℕ → List NgRecord → Type 0
+Ascend before [] = Unit {0}
+Ascend before (r ∷ v) = (before ≤ r.moment) × Ascend r.moment v
 
 -- the head that is written
 abbrev pub written : CaptureHead
@@ -88,3 +97,7 @@ KeepsBut to old new = (m : List ℕ) → m ≢ to → new.file m ≡ old.file m
 -- the capture of packets is read as these records
 abbrev pub ReadsBack : Type 0
 ReadsBack = (v : List NgRecord) → AreKept v → IsCapture written (timed 0 v) (classic_bytes v)
+
+-- the capture of packets in order of their moments is read as these packets
+abbrev pub OrderedReadsBack : Type 0
+OrderedReadsBack = (v : List NgRecord) → AreKept v → Ascend 0 v → IsCapture written (map recorded v) (classic_bytes v)

@@ -1,5 +1,5 @@
 -- A pcapng file, read block by block.
-use Rattle.std.specs.Prelude.{◌≡◌, ℕ, zero, suc, ◌+◌, ◌-◌, ◌*◌, ◌^◌, ◌<◌, ◌≤◌, Bool, not, IsTrue, ◌==◌, nat_lt, ◌&&◌, if◌then◌else◌, List, [], ◌∷◌, ◌++◌, length, take, drop, Option, Some, None, is_some, Result, Ok, Err, IfOk, OnOk, OnErr, MatchOption}
+use Rattle.std.specs.Prelude.{◌≡◌, ℕ, zero, suc, ◌+◌, ◌-◌, ◌*◌, ◌^◌, ◌<◌, ◌≤◌, Bool, not, IsTrue, ◌==◌, nat_lt, ◌&&◌, ◌⊎◌, if◌then◌else◌, List, [], ◌∷◌, ◌++◌, length, take, drop, Option, Some, None, is_some, Result, Ok, Err, IfOk, OnOk, OnErr, MatchOption}
 use Rattle.fab_base.specs.Seen.{Seen, Reads, SameReadFaults}
 use Rattle.fab_base.specs.declared.values.Failed.{Failed}
 use Rattle.pcap_file.specs.declared.Budget.{Budget}
@@ -54,6 +54,11 @@ found (says.Section big) = []
 found (says.Interface face) = []
 found (says.Packet r) = r ∷ []
 found says.Nothing = []
+
+-- the packets that an answer has
+abbrev pub listed : Option NgRecord → List NgRecord
+listed None = []
+listed (Some r) = r ∷ []
 
 -- ---- what every packet keeps
 
@@ -183,7 +188,11 @@ pub record Place : Type 0 where
 abbrev pub place : ℕ → Section → Budget → Place
 place at section left = record { at = at; section = section; left = left }
 
--- one block from what is held and a slot, at a place of the file
+-- Of these bytes, which a block begins, those are left that weren't fetched: what was fetched isn't a whole block.
+abbrev pub Lacks : Section → List ℕ → List ℕ → Type 0
+Lacks s l left = (length l < HEAD + length left) ⊎ (length l < (head_at s l).size + length left)
+
+-- one block from what is held and a slot, at a place of the file; the depot fails only while bytes of the block lack
 pub record BlockRead (slot : ℕ) (here : Place) (old new : Supply) (result : Result (Option Block) NgError) : Type 0 where
   pub reads : Reads (old.depot.name slot) old.depot new.depot
   pub tells : IsTrue old.depot.told → TellsRead (step_of here.left here.at here.section (coming slot old)) result
@@ -191,4 +200,5 @@ pub record BlockRead (slot : ℕ) (here : Place) (old new : Supply) (result : Re
   pub ended : IsTrue old.depot.told → IfOk result (λ o. MatchOption o (coming slot new ≡ []) (λ b. Unit {0}))
   pub fits : IfOk result (λ o. MatchOption o (Unit {0}) (λ b. (HEAD ≤ b.size) × (b.size ≤ here.left.bytes) × (frames_of b.content ≤ here.left.frames) × AreKept (found b.content)))
   pub cause : (f : Failed) → result ≡ Err (errors.Read f) → ReadsRose slot old.depot new.depot
+  pub waits : IsTrue old.depot.told → (f : Failed) → result ≡ Err (errors.Read f) → Lacks here.section (coming slot old) (new.depot.left slot)
   pub counts : SparesReads old.depot new.depot result

@@ -3,3 +3,4 @@ pub mod File
 pub mod Laws
 pub mod Classic
 pub mod Passing
+pub mod Stream

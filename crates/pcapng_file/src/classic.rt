@@ -53,14 +53,15 @@ pub fn classic_capture(alloc: Global, records: &NgRecords) -> Result<Vec<u8>, No
     write_head(alloc, &mut out)?;
     for index in 0..records.len() {
         match records.at(index) {
-            Some(packet) => add_record(alloc, packet, &mut out)?,
+            Some(packet) => add_packet(alloc, packet, &mut out)?,
             None => unreachable!(),
         }
     }
     Ok(out)
 }
 
-fn add_record(alloc: Global, packet: &NgRecord, out: &mut Vec<u8>) -> Result<(), NoMemory>
+/// Appends the record of a packet to a classic capture.
+pub fn add_packet(alloc: Global, packet: &NgRecord, out: &mut Vec<u8>) -> Result<(), NoMemory>
     ensures { OnOk result (out.new.items ≡ out.old.items ++ classic_record packet.now) }
 {
     let made = bytes_of(alloc, packet)?;

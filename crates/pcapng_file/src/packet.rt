@@ -158,6 +158,7 @@ fn read_of(
             whole: stored >= original,
         },
         original,
+        face: number_at(big, block, 8),
     })
 }
 

@@ -1,14 +1,15 @@
 //! Reading a file block by block through one buffer.
 ghost use Rattle.std.specs.Prelude.{◌≡◌, ◌≤◌, ◌<◌, ◌+◌, ◌++◌, ◌∷◌, []};
-ghost use Rattle.std.specs.Prelude.{length, IsTrue, OnOk, IfOk, Some, ◌==◌, ◌&&◌, is_some};
+ghost use Rattle.std.specs.Prelude.{length, IsTrue, OnOk, OnErr, IfOk, Some, ◌==◌, ◌&&◌, is_some};
 ghost use Rattle.pcap_file.specs.Reading.{supply};
-ghost use Rattle.pcapng_file.specs.File.{Section, NgReads, BlockRead, after, found, before_all, place};
+ghost use Rattle.pcapng_file.specs.File.{Section, NgReads, BlockRead, after, found, listed};
+ghost use Rattle.pcapng_file.specs.File.{before_all, place};
 
-use crate::NgRecords;
 use crate::block::{HEAD, Interface, Kind, read_head};
 use crate::fault::{NgError, NgLimit, NgWhy, fault};
 use crate::packet::{Content, read_block};
 use crate::passing::pass_over;
+use crate::{NgRecord, NgRecords};
 use fab_base::{Depot, NoMemory, OwnedList};
 use pcap_file::{Ahead, Budget};
 use std::alloc::{AllocError, Global};
@@ -23,9 +24,9 @@ pub(crate) struct Block {
 
 // The byte order and the interfaces of a section so far; before the first section there is none.
 #[derive(Debug, Drop)]
-struct SoFar {
-    order: Option<bool>,
-    faces: Vec<Interface>,
+pub(crate) struct SoFar {
+    pub(crate) order: Option<bool>,
+    pub(crate) faces: Vec<Interface>,
 }
 
 impl Model for SoFar {
@@ -35,7 +36,7 @@ impl Model for SoFar {
 }
 
 impl SoFar {
-    fn new(alloc: Global) -> SoFar
+    pub(crate) fn new(alloc: Global) -> SoFar
         ensures { result ≡ before_all }
     {
         SoFar {
@@ -60,6 +61,26 @@ impl SoFar {
         match self.faces.push(face) {
             Ok(()) => Ok(()),
             Err(_) => Err(NoMemory),
+        }
+    }
+
+    // Goes past a block, and answers its packet, if it has one.
+    pub(crate) fn enter(&mut self, content: Content) -> Result<Option<NgRecord>, NoMemory>
+        ensures section { OnOk result (self.new ≡ after self.old content) }
+        ensures packet { IfOk result (λ o. listed o ≡ found content) }
+        ensures refused { OnErr result (found content ≡ []) }
+    {
+        match content {
+            Content::Section(big) => {
+                self.begin(big);
+                Ok(None)
+            }
+            Content::Interface(face) => {
+                self.add(face)?;
+                Ok(None)
+            }
+            Content::Packet(record) => Ok(Some(record)),
+            Content::Nothing => Ok(None),
         }
     }
 }
@@ -111,19 +132,14 @@ fn take(
     ensures section { OnOk result (section.new ≡ after section.old content) }
     ensures records { OnOk result (records.new ≡ records.old ++ found content) }
 {
-    match content {
-        Content::Section(big) => {
-            section.begin(big);
-            Ok(())
-        }
-        Content::Interface(face) => section.add(face),
-        Content::Packet(record) => records.push(alloc, record),
-        Content::Nothing => Ok(()),
+    match section.enter(content)? {
+        Some(record) => records.push(alloc, record),
+        None => Ok(()),
     }
 }
 
 // The next block, or none at the end, by the tests in their order.
-fn next_block<D: Depot>(
+pub(crate) fn next_block<D: Depot>(
     alloc: Global,
     depot: &mut D,
     slot: u32,

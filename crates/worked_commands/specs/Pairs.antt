@@ -36,7 +36,7 @@ abbrev pub PACKETS : List File
 PACKETS = record { name = codes "OLD"; bytes = WITH_PACKET } ∷ []
 
 abbrev pub packet : NgRecord
-packet = record { moment = 200; caught = record { bytes = 0x0e ∷ 0xfc ∷ 0 ∷ 1 ∷ []; whole = false }; original = 60 }
+packet = record { moment = 200; caught = record { bytes = 0x0e ∷ 0xfc ∷ 0 ∷ 1 ∷ []; whole = false }; original = 60; face = 0 }
 
 -- what is read of bytes is what they hold
 section_read : Read LIMITS file.before_all [] SECTION

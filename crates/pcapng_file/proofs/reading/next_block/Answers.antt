@@ -3,9 +3,10 @@ use Rattle.std.specs.Prelude.{is_some}
 use Rattle.pcapng_file.specs.declared.block.Interface.{Interface}
 use Rattle.pcapng_file.specs.declared.packet.Content.{Content}
 use Rattle.std.proofs.lemmas.List.{take_at}
+use Rattle.pcapng_file.specs.declared.fault.NgError.TheVariants as errors
 use Rattle.pcapng_file.specs.Block.{head_read, body_read}
 use Rattle.pcapng_file.specs.File.{Section, TellsRead, at_fault}
-use Rattle.pcapng_file.proofs.StepLemmas.{block_end, block_short, block_bad, block_bytes, block_passed, block_cut, block_err, block_frames, block_done, handed_on}
+use Rattle.pcapng_file.proofs.StepLemmas.{block_end, block_short, block_bad, block_bytes, block_passed, block_cut, block_err, block_frames, block_done, block_unread_body, block_refused, handed_on}
 use Rattle.pcapng_file.proofs.reading.next_block.Goals as goal
 
 pub returns-then-is_end : goal.returns-then-is_end
@@ -32,6 +33,16 @@ pub returns-then-eq : goal.returns-then-eq
 returns-then-eq g c = record {
   reads = block_passed c.args.slot _ _ _ _ c.pull.new.into c.in-Ok.got c.args.budget c.args.at c.args.section.now c.pull.auto.into c.in-Ok.ensures.pulls (omega arith) c.in-Ok-read_head.head (ap (λ (s : Section). head_read s.order c.pull.new.into) (sym c.section.view_is) ∙ sym c.in-Ok-read_head.ensures.exact) _ c.pass_over.new.ahead c.requires.input c.if-budget-head.false (omega (arith, c.in-Ok-read_head.ensures.least)) c.pass_over.result c.pass_over.ensures.passes;
 }
+
+pub returns-in-Err-pull : goal.returns-in-Err-pull
+returns-in-Err-pull g c =
+    let sized = c.pull-2.auto.into ∙ c.deref_mut.ensures.len ∙ c.in_ok-body.ensures.len in
+    record { reads = block_unread_body c.args.slot _ _ _ _ c.pull.new.into c.in-Ok.got c.args.budget c.args.at c.args.section.now c.pull.auto.into c.in-Ok.ensures.pulls (omega arith) c.in-Ok-read_head.head (ap (λ (s : Section). head_read s.order c.pull.new.into) (sym c.section.view_is) ∙ sym c.in-Ok-read_head.ensures.exact) _ c.pull-2.new.self c.pull-2.new.into c.requires.input c.if-budget-head.false (omega (arith, c.in-Ok-read_head.ensures.least)) sized c.in-Err-pull.failed c.in-Err-pull.ensures.pulls }
+
+pub returns-in_err-block : goal.returns-in_err-block
+returns-in_err-block g c =
+    let sized = c.pull-2.auto.into ∙ c.deref_mut.ensures.len ∙ c.in_ok-body.ensures.len in
+    record { reads = handed_on c.from_residual-in_err-block.result errors.Memory c.from_residual-in_err-block.ensures.1 (block_refused c.args.slot _ _ _ _ c.pull.new.into c.in-Ok.got c.args.budget c.args.at c.args.section.now c.pull.auto.into c.in-Ok.ensures.pulls (omega arith) c.in-Ok-read_head.head (ap (λ (s : Section). head_read s.order c.pull.new.into) (sym c.section.view_is) ∙ sym c.in-Ok-read_head.ensures.exact) _ c.pull-2.new.self c.pull-2.new.into c.requires.input c.if-budget-head.false (omega (arith, c.in-Ok-read_head.ensures.least)) sized c.in-Ok-pull.got c.in-Ok-pull.ensures.pulls) }
 
 pub returns-then-got-len : goal.returns-then-got-len
 returns-then-got-len g c =

@@ -8,10 +8,11 @@ pub loop-got-preserved : goal.loop-got-preserved
 loop-got-preserved g c =
     let i = c.loop-got.invariant in
     let given = c.give-count.ensures in
+    let sized = length-put_mid c.loop-got.got c.loop-got.into c.give-count.new.into i.bound c.give-count.auto.into in
     record {
-      pulled = pull_step c.args.slot c.loop-got.got _ _ _ c.loop-got.into c.args.self.now c.loop-got.self c.ready.new.self c.requires i.pulled c.in_ok-ready.ensures.refills c.give-count.result (length c.loop-got.into - c.loop-got.got) c.give-count.new.into c.give-count.new.self i.bound
-          (omega (arith, given.count, c.give-count.auto.into)) given.front given.rest;
-      bound = omega (arith, length-put_mid c.loop-got.got c.loop-got.into c.give-count.new.into i.bound c.give-count.auto.into, given.count, c.give-count.auto.into, ap length (take_rest c.loop-got.into c.loop-got.got), length-drop c.loop-got.got c.loop-got.into);
+      pulled = pull_step c.args.slot c.loop-got.got _ _ _ c.loop-got.into c.args.self.now c.loop-got.self c.ready.new.self c.requires i.pulled c.in_ok-ready.ensures.refills c.give-count.result (length c.loop-got.into - c.loop-got.got) c.give-count.new.into c.give-count.new.self (omega (arith, c.loop-got-test.true))
+          (omega (arith, given.count)) sized (omega (arith, given.count, c.give-count.auto.into)) given.front given.rest;
+      bound = omega (arith, sized, given.count, c.give-count.auto.into, ap length (take_rest c.loop-got.into c.loop-got.got), length-drop c.loop-got.got c.loop-got.into);
     }
 
 pub returns-then-count-eq0 : goal.returns-then-count-eq0
@@ -21,6 +22,6 @@ returns-then-count-eq0 g c =
     let sized = length-put_mid c.loop-got.got c.loop-got.into c.give-count.new.into i.bound c.give-count.auto.into in
     let room : 0 < length c.give-count.new.into = omega (arith, c.give-count.auto.into, ap length (take_rest c.loop-got.into c.loop-got.got), length-drop c.loop-got.got c.loop-got.into) in
     record {
-      pulls = pull_ended c.args.slot c.loop-got.got _ _ _ c.loop-got.into c.args.self.now c.loop-got.self c.ready.new.self c.requires i.pulled c.in_ok-ready.ensures.refills c.give-count.result (length c.loop-got.into - c.loop-got.got) c.give-count.new.into c.give-count.new.self i.bound sized c.if-count-eq0.true
+      pulls = pull_ended c.args.slot c.loop-got.got _ _ _ c.loop-got.into c.args.self.now c.loop-got.self c.ready.new.self c.requires i.pulled c.in_ok-ready.ensures.refills c.give-count.result (length c.loop-got.into - c.loop-got.got) c.give-count.new.into c.give-count.new.self (omega (arith, c.loop-got-test.true)) sized c.if-count-eq0.true
           (omega (arith, given.count, c.give-count.auto.into)) room given.front given.rest;
     }
