@@ -4,24 +4,28 @@ ghost use Rattle.fab_base.specs.Desk.{knows};
 ghost use Rattle.fcoe_tool.specs.Edge.{KnowsAll, ReadsAt, WritesAt};
 ghost use Rattle.std.specs.Io.KnownBytes.{ReadConsumes, WriteAppends};
 
-use crate::same::{Spot, look, two_are_one};
-use fab_base::{Depot, Desk, Failed, NoMemory, Sink, word_at};
+use crate::same::{Mix, Spot, mix_of};
+use crate::trouble::{Trouble, Why, first_of, why_of};
+use fab_base::{Depot, Desk, DeskSlot, Failed, NoMemory, Sink, word_at};
 use std::alloc::Global;
+use std::fs::{OpenFile, OpenOptions};
 use std::io::{Read, Write};
 use std::rt::Files;
 use std::{fs, io};
 
-/// Real files under the words of a command. Where two of the names are one regular file, no output
-/// is opened, since that would empty what another name is to read or to hold.
+/// Real files under the words of a command. Where two of the names are one regular file, or one is
+/// the standard output, no output is opened. Outputs are emptied once all of them are open: before
+/// the first byte is written.
 #[derive(Drop)]
 pub struct FileDepot<'a, R: Files> {
     rt: &'a R,
     alloc: Global,
     desk: Desk,
     files: Vec<R::File>,
-    // room for where each name's file lies, which is looked at before the first output is opened
-    spots: Vec<Spot>,
-    mixed: Option<bool>,
+    mix: Mix,
+    // whether the outputs were emptied
+    emptied: bool,
+    trouble: Option<Trouble>,
 }
 
 impl<'a, R: Files> FileDepot<'a, R> {
@@ -30,37 +34,44 @@ impl<'a, R: Files> FileDepot<'a, R> {
     ghost use Rattle.fab_base.specs.Desk.{place_of, Stays, KeepsOtherSlots, KeepsCounts};
     ghost use Rattle.fcoe_tool.specs.Edge.{KnowsAll, AddsFile, HasSame};
 
-    /// A depot that knows these words.
-    pub fn new(rt: &'a R, alloc: Global, words: &[String]) -> Result<FileDepot<'a, R>, NoMemory>
+    /// A depot that knows these words, beside a standard output that leads to this place.
+    pub fn new(
+        rt: &'a R,
+        alloc: Global,
+        words: &[String],
+        printed: &Spot,
+    ) -> Result<FileDepot<'a, R>, NoMemory>
         ensures knows { IfOk result (λ d. KnowsAll d.desk words.now) }
     {
         let desk = desk_of(alloc, words)?;
-        let spots = Vec::from_elem(alloc, Spot::Other, words.len())?;
+        let mix = mix_of(rt, alloc, words, printed)?;
         Ok(FileDepot {
             rt,
             alloc,
             desk,
             files: Vec::new(alloc),
-            spots,
-            mixed: None,
+            mix,
+            emptied: false,
+            trouble: None,
         })
     }
 
-    // Whether two of the names are one file, as the first look found. The first word, that of the
-    // command, is no name.
-    fn has_mixed_names(&mut self) -> bool
-        ensures desk { self.new.desk ≡ self.old.desk }
-        ensures files { self.new.files ≡ self.old.files }
-    {
-        match self.mixed {
-            Some(mixed) => mixed,
-            None => {
-                let desk = &self.desk;
-                look(self.rt, &desk.names, &mut self.spots);
-                let mixed = two_are_one(&desk.names, &self.spots, 1);
-                self.mixed = Some(mixed);
-                mixed
-            }
+    /// What the names are to each other and to the standard output.
+    pub(crate) fn mix(&self) -> Mix {
+        self.mix
+    }
+
+    /// What went wrong first with a file.
+    pub(crate) fn trouble(&self) -> Option<Trouble> {
+        self.trouble
+    }
+
+    /// The name at a place among those that are known.
+    pub(crate) fn name_of(&self, place: usize) -> &str {
+        if place < self.desk.names.len() {
+            word_at(&self.desk.names, place)
+        } else {
+            ""
         }
     }
 
@@ -78,14 +89,14 @@ impl<'a, R: Files> FileDepot<'a, R> {
         ensures none { IfNone result (HasSame self.old.desk self.new.desk self.old.files.items
             self.new.files.items) }
     {
-        if self.has_mixed_names() {
+        if self.mix != Mix::Apart {
             return None;
         }
         self.try_open(name, place, false)
     }
 
     // Opens a file; the number at its slot is its place among the files. There is a number and room
-    // for both before the file is touched, since an output is emptied where it is opened.
+    // for both before the file is touched, since an output is made where it isn't there yet.
     fn try_open(&mut self, name: &str, place: usize, input: bool) -> Option<u32>
         requires { place_of self.old.desk name.now ≡ Some place }
         ensures stays { Stays place self.old.desk self.new.desk }
@@ -105,13 +116,17 @@ impl<'a, R: Files> FileDepot<'a, R> {
         if self.files.reserve(1).is_err() || self.desk.reserve_slot(self.alloc).is_err() {
             return None;
         }
-        let file = if input {
+        let opened = if input {
             fs::open(self.rt, name)
         } else {
-            fs::create(self.rt, name)
+            open_to_write(self.rt, name, self.emptied)
         };
-        let Ok(file) = file else {
-            return None;
+        let file = match opened {
+            Ok(file) => file,
+            Err(error) => {
+                self.trouble = first_of(self.trouble, place, why_of(error.kind()));
+                return None;
+            }
         };
         let at = self.files.len();
         self.files.push(file).unwrap();
@@ -177,6 +192,7 @@ impl<R: Files> Depot for FileDepot<'_, R> {
         match read_at(&mut self.files, at, into) {
             Ok(count) => Ok(count),
             Err(Failed) => {
+                self.trouble = first_of(self.trouble, source, Why::Unread);
                 self.desk.read_failed(source);
                 Err(Failed)
             }
@@ -193,14 +209,60 @@ impl<R: Files> Depot for FileDepot<'_, R> {
     {
         let target = self.desk.file(slot);
         let at = self.desk.at(slot);
-        match write_at(&mut self.files, at, from) {
+        match write_to(&mut self.files, &self.desk, &mut self.emptied, at, from) {
             Ok(count) => Ok(count),
             Err(Failed) => {
+                self.trouble = first_of(self.trouble, target, Why::Unwritten);
                 self.desk.write_failed(target);
                 Err(Failed)
             }
         }
     }
+}
+
+// Opens an output, which is made where it isn't there. It keeps its bytes until all are emptied.
+fn open_to_write<R: Files>(files: &R, name: &str, emptied: bool) -> io::Result<R::File> {
+    let mut how = OpenOptions::new();
+    how.write(true).create(true).truncate(emptied);
+    how.open(files, name)
+}
+
+// Empties the outputs that are regular files.
+fn empty_outputs<F: OpenFile>(files: &[F], slots: &[DeskSlot]) -> Result<(), Failed> {
+    for slot in slots {
+        if !slot.input && slot.at < files.len() {
+            empty(&files[slot.at])?;
+        }
+    }
+    Ok(())
+}
+
+fn empty<F: OpenFile>(file: &F) -> Result<(), Failed> {
+    let Ok(found) = file.metadata() else {
+        return Err(Failed);
+    };
+    if found.is_file() && file.set_len(0).is_err() {
+        return Err(Failed);
+    }
+    Ok(())
+}
+
+// Writes to the file at a place. Before the first byte of any output all are emptied.
+fn write_to<F: Write + OpenFile>(
+    files: &mut Vec<F>,
+    desk: &Desk,
+    emptied: &mut bool,
+    at: usize,
+    from: &[u8],
+) -> Result<usize, Failed>
+    ensures bound { IfOk result (λ n. (1 ≤ n) × (n ≤ length from.now)) }
+    ensures writes { WritesAt F.contents at files.old.items files.new.items from.now result }
+{
+    if !*emptied {
+        empty_outputs(files, &desk.slots)?;
+        *emptied = true;
+    }
+    write_at(files, at, from)
 }
 
 // Whether a number is left for one more slot.

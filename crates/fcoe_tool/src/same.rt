@@ -1,100 +1,244 @@
-//! Which names lead to one real file.
+//! Which names of a command lead to one real file, or to the standard output.
 ghost use Rattle.std.specs.Prelude.{◌<◌, length};
 
-use fab_base::word_at;
+use fab_base::{NoMemory, word_at};
+use std::alloc::Global;
 use std::fs;
+use std::fs::Metadata;
 use std::os::unix::fs::MetadataExt;
 use std::path::Path;
 use std::rt::Files;
 
 /// Where the file of a name lies, by the numbers of a device and an inode.
-#[derive(Clone, Copy, Debug, PartialEq, Eq)]
+#[derive(Debug, Drop)]
 pub(crate) enum Spot {
     /// A regular file.
-    File { device: u64, inode: u64 },
-    /// A file that isn't there yet, in this folder.
-    New { device: u64, inode: u64 },
-    /// A pipe, a terminal or a device, which may stand under several names; a folder, or nothing.
+    File {
+        device: u64,
+        inode: u64,
+    },
+    /// A file that isn't there yet: its folder, and its name in it.
+    New {
+        device: u64,
+        inode: u64,
+        name: String,
+    },
+    /// A pipe, a socket or a terminal, which may stand under several names.
+    Stream {
+        device: u64,
+        inode: u64,
+    },
+    /// A folder, /dev/null, or nothing.
     Other,
 }
 
-/// Looks where the file of each name lies.
-pub(crate) fn look<R: Files>(files: &R, names: &[String], spots: &mut [Spot]) {
-    for (place, spot) in spots.iter_mut().enumerate() {
-        if place < names.len() {
-            *spot = spot_of(files, word_at(names, place));
-        }
+/// What the names of a command are to each other and to the standard output.
+#[derive(Clone, Copy, Debug, PartialEq, Eq)]
+pub(crate) enum Mix {
+    /// Each name is a file of its own.
+    Apart,
+    /// The names at these two places are one file.
+    Two(usize, usize),
+    /// The standard output is a regular file, and the name at this place leads to it.
+    Printed(usize),
+    /// The standard output is a pipe or a terminal, and the name at this place leads to it.
+    Piped(usize),
+}
+
+// The device number of /dev/null: major 1, minor 3.
+const NULL: u64 = 0x103;
+
+// As many links as Linux follows in one name.
+const LINKS: usize = 40;
+
+/// The place of the first word that names a file.
+pub(crate) fn first_name(words: &[String]) -> usize {
+    if words.is_empty() {
+        return 0;
+    }
+    match word_at(words, 0) {
+        // the number of a load isn't a file
+        "make" => 2,
+        // nor are a node's start, MAC and names
+        "enode" => 5,
+        _ => 1,
     }
 }
 
-fn spot_of<R: Files>(files: &R, name: &str) -> Spot {
-    let Ok(found) = fs::metadata(files, name) else {
-        return new_spot(files, name);
-    };
-    if found.is_file() {
-        Spot::File {
-            device: found.dev(),
-            inode: found.ino(),
-        }
-    } else {
-        Spot::Other
+/// What the file names among the words are to each other and to the standard output.
+pub(crate) fn mix_of<R: Files>(
+    files: &R,
+    alloc: Global,
+    words: &[String],
+    printed: &Spot,
+) -> Result<Mix, NoMemory> {
+    let mut spots: Vec<Spot> = Vec::with_capacity(alloc, words.len())?;
+    for place in 0..words.len() {
+        let spot = if place < first_name(words) {
+            Spot::Other
+        } else {
+            spot_of(files, alloc, word_at(words, place))?
+        };
+        spots.push(spot)?;
     }
+    if let Some(mix) = printed_over(&spots, printed) {
+        return Ok(mix);
+    }
+    Ok(match two_of_one(&spots) {
+        Some((one, other)) => Mix::Two(one, other),
+        None => Mix::Apart,
+    })
 }
 
-// Where a file of this name would be made.
-fn new_spot<R: Files>(files: &R, name: &str) -> Spot {
-    let folder = match Path::new(name).parent() {
-        Some(parent) => parent.as_str(),
-        None => "",
-    };
-    let folder = if folder.is_empty() { "." } else { folder };
-    match fs::metadata(files, folder) {
-        Ok(found) => Spot::New {
-            device: found.dev(),
-            inode: found.ino(),
-        },
+/// Where the standard output leads.
+pub(crate) fn standard_output<R: Files>(files: &R) -> Spot {
+    match fs::metadata(files, "/proc/self/fd/1") {
+        Ok(found) => spot_at(&found),
         Err(_) => Spot::Other,
     }
 }
 
-/// Whether two of the names from a place on are one file, by where each lies.
-pub(crate) fn two_are_one(names: &[String], spots: &[Spot], from: usize) -> bool {
-    for place in from..names.len() {
-        if is_met_again(names, spots, place) {
-            return true;
-        }
-    }
-    false
-}
-
-fn is_met_again(names: &[String], spots: &[Spot], place: usize) -> bool
-    requires { place < length names.now }
-{
-    for later in place + 1..names.len() {
-        if are_one(names, spots, place, later) {
-            return true;
-        }
-    }
-    false
-}
-
-fn are_one(names: &[String], spots: &[Spot], one: usize, other: usize) -> bool
-    requires one { one < length names.now }
-    requires other { other < length names.now }
-{
-    let (Some(first), Some(second)) = (spots.get(one), spots.get(other)) else {
-        return false;
+// Where the file of a name lies; a link that leads nowhere yet is followed to its end.
+fn spot_of<R: Files>(files: &R, alloc: Global, name: &str) -> Result<Spot, NoMemory> {
+    let Ok(found) = fs::metadata(files, name) else {
+        let end = end_of_links(files, alloc, name)?;
+        return new_spot(files, alloc, &end);
     };
-    match first {
-        Spot::File { .. } => first == second,
-        // The names of two files that aren't there yet may differ in their folder's spelling.
-        Spot::New { .. } => {
-            first == second && last_part(word_at(names, one)) == last_part(word_at(names, other))
+    Ok(spot_at(&found))
+}
+
+fn spot_at(found: &Metadata) -> Spot {
+    let (device, inode) = (found.dev(), found.ino());
+    if found.is_file() {
+        return Spot::File { device, inode };
+    }
+    if found.is_dir() || found.rdev() == NULL {
+        return Spot::Other;
+    }
+    Spot::Stream { device, inode }
+}
+
+// The name at the end of links. One that leads to itself is left where it is: it can't be opened.
+fn end_of_links<R: Files>(files: &R, alloc: Global, name: &str) -> Result<String, NoMemory> {
+    let mut end = String::from_str(alloc, name)?;
+    for _ in 0..LINKS {
+        match next_of_links(files, alloc, &end)? {
+            Some(next) => end = next,
+            None => return Ok(end),
         }
-        Spot::Other => false,
+    }
+    Ok(end)
+}
+
+// The name to which a link leads, or none where a name is no link.
+fn next_of_links<R: Files>(
+    files: &R,
+    alloc: Global,
+    name: &str,
+) -> Result<Option<String>, NoMemory> {
+    let Ok(target) = files.read_link(alloc, name) else {
+        return Ok(None);
+    };
+    let next = if target.as_path().is_absolute() {
+        String::from_str(alloc, target.as_str())?
+    } else {
+        format!(in alloc; "{}/{}", folder_of(name), target.as_str())?
+    };
+    Ok(Some(next))
+}
+
+// The folder in which a name lies.
+fn folder_of(name: &str) -> &str {
+    match Path::new(name).parent() {
+        Some(parent) if !parent.as_str().is_empty() => parent.as_str(),
+        _ => ".",
     }
 }
 
-fn last_part(name: &str) -> Option<&str> {
-    Path::new(name).file_name()
+// Where a file of this name would be made.
+fn new_spot<R: Files>(files: &R, alloc: Global, name: &str) -> Result<Spot, NoMemory> {
+    let Ok(found) = fs::metadata(files, folder_of(name)) else {
+        return Ok(Spot::Other);
+    };
+    let Some(last) = Path::new(name).file_name() else {
+        return Ok(Spot::Other);
+    };
+    Ok(Spot::New {
+        device: found.dev(),
+        inode: found.ino(),
+        name: String::from_str(alloc, last)?,
+    })
+}
+
+// The first name that leads to the standard output.
+fn printed_over(spots: &[Spot], printed: &Spot) -> Option<Mix> {
+    for place in 0..spots.len() {
+        if are_one(&spots[place], printed) {
+            return Some(Mix::Printed(place));
+        }
+        if are_one_stream(&spots[place], printed) {
+            return Some(Mix::Piped(place));
+        }
+    }
+    None
+}
+
+// The first two places at which one file is.
+fn two_of_one(spots: &[Spot]) -> Option<(usize, usize)> {
+    for place in 0..spots.len() {
+        if let Some(other) = met_again(spots, place) {
+            return Some((place, other));
+        }
+    }
+    None
+}
+
+fn met_again(spots: &[Spot], place: usize) -> Option<usize>
+    requires { place < length spots.now }
+{
+    for later in place + 1..spots.len() {
+        if are_one(&spots[place], &spots[later]) {
+            return Some(later);
+        }
+    }
+    None
+}
+
+// Whether two names are one regular file, which is there or would be made.
+fn are_one(one: &Spot, other: &Spot) -> bool {
+    match (one, other) {
+        (
+            Spot::File { device, inode },
+            Spot::File {
+                device: d,
+                inode: i,
+            },
+        ) => *device == *d && *inode == *i,
+        (
+            Spot::New {
+                device,
+                inode,
+                name,
+            },
+            Spot::New {
+                device: d,
+                inode: i,
+                name: n,
+            },
+        ) => *device == *d && *inode == *i && name.as_str() == n.as_str(),
+        _ => false,
+    }
+}
+
+fn are_one_stream(one: &Spot, other: &Spot) -> bool {
+    match (one, other) {
+        (
+            Spot::Stream { device, inode },
+            Spot::Stream {
+                device: d,
+                inode: i,
+            },
+        ) => *device == *d && *inode == *i,
+        _ => false,
+    }
 }

@@ -1,6 +1,7 @@
 //! The command over real files, and with memory that is refused.
 use crate::edge::FileDepot;
 use crate::process::{status_of_process, words_of};
+use crate::same::Spot;
 use fab_base::{Depot, MemSink, word_at};
 use std::alloc::{AllocError, AllocGlobal, Global};
 use std::os::unix::fs::symlink;
@@ -57,7 +58,7 @@ fn ends<R: Threads + Wait + Sync + Files + Abort>(
 ) -> Result<(), Fail> {
     let words = words_in(alloc, words)?;
     let mut say = MemSink::new(alloc, 100)?;
-    let mut depot = FileDepot::new(rt, alloc, &words)?;
+    let mut depot = FileDepot::new(rt, alloc, &words, &Spot::Other)?;
     let status = status_of_process(rt, alloc, &words, &mut depot, &mut say);
     assert_eq!(rt; say.content(), line);
     assert_eq!(rt; status, wanted);
@@ -168,30 +169,49 @@ fn two_names_of_one_file(rt: HostRuntime) -> Result<(), Fail> {
         &["run", "SET", "NEW", "TWICE", "folder/../NEW"],
         &REQUEST,
     )?;
+    // a link that leads to it, through another folder and another link
+    symlink(&rt, "folder/NEXT", "LINK")?;
+    symlink(&rt, "../NEW", "folder/NEXT")?;
+    is_kept(&rt, &["run", "SET", "LINK", "TWICE", "NEW"], &REQUEST)?;
     // a device may stand twice
     let words = ["run", "SET", "/dev/null", "ASKED", "/dev/./null"];
     ends(&rt, rt.alloc(), &words, b"frames 1 entries 2\n", 0)
 }
 
-// Holds whichever allocation is refused (`rt try --test --fail-alloc N`): an output that can't be
-// opened is as it was.
+// Holds whichever allocation is refused (`rt try --test --fail-alloc N`): an output is as it was
+// until the first byte is written.
 #[test]
-fn no_file_is_emptied_without_room(rt: HostRuntime) -> Result<(), Fail> {
+fn no_file_is_emptied_before_a_byte_comes(rt: HostRuntime) -> Result<(), Fail> {
     let alloc = rt.alloc();
-    fs::write(&rt, "J", b"before")?;
-    let Ok(words) = words_in(alloc, &["J"]) else {
+    fs::write(&rt, "FIRST", b"before")?;
+    fs::write(&rt, "SECOND", b"before")?;
+    let Ok(words) = words_in(alloc, &["run", "FIRST", "SECOND"]) else {
         return Ok(());
     };
-    assert_eq!(rt; words.len(), 1);
-    let Ok(mut depot) = FileDepot::new(&rt, alloc, &words) else {
+    assert_eq!(rt; words.len(), 3);
+    let Ok(mut depot) = FileDepot::new(&rt, alloc, &words, &Spot::Other) else {
         return Ok(());
     };
-    let opened = depot.open_out(word_at(&words, 0)).is_ok();
-    let Ok(text) = fs::read(&rt, "J") else {
+    let Ok(first) = depot.open_out(word_at(&words, 1)) else {
         return Ok(());
     };
-    let before: &[u8] = if opened { b"" } else { b"before" };
-    assert_eq!(rt; text.as_slice(), before);
+    let opened = depot.open_out(word_at(&words, 2)).is_ok();
+    are(&rt, ["before", "before"])?;
+    if depot.put(first, b"after").is_err() {
+        return Ok(());
+    }
+    are(&rt, ["after", if opened { "" } else { "before" }])
+}
+
+// What FIRST and SECOND hold; memory to read them may be refused.
+fn are<R: Files + AllocGlobal + Abort>(rt: &R, texts: [&str; 2]) -> Result<(), Fail> {
+    let names = ["FIRST", "SECOND"];
+    for place in 0..2 {
+        let Ok(text) = fs::read(rt, names[place]) else {
+            return Ok(());
+        };
+        assert_eq!(rt; text.as_slice(), texts[place].as_bytes());
+    }
     Ok(())
 }
 
@@ -215,7 +235,7 @@ fn outputs_are_as_they_were_or_fronts(rt: HostRuntime) -> Result<(), Fail> {
     let Ok(mut say) = MemSink::new(alloc, 100) else {
         return Ok(());
     };
-    let Ok(mut depot) = FileDepot::new(&rt, alloc, &words) else {
+    let Ok(mut depot) = FileDepot::new(&rt, alloc, &words, &Spot::Other) else {
         return Ok(());
     };
     status_of_process(&rt, alloc, &words, &mut depot, &mut say);
