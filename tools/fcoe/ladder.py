@@ -2,7 +2,7 @@
 from collections import Counter
 from dataclasses import dataclass
 from html import escape
-from typing import Iterator, Optional, Union
+from typing import Iterable, Iterator, Optional, Union
 
 from .fabric import Login, Sent
 from .frames import Heard, fcid
@@ -19,6 +19,7 @@ LEGEND = (
     ("dropped", "dropped, with its rule", "3 3"),
     ("tick", "logins ended by silence", "5 4"),
 )
+NOISE = "dropped ethertype"  # of other traffic, which isn't drawn
 Node = tuple[int, bytes]  # port, MAC of the ENode
 
 
@@ -54,7 +55,6 @@ class Picture:
         self.look = look
         self.owner: dict[Node, Node] = {}  # port and granted MAC: the ENode that holds it
         self.nodes: list[Node] = []
-        self.rows: list[Row] = []
         self.ended: dict[int, list[Login]] = {}
         for login in look.walk.fabric.logins:
             if login.ended_by is not None:
@@ -68,25 +68,16 @@ class Picture:
             self.nodes.append(found)
         return found
 
-    def add(self, arrow: Arrow) -> None:
-        last = self.rows[-1] if self.rows else None
-        if isinstance(last, Arrow) and last.like(arrow):
-            last.count += 1
-        else:
-            self.rows.append(arrow)
-
-    def heard(self, entry: Frame) -> None:
+    def heard(self, entry: Frame) -> Arrow:
         heard = self.look.ports[entry.port - 1].like(entry.index)
         node = self.node(entry.port, heard.source)
-        self.add(Arrow(entry.clock, node, True, label(heard, True), "" if entry.word == "forwarded" else entry.verdict))
+        return Arrow(entry.clock, node, True, label(heard, True), "" if entry.word == "forwarded" else entry.verdict)
 
-    def sent(self, it: Sent, clock: int) -> None:
+    def sent(self, it: Sent, clock: int) -> list[Arrow]:
         heard = it.like
-        if heard.destination[0] % 2:
-            for node in [node for node in self.nodes if node[0] == it.port]:
-                self.add(Arrow(clock, node, False, label(heard, False)))
-        else:
-            self.add(Arrow(clock, self.node(it.port, heard.destination), False, label(heard, False)))
+        is_to_all = heard.destination[0] % 2
+        nodes = [node for node in self.nodes if node[0] == it.port] if is_to_all else [self.node(it.port, heard.destination)]
+        return [Arrow(clock, node, False, label(heard, False)) for node in nodes]
 
     def change(self, place: int) -> None:
         """Takes the logins that an entry makes and ends."""
@@ -97,22 +88,20 @@ class Picture:
         if login_made is not None:
             self.owner[(login_made.port, login_made.mac(config))] = (login_made.port, login_made.enode)
 
-    def take(self, place: int, entry: Entry) -> None:
-        if isinstance(entry, Tick):
-            if entry.ended:
-                self.rows.append(entry)
-        else:
-            self.heard(entry)
+    def take(self, place: int, entry: Entry) -> list[Row]:
+        """The rows of an entry: what was heard or ended by silence, and what was sent."""
+        found: list[Row] = [self.heard(entry)] if isinstance(entry, Frame) else [entry] if entry.ended else []
         for it in self.look.walk.sent[place]:
-            self.sent(it, entry.clock)
+            found += self.sent(it, entry.clock)
         self.change(place)
+        return found
 
 
-def merged(rows: list[Row], noise: "Counter[str]") -> list[Row]:
+def merged(rows: Iterable[Row], noise: "Counter[str]") -> list[Row]:
     """The rows without other traffic, whose number is counted; like rows that are neighbours then are one."""
     found: list[Row] = []
     for row in rows:
-        if isinstance(row, Arrow) and row.why == "dropped ethertype":
+        if isinstance(row, Arrow) and row.why == NOISE:
             noise[row.why] += row.count
         elif found and isinstance(row, Arrow) and row.like(found[-1]):
             last = found[-1]
@@ -172,18 +161,10 @@ def legend(width: int, said: str, words: tuple[tuple[str, str, str], ...] = LEGE
     yield f'<text x="10" y="{y + 22}" fill="#5e5c64" font-size="11">{escape(said)}</text>'
 
 
-def chosen(rows: list[Row], begin: float, end: float, most: Optional[int]) -> tuple[list[Row], int]:
-    """The rows between two seconds behind the first arrow, at most so many; and how many more there are."""
-    first = rows[0].clock if rows else 0
-    found = [row for row in rows if begin * 1000 <= row.clock - first <= end * 1000]
-    return found[:most], len(found) - len(found[:most])
-
-
-def about(look: Look, first: int, noise: "Counter[str]", left_out: int) -> str:
+def about(look: Look, first: int, noise: "Counter[str]") -> str:
     """When the picture begins, and what it leaves out."""
     said = f"begins {stamp(first)}{' UTC' if first >= 10**11 else ''}; times are those of the windows ({look.run.config.window} ms)"
-    said += "".join(f"; not drawn: {count} {why}" for why, count in noise.items())
-    return said + (f"; {left_out} further rows are left out" if left_out else "")
+    return said + "".join(f"; not drawn: {count} {why}" for why, count in noise.items())
 
 
 def framed(width: int, height: int) -> Iterator[str]:
@@ -192,25 +173,17 @@ def framed(width: int, height: int) -> Iterator[str]:
     yield '<defs><marker id="head" viewBox="0 0 8 8" refX="8" refY="4" markerWidth="8" markerHeight="8" orient="auto"><path d="M0 0 L8 4 L0 8 z" fill="context-stroke"/></marker></defs>'
 
 
-def pictured(look: Look) -> Picture:
-    """All entries of the run."""
-    picture = Picture(look)
-    for at, entry in enumerate(look.run.entries):
-        picture.take(at, entry)
-    return picture
-
-
-def drawing(look: Look, begin: float = 0.0, end: float = float("inf"), most: Optional[int] = None) -> Iterator[str]:
-    """The lines of the picture, from so many seconds behind the first arrow to so many; at most so many rows."""
-    picture, noise = pictured(look), Counter[str]()
-    merged_rows = merged(picture.rows, noise)
+def drawing(look: Look, begin: float = 0.0, end: float = float("inf")) -> Iterator[str]:
+    """The lines of the picture, from so many seconds behind the first arrow to so many."""
+    picture, noise = Picture(look), Counter[str]()
+    merged_rows = merged((row for at, entry in enumerate(look.run.entries) for row in picture.take(at, entry)), noise)
     first = merged_rows[0].clock if merged_rows else 0
-    rows, left_out = chosen(merged_rows, begin, end, most)
+    rows = [row for row in merged_rows if begin * 1000 <= row.clock - first <= end * 1000]
     order = ordered(picture.nodes, rows)
     place: dict[Optional[Node], int] = {node: LEFT + COLUMN // 2 + COLUMN * at for at, node in enumerate(order)}
     width, height = LEFT + COLUMN * len(order), TOP + ROW * (len(rows) + 2)
     yield from framed(width, height)
-    yield from legend(width, about(look, first, noise, left_out))
+    yield from legend(width, about(look, first, noise))
     yield from heads(look, order, place, height)
     yield from body(rows, first, place, width)
     yield "</svg>"
@@ -227,11 +200,15 @@ def body(rows: list[Row], first: int, place: dict[Optional[Node], int], width: i
         yield from ended(row, y, place, width) if isinstance(row, Tick) else drawn(row, y, place)
 
 
+def silent(tick: Tick) -> str:
+    """Which logins a tick ends."""
+    return "silent: " + " ".join(fcid(it) for it in tick.ended[:8]) + (f" and {len(tick.ended) - 8} more" if len(tick.ended) > 8 else "")
+
+
 def ended(tick: Tick, y: int, place: dict[Optional[Node], int], width: int) -> Iterator[str]:
     colour = COLOURS["tick"]
     yield f'<line x1="{LEFT}" y1="{y}" x2="{width - 20}" y2="{y}" stroke="{colour}" stroke-dasharray="5 4"/>'
-    said = " ".join(fcid(it) for it in tick.ended[:8]) + (f" and {len(tick.ended) - 8} more" if len(tick.ended) > 8 else "")
-    yield f'<text x="{place[None] + 8}" y="{y - 4}" fill="{colour}" font-weight="bold">silent: {said}</text>'
+    yield f'<text x="{place[None] + 8}" y="{y - 4}" fill="{colour}" font-weight="bold">{silent(tick)}</text>'
 
 
 def drawn(row: Arrow, y: int, place: dict[Optional[Node], int]) -> Iterator[str]:
