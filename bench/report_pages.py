@@ -1,3 +1,4 @@
+# mypy: allow-untyped-calls
 """The reports that bench/report opens: captures of several kinds, what `look` makes of them, and a browser without a window."""
 import json
 import pathlib
@@ -12,7 +13,8 @@ from selenium import webdriver
 from selenium.webdriver.chrome.service import Service
 from selenium.webdriver.common.action_chains import ActionChains
 
-from fcoe.captures import Record, classic, write_classic
+from fcoe.captures import classic, write_classic
+from fcoe.columns import Record
 from fcoe.frames import hear
 
 LOOK = str(TOP / "tools" / "look")
@@ -37,7 +39,7 @@ class Report:
         return [words for words in (it.split(" ", 3) for it in text) if words[1] != "tick"]
 
     def inputs(self, port: int) -> list[Record]:
-        return classic(str(self.folder / f"in{port}.pcap")).records
+        return list(classic(str(self.folder / f"in{port}.pcap")).records)
 
 
 def made(program: str, folder: pathlib.Path, name: str, captures: list[str], words: list[str]) -> Report:
@@ -58,7 +60,7 @@ def load(program: str, folder: pathlib.Path) -> Report:
 def with_switch(program: str, folder: pathlib.Path) -> Report:
     """The demo in both directions, where the switch rejected a link service for another reason and left one frame out."""
     look_captures.both_ways(folder, [LOOK, "--program", program])
-    records = classic(str(folder / "one.pcap")).records
+    records = list(classic(str(folder / "one.pcap")).records)
     for edit in ("reason", "not_forwarded", "rscn_missing"):
         records = look_captures.EDITS[edit][0](records)
     write_classic(str(folder / "edited.pcap"), records)

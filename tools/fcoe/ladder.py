@@ -9,6 +9,7 @@ from .frames import Heard, fcid
 from .journals import Entry, Frame, Tick
 from .looking import Look
 from .moments import stamp
+from .traffic_answers import NOISE
 
 COLUMN, ROW, TOP, LEFT = 300, 26, 140, 170
 COLOURS = {"dropped": "#b3261e", "rejected": "#b35900", "refused": "#b35900", "sent": "#1a5fb4", "taken": "#26a269", "tick": "#6b3fa0"}
@@ -19,7 +20,6 @@ LEGEND = (
     ("dropped", "dropped, with its rule", "3 3"),
     ("tick", "logins ended by silence", "5 4"),
 )
-NOISE = "dropped ethertype"  # of other traffic, which isn't drawn
 Node = tuple[int, bytes]  # port, MAC of the ENode
 
 

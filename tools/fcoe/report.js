@@ -13,8 +13,9 @@ async function unpacked(id) {
     return JSON.parse(await new Response(new Blob([packed]).stream().pipeThrough(new DecompressionStream("gzip"))).text());
 }
 
-function element(name, text, properties) {
-    const made = Object.assign(document.createElement(name), properties);
+function element(name, text, attributes) {
+    const made = document.createElement(name);
+    for (const [key, value] of Object.entries(attributes || {})) made.setAttribute(key, value);
     if (text !== undefined) made.textContent = text;
     return made;
 }
@@ -88,7 +89,7 @@ function write() {
     for (const it of FIELDS) if ($(it).value.trim()) said.set(it, $(it).value.trim());
     if (sorting.by !== BY_TIME.by || sorting.down) said.set("sort", (sorting.down ? "-" : "") + sorting.by);
     if (chosen >= 0) said.set("at", name(chosen));
-    const text = said.toString().replaceAll("%3A", ":").replaceAll("%2F", "/").replaceAll("+", "%20");
+    const text = said.toString().replace(/%3A/g, ":").replace(/%2F/g, "/").replace(/\+/g, "%20");
     history.replaceState(null, "", text ? "#?" + text : location.href.split("#")[0]);
 }
 
@@ -108,15 +109,15 @@ function read() {
 // ---- the rows that are in sight
 
 function gap(count) {
-    const made = element("tr", undefined, { className: "gap", ariaHidden: "true" }), one = element("td", undefined, { colSpan: heads.length });
+    const made = element("tr", undefined, { class: "gap", "aria-hidden": "true" }), one = element("td", undefined, { colspan: heads.length });
     one.style.height = count * HEIGHT + "px";
     made.append(one);
     return made;
 }
 
 function line(at, place) {
-    const made = element("tr", undefined, { className: "row " + kindOf(at), id: "row" + at, ariaRowIndex: String(place + 2), ariaSelected: String(at === chosen) });
-    made.append(...heads.map(([column]) => element("td", cell(column, at), { title: cell(column, at), className: classOf(column) })));
+    const made = element("tr", undefined, { class: "row " + kindOf(at), id: "row" + at, "aria-rowindex": place + 2, "aria-selected": at === chosen });
+    made.append(...heads.map(([column]) => element("td", cell(column, at), { title: cell(column, at), class: classOf(column) })));
     made.onclick = () => { choose(at); write(); };
     return made;
 }
@@ -125,7 +126,7 @@ function draw() {
     const begin = Math.max(Math.floor(view.scrollTop / HEIGHT) - 6, 0), end = Math.min(begin + Math.ceil(view.clientHeight / HEIGHT) + 12, shown.length);
     const some = shown.slice(begin, end);
     body.replaceChildren(gap(begin), ...some.map((at, place) => line(at, begin + place)), gap(shown.length - end));
-    grid.ariaRowCount = String(shown.length + 1);
+    grid.setAttribute("aria-rowcount", shown.length + 1);
     if (some.includes(chosen)) grid.setAttribute("aria-activedescendant", "row" + chosen);
     else grid.removeAttribute("aria-activedescendant");
 }
@@ -170,7 +171,7 @@ function dump(text, size) {
 }
 
 function link(at) {
-    return element("a", name(at), { href: "#?at=" + name(at), className: "frame" });
+    return element("a", name(at), { href: "#?at=" + name(at), class: "frame" });
 }
 
 // A text in which each frame that is named leads to its row.
@@ -180,7 +181,7 @@ function linked(text) {
     for (const it of text.matchAll(/port (\d+), frame (\d+)|\b(\d+)\/(\d+)\b/g)) {
         const aim = it[1] ? it[1] + "/" + it[2] : it[0];
         if (!places.has(aim)) continue;
-        parts.push(text.slice(from, it.index), element("a", it[0], { href: "#?at=" + aim, className: "frame" }));
+        parts.push(text.slice(from, it.index), element("a", it[0], { href: "#?at=" + aim, class: "frame" }));
         from = it.index + it[0].length;
     }
     return [...parts, text.slice(from)];
@@ -204,7 +205,7 @@ function tell(at) {
         made.append(...linked(rows.why[at]));
         found.push(made);
     }
-    found.push(element("pre", dump(rows.bytes[at], rows.size[at]), { className: "hex", tabIndex: 0, ariaLabel: "Bytes" }));
+    found.push(element("pre", dump(rows.bytes[at], rows.size[at]), { class: "hex", tabindex: 0, role: "region", "aria-label": "Bytes" }));
     found.push(element("pre", rows.reading[at].split("; ").join("\n") + (rows.sent[at] ? "\n\nsent: " + rows.sent[at] : "")));
     one.replaceChildren(...found);
 }
@@ -212,7 +213,7 @@ function tell(at) {
 // ---- heads that sort
 
 function headOf(column, text) {
-    const made = element("th", undefined, { scope: "col", className: classOf(column) }), button = element("button", text, { type: "button" });
+    const made = element("th", undefined, { scope: "col", class: classOf(column) }), button = element("button", text, { type: "button" });
     made.dataset.column = column;
     button.onclick = () => {
         sorting = { by: column, down: sorting.by === column && !sorting.down };
@@ -240,9 +241,9 @@ function makeSortable(table) {
         button.append(...head.childNodes);
         head.append(button);
         button.onclick = () => {
-            const isDown = head.ariaSort === "ascending", sorted = [...table.tBodies[0].rows].sort((a, b) => before(key(a, at), key(b, at)));
+            const isDown = head.getAttribute("aria-sort") === "ascending", sorted = [...table.tBodies[0].rows].sort((a, b) => before(key(a, at), key(b, at)));
             own.forEach(it => it.removeAttribute("aria-sort"));
-            head.ariaSort = isDown ? "descending" : "ascending";
+            head.setAttribute("aria-sort", isDown ? "descending" : "ascending");
             table.tBodies[0].append(...(isDown ? sorted.reverse() : sorted));
         };
     });

@@ -11,12 +11,13 @@ from .compare import STATES, by_kind, totals
 from .errors import Refused, counted
 from .journals import counted as rule_of
 from .journals import row_of
-from .ladder import LEGEND, NOISE
+from .ladder import LEGEND
 from .looking import Look
 from .moments import short, stamp
 from .places import text_of
 from .report_frames import frames_of_page, rules_of
 from .texts import compare_json
+from .traffic_answers import NOISE
 from .views import Row, busiest, counts, first_clock, logins, names, summary, zones
 
 FOLDER = pathlib.Path(__file__).resolve().parent

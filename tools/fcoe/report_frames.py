@@ -11,10 +11,11 @@ from .fields import fields_of, in_line
 from .frames import Heard, colons, fcid, login_names
 from .inputs import Port
 from .journals import TICK, Frame, Tick, counted, rows
-from .ladder import NOISE, Arrow, Node, Picture, silent
+from .ladder import Arrow, Node, Picture, silent
 from .looking import Look
 from .pairs import Moment, replies_of
 from .texts import why_text
+from .traffic_answers import NOISE
 from .views import first_clock, is_trouble
 from .why import Asked, why_of
 
