@@ -2,7 +2,7 @@
 import os
 from dataclasses import dataclass, field, replace
 from functools import cached_property
-from typing import Optional
+from typing import Any, Optional
 
 from .compare import Comparison, compare
 from .captures import classic
@@ -32,6 +32,7 @@ class Look:
     turns: int
     program: str
     compared: Optional[Comparison] = None
+    whatif: Optional[dict[str, Any]] = None  # what a planned zoning would change, where it was asked
 
     @property
     def ports(self) -> list[Port]:

@@ -1,6 +1,5 @@
 """The words of `zones` and `look zones --from`, and what they write."""
 import argparse
-from typing import Optional
 
 from ..errors import Refused
 from ..words import Parser
@@ -43,9 +42,3 @@ def written(wanted: Wanted, rows: list[LoginRow], said: argparse.Namespace) -> t
     else:
         lines, more = commands(vendor, taken.plan, said.vsan)
     return lines, taken.remarks + others + more
-
-
-def plan_files(said: Optional[list[str]], word: str) -> list[str]:
-    if not said:
-        raise Refused(f"words: --{word} FILE is wanted: `look --help` has them all")
-    return said

@@ -21,7 +21,7 @@ def read_config_zones(lines: list[Line]) -> Reading:
     for line in lines:
         words = line.text.split()
         if not words or line.text.startswith("#"):
-            line.use = Use.NOTE if words else Use.BLANK
+            line.use = Use.FIELD if words else Use.BLANK
         elif words[0] == "zone" and len(words) > 2 and all(re.fullmatch(WWN, it) for it in words[2:]):
             zoning.full.add_zone(Zone(words[1], line.place, [Member(Kind.WWPN, it.lower(), line.place) for it in words[2:]]))
             line.use = Use.MEMBER
@@ -32,7 +32,7 @@ def read_config_zones(lines: list[Line]) -> Reading:
             activations.append(words[1])
             line.use = Use.HEAD
         elif words[0] in KEYS:
-            line.use = Use.NOTE
+            line.use = Use.FIELD
         else:
             account.fault(line, "is no line of a configuration: docs/COMMANDS.md has its keys")
     account.close()

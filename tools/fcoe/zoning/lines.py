@@ -24,7 +24,7 @@ class Use(Enum):
     HEAD = "head of a zone, a zone set or an alias"
     MEMBER = "member"
     LOGIN = "row of a list of logins"
-    FIELD = "what is said further of the member or the row above"
+    FIELD = "a comment, a key of another thing, or what is said further of the line above"
     NOTE = "known, and says nothing of who reaches whom"
     OTHER = "nothing of zones"
 

@@ -154,7 +154,7 @@ class Reader:
         elif attribute := ATTRIBUTE.match(text):
             self.take_attribute(line, attribute[1])
         elif NOTE.match(text):
-            line.use = Use.NOTE
+            line.use = Use.FIELD if text.startswith("!") else Use.NOTE
             if text.startswith("!") and not line.indent:
                 self.close()
             if SMART_OFF.match(text):
