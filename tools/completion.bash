@@ -4,3 +4,13 @@ _fcoe_tool() {
     [ "$COMP_CWORD" != 1 ] || mapfile -t COMPREPLY < <(compgen -W "$commands" -- "${COMP_WORDS[1]}")
 }
 complete -o default -F _fcoe_tool fcoe_tool
+
+# The completion of zones: its options, and then files.
+_zones() {
+    local options="--from --to --vsan --set --defined --all --logins --skip --quiet --help"
+    case ${COMP_WORDS[COMP_CWORD - 1]} in
+    --to) mapfile -t COMPREPLY < <(compgen -W "config nxos fos" -- "${COMP_WORDS[COMP_CWORD]}") ;;
+    *) [[ ${COMP_WORDS[COMP_CWORD]} != -* ]] || mapfile -t COMPREPLY < <(compgen -W "$options" -- "${COMP_WORDS[COMP_CWORD]}") ;;
+    esac
+}
+complete -o default -F _zones zones
