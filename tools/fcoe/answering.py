@@ -23,6 +23,7 @@ def answers_of(look: Look) -> list[Answer]:
     found += rejected_here(look, [it for it in everyone if (it.enode.port.number, it.enode.mac) not in told.hosts])
     told.silent = {(it.port, it.enode) for it in silent_logins(look)}
     found += [*silent(look), *again(look), *differences(look, told), *drops(look, told)]
+    found += [Answer(Severity.NOTED, it, "--config takes another configuration, --zone other zones") for it in look.inputs.derived]
     if not any(it.severity < Severity.NOTED for it in found):
         found.append(well(look))
     found.sort(key=lambda it: (it.severity if it.severity != Severity.WELL else Severity.NOTED - 0.5, -it.count))

@@ -95,6 +95,7 @@ class Inputs:
     remarks: list[str]
     switches: set[bytes]
     is_drawn: bool
+    derived: list[str] = field(default_factory=list)  # what the switch's own answers told of its configuration
 
 
 def remarks_on(port: Port) -> list[str]:

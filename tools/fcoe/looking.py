@@ -7,6 +7,7 @@ from typing import Any, Optional
 from .compare import Comparison, compare
 from .captures import classic
 from .configs import map_of, read_config
+from .derived import derive
 from .errors import Refused, counted
 from .fabric import Login, Walk, walk
 from .inputs import Inputs, Options, Port, gather
@@ -146,6 +147,7 @@ def settle(program: str, inputs: Inputs, room: str) -> tuple[Run, Grants, int]:
 def look(names: list[str], options: Options, program: str, room: str) -> Look:
     """Looks at captures."""
     inputs = gather(names, room, options)
+    derive(inputs, bool(options.zones))
     captured = inputs.ports
     run, grants, turns = settle(program, inputs, room)
     walked = walk(run)
