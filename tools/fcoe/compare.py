@@ -7,7 +7,7 @@ from typing import Iterator, Optional
 from .configs import Config, is_advertisement
 from .fabric import ANSWERED, Sent, Walk
 from .fields import Fields, fields_of
-from .forwards import Marked, data_entries, sent_on
+from .forwards import Marked, data_ends, data_entries, sent_on
 from .frames import ADVERTISE, ALL_ENODES, CLEAR, Heard, colons, fcid, number
 from .inputs import Port
 from .journals import Frame, counted
@@ -15,6 +15,7 @@ from .pairs import SERVICES, asks, replies_of
 from .runs import Run
 from .windows import ends_of, is_otherwise, otherwise
 
+Pair = tuple[int, int]  # addresses of two N_Ports
 PROFILE = "this project's profile (docs/DECISIONS.md)"
 # fields in which a right switch may differ, and why
 CHOICES = {
@@ -97,6 +98,7 @@ class Comparison:
     notices: list[Compared] = field(default_factory=list)
     advertisements: list[Compared] = field(default_factory=list)
     others: Counter[str] = field(default_factory=Counter)
+    went: Optional[Marked] = None  # the data frames that the switch sent on
 
     def all(self) -> list[Compared]:
         return [*self.answers, *self.forwards, *self.notices, *self.advertisements]
@@ -239,13 +241,26 @@ def forwarding(port: Port, at: int, was_sent: bool, entry: Frame) -> Compared:
     return Compared(entry.port, frames.number(at), entry.index, frames.milliseconds(at), frames.like(at).kind, *words, [Difference("forwarding", *words)])
 
 
-def compare_forwards(run: Run, walk: Walk, found: Comparison, used: Marked) -> None:
-    """Each data frame: whether the switch sent it on, where the capture can show that."""
+@dataclass
+class Forwarded:
+    """A data frame that one of the two sent on: the difference, its entry and its pair of addresses."""
+
+    answer: Compared
+    place: int
+    entry: Frame
+    pair: Optional[Pair]
+
+
+def forwards(run: Run, found: Comparison, went: Marked) -> tuple[list[Forwarded], set[Optional[Pair]]]:
+    """The data frames that only one of the two sent on, and the pairs of which the switch sent on some."""
     can_show = {port.number for port in run.ports if port.replies}
-    went = sent_on(run, used)
     targets = [int(it.split(" ")[1]) if it.startswith("forwarded ") else None for it in run.entries.verdicts]
+    apart, seen = list[Forwarded](), set[Optional[Pair]]()
     for place, port, at in data_entries(run):
         was_sent, target = went.has(port.number, at), targets[run.entries.said[place]]
+        pair = pair_of(port, at)
+        if was_sent:
+            seen.add(pair)
         if target is not None and not was_sent and target not in can_show:
             found.forwarded["can't be told: no frames of the switch in that port's capture"] += 1
         elif was_sent == (target is not None):
@@ -253,14 +268,33 @@ def compare_forwards(run: Run, walk: Walk, found: Comparison, used: Marked) -> N
         else:
             entry = run.entries.frame(place)
             found.forwarded["by the switch alone" if was_sent else "by the forwarder alone"] += 1
-            found.forwards.append(forwarding(port, at, was_sent, entry))
-            explain(found.forwards[-1], cause_of(run, walk, place))
-            explain(found.forwards[-1], (zone_note(run.config, entry), True))
+            apart.append(Forwarded(forwarding(port, at, was_sent, entry), place, entry, pair))
+    return apart, seen
 
 
-def zone_note(config: Config, entry: Frame) -> str:
-    """A frame that our zones let pass may have met others on the switch."""
-    return "the switch may have other zones: --zone or --config names them" if entry.word == "forwarded" and len(config.zones) == 1 else ""
+def compare_forwards(run: Run, walk: Walk, found: Comparison, used: Marked) -> None:
+    """Each data frame: whether the switch sent it on, where the capture can show that."""
+    found.went = sent_on(run, used)
+    apart, seen = forwards(run, found, found.went)
+    for it in apart:
+        explain(it.answer, cause_of(run, walk, it.place))
+        explain(it.answer, (zone_note(run.config, it.entry, it.pair in seen), True))
+        found.forwards.append(it.answer)
+
+
+def pair_of(port: Port, at: int) -> Optional[Pair]:
+    """The two addresses of a data frame, whichever sent it."""
+    ends = data_ends(port.frames.flows[port.frames.flow_of[at]].heard)
+    return (min(ends[1:3]), max(ends[1:3])) if ends is not None else None
+
+
+def zone_note(config: Config, entry: Frame, is_joined: bool) -> str:
+    """A frame that our zones let pass may have met others on the switch, unless it sent on others of the pair."""
+    if entry.word != "forwarded":
+        return ""
+    if is_joined:
+        return "other frames of this pair went on, so it isn't zones: a login may have ended on the switch before, or the capture lost the frame"
+    return "the switch may have other zones: --zone or --config names them" if len(config.zones) == 1 else ""
 
 
 def affected(heard: Heard) -> list[int]:

@@ -14,15 +14,11 @@ from .journals import Frame
 from .looking import Look
 from .moments import short
 from .readdress import Request
+from .steps import next_step
 
 HEEDED = 500  # milliseconds: Linux heeds no shorter advertised period
 AGAIN = "its ENode logged in again (FLOGI)"
-STEPS = {
-    "rejected 09 29": "the switch's list of logins (`show flogi database`, `switchshow`) beside the limit of its port; for an FDISC, whether it takes NPIV",
-    "rejected 0b 2c": "the FIP flags: FP and SP say which kind of MAC the host asks for (`look fields`)",
-    "rejected 0b 00": "the class of service that the host asks for (`look fields`)",
-    "rejected 09 00": "the ENode's own FLOGI comes before its FDISC",
-}
+NAME_HELD = "rejected 03 00"
 
 
 def entries_of(look: Look, wanted: Iterable[Request]) -> dict[Request, Frame]:
@@ -95,9 +91,9 @@ def span_of(look: Look, requests: list[Request]) -> tuple[int, int, list[tuple[i
 
 def step_of(look: Look, verdict: str, name: bytes, first: Request, clock: int) -> str:
     """What to look at next, by the codes."""
-    if verdict == "rejected 03 00":
+    if verdict == NAME_HELD:
         return holder_text(look, name, first, clock) if any(name) else "the port name is 0: the host's driver"
-    return STEPS.get(verdict, "docs/JOURNAL.md, Codes of rejects")
+    return next_step(verdict, look.captured[first[0] - 1].frames.heard(first[1]))
 
 
 def rejected(look: Look, all_seen: list[Seen]) -> Iterator[Answer]:

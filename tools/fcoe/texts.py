@@ -239,10 +239,12 @@ def summary_text(look: Look, found: Row) -> list[str]:
 
 
 def end_lines(end: Row, first: int) -> list[str]:
+    """An end of a frame: its address as the capture has it, and the run's where it is another."""
+    fcid = end["captured"] if end["captured"] == end["fcid"] else f"{end['captured']} ({end['fcid']} in the run)"
     if end["login"] is None:
-        return [f"  {end['role']} {end['fcid']}: {end.get('service') or end['state']}"]
+        return [f"  {end['role']} {fcid}: {end.get('service') or end['state']}"]
     it = end["login"]
-    lines = [f"  {end['role']} {end['fcid']}: {end['state']}; WWPN {it['wwpn']}, port {it['port']}, ENode {it['enode']}"]
+    lines = [f"  {end['role']} {fcid}: {end['state']}; WWPN {it['wwpn']}, port {it['port']}, ENode {it['enode']}"]
     lines.append(f"    granted {short(it['from'], first)} by {it['kind']} (port {it['port']}, frame {it['from_frame']})")
     if it["to"] is not None:
         by = f", frame {it['to_frame']}" if it["to_frame"] else ", a tick"
@@ -254,8 +256,12 @@ def why_text(found: Row) -> list[str]:
     """Why a frame has its verdict."""
     first = found["captured"]
     lines = [f"port {found['port']}, frame {found['frame']} of {found['file']} (INDEX {found['index']} of the journal), {stamp(first)} UTC, window {short(found['window'], first)}"]
-    lines += [f"{found['kind']}: {found['verdict']}", f"  {found['meaning']} [{found['standard']}]"]
+    if found["switch"]:
+        at = f" (frame {found['switch_frame']})" if found["switch_frame"] else ""
+        lines.append(f"the switch: {spelled(found['switch'])}{at}")
+    lines += [f"{found['kind']}: {spelled(found['verdict'])}", f"  {found['meaning']} [{found['standard']}]"]
     lines += [f"  codes: {it}" for it in found["codes"]]
+    lines += [f"  {found['holder']}"] if found["holder"] else []
     if found["place"]:
         lines.append(f"  where: {text_of(found['place'])}")
     for end in found["ends"]:

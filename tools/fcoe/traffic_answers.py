@@ -11,6 +11,7 @@ from .hosts import WELL_KNOWN
 from .journals import Frame, row_of
 from .looking import Look
 from .readdress import Request
+from .steps import next_step
 
 NOISE = "dropped ethertype"
 SHOWN = 3  # differences that an answer each is made of
@@ -23,6 +24,7 @@ class Drops:
     verdict: str
     port: int
     ends: tuple[str, str]
+    heard: Heard  # the first
     never: Optional[int] = None  # an end that nobody here was granted
     entries: list[Frame] = field(default_factory=list)
 
@@ -85,7 +87,7 @@ def dropped(look: Look, explained: Explained) -> list[Drops]:
             ends = known.of(run.fc.s_id, said.fc.s_id), known.of(run.fc.d_id, said.fc.d_id)
             lost = {"dropped source-login": (run.fc.s_id, said.fc.s_id), "dropped dest-login": (run.fc.d_id, said.fc.d_id)}.get(entry.verdict)
             never = lost[1] if lost and lost[0] not in known.names else None
-        found.setdefault((entry.verdict, entry.port, ends), Drops(entry.verdict, entry.port, ends, never)).entries.append(entry)
+        found.setdefault((entry.verdict, entry.port, ends), Drops(entry.verdict, entry.port, ends, run, never)).entries.append(entry)
     return list(found.values())
 
 
@@ -102,7 +104,7 @@ def drop_text(it: Drops) -> tuple[Severity, str, str]:
     if it.verdict in ("dropped dest-login", "dropped keepalive-unknown"):
         return Severity.NOTED, f"{count}{from_to} behind the end of the login ({rule})", "`look why` of the first tells what ended it, and whether the window did"
     meaning = f"{row.meaning[:1].lower()}{row.meaning[1:].rstrip('.')}" if row else rule
-    return Severity.DROPPED, f"{count}{from_to} dropped by {rule}: {meaning}", row.look if row and row.look else "`look why` of the first"
+    return Severity.DROPPED, f"{count}{from_to} dropped by {rule}: {meaning}", next_step(it.verdict, it.heard) or "`look why` of the first"
 
 
 def drops(look: Look, explained: Explained) -> Iterator[Answer]:

@@ -4,6 +4,7 @@ from typing import Any, Optional
 
 from .answering import answers_of
 from .answers import row_of as row_of_answer
+from .beside import switch_frame, switch_verdict
 from .columns import MILLISECOND
 from .errors import Refused
 from .errors import counted as plural
@@ -13,7 +14,8 @@ from .journals import TICK, Entry, Frame, code_rows, counted, row_of
 from .looking import Look
 from .places import place_of
 from .runs import shown_at_end
-from .traffic_answers import NOISE
+from .steps import next_step
+from .traffic_answers import NOISE, address_text, both
 from .windows import is_otherwise, otherwise
 
 Row = dict[str, Any]
@@ -41,23 +43,6 @@ def switch_address(look: Look, login: Login) -> Optional[int]:
     port, index = login.granted_frame
     found = look.grants.get((port, look.ports[port - 1].hosts[index]))
     return found[0] if found else None
-
-
-def switch_verdict(look: Look, port: int, index: int) -> Optional[str]:
-    """What the switch answered to a frame, in the journal's words and with its own address; nothing where no answer is here."""
-    request = look.request_of(port, index)
-    reply = look.replies.get(request)
-    if reply is not None:
-        return reply.verdict
-    if request in look.grants:
-        return f"granted {fcid(look.grants[request][0])}"
-    return "no answer" if look.captured[port - 1].replies else None
-
-
-def switch_frame(look: Look, port: int, index: int) -> Optional[int]:
-    """The number of the switch's answer to a frame."""
-    reply = look.replies.get(look.request_of(port, index))
-    return reply.number if reply else None
 
 
 def login_row(look: Look, login: Login) -> Row:
@@ -214,24 +199,34 @@ def troubles(look: Look) -> list[Row]:
                 "frames": [[it.port, number_of(look, it)] for it in frames[:8]],
                 "meaning": row.meaning if row else "",
                 "standard": row.standard if row else "",
-                "look": row.look if row and verdict.startswith("dropped") else "docs/JOURNAL.md, Codes of rejects",
-                "place": place_of(verdict, heard),
+                "look": next_step(verdict, heard),
+                "place": place_of(verdict, look.captured[frames[0].port - 1].host(frames[0].index)),
                 "hints": code_rows(verdict, heard.kind) + hints(look, verdict, frames) + window_hints(look, frames, places),
             }
         )
     return rows
 
 
+def strangers(look: Look, verdict: str, frames: list[Frame]) -> set[tuple[int, int]]:
+    """The ends of frames that nobody here was granted: the run's address, and that of the captures."""
+    ever, found = {it.address for it in look.walk.fabric.logins}, set()
+    for it in frames:
+        captured, run = (heard.fc for heard in both(look, it))
+        if captured is not None and run is not None:
+            pair = (run.s_id, captured.s_id) if verdict == "dropped source-login" else (run.d_id, captured.d_id)
+            if pair[0] not in ever:
+                found.add(pair)
+    return found
+
+
 def hints(look: Look, verdict: str, frames: list[Frame]) -> list[str]:
     """What these captures tell beside the rule."""
     found = []
     if verdict in ("dropped source-login", "dropped dest-login"):
-        ever = {it.address for it in look.walk.fabric.logins}
-        held = [port.like(it.index).fc for it in frames for port in [look.ports[it.port - 1]]]
-        ids = {(fc.s_id if verdict == "dropped source-login" else fc.d_id) for fc in held if fc is not None}
-        never = sorted(ids - ever)
+        never = sorted(strangers(look, verdict, frames))
         if never:
-            found.append(f"no login in these captures was granted {', '.join(fcid(it) for it in never[:4])}: it logged in before the capture began, or on a port that wasn't captured")
+            told = ", ".join(address_text(captured, run) for run, captured in never[:4])
+            found.append(f"no login in these captures was granted {told}: it logged in before the capture began, or on a port that wasn't captured")
     if verdict == "dropped zone":
         found += zone_hints(look, frames)
     if verdict == "dropped vlan":

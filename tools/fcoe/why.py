@@ -2,12 +2,16 @@
 from dataclasses import dataclass
 from typing import Any, Optional
 
+from .beside import switch_frame, switch_verdict
 from .errors import Refused
 from .fields import fields_of
-from .frames import Heard, colons, fcid
+from .frames import Heard, colons, fcid, is_login, login_names
 from .journals import Frame, code_rows, row_of
+from .login_answers import NAME_HELD, holder_text
 from .looking import Look
 from .places import place_of
+from .replies import answered_request
+from .steps import next_step
 from .views import login_row
 from .windows import ends_of, gap_of, in_window, login_of, logins_near, otherwise
 
@@ -33,11 +37,14 @@ def find(look: Look, port: int, number: int, is_index: bool) -> Asked:
         raise Refused(f"why {port} {number}: {here.label} has no such frame")
     index = here.index(at)
     if index is None:
+        asked = answered_request(look.replies, port, at)
+        index = here.index(asked) if asked is not None else None
+    if index is None:
         raise Refused(f"why {port} {number}: frame {number} of {here.label} is the switch's own: `look` compares it with the forwarder's (see the comparison)")
     place = look.run.entries.place_of(port, index)
     if place is None:
         raise Refused(f"why {port} {number}: the journal has no entry for it")
-    return Asked(look.run.entries.frame(place), place, here.frames.heard(at))
+    return Asked(look.run.entries.frame(place), place, here.host(index))
 
 
 def window_notes(look: Look, asked: Asked, address: int, role: str) -> list[str]:
@@ -57,8 +64,12 @@ def window_notes(look: Look, asked: Asked, address: int, role: str) -> list[str]
     return found
 
 
-def end_row(look: Look, asked: Asked, role: str, address: int) -> Row:
-    """One end of a frame."""
+def end_row(look: Look, asked: Asked, role: str, address: int, captured: int) -> Row:
+    """One end of a frame, by the run's address and by that of the capture."""
+    return {**end_of(look, asked, role, address), "captured": fcid(captured)}
+
+
+def end_of(look: Look, asked: Asked, role: str, address: int) -> Row:
     if address >= 0xFF0000:
         names = {0xFFFFFC: "name server", 0xFFFFFD: "fabric controller", 0xFFFFFE: "fabric port"}
         return {"role": role, "fcid": fcid(address), "service": names.get(address, "well-known address"), "login": None, "state": "a service of the fabric"}
@@ -98,12 +109,22 @@ def held_by(look: Look, asked: Asked) -> list[str]:
     return found
 
 
+def holder_of(look: Look, asked: Asked) -> Optional[str]:
+    """Which login holds the name of a login that this forwarder or the switch rejected for its name."""
+    names = login_names(asked.heard) if is_login(asked.heard) else None
+    said = switch_verdict(look, asked.entry.port, asked.entry.index)
+    if names is None or NAME_HELD not in (asked.entry.verdict, said) or not any(names[0]):
+        return None
+    return holder_text(look, names[0], look.request_of(asked.entry.port, asked.entry.index), asked.entry.clock)
+
+
 def why_of(look: Look, asked: Asked) -> Row:
     """Why a frame has its verdict."""
     entry, heard = asked.entry, asked.heard
     port = look.ports[entry.port - 1]
     record, row = port.record(entry.index), row_of(entry.verdict)
-    ends = [end_row(look, asked, role, address) for role, address in ends_of(heard)]
+    said = look.captured[entry.port - 1].host(entry.index)
+    ends = [end_row(look, asked, role, address, captured) for (role, address), (_, captured) in zip(ends_of(heard), ends_of(said))]
     return {
         "port": entry.port,
         "file": port.label,
@@ -115,9 +136,12 @@ def why_of(look: Look, asked: Asked) -> Row:
         "verdict": entry.verdict,
         "meaning": row.meaning if row else "",
         "standard": row.standard if row else "",
-        "look": row.look if row and entry.word not in ("rejected", "refused") else "docs/JOURNAL.md, Codes of rejects",
+        "switch": switch_verdict(look, entry.port, entry.index),
+        "switch_frame": switch_frame(look, entry.port, entry.index),
+        "holder": holder_of(look, asked),
+        "look": next_step(entry.verdict, heard),
         "codes": code_rows(entry.verdict, heard.kind),
-        "place": place_of(entry.verdict, heard),
+        "place": place_of(entry.verdict, said),
         "ends": ends,
         "zones": zone_row(look, asked, ends),
         "enode_holds": held_by(look, asked),

@@ -1,0 +1,37 @@
+"""What to look at next, by a verdict and the frame that got it."""
+from .frames import VN2VN, Heard
+from .journals import row_of
+
+LOGIN_STEPS = {
+    "rejected 09 29": "the switch's list of logins (`show flogi database`, `switchshow`) beside the limit of its port; for an FDISC, whether it takes NPIV",
+    "rejected 0b 2c": "the FIP flags: FP and SP say which kind of MAC the host asks for (`look fields`)",
+    "rejected 0b 00": "the class of service that the host asks for (`look fields`)",
+    "rejected 09 00": "the ENode's own FLOGI comes before its FDISC",
+    "rejected 03 00": "the port name beside those of all logins at that moment (`look logins --at`)",
+}
+SERVICE_STEPS = {
+    "rejected 0b 2c": "nothing, where the host goes on without it: this link service isn't in the profile (docs/DECISIONS.md)",
+    "rejected 0b 00": "the class of service that the host asks for (`look fields`)",
+    "rejected 03 00": "the request's address, names and sizes beside those of its login (`look why`)",
+    "refused 09 10": "whether its PLOGI to FFFFFC was accepted before, and not closed by a LOGO",
+    "refused 0b 00": "nothing, where the host goes on without it: this command isn't in the profile (docs/DECISIONS.md)",
+    "refused 04 00": "the length of the request",
+    "refused 09 01": "who the asker sees at that moment: `look names --at`, `look zones --at`",
+    "refused 09 03": "the node name in the request beside that of its FLOGI",
+    "refused 09 07": "whether the others registered that type (RFT_ID), and are zoned with the asker: `look names --at`, `look zones --at`",
+    "refused 09 02": "whether that name is logged in, and zoned with the asker: `look names --at`, `look zones --at`",
+}
+IN_VN2VN = "the host is in VN2VN mode: it looks for other hosts, not for a switch"
+
+
+def next_step(verdict: str, heard: Heard) -> str:
+    """What to look at next; empty where nothing is amiss."""
+    if verdict.startswith(("rejected", "refused")):
+        steps = LOGIN_STEPS if heard.kind in ("FLOGI", "FDISC") else SERVICE_STEPS
+        return steps.get(verdict, "the codes in docs/JOURNAL.md, Codes of rejects")
+    if verdict == "dropped vlan":
+        return "which VLAN the host's FCoE interface has, and the switch's" if heard.vlan else "whether the host sends without a tag, or the capture lost it (a VLAN interface)"
+    if verdict == "dropped fip-operation" and heard.operation is not None and heard.operation[0] == VN2VN:
+        return IN_VN2VN
+    row = row_of(verdict)
+    return row.look if row else ""
