@@ -16,6 +16,7 @@ from .looking import Look
 from .moments import short, stamp
 from .places import text_of
 from .report_frames import frames_of_page, rules_of
+from .report_zoning import reach_rows, whatif_rows
 from .texts import compare_json
 from .traffic_answers import NOISE
 from .views import Row, busiest, counts, first_clock, logins, names, summary, zones
@@ -129,6 +130,8 @@ def values_of(look: Look) -> Row:
         "rules": rules_of(look),
         "names": names(look, busiest(look)),
         "busiest": stamp(busiest(look)),
+        "reach": reach_rows(look),
+        "whatif": whatif_rows(look),
     }
 
 
