@@ -65,8 +65,8 @@ def classic_rows(source: Source, order: str, unit: int, cuts: list[int]) -> Iter
         place += at
 
 
-def classic(name: str, shown: Optional[str] = None) -> Capture:
-    """The frames of a classic capture."""
+def classic(name: str, shown: Optional[str] = None, is_plain: bool = False) -> Capture:
+    """The frames of a classic capture; plain ones aren't told apart."""
     shown = shown or name
     source = Source(name, shown)
     head = source.read(0, 24)
@@ -75,7 +75,7 @@ def classic(name: str, shown: Optional[str] = None) -> Capture:
     order, unit = ORDERS[head[:4]]
     check_link(struct.unpack_from(order + "I", head, 20)[0] & 0xFFFF, shown)
     capture, cuts = Capture(shown, Frames(source)), list[int]()
-    capture.frames.fill(classic_rows(source, order, unit, cuts))
+    capture.frames.fill(classic_rows(source, order, unit, cuts), is_plain)
     capture.remarks += [f"cut at byte {it}, behind frame {len(capture.frames)}: the frames before it are taken" for it in cuts]
     return capture
 

@@ -5,6 +5,7 @@ from array import array
 from collections import Counter
 from dataclasses import dataclass, field, replace
 from itertools import compress, islice
+from operator import itemgetter
 from typing import Callable, Generic, Iterable, Iterator, Optional, Sequence, TypeVar, Union, overload
 
 from .errors import Refused
@@ -14,6 +15,7 @@ MILLISECOND = 1_000_000
 SCANNED, PIECE = 1 << 20, 1 << 17  # bytes that are read at once, of a file from its begin to its end and of one where frames are wanted
 BATCH = 4096  # rows that go into the columns at once
 KEPT = 100_000  # messages that stay decoded
+FIP = FIP_TYPE.to_bytes(2, "big")
 TAGGED, BARE = 41, 37  # bytes of a frame up to TYPE of its FC header, with a tag and without one
 BEHIND = 23  # and from there to the end of the least FCoE frame
 MESSAGES = (0x01, 0x20)  # TYPE of link services and of CT
@@ -109,7 +111,7 @@ def is_message(heard: Heard) -> bool:
 
 @dataclass
 class Frames:
-    """The frames of a file or of a part of it, in columns."""
+    """The frames of a file or of a part of it, in columns. Those that the forwarder sent are plain: without flows."""
 
     source: Source
     moments: "array[int]" = field(default_factory=lambda: array("q"))
@@ -122,18 +124,20 @@ class Frames:
     interfaces: Sequence[int] = ()  # none where there is one
     decoded: dict[int, Heard] = field(default_factory=dict, repr=False)
     told: Optional["array[int]"] = None  # the places of messages, once they were asked for
+    alike: Optional[list[Heard]] = None  # the first of each other frames that are alike, once they were asked for
 
     def __len__(self) -> int:
         return len(self.moments)
 
-    def fill(self, rows: Iterable[Row]) -> None:
-        """Takes the records of a file."""
-        columns, told = (self.moments, self.places, self.sizes, self.lengths, self.flow_of), self.told_apart(rows)
-        while some := list(islice(told, BATCH)):
+    def fill(self, rows: Iterable[Row], is_plain: bool = False) -> None:
+        """Takes the records of a file; plain ones aren't told apart."""
+        columns = (self.moments, self.places, self.sizes, self.lengths, self.flow_of)
+        taken: Iterator[tuple[int, ...]] = map(itemgetter(0, 1, 4, 5), rows) if is_plain else self.told_apart(rows)
+        while some := list(islice(taken, BATCH)):
             for column, values in zip(columns, zip(*some)):
                 column.extend(values)
 
-    def told_apart(self, rows: Iterable[Row]) -> Iterator[tuple[int, int, int, int, int]]:
+    def told_apart(self, rows: Iterable[Row]) -> Iterator[tuple[int, ...]]:
         """Moment, place, size and length of records, and the number of their flow."""
         fronts: dict[bytes, int] = {}
         known: dict[object, int] = {}
@@ -159,6 +163,11 @@ class Frames:
     def is_whole(self, at: int) -> bool:
         return self.lengths[at] == self.sizes[at]
 
+    def is_fip(self, at: int) -> bool:
+        """FIP, told without reading the frame further."""
+        kind = self.data(at)[12:18]
+        return FIP in (kind[:2], kind[4:])
+
     def number(self, at: int) -> int:
         """A frame's number as Wireshark shows it."""
         return self.numbers[at] if self.numbers else at + 1
@@ -177,15 +186,15 @@ class Frames:
 
     def like(self, at: int) -> Heard:
         """A frame that is like this one up to TYPE of its FC header; a message itself."""
-        flow = self.flows[self.flow_of[at]]
-        return self.heard(at) if flow.is_message else flow.heard
+        flow = self.flows[self.flow_of[at]] if self.flow_of else None
+        return self.heard(at) if flow is None or flow.is_message else flow.heard
 
     def heard(self, at: int) -> Heard:
         """What a frame is."""
         found = self.decoded.get(at)
         if found is None:
             found = hear(self.data(at))
-            if self.flows[self.flow_of[at]].is_message and len(self.decoded) < KEPT:
+            if len(self.decoded) < KEPT and is_message(found):
                 self.decoded[at] = found
         return found
 
@@ -210,12 +219,10 @@ class Frames:
 
     def telling(self) -> list[Heard]:
         """Each message, and of other frames the first of those that are alike, with their count."""
-        found = [self.heard(at) for at in self.messages()]
-        for place, count in sorted(Counter(self.flow_of).items()):
-            flow = self.flows[place]
-            if not flow.is_message:
-                found.append(replace(flow.heard, count=count))
-        return found
+        if self.alike is None:
+            counts = sorted(Counter(self.flow_of).items())
+            self.alike = [replace(self.flows[flow].heard, count=count) for flow, count in counts if not self.flows[flow].is_message]
+        return [*map(self.heard, self.messages()), *self.alike]
 
     def part(self, chosen: Sequence[int]) -> "Frames":
         """Some of these frames."""

@@ -6,7 +6,7 @@ from typing import Iterator, Optional
 from .columns import MILLISECOND, Frames, Record
 from .configs import Config
 from .errors import Refused
-from .frames import ALL_ENODES, Heard, fcid, login_names, number
+from .frames import ALL_ENODES, Heard, fcid, login_names, number, rscn_in
 from .journals import Entry, Frame, Tick
 from .runs import Run
 
@@ -89,9 +89,14 @@ class Fabric:
             for name in members:
                 self.lists.setdefault(name, set()).add(zone)
 
-    def joined(self, clock: int, one: bytes, other: bytes) -> bool:
-        both = self.lists.get(one, set()) & self.lists.get(other, set())
-        return one != other and bool(both and both & set(self.config.active(clock)[1]))
+    def active_zones(self, clock: int, name: bytes) -> set[str]:
+        """The active zones that list a port name."""
+        return self.lists.get(name, set()) & set(self.config.active(clock)[1])
+
+    def joined(self, watchers: list[Login], clock: int, name: bytes) -> list[Login]:
+        """The watchers that an active zone joins with a port name."""
+        zones = self.active_zones(clock, name)
+        return [it for it in watchers if it.name != name and not zones.isdisjoint(self.lists.get(it.name, ()))]
 
     def of_address(self, address: int) -> list[Login]:
         """The logins that held an address, in order."""
@@ -173,17 +178,22 @@ class Fabric:
 
     def notices(self, before: Optional[int], affected: list[Login], is_tick: bool) -> Iterator[tuple[int, int, int]]:
         """Port, address and affected address of each state change, in order; `before` is the clock in front of the entry."""
-        watchers = self.watchers()
+        watchers = self.watchers() if affected else []
         for it in affected:
-            yield from ((w.port, w.address, it.address) for w in watchers if self.joined(before or 0, w.name, it.name))
+            yield from ((w.port, w.address, it.address) for w in self.joined(watchers, before or 0, it.name))
         if not is_tick or before is None or self.clock is None or not any(before < moment <= self.clock for _, moment in self.config.activations):
             return
+        watchers = self.watchers()
         for address in sorted(self.live):
             name = self.live[address].name
-            yield from ((w.port, w.address, address) for w in watchers if self.joined(before, w.name, name) != self.joined(self.clock, w.name, name))
+            was, now = ({it.address for it in self.joined(watchers, clock, name)} for clock in (before, self.clock))
+            yield from ((w.port, w.address, address) for w in watchers if w.address in was ^ now)
 
 
 # ---- which frames an entry sends
+
+
+Output = tuple[int, int]  # a frame that was sent: its port, and its place in that port's output
 
 
 @dataclass(slots=True)
@@ -219,19 +229,21 @@ class SentFrames:
     def __init__(self, run: Run) -> None:
         self.run = run
         self.forwarded = array("I", bytes(4 * len(run.entries)))
-        self.others: dict[int, list[Sent]] = {}
+        self.others: dict[int, list[Output]] = {}
+
+    def sent(self, it: Output, place: int) -> Sent:
+        return Sent(*it, self.run.outputs[it[0] - 1], place)
 
     def __getitem__(self, place: int) -> list[Sent]:
         entries = self.run.entries
         if entries.verdicts[entries.said[place]].startswith("forwarded "):
-            port = int(entries.frame(place).words[1])
-            return [Sent(port, self.forwarded[place], self.run.outputs[port - 1], place)]
-        return self.others.get(place, [])
+            return [self.sent((int(entries.frame(place).words[1]), self.forwarded[place]), place)]
+        return [self.sent(it, place) for it in self.others.get(place, [])]
 
     def own(self) -> Iterator[Sent]:
         """The frames that the forwarder made itself: all but those that it forwarded."""
-        for some in self.others.values():
-            yield from some
+        for place, some in self.others.items():
+            yield from (self.sent(it, place) for it in some)
 
 
 class Sender:
@@ -240,6 +252,7 @@ class Sender:
     def __init__(self, run: Run) -> None:
         self.outputs = run.outputs
         self.next = [0] * len(run.outputs)
+        self.is_checked = bool(run.checked)  # by `replay`, byte by byte
 
     def is_due(self, port: int, clock: int) -> bool:
         """The next frame of a port was sent at this clock."""
@@ -248,45 +261,48 @@ class Sender:
         moments, at = self.outputs[port - 1].moments, self.next[port - 1]
         return at < len(moments) and moments[at] // MILLISECOND == clock
 
-    def pop(self, port: int, entry: int) -> Sent:
+    def pop(self, port: int) -> Output:
         at = self.next[port - 1]
         self.next[port - 1] = at + 1
-        return Sent(port, at, self.outputs[port - 1], entry)
+        return port, at
 
-    def one(self, port: int, clock: int, entry: int, wanted: str) -> Sent:
+    def one(self, port: int, clock: int, wanted: str) -> Output:
         if not self.is_due(port, clock):
             raise Refused(f"output of port {port}: lacks {wanted} at {clock}: these files aren't of one run; `fcoe_tool replay` tells the first byte")
-        return self.pop(port, entry)
+        return self.pop(port)
 
-    def answer(self, entry: Frame, place: int) -> list[Sent]:
+    def heard(self, it: Output) -> Heard:
+        return self.outputs[it[0] - 1].heard(it[1])
+
+    def answer(self, entry: Frame) -> list[Output]:
         """What answers a frame on its port."""
         if entry.word not in ANSWERED:
             return []
-        sent = [self.one(entry.port, entry.clock, place, f"the reply to index {entry.index}")]
-        while entry.word == "answered" and (fc := sent[-1].heard.fc) and not fc.f_ctl & 0x100000:
-            sent.append(self.one(entry.port, entry.clock, place, f"a part of the reply to index {entry.index}"))
+        sent = [self.one(entry.port, entry.clock, f"the reply to index {entry.index}")]
+        while entry.word == "answered" and (fc := self.heard(sent[-1]).fc) and not fc.f_ctl & 0x100000:
+            sent.append(self.one(entry.port, entry.clock, f"a part of the reply to index {entry.index}"))
         return sent
 
-    def all_like(self, clock: int, place: int, kind: str, most: int) -> list[Sent]:
+    def all_like(self, clock: int, kind: str, most: int) -> list[Output]:
         """The frames of a kind that stand next on each port."""
         sent = []
         for port in range(1, len(self.outputs) + 1):
-            left = most
-            while left and self.is_due(port, clock):
-                front = self.outputs[port - 1].like(self.next[port - 1])
+            left, frames = most, self.outputs[port - 1]
+            while left and self.is_due(port, clock) and frames.is_fip(self.next[port - 1]):
+                front = frames.heard(self.next[port - 1])
                 if front.kind != kind or kind == "Advertisement" and front.destination != ALL_ENODES:
                     break
-                sent.append(self.pop(port, place))
+                sent.append(self.pop(port))
                 left -= 1
         return sent
 
-    def told(self, clock: int, place: int, notices: Iterator[tuple[int, int, int]]) -> list[Sent]:
+    def told(self, clock: int, notices: Iterator[tuple[int, int, int]]) -> list[Output]:
+        """The state changes, each of which is the one that is due."""
         sent = []
         for port, watcher, affected in notices:
-            it = self.one(port, clock, place, f"a state change for {fcid(watcher)}")
-            heard = it.heard
-            if heard.kind != "RSCN" or heard.fc is None or (heard.fc.d_id, number(heard.fc.payload[5:8])) != (watcher, affected):
-                raise Refused(f"output of port {port}: record {it.place} isn't the state change of {fcid(affected)}: these files aren't of one run")
+            it = self.one(port, clock, "a state change")
+            if not self.is_checked and rscn_in(self.outputs[port - 1].data(it[1])) != (watcher, affected):
+                raise Refused(f"output of port {port}: record {it[1]} isn't the state change of {fcid(affected)}: these files aren't of one run")
             sent.append(it)
         return sent
 
@@ -296,18 +312,18 @@ class Sender:
                 raise Refused(f"output of port {port}: {len(frames) - at} frames too many, from record {at} on: these files aren't of one run")
 
 
-def step(fabric: Fabric, sender: Sender, run: Run, place: int) -> list[Sent]:
+def step(fabric: Fabric, sender: Sender, run: Run, place: int) -> list[Output]:
     """Takes an entry but a forwarded frame's, and gives the frames that it sends."""
     entry, before = run.entries[place], fabric.clock
     if isinstance(entry, Tick):
         affected = fabric.take(entry, None, place)
-        sent = sender.all_like(entry.clock, place, "Clear links", -1)
-        sent += sender.told(entry.clock, place, fabric.notices(before, affected, True))
-        return sent + sender.all_like(entry.clock, place, "Advertisement", 1)
+        sent = sender.all_like(entry.clock, "Clear links", -1)
+        sent += sender.told(entry.clock, fabric.notices(before, affected, True))
+        return sent + sender.all_like(entry.clock, "Advertisement", 1)
     heard = run.ports[entry.port - 1].host(entry.index)
-    sent = sender.answer(entry, place)
+    sent = sender.answer(entry)
     affected = fabric.take(entry, heard, place)
-    return sent + sender.told(entry.clock, place, fabric.notices(before, affected, False))
+    return sent + sender.told(entry.clock, fabric.notices(before, affected, False))
 
 
 @dataclass
@@ -332,7 +348,7 @@ def walk(run: Run) -> Walk:
         target = targets[said]
         if target:
             if not sender.is_due(target, moment):
-                sender.one(target, moment, place, "a forwarded frame")
+                sender.one(target, moment, "a forwarded frame")
             sent.forwarded[place] = sender.next[target - 1]
             sender.next[target - 1] += 1
         elif not is_quiet[said]:

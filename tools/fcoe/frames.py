@@ -265,6 +265,12 @@ def fc_check(data: bytes) -> bytes:
     return zlib.crc32(data).to_bytes(4, "little")
 
 
+def rscn_in(data: bytes) -> Optional[tuple[int, int]]:
+    """Who is told, and of which address, in an RSCN of one page in FCoE with a tag."""
+    is_rscn = data[16:18] == b"\x89\x06" and data[32] == 0x22 and data[40] == 0x01 and data[56] == 0x61 if len(data) >= 72 else False
+    return (number(data[33:36]), number(data[61:64])) if is_rscn else None
+
+
 def login_names(heard: Heard) -> Optional[tuple[bytes, bytes]]:
     """Port name and node name of a login's payload."""
     if heard.fc is None or len(heard.fc.payload) < 36:

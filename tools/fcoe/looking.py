@@ -171,7 +171,7 @@ def of_run(config: str, journal: str, names: list[str]) -> Look:
         port.divide(set())
         ports.append(port)
     settings = read_config(config)
-    run = Run(settings, ports, read_journal(journal), [classic(name).frames for name in names[1::2]])
+    run = Run(settings, ports, read_journal(journal), [classic(name, is_plain=True).frames for name in names[1::2]])
     check_fits(run, [journal])
     with open(config, encoding="latin-1") as file:
         text = file.read()

@@ -242,9 +242,7 @@ def moved_messages(ports: list[Port], mapping: Mapping, fc_maps: FcMaps) -> dict
 def moved_flows(port: Port, mapping: Mapping, fc_maps: FcMaps) -> list[Optional[MovedFlow]]:
     """How the data frames of each flow change; none where they stay."""
     frames = port.frames
-    first: dict[int, int] = {}
-    for at, flow in enumerate(frames.flow_of):
-        first.setdefault(flow, at)
+    first = {flow: at for at, flow in zip(range(len(frames) - 1, -1, -1), reversed(frames.flow_of))}
     found: list[Optional[MovedFlow]] = []
     for place, it in enumerate(frames.flows):
         begin = (frames.moments[first[place]], port.number, first[place]) if place in first else None
