@@ -9,7 +9,7 @@ from typing import Iterable, Iterator, Optional, Sequence
 from . import pcapng
 from .columns import PIECE, SCANNED, Frames, Record, Row, Source
 from .errors import Refused
-from .spool import unpacked
+from .spool import spooled, unpacked
 
 # magic: byte order, and nanoseconds of a fraction's unit
 ORDERS = {b"\xd4\xc3\xb2\xa1": ("<", 1000), b"\xa1\xb2\xc3\xd4": (">", 1000), b"\x4d\x3c\xb2\xa1": ("<", 1), b"\xa1\xb2\x3c\x4d": (">", 1)}
@@ -21,10 +21,11 @@ HINT = "apt-get install tshark"
 
 @dataclass
 class Capture:
-    """A file's frames; what was met on the way is said in words."""
+    """A file's frames; what was met on the way is said in words. `file` is a plain file with it, also where it came through a pipe."""
 
     name: str
     frames: Frames
+    file: str = ""
     interfaces: list[str] = field(default_factory=list)
     remarks: list[str] = field(default_factory=list)
 
@@ -141,22 +142,30 @@ def read_capture(name: str, room: str) -> Capture:
     """The frames of a capture of any form; `room` is a folder for what stands in between."""
     if os.path.isdir(name):
         raise Refused(f"{name}: a folder: name the captures in it")
-    path = unpacked(name, room)
+    whole = spooled(name, room)
+    path = unpacked(whole, room, name)
     with open(path, "rb") as file:
         magic = file.read(4)
     if not magic:
         raise Refused(f"{name}: empty: nothing was captured; look whether tcpdump could write, and capture again")
     if magic in ORDERS:
-        return classic(path, name)
-    if magic == pcapng.MAGIC:
-        return saved(path, name)
-    if magic in MODIFIED:
+        found = classic(path, name)
+    elif magic == pcapng.MAGIC:
+        found = saved(path, name)
+    elif magic in MODIFIED:
         there = os.path.join(room, f"read{len(os.listdir(room))}")
         ran = called(["editcap", "-F", "nsecpcap", path, there])
         if ran.returncode:
             raise Refused(f"{name}: editcap can't read it: {last_line(ran)}")
-        return classic(there, name)
-    raise Refused(f"{name}: no capture (it begins with {magic.hex()}): save it as pcap or pcapng, for example with `tshark -r FILE -w OUT.pcapng`")
+        found = classic(there, name)
+    else:
+        raise Refused(no_capture(name, magic))
+    found.file = whole
+    return found
+
+
+def no_capture(name: str, magic: bytes) -> str:
+    return f"{name}: no capture (it begins with {magic.hex()}): save it as pcap or pcapng, for example with `tshark -r FILE -w OUT.pcapng`"
 
 
 def same_file(one: str, other: str) -> bool:

@@ -10,6 +10,7 @@ from typing import Callable, Generic, Iterable, Iterator, Optional, Sequence, Ty
 
 from .errors import Refused
 from .frames import FCOE_TYPE, FIP_TYPE, TAG_TYPE, Heard, hear, number
+from .progress import PROGRESS
 
 MILLISECOND = 1_000_000
 SCANNED, PIECE = 1 << 20, 1 << 17  # bytes that are read at once, of a file from its begin to its end and of one where frames are wanted
@@ -136,6 +137,7 @@ class Frames:
         while some := list(islice(taken, BATCH)):
             for column, values in zip(columns, zip(*some)):
                 column.extend(values)
+            PROGRESS.say(f"{self.source.shown}: {len(self):,} frames read, {100 * self.places[-1] // self.source.size} % of the file")
 
     def told_apart(self, rows: Iterable[Row]) -> Iterator[tuple[int, ...]]:
         """Moment, place, size and length of records, and the number of their flow."""
@@ -163,9 +165,13 @@ class Frames:
     def is_whole(self, at: int) -> bool:
         return self.lengths[at] == self.sizes[at]
 
+    def bytes_at(self, at: int, begin: int, size: int) -> bytes:
+        """Some bytes of a frame, as far as they are there."""
+        return self.source.take(self.places[at] + begin, max(min(size, self.sizes[at] - begin), 0))
+
     def is_fip(self, at: int) -> bool:
         """FIP, told without reading the frame further."""
-        kind = self.data(at)[12:18]
+        kind = self.bytes_at(at, 12, 6)
         return FIP in (kind[:2], kind[4:])
 
     def number(self, at: int) -> int:

@@ -5,11 +5,14 @@ from dataclasses import dataclass, field
 from typing import Iterable, Optional
 
 from .captures import bytes_of
-from .errors import Refused
+from .errors import Refused, meant
 from .frames import ADVERTISE, LOGIN, SOLICIT, VLAN_REQUEST, VLAN_TELL, Heard, colons, is_login, login_names, number
 
 
 FPMA = b"\x0e\xfc"  # how the MACs that fabrics grant begin, and those of their services
+
+
+KEYS = ("fcf-mac", "vlan", "switch", "fc-map", "domain", "pool", "priority", "period", "window", "limit", "zone", "zoneset", "activate")
 
 
 @dataclass
@@ -54,10 +57,12 @@ def read_config(name: str) -> Config:
     said: dict[str, list[str]] = {}
     config = Config(b"", 0)
     try:
-        for line in bytes_of(name).decode("latin-1").split("\n"):
+        for number_, line in enumerate(bytes_of(name).decode("latin-1").split("\n"), 1):
             words = line.split()
             if not words or line.startswith("#"):
                 continue
+            if words[0] not in KEYS:
+                raise Refused(f"{name}, line {number_}: no key {words[0]}{meant(words[0], KEYS) or ': docs/COMMANDS.md has the table of keys'}")
             if words[0] == "zone":
                 config.zones[words[1]] = [octets(it) for it in words[2:]]
             elif words[0] == "zoneset":

@@ -1,7 +1,12 @@
-"""How a tool refuses: one line on standard error, and status 1."""
+"""How a tool ends: 0 where nothing is amiss, 1 where something was found that was asked for, 2 where it couldn't look, which it says in one line."""
 import errno
 import sys
-from typing import Callable
+from difflib import get_close_matches
+from typing import Callable, Iterable, Optional
+
+from .progress import PROGRESS
+
+FOUND, COULD_NOT, INTERRUPTED = 1, 2, 130
 
 
 class Refused(Exception):
@@ -21,27 +26,45 @@ def counted(count: int, word: str, more: str = "s") -> str:
     return f"{count} {word}{'' if count == 1 else more}"
 
 
+def meant(word: str, known: Iterable[str]) -> str:
+    """A question with what was likely meant, or nothing."""
+    found = get_close_matches(word, list(known), 1, 0.7)
+    return f": did you mean {found[0]}?" if found else ""
+
+
 def tool_name() -> str:
     return sys.argv[0].rsplit("/", 1)[-1]
 
 
 def note(text: str) -> None:
     """What the tool assumed, on standard error."""
+    PROGRESS.clear()
     print(f"{tool_name()}: {text}", file=sys.stderr)
 
 
-def main_of(run: Callable[[list[str]], None]) -> None:
-    """Runs a tool, and turns what it can't read into one line on standard error and status 1."""
+def ended(run: Callable[[list[str]], Optional[int]], words: list[str]) -> int:
+    """The status of a tool's run; what it can't read is one line on standard error."""
     try:
-        run(sys.argv[1:])
+        status = run(words)
         sys.stdout.flush()
+        return status or 0
     except Refused as why:
         note(str(why))
-        sys.exit(1)
     except BrokenPipeError:  # a pager that was left
         sys.stderr.close()
-        sys.exit(1)
+    except KeyboardInterrupt:
+        note("stopped")
+        return INTERRUPTED
     except OSError as why:
         step = NEXT.get(why.errno or 0)
         note(f"{why.filename}: {why.strerror}" + (f": {step}" if step else ""))
-        sys.exit(1)
+    return COULD_NOT
+
+
+def main_of(run: Callable[[list[str]], Optional[int]], about: Optional[str] = None) -> None:
+    """Runs a tool; `--help` says what it is about, where the tool hasn't help of its own."""
+    words = sys.argv[1:]
+    wants_help = about is not None and words[:1] in (["-h"], ["--help"])
+    status = ended(lambda _: print((about or "").strip()) if wants_help else run(words), words)
+    PROGRESS.clear()
+    sys.exit(status)

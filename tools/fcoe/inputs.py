@@ -138,12 +138,12 @@ def is_one_way(part: Port, switches: set[bytes]) -> bool:
 
 def divided(capture: Capture, wanted: Optional[str], remarks: list[str]) -> list[Port]:
     """The ports of a file: one for each interface, unless one holds only the switch's frames."""
-    parts = [Port(0, label, capture.name, frames) for label, frames in chosen(capture, wanted)]
+    parts = [Port(0, label, capture.file, frames) for label, frames in chosen(capture, wanted)]
     if len(parts) > 1:
         known = set(forwarders([it for part in parts for it in part.frames.telling()]))
         if any(is_one_way(part, known) for part in parts):
             remarks.append(f"{capture.name}: {len(parts)} interfaces, of which one has no host's frames: all of them are one port")
-            return [Port(0, capture.name, capture.name, capture.frames)]
+            return [Port(0, capture.name, capture.file, capture.frames)]
         remarks.append(f"{capture.name}: {len(parts)} interfaces, each a port of its own (--interface NAME or NUMBER takes one)")
     return parts
 

@@ -8,6 +8,7 @@ from functools import lru_cache
 from typing import Callable, Iterator, Optional, Sequence, Union, overload
 
 from .errors import Refused
+from .progress import PROGRESS
 
 PAGE = pathlib.Path(__file__).resolve().parent.parent.parent / "docs" / "JOURNAL.md"
 
@@ -146,6 +147,8 @@ def read_journal(name: str) -> Entries:
             file.seek(0)
         for number, line in enumerate(file, 2 if is_second else 1):
             words = line.split(b" ", 3)
+            if not number % 100_000:
+                PROGRESS.say(f"{number:,} lines of the journal read")
             said = known.get(words[3]) if is_second and len(words) == 4 else None
             try:
                 if said is not None:

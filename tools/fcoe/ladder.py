@@ -8,7 +8,7 @@ from .fabric import Login, Sent
 from .frames import Heard, fcid
 from .journals import Entry, Frame, Tick
 from .looking import Look
-from .moments import stamp
+from .moments import Part, stamp
 from .traffic_answers import NOISE
 
 COLUMN, ROW, TOP, LEFT = 300, 26, 140, 170
@@ -173,12 +173,13 @@ def framed(width: int, height: int) -> Iterator[str]:
     yield '<defs><marker id="head" viewBox="0 0 8 8" refX="8" refY="4" markerWidth="8" markerHeight="8" orient="auto"><path d="M0 0 L8 4 L0 8 z" fill="context-stroke"/></marker></defs>'
 
 
-def drawing(look: Look, begin: float = 0.0, end: float = float("inf")) -> Iterator[str]:
-    """The lines of the picture, from so many seconds behind the first arrow to so many."""
+def drawing(look: Look, part: Part = Part()) -> Iterator[str]:
+    """The lines of the picture, of a part of time, whose seconds count from the first arrow."""
     picture, noise = Picture(look), Counter[str]()
     merged_rows = merged((row for at, entry in enumerate(look.run.entries) for row in picture.take(at, entry)), noise)
     first = merged_rows[0].clock if merged_rows else 0
-    rows = [row for row in merged_rows if begin * 1000 <= row.clock - first <= end * 1000]
+    begin, end = part.within(first)
+    rows = [row for row in merged_rows if begin <= row.clock <= end]
     order = ordered(picture.nodes, rows)
     place: dict[Optional[Node], int] = {node: LEFT + COLUMN // 2 + COLUMN * at for at, node in enumerate(order)}
     width, height = LEFT + COLUMN * len(order), TOP + ROW * (len(rows) + 2)

@@ -1,5 +1,6 @@
 """Moments as people say them."""
 import re
+from dataclasses import dataclass
 from datetime import datetime, timedelta, timezone
 from typing import Optional
 
@@ -22,7 +23,25 @@ def short(clock: Optional[int], first: int) -> str:
     return stamp(clock) if clock is None or clock < 10**11 or clock // DAY != first // DAY else stamp(clock)[11:]
 
 
-def moment_of(word: str, first: int) -> int:
+@dataclass
+class Part:
+    """A part of time, by the words of `--from` and `--to`: moments, or seconds behind the first of what is shown."""
+
+    begin: Optional[str] = None
+    end: Optional[str] = None
+
+    def clock(self, option: str, word: str, first: int) -> float:
+        if re.fullmatch(r"\d{1,9}|\d*\.\d+", word):
+            return first + 1000 * float(word)
+        return moment_of(word, first, option)
+
+    def within(self, first: int) -> tuple[float, float]:
+        """Its begin and its end, in milliseconds."""
+        begin = self.clock("--from", self.begin, first) if self.begin is not None else float("-inf")
+        return begin, self.clock("--to", self.end, first) if self.end is not None else float("inf")
+
+
+def moment_of(word: str, first: int, option: str = "--at") -> int:
     """Milliseconds since 1970, of a word: `+S` seconds behind the first frame, a date and time, a time of its day, or milliseconds."""
     if re.fullmatch(r"\+\d+(\.\d+)?", word):
         return first + int(float(word[1:]) * 1000)
@@ -34,5 +53,5 @@ def moment_of(word: str, first: int) -> int:
     try:
         found = datetime.fromisoformat(text.strip()).replace(tzinfo=timezone.utc)
     except ValueError:
-        raise Refused(f"--at {word}: wants +SECONDS behind the first frame, a date and time (UTC), or milliseconds as the journal has them") from None
+        raise Refused(f"{option} {word}: wants +SECONDS behind the first frame, a date and time (UTC), or milliseconds as the journal has them") from None
     return int(found.timestamp() * 1000)

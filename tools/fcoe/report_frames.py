@@ -6,9 +6,9 @@ from itertools import accumulate, compress
 from typing import Any, Iterator
 
 from .columns import Record
-from .fabric import ANSWERED, Login, Sent
+from .fabric import ANSWERED, Sent
 from .fields import fields_of, in_line
-from .frames import Heard, colons, fcid, login_names
+from .frames import Heard, colons
 from .inputs import Port
 from .journals import TICK, Frame, Tick, counted, rows
 from .ladder import Arrow, Node, Picture, silent
@@ -17,56 +17,16 @@ from .pairs import Moment, replies_of
 from .texts import why_text
 from .traffic_answers import NOISE
 from .views import first_clock, is_trouble
+from .who import Names
 from .why import Asked, why_of
 
 DATA_BYTES, OTHER_BYTES = 128, 1024  # bytes of a frame that the page keeps
 READING = 800  # letters of a frame's reading
 TOLD = 1000  # troubles of which the page tells both ends
 MOST = 60000  # frames in the table; of data frames that went on the later ones are left out
-SERVICES = {0xFFFFFC: "name server", 0xFFFFFD: "fabric controller", 0xFFFFFE: "fabric port"}
 SWITCH = "the switch's"  # in place of the verdict of a frame that the switch sent
 
 Place = tuple[int, int]  # of a frame: its port, and its place in the port's capture
-
-
-class Names:
-    """Which port name stands behind an address and an ENode, as the run goes on."""
-
-    def __init__(self, look: Look) -> None:
-        self.entries = look.run.entries
-        self.of_address: dict[int, list[Login]] = {}
-        self.of_enode: dict[tuple[int, bytes], str] = {}
-        for it in look.walk.fabric.logins:
-            self.of_address.setdefault(it.address, []).append(it)
-            self.of_enode.setdefault((it.port, it.enode), colons(it.name))
-
-    def entry_at(self, clock: int) -> int:
-        """The last entry of the journal up to a moment."""
-        return self.entries.until(clock) - 1
-
-    def behind(self, address: int, entry: int) -> str:
-        """Who holds an address at an entry, or held it last; the address itself where nobody did."""
-        if address >= 0xFF0000:
-            return SERVICES.get(address, fcid(address))
-        held = [it for it in self.of_address.get(address, []) if it.granted_by <= entry]
-        return colons(held[-1].name) if held else fcid(address) if address else ""
-
-    def ends(self, port: int, heard: Heard, entry: int) -> tuple[str, str]:
-        """The names of source and destination of a host's frame."""
-        fc = heard.fc
-        if heard.is_fcoe and fc is not None:
-            return self.behind(fc.s_id, entry), self.behind(fc.d_id, entry)
-        said = login_names(heard) if heard.operation == (2, 1) and heard.kind != "LOGO" else None
-        if said:
-            return colons(said[0]), ""
-        vx = heard.descriptor(11)
-        return (colons(vx.data[12:20]) if vx and len(vx.data) >= 20 else self.of_enode.get((port, heard.source), "")), ""
-
-    def ends_of_switch(self, port: int, heard: Heard, entry: int) -> tuple[str, str]:
-        """The same of a frame that the switch sent."""
-        if heard.is_fcoe and heard.fc is not None:
-            return self.behind(heard.fc.s_id, entry), self.behind(heard.fc.d_id, entry)
-        return "switch", self.of_enode.get((port, heard.destination), "")
 
 
 class Words:

@@ -12,6 +12,7 @@ from .configs import Config
 from .errors import Refused
 from .inputs import Inputs, Port
 from .journals import TICK, Entries, read_journal
+from .progress import PROGRESS
 
 TOP = pathlib.Path(__file__).resolve().parent.parent.parent
 BUILT = TOP / "crates" / "fcoe_tool" / "out" / "fcoe_tool"
@@ -59,7 +60,7 @@ def why_refused(printed: str, inputs: Inputs, folder: str) -> str:
         return f"{inputs.ports[int(words[1]) - 1].label}: capture {' '.join(words[2:])}: cut it before that byte"
     if words[:1] == ["config"] and len(words) == 3:
         line = (inputs.text.split("\n") + [""])[int(words[1]) - 1] if words[1] != "0" else ""
-        return f"configuration, line {words[1]} ({line.strip()[:60]}): {words[2]}: the table of keys is in crates/fab_config/README.md"
+        return f"configuration, line {words[1]} ({line.strip()[:60]}): {words[2]}: docs/COMMANDS.md has the table of keys"
     for word, next_step in LIMITS.items():
         if printed.startswith(word):
             return f"{inputs.ports[0].file}: {printed}: {next_step}"
@@ -78,10 +79,13 @@ def run_program(program: str, inputs: Inputs, folder: str) -> Run:
     for port in inputs.ports:
         write_frames(os.path.join(folder, f"in{port.number}.pcap"), port.frames, port.hosts)
     names = names_of(len(inputs.ports))
+    count = sum(len(port.hosts) for port in inputs.ports)
+    PROGRESS.say(f"the forwarder runs over {count:,} frames of hosts")
     ran = say([program, "run", "fabric.conf", "journal", *names], folder)
     printed = ran.stdout.strip()
     if ran.returncode:
         raise Refused(why_refused(printed, inputs, folder))
+    PROGRESS.say(f"`replay` checks the run over {count:,} frames")
     checked = say([program, "replay", "fabric.conf", "journal", *names], folder)
     if checked.returncode or checked.stdout.strip() != f"legal {printed.split()[-1]}":
         raise Refused(f"{folder}: `replay` says '{checked.stdout.strip()}' of this run: keep its files with --keep and report it")

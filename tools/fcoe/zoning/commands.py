@@ -1,5 +1,6 @@
 """The words of `zones` and `look zones --from`, and what they write."""
 import argparse
+from typing import Optional
 
 from ..errors import Refused
 from ..words import Parser
@@ -19,7 +20,15 @@ def add_taking(made: Parser) -> None:
     add("--all", action="store_true", help="all zone sets that are defined")
     add("--logins", action="append", default=[], metavar="FILE", help="a switch's list of logins: it says which WWPN an FCID, an interface or a port is")
     add("--skip", action="store_true", help="goes on without members that can't be said; each is named")
-    add("--to", choices=[it.value for it in Vendor], default=Vendor.CONFIG.value, help="what is written: lines of the configuration (config), or a switch's commands")
+    add("--to", metavar="FORM", help="what is written: lines of the configuration (config), or a switch's commands (nxos, fos)")
+
+
+def vendor_of(word: Optional[str]) -> Vendor:
+    """What is written."""
+    try:
+        return Vendor(word or Vendor.CONFIG)
+    except ValueError:
+        raise Refused(f"--to {word}: wants {', '.join(it.value for it in Vendor)}") from None
 
 
 def wanted_of(said: argparse.Namespace, files: list[str]) -> Wanted:
@@ -28,7 +37,7 @@ def wanted_of(said: argparse.Namespace, files: list[str]) -> Wanted:
 
 def written(wanted: Wanted, rows: list[LoginRow], said: argparse.Namespace) -> tuple[list[str], list[str]]:
     """The lines that say the zones of files, and what is to be said of them."""
-    vendor = Vendor(said.to)
+    vendor = vendor_of(said.to)
     if said.all:
         if vendor is not Vendor.CONFIG:
             raise Refused("--all: the commands of a switch make one zone set: take it with --set")
