@@ -28,10 +28,11 @@ class Answer:
     until: Optional[int] = None
     frames: list[tuple[int, int]] = field(default_factory=list)  # port, and the number as Wireshark shows it
     followers: list[str] = field(default_factory=list)  # what follows from it, one line each
+    more: int = 0  # frames beyond those that are listed
 
     @property
     def count(self) -> int:
-        return len(self.frames)
+        return len(self.frames) + self.more
 
 
 def row_of(it: Answer) -> dict[str, Any]:

@@ -23,11 +23,11 @@ NAME_HELD = "rejected 03 00"
 
 def entries_of(look: Look, wanted: Iterable[Request]) -> dict[Request, Frame]:
     """The journal's entries of some requests."""
-    some, found = set(wanted), {}
-    for _, entry in look.run.entries.with_words("granted", "rejected", "dropped") if some else ():
-        request = look.request_of(entry.port, entry.index)
+    some, found, entries = set(wanted), {}, look.run.entries
+    for place in entries.places(lambda verdict: verdict.startswith(("granted", "rejected", "dropped"))) if some else ():
+        request = look.request_of(entries.ports[place], entries.indexes[place])
         if request in some:
-            found[request] = entry
+            found[request] = entries.frame(place)
     return found
 
 

@@ -3,13 +3,15 @@ import os
 import pathlib
 import shutil
 import subprocess
-from dataclasses import dataclass
-from typing import Optional
+from collections import Counter
+from dataclasses import dataclass, replace
+from typing import Optional, Sequence
 
 from .captures import classic, write_frames
 from .columns import MILLISECOND, Frames
 from .configs import Config
 from .errors import Refused
+from .frames import Heard
 from .inputs import Inputs, Port
 from .journals import TICK, Entries, read_journal
 from .progress import PROGRESS
@@ -34,6 +36,21 @@ class Run:
     printed: str = ""
     checked: str = ""
     folder: str = ""
+
+
+def alike(run: Run, places: Sequence[int]) -> list[Heard]:
+    """What the frames of these entries are, in their order: each message, and of other frames the first of those that are alike, with their count."""
+    entries, counts = run.entries, Counter[tuple[int, int]]()
+    shown: dict[tuple[int, int], Heard] = {}
+    for place in places:
+        number, frames = entries.ports[place], run.ports[entries.ports[place] - 1].frames
+        at = run.ports[number - 1].hosts[entries.indexes[place]]
+        flow = frames.flow_of[at]
+        key = (number, -1 - at) if frames.flows[flow].is_message else (number, flow)
+        counts[key] += 1
+        if key not in shown:
+            shown[key] = frames.like(at)
+    return [replace(shown[key], count=count) for key, count in counts.items()]
 
 
 def program_of(named: Optional[str]) -> str:

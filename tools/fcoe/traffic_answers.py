@@ -1,4 +1,5 @@
 """Answers on frames: those that were dropped, and those that the switch answered otherwise."""
+from array import array
 from dataclasses import dataclass, field
 from typing import Iterator, Optional
 
@@ -14,6 +15,7 @@ from .readdress import Request
 from .steps import next_step
 
 NOISE = "dropped ethertype"
+LISTED = 1000  # frames of an answer that are named
 SHOWN = 3  # differences that an answer each is made of
 
 
@@ -26,7 +28,7 @@ class Drops:
     ends: tuple[str, str]
     heard: Heard  # the first
     never: Optional[int] = None  # an end that nobody here was granted
-    entries: list[Frame] = field(default_factory=list)
+    places: "array[int]" = field(default_factory=lambda: array("I"))  # in the journal
 
 
 @dataclass
@@ -73,27 +75,40 @@ def both(look: Look, entry: Frame) -> tuple[Heard, Heard]:
     return look.captured[port - 1].frames.like(at), look.ports[port - 1].frames.like(at)
 
 
+def drops_of(known: Directory, explained: Explained, entry: Frame, said: Heard, run: Heard) -> Optional[Drops]:
+    """Of which drops a frame is, as it was captured and as the run has it; none where another answer tells of its host."""
+    sender = entry.port, said.source
+    if sender in explained.hosts or sender in explained.silent and entry.verdict == "dropped keepalive-unknown":
+        return None
+    ends, never = ("", ""), None
+    if said.is_fcoe and said.fc is not None and run.fc is not None:
+        ends = known.of(run.fc.s_id, said.fc.s_id), known.of(run.fc.d_id, said.fc.d_id)
+        lost = {"dropped source-login": (run.fc.s_id, said.fc.s_id), "dropped dest-login": (run.fc.d_id, said.fc.d_id)}.get(entry.verdict)
+        never = lost[1] if lost and lost[0] not in known.names else None
+    return Drops(entry.verdict, entry.port, ends, run, never)
+
+
 def dropped(look: Look, explained: Explained) -> list[Drops]:
     """Drops by rule, port and ends; without noise, and without frames of hosts that another answer tells of."""
-    known, found = Directory(look), dict[tuple[str, int, tuple[str, str]], Drops]()
-    for place in look.run.entries.places(lambda verdict: verdict.startswith("dropped") and verdict != NOISE):
-        entry = look.run.entries.frame(place)
-        said, run = both(look, entry)
-        sender = entry.port, said.source
-        if sender in explained.hosts or sender in explained.silent and entry.verdict == "dropped keepalive-unknown":
-            continue
-        ends, never = ("", ""), None
-        if said.is_fcoe and said.fc is not None and run.fc is not None:
-            ends = known.of(run.fc.s_id, said.fc.s_id), known.of(run.fc.d_id, said.fc.d_id)
-            lost = {"dropped source-login": (run.fc.s_id, said.fc.s_id), "dropped dest-login": (run.fc.d_id, said.fc.d_id)}.get(entry.verdict)
-            never = lost[1] if lost and lost[0] not in known.names else None
-        found.setdefault((entry.verdict, entry.port, ends), Drops(entry.verdict, entry.port, ends, run, never)).entries.append(entry)
+    known, entries = Directory(look), look.run.entries
+    found: dict[tuple[str, int, tuple[str, str]], Drops] = {}
+    alike: dict[tuple[int, int, int, int], Optional[Drops]] = {}  # of frames that are alike, by verdict, port and what they are like
+    for place in entries.places(lambda verdict: verdict.startswith("dropped") and verdict != NOISE):
+        port, at = look.request_of(entries.ports[place], entries.indexes[place])
+        captured, run = look.captured[port - 1].frames, look.ports[port - 1].frames
+        key = (entries.said[place], port, captured.flow_of[at], run.flow_of[at])
+        if key not in alike:
+            own = drops_of(known, explained, entries.frame(place), captured.like(at), run.like(at))
+            alike[key] = found.setdefault((own.verdict, own.port, own.ends), own) if own else None
+        drops_there = alike[key]
+        if drops_there is not None:
+            drops_there.places.append(place)
     return list(found.values())
 
 
 def drop_text(it: Drops) -> tuple[Severity, str, str]:
     """What a drop is, and what to do next."""
-    count, rule, row = counted(len(it.entries), "frame"), it.verdict.removeprefix("dropped "), row_of(it.verdict)
+    count, rule, row = counted(len(it.places), "frame"), it.verdict.removeprefix("dropped "), row_of(it.verdict)
     from_to = f" from {it.ends[0]} to {it.ends[1]}" if it.ends[0] else ""
     if it.verdict == "dropped dest-login" and it.never is not None:
         return Severity.NOTED, f"{count}{from_to}, which isn't in these captures", "add the capture of its port, to see what becomes of them"
@@ -109,14 +124,15 @@ def drop_text(it: Drops) -> tuple[Severity, str, str]:
 
 def drops(look: Look, explained: Explained) -> Iterator[Answer]:
     """Each kind of drop; what the switch sent on all the same stands among differences."""
+    entries = look.run.entries
     apart = {(it.port, it.index) for it in look.compared.forwards if it.switch == "sent on"} if look.compared else set()
     for it in dropped(look, explained):
-        it.entries = [entry for entry in it.entries if (entry.port, entry.index) not in apart]
-        if not it.entries:
+        it.places = array("I", (place for place in it.places if (it.port, entries.indexes[place]) not in apart))
+        if not it.places:
             continue
         severity, text, step = drop_text(it)
-        numbers = [(it.port, look.ports[it.port - 1].frame_number(entry.index)) for entry in it.entries]
-        yield Answer(severity, text, step, it.port, "", it.entries[0].clock, it.entries[-1].clock, numbers)
+        numbers = [(it.port, look.ports[it.port - 1].frame_number(entries.indexes[place])) for place in it.places[:LISTED]]
+        yield Answer(severity, text, step, it.port, "", entries.clocks[it.places[0]], entries.clocks[it.places[-1]], numbers, more=len(it.places) - len(numbers))
 
 
 def difference_text(it: Compared) -> str:

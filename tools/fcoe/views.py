@@ -1,6 +1,7 @@
 """Views of a run: logins, names, zones and counts, as values that become text or JSON."""
+from array import array
 from collections import Counter
-from typing import Any, Optional
+from typing import Any, Iterable, Optional, Sequence
 
 from .answering import answers_of
 from .answers import row_of as row_of_answer
@@ -9,14 +10,14 @@ from .columns import MILLISECOND
 from .errors import Refused
 from .errors import counted as plural
 from .fabric import Fabric, Login, fabric_at
-from .frames import colons, fcid
+from .frames import Heard, colons, fcid
 from .journals import TICK, Entry, Frame, code_rows, counted, row_of
 from .looking import Look
 from .places import place_of
-from .runs import shown_at_end
+from .runs import alike, shown_at_end
 from .steps import next_step
 from .traffic_answers import NOISE, address_text, both
-from .windows import is_otherwise, otherwise
+from .windows import is_otherwise, near_changes, otherwise
 
 Row = dict[str, Any]
 
@@ -180,38 +181,51 @@ def is_trouble(verdict: str) -> bool:
 
 def troubles(look: Look) -> list[Row]:
     """Each kind of drop, reject and refusal: rule, place in the frame, how often, where, and what to look at next."""
-    found: dict[str, list[Frame]] = {}
-    places: dict[tuple[int, int], int] = {}
-    for at in look.run.entries.places(is_trouble):
-        entry = look.run.entries.frame(at)
-        found.setdefault(entry.verdict, []).append(entry)
-        places[(entry.port, entry.index)] = at
+    entries = look.run.entries
+    found: dict[int, array[int]] = {}
+    for place in entries.places(is_trouble):
+        found.setdefault(entries.said[place], array("I")).append(place)
     rows = []
-    for verdict, frames in sorted(found.items(), key=lambda it: (it[0] == NOISE, it[0].split(" ")[0] == "dropped", -len(it[1]), it[0])):
-        row = row_of(verdict)
-        heard = look.ports[frames[0].port - 1].host(frames[0].index)
+    ranked = sorted(((entries.verdicts[said], places) for said, places in found.items()), key=lambda it: (it[0] == NOISE, it[0].split(" ")[0] == "dropped", -len(it[1]), it[0]))
+    for verdict, places in ranked:
+        row, kinds, first = row_of(verdict), alike(look.run, places), entries.frame(places[0])
+        heard = look.ports[first.port - 1].host(first.index)
         rows.append(
             {
                 "verdict": verdict,
-                "count": len(frames),
-                "ports": sorted({it.port for it in frames}),
-                "kinds": dict(Counter(look.ports[it.port - 1].like(it.index).kind for it in frames).most_common(4)),
-                "frames": [[it.port, number_of(look, it)] for it in frames[:8]],
+                "count": len(places),
+                "ports": sorted({entries.ports[it] for it in places}),
+                "kinds": dict(summed((it.kind, it.count) for it in kinds).most_common(4)),
+                "frames": [[entries.ports[it], number_of(look, entries.frame(it))] for it in places[:8]],
                 "meaning": row.meaning if row else "",
                 "standard": row.standard if row else "",
                 "look": next_step(verdict, heard),
-                "place": place_of(verdict, look.captured[frames[0].port - 1].host(frames[0].index)),
-                "hints": code_rows(verdict, heard.kind) + hints(look, verdict, frames) + window_hints(look, frames, places),
+                "place": place_of(verdict, look.captured[first.port - 1].host(first.index)),
+                "hints": code_rows(verdict, heard.kind) + hints(look, verdict, kinds, places) + window_hints(look, verdict, places),
             }
         )
     return rows
 
 
-def strangers(look: Look, verdict: str, frames: list[Frame]) -> set[tuple[int, int]]:
+def summed(counts_of: Iterable[tuple[str, int]]) -> Counter[str]:
+    """How often each word stands, in the order in which they come."""
+    found: Counter[str] = Counter()
+    for word, count in counts_of:
+        found[word] += count
+    return found
+
+
+def strangers(look: Look, verdict: str, places: Sequence[int]) -> set[tuple[int, int]]:
     """The ends of frames that nobody here was granted: the run's address, and that of the captures."""
-    ever, found = {it.address for it in look.walk.fabric.logins}, set()
-    for it in frames:
-        captured, run = (heard.fc for heard in both(look, it))
+    ever, found, entries = {it.address for it in look.walk.fabric.logins}, set(), look.run.entries
+    seen: set[tuple[int, int, int]] = set()  # of frames that are alike, their port and what they are like
+    for place in places:
+        port, at = look.request_of(entries.ports[place], entries.indexes[place])
+        key = port, look.captured[port - 1].frames.flow_of[at], look.ports[port - 1].frames.flow_of[at]
+        if key in seen:
+            continue
+        seen.add(key)
+        captured, run = (heard.fc for heard in both(look, entries.frame(place)))
         if captured is not None and run is not None:
             pair = (run.s_id, captured.s_id) if verdict == "dropped source-login" else (run.d_id, captured.d_id)
             if pair[0] not in ever:
@@ -219,39 +233,39 @@ def strangers(look: Look, verdict: str, frames: list[Frame]) -> set[tuple[int, i
     return found
 
 
-def hints(look: Look, verdict: str, frames: list[Frame]) -> list[str]:
+def hints(look: Look, verdict: str, kinds: list[Heard], places: Sequence[int]) -> list[str]:
     """What these captures tell beside the rule."""
     found = []
     if verdict in ("dropped source-login", "dropped dest-login"):
-        never = sorted(strangers(look, verdict, frames))
+        never = sorted(strangers(look, verdict, places))
         if never:
             told = ", ".join(address_text(captured, run) for run, captured in never[:4])
             found.append(f"no login in these captures was granted {told}: it logged in before the capture began, or on a port that wasn't captured")
     if verdict == "dropped zone":
-        found += zone_hints(look, frames)
+        found += zone_hints(look, kinds)
     if verdict == "dropped vlan":
-        tags = sorted({look.ports[it.port - 1].like(it.index).vlan for it in frames})
+        tags = sorted({it.vlan for it in kinds})
         found.append(f"the frames have the VLAN {', '.join(map(str, tags))}; the fabric's is {look.run.config.vlan}")
     return found
 
 
-def zone_hints(look: Look, frames: list[Frame]) -> list[str]:
+def zone_hints(look: Look, kinds: list[Heard]) -> list[str]:
     """The pairs of port names that no zone joins, the most frequent first."""
     known = {it.address: colons(it.name) for it in look.walk.fabric.logins}
-    pairs: Counter[str] = Counter()
-    for it in frames:
-        fc = look.ports[it.port - 1].like(it.index).fc
-        if fc is not None:
-            pairs[f"{known.get(fc.s_id, fcid(fc.s_id))} to {known.get(fc.d_id, fcid(fc.d_id))}"] += 1
+    pairs = summed((f"{known.get(fc.s_id, fcid(fc.s_id))} to {known.get(fc.d_id, fcid(fc.d_id))}", it.count) for it in kinds for fc in [it.fc] if fc is not None)
     return [f"{pair}: {plural(count, 'frame')}" for pair, count in pairs.most_common(3)] + ([f"and {len(pairs) - 3} more pairs"] if len(pairs) > 3 else [])
 
 
-def window_hints(look: Look, frames: list[Frame], places: dict[tuple[int, int], int]) -> list[str]:
+def window_hints(look: Look, verdict: str, places: Sequence[int]) -> list[str]:
     """How many of these frames another order within their window would judge otherwise."""
     window_rules = ("source-login", "dest-login", "keepalive-unknown")
-    if not any(rule in frames[0].verdict for rule in window_rules) and not frames[0].verdict.startswith("refused"):
+    if not any(rule in verdict for rule in window_rules) and not verdict.startswith("refused"):
         return []
-    own = [it for it in frames if is_otherwise(look.run, look.walk, it, places[(it.port, it.index)])]
+    entries, own = look.run.entries, []
+    for place in near_changes(look.run, look.walk, places):
+        entry = entries.frame(place)
+        if is_otherwise(look.run, look.walk, entry, place):
+            own.append(entry)
     if not own:
         return []
     where = ", ".join(f"{it.port}/{number_of(look, it)}" for it in own[:8])

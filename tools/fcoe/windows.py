@@ -1,5 +1,5 @@
 """Whether the window of a run decided over a frame: the order of frames of several ports within one window is free (docs/JOURNAL.md)."""
-from typing import Iterator, Optional
+from typing import Iterator, Optional, Sequence
 
 from .fabric import Login, Walk
 from .frames import Heard
@@ -54,6 +54,12 @@ def is_otherwise(run: Run, walk: Walk, entry: Frame, place: int) -> bool:
                 if (gap_of(run, entry, other) >= 0) != (there < place):
                     return True
     return False
+
+
+def near_changes(run: Run, walk: Walk, places: Sequence[int]) -> list[int]:
+    """The entries that stand in a window in which a login begins or ends."""
+    clocks = {run.entries.clocks[it] for login in walk.fabric.logins for it in (login.granted_by, login.ended_by) if it is not None}
+    return [it for it in places if run.entries.clocks[it] in clocks]
 
 
 def otherwise(window: int) -> str:
