@@ -8,6 +8,7 @@ from dataclasses import dataclass, field
 from typing import Any
 
 import look_captures
+import look_failures
 from look_captures import DEMO, TOP
 from selenium import webdriver
 from selenium.webdriver.chrome.service import Service
@@ -76,6 +77,11 @@ def many(program: str, folder: pathlib.Path) -> Report:
         write_classic(str(folder / f"host_{port}.pcap"), [Record(it.moment, it.data.replace(OWN, own), it.length, it.number) for it in found])
         captures.append(f"host_{port}.pcap")
     return made(program, folder, "many", captures, [])
+
+
+def limit(program: str, folder: pathlib.Path) -> Report:
+    """A login that the switch rejects."""
+    return made(program, folder, "limit", look_failures.make_failures(folder)["limit"], [])
 
 
 class Browser:

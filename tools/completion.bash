@@ -14,3 +14,16 @@ _zones() {
     esac
 }
 complete -o default -F _zones zones
+
+# The completion of look: its options, its commands before anything else, and then files; both are those that `look --help` names.
+_look() {
+    local word=${COMP_WORDS[COMP_CWORD]} help
+    [[ $word == -* || $COMP_CWORD == 1 ]] || return
+    help=$("${COMP_WORDS[0]}" --help 2>/dev/null) || return
+    if [[ $word == -* ]]; then
+        mapfile -t COMPREPLY < <(compgen -W "$(grep -oE -- '--[a-z-]+' <<<"$help" | sort -u)" -- "$word")
+    else
+        mapfile -t COMPREPLY < <(compgen -W "$(sed -nE 's/^  look ([a-z|]+) .*/\1/p' <<<"$help" | tr '|' '\n' | sort -u)" -- "$word"; compgen -f -- "$word")
+    fi
+}
+complete -o default -o filenames -F _look look

@@ -29,8 +29,10 @@ function clock(behind) {
     return moment < 1e11 ? (moment / 1000).toFixed(3) + " s" : new Date(moment).toISOString().slice(11, 23);
 }
 
+const verdictOf = at => page.spelled[word("verdict", at)] || word("verdict", at);
+
 function cell(column, at) {
-    return WORDED.includes(column) ? word(column, at) : column === "time" ? clock(rows.time[at]) : String(rows[column][at]);
+    return column === "verdict" ? verdictOf(at) : WORDED.includes(column) ? word(column, at) : column === "time" ? clock(rows.time[at]) : String(rows[column][at]);
 }
 
 const classOf = column => ["port", "frame", "size"].includes(column) ? "n" : "";
@@ -48,7 +50,7 @@ function fits(at, asked) {
     if (asked.rule && verdict !== asked.rule && !verdict.startsWith(asked.rule + " ")) return false;
     if (asked.from && !(second >= +asked.from) || asked.to && !(second <= +asked.to)) return false;
     if (asked.name && !word("source", at).includes(asked.name) && !word("target", at).includes(asked.name)) return false;
-    return !asked.text || [word("kind", at), verdict, word("answer", at), rows.reading[at]].join(" ").toLowerCase().includes(asked.text);
+    return !asked.text || [word("kind", at), verdictOf(at), word("answer", at), rows.reading[at]].join(" ").toLowerCase().includes(asked.text);
 }
 
 function compared(column) {
@@ -193,11 +195,11 @@ function meaning(verdict) {
 }
 
 function tell(at) {
-    const verdict = word("verdict", at), found = [element("h3", "port " + rows.port[at] + ", frame " + rows.frame[at] + ": " + word("kind", at) + ": " + verdict)];
+    const verdict = word("verdict", at), found = [element("h3", "port " + rows.port[at] + ", frame " + rows.frame[at] + ": " + word("kind", at) + ": " + verdictOf(at))];
     if (meaning(verdict)) found.push(element("p", meaning(verdict)));
     if (rows.pair[at] >= 0) {
-        const made = element("p", isOfSwitch(at) ? "It answers " : "The switch answered " + word("answer", at) + ", ");
-        made.append(link(rows.pair[at]), isOfSwitch(at) ? " (" + word("kind", rows.pair[at]) + ": " + word("verdict", rows.pair[at]) + ")" : "");
+        const made = element("p", isOfSwitch(at) ? "It answers " : "The switch answered: " + word("answer", at) + ", ");
+        made.append(link(rows.pair[at]), isOfSwitch(at) ? " (" + word("kind", rows.pair[at]) + ": " + verdictOf(rows.pair[at]) + ")" : "");
         found.push(made);
     }
     if (rows.why[at]) {

@@ -7,6 +7,7 @@ import re
 from html import escape
 from typing import Any, Callable
 
+from .codes import spelled, type_text
 from .compare import STATES, by_kind, totals
 from .errors import Refused, counted
 from .journals import counted as rule_of
@@ -17,15 +18,15 @@ from .moments import short, stamp
 from .places import text_of
 from .report_frames import frames_of_page, rules_of
 from .report_zoning import reach_rows, whatif_rows
-from .texts import compare_json
+from .texts import UNGRANTED, Line, lines_of, together
 from .traffic_answers import NOISE
-from .views import Row, busiest, counts, first_clock, logins, names, summary, zones
+from .views import Row, busiest, counts, first_clock, names, summary, zones
 
 FOLDER = pathlib.Path(__file__).resolve().parent
 TITLED = 3  # files that a title names
 CARDS = 8  # ports up to which each has a card
 LISTED = 500  # differences that the page lists
-MARKS = 4  # parts of the scale of the logins' bars
+MARKS = 3  # parts of the scale of the logins' bars
 
 
 def title_of(look: Look) -> str:
@@ -35,22 +36,27 @@ def title_of(look: Look) -> str:
     return ", ".join(labels) if more <= 0 else f"{', '.join(labels[:TITLED])} and {counted(more, 'more capture')}"
 
 
-def login_rows(look: Look) -> Row:
-    """Logins with a bar each, in hundredths of the run."""
-    own = logins(look, None)
+def span_of(look: Look) -> tuple[int, int]:
+    """The first clock of the run, and how long it is."""
     clocks = look.run.entries.clocks
-    first, last = (min(clocks), max(clocks)) if clocks else (0, 1)
-    span = max(last - first, 1)
+    return (clocks[0], max(clocks[-1] - clocks[0], 1)) if clocks else (0, 1)
 
-    def share(clock: int) -> float:
-        return round(100 * (clock - first) / span, 2)
 
-    rows = []
-    for row in own:
-        begin, end = share(row["from"]), share(row["to"] if row["to"] is not None else last)
-        rows.append({**row, "left": begin, "width": max(end - begin, 0.5), "at": short(row["from"], first), "until": short(row["to"], first)})
+def login_row(it: Line, first: int, span: int) -> Row:
+    """A login or a reject with its bar, in hundredths of the run."""
+    begin, end = (100 * (clock - first) / span for clock in (it.since, it.until if it.until is not None else first + span))
+    is_in = not it.switch.startswith(UNGRANTED) and not it.here.startswith(UNGRANTED)
+    track = {"kind": it.by.split(" ")[0] if is_in else "rejected", "left": round(min(begin, 99.5), 2), "width": round(max(end - begin, 0.5), 2)}
+    frame = it.row.get("from_frame", it.row.get("frame"))
+    return {**vars(it), **track, "at": short(it.since, first), "till": short(it.until, first) if it.until is not None else "", "frame": frame}
+
+
+def login_rows(look: Look, found: Row) -> Row:
+    """Logins and rejects in the order of time, and the scale above them."""
+    first, span = span_of(look)
+    rows = [login_row(it, first, span) for it in lines_of(found["logins"] + found["rejected_logins"])]
     marks = [{"left": 100 * part / MARKS, "text": short(first + span * part // MARKS, first)} for part in range(MARKS)]
-    return {"rows": rows, "marks": marks, "has_switch": any(it["switch_fcid"] not in (None, it["fcid"]) for it in rows)}
+    return {"rows": rows, "marks": marks, "has_switch": any(it["switch"] for it in rows)}
 
 
 def verdict_rows(look: Look) -> list[Row]:
@@ -77,15 +83,20 @@ def trouble_rows(found: Row) -> list[Row]:
 
 
 def comparison_rows(look: Look) -> Any:
-    if look.compared is None:
+    """The comparison with the switch: what differs alike is one row, the worst first."""
+    found = look.compared
+    if found is None:
         return None
-    found = compare_json(look.compared)
-    first = first_clock(look)
-    for it in found["answers"]:
-        it["at"] = short(it["clock"], first)
-    kinds = [{"kind": kind, "states": [some[state] for state in STATES]} for kind, some in by_kind(look.compared).items()]
-    apart = [it for it in found["answers"] if it["state"] != "equal"]
-    return {"kinds": kinds, "apart": apart[:LISTED], "more": max(len(apart) - LISTED, 0), "states": STATES, "totals": totals(look.compared), "forwarded": found["forwarded"], "others": found["others"]}
+    worst, first = list(reversed(STATES)), first_clock(look)
+    groups = sorted(together([it for it in found.all() if it.differences]), key=lambda some: worst.index(some[0].state))
+    apart = [{"first": some[0], "count": len(some), "at": short(some[0].clock, first), "last": short(some[-1].clock, first)} for some in groups[:LISTED]]
+    kinds = [{"kind": kind, "states": [some[state] for state in STATES]} for kind, some in by_kind(found).items()]
+    return {"kinds": kinds, "apart": apart, "more": max(len(groups) - LISTED, 0), "states": STATES, "totals": totals(found), "forwarded": found.forwarded, "others": found.others}
+
+
+def answer_rows(found: Row) -> list[Row]:
+    """The answers on top, with their times."""
+    return [{**it, "at": short(it["from"], found["from"]), "till": short(it["to"], found["from"]) if it["to"] != it["from"] else ""} for it in found["answers"]]
 
 
 def linker(look: Look, safe: Callable[[str], Any]) -> Callable[[str], Any]:
@@ -117,7 +128,8 @@ def values_of(look: Look) -> Row:
         "begin": stamp(found["from"]),
         "end": stamp(found["to"]),
         "is_folded": len(look.ports) > CARDS,
-        "logins": login_rows(look),
+        "answers": answer_rows(found),
+        "logins": login_rows(look, found),
         "verdicts": verdict_rows(look),
         "ports": [port.number for port in look.ports],
         "troubles": trouble_rows(found),
@@ -143,6 +155,7 @@ def write_report(look: Look, name: str) -> None:
     except ImportError:
         raise Refused("--report wants jinja2 (apt-get install python3-jinja2)") from None
     room = jinja2.Environment(loader=jinja2.FileSystemLoader(FOLDER), autoescape=True, trim_blocks=True, lstrip_blocks=True, undefined=jinja2.StrictUndefined)
+    room.filters.update(spelled=spelled, type_text=type_text)
     room.filters["linked"] = linker(look, markupsafe.Markup)
     text = room.get_template("report.html.j2").render(values_of(look))
     with open(name, "w", encoding="utf-8") as file:

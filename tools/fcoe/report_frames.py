@@ -5,6 +5,7 @@ from heapq import nsmallest
 from itertools import accumulate, compress
 from typing import Any, Iterator
 
+from .codes import spelled
 from .columns import Record
 from .fabric import ANSWERED, Sent
 from .fields import fields_of, in_line
@@ -13,7 +14,7 @@ from .inputs import Port
 from .journals import TICK, Frame, Tick, counted, rows
 from .ladder import Arrow, Node, Picture, silent
 from .looking import Look
-from .pairs import Moment, replies_of
+from .pairs import Moment
 from .texts import why_text
 from .traffic_answers import NOISE
 from .views import first_clock, is_trouble
@@ -44,13 +45,6 @@ def kept_bytes(record: Record, heard: Heard) -> str:
     is_data = heard.is_fcoe and heard.fc is not None and heard.fc.kind not in (0x01, 0x20)
     size = DATA_BYTES if is_data or not heard.is_fabric else OTHER_BYTES
     return base64.b64encode(record.data[:size]).decode("ascii")
-
-
-def answer_text(heard: Heard) -> str:
-    """An answer of the switch in a few words, with the codes of a reject."""
-    found = fields_of(heard)
-    codes = [found[it][:2] for it in ("reason", "explanation") if it in found]
-    return " ".join([heard.kind, *codes])
 
 
 def replies_text(sent: list[Sent], entry: Frame) -> str:
@@ -95,7 +89,6 @@ class Table:
         self.silent: dict[int, str] = {}
         self.nodes = self.take_entries()
         self.line = {node: at for at, node in enumerate(self.nodes)}
-        self.pairs = {(port.number, at): (port.number, reply) for port in look.ports for at, reply in replies_of(port, look.run.config.mac).items()}
 
     def telling(self, port: Port) -> bytearray:
         """Which frames of a port tell most: messages, and data frames that were dropped."""
@@ -157,11 +150,11 @@ class Table:
         place, heard = self.entry_of[port.number][index], port.frames.heard(at)
         entry = self.look.run.entries.frame(place)
         inward, *sent = self.arrows[place]
-        reply = self.pairs.get((port.number, at))
+        reply = self.look.replies.get((port.number, at))
         return {
             **self.common(port, at, heard, self.known.ends(port.number, heard, place)),
             "verdict": self.words.of(entry.verdict),
-            "answer": self.words.of(answer_text(port.frames.heard(reply[1])) if reply else ""),
+            "answer": self.words.of(spelled(reply.verdict) if reply else ""),
             "why": self.why(entry, place, heard),
             "sent": replies_text(self.look.walk.sent[place], entry),
             "entry": place,
@@ -196,9 +189,10 @@ class Table:
         made = [self.row(port, at) for port, at in self.frames]
         place: dict[Place, int] = {(port.number, at): row for row, (port, at) in enumerate(self.frames)}
         pair = [-1] * len(made)
-        for request, reply in self.pairs.items():
-            if request in place and reply in place:
-                pair[place[request]], pair[place[reply]] = place[reply], place[request]
+        for request, reply in self.look.replies.items():
+            row, answer = place.get(request), place.get((request[0], reply.at))
+            if row is not None and answer is not None:
+                pair[row], pair[answer] = answer, row
         columns = {name: [row[name] for row in made] for name in (made[0] if made else [])}
         return {"columns": {**columns, "pair": pair}, "ticks": self.ticks(), "lines": self.lines(), "words": list(self.words.places), "first": self.first}
 
@@ -220,7 +214,8 @@ def frames_of_page(look: Look) -> dict[str, Any]:
     """The table of frames and the ladder's arrows; what each word of a verdict means."""
     found = Table(look).columns()
     in_all = sum(len(port.frames) for port in look.ports)
-    return {**found, "meanings": {word: row.meaning for word, row in rows().items()}, "switch": SWITCH, "noise": NOISE, "in_all": in_all}
+    said = {it: text for it in look.run.entries.verdicts if (text := spelled(it)) != it}
+    return {**found, "spelled": said, "meanings": {word: row.meaning for word, row in rows().items()}, "switch": SWITCH, "noise": NOISE, "in_all": in_all}
 
 
 def rules_of(look: Look) -> list[str]:

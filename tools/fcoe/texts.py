@@ -68,6 +68,7 @@ class Line:
     since: int
     until: Optional[int]
     why: str
+    row: Row
     count: int = 1
 
     def cells(self, first: int) -> list[Any]:
@@ -78,10 +79,10 @@ class Line:
 def login_line(row: Row) -> Line:
     """A login, or a reject, as a line."""
     if "verdict" in row:
-        return Line(row["port"], row["wwpn"], row["request"], spelled(row["switch"] or ""), spelled(row["verdict"]), row["clock"], row["clock"], "")
+        return Line(row["port"], row["wwpn"], row["request"], spelled(row["switch"] or ""), spelled(row["verdict"]), row["clock"], row["clock"], "", row)
     by, switch = f"FDISC of {row['parent']}" if row["kind"] == "FDISC" else "FLOGI", row["switch"] or ""
     why = "" if switch.startswith(UNGRANTED) else row["why"]
-    return Line(row["port"], row["wwpn"], by, spelled(switch), f"granted {row['fcid']}", row["from"], row["to"], why)
+    return Line(row["port"], row["wwpn"], by, spelled(switch), f"granted {row['fcid']}", row["from"], row["to"], why, row)
 
 
 def lines_of(rows: list[Row]) -> list[Line]:
