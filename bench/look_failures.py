@@ -42,6 +42,11 @@ def header(r_ctl: int, d_id: int, s_id: int, kind: int, ox_id: int, f_ctl: int =
     return bytes([r_ctl]) + d_id.to_bytes(3, "big") + b"\0" + s_id.to_bytes(3, "big") + bytes([kind]) + f_ctl.to_bytes(3, "big") + b"\0\0\0\0" + ox_id.to_bytes(2, "big") + b"\xff\xff\0\0\0\0"
 
 
+def ct(command: int, reason: int = 0, explanation: int = 0) -> bytes:
+    """The preamble of a CT_IU to the name server (FC-GS-6)."""
+    return b"\x01\0\0\0\xfc\x02\0\0" + command.to_bytes(2, "big") + bytes([0, 0, 0, reason, explanation, 0])
+
+
 def demo_login() -> bytes:
     """The payload of a Linux host's FLOGI."""
     heard = (hear(it.data) for it in classic(str(TOP / "demo" / "initiator.pcap")).records)
@@ -137,6 +142,23 @@ class Wire:
     def fallback(self, host: Host, ox_id: int, vlan: int = -1) -> None:
         """A FLOGI in FCoE, as Linux sends it where FIP isn't answered."""
         self.fcoe(host.mac, FALLBACK, header(0x22, 0xFFFFFE, 0, 1, ox_id) + host.login(), vlan)
+
+    def service(self, address: int, to: int, kind: int, ox_id: int, payload: bytes) -> None:
+        """A request of a host to a service or to another host."""
+        r_ctl = 0x02 if kind == 0x20 else 0x22
+        self.fcoe(FC_MAP + address.to_bytes(3, "big"), SWITCH, header(r_ctl, to, address, kind, ox_id) + payload)
+
+    def serve(self, address: int, kind: int, ox_id: int, payload: bytes) -> None:
+        """The name server's reply."""
+        r_ctl = 0x03 if kind == 0x20 else 0x23
+        self.fcoe(SWITCH, FC_MAP + address.to_bytes(3, "big"), header(r_ctl, address, 0xFFFFFC, kind, ox_id, 0x990000) + payload)
+
+    def register(self, host: Host, address: int) -> None:
+        """PLOGI to the name server, and FCP as its type."""
+        self.service(address, 0xFFFFFC, 1, 0x11, host.login(3))
+        self.serve(address, 1, 0x11, b"\x02\0\0\0" + PAYLOAD[4:8] + b"\0\0\x08\x40" + bytes(8) + SWITCH_NAME * 2 + PAYLOAD[36:])
+        self.service(address, 0xFFFFFC, 0x20, 0x12, ct(0x0217) + b"\0" + address.to_bytes(3, "big") + b"\0\0\1" + bytes(29))
+        self.serve(address, 0x20, 0x12, ct(0x8002))
 
     def discover(self, host: Host, period: int = 8000) -> None:
         """VLAN and switch are found."""
@@ -326,9 +348,51 @@ def not_available() -> list[Wire]:
     return [wire]
 
 
+def not_zoned() -> list[Wire]:
+    """Two hosts log in and register; the name server lists neither to the other, and a PLOGI isn't sent on."""
+    one, two = Wire(), Wire(clock=START + SECOND // 2)
+    one.log_in(A, 1, 0x010100)
+    two.log_in(B, 1, 0x010101)
+    one.wait(1)
+    two.wait(1)
+    one.register(A, 0x010100)
+    two.register(B, 0x010101)
+    one.wait(3)
+    one.service(0x010100, 0xFFFFFC, 0x20, 0x13, ct(0x0172) + b"\0\0\0\x08")
+    one.serve(0x010100, 0x20, 0x13, ct(0x8002) + b"\x80\1\1\0" + bytes(4) + A.name)
+    one.service(0x010100, 0x010101, 1, 0x14, A.login(3))
+    two.wait(3)
+    two.keep_alive(B)
+    return [one, two]
+
+
+def unused() -> list[Wire]:
+    """Accepts that the host doesn't take: it asks again, and sends from no granted MAC."""
+    wire = Wire()
+    wire.discover(A)
+    for number in range(6):
+        wire.wait(2)
+        wire.flogi(A, number + 1)
+        wire.accept(A, number + 1, 0x650100)
+    wire.idle(8)
+    return [wire]
+
+
+def busy() -> list[Wire]:
+    """The switch rejects FDISCs, as it is busy."""
+    wire = Wire()
+    wire.log_in(A, 1, 0x650100)
+    for number in range(5):
+        wire.stay(A, 8)
+        wire.flogi(A, number + 2, 8, Host(0x0C).name)
+        wire.reject(A, number + 2, 0x05, 0x00, 8)
+    wire.stay(A, 8)
+    return [wire]
+
+
 FAILURES: dict[str, Callable[[], list[Wire]]] = {
     it.__name__: it
-    for it in (no_fip, untagged, vlan200, vn2vn, no_jumbo, no_answer_padded, limit, name_held, name_elsewhere, short_period, silence, relogin, unheard, not_available)
+    for it in (no_fip, untagged, vlan200, vn2vn, no_jumbo, no_answer_padded, limit, name_held, name_elsewhere, short_period, silence, relogin, unheard, not_available, not_zoned, unused, busy)
 }
 
 

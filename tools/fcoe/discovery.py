@@ -4,6 +4,7 @@ from typing import Callable, Optional
 from .answers import Answer, Severity, times
 from .enodes import ASKED, FALLBACK, SOLICITED, TALKED, Seen
 from .errors import counted
+from .frames import colons
 
 PADDED = "2,158 bytes"  # of a solicited advertisement, which a path without mini-jumbo frames loses
 AVAILABLE, PATIENCE = 0x0004, 5000  # the flag A of an advertisement; milliseconds that a host may wait before its FLOGI
@@ -51,7 +52,7 @@ def unheard(seen: Seen) -> Optional[Answer]:
     logins = seen.enode.all("FLOGI")
     if not logins or seen.answered("FLOGI"):
         return None
-    said = f"sent {counted(len(logins), 'FLOGI')}"
+    said = f"sent {counted(len(logins), 'FLOGI')} to {colons(seen.enode.heard(logins[-1]).destination)}"
     if not seen.enode.port.replies:
         return failed(seen, f"{said} and nothing behind them; this capture has no frame of the switch", "capture both directions of the port: the switch's answer has the reason", logins)
     step = "the switch's log for this port at that time; is the FLOGI's destination the switch's MAC (`look fields`), does a bridge drop FIP?"

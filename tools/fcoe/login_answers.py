@@ -1,5 +1,4 @@
 """Answers on logins: those that were rejected, those that fell silent, those that were made again."""
-from collections import Counter
 from dataclasses import dataclass
 from typing import Iterable, Iterator, Optional
 
@@ -74,12 +73,12 @@ def rejects_in(all_seen: list[Seen]) -> dict[tuple[int, bytes, str, str], list[R
     return found
 
 
-def here_text(verdicts: Counter[str]) -> str:
-    """What this forwarder does with the same requests."""
-    most = verdicts.most_common(1)[0][0] if verdicts else ""
-    if most.startswith("granted"):
+def here_text(verdicts: list[str]) -> str:
+    """What this forwarder does with the first of the same requests."""
+    first = verdicts[0] if verdicts else ""
+    if first.startswith("granted"):
         return "; this forwarder grants it"
-    return f"; this forwarder answers {spelled(most)}" if most else ""
+    return f"; this forwarder answers {spelled(first)}" if first else ""
 
 
 def span_of(look: Look, requests: list[Request]) -> tuple[int, int, list[tuple[int, int]]]:
@@ -102,10 +101,10 @@ def rejected(look: Look, all_seen: list[Seen]) -> Iterator[Answer]:
     own = entries_of(look, [it for some in groups.values() for it in some])
     for (port, name, kind, verdict), requests in groups.items():
         since, until, numbers = span_of(look, requests)
-        here = Counter(own[it].verdict if own[it].word != "granted" else "granted" for it in requests if it in own)
+        here = [own[it].verdict for it in requests if it in own]
         got_in = any(it.name == name and it.port == port and look.replied(it) for it in look.walk.fabric.logins)
         said = f"{'' if got_in else 'got no login: '}the switch rejected {counted(len(requests), kind)}, {spelled(verdict)[len('rejected '):]}"
-        said += "" if here[verdict] == len(requests) else here_text(here)
+        said += "" if set(here) == {verdict} else here_text(here)
         yield Answer(Severity.FAILED, said, step_of(look, verdict, name, requests[0], since), port, colons(name), since, until, numbers)
 
 
@@ -200,12 +199,30 @@ def silent(look: Look) -> Iterator[Answer]:
         yield Answer(Severity.LOST, silent_text(look, some[0]), step, some[0].port, colons(some[0].login.name), some[0].heard, some[-1].ends, followers=followers)
 
 
+def is_used(look: Look, login: Login) -> bool:
+    """The host sends from the MAC that the switch granted to it, or keeps its login alive."""
+    mac = look.run.config.fc_map + look.on_switch(login).to_bytes(3, "big")
+    used = look.captured[login.port - 1].frames.used()
+    return any(it.heard.source == mac or it.heard.source == login.enode and it.heard.operation == KEEP_ALIVE for it in used)
+
+
+def unused(look: Look, logins: list[Login]) -> Answer:
+    """A host that is granted an address again and again, and takes none."""
+    first, granted = logins[0], fcid(look.on_switch(logins[0]))
+    text = f"was granted {granted} {times(len(logins) + 1)} and never used it: the accept doesn't reach the host, or the host refuses it"
+    step = "the accept's fields (`look compare`): FPMA, fabric port bit, receive size, OX_ID; a capture at the host, whether it arrives there"
+    return Answer(Severity.FAILED, text, step, first.port, colons(first.name), first.since, logins[-1].until)
+
+
 def again(look: Look) -> Iterator[Answer]:
     """Logins that their ENode made again without a LOGO."""
     groups: dict[tuple[int, bytes], list[Login]] = {}
     for it in real(look, (it for it in look.walk.fabric.logins if it.why == AGAIN and not it.is_fdisc)):
         groups.setdefault((it.port, it.name), []).append(it)
     for (port, name), logins in groups.items():
+        if not is_used(look, logins[0]):
+            yield unused(look, logins)
+            continue
         text = f"logged in again {times(len(logins))} without a LOGO: each ends the login before, and that of its further N_Ports"
         step = "the host's log at that time: its link went down and up, or its driver began anew"
         yield Answer(Severity.LOST, text, step, port, colons(name), logins[0].until, logins[-1].until)

@@ -21,6 +21,12 @@ SERVICE_STEPS = {
     "refused 09 07": "whether the others registered that type (RFT_ID), and are zoned with the asker: `look names --at`, `look zones --at`",
     "refused 09 02": "whether that name is logged in, and zoned with the asker: `look names --at`, `look zones --at`",
 }
+BY_REASON = {"05": "whether the switch takes it later, and its log at that time: it says that it is busy"}
+BY_EXPLANATION = {
+    "0d": "the port name: whether its form is right, and whether the switch lets it in (port security, fabric binding)",
+    "0e": "the node name: whether its form is right, and whether the switch lets it in (port security, fabric binding)",
+}
+OTHERWISE = "the switch's log at that time; FC-LS-2 and FC-GS-6 have the codes"
 IN_VN2VN = "the host is in VN2VN mode: it looks for other hosts, not for a switch"
 
 
@@ -28,7 +34,7 @@ def next_step(verdict: str, heard: Heard) -> str:
     """What to look at next; empty where nothing is amiss."""
     if verdict.startswith(("rejected", "refused")):
         steps = LOGIN_STEPS if heard.kind in ("FLOGI", "FDISC") else SERVICE_STEPS
-        return steps.get(verdict, "the codes in docs/JOURNAL.md, Codes of rejects")
+        return steps.get(verdict) or BY_REASON.get(verdict.split(" ")[1]) or BY_EXPLANATION.get(verdict.split(" ")[-1]) or OTHERWISE
     if verdict == "dropped vlan":
         return "which VLAN the host's FCoE interface has, and the switch's" if heard.vlan else "whether the host sends without a tag, or the capture lost it (a VLAN interface)"
     if verdict == "dropped fip-operation" and heard.operation is not None and heard.operation[0] == VN2VN:
