@@ -215,7 +215,8 @@ def zone_lines(zones: list[str], names: list[bytes]) -> tuple[list[str], str]:
         return [f"zone {it}" for it in zones], "zones as --zone says"
     if not names:
         return [], "no zone: no login was seen"
-    return ["zone all " + " ".join(colons(it) for it in names)], f"one zone of all {len(names)} port names that logged in (--zone, --config: others)"
+    whose = f"all {len(names)} port names" if len(names) > 1 else "the one port name"
+    return ["zone all " + " ".join(colons(it) for it in names)], f"one zone of {whose} that logged in (--zone, --config: others)"
 
 
 def values_drawn(frames: list[Heard], wanted: Optional[bytes]) -> tuple[Config, str, Optional[Advertised], set[bytes]]:

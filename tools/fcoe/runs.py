@@ -81,6 +81,8 @@ def why_refused(printed: str, inputs: Inputs, folder: str) -> str:
     for word, next_step in LIMITS.items():
         if printed.startswith(word):
             return f"{inputs.ports[0].file}: {printed}: {next_step}"
+    if not printed:
+        return f"{inputs.ports[0].file}: the program printed nothing: look whether it is fcoe_tool (`--version` tells), or build it by tools/install"
     return f"{folder}: the program printed '{printed}': look whether the disk is full"
 
 
