@@ -6,6 +6,8 @@ use Rattle.fab_base.specs.Seen.{Seen}
 use Rattle.pcap_file.specs.declared.Budget.{Budget}
 use Rattle.pcapng_file.specs.declared.fault.NgError.{NgError}
 use Rattle.pcapng_file.specs.declared.NgRecord.{NgRecord}
+use Rattle.pcapng_file.specs.declared.packet.Content.{Content}
+use Rattle.pcapng_file.specs.declared.packet.Content.TheVariants as says
 use Rattle.pcapng_file.specs.File.{Section, before_all, head_at, content_at, after, found, Blocks, IsNg, AreKept, step_of, less, in_front, go_on, read_from, ng_read}
 use Rattle.pcapng_file.specs.Laws.{Within}
 use Rattle.pcapng_file.specs.Stream.{Streaming, streaming, stream_stand, Parts, Goes, BeginsWith, IsSaid, StreamReads, left_of, Stops, Streamed}
@@ -28,6 +30,21 @@ shorter zero s v l t m (nothing, same, rest) = omega (arith, ap length rest)
 shorter (suc n) s v l t m (front, whole, w, joined, more) =
     let less_by = shorter n (after s (content_at s l)) w (drop (head_at s l).size l) t m more in
     omega (arith, less_by, length-drop (head_at s l).size l)
+
+-- a block gives one packet at most
+one_found : (x : Content) → length (found x) ≤ 1
+one_found (says.Section big) = omega arith
+one_found (says.Interface face) = omega arith
+one_found (says.Packet r) = omega arith
+one_found says.Nothing = omega arith
+
+-- packets take more than a byte each
+pub parts_long : (n : ℕ) (s : Section) (v : List NgRecord) (l : List ℕ) (t : Section) (m : List ℕ) → Parts n s v l t m → length v + length v + length m ≤ length l
+parts_long zero s v l t m (nothing, same, rest) = omega (arith, ap length nothing, ap length rest)
+parts_long (suc n) s v l t m (front, whole, w, joined, more) =
+    let st : Stands s l = record { front = front; whole = whole } in
+    let behind = parts_long n (after s (content_at s l)) w (drop (head_at s l).size l) t m more in
+    omega (arith, behind, size_fits s l st, size_least s l st, length-drop (head_at s l).size l, ap length joined, length-append (found (content_at s l)) w, one_found (content_at s l))
 
 in_front_err : (v : List NgRecord) (x : Result (List NgRecord) NgError) (e : NgError) → x ≡ Err e → in_front v x ≡ Err e
 in_front_err v x e is = ap (in_front v) is

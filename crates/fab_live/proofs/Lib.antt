@@ -1,0 +1,9 @@
+pub mod ArrivingLemmas
+pub mod RunLemmas
+pub mod TakeLemmas
+pub mod WriteLemmas
+pub mod RunningLemmas
+pub mod HandlingLemmas
+pub mod LoopLemmas
+pub mod BeginLemmas
+pub mod HeadLemmas

@@ -1,0 +1,393 @@
+-- What stands behind each packet of a stream, and at its end.
+use Rattle.std.proofs.Common.{◌≡◌, ◌≢◌, ℕ, zero, suc, ◌+◌, ◌-◌, ◌<◌, ◌≤◌, ◌^◌, ◌⊎◌, inl, inr, List, [], ◌∷◌, ◌++◌, length, length-append, Option, Some, None, Ok, Err, IsTrue, refl, sym, ap, ◌∙◌, subst, arith}
+use Rattle.std.specs.Prelude.{Result, IsErrOf}
+use Rattle.fab_base.specs.Seen.{Seen, Rose, Only, Nothing, Reads, Touches, SameReadFaults, SameWriteFaults}
+use Rattle.fab_base.proofs.SeenLemmas.{keeps_touches, reads_touches, touches_refl, touches_trans, touches_wider}
+use Rattle.fab_config.specs.Settings.{Settings}
+use Rattle.pcap_file.specs.declared.Budget.{Budget}
+use Rattle.pcapng_file.specs.declared.NgRecord.{NgRecord}
+use Rattle.pcapng_file.specs.declared.fault.NgError.{NgError}
+use Rattle.pcapng_file.specs.declared.fault.NgError.TheVariants as errors
+use Rattle.pcapng_file.specs.declared.fault.NgLimit.TheVariants as ng_limits
+use Rattle.pcapng_file.specs.File.{before_all, IsPacketKept}
+use Rattle.pcapng_file.proofs.StreamedLemmas.{parts_long, streamed_none, streamed_stays, streamed_more, streamed_end, streamed_stops}
+use Rattle.pcapng_file.specs.Stream.{Streaming, streaming, StreamStand, StreamReads, Streamed, stream_stand, IsSaid}
+use Rattle.fab_policy.specs.Journal.{Journal}
+use Rattle.run_files.proofs.OutputLemmas.{stays_named, same_name}
+use Rattle.run_files.specs.Faults.{NoFaults}
+use Rattle.fab_windows.specs.declared.Done.{Done}
+use Rattle.fab_gather.specs.declared.fault.LimitKind.TheVariants as limits
+use Rattle.fab_live.specs.declared.live.Live.{Live}
+use Rattle.fab_live.specs.declared.fault.LiveFault.{LiveFault}
+use Rattle.fab_live.specs.declared.fault.LiveFault.TheVariants as fault
+use Rattle.fab_live.specs.Files.{LiveSlots, LiveNames, TellsWrites}
+use Rattle.fab_live.specs.Live.{AreGiven, AreOpen, StartsFiles, Running, HoldLive, LeftWhole, LeftBroken, LeavesPacket, LiveEnds, LiveFinished, LiveRuns, Begins, BeginsWithin, Stops, fault_of, IsUnwritten}
+use Rattle.fab_live.proofs.RunningLemmas.{left_whole, entries_there}
+use Rattle.fab_live.proofs.WriteLemmas.{moved, in_before, written_before, live_stays}
+
+-- what an error is told by an ending
+err_same : (x y : LiveFault) → IsErrOf {T = Done} (Err x) y → x ≡ y
+err_same x y e = cc
+
+unit_same : (x y : LiveFault) → IsErrOf {T = Unit {0}} (Err x) y → x ≡ y
+unit_same x y e = cc
+
+-- ---- the loop
+
+pub record Looping (c : Settings) (f : LiveSlots) (stream : ℕ) (budget : Budget) (start : Seen) (l : Live) (p : Streaming) (d : Seen) : Type 0 where
+  pub given : AreOpen start stream f
+  pub packets : List NgRecord
+  pub entry_list : Journal
+  pub running : Running c f packets entry_list l d
+  pub streamed : Streamed stream start budget (stream_stand p d) packets
+  pub touches : Touches (LiveNames start f) (λ m. LiveNames start f m ⊎ (m ≡ start.name stream)) start d
+  pub faults : NoFaults start d
+
+-- what was read, by another name of its answer
+pub read_as : (stream : ℕ) (a b : StreamStand) (o o' : Option NgRecord) → o ≡ o' → StreamReads stream a b (Ok o) → StreamReads stream a b (Ok o')
+read_as stream a b o o' e r = subst (λ (x : Option NgRecord). StreamReads stream a b (Ok x)) e r
+
+-- a packet takes a frame of those that are left
+pub read_less : (stream : ℕ) (p p' : Streaming) (d d' : Seen) (x : NgRecord) → StreamReads stream (stream_stand p d) (stream_stand p' d') (Ok (Some x)) → suc p'.here.left.frames ≤ p.here.left.frames
+read_less stream p p' d d' x r = let e = r.frames in omega (arith, e)
+
+-- slots of what is handed in, once files were written and the stream was read
+module _ (f : LiveSlots) (stream : ℕ) (start : Seen) (given : AreOpen start stream f) where
+  abbrev Counted : List ℕ → Type 0
+  Counted m = LiveNames start f m ⊎ (m ≡ start.name stream)
+
+  module _ (d : Seen) (k : Touches (LiveNames start f) Counted start d) where
+    pub named : d.name stream ≡ start.name stream
+    named = (k.slots stream (inl given.input)).name
+
+    pub input_there : IsTrue (d.input stream)
+    input_there = subst IsTrue (sym (k.slots stream (inl given.input)).input) given.input
+
+    pub names_back : (m : List ℕ) → LiveNames d f m → LiveNames start f m
+    names_back m (inl n) = inl (in_before f (LiveNames start f) Counted start d given.files k m n)
+    names_back m (inr w) = inr (written_before f (LiveNames start f) Counted start d given.files k m w)
+
+    pub apart_there : ¬ LiveNames d f (d.name stream)
+    apart_there n = given.apart (subst (LiveNames start f) named (names_back (d.name stream) n))
+
+    -- reading on
+    pub touches_read : (d' : Seen) → Reads (d.name stream) d d' → Touches (LiveNames start f) Counted start d'
+    touches_read d' r =
+        touches_trans (LiveNames start f) Counted start d d' k
+        (touches_wider Nothing (Only (d.name stream)) (LiveNames start f) Counted d d' (λ m x. absurd x) (λ m e. inr (e ∙ named)) (reads_touches (d.name stream) d d' r))
+
+    -- writing on
+    pub touches_written : (d' : Seen) → Touches (LiveNames d f) (LiveNames d f) d d' → Touches (LiveNames start f) Counted start d'
+    touches_written d' t =
+        touches_trans (LiveNames start f) Counted start d d' k
+        (touches_wider (LiveNames d f) (LiveNames d f) (LiveNames start f) Counted d d' (λ m x. names_back m x) (λ m x. inl (names_back m x)) t)
+
+pub looping_input : (c : Settings) (f : LiveSlots) (stream : ℕ) (budget : Budget) (start : Seen) (l : Live) (p : Streaming) (d : Seen) → Looping c f stream budget start l p d → IsTrue (d.input stream)
+looping_input c f stream budget start l p d g = input_there f stream start g.given d g.touches
+
+module _ (c : Settings) (f : LiveSlots) (stream : ℕ) (budget : Budget) (start : Seen) (l : Live) (p : Streaming) (d : Seen) (g : Looping c f stream budget start l p d) (p' : Streaming) (d' : Seen) where
+  module _ (result : Result (Option NgRecord) NgError) (r : StreamReads stream (stream_stand p d) (stream_stand p' d') result) where
+    abbrev O : List ℕ → Type 0
+    O = Only (d.name stream)
+
+    k : Touches O O d d'
+    k = keeps_touches (d.name stream) d d' r.reads.keeps
+
+    told_d : IsTrue start.told → IsTrue d.told
+    told_d told = subst IsTrue (sym g.touches.told) told
+
+    hold' : IsTrue d'.told → HoldLive c d' f g.packets g.entry_list
+    hold' told =
+        let h = g.running.hold (subst IsTrue k.told told) in
+        record {
+          wholes = record {
+            lines_ = moved d' (sym (stays_named O O d d' k f.journal g.running.files.files.journal_)) (r.reads.files (d.name f.journal) ∙ h.wholes.lines_);
+            records = λ q lt. moved d' (sym (same_name O O d d' k f.outs g.running.files.files.outs_ q lt)) (r.reads.files _ ∙ h.wholes.records q lt);
+          };
+          came = λ q lt. moved d' (sym (same_name O O d d' k f.ins g.running.files.ins_ q lt)) (r.reads.files _ ∙ h.came q lt);
+        }
+
+    pub running_read : Running c f g.packets g.entry_list l d'
+    running_read = record {
+      files = live_stays f O O d d' g.running.files k;
+      width = g.running.width;
+      few = g.running.few;
+      sofar = g.running.sofar;
+      faces = g.running.faces;
+      span = g.running.span;
+      kept = g.running.kept;
+      first = g.running.first;
+      greatest = g.running.greatest;
+      range = g.running.range;
+      clock = g.running.clock;
+      size = g.running.size;
+      counts = g.running.counts;
+      frames = g.running.frames;
+      counted = g.running.counted;
+      entries = g.running.entries;
+      nothing = g.running.nothing;
+      pages = g.running.pages;
+      hold = hold';
+    }
+
+    pub touches' : Touches (LiveNames start f) (λ m. LiveNames start f m ⊎ (m ≡ start.name stream)) start d'
+    touches' = touches_read f stream start g.given d g.touches d' r.reads
+
+    pub writes' : SameWriteFaults start d'
+    writes' m = r.reads.writes m ∙ g.faults.1 m
+
+    abbrev left : LeftWhole c d' f g.packets
+    left = left_whole c f g.packets g.entry_list l d' running_read
+
+    pub begins_here : IsTrue start.told → Begins g.packets (start.left stream)
+    begins_here told = (p.here.section, p.held ++ d.left stream, g.streamed.begins told)
+
+  -- ---- the stream ends
+
+  module _ (limited : budget.bytes < 2 ^ 64) (r : StreamReads stream (stream_stand p d) (stream_stand p' d') (Ok None)) where
+    finished : IsTrue start.told → LiveFinished c budget f (start.left stream) d' l.done
+    finished told =
+        let end = streamed_end stream start d d' budget p p' g.packets g.streamed (told_d (Ok None) r) r told in
+        let begun = g.streamed.begins told in
+        let short = parts_long begun.0 before_all g.packets (start.left stream) p.here.section (p.held ++ d.left stream) begun.1 in
+        let few = entries_there c f g.packets g.entry_list l d g.running in
+        let told_entries = g.running.entries in
+        record {
+          packets = g.packets;
+          file = end.0;
+          bytes = end.1.0;
+          count = end.1.1;
+          left = left (Ok None) r;
+          frames = g.running.frames;
+          entries = omega (arith, end.1.0, short, few, told_entries, limited);
+          counted = g.running.counted;
+        }
+
+    pub ended : LiveRuns c budget stream f start d' (Ok l.done)
+    ended = record {
+      touches = touches' (Ok None) r;
+      ends = finished;
+      read = λ is. absurd (cc);
+      write = λ is. absurd (cc);
+      counts = record { reads = λ other m. r.counts m ∙ g.faults.0 m; writes = λ other. writes' (Ok None) r };
+    }
+
+  -- ---- it can't be read on
+
+  module _ (e : NgError) (r : StreamReads stream (stream_stand p d) (stream_stand p' d') (Err e)) where
+    stopped : IsSaid e → IsTrue start.told → Stops g.packets (start.left stream) budget e
+    stopped said told =
+        let s = streamed_stops stream start d d' budget p p' g.packets g.streamed (told_d (Err e) r) e r told said in
+        let short = parts_long s.begins.0 before_all g.packets (start.left stream) s.section s.rest s.begins.1 in
+        record {
+          section = s.section;
+          rest = s.rest;
+          at = length (start.left stream) - length s.rest;
+          begins = s.begins;
+          place = omega (arith, short);
+          bytes = s.bytes;
+          count = s.frames;
+          step = s.step;
+        }
+
+    -- which fault it is
+    ends_by : (x : LiveFault) → (IsTrue start.told → LiveEnds c budget f (start.left stream) d' (Err x)) → x ≢ fault.Read → x ≢ fault.Write → SameReadFaults d d' → LiveRuns c budget stream f start d' (Err x)
+    ends_by x ends no_read no_write same = record {
+      touches = touches' (Err e) r;
+      ends = ends;
+      read = λ is. absurd (no_read (err_same x fault.Read is));
+      write = λ is. absurd (no_write (err_same x fault.Write is));
+      counts = record { reads = λ other m. same m ∙ g.faults.0 m; writes = λ other. writes' (Err e) r };
+    }
+
+  pub failed : (e : NgError) → StreamReads stream (stream_stand p d) (stream_stand p' d') (Err e) → LiveRuns c budget stream f start d' (Err (fault_of e))
+  failed (errors.Fault at why) r =
+      let e = errors.Fault at why in
+      ends_by e r (fault.Block at why) (λ told. (g.packets, stopped e r tt told, left (Err e) r)) (λ is. absurd (cc)) (λ is. absurd (cc)) r.counts
+  failed (errors.Limit ng_limits.Bytes) r =
+      let e = errors.Limit ng_limits.Bytes in
+      ends_by e r (fault.Limit limits.Bytes) (λ told. (g.packets, stopped e r tt told, left (Err e) r)) (λ is. absurd (cc)) (λ is. absurd (cc)) r.counts
+  failed (errors.Limit ng_limits.Frames) r =
+      let e = errors.Limit ng_limits.Frames in
+      ends_by e r (fault.Limit limits.Frames) (λ told. (g.packets, stopped e r tt told, left (Err e) r)) (λ is. absurd (cc)) (λ is. absurd (cc)) r.counts
+  failed (errors.Read bad) r =
+      let e = errors.Read bad in
+      record {
+        touches = touches' (Err e) r;
+        ends = λ told. (g.packets, begins_here (Err e) r told, left (Err e) r);
+        read = λ is.
+            let rose = r.cause g.streamed.fresh bad refl in
+            let same = named f stream start g.given d g.touches in
+            subst (λ (m : List ℕ). Rose (start.read_faults m) (d'.read_faults m)) same (subst (λ (n : ℕ). Rose n (d'.read_faults (d.name stream))) (g.faults.0 (d.name stream)) rose);
+        write = λ is. absurd (cc);
+        counts = record { reads = λ other. absurd (other refl); writes = λ other. writes' (Err e) r };
+      }
+  failed errors.Memory r = ends_by errors.Memory r fault.Memory (λ told. (g.packets, begins_here (Err errors.Memory) r told, inl (left (Err errors.Memory) r))) (λ is. absurd (cc)) (λ is. absurd (cc)) r.counts
+
+  -- ---- a packet
+
+  module _ (x : NgRecord) (r : StreamReads stream (stream_stand p d) (stream_stand p' d') (Ok (Some x))) where
+    pub kept_here : IsPacketKept x
+    kept_here = r.kept.0
+
+    pub running_here : Running c f g.packets g.entry_list l d'
+    running_here = running_read (Ok (Some x)) r
+
+    streamed' : Streamed stream start budget (stream_stand p' d') (g.packets ++ x ∷ [])
+    streamed' = streamed_more stream start d d' budget p p' g.packets g.streamed (told_d (Ok (Some x)) r) x r
+
+    pub room : budget.frames < 2 ^ 64 → l.done.frames + 1 < 2 ^ 64
+    room few = let a = streamed'.frames in let b = g.running.frames in let e = length-append g.packets (x ∷ []) in omega (arith, a, b, e, few)
+
+    begins_there : IsTrue start.told → Begins (g.packets ++ x ∷ []) (start.left stream)
+    begins_there told = (p'.here.section, p'.held ++ d'.left stream, streamed'.begins told)
+
+    begins_within : IsTrue start.told → BeginsWithin (g.packets ++ x ∷ []) (start.left stream) budget
+    begins_within told = record {
+      section = p'.here.section;
+      rest = p'.held ++ d'.left stream;
+      at = p'.here.at;
+      begins = streamed'.begins told;
+      place = streamed'.place told;
+      bytes = let e = streamed'.bytes in omega (arith, e);
+      count = let e = streamed'.frames in omega (arith, e);
+    }
+
+    pub no_port : length f.outs ≤ x.face → LiveRuns c budget stream f start d' (Err (fault.Port x.face))
+    no_port le = record {
+      touches = touches' (Ok (Some x)) r;
+      ends = λ told. (g.packets, begins_here (Ok (Some x)) r told, x, begins_within told, refl, le, left (Ok (Some x)) r);
+      read = λ is. absurd (cc);
+      write = λ is. absurd (cc);
+      counts = record { reads = λ other m. r.counts m ∙ g.faults.0 m; writes = λ other. writes' (Ok (Some x)) r };
+    }
+
+    refused_ends : x.face < length f.outs → (d'' : Seen) (e : LiveFault) → LeavesPacket c f g.packets x d'' e → IsTrue start.told → LiveEnds c budget f (start.left stream) d'' (Err e)
+    refused_ends face d'' fault.Write left told = (g.packets ++ x ∷ [], begins_there told, left)
+    refused_ends face d'' fault.Memory left told = (g.packets, begins_here (Ok (Some x)) r told, inl left)
+    refused_ends face d'' (fault.Limit limits.Span) left told = (g.packets, begins_here (Ok (Some x)) r told, x, begins_within told, face, left.1, left.0)
+    refused_ends face d'' (fault.Limit limits.Bytes) left told = absurd left
+    refused_ends face d'' (fault.Limit limits.Frames) left told = absurd left
+    refused_ends face d'' (fault.Block at why) left told = absurd left
+    refused_ends lt d'' (fault.Port face) left told = absurd left
+    refused_ends face d'' fault.Read left told = absurd left
+
+    pub refused : x.face < length f.outs → (d'' : Seen) (e : LiveFault) → Touches (LiveNames d' f) (LiveNames d' f) d' d'' → TellsWrites {T = Unit {0}} f d' d'' (Err e) → LeavesPacket c f g.packets x d'' e → LiveRuns c budget stream f start d'' (Err e)
+    refused face d'' e touches tells left = record {
+      touches = touches_written f stream start g.given d' (touches' (Ok (Some x)) r) d'' touches;
+      ends = refused_ends face d'' e left;
+      read = λ is. absurd (subst (LeavesPacket c f g.packets x d'') (err_same e fault.Read is) left);
+      write = λ is.
+          let rose = tells.cause (ap (λ (y : LiveFault). Err y) (err_same e fault.Write is)) in (
+            rose.0,
+            names_back f stream start g.given d' (touches' (Ok (Some x)) r) rose.0 rose.1,
+            subst (λ (n : ℕ). Rose n (d''.write_faults rose.0)) (writes' (Ok (Some x)) r rose.0) rose.2,
+          );
+      counts = record {
+        reads = λ other m. tells.reads m ∙ r.counts m ∙ g.faults.0 m;
+        writes = λ other m. tells.counts (λ is. other (ap (λ (y : LiveFault). Err y) (unit_same e fault.Write is))) m ∙ writes' (Ok (Some x)) r m;
+      };
+    }
+
+    pub looping_on : (d'' : Seen) (l' : Live) (K : Journal) → Touches (LiveNames d' f) (LiveNames d' f) d' d'' → TellsWrites {T = Unit {0}} f d' d'' (Ok tt) → Running c f (g.packets ++ x ∷ []) K l' d''
+        → Looping c f stream budget start l' p' d''
+    looping_on d'' l' K touches tells R =
+        let there = touches' (Ok (Some x)) r in
+        let same = touches.left stream (input_there f stream start g.given d' there) (apart_there f stream start g.given d' there) in
+        record {
+          given = g.given;
+          packets = g.packets ++ x ∷ [];
+          entry_list = K;
+          running = R;
+          streamed = streamed_stays stream start d' d'' budget p' (g.packets ++ x ∷ []) streamed' (λ told. same);
+          touches = touches_written f stream start g.given d' there d'' touches;
+          faults = (λ m. tells.reads m ∙ r.counts m ∙ g.faults.0 m, λ m. tells.counts (λ is. absurd (cc)) m ∙ writes' (Ok (Some x)) r m);
+        }
+
+-- ---- before the first packet
+
+module _ (c : Settings) (f : LiveSlots) (stream : ℕ) (budget : Budget) (start : Seen) (open_ : AreOpen start stream f) where
+  pub looping_first : (l : Live) (p : Streaming) → p ≡ streaming [] 0 before_all budget → Running c f [] [] l start → Looping c f stream budget start l p start
+  looping_first l p is R = record {
+    given = open_;
+    packets = [];
+    entry_list = [];
+    running = R;
+    streamed = streamed_none stream start budget p is;
+    touches = touches_refl (LiveNames start f) (λ m. LiveNames start f m ⊎ (m ≡ start.name stream)) start;
+    faults = (λ m. refl, λ m. refl);
+  }
+
+module _ (c : Settings) (f : LiveSlots) (stream : ℕ) (budget : Budget) (start : Seen) (given : AreGiven start stream f) (d : Seen) where
+  abbrev Counts : List ℕ → Type 0
+  Counts m = LiveNames start f m ⊎ (m ≡ start.name stream)
+
+  given_open : AreOpen start stream f
+  given_open = record { input = given.input; apart = given.apart; files = given.files }
+
+  module _ (touches : Touches (LiveNames start f) (LiveNames start f) start d) where
+    pub wider : Touches (LiveNames start f) Counts start d
+    wider = touches_wider (LiveNames start f) (LiveNames start f) (LiveNames start f) Counts start d (λ m x. x) (λ m x. inl x) touches
+
+    pub open_on : AreOpen d stream f
+    open_on = record {
+      input = input_there f stream start given_open d wider;
+      apart = apart_there f stream start given_open d wider;
+      files = live_stays f (LiveNames start f) (LiveNames start f) start d given.files touches;
+    }
+
+  begun_ends : (e : LiveFault) → IsUnwritten e → LeftBroken c d f [] → IsTrue start.told → LiveEnds c budget f (start.left stream) d (Err e)
+  begun_ends fault.Write is broken told = ([], (before_all, start.left stream, (zero, (refl, refl, refl))), broken)
+  begun_ends fault.Memory is broken told = ([], (before_all, start.left stream, (zero, (refl, refl, refl))), inr (refl, broken))
+  begun_ends (fault.Block at why) is broken told = absurd is
+  begun_ends (fault.Limit kind) is broken told = absurd is
+  begun_ends (fault.Port face) is broken told = absurd is
+  begun_ends fault.Read is broken told = absurd is
+
+  -- the heads couldn't be written
+  pub begun_broken : {T : Type 0} (e : LiveFault) → StartsFiles {T = T} f start d (Err e) → LiveRuns c budget stream f start d (Err e)
+  begun_broken {T} e s =
+      let broken = s.broken c in
+      record {
+        touches = wider s.touches;
+        ends = begun_ends e broken.0 broken.1;
+        read = λ same. absurd (subst IsUnwritten (err_same e fault.Read same) broken.0);
+        write = λ same. s.tells.cause (ap (λ (y : LiveFault). Err y) (err_same e fault.Write same));
+        counts = record { reads = λ other. s.tells.reads; writes = λ other. s.tells.counts (λ same. other (ap (λ (y : LiveFault). Err y) (ok_same e fault.Write same))) };
+      }
+    where
+      ok_same : (x y : LiveFault) → IsErrOf {T = T} (Err x) y → x ≡ y
+      ok_same x y e = cc
+
+  -- the heads were written, and then it ran
+  module _ {T : Type 0} (t : T) (s : StartsFiles {T = T} f start d (Ok t)) (new : Seen) (result : Result Done LiveFault) (runs : LiveRuns c budget stream f d new result) where
+    writes_same : SameWriteFaults start d
+    writes_same = s.tells.counts (λ is. absurd (cc))
+
+    back : (m : List ℕ) → LiveNames d f m → LiveNames start f m
+    back = names_back f stream start given_open d (wider s.touches)
+
+    same_name_on : d.name stream ≡ start.name stream
+    same_name_on = named f stream start given_open d (wider s.touches)
+
+    counted_back : (m : List ℕ) → LiveNames d f m ⊎ (m ≡ d.name stream) → Counts m
+    counted_back m (inl n) = inl (back m n)
+    counted_back m (inr e) = inr (e ∙ same_name_on)
+
+    pub runs_behind : LiveRuns c budget stream f start new result
+    runs_behind = record {
+      touches =
+          touches_trans (LiveNames start f) Counts start d new (wider s.touches)
+          (touches_wider (LiveNames d f) (λ m. LiveNames d f m ⊎ (m ≡ d.name stream)) (LiveNames start f) Counts d new back counted_back runs.touches);
+      ends = λ told.
+          subst (λ (l : List ℕ). LiveEnds c budget f l new result) (s.touches.left stream given.input given.apart)
+          (runs.ends (subst IsTrue (sym s.touches.told) told));
+      read = λ is.
+          subst (λ (m : List ℕ). Rose (start.read_faults m) (new.read_faults m)) same_name_on
+          (subst (λ (n : ℕ). Rose n (new.read_faults (d.name stream))) (s.tells.reads (d.name stream)) (runs.read is));
+      write = λ is. let rose = runs.write is in (rose.0, back rose.0 rose.1, subst (λ (n : ℕ). Rose n (new.write_faults rose.0)) (writes_same rose.0) rose.2);
+      counts = record {
+        reads = λ other m. runs.counts.reads other m ∙ s.tells.reads m;
+        writes = λ other m. runs.counts.writes other m ∙ writes_same m;
+      };
+    }

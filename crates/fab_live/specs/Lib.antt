@@ -1,0 +1,4 @@
+pub mod Arriving
+pub mod Files
+pub mod Handling
+pub mod Live

@@ -1,0 +1,211 @@
+-- What a forwarder that runs leaves in its files behind each packet, and however its stream ends.
+use Rattle.std.specs.Prelude.{◌≡◌, ℕ, ◌+◌, ◌-◌, ◌<◌, ◌≤◌, ◌^◌, min, ◌⊎◌, IsTrue, IfSome, List, [], ◌∷◌, ◌++◌, length, Some, None, slice_get, Result, Ok, Err, IsErrOf, OnOk, IfErr}
+use Rattle.fab_base.specs.Seen.{Seen, Rose, Touches, SameReadFaults, SameWriteFaults}
+use Rattle.fab_config.specs.Settings.{Settings}
+use Rattle.pcap_file.specs.declared.Budget.{Budget}
+use Rattle.pcapng_file.specs.declared.NgRecord.{NgRecord}
+use Rattle.pcapng_file.specs.declared.fault.NgError.{NgError}
+use Rattle.pcapng_file.specs.declared.fault.NgError.TheVariants as errors
+use Rattle.pcapng_file.specs.declared.fault.NgLimit.TheVariants as ng_limits
+use Rattle.pcapng_file.specs.Classic.{classic_bytes}
+use Rattle.pcapng_file.specs.File.{AreKept, IsNg, Section, step_of}
+use Rattle.pcapng_file.specs.Stream.{BeginsWith}
+use Rattle.fab_policy.specs.Journal.{Journal, frame_count}
+use Rattle.fab_policy.specs.Legal.{window_start}
+use Rattle.fab_policy.specs.Standing.{Contents}
+use Rattle.fab_gather.specs.declared.fault.LimitKind.TheVariants as limits
+use Rattle.fab_windows.specs.declared.Done.{Done}
+use Rattle.fab_windows.specs.Files.{Hold, Wholes, Fronts, text_so_far, captures_so_far}
+use Rattle.fab_windows.specs.Pages.{IsNothing, pending}
+use Rattle.fab_windows.specs.Run.{IsRunOver}
+use Rattle.fab_windows.specs.Steps.{Sofar}
+use Rattle.fab_live.specs.declared.live.Live.{Live}
+use Rattle.fab_live.specs.declared.fault.LiveFault.{LiveFault}
+use Rattle.fab_live.specs.declared.fault.LiveFault.TheVariants as fault
+use Rattle.fab_live.specs.Files.{LiveSlots, LiveNames, AreLive, Came, CameSome, TellsWrites}
+use Rattle.fab_live.specs.Arriving.{arrived, greatest_of, of_face, records_of, AllFaces, first_start, IsInSpan}
+
+-- ---- files
+
+-- The files hold what came, the journal, and what it sends.
+pub record HoldLive (c : Settings) (d : Seen) (f : LiveSlots) (packets : List NgRecord) (J : Journal) : Type 0 where
+  pub wholes : Wholes c d f.journal f.outs J
+  pub came : Came d f.ins (λ q. classic_bytes (of_face q (arrived 0 packets)))
+
+-- They hold beginnings of it, written in order: journal and outputs in theirs, and before what came is whole they are as they were.
+-- So no line stands there whose frame isn't in the capture of its port.
+pub record HoldSome (c : Settings) (d : Seen) (f : LiveSlots) (packets : List NgRecord) (J : Journal) : Type 0 where
+  pub fronts : Fronts c d f.journal f.outs J
+  pub came : CameSome d f.ins (λ q. classic_bytes (of_face q (arrived 0 packets)))
+  pub order : Came d f.ins (λ q. classic_bytes (of_face q (arrived 0 packets))) ⊎ Hold d f.journal f.outs (text_so_far fronts.before) (captures_so_far c (length f.outs) fronts.before)
+
+-- ---- the run
+
+-- one journal that is a run of n ports over the packets so far, whose numbers have their ranges and whose windows aren't too far apart
+pub record IsLiveRun (c : Settings) (n : ℕ) (packets : List NgRecord) (J : Journal) : Type 0 where
+  pub run : IsRunOver c (records_of n (arrived 0 packets)) J
+  pub faces : AllFaces n packets
+  pub span : IsInSpan c (arrived 0 packets)
+  pub kept : AreKept packets
+
+-- the window that is next behind a fabric's clock
+abbrev pub reach : Contents → ℕ
+reach F = elim F.state.tables.clock [ None ↦ 0 | Some t ↦ t + 1 ]
+
+-- What stands behind each packet: the files hold all of it, and the fabric stands for the journal.
+pub record Running (c : Settings) (f : LiveSlots) (packets : List NgRecord) (J : Journal) (l : Live) (d : Seen) : Type 0 where
+  pub files : AreLive d f
+  pub width : length f.ins ≡ length f.outs
+  pub few : length f.outs ≤ 64
+  pub sofar : Sofar c (length f.outs) (reach l.fabric) (records_of (length f.outs) (arrived 0 packets)) J l.fabric
+  pub faces : AllFaces (length f.outs) packets
+  pub span : IsInSpan c (arrived 0 packets)
+  pub kept : AreKept packets
+  pub first : l.first ≡ first_start c (arrived 0 packets)
+  pub greatest : l.greatest ≡ greatest_of 0 packets
+  pub range : l.greatest < 2 ^ 43
+  pub clock : IfSome l.fabric.state.tables.clock (λ t. t ≡ window_start c l.greatest)
+  pub size : length l.counts.items ≡ length f.outs
+  pub counts : (q : ℕ) → q < length f.outs → slice_get l.counts.items q ≡ Some (length (of_face q (arrived 0 packets)))
+  pub frames : l.done.frames ≡ length packets
+  pub counted : frame_count J ≡ length packets
+  pub entries : l.done.entries ≡ min (length J) (2 ^ 64 - 1)
+  pub nothing : IsNothing (pending l.pages)
+  pub pages : length l.pages.records.items ≡ length f.outs
+  pub hold : IsTrue d.told → HoldLive c d f packets J
+
+-- ---- endings
+
+-- The files hold all of the packets so far.
+pub record LeftWhole (c : Settings) (d : Seen) (f : LiveSlots) (packets : List NgRecord) : Type 0 where
+  pub entry_list : Journal
+  pub run : IsLiveRun c (length f.outs) packets entry_list
+  pub hold : IsTrue d.told → HoldLive c d f packets entry_list
+
+-- They hold beginnings of it: a packet, or the heads, couldn't be written wholly.
+pub record LeftBroken (c : Settings) (d : Seen) (f : LiveSlots) (packets : List NgRecord) : Type 0 where
+  pub entry_list : Journal
+  pub run : IsLiveRun c (length f.outs) packets entry_list
+  pub hold : IsTrue d.told → HoldSome c d f packets entry_list
+
+-- They hold all of the packets so far, or, where there was none, beginnings of the heads.
+abbrev pub LeftRefused : Settings → Seen → LiveSlots → List NgRecord → Type 0
+LeftRefused c d f packets = LeftWhole c d f packets ⊎ ((packets ≡ []) × LeftBroken c d f packets)
+
+-- what taking a packet leaves where it fails: all but this packet, or beginnings of it
+abbrev pub LeavesPacket : Settings → LiveSlots → List NgRecord → NgRecord → Seen → LiveFault → Type 0
+LeavesPacket c f packets r d fault.Write = LeftBroken c d f (packets ++ r ∷ [])
+LeavesPacket c f packets r d fault.Memory = LeftWhole c d f packets
+LeavesPacket c f packets r d (fault.Limit limits.Span) = LeftWhole c d f packets × (¬ IsInSpan c (arrived 0 (packets ++ r ∷ [])))
+LeavesPacket c f packets r d _ = ⊥
+
+-- what a fault of the stream ends it by
+abbrev pub fault_of : NgError → LiveFault
+fault_of (errors.Fault at why) = fault.Block at why
+fault_of (errors.Limit ng_limits.Bytes) = fault.Limit limits.Bytes
+fault_of (errors.Limit ng_limits.Frames) = fault.Limit limits.Frames
+fault_of (errors.Read failed) = fault.Read
+fault_of errors.Memory = fault.Memory
+
+-- a file couldn't be written, or memory was refused
+abbrev pub IsUnwritten : LiveFault → Type 0
+IsUnwritten fault.Write = Unit {0}
+IsUnwritten fault.Memory = Unit {0}
+IsUnwritten _ = ⊥
+
+-- ---- what is handed in
+
+-- an open input and open outputs, all of different names
+pub record AreOpen (d : Seen) (stream : ℕ) (f : LiveSlots) : Type 0 where
+  pub input : IsTrue (d.input stream)
+  pub apart : ¬ LiveNames d f (d.name stream)
+  pub files : AreLive d f
+
+-- An open input and open outputs, all of different names, which are empty.
+pub record AreGiven (d : Seen) (stream : ℕ) (f : LiveSlots) : Type 0 where
+  pub input : IsTrue (d.input stream)
+  pub apart : ¬ LiveNames d f (d.name stream)
+  pub files : AreLive d f
+  pub width : length f.ins ≡ length f.outs
+  pub empty : IsTrue d.told → Hold d f.journal f.outs [] (λ q. []) × Came d f.ins (λ q. [])
+
+-- ---- however it ends
+
+-- a stream begins with these packets
+abbrev pub Begins : List NgRecord → List ℕ → Type 0
+Begins packets stream = (s : Section) × (rest : List ℕ) × BeginsWith packets stream s rest
+
+-- A stream begins with these packets, within the limits.
+pub record BeginsWithin (packets : List NgRecord) (stream : List ℕ) (budget : Budget) : Type 0 where
+  pub section : Section
+  pub rest : List ℕ
+  pub at : ℕ
+  pub begins : BeginsWith packets stream section rest
+  pub place : at + length rest ≡ length stream
+  pub bytes : at ≤ budget.bytes
+  pub count : length packets ≤ budget.frames
+
+-- what is left of the limits behind so many bytes and packets
+abbrev pub left_behind : Budget → ℕ → ℕ → Budget
+left_behind budget bytes frames = record { bytes = budget.bytes - bytes; frames = budget.frames - frames }
+
+-- Behind them the stream has this fault, or passes this limit, in the block that begins at some byte: what came before it is within the
+-- limits.
+pub record Stops (packets : List NgRecord) (stream : List ℕ) (budget : Budget) (e : NgError) : Type 0 where
+  pub section : Section
+  pub rest : List ℕ
+  pub at : ℕ
+  pub begins : BeginsWith packets stream section rest
+  pub place : at + length rest ≡ length stream
+  pub bytes : at ≤ budget.bytes
+  pub count : length packets ≤ budget.frames
+  pub step : step_of (left_behind budget at (length packets)) at section rest ≡ Err e
+
+-- A stream to its end.
+pub record LiveFinished (c : Settings) (budget : Budget) (f : LiveSlots) (stream : List ℕ) (d : Seen) (done : Done) : Type 0 where
+  pub packets : List NgRecord
+  pub file : IsNg packets stream
+  pub bytes : length stream ≤ budget.bytes
+  pub count : length packets ≤ budget.frames
+  pub left : LeftWhole c d f packets
+  pub frames : done.frames ≡ length packets
+  pub entries : done.entries ≡ length left.entry_list
+  pub counted : frame_count left.entry_list ≡ length packets
+
+-- The files hold the packets of the stream up to its end, or up to a fault; or beginnings of some packets.
+abbrev pub LiveEnds : Settings → Budget → LiveSlots → List ℕ → Seen → Result Done LiveFault → Type 0
+LiveEnds c budget f stream d (Ok done) = LiveFinished c budget f stream d done
+LiveEnds c budget f stream d (Err (fault.Block at why)) = (packets : List NgRecord) × Stops packets stream budget (errors.Fault at why) × LeftWhole c d f packets
+LiveEnds c budget f stream d (Err (fault.Limit limits.Bytes)) = (packets : List NgRecord) × Stops packets stream budget (errors.Limit ng_limits.Bytes) × LeftWhole c d f packets
+LiveEnds c budget f stream d (Err (fault.Limit limits.Frames)) = (packets : List NgRecord) × Stops packets stream budget (errors.Limit ng_limits.Frames) × LeftWhole c d f packets
+LiveEnds c budget f stream d (Err (fault.Limit limits.Span)) =
+    (packets : List NgRecord) × Begins packets stream × (r : NgRecord) × BeginsWithin (packets ++ r ∷ []) stream budget × (r.face < length f.outs) × (¬ IsInSpan c (arrived 0 (packets ++ r ∷ []))) × LeftWhole c d f packets
+LiveEnds c budget f stream d (Err (fault.Port face)) =
+    (packets : List NgRecord) × Begins packets stream × (r : NgRecord) × BeginsWithin (packets ++ r ∷ []) stream budget × (r.face ≡ face) × (length f.outs ≤ face) × LeftWhole c d f packets
+LiveEnds c budget f stream d (Err fault.Read) = (packets : List NgRecord) × Begins packets stream × LeftWhole c d f packets
+LiveEnds c budget f stream d (Err fault.Write) = (packets : List NgRecord) × Begins packets stream × LeftBroken c d f packets
+LiveEnds c budget f stream d (Err fault.Memory) = (packets : List NgRecord) × Begins packets stream × LeftRefused c d f packets
+
+-- No fault of the store is passed over: none of reading is counted where the answer isn't `Read`, and none of writing where it isn't
+-- `Write`. So want of memory never stands for one.
+pub record TellsFaults (old new : Seen) (result : Result Done LiveFault) : Type 0 where
+  pub reads : ¬ IsErrOf result fault.Read → SameReadFaults old new
+  pub writes : ¬ IsErrOf result fault.Write → SameWriteFaults old new
+
+-- A forwarder that ran over a stream.
+pub record LiveRuns (c : Settings) (budget : Budget) (stream : ℕ) (f : LiveSlots) (old new : Seen) (result : Result Done LiveFault) : Type 0 where
+  pub touches : Touches (LiveNames old f) (λ m. LiveNames old f m ⊎ (m ≡ old.name stream)) old new
+  pub ends : IsTrue old.told → LiveEnds c budget f (old.left stream) new result
+  pub read : IsErrOf result fault.Read → Rose (old.read_faults (old.name stream)) (new.read_faults (old.name stream))
+  pub write : IsErrOf result fault.Write → (m : List ℕ) × LiveNames old f m × Rose (old.write_faults m) (new.write_faults m)
+  pub counts : TellsFaults old new result
+
+-- ---- inside the crate
+
+-- The heads of all files, which were empty, are written, of whichever configuration; or beginnings of them are.
+pub record StartsFiles {T : Type 0} (f : LiveSlots) (old new : Seen) (result : Result T LiveFault) : Type 0 where
+  pub touches : Touches (LiveNames old f) (LiveNames old f) old new
+  pub files : AreLive new f
+  pub whole : (c : Settings) → OnOk result (IsTrue new.told → HoldLive c new f [] [])
+  pub broken : (c : Settings) → IfErr result (λ e. IsUnwritten e × LeftBroken c new f [])
+  pub tells : TellsWrites f old new result

@@ -1,0 +1,17 @@
+//! A forwarder that runs: each packet of a stream is handled and written before the next is read.
+#![tactic(auto)]
+
+mod begin;
+mod fault;
+mod files;
+mod handling;
+mod live;
+mod run;
+
+pub use fab_gather::LimitKind;
+pub use fab_windows::Done;
+pub use fault::LiveFault;
+pub use files::LiveFiles;
+pub use live::Live;
+pub use pcapng_file::NgWhy;
+pub use run::run_live;
