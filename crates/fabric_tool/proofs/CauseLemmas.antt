@@ -14,7 +14,7 @@ use Rattle.fab_policy.specs.declared.line.Line.{Line}
 use Rattle.fab_migrate.specs.Migrating.{IsNewFront, Untouched}
 use Rattle.fab_migrate.specs.declared.old.OldWhy.{OldWhy}
 use Rattle.fab_migrate.proofs.OldReadingLemmas.{one_reading}
-use Rattle.fabric_tool.specs.Command.{PairNames, MakeNames, Command, Run, Replay, Show, Convert, Migrate, Make, Snoop, Enode, Help, Version, KeepsOthers}
+use Rattle.fabric_tool.specs.Command.{PairNames, MakeNames, Command, Run, Replay, Show, Convert, Migrate, Make, Snoop, Enode, Live, Help, Version, KeepsOthers}
 use Rattle.fab_gather.specs.declared.fault.LimitKind.{LimitKind}
 use Rattle.fabric_tool.specs.Ends.{ConvertHolds, MigrateHolds, Holds}
 use Rattle.fabric_tool.specs.Inputs.{HasPackets, LIMITS, MOST_BYTES}
@@ -26,6 +26,8 @@ use Rattle.fabric_tool.specs.declared.outcome.Outcome.TheVariants as ends
 use Rattle.fabric_tool.proofs.OutcomeCases.{run_cases, convert_cases, migrate_cases, make_cases, replay_files, show_files, whole_front, whole_journal, whole_load}
 use Rattle.fabric_tool.proofs.SnoopLemmas.{snoop_others, snoop_front, snoop_said, snoop_completed}
 use Rattle.fabric_tool.proofs.EnodeLemmas.{enode_others, enode_front, enode_said, enode_completed}
+use Rattle.fabric_tool.proofs.LiveEndLemmas.{live_others, live_front}
+use Rattle.fabric_tool.proofs.LiveExactLemmas.{live_said, live_completed}
 use Rattle.fabric_tool.proofs.PartLemmas.{ran_part, stopped_part, part_front}
 use Rattle.fabric_tool.proofs.LegalLemmas.{legal_end, shown_end}
 use Rattle.fabric_tool.proofs.FaultLemmas.{PrintsAlike, alike, replay_said, show_said}
@@ -71,6 +73,7 @@ refused_of (Make k) old new ends.Memory h is = absurd (omega arith)
 refused_of (Snoop k) old new (ends.Config fault) h is = inl (fault, h)
 refused_of (Snoop k) old new (ends.Capture port at reason) h is = inr (port, at, reason, h)
 refused_of (Enode k) old new (ends.Capture port at reason) h is = (port, at, reason, h)
+refused_of (Live k) old new o h is = (o, sym is, h)
 refused_of Help old new o h is = let other : 1 ≡ 0 = is ∙ ap status_of h.0 in absurd (omega (arith, other))
 refused_of Version old new o h is = let other : 1 ≡ 0 = is ∙ ap status_of h.0 in absurd (omega (arith, other))
 refused_of k old new o h is = absurd (omega arith)
@@ -111,6 +114,7 @@ others_kept (Make k) old new o holds = make_cases k old new (λ o. KeepsOthers (
     o holds
 others_kept (Snoop k) old new o holds = snoop_others k old new o holds
 others_kept (Enode k) old new o holds = enode_others k old new o holds
+others_kept (Live k) old new o holds = live_others k old new o holds
 others_kept Help old new o holds = λ m none. holds.1 m
 others_kept Version old new o holds = λ m none. holds.1 m
 
@@ -151,6 +155,7 @@ front_of (Make k) old new told o holds = make_cases k old new (λ o. HasLoadFron
     o holds
 front_of (Snoop k) old new told o holds = snoop_front k old new told o holds
 front_of (Enode k) old new told o holds = enode_front k old new told o holds
+front_of (Live k) old new told o holds = live_front k old new told o holds
 front_of Help old new told o holds = holds.1
 front_of Version old new told o holds = holds.1
 
@@ -231,6 +236,7 @@ said_end (Migrate k) old new before after p told says quiet o holds = elim (move
 said_end (Make k) old new before after p told says quiet o holds = elim (load_end k old new before after quiet o holds) [ inl is ↦ inl (alike o p (is ∙ sym says)) | inr memory ↦ inr memory ]
 said_end (Snoop k) old new before after p told says quiet o holds = elim (snoop_said k old new before after told quiet o p holds says) [ inl is ↦ inl (alike o p is) | inr memory ↦ inr memory ]
 said_end (Enode k) old new before after p told says quiet o holds = elim (enode_said k old new before after told quiet o p holds says) [ inl is ↦ inl (alike o p is) | inr memory ↦ inr memory ]
+said_end (Live k) old new before after p told says quiet o holds = elim (live_said k old new before after told quiet o p holds says) [ inl is ↦ inl (alike o p is) | inr memory ↦ inr memory ]
 said_end Help old new before after p told says quiet o holds = inl (alike o p (holds.0 ∙ sym says))
 said_end Version old new before after p told says quiet o holds = inl (alike o p (holds.0 ∙ sym says))
 
@@ -258,5 +264,6 @@ done_or_memory (Migrate k) old new before after forms quiet o holds =
 done_or_memory (Make k) old new before after forms quiet o holds = elim (load_end k old new before after quiet o holds) [ inl is ↦ inl (sym (ap status_of is)) | inr memory ↦ inr (sym (ap status_of memory)) ]
 done_or_memory (Snoop k) old new before after forms quiet o holds = snoop_completed k old new before after forms.told quiet forms o holds
 done_or_memory (Enode k) old new before after forms quiet o holds = enode_completed k old new before after forms.told quiet forms o holds
+done_or_memory (Live k) old new before after forms quiet o holds = live_completed k old new before after forms.told quiet forms o holds
 done_or_memory Help old new before after forms quiet o holds = inl (sym (ap status_of holds.0))
 done_or_memory Version old new before after forms quiet o holds = inl (sym (ap status_of holds.0))

@@ -7,7 +7,7 @@ use Rattle.pcap_file.specs.declared.Record.{Record}
 use Rattle.pcap_file.specs.Capture.{IsCapture}
 use Rattle.pcap_file.proofs.lemmas.Chains.{one_capture}
 use Rattle.pcapng_file.specs.Classic.{Converted, classic_bytes, timed, written}
-use Rattle.fabric_tool.specs.Command.{PairNames, Command, Run, Replay, Show, Convert, Migrate, Make, Snoop, Enode, Help, Version}
+use Rattle.fabric_tool.specs.Command.{PairNames, Command, Run, Replay, Show, Convert, Migrate, Make, Snoop, Enode, Live, Help, Version}
 use Rattle.fabric_tool.specs.Ends.{Holds}
 use Rattle.fabric_tool.specs.Inputs.{HasCapture, LIMITS}
 use Rattle.fabric_tool.specs.Outcome.{status_of, line_of, made_text}
@@ -40,6 +40,7 @@ command_done (Migrate k) old new before after status none (ends.Migrated entries
 command_done (Make k) old new before after status none (ends.Made frames) h w = λ told. record { load = h.2 told; printed = λ sunk. w.1 sunk ∙ ap (λ (n : ℕ). before.written ++ made_text n) h.1 }
 command_done (Snoop k) old new before after status none (ends.Bridged passed dropped) h w = λ told. record { passes = passed; drops = dropped; done = h.1 told; printed = w.1 }
 command_done (Enode k) old new before after status none (ends.Stood last) h w = λ told. record { last = last; done = h.1 told; printed = w.1 }
+command_done (Live k) old new before after status none (ends.Ran frames entries) h w = λ told. record { frames = frames; entries = entries; lived = h.1 told; printed = w.1 }
 command_done Help old new before after status none o h w = record { files = h.1; printed = λ told. w.1 told ∙ ap (λ o. before.written ++ line_of o) h.0 }
 command_done Version old new before after status none o h w = record { files = h.1; printed = λ told. w.1 told ∙ ap (λ o. before.written ++ line_of o) h.0 }
 command_done k old new before after status none o h w = let other = w.0 in absurd (omega arith)

@@ -7,12 +7,12 @@ use Rattle.fab_base.specs.Sunk.{Sunk}
 use Rattle.fabric_tool.specs.Command.{Command, KeepsOthers, command}
 use Rattle.fabric_tool.specs.Ends.{Holds, HoldsFor, Prints, Puts, Ends}
 use Rattle.fabric_tool.specs.Outcome.{status_of, line_of}
-use Rattle.fabric_tool.specs.Rechecking.{IsRechecked}
+use Rattle.fabric_tool.specs.Rechecking.{IsRechecked, IsReplayed}
 use Rattle.fabric_tool.specs.Statuses.{Done, OfCommand, IsRefused, IsPastLimit, HasFront, IsComplete, IsNamed, Printed}
 use Rattle.fabric_tool.specs.declared.outcome.Outcome.{Outcome}
 use Rattle.fabric_tool.specs.declared.outcome.Outcome.TheVariants as ends
 use Rattle.fabric_tool.proofs.DoneLemmas.{Whole, command_done}
-use Rattle.fabric_tool.proofs.RecheckLemmas.{recheck_complete}
+use Rattle.fabric_tool.proofs.RecheckLemmas.{recheck_complete, replay_complete}
 use Rattle.fabric_tool.proofs.CauseLemmas.{is_read_fault, is_write_fault, is_memory, is_limit, refused_of, others_kept, done_or_memory, front_of, said_end}
 
 -- the status of an outcome, or 4 by a fault of the sink
@@ -82,6 +82,10 @@ module _ (words : List (String Global)) (old new : Seen) (before after : Sunk) (
   -- what a `run` wrote is taken
   pub rechecked : IsRechecked words old new before after → (status ≡ 0) ⊎ (status ≡ 5)
   rechecked x = completed (recheck_complete words old new before after x)
+
+  -- what a `live` recorded is taken
+  pub replayed : IsReplayed words old new before after → (status ≡ 0) ⊎ (status ≡ 5)
+  replayed x = completed (replay_complete words old new before after x)
 
   -- words that are no command
   pub no_command : command words ≡ None → ¬ Rose before.faults after.faults → status ≡ 2

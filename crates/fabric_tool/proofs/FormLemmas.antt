@@ -4,7 +4,7 @@ use Rattle.std.specs.Prelude.{List, String, option_map}
 use Rattle.std.specs.Str.{bytes_eq}
 use Rattle.std.specs.declared.alloc.Global.{Global}
 use Rattle.fab_base.specs.Places.{name_at}
-use Rattle.fabric_tool.specs.Command.{form_of, named, command, are_pairs, are_singles, is_over, is_over_singles, is_pair, is_make, is_snoop, is_enode, is_word}
+use Rattle.fabric_tool.specs.Command.{form_of, named, command, are_pairs, are_singles, is_over, is_over_singles, is_pair, is_make, is_snoop, is_enode, is_live, is_word}
 use Rattle.fabric_tool.specs.declared.command.Form.{Form}
 use Rattle.fabric_tool.specs.declared.command.Form.TheVariants as forms
 use Rattle.fabric_tool.proofs.NameLemmas.{and_true}
@@ -23,6 +23,7 @@ HaveForm words forms.Migrate = is_pair (codes "migrate") words ≡ true
 HaveForm words forms.Make = is_make words ≡ true
 HaveForm words forms.Snoop = is_snoop words ≡ true
 HaveForm words forms.Enode = is_enode words ≡ true
+HaveForm words forms.Live = is_live words ≡ true
 HaveForm words forms.Help = Unit {0}
 HaveForm words forms.Version = Unit {0}
 
@@ -41,5 +42,6 @@ have_form words =
     (tested words (is_make words) forms.Make _ (λ h. h)
     (tested words (is_snoop words) forms.Snoop _ (λ h. h)
     (tested words (is_enode words) forms.Enode _ (λ h. h)
+    (tested words (is_live words) forms.Live _ (λ h. h)
     (tested words (is_word (codes "--help") words) forms.Help _ (λ h. tt)
-    (tested words (is_word (codes "--version") words) forms.Version None (λ h. tt) (λ f e. absurd (cc)))))))))))
+    (tested words (is_word (codes "--version") words) forms.Version None (λ h. tt) (λ f e. absurd (cc))))))))))))

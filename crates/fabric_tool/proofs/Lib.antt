@@ -22,7 +22,12 @@ pub mod MakeLemmas
 pub mod SideLemmas
 pub mod ConfigLemmas
 pub mod SnoopLemmas
+pub mod LiveWordLemmas
+pub mod LivingLemmas
 pub mod EnodeLemmas
+pub mod StreamLemmas
+pub mod LiveEndLemmas
+pub mod LiveExactLemmas
 pub mod OutcomeCases
 pub mod FoundLemmas
 pub mod LegalLemmas

@@ -13,7 +13,7 @@ use Rattle.pcapng_file.specs.Classic.{Converted, IsFront, Same, Front, classic_b
 use Rattle.fab_migrate.specs.Migrating.{Migrated, IsNewFront, Untouched, Begun}
 use Rattle.fab_migrate.specs.Old.{new_text}
 use Rattle.fab_migrate.specs.declared.old.OldWhy.{OldWhy}
-use Rattle.fabric_tool.specs.Command.{RunNames, PairNames, MakeNames, Command, Run, Replay, Show, Convert, Migrate, Make, Snoop, Enode, Help, Version, command}
+use Rattle.fabric_tool.specs.Command.{RunNames, PairNames, MakeNames, Command, Run, Replay, Show, Convert, Migrate, Make, Snoop, Enode, Live, Help, Version, command}
 use Rattle.run_files.specs.Faults.{NoFaults}
 use Rattle.fabric_tool.specs.Ends.{RunHolds, ConvertHolds, MigrateHolds, Holds, HoldsFor, TakesMemory, Reports, Ends}
 use Rattle.fabric_tool.specs.Checking.{ReplayHolds, ShowHolds, CheckSays}
@@ -25,6 +25,7 @@ use Rattle.fabric_tool.specs.declared.outcome.Outcome.TheVariants as ends
 use Rattle.fabric_tool.proofs.PartLemmas.{ran_part, stopped_part}
 use Rattle.fabric_tool.proofs.SnoopLemmas.{snoop_memory}
 use Rattle.fabric_tool.proofs.EnodeLemmas.{enode_memory}
+use Rattle.fabric_tool.proofs.LiveEndLemmas.{live_memory}
 
 -- `run` ends so, and not otherwise
 pub run_cases : (k : RunNames) (old new : Seen) (P : Outcome → Type 0) →
@@ -156,6 +157,7 @@ memory_holds (Migrate k) old new (ends.Limit kind) h takes = (λ m other. h.0 m,
 memory_holds (Make k) old new (ends.Made frames) h takes = (h.0, λ told. whole_load k old new (h.2 told), h.3)
 memory_holds (Snoop k) old new o h takes = snoop_memory k old new o h takes
 memory_holds (Enode k) old new o h takes = enode_memory k old new o h takes
+memory_holds (Live k) old new o h takes = live_memory k old new o h takes
 memory_holds Help old new o h takes = absurd (subst TakesMemory h.0 takes)
 memory_holds Version old new o h takes = absurd (subst TakesMemory h.0 takes)
 memory_holds k old new o h takes = absurd (omega arith)

@@ -65,7 +65,7 @@ at_port d (n ∷ names) g k are (suc q) lt =
     let e : k + 1 + q ≡ k + suc q = omega arith in
     at_port d names g (k + 1) rest q (omega arith) ∙ ap (λ (p : ℕ). Some (g p)) e
 
-whole_fronts : (k : RunNames) (c : Settings) (old new : Seen) (J : Journal) → HoldsAll k c new J → HoldsFronts k c old new J
+pub whole_fronts : (k : RunNames) (c : Settings) (old new : Seen) (J : Journal) → HoldsAll k c new J → HoldsFronts k c old new J
 whole_fronts k c old new J holds = record {
   lines = inr (text J, holds.lines, ([], append-nil (text J)));
   captures = all_fronts old new k.outs (egresses c (length k.outs) J) holds.captures;
@@ -108,7 +108,7 @@ ran_part k frames entries old new h =
 
 -- ---- nothing is written yet
 
-empty_fronts : (old new : Seen) → ((m : List ℕ) → (new.file m ≡ old.file m) ⊎ (new.file m ≡ Some [])) → (names : List (List ℕ)) (g : ℕ → List ℕ) (k : ℕ) → AreOldOrFront old new names (map g (counting k (length names)))
+pub empty_fronts : (old new : Seen) → ((m : List ℕ) → (new.file m ≡ old.file m) ⊎ (new.file m ≡ Some [])) → (names : List (List ℕ)) (g : ℕ → List ℕ) (k : ℕ) → AreOldOrFront old new names (map g (counting k (length names)))
 empty_fronts old new each [] g k = tt
 empty_fronts old new each (n ∷ names) g k = (empty_front old new each n (g k), empty_fronts old new each names g (k + 1))
   where

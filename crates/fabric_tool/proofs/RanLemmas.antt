@@ -218,19 +218,19 @@ runs_as {c} {budget} {i} {ins} {a} {b} {journal} {o} {outs} {r} f h runs =
 -- ---- the windows
 
 -- the slots of outputs have these names still
-abbrev AreNamed : Seen → List (List ℕ) → List ℕ → Type 0
+abbrev pub AreNamed : Seen → List (List ℕ) → List ℕ → Type 0
 AreNamed d [] [] = Unit {0}
 AreNamed d [] (s ∷ slots) = ⊥
 AreNamed d (name ∷ names) [] = ⊥
 AreNamed d (name ∷ names) (s ∷ slots) = (d.name s ≡ name) × AreNamed d names slots
 
-named_still : (a b : Seen) (may counted : List ℕ → Type 0) → Touches may counted a b → (names : List (List ℕ)) (slots : List ℕ) → AreEmptyOutputs a names slots → AreNamed b names slots
+pub named_still : (a b : Seen) (may counted : List ℕ → Type 0) → Touches may counted a b → (names : List (List ℕ)) (slots : List ℕ) → AreEmptyOutputs a names slots → AreNamed b names slots
 named_still a b may counted k [] [] are = tt
 named_still a b may counted k [] (s ∷ slots) are = absurd are
 named_still a b may counted k (n ∷ names) [] are = absurd are
 named_still a b may counted k (n ∷ names) (s ∷ slots) are = ((k.slots s (inr are.0.0)).name ∙ are.0.1, named_still a b may counted k names slots are.1)
 
-named_at : (b : Seen) (names : List (List ℕ)) (slots : List ℕ) → AreNamed b names slots → (q : ℕ) → q < length slots → name_of b slots q ≡ get_or names q []
+pub named_at : (b : Seen) (names : List (List ℕ)) (slots : List ℕ) → AreNamed b names slots → (q : ℕ) → q < length slots → name_of b slots q ≡ get_or names q []
 named_at b [] [] are q lt = absurd (omega arith)
 named_at b [] (s ∷ slots) are q lt = absurd are
 named_at b (n ∷ names) [] are q lt = absurd are
@@ -238,7 +238,7 @@ named_at b (n ∷ names) (s ∷ slots) are zero lt = are.0
 named_at b (n ∷ names) (s ∷ slots) are (suc q) lt = named_at b names slots are.1 q (omega arith)
 
 -- the order of writing, of the same files by other words
-in_order_as : (d : Seen) (j j' : List ℕ) (n : ℕ) (out out' : ℕ → List ℕ) (was now : FileBytes) → j ≡ j' → ((q : ℕ) → q < n → out q ≡ out' q) → InOrder d j n out was now → InOrder d j' n out' was now
+pub in_order_as : (d : Seen) (j j' : List ℕ) (n : ℕ) (out out' : ℕ → List ℕ) (was now : FileBytes) → j ≡ j' → ((q : ℕ) → q < n → out q ≡ out' q) → InOrder d j n out was now → InOrder d j' n out' was now
 in_order_as d j j' n out out' was now e same (inl h) = inl (record {
   lines_ = subst (λ m. HoldsFrom d m was.lines) e h.lines_;
   records = λ q lt. ap d.file (sym (same q lt)) ∙ h.records q lt;
@@ -252,7 +252,7 @@ in_order_as d j j' n out out' was now e same (inr h) = inr (record {
 })
 
 -- files that hold what is numbered
-held : (b : Seen) (names : List (List ℕ)) (slots : List ℕ) (g : ℕ → List ℕ) (k : ℕ) → AreNamed b names slots → ((q : ℕ) → q < length slots → b.file (name_of b slots q) ≡ Some (g (k + q))) → map (λ n. b.file n) names ≡ map (λ l. Some l) (map g (counting k (length names)))
+pub held : (b : Seen) (names : List (List ℕ)) (slots : List ℕ) (g : ℕ → List ℕ) (k : ℕ) → AreNamed b names slots → ((q : ℕ) → q < length slots → b.file (name_of b slots q) ≡ Some (g (k + q))) → map (λ n. b.file n) names ≡ map (λ l. Some l) (map g (counting k (length names)))
 held b [] [] g k are each = refl
 held b [] (s ∷ slots) g k are each = absurd are
 held b (n ∷ names) [] g k are each = absurd are
@@ -262,7 +262,7 @@ held b (n ∷ names) (s ∷ slots) g k are each =
     let rest = held b names slots g (k + 1) are.1 (λ q lt. let e : k + suc q ≡ k + 1 + q = omega arith in each (suc q) (omega arith) ∙ ap (λ (p : ℕ). Some (g p)) e) in
     cc
 
-held_fronts : (a b : Seen) (names : List (List ℕ)) (slots : List ℕ) (g : ℕ → List ℕ) (k : ℕ) → AreNamed b names slots → ((q : ℕ) → q < length slots → (bytes : List ℕ) × (b.file (name_of b slots q) ≡ Some bytes) × IsPrefixOf bytes (g (k + q))) → AreOldOrFront a b names (map g (counting k (length names)))
+pub held_fronts : (a b : Seen) (names : List (List ℕ)) (slots : List ℕ) (g : ℕ → List ℕ) (k : ℕ) → AreNamed b names slots → ((q : ℕ) → q < length slots → (bytes : List ℕ) × (b.file (name_of b slots q) ≡ Some bytes) × IsPrefixOf bytes (g (k + q))) → AreOldOrFront a b names (map g (counting k (length names)))
 held_fronts a b [] [] g k are each = tt
 held_fronts a b [] (s ∷ slots) g k are each = absurd are
 held_fronts a b (n ∷ names) [] g k are each = absurd are

@@ -48,6 +48,15 @@ pub record EnodeNames : Type 0 where
   pub from : List ℕ
   pub to : List ℕ
 
+-- `live CONFIG JOURNAL STREAM IN OUT [IN OUT ..]`: the names of the configuration, of the journal, of the stream, and of the captures of
+-- each port, of what comes and of what is sent
+pub record LiveWords : Type 0 where
+  pub config : List ℕ
+  pub journal : List ℕ
+  pub stream : List ℕ
+  pub ins : List (List ℕ)
+  pub outs : List (List ℕ)
+
 -- a command with its names; `--help` and `--version` have none
 pub data Command : Type 0 where
   Run : (names : RunNames) → Command
@@ -58,6 +67,7 @@ pub data Command : Type 0 where
   Make : (names : MakeNames) → Command
   Snoop : (names : SnoopNames) → Command
   Enode : (names : EnodeNames) → Command
+  Live : (names : LiveWords) → Command
   Help : Command
   Version : Command
 
@@ -125,6 +135,13 @@ is_node words = is_some (start_of (name_at words 1)) && is_some (octets_of 6 (na
 abbrev pub is_enode : List (String Global) → Bool
 is_enode words = length words == 7 && bytes_eq (name_at words 0) (codes "enode") && is_node words && are_names (names_from 5 words)
 
+-- 1 to 64 pairs of names behind the first four words
+abbrev pub has_both : List (String Global) → Bool
+has_both words = nat_le 6 (length words) && nat_le (length words) 132 && length words % 2 == 0
+
+abbrev pub is_live : List (String Global) → Bool
+is_live words = has_both words && are_names (names_from 1 words) && bytes_eq (name_at words 0) (codes "live")
+
 -- this word alone
 abbrev pub is_word : List ℕ → List (String Global) → Bool
 is_word word words = length words == 1 && bytes_eq (name_at words 0) word
@@ -140,6 +157,7 @@ form_of words =
     else if is_make words then Some forms.Make
     else if is_snoop words then Some forms.Snoop
     else if is_enode words then Some forms.Enode
+    else if is_live words then Some forms.Live
     else if is_word (codes "--help") words then Some forms.Help
     else if is_word (codes "--version") words then Some forms.Version
     else None
@@ -206,6 +224,30 @@ enode_of words = record {
   to = name_at words 6;
 }
 
+-- how many ports a forwarder that runs has, and the captures of a port, which is counted from 0: of what comes, and of what is sent
+abbrev pub live_count : List (String Global) → ℕ
+live_count words = (length words - 4) / 2
+
+abbrev pub came_at : List (String Global) → ℕ → List ℕ
+came_at words port = name_at words (2 * port + 4)
+
+abbrev pub sent_at : List (String Global) → ℕ → List ℕ
+sent_at words port = name_at words (2 * port + 5)
+
+abbrev pub live_of : List (String Global) → LiveWords
+live_of words = record {
+  config = name_at words 1;
+  journal = name_at words 2;
+  stream = name_at words 3;
+  ins = map (came_at words) (counting 0 (live_count words));
+  outs = map (sent_at words) (counting 0 (live_count words));
+}
+
+-- the names of both captures of each port, one port after the other
+abbrev pub by_port : {A : Type 0} → List A → List A → List A
+by_port (x ∷ xs) (y ∷ ys) = x ∷ y ∷ by_port xs ys
+by_port xs ys = []
+
 -- the command that words of a form are
 abbrev pub named : List (String Global) → Form → Command
 named words forms.Run = Run (run_of words)
@@ -216,6 +258,7 @@ named words forms.Migrate = Migrate (pair_of words)
 named words forms.Make = Make (make_of words)
 named words forms.Snoop = Snoop (snoop_of words)
 named words forms.Enode = Enode (enode_of words)
+named words forms.Live = Live (live_of words)
 named words forms.Help = Help
 named words forms.Version = Version
 
@@ -233,6 +276,7 @@ inputs (Migrate k) = k.from ∷ []
 inputs (Make k) = []
 inputs (Snoop k) = k.config ∷ k.ins
 inputs (Enode k) = k.from ∷ []
+inputs (Live k) = k.config ∷ k.stream ∷ []
 inputs Help = []
 inputs Version = []
 
@@ -245,6 +289,7 @@ outputs (Migrate k) = k.to ∷ []
 outputs (Make k) = k.files
 outputs (Snoop k) = k.outs
 outputs (Enode k) = k.to ∷ []
+outputs (Live k) = k.journal ∷ by_port k.ins k.outs
 outputs Help = []
 outputs Version = []
 

@@ -11,13 +11,14 @@ use Rattle.fab_gather.specs.declared.fault.LimitKind.TheVariants as kinds
 use Rattle.run_files.specs.declared.fault.RunFault.TheVariants as faults
 use Rattle.fab_migrate.specs.Migrating.{Migrated, IsNewFront, SaysOld}
 use Rattle.fab_migrate.specs.declared.old.OldError.TheVariants as olds
-use Rattle.fabric_tool.specs.Command.{RunNames, PairNames, Command, Run, Replay, Show, Convert, Migrate, Make, Snoop, Enode, Help, Version, command, ReadRose, WriteRose, KeepsOthers}
+use Rattle.fabric_tool.specs.Command.{RunNames, PairNames, Command, Run, Replay, Show, Convert, Migrate, Make, Snoop, Enode, Live, Help, Version, command, ReadRose, WriteRose, KeepsOthers}
 use Rattle.run_files.specs.Faults.{NoFaults}
 use Rattle.fabric_tool.specs.Inputs.{HasFault, HasBadHead, LIMITS, MOST_BYTES}
 use Rattle.fabric_tool.specs.Checking.{ReplayHolds, ShowHolds}
 use Rattle.fabric_tool.specs.Load.{MakeHolds}
 use Rattle.fabric_tool.specs.Snooping.{SnoopHolds}
 use Rattle.fabric_tool.specs.Enode.{EnodeHolds}
+use Rattle.fabric_tool.specs.Living.{LiveHolds}
 use Rattle.fabric_tool.specs.Left.{HasRun, HasStopped, HasFrontPart, IsRunUnread}
 use Rattle.fabric_tool.specs.Outcome.{status_of, line_of, kind_of}
 use Rattle.fabric_tool.specs.declared.outcome.Outcome.{Outcome}
@@ -74,6 +75,7 @@ Holds (Migrate k) old new outcome = MigrateHolds k old new outcome
 Holds (Make k) old new outcome = MakeHolds k old new outcome
 Holds (Snoop k) old new outcome = SnoopHolds k old new outcome
 Holds (Enode k) old new outcome = EnodeHolds k old new outcome
+Holds (Live k) old new outcome = LiveHolds k old new outcome
 Holds Help old new outcome = (outcome ≡ ends.Help) × SameFiles old new
 Holds Version old new outcome = (outcome ≡ ends.Version) × SameFiles old new
 
@@ -108,6 +110,8 @@ TakesMemory (ends.Shown text) = ⊥
 TakesMemory (ends.WrongLine line why) = Unit {0}
 TakesMemory (ends.WrongOutput port at) = Unit {0}
 TakesMemory (ends.BadBlock at fault) = Unit {0}
+TakesMemory (ends.BadStream at fault) = Unit {0}
+TakesMemory (ends.NoPort face) = Unit {0}
 TakesMemory (ends.BadLine line fault) = Unit {0}
 TakesMemory (ends.Limit kind) = Unit {0}
 TakesMemory ends.Help = ⊥

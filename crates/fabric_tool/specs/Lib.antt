@@ -9,6 +9,7 @@ pub mod Checking
 pub mod Load
 pub mod Snooping
 pub mod Enode
+pub mod Living
 pub mod Ends
 pub mod Statuses
 pub mod Rechecking

@@ -1,15 +1,18 @@
--- What opening the outputs of `run` does.
-use Rattle.std.specs.Prelude.{◌∷◌, Ok, Err, Result, IfOk, OnOk, OnErr}
+-- What opening the outputs of a command does, and what its work ends it with.
+use Rattle.std.specs.Prelude.{◌≡◌, length, ◌∷◌, Ok, Err, Result, IfOk, OnOk, OnErr}
 use Rattle.fab_base.specs.Seen.{Seen, SameWriteFaults}
 use Rattle.fab_base.specs.declared.values.Failed.{Failed}
 use Rattle.run_files.specs.Opening.{AreEmptyOutputs, Opens}
 use Rattle.run_files.specs.declared.fault.RunFault.{RunFault}
 use Rattle.run_files.specs.declared.fault.RunFault.TheVariants as faults
 use Rattle.fab_windows.specs.declared.Done.{Done}
+use Rattle.fab_live.specs.declared.fault.LiveFault.{LiveFault}
+use Rattle.fab_live.specs.declared.fault.LiveFault.TheVariants as live
 use Rattle.enode_core.specs.declared.node.Phase.{Phase}
 use Rattle.snoop_run.specs.declared.run.Crossed.{Crossed}
-use Rattle.fabric_tool.specs.Command.{RunNames, MakeNames}
+use Rattle.fabric_tool.specs.Command.{RunNames, MakeNames, LiveWords, by_port}
 use Rattle.run_files.specs.Names.{AnyRose}
+use Rattle.fabric_tool.specs.declared.live.Recorded.{Recorded}
 use Rattle.fabric_tool.specs.declared.making.LoadFiles.{LoadFiles}
 use Rattle.fabric_tool.specs.declared.outcome.Outcome.{Outcome}
 use Rattle.fabric_tool.specs.declared.outcome.Outcome.TheVariants as ends
@@ -27,6 +30,14 @@ pub record FilesOpened (k : MakeNames) (old new : Seen) (result : Result LoadFil
   pub opens : Opens k.files old new
   pub slots : IfOk result (λ o. AreEmptyOutputs new k.files o.slots.items)
   pub cause : OnErr result (AnyRose old.write_faults new.write_faults k.files)
+  pub counts : OnOk result (SameWriteFaults old new)
+
+-- the outputs of `live`: the journal, and then what came and what is sent of each port
+pub record RecordedOpened (k : LiveWords) (old new : Seen) (result : Result Recorded Failed) : Type 0 where
+  pub opens : Opens (k.journal ∷ by_port k.ins k.outs) old new
+  pub width : IfOk result (λ o. (length o.ins.items ≡ length k.ins) × (length o.outs.items ≡ length k.outs))
+  pub slots : IfOk result (λ o. AreEmptyOutputs new (k.journal ∷ by_port k.ins k.outs) (o.journal ∷ by_port o.ins.items o.outs.items))
+  pub cause : OnErr result (AnyRose old.write_faults new.write_faults (k.journal ∷ by_port k.ins k.outs))
   pub counts : OnOk result (SameWriteFaults old new)
 
 -- what a fault of the windows ends `run` with
@@ -51,3 +62,13 @@ stood_by (Err fault) = stopped_by fault
 abbrev pub crossed_by : Result Crossed RunFault → Outcome
 crossed_by (Ok done) = ends.Bridged done.passed done.dropped
 crossed_by (Err fault) = stopped_by fault
+
+-- what the end of a stream ends `live` with
+abbrev pub lived_by : Result Done LiveFault → Outcome
+lived_by (Ok done) = ends.Ran done.frames done.entries
+lived_by (Err (live.Block at fault)) = ends.BadStream at fault
+lived_by (Err (live.Port face)) = ends.NoPort face
+lived_by (Err (live.Limit kind)) = ends.Limit kind
+lived_by (Err live.Read) = ends.ReadFault
+lived_by (Err live.Write) = ends.WriteFault
+lived_by (Err live.Memory) = ends.Memory

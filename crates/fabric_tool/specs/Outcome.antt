@@ -1,5 +1,5 @@
 -- How a command ends, its status, and the line that it prints.
-use Rattle.std.specs.Prelude.{ℕ, List, ◌++◌, codes, decimal}
+use Rattle.std.specs.Prelude.{ℕ, ◌+◌, List, ◌++◌, codes, decimal}
 use Rattle.fab_base.specs.Texts.{hex, hex_bytes}
 use Rattle.fab_config.specs.declared.ConfigFault.{ConfigFault}
 use Rattle.fab_config.specs.declared.ConfigWhy.{ConfigWhy}
@@ -22,7 +22,7 @@ use Rattle.enode_core.specs.declared.node.Phase.{Phase}
 use Rattle.enode_core.specs.declared.node.Phase.TheVariants as phase
 use Rattle.fabric_tool.specs.Inputs.{MOST_BYTES, MOST_FRAMES}
 use Rattle.fabric_tool.specs.declared.outcome.Outcome.{Outcome}
-use Rattle.fabric_tool.specs.declared.outcome.Outcome.TheVariants.{Ran, Converted, Migrated, Legal, Shown, WrongLine, WrongOutput, Made, Bridged, Stood, Help, Version, Words, Config, Capture, BadBlock, BadLine, Limit, ReadFault, WriteFault, Memory}
+use Rattle.fabric_tool.specs.declared.outcome.Outcome.TheVariants.{Ran, Converted, Migrated, Legal, Shown, WrongLine, WrongOutput, Made, Bridged, Stood, Help, Version, Words, Config, Capture, BadBlock, BadStream, NoPort, BadLine, Limit, ReadFault, WriteFault, Memory}
 
 abbrev pub status_of : Outcome → ℕ
 status_of (Ran frames entries) = 0
@@ -40,6 +40,8 @@ status_of Version = 0
 status_of (Config fault) = 1
 status_of (Capture port at reason) = 1
 status_of (BadBlock at fault) = 1
+status_of (BadStream at fault) = 1
+status_of (NoPort face) = 1
 status_of (BadLine line fault) = 1
 status_of Words = 2
 status_of ReadFault = 3
@@ -97,6 +99,13 @@ fault_word ng.Long = codes "long"
 
 abbrev pub block_text : ℕ → NgWhy → List ℕ
 block_text at fault = codes "capture 1 " ++ decimal at ++ codes " " ++ fault_word fault ++ codes "\n"
+
+-- the line of a stream with a fault at a block, and of a packet of an interface that is no port: the port that it would be of
+abbrev pub stream_text : ℕ → NgWhy → List ℕ
+stream_text at fault = codes "stream " ++ decimal at ++ codes " " ++ fault_word fault ++ codes "\n"
+
+abbrev pub no_port_text : ℕ → List ℕ
+no_port_text face = codes "stream port " ++ decimal (face + 1) ++ codes "\n"
 
 -- which limit a pcapng file passes
 abbrev pub kind_of : NgLimit → LimitKind
@@ -167,6 +176,8 @@ line_of (Shown text) = text
 line_of (WrongLine line reason) = wrong_text line reason
 line_of (WrongOutput port at) = output_text port at
 line_of (BadBlock at fault) = block_text at fault
+line_of (BadStream at fault) = stream_text at fault
+line_of (NoPort face) = no_port_text face
 line_of (BadLine line fault) = journal_text line fault
 line_of (Limit kind) = limit_text kind
 line_of Help = help_text

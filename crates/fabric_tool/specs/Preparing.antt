@@ -1,15 +1,16 @@
--- What `run` does before it opens an output.
+-- What `run` and `live` do before they open an output.
 use Rattle.std.specs.Prelude.{◌≡◌, ℕ, ◌+◌, ◌*◌, IsTrue, List, [], ◌∷◌, length, Result, IfOk, IfErr, OnOk}
-use Rattle.fab_base.specs.Seen.{Seen, Touches, Nothing}
+use Rattle.fab_base.specs.Seen.{Seen, Reads, Touches, Nothing}
 use Rattle.fab_config.specs.Settings.{is_in_range}
 use Rattle.pcap_file.specs.Capture.{HEAD}
 use Rattle.fab_policy.specs.Outputs.{state_of}
 use Rattle.fab_policy.specs.Standing.{Contents}
-use Rattle.fabric_tool.specs.Command.{RunNames}
+use Rattle.fabric_tool.specs.Command.{RunNames, LiveWords}
 use Rattle.run_files.specs.Faults.{NoFaults}
 use Rattle.run_files.specs.Names.{Among}
 use Rattle.fabric_tool.specs.Ends.{RunHolds}
 use Rattle.fabric_tool.specs.Inputs.{HasConfig, MOST_BYTES, MOST_FRAMES}
+use Rattle.fabric_tool.specs.Living.{LiveHolds}
 use Rattle.fabric_tool.specs.Reading.{AreHeads}
 use Rattle.fabric_tool.specs.declared.outcome.Outcome.{Outcome}
 use Rattle.fabric_tool.specs.declared.running.Prepared.{Prepared}
@@ -30,4 +31,12 @@ pub record IsPrepared (k : RunNames) (old new : Seen) (result : Result Prepared 
   pub heads : IfOk result (λ p. AreHeads old new k.ins p.ins.items)
   pub left : IfOk result (λ p. (p.budget.bytes + HEAD * length k.ins ≡ MOST_BYTES) × (p.budget.frames ≡ MOST_FRAMES))
   pub ended : IfErr result (RunHolds k old new)
+  pub counts : OnOk result (NoFaults old new)
+
+-- The configuration was read, and a fabric of it was made, or `live` ends so.
+pub record IsLivePrepared (k : LiveWords) (old new : Seen) (result : Result Contents Outcome) : Type 0 where
+  pub reads : Reads k.config old new
+  pub fabric : IfOk result (λ F. IsNew F k.outs)
+  pub config : IsTrue old.told → IfOk result (λ F. HasConfig old k.config F.settings)
+  pub ended : IfErr result (LiveHolds k old new)
   pub counts : OnOk result (NoFaults old new)

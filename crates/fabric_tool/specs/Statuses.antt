@@ -20,7 +20,7 @@ use Rattle.fab_policy.specs.declared.line.Line.{Line}
 use Rattle.fab_migrate.specs.Migrating.{Migrated, IsNewFront}
 use Rattle.fab_migrate.specs.Old.{IsOld, HasFirstFault}
 use Rattle.fab_migrate.specs.declared.old.OldWhy.{OldWhy}
-use Rattle.fabric_tool.specs.Command.{RunNames, PairNames, MakeNames, Command, Run, Replay, Show, Convert, Migrate, Make, Snoop, Enode, Help, Version, command, ReadRose, WriteRose}
+use Rattle.fabric_tool.specs.Command.{RunNames, PairNames, MakeNames, Command, Run, Replay, Show, Convert, Migrate, Make, Snoop, Enode, Live, Help, Version, command, ReadRose, WriteRose}
 use Rattle.fabric_tool.specs.Ends.{RunHolds, ConvertHolds, MigrateHolds, Holds, HoldsFor}
 use Rattle.fabric_tool.specs.Help.{help_text, version_text}
 use Rattle.fabric_tool.specs.Inputs.{HasFault, HasCapture, HasInputs, HasBadHead, StopsBy, HasPackets, LIMITS, stop_of, MOST_BYTES}
@@ -29,6 +29,7 @@ use Rattle.fabric_tool.specs.Checking.{ReplayHolds, ShowHolds, CheckSays}
 use Rattle.fabric_tool.specs.Load.{LOAD, HasLoad, HasLoadFront}
 use Rattle.fabric_tool.specs.Snooping.{SnoopEnded, IsSnoopRefused, HasSnoopFront, SnoopForms, SnoopSays}
 use Rattle.fabric_tool.specs.Enode.{EnodeEnded, IsEnodeRefused, HasEnodeFront, EnodeForms, EnodeSays}
+use Rattle.fabric_tool.specs.Living.{LiveHolds, LiveEnded, HasLiveFront, LiveForms, LiveSays}
 use Rattle.fabric_tool.specs.Outcome.{status_of, line_of, run_text, converted_text, migrated_text, legal_text, made_text}
 use Rattle.fabric_tool.specs.Reading.{unconverted_by}
 use Rattle.fabric_tool.specs.declared.outcome.Outcome.{Outcome}
@@ -110,6 +111,7 @@ Done (Migrate k) old new before after = IsTrue old.told → MigrateEnded k old n
 Done (Make k) old new before after = IsTrue old.told → MakeEnded k new before after
 Done (Snoop k) old new before after = IsTrue old.told → SnoopEnded k old new before after
 Done (Enode k) old new before after = IsTrue old.told → EnodeEnded k old new before after
+Done (Live k) old new before after = IsTrue old.told → LiveEnded k old new before after
 Done Help old new before after = TextEnded help_text old new before after
 Done Version old new before after = TextEnded version_text old new before after
 
@@ -122,7 +124,8 @@ pub record OfCommand (words : List (String Global)) (P : Command → Type 0) : T
 -- ---- refused
 
 -- Status 1: of `run`, the configuration has a fault, or a capture can't be taken; of `convert`, the pcapng file has a fault at a
--- block; of `migrate`, the journal has one at a line; of `snoop` and `enode`, the configuration has a fault, or a capture can't be taken.
+-- block; of `migrate`, the journal has one at a line; of `snoop` and `enode`, the configuration has a fault, or a capture can't be taken;
+-- of `live`, the configuration has a fault, or the stream can't be taken from a block or a packet on.
 abbrev pub IsRefused : Command → Seen → Seen → Type 0
 IsRefused (Run k) old new = ((fault : ConfigFault) × RunHolds k old new (ends.Config fault)) ⊎ ((port : ℕ) × (at : ℕ) × (why : CapWhy) × RunHolds k old new (ends.Capture port at why))
 IsRefused (Replay k) old new = (o : Outcome) × (status_of o ≡ 1) × ReplayHolds k old new o
@@ -132,6 +135,7 @@ IsRefused (Migrate k) old new = (line : ℕ) × (fault : OldWhy) × MigrateHolds
 IsRefused (Make k) old new = ⊥
 IsRefused (Snoop k) old new = IsSnoopRefused k old new
 IsRefused (Enode k) old new = IsEnodeRefused k old new
+IsRefused (Live k) old new = (o : Outcome) × (status_of o ≡ 1) × LiveHolds k old new o
 IsRefused Help old new = ⊥
 IsRefused Version old new = ⊥
 
@@ -151,6 +155,7 @@ HasFront (Migrate k) old new = IsNewFront k.from k.to MOST_BYTES old new
 HasFront (Make k) old new = HasLoadFront k old new
 HasFront (Snoop k) old new = HasSnoopFront k old new
 HasFront (Enode k) old new = HasEnodeFront k old new
+HasFront (Live k) old new = SameFiles old new ⊎ HasLiveFront k old new
 HasFront Help old new = SameFiles old new
 HasFront Version old new = SameFiles old new
 
@@ -190,6 +195,7 @@ HasForms (Migrate k) d = MigrateForms k d
 HasForms (Make k) d = Unit {0}
 HasForms (Snoop k) d = SnoopForms k d
 HasForms (Enode k) d = EnodeForms k d
+HasForms (Live k) d = LiveForms k d
 HasForms Help d = Unit {0}
 HasForms Version d = Unit {0}
 
@@ -240,6 +246,7 @@ Says (Migrate k) d outcome = (bytes : List ℕ) × (d.file k.from ≡ Some bytes
 Says (Make k) d outcome = outcome ≡ ends.Made LOAD
 Says (Snoop k) d outcome = SnoopSays k d outcome
 Says (Enode k) d outcome = EnodeSays k d outcome
+Says (Live k) d outcome = LiveSays k d outcome
 Says Help d outcome = outcome ≡ ends.Help
 Says Version d outcome = outcome ≡ ends.Version
 

@@ -33,6 +33,9 @@ pub(crate) enum Form {
     Snoop,
     /// `enode START MAC PORTNAME NODENAME IN OUT`. No file name is empty, and they differ.
     Enode,
+    /// `live CONFIG JOURNAL STREAM IN OUT [IN OUT ..]` with 1 to 64 pairs. No name is empty or used
+    /// twice.
+    Live,
     /// `--help`
     Help,
     /// `--version`
@@ -66,6 +69,8 @@ pub(crate) fn form_of(words: &[String]) -> Option<Form>
         Some(Form::Snoop)
     } else if is_enode(words) {
         Some(Form::Enode)
+    } else if is_live(words) {
+        Some(Form::Live)
     } else if is_word(words, "--help") {
         Some(Form::Help)
     } else if is_word(words, "--version") {
@@ -135,6 +140,20 @@ fn is_node(words: &[String]) -> bool
         && read_mac(word_at(words, 2).as_bytes()).is_some()
         && read_name(word_at(words, 3).as_bytes()).is_some()
         && read_name(word_at(words, 4).as_bytes()).is_some()
+}
+
+// Whether these are `live`, three names, and 1 to 64 pairs of names.
+fn is_live(words: &[String]) -> bool
+    ensures { result ≡ spec.is_live words.now }
+{
+    has_both(words) && are_names(words, 1) && word_at(words, 0) == "live"
+}
+
+fn has_both(words: &[String]) -> bool
+    ensures both { result ≡ spec.has_both words.now }
+    ensures some { result ≡ true → 0 < length words.now }
+{
+    words.len() >= 6 && words.len() <= 4 + 2 * MOST_PORTS && words.len() % 2 == 0
 }
 
 // Whether this is the only word.
@@ -283,4 +302,30 @@ pub(crate) fn output_at(words: &[String], port: usize) -> &str
     ensures { result.now ≡ spec.output_at words.now port }
 {
     word_at(words, 2 * port + 4)
+}
+
+/// How many ports a forwarder that runs has.
+pub(crate) fn live_count(words: &[String]) -> usize
+    requires { spec.has_both words.now ≡ true }
+    ensures value { result ≡ spec.live_count words.now }
+    ensures range { (1 ≤ result) × (result ≤ 64) }
+    ensures words { 2 * result + 4 ≡ length words.now }
+{
+    (words.len() - 4) / 2
+}
+
+/// The capture of what comes on a port, which is counted from 0.
+pub(crate) fn came_at(words: &[String], port: usize) -> &str
+    requires { 2 * port + 4 < length words.now }
+    ensures { result.now ≡ spec.came_at words.now port }
+{
+    word_at(words, 2 * port + 4)
+}
+
+/// The capture of what is sent on a port, which is counted from 0.
+pub(crate) fn sent_at(words: &[String], port: usize) -> &str
+    requires { 2 * port + 5 < length words.now }
+    ensures { result.now ≡ spec.sent_at words.now port }
+{
+    word_at(words, 2 * port + 5)
 }

@@ -30,6 +30,10 @@ fcoe_tool 0.1.0: an FCoE forwarder, run over captures
       runs a node, from this moment on, over the capture of what its port
       receives; writes the capture of what it sends, and prints where it stands
       in the end: asking, looking, logging, or up ADDRESS MAC
+  fcoe_tool live CONFIG JOURNAL STREAM IN OUT [IN OUT ..]
+      runs the forwarder over a pcapng stream while it comes; its interfaces
+      are the 1 to 64 ports; writes the journal, and for each port what came
+      and what is sent, and prints: frames N entries M
   fcoe_tool --help
       prints this text
   fcoe_tool --version
@@ -46,16 +50,18 @@ or a leading zero. The statuses, with what is printed:
      journal LINE WHY: the first fault of the journal to migrate, or the first
      line of the journal to check that no run has there
      output PORT PLACE: the first byte of an output that isn't what is sent
+     stream PLACE WHY: the stream can't be taken from this block on
+     stream port PORT: a packet is of an interface that is no port
   2  words: the words are no command
   3  read fault: an input could not be read
   4  write fault: an output, or what is printed, could not be written
   5  no memory: memory was refused
   6  limit WHAT NUMBER: the inputs pass this limit
 
-After status 1 or 6 of run the journal and the captures hold what came before
-that place. No file has changed after status 2, nor where the configuration or
-the head of a capture is at fault, nor after statuses 1, 3 and 6 of convert,
-migrate, snoop and enode.
+After status 1 or 6 of run and live the journal and the captures hold what came
+before that place. No file has changed after status 2, nor where the
+configuration or the head of a capture is at fault, nor after statuses 1, 3 and
+6 of convert, migrate, snoop and enode.
 ";
 
 /// The commands, what they print, and the statuses.

@@ -7,6 +7,7 @@ mod heads;
 pub mod help;
 mod inputs;
 mod limits;
+mod live;
 mod making;
 mod migrating;
 mod node;

@@ -49,6 +49,10 @@ pub enum Outcome {
     Capture { port: PortNo, at: u64, why: CapWhy },
     /// The pcapng file has this first fault, at a block.
     BadBlock { at: u64, why: NgWhy },
+    /// The stream has this first fault, at a block.
+    BadStream { at: u64, why: NgWhy },
+    /// A packet of the stream is of an interface that is no port: its number, from 0.
+    NoPort { face: u32 },
     /// The journal to migrate has this first fault, at a line.
     BadLine { line: u64, why: OldWhy },
     /// A journal is that of a run, of which this is told.
@@ -80,6 +84,8 @@ pub fn report<K: Sink>(alloc: Global, outcome: Outcome, say: &mut K) -> u8
         }
         Outcome::Converted { records } => put_made(say, converted_line(alloc, records), 0),
         Outcome::BadBlock { at, why } => put_made(say, block_line(alloc, at, why), 1),
+        Outcome::BadStream { at, why } => put_made(say, stream_line(alloc, at, why), 1),
+        Outcome::NoPort { face } => put_made(say, port_line(alloc, face), 1),
         Outcome::Migrated { entries } => put_made(say, migrated_line(alloc, entries), 0),
         Outcome::Legal { entries } => put_made(say, legal_line(alloc, entries), 0),
         Outcome::WrongLine { line, why } => put_made(say, wrong_line(alloc, line, why), 1),
@@ -177,6 +183,20 @@ fn block_line(alloc: Global, at: u64, why: NgWhy) -> Result<String, AllocError>
 {
     let word = fault_word(why);
     format!(in alloc; "capture 1 {at} {word}\n")
+}
+
+fn stream_line(alloc: Global, at: u64, why: NgWhy) -> Result<String, AllocError>
+    ensures { IfOk result (λ s. string_bytes s ≡ spec.stream_text at why) }
+{
+    let word = fault_word(why);
+    format!(in alloc; "stream {at} {word}\n")
+}
+
+fn port_line(alloc: Global, face: u32) -> Result<String, AllocError>
+    ensures { IfOk result (λ s. string_bytes s ≡ spec.no_port_text face) }
+{
+    let port = face as u64 + 1;
+    format!(in alloc; "stream port {port}\n")
 }
 
 fn migrated_line(alloc: Global, entries: u64) -> Result<String, AllocError>

@@ -147,8 +147,8 @@ pub(crate) fn in_range(config: &Config)
     let _ = &config.window;
 }
 
-// What the laws of legal journals say of each state that a journal goes through.
-fn legal_is_safe()
+/// What the laws of legal journals say of each state that a journal goes through.
+pub(crate) fn legal_is_safe()
     ensures { LegalIsSafe }
 {
     // Law: the laws of journals and of forwarding, which LegalIsSafe says as one.

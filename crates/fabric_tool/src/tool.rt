@@ -3,12 +3,13 @@ ghost use Rattle.std.specs.Prelude.{◌≡◌, ◌≤◌, ◌⊎◌, IsTrue, Som
 ghost use Rattle.fab_base.specs.Seen.{SameFiles, Rose};
 ghost use Rattle.fabric_tool.specs.Command as spec;
 ghost use Rattle.fabric_tool.specs.Ends.{Ends, Holds, HoldsFor, Prints};
-ghost use Rattle.fabric_tool.specs.Rechecking.{IsRechecked};
+ghost use Rattle.fabric_tool.specs.Rechecking.{IsRechecked, IsReplayed};
 ghost use Rattle.fabric_tool.specs.Statuses.{Done, OfCommand, IsRefused, IsPastLimit};
 ghost use Rattle.fabric_tool.specs.Statuses.{HasFront, IsComplete, IsNamed, Printed};
 
 use crate::command::{Form, form_of};
 use crate::converting::convert_file;
+use crate::live::live;
 use crate::making::make;
 use crate::migrating::migrate_file;
 use crate::node::enode;
@@ -78,6 +79,9 @@ pub fn fabric_tool<R: Threads + Wait + Sync, D: Depot, K: Sink, G: Gate + Sync>(
     // What a `run` wrote with status 0 is taken by `replay` and by `show`, where nothing fails and
     // memory is there.
     ensures rechecked { IsRechecked words.now (D.seen depot.old) (D.seen depot.new)
+        (K.sunk say.old) (K.sunk say.new) → (result ≡ 0) ⊎ (result ≡ 5) }
+    // What a `live` recorded with status 0 is taken by `replay` and by `show`, likewise.
+    ensures replayed { IsReplayed words.now (D.seen depot.old) (D.seen depot.new)
         (K.sunk say.old) (K.sunk say.new) → (result ≡ 0) ⊎ (result ≡ 5) }
     // Where nothing fails, a command ends as its inputs say, or memory is refused.
     ensures exact { (outcome : Outcome) → IsNamed words.now outcome (D.seen depot.old)
@@ -149,6 +153,7 @@ fn outcome_by<R: Threads + Wait + Sync, D: Depot, G: Gate + Sync>(
         Form::Make => make(alloc, words, depot),
         Form::Snoop => snoop(alloc, words, depot),
         Form::Enode => enode(alloc, words, depot),
+        Form::Live => live(rt, alloc, words, depot),
         Form::Help => Outcome::Help,
         Form::Version => Outcome::Version,
     }

@@ -113,6 +113,7 @@ fn nearest(alloc: Global, word: &str) -> Option<&'static str> {
 fn ports_of(words: &[String]) -> Option<usize> {
     let ports = match at(words, 0) {
         "run" | "replay" => words.len().saturating_sub(3).div_ceil(2),
+        "live" => words.len().saturating_sub(4).div_ceil(2),
         "snoop" => words.len().saturating_sub(2).div_ceil(2),
         "show" => words.len().saturating_sub(3),
         _ => return None,

@@ -86,3 +86,11 @@ returns-in-WrongOutput g c = record { reports = reports_made _ (g.K.Sink.sunk c.
 pub returns-in-BadLine : goal.returns-in-BadLine
 unfolding line_of
 returns-in-BadLine g c = record { reports = reports_made _ (g.K.Sink.sunk c.args.say.now) (g.K.Sink.sunk c.put_made-in-BadLine.new.say) c.in-BadLine.is refl refl tt c.journal_line.ensures c.put_made-in-BadLine.ensures.ok c.put_made-in-BadLine.ensures.err }
+
+pub returns-in-BadStream : goal.returns-in-BadStream
+unfolding line_of
+returns-in-BadStream g c = record { reports = reports_made _ (g.K.Sink.sunk c.args.say.now) (g.K.Sink.sunk c.put_made-in-BadStream.new.say) c.in-BadStream.is refl refl tt c.stream_line.ensures c.put_made-in-BadStream.ensures.ok c.put_made-in-BadStream.ensures.err }
+
+pub returns-in-NoPort : goal.returns-in-NoPort
+unfolding line_of
+returns-in-NoPort g c = record { reports = reports_made _ (g.K.Sink.sunk c.args.say.now) (g.K.Sink.sunk c.put_made-in-NoPort.new.say) c.in-NoPort.is refl refl tt c.port_line.ensures c.put_made-in-NoPort.ensures.ok c.put_made-in-NoPort.ensures.err }

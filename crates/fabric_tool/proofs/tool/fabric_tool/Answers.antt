@@ -1,4 +1,4 @@
-use Rattle.fabric_tool.proofs.EndLemmas.{done, refused, no_command, read_failed, write_failed, memory_refused, past_limit, others, completed, rechecked, fronts, exactly, is_printed}
+use Rattle.fabric_tool.proofs.EndLemmas.{done, refused, no_command, read_failed, write_failed, memory_refused, past_limit, others, completed, rechecked, replayed, fronts, exactly, is_printed}
 use Rattle.fabric_tool.proofs.tool.fabric_tool.Goals as goal
 
 pub returns-clause-done : goal.returns-clause-done
@@ -33,6 +33,9 @@ returns-clause-complete g c = completed c.args.words.now _ _ _ _ c.run_and_repor
 
 pub returns-clause-rechecked : goal.returns-clause-rechecked
 returns-clause-rechecked g c = rechecked c.args.words.now _ _ _ _ c.run_and_report-status.result c.run_and_report-status.ensures.ends
+
+pub returns-clause-replayed : goal.returns-clause-replayed
+returns-clause-replayed g c = replayed c.args.words.now _ _ _ _ c.run_and_report-status.result c.run_and_report-status.ensures.ends
 
 pub returns-clause-exact : goal.returns-clause-exact
 returns-clause-exact g c = exactly c.args.words.now _ _ _ _ c.run_and_report-status.result c.run_and_report-status.ensures.ends

@@ -27,3 +27,6 @@ snoop-requires-clause-snoop g c = have_form c.args.words.now forms.Snoop (c.requ
 
 pub enode-requires-clause-enode : goal.enode-requires-clause-enode
 enode-requires-clause-enode g c = have_form c.args.words.now forms.Enode (c.requires.form ∙ ap (λ (f : Form). Some f) c.in-Enode.is)
+
+pub live-requires-clause-live : goal.live-requires-clause-live
+live-requires-clause-live g c κs within = have_form c.args.words.now forms.Live (c.requires.form ∙ ap (λ (f : Form). Some f) c.in-Live.is)
