@@ -27,3 +27,18 @@ _look() {
     fi
 }
 complete -o default -o filenames -F _look look
+
+# The completion of live: its options, the configuration, and then interfaces.
+_live() {
+    local word=${COMP_WORDS[COMP_CWORD]} before=${COMP_WORDS[COMP_CWORD - 1]}
+    local options="--list --record --keep-stream --mark --statistics --seconds --program --help"
+    case $before in
+    --record | --program | --mark | --statistics | --seconds) return ;;
+    esac
+    if [[ $word == -* ]]; then
+        mapfile -t COMPREPLY < <(compgen -W "$options" -- "$word")
+    elif [ -f "$before" ] || [ -e "/sys/class/net/$before" ]; then
+        mapfile -t COMPREPLY < <(compgen -W "$(ls /sys/class/net)" -- "$word")
+    fi
+}
+complete -o default -F _live live
