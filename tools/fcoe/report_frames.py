@@ -13,6 +13,7 @@ from .frames import Heard, colons
 from .inputs import Port
 from .journals import TICK, Frame, Tick, counted, rows
 from .ladder import Arrow, Node, Picture, silent
+from .listed import Listing
 from .looking import Look
 from .pairs import Moment
 from .texts import why_text
@@ -82,6 +83,7 @@ class Table:
 
     def __init__(self, look: Look) -> None:
         self.look, self.words, self.known = look, Words(), Names(look)
+        self.listing = Listing(look, self.known)
         self.first, self.told = first_clock(look), 0
         self.entry_of = entries_of(look)
         self.frames = self.chosen()
@@ -150,11 +152,10 @@ class Table:
         place, heard = self.entry_of[port.number][index], port.frames.heard(at)
         entry = self.look.run.entries.frame(place)
         inward, *sent = self.arrows[place]
-        reply = self.look.replies.get((port.number, at))
         return {
             **self.common(port, at, heard, self.known.ends(port.number, heard, place)),
             "verdict": self.words.of(entry.verdict),
-            "answer": self.words.of(spelled(reply.verdict) if reply else ""),
+            "answer": self.words.of(spelled(self.listing.said_by_switch(entry, port, at) or "")),
             "why": self.why(entry, place, heard),
             "sent": replies_text(self.look.walk.sent[place], entry),
             "entry": place,
