@@ -106,9 +106,15 @@ def dropped(look: Look, explained: Explained) -> list[Drops]:
     return list(found.values())
 
 
+def meaning_of(verdict: str) -> str:
+    """What a rule drops, within a sentence."""
+    row = row_of(verdict)
+    return f"{row.meaning[:1].lower()}{row.meaning[1:].rstrip('.')}" if row else verdict.removeprefix("dropped ")
+
+
 def drop_text(it: Drops) -> tuple[Severity, str, str]:
     """What a drop is, and what to do next."""
-    count, rule, row = counted(len(it.places), "frame"), it.verdict.removeprefix("dropped "), row_of(it.verdict)
+    count, rule = counted(len(it.places), "frame"), it.verdict.removeprefix("dropped ")
     from_to = f" from {it.ends[0]} to {it.ends[1]}" if it.ends[0] else ""
     if it.verdict == "dropped dest-login" and it.never is not None:
         return Severity.NOTED, f"{count}{from_to}, which isn't in these captures", "add the capture of its port, to see what becomes of them"
@@ -118,21 +124,48 @@ def drop_text(it: Drops) -> tuple[Severity, str, str]:
         return Severity.DROPPED, f"{count}{from_to} dropped: no active zone joins the two", "a zone with both port names in the active zone set (`look zones`)"
     if it.verdict in ("dropped dest-login", "dropped keepalive-unknown"):
         return Severity.NOTED, f"{count}{from_to} behind the end of the login ({rule})", "`look why` of the first tells what ended it, and whether the window did"
-    meaning = f"{row.meaning[:1].lower()}{row.meaning[1:].rstrip('.')}" if row else rule
-    return Severity.DROPPED, f"{count}{from_to} dropped by {rule}: {meaning}", next_step(it.verdict, it.heard) or "`look why` of the first"
+    return Severity.DROPPED, f"{count}{from_to} dropped by {rule}: {meaning_of(it.verdict)}", next_step(it.verdict, it.heard) or "`look why` of the first"
+
+
+def drop_answer(look: Look, it: Drops) -> Answer:
+    """Drops between the same two ends."""
+    entries, (severity, text, step) = look.run.entries, drop_text(it)
+    numbers = [(it.port, look.ports[it.port - 1].frame_number(entries.indexes[place])) for place in it.places[:LISTED]]
+    return Answer(severity, text, step, it.port, "", entries.clocks[it.places[0]], entries.clocks[it.places[-1]], numbers, more=len(it.places) - len(numbers))
+
+
+def ends_text(some: list[Drops]) -> str:
+    """Between how many ends, or on how many ports, drops of one rule are."""
+    strangers = {it.never for it in some if it.never is not None}
+    if strangers:
+        whose = "to {} outside these captures" if some[0].verdict == "dropped dest-login" else "from {} with a login older than the capture"
+        return whose.format(counted(len(strangers), "address", "es"))
+    return f"between {len(some)} pairs of ends" if some[0].ends[0] else f"on {len(some)} ports"
+
+
+def as_one(look: Look, some: list[Drops]) -> Answer:
+    """Drops of one rule between many ends as one answer, those with most frames under it."""
+    some = sorted(some, key=lambda it: -len(it.places))
+    most, verdict = drop_answer(look, some[0]), some[0].verdict
+    total = sum(len(it.places) for it in some)
+    clocks = [look.run.entries.clocks[place] for it in some for place in (it.places[0], it.places[-1])]
+    text = f"{counted(total, 'frame')} {ends_text(some)} dropped by {verdict.removeprefix('dropped ')}"
+    text += "" if some[0].never is not None else f": {meaning_of(verdict)}"
+    followers = [drop_text(it)[1] for it in some]
+    return Answer(most.severity, text, most.step, None, "", min(clocks), max(clocks), most.frames, followers, more=total - len(most.frames))
 
 
 def drops(look: Look, explained: Explained) -> Iterator[Answer]:
-    """Each kind of drop; what the switch sent on all the same stands among differences."""
+    """Each kind of drop; of a rule that drops between many ends one answer."""
     entries = look.run.entries
     apart = {(it.port, it.index) for it in look.compared.forwards if it.switch == "sent on"} if look.compared else set()
-    for it in dropped(look, explained):
+    reasons: dict[tuple[str, bool], list[Drops]] = {}
+    for it in dropped(look, explained):  # what the switch sent on all the same stands among differences
         it.places = array("I", (place for place in it.places if (it.port, entries.indexes[place]) not in apart))
-        if not it.places:
-            continue
-        severity, text, step = drop_text(it)
-        numbers = [(it.port, look.ports[it.port - 1].frame_number(entries.indexes[place])) for place in it.places[:LISTED]]
-        yield Answer(severity, text, step, it.port, "", entries.clocks[it.places[0]], entries.clocks[it.places[-1]], numbers, more=len(it.places) - len(numbers))
+        if it.places:
+            reasons.setdefault((it.verdict, it.never is None), []).append(it)
+    for some in reasons.values():
+        yield from [drop_answer(look, it) for it in some] if len(some) <= SHOWN else [as_one(look, some)]
 
 
 def difference_text(it: Compared) -> str:
