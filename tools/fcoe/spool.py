@@ -23,8 +23,11 @@ MOST = 4 << 30  # bytes that are spooled
 class Patience:
     """Lets the first interrupt end the writer of a pipe alone, so that what came is looked at; the second one counts."""
 
+    def __init__(self) -> None:
+        self.before = signal.getsignal(signal.SIGINT)
+
     def __enter__(self) -> None:
-        self.before = signal.signal(signal.SIGINT, self.first)
+        signal.signal(signal.SIGINT, self.first)
 
     def first(self, _: int, __: Optional[FrameType]) -> None:
         signal.signal(signal.SIGINT, self.before)

@@ -182,7 +182,7 @@ def is_trouble(verdict: str) -> bool:
 def troubles(look: Look) -> list[Row]:
     """Each kind of drop, reject and refusal: rule, place in the frame, how often, where, and what to look at next."""
     entries = look.run.entries
-    found: dict[int, array[int]] = {}
+    found: "dict[int, array[int]]" = {}
     for place in entries.places(is_trouble):
         found.setdefault(entries.said[place], array("I")).append(place)
     rows = []
