@@ -148,10 +148,10 @@ class Wire:
         r_ctl = 0x02 if kind == 0x20 else 0x22
         self.fcoe(FC_MAP + address.to_bytes(3, "big"), SWITCH, header(r_ctl, to, address, kind, ox_id) + payload)
 
-    def serve(self, address: int, kind: int, ox_id: int, payload: bytes) -> None:
-        """The name server's reply."""
+    def serve(self, address: int, kind: int, ox_id: int, payload: bytes, by: int = 0xFFFFFC) -> None:
+        """The reply of the name server, or of another service."""
         r_ctl = 0x03 if kind == 0x20 else 0x23
-        self.fcoe(SWITCH, FC_MAP + address.to_bytes(3, "big"), header(r_ctl, address, 0xFFFFFC, kind, ox_id, 0x990000) + payload)
+        self.fcoe(SWITCH, FC_MAP + address.to_bytes(3, "big"), header(r_ctl, address, by, kind, ox_id, 0x990000) + payload)
 
     def register(self, host: Host, address: int) -> None:
         """PLOGI to the name server, and FCP as its type."""
@@ -159,6 +159,11 @@ class Wire:
         self.serve(address, 1, 0x11, b"\x02\0\0\0" + PAYLOAD[4:8] + b"\0\0\x08\x40" + bytes(8) + SWITCH_NAME * 2 + PAYLOAD[36:])
         self.service(address, 0xFFFFFC, 0x20, 0x12, ct(0x0217) + b"\0" + address.to_bytes(3, "big") + b"\0\0\1" + bytes(29))
         self.serve(address, 0x20, 0x12, ct(0x8002))
+
+    def watch(self, address: int) -> None:
+        """SCR: all state changes are told to it."""
+        self.service(address, 0xFFFFFD, 1, 0x13, b"\x62\0\0\0\0\0\0\3")
+        self.serve(address, 1, 0x13, b"\2\0\0\0", 0xFFFFFD)
 
     def discover(self, host: Host, period: int = 8000) -> None:
         """VLAN and switch are found."""
@@ -390,9 +395,25 @@ def busy() -> list[Wire]:
     return [wire]
 
 
+def watched() -> list[Wire]:
+    """The switch rejects a host's FLOGIs as it is busy, while another watches for state changes."""
+    one, two = Wire(), Wire(clock=START + 8 * SECOND)
+    one.log_in(A, 1, 0x010100)
+    one.register(A, 0x010100)
+    one.watch(0x010100)
+    one.stay(A, 48)
+    two.discover(B)
+    for number in range(3):
+        two.wait(4)
+        two.flogi(B, number + 1)
+        two.reject(B, number + 1, 0x05, 0x00)
+    two.idle(32)
+    return [one, two]
+
+
 FAILURES: dict[str, Callable[[], list[Wire]]] = {
     it.__name__: it
-    for it in (no_fip, untagged, vlan200, vn2vn, no_jumbo, no_answer_padded, limit, name_held, name_elsewhere, short_period, silence, relogin, unheard, not_available, not_zoned, unused, busy)
+    for it in (no_fip, untagged, vlan200, vn2vn, no_jumbo, no_answer_padded, limit, name_held, name_elsewhere, short_period, silence, relogin, unheard, not_available, not_zoned, unused, busy, watched)
 }
 
 

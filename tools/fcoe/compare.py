@@ -5,6 +5,7 @@ from dataclasses import dataclass, field
 from typing import Iterator, Optional
 
 from .configs import Config, is_advertisement
+from .errors import counted as plural
 from .fabric import ANSWERED, Sent, Walk
 from .fields import Fields, fields_of
 from .forwards import Marked, data_ends, data_entries, sent_on
@@ -77,12 +78,15 @@ class Compared:
     switch: str
     forwarder: str
     differences: list[Difference] = field(default_factory=list)
+    follows: Optional["Compared"] = None  # the difference that this one comes of
 
     @property
     def state(self) -> str:
-        """equal, choice, open or different."""
+        """equal, choice, open, follows or different."""
         if not self.differences:
             return "equal"
+        if self.follows is not None:
+            return "follows"
         if not all(it.note for it in self.differences):
             return "different"
         return "open" if any(it.is_open for it in self.differences) else "choice"
@@ -373,6 +377,22 @@ def compare_clears(run: Run, walk: Walk, found: Comparison, used: Marked) -> Non
             found.notices.append(Compared(port.number, 0, -1, it.milliseconds, what, "missing", "sent", [Difference("Clear links", "missing", "sent")]))
 
 
+def is_phantom(it: Compared) -> bool:
+    """A login that the switch rejected, and this forwarder granted."""
+    return it.request in ("FLOGI", "FDISC") and it.switch.endswith(" reject") and it.forwarder.endswith(" accept")
+
+
+def mark_followers(walk: Walk, found: Comparison) -> None:
+    """RSCNs and clear link messages that tell of a login which the switch rejected follow from that."""
+    causes = {(it.port, it.index): it for it in found.answers if is_phantom(it)}
+    for login in walk.fabric.logins if causes else ():
+        cause = causes.get(login.granted_frame)
+        names = (fcid(login.address),) if login.is_fdisc else (fcid(login.address), colons(login.enode))
+        for it in found.notices if cause else ():
+            if it.switch == "missing" and it.request.endswith(names) and login.since <= it.clock <= (login.until or it.clock):
+                it.follows = cause
+
+
 def compare_advertisements(run: Run, walk: Walk, found: Comparison, used: Marked) -> None:
     """Advertisements to all ENodes: each spelling of the switch once, beside the forwarder's."""
     ours = next((it.heard for it in walk.sent.own() if is_advertisement(it.heard) and it.heard.destination == ALL_ENODES), None)
@@ -400,6 +420,7 @@ def compare(run: Run, walk: Walk) -> Optional[Comparison]:
     compare_forwards(run, walk, found, used)
     compare_notices(run, walk, found, used)
     compare_clears(run, walk, found, used)
+    mark_followers(walk, found)
     compare_advertisements(run, walk, found, used)
     for port in run.ports:
         for at in port.replies:
@@ -412,11 +433,23 @@ def compare(run: Run, walk: Walk) -> Optional[Comparison]:
 
 
 # the states in words, from good to bad
-STATES = {"equal": "equal", "choice": "differ where a choice is left open", "open": "can't be told from these captures", "different": "differ"}
+STATES = {"equal": "equal", "choice": "differ where a choice is left open", "open": "can't be told from these captures", "follows": "follow from a difference", "different": "differ"}
 
 
 def totals(found: Comparison) -> Counter[str]:
     return Counter(it.state for it in found.all())
+
+
+def states_in(sums: Counter[str]) -> dict[str, str]:
+    """The states that are shown: that something follows only where it does."""
+    return {state: words for state, words in STATES.items() if state != "follows" or sums[state]}
+
+
+def followers_text(some: list[Compared]) -> str:
+    """What follows from differences, in one line."""
+    kinds = Counter("RSCN" if it.request.startswith("RSCN") else "clear link message" for it in some)
+    told = " and ".join(plural(count, kind) for kind, count in kinds.items())
+    return f"{told} {'follows' if len(some) == 1 else 'follow'} from it"
 
 
 def by_kind(found: Comparison) -> dict[str, Counter[str]]:
@@ -427,4 +460,4 @@ def by_kind(found: Comparison) -> dict[str, Counter[str]]:
     return kinds
 
 
-__all__ = ["STATES", "Compared", "Comparison", "Difference", "by_kind", "compare", "counted", "totals"]
+__all__ = ["STATES", "Compared", "Comparison", "Difference", "by_kind", "compare", "counted", "followers_text", "states_in", "totals"]

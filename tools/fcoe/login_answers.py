@@ -4,6 +4,7 @@ from typing import Iterable, Iterator, Optional
 
 from .answers import Answer, Severity, times
 from .codes import spelled
+from .compare import followers_text
 from .enodes import Seen
 from .errors import counted
 from .fabric import Login
@@ -95,6 +96,13 @@ def step_of(look: Look, verdict: str, name: bytes, first: Request, clock: int) -
     return next_step(verdict, look.captured[first[0] - 1].frames.heard(first[1]))
 
 
+def followers_of(look: Look, requests: list[Request]) -> list[str]:
+    """What this forwarder tells of logins that the switch rejected, in one line."""
+    told = look.compared.notices if look.compared else []
+    some = [it for it in told if it.follows and look.request_of(it.follows.port, it.follows.index) in requests]
+    return [followers_text(some)] if some else []
+
+
 def rejected(look: Look, all_seen: list[Seen]) -> Iterator[Answer]:
     """Logins that the switch rejected, the reason first."""
     groups = rejects_in(all_seen)
@@ -105,7 +113,7 @@ def rejected(look: Look, all_seen: list[Seen]) -> Iterator[Answer]:
         got_in = any(it.name == name and it.port == port and look.replied(it) for it in look.walk.fabric.logins)
         said = f"{'' if got_in else 'got no login: '}the switch rejected {counted(len(requests), kind)}, {spelled(verdict)[len('rejected '):]}"
         said += "" if set(here) == {verdict} else here_text(here)
-        yield Answer(Severity.FAILED, said, step_of(look, verdict, name, requests[0], since), port, colons(name), since, until, numbers)
+        yield Answer(Severity.FAILED, said, step_of(look, verdict, name, requests[0], since), port, colons(name), since, until, numbers, followers_of(look, requests))
 
 
 def rejected_here(look: Look, all_seen: list[Seen]) -> Iterator[Answer]:

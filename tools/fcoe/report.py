@@ -8,7 +8,7 @@ from html import escape
 from typing import Any, Callable
 
 from .codes import spelled, type_text
-from .compare import STATES, by_kind, totals
+from .compare import STATES, by_kind, states_in, totals
 from .errors import Refused, counted
 from .journals import counted as rule_of
 from .journals import row_of
@@ -90,8 +90,10 @@ def comparison_rows(look: Look) -> Any:
     worst, first = list(reversed(STATES)), first_clock(look)
     groups = sorted(together([it for it in found.all() if it.differences]), key=lambda some: worst.index(some[0].state))
     apart = [{"first": some[0], "count": len(some), "at": short(some[0].clock, first), "last": short(some[-1].clock, first)} for some in groups[:LISTED]]
-    kinds = [{"kind": kind, "states": [some[state] for state in STATES]} for kind, some in by_kind(found).items()]
-    return {"kinds": kinds, "apart": apart, "more": max(len(groups) - LISTED, 0), "states": STATES, "totals": totals(found), "forwarded": found.forwarded, "others": found.others}
+    sums = totals(found)
+    states = states_in(sums)
+    kinds = [{"kind": kind, "states": [some[state] for state in states]} for kind, some in by_kind(found).items()]
+    return {"kinds": kinds, "apart": apart, "more": max(len(groups) - LISTED, 0), "states": states, "totals": sums, "forwarded": found.forwarded, "others": found.others}
 
 
 def answer_rows(found: Row) -> list[Row]:

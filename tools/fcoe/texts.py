@@ -4,7 +4,7 @@ from dataclasses import dataclass
 from typing import Any, Iterable, Optional
 
 from .codes import spelled, type_text
-from .compare import STATES, Compared, Comparison, by_kind, totals
+from .compare import Compared, Comparison, by_kind, followers_text, states_in, totals
 from .looking import Look
 from .moments import short, stamp
 from .places import text_of
@@ -194,14 +194,17 @@ def compare_text(found: Optional[Comparison], first: int) -> list[str]:
     if found is None:
         return ["  the captures hold no frame of the switch: nothing to compare with"]
     sums = totals(found)
-    lines = ["  " + ", ".join(f"{sums[state]} {words}" for state, words in STATES.items())]
-    lines += table(["request", *STATES], ([kind, *(some[state] for state in STATES)] for kind, some in by_kind(found).items()))
+    states = states_in(sums)
+    lines = ["  " + ", ".join(f"{sums[state]} {words}" for state, words in states.items())]
+    lines += table(["request", *states], ([kind, *(some[state] for state in states)] for kind, some in by_kind(found).items()))
     for title, state in (("Differences", "different"), ("Choices", "choice"), ("Open", "open")):
         groups = together([it for it in found.all() if it.state == state])
         if groups:
             lines.append(f" {title}")
         for some in groups[:LISTED]:
             lines += answer_lines(some, first)
+            followers = [it for it in found.notices if any(it.follows is one for one in some)]
+            lines += [f"    {followers_text(followers)}"] if followers else []
         if len(groups) > LISTED:
             lines.append(f"  and {sum(map(len, groups[LISTED:]))} more (--json, --report)")
     if found.forwarded:
