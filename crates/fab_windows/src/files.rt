@@ -18,11 +18,7 @@ pub struct Slots<'a> {
 }
 
 /// Writes what the pages hold, and empties them. Its one fault is `Write`.
-pub fn flush<D: Depot>(
-    depot: &mut D,
-    slots: &Slots<'_>,
-    pages: &mut Pages,
-) -> Result<(), RunFault>
+pub fn flush<D: Depot>(depot: &mut D, slots: &Slots<'_>, pages: &mut Pages) -> Result<(), RunFault>
     requires count { length slots.now.outs.now ≡ length pages.old.records.items }
     requires files { AreFiles (D.seen depot.old) slots.now.journal slots.now.outs.now }
     ensures writes { let W = Writes slots.now.journal slots.now.outs.now pages.old.lines.items
