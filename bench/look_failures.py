@@ -411,9 +411,62 @@ def watched() -> list[Wire]:
     return [one, two]
 
 
+def own_mac() -> list[Wire]:
+    """The host is granted an FPMA, and sends from its ENode's MAC, as with SPMA."""
+    wire = Wire()
+    wire.log_in(A, 1, 0x650100)
+    for number in range(5):
+        wire.wait(2)
+        wire.fcoe(A.mac, SWITCH, header(0x22, 0xFFFFFC, 0x650100, 1, 0x11 + number) + A.login(3))
+    wire.stay(A, 16)
+    return [wire]
+
+
+def no_server() -> list[Wire]:
+    """The name server answers no PLOGI, so the host logs out."""
+    wire = Wire()
+    wire.log_in(A, 1, 0x650100)
+    for number in range(4):
+        wire.wait(4)
+        wire.service(0x650100, 0xFFFFFC, 1, 0x11 + number, A.login(3))
+        wire.advertise(ALL_ENODES)
+        wire.keep_alive(A)
+    wire.logout(A, 0x30, 0x650100)
+    return [wire]
+
+
+def cloned() -> list[Wire]:
+    """Two hosts on two ports have one port name, and the switch grants it to both."""
+    one, two = Wire(), Wire(clock=START + 20 * SECOND)
+    one.log_in(A, 1, 0x650100)
+    one.register(A, 0x650100)
+    one.stay(A, 40)
+    clone = Host(0x1A)
+    two.discover(clone)
+    two.wait(1)
+    two.flogi(clone, 1, name=A.name)
+    two.accept(clone, 1, 0x660100)
+    two.register(A, 0x660100)
+    two.stay(clone, 24)
+    return [one, two]
+
+
+def sends_on() -> list[Wire]:
+    """A host's keep alives stop, and its data goes on behind the end of its login."""
+    one, two = Wire(), Wire(clock=START + SECOND // 2)
+    one.log_in(A, 1, 0x650100)
+    two.log_in(B, 1, 0x650101)
+    one.stay(A, 8)
+    two.stay(B, 56)
+    for number in range(20):
+        one.wait(2)
+        one.service(0x650100, 0x650101, 8, 0x100 + number, bytes(32))
+    return [one, two]
+
+
 FAILURES: dict[str, Callable[[], list[Wire]]] = {
     it.__name__: it
-    for it in (no_fip, untagged, vlan200, vn2vn, no_jumbo, no_answer_padded, limit, name_held, name_elsewhere, short_period, silence, relogin, unheard, not_available, not_zoned, unused, busy, watched)
+    for it in (no_fip, untagged, vlan200, vn2vn, no_jumbo, no_answer_padded, limit, name_held, name_elsewhere, short_period, silence, relogin, unheard, not_available, not_zoned, unused, busy, watched, own_mac, no_server, cloned, sends_on)
 }
 
 

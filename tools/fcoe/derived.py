@@ -4,6 +4,7 @@ from dataclasses import dataclass, field
 from itertools import combinations
 from typing import Iterator, Optional
 
+from .compare import parts
 from .frames import CLEAR, Heard, colons, fcid, login_names, number
 from .hosts import WELL_KNOWN
 from .inputs import Inputs, Port
@@ -86,11 +87,11 @@ def has_type(types: bytes, kind: int) -> bool:
     return bool(number(types[4 * (kind >> 5) : 4 * (kind >> 5) + 4]) >> (kind & 31) & 1)
 
 
-def listed(port: Port, reply: Reply, size: int) -> set[int]:
-    """The addresses of an answer of the name server; of the first of its frames where there are several."""
-    fc = port.frames.heard(reply.at).fc
-    payload = fc.payload[16:] if fc else b""
-    return {number(payload[at + 1 : at + 4]) for at in range(0, len(payload) - size + 1, size)}
+def listed(port: Port, reply: Reply, size: int) -> tuple[set[int], bool]:
+    """The addresses of an answer of the name server, and whether the capture has it up to its last entry (FC-GS-6)."""
+    payload = b"".join(it.fc.payload for it in parts(port, reply.at) if it.fc)[16:]
+    entries = [payload[at : at + size] for at in range(0, len(payload) - size + 1, size)]
+    return {number(it[1:4]) for it in entries}, not payload or bool(entries) and entries[-1][0] >= 0x80
 
 
 @dataclass
@@ -117,13 +118,14 @@ def from_lists(told: list[Told], found: Evidence) -> dict[int, bytes]:
             types[asker] = fc.payload[20:52]
         if fc.command not in LISTED or verdict not in ("answered", NO_TYPES) or len(fc.payload) < 20:
             continue
-        seen = {live.holders.get(one) for one in listed(it.port, it.reply, LISTED[fc.command])} if verdict == "answered" else set()
+        addresses, is_whole = listed(it.port, it.reply, LISTED[fc.command]) if verdict == "answered" else (set[int](), True)
+        seen = {live.holders.get(one) for one in addresses}
         here = {name for own in live.names.values() for name in own}
         for name, own_types in types.items():
             if name != asker and name in here and has_type(own_types, fc.payload[19]):
                 if name in seen:
                     found.joined.add(frozenset((asker, name)))
-                else:
+                elif is_whole:
                     found.apart.setdefault(frozenset((asker, name)), f"the switch's answer to {it.heard.kind} of {fcid(fc.s_id)} doesn't list it")
     return live.holders
 

@@ -131,6 +131,41 @@ def rejected_here(look: Look, all_seen: list[Seen]) -> Iterator[Answer]:
         yield Answer(Severity.FAILED, text, step_of(look, verdict, name, requests[0], span[0]), port, colons(name), *span)
 
 
+@dataclass
+class Shared:
+    """A port name that two hosts use at the same time: the login that had it, and who asks for it too."""
+
+    login: Login
+    seen: Seen
+    requests: list[Request]
+
+    def answer(self, look: Look) -> Answer:
+        port, mac = self.seen.enode.port.number, self.seen.enode.mac
+        since, until, numbers = span_of(look, self.requests)
+        reply = self.seen.reply(self.requests[0][1])
+        said = f"; the switch's answer to the latter: {spelled(reply.verdict)}" if reply else ""
+        text = f"two hosts use this port name at once: {colons(self.login.enode)} on port {self.login.port}, and from {short(since, since)} on {colons(mac)} on port {port}{said}"
+        step = "which of the two it belongs to; give the other a WWPN of its own (a cloned machine, a virtual N_Port that was copied)"
+        return Answer(Severity.FAILED, text, step, port, colons(self.login.name), since, until, numbers)
+
+
+def shared(look: Look, all_seen: list[Seen]) -> Iterator[Shared]:
+    """Port names for which a second host asks while the first goes on with its own login."""
+    beats = beats_of(look)
+    for seen in all_seen:
+        asked: dict[bytes, list[int]] = {}
+        for at in seen.enode.all("FLOGI", "FDISC"):
+            names = login_names(seen.enode.heard(at))
+            if names:
+                asked.setdefault(names[0], []).append(at)
+        for name, places in asked.items():
+            clock = seen.clock(places[0])
+            had = (it for it in look.walk.fabric.logins if it.name == name and it.enode != seen.enode.mac and not it.is_fdisc and it.is_live(clock))
+            login = next((it for it in had if max(beats.get((it.port, it.enode), [0])) > clock), None)
+            if login is not None:
+                yield Shared(login, seen, [(seen.enode.port.number, at) for at in places])
+
+
 def real(look: Look, logins: Iterable[Login]) -> list[Login]:
     """The logins that the switch granted too, as far as its answers are there."""
     return [it for it in logins if look.replied(it) is not False]

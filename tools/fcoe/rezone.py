@@ -80,8 +80,9 @@ def rezoned(look: Look, plans: list[tuple[Plan, int]], room: str, name: str) -> 
     text = "\n".join([*(it for it in kept if it.strip()), *lines.text(), *(f"activate {it} {moment}" for it, moment in activations)]) + "\n"
     zones = {zone: [octets(it) for it in members] for zone, members in lines.zones.items()}
     config = replace(look.inputs.config, zones=zones, sets=dict(lines.sets), activations=activations)
-    remarks = [it for it in look.inputs.remarks if not it.startswith(("one zone of all", "no zone: "))] + lines.remarks
-    inputs = replace(look.inputs, ports=look.ports, config=config, text=text, remarks=remarks)
+    remarks = [it for it in look.inputs.remarks if not it.startswith(("one zone of all", "no zone: ", "zones: "))] + lines.remarks
+    derived = [it for it in look.inputs.derived if not it.startswith("zones: ")]
+    inputs = replace(look.inputs, ports=look.ports, config=config, text=text, remarks=remarks, derived=derived)
     folder = os.path.join(room, name)
     os.mkdir(folder)
     run = run_program(look.program, inputs, folder)

@@ -13,6 +13,7 @@ from .journals import Frame, row_of
 from .looking import Look
 from .readdress import Request
 from .steps import next_step
+from .who import SERVICES
 
 NOISE = "dropped ethertype"
 LISTED = 1000  # frames of an answer that are named
@@ -28,22 +29,24 @@ class Drops:
     ends: tuple[str, str]
     heard: Heard  # the first
     never: Optional[int] = None  # an end that nobody here was granted
+    is_there: bool = False  # the switch granted it
+    granted: bytes = b""  # the MAC that its sender was granted, where it sends from its ENode's
     places: "array[int]" = field(default_factory=lambda: array("I"))  # in the journal
 
 
 @dataclass
 class Explained:
     """What other answers tell of, and is therefore no answer of its own: hosts without a login, by port and MAC; requests that were rejected; hosts
-    that fell silent."""
+    whose logins ended, by silence or by another host of their name."""
 
     hosts: set[tuple[int, bytes]] = field(default_factory=set)
     requests: set[Request] = field(default_factory=set)
-    silent: set[tuple[int, bytes]] = field(default_factory=set)
+    ended: set[tuple[int, bytes]] = field(default_factory=set)
 
     def has(self, look: Look, it: Compared) -> bool:
         """Whether a difference is told of."""
         if it.request.startswith("Clear links to "):
-            return (it.port, bytes.fromhex(it.request.rsplit(" ", 1)[1].replace(":", ""))) in self.silent
+            return (it.port, bytes.fromhex(it.request.rsplit(" ", 1)[1].replace(":", ""))) in self.ended
         if it.index < 0:
             return False
         request = look.request_of(it.port, it.index)
@@ -51,17 +54,18 @@ class Explained:
 
 
 class Directory:
-    """Which names stand behind the run's addresses."""
+    """Which logins stand behind the run's addresses, and which addresses the switch alone granted."""
 
     def __init__(self, look: Look) -> None:
-        self.look = look
-        self.names = {it.address: colons(it.name) for it in look.walk.fabric.logins}
+        self.fc_map = look.run.config.fc_map
+        self.logins = {it.address: it for it in look.walk.fabric.logins}
+        self.switch_alone = {old for old, new in look.grants.values() if new is None}
 
     def of(self, address: int, said: int) -> str:
         """A name, or else the address as the captures have it."""
         if address >= WELL_KNOWN:
             return fcid(address)
-        return self.names.get(address) or address_text(said, address)
+        return colons(self.logins[address].name) if address in self.logins else address_text(said, address)
 
 
 def address_text(captured: int, run: int) -> str:
@@ -78,14 +82,21 @@ def both(look: Look, entry: Frame) -> tuple[Heard, Heard]:
 def drops_of(known: Directory, explained: Explained, entry: Frame, said: Heard, run: Heard) -> Optional[Drops]:
     """Of which drops a frame is, as it was captured and as the run has it; none where another answer tells of its host."""
     sender = entry.port, said.source
-    if sender in explained.hosts or sender in explained.silent and entry.verdict == "dropped keepalive-unknown":
+    if sender in explained.hosts or sender in explained.ended and entry.verdict == "dropped keepalive-unknown":
         return None
-    ends, never = ("", ""), None
-    if said.is_fcoe and said.fc is not None and run.fc is not None:
-        ends = known.of(run.fc.s_id, said.fc.s_id), known.of(run.fc.d_id, said.fc.d_id)
-        lost = {"dropped source-login": (run.fc.s_id, said.fc.s_id), "dropped dest-login": (run.fc.d_id, said.fc.d_id)}.get(entry.verdict)
-        never = lost[1] if lost and lost[0] not in known.names else None
-    return Drops(entry.verdict, entry.port, ends, run, never)
+    made = Drops(entry.verdict, entry.port, ("", ""), run)
+    if not said.is_fcoe or said.fc is None or run.fc is None:
+        return made
+    login = known.logins.get(run.fc.s_id)
+    if login and entry.verdict == "dropped source-login" and (login.port, login.enode) in explained.ended:
+        return None
+    made.ends = known.of(run.fc.s_id, said.fc.s_id), known.of(run.fc.d_id, said.fc.d_id)
+    lost = {"dropped source-login": (run.fc.s_id, said.fc.s_id), "dropped dest-login": (run.fc.d_id, said.fc.d_id)}.get(entry.verdict)
+    if lost and lost[0] not in known.logins:
+        made.never, made.is_there = lost[1], lost[1] in known.switch_alone
+    if login and entry.verdict == "dropped source-mac" and login.enode == said.source:
+        made.granted = known.fc_map + said.fc.s_id.to_bytes(3, "big")
+    return made
 
 
 def dropped(look: Look, explained: Explained) -> list[Drops]:
@@ -116,6 +127,11 @@ def drop_text(it: Drops) -> tuple[Severity, str, str]:
     """What a drop is, and what to do next."""
     count, rule = counted(len(it.places), "frame"), it.verdict.removeprefix("dropped ")
     from_to = f" from {it.ends[0]} to {it.ends[1]}" if it.ends[0] else ""
+    if it.never is not None and it.is_there:
+        return Severity.NOTED, f"{count}{from_to}: the switch granted {fcid(it.never)}, this forwarder didn't", "`look logins` has both verdicts"
+    if it.granted:
+        text = f"{count}{from_to} dropped by {rule}: sent from the ENode's MAC {colons(it.heard.source)} (as with SPMA), not from the granted {colons(it.granted)} (FPMA)"
+        return Severity.DROPPED, text, "the host's driver: it must send from the MAC that the accept grants; are the flags FP and SP of its FLOGI right (`look fields`)?"
     if it.verdict == "dropped dest-login" and it.never is not None:
         return Severity.NOTED, f"{count}{from_to}, which isn't in these captures", "add the capture of its port, to see what becomes of them"
     if it.verdict == "dropped source-login" and it.never is not None:
@@ -137,6 +153,8 @@ def drop_answer(look: Look, it: Drops) -> Answer:
 def ends_text(some: list[Drops]) -> str:
     """Between how many ends, or on how many ports, drops of one rule are."""
     strangers = {it.never for it in some if it.never is not None}
+    if some[0].is_there:
+        return f"with {counted(len(strangers), 'address', 'es')} that the switch alone granted"
     if strangers:
         whose = "to {} outside these captures" if some[0].verdict == "dropped dest-login" else "from {} with a login older than the capture"
         return whose.format(counted(len(strangers), "address", "es"))
@@ -159,11 +177,11 @@ def drops(look: Look, explained: Explained) -> Iterator[Answer]:
     """Each kind of drop; of a rule that drops between many ends one answer."""
     entries = look.run.entries
     apart = {(it.port, it.index) for it in look.compared.forwards if it.switch == "sent on"} if look.compared else set()
-    reasons: dict[tuple[str, bool], list[Drops]] = {}
+    reasons: dict[tuple[str, bool, bool], list[Drops]] = {}
     for it in dropped(look, explained):  # what the switch sent on all the same stands among differences
         it.places = array("I", (place for place in it.places if (it.port, entries.indexes[place]) not in apart))
         if it.places:
-            reasons.setdefault((it.verdict, it.never is None), []).append(it)
+            reasons.setdefault((it.verdict, it.never is None, it.is_there), []).append(it)
     for some in reasons.values():
         yield from [drop_answer(look, it) for it in some] if len(some) <= SHOWN else [as_one(look, some)]
 
@@ -177,6 +195,18 @@ def difference_text(it: Compared) -> str:
     return f"{first.field}: {spelled(first.switch)[:60]} there, {spelled(first.forwarder)[:60]} here" + (f", and {counted(more, 'field')} more" if more else "")
 
 
+def unanswered(look: Look, some: list[Compared]) -> tuple[str, str]:
+    """What requests are that the switch left unanswered, and the port name that sent them where it is one."""
+    captured = [look.captured[it.port - 1].frames.heard(look.request_of(it.port, it.index)[1]) for it in some]
+    run = [look.ports[it.port - 1].frames.heard(look.request_of(it.port, it.index)[1]) for it in some]
+    names = {it.address: colons(it.name) for it in look.walk.fabric.logins}
+    services = {f"{SERVICES.get(it.fc.d_id, 'the address')} ({fcid(it.fc.d_id)})" for it in captured if it.is_fcoe and it.fc}
+    senders = {names.get(it.fc.s_id, "") for it in run if it.is_fcoe and it.fc}
+    to = f" to {' and '.join(sorted(services))}" if services else ""
+    text = f"the switch left {counted(len(some), some[0].request)}{to} unanswered; this forwarder answers {spelled(some[0].forwarder)}"
+    return text, senders.pop() if len(senders) == 1 else ""
+
+
 def differences(look: Look, explained: Explained) -> Iterator[Answer]:
     """What the switch answered otherwise, alike ones together; what follows from another answer isn't among them."""
     if look.compared is None:
@@ -186,9 +216,12 @@ def differences(look: Look, explained: Explained) -> Iterator[Answer]:
         if it.state == "different" and not explained.has(look, it):
             groups.setdefault((it.request.split(" to ")[0], difference_text(it)), []).append(it)
     ranked = sorted(groups.items(), key=lambda it: -len(it[1]))
-    for (request, text), some in ranked[:SHOWN]:
+    for (request, difference), some in ranked[:SHOWN]:
         numbers = [(it.port, it.frame) for it in some if it.frame]
-        yield Answer(Severity.DIFFERENT, f"the switch answers {counted(len(some), request)} otherwise: {text}", "`look compare` has each, field by field", some[0].port, "", some[0].clock, some[-1].clock, numbers)
+        text, step, name = f"the switch answers {counted(len(some), request)} otherwise: {difference}", "`look compare` has each, field by field", ""
+        if some[0].switch == "no answer" and some[0].index >= 0:
+            (text, name), step = unanswered(look, some), "the switch's log at that time; does the request reach it, and is that service up for this port?"
+        yield Answer(Severity.DIFFERENT, text, step, some[0].port, name, some[0].clock, some[-1].clock, numbers)
     if len(ranked) > SHOWN:
         yield Answer(Severity.DIFFERENT, f"and {len(ranked) - SHOWN} more kinds of differences from the switch", "`look compare`")
 
