@@ -7,7 +7,7 @@ from typing import Callable
 TOP = pathlib.Path(__file__).resolve().parent.parent
 sys.path.insert(0, str(TOP / "tools"))
 
-from fcoe.captures import classic, write_classic  # pylint: disable=wrong-import-position
+from fcoe.captures import classic, write_classic as write_classic  # pylint: disable=wrong-import-position,useless-import-alias
 from fcoe.columns import Record  # pylint: disable=wrong-import-position
 from fcoe.frames import ALL_ENODES, ALL_FCFS, fc_check, hear  # pylint: disable=wrong-import-position
 
