@@ -1,10 +1,12 @@
 """What `replay` and `show` print, as data; and whether something is amiss."""
 import os
+from dataclasses import dataclass
 from typing import Any
 
 from .answering import answers_of
 from .answers import Severity
-from .errors import Refused
+from .errors import FOUND, Refused
+from .fabric import types_of
 from .looking import Look
 from .runs import say
 
@@ -18,7 +20,7 @@ def login_of(words: list[str]) -> Said:
     row: Said = dict(zip(NAMED["login"], words))
     for name in ("wwpn", "wwnn", "enode"):
         row[name] = bytes.fromhex(row[name]).hex(":")
-    return {**row, **{it: int(row[it]) for it in NUMBERS}, "types": None}
+    return {**row, **{it: int(row[it]) for it in NUMBERS}, "types": [], "map": bytes(32).hex()}
 
 
 def shown(lines: list[str]) -> Said:
@@ -31,24 +33,42 @@ def shown(lines: list[str]) -> Said:
         elif word == "login":
             found["logins"].append(login_of(rest))
         elif word == "types":
-            next(it for it in found["logins"] if it["fcid"] == rest[0])["types"] = rest[1]
+            login = next(it for it in found["logins"] if it["fcid"] == rest[0])
+            login.update(types=types_of(bytes.fromhex(rest[1])), map=rest[1])
     return found
 
 
-def called(program: str, command: str, files: list[str]) -> tuple[int, Said]:
-    """The status of `replay` or `show` over files that exist, and what it printed as data."""
+def fault_of(printed: str) -> Said:
+    """The fault that a line tells: of what, where, and why."""
+    word, *rest = printed.split()
+    at = [int(it) for it in rest if it.isdigit()]
+    return {"fault": word, "at": at, "why": " ".join(rest[len(at) :]) or None}
+
+
+@dataclass
+class Called:
+    """What `replay` or `show` said: its status, its lines, and these as data."""
+
+    status: int
+    lines: list[str]
+    said: Said
+
+
+def called(program: str, command: str, files: list[str]) -> Called:
+    """What `replay` or `show` says over files that exist."""
     for name in files:
         if not os.path.exists(name):
             raise Refused(f"{name}: No such file or directory: look at its spelling and its folder")
     ran = say([program, command, *files], os.getcwd())
     lines = ran.stdout.splitlines()
-    said: Said = {"command": command, "status": ran.returncode, "printed": lines[:1][0] if lines else ""}
-    words = said["printed"].split()
+    printed = lines[0] if lines else ""
+    said: Said = {"command": command, "status": ran.returncode, "printed": printed}
     if ran.returncode == 0:
-        return 0, {**said, **(shown(lines) if command == "show" else {"entries": int(words[1])})}
-    if ran.returncode == 1 and len(words) >= 3 and words[0] in ("journal", "output", "capture", "config"):
-        return 1, {**said, "fault": words[0], "at": words[1:]}
-    return 2, said
+        return Called(0, lines, {**said, **(shown(lines) if command == "show" else {"entries": int(printed.split()[1])})})
+    if ran.returncode == FOUND and printed:
+        return Called(FOUND, lines, {**said, **fault_of(printed)})
+    told = (ran.stderr.strip().splitlines() or [printed])[-1]
+    raise Refused(f"`fcoe_tool {command}` ended with status {ran.returncode} ({told}): docs/COMMANDS.md has what that means")
 
 
 def is_amiss(look: Look) -> bool:

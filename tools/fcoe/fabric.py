@@ -15,6 +15,12 @@ ANSWERED = {"vlans", "advertised", "granted", "rejected", "logout", "ns-login", 
 NO_TYPES = bytes(32)
 
 
+def types_of(told: bytes) -> list[int]:
+    """The FC-4 types of a map of 32 bytes (FC-GS-6)."""
+    words = [number(told[at : at + 4]) for at in range(0, 32, 4)]
+    return [32 * at + bit for at, word in enumerate(words) for bit in range(32) if word >> bit & 1]
+
+
 @dataclass
 class Login:
     """A login of an N_Port from its grant to its end."""
@@ -48,8 +54,7 @@ class Login:
 
     @property
     def type_numbers(self) -> list[int]:
-        words = [number(self.types[at : at + 4]) for at in range(0, 32, 4)]
-        return [32 * at + bit for at, word in enumerate(words) for bit in range(32) if word >> bit & 1]
+        return types_of(self.types)
 
     def is_live(self, clock: int) -> bool:
         return self.since <= clock and (self.until is None or clock < self.until)
