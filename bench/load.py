@@ -5,18 +5,9 @@ import sys
 import zlib
 from pathlib import Path
 
-PORTS, NODES, EACH = 8, 5, 6  # ports, ENodes of a port, and N_Ports of an ENode
-LOGINS = PORTS * NODES * EACH
-START = 1_000_000  # milliseconds; each login has a window of its own, and 100 data frames have one
+from long_load import EACH, LOGINS, NODES, PORTS, START, frames_of  # each login has a window of its own, and 100 data frames have one
+
 demo, config, count, size = Path(sys.argv[1]), Path(sys.argv[2]), int(sys.argv[3]), int(sys.argv[4])
-
-
-def frames_of(path):
-    data, at = path.read_bytes(), 24
-    while at < len(data):
-        stored = struct.unpack_from("<I", data, at + 8)[0]
-        yield data[at + 16 : at + 16 + stored]
-        at += 16 + stored
 
 
 def name_of(number):
