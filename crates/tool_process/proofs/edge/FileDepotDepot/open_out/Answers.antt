@@ -1,8 +1,8 @@
 use Rattle.std.proofs.Common.{length, ◌≡◌, ◌∙◌, Some, sym, ap}
 use Rattle.fab_base.specs.Desk.{place_of}
 use Rattle.fab_base.proofs.MemLemmas.{stays_trans, counted_later}
-use Rattle.fcoe_tool.proofs.EdgeLemmas.{untold_opens_out, untold_keeps, untold_write_rose, untold_files, untold_refused, untold_same_reads}
-use Rattle.fcoe_tool.proofs.edge.FileDepotDepot.open_out.Goals as goal
+use Rattle.tool_process.proofs.EdgeLemmas.{untold_opens_out, untold_keeps, untold_write_rose, untold_files, untold_refused, untold_same_reads}
+use Rattle.tool_process.proofs.edge.FileDepotDepot.open_out.Goals as goal
 
 pub returns-in-Some : goal.returns-in-Some
 returns-in-Some g c =

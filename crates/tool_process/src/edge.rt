@@ -1,7 +1,7 @@
 //! The real files and the real output, which tell no content.
 ghost use Rattle.std.specs.Prelude.{◌≡◌, ◌<◌, ◌≤◌, ◌^◌, ◌↔◌, ℕ, List, IsTrue, length, IfSome, IfOk, OnOk};
 ghost use Rattle.fab_base.specs.Desk.{knows};
-ghost use Rattle.fcoe_tool.specs.Edge.{KnowsAll, ReadsAt, WritesAt};
+ghost use Rattle.tool_process.specs.Edge.{KnowsAll, ReadsAt, WritesAt};
 ghost use Rattle.std.specs.Io.KnownBytes.{ReadConsumes, WriteAppends};
 
 use crate::same::{Mix, Spot, mix_of};
@@ -32,7 +32,7 @@ impl<'a, R: Files> FileDepot<'a, R> {
     ghost use Rattle.std.specs.Prelude.{◌≡◌, ◌<◌, ℕ, List, Some, IfSome, IfNone, IfOk, IfErr, length};
     ghost use Rattle.std.specs.Prelude.{slice_get, IsTrue, true, false, ◌≤◌};
     ghost use Rattle.fab_base.specs.Desk.{place_of, Stays, KeepsOtherSlots, KeepsCounts};
-    ghost use Rattle.fcoe_tool.specs.Edge.{KnowsAll, AddsFile, HasSame};
+    ghost use Rattle.tool_process.specs.Edge.{KnowsAll, AddsFile, HasSame};
 
     /// A depot that knows these words, beside a standard output that leads to this place.
     pub fn new(
@@ -138,7 +138,7 @@ impl<R: Files> Depot for FileDepot<'_, R> {
     ghost use Rattle.std.specs.Prelude.{◌≡◌, ◌<◌, IsTrue, IfOk, OnErr, length};
     ghost use Rattle.fab_base.specs.Desk.{at_of};
     ghost use Rattle.fab_base.specs.Seen.{OpensIn, OpensOut, Fetches, Puts};
-    ghost use Rattle.fcoe_tool.specs.Edge.{untold, AddsFile, HasSame, ReadsAt, WritesAt};
+    ghost use Rattle.tool_process.specs.Edge.{untold, AddsFile, HasSame, ReadsAt, WritesAt};
 
     ghost seen = { λ d. untold d.desk };
 
@@ -361,7 +361,7 @@ impl<W: Write + Drop> Sink for StdSink<W> {
     ghost use Rattle.std.specs.Prelude.{◌<◌, length};
     ghost use Rattle.std.specs.Io.KnownBytes.{WriteAppends};
     ghost use Rattle.fab_base.specs.Sunk.{Sinks};
-    ghost use Rattle.fcoe_tool.specs.Edge.{untold_sink};
+    ghost use Rattle.tool_process.specs.Edge.{untold_sink};
 
     ghost sunk = { λ s. untold_sink s.faults };
 

@@ -1,8 +1,8 @@
 use Rattle.std.proofs.Common.{◌≡◌, ◌∙◌, Some, sym, ap}
 use Rattle.fab_base.specs.Desk.{place_of, name}
 use Rattle.fab_base.proofs.MemLemmas.{input_within}
-use Rattle.fcoe_tool.proofs.EdgeLemmas.{untold_reads, untold_read_rose, untold_refused, no_telling}
-use Rattle.fcoe_tool.proofs.edge.FileDepotDepot.fetch.Goals as goal
+use Rattle.tool_process.proofs.EdgeLemmas.{untold_reads, untold_read_rose, untold_refused, no_telling}
+use Rattle.tool_process.proofs.edge.FileDepotDepot.fetch.Goals as goal
 
 pub returns-in-Err-clause-fetches : goal.returns-in-Err-clause-fetches
 returns-in-Err-clause-fetches g c =

@@ -1,8 +1,8 @@
 use Rattle.std.proofs.Common.{◌≡◌, ◌∙◌, Some, sym, ap}
 use Rattle.fab_base.specs.Desk.{place_of, name}
 use Rattle.fab_base.proofs.MemLemmas.{output_within}
-use Rattle.fcoe_tool.proofs.EdgeLemmas.{untold_keeps, untold_files, untold_slots, untold_refused, untold_same_reads, untold_write_rose}
-use Rattle.fcoe_tool.proofs.edge.FileDepotDepot.put.Goals as goal
+use Rattle.tool_process.proofs.EdgeLemmas.{untold_keeps, untold_files, untold_slots, untold_refused, untold_same_reads, untold_write_rose}
+use Rattle.tool_process.proofs.edge.FileDepotDepot.put.Goals as goal
 
 pub returns-in-Err-clause-puts : goal.returns-in-Err-clause-puts
 returns-in-Err-clause-puts g c =

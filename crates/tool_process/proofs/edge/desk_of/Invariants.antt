@@ -1,7 +1,7 @@
 use Rattle.std.proofs.Common.{ℕ, ◌<◌, IsTrue}
 use Rattle.fab_base.specs.Desk.{knows}
 use Rattle.fab_base.specs.Places.{name_at}
-use Rattle.fcoe_tool.proofs.edge.desk_of.Given as goal
+use Rattle.tool_process.proofs.edge.desk_of.Given as goal
 
 abbrev pub invariant-loop-index : goal.invariant-loop-index
 invariant-loop-index l = (k : ℕ) → k < l.index → IsTrue (knows l.desk (name_at l.words k))

@@ -7,12 +7,14 @@ use crate::edge::FileDepot;
 use crate::same::Mix;
 use crate::trouble::Trouble;
 use fab_base::word_at;
-use std::alloc::Global;
+use std::alloc::{AllocGlobal, Global};
+use std::io::Eprint;
 use std::rt::Files;
 use strsim::levenshtein;
 
-const COMMANDS: [&str; 10] = [
+const COMMANDS: [&str; 11] = [
     "run",
+    "live",
     "show",
     "replay",
     "convert",
@@ -25,8 +27,8 @@ const COMMANDS: [&str; 10] = [
 ];
 
 /// Says more of a status than its line.
-pub(crate) fn tell<R: Files>(
-    rt: &HostRuntime,
+pub(crate) fn tell<R: Files + Eprint + AllocGlobal>(
+    rt: &R,
     words: &[String],
     depot: &FileDepot<'_, R>,
     status: u8,
@@ -43,7 +45,7 @@ pub(crate) fn tell<R: Files>(
 }
 
 /// Says which names are one file, or the standard output.
-pub(crate) fn tell_mix(rt: &HostRuntime, words: &[String], mix: Mix) {
+pub(crate) fn tell_mix<R: Eprint>(rt: &R, words: &[String], mix: Mix) {
     let _said = match mix {
         Mix::Apart => Ok(()),
         Mix::Two(one, other) => {
@@ -61,7 +63,7 @@ pub(crate) fn tell_mix(rt: &HostRuntime, words: &[String], mix: Mix) {
     };
 }
 
-fn tell_trouble<R: Files>(rt: &HostRuntime, depot: &FileDepot<'_, R>) {
+fn tell_trouble<R: Files + Eprint>(rt: &R, depot: &FileDepot<'_, R>) {
     if let Some(Trouble { place, why }) = depot.trouble() {
         let name = depot.name_of(place);
         let _said = eprintln!(rt; "fcoe_tool: {name}: {}", why.text());
@@ -69,7 +71,7 @@ fn tell_trouble<R: Files>(rt: &HostRuntime, depot: &FileDepot<'_, R>) {
 }
 
 // Why words are no command.
-fn tell_words(rt: &HostRuntime, words: &[String]) {
+fn tell_words<R: Eprint + AllocGlobal>(rt: &R, words: &[String]) {
     if words.is_empty() {
         let _said = eprintln!(rt; "fcoe_tool: no command; fcoe_tool --help lists them");
         return;
@@ -89,7 +91,7 @@ fn tell_words(rt: &HostRuntime, words: &[String]) {
     }
 }
 
-fn tell_command(rt: &HostRuntime, command: &str) {
+fn tell_command<R: Eprint + AllocGlobal>(rt: &R, command: &str) {
     let _said = match nearest(rt.alloc(), command) {
         Some(known) => eprintln!(rt; "fcoe_tool: {command}: no command; {known}?"),
         None => eprintln!(rt; "fcoe_tool: {command}: no command; fcoe_tool --help lists them"),

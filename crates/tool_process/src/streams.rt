@@ -1,20 +1,23 @@
 //! The standard streams, where the process was started without one of them.
 
 use std::fs;
-use std::fs::File;
 use std::os::fd::AsRawFd;
+use std::rt::Files;
 
 /// Those of the descriptors 0, 1 and 2 that were closed, held by /dev/null, which is opened to be
 /// read: so no file gets the number of the standard output, and what is printed there fails.
 #[derive(Drop)]
-pub(crate) struct Held {
-    _first: Option<File>,
-    _second: Option<File>,
-    _third: Option<File>,
+pub(crate) struct Held<F> {
+    _first: Option<F>,
+    _second: Option<F>,
+    _third: Option<F>,
 }
 
 /// Holds what is closed. A descriptor gets the lowest number that is free.
-pub(crate) fn hold_closed(rt: &HostRuntime) -> Held {
+pub(crate) fn hold_closed<R: Files>(rt: &R) -> Held<R::File>
+where
+    R::File: AsRawFd,
+{
     Held {
         _first: low_descriptor(rt),
         _second: low_descriptor(rt),
@@ -23,7 +26,10 @@ pub(crate) fn hold_closed(rt: &HostRuntime) -> Held {
 }
 
 // The lowest of the three that is closed, or none.
-fn low_descriptor(rt: &HostRuntime) -> Option<File> {
+fn low_descriptor<R: Files>(rt: &R) -> Option<R::File>
+where
+    R::File: AsRawFd,
+{
     let Ok(file) = fs::open(rt, "/dev/null") else {
         return None;
     };

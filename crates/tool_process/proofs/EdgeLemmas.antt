@@ -13,7 +13,7 @@ use Rattle.fab_base.specs.declared.desk.Desk.{Desk}
 use Rattle.fab_base.proofs.MemLemmas.{mem_keeps, read_rose, write_rose, fresh_slot, opened_name}
 use Rattle.fab_base.proofs.SlotLemmas.{same_slots, keeps_slots, keeps_others, same_reads, same_writes}
 use Rattle.fab_base.proofs.KnowLemmas.{place-push_own}
-use Rattle.fcoe_tool.specs.Edge.{untold}
+use Rattle.tool_process.specs.Edge.{untold}
 
 pub no_telling : IsTrue false → ⊥
 no_telling h = absurd (cc)

@@ -1,0 +1,97 @@
+//! The command of a process.
+ghost use Rattle.std.specs.Prelude.{◌≡◌, ◌≤◌, ◌⊎◌, drop, IfOk, IfErr};
+ghost use Rattle.fabric_tool.specs.Command.{AllKnown};
+ghost use Rattle.fabric_tool.specs.Ends.{Ends};
+
+use crate::edge::{FileDepot, StdSink};
+use crate::same::{Mix, standard_output};
+use crate::streams::hold_closed;
+use crate::telling::{tell, tell_mix};
+use fab_base::{Depot, NoMemory, OpenGate, Sink};
+use fabric_tool::{Outcome, fabric_tool, report};
+use std::alloc::{AllocGlobal, Global};
+use std::io::{Eprint, Print};
+use std::os::fd::AsRawFd;
+use std::rt::{Env, Files};
+use std::sync::Wait;
+use std::thread::Threads;
+use std::{env, io};
+
+// The status of a fault of writing.
+const WRITE_FAULT: u8 = 4;
+
+/// Runs the command that the words of this process are, over real files, prints its line to the
+/// standard output, and answers its status. Behind statuses 2, 3 and 4 a line on standard error says
+/// which word or file it was, where that is known.
+pub fn run_process<R: Threads + Wait + Sync + Files + Env + Print + Eprint + AllocGlobal>(
+    rt: &R,
+) -> u8
+where
+    R::File: AsRawFd,
+    ensures statuses { result ≤ 6 }
+{
+    let alloc = rt.alloc();
+    let _held = hold_closed(rt);
+    let mut say = StdSink::new(io::writer(rt));
+    let words = match words_of(rt) {
+        Ok(words) => words,
+        Err(outcome) => return report(alloc, outcome, &mut say),
+    };
+    let mut depot = match FileDepot::new(rt, alloc, &words, &standard_output(rt)) {
+        Ok(depot) => depot,
+        Err(NoMemory) => return report(alloc, Outcome::Memory, &mut say),
+    };
+    if matches!(depot.mix(), Mix::Printed(_)) {
+        // a line would be printed into a file that the words name
+        tell_mix(rt, &words, depot.mix());
+        return WRITE_FAULT;
+    }
+    let status = status_of_process(rt, alloc, &words, &mut depot, &mut say);
+    tell(rt, &words, &depot, status);
+    status
+}
+
+/// The words behind the program's name. A command line that isn't UTF-8 is no command, and memory
+/// for it may be refused.
+pub(crate) fn words_of<R: Env + AllocGlobal>(rt: &R) -> Result<Vec<String>, Outcome>
+    ensures { IfErr result (λ o. (o ≡ Outcome.Words) ⊎ (o ≡ Outcome.Memory)) }
+{
+    match env::args(rt) {
+        Ok(words) => match words.collect::<Vec<String>>(rt.alloc()) {
+            Ok(words) => Ok(behind_the_first(words)),
+            Err(_) => Err(Outcome::Memory),
+        },
+        Err(error) => Err(if error.kind() == io::ErrorKind::OutOfMemory {
+            Outcome::Memory
+        } else {
+            Outcome::Words
+        }),
+    }
+}
+
+// All words but the first, which is the program's name.
+fn behind_the_first(words: Vec<String>) -> Vec<String>
+    ensures { result.items ≡ drop 1 words.items }
+{
+    let mut words = words;
+    if !words.is_empty() {
+        words.remove(0);
+    }
+    words
+}
+
+/// Runs the command that words are over a depot that knows them, prints its line, and answers its
+/// status. No test holds a worker.
+pub(crate) fn status_of_process<R: Threads + Wait + Sync, D: Depot, K: Sink>(
+    rt: &R,
+    alloc: Global,
+    words: &[String],
+    depot: &mut D,
+    say: &mut K,
+) -> u8
+    requires { AllKnown (D.seen depot.old) words.now }
+    ensures ends { Ends words.now (D.seen depot.old) (D.seen depot.new) (K.sunk say.old)
+        (K.sunk say.new) result }
+{
+    fabric_tool(rt, alloc, words, depot, say, &OpenGate)
+}
