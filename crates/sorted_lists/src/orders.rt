@@ -1,5 +1,5 @@
 //! Lists of places of a slab, in the order of a number of the records there.
-ghost use Rattle.std.specs.Prelude.{◌≡◌, ◌==◌, ◌+◌, ◌<◌, ◌^◌, ◌≤◌, nat_le, nat_lt, length, position, unwrap_or, option_copied, None, Some, IfSome, IfNone, IsSome, IsTrue, vec_capacity, find};
+ghost use Rattle.std.specs.Prelude.{◌≡◌, ◌==◌, ◌+◌, ◌<◌, ◌^◌, ◌≤◌, nat_le, nat_lt, length, position, unwrap_or, option_copied, None, Some, IfSome, IfNone, IsSome, IsTrue, true, vec_capacity, find};
 ghost use Rattle.fab_base.specs.Keyed.{item_at, added, without};
 ghost use Rattle.slab.specs.Slab.{get};
 ghost use Rattle.sorted_lists.specs.Reach.{place_of};
@@ -32,6 +32,12 @@ pub fn order_from<T, O: Order<T>>(
         (seen records.now places.now)) (length places.now) }
     ensures within { result ≤ length places.now }
 {
+    let near = place_near(order, records, places, from);
+    if is_behind(order, records, places, from, near)
+        && is_before(order, records, places, from, near)
+    {
+        return near;
+    }
     reach(
         places.len(),
         |at|
@@ -39,6 +45,61 @@ pub fn order_from<T, O: Order<T>>(
                 × at < length places.now }
         { is_below(order, records, places, from, at) },
     )
+}
+
+// Where the bound is if the numbers follow one another without a gap, as granted addresses mostly
+// do.
+fn place_near<T, O: Order<T>>(order: &O, records: &Slab<T>, places: &[usize], from: u128) -> usize
+    requires { AreSorted (O.number_of order.now) records.now places.now }
+    ensures { result ≤ length places.now }
+{
+    if places.is_empty() {
+        return 0;
+    }
+    let ahead = from.saturating_sub(order.number(&records[places[0]]));
+    if ahead < places.len() as u128 {
+        ahead as usize
+    } else {
+        places.len()
+    }
+}
+
+// Whether no record from a place of the list on is below the bound.
+fn is_behind<T, O: Order<T>>(
+    order: &O,
+    records: &Slab<T>,
+    places: &[usize],
+    from: u128,
+    at: usize,
+) -> bool
+    requires sorted { AreSorted (O.number_of order.now) records.now places.now }
+    requires within { at ≤ length places.now }
+    ensures { result ≡ true
+        → place_of (O.number_of order.now) from (seen records.now places.now) ≤ at }
+{
+    if at == places.len() {
+        return true;
+    }
+    !is_below(order, records, places, from, at)
+}
+
+// Whether each record before a place of the list is below the bound.
+fn is_before<T, O: Order<T>>(
+    order: &O,
+    records: &Slab<T>,
+    places: &[usize],
+    from: u128,
+    at: usize,
+) -> bool
+    requires sorted { AreSorted (O.number_of order.now) records.now places.now }
+    requires within { at ≤ length places.now }
+    ensures { result ≡ true
+        → at ≤ place_of (O.number_of order.now) from (seen records.now places.now) }
+{
+    if at == 0 {
+        return true;
+    }
+    is_below(order, records, places, from, at - 1)
 }
 
 // The record at a place of the list is below the bound.
