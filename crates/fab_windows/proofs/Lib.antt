@@ -13,3 +13,5 @@ pub mod GoLemmas
 pub mod BeginLemmas
 pub mod LineLemmas
 pub mod PublishLemmas
+mod WholeLemmas
+mod PartLemmas

@@ -9,7 +9,7 @@ use Rattle.fab_gather.specs.declared.shelf.Input.{Input}
 use Rattle.fab_gather.specs.declared.shelf.Shelf.{Shelf}
 use Rattle.fab_policy.specs.Growing.{FollowedByParts, RangedByParts, TimedGrows, with_more}
 use Rattle.fab_policy.specs.Journal.{Journal, followed}
-use Rattle.fab_policy.specs.Legal.{Legal, Timed, Run, HasPorts, HoldsFrames, of_port}
+use Rattle.fab_policy.specs.Legal.{Legal, Run, HasPorts}
 use Rattle.fab_policy.specs.Looks.{Opened}
 use Rattle.fab_policy.specs.Ranged.{IsRanged, IsRangedEvent}
 use Rattle.fab_policy.specs.Standing.{Contents, Stands, StandsDrained, drained}
@@ -18,9 +18,8 @@ use Rattle.forward_core.specs.Fabric.{AreRanged}
 use Rattle.pcap_file.specs.declared.Record.{Record}
 use Rattle.fab_windows.specs.Steps.{Sofar, FirstsAreTaken}
 use Rattle.fab_windows.specs.Window.{AreTicksTo, Ticked, Handled}
-use Rattle.fab_shared.proofs.FollowedLemmas.{of_port-followed, ports-followed}
-use Rattle.fab_windows.proofs.LeftLemmas.{all_below_more, all_below_to, all_from_window, length-with_more, holds_more, least_left}
-use Rattle.fab_windows.proofs.TimedLemmas.{ticks_hold, ticks_ports, timed_ticks, timed_frames, AllAbove, AreBehind, held_behind, frames_of}
+use Rattle.fab_windows.proofs.LeftLemmas.{all_below_more, all_below_to, length-with_more}
+use Rattle.fab_windows.proofs.WholeLemmas.{run_on}
 
 -- ---- ranges
 
@@ -89,34 +88,10 @@ module _ (parts : FollowedByParts) (ranged : RangedByParts) (grows : TimedGrows)
   frame_ports : HasPorts n (followed [] h.grown.later)
   frame_ports = subst (λ (k : ℕ). HasPorts k (followed [] h.grown.later)) (t.count ∙ so_far.count) h.ports
 
-  ports_after : HasPorts (length ins) K
-  ports_after =
-      subst (λ (k : ℕ). HasPorts k K) (sym (length-with_more taken batches ∙ so_far.width))
-      (ports-followed n I h.grown.later (ticks_ports c w n J t.ticks are_ticks (subst (λ (k : ℕ). HasPorts k J) so_far.width so_far.run.run.ports)) frame_ports)
-
-  frames_after : HoldsFrames K 1 ins
-  frames_after = holds_more 1 taken batches J K h.grown.later same_width (λ q. of_port-followed q I h.grown.later ∙ ap (λ l. l ++ of_port q (followed [] h.grown.later)) (ticks_hold c w q J t.ticks are_ticks)) so_far.run.run.frames h.held
-
-  timed_before : Timed c ins J
-  timed_before = grows c w taken batches J so_far.run.run.ports so_far.run.run.frames so_far.run.run.timed (all_below_to c v (w + 1) taken soon so_far.below) (all_from_window c w batches own) same_width
-
-  behind : AreBehind taken h.grown.later
-  behind q records at =
-      subst (λ (k : ℕ). AllAbove (length records) (of_port k (followed [] h.grown.later))) (let e : 1 + q ≡ q + 1 = omega arith in e)
-      (held_behind 1 q taken batches h.grown.later records same_width h.held at)
-
-  timed_after : Timed c ins K
-  timed_after =
-      let at_window = timed_ticks c w ins J t.ticks (least_left c w taken batches J same_width so_far.run.run.frames own some) are_ticks timed_before in
-      timed_frames c w ins I h.grown.later (frames_of c w n taken batches h.grown.later same_width own h.grown.frames frame_ports behind) at_window.1 at_window.0
-
   run_after : Run c ins K
-  run_after = record {
-    ports = ports_after;
-    frames = frames_after;
-    legal = subst (λ (x : Settings). Legal x K) (t.settings ∙ so_far.settings) handled.0;
-    timed = timed_after;
-  }
+  run_after =
+      run_on grows c v w taken batches J so_far.run same_width so_far.below soon own some t.ticks h.grown.later are_ticks h.grown.frames
+      (subst (λ (k : ℕ). HasPorts k (followed [] h.grown.later)) (sym so_far.width) frame_ports) h.held (subst (λ (x : Settings). Legal x K) (t.settings ∙ so_far.settings) handled.0)
 
   pub window_is_run : Sofar c n (w + 1) (with_more taken batches) (followed J H.events) (drained H)
   window_is_run = record {

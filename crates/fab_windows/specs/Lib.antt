@@ -4,3 +4,4 @@ pub mod Run
 pub mod Steps
 pub mod Turns
 pub mod Window
+pub mod Parts

@@ -16,6 +16,7 @@ pub use pages::Pages;
 pub use plan::tick_to;
 pub use run::run_windows;
 pub use run_files::RunFault;
+pub use steps::parts_go_on;
 
 /// How many frames and entries a run made.
 #[derive(Clone, Copy, Debug, PartialEq, Eq)]
