@@ -1,15 +1,13 @@
 -- Lists that ascend by a key, and tests that no two keys pass.
-use Rattle.std.proofs.Common.{◌≡◌, ℕ, suc, ◌+◌, ◌<◌, ◌≤◌, ◌==◌, Bool, true, false, cond, ◌&&◌, ◌||◌, nat_le, nat_lt, List, [], ◌∷◌, ◌++◌, length, filter, find, Some, None, option_to_list, append-nil, ◌⊎◌, inl, inr, refl, sym, ◌∙◌, ap, subst, arith}
+use Rattle.std.proofs.Common.{◌≡◌, ◌≢◌, ℕ, suc, ◌+◌, ◌<◌, ◌≤◌, ◌==◌, Bool, true, false, cond, ◌&&◌, ◌||◌, nat_le, nat_lt, List, [], ◌∷◌, ◌++◌, length, filter, find, map, Some, None, option_map, option_to_list, append-nil, ◌⊎◌, inl, inr, refl, sym, ◌∙◌, ap, subst, arith}
 use mathlib.Core.Bool.{false≢true}
 use Rattle.std.specs.List.{All, list_any}
 use Rattle.std.proofs.lemmas.Bool.Decides.{nat_tests}
 use Rattle.std.proofs.lemmas.List.Elements.{All-nil, All-cons, All-head, All-tail, filter-append}
-use Rattle.fab_base.specs.Keyed.{item_at, AscendFrom, added}
+use Rattle.fab_base.specs.Keyed.{item_at, AscendFrom, added, without}
 use Rattle.fab_base.proofs.KeyedLemmas as keyed
-use Rattle.slab.specs.Slab.{Slab}
-use Rattle.sorted_lists.specs.Orders.{seen, IsOrder}
+use Rattle.sorted_lists.specs.Index.{IsIndex}
 use Rattle.sorted_lists.proofs.IndexLemmas.{none_some, some_same, equal}
-use Rattle.sorted_lists.proofs.OrderLemmas.{IsIndex-orders}
 use Rattle.fip_snoop.proofs.ListLemmas.{Among, any-among, among-any, find-first, first, alike}
 
 itself : (n : ℕ) → (n == n) ≡ true
@@ -209,21 +207,100 @@ module _ {X : Type 0} (key : X → ℕ) where
         go true this = ap (λ l. l ++ x ∷ []) (sym (filter-absent x xs this absent))
         go false other = sym (filter-one 0 xs ascend) ∙ sym (append-nil (filter q xs))
 
--- ---- two orders of the same records
+-- ---- two orders of the same items
 
-module _ {T : Type 0} (key number : T → ℕ) (slab : Slab T) (places others : List ℕ) (order : IsOrder key slab places) (other : IsOrder number slab others) where
-  pub other-among : (x : T) → Among x (seen slab places) → Among x (seen slab others)
-  other-among x among =
-      found-among _ (seen slab others) x ((IsIndex-orders key number slab places others order other).told (key x) x (item-among key 0 (seen slab places) order.sorted.ascending x among))
+module _ {X : Type 0} (key number : X → ℕ) (xs others : List X) (ascend : AscendFrom key 0 xs) (same : IsIndex key number (λ x. x) xs others) where
+  pub numbered : (x : X) → Among x xs → item_at number (number x) others ≡ Some x
+  numbered x among = same.told (key x) x (item-among key 0 xs ascend x among)
 
-  pub All-other : (P : T → Type 0) → All P (seen slab others) → All P (seen slab places)
-  All-other P all = All-from_among P (seen slab places) (λ x among. All-among P (seen slab others) all x (other-among x among))
+  pub among_other : (x : X) → Among x xs → Among x others
+  among_other x among = found-among _ others x (numbered x among)
 
-pub any-orders : {T : Type 0} (key number : T → ℕ) (slab : Slab T) (places others : List ℕ) → IsOrder key slab places → IsOrder number slab others → (p : T → Bool) → list_any p (seen slab places) ≡ list_any p (seen slab others)
-any-orders key number slab places others order other p = alike _ _ there back
-  where
-    there : list_any p (seen slab places) ≡ true → list_any p (seen slab others) ≡ true
-    there e = let found = any-among p (seen slab places) e in among-any p found.0 (seen slab others) (other-among key number slab places others order other found.0 found.1) found.2
+  pub among_back : (x : X) → Among x others → Among x xs
+  among_back x among =
+      let of = same.made (number x) x (item-among number 0 others same.ascending x among) in
+      subst (λ y. Among y xs) of.3 (found-among _ xs of.1 of.2)
 
-    back : list_any p (seen slab others) ≡ true → list_any p (seen slab places) ≡ true
-    back e = let found = any-among p (seen slab others) e in among-any p found.0 (seen slab places) (other-among number key slab others places other order found.0 found.1) found.2
+  pub All-other : (P : X → Type 0) → All P xs → All P others
+  All-other P all = All-from_among P others (λ x among. All-among P xs all x (among_back x among))
+
+  pub any-orders : (p : X → Bool) → list_any p others ≡ list_any p xs
+  any-orders p = alike _ _
+      (λ e. let found = any-among p others e in among-any p found.0 xs (among_back found.0 found.1) found.2)
+      (λ e. let found = any-among p xs e in among-any p found.0 others (among_other found.0 found.1) found.2)
+
+-- ---- lists that are changed by their keys
+
+module _ {X : Type 0} (key : X → ℕ) (xs : List X) (ascend : AscendFrom key 0 xs) where
+  -- the order of one that comes and one that goes is free
+  pub without-added : (x : X) (n : ℕ) → n ≢ key x → without key n (added key x xs) ≡ added key x (without key n xs)
+  without-added x n apart =
+      keyed.equal_by_items key 0 (without key n (added key x xs)) (added key x (without key n xs))
+      (keyed.AscendFrom-filter key _ 0 (added key x xs) (keyed.AscendFrom-added key x 0 xs ascend (omega arith)))
+      (keyed.AscendFrom-added key x 0 (without key n xs) (keyed.AscendFrom-filter key _ 0 xs ascend) (omega arith))
+      (λ a.
+      keyed.item_at-without key n a (added key x xs) ∙ ap (λ o. cond (n == a) None o) (keyed.item_at-added key x xs a)
+      ∙ go a (n == a) refl (key x == a) refl
+      ∙ sym (keyed.item_at-added key x (without key n xs) a ∙ ap (λ o. cond (key x == a) (Some x) o) (keyed.item_at-without key n a xs)))
+    where
+      go : (a : ℕ) (b : Bool) → (n == a) ≡ b → (c : Bool) → (key x == a) ≡ c → cond b None (cond c (Some x) (item_at key a xs)) ≡ cond c (Some x) (cond b None (item_at key a xs))
+      go a true e true f = absurd (apart (equal n a e ∙ sym (equal (key x) a f)))
+      go a true e false f = refl
+      go a false e true f = refl
+      go a false e false f = refl
+
+  -- what came goes again
+  pub added-gone : (x : X) → item_at key (key x) xs ≡ None → without key (key x) (added key x xs) ≡ xs
+  added-gone x absent =
+      keyed.equal_by_items key 0 (without key (key x) (added key x xs)) xs
+      (keyed.AscendFrom-filter key _ 0 (added key x xs) (keyed.AscendFrom-added key x 0 xs ascend (omega arith))) ascend
+      (λ a.
+      keyed.item_at-without key (key x) a (added key x xs) ∙ ap (λ o. cond (key x == a) None o) (keyed.item_at-added key x xs a)
+      ∙ go a (key x == a) refl)
+    where
+      go : (a : ℕ) (c : Bool) → (key x == a) ≡ c → cond c None (cond c (Some x) (item_at key a xs)) ≡ item_at key a xs
+      go a true f = sym (ap (λ n. item_at key n xs) (sym (equal (key x) a f)) ∙ absent)
+      go a false f = refl
+
+  -- the one that was there is put back
+  pub added-back : (x y : X) → key y ≡ key x → item_at key (key x) xs ≡ Some y → added key y (added key x xs) ≡ xs
+  added-back x y same there =
+      keyed.equal_by_items key 0 (added key y (added key x xs)) xs
+      (keyed.AscendFrom-added key y 0 (added key x xs) (keyed.AscendFrom-added key x 0 xs ascend (omega arith)) (omega arith)) ascend
+      (λ a.
+      keyed.item_at-added key y (added key x xs) a ∙ ap (λ o. cond (key y == a) (Some y) o) (keyed.item_at-added key x xs a)
+      ∙ ap (λ n. cond (n == a) (Some y) (cond (key x == a) (Some x) (item_at key a xs))) same
+      ∙ go a (key x == a) refl)
+    where
+      go : (a : ℕ) (c : Bool) → (key x == a) ≡ c → cond c (Some y) (cond c (Some x) (item_at key a xs)) ≡ item_at key a xs
+      go a true f = sym (ap (λ n. item_at key n xs) (sym (equal (key x) a f)) ∙ there)
+      go a false f = refl
+
+-- ---- items that are kept in other ones
+
+module _ {X Y : Type 0} (f : Y → X) where
+  pub find-of : (p : X → Bool) (ys : List Y) → find p (map f ys) ≡ option_map f (find (λ y. p (f y)) ys)
+  find-of p [] = refl
+  find-of p (y ∷ ys) = go (p (f y)) (find-of p ys)
+    where
+      go : (b : Bool) → find p (map f ys) ≡ option_map f (find (λ y. p (f y)) ys) → cond b (Some (f y)) (find p (map f ys)) ≡ option_map f (cond b (Some y) (find (λ y. p (f y)) ys))
+      go true others = refl
+      go false others = others
+
+  pub filter-of : (p : X → Bool) (ys : List Y) → map f (filter (λ y. p (f y)) ys) ≡ filter p (map f ys)
+  filter-of p [] = refl
+  filter-of p (y ∷ ys) = go (p (f y)) (filter-of p ys)
+    where
+      go : (b : Bool) → map f (filter (λ y. p (f y)) ys) ≡ filter p (map f ys) → map f (cond b (y ∷ filter (λ y. p (f y)) ys) (filter (λ y. p (f y)) ys)) ≡ cond b (f y ∷ filter p (map f ys)) (filter p (map f ys))
+      go true others = ap (λ l. f y ∷ l) others
+      go false others = others
+
+  pub added-of : (key : X → ℕ) (y : Y) (ys : List Y) → map f (added (λ z. key (f z)) y ys) ≡ added key (f y) (map f ys)
+  added-of key y ys =
+      map-append (filter (λ z. nat_lt (key (f z)) (key (f y))) ys) (y ∷ filter (λ z. nat_lt (key (f y)) (key (f z))) ys)
+      ∙ ap (λ l. l ++ f y ∷ map f (filter (λ z. nat_lt (key (f y)) (key (f z))) ys)) (filter-of (λ x. nat_lt (key x) (key (f y))) ys)
+      ∙ ap (λ l. filter (λ x. nat_lt (key x) (key (f y))) (map f ys) ++ f y ∷ l) (filter-of (λ x. nat_lt (key (f y)) (key x)) ys)
+    where
+      map-append : (us vs : List Y) → map f (us ++ vs) ≡ map f us ++ map f vs
+      map-append [] vs = refl
+      map-append (u ∷ us) vs = ap (λ l. f u ∷ l) (map-append us vs)

@@ -1,5 +1,5 @@
 -- MACs are told apart by their numbers.
-use Rattle.std.proofs.Common.{◌≡◌, ◌≢◌, ℕ, ◌+◌, ◌*◌, ◌/◌, ◌%◌, ◌^◌, ◌<◌, ◌≤◌, ◌==◌, Bool, true, false, not, ◌&&◌, ◌||◌, nat_le, nat_lt, List, length, ◌⊎◌, inl, inr, refl, sym, ◌∙◌, ap, arith}
+use Rattle.std.proofs.Common.{◌≡◌, ◌≢◌, ℕ, ◌+◌, ◌*◌, ◌^◌, ◌<◌, ◌≤◌, ◌==◌, Bool, true, false, not, ◌&&◌, ◌||◌, nat_le, nat_lt, List, length, ◌⊎◌, inl, inr, refl, sym, ◌∙◌, ap, arith}
 use mathlib.Core.Bool.{false≢true}
 use Rattle.std.proofs.lemmas.Bool.{cases_order}
 use Rattle.std.proofs.lemmas.Bool.Decides.{nat_tests}
@@ -7,7 +7,7 @@ use Rattle.std.proofs.lemmas.Slice.Eq.{bytes_eq-Decides}
 use Rattle.fab_base.specs.Layout.{big_endian, spelled}
 use Rattle.fab_base.proofs.LayoutLemmas.{big_endian-fits, spelled-big_endian}
 use Rattle.fab_config.specs.Settings.{same_bytes}
-use Rattle.fip_snoop.specs.Maps.{IsMac, IsWhole, placed, number_of, mac_number, number_from, enode_number, is_between}
+use Rattle.fip_snoop.specs.Maps.{IsMac, IsWhole, mac_number, number_from, enode_number, is_between}
 use Rattle.fip_snoop.specs.declared.bindings.Binding.{Binding}
 
 pub mac_range : (m : List ℕ) → IsMac m → big_endian m < 2 ^ 48
@@ -26,42 +26,11 @@ itself n = grind (arith, nat_tests)
 unequal : (m n : ℕ) → m ≢ n → (m == n) ≡ false
 unequal m n ne = grind (arith, nat_tests)
 
--- the last byte on top
-pub placed_range : (m : List ℕ) → IsMac m → placed m < 2 ^ 48
-placed_range m is = range (big_endian m) (mac_range m is)
-  where
-    range : (n : ℕ) → n < 2 ^ 48 → (n % 256) * 2 ^ 40 + n / 256 < 2 ^ 48
-    range n less = omega (arith, less)
-
-pub placed_is : (m n : List ℕ) → IsMac m → IsMac n → placed m ≡ placed n → m ≡ n
-placed_is m n p q e = number_is m n p q (apart (big_endian m) (big_endian n) (mac_range m p) (mac_range n q) e)
-  where
-    apart : (a b : ℕ) → a < 2 ^ 48 → b < 2 ^ 48 → (a % 256) * 2 ^ 40 + a / 256 ≡ (b % 256) * 2 ^ 40 + b / 256 → a ≡ b
-    apart a b less also e = omega (arith, less, also, e)
-
-pub number_of_is : (m n : List ℕ) → IsMac m → IsMac n → number_of m ≡ number_of n → m ≡ n
-number_of_is m n p q e = placed_is m n p q (cancel (placed m) (placed n) e)
-  where
-    cancel : (a b : ℕ) → a * 2 ^ 64 ≡ b * 2 ^ 64 → a ≡ b
-    cancel a b e = omega (arith, e)
-
-pub mac_number_range : (b : Binding) → IsWhole b → mac_number b < 2 ^ 112
-mac_number_range b whole = range (placed b.mac) (placed_range b.mac whole.0)
-  where
-    range : (n : ℕ) → n < 2 ^ 48 → n * 2 ^ 64 < 2 ^ 112
-    range n less = omega (arith, less)
-
 pub enode_number_range : (b : Binding) → IsWhole b → enode_number b < 2 ^ 112
-enode_number_range b (own, other, fits) = range (placed b.enode) b.port (big_endian b.mac) (placed_range b.enode other) fits (mac_range b.mac own)
+enode_number_range b (own, other, fits) = range (big_endian b.enode) b.port (big_endian b.mac) (mac_range b.enode other) fits (mac_range b.mac own)
   where
     range : (e p m : ℕ) → e < 2 ^ 48 → p < 2 ^ 16 → m < 2 ^ 48 → (e * 2 ^ 16 + p) * 2 ^ 48 + m < 2 ^ 112
     range e p m less also too = omega (arith, less, also, too)
-
-pub first_below : (enode : List ℕ) (n : ℕ) → IsMac enode → n ≡ number_from enode 0 → n < 2 ^ 112
-first_below enode n is e = range (placed enode) (placed_range enode is) e
-  where
-    range : (p : ℕ) → p < 2 ^ 48 → n ≡ (p * 2 ^ 16 + 0) * 2 ^ 48 → n < 2 ^ 112
-    range p less e = omega (arith, less, e)
 
 -- the test on two MACs is that on numbers which tell them apart
 same_by : (f : List ℕ → ℕ) (m n : List ℕ) → (f m ≡ f n → m ≡ n) → same_bytes m n ≡ (f m == f n)
@@ -75,12 +44,6 @@ same_by f m n is = go (same_bytes m n) refl (f m == f n) refl
 
 pub same_number : (m n : List ℕ) → IsMac m → IsMac n → same_bytes m n ≡ (big_endian m == big_endian n)
 same_number m n p q = same_by big_endian m n (number_is m n p q)
-
-same_placed : (m n : List ℕ) → IsMac m → IsMac n → same_bytes m n ≡ (placed m == placed n)
-same_placed m n p q = same_by (λ l. placed l) m n (placed_is m n p q)
-
-pub same_mac : (m n : List ℕ) → IsMac m → IsMac n → same_bytes m n ≡ (number_of m == number_of n)
-same_mac m n p q = same_by (λ l. number_of l) m n (number_of_is m n p q)
 
 -- ---- ranges
 
@@ -165,13 +128,13 @@ pub moved_number : (enode : List ℕ) (port : ℕ) (b : Binding) → IsMac enode
     (is_between (number_from enode 0) (number_from enode port) b || is_between (number_from enode (port + 1)) (number_from enode (2 ^ 16)) b)
     ≡ (same_bytes b.enode enode && not (b.port == port))
 moved_number enode port b mac range (own, other, fits) =
-    elsewhere (placed enode) (placed b.enode) port b.port (big_endian b.mac) range fits (mac_range b.mac own)
-    ∙ ap (λ z. z && not (b.port == port)) (sym (same_placed b.enode enode other mac))
+    elsewhere (big_endian enode) (big_endian b.enode) port b.port (big_endian b.mac) range fits (mac_range b.mac own)
+    ∙ ap (λ z. z && not (b.port == port)) (sym (same_number b.enode enode other mac))
 
 -- bindings of one number have one MAC
 pub enode_number_is : (b c : Binding) → IsWhole b → IsWhole c → enode_number b ≡ enode_number c → mac_number b ≡ mac_number c
 enode_number_is b c (bm, be, bp) (cm, ce, cp) e =
-    ap (λ l. number_of l) (number_is b.mac c.mac bm cm (apart (placed b.enode * 2 ^ 16 + b.port) (placed c.enode * 2 ^ 16 + c.port) (big_endian b.mac) (big_endian c.mac) (mac_range b.mac bm) (mac_range c.mac cm) e))
+    ap big_endian (number_is b.mac c.mac bm cm (apart (big_endian b.enode * 2 ^ 16 + b.port) (big_endian c.enode * 2 ^ 16 + c.port) (big_endian b.mac) (big_endian c.mac) (mac_range b.mac bm) (mac_range c.mac cm) e))
   where
     apart : (a d p q : ℕ) → p < 2 ^ 48 → q < 2 ^ 48 → a * 2 ^ 48 + p ≡ d * 2 ^ 48 + q → p ≡ q
     apart a d p q low also e = omega (arith, low, also, e)
@@ -179,7 +142,7 @@ enode_number_is b c (bm, be, bp) (cm, ce, cp) e =
 -- a binding between others of its ENode is of that ENode
 pub enode_between : (enode : List ℕ) (from : ℕ) (x b : Binding) → IsMac enode → IsWhole x → IsWhole b → number_from enode 0 ≤ from → from ≤ enode_number x → enode_number x ≤ enode_number b → b.enode ≡ enode → x.enode ≡ enode
 enode_between enode from x b mac (xm, xe, xp) (bm, be, bp) low reached least same =
-    placed_is x.enode enode xe mac (apart (placed enode) (placed x.enode) (placed b.enode) x.port b.port (big_endian x.mac) (big_endian b.mac) from xp bp (mac_range x.mac xm) (mac_range b.mac bm) low reached least (ap (λ l. placed l) same))
+    number_is x.enode enode xe mac (apart (big_endian enode) (big_endian x.enode) (big_endian b.enode) x.port b.port (big_endian x.mac) (big_endian b.mac) from xp bp (mac_range x.mac xm) (mac_range b.mac bm) low reached least (ap big_endian same))
   where
     apart : (e x b p q m n from : ℕ) → p < 2 ^ 16 → q < 2 ^ 16 → m < 2 ^ 48 → n < 2 ^ 48 → (e * 2 ^ 16 + 0) * 2 ^ 48 ≤ from → from ≤ (x * 2 ^ 16 + p) * 2 ^ 48 + m → (x * 2 ^ 16 + p) * 2 ^ 48 + m ≤ (b * 2 ^ 16 + q) * 2 ^ 48 + n → b ≡ e → x ≡ e
     apart e x b p q m n from pp qq mm nn low reached least same = omega (arith, pp, qq, mm, nn, low, reached, least, same)

@@ -2,7 +2,6 @@ pub mod Messages
 pub mod History
 pub mod Ways
 pub mod Snoop
-pub mod Rows
 pub mod Maps
 pub mod Bridge
 pub mod Queue

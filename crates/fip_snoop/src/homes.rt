@@ -1,54 +1,51 @@
-//! On which ports ENodes are, in rows by the last byte of a MAC: a new home moves homes of one row
-//! alone.
-ghost use Rattle.std.specs.Prelude.{◌≡◌, ◌<◌};
-ghost use Rattle.fip_snoop.specs.Maps as maps;
-
-use crate::home::{Home, HomeRow};
-use crate::rows::ROWS;
+//! On which ports ENodes are, in the order of their MACs.
+use crate::home::Home;
 use fab_base::{Mac, NoMemory, PortNo};
+use sorted_lists::{HasRank, mac_number};
+use sorted_trees::SortedTree;
 use std::alloc::Global;
 use std::marker::Model;
 
 /// The homes of ENodes.
 #[derive(Debug, Drop)]
 pub(crate) struct Homes {
-    rows: Vec<HomeRow>,
+    by_mac: SortedTree<Home>,
 }
 
 impl Model for Homes {
     ghost use Rattle.std.specs.Prelude.{List};
+    ghost use Rattle.std.specs.List.{All};
     ghost use Rattle.fip_snoop.specs.declared.home.Home.{Home};
-    ghost use Rattle.fip_snoop.specs.Rows.{flat};
-    ghost use Rattle.fip_snoop.specs.Maps.{AreHomeRows};
+    ghost use Rattle.fip_snoop.specs.Maps.{IsWholeHome};
 
     ghost Value = { List Home };
 
-    ghost view = { λ h. flat h.rows.items };
+    ghost view = { λ h. h.by_mac };
 
-    ghost invariant = { λ h. AreHomeRows h.rows.items };
+    ghost invariant = { λ h. All IsWholeHome h.by_mac };
 }
 
 impl Homes {
-    ghost use Rattle.std.specs.Prelude.{◌≡◌, [], Some, IfOk, OnOk, OnErr, IsOk};
+    ghost use Rattle.std.specs.Prelude.{◌≡◌, [], Some, OnOk, OnErr, IsOk};
     ghost use Rattle.fip_snoop.specs.Snoop as kept;
     ghost use Rattle.fip_snoop.specs.Maps.{SameHomes};
 
-    pub(crate) fn new(alloc: Global) -> Result<Homes, NoMemory>
-        ensures { IfOk result (λ homes. homes ≡ []) }
+    pub(crate) fn new(alloc: Global) -> Homes
+        ensures { result ≡ [] }
     {
-        let mut rows = Vec::new(alloc);
-        for _ in 0..ROWS {
-            rows.push(HomeRow::new(alloc))?;
+        Homes {
+            by_mac: SortedTree::new(alloc),
         }
-        Ok(Homes { rows })
     }
 
     // The port of an ENode.
     pub(crate) fn at(&self, mac: &Mac) -> Option<PortNo>
         ensures { result ≡ kept.home_in self.now mac.now }
     {
-        let row = row_of(mac);
-        self.rows[row].at(mac)
+        match self.by_mac.find(mac_number(mac) as u128) {
+            Some(home) => Some(home.port),
+            None => None,
+        }
     }
 
     // Keeps a home in place of the one of its MAC. A known one is never refused memory.
@@ -57,15 +54,8 @@ impl Homes {
         ensures err { OnErr result (self.new ≡ self.old) }
         ensures known { kept.home_in self.old home.mac ≡ Some home.port → IsOk result }
     {
-        let row = row_of(&home.mac);
-        self.rows[row].put(home)
+        home.rank();
+        self.by_mac.put(home)?;
+        Ok(())
     }
-}
-
-// The row of a MAC.
-fn row_of(mac: &Mac) -> usize
-    ensures row { result ≡ maps.row_of mac.now }
-    ensures range { result < 256 }
-{
-    mac.0[5] as usize
 }

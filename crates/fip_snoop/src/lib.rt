@@ -12,7 +12,6 @@ mod laws;
 mod orders;
 mod pages;
 mod queue;
-mod rows;
 mod snoop;
 mod up;
 mod way;

@@ -41,7 +41,7 @@ impl Model for Snoop {
     ghost view = { λ s. record {
       forwarder = s.forwarder;
       homes = s.homes;
-      bindings = s.bindings.bindings;
+      bindings = s.bindings;
     } };
 }
 
@@ -62,8 +62,8 @@ impl Snoop {
     {
         Ok(Snoop {
             forwarder: Forwarder::of(config),
-            homes: Homes::new(alloc)?,
-            bindings: Bindings::new(alloc)?,
+            homes: Homes::new(alloc),
+            bindings: Bindings::new(alloc),
         })
     }
 
@@ -118,7 +118,7 @@ fn way_for(
     port: PortNo,
     what: &What<'_>,
 ) -> Way
-    ensures { result ≡ kept.way_for forwarder.now homes.now bindings.now.bindings port
+    ensures { result ≡ kept.way_for forwarder.now homes.now bindings.now port
         (view what.now) }
 {
     match what {
@@ -146,7 +146,7 @@ fn data_way(
     eth: &EthFrame<'_>,
     body: &FcoeFrame<'_>,
 ) -> Way
-    ensures { result ≡ ways.data_way forwarder.now (kept.binding_in bindings.now.bindings) port
+    ensures { result ≡ ways.data_way forwarder.now (kept.binding_in bindings.now) port
         (eth_view eth.now) (fcoe_view body.now) }
 {
     if port.value() == 1 {

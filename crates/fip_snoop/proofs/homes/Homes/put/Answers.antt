@@ -1,19 +1,20 @@
-use Rattle.std.proofs.Common.{◌∙◌}
-use Rattle.fip_snoop.proofs.HomeLemmas.{home_of_row, rows_after, homes_after}
+use Rattle.std.proofs.Common.{◌∙◌, List, sym, ap, subst}
+use mathlib.Core.Bool.{false≢true}
+use Rattle.std.specs.List.{All, filter}
+use Rattle.fip_snoop.specs.Snoop.{is_home_of, home_in, with_home}
+use Rattle.fip_snoop.specs.Maps.{IsWholeHome}
+use Rattle.fip_snoop.specs.declared.home.Home.{Home}
+use Rattle.fip_snoop.proofs.HomeLemmas.{whole_added, same_put, known_there}
 use Rattle.fip_snoop.proofs.homes.Homes.put.Goals as goal
 
-pub invariant_of-self : goal.invariant_of-self
-invariant_of-self c =
-    rows_after c.self.inside.rows.items c.self.invariant c.row_of-row.result c.row_of-row.ensures.range c.index_mut.result.now c.index_mut.ensures.value
-    c.put.result c.args.home c.row_of-row.ensures.row c.put.new.self c.put.ensures.ok c.put.ensures.err
+pub returns-in_err-put-clause-known : goal.returns-in_err-put-clause-known
+returns-in_err-put-clause-known c known =
+    absurd (false≢true (c.in_err-put.ensures.known (known_there c.args.home c.self.inside.by_mac c.self.invariant c.rank.ensures.whole (ap (λ (l : List Home). home_in l c.args.home.mac) c.self.view_is ∙ known))))
+
+pub invariant_of-self-2 : goal.invariant_of-self-2
+invariant_of-self-2 c = subst (All IsWholeHome) (sym c.in_ok-put.ensures.ok) (whole_added c.args.home c.self.inside.by_mac c.self.invariant c.rank.ensures.whole)
 
 pub returns-clause-ok : goal.returns-clause-ok
-returns-clause-ok c =
-    homes_after c.self.inside.rows.items c.self.invariant c.row_of-row.result c.row_of-row.ensures.range c.index_mut.result.now c.index_mut.ensures.value
-    c.put.result c.args.home c.row_of-row.ensures.row c.put.new.self c.put.ensures.ok c.args.self.now c.self.view_is
-
-pub returns-clause-known : goal.returns-clause-known
-returns-clause-known c known =
-    c.put.ensures.known
-    (home_of_row c.self.inside.rows.items c.self.invariant c.row_of-row.result c.row_of-row.ensures.range c.index_mut.result.now c.index_mut.ensures.value
-    c.args.self.now c.args.home.mac c.row_of-row.ensures.row c.self.view_is ∙ known)
+returns-clause-ok c mac =
+    ap (filter (is_home_of mac)) c.in_ok-put.ensures.ok ∙ same_put c.args.home c.self.inside.by_mac c.self.invariant c.rank.ensures.whole c.put.ensures.ascend mac
+    ∙ ap (λ (l : List Home). filter (is_home_of mac) (with_home c.args.home l)) c.self.view_is
