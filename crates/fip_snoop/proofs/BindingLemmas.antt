@@ -1,5 +1,5 @@
 -- Bindings in two orders.
-use Rattle.std.proofs.Common.{◌≡◌, ◌≢◌, ℕ, ◌+◌, ◌<◌, ◌≤◌, ◌^◌, ◌==◌, nat_le, Bool, true, false, not, cond, ◌&&◌, ◌||◌, List, [], ◌∷◌, ◌++◌, filter, find, Option, Some, None, IfSome, IfNone, ◌⊎◌, inl, inr, refl, sym, ◌∙◌, ap, subst, arith}
+use Rattle.std.proofs.Common.{◌≡◌, ◌≢◌, ℕ, ◌+◌, ◌<◌, ◌≤◌, ◌^◌, ◌==◌, nat_le, Bool, true, false, not, cond, ◌&&◌, ◌||◌, List, [], ◌∷◌, ◌++◌, filter, find, Option, Some, None, option_to_list, IfSome, IfNone, ◌⊎◌, inl, inr, refl, sym, ◌∙◌, ap, subst, arith}
 use mathlib.Core.Bool.{false≢true}
 use Rattle.std.specs.List.{All, list_any}
 use Rattle.std.proofs.lemmas.Bool.{cases_lt}
@@ -11,11 +11,11 @@ use Rattle.fab_base.proofs.SamenessLemmas.{found_passes}
 use Rattle.fab_config.specs.Settings.{same_bytes}
 use Rattle.sorted_lists.proofs.IndexLemmas.{none_some, equal, unequal, first_least, none_from, key_found, All-found, IsFresh, IsIndex-without, IsIndex-added}
 use Rattle.fip_snoop.specs.Snoop.{is_binding_of, binding_in, without_binding, with_one, is_moved_in}
-use Rattle.fip_snoop.specs.Maps.{IsMac, number_of, mac_number, number_from, enode_number, IsWhole, AreKept, restored, forgotten, SameBindings, is_between, if_its, first_of, IsOf, AreBelow, IsFirst}
+use Rattle.fip_snoop.specs.Maps.{IsMac, number_of, mac_number, number_from, enode_number, IsWhole, AreKept, restored, forgotten, SameBindings, is_between, if_its, first_of, IsOf, AreBelow, IsFirst, IsBound}
 use Rattle.fip_snoop.specs.declared.bindings.Binding.{Binding}
 use Rattle.fip_snoop.proofs.ListLemmas.{Among}
 use Rattle.fip_snoop.proofs.NumberLemmas.{itself, same_number, moved_number, enode_number_is, enode_between}
-use Rattle.fip_snoop.proofs.KeyLemmas.{find-alike, filter-alike, any-alike, any-or, All-among, All-from_among, found-among, one-among, filter-put, numbered, among_back, All-other, any-orders, without-added, added-gone, added-back}
+use Rattle.fip_snoop.proofs.KeyLemmas.{find-alike, filter-alike, any-alike, any-or, filter-one, All-among, All-from_among, found-among, one-among, filter-put, numbered, among_back, All-other, any-orders, without-added, added-gone, added-back}
 use Rattle.fip_snoop.proofs.SameLemmas.{same_is, is_same}
 
 -- ---- by MAC
@@ -38,6 +38,13 @@ found_at macs now mac n o whole is number e found = found ∙ ap (λ (k : ℕ). 
 -- what is left where that of a MAC is taken out
 pub left_at : (macs now : List Binding) (mac : List ℕ) (n : ℕ) (new : List Binding) → All IsWhole macs → IsMac mac → n ≡ number_of mac → macs ≡ now → new ≡ without mac_number n macs → new ≡ without_binding mac now
 left_at macs now mac n new whole is number e left = left ∙ ap (λ (k : ℕ). without mac_number k macs) number ∙ sym (without_is macs whole mac is) ∙ ap (λ (l : List Binding). without_binding mac l) e
+
+-- a binding that was found at its MAC is the one of it
+pub bound_is : (macs enodes now : List Binding) (n : ℕ) (found x : Binding) → AreKept macs enodes → IsMac x.mac → n ≡ number_of x.mac → macs ≡ now → Some found ≡ item_at mac_number n macs → found ≡ x → IsBound x now
+bound_is macs enodes now n found x kept is number e there same =
+    subst (λ (l : List Binding). IsBound x l) e
+    (filter-one mac_number (is_binding_of x.mac) (one_number x.mac) 0 macs kept.by_mac
+    ∙ ap option_to_list (sym (found_at macs macs x.mac n (Some found) kept.whole is number refl there) ∙ ap (λ (b : Binding). Some b) same))
 
 -- ---- by ENode
 

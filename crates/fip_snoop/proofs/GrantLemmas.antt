@@ -1,5 +1,5 @@
 -- What a message to an ENode ends, and what is kept behind it.
-use Rattle.std.proofs.Common.{◌≡◌, ℕ, Bool, true, false, not, cond, ◌&&◌, ◌||◌, List, [], ◌∷◌, ◌++◌, filter, Option, Some, None, option_map, is_some, refl, sym, ◌∙◌, ap, subst}
+use Rattle.std.proofs.Common.{◌≡◌, ℕ, Bool, true, false, not, cond, ◌&&◌, ◌||◌, List, [], ◌∷◌, ◌++◌, filter, Option, Some, None, option_map, is_some, append-nil, refl, sym, ◌∙◌, ap, subst}
 use mathlib.Core.Bool.{false≢true}
 use Rattle.std.proofs.lemmas.Bool.{and_parts}
 use Rattle.std.proofs.lemmas.List.Elements.{filter-append}
@@ -10,15 +10,16 @@ use Rattle.sorted_lists.proofs.IndexLemmas.{none_some}
 use Rattle.fip_snoop.specs.Messages.{is_at, clears, grant_in, is_first_grant, released_in}
 use Rattle.fip_snoop.specs.History.{Delivery}
 use Rattle.fip_snoop.specs.Snoop.{is_binding_of, without_binding, with_one, with_binding, binding_by, is_ended, unended_by, behind}
-use Rattle.fip_snoop.specs.Maps.{SameBindings, IsOf, is_ended_by, may_end}
+use Rattle.fip_snoop.specs.Maps.{SameBindings, IsOf, IsBound, is_ended_by, may_end}
 use Rattle.fip_snoop.specs.declared.bindings.Binding.{Binding}
 use Rattle.fip_snoop.specs.declared.forwarder.Forwarder.{Forwarder}
 use Rattle.fip_snoop.specs.declared.grant.Ending.{Ending}
 use Rattle.fip_snoop.specs.declared.grant.Ending.TheVariants.{Others, Told}
 use Rattle.fip_snoop.specs.declared.grant.Grant.{Grant}
+use Rattle.fip_snoop.proofs.KeptLemmas.{other_bindings, own_bindings}
 use Rattle.fip_snoop.proofs.ListLemmas.{filter-swap}
 use Rattle.fip_snoop.proofs.KeyLemmas.{filter-alike, filter-all, filter-among-all, All-from_among}
-use Rattle.fip_snoop.proofs.SameLemmas.{is_same}
+use Rattle.fip_snoop.proofs.SameLemmas.{same_is, is_same}
 
 pub ended_own : (enode : List ℕ) (ending : Ending) (b : Binding) → is_ended_by enode ending b ≡ true → IsOf enode b
 ended_own enode (Others own) b e = (and_parts (same_bytes enode b.enode) (not (is_binding_of own b)) e).0
@@ -95,6 +96,17 @@ module _ (enode : List ℕ) (m : fip.Fip) (released : Option ℕ) (none : releas
   more_ends : unended_by enode m false released bs ≡ bs
   more_ends = filter-all (λ b. not (is_ended enode m false released b)) bs
       (All-from_among (λ b. not (is_ended enode m false released b) ≡ true) bs (λ b here. ap not (plain false b) ∙ and_false (same_bytes enode b.enode)))
+
+-- a binding that is there is in its place
+pub bound_stays : (x : Binding) (bs : List Binding) → IsBound x bs → SameBindings bs (with_one x bs)
+bound_stays x bs bound mac = go (same_bytes x.mac mac) refl ∙ sym (filter-append (is_binding_of mac) (without_binding x.mac bs) (x ∷ []))
+  where
+    go : (s : Bool) → same_bytes x.mac mac ≡ s → filter (is_binding_of mac) bs ≡ filter (is_binding_of mac) (without_binding x.mac bs) ++ cond s (x ∷ []) []
+    go true is =
+        ap (λ (l : List ℕ). filter (is_binding_of l) bs) (sym (same_is x.mac mac is)) ∙ bound
+        ∙ ap (λ (l : List Binding). l ++ x ∷ []) (sym (own_bindings mac x.mac bs (same_is x.mac mac is)))
+    go false is =
+        sym (append-nil (filter (is_binding_of mac) (without_binding x.mac bs)) ∙ other_bindings mac x.mac bs (λ same. false≢true (sym is ∙ same)))
 
 -- ---- what is kept behind a message
 

@@ -1,6 +1,6 @@
 -- How a bridge keeps homes and bindings, so that none is looked for one by one: homes in the order of their MACs, and bindings in two
 -- orders, by MAC and by ENode. No public clause cites this module.
-use Rattle.std.specs.Prelude.{◌≡◌, ℕ, ◌+◌, ◌*◌, ◌<◌, ◌≤◌, ◌^◌, ◌==◌, ◌⊎◌, Bool, true, false, not, nat_le, nat_lt, ◌&&◌, if◌then◌else◌, List, map, length, Option, None, Some, is_some, slice_index, find}
+use Rattle.std.specs.Prelude.{◌≡◌, ℕ, ◌+◌, ◌*◌, ◌<◌, ◌≤◌, ◌^◌, ◌==◌, ◌⊎◌, Bool, true, false, not, nat_le, nat_lt, ◌&&◌, if◌then◌else◌, List, map, length, Option, None, Some, is_some, slice_index, find, [], ◌∷◌}
 use Rattle.std.specs.List.{All, filter}
 use Rattle.fab_base.specs.Keyed.{AscendFrom, added, without}
 use Rattle.fab_base.specs.Layout.{big_endian}
@@ -112,6 +112,10 @@ pub record IsFirst (enode : List ℕ) (from : ℕ) (bindings : List Binding) (x 
   pub from_ : from ≤ enode_number x
   pub first : All (λ b. IsOf enode b → (enode_number b < from) ⊎ ((enode_number x < enode_number b) ⊎ (b ≡ x))) bindings
   pub alone : All (λ b. is_binding_of x.mac b ≡ true → b ≡ x) bindings
+
+-- a binding is the one of its MAC
+abbrev pub IsBound : Binding → List Binding → Type 0
+IsBound x bindings = filter (is_binding_of x.mac) bindings ≡ x ∷ []
 
 -- ---- all that is kept
 

@@ -1,5 +1,5 @@
 //! Which MACs are bound to which ports: the bindings by MAC, and the same by ENode.
-ghost use Rattle.std.specs.Prelude.{◌≡◌};
+ghost use Rattle.std.specs.Prelude.{◌≡◌, true};
 ghost use Rattle.fip_snoop.specs.Snoop as kept;
 
 use crate::forwarder::{Forwarder, is_same};
@@ -146,11 +146,24 @@ impl Bindings {
         first_of(&self.by_enode, enode, from)
     }
 
+    // Whether a binding is there.
+    fn is_bound(&self, binding: &Binding) -> bool
+        ensures { result ≡ true → maps.IsBound binding.now self.now }
+    {
+        match self.by_mac.find(mac_rank(&binding.mac)) {
+            Some(found) => are_same(found, binding),
+            None => false,
+        }
+    }
+
     // Keeps a binding in place of the one of its MAC.
     fn put(&mut self, binding: Binding) -> Result<(), NoMemory>
         ensures ok { OnOk result (maps.SameBindings self.new (kept.with_one binding self.old)) }
         ensures err { OnErr result (self.new ≡ self.old) }
     {
+        if self.is_bound(&binding) {
+            return Ok(());
+        }
         enode_rank(&binding);
         let old = self.by_mac.put(binding)?;
         match self.by_enode.put(ByEnode { binding }) {
@@ -176,6 +189,12 @@ impl Bindings {
             None => {}
         }
     }
+}
+
+fn are_same(one: &Binding, other: &Binding) -> bool
+    ensures { result ≡ true → one.now ≡ other.now }
+{
+    *one == *other
 }
 
 // The binding that a grant makes which goes down to a port.

@@ -5,6 +5,7 @@ use Rattle.fip_snoop.specs.Maps.{mac_number, enode_number, bindings_of, restored
 use Rattle.fip_snoop.specs.declared.bindings.Binding.{Binding}
 use Rattle.fip_snoop.proofs.EnodeLemmas.{put_of}
 use Rattle.fip_snoop.proofs.BindingLemmas.{AreKept-replaced, same_put, restored_is, old_there}
+use Rattle.fip_snoop.proofs.GrantLemmas.{bound_stays}
 use Rattle.fip_snoop.proofs.bindings.Bindings.put.Goals as goal
 
 pub invariant_of-self-in-Ok : goal.invariant_of-self-in-Ok
@@ -41,3 +42,6 @@ returns-in-Ok-clause-ok c mac =
 
 pub returns-in-Err-clause-err : goal.returns-in-Err-clause-err
 returns-in-Err-clause-err c = back c ∙ c.self.view_is
+
+pub returns-then-is_bound-clause-ok : goal.returns-then-is_bound-clause-ok
+returns-then-is_bound-clause-ok c = bound_stays c.args.binding c.args.self.now (c.is_bound.ensures c.if-is_bound.true)
