@@ -42,7 +42,8 @@ impl Model for Bindings {
 }
 
 impl Bindings {
-    ghost use Rattle.std.specs.Prelude.{◌≡◌, ◌≤◌, [], true, false, not, OnOk, OnErr, IfSome, IfNone};
+    ghost use Rattle.std.specs.Prelude.{◌≡◌, ◌≤◌, [], true, false, not};
+    ghost use Rattle.std.specs.Prelude.{OnOk, OnErr, IfSome, IfNone};
     ghost use Rattle.std.specs.List.{filter};
     ghost use Rattle.fip_codec.specs.Message.{view as fip_view};
     ghost use Rattle.fip_snoop.specs.Snoop as kept;

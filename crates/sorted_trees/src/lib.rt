@@ -27,7 +27,8 @@ impl<T: HasRank + Drop> Model for SortedTree<T> {
 }
 
 impl<T: HasRank + Drop> SortedTree<T> {
-    ghost use Rattle.std.specs.Prelude.{◌≡◌, ◌≢◌, None, [], nat_le, find, option_copied, IfOk, OnOk, OnErr, IsOk};
+    ghost use Rattle.std.specs.Prelude.{◌≡◌, ◌≢◌, None, [], nat_le, find, option_copied};
+    ghost use Rattle.std.specs.Prelude.{IfOk, OnOk, OnErr, IsOk};
     ghost use Rattle.fab_base.specs.Keyed.{item_at, added, without, AscendFrom};
 
     pub fn new(alloc: Global) -> SortedTree<T>
