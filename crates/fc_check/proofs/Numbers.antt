@@ -84,10 +84,22 @@ bit_digit zero lt = refl
 bit_digit (suc zero) lt = refl
 bit_digit (suc (suc m)) lt = absurd (omega arith)
 
-digit-is_odd : (n : ℕ) → digit (is_odd n) ≡ n % 2
+pub digit-is_odd : (n : ℕ) → digit (is_odd n) ≡ n % 2
 digit-is_odd n = bit_digit (n % 2) (omega arith)
 
 -- the bits of a byte spell it
 pub number_of-bits_of : (b : ℕ) → b < 256 → number_of (bits_of b) ≡ b
 number_of-bits_of b fits =
     omega (arith, digit-is_odd b, digit-is_odd (b / 2), digit-is_odd (b / 4), digit-is_odd (b / 8), digit-is_odd (b / 16), digit-is_odd (b / 32), digit-is_odd (b / 64), digit-is_odd (b / 128))
+
+pub length-low : (k n : ℕ) → length (low k n) ≡ k
+length-low zero n = refl
+length-low (suc k) n = ap (λ (m : ℕ). suc m) (length-low k (n / 2))
+
+-- so many bits of a number that needs no more spell it
+pub number_of-low : (k n : ℕ) → n < 2 ^ k → number_of (low k n) ≡ n
+number_of-low zero n lt = omega arith
+number_of-low (suc k) n lt =
+    let more : 2 ^ suc k ≡ 2 * 2 ^ k = grind arith in
+    let half = number_of-low k (n / 2) (omega arith) in
+    omega (arith, half, digit-is_odd n)

@@ -47,13 +47,13 @@ length-added [] b = refl
 length-added (p ∷ a) [] = refl
 length-added (p ∷ a) (b ∷ bs) = let h = length-added a bs in omega arith
 
-added_assoc : (a b c : List Bool) → length a ≤ length b → added (added a b) c ≡ added a (added b c)
+pub added_assoc : (a b c : List Bool) → length a ≤ length b → added (added a b) c ≡ added a (added b c)
 added_assoc [] b c le = refl
 added_assoc (p ∷ a) [] c le = absurd (omega arith)
 added_assoc (p ∷ a) (q ∷ b) [] le = refl
 added_assoc (p ∷ a) (q ∷ b) (r ∷ c) le = ap (λ x. x ∷ added (added a b) c) (plus_assoc p q r) ∙ ap (λ l. plus p (plus q r) ∷ l) (added_assoc a b c (omega arith))
 
-added_left : (a b c : List Bool) → added a (added b c) ≡ added b (added a c)
+pub added_left : (a b c : List Bool) → added a (added b c) ≡ added b (added a c)
 added_left [] b c = refl
 added_left (p ∷ a) [] c = refl
 added_left (p ∷ a) (q ∷ b) [] = refl
@@ -125,7 +125,7 @@ pub fed-append : (r xs ys : List Bool) → fed r (xs ++ ys) ≡ fed (fed r xs) y
 fed-append r [] ys = refl
 fed-append r (x ∷ xs) ys = fed-append (turned r x) xs ys
 
-length-bits : (l : List ℕ) → length (flat_map bits_of l) ≡ 8 * length l
+pub length-bits : (l : List ℕ) → length (flat_map bits_of l) ≡ 8 * length l
 length-bits [] = refl
 length-bits (b ∷ l) = let h = length-bits l in omega (arith, length-append (bits_of b) (flat_map bits_of l))
 

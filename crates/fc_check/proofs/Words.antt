@@ -1,16 +1,15 @@
 -- The words of the tables, a byte and sixteen bytes at once.
-use Rattle.std.proofs.Common.{◌≡◌, ℕ, zero, suc, ◌+◌, ◌*◌, ◌/◌, ◌%◌, ◌^◌, ◌<◌, ◌≤◌, Bool, List, [], ◌∷◌, ◌++◌, length, take, drop, map, get_or, bit_xor, bit_and, not, flat_map, refl, sym, ap, subst, ◌∙◌, arith, false, length-drop, length-append, append_assoc, drop-cons, ◌-◌}
+use Rattle.std.proofs.Common.{append-nil, drop-drop, ◌≡◌, ℕ, zero, suc, ◌+◌, ◌*◌, ◌/◌, ◌%◌, ◌^◌, ◌<◌, ◌≤◌, Bool, List, [], ◌∷◌, ◌++◌, length, take, drop, map, get_or, bit_xor, bit_and, not, flat_map, refl, sym, ap, subst, ◌∙◌, arith, false, length-drop, length-append, append_assoc, drop-cons, ◌-◌}
 use Rattle.std.specs.List.{range_with_len}
-use Rattle.std.proofs.Math.Seq.{take-add}
 use Rattle.std.specs.Int.Bits.{xor_assoc, xor_zero_r}
-use Rattle.std.proofs.lemmas.List.{length-take-le, take-append-drop, take_more, length-map, length-replicate, replicate-append-replicate, get_or-map}
+use Rattle.std.proofs.lemmas.List.{length-take-le, take-append-drop, length-map, length-replicate, replicate-append-replicate, get_or-map}
 use Rattle.std.proofs.lemmas.List.FromFn.{get_or-map-range_with_len}
 use Rattle.std.proofs.lemmas.Grind.{flat_map-append}
 use Rattle.std.proofs.lemmas.Nat.{xor_shr, xor_comm, and_mask}
 use Rattle.fc_check.specs.Crc.{bits_of, added, number_of, remainder, crc}
-use Rattle.fc_check.specs.Tables.{four_of, four_at, entry, words_of}
+use Rattle.fc_check.specs.Tables.{four_of, four_at, entry, words_of, register_after}
 use Rattle.fc_check.specs.declared.table.TheConstants.{AFTER}
-use Rattle.fc_check.proofs.Register.{fed, past, none, ones, fed-append, fed-zeros, crc-is, length-added, length-fed, fed-before, fed-apart, fed-past, past-sum, length-past, added_none, none_added, added_front, remainder-added}
+use Rattle.fc_check.proofs.Register.{fed, past, length-bits, none, ones, fed-append, fed-zeros, crc-is, length-added, length-fed, fed-before, fed-apart, fed-past, past-sum, length-past, added_none, none_added, added_front, remainder-added}
 use Rattle.fc_check.proofs.Numbers.{low, low-number_of, number_of-lt, number_of-append, number_of-not, number_of-added, number_of-bits_of}
 
 -- the register that eight bits leave behind in an empty one
@@ -64,11 +63,11 @@ next w = bit_xor (word (w % 256)) (w / 256)
 next-is : (r : List Bool) → length r ≡ 32 → next (number_of r) ≡ number_of (fed r (none 8))
 next-is r len = ap (λ (n : ℕ). bit_xor (word (n % 256)) (number_of r / 256)) (sym (xor_zero_r (number_of r))) ∙ sym (byte-fed r 0 len (omega arith))
 
-abbrev after : ℕ → ℕ → ℕ
+abbrev pub after : ℕ → ℕ → ℕ
 after zero w = w
 after (suc k) w = after k (next w)
 
-after-is : (k : ℕ) (r : List Bool) → length r ≡ 32 → after k (number_of r) ≡ number_of (past k r)
+pub after-is : (k : ℕ) (r : List Bool) → length r ≡ 32 → after k (number_of r) ≡ number_of (past k r)
 after-is zero r len = refl
 after-is (suc k) r len = ap (after k) (next-is r len) ∙ after-is k (fed r (none 8)) (length-fed 32 r (none 8) len)
 
@@ -234,41 +233,16 @@ four-fed r a b c d m rest len fa fb fc fd is_m =
 
 -- ---- the register as a number
 
--- the register as a number after these bytes
-abbrev pub register_of : List ℕ → ℕ
-register_of l = number_of (fed ones (flat_map bits_of l))
-
 table-word : (i : ℕ) → i < 256 → get_or (get_or AFTER 0 []) i 0 ≡ word i
 table-word i lt = ap (λ l. get_or (get_or l 0 []) i 0) words ∙ get_or-map-range_with_len word 0 256 i i 0 lt (omega arith)
 
--- one more byte
-pub register_of-more : (l : List ℕ) (b : ℕ) → b < 256 → register_of (l ++ b ∷ []) ≡ bit_xor (get_or (get_or AFTER 0 []) (bit_and (bit_xor (register_of l) b) 255) 0) (register_of l / 256)
-register_of-more l b fits =
-    let before : List Bool = fed ones (flat_map bits_of l) in
-    let index : bit_and (bit_xor (register_of l) b) 255 ≡ bit_xor (register_of l) b % 256 = and_mask (bit_xor (register_of l) b) 8 in
-    let more : fed ones (flat_map bits_of (l ++ b ∷ [])) ≡ fed before (bits_of b) = ap (fed ones) (flat_map-append bits_of l (b ∷ [])) ∙ fed-append ones (flat_map bits_of l) (bits_of b) in
-    ap number_of more ∙ byte-fed before b (length-fed 32 ones (flat_map bits_of l) refl) fits
-    ∙ ap (λ (n : ℕ). bit_xor n (register_of l / 256)) (sym (table-word (bit_xor (register_of l) b % 256) (omega arith)))
-    ∙ ap (λ (i : ℕ). bit_xor (get_or (get_or AFTER 0 []) i 0) (register_of l / 256)) (sym index)
-
 -- the CRC of bytes is the complement of the register behind them
-pub crc-register_of : (l : List ℕ) → crc l ≡ 2 ^ 32 - 1 - register_of l
-crc-register_of l =
+pub crc-fed : (l : List ℕ) → crc l ≡ 2 ^ 32 - 1 - number_of (fed ones (flat_map bits_of l))
+crc-fed l =
     let before : List Bool = fed ones (flat_map bits_of l) in
     let len : length before ≡ 32 = length-fed 32 ones (flat_map bits_of l) refl in
     let sum : number_of (map not before) + number_of before + 1 ≡ 2 ^ 32 = number_of-not before ∙ ap (λ (n : ℕ). 2 ^ n) len in
     crc-is l ∙ omega arith
-
--- a CRC has 32 bits
-pub crc-lt : (l : List ℕ) → crc l < 2 ^ 32
-crc-lt l = omega (arith, crc-register_of l)
-
--- a turn of the loop over the bytes
-pub register_of-take : (l : List ℕ) (i register b : ℕ) → i < length l → b ≡ get_or l i 0 → get_or l i 0 < 256 → register ≡ register_of (take i l) → bit_xor (get_or (get_or AFTER 0 []) (bit_and (bit_xor register b) 255) 0) (register / 256) ≡ register_of (take (i + 1) l)
-register_of-take l i register b lt is_byte fits is_register =
-    let turn : ℕ → ℕ → ℕ = λ (r : ℕ) (x : ℕ). bit_xor (get_or (get_or AFTER 0 []) (bit_and (bit_xor r x) 255) 0) (r / 256) in
-    ap (λ (r : ℕ). turn r b) is_register ∙ ap (turn (register_of (take i l))) is_byte
-    ∙ sym (register_of-more (take i l) (get_or l i 0) fits) ∙ ap register_of (sym (take_more l i 0 lt))
 
 -- ---- sixteen turns at once
 
@@ -298,14 +272,67 @@ sixteen r l i len fits le =
     ∙ ap (bit_xor (words_of 4 (four_at l (i + 8))))
     (ap (λ (n : ℕ). number_of (fed (none 32) (flat_map bits_of (take 4 (drop n l))))) twelve ∙ last_block l (i + 12) fits (omega arith))))
 
-pub register_of-take_sixteen : (l : List ℕ) (i register : ℕ) → i + 16 ≤ length l → ((j : ℕ) → get_or l j 0 < 256) → register ≡ register_of (take i l) → bit_xor (bit_xor (bit_xor (words_of 8 (four_at l (i + 4))) (words_of 4 (four_at l (i + 8)))) (words_of 0 (four_at l (i + 12)))) (words_of 12 (bit_xor register (four_at l i))) ≡ register_of (take (i + 16) l)
-register_of-take_sixteen l i register le fits is_register =
-    let before : List Bool = fed ones (flat_map bits_of (take i l)) in
+-- ---- what the loop keeps
+
+-- a register as a number, that what is left of some bytes turns as all of them turn the first one
+pub record Turns (start : List Bool) (all left : List ℕ) (n : ℕ) : Type 0 where
+  pub register : List Bool
+  pub len : length register ≡ 32
+  pub is : number_of register ≡ n
+  pub goes : fed register (flat_map bits_of left) ≡ fed start (flat_map bits_of all)
+
+-- after the front ones
+gone : {start : List Bool} {all left : List ℕ} {n : ℕ} → (t : Turns start all left n) → (front back : List ℕ) → left ≡ front ++ back → (m : ℕ) → number_of (fed t.register (flat_map bits_of front)) ≡ m → Turns start all back m
+gone t front back split m is = record {
+  register = fed t.register (flat_map bits_of front);
+  len = length-fed 32 t.register (flat_map bits_of front) t.len;
+  is = is;
+  goes =
+      sym (fed-append t.register (flat_map bits_of front) (flat_map bits_of back))
+      ∙ ap (fed t.register) (sym (flat_map-append bits_of front back))
+      ∙ ap (λ l. fed t.register (flat_map bits_of l)) (sym split) ∙ t.goes;
+}
+
+-- after one byte
+pub one_gone : {start : List Bool} {all : List ℕ} {n : ℕ} → (l : List ℕ) (i b : ℕ) → Turns start all (drop i l) n → i < length l → b ≡ get_or l i 0 → get_or l i 0 < 256
+    → Turns start all (drop (i + 1) l) (bit_xor (get_or (get_or AFTER 0 []) (bit_and (bit_xor n b) 255) 0) (n / 256))
+one_gone {n = n} l i b t lt is_byte fits =
+    let x : ℕ = get_or l i 0 in
+    let next : suc i ≡ i + 1 = omega arith in
+    let split : drop i l ≡ (x ∷ []) ++ drop (i + 1) l = drop-cons l i 0 lt ∙ ap (λ (k : ℕ). x ∷ drop k l) next in
+    let turn : ℕ → ℕ → ℕ = λ (r : ℕ) (y : ℕ). bit_xor (get_or (get_or AFTER 0 []) (bit_and (bit_xor r y) 255) 0) (r / 256) in
+    let index : bit_and (bit_xor n x) 255 ≡ bit_xor n x % 256 = and_mask (bit_xor n x) 8 in
+    let word_is : get_or (get_or AFTER 0 []) (bit_and (bit_xor n x) 255) 0 ≡ word (bit_xor n x % 256) =
+    ap (λ (j : ℕ). get_or (get_or AFTER 0 []) j 0) index ∙ table-word (bit_xor n x % 256) (omega arith) in
+    gone t (x ∷ []) (drop (i + 1) l) split (turn n b)
+    (ap (fed_number t.register) (append-nil (bits_of x))
+    ∙ byte-fed t.register x t.len fits
+    ∙ ap (λ (r : ℕ). bit_xor (word (bit_xor r x % 256)) (r / 256)) t.is
+    ∙ ap (λ (w : ℕ). bit_xor w (n / 256)) (sym word_is)
+    ∙ ap (turn n) (sym is_byte))
+  where
+    fed_number : List Bool → List Bool → ℕ
+    fed_number r xs = number_of (fed r xs)
+
+-- after sixteen
+pub sixteen_gone : {start : List Bool} {all : List ℕ} {n : ℕ} → (l : List ℕ) (i : ℕ) → Turns start all (drop i l) n → i + 16 ≤ length l → ((j : ℕ) → get_or l j 0 < 256)
+    → Turns start all (drop (i + 16) l) (bit_xor (bit_xor (bit_xor (words_of 8 (four_at l (i + 4))) (words_of 4 (four_at l (i + 8)))) (words_of 0 (four_at l (i + 12)))) (words_of 12 (bit_xor n (four_at l i))))
+sixteen_gone {n = n} l i t le fits =
     let w0 : ℕ = words_of 0 (four_at l (i + 12)) in
     let w4 : ℕ = words_of 4 (four_at l (i + 8)) in
     let w8 : ℕ = words_of 8 (four_at l (i + 4)) in
-    xor_comm (bit_xor (bit_xor w8 w4) w0) (words_of 12 (bit_xor register (four_at l i)))
-    ∙ ap (bit_xor (words_of 12 (bit_xor register (four_at l i)))) (xor_assoc w8 w4 w0)
-    ∙ ap (λ (n : ℕ). bit_xor (words_of 12 (bit_xor n (four_at l i))) (bit_xor w8 (bit_xor w4 w0))) is_register
-    ∙ sym (sixteen before l i (length-fed 32 ones (flat_map bits_of (take i l)) refl) fits le)
-    ∙ sym (ap register_of (take-add i 16 l) ∙ ap (λ q. number_of (fed ones q)) (flat_map-append bits_of (take i l) (take 16 (drop i l))) ∙ ap number_of (fed-append ones (flat_map bits_of (take i l)) (flat_map bits_of (take 16 (drop i l)))))
+    let split : drop i l ≡ take 16 (drop i l) ++ drop (i + 16) l = sym (take-append-drop 16 (drop i l)) ∙ ap (λ q. take 16 (drop i l) ++ q) (drop-drop 16 i l) in
+    gone t (take 16 (drop i l)) (drop (i + 16) l) split (bit_xor (bit_xor (bit_xor w8 w4) w0) (words_of 12 (bit_xor n (four_at l i))))
+    (sixteen t.register l i t.len fits le
+    ∙ ap (λ (r : ℕ). bit_xor (words_of 12 (bit_xor r (four_at l i))) (bit_xor w8 (bit_xor w4 w0))) t.is
+    ∙ ap (bit_xor (words_of 12 (bit_xor n (four_at l i)))) (sym (xor_assoc w8 w4 w0))
+    ∙ xor_comm (words_of 12 (bit_xor n (four_at l i))) (bit_xor (bit_xor w8 w4) w0))
+
+-- the register behind bytes
+pub register_after-is : (start : List Bool) (l : List ℕ) → length start ≡ 32 → register_after start l ≡ number_of (fed start (flat_map bits_of l))
+unfolding register_after
+register_after-is start l is_start =
+    let bits : List Bool = flat_map bits_of l in
+    let left : List Bool = fed start bits in
+    let whole : added left (none 32) ≡ left = ap (λ (n : ℕ). added left (none n)) (sym (length-fed 32 start bits is_start)) ∙ added_none left in
+    ap number_of (remainder-added (8 * length l) start bits (none 32) is_start (sym (length-bits l)) ∙ whole)

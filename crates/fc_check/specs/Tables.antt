@@ -1,6 +1,6 @@
 -- What the private functions compute; no public clause cites this module.
-use Rattle.std.specs.Prelude.{ℕ, suc, ◌+◌, ◌*◌, ◌/◌, ◌%◌, false, List, ◌++◌, bit_xor, replicate, slice_index}
-use Rattle.fc_check.specs.Crc.{bits_of, number_of, remainder}
+use Rattle.std.specs.Prelude.{ℕ, suc, ◌+◌, ◌*◌, ◌/◌, ◌%◌, false, Bool, List, ◌++◌, flat_map, length, bit_xor, replicate, slice_index}
+use Rattle.fc_check.specs.Crc.{added, bits_of, number_of, remainder}
 
 -- four bytes as a number, the first the least significant
 abbrev pub four_of : ℕ → ℕ → ℕ → ℕ → ℕ
@@ -17,3 +17,7 @@ entry after i = number_of (remainder (8 * after + 8) (bits_of i ++ replicate (8 
 unfoldable pub words_of : ℕ → ℕ → ℕ
 words_of after m =
     bit_xor (bit_xor (bit_xor (entry (suc (suc (suc after))) (m % 256)) (entry (suc (suc after)) (m / 256 % 256))) (entry (suc after) (m / 65536 % 256))) (entry after (m / 16777216 % 256))
+
+-- the register that bytes leave behind one of these bits
+unfoldable pub register_after : List Bool → List ℕ → ℕ
+register_after bits l = number_of (remainder (8 * length l) (added bits (flat_map bits_of l ++ replicate 32 false)))

@@ -1,35 +1,54 @@
 //! The CRC of FC frames (FC-FS-3), the same as that of IEEE 802.3.
 #![tactic(auto)]
 
-ghost use Rattle.std.specs.Prelude.{◌≡◌, ◌≤◌, ◌+◌, length};
+ghost use Rattle.std.specs.Prelude.{◌≡◌, ◌≤◌, ◌+◌, Bool, List, length, drop};
 ghost use Rattle.fc_check.specs.Crc as spec;
-ghost use Rattle.fc_check.specs.Tables.{four_at, words_of};
+ghost use Rattle.fc_check.specs.Crc.{number_of};
+ghost use Rattle.fc_check.specs.Tables.{four_at, words_of, register_after};
 
+mod division;
 mod table;
 
+use division::{begin, divide, rest_of, zeros};
 use table::AFTER;
 
-/// The CRC of these bytes. It reads each byte once and takes no memory.
+/// The CRC of these bytes. It takes no memory.
 pub fn crc32(bytes: &[u8]) -> u32
     ensures crc { result ≡ spec.crc bytes.now }
 {
-    let mut register = u32::MAX;
-    let mut at = 0;
+    if bytes.len() < 640 {
+        return !fed(u32::MAX, bytes, 0);
+    }
+    let count = (bytes.len() - 288).min(1648);
+    let mut room = zeros();
+    begin(&mut room);
+    divide(&mut room, bytes, count);
+    let rest = rest_of(&room, bytes, count);
+    !fed(fed(0, &rest, 0), bytes, count + 288)
+}
+
+// The register after the bytes from a place on.
+fn fed(register: u32, bytes: &[u8], from: usize) -> u32
+    requires { from ≤ length bytes.now }
+    ensures { (bits : List Bool) → length bits ≡ 32 → number_of bits ≡ register
+        → result ≡ register_after bits (drop from bytes.now) }
+{
+    let mut turned = register;
+    let mut at = from;
     while at < bytes.len() {
         if bytes.len() - at >= 16 {
             let late = four_words(word_at(bytes, at + 4), 8)
                 ^ four_words(word_at(bytes, at + 8), 4)
                 ^ four_words(word_at(bytes, at + 12), 0);
             // What the register waits for comes last.
-            register = late ^ four_words(register ^ word_at(bytes, at), 12);
+            turned = late ^ four_words(turned ^ word_at(bytes, at), 12);
             at += 16;
         } else {
-            register = AFTER[0][((register ^ u32::from(bytes[at])) & 0xff) as usize]
-                ^ (register >> 8);
+            turned = AFTER[0][((turned ^ u32::from(bytes[at])) & 0xff) as usize] ^ (turned >> 8);
             at += 1;
         }
     }
-    !register
+    turned
 }
 
 // Four bytes as a number, the first the least significant.
