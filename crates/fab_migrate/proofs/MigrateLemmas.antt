@@ -5,7 +5,7 @@ use Rattle.std.specs.declared.alloc.Global.{Global}
 use Rattle.fab_base.specs.Seen.{Seen, Reads, Rose, OpensIn, OpensOut, PutsAll, SameReadFaults}
 use Rattle.fab_base.specs.declared.values.Failed.{Failed}
 use Rattle.fab_base.proofs.SeenLemmas.{reads_trans, reads_touches, told_stays, rose_later}
-use Rattle.fab_migrate.specs.Migrating.{Migrates, NoFault, CauseOld, SaysOld, Begun}
+use Rattle.fab_migrate.specs.Migrating.{Migrates, NoFault, CauseOld, SaysOld, Untouched, Begun}
 use Rattle.fab_migrate.specs.Old.{IsOld, new_text}
 use Rattle.fab_migrate.specs.OldWords.{Rewrites, WholeRead}
 use Rattle.fab_migrate.specs.declared.old.MigrateError.TheVariants as ends
@@ -33,7 +33,7 @@ module _ (from to : List ℕ) (slot limit : ℕ) (a b c : Seen) (opens : OpensIn
   unread_cause : (e : OldError) → WholeRead slot limit b c (Err e) → CauseOld from a c e
   unread_cause (olds.Fault line fault) r = absurd r.whole
   unread_cause olds.Bytes r = none_counted (Err olds.Bytes) r r.counts
-  unread_cause (olds.Read f) r = rose_later _ _ _ opens.reads.keeps.reads_rise (subst (λ n. Rose (b.read_faults n) (c.read_faults n)) is_name r.whole)
+  unread_cause (olds.Read f) r = (rose_later _ _ _ opens.reads.keeps.reads_rise (subst (λ n. Rose (b.read_faults n) (c.read_faults n)) is_name r.whole), (reads (Err (olds.Read f)) r).writes)
   unread_cause olds.Memory r = none_counted (Err olds.Memory) r r.counts
 
   unread_says : (e : OldError) → WholeRead slot limit b c (Err e) → IsTrue a.told → SaysOld from limit a e
@@ -79,6 +79,9 @@ module _ (from to : List ℕ) (slot limit : ℕ) (a b c : Seen) (opens : OpensIn
       writes_kept : a.write_faults to ≤ c.write_faults to
       writes_kept = (reads_touches from a c (reads (Ok v) r)).writes_rise to
 
+      pub unopened : (d : Seen) (failed : Failed) → OpensOut {E = Failed} to c d (Err failed) → Migrates from to limit a d (Err (ends.Write failed))
+      unopened d failed o = (rose_later _ _ _ writes_kept o.cause, λ told. Untouched (o.same ∙ (reads (Ok v) r).files to), λ m. o.reads m ∙ counts_kept.0 m)
+
       -- ---- the output
 
       module _ (out : ℕ) (d e : Seen) (bytes : List ℕ) (o : OpensOut {E = Failed} to c d (Ok out)) (made : bytes ≡ n.text.items) where
@@ -100,6 +103,7 @@ module _ (from to : List ℕ) (slot limit : ℕ) (a b c : Seen) (opens : OpensIn
           λ told.
               let part = p.part (told_d told) [] (empty told) in
               Begun v.items w.0 part.0 (found told) (within told) w.1 (subst (λ n. e.file n ≡ Some (take part.0 bytes)) is_out part.1 ∙ ap (λ (l : List ℕ). Some (take part.0 l)) all),
+          λ m. p.reads m ∙ o.reads m ∙ counts_kept.0 m,
         )
 
         pub migrated : PutsAll {T = Unit {0}} {E = Failed} out bytes d e (Ok tt) → Migrates from to limit a e (Ok n.entries)

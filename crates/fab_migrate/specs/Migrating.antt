@@ -22,11 +22,11 @@ SaysOld from limit old errors.Memory = Unit {0}
 abbrev pub NoFault : Seen → Seen → Type 0
 NoFault old new = SameReadFaults old new × SameWriteFaults old new
 
--- A fault of the depot is counted where one is told, and else none: want of memory never stands for one.
+-- A fault of reading is counted where one is told, and else none: want of memory never stands for one. None of writing is counted.
 abbrev pub CauseOld : List ℕ → Seen → Seen → OldError → Type 0
 CauseOld from old new (errors.Fault line fault) = NoFault old new
 CauseOld from old new errors.Bytes = NoFault old new
-CauseOld from old new (errors.Read failed) = Rose (old.read_faults from) (new.read_faults from)
+CauseOld from old new (errors.Read failed) = Rose (old.read_faults from) (new.read_faults from) × SameWriteFaults old new
 CauseOld from old new errors.Memory = NoFault old new
 
 -- The input that was found is a journal of format 1 within the limit, and the output is the same in format 2. So where the
@@ -50,7 +50,7 @@ pub data IsNewFront (from to : List ℕ) (limit : ℕ) (old new : Seen) : Type 0
 abbrev pub Migrates : List ℕ → List ℕ → ℕ → Seen → Seen → Result ℕ MigrateError → Type 0
 Migrates from to limit old new (Ok count) = NoFault old new × (IsTrue old.told → Migrated from to limit old new count)
 Migrates from to limit old new (Err (ends.Input e)) = SameFiles old new × CauseOld from old new e × (IsTrue old.told → SaysOld from limit old e)
-Migrates from to limit old new (Err (ends.Write failed)) = Rose (old.write_faults to) (new.write_faults to) × (IsTrue old.told → IsNewFront from to limit old new)
+Migrates from to limit old new (Err (ends.Write failed)) = Rose (old.write_faults to) (new.write_faults to) × (IsTrue old.told → IsNewFront from to limit old new) × SameReadFaults old new
 
 -- no file changes but the output
 abbrev pub KeepsBut : List ℕ → Seen → Seen → Type 0

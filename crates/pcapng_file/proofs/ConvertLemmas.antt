@@ -44,7 +44,7 @@ module _ (from to : List ℕ) (slot : ℕ) (budget left : Budget) (a b c : Seen)
   cause_of : (e : NgError) → NgReads slot b c budget left (Err e) → CauseInput from a c e
   cause_of (errors.Fault at fault) r = spared (Err (errors.Fault at fault)) r r.counts
   cause_of (errors.Limit limit) r = spared (Err (errors.Limit limit)) r r.counts
-  cause_of (errors.Read failed) r = rose_later _ _ _ opens.reads.keeps.reads_rise (subst (λ n. Rose (b.read_faults n) (c.read_faults n)) is_name (r.cause failed refl))
+  cause_of (errors.Read failed) r = (rose_later _ _ _ opens.reads.keeps.reads_rise (subst (λ n. Rose (b.read_faults n) (c.read_faults n)) is_name (r.cause failed refl)), (reads (Err (errors.Read failed)) r).writes)
   cause_of errors.Memory r = spared (Err errors.Memory) r r.counts
 
   says_of : (e : NgError) → NgReads slot b c budget left (Err e) → IsTrue a.told → SaysInput from budget a e
@@ -72,7 +72,7 @@ module _ (from to : List ℕ) (slot : ℕ) (budget left : Budget) (a b c : Seen)
     writes_kept = (reads_touches from a c (reads (Ok v) r)).writes_rise to
 
     pub unopened : (d : Seen) (failed : Failed) → OpensOut {E = Failed} to c d (Err failed) → Converts from to budget a d (Err (ends.Write failed))
-    unopened d failed o = (rose_later _ _ _ writes_kept o.cause, λ told. Same (o.same ∙ (reads (Ok v) r).files to))
+    unopened d failed o = (rose_later _ _ _ writes_kept o.cause, λ told. Same (o.same ∙ (reads (Ok v) r).files to), λ m. o.reads m ∙ (spared (Ok v) r r.counts).0 m)
 
     -- ---- the output
 
@@ -86,6 +86,7 @@ module _ (from to : List ℕ) (slot : ℕ) (budget left : Budget) (a b c : Seen)
         λ told.
             let part = p.part (told_stays to c d o.keeps (told_c told)) [] (ap d.file is_out ∙ o.emptied (told_c told)) in
             Front (b.left slot) v part.0 (opens.left told) (read told).file ((read told).bytes, (read told).frames) (subst (λ n. e.file n ≡ Some (take part.0 bytes)) is_out part.1 ∙ ap (λ (l : List ℕ). Some (take part.0 l)) made),
+        λ m. p.reads m ∙ o.reads m ∙ (spared (Ok v) r r.counts).0 m,
       )
 
       pub converted : (count : ℕ) → bytes ≡ classic_bytes v → count ≡ length v → PutsAll {T = Unit {0}} {E = Failed} out bytes d e (Ok tt) → Converts from to budget a e (Ok count)

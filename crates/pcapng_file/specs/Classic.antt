@@ -58,11 +58,11 @@ SaysInput from budget old errors.Memory = Unit {0}
 abbrev pub NoFault : Seen → Seen → Type 0
 NoFault old new = SameReadFaults old new × SameWriteFaults old new
 
--- A fault of the depot is counted where one is told, and else none: want of memory never stands for one.
+-- A fault of reading is counted where one is told, and else none: want of memory never stands for one. None of writing is counted.
 abbrev pub CauseInput : List ℕ → Seen → Seen → NgError → Type 0
 CauseInput from old new (errors.Fault at fault) = NoFault old new
 CauseInput from old new (errors.Limit limit) = NoFault old new
-CauseInput from old new (errors.Read failed) = Rose (old.read_faults from) (new.read_faults from)
+CauseInput from old new (errors.Read failed) = Rose (old.read_faults from) (new.read_faults from) × SameWriteFaults old new
 CauseInput from old new errors.Memory = NoFault old new
 
 -- the input that was found is a file of packets within the limits, and the output is their capture
@@ -86,7 +86,7 @@ pub data IsFront (from to : List ℕ) (budget : Budget) (old new : Seen) : Type 
 abbrev pub Converts : List ℕ → List ℕ → Budget → Seen → Seen → Result ℕ ConvertError → Type 0
 Converts from to budget old new (Ok count) = NoFault old new × (IsTrue old.told → Converted from to budget old new count)
 Converts from to budget old new (Err (ends.Input e)) = SameFiles old new × CauseInput from old new e × (IsTrue old.told → SaysInput from budget old e)
-Converts from to budget old new (Err (ends.Write failed)) = Rose (old.write_faults to) (new.write_faults to) × (IsTrue old.told → IsFront from to budget old new)
+Converts from to budget old new (Err (ends.Write failed)) = Rose (old.write_faults to) (new.write_faults to) × (IsTrue old.told → IsFront from to budget old new) × SameReadFaults old new
 
 -- no file changes but the output
 abbrev pub KeepsBut : List ℕ → Seen → Seen → Type 0

@@ -1,6 +1,6 @@
 use Rattle.std.proofs.Common.{Ok, Err, subst}
 use Rattle.fab_migrate.specs.OldWords.{Rewrites}
-use Rattle.fab_migrate.proofs.MigrateLemmas.{unread, unrewritten, migrated, front}
+use Rattle.fab_migrate.proofs.MigrateLemmas.{unread, unrewritten, unopened, migrated, front}
 use Rattle.fab_migrate.proofs.migrating.migrate.Goals as goal
 
 pub returns-in-Err-read_whole-clause-migrates : goal.returns-in-Err-read_whole-clause-migrates
@@ -10,6 +10,11 @@ pub returns-in-Err-in_format_two-clause-migrates : goal.returns-in-Err-in_format
 returns-in-Err-in_format_two-clause-migrates g c =
     let made = subst (λ l. Rewrites l (Err c.in-Err-in_format_two.error)) c.deref.ensures.value c.in-Err-in_format_two.ensures in
     unrewritten c.args.from.now c.args.to.now c.in-Ok.slot c.args.limit _ _ _ c.in-Ok.ensures.opens c.in-Ok-read_whole.text c.in-Ok-read_whole.ensures.reads c.in-Err-in_format_two.error made
+
+pub returns-in-Err-open_out-clause-migrates : goal.returns-in-Err-open_out-clause-migrates
+returns-in-Err-open_out-clause-migrates g c =
+    let made = subst (λ l. Rewrites l (Ok c.in-Ok-in_format_two.new)) c.deref.ensures.value c.in-Ok-in_format_two.ensures in
+    unopened c.args.from.now c.args.to.now c.in-Ok.slot c.args.limit _ _ _ c.in-Ok.ensures.opens c.in-Ok-read_whole.text c.in-Ok-read_whole.ensures.reads c.in-Ok-in_format_two.new made _ c.in-Err-open_out.failed c.in-Err-open_out.ensures.opens
 
 pub returns-in-Ok-put_all-clause-migrates : goal.returns-in-Ok-put_all-clause-migrates
 returns-in-Ok-put_all-clause-migrates g c =
