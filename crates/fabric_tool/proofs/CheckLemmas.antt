@@ -164,7 +164,7 @@ module _ (w : Width) (words : List (String Global)) (run : are_ports w words ≡
             }))),
         λ m. read.writes m ∙ given.counts.1 m,
       )
-      go ends.Memory e none = (same, none (λ is. cc))
+      go ends.Memory e none = (same, λ told. tt, none (λ is. cc))
       go x e none = absurd e
 
   module _ (m : Seen) (ins : List Input) (had left : Budget) (heads : AreHeads b m (ins_of w words) ins) (touched : Touches Nothing (Among (ins_of w words)) b m)
@@ -210,7 +210,7 @@ module _ (w : Width) (words : List (String Global)) (run : are_ports w words ≡
 
       -- memory is refused for the fabric
       pub no_fabric : NoFaults a o → IsChecked w (names_of w words) a o (Err ends.Memory)
-      no_fabric none = (files_o, none)
+      no_fabric none = (files_o, λ told. tt, none)
 
       heads_a : AreHeads a o (ins_of w words) ins
       heads_a = heads_since a b o files_b told_b (ins_of w words) ins (heads_on w words run b m o ins heads slots opened outs)
@@ -273,4 +273,4 @@ module _ (w : Width) (words : List (String Global)) (run : are_ports w words ≡
         check_refused (checks.Capture port at why) is = (same, λ told. inr (finds _ told (stop_on c left (matter_in o ins journal slots) (output_in (names_of w words) a) (same_found told) _ (subst (Says c left (matter_in o ins journal slots) F) is (says told)))), spared (checks.Capture port at why) is (λ e. cc))
         check_refused (checks.Limit kind) is = (same, λ told. inr (finds _ told (stop_on c left (matter_in o ins journal slots) (output_in (names_of w words) a) (same_found told) _ (subst (Says c left (matter_in o ins journal slots) F) is (says told)))), spared (checks.Limit kind) is (λ e. cc))
         check_refused checks.Read is = (same, rose_of w words a z (any_rose is), unread_behind o z heads_a (any_rose is), λ m. tells.writes m ∙ none.1 m)
-        check_refused checks.Memory is = (same, spared checks.Memory is (λ e. cc))
+        check_refused checks.Memory is = (same, λ told. tt, spared checks.Memory is (λ e. cc))

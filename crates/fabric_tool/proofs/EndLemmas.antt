@@ -7,13 +7,18 @@ use Rattle.fab_base.specs.Sunk.{Sunk}
 use Rattle.fabric_tool.specs.Command.{Command, KeepsOthers, command}
 use Rattle.fabric_tool.specs.Ends.{Holds, HoldsFor, Prints, Puts, Ends}
 use Rattle.fabric_tool.specs.Outcome.{status_of, line_of}
+use Rattle.fabric_tool.specs.Texts.{IsUntouched}
 use Rattle.fabric_tool.specs.Rechecking.{IsRechecked, IsReplayed}
 use Rattle.fabric_tool.specs.Statuses.{Done, OfCommand, IsRefused, IsPastLimit, HasFront, IsComplete, IsNamed, Printed}
 use Rattle.fabric_tool.specs.declared.outcome.Outcome.{Outcome}
 use Rattle.fabric_tool.specs.declared.outcome.Outcome.TheVariants as ends
-use Rattle.fabric_tool.proofs.DoneLemmas.{Whole, command_done}
 use Rattle.fabric_tool.proofs.RecheckLemmas.{recheck_complete, replay_complete}
-use Rattle.fabric_tool.proofs.CauseLemmas.{is_read_fault, is_write_fault, is_memory, is_limit, refused_of, others_kept, done_or_memory, front_of, said_end}
+use Rattle.fabric_tool.proofs.CauseLemmas.{is_words, is_read_fault, is_write_fault, is_memory, is_limit, never_words, others_kept, done_or_memory, front_of, said_end}
+use Rattle.fabric_tool.proofs.CommandLaws.{laws}
+
+-- a line that was printed whole, with its status
+abbrev Whole : Outcome → Sunk → Sunk → ℕ → Type 0
+Whole o before after status = (status ≡ status_of o) × (IsTrue before.told → after.written ≡ before.written ++ line_of o)
 
 -- the status of an outcome, or 4 by a fault of the sink
 status_is : (o : Outcome) (before after : Sunk) (status : ℕ) → Prints o before after status → (status ≡ status_of o) ⊎ ((status ≡ 4) × Rose before.faults after.faults)
@@ -32,15 +37,23 @@ module _ (words : List (String Global)) (old new : Seen) (before after : Sunk) (
 
   pub done : status ≡ 0 → OfCommand words (λ k. Done k old new before after)
   done none = by_command (OfCommand words (λ k. Done k old new before after))
-      (λ k is o holds w. record { k = k; is = is; holds = command_done k old new before after status none o holds w })
+      (λ k is o holds w. record { k = k; is = is; holds = (laws k).done old new before after o (sym w.0 ∙ none) holds w.1 })
       (λ two. absurd (omega arith))
       (λ four rose. absurd (omega arith))
 
   pub refused : status ≡ 1 → OfCommand words (λ k. IsRefused k old new)
   refused one = by_command (OfCommand words (λ k. IsRefused k old new))
-      (λ k is o holds w. record { k = k; is = is; holds = refused_of k old new o holds (sym one ∙ w.0) })
+      (λ k is o holds w. record { k = k; is = is; holds = (o, sym w.0 ∙ one, holds) })
       (λ two. absurd (omega arith))
       (λ four rose. absurd (omega arith))
+
+  pub no_words : status ≡ 2 → (command words ≡ None) × IsUntouched old new
+  no_words two = go (command words) refl e.outcome e.holds e.prints
+    where
+      go : (c : Option Command) → command words ≡ c → (o : Outcome) → HoldsFor c old new o → Prints o before after status → (command words ≡ None) × IsUntouched old new
+      go c is o holds (inr p) = let four = p.0 in absurd (omega arith)
+      go None is o holds (inl p) = (is, holds.1)
+      go (Some k) is o holds (inl p) = absurd (never_words k old new (subst (Holds k old new) (is_words o (sym two ∙ p.0)) holds))
 
   pub read_failed : status ≡ 3 → OfCommand words (λ k. Holds k old new ends.ReadFault)
   read_failed three = by_command (OfCommand words (λ k. Holds k old new ends.ReadFault))
@@ -73,9 +86,9 @@ module _ (words : List (String Global)) (old new : Seen) (before after : Sunk) (
   pub completed : IsComplete words old new before after → (status ≡ 0) ⊎ (status ≡ 5)
   completed x = elim (status_is e.outcome before after status e.prints) [
     | inr sink ↦ absurd (x.quiet.sink sink.1)
-    | inl is ↦ elim (done_or_memory x.k old new before after x.forms x.quiet e.outcome (of_command x.k x.is)) [
-      | inl zero_is ↦ inl (is ∙ sym zero_is)
-      | inr five ↦ inr (is ∙ sym five)
+    | inl is ↦ elim (done_or_memory x.k old new before after x.quiet x.forms e.outcome (of_command x.k x.is)) [
+      | inl none ↦ inl (is ∙ none)
+      | inr memory ↦ inr (is ∙ ap status_of memory)
     ]
   ]
 
@@ -101,7 +114,7 @@ module _ (words : List (String Global)) (old new : Seen) (before after : Sunk) (
   others k is = others_kept k old new e.outcome (of_command k is)
 
   pub exactly : (p : Outcome) → IsNamed words p old new before after → Prints p before after status ⊎ (status ≡ 5)
-  exactly p x = elim (said_end x.k old new before after p x.told x.says x.quiet e.outcome (of_command x.k x.is)) [
+  exactly p x = elim (said_end x.k old new before after x.quiet x.told p x.says e.outcome (of_command x.k x.is)) [
     | inl is ↦ inl (subst (λ l. Puts l (status_of p) before after status) is.line (subst (λ (n : ℕ). Puts (line_of e.outcome) n before after status) is.status e.prints))
     | inr memory ↦ elim (status_is e.outcome before after status e.prints) [
       | inl five ↦ inr (five ∙ ap status_of memory)

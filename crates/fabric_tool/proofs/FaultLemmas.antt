@@ -1,8 +1,7 @@
--- The first fault of what `replay` and `show` are handed is one, so they end by it where nothing fails.
-use Rattle.std.proofs.Common.{◌≡◌, ℕ, ◌+◌, ◌*◌, ◌<◌, ◌≤◌, ◌⊎◌, inl, inr, List, length, Some, Err, IsTrue, refl, sym, ap, ◌∙◌, subst, arith}
+-- What the files say to `replay` and to `show` is one thing.
+use Rattle.std.proofs.Common.{◌≡◌, ℕ, ◌+◌, ◌*◌, ◌<◌, ◌≤◌, ◌⊎◌, inl, inr, List, length, Some, Err, refl, sym, ap, ◌∙◌, subst, arith}
 use Rattle.std.specs.Prelude.{Result}
-use Rattle.fab_base.specs.Seen.{Seen, SameFiles}
-use Rattle.fab_base.specs.Sunk.{Sunk}
+use Rattle.fab_base.specs.Seen.{Seen}
 use Rattle.fab_config.specs.declared.ConfigFault.{ConfigFault}
 use Rattle.fab_gather.specs.declared.fault.CapWhy.{CapWhy}
 use Rattle.fab_gather.specs.declared.fault.LimitKind.TheVariants as kinds
@@ -15,26 +14,18 @@ use Rattle.fab_replay.specs.declared.fault.CheckFault.TheVariants as checks
 use Rattle.fab_replay.specs.declared.fault.LineWhy.{LineWhy}
 use Rattle.fab_replay.specs.declared.fault.LineWhy.TheVariants as lines
 use Rattle.fab_replay.proofs.ExactLemmas.{answer_is_one}
-use Rattle.fabric_tool.specs.Command.{RunNames, Replay, Show}
-use Rattle.run_files.specs.Faults.{NoFaults}
-use Rattle.fabric_tool.specs.Checking.{CheckSays, Finds, IsHeadRefused, IsLongJournal, ReplayHolds, ShowHolds, budget_of, matter_of, refused_by}
+use Rattle.fabric_tool.specs.Command.{RunNames}
+use Rattle.fabric_tool.specs.Checking.{CheckSays, Finds, IsHeadRefused, IsLegalJournal, IsLongJournal, IsShownJournal, budget_of, matter_of, refused_by, ReplaySays, ShowSays}
 use Rattle.fabric_tool.specs.Inputs.{HasFault, MOST_BYTES}
-use Rattle.fabric_tool.specs.Outcome.{line_of, status_of}
-use Rattle.fabric_tool.specs.Statuses.{IsQuiet, ReplaySays, ShowSays}
+use Rattle.fabric_tool.specs.Outcome.{line_of}
 use Rattle.fabric_tool.specs.declared.outcome.Outcome.{Outcome}
 use Rattle.fabric_tool.specs.declared.outcome.Outcome.TheVariants as ends
 use Rattle.fabric_tool.proofs.ConfigLemmas.{same_text, no_fault, one_fault}
 use Rattle.fabric_tool.proofs.FoundLemmas.{no_bad, one_bad, opened_before}
-use Rattle.fabric_tool.proofs.LegalLemmas.{have_room, in_one, legal_end, only_legal, only_shown, shown_end}
+use Rattle.fabric_tool.proofs.LegalLemmas.{have_room, in_one, only_legal, only_shown}
+use Rattle.fabric_tool.proofs.Laws.{PrintsAlike, alike}
 
 -- ---- outcomes that print the same
-
-pub record PrintsAlike (o p : Outcome) : Type 0 where
-  pub line : line_of o ≡ line_of p
-  pub status : status_of o ≡ status_of p
-
-pub alike : (o p : Outcome) → o ≡ p → PrintsAlike o p
-alike o p is = record { line = ap line_of is; status = ap status_of is }
 
 -- a wrong line is printed without the verdict that is told as right
 other_verdict : (line : ℕ) (found made other : Verdict) → PrintsAlike (ends.WrongLine line (lines.Verdict found made)) (ends.WrongLine line (lines.Verdict found other))
@@ -129,74 +120,33 @@ module _ (k : RunNames) (d : Seen) where
   refused_once o p (inr (inr (inr a))) (inr (inr (inr b))) =
       subst (λ (x : Outcome). PrintsAlike x p) (sym a.2) (subst (λ (x : Outcome). PrintsAlike (refused_by a.0) x) (sym b.2) (one_check a.0 b.0 a.1 b.1))
 
-  one_refusal : (o p : Outcome) → IsRefusal o → IsRefusal p → CheckSays k d o → CheckSays k d p → PrintsAlike o p
-  one_refusal o p i j a b = refused_once o p (refused o i a) (refused p j b)
+  -- what the files say to `replay` is one
+  replay_refusal : (o : Outcome) → ReplaySays k d o → ((entries : ℕ) × (o ≡ ends.Legal entries) × Finds k d (IsLegalJournal entries)) ⊎ Refused k d o
+  replay_refusal (ends.Legal entries) says = inl (entries, refl, says)
+  replay_refusal (ends.WrongLine line why) says = inr (refused (ends.WrongLine line why) tt says)
+  replay_refusal (ends.WrongOutput port at) says = inr (refused (ends.WrongOutput port at) tt says)
+  replay_refusal (ends.Config fault) says = inr (refused (ends.Config fault) tt says)
+  replay_refusal (ends.Capture port at why) says = inr (refused (ends.Capture port at why) tt says)
+  replay_refusal (ends.Limit kind) says = inr (refused (ends.Limit kind) tt says)
+  replay_refusal o says = absurd says
 
-  -- ---- how a command ends where nothing fails
+  pub replay_one : (o p : Outcome) → ReplaySays k d o → ReplaySays k d p → PrintsAlike o p
+  replay_one o p a b = elim (replay_refusal o a) [
+    | inl x ↦ alike o p (x.1 ∙ sym (only_legal k d x.0 x.2 p b))
+    | inr x ↦ elim (replay_refusal p b) [ inl y ↦ alike o p (only_legal k d y.0 y.2 o a ∙ sym y.1) | inr y ↦ refused_once o p x y ]
+  ]
 
-  module _ (new : Seen) (before after : Sunk) (told : IsTrue d.told) where
-    -- a refusal beside a run
-    replay_refused : (p : Outcome) → IsRefusal p → SameFiles d new → CheckSays k d p → NoFaults d new → ReplayHolds k d new p
-    replay_refused (ends.WrongLine line why) is files says none = (files, λ told. says, none)
-    replay_refused (ends.WrongOutput port at) is files says none = (files, λ told. says, none)
-    replay_refused (ends.Config fault) is files says none = (files, λ told. says, none)
-    replay_refused (ends.Capture port at why) is files says none = (files, λ told. says, none)
-    replay_refused (ends.Limit kind) is files says none = (files, λ told. says, none)
-    replay_refused p is files says none = absurd is
+  -- the same of `show`
+  show_refusal : (o : Outcome) → ShowSays k d o → ((text : List ℕ) × (o ≡ ends.Shown text) × Finds k d (IsShownJournal text)) ⊎ Refused k d o
+  show_refusal (ends.Shown text) says = inl (text, refl, says)
+  show_refusal (ends.WrongLine line why) says = inr (refused (ends.WrongLine line why) tt says)
+  show_refusal (ends.Config fault) says = inr (refused (ends.Config fault) tt says)
+  show_refusal (ends.Capture port at why) says = inr (refused (ends.Capture port at why) tt says)
+  show_refusal (ends.Limit kind) says = inr (refused (ends.Limit kind) tt says)
+  show_refusal o says = absurd says
 
-    no_refusal : (p q : Outcome) → IsRefusal p → (p ≡ q) ⊎ (p ≡ ends.Memory) → (IsRefusal q → ⊥) → ⊥
-    no_refusal p q is (inl same) none = none (subst IsRefusal same is)
-    no_refusal p q is (inr memory) none = subst IsRefusal memory is
-
-    replay_ends : IsQuiet (Replay k) d new before after → (o p : Outcome) → IsRefusal p → CheckSays k d p → ReplayHolds k d new o → PrintsAlike o p ⊎ (o ≡ ends.Memory)
-    replay_ends quiet (ends.Legal entries) p is says h = absurd (no_refusal p (ends.Legal entries) is (only_legal k d entries (h.1 told) new told p (replay_refused p is h.0 says h.2) quiet.reads) (λ x. x))
-    replay_ends quiet (ends.WrongLine line why) p is says h = inl (one_refusal (ends.WrongLine line why) p tt is (h.1 told) says)
-    replay_ends quiet (ends.WrongOutput port at) p is says h = inl (one_refusal (ends.WrongOutput port at) p tt is (h.1 told) says)
-    replay_ends quiet (ends.Config fault) p is says h = inl (one_refusal (ends.Config fault) p tt is (h.1 told) says)
-    replay_ends quiet (ends.Capture port at why) p is says h = inl (one_refusal (ends.Capture port at why) p tt is (h.1 told) says)
-    replay_ends quiet (ends.Limit kind) p is says h = inl (one_refusal (ends.Limit kind) p tt is (h.1 told) says)
-    replay_ends quiet ends.ReadFault p is says h = absurd (quiet.reads h.1)
-    replay_ends quiet ends.Memory p is says h = inr refl
-    replay_ends quiet o p is says h = absurd h
-
-    pub replay_said : IsQuiet (Replay k) d new before after → (o p : Outcome) → ReplayHolds k d new o → ReplaySays k d p → PrintsAlike o p ⊎ (o ≡ ends.Memory)
-    replay_said quiet o (ends.Legal entries) holds says = elim (legal_end k d entries says new before after told quiet o holds) [ inl is ↦ inl (alike o (ends.Legal entries) is) | inr memory ↦ inr memory ]
-    replay_said quiet o (ends.WrongLine line why) holds says = replay_ends quiet o (ends.WrongLine line why) tt says holds
-    replay_said quiet o (ends.WrongOutput port at) holds says = replay_ends quiet o (ends.WrongOutput port at) tt says holds
-    replay_said quiet o (ends.Config fault) holds says = replay_ends quiet o (ends.Config fault) tt says holds
-    replay_said quiet o (ends.Capture port at why) holds says = replay_ends quiet o (ends.Capture port at why) tt says holds
-    replay_said quiet o (ends.Limit kind) holds says = replay_ends quiet o (ends.Limit kind) tt says holds
-    replay_said quiet o p holds says = absurd says
-
-    -- the same of `show`, to which no output is told
-    abbrev IsShowRefusal : Outcome → Type 0
-    IsShowRefusal (ends.WrongOutput port at) = ⊥
-    IsShowRefusal o = IsRefusal o
-
-    show_refused : (p : Outcome) → IsShowRefusal p → SameFiles d new → CheckSays k d p → NoFaults d new → IsRefusal p × ShowHolds k d new p
-    show_refused (ends.WrongLine line why) is files says none = (tt, (files, λ told. says, none))
-    show_refused (ends.Config fault) is files says none = (tt, (files, λ told. says, none))
-    show_refused (ends.Capture port at why) is files says none = (tt, (files, λ told. says, none))
-    show_refused (ends.Limit kind) is files says none = (tt, (files, λ told. says, none))
-    show_refused p is files says none = absurd is
-
-    show_ends : IsQuiet (Show k) d new before after → (o p : Outcome) → IsShowRefusal p → CheckSays k d p → ShowHolds k d new o → PrintsAlike o p ⊎ (o ≡ ends.Memory)
-    show_ends quiet (ends.Shown text) p is says h =
-        let r = show_refused p is h.0 says h.2 in
-        absurd (no_refusal p (ends.Shown text) r.0 (only_shown k d text (h.1 told) new told p r.1 quiet.reads) (λ x. x))
-    show_ends quiet (ends.WrongLine line why) p is says h = inl (one_refusal (ends.WrongLine line why) p tt (show_refused p is h.0 says h.2).0 (h.1 told) says)
-    show_ends quiet (ends.WrongOutput port at) p is says h = absurd (h.1 told)
-    show_ends quiet (ends.Config fault) p is says h = inl (one_refusal (ends.Config fault) p tt (show_refused p is h.0 says h.2).0 (h.1 told) says)
-    show_ends quiet (ends.Capture port at why) p is says h = inl (one_refusal (ends.Capture port at why) p tt (show_refused p is h.0 says h.2).0 (h.1 told) says)
-    show_ends quiet (ends.Limit kind) p is says h = inl (one_refusal (ends.Limit kind) p tt (show_refused p is h.0 says h.2).0 (h.1 told) says)
-    show_ends quiet ends.ReadFault p is says h = absurd (quiet.reads h.1)
-    show_ends quiet ends.Memory p is says h = inr refl
-    show_ends quiet o p is says h = absurd h
-
-    pub show_said : IsQuiet (Show k) d new before after → (o p : Outcome) → ShowHolds k d new o → ShowSays k d p → PrintsAlike o p ⊎ (o ≡ ends.Memory)
-    show_said quiet o (ends.Shown text) holds says = elim (shown_end k d text says new before after told quiet o holds) [ inl is ↦ inl (alike o (ends.Shown text) is) | inr memory ↦ inr memory ]
-    show_said quiet o (ends.WrongLine line why) holds says = show_ends quiet o (ends.WrongLine line why) tt says holds
-    show_said quiet o (ends.Config fault) holds says = show_ends quiet o (ends.Config fault) tt says holds
-    show_said quiet o (ends.Capture port at why) holds says = show_ends quiet o (ends.Capture port at why) tt says holds
-    show_said quiet o (ends.Limit kind) holds says = show_ends quiet o (ends.Limit kind) tt says holds
-    show_said quiet o p holds says = absurd says
+  pub show_one : (o p : Outcome) → ShowSays k d o → ShowSays k d p → PrintsAlike o p
+  show_one o p a b = elim (show_refusal o a) [
+    | inl x ↦ alike o p (x.1 ∙ sym (only_shown k d x.0 x.2 p b))
+    | inr x ↦ elim (show_refusal p b) [ inl y ↦ alike o p (only_shown k d y.0 y.2 o a ∙ sym y.1) | inr y ↦ refused_once o p x y ]
+  ]

@@ -11,7 +11,7 @@ use Rattle.fab_migrate.specs.Migrating.{Migrates}
 use Rattle.fab_migrate.specs.declared.old.MigrateError.{MigrateError}
 use Rattle.fab_migrate.specs.declared.old.MigrateError.TheVariants as moves
 use Rattle.fabric_tool.specs.Command.{PairNames, Convert, KeepsOthers}
-use Rattle.fabric_tool.specs.Ends.{ConvertHolds, MigrateHolds}
+use Rattle.fabric_tool.specs.Pairs.{ConvertHolds, MigrateHolds}
 use Rattle.fabric_tool.specs.Inputs.{LIMITS, MOST_BYTES}
 use Rattle.fabric_tool.specs.declared.outcome.Outcome.TheVariants as ends
 use Rattle.fabric_tool.proofs.AmongLemmas.{or_false}
@@ -23,11 +23,11 @@ module _ (k : PairNames) (a b : Seen) (others : KeepsBut k.to a b) where
 
   -- the output couldn't be written
   pub output_failed : (failed : Failed) (e : ConvertError) → e ≡ errors.Write failed → Converts k.from k.to LIMITS a b (Err e) → ConvertHolds k a b ends.WriteFault
-  output_failed failed e is c = let w = subst (λ (x : ConvertError). Converts k.from k.to LIMITS a b (Err x)) is c in (keeps, inl w.0, w.1)
+  output_failed failed e is c = let w = subst (λ (x : ConvertError). Converts k.from k.to LIMITS a b (Err x)) is c in (keeps, inl w.0, w.1, w.2)
 
   -- the other file of a journal couldn't be written
   pub journal_failed : (failed : Failed) (e : MigrateError) → e ≡ moves.Write failed → Migrates k.from k.to MOST_BYTES a b (Err e) → MigrateHolds k a b ends.WriteFault
-  journal_failed failed e is c = let w = subst (λ (x : MigrateError). Migrates k.from k.to MOST_BYTES a b (Err x)) is c in (keeps, inl w.0, w.1)
+  journal_failed failed e is c = let w = subst (λ (x : MigrateError). Migrates k.from k.to MOST_BYTES a b (Err x)) is c in (keeps, inl w.0, w.1, w.2)
 
 -- names that are words
 pub keeps_as : (m n : List ℕ) (a b : Seen) → m ≡ n → KeepsBut m a b → KeepsBut n a b

@@ -2,7 +2,6 @@
 use Rattle.std.proofs.Common.{◌≡◌, ℕ, ◌+◌, ◌<◌, List, [], ◌∷◌, ◌++◌, ◌⊎◌, length, Option, Some, None, Ok, Err, IsTrue, refl, sym, ap, ◌∙◌, subst, arith, inl, inr}
 use Rattle.std.specs.Prelude.{Result, drop}
 use Rattle.fab_base.specs.Seen.{Seen}
-use Rattle.fab_base.specs.Sunk.{Sunk}
 use Rattle.fab_config.specs.Settings.{Settings}
 use Rattle.fab_config.specs.declared.ConfigFault.{ConfigFault}
 use Rattle.pcap_file.specs.Capture.{HEAD, head_decoded}
@@ -14,16 +13,15 @@ use Rattle.fab_gather.specs.declared.fault.CapWhy.{CapWhy}
 use Rattle.run_files.specs.Faults.{fault_from}
 use Rattle.run_files.specs.declared.fault.RunFault.{RunFault}
 use Rattle.run_files.specs.declared.fault.RunFault.TheVariants as faults
-use Rattle.fabric_tool.specs.Command.{RunNames, Run}
-use Rattle.fabric_tool.specs.Ends.{RunHolds}
+use Rattle.fabric_tool.specs.Command.{RunNames}
 use Rattle.fabric_tool.specs.Inputs.{HasFault, IsOpened, AreOpened, HasInputs, HasNoHead, HasBadHead, StopsBy, stop_of}
 use Rattle.fabric_tool.specs.Opening.{ran_by}
 use Rattle.fabric_tool.specs.Outcome.{status_of}
-use Rattle.fabric_tool.specs.Statuses.{IsQuiet, RunSays, RunForms}
+use Rattle.fabric_tool.specs.Running.{run_end, RunSays, RunForms}
 use Rattle.fabric_tool.specs.declared.outcome.Outcome.{Outcome}
 use Rattle.fabric_tool.specs.declared.outcome.Outcome.TheVariants as ends
 use Rattle.fabric_tool.proofs.ConfigLemmas.{same_text, one_value, one_fault, no_fault}
-use Rattle.fabric_tool.proofs.OutcomeCases.{run_cases}
+use Rattle.fabric_tool.proofs.EndingLemmas.{Said}
 
 -- ---- heads
 
@@ -166,34 +164,31 @@ module _ (k : RunNames) (d : Seen) where
   said (ends.Limit kind) stops = (inr (inr (stops_through (faults.Limit kind) (ends.Limit kind) refl stops)), λ frames entries is. absurd (cc))
   said p says = absurd says
 
-  module _ (new : Seen) (before after : Sunk) (told : IsTrue d.told) (quiet : IsQuiet (Run k) d new before after) where
+  module _ (new : Seen) (told : IsTrue d.told) where
     -- where nothing fails, an outcome is what the inputs say, or want of memory
-    found : (o : Outcome) → RunHolds k d new o → Finds k d o ⊎ (o ≡ ends.Memory)
-    found o holds = run_cases k d new (λ o. Finds k d o ⊎ (o ≡ ends.Memory))
-        (λ frames entries h. let r = h.1 told in inl (inr (inr (record { settings = r.settings; opened = r.opened; inputs = r.inputs; at = None; is = r.none; says = (frames, entries, refl) }))))
-        (λ fault h. inl (inl (fault, h.1 told, refl)))
-        (λ port at reason h. elim (h.1 told) [
-          | inl bad ↦ inl (inr (inl (port, reason, bad.2, ap (λ (n : ℕ). ends.Capture port n reason) bad.1)))
-          | inr stopped ↦ inl (inr (inr (stops_through (faults.Capture port at reason) (ends.Capture port at reason) refl stopped.stops)))
-        ])
-        (λ kind h. inl (inr (inr (stops_through (faults.Limit kind) (ends.Limit kind) refl (h.1 told).stops))))
-        (λ h. absurd (quiet.reads h.1))
-        (λ h. absurd (quiet.writes h.1))
-        (λ h. inr refl)
-        o holds
+    found : (o : Outcome) → Said d (run_end k d new o) → Finds k d o ⊎ (o ≡ ends.Memory)
+    found (ends.Ran frames entries) h = let r = h told in inl (inr (inr (record { settings = r.settings; opened = r.opened; inputs = r.inputs; at = None; is = r.none; says = (frames, entries, refl) })))
+    found (ends.Config fault) h = inl (inl (fault, h told, refl))
+    found (ends.Capture port at reason) h = elim (h told) [
+      | inl bad ↦ inl (inr (inl (port, reason, bad.2, ap (λ (n : ℕ). ends.Capture port n reason) bad.1)))
+      | inr stopped ↦ inl (inr (inr (stops_through (faults.Capture port at reason) (ends.Capture port at reason) refl stopped.stops)))
+    ]
+    found (ends.Limit kind) h = inl (inr (inr (stops_through (faults.Limit kind) (ends.Limit kind) refl (h told).stops)))
+    found ends.Memory h = inr refl
+    found o h = absurd h
 
-    pub ends_as_said : (o p : Outcome) → RunHolds k d new o → RunSays k d p → (o ≡ p) ⊎ (o ≡ ends.Memory)
-    ends_as_said o p holds says = elim (found o holds) [
+    pub run_once : (o p : Outcome) → Said d (run_end k d new o) → RunSays k d p → (o ≡ p) ⊎ (o ≡ ends.Memory)
+    run_once o p holds says = elim (found o holds) [
       | inl finds ↦ let s = said p says in inl (one_end o p finds s.0 s.1)
       | inr memory ↦ inr memory
     ]
 
-    ran_at : (o : Outcome) (s : Option Stop) → s ≡ None → EndsAt s o → 0 ≡ status_of o
-    ran_at o None e at = sym (ap status_of at.2)
+    ran_at : (o : Outcome) (s : Option Stop) → s ≡ None → EndsAt s o → status_of o ≡ 0
+    ran_at o None e at = ap status_of at.2
     ran_at o (Some s) e at = absurd (cc)
 
-    pub run_completed : RunForms k d → (o : Outcome) → RunHolds k d new o → (0 ≡ status_of o) ⊎ (5 ≡ status_of o)
-    run_completed forms o holds = elim (found o holds) [
+    pub run_formed : RunForms k d → (o : Outcome) → Said d (run_end k d new o) → (status_of o ≡ 0) ⊎ (o ≡ ends.Memory)
+    run_formed forms o holds = elim (found o holds) [
       | inl finds ↦ inl (elim finds [
         | inl fault ↦ absurd (no_fault d k.config forms.settings fault.0 forms.inputs.config fault.1)
         | inr other ↦ elim other [
@@ -201,5 +196,5 @@ module _ (k : RunNames) (d : Seen) where
           | inr through ↦ ran_at o through.at (one_stop through.settings forms.settings through.opened forms.opened through.at None through.inputs forms.inputs through.is forms.none) through.says
         ]
       ])
-      | inr memory ↦ inr (sym (ap status_of memory))
+      | inr memory ↦ inr memory
     ]

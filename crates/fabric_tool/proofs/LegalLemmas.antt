@@ -1,7 +1,6 @@
 -- A journal that names a run excludes each refusal of `replay` and of `show`.
-use Rattle.std.proofs.Common.{◌≡◌, ℕ, ◌+◌, ◌-◌, ◌*◌, ◌≤◌, ◌⊎◌, List, ◌∷◌, length, length-append, IsTrue, refl, sym, ap, ◌∙◌, subst, arith, inl, inr}
+use Rattle.std.proofs.Common.{◌≡◌, ℕ, ◌+◌, ◌-◌, ◌*◌, ◌≤◌, List, ◌∷◌, length, length-append, sym, ap, ◌∙◌, subst, arith, inl, inr}
 use Rattle.fab_base.specs.Seen.{Seen}
-use Rattle.fab_base.specs.Sunk.{Sunk}
 use Rattle.fab_config.specs.Settings.{Settings}
 use Rattle.pcap_file.specs.declared.Budget.{Budget}
 use Rattle.pcap_file.specs.Capture.{HEAD}
@@ -10,10 +9,9 @@ use Rattle.fab_policy.specs.Looks.{Opened}
 use Rattle.fab_replay.specs.Check.{Matter}
 use Rattle.fab_replay.specs.Showing.{shown}
 use Rattle.fab_replay.proofs.ExactLemmas.{run_is_one, output_differs}
-use Rattle.fabric_tool.specs.Command.{RunNames, Replay, Show, ReadRose}
-use Rattle.fabric_tool.specs.Checking.{budget_of, matter_of, Finds, IsLegalJournal, IsShownJournal, IsLongJournal, ReplayHolds, ShowHolds}
+use Rattle.fabric_tool.specs.Command.{RunNames}
+use Rattle.fabric_tool.specs.Checking.{budget_of, matter_of, Finds, IsLegalJournal, IsShownJournal, IsLongJournal, ReplaySays, ShowSays}
 use Rattle.fabric_tool.specs.Inputs.{HasFault, HasBadHead, HaveNoRoom, MOST_BYTES}
-use Rattle.fabric_tool.specs.Statuses.{IsQuiet}
 use Rattle.fabric_tool.specs.declared.outcome.Outcome.{Outcome}
 use Rattle.fabric_tool.specs.declared.outcome.Outcome.TheVariants as ends
 use Rattle.fabric_tool.proofs.ConfigLemmas.{same_text, one_value, no_fault}
@@ -55,52 +53,39 @@ module _ (k : RunNames) (d : Seen) where
 
   -- where the journal and the outputs are those of a run, the files say nothing else to `replay`
   module _ (entries : ℕ) (f : Finds k d (IsLegalJournal entries)) where
-    pub only_legal : (new : Seen) → IsTrue d.told → (o : Outcome) → ReplayHolds k d new o → (ReadRose (Replay k) d new → ⊥) → (o ≡ ends.Legal entries) ⊎ (o ≡ ends.Memory)
-    only_legal new told (ends.Legal n) h quiet =
-        let g = h.1 told in
-        let mine = in_one (IsLegalJournal entries) (IsLegalJournal n) f g in
-        let one = (run_is_one g.settings (budget_of g.journal (length k.ins)) (matter_of k d g.opened g.journal) mine.entry_list mine.names).0 g.says.entry_list g.says.names in
-        inl (ap ends.Legal (g.says.count ∙ ap (λ (J : Journal). length J) one ∙ sym mine.count))
-    only_legal new told (ends.WrongLine line why) h quiet = absurd (excluded (IsLegalJournal entries) _ (λ c b m x wrong. (run_is_one c b m x.entry_list x.names).1 line why wrong) f (h.1 told))
-    only_legal new told (ends.WrongOutput port at) h quiet = absurd (excluded (IsLegalJournal entries) _ (λ c b m x wrong. output_differs c b m port at x.entry_list wrong x.names x.outputs) f (h.1 told))
-    only_legal new told (ends.Config fault) h quiet = absurd (no_config (IsLegalJournal entries) f fault (h.1 told))
-    only_legal new told (ends.Capture port at why) h quiet = absurd (elim (h.1 told) [
+    pub only_legal : (o : Outcome) → ReplaySays k d o → o ≡ ends.Legal entries
+    only_legal (ends.Legal n) h =
+        let mine = in_one (IsLegalJournal entries) (IsLegalJournal n) f h in
+        let one = (run_is_one h.settings (budget_of h.journal (length k.ins)) (matter_of k d h.opened h.journal) mine.entry_list mine.names).0 h.says.entry_list h.says.names in
+        ap ends.Legal (h.says.count ∙ ap (λ (J : Journal). length J) one ∙ sym mine.count)
+    only_legal (ends.WrongLine line why) h = absurd (excluded (IsLegalJournal entries) _ (λ c b m x wrong. (run_is_one c b m x.entry_list x.names).1 line why wrong) f h)
+    only_legal (ends.WrongOutput port at) h = absurd (excluded (IsLegalJournal entries) _ (λ c b m x wrong. output_differs c b m port at x.entry_list wrong x.names x.outputs) f h)
+    only_legal (ends.Config fault) h = absurd (no_config (IsLegalJournal entries) f fault h)
+    only_legal (ends.Capture port at why) h = absurd (elim h [
       | inl bad ↦ no_head (IsLegalJournal entries) f port why bad.1.head
       | inr g ↦ excluded (IsLegalJournal entries) _ (λ c b m x stop. (run_is_one c b m x.entry_list x.names).2 _ stop) f g
     ])
-    only_legal new told (ends.Limit kind) h quiet = absurd (elim (h.1 told) [
+    only_legal (ends.Limit kind) h = absurd (elim h [
       | inl long ↦ no_long (IsLegalJournal entries) f long.1
       | inr g ↦ excluded (IsLegalJournal entries) _ (λ c b m x stop. (run_is_one c b m x.entry_list x.names).2 _ stop) f g
     ])
-    only_legal new told ends.ReadFault h quiet = absurd (quiet h.1)
-    only_legal new told ends.Memory h quiet = inr refl
-    only_legal new told o h quiet = absurd h
-
-    pub legal_end : (new : Seen) (before after : Sunk) → IsTrue d.told → IsQuiet (Replay k) d new before after → (o : Outcome) → ReplayHolds k d new o → (o ≡ ends.Legal entries) ⊎ (o ≡ ends.Memory)
-    legal_end new before after told quiet o h = only_legal new told o h quiet.reads
+    only_legal o h = absurd h
 
   -- the same of `show`, to which no output is told
   module _ (text : List ℕ) (f : Finds k d (IsShownJournal text)) where
-    pub only_shown : (new : Seen) → IsTrue d.told → (o : Outcome) → ShowHolds k d new o → (ReadRose (Show k) d new → ⊥) → (o ≡ ends.Shown text) ⊎ (o ≡ ends.Memory)
-    only_shown new told (ends.Shown n) h quiet =
-        let g = h.1 told in
-        let mine = in_one (IsShownJournal text) (IsShownJournal n) f g in
-        let one = (run_is_one g.settings (budget_of g.journal (length k.ins)) (matter_of k d g.opened g.journal) mine.entry_list mine.names).0 g.says.entry_list g.says.names in
-        inl (ap ends.Shown (g.says.told ∙ ap (λ (J : Journal). shown g.settings J) one ∙ sym mine.told))
-    only_shown new told (ends.WrongLine line why) h quiet = absurd (excluded (IsShownJournal text) _ (λ c b m x wrong. (run_is_one c b m x.entry_list x.names).1 line why wrong) f (h.1 told))
-    only_shown new told (ends.WrongOutput port at) h quiet = absurd (h.1 told)
-    only_shown new told (ends.Config fault) h quiet = absurd (no_config (IsShownJournal text) f fault (h.1 told))
-    only_shown new told (ends.Capture port at why) h quiet = absurd (elim (h.1 told) [
+    pub only_shown : (o : Outcome) → ShowSays k d o → o ≡ ends.Shown text
+    only_shown (ends.Shown n) h =
+        let mine = in_one (IsShownJournal text) (IsShownJournal n) f h in
+        let one = (run_is_one h.settings (budget_of h.journal (length k.ins)) (matter_of k d h.opened h.journal) mine.entry_list mine.names).0 h.says.entry_list h.says.names in
+        ap ends.Shown (h.says.told ∙ ap (λ (J : Journal). shown h.settings J) one ∙ sym mine.told)
+    only_shown (ends.WrongLine line why) h = absurd (excluded (IsShownJournal text) _ (λ c b m x wrong. (run_is_one c b m x.entry_list x.names).1 line why wrong) f h)
+    only_shown (ends.Config fault) h = absurd (no_config (IsShownJournal text) f fault h)
+    only_shown (ends.Capture port at why) h = absurd (elim h [
       | inl bad ↦ no_head (IsShownJournal text) f port why bad.1.head
       | inr g ↦ excluded (IsShownJournal text) _ (λ c b m x stop. (run_is_one c b m x.entry_list x.names).2 _ stop) f g
     ])
-    only_shown new told (ends.Limit kind) h quiet = absurd (elim (h.1 told) [
+    only_shown (ends.Limit kind) h = absurd (elim h [
       | inl long ↦ no_long (IsShownJournal text) f long.1
       | inr g ↦ excluded (IsShownJournal text) _ (λ c b m x stop. (run_is_one c b m x.entry_list x.names).2 _ stop) f g
     ])
-    only_shown new told ends.ReadFault h quiet = absurd (quiet h.1)
-    only_shown new told ends.Memory h quiet = inr refl
-    only_shown new told o h quiet = absurd h
-
-    pub shown_end : (new : Seen) (before after : Sunk) → IsTrue d.told → IsQuiet (Show k) d new before after → (o : Outcome) → ShowHolds k d new o → (o ≡ ends.Shown text) ⊎ (o ≡ ends.Memory)
-    shown_end new before after told quiet o h = only_shown new told o h quiet.reads
+    only_shown o h = absurd h

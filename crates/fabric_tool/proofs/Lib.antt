@@ -21,6 +21,8 @@ pub mod NumberTextLemmas
 pub mod MakeLemmas
 pub mod SideLemmas
 pub mod ConfigLemmas
+pub mod EndingLemmas
+pub mod Laws
 pub mod SnoopLemmas
 pub mod LiveWordLemmas
 pub mod LivingLemmas
@@ -28,11 +30,11 @@ pub mod EnodeLemmas
 pub mod StreamLemmas
 pub mod LiveEndLemmas
 pub mod LiveExactLemmas
-pub mod OutcomeCases
 pub mod FoundLemmas
 pub mod LegalLemmas
 pub mod FaultLemmas
-pub mod DoneLemmas
+pub mod PairLaws
+pub mod CommandLaws
 pub mod RecheckLemmas
 pub mod CauseLemmas
 pub mod EndLemmas

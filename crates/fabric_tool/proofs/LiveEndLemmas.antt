@@ -1,51 +1,20 @@
 -- What follows from how `live` ended.
-use Rattle.std.proofs.Common.{◌≡◌, ℕ, List, [], ◌∷◌, ◌++◌, length, map, ◌⊎◌, IsTrue, refl, sym, ap, ◌∙◌, subst, inl, inr}
+use Rattle.std.proofs.Common.{◌≡◌, ℕ, List, [], length, ◌⊎◌, arith, inl, inr}
 use Rattle.fab_base.specs.Seen.{Seen, SameFiles}
 use Rattle.fab_config.specs.Settings.{Settings}
-use Rattle.fab_config.specs.declared.ConfigFault.{ConfigFault}
 use Rattle.pcapng_file.specs.declared.NgRecord.{NgRecord}
 use Rattle.pcapng_file.specs.declared.fault.NgWhy.{NgWhy}
 use Rattle.fab_gather.specs.declared.fault.LimitKind.{LimitKind}
 use Rattle.fab_gather.specs.declared.fault.LimitKind.TheVariants as kinds
-use Rattle.fabric_tool.specs.Command.{LiveWords, Live, KeepsOthers}
+use Rattle.fabric_tool.specs.Command.{LiveWords}
 use Rattle.fabric_tool.specs.Ends.{TakesMemory}
 use Rattle.fabric_tool.specs.Inputs.{LIMITS}
-use Rattle.fabric_tool.specs.Living.{session_of, all_came, HoldsSession, HoldsSessionFronts, HasSession, HasLived, HasHalt, HasHalted, HasLiveFront, IsBegun, IsFaulty, IsNoPort, IsPast, IsLiveRefused, LiveHolds}
+use Rattle.fabric_tool.specs.Living.{session_of, all_came, HasLived, HasHalted, HasLiveFront, IsBegun, IsFaulty, IsNoPort, IsPast, IsLiveRefused, live_end, LiveHolds}
 use Rattle.fabric_tool.specs.declared.outcome.Outcome.{Outcome}
 use Rattle.fabric_tool.specs.declared.outcome.Outcome.TheVariants as ends
+use Rattle.fabric_tool.proofs.EndingLemmas.{Left}
 use Rattle.fabric_tool.proofs.PartLemmas.{all_fronts, whole_fronts}
 use Rattle.fabric_tool.proofs.StreamLemmas.{begins_file, begins_stop}
-
--- `live` ends so, and not otherwise
-pub live_cases : (k : LiveWords) (old new : Seen) (P : Outcome → Type 0) →
-    ((frames entries : ℕ) → LiveHolds k old new (ends.Ran frames entries) → P (ends.Ran frames entries)) →
-    ((fault : ConfigFault) → LiveHolds k old new (ends.Config fault) → P (ends.Config fault)) →
-    ((at : ℕ) (why : NgWhy) → LiveHolds k old new (ends.BadStream at why) → P (ends.BadStream at why)) →
-    ((face : ℕ) → LiveHolds k old new (ends.NoPort face) → P (ends.NoPort face)) →
-    ((kind : LimitKind) → LiveHolds k old new (ends.Limit kind) → P (ends.Limit kind)) →
-    (LiveHolds k old new ends.ReadFault → P ends.ReadFault) → (LiveHolds k old new ends.WriteFault → P ends.WriteFault) → (LiveHolds k old new ends.Memory → P ends.Memory) →
-    (o : Outcome) → LiveHolds k old new o → P o
-live_cases k old new P ran config stream port limit read write memory (ends.Ran frames entries) holds = ran frames entries holds
-live_cases k old new P ran config stream port limit read write memory (ends.Config fault) holds = config fault holds
-live_cases k old new P ran config stream port limit read write memory (ends.BadStream at why) holds = stream at why holds
-live_cases k old new P ran config stream port limit read write memory (ends.NoPort face) holds = port face holds
-live_cases k old new P ran config stream port limit read write memory (ends.Limit kind) holds = limit kind holds
-live_cases k old new P ran config stream port limit read write memory ends.ReadFault holds = read holds
-live_cases k old new P ran config stream port limit read write memory ends.WriteFault holds = write holds
-live_cases k old new P ran config stream port limit read write memory ends.Memory holds = memory holds
-live_cases k old new P ran config stream port limit read write memory o holds = absurd holds
-
--- no file but the outputs has changed
-pub live_others : (k : LiveWords) (old new : Seen) (o : Outcome) → LiveHolds k old new o → KeepsOthers (Live k) old new
-live_others k old new = live_cases k old new (λ o. KeepsOthers (Live k) old new)
-    (λ frames entries h. h.0)
-    (λ fault h m none. h.0 m)
-    (λ at why h. h.0)
-    (λ face h. h.0)
-    (λ kind h. h.0)
-    (λ h. h.0)
-    (λ h. h.0)
-    (λ h. h.0)
 
 -- ---- whole sessions are fronts
 
@@ -103,27 +72,21 @@ module _ (k : LiveWords) (old new : Seen) where
   refused_front (inr (inl halted)) = inr (halted_front halted)
   refused_front (inr (inr front)) = inr front.0
 
-  -- whatever the outcome, each output is as it was or a front
-  pub live_front : IsTrue old.told → (o : Outcome) → LiveHolds k old new o → SameFiles old new ⊎ HasLiveFront k old new
-  live_front told = live_cases k old new (λ o. SameFiles old new ⊎ HasLiveFront k old new)
-      (λ frames entries h. inr (halted_front (lived_begun frames entries (h.1 told))))
-      (λ fault h. inl h.0)
-      (λ at why h. inr (halted_front (stream_begun at why (h.1 told))))
-      (λ face h. inr (halted_front (port_begun face (h.1 told))))
-      (λ kind h. inr (halted_front (limit_begun kind (h.1 told))))
-      (λ h. elim (h.2 told) [ inl config ↦ inl config.0 | inr later ↦ elim later [ inl closed ↦ inl closed.0 | inr halted ↦ inr (halted_front halted.1) ] ])
-      (λ h. inr (h.2 told))
-      (λ h. refused_front (h.1 told))
+  pub live_front : (o : Outcome) → Left (live_end k old new o) → SameFiles old new ⊎ HasLiveFront k old new
+  live_front (ends.Ran frames entries) h = inr (halted_front (lived_begun frames entries h))
+  live_front (ends.BadStream at why) h = inr (halted_front (stream_begun at why h))
+  live_front (ends.NoPort face) h = inr (halted_front (port_begun face h))
+  live_front (ends.Limit kind) h = inr (halted_front (limit_begun kind h))
+  live_front ends.ReadFault h = elim h [ inl config ↦ inl config.0 | inr later ↦ elim later [ inl closed ↦ inl closed.0 | inr halted ↦ inr (halted_front halted.1) ] ]
+  live_front ends.WriteFault h = inr h
+  live_front ends.Memory h = refused_front h
+  live_front o h = absurd h
 
   -- want of memory for the line of an outcome says less
-  pub live_memory : (o : Outcome) → LiveHolds k old new o → TakesMemory o → LiveHolds k old new ends.Memory
-  live_memory o holds takes = live_cases k old new (λ o. TakesMemory o → LiveHolds k old new ends.Memory)
-      (λ frames entries h takes. (h.0, λ told. inr (inl (lived_begun frames entries (h.1 told))), h.2))
-      (λ fault h takes. (λ m none. h.0 m, λ told. inl h.0, h.2))
-      (λ at why h takes. (h.0, λ told. inr (inl (stream_begun at why (h.1 told))), h.2))
-      (λ face h takes. (h.0, λ told. inr (inl (port_begun face (h.1 told))), h.2))
-      (λ kind h takes. (h.0, λ told. inr (inl (limit_begun kind (h.1 told))), h.2))
-      (λ h takes. absurd takes)
-      (λ h takes. absurd takes)
-      (λ h takes. h)
-      o holds takes
+  pub live_spare : (o : Outcome) → LiveHolds k old new o → TakesMemory o → LiveHolds k old new ends.Memory
+  live_spare (ends.Ran frames entries) h takes = (h.0, λ told. inr (inl (lived_begun frames entries (h.1 told))), h.2)
+  live_spare (ends.Config fault) h takes = (λ m none. h.0 m, λ told. inl h.0, h.2)
+  live_spare (ends.BadStream at why) h takes = (h.0, λ told. inr (inl (stream_begun at why (h.1 told))), h.2)
+  live_spare (ends.NoPort face) h takes = (h.0, λ told. inr (inl (port_begun face (h.1 told))), h.2)
+  live_spare (ends.Limit kind) h takes = (h.0, λ told. inr (inl (limit_begun kind (h.1 told))), h.2)
+  live_spare o h takes = absurd (omega arith)

@@ -22,13 +22,14 @@ use Rattle.fab_live.specs.Arriving.{arrive, arrived, AllFaces, NoneTooLate, IsIn
 use Rattle.fab_live.specs.Live.{BeginsWithin, Stops, left_behind}
 use Rattle.fabric_tool.specs.Command.{LiveWords, Live}
 use Rattle.fabric_tool.specs.Inputs.{HasConfig, HasFault, LIMITS, MOST_BYTES, MOST_FRAMES}
-use Rattle.fabric_tool.specs.Living.{HasLived, HasHalt, IsFaulty, IsNoPort, IsPast, LiveHolds, LiveForms, LiveSays}
-use Rattle.fabric_tool.specs.Outcome.{status_of}
-use Rattle.fabric_tool.specs.Statuses.{IsQuiet}
+use Rattle.fabric_tool.specs.Living.{HasLived, HasHalt, IsFaulty, IsNoPort, IsPast, live_end, LiveHolds, LiveEnded, LiveForms, LiveSays, live_meaning}
+use Rattle.fabric_tool.specs.Outcome.{status_of, line_of}
 use Rattle.fabric_tool.specs.declared.outcome.Outcome.{Outcome}
 use Rattle.fabric_tool.specs.declared.outcome.Outcome.TheVariants as ends
+use Rattle.fabric_tool.proofs.EndingLemmas.{Said}
+use Rattle.fabric_tool.proofs.Laws.{Laws, PrintsAlike, alike}
 use Rattle.fabric_tool.proofs.ConfigLemmas.{same_text, one_value, one_fault, no_fault}
-use Rattle.fabric_tool.proofs.LiveEndLemmas.{live_cases}
+use Rattle.fabric_tool.proofs.LiveEndLemmas.{live_front, live_spare}
 use Rattle.fabric_tool.proofs.StreamLemmas.{blocks_parts}
 
 -- ---- one walk and a longer one
@@ -350,18 +351,16 @@ module _ (k : LiveWords) (d : Seen) where
   said (ends.Limit kind) says = by_limit kind says
   said p says = absurd says
 
-  module _ (new : Seen) (before after : Sunk) (told : IsTrue d.told) (quiet : IsQuiet (Live k) d new before after) where
+  module _ (new : Seen) (told : IsTrue d.told) where
     -- an outcome is done, what the inputs name, or want of memory
-    ended : (o : Outcome) → LiveHolds k d new o → ((frames : ℕ) × (entries : ℕ) × HasLived k frames entries d new × (o ≡ ends.Ran frames entries)) ⊎ (Finds o ⊎ (o ≡ ends.Memory))
-    ended = live_cases k d new (λ o. ((frames : ℕ) × (entries : ℕ) × HasLived k frames entries d new × (o ≡ ends.Ran frames entries)) ⊎ (Finds o ⊎ (o ≡ ends.Memory)))
-        (λ frames entries h. inl (frames, entries, h.1 told, refl))
-        (λ fault h. inr (inl (inl (fault, h.1 told, refl))))
-        (λ at why h. inr (inl (by_stop (IsFaulty at why) (errors.Fault at why) (λ c v l w. w) (h.1 told).halt)))
-        (λ face h. inr (inl (by_port face (h.1 told).halt)))
-        (λ kind h. inr (inl (by_limit kind (h.1 told).halt)))
-        (λ h. absurd (quiet.reads h.1))
-        (λ h. absurd (quiet.writes h.1))
-        (λ h. inr (inr refl))
+    ended : (o : Outcome) → Said d (live_end k d new o) → ((frames : ℕ) × (entries : ℕ) × HasLived k frames entries d new × (o ≡ ends.Ran frames entries)) ⊎ (Finds o ⊎ (o ≡ ends.Memory))
+    ended (ends.Ran frames entries) h = inl (frames, entries, h told, refl)
+    ended (ends.Config fault) h = inr (inl (inl (fault, h told, refl)))
+    ended (ends.BadStream at why) h = inr (inl (by_stop (IsFaulty at why) (errors.Fault at why) (λ c v l w. w) (h told).halt))
+    ended (ends.NoPort face) h = inr (inl (by_port face (h told).halt))
+    ended (ends.Limit kind) h = inr (inl (by_limit kind (h told).halt))
+    ended ends.Memory h = inr (inr refl)
+    ended o h = absurd h
 
     -- inputs that say something else aren't those of a session to its end
     lived_not : (p : Outcome) (frames entries : ℕ) → HasLived k frames entries d new → Finds p → ⊥
@@ -372,18 +371,18 @@ module _ (k : LiveWords) (d : Seen) where
         reached_whole (length k.outs) h.settings h.stream.bytes p h.packets (found_as p h.settings h.stream.bytes f c l)
         (whole_of h.packets h.stream.bytes h.stream.is h.stream.within) (record { faces = h.session.run.faces; span = h.session.run.span })
 
-    pub live_said : (o p : Outcome) → LiveHolds k d new o → LiveSays k d p → (o ≡ p) ⊎ (o ≡ ends.Memory)
-    live_said o p holds says = elim (ended o holds) [
+    pub live_once : (o p : Outcome) → Said d (live_end k d new o) → LiveSays k d p → PrintsAlike o p ⊎ (o ≡ ends.Memory)
+    live_once o p holds says = elim (ended o holds) [
       | inl lived ↦ absurd (lived_not p lived.0 lived.1 lived.2 (said p says))
-      | inr other ↦ elim other [ inl finds ↦ inl (found_once o p finds (said p says)) | inr memory ↦ inr memory ]
+      | inr other ↦ elim other [ inl finds ↦ inl (alike o p (found_once o p finds (said p says))) | inr memory ↦ inr memory ]
     ]
 
     -- inputs of the right form end with status 0
-    pub live_completed : LiveForms k d → (o : Outcome) → LiveHolds k d new o → (0 ≡ status_of o) ⊎ (5 ≡ status_of o)
-    live_completed forms o holds = elim (ended o holds) [
-      | inl lived ↦ inl (sym (ap status_of lived.3))
+    pub live_formed : LiveForms k d → (o : Outcome) → Said d (live_end k d new o) → (status_of o ≡ 0) ⊎ (o ≡ ends.Memory)
+    live_formed forms o holds = elim (ended o holds) [
+      | inl lived ↦ inl (ap status_of lived.3)
       | inr other ↦ elim other [
-        | inr memory ↦ inr (sym (ap status_of memory))
+        | inr memory ↦ inr memory
         | inl finds ↦ absurd (elim finds [
           | inl a ↦ no_fault d k.config forms.settings a.0 forms.config a.1
           | inr f ↦
@@ -394,3 +393,20 @@ module _ (k : LiveWords) (d : Seen) where
         ])
       ]
     ]
+
+-- ---- the laws
+
+done_live : (k : LiveWords) (old new : Seen) (before after : Sunk) (o : Outcome) → status_of o ≡ 0 → LiveHolds k old new o → (IsTrue before.told → after.written ≡ before.written ++ line_of o) → IsTrue old.told → LiveEnded k old new before after
+unfolding line_of
+done_live k old new before after (ends.Ran frames entries) is h printed = λ told. record { frames = frames; entries = entries; lived = h.1 told; printed = printed }
+done_live k old new before after o is h printed = absurd (omega arith)
+
+pub live_laws : (k : LiveWords) → Laws (Live k) (live_meaning k)
+live_laws k = record {
+  same = λ old new files. inl files;
+  whole = live_front k;
+  spare = live_spare k;
+  done = done_live k;
+  once = λ old new o p told. live_once k old new told o p;
+  formed = λ old new o forms. live_formed k old new forms.told forms o;
+}

@@ -1,6 +1,6 @@
 -- The nine files of `make`: opened one after another, and written.
 use Rattle.std.proofs.Common.{◌≡◌, ◌≢◌, ℕ, suc, ◌+◌, ◌-◌, ◌<◌, ◌≤◌, List, [], ◌∷◌, ◌++◌, length, true, ◌&&◌, codes, Ok, Err, IsTrue, refl, sym, ap, ◌∙◌, subst, arith, inl, inr}
-use Rattle.std.specs.Prelude.{String, Result, map, slice_index, is_some, ◌==◌}
+use Rattle.std.specs.Prelude.{String, Result, map, slice_index, ◌==◌}
 use Rattle.std.proofs.lemmas.Bool.{eqb-true}
 use Rattle.std.specs.Str.{bytes_eq}
 use Rattle.std.specs.declared.alloc.Global.{Global}
@@ -12,7 +12,7 @@ use Rattle.pcap_file.proofs.lemmas.Numbers.{le_or_lt}
 use Rattle.fab_vectors.specs.Making.{AreNine, IsNamed, Makes, file_text}
 use Rattle.fab_vectors.specs.declared.MakeFault.{MakeFault}
 use Rattle.fab_vectors.specs.declared.MakeFault.TheVariants as faults
-use Rattle.fabric_tool.specs.Command.{Make, is_make, make_of, file_at, names_from, are_names, number_of, KeepsOthers}
+use Rattle.fabric_tool.specs.Command.{Make, is_make, files_of, make_of, file_at, names_from, are_names, KeepsOthers}
 use Rattle.run_files.specs.Names.{Among, AnyRose}
 use Rattle.fabric_tool.specs.Load.{HasLoadFront, MakeHolds, file_name}
 use Rattle.fabric_tool.specs.Opening.{FilesOpened}
@@ -29,10 +29,9 @@ use Rattle.run_files.proofs.OpenLemmas.{OpenedSoFar, opened_more, opened_failed}
 
 make_form : (words : List (String Global)) → is_make words ≡ true → (length words ≡ 11) × (are_names (names_from 2 words) ≡ true)
 make_form words is =
-    let numbered = and_true (length words == 11 && bytes_eq (name_at words 0) (codes "make") && is_some (number_of (name_at words 1))) (are_names (names_from 2 words)) is in
-    let worded = and_true (length words == 11 && bytes_eq (name_at words 0) (codes "make")) (is_some (number_of (name_at words 1))) numbered.0 in
+    let worded = and_true (length words == 11 && bytes_eq (name_at words 0) (codes "make")) (are_names (names_from 2 words)) is in
     let counted = and_true (length words == 11) (bytes_eq (name_at words 0) (codes "make")) worded.0 in
-    (eqb-true (length words) 11 counted.0, numbered.1)
+    (eqb-true (length words) 11 counted.0, worded.1)
 
 files_differ : (words : List (String Global)) (i j : ℕ) → are_names (names_from 2 words) ≡ true → i < j → j + 2 < length words → file_at words i ≢ file_at words j
 files_differ [] i j names lt within = absurd (omega arith)
@@ -71,15 +70,15 @@ module _ (words : List (String Global)) (make : is_make words ≡ true) (p : ℕ
       subst (λ names. OpenedSoFar names a d (slots ++ s ∷ [])) (sym (push_name (file_at words) p))
       (opened_more (map (file_at words) (counting 0 p)) a b slots h (file_at words p) d s (new_file words make p lt) o)
 
-  pub file_failed : (e : Failed) → OpensOut {E = Failed} (file_at words p) b d (Err e) → FilesOpened (make_of words) a d (Err e)
+  pub file_failed : (e : Failed) → OpensOut {E = Failed} (file_at words p) b d (Err e) → FilesOpened (files_of words) a d (Err e)
   file_failed e o =
-      let f = opened_failed (map (file_at words) (counting 0 p)) a b slots h (file_at words p) d (make_of words).files (map (file_at words) (counting (p + 1) (9 - (p + 1)))) (split_names (file_at words) 9 p lt) e o in
+      let f = opened_failed (map (file_at words) (counting 0 p)) a b slots h (file_at words p) d (files_of words) (map (file_at words) (counting (p + 1) (9 - (p + 1)))) (split_names (file_at words) 9 p lt) e o in
       record { opens = f.0; slots = tt; cause = f.1; counts = tt }
 
 pub files_count : (words : List (String Global)) (p : ℕ) (a b : Seen) (slots : List ℕ) → OpenedSoFar (map (file_at words) (counting 0 p)) a b slots → length slots ≡ p
 files_count words p a b slots h = outputs_count b (map (file_at words) (counting 0 p)) slots h.are ∙ length-counted (file_at words) 0 p
 
-pub files_opened : (words : List (String Global)) (p : ℕ) (a b : Seen) (files : LoadFiles) → 9 ≤ p → p ≤ 9 → OpenedSoFar (map (file_at words) (counting 0 p)) a b files.slots.items → FilesOpened (make_of words) a b (Ok files)
+pub files_opened : (words : List (String Global)) (p : ℕ) (a b : Seen) (files : LoadFiles) → 9 ≤ p → p ≤ 9 → OpenedSoFar (map (file_at words) (counting 0 p)) a b files.slots.items → FilesOpened (files_of words) a b (Ok files)
 files_opened words p a b files le most h =
     let all : p ≡ 9 = omega arith in
     let o = subst (λ (n : ℕ). OpenedSoFar (map (file_at words) (counting 0 n)) a b files.slots.items) all h in
@@ -87,12 +86,12 @@ files_opened words p a b files le most h =
 
 -- ---- writing them
 
-module _ (words : List (String Global)) (make : is_make words ≡ true) (b : Seen) (slots : List ℕ) (are : AreEmptyOutputs b (make_of words).files slots) where
+module _ (words : List (String Global)) (make : is_make words ≡ true) (b : Seen) (slots : List ℕ) (are : AreEmptyOutputs b (files_of words) slots) where
   nine : length slots ≡ 9
-  nine = outputs_count b (make_of words).files slots are ∙ length-counted (file_at words) 0 9
+  nine = outputs_count b (files_of words) slots are ∙ length-counted (file_at words) 0 9
 
   a_file : (q : ℕ) → q < 9 → IsOut b (slice_index slots q) (file_at words q)
-  a_file q lt = subst (IsOut b (slice_index slots q)) (name_counted (file_at words) 9 q lt) (output_named b (make_of words).files slots q (let n = nine in omega arith) are)
+  a_file q lt = subst (IsOut b (slice_index slots q)) (name_counted (file_at words) 9 q lt) (output_named b (files_of words) slots q (let n = nine in omega arith) are)
 
   pub are_nine : AreNine b slots
   are_nine = record {
@@ -102,54 +101,54 @@ module _ (words : List (String Global)) (make : is_make words ≡ true) (b : See
     empty = λ told q lt. ap b.file (a_file q lt).named ∙ (a_file q lt).empty told;
   }
 
-  named_among : (m : List ℕ) → IsNamed b slots m → Among (make_of words).files m
-  named_among m named = subst (Among (make_of words).files) (sym (named.2 ∙ (a_file named.0 named.1).named)) (counted_among (file_at words) 0 9 named.0 (omega arith) named.1)
+  named_among : (m : List ℕ) → IsNamed b slots m → Among (files_of words) m
+  named_among m named = subst (Among (files_of words)) (sym (named.2 ∙ (a_file named.0 named.1).named)) (counted_among (file_at words) 0 9 named.0 (omega arith) named.1)
 
   -- the name of a file by its place
-  name_of_file : (q : ℕ) → q < 9 → b.name (slice_index slots q) ≡ file_name (make_of words) q
-  name_of_file q lt = (a_file q lt).named ∙ sym (name_counted (file_at words) 9 q lt)
+  name_of_file : (number q : ℕ) → q < 9 → b.name (slice_index slots q) ≡ file_name (make_of number words) q
+  name_of_file number q lt = (a_file q lt).named ∙ sym (name_counted (file_at words) 9 q lt)
 
-  module _ {a d : Seen} (opens : Opens (make_of words).files a b) (same : SameWriteFaults a b) {r : Result ℕ MakeFault} (m : Makes (make_of words).number slots b d r) where
-    keeps : KeepsOthers (Make (make_of words)) a d
+  module _ (number : ℕ) {a d : Seen} (opens : Opens (files_of words) a b) (same : SameWriteFaults a b) {r : Result ℕ MakeFault} (m : Makes number slots b d r) where
+    keeps : KeepsOthers (Make (make_of number words)) a d
     keeps n none =
-        let not_one = none_among (make_of words).files n none in
+        let not_one = none_among (files_of words) n none in
         m.touches.files n (λ named. not_one (named_among n named)) ∙ opens.touches.files n not_one
 
     told_on : IsTrue a.told → IsTrue b.told
     told_on told = subst IsTrue (sym opens.touches.told) told
 
-    fronts : IsTrue a.told → HasLoadFront (make_of words) a d
+    fronts : IsTrue a.told → HasLoadFront (make_of number words) a d
     fronts told q lt =
         let h = m.front (told_on told) q lt in
-        inr (h.0, sym (ap d.file (name_of_file q lt)) ∙ h.2, (h.1, h.3))
+        inr (h.0, sym (ap d.file (name_of_file number q lt)) ∙ h.2, (h.1, h.3))
 
     no_read : SameReadFaults a d
     no_read x = m.reads x ∙ opens.reads x
 
-    pub made_whole : (frames : ℕ) → r ≡ Ok frames → MakeHolds (make_of words) a d (ends.Made frames)
+    pub made_whole : (frames : ℕ) → r ≡ Ok frames → MakeHolds (make_of number words) a d (ends.Made frames)
     made_whole frames is =
-        let n = subst (λ x. Makes (make_of words).number slots b d x) is m in
-        (keeps, n.count, λ told q lt. sym (ap d.file (name_of_file q lt)) ∙ n.whole (told_on told) q lt, (no_read, λ x. n.counts x ∙ same x))
+        let n = subst (λ x. Makes number slots b d x) is m in
+        (n.count, (keeps, λ told q lt. sym (ap d.file (name_of_file number q lt)) ∙ n.whole (told_on told) q lt, (no_read, λ x. n.counts x ∙ same x)))
 
-    pub made_memory : r ≡ Err faults.Memory → MakeHolds (make_of words) a d ends.Memory
+    pub made_memory : r ≡ Err faults.Memory → MakeHolds (make_of number words) a d ends.Memory
     made_memory is =
-        let n = subst (λ x. Makes (make_of words).number slots b d x) is m in
+        let n = subst (λ x. Makes number slots b d x) is m in
         (keeps, fronts, (no_read, λ x. n.counts x ∙ same x))
 
-    pub made_failed : r ≡ Err faults.Write → MakeHolds (make_of words) a d ends.WriteFault
+    pub made_failed : r ≡ Err faults.Write → MakeHolds (make_of number words) a d ends.WriteFault
     made_failed is =
         let at = m.cause is in
-        let rose : AnyRose b.write_faults d.write_faults (make_of words).files = rose_among b.write_faults d.write_faults (make_of words).files (b.name (slice_index slots at.0)) (named_among _ (at.0, at.1, refl)) at.2 in
-        (keeps, rose_since a.write_faults b.write_faults d.write_faults opens.touches.writes_rise (make_of words).files rose, fronts, no_read)
+        let rose : AnyRose b.write_faults d.write_faults (files_of words) = rose_among b.write_faults d.write_faults (files_of words) (b.name (slice_index slots at.0)) (named_among _ (at.0, at.1, refl)) at.2 in
+        (keeps, rose_since a.write_faults b.write_faults d.write_faults opens.touches.writes_rise (files_of words) rose, fronts, no_read)
 
 -- an output that couldn't be opened
-pub not_opened : (words : List (String Global)) (a b : Seen) (e : Failed) → FilesOpened (make_of words) a b (Err e) → MakeHolds (make_of words) a b ends.WriteFault
-not_opened words a b e o = (
-  λ m none. o.opens.touches.files m (none_among (make_of words).files m none),
+pub not_opened : (number : ℕ) (words : List (String Global)) (a b : Seen) (e : Failed) → FilesOpened (files_of words) a b (Err e) → MakeHolds (make_of number words) a b ends.WriteFault
+not_opened number words a b e o = (
+  λ m none. o.opens.touches.files m (none_among (files_of words) m none),
   o.cause,
-  λ told q lt. elim (o.opens.each told (file_name (make_of words) q)) [
+  λ told q lt. elim (o.opens.each told (file_name (make_of number words) q)) [
     | inl same ↦ inl same
-    | inr empty ↦ inr ([], empty, (file_text (make_of words).number q, refl))
+    | inr empty ↦ inr ([], empty, (file_text number q, refl))
   ],
   o.opens.reads,
 )

@@ -29,7 +29,7 @@ use Rattle.fabric_tool.specs.Command.{RunNames, Run, are_pairs, run_of, port_cou
 use Rattle.run_files.specs.Faults.{NoFaults}
 use Rattle.run_files.proofs.FaultLemmas.{none_then}
 use Rattle.run_files.specs.Names.{Among, AnyRose}
-use Rattle.fabric_tool.specs.Ends.{RunHolds}
+use Rattle.fabric_tool.specs.Running.{RunHolds}
 use Rattle.fabric_tool.specs.Inputs.{HasConfig, HasInputs, stop_of, kept_of, LIMITS, MOST_BYTES, MOST_FRAMES}
 use Rattle.fabric_tool.specs.Left.{HoldsAll, HoldsFronts, AreOldOrFront, HasRun, HasStopped, HasPart, LegalIsSafe}
 use Rattle.fabric_tool.specs.Opening.{ran_by}

@@ -10,8 +10,8 @@ use Rattle.fab_policy.specs.Standing.{Contents, Stands}
 use Rattle.fab_policy.specs.State.{tables_of}
 use Rattle.fab_replay.specs.Check.{Matter}
 use Rattle.fab_replay.specs.Showing.{shown_by}
-use Rattle.fabric_tool.specs.Checking.{Finds, IsStanding, IsLegalJournal, IsShownJournal, IsChecked, CheckHolds, ReplayHolds, ShowHolds, GivenRead, GivenEnds, Tells}
-use Rattle.fabric_tool.specs.Command.{RunNames, Replay, Show, are_ports, names_of, show_of, input_of, count_of}
+use Rattle.fabric_tool.specs.Checking.{Finds, IsStanding, IsLegalJournal, IsShownJournal, IsChecked, ReplayHolds, ShowHolds, GivenRead, GivenEnds, Tells}
+use Rattle.fabric_tool.specs.Command.{RunNames, are_ports, names_of, show_of, input_of, count_of}
 use Rattle.run_files.specs.Faults.{NoFaults}
 use Rattle.fabric_tool.specs.Inputs.{HaveNoRoom, MOST_BYTES}
 use Rattle.fabric_tool.specs.declared.command.Width.{Width}
@@ -55,7 +55,7 @@ given_ended w words run a z x r = go x r.ended (λ other. (r.counts (λ is. othe
     )
     go ends.ReadFault (inl rose) none = (same, rose_given w words a z (inl rose), λ told. inl rose, r.writes)
     go ends.ReadFault (inr e) none = (same, rose_given w words a z (inr (inl e.0)), λ told. inr (inl (let config = e.1 told in (config.0, config.1, e.0))), r.writes)
-    go ends.Memory e none = (same, none (λ is. cc))
+    go ends.Memory e none = (same, λ told. tt, none (λ is. cc))
     go x e none = absurd e
 
 -- ---- behind it
@@ -68,17 +68,8 @@ pub replay_done : (k : RunNames) (a z : Seen) (F : Contents) (entries : ℕ) →
 replay_done k a z F entries h = (h.0, λ told. finds_on k a (IsStanding F entries) (IsLegalJournal entries) (λ c b m s. record { entry_list = s.entry_list; names = s.names; outputs = s.outputs; count = s.count }) (h.1 told), h.2)
 
 pub replay_refused : (k : RunNames) (a z : Seen) (o : Outcome) → IsChecked widths.Two k a z (Err o) → ReplayHolds k a z o
-replay_refused k a z o h = go o h
-  where
-    go : (o : Outcome) → CheckHolds (Replay k) k a z o → ReplayHolds k a z o
-    go (ends.WrongLine line why) h = h
-    go (ends.WrongOutput port at) h = h
-    go (ends.Config fault) h = h
-    go (ends.Capture port at why) h = h
-    go (ends.Limit kind) h = h
-    go ends.ReadFault h = h
-    go ends.Memory h = h
-    go o h = absurd h
+replay_refused k a z (ends.Legal entries) h = absurd h
+replay_refused k a z o h = h
 
 -- what was written of a fabric into an empty text is what is told of it
 pub told_text : (F : Contents) (entries : ℕ) (text written before : List ℕ) → text ≡ written → ((J : Journal) → Stands F J → written ≡ before ++ shown_by entries (tables_of F.settings J)) → before ≡ [] → Tells F entries (ends.Shown text)
@@ -94,18 +85,10 @@ shown_of F entries text c b m tells s = record {
 
 pub show_done : (k : RunNames) (a z : Seen) (F : Contents) (entries : ℕ) (o : Outcome) → IsChecked widths.One k a z (Ok (F, entries)) → Tells F entries o → ShowHolds k a z o
 show_done k a z F entries (ends.Shown text) h tells = (h.0, λ told. finds_on k a (IsStanding F entries) (IsShownJournal text) (λ c b m s. shown_of F entries text c b m tells s) (h.1 told), h.2)
-show_done k a z F entries ends.Memory h tells = (h.0, h.2)
+show_done k a z F entries ends.Memory h tells = (h.0, λ told. tt, h.2)
 show_done k a z F entries o h tells = absurd tells
 
 pub show_refused : (words : List (String Global)) (a z : Seen) (o : Outcome) → IsChecked widths.One (show_of words) a z (Err o) → ShowHolds (show_of words) a z o
-show_refused words a z o h = go o h
-  where
-    go : (o : Outcome) → CheckHolds (Show (show_of words)) (show_of words) a z o → ShowHolds (show_of words) a z o
-    go (ends.WrongLine line why) h = h
-    go (ends.WrongOutput port at) h = (h.0, λ told. let first = (h.1 told).says.first in absurd (omega (arith, first.2)), h.2)
-    go (ends.Config fault) h = h
-    go (ends.Capture port at why) h = h
-    go (ends.Limit kind) h = h
-    go ends.ReadFault h = h
-    go ends.Memory h = h
-    go o h = absurd h
+show_refused words a z (ends.Shown text) h = absurd h
+show_refused words a z (ends.WrongOutput port at) h = (h.0, λ told. let first = (h.1 told).says.first in absurd (omega (arith, first.2)), h.2)
+show_refused words a z o h = h

@@ -1,5 +1,5 @@
 -- What follows from how `snoop` ended.
-use Rattle.std.proofs.Common.{◌≡◌, ◌≢◌, ℕ, List, [], ◌∷◌, length, ◌⊎◌, Ok, Err, IsTrue, refl, sym, ap, ◌∙◌, subst, arith, inl, inr}
+use Rattle.std.proofs.Common.{◌≡◌, ◌≢◌, ℕ, List, ◌++◌, [], ◌∷◌, length, ◌⊎◌, Ok, Err, IsTrue, refl, sym, ap, ◌∙◌, subst, arith, inl, inr}
 use Rattle.std.specs.Prelude.{Result, String, map}
 use Rattle.std.specs.declared.alloc.Global.{Global}
 use Rattle.fab_base.specs.Seen.{Seen, SameFiles, SameReadFaults, SameWriteFaults, Touches, Nothing, Only}
@@ -8,8 +8,6 @@ use Rattle.fab_base.proofs.SeenLemmas.{reads_touches}
 use Rattle.fab_config.specs.Settings.{Settings}
 use Rattle.fab_config.specs.declared.ConfigFault.{ConfigFault}
 use Rattle.fab_captures.specs.Captures.{captures_by}
-use Rattle.fab_gather.specs.declared.fault.CapWhy.{CapWhy}
-use Rattle.fab_gather.specs.declared.fault.LimitKind.{LimitKind}
 use Rattle.fab_gather.specs.declared.fault.GatherFault.{GatherFault}
 use Rattle.fab_gather.specs.declared.fault.GatherFault.TheVariants as gather
 use Rattle.fip_snoop.specs.Bridge.{Arrival, arrivals, history, passed, dropped}
@@ -28,46 +26,19 @@ use Rattle.run_files.specs.declared.fault.RunFault.TheVariants as faults
 use Rattle.fabric_tool.specs.Ends.{TakesMemory}
 use Rattle.fabric_tool.specs.Inputs.{HasConfig, HasFault, LIMITS}
 use Rattle.fabric_tool.specs.Opening.{stopped_by, crossed_by}
-use Rattle.fabric_tool.specs.Outcome.{status_of}
+use Rattle.fabric_tool.specs.Outcome.{status_of, line_of}
 use Rattle.fabric_tool.specs.Reading.{ConfigRead}
-use Rattle.fabric_tool.specs.Snooping.{HasSnooped, HasSnoopedFront, HasSnoopFront, IsStopped, SnoopHolds, SnoopForms, SnoopSays, crossing_of}
-use Rattle.fabric_tool.specs.Statuses.{IsQuiet}
+use Rattle.fabric_tool.specs.Snooping.{HasSnooped, HasSnoopedFront, HasSnoopFront, IsStopped, snoop_end, SnoopHolds, SnoopEnded, SnoopForms, SnoopSays, crossing_of, snoop_meaning}
 use Rattle.fabric_tool.specs.declared.outcome.Outcome.{Outcome}
 use Rattle.fabric_tool.specs.declared.outcome.Outcome.TheVariants as ends
+use Rattle.fabric_tool.proofs.EndingLemmas.{Left, Said, IsAnswer, less}
+use Rattle.fabric_tool.proofs.Laws.{Laws, PrintsAlike, alike}
 use Rattle.fabric_tool.proofs.AmongLemmas.{none_among}
 use Rattle.run_files.proofs.FaultLemmas.{none_then}
 use Rattle.run_files.proofs.NameLemmas.{rose_since}
 use Rattle.fabric_tool.proofs.ConfigLemmas.{one_value, one_fault, no_fault}
 use Rattle.fabric_tool.proofs.HeadLemmas.{not_unread, unread_is}
 use Rattle.fabric_tool.proofs.PartLemmas.{all_fronts}
-
--- `snoop` ends so, and not otherwise
-pub snoop_cases : (k : SnoopNames) (old new : Seen) (P : Outcome → Type 0) →
-    ((passes drops : ℕ) → SnoopHolds k old new (ends.Bridged passes drops) → P (ends.Bridged passes drops)) →
-    ((fault : ConfigFault) → SnoopHolds k old new (ends.Config fault) → P (ends.Config fault)) →
-    ((port at : ℕ) (reason : CapWhy) → SnoopHolds k old new (ends.Capture port at reason) → P (ends.Capture port at reason)) →
-    ((kind : LimitKind) → SnoopHolds k old new (ends.Limit kind) → P (ends.Limit kind)) →
-    (SnoopHolds k old new ends.ReadFault → P ends.ReadFault) → (SnoopHolds k old new ends.WriteFault → P ends.WriteFault) → (SnoopHolds k old new ends.Memory → P ends.Memory) →
-    (o : Outcome) → SnoopHolds k old new o → P o
-snoop_cases k old new P bridged config capture limit read write memory (ends.Bridged passes drops) holds = bridged passes drops holds
-snoop_cases k old new P bridged config capture limit read write memory (ends.Config fault) holds = config fault holds
-snoop_cases k old new P bridged config capture limit read write memory (ends.Capture port at reason) holds = capture port at reason holds
-snoop_cases k old new P bridged config capture limit read write memory (ends.Limit kind) holds = limit kind holds
-snoop_cases k old new P bridged config capture limit read write memory ends.ReadFault holds = read holds
-snoop_cases k old new P bridged config capture limit read write memory ends.WriteFault holds = write holds
-snoop_cases k old new P bridged config capture limit read write memory ends.Memory holds = memory holds
-snoop_cases k old new P bridged config capture limit read write memory o holds = absurd holds
-
--- no file but the outputs has changed
-pub snoop_others : (k : SnoopNames) (old new : Seen) (o : Outcome) → SnoopHolds k old new o → KeepsOthers (Snoop k) old new
-snoop_others k old new = snoop_cases k old new (λ o. KeepsOthers (Snoop k) old new)
-    (λ passes drops h. h.0)
-    (λ fault h m other. h.0 m)
-    (λ port at reason h m other. h.0 m)
-    (λ kind h m other. h.0 m)
-    (λ h m other. h.0 m)
-    (λ h. h.0)
-    (λ h. h.0)
 
 -- whole captures are fronts
 whole_captures : (k : SnoopNames) (passes drops : ℕ) (old new : Seen) → HasSnooped k passes drops old new → HasSnoopedFront k old new
@@ -79,24 +50,18 @@ whole_captures k passes drops old new h =
       fronts = record { came = arrivals b.records; crosses = b.crosses; outputs = all_fronts old new k.outs (captures h.settings (length k.outs) (arrivals b.records)) b.outputs };
     }
 
--- whatever the outcome, each output is as it was or a front
-pub snoop_front : (k : SnoopNames) (old new : Seen) → IsTrue old.told → (o : Outcome) → SnoopHolds k old new o → HasSnoopFront k old new
-snoop_front k old new told = snoop_cases k old new (λ o. HasSnoopFront k old new)
-    (λ passes drops h. inr (whole_captures k passes drops old new (h.1 told)))
-    (λ fault h. inl h.0)
-    (λ port at reason h. inl h.0)
-    (λ kind h. inl h.0)
-    (λ h. inl h.0)
-    (λ h. inr (h.2 told))
-    (λ h. h.1 told)
+snoop_front : (k : SnoopNames) (old new : Seen) (o : Outcome) → Left (snoop_end k old new o) → HasSnoopFront k old new
+snoop_front k old new (ends.Bridged passes drops) h = inr (whole_captures k passes drops old new h)
+snoop_front k old new ends.WriteFault h = inr h
+snoop_front k old new ends.Memory h = h
+snoop_front k old new o h = absurd h
 
--- want of memory for the line of an outcome says less
-pub snoop_memory : (k : SnoopNames) (old new : Seen) (o : Outcome) → SnoopHolds k old new o → TakesMemory o → SnoopHolds k old new ends.Memory
-snoop_memory k old new (ends.Bridged passes drops) h takes = (h.0, λ told. inr (whole_captures k passes drops old new (h.1 told)), h.2)
-snoop_memory k old new (ends.Config fault) h takes = (λ m other. h.0 m, λ told. inl h.0, h.2)
-snoop_memory k old new (ends.Capture port at reason) h takes = (λ m other. h.0 m, λ told. inl h.0, h.2)
-snoop_memory k old new (ends.Limit kind) h takes = (λ m other. h.0 m, λ told. inl h.0, h.2)
-snoop_memory k old new o h takes = absurd (omega arith)
+snoop_answered : (k : SnoopNames) (old new : Seen) (o : Outcome) → SnoopHolds k old new o → TakesMemory o → IsAnswer (snoop_end k old new o)
+snoop_answered k old new (ends.Bridged passes drops) h takes = tt
+snoop_answered k old new (ends.Config fault) h takes = tt
+snoop_answered k old new (ends.Capture port at reason) h takes = tt
+snoop_answered k old new (ends.Limit kind) h takes = tt
+snoop_answered k old new o h takes = absurd (omega arith)
 
 -- ---- where nothing fails
 
@@ -163,30 +128,45 @@ module _ (k : SnoopNames) (d : Seen) where
         ends_so = let L = history (forwarder_of h.settings) [] (arrivals b.records) in two_numbers passes drops (passed L) (dropped L) b.passed_ b.dropped_;
       })
 
-  module _ (new : Seen) (before after : Sunk) (told : IsTrue d.told) (quiet : IsQuiet (Snoop k) d new before after) where
+  module _ (new : Seen) (told : IsTrue d.told) where
     -- an outcome is what the inputs name, or want of memory
-    ended : (o : Outcome) → SnoopHolds k d new o → Finds k d o ⊎ (o ≡ ends.Memory)
-    ended = snoop_cases k d new (λ o. Finds k d o ⊎ (o ≡ ends.Memory))
-        (λ passes drops h. inl (crossed passes drops new (h.1 told)))
-        (λ fault h. inl (inl (fault, h.1 told, refl)))
-        (λ port at why h. inl (refusal (gather.Capture port at why) (h.1 told)))
-        (λ kind h. inl (refusal (gather.Limit kind) (h.1 told)))
-        (λ h. absurd (quiet.reads h.1))
-        (λ h. absurd (quiet.writes h.1))
-        (λ h. inr refl)
+    ended : (o : Outcome) → Said d (snoop_end k d new o) → Finds k d o ⊎ (o ≡ ends.Memory)
+    ended (ends.Bridged passes drops) h = inl (crossed passes drops new (h told))
+    ended (ends.Config fault) h = inl (inl (fault, h told, refl))
+    ended (ends.Capture port at why) h = inl (refusal (gather.Capture port at why) (h told))
+    ended (ends.Limit kind) h = inl (refusal (gather.Limit kind) (h told))
+    ended ends.Memory h = inr refl
+    ended o h = absurd h
 
-    pub snoop_said : (o p : Outcome) → SnoopHolds k d new o → SnoopSays k d p → (o ≡ p) ⊎ (o ≡ ends.Memory)
-    snoop_said o p holds says = elim (ended o holds) [ inl finds ↦ inl (found_once o p finds (said p says)) | inr memory ↦ inr memory ]
+    snoop_once : (o p : Outcome) → Said d (snoop_end k d new o) → SnoopSays k d p → PrintsAlike o p ⊎ (o ≡ ends.Memory)
+    snoop_once o p holds says = elim (ended o holds) [ inl finds ↦ inl (alike o p (found_once o p finds (said p says))) | inr memory ↦ inr memory ]
 
     -- inputs of the right form end with status 0
-    pub snoop_completed : SnoopForms k d → (o : Outcome) → SnoopHolds k d new o → (0 ≡ status_of o) ⊎ (5 ≡ status_of o)
-    snoop_completed forms o holds =
+    snoop_formed : SnoopForms k d → (o : Outcome) → Said d (snoop_end k d new o) → (status_of o ≡ 0) ⊎ (o ≡ ends.Memory)
+    snoop_formed forms o holds =
         let L = history (forwarder_of forms.settings) [] forms.came in
         let p = ends.Bridged (passed L) (dropped L) in
         elim (ended o holds) [
-          | inl finds ↦ inl (sym (ap status_of (found_once o p finds (inr (record { settings = forms.settings; config = forms.config; result = Ok forms.came; crosses = forms.crosses; ends_so = refl })))))
-          | inr memory ↦ inr (sym (ap status_of memory))
+          | inl finds ↦ inl (ap status_of (found_once o p finds (inr (record { settings = forms.settings; config = forms.config; result = Ok forms.came; crosses = forms.crosses; ends_so = refl }))))
+          | inr memory ↦ inr memory
         ]
+
+-- ---- the laws
+
+done_snoop : (k : SnoopNames) (old new : Seen) (before after : Sunk) (o : Outcome) → status_of o ≡ 0 → SnoopHolds k old new o → (IsTrue before.told → after.written ≡ before.written ++ line_of o) → IsTrue old.told → SnoopEnded k old new before after
+unfolding line_of
+done_snoop k old new before after (ends.Bridged passes drops) is h printed = λ told. record { passes = passes; drops = drops; done = h.1 told; printed = printed }
+done_snoop k old new before after o is h printed = absurd (omega arith)
+
+pub snoop_laws : (k : SnoopNames) → Laws (Snoop k) (snoop_meaning k)
+snoop_laws k = record {
+  same = λ old new files. inl files;
+  whole = snoop_front k;
+  spare = λ old new o h takes. less (Snoop k) old new (HasSnoopFront k old new) (λ files. inl files) (snoop_end k old new o) (snoop_answered k old new o h takes) (snoop_front k old new o) h;
+  done = done_snoop k;
+  once = λ old new o p told. snoop_once k old new told o p;
+  formed = λ old new o forms. snoop_formed k old new forms.told forms o;
+}
 
 -- ---- the call
 
@@ -195,7 +175,7 @@ pub not_configured : (k : SnoopNames) (old new : Seen) (x : Outcome) → ConfigR
 not_configured k old new x read = elim read.only [
   | inl fault ↦ subst (SnoopHolds k old new) (sym fault.1) (read.reads.files, λ told. read.fault told fault.0 fault.1, none (ends.Config fault.0) fault.1 (λ is. cc))
   | inr other ↦ elim other [
-    | inl failed ↦ subst (SnoopHolds k old new) (sym failed) (read.reads.files, inl (read.cause (ap (λ (o : Outcome). let r : Result Settings Outcome = Err o in r) failed)), read.reads.writes)
+    | inl failed ↦ subst (SnoopHolds k old new) (sym failed) (read.reads.files, inl (read.cause (ap (λ (o : Outcome). let r : Result Settings Outcome = Err o in r) failed)), λ told. tt, read.reads.writes)
     | inr memory ↦ subst (SnoopHolds k old new) (sym memory) ((λ m other. read.reads.files m), λ told. inl read.reads.files, none ends.Memory memory (λ is. cc))
   ]
 ]
@@ -265,6 +245,6 @@ module _ (k : SnoopNames) (c : Settings) (a b z : Seen) (config : ConfigRead k.c
       go (Ok done) e reads writes = (others, λ told. bridged_since done (e (told_b told)) told, none (reads (λ is. cc)) (writes (λ is. cc)))
       go (Err (faults.Capture port at why)) e reads writes = ((λ m. e.0 m ∙ same m), λ told. stopped_since (gather.Capture port at why) (e.1 (told_b told)) told, none (reads (λ is. cc)) (writes (λ is. cc)))
       go (Err (faults.Limit kind)) e reads writes = ((λ m. e.0 m ∙ same m), λ told. stopped_since (gather.Limit kind) (e.1 (told_b told)) told, none (reads (λ is. cc)) (writes (λ is. cc)))
-      go (Err faults.Read) e reads writes = ((λ m. e.0 m ∙ same m), inr (rose_since a.read_faults b.read_faults z.read_faults touched.reads_rise k.ins e.1), λ m. writes (λ is. cc) m ∙ counted.1 m)
+      go (Err faults.Read) e reads writes = ((λ m. e.0 m ∙ same m), inr (rose_since a.read_faults b.read_faults z.read_faults touched.reads_rise k.ins e.1), λ told. tt, λ m. writes (λ is. cc) m ∙ counted.1 m)
       go (Err faults.Write) e reads writes = (others, rose_since a.write_faults b.write_faults z.write_faults touched.writes_rise k.outs e.0, λ told. front_since (e.1 (told_b told)) told, λ m. reads (λ is. cc) m ∙ counted.0 m)
       go (Err faults.Memory) e reads writes = (others, λ told. elim (e (told_b told)) [ inl still ↦ inl (λ m. still m ∙ same m) | inr front ↦ inr (front_since front told) ], none (reads (λ is. cc)) (writes (λ is. cc)))

@@ -19,7 +19,8 @@ use Rattle.fab_replay.specs.Check.{Matter, NamesRun, AreSent, IsLegal, IsFirstLi
 use Rattle.fab_replay.specs.Showing.{shown, shown_by}
 use Rattle.fab_replay.specs.declared.fault.CheckFault.{CheckFault}
 use Rattle.fab_replay.specs.declared.fault.CheckFault.TheVariants as checks
-use Rattle.fabric_tool.specs.Command.{RunNames, Command, Replay, Show, ReadRose}
+use Rattle.fabric_tool.specs.Command.{RunNames, Command, Replay, Show}
+use Rattle.fabric_tool.specs.Ending.{Ending, Never, Untouched, Unread, EndsBy}
 use Rattle.run_files.specs.Faults.{NoFaults}
 use Rattle.run_files.specs.Names.{AnyRose, Among}
 use Rattle.fabric_tool.specs.declared.command.Width.{Width}
@@ -28,6 +29,9 @@ use Rattle.fabric_tool.specs.Inputs.{HasConfig, HasFault, HasInputs, HasBadHead,
 use Rattle.fabric_tool.specs.Reading.{TellsReads}
 use Rattle.fabric_tool.specs.declared.outcome.Outcome.{Outcome}
 use Rattle.fabric_tool.specs.declared.outcome.Outcome.TheVariants as ends
+use Rattle.fab_base.specs.Sunk.{Sunk}
+use Rattle.fabric_tool.specs.Meaning.{Meaning}
+use Rattle.fabric_tool.specs.Outcome.{legal_text}
 
 -- ---- what is checked
 
@@ -116,32 +120,82 @@ IsUnread k old new =
     ⊎ (IsCaptureUnread k old new
     ⊎ (AnyRose old.read_faults new.read_faults (k.ins ++ k.outs) × Finds k old (λ c budget m. Unit {0}))))
 
--- the files say so where the store tells, and no file and no count of faults has changed
-abbrev pub Finding : RunNames → Seen → Seen → Outcome → Type 0
-Finding k old new outcome = SameFiles old new × (IsTrue old.told → CheckSays k old outcome) × NoFaults old new
+-- How one of them ends but with status 0. No output is opened, and want of memory hides no fault.
+abbrev pub check_end : RunNames → Seen → Seen → Outcome → Ending
+check_end k old new (ends.WrongLine line why) = Untouched (CheckSays k old (ends.WrongLine line why))
+check_end k old new (ends.WrongOutput port at) = Untouched (CheckSays k old (ends.WrongOutput port at))
+check_end k old new (ends.Config fault) = Untouched (CheckSays k old (ends.Config fault))
+check_end k old new (ends.Capture port at why) = Untouched (CheckSays k old (ends.Capture port at why))
+check_end k old new (ends.Limit kind) = Untouched (CheckSays k old (ends.Limit kind))
+check_end k old new ends.ReadFault = Unread (IsUnread k old new)
+check_end k old new ends.Memory = Untouched (Unit {0})
+check_end k old new _ = Never
 
--- What holds where one of them doesn't end with status 0: no file has changed, and a fault is counted only where one is told. So want
--- of memory hides none.
-abbrev pub CheckHolds : Command → RunNames → Seen → Seen → Outcome → Type 0
-CheckHolds command k old new (ends.WrongLine line why) = Finding k old new (ends.WrongLine line why)
-CheckHolds command k old new (ends.WrongOutput port at) = Finding k old new (ends.WrongOutput port at)
-CheckHolds command k old new (ends.Config fault) = Finding k old new (ends.Config fault)
-CheckHolds command k old new (ends.Capture port at why) = Finding k old new (ends.Capture port at why)
-CheckHolds command k old new (ends.Limit kind) = Finding k old new (ends.Limit kind)
-CheckHolds command k old new ends.ReadFault = SameFiles old new × ReadRose command old new × (IsTrue old.told → IsUnread k old new) × SameWriteFaults old new
-CheckHolds command k old new ends.Memory = SameFiles old new × NoFaults old new
-CheckHolds command k old new _ = ⊥
+-- how `replay` ends
+abbrev pub replay_end : RunNames → Seen → Seen → Outcome → Ending
+replay_end k old new (ends.Legal entries) = Untouched (CheckSays k old (ends.Legal entries))
+replay_end k old new o = check_end k old new o
 
--- What holds where `replay` ends so: no file has changed.
+-- how `show` ends, which has no outputs
+abbrev pub show_end : RunNames → Seen → Seen → Outcome → Ending
+show_end k old new (ends.Shown text) = Untouched (CheckSays k old (ends.Shown text))
+show_end k old new (ends.WrongOutput port at) = Untouched ⊥
+show_end k old new o = check_end k old new o
+
 abbrev pub ReplayHolds : RunNames → Seen → Seen → Outcome → Type 0
-ReplayHolds k old new (ends.Legal entries) = Finding k old new (ends.Legal entries)
-ReplayHolds k old new o = CheckHolds (Replay k) k old new o
+ReplayHolds k old new o = EndsBy (Replay k) old new (replay_end k old new o)
 
--- The same of `show`, which has no outputs.
 abbrev pub ShowHolds : RunNames → Seen → Seen → Outcome → Type 0
-ShowHolds k old new (ends.Shown text) = Finding k old new (ends.Shown text)
-ShowHolds k old new (ends.WrongOutput port at) = SameFiles old new × (IsTrue old.told → ⊥) × NoFaults old new
-ShowHolds k old new o = CheckHolds (Show k) k old new o
+ShowHolds k old new o = EndsBy (Show k) old new (show_end k old new o)
+
+-- ---- by status
+
+-- Status 0 of `replay`: no file has changed, the journal names a run whose captures the outputs are, and the line with the
+-- number of its entries was printed.
+pub record ReplayEnded (k : RunNames) (old new : Seen) (before after : Sunk) : Type 0 where
+  pub entries : ℕ
+  pub files : SameFiles old new
+  pub legal : CheckSays k old (ends.Legal entries)
+  pub printed : IsTrue before.told → after.written ≡ before.written ++ legal_text entries
+
+-- Status 0 of `show`: no file has changed, the journal names a run over the captures, and what was printed is its entries, its
+-- clock and its live N_Ports.
+pub record ShowEnded (k : RunNames) (old new : Seen) (before after : Sunk) : Type 0 where
+  pub text : List ℕ
+  pub files : SameFiles old new
+  pub shown : CheckSays k old (ends.Shown text)
+  pub printed : IsTrue before.told → after.written ≡ before.written ++ text
+
+-- ---- where nothing fails
+
+-- how `replay` ends by its inputs: the journal and the outputs are those of a run, or there is a first fault
+abbrev pub ReplaySays : RunNames → Seen → Outcome → Type 0
+ReplaySays k d (ends.Shown text) = ⊥
+ReplaySays k d o = CheckSays k d o
+
+-- the same of `show`, which has no outputs
+abbrev pub ShowSays : RunNames → Seen → Outcome → Type 0
+ShowSays k d (ends.Legal entries) = ⊥
+ShowSays k d (ends.WrongOutput port at) = ⊥
+ShowSays k d o = CheckSays k d o
+
+abbrev pub replay_meaning : RunNames → Meaning
+replay_meaning k = record {
+  end = replay_end k;
+  Done = λ old new before after. IsTrue old.told → ReplayEnded k old new before after;
+  Front = SameFiles;
+  Forms = λ d. IsTrue d.told × (entries : ℕ) × CheckSays k d (ends.Legal entries);
+  Says = ReplaySays k;
+}
+
+abbrev pub show_meaning : RunNames → Meaning
+show_meaning k = record {
+  end = show_end k;
+  Done = λ old new before after. IsTrue old.told → ShowEnded k old new before after;
+  Front = SameFiles;
+  Forms = λ d. IsTrue d.told × (text : List ℕ) × CheckSays k d (ends.Shown text);
+  Says = ShowSays k;
+}
 
 -- ---- words of private contracts
 
@@ -233,7 +287,7 @@ pub record IsStanding (F : Contents) (entries : ℕ) (c : Settings) (budget : Bu
 -- how a check ends
 abbrev pub IsChecked : Width → RunNames → Seen → Seen → Result (Contents × ℕ) Outcome → Type 0
 IsChecked width k old new (Ok (F, entries)) = SameFiles old new × (IsTrue old.told → Finds k old (IsStanding F entries)) × NoFaults old new
-IsChecked width k old new (Err outcome) = CheckHolds (command_of width k) k old new outcome
+IsChecked width k old new (Err outcome) = EndsBy (command_of width k) old new (check_end k old new outcome)
 
 -- what is told of a fabric that stands for a journal, or want of memory
 abbrev pub Tells : Contents → ℕ → Outcome → Type 0

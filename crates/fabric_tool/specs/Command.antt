@@ -1,5 +1,5 @@
 -- The command that words are.
-use Rattle.std.specs.Prelude.{◌≡◌, ℕ, ◌+◌, ◌-◌, ◌*◌, ◌/◌, ◌%◌, ◌^◌, ◌<◌, Bool, true, false, not, ◌==◌, nat_lt, nat_le, ◌&&◌, if◌then◌else◌, IsTrue, List, [], ◌∷◌, ◌++◌, length, map, drop, Option, Some, None, is_some, unwrap_or, option_map, option_and_then, codes, decimal, String}
+use Rattle.std.specs.Prelude.{◌≡◌, ℕ, ◌+◌, ◌-◌, ◌*◌, ◌/◌, ◌%◌, ◌^◌, ◌<◌, Bool, true, false, not, ◌==◌, nat_lt, nat_le, ◌&&◌, if◌then◌else◌, IsTrue, List, [], ◌∷◌, ◌++◌, length, map, drop, Option, Some, None, option_map, option_and_then, codes, decimal, String}
 use Rattle.std.specs.List.{list_any}
 use Rattle.std.specs.Str.{bytes_eq}
 use Rattle.std.specs.Str.Parse.{digits_value}
@@ -112,9 +112,12 @@ is_pair word words = length words == 3 && bytes_eq (name_at words 0) word && are
 abbrev pub number_of : List ℕ → Option ℕ
 number_of word = let n = digits_value 10 word in if bytes_eq word (decimal n) && nat_lt n (2 ^ 64) then Some n else None
 
--- `make`, a number, and nine names
+-- `make`, a word, and nine names; the word must be a number
 abbrev pub is_make : List (String Global) → Bool
-is_make words = length words == 11 && bytes_eq (name_at words 0) (codes "make") && is_some (number_of (name_at words 1)) && are_names (names_from 2 words)
+is_make words = length words == 11 && bytes_eq (name_at words 0) (codes "make") && are_names (names_from 2 words)
+
+abbrev pub make_form : List (String Global) → Option Form
+make_form words = option_map (λ number. forms.Make number) (number_of (name_at words 1))
 
 -- 2 to 64 pairs of names behind the first two words
 abbrev pub has_sides : List (String Global) → Bool
@@ -127,13 +130,17 @@ is_snoop words = has_sides words && are_names (names_from 1 words) && bytes_eq (
 abbrev pub start_of : List ℕ → Option ℕ
 start_of word = option_and_then (λ n. if nat_le n 4294967295999 then Some n else None) (number_of word)
 
--- a moment, a MAC of any six bytes, and the names of a port and of a node
-abbrev pub is_node : List (String Global) → Bool
-is_node words = is_some (start_of (name_at words 1)) && is_some (octets_of 6 (name_at words 2)) && is_some (name (name_at words 3)) && is_some (name (name_at words 4))
-
--- `enode`, these, and the names of two files
+-- `enode`, four words, and the names of two files; the words must be a moment and a node
 abbrev pub is_enode : List (String Global) → Bool
-is_enode words = length words == 7 && bytes_eq (name_at words 0) (codes "enode") && is_node words && are_names (names_from 5 words)
+is_enode words = length words == 7 && bytes_eq (name_at words 0) (codes "enode") && are_names (names_from 5 words)
+
+-- a MAC of any six bytes, and the names of a port and of a node
+abbrev pub own_of : List (String Global) → Option Identity
+own_of words =
+    option_and_then (λ mac. option_and_then (λ port. option_map (λ node. record { mac = mac; name = port; node = node }) (name (name_at words 4))) (name (name_at words 3))) (octets_of 6 (name_at words 2))
+
+abbrev pub enode_form : List (String Global) → Option Form
+enode_form words = option_and_then (λ start. option_map (λ own. forms.Enode start own) (own_of words)) (start_of (name_at words 1))
 
 -- 1 to 64 pairs of names behind the first four words
 abbrev pub has_both : List (String Global) → Bool
@@ -154,9 +161,9 @@ form_of words =
     else if is_over_singles (codes "show") words then Some forms.Show
     else if is_pair (codes "convert") words then Some forms.Convert
     else if is_pair (codes "migrate") words then Some forms.Migrate
-    else if is_make words then Some forms.Make
+    else if is_make words then make_form words
     else if is_snoop words then Some forms.Snoop
-    else if is_enode words then Some forms.Enode
+    else if is_enode words then enode_form words
     else if is_live words then Some forms.Live
     else if is_word (codes "--help") words then Some forms.Help
     else if is_word (codes "--version") words then Some forms.Version
@@ -210,19 +217,17 @@ pair_of words = record { from = name_at words 1; to = name_at words 2 }
 abbrev pub file_at : List (String Global) → ℕ → List ℕ
 file_at words place = name_at words (place + 2)
 
-abbrev pub make_of : List (String Global) → MakeNames
-make_of words = record { number = unwrap_or (number_of (name_at words 1)) 0; files = map (file_at words) (counting 0 9) }
+abbrev pub files_of : List (String Global) → List (List ℕ)
+files_of words = map (file_at words) (counting 0 9)
+
+abbrev pub make_of : ℕ → List (String Global) → MakeNames
+make_of number words = record { number = number; files = files_of words }
 
 abbrev pub snoop_of : List (String Global) → SnoopNames
 snoop_of words = record { config = name_at words 1; ins = sides.ins_of (drop 2 words); outs = sides.outs_of (drop 2 words) }
 
-abbrev pub enode_of : List (String Global) → EnodeNames
-enode_of words = record {
-  start = unwrap_or (start_of (name_at words 1)) 0;
-  own = record { mac = unwrap_or (octets_of 6 (name_at words 2)) []; name = unwrap_or (name (name_at words 3)) 0; node = unwrap_or (name (name_at words 4)) 0 };
-  from = name_at words 5;
-  to = name_at words 6;
-}
+abbrev pub enode_of : ℕ → Identity → List (String Global) → EnodeNames
+enode_of start own words = record { start = start; own = own; from = name_at words 5; to = name_at words 6 }
 
 -- how many ports a forwarder that runs has, and the captures of a port, which is counted from 0: of what comes, and of what is sent
 abbrev pub live_count : List (String Global) → ℕ
@@ -255,9 +260,9 @@ named words forms.Replay = Replay (run_of words)
 named words forms.Show = Show (show_of words)
 named words forms.Convert = Convert (pair_of words)
 named words forms.Migrate = Migrate (pair_of words)
-named words forms.Make = Make (make_of words)
+named words (forms.Make number) = Make (make_of number words)
 named words forms.Snoop = Snoop (snoop_of words)
-named words forms.Enode = Enode (enode_of words)
+named words (forms.Enode start own) = Enode (enode_of start own words)
 named words forms.Live = Live (live_of words)
 named words forms.Help = Help
 named words forms.Version = Version

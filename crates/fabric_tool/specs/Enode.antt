@@ -1,20 +1,20 @@
 -- How `enode` ends: a node is run over the frames of one capture, and what it sends is written as another.
 use Rattle.std.specs.Prelude.{◌≡◌, ℕ, IsTrue, List, ◌++◌, Some, Ok}
-use Rattle.fab_base.specs.Seen.{Seen, SameFiles, SameReadFaults, SameWriteFaults}
+use Rattle.fab_base.specs.Seen.{Seen}
 use Rattle.fab_base.specs.Sunk.{Sunk}
 use Rattle.pcap_file.specs.declared.Record.{Record}
-use Rattle.fab_gather.specs.declared.fault.CapWhy.{CapWhy}
 use Rattle.fab_gather.specs.declared.fault.GatherFault.TheVariants as gather
 use Rattle.enode_core.specs.declared.node.Phase.{Phase}
 use Rattle.enode_core.specs.Phases.{phase_of}
 use Rattle.enode_core.specs.Runs.{Input, IsRun, stands}
 use Rattle.enode_run.specs.Files.{NodeTask, node_task, Played, IsUntaken, IsFront, taken_by}
-use Rattle.fabric_tool.specs.Command.{EnodeNames, Enode, ReadRose, WriteRose, KeepsOthers}
-use Rattle.run_files.specs.Faults.{NoFaults}
+use Rattle.fabric_tool.specs.Command.{EnodeNames, Enode}
+use Rattle.fabric_tool.specs.Ending.{Ending, Never, Untouched, Leaves, Unread, Unwritten, EndsBy}
 use Rattle.fabric_tool.specs.Inputs.{LIMITS}
 use Rattle.fabric_tool.specs.Outcome.{phase_text}
 use Rattle.fabric_tool.specs.declared.outcome.Outcome.{Outcome}
 use Rattle.fabric_tool.specs.declared.outcome.Outcome.TheVariants as ends
+use Rattle.fabric_tool.specs.Meaning.{Meaning}
 
 -- ---- what holds where it ends so
 
@@ -35,14 +35,17 @@ HasEnodeFront k old new = IsFront (task_of k) old new
 -- What holds where `enode` ends so. The output is opened only behind the whole input and all that is sent for it, and the line of a
 -- phase takes no memory. What is said of bytes needs a depot that tells them. No fault of the depot is passed over: where it isn't
 -- told, no count of such faults has changed.
+abbrev pub enode_end : EnodeNames → Seen → Seen → Outcome → Ending
+enode_end k old new (ends.Stood last) = Leaves (HasPlayed k old new last)
+enode_end k old new (ends.Capture port at why) = Untouched (IsUntaken k.start k.from LIMITS old (gather.Capture port at why))
+enode_end k old new (ends.Limit kind) = Untouched (IsUntaken k.start k.from LIMITS old (gather.Limit kind))
+enode_end k old new ends.ReadFault = Unread (Unit {0})
+enode_end k old new ends.WriteFault = Unwritten (HasEnodeFront k old new)
+enode_end k old new ends.Memory = Untouched (Unit {0})
+enode_end k old new _ = Never
+
 abbrev pub EnodeHolds : EnodeNames → Seen → Seen → Outcome → Type 0
-EnodeHolds k old new (ends.Stood last) = KeepsOthers (Enode k) old new × (IsTrue old.told → HasPlayed k old new last) × NoFaults old new
-EnodeHolds k old new (ends.Capture port at why) = SameFiles old new × (IsTrue old.told → IsUntaken k.start k.from LIMITS old (gather.Capture port at why)) × NoFaults old new
-EnodeHolds k old new (ends.Limit kind) = SameFiles old new × (IsTrue old.told → IsUntaken k.start k.from LIMITS old (gather.Limit kind)) × NoFaults old new
-EnodeHolds k old new ends.ReadFault = SameFiles old new × ReadRose (Enode k) old new × SameWriteFaults old new
-EnodeHolds k old new ends.WriteFault = KeepsOthers (Enode k) old new × WriteRose (Enode k) old new × (IsTrue old.told → HasEnodeFront k old new) × SameReadFaults old new
-EnodeHolds k old new ends.Memory = SameFiles old new × NoFaults old new
-EnodeHolds k old new _ = ⊥
+EnodeHolds k old new outcome = EndsBy (Enode k) old new (enode_end k old new outcome)
 
 -- ---- by status
 
@@ -51,10 +54,6 @@ pub record EnodeEnded (k : EnodeNames) (old new : Seen) (before after : Sunk) : 
   pub last : Phase
   pub done : HasPlayed k old new last
   pub printed : IsTrue before.told → after.written ≡ before.written ++ phase_text last
-
--- Status 1: the capture can't be taken from a place on.
-abbrev pub IsEnodeRefused : EnodeNames → Seen → Seen → Type 0
-IsEnodeRefused k old new = (port : ℕ) × (at : ℕ) × (why : CapWhy) × EnodeHolds k old new (ends.Capture port at why)
 
 -- ---- where nothing fails
 
@@ -82,3 +81,14 @@ EnodeSays k d (ends.Stood last) = HasStood k d last
 EnodeSays k d (ends.Capture port at why) = IsUntaken k.start k.from LIMITS d (gather.Capture port at why)
 EnodeSays k d (ends.Limit kind) = IsUntaken k.start k.from LIMITS d (gather.Limit kind)
 EnodeSays k d _ = ⊥
+
+-- ---- the command
+
+abbrev pub enode_meaning : EnodeNames → Meaning
+enode_meaning k = record {
+  end = enode_end k;
+  Done = λ old new before after. IsTrue old.told → EnodeEnded k old new before after;
+  Front = HasEnodeFront k;
+  Forms = EnodeForms k;
+  Says = EnodeSays k;
+}

@@ -1,4 +1,6 @@
 pub mod Command
+pub mod Ending
+pub mod Meaning
 pub mod Inputs
 pub mod Reading
 pub mod Opening
@@ -10,6 +12,9 @@ pub mod Load
 pub mod Snooping
 pub mod Enode
 pub mod Living
+pub mod Running
+pub mod Pairs
+pub mod Texts
 pub mod Ends
 pub mod Statuses
 pub mod Rechecking

@@ -1,6 +1,6 @@
 -- How `live` ends: a forwarder runs over a stream of packets, whose interfaces are its ports, and records the session.
 use Rattle.std.specs.Prelude.{◌≡◌, ℕ, ◌<◌, ◌≤◌, ◌⊎◌, IsTrue, List, [], ◌∷◌, ◌++◌, length, map, Some}
-use Rattle.fab_base.specs.Seen.{Seen, Rose, SameFiles, SameReadFaults, SameWriteFaults}
+use Rattle.fab_base.specs.Seen.{Seen, Rose, SameFiles}
 use Rattle.fab_base.specs.Sunk.{Sunk}
 use Rattle.fab_config.specs.Settings.{Settings}
 use Rattle.pcapng_file.specs.declared.NgRecord.{NgRecord}
@@ -16,13 +16,14 @@ use Rattle.fab_gather.specs.declared.fault.LimitKind.TheVariants as kinds
 use Rattle.fab_windows.specs.Run.{IsRunOver}
 use Rattle.fab_live.specs.Arriving.{arrived, of_face, records_of, AllFaces, IsInSpan}
 use Rattle.fab_live.specs.Live.{IsLiveRun, Begins, BeginsWithin, Stops}
-use Rattle.run_files.specs.Faults.{NoFaults}
-use Rattle.fabric_tool.specs.Command.{RunNames, LiveWords, Live, ReadRose, WriteRose, KeepsOthers}
+use Rattle.fabric_tool.specs.Command.{RunNames, LiveWords, Live}
+use Rattle.fabric_tool.specs.Ending.{Ending, Never, Untouched, Leaves, LeavesUnread, Unwritten, EndsBy}
 use Rattle.fabric_tool.specs.Inputs.{HasConfig, HasFault, HasPackets, AreCaptures, LIMITS}
 use Rattle.fabric_tool.specs.Left.{HoldsAll, HoldsFronts, AreOldOrFront, IsSafe}
 use Rattle.fabric_tool.specs.Outcome.{run_text}
 use Rattle.fabric_tool.specs.declared.outcome.Outcome.{Outcome}
 use Rattle.fabric_tool.specs.declared.outcome.Outcome.TheVariants as ends
+use Rattle.fabric_tool.specs.Meaning.{Meaning}
 
 -- ---- the session
 
@@ -127,16 +128,19 @@ IsLiveRefused k old new = SameFiles old new ⊎ (HasHalted k IsBegun old new ⊎
 
 -- What holds where `live` ends so. What is said of bytes needs a depot that tells them. No fault of the depot is passed over: where it
 -- isn't told, no count of such faults has changed.
+abbrev pub live_end : LiveWords → Seen → Seen → Outcome → Ending
+live_end k old new (ends.Ran frames entries) = Leaves (HasLived k frames entries old new)
+live_end k old new (ends.Config fault) = Untouched (HasFault old k.config fault)
+live_end k old new (ends.BadStream at fault) = Leaves (HasHalted k (IsFaulty at fault) old new)
+live_end k old new (ends.NoPort face) = Leaves (HasHalted k (IsNoPort k face) old new)
+live_end k old new (ends.Limit kind) = Leaves (HasHalted k (IsPast k kind) old new)
+live_end k old new ends.ReadFault = LeavesUnread (IsLiveUnread k old new)
+live_end k old new ends.WriteFault = Unwritten (HasLiveFront k old new)
+live_end k old new ends.Memory = Leaves (IsLiveRefused k old new)
+live_end k old new _ = Never
+
 abbrev pub LiveHolds : LiveWords → Seen → Seen → Outcome → Type 0
-LiveHolds k old new (ends.Ran frames entries) = KeepsOthers (Live k) old new × (IsTrue old.told → HasLived k frames entries old new) × NoFaults old new
-LiveHolds k old new (ends.Config fault) = SameFiles old new × (IsTrue old.told → HasFault old k.config fault) × NoFaults old new
-LiveHolds k old new (ends.BadStream at fault) = KeepsOthers (Live k) old new × (IsTrue old.told → HasHalted k (IsFaulty at fault) old new) × NoFaults old new
-LiveHolds k old new (ends.NoPort face) = KeepsOthers (Live k) old new × (IsTrue old.told → HasHalted k (IsNoPort k face) old new) × NoFaults old new
-LiveHolds k old new (ends.Limit kind) = KeepsOthers (Live k) old new × (IsTrue old.told → HasHalted k (IsPast k kind) old new) × NoFaults old new
-LiveHolds k old new ends.ReadFault = KeepsOthers (Live k) old new × ReadRose (Live k) old new × (IsTrue old.told → IsLiveUnread k old new) × SameWriteFaults old new
-LiveHolds k old new ends.WriteFault = KeepsOthers (Live k) old new × WriteRose (Live k) old new × (IsTrue old.told → HasLiveFront k old new) × SameReadFaults old new
-LiveHolds k old new ends.Memory = KeepsOthers (Live k) old new × (IsTrue old.told → IsLiveRefused k old new) × NoFaults old new
-LiveHolds k old new _ = ⊥
+LiveHolds k old new outcome = EndsBy (Live k) old new (live_end k old new outcome)
 
 -- ---- by status
 
@@ -167,3 +171,14 @@ LiveSays k d (ends.BadStream at fault) = HasHalt k (IsFaulty at fault) d
 LiveSays k d (ends.NoPort face) = HasHalt k (IsNoPort k face) d
 LiveSays k d (ends.Limit kind) = HasHalt k (IsPast k kind) d
 LiveSays k d _ = ⊥
+
+-- ---- the command
+
+abbrev pub live_meaning : LiveWords → Meaning
+live_meaning k = record {
+  end = live_end k;
+  Done = λ old new before after. IsTrue old.told → LiveEnded k old new before after;
+  Front = λ old new. SameFiles old new ⊎ HasLiveFront k old new;
+  Forms = LiveForms k;
+  Says = LiveSays k;
+}

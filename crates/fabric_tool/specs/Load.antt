@@ -1,12 +1,15 @@
 -- What `make` leaves in its files.
-use Rattle.std.specs.Prelude.{◌≡◌, ℕ, ◌<◌, IsTrue, List, [], get_or, Some}
-use Rattle.fab_base.specs.Seen.{Seen, SameReadFaults}
+use Rattle.std.specs.Prelude.{◌≡◌, ℕ, ◌<◌, IsTrue, List, [], get_or, Some, ◌++◌}
+use Rattle.fab_base.specs.Seen.{Seen}
 use Rattle.fab_vectors.specs.Making.{file_text}
-use Rattle.fabric_tool.specs.Command.{MakeNames, Make, WriteRose, KeepsOthers}
-use Rattle.run_files.specs.Faults.{NoFaults}
+use Rattle.fabric_tool.specs.Command.{MakeNames, Make}
+use Rattle.fabric_tool.specs.Ending.{Ending, Never, Leaves, Unwritten, Also, EndsBy}
 use Rattle.fabric_tool.specs.Left.{IsOldOrFront}
 use Rattle.fabric_tool.specs.declared.outcome.Outcome.{Outcome}
 use Rattle.fabric_tool.specs.declared.outcome.Outcome.TheVariants as ends
+use Rattle.fab_base.specs.Sunk.{Sunk}
+use Rattle.fabric_tool.specs.Meaning.{Meaning}
+use Rattle.fabric_tool.specs.Outcome.{made_text}
 
 -- how many frames a load has
 abbrev pub LOAD : ℕ
@@ -26,8 +29,27 @@ HasLoadFront k old new = (q : ℕ) → q < 9 → IsOldOrFront old new (file_name
 
 -- What holds where `make` ends so. What is said of bytes needs a depot that tells them. No fault of the depot is passed over: where it
 -- isn't told, no count of such faults has changed.
+abbrev pub make_end : MakeNames → Seen → Seen → Outcome → Ending
+make_end k old new (ends.Made frames) = Also (frames ≡ LOAD) (Leaves (HasLoad k new))
+make_end k old new ends.WriteFault = Unwritten (HasLoadFront k old new)
+make_end k old new ends.Memory = Leaves (HasLoadFront k old new)
+make_end k old new _ = Never
+
 abbrev pub MakeHolds : MakeNames → Seen → Seen → Outcome → Type 0
-MakeHolds k old new (ends.Made frames) = KeepsOthers (Make k) old new × (frames ≡ LOAD) × (IsTrue old.told → HasLoad k new) × NoFaults old new
-MakeHolds k old new ends.WriteFault = KeepsOthers (Make k) old new × WriteRose (Make k) old new × (IsTrue old.told → HasLoadFront k old new) × SameReadFaults old new
-MakeHolds k old new ends.Memory = KeepsOthers (Make k) old new × (IsTrue old.told → HasLoadFront k old new) × NoFaults old new
-MakeHolds k old new _ = ⊥
+MakeHolds k old new outcome = EndsBy (Make k) old new (make_end k old new outcome)
+
+-- ---- by status
+
+-- Status 0 of `make`: the files hold the load of the number, and the line with the number of its frames was printed.
+pub record MakeEnded (k : MakeNames) (new : Seen) (before after : Sunk) : Type 0 where
+  pub load : HasLoad k new
+  pub printed : IsTrue before.told → after.written ≡ before.written ++ made_text LOAD
+
+abbrev pub make_meaning : MakeNames → Meaning
+make_meaning k = record {
+  end = make_end k;
+  Done = λ old new before after. IsTrue old.told → MakeEnded k new before after;
+  Front = HasLoadFront k;
+  Forms = λ d. Unit {0};
+  Says = λ d outcome. outcome ≡ ends.Made LOAD;
+}

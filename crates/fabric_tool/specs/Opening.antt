@@ -1,5 +1,5 @@
 -- What opening the outputs of a command does, and what its work ends it with.
-use Rattle.std.specs.Prelude.{◌≡◌, length, ◌∷◌, Ok, Err, Result, IfOk, OnOk, OnErr}
+use Rattle.std.specs.Prelude.{◌≡◌, ℕ, List, length, ◌∷◌, Ok, Err, Result, IfOk, OnOk, OnErr}
 use Rattle.fab_base.specs.Seen.{Seen, SameWriteFaults}
 use Rattle.fab_base.specs.declared.values.Failed.{Failed}
 use Rattle.run_files.specs.Opening.{AreEmptyOutputs, Opens}
@@ -10,7 +10,7 @@ use Rattle.fab_live.specs.declared.fault.LiveFault.{LiveFault}
 use Rattle.fab_live.specs.declared.fault.LiveFault.TheVariants as live
 use Rattle.enode_core.specs.declared.node.Phase.{Phase}
 use Rattle.snoop_run.specs.declared.run.Crossed.{Crossed}
-use Rattle.fabric_tool.specs.Command.{RunNames, MakeNames, LiveWords, by_port}
+use Rattle.fabric_tool.specs.Command.{RunNames, LiveWords, by_port}
 use Rattle.run_files.specs.Names.{AnyRose}
 use Rattle.fabric_tool.specs.declared.live.Recorded.{Recorded}
 use Rattle.fabric_tool.specs.declared.making.LoadFiles.{LoadFiles}
@@ -26,10 +26,10 @@ pub record OutputsOpened (k : RunNames) (old new : Seen) (result : Result Output
   pub counts : OnOk result (SameWriteFaults old new)
 
 -- the files of `make`
-pub record FilesOpened (k : MakeNames) (old new : Seen) (result : Result LoadFiles Failed) : Type 0 where
-  pub opens : Opens k.files old new
-  pub slots : IfOk result (λ o. AreEmptyOutputs new k.files o.slots.items)
-  pub cause : OnErr result (AnyRose old.write_faults new.write_faults k.files)
+pub record FilesOpened (files : List (List ℕ)) (old new : Seen) (result : Result LoadFiles Failed) : Type 0 where
+  pub opens : Opens files old new
+  pub slots : IfOk result (λ o. AreEmptyOutputs new files o.slots.items)
+  pub cause : OnErr result (AnyRose old.write_faults new.write_faults files)
   pub counts : OnOk result (SameWriteFaults old new)
 
 -- the outputs of `live`: the journal, and then what came and what is sent of each port

@@ -8,7 +8,7 @@ use Rattle.fab_policy.specs.Standing.{Contents}
 use Rattle.fabric_tool.specs.Command.{RunNames, LiveWords}
 use Rattle.run_files.specs.Faults.{NoFaults}
 use Rattle.run_files.specs.Names.{Among}
-use Rattle.fabric_tool.specs.Ends.{RunHolds}
+use Rattle.fabric_tool.specs.Running.{RunHolds}
 use Rattle.fabric_tool.specs.Inputs.{HasConfig, MOST_BYTES, MOST_FRAMES}
 use Rattle.fabric_tool.specs.Living.{LiveHolds}
 use Rattle.fabric_tool.specs.Reading.{AreHeads}

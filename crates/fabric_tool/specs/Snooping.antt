@@ -1,14 +1,12 @@
 -- How `snoop` ends: the frames of all captures cross a bridge, and each port's are written.
 use Rattle.std.specs.Prelude.{◌≡◌, ◌≢◌, ℕ, ◌⊎◌, ◌↔◌, IsTrue, List, [], ◌∷◌, ◌++◌, map, Result, Ok}
-use Rattle.fab_base.specs.Seen.{Seen, SameFiles, SameReadFaults, SameWriteFaults}
+use Rattle.fab_base.specs.Seen.{Seen, SameFiles}
 use Rattle.fab_base.specs.Sunk.{Sunk}
 use Rattle.fab_config.specs.Settings.{Settings}
-use Rattle.fab_config.specs.declared.ConfigFault.{ConfigFault}
 use Rattle.eth_frames.specs.Ethernet as eth
 use Rattle.fcoe_codec.specs.Fcoe as capsule
 use Rattle.fcoe_codec.specs.declared.FcoeFault.{FcoeFault}
 use Rattle.fab_policy.specs.Heard.{Fcoe, decoded}
-use Rattle.fab_gather.specs.declared.fault.CapWhy.{CapWhy}
 use Rattle.fab_gather.specs.declared.fault.GatherFault.{GatherFault}
 use Rattle.fab_gather.specs.declared.fault.GatherFault.TheVariants as gather
 use Rattle.fip_snoop.specs.Bridge.{Arrival, arrivals, history, passed, dropped}
@@ -19,12 +17,13 @@ use Rattle.fip_snoop.specs.declared.forwarder.Forwarder.{Forwarder}
 use Rattle.fip_snoop.specs.declared.way.Way.TheVariants.{Up}
 use Rattle.snoop_run.specs.Bridged.{HasBridged, HasFronts, HasStop}
 use Rattle.snoop_run.specs.Crossing.{crossing}
-use Rattle.fabric_tool.specs.Command.{SnoopNames, Snoop, ReadRose, WriteRose, KeepsOthers}
-use Rattle.run_files.specs.Faults.{NoFaults}
+use Rattle.fabric_tool.specs.Command.{SnoopNames, Snoop}
+use Rattle.fabric_tool.specs.Ending.{Ending, Never, Untouched, Leaves, Unread, Unwritten, EndsBy}
 use Rattle.fabric_tool.specs.Inputs.{HasConfig, HasFault, LIMITS}
 use Rattle.fabric_tool.specs.Outcome.{bridged_text}
 use Rattle.fabric_tool.specs.declared.outcome.Outcome.{Outcome}
 use Rattle.fabric_tool.specs.declared.outcome.Outcome.TheVariants as ends
+use Rattle.fabric_tool.specs.Meaning.{Meaning}
 
 -- what the captures of the ports are to a bridge: the frames in the order in which they are handled, or why they aren't
 abbrev pub crossing_of : SnoopNames → Seen → Result (List Arrival) GatherFault
@@ -64,15 +63,18 @@ pub record IsStopped (k : SnoopNames) (d : Seen) (fault : GatherFault) : Type 0 
 
 -- What holds where `snoop` ends so. The outputs are opened only behind the whole inputs. What is said of bytes needs a depot that
 -- tells them. No fault of the depot is passed over: where it isn't told, no count of such faults has changed.
+abbrev pub snoop_end : SnoopNames → Seen → Seen → Outcome → Ending
+snoop_end k old new (ends.Bridged passes drops) = Leaves (HasSnooped k passes drops old new)
+snoop_end k old new (ends.Config fault) = Untouched (HasFault old k.config fault)
+snoop_end k old new (ends.Capture port at why) = Untouched (IsStopped k old (gather.Capture port at why))
+snoop_end k old new (ends.Limit kind) = Untouched (IsStopped k old (gather.Limit kind))
+snoop_end k old new ends.ReadFault = Unread (Unit {0})
+snoop_end k old new ends.WriteFault = Unwritten (HasSnoopedFront k old new)
+snoop_end k old new ends.Memory = Leaves (SameFiles old new ⊎ HasSnoopedFront k old new)
+snoop_end k old new _ = Never
+
 abbrev pub SnoopHolds : SnoopNames → Seen → Seen → Outcome → Type 0
-SnoopHolds k old new (ends.Bridged passes drops) = KeepsOthers (Snoop k) old new × (IsTrue old.told → HasSnooped k passes drops old new) × NoFaults old new
-SnoopHolds k old new (ends.Config fault) = SameFiles old new × (IsTrue old.told → HasFault old k.config fault) × NoFaults old new
-SnoopHolds k old new (ends.Capture port at why) = SameFiles old new × (IsTrue old.told → IsStopped k old (gather.Capture port at why)) × NoFaults old new
-SnoopHolds k old new (ends.Limit kind) = SameFiles old new × (IsTrue old.told → IsStopped k old (gather.Limit kind)) × NoFaults old new
-SnoopHolds k old new ends.ReadFault = SameFiles old new × ReadRose (Snoop k) old new × SameWriteFaults old new
-SnoopHolds k old new ends.WriteFault = KeepsOthers (Snoop k) old new × WriteRose (Snoop k) old new × (IsTrue old.told → HasSnoopedFront k old new) × SameReadFaults old new
-SnoopHolds k old new ends.Memory = KeepsOthers (Snoop k) old new × (IsTrue old.told → SameFiles old new ⊎ HasSnoopedFront k old new) × NoFaults old new
-SnoopHolds k old new _ = ⊥
+SnoopHolds k old new outcome = EndsBy (Snoop k) old new (snoop_end k old new outcome)
 
 -- ---- by status
 
@@ -82,10 +84,6 @@ pub record SnoopEnded (k : SnoopNames) (old new : Seen) (before after : Sunk) : 
   pub drops : ℕ
   pub done : HasSnooped k passes drops old new
   pub printed : IsTrue before.told → after.written ≡ before.written ++ bridged_text passes drops
-
--- Status 1: the configuration has a fault, or a capture can't be taken.
-abbrev pub IsSnoopRefused : SnoopNames → Seen → Seen → Type 0
-IsSnoopRefused k old new = ((fault : ConfigFault) × SnoopHolds k old new (ends.Config fault)) ⊎ ((port : ℕ) × (at : ℕ) × (why : CapWhy) × SnoopHolds k old new (ends.Capture port at why))
 
 -- Whatever the end: every file is as it was, or each output is as it was or holds a front of what it would hold.
 abbrev pub HasSnoopFront : SnoopNames → Seen → Seen → Type 0
@@ -117,3 +115,14 @@ SnoopSays k d (ends.Config fault) = HasFault d k.config fault
 SnoopSays k d (ends.Capture port at why) = IsStopped k d (gather.Capture port at why)
 SnoopSays k d (ends.Limit kind) = IsStopped k d (gather.Limit kind)
 SnoopSays k d _ = ⊥
+
+-- ---- the command
+
+abbrev pub snoop_meaning : SnoopNames → Meaning
+snoop_meaning k = record {
+  end = snoop_end k;
+  Done = λ old new before after. IsTrue old.told → SnoopEnded k old new before after;
+  Front = HasSnoopFront k;
+  Forms = SnoopForms k;
+  Says = SnoopSays k;
+}

@@ -8,7 +8,7 @@ ghost use Rattle.fabric_tool.specs.Command as spec;
 
 use crate::number::{number_of, start_of};
 use enode_core::Identity;
-use fab_base::{Mac, Moment, Wwn, word_at};
+use fab_base::{Moment, word_at};
 use fab_config::{read_mac, read_name};
 
 /// The most ports of a forwarder.
@@ -28,11 +28,11 @@ pub(crate) enum Form {
     /// `migrate OLD NEW`. No name is empty, and they differ.
     Migrate,
     /// `make NUMBER CONFIG IN1 .. IN8`. No name is empty or used twice.
-    Make,
+    Make { number: u64 },
     /// `snoop CONFIG IN OUT IN OUT [IN OUT ..]` with 2 to 64 pairs. No name is empty or used twice.
     Snoop,
     /// `enode START MAC PORTNAME NODENAME IN OUT`. No file name is empty, and they differ.
-    Enode,
+    Enode { start: Moment, own: Identity },
     /// `live CONFIG JOURNAL STREAM IN OUT [IN OUT ..]` with 1 to 64 pairs. No name is empty or used
     /// twice.
     Live,
@@ -64,11 +64,11 @@ pub(crate) fn form_of(words: &[String]) -> Option<Form>
     } else if is_pair(words, "migrate") {
         Some(Form::Migrate)
     } else if is_make(words) {
-        Some(Form::Make)
+        make_form(words)
     } else if is_snoop(words) {
         Some(Form::Snoop)
     } else if is_enode(words) {
-        Some(Form::Enode)
+        enode_form(words)
     } else if is_live(words) {
         Some(Form::Live)
     } else if is_word(words, "--help") {
@@ -101,14 +101,20 @@ fn is_pair(words: &[String], word: &str) -> bool
     words.len() == 3 && word_at(words, 0) == word && are_names(words, 1)
 }
 
-// Whether these are `make`, a number, and nine names.
+// Whether these are `make`, a word, and nine names.
 fn is_make(words: &[String]) -> bool
     ensures { result ≡ spec.is_make words.now }
 {
-    words.len() == 11
-        && word_at(words, 0) == "make"
-        && number_of(word_at(words, 1)).is_some()
-        && are_names(words, 2)
+    words.len() == 11 && word_at(words, 0) == "make" && are_names(words, 2)
+}
+
+// The form of `make`, whose first word is a number.
+fn make_form(words: &[String]) -> Option<Form>
+    requires { spec.is_make words.now ≡ true }
+    ensures { result ≡ spec.make_form words.now }
+{
+    let number = number_of(word_at(words, 1))?;
+    Some(Form::Make { number })
 }
 
 // Whether these are `snoop`, a name, and 2 to 64 pairs of names.
@@ -125,21 +131,31 @@ fn has_sides(words: &[String]) -> bool
     words.len() >= 6 && words.len() <= 2 + 2 * MOST_PORTS && words.len() % 2 == 0
 }
 
-// Whether these are `enode`, a moment, a MAC, two names of ports, and two of files.
+// Whether these are `enode`, four words, and the names of two files.
 fn is_enode(words: &[String]) -> bool
     ensures { result ≡ spec.is_enode words.now }
 {
-    words.len() == 7 && word_at(words, 0) == "enode" && is_node(words) && are_names(words, 5)
+    words.len() == 7 && word_at(words, 0) == "enode" && are_names(words, 5)
 }
 
-fn is_node(words: &[String]) -> bool
-    requires { length words.now ≡ 7 }
-    ensures { result ≡ spec.is_node words.now }
+// The form of `enode`, whose first words are a moment, a MAC, and the names of a port and of a node.
+fn enode_form(words: &[String]) -> Option<Form>
+    requires { spec.is_enode words.now ≡ true }
+    ensures { result ≡ spec.enode_form words.now }
 {
-    start_of(word_at(words, 1)).is_some()
-        && read_mac(word_at(words, 2).as_bytes()).is_some()
-        && read_name(word_at(words, 3).as_bytes()).is_some()
-        && read_name(word_at(words, 4).as_bytes()).is_some()
+    let start = start_of(word_at(words, 1))?;
+    let own = own_of(words)?;
+    Some(Form::Enode { start, own })
+}
+
+fn own_of(words: &[String]) -> Option<Identity>
+    requires { spec.is_enode words.now ≡ true }
+    ensures { result ≡ spec.own_of words.now }
+{
+    let mac = read_mac(word_at(words, 2).as_bytes())?;
+    let name = read_name(word_at(words, 3).as_bytes())?;
+    let node = read_name(word_at(words, 4).as_bytes())?;
+    Some(Identity { mac, name, node })
 }
 
 // Whether these are `live`, three names, and 1 to 64 pairs of names.
@@ -212,14 +228,6 @@ fn is_used_after(words: &[String], place: usize) -> bool
     false
 }
 
-/// The number of a load.
-pub(crate) fn number_at(words: &[String]) -> u64
-    requires { spec.is_make words.now ≡ true }
-    ensures { result ≡ (spec.make_of words.now).number }
-{
-    number_of(word_at(words, 1)).unwrap_or(0)
-}
-
 /// The name of a file of a load, which is counted from 0.
 pub(crate) fn file_at(words: &[String], place: usize) -> &str
     requires { place + 2 < length words.now }
@@ -236,30 +244,6 @@ pub(crate) fn sides_of(words: &[String]) -> &[String]
     ensures different { AreDifferent result.now }
 {
     &words[2..]
-}
-
-/// When a node starts.
-pub(crate) fn start_at(words: &[String]) -> Moment
-    requires { spec.is_enode words.now ≡ true }
-    ensures value { result ≡ (spec.enode_of words.now).start }
-    ensures range { result ≤ 4294967295999 }
-{
-    match start_of(word_at(words, 1)) {
-        Some(start) => Moment(start),
-        None => Moment(0),
-    }
-}
-
-/// Who a node is.
-pub(crate) fn node_of(words: &[String]) -> Identity
-    requires { spec.is_enode words.now ≡ true }
-    ensures { result ≡ (spec.enode_of words.now).own }
-{
-    Identity {
-        mac: read_mac(word_at(words, 2).as_bytes()).unwrap_or(Mac([0; 6])),
-        name: read_name(word_at(words, 3).as_bytes()).unwrap_or(Wwn(0)),
-        node: read_name(word_at(words, 4).as_bytes()).unwrap_or(Wwn(0)),
-    }
 }
 
 /// How many ports the command has.

@@ -1,7 +1,7 @@
 //! The command `convert`.
 ghost use Rattle.std.specs.Prelude.{◌≡◌, true, codes};
 ghost use Rattle.fabric_tool.specs.Command as spec;
-ghost use Rattle.fabric_tool.specs.Ends.{ConvertHolds};
+ghost use Rattle.fabric_tool.specs.Pairs.{ConvertHolds};
 ghost use Rattle.fabric_tool.specs.Outcome.{kind_of};
 ghost use Rattle.fabric_tool.specs.Reading.{unconverted_by};
 

@@ -4,7 +4,7 @@ ghost use Rattle.fabric_tool.specs.Command as spec;
 ghost use Rattle.fabric_tool.specs.Load.{MakeHolds};
 ghost use Rattle.fabric_tool.specs.Opening.{FilesOpened};
 
-use crate::command::{file_at, number_at};
+use crate::command::file_at;
 use crate::outcome::Outcome;
 use arrayvec::ArrayVec;
 use fab_base::{Depot, Failed};
@@ -22,13 +22,12 @@ pub(crate) struct LoadFiles {
 }
 
 /// Writes the load of a number. All files are opened before one is written.
-pub(crate) fn make<D: Depot>(alloc: Global, words: &[String], depot: &mut D) -> Outcome
+pub(crate) fn make<D: Depot>(alloc: Global, number: u64, words: &[String], depot: &mut D) -> Outcome
     requires make { spec.is_make words.now ≡ true }
     requires known { spec.AllKnown (D.seen depot.old) words.now }
-    ensures holds { MakeHolds (spec.make_of words.now) (D.seen depot.old) (D.seen depot.new)
+    ensures holds { MakeHolds (spec.make_of number words.now) (D.seen depot.old) (D.seen depot.new)
         result }
 {
-    let number = number_at(words);
     let files = match open_files(depot, words) {
         Ok(files) => files,
         Err(_) => return Outcome::WriteFault,
@@ -44,7 +43,7 @@ pub(crate) fn make<D: Depot>(alloc: Global, words: &[String], depot: &mut D) -> 
 fn open_files<D: Depot>(depot: &mut D, words: &[String]) -> Result<LoadFiles, Failed>
     requires make { spec.is_make words.now ≡ true }
     requires known { spec.AllKnown (D.seen depot.old) words.now }
-    ensures opens { FilesOpened (spec.make_of words.now) (D.seen depot.old) (D.seen depot.new)
+    ensures opens { FilesOpened (spec.files_of words.now) (D.seen depot.old) (D.seen depot.new)
         result }
 {
     let mut slots = ArrayVec::new();

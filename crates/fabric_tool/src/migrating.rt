@@ -1,7 +1,7 @@
 //! The command `migrate`.
 ghost use Rattle.std.specs.Prelude.{◌≡◌, true, codes};
 ghost use Rattle.fabric_tool.specs.Command as spec;
-ghost use Rattle.fabric_tool.specs.Ends.{MigrateHolds};
+ghost use Rattle.fabric_tool.specs.Pairs.{MigrateHolds};
 ghost use Rattle.fabric_tool.specs.Reading.{unmigrated_by};
 
 use crate::limits::MOST_BYTES;

@@ -1,26 +1,32 @@
 //! The command `enode`.
-ghost use Rattle.std.specs.Prelude.{◌≡◌, true};
+ghost use Rattle.std.specs.Prelude.{◌≡◌, ◌≤◌, true};
 ghost use Rattle.fabric_tool.specs.Command as spec;
 ghost use Rattle.fabric_tool.specs.Enode.{EnodeHolds};
 ghost use Rattle.fabric_tool.specs.Opening.{stood_by};
 
-use crate::command::{node_of, start_at};
 use crate::limits::{MOST_BYTES, MOST_FRAMES};
 use crate::outcome::Outcome;
 use crate::running::stopped;
-use enode_core::Phase;
+use enode_core::{Identity, Phase};
 use enode_run::run_node;
-use fab_base::{Depot, word_at};
+use fab_base::{Depot, Moment, word_at};
 use pcap_file::Budget;
 use run_files::RunFault;
 use std::alloc::Global;
 
 /// Runs a node over the frames that its port receives, and writes what it sends. The input is read
 /// whole before the output is opened.
-pub(crate) fn enode<D: Depot>(alloc: Global, words: &[String], depot: &mut D) -> Outcome
+pub(crate) fn enode<D: Depot>(
+    alloc: Global,
+    start: Moment,
+    own: Identity,
+    words: &[String],
+    depot: &mut D,
+) -> Outcome
+    requires start { start ≤ 4294967295999 }
     requires enode { spec.is_enode words.now ≡ true }
     requires known { spec.AllKnown (D.seen depot.old) words.now }
-    ensures holds { EnodeHolds (spec.enode_of words.now) (D.seen depot.old) (D.seen depot.new)
+    ensures holds { EnodeHolds (spec.enode_of start own words.now) (D.seen depot.old) (D.seen depot.new)
         result }
 {
     let limits = Budget {
@@ -28,7 +34,6 @@ pub(crate) fn enode<D: Depot>(alloc: Global, words: &[String], depot: &mut D) ->
         frames: MOST_FRAMES,
     };
     let (from, to) = (word_at(words, 5), word_at(words, 6));
-    let (start, own) = (start_at(words), node_of(words));
     stood(run_node(alloc, depot, from, to, start, own, limits))
 }
 

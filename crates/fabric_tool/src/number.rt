@@ -1,18 +1,18 @@
 //! The number of a load, and the moment that a node starts at.
-ghost use Rattle.std.specs.Prelude.{◌≡◌, ◌≤◌, IfSome, MatchBool};
+ghost use Rattle.std.specs.Prelude.{◌≡◌, MatchBool};
 ghost use Rattle.fab_policy.specs.Private.LineWords.{IsShortest};
 ghost use Rattle.fabric_tool.specs.Command as spec;
 
+use fab_base::Moment;
 use fab_config::LAST_MOMENT;
 
 /// The moment that a word spells as a number, no later than a capture can name.
-pub(crate) fn start_of(word: &str) -> Option<u64>
-    ensures start { result ≡ spec.start_of word.now }
-    ensures range { IfSome result (λ n. n ≤ 4294967295999) }
+pub(crate) fn start_of(word: &str) -> Option<Moment>
+    ensures { result ≡ spec.start_of word.now }
 {
     let number = number_of(word)?;
     if number <= LAST_MOMENT {
-        Some(number)
+        Some(Moment(number))
     } else {
         None
     }

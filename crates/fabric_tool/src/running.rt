@@ -2,7 +2,7 @@
 ghost use Rattle.std.specs.Prelude.{◌≡◌, IsTrue, true};
 ghost use Rattle.fab_config.specs.Settings.{is_in_range};
 ghost use Rattle.fabric_tool.specs.Command as spec;
-ghost use Rattle.fabric_tool.specs.Ends.{RunHolds};
+ghost use Rattle.fabric_tool.specs.Running.{RunHolds};
 ghost use Rattle.fabric_tool.specs.Left.{LegalIsSafe};
 ghost use Rattle.fabric_tool.specs.Opening.{ran_by, stopped_by};
 ghost use Rattle.fabric_tool.specs.Preparing.{IsPrepared};

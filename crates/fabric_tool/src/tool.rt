@@ -1,8 +1,9 @@
 //! The command over the files of a depot.
 ghost use Rattle.std.specs.Prelude.{◌≡◌, ◌≤◌, ◌⊎◌, IsTrue, Some, None};
-ghost use Rattle.fab_base.specs.Seen.{SameFiles, Rose};
+ghost use Rattle.fab_base.specs.Seen.{Rose};
 ghost use Rattle.fabric_tool.specs.Command as spec;
 ghost use Rattle.fabric_tool.specs.Ends.{Ends, Holds, HoldsFor, Prints};
+ghost use Rattle.fabric_tool.specs.Texts.{IsUntouched};
 ghost use Rattle.fabric_tool.specs.Rechecking.{IsRechecked, IsReplayed};
 ghost use Rattle.fabric_tool.specs.Statuses.{Done, OfCommand, IsRefused, IsPastLimit};
 ghost use Rattle.fabric_tool.specs.Statuses.{HasFront, IsComplete, IsNamed, Printed};
@@ -47,7 +48,7 @@ pub fn fabric_tool<R: Threads + Wait + Sync, D: Depot, K: Sink, G: Gate + Sync>(
     ensures refused { result ≡ 1 → OfCommand words.now (λ k. IsRefused k (D.seen depot.old)
         (D.seen depot.new)) }
     ensures words { result ≡ 2 → (spec.command words.now ≡ None)
-        × SameFiles (D.seen depot.old) (D.seen depot.new) }
+        × IsUntouched (D.seen depot.old) (D.seen depot.new) }
     ensures no_command { spec.command words.now ≡ None →
         ¬ Rose (K.sunk say.old).faults (K.sunk say.new).faults → result ≡ 2 }
     // An input couldn't be read: every file is as it was, or the outputs of `run` hold a run up to
@@ -150,9 +151,9 @@ fn outcome_by<R: Threads + Wait + Sync, D: Depot, G: Gate + Sync>(
         Form::Show => show(alloc, words, depot),
         Form::Convert => convert_file(alloc, words, depot),
         Form::Migrate => migrate_file(alloc, words, depot),
-        Form::Make => make(alloc, words, depot),
+        Form::Make { number } => make(alloc, number, words, depot),
         Form::Snoop => snoop(alloc, words, depot),
-        Form::Enode => enode(alloc, words, depot),
+        Form::Enode { start, own } => enode(alloc, start, own, words, depot),
         Form::Live => live(rt, alloc, words, depot),
         Form::Help => Outcome::Help,
         Form::Version => Outcome::Version,

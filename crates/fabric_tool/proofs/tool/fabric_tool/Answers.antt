@@ -1,4 +1,4 @@
-use Rattle.fabric_tool.proofs.EndLemmas.{done, refused, no_command, read_failed, write_failed, memory_refused, past_limit, others, completed, rechecked, replayed, fronts, exactly, is_printed}
+use Rattle.fabric_tool.proofs.EndLemmas.{done, refused, no_words, no_command, read_failed, write_failed, memory_refused, past_limit, others, completed, rechecked, replayed, fronts, exactly, is_printed}
 use Rattle.fabric_tool.proofs.tool.fabric_tool.Goals as goal
 
 pub returns-clause-done : goal.returns-clause-done
@@ -6,6 +6,9 @@ returns-clause-done g c = done c.args.words.now _ _ _ _ c.run_and_report-status.
 
 pub returns-clause-refused : goal.returns-clause-refused
 returns-clause-refused g c = refused c.args.words.now _ _ _ _ c.run_and_report-status.result c.run_and_report-status.ensures.ends
+
+pub returns-clause-words : goal.returns-clause-words
+returns-clause-words g c = no_words c.args.words.now _ _ _ _ c.run_and_report-status.result c.run_and_report-status.ensures.ends
 
 pub returns-clause-no_command : goal.returns-clause-no_command
 returns-clause-no_command g c = no_command c.args.words.now _ _ _ _ c.run_and_report-status.result c.run_and_report-status.ensures.ends

@@ -1,4 +1,6 @@
-use Rattle.std.proofs.Common.{Some, ap, ◌∙◌}
+use Rattle.std.proofs.Common.{Some, sym, ap, ◌∙◌, subst}
+use Rattle.fabric_tool.specs.Command.{named}
+use Rattle.fabric_tool.specs.Ends.{Holds}
 use Rattle.fabric_tool.specs.declared.command.Form.{Form}
 use Rattle.fabric_tool.specs.declared.command.Form.TheVariants as forms
 use Rattle.fabric_tool.proofs.FormLemmas.{have_form}
@@ -20,13 +22,21 @@ pub migrate_file-requires-clause-migrate : goal.migrate_file-requires-clause-mig
 migrate_file-requires-clause-migrate g c = have_form c.args.words.now forms.Migrate (c.requires.form ∙ ap (λ (f : Form). Some f) c.in-Migrate.is)
 
 pub make-requires-clause-make : goal.make-requires-clause-make
-make-requires-clause-make g c = have_form c.args.words.now forms.Make (c.requires.form ∙ ap (λ (f : Form). Some f) c.in-Make.is)
+make-requires-clause-make g c = have_form c.args.words.now (forms.Make c.in-Make.number) (c.requires.form ∙ ap (λ (f : Form). Some f) c.in-Make.is)
 
 pub snoop-requires-clause-snoop : goal.snoop-requires-clause-snoop
 snoop-requires-clause-snoop g c = have_form c.args.words.now forms.Snoop (c.requires.form ∙ ap (λ (f : Form). Some f) c.in-Snoop.is)
 
+pub enode-requires-clause-start : goal.enode-requires-clause-start
+enode-requires-clause-start g c = (have_form c.args.words.now (forms.Enode c.in-Enode.start c.in-Enode.own) (c.requires.form ∙ ap (λ (f : Form). Some f) c.in-Enode.is)).1
+
 pub enode-requires-clause-enode : goal.enode-requires-clause-enode
-enode-requires-clause-enode g c = have_form c.args.words.now forms.Enode (c.requires.form ∙ ap (λ (f : Form). Some f) c.in-Enode.is)
+enode-requires-clause-enode g c = (have_form c.args.words.now (forms.Enode c.in-Enode.start c.in-Enode.own) (c.requires.form ∙ ap (λ (f : Form). Some f) c.in-Enode.is)).0
 
 pub live-requires-clause-live : goal.live-requires-clause-live
 live-requires-clause-live g c κs within = have_form c.args.words.now forms.Live (c.requires.form ∙ ap (λ (f : Form). Some f) c.in-Live.is)
+
+pub returns-in-Make : goal.returns-in-Make
+returns-in-Make g c =
+    let seen = g.D.Depot.seen in
+    record { holds = subst (λ (f : Form). Holds (named c.args.words.now f) (seen c.args.depot.now) (seen c.make.new.depot) c.make.result) (sym c.in-Make.is) c.make.ensures.holds }

@@ -1,4 +1,4 @@
-use Rattle.fabric_tool.proofs.OutcomeCases.{ended_as}
+use Rattle.fabric_tool.proofs.CauseLemmas.{ended_as}
 use Rattle.fabric_tool.proofs.tool.run_and_report.Goals as goal
 
 pub returns : goal.returns

@@ -1,0 +1,18 @@
+-- What a command is to contracts.
+use Rattle.fab_base.specs.Seen.{Seen}
+use Rattle.fab_base.specs.Sunk.{Sunk}
+use Rattle.fabric_tool.specs.Ending.{Ending}
+use Rattle.fabric_tool.specs.declared.outcome.Outcome.{Outcome}
+
+-- The meaning of a command. Each command has one, in the file of its own words, and a row in `meaning`.
+pub record Meaning : Type 1 where
+  -- how it ends by an outcome
+  pub end : Seen → Seen → Outcome → Ending
+  -- what status 0 says, of the files and of what was printed
+  pub Done : Seen → Seen → Sunk → Sunk → Type 0
+  -- whatever the end, where the depot tells: the outputs hold fronts of what they would hold, or are as they were
+  pub Front : Seen → Seen → Type 0
+  -- the inputs have their forms
+  pub Forms : Seen → Type 0
+  -- the inputs name this outcome
+  pub Says : Seen → Outcome → Type 0
