@@ -2,8 +2,9 @@
 import struct
 from typing import Iterable, Optional
 
-from .book import HEAD, Book
+from .book import HEAD, Book, digits
 from .common import ASKED, CONFIG, JOURNAL, NOTIFICATION, REQUEST, record
+from .worked import worked
 
 ONE = "live K J S I O".split()
 TWO = "live K J S I O P Q".split()
@@ -69,6 +70,29 @@ def sessions(book: Book) -> None:
     book.run(ONE, "frames 1 entries 2\n", 0)
     book.see(J=b"journal 2\n1000 tick\n1000 1 0 dropped truncated\n", O=HEAD)
     book.run("replay K J I O".split(), "legal 2\n", 0)
+
+
+def login(book: Book) -> None:
+    book.title("live: one login, as it was recorded")
+    made = worked("one-login")
+    book.case("one_login", "VLAN request, solicitation, FLOGI, PLOGI to the name server, LOGO: the journal, what came and what is sent, byte for byte")
+    given(book, stream(1, [packet(it.port, it.moment, it.data) for it in made.frames]), made.config.encode())
+    book.run(ONE, made.line, 0)
+    book.see(J=made.second.encode(), I=made.came(1), O=made.left(1))
+    book.run("replay K J I O".split(), f"legal {made.entries}\n", 0)
+    book.run("show K J I".split(), f"entries {made.entries}\nclock 2040\n", 0)
+    book.case("one_login", "cut behind each packet: the files of the packets before it, which replay takes")
+    for count in range(len(made.frames)):
+        kept = worked("one-login")
+        end = kept.frames[count].moment
+        kept.frames = kept.frames[:count]
+        kept.sent = [it for it in kept.sent if it.moment + 10 <= end]
+        kept.journal = "".join(f"{line}\n" for line in kept.journal.splitlines()[: 2 * count])
+        whole = stream(1, [packet(it.port, it.moment, it.data) for it in kept.frames])
+        given(book, whole + packet(1, end)[:-1], kept.config.encode())
+        book.run(ONE, f"stream {len(whole)} cut\n", 1)
+        book.see(J=kept.second.encode(), I=kept.came(1), O=kept.left(1))
+        book.run("replay K J I O".split(), f"legal {kept.entries}\n", 0)
 
 
 def refusals(book: Book) -> None:
@@ -155,8 +179,35 @@ def failing(book: Book) -> None:
         left(book)
 
 
+BYTES, FRAMES = 1 << 30, 4_000_000
+
+
+def limits(book: Book) -> None:
+    book.title("live: limits; the packets before that place are recorded")
+    one = stream(1, [packet(1, 1000)])
+    for size, line, status in ((BYTES - len(one), f"stream {len(one)} cut\n", 1), (BYTES - len(one) + 4, f"limit bytes {BYTES}\n", 6)):
+        book.case("limit_bytes", "the length of a block of another kind, up to the limit and past it")
+        given(book, one + struct.pack("<II", 5, size) + bytes(4))
+        book.run(ONE, line, status)
+        left(book)
+        book.run("replay K J I O".split(), "legal 2\n", 0)
+    empty = book.file("empty-packet", packet(1, 1000, b""))
+    most = head(1) + FRAMES * packet(1, 1000, b"")
+    journal = b"journal 2\n1000 tick\n" + b"".join(b"1000 1 %d dropped eth-short\n" % index for index in range(FRAMES))
+    for more, line, status in ((b"", f"frames {FRAMES} entries {FRAMES + 1}\n", 0), (packet(1, 1000), f"limit frames {FRAMES}\n", 6)):
+        book.case("limit_frames", f"{FRAMES} packets without a byte in one window{', and one more' if more else ''}: journal and capture by their sums")
+        pieces = [f" = {digits(head(1))}", f" * {FRAMES} {empty}"] + ([f" = {digits(more)}"] if more else [])
+        book.given(K=CONFIG, S=book.file("most-packets", most + more, pieces), J="before", I="before", O="before")
+        book.run(ONE, line, status)
+        book.sum(J=journal, I=HEAD + FRAMES * record(1, 0, b""))
+        book.see(O=HEAD)
+    book.file("most-packets", b"", [])
+
+
 def all_rows(book: Book) -> None:
     sessions(book)
+    login(book)
     refusals(book)
+    limits(book)
     words(book)
     failing(book)
