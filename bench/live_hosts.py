@@ -24,7 +24,7 @@ FABRIC = f"{PREFIX}-{os.getpid()}-f"
 OWN = FABRIC[:-1]  # what the names of this process's namespaces begin with
 LINUX_MAC, LINUX_FPMA, LINUX_ADDRESS = bytes.fromhex("001b2100000a"), bytes.fromhex("0efc00010101"), bytes.fromhex("00010101")
 FCF = bytes.fromhex("00051e000002")
-PATIENCE = 30.0  # seconds that an answer may take on a machine that is busy with other work
+PATIENCE = 30.0  # seconds that an answer may take on a free machine
 KEEP_ALIVE = 4.0  # seconds
 CLONE_NEWNET = 0x40000000
 FITS = Callable[[Heard], bool]
@@ -37,6 +37,11 @@ class Failed(Exception):
 def wanted(what: str, holds: object) -> None:
     if not holds:
         raise Failed(what)
+
+
+def scaled(seconds: float) -> float:
+    """So many seconds, and more of them where the machine is busy with other work."""
+    return seconds * max(1.0, os.getloadavg()[0] / (os.cpu_count() or 1))
 
 
 def ip(*words: str) -> None:
@@ -194,12 +199,13 @@ class Host:
 
     def wait(self, what: str, fits: FITS) -> Heard:
         """The next frame that fits; others go by."""
-        end = time.monotonic() + PATIENCE
+        patience = scaled(PATIENCE)
+        end = time.monotonic() + patience
         while (left := end - time.monotonic()) > 0:
             heard = self.next(left)
             if heard is not None and fits(heard):
                 return heard
-        raise Failed(f"host {self.number}: no {what} within {PATIENCE:.0f} s")
+        raise Failed(f"host {self.number}: no {what} within {patience:.0f} s")
 
     def drain(self, seconds: float = 0.3) -> None:
         """Takes what comes until nothing more does."""

@@ -7,12 +7,12 @@ import struct
 import time
 from typing import Any
 
-from live_hosts import PATIENCE, Host, NPort, wanted
+from live_hosts import PATIENCE, Host, NPort, scaled, wanted
 
 ALONE, TOGETHER = 5_000, 145_000  # exchanges, each of two frames
 WAITING = 32  # exchanges under way at once
 SIZE = 512
-MOST = 600  # seconds
+MOST = 300  # seconds on a free machine
 FC_AT = 28  # of a frame whose tag the system took out
 
 
@@ -31,14 +31,15 @@ def exchanged(host: Host, port: NPort, peer: int, count: int, most: int, seen: A
     begun: dict[int, float] = {}
     took: list[float] = []
     sent = lost = 0
-    end = time.monotonic() + MOST
+    seconds = scaled(MOST)
+    end = time.monotonic() + seconds
     while len(took) + lost < count:
-        wanted(f"{count} exchanges within {MOST} s: {len(took)} came back", time.monotonic() < end)
+        wanted(f"{count} exchanges within {seconds:.0f} s: {len(took)} came back", time.monotonic() < end)
         while sent < count and len(begun) < most:
             begun[sent] = time.perf_counter()
             host.wire.send(host.data_frame(port, peer, sent % 65536, struct.pack(">Q", sent) + bytes(SIZE - 8)))
             sent += 1
-        if not select.select([host.wire], [], [], PATIENCE)[0]:
+        if not select.select([host.wire], [], [], scaled(PATIENCE))[0]:
             lost += len(begun)
             begun.clear()
             continue
