@@ -154,11 +154,11 @@ def failing(book: Book) -> None:
         book.run(ONE, "read fault\n", 3)
         book.see(J=b"before", I=b"before", O=b"before")
     for call, kept in ((4, "J"), (5, "I"), (6, "O")):
-        book.case("an_output_cannot_be_opened", "J, then I and O: those before it are empty")
-        given(book, data)
+        book.case("an_output_cannot_be_opened", "J, then I and O, none of which was there: those before it are, and are empty")
+        book.given(K=CONFIG, S=data)
         book.fail(call)
         book.run(ONE, "write fault\n", 4)
-        book.see(**{name: b"" if place < "JIO".index(kept) else b"before" for place, name in enumerate("JIO")})
+        book.see(**{name: b"" if place < "JIO".index(kept) else None for place, name in enumerate("JIO")})
     rows = ((7, None, (b"", b"", b"")), (8, None, (HEAD, b"", b"")), (9, None, (HEAD, b"journal 2\n", b"")))
     for call, _, (came, lines, sent) in rows:
         book.case("a_head_cannot_be_written", "I, then J and O")
