@@ -9,6 +9,7 @@ from .configs import Config, octets
 from .errors import Refused, counted
 from .fabric import walk
 from .frames import colons, granted_in, login_names
+from .inputs import Inputs
 from .looking import Look
 from .runs import run_program
 from .views import number_of, switch_address
@@ -69,20 +70,24 @@ def lines_of(plans: list[Plan], look: Look) -> Lines:
     raise Refused(f"{excess}, also of those alone who logged in: take fewer zones or captures")
 
 
+def with_lines(look: Look, lines: Lines, moments: list[int]) -> Inputs:
+    """What a run is over where these lines say its zones, a set active from each moment on."""
+    activations = list(zip(lines.sets, moments))
+    kept = [it for it in look.inputs.text.split("\n") if it.strip() and not re.match(r"(zone|zoneset|activate)\s", it)]
+    text = "\n".join([*kept, *lines.text(), *(f"activate {it} {moment}" for it, moment in activations)]) + "\n"
+    zones = {zone: [octets(it) for it in members] for zone, members in lines.zones.items()}
+    config = replace(look.inputs.config, zones=zones, sets=dict(lines.sets), activations=activations)
+    remarks = [it for it in look.inputs.remarks if not it.startswith(("one zone of all", "no zone: ", "zones: "))] + lines.remarks
+    derived = [it for it in look.inputs.derived if not it.startswith("zones: ")]
+    return replace(look.inputs, ports=look.ports, config=config, text=text, remarks=remarks, derived=derived)
+
+
 def rezoned(look: Look, plans: list[tuple[Plan, int]], room: str, name: str) -> Look:
     """A run over the same captures in which these plans are active one after the other, each from its moment on."""
     if not look.program:
         raise Refused("--journal: other zones want a run of their own: leave --journal out, and name the hosts' captures")
     lines = lines_of([plan for plan, _ in plans], look)
-    sets = list(lines.sets)
-    activations = [(sets[at], moment) for at, (_, moment) in enumerate(plans)]
-    kept = [it for it in look.inputs.text.split("\n") if not re.match(r"(zone|zoneset|activate)\s", it)]
-    text = "\n".join([*(it for it in kept if it.strip()), *lines.text(), *(f"activate {it} {moment}" for it, moment in activations)]) + "\n"
-    zones = {zone: [octets(it) for it in members] for zone, members in lines.zones.items()}
-    config = replace(look.inputs.config, zones=zones, sets=dict(lines.sets), activations=activations)
-    remarks = [it for it in look.inputs.remarks if not it.startswith(("one zone of all", "no zone: ", "zones: "))] + lines.remarks
-    derived = [it for it in look.inputs.derived if not it.startswith("zones: ")]
-    inputs = replace(look.inputs, ports=look.ports, config=config, text=text, remarks=remarks, derived=derived)
+    inputs = with_lines(look, lines, [moment for _, moment in plans])
     folder = os.path.join(room, name)
     os.mkdir(folder)
     run = run_program(look.program, inputs, folder)

@@ -9,25 +9,14 @@ from .moments import moment_of
 from .reach import reach, reach_of, why_not, why_not_by, wwpn_of
 from .rezone import plan_of, rows_of, taken_of, with_zoning
 from .views import Row, busiest, first_clock
-from .whatif import alone, change_of, whatif
-from .words import Parser
+from .whatif import alone, change_of, is_cut, whatif
 from .zone_texts import login_lists_text, reach_text, whatif_text
-from .zoning.commands import add_taking, wanted_of, written
+from .zoning.commands import wanted_of, written
 from .zoning.model import LoginRow, Plan, Which
 from .zoning.reading import logins_in
 from .zoning.taking import Taken, Wanted
 
 Shown = tuple[Any, list[str]]  # what is shown: as JSON, and as text
-
-
-def add_zoning(made: Parser) -> None:
-    """The words on zonings."""
-    add = made.add_argument
-    add("--zoning", action="append", default=[], metavar="FILE", help="the zones of the run, as a switch prints them; may stand many times")
-    add("--was", action="append", default=[], metavar="FILE", help="whatif: the zoning that was, where it isn't that of the run")
-    add("--was-set", metavar="NAME", help="whatif: the zone set of --was")
-    add("--planned", action="append", default=[], metavar="FILE", help="whatif: the zoning that is planned; its defined zone set, where it has an active one too")
-    add_taking(made)
 
 
 class Zonings:
@@ -109,17 +98,21 @@ class Zonings:
             raise Refused("words: look whatif --was FILE --planned FILE: without captures both zonings are wanted")
         return whatif(alone(was, planned))
 
+    def without_captures(self, command: str, own: list[str]) -> Optional[Shown]:
+        """What can be said of zonings alone; none where captures are wanted."""
+        if command == "zones" and self.said.source:
+            return self.lines(None)
+        if command == "reach" and self.said.zoning:
+            return self.reach(None)
+        if command == "why not" and self.said.zoning:
+            return self.why_not(None, *own)
+        return None
 
-def without_captures(command: str, own: list[str], said: argparse.Namespace, zonings: Zonings) -> Optional[Shown]:
-    """What can be said of zonings alone; none where captures are wanted."""
-    if command == "zones" and said.source:
-        return zonings.lines(None)
-    if command == "reach" and said.zoning:
-        return zonings.reach(None)
-    if command == "why not" and said.zoning:
-        return zonings.why_not(None, *own)
-    return None
+    @staticmethod
+    def whatif_said(found: Row) -> Shown:
+        return found, whatif_text(found)
 
-
-def whatif_said(found: Row) -> Shown:
-    return found, whatif_text(found)
+    @staticmethod
+    def is_cut(found: Row) -> bool:
+        """Whether a planned zoning would break a conversation."""
+        return is_cut(found)

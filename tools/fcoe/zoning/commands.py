@@ -1,26 +1,12 @@
-"""The words of `zones` and `look zones --from`, and what they write."""
+"""What `zones` and `look zones --from` write."""
 import argparse
 from typing import Optional
 
 from ..errors import Refused
-from ..words import Parser
 from .config import config_lines
 from .model import LoginRow, Vendor, Which
 from .taking import Wanted, take, take_all
 from .vendors import commands
-
-
-def add_taking(made: Parser) -> None:
-    """The words that say which zones are taken of which files."""
-    add = made.add_argument
-    add("--from", dest="source", action="append", default=[], metavar="FILE", help="what a switch prints of its zoning, or a configuration; may stand many times")
-    add("--vsan", type=int, metavar="N", help="the VSAN, where a file has several; with --to nxos the VSAN of the commands")
-    add("--set", metavar="NAME", help="the zone set that is taken, in place of the active one")
-    add("--defined", action="store_true", help="the defined zoning, where files have the active one too")
-    add("--all", action="store_true", help="all zone sets that are defined")
-    add("--logins", action="append", default=[], metavar="FILE", help="a switch's list of logins: it says which WWPN an FCID, an interface or a port is")
-    add("--skip", action="store_true", help="goes on without members that can't be said; each is named")
-    add("--to", metavar="FORM", help="what is written: lines of the configuration (config), or a switch's commands (nxos, fos)")
 
 
 def vendor_of(word: Optional[str]) -> Vendor:
