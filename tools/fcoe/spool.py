@@ -3,11 +3,13 @@ import bz2
 import gzip
 import lzma
 import os
+import select
 import shutil
 import signal
 import stat
 import subprocess
 import sys
+import time
 from types import FrameType
 from typing import Any, BinaryIO, Callable, Iterable, Optional
 
@@ -18,6 +20,7 @@ PACKERS: dict[bytes, Callable[..., Any]] = {b"\x1f\x8b": gzip.open, b"BZ": bz2.o
 PROGRAMS = {b"\x28\xb5\x2f\xfd": "zstd", b"\x04\x22\x4d\x18": "lz4"}
 PIECE = 1 << 20
 MOST = 4 << 30  # bytes that are spooled
+PAUSE, GRACE = 0.2, 1.0  # seconds: between two looks at an idle pipe, and that a writer has behind an interrupt
 
 
 class Patience:
@@ -25,13 +28,23 @@ class Patience:
 
     def __init__(self) -> None:
         self.before = signal.getsignal(signal.SIGINT)
+        self.until: Optional[float] = None  # when an interrupted spool ends, though its writer goes on
 
-    def __enter__(self) -> None:
+    def __enter__(self) -> "Patience":
         signal.signal(signal.SIGINT, self.first)
+        return self
 
     def first(self, _: int, __: Optional[FrameType]) -> None:
         signal.signal(signal.SIGINT, self.before)
-        note("interrupted: looks at what came, as soon as the writer ends; interrupt again to stop")
+        self.until = time.monotonic() + GRACE
+        note("interrupted: looks at what came, once the writer ends or nothing comes any more; interrupt again to stop")
+
+    def read(self, come: int) -> bytes:
+        """What comes next: nothing at the writer's end, or where an interrupt finds the pipe idle."""
+        while not select.select([come], [], [], PAUSE)[0]:
+            if self.until is not None and time.monotonic() >= self.until:
+                return b""
+        return os.read(come, PIECE)
 
     def __exit__(self, *_: object) -> None:
         signal.signal(signal.SIGINT, self.before)
@@ -40,8 +53,8 @@ class Patience:
 def copy_to(there: str, come: BinaryIO, shown: str) -> None:
     """Spools what comes, up to the end of its writer."""
     count = 0
-    with open(there, "wb") as file, Patience():
-        while piece := come.read(PIECE):
+    with open(there, "wb") as file, Patience() as patience:
+        while piece := patience.read(come.fileno()):
             count += len(piece)
             if count > MOST:
                 raise Refused(f"{shown}: more than 4 GiB came: save a part of it (`tcpdump -c`, `editcap -A -B`) and look at that")
