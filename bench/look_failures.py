@@ -84,6 +84,7 @@ class Wire:
 
     vlan: int = 100
     clock: int = START
+    fc_map: bytes = FC_MAP  # the switch's
     records: list[Record] = field(default_factory=list)
 
     def wait(self, seconds: float) -> None:
@@ -106,21 +107,27 @@ class Wire:
     def solicit(self, host: Host, vlan: int = -1) -> None:
         self.send(host.mac, ALL_FCFS, FIP, fip(1, 1, mac_of(host.mac), name_of(b"\x10" + host.name[1:]), descriptor(6, b"\x08\x6e")), vlan)
 
-    def advertise(self, to: bytes, flags: int = 0x8005, period: int = 8000, vlan: int = -1) -> None:
+    def advertise(self, to: bytes, flags: int = 0x8005, period: int = 8000, vlan: int = -1, by: bytes = SWITCH) -> None:
         """An advertisement, padded and solicited where it answers a host."""
         flags |= 0 if to == ALL_ENODES else 2
-        fabric = descriptor(5, b"\0\0\0" + FC_MAP + SWITCH_NAME)
-        body = fip(1, 2, descriptor(1, b"\0\x80"), mac_of(SWITCH), name_of(SWITCH_NAME), fabric, descriptor(12, b"\0\0" + period.to_bytes(4, "big")), flags=flags)
-        self.send(SWITCH, to, FIP, body + (bytes(2158 - len(body)) if to != ALL_ENODES else b""), vlan)
+        name, priority = (SWITCH_NAME, b"\0\x80") if by == SWITCH else (b"\x10\0" + by, b"\0\xc8")
+        fabric = descriptor(5, b"\0\0\0" + self.fc_map + name)
+        body = fip(1, 2, descriptor(1, priority), mac_of(by), name_of(name), fabric, descriptor(12, b"\0\0" + period.to_bytes(4, "big")), flags=flags)
+        self.send(by, to, FIP, body + (bytes(2158 - len(body)) if to != ALL_ENODES else b""), vlan)
 
-    def flogi(self, host: Host, ox_id: int, kind: int = 7, name: bytes = b"") -> None:
-        login = header(0x22, 0xFFFFFE, 0, 1, ox_id) + host.login(4 if kind == 7 else 0x51, name)
+    def clear(self, host: Host) -> None:
+        """The switch clears the links of a host."""
+        self.send(SWITCH, host.mac, FIP, fip(3, 2, mac_of(SWITCH), name_of(SWITCH_NAME), flags=0))
+
+    def flogi(self, host: Host, ox_id: int, kind: int = 7, name: bytes = b"", size: int = 2112) -> None:
+        said = host.login(4 if kind == 7 else 0x51, name)
+        login = header(0x22, 0xFFFFFE, 0, 1, ox_id) + said[:10] + size.to_bytes(2, "big") + said[12:]
         self.send(host.mac, SWITCH, FIP, fip(2, 1, descriptor(kind, b"\0\0" + login), mac_of(bytes(6))))
 
     def accept(self, host: Host, ox_id: int, address: int, kind: int = 7) -> None:
         payload = b"\x02\0\0\0" + PAYLOAD[4:8] + b"\x30\0\x08\x40" + bytes.fromhex("00002710000007d0") + SWITCH_NAME * 2 + PAYLOAD[36:]
         reply = header(0x23, address, 0xFFFFFE, 1, ox_id, 0x990000) + payload
-        self.send(SWITCH, host.mac, FIP, fip(2, 2, descriptor(kind, b"\0\0" + reply), mac_of(FC_MAP + address.to_bytes(3, "big"))))
+        self.send(SWITCH, host.mac, FIP, fip(2, 2, descriptor(kind, b"\0\0" + reply), mac_of(self.fc_map + address.to_bytes(3, "big"))))
 
     def reject(self, host: Host, ox_id: int, reason: int, explanation: int, kind: int = 7) -> None:
         reply = header(0x23, 0, 0xFFFFFE, 1, ox_id, 0x990000) + bytes([1, 0, 0, 0, 0, reason, explanation, 0])
@@ -464,9 +471,80 @@ def sends_on() -> list[Wire]:
     return [one, two]
 
 
+def other_map() -> list[Wire]:
+    """The switch's FC-MAP is 0e:fc:05, and the host sends with 0e:fc:00."""
+    wire = Wire(fc_map=b"\x0e\xfc\5")
+    wire.discover(A)
+    for turn in range(3):
+        wire.wait(1)
+        wire.flogi(A, turn + 1)
+        wire.accept(A, turn + 1, 0x2A0100)
+        for number in range(4):
+            wire.service(0x2A0100, 0xFFFFFC, 1, 0x10 * turn + number, A.login(3))
+            wire.wait(4)
+            wire.keep_alive(A)
+    return [wire]
+
+
+def other_fabric() -> list[Wire]:
+    """Two switches of two fabrics are in one VLAN, and the one that the host takes doesn't let it in."""
+    wire, other = Wire(), bytes.fromhex("000dec000009")
+    wire.ask(A)
+    wire.tell(A)
+    wire.solicit(A)
+    for by in (other, SWITCH):
+        wire.advertise(A.mac, by=by)
+    for number in range(6):
+        wire.wait(4)
+        wire.flogi(A, number + 1)
+        wire.reject(A, number + 1, 0x09, 0x0D)
+        wire.advertise(ALL_ENODES, by=other)
+    return [wire]
+
+
+def lost_keep_alives() -> list[Wire]:
+    """The host's keep alives don't reach the switch, which clears its links."""
+    wire = Wire()
+    wire.discover(A)
+    for turn in range(3):
+        wire.wait(1)
+        wire.flogi(A, turn + 1)
+        wire.accept(A, turn + 1, 0x010A00)
+        wire.register(A, 0x010A00)
+        wire.stay(A, 16)
+        wire.wait(4)
+        wire.clear(A)
+    return [wire]
+
+
+def receive_size() -> list[Wire]:
+    """The host's Ethernet port has an MTU of 1,500, so its receive size is below 2,112, which the switch wants."""
+    wire = Wire()
+    wire.discover(A)
+    for number in range(3):
+        wire.wait(2)
+        wire.flogi(A, number + 1, size=1424)
+        wire.reject(A, number + 1, 0x03, 0x07)
+    return [wire]
+
+
+def virtual_limit() -> list[Wire]:
+    """A host's virtual N_Ports beyond those that the switch takes on a port."""
+    wire = Wire()
+    wire.log_in(A, 1, 0x650100)
+    for number in range(1, 5):
+        wire.stay(A, 8)
+        wire.flogi(A, number + 1, 8, Host(0x20 + number).name)
+        if number < 4:
+            wire.accept(A, number + 1, 0x650100 + number, 8)
+        else:
+            wire.reject(A, number + 1, 0x09, 0x29, 8)
+    return [wire]
+
+
 FAILURES: dict[str, Callable[[], list[Wire]]] = {
     it.__name__: it
-    for it in (no_fip, untagged, vlan200, vn2vn, no_jumbo, no_answer_padded, limit, name_held, name_elsewhere, short_period, silence, relogin, unheard, not_available, not_zoned, unused, busy, watched, own_mac, no_server, cloned, sends_on)
+    for it in (no_fip, untagged, vlan200, vn2vn, no_jumbo, no_answer_padded, limit, name_held, name_elsewhere, short_period, silence, relogin, unheard, not_available, not_zoned, unused, busy, watched, own_mac, no_server, cloned, sends_on, other_map, other_fabric, lost_keep_alives, receive_size, virtual_limit)
 }
 
 

@@ -4,7 +4,7 @@ from typing import Optional
 from .answers import Answer, Severity
 from .discovery import why_not_in
 from .enodes import seen_of
-from .login_answers import again, rejected, rejected_here, rejects_in, shared, silent, silent_logins
+from .login_answers import again, cleared, cleared_logins, rejected, rejected_here, rejects_in, shared, silent, silent_logins
 from .looking import Look
 from .traffic_answers import Explained, differences, drops, well
 
@@ -21,12 +21,14 @@ def answers_of(look: Look) -> list[Answer]:
             told.hosts.add((seen.enode.port.number, seen.enode.mac))
     found += rejected(look, everyone)
     found += rejected_here(look, [it for it in everyone if (it.enode.port.number, it.enode.mac) not in told.hosts])
-    told.ended = {(it.port, it.enode) for it in silent_logins(look)}
+    by_switch = {(it.login.port, it.login.enode) for it in cleared_logins(look)}
+    told.ended = by_switch | {(it.port, it.enode) for it in silent_logins(look)}
     for twice in shared(look, everyone):
         found.append(twice.answer(look))
         told.requests |= set(twice.requests)
         told.ended |= {(twice.login.port, twice.login.enode), (twice.seen.enode.port.number, twice.seen.enode.mac)}
-    found += [*silent(look), *again(look), *differences(look, told), *drops(look, told)]
+    own = list(drops(look, told))
+    found += [*silent(look), *cleared(look), *again(look, told.astray | by_switch), *differences(look, told), *own]
     found += [Answer(Severity.NOTED, it, "--config takes another configuration, --zone other zones") for it in look.inputs.derived]
     if not any(it.severity < Severity.NOTED for it in found):
         found.append(well(look))

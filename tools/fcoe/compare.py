@@ -219,6 +219,15 @@ def message_entries(run: Run) -> Iterator[tuple[int, Frame]]:
             yield place, entries.frame(place)
 
 
+def note_strangers(walk: Walk, answer: Compared) -> None:
+    """N_Ports that only the switch lists, and that nobody logged in as here, aren't in the captures: which list is right can't be told."""
+    for it in answer.differences:
+        here, there = set(it.forwarder.split(", ")) - {""}, set(it.switch.split(", "))
+        more = sorted(there - here)
+        if it.field == "N_Ports" and here <= there and not any(walk.fabric.of_address(int(one[:6], 16)) for one in more):
+            it.note, it.is_open = f"{more[0]} wasn't captured{'' if len(more) == 1 else f', nor {len(more) - 1} more'}", True
+
+
 def compare_answers(run: Run, walk: Walk, found: Comparison) -> Marked:
     """Each request to the switch; gives the places of the switch's frames that are replies."""
     pairs = {port.number: replies_of(port, run.config.mac) for port in run.ports}
@@ -234,6 +243,7 @@ def compare_answers(run: Run, walk: Walk, found: Comparison) -> Marked:
             used.add(entry.port, reply)
         answer = both_answers(port, at, reply, sent, entry)
         if answer.differences:
+            note_strangers(walk, answer)
             explain(answer, cause_of(run, walk, place))
         found.answers.append(answer)
     return used

@@ -104,6 +104,7 @@ class Advertised:
     name: Optional[bytes]
     fc_map: Optional[bytes]
     period: Optional[int]
+    fabric: Optional[bytes] = None
 
 
 def advertised(heard: Heard) -> Advertised:
@@ -116,6 +117,7 @@ def advertised(heard: Heard) -> Advertised:
         found[4][4:12] if len(found.get(4, b"")) >= 12 else None,
         found[5][5:8] if len(found.get(5, b"")) >= 16 else None,
         number(found[12][4:8]) if len(found.get(12, b"")) >= 8 else None,
+        found[5][8:16] if len(found.get(5, b"")) >= 16 else None,
     )
 
 

@@ -95,6 +95,7 @@ class Inputs:
     remarks: list[str]
     switches: set[bytes]
     is_drawn: bool
+    fc_map: bytes = FPMA + b"\0"  # of the captures, which --config may have otherwise
     derived: list[str] = field(default_factory=list)  # what the switch's own answers told of its configuration
 
 
@@ -229,7 +230,7 @@ def gather(names: list[str], room: str, options: Options) -> Inputs:
     if not any(it.is_fabric for it in frames):
         raise Refused(f"{names[0]}: neither FIP nor FCoE frames (Ethertypes 8914, 8906): capture on the host's converged port, `tcpdump -i eth0 -s 0 -w FILE`")
     drawn = draw(frames, options.switch, options.window, options.zones)
-    inputs = Inputs(ports, drawn.config, "\n".join(drawn.lines) + "\n", remarks, set(), True)
+    inputs = Inputs(ports, drawn.config, "\n".join(drawn.lines) + "\n", remarks, set(), True, drawn.config.fc_map)
     if options.config is not None:
         with open(options.config, encoding="latin-1") as file:
             inputs.text = file.read()

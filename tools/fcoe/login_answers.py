@@ -5,6 +5,7 @@ from typing import Iterable, Iterator, Optional
 from .answers import Answer, Severity, times
 from .codes import spelled
 from .compare import followers_text
+from .configs import Advertised, forwarders, is_advertisement
 from .enodes import Seen
 from .errors import counted
 from .fabric import Login
@@ -103,6 +104,21 @@ def followers_of(look: Look, requests: list[Request]) -> list[str]:
     return [followers_text(some)] if some else []
 
 
+def rivals_text(look: Look, port: int) -> str:
+    """Which switches advertise themselves on a port, where there are several, and which of them the run's is."""
+    known = forwarders([it.heard for it in look.captured[port - 1].frames.used() if is_advertisement(it.heard)])
+    own = known.get(look.run.config.mac)
+    others = [it for mac, it in sorted(known.items()) if mac != look.run.config.mac]
+    if own is None or not others:
+        return ""
+    told = " and ".join(f"{colons(it.mac)} of {fabric_of(it)}" for it in others)
+    return f"this switch is {colons(own.mac)} of {fabric_of(own)}; {told} advertises itself too: which is the host's? It takes the lowest priority value"
+
+
+def fabric_of(it: Advertised) -> str:
+    return f"fabric {colons(it.fabric) if it.fabric else 'unknown'} (priority {it.priority if it.priority is not None else 'unknown'})"
+
+
 def rejected(look: Look, all_seen: list[Seen]) -> Iterator[Answer]:
     """Logins that the switch rejected, the reason first."""
     groups = rejects_in(all_seen)
@@ -113,7 +129,8 @@ def rejected(look: Look, all_seen: list[Seen]) -> Iterator[Answer]:
         got_in = any(it.name == name and it.port == port and look.replied(it) for it in look.walk.fabric.logins)
         said = f"{'' if got_in else 'got no login: '}the switch rejected {counted(len(requests), kind)}, {spelled(verdict)[len('rejected '):]}"
         said += "" if set(here) == {verdict} else here_text(here)
-        yield Answer(Severity.FAILED, said, step_of(look, verdict, name, requests[0], since), port, colons(name), since, until, numbers, followers_of(look, requests))
+        step, rivals = step_of(look, verdict, name, requests[0], since), rivals_text(look, port)
+        yield Answer(Severity.FAILED, said, step, port, colons(name), since, until, numbers, [*([rivals] if rivals else []), *followers_of(look, requests)])
 
 
 def rejected_here(look: Look, all_seen: list[Seen]) -> Iterator[Answer]:
@@ -244,7 +261,7 @@ def silent(look: Look) -> Iterator[Answer]:
 
 def is_used(look: Look, login: Login) -> bool:
     """The host sends from the MAC that the switch granted to it, or keeps its login alive."""
-    mac = look.run.config.fc_map + look.on_switch(login).to_bytes(3, "big")
+    mac = look.inputs.fc_map + look.on_switch(login).to_bytes(3, "big")
     used = look.captured[login.port - 1].frames.used()
     return any(it.heard.source == mac or it.heard.source == login.enode and it.heard.operation == KEEP_ALIVE for it in used)
 
@@ -257,10 +274,45 @@ def unused(look: Look, logins: list[Login]) -> Answer:
     return Answer(Severity.FAILED, text, step, first.port, colons(first.name), first.since, logins[-1].until)
 
 
-def again(look: Look) -> Iterator[Answer]:
-    """Logins that their ENode made again without a LOGO."""
+@dataclass
+class Cleared:
+    """A login that the switch cleared though this forwarder goes on with it: when, and which keep alives of its ENode stand before that."""
+
+    login: Login
+    at: int
+    beats: list[int]
+
+
+def cleared_logins(look: Look) -> list[Cleared]:
+    """The logins that the switch cleared while they were live here."""
+    beats, found = beats_of(look), []
+    for it in real(look, look.walk.fabric.logins):
+        at = None if it.is_fdisc else cleared_at(look.captured[it.port - 1], it, it.since)
+        if at is not None and (it.until is None or at < it.until):
+            found.append(Cleared(it, at, [beat for beat in beats.get((it.port, it.enode), []) if it.since + look.run.config.window < beat < at]))
+    return found
+
+
+def cleared(look: Look) -> Iterator[Answer]:
+    """Logins that the switch cleared; where their hosts kept them alive, these keep alives don't reach it."""
+    groups: dict[tuple[int, bytes], list[Cleared]] = {}
+    for it in cleared_logins(look):
+        groups.setdefault((it.login.port, it.login.name), []).append(it)
+    for (port, name), some in groups.items():
+        behind, most = (some[0].at - some[0].login.since) / 1000, look.run.config.period * 5 // 2
+        text = f"the switch cleared its login {times(len(some))}{', first' if len(some) > 1 else ','} {behind:.1f} s behind its accept"
+        step = "the switch's log at that time: why it cleared the link (its port, its VSAN or fabric, a limit)"
+        if all(it.beats and it.at - it.beats[-1] < most for it in some):
+            beats = sum(len(it.beats) for it in some)
+            text += f", though {counted(beats, 'keep alive')} of the host {'stands' if beats == 1 else 'stand'} in this capture (the period is {look.run.config.period} ms): they don't reach the switch"
+            step = "the path of its keep alives, FIP to the switch's own MAC, from where this was captured to the switch: a bridge, FIP snooping or a filter loses them; capture at the switch's port too"
+        yield Answer(Severity.LOST, text, step, port, colons(name), some[0].at, some[-1].at)
+
+
+def again(look: Look, told: set[tuple[int, bytes]]) -> Iterator[Answer]:
+    """Logins that their ENode made again without a LOGO; of hosts of which other answers tell why none."""
     groups: dict[tuple[int, bytes], list[Login]] = {}
-    for it in real(look, (it for it in look.walk.fabric.logins if it.why == AGAIN and not it.is_fdisc)):
+    for it in real(look, (it for it in look.walk.fabric.logins if it.why == AGAIN and not it.is_fdisc and (it.port, it.enode) not in told)):
         groups.setdefault((it.port, it.name), []).append(it)
     for (port, name), logins in groups.items():
         if not is_used(look, logins[0]):

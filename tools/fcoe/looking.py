@@ -6,7 +6,7 @@ from typing import Any, Optional
 
 from .compare import Comparison, compare
 from .captures import classic
-from .configs import map_of, read_config
+from .configs import read_config
 from .derived import derive
 from .errors import Refused, counted
 from .fabric import Login, Walk, walk
@@ -87,7 +87,6 @@ class Settling:
     room: str
     seen: dict[Request, int]
     grants: Grants
-    fc_map: bytes
     turns: int = 0
     strangers: dict[int, int] = field(default_factory=dict)
 
@@ -97,7 +96,7 @@ class Settling:
         os.mkdir(folder)
         made = ports
         if seen:
-            made, self.strangers = readdressed(ports, self.inputs.config, grants, self.fc_map, self.room)
+            made, self.strangers = readdressed(ports, self.inputs.config, grants, self.inputs.fc_map, self.room)
         run = run_program(self.program, replace(self.inputs, ports=made), folder)
         return run, granted_by(run, seen)
 
@@ -127,8 +126,7 @@ def settle(program: str, inputs: Inputs, room: str) -> tuple[Run, Grants, int]:
     """Runs the program over the captures with the switch's addresses rewritten to the run's own, until the run's grants stand still."""
     captured = inputs.ports
     seen = grants_seen(captured, inputs.config.mac)
-    fc_map = map_of([it for port in captured for it in port.frames.telling()]) or inputs.config.fc_map
-    found = Settling(program, inputs, room, seen, {request: (old, old) for request, old in seen.items()}, fc_map)
+    found = Settling(program, inputs, room, seen, {request: (old, old) for request, old in seen.items()})
     if seen and sum(len(port.frames) - len(port.frames.messages()) for port in captured) > PLENTY:
         found.settle_messages(captured)
     while found.turns < TURNS:

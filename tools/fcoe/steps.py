@@ -1,5 +1,5 @@
 """What to look at next, by a verdict and the frame that got it."""
-from .frames import VN2VN, Heard
+from .frames import VN2VN, Heard, number
 from .journals import row_of
 
 LOGIN_STEPS = {
@@ -26,12 +26,17 @@ BY_EXPLANATION = {
     "0d": "the port name: whether its form is right, and whether the switch lets it in (port security, fabric binding)",
     "0e": "the node name: whether its form is right, and whether the switch lets it in (port security, fabric binding)",
 }
+FULL = 2112  # bytes of payload of an FC frame (FC-FS-3)
+MTU = f"{FULL} bytes of payload want an MTU of 2,500 (mini-jumbo) at its Ethernet port, and at each hop"
 OTHERWISE = "the switch's log at that time; FC-LS-2 and FC-GS-6 have the codes"
 IN_VN2VN = "the host is in VN2VN mode: it looks for other hosts, not for a switch"
 
 
 def next_step(verdict: str, heard: Heard) -> str:
     """What to look at next; empty where nothing is amiss."""
+    if verdict.startswith("rejected") and verdict.endswith(" 07") and heard.fc is not None and heard.kind in ("FLOGI", "FDISC"):
+        size = number(heard.fc.payload[10:12]) & 0xFFF
+        return f"the host's receive size is {size}: " + (MTU if size < FULL else "the switch's log has what it wants (`look fields`)")
     if verdict.startswith(("rejected", "refused")):
         steps = LOGIN_STEPS if heard.kind in ("FLOGI", "FDISC") else SERVICE_STEPS
         return steps.get(verdict) or BY_REASON.get(verdict.split(" ")[1]) or BY_EXPLANATION.get(verdict.split(" ")[-1]) or OTHERWISE

@@ -18,6 +18,11 @@ from .who import SERVICES
 NOISE = "dropped ethertype"
 LISTED = 1000  # frames of an answer that are named
 SHOWN = 3  # differences that an answer each is made of
+ASTRAY = {  # what to do about frames from another MAC than was granted, by whether their FC-MAP alone is another
+    False: "the host's driver: it must send from the MAC that the accept grants; are the flags FP and SP of its FLOGI right (`look fields`)?",
+    True: "the host's adapter or driver: it must take the FC-MAP of the switch's advertisements (0e:fc:00 may be fixed there), or set the switch to the host's FC-MAP",
+}
+UNASKED = {"Clear links": "clear link message", "RSCN": "RSCN", "Advertisement": "advertisement"}
 
 
 @dataclass
@@ -30,18 +35,20 @@ class Drops:
     heard: Heard  # the first
     never: Optional[int] = None  # an end that nobody here was granted
     is_there: bool = False  # the switch granted it
-    granted: bytes = b""  # the MAC that its sender was granted, where it sends from its ENode's
+    source: bytes = b""  # the MAC that it was sent from, where its sender was granted another
+    granted: bytes = b""  # that other one
     places: "array[int]" = field(default_factory=lambda: array("I"))  # in the journal
 
 
 @dataclass
 class Explained:
     """What other answers tell of, and is therefore no answer of its own: hosts without a login, by port and MAC; requests that were rejected; hosts
-    whose logins ended, by silence or by another host of their name."""
+    whose logins ended, by silence, by the switch, or by another host of their name; hosts that send from another MAC than they were granted."""
 
     hosts: set[tuple[int, bytes]] = field(default_factory=set)
     requests: set[Request] = field(default_factory=set)
     ended: set[tuple[int, bytes]] = field(default_factory=set)
+    astray: set[tuple[int, bytes]] = field(default_factory=set)
 
     def has(self, look: Look, it: Compared) -> bool:
         """Whether a difference is told of."""
@@ -57,7 +64,7 @@ class Directory:
     """Which logins stand behind the run's addresses, and which addresses the switch alone granted."""
 
     def __init__(self, look: Look) -> None:
-        self.fc_map = look.run.config.fc_map
+        self.fc_map = look.inputs.fc_map
         self.logins = {it.address: it for it in look.walk.fabric.logins}
         self.switch_alone = {old for old, new in look.grants.values() if new is None}
 
@@ -94,8 +101,10 @@ def drops_of(known: Directory, explained: Explained, entry: Frame, said: Heard, 
     lost = {"dropped source-login": (run.fc.s_id, said.fc.s_id), "dropped dest-login": (run.fc.d_id, said.fc.d_id)}.get(entry.verdict)
     if lost and lost[0] not in known.logins:
         made.never, made.is_there = lost[1], lost[1] in known.switch_alone
-    if login and entry.verdict == "dropped source-mac" and login.enode == said.source:
-        made.granted = known.fc_map + said.fc.s_id.to_bytes(3, "big")
+    granted = known.fc_map + said.fc.s_id.to_bytes(3, "big")
+    if login and entry.verdict == "dropped source-mac" and (login.enode == said.source or said.source[3:] == granted[3:]):
+        made.source, made.granted = said.source, granted
+        explained.astray.add((login.port, login.enode))
     return made
 
 
@@ -123,6 +132,14 @@ def meaning_of(verdict: str) -> str:
     return f"{row.meaning[:1].lower()}{row.meaning[1:].rstrip('.')}" if row else verdict.removeprefix("dropped ")
 
 
+def astray_text(it: Drops) -> str:
+    """From which MAC frames were sent, beside the one that was granted."""
+    if it.source[3:] == it.granted[3:]:
+        own, granted = colons(it.source), colons(it.granted)
+        return f"sent from {own}, with the FC-MAP {own[:8]}; the switch's is {granted[:8]}, and it granted {granted}"
+    return f"sent from the ENode's MAC {colons(it.source)} (as with SPMA), not from the granted {colons(it.granted)} (FPMA)"
+
+
 def drop_text(it: Drops) -> tuple[Severity, str, str]:
     """What a drop is, and what to do next."""
     count, rule = counted(len(it.places), "frame"), it.verdict.removeprefix("dropped ")
@@ -130,8 +147,7 @@ def drop_text(it: Drops) -> tuple[Severity, str, str]:
     if it.never is not None and it.is_there:
         return Severity.NOTED, f"{count}{from_to}: the switch granted {fcid(it.never)}, this forwarder didn't", "`look logins` has both verdicts"
     if it.granted:
-        text = f"{count}{from_to} dropped by {rule}: sent from the ENode's MAC {colons(it.heard.source)} (as with SPMA), not from the granted {colons(it.granted)} (FPMA)"
-        return Severity.DROPPED, text, "the host's driver: it must send from the MAC that the accept grants; are the flags FP and SP of its FLOGI right (`look fields`)?"
+        return Severity.DROPPED, f"{count}{from_to} dropped by {rule}: {astray_text(it)}", ASTRAY[it.source[3:] == it.granted[3:]]
     if it.verdict == "dropped dest-login" and it.never is not None:
         return Severity.NOTED, f"{count}{from_to}, which isn't in these captures", "add the capture of its port, to see what becomes of them"
     if it.verdict == "dropped source-login" and it.never is not None:
@@ -219,6 +235,11 @@ def differences(look: Look, explained: Explained) -> Iterator[Answer]:
     for (request, difference), some in ranked[:SHOWN]:
         numbers = [(it.port, it.frame) for it in some if it.frame]
         text, step, name = f"the switch answers {counted(len(some), request)} otherwise: {difference}", "`look compare` has each, field by field", ""
+        unasked = next((word for begin, word in UNASKED.items() if request.startswith(begin)), None) if some[0].index < 0 else None
+        if unasked:
+            text = f"{counted(len(some), unasked)} differ: {difference}"
+            if "missing" in (some[0].switch, some[0].forwarder) or "none" in (some[0].switch, some[0].forwarder):
+                text = f"{counted(len(some), unasked)}: {some[0].switch} by the switch, {some[0].forwarder} by this forwarder"
         if some[0].switch == "no answer" and some[0].index >= 0:
             (text, name), step = unanswered(look, some), "the switch's log at that time; does the request reach it, and is that service up for this port?"
         yield Answer(Severity.DIFFERENT, text, step, some[0].port, name, some[0].clock, some[-1].clock, numbers)
