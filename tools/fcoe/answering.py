@@ -1,10 +1,10 @@
 """All answers of a look, worst first: for the terminal, for JSON and for the report."""
 from typing import Optional
 
-from .answers import Answer, Severity
+from .answers import Answer, Severity, grouped
 from .discovery import why_not_in
 from .enodes import seen_of
-from .login_answers import again, cleared, cleared_logins, rejected, rejected_here, rejects_in, shared, silent, silent_logins
+from .login_answers import again, cleared, cleared_logins, rejected, rejected_here, rejects_in, several, shared, silent, silent_logins
 from .looking import Look
 from .traffic_answers import Explained, differences, drops, well
 
@@ -30,7 +30,10 @@ def answers_of(look: Look) -> list[Answer]:
     own = list(drops(look, told))
     found += [*silent(look), *cleared(look), *again(look, told.astray | by_switch), *differences(look, told), *own]
     found += [Answer(Severity.NOTED, it, "--config takes another configuration, --zone other zones") for it in look.inputs.derived]
+    told_of = {line for it in found for line in it.followers}
+    found += [it for it in several(look) if it.text not in told_of]
     if not any(it.severity < Severity.NOTED for it in found):
         found.append(well(look))
+    found = grouped(found)
     found.sort(key=lambda it: (it.severity if it.severity != Severity.WELL else Severity.NOTED - 0.5, -it.count))
     return found

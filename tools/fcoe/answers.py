@@ -1,7 +1,11 @@
 """The answer on top: what a person wants to know of captures first, worst first, each with the next step."""
+import re
 from dataclasses import dataclass, field
 from enum import IntEnum
 from typing import Any, Optional
+
+
+FEW = 3  # hosts of which the same is said one by one
 
 
 class Severity(IntEnum):
@@ -49,6 +53,24 @@ def row_of(it: Answer) -> dict[str, Any]:
         "frames": [list(place) for place in it.frames[:8]],
         "followers": it.followers,
     }
+
+
+def grouped(found: list[Answer]) -> list[Answer]:
+    """Answers that say the same of more than a few hosts as one, with the hosts under it."""
+    groups: dict[tuple[object, ...], list[Answer]] = {}
+    for it in found:
+        words = re.sub(r"\b(once|twice|[\d.]+)(?= |$)", "#", it.text)
+        groups.setdefault((it.severity, re.sub(r"(#[^#]*?)s\b", r"\1", words), it.step) if it.wwpn else (id(it),), []).append(it)
+    return [it for some in groups.values() for it in (some if len(some) <= FEW else [as_one(some)])]
+
+
+def as_one(some: list[Answer]) -> Answer:
+    """What is said of several hosts alike, in the words of the first."""
+    first, frames = some[0], [place for it in some for place in it.frames]
+    hosts = [f"{it.wwpn} (port {it.port})" + (f": {it.text}" if it.text != first.text else "") for it in some]
+    since, until = [it.since for it in some if it.since is not None], [it.until for it in some if it.until is not None]
+    text = f"{len(some)} hosts alike; the first, {first.wwpn} on port {first.port}: {first.text}"
+    return Answer(first.severity, text, first.step, None, "", min(since, default=None), max(until, default=None), frames, hosts, sum(it.more for it in some))
 
 
 def times(count: int) -> str:

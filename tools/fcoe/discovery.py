@@ -54,7 +54,7 @@ def unheard(seen: Seen) -> Optional[Answer]:
         return None
     said = f"sent {counted(len(logins), 'FLOGI')} to {colons(seen.enode.heard(logins[-1]).destination)}"
     if not seen.enode.port.replies:
-        return failed(seen, f"{said} and nothing behind them; this capture has no frame of the switch", "capture both directions of the port: the switch's answer has the reason", logins)
+        return failed(seen, f"{said} and nothing behind {'it' if len(logins) == 1 else 'them'}; this capture has no frame of the switch", "capture both directions of the port: the switch's answer has the reason", logins)
     step = "the switch's log for this port at that time; is the FLOGI's destination the switch's MAC (`look fields`), does a bridge drop FIP?"
     return failed(seen, f"{said}, the switch answered none", step, logins)
 

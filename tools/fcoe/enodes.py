@@ -2,7 +2,7 @@
 from dataclasses import dataclass, field
 from typing import Iterator, Optional
 
-from .frames import ADVERTISE, ALL_ENODES, LOGIN, SOLICIT, VLAN_REQUEST, VLAN_TELL, Heard, colons, login_names, number
+from .frames import ADVERTISE, ALL_ENODES, KEEP_ALIVE, LOGIN, SOLICIT, VLAN_REQUEST, VLAN_TELL, Heard, colons, login_names, number
 from .hosts import is_fabric_login, is_of_host
 from .inputs import Port
 from .looking import Look
@@ -20,6 +20,7 @@ class Enode:
     name: bytes = b""
     requests: dict[str, list[int]] = field(default_factory=dict)
     vlans: dict[int, list[int]] = field(default_factory=dict)  # of solicitations and logins, by their tag
+    keeps_alive: bool = False  # it sends keep alives behind a request, as it does once it has a login
 
     def all(self, *kinds: str) -> list[int]:
         """The places of the requests of some kinds, in their order."""
@@ -50,6 +51,8 @@ def enodes_of(ports: list[Port]) -> list[Enode]:
         for at in port.host_messages:
             heard = port.frames.heard(at)
             kind = kind_of(heard) if heard.is_fabric else None
+            if heard.operation == KEEP_ALIVE and (port.number, heard.source) in found:
+                found[port.number, heard.source].keeps_alive = True
             if kind is None:
                 continue
             one = found.setdefault((port.number, heard.source), Enode(port, heard.source))
@@ -109,7 +112,9 @@ class Seen:
 
     @property
     def is_in(self) -> bool:
-        """The switch granted it an address: an accept is there, or the host uses one."""
+        """The switch granted it an address: an accept is there, the host uses one, or keeps its login alive where the capture has the host's side alone."""
+        if self.enode.keeps_alive and not self.enode.port.replies:
+            return True
         return any((self.enode.port.number, at) in self.look.grants for at in self.enode.all("FLOGI", "FDISC"))
 
     @property

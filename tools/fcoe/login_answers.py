@@ -115,6 +115,14 @@ def rivals_text(look: Look, port: int) -> str:
     return f"this switch is {colons(own.mac)} of {fabric_of(own)}; {told} advertises itself too: which is the host's? It takes the lowest priority value"
 
 
+def several(look: Look) -> Iterator[Answer]:
+    """Ports on which several switches advertise themselves."""
+    for port in look.captured:
+        text = rivals_text(look, port.number)
+        if text:
+            yield Answer(Severity.NOTED, text, "--fcf takes another switch; two fabrics in one VLAN want their VLANs parted, or their priorities set", port.number)
+
+
 def fabric_of(it: Advertised) -> str:
     return f"fabric {colons(it.fabric) if it.fabric else 'unknown'} (priority {it.priority if it.priority is not None else 'unknown'})"
 
@@ -188,11 +196,17 @@ def real(look: Look, logins: Iterable[Login]) -> list[Login]:
     return [it for it in logins if look.replied(it) is not False]
 
 
+def clear_of(port: Port, login: Login, clock: int) -> Optional[int]:
+    """The place of the switch's first clear link message to a login's ENode, from a moment on."""
+    frames = port.frames
+    own = (at for at in port.switch_messages if frames.heard(at).operation == CLEAR and frames.heard(at).destination == login.enode)
+    return next((it for it in own if frames.milliseconds(it) >= clock), None)
+
+
 def cleared_at(port: Port, login: Login, clock: int) -> Optional[int]:
     """When the switch cleared the links of a login's ENode, from a moment on."""
-    frames = port.frames
-    own = (frames.milliseconds(at) for at in port.switch_messages if frames.heard(at).operation == CLEAR and frames.heard(at).destination == login.enode)
-    return next((it for it in own if it >= clock), None)
+    place = clear_of(port, login, clock)
+    return port.frames.milliseconds(place) if place is not None else None
 
 
 @dataclass
@@ -266,6 +280,12 @@ def is_used(look: Look, login: Login) -> bool:
     return any(it.heard.source == mac or it.heard.source == login.enode and it.heard.operation == KEEP_ALIVE for it in used)
 
 
+def ends_of(look: Look, logins: list[Login]) -> list[tuple[int, int]]:
+    """The frames that ended logins, where they stand in the user's files."""
+    entries = [look.run.entries.frame(it.ended_by) for it in logins if it.ended_by is not None]
+    return [(it.port, look.ports[it.port - 1].frame_number(it.index)) for it in entries]
+
+
 def unused(look: Look, logins: list[Login]) -> Answer:
     """A host that is granted an address again and again, and takes none."""
     first, granted = logins[0], fcid(look.on_switch(logins[0]))
@@ -280,6 +300,7 @@ class Cleared:
 
     login: Login
     at: int
+    number: int  # of the clear link message, as Wireshark shows it
     beats: list[int]
 
 
@@ -287,9 +308,11 @@ def cleared_logins(look: Look) -> list[Cleared]:
     """The logins that the switch cleared while they were live here."""
     beats, found = beats_of(look), []
     for it in real(look, look.walk.fabric.logins):
-        at = None if it.is_fdisc else cleared_at(look.captured[it.port - 1], it, it.since)
-        if at is not None and (it.until is None or at < it.until):
-            found.append(Cleared(it, at, [beat for beat in beats.get((it.port, it.enode), []) if it.since + look.run.config.window < beat < at]))
+        frames = look.captured[it.port - 1].frames
+        place = None if it.is_fdisc else clear_of(look.captured[it.port - 1], it, it.since)
+        at = frames.milliseconds(place) if place is not None else 0
+        if place is not None and (it.until is None or at < it.until):
+            found.append(Cleared(it, at, frames.number(place), [beat for beat in beats.get((it.port, it.enode), []) if it.since + look.run.config.window < beat < at]))
     return found
 
 
@@ -306,7 +329,8 @@ def cleared(look: Look) -> Iterator[Answer]:
             beats = sum(len(it.beats) for it in some)
             text += f", though {counted(beats, 'keep alive')} of the host {'stands' if beats == 1 else 'stand'} in this capture (the period is {look.run.config.period} ms): they don't reach the switch"
             step = "the path of its keep alives, FIP to the switch's own MAC, from where this was captured to the switch: a bridge, FIP snooping or a filter loses them; capture at the switch's port too"
-        yield Answer(Severity.LOST, text, step, port, colons(name), some[0].at, some[-1].at)
+        frames = [(port, it.number) for it in some]
+        yield Answer(Severity.LOST, text, step, port, colons(name), some[0].at, some[-1].at, frames)
 
 
 def again(look: Look, told: set[tuple[int, bytes]]) -> Iterator[Answer]:
@@ -318,6 +342,6 @@ def again(look: Look, told: set[tuple[int, bytes]]) -> Iterator[Answer]:
         if not is_used(look, logins[0]):
             yield unused(look, logins)
             continue
-        text = f"logged in again {times(len(logins))} without a LOGO: each ends the login before, and that of its further N_Ports"
+        text = f"logged in again {times(len(logins))} without a LOGO: {'it' if len(logins) == 1 else 'each'} ends the login before, and those of its further N_Ports"
         step = "the host's log at that time: its link went down and up, or its driver began anew"
-        yield Answer(Severity.LOST, text, step, port, colons(name), logins[0].until, logins[-1].until)
+        yield Answer(Severity.LOST, text, step, port, colons(name), logins[0].until, logins[-1].until, ends_of(look, logins))

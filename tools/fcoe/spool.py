@@ -1,5 +1,6 @@
 """Captures that aren't plain files: what comes through a pipe is spooled, and what is packed is unpacked."""
 import bz2
+import filecmp
 import gzip
 import lzma
 import os
@@ -20,6 +21,7 @@ PACKERS: dict[bytes, Callable[..., Any]] = {b"\x1f\x8b": gzip.open, b"BZ": bz2.o
 PROGRAMS = {b"\x28\xb5\x2f\xfd": "zstd", b"\x04\x22\x4d\x18": "lz4"}
 PIECE = 1 << 20
 MOST = 4 << 30  # bytes that are spooled
+IDLE = 1000  # bytes of captures without frames, which may be alike
 PAUSE, GRACE = 0.2, 1.0  # seconds: between two looks at an idle pipe, and that a writer has behind an interrupt
 
 
@@ -112,16 +114,19 @@ def unpacked(name: str, room: str, shown: Optional[str] = None) -> str:
 
 
 def refuse_twice(names: Iterable[str]) -> None:
-    """A capture is a port: one that is named twice would be two."""
-    seen: dict[object, str] = {}
+    """A capture is a port: one that is named twice, or a copy of it, would be two."""
+    seen: dict[str, os.stat_result] = {}
     for name in names:
-        if name == "-":
-            key: object = name
-        elif os.path.isfile(name):
-            known = os.stat(name)
-            key = (known.st_dev, known.st_ino)
-        else:
+        if name == "-" and name in seen:
+            raise Refused("-: is named twice: name each capture once")
+        if name != "-" and not os.path.isfile(name):
             continue
-        if key in seen:
-            raise Refused(f"{name}: is the file {seen[key]} once more: name each capture once" if name != seen[key] else f"{name}: is named twice: name each capture once")
-        seen[key] = name
+        own = os.stat(name) if name != "-" else os.stat_result(range(10))
+        for other, known in seen.items():
+            if name == other:
+                raise Refused(f"{name}: is named twice: name each capture once")
+            if os.path.samestat(own, known):
+                raise Refused(f"{name}: is the file {other} once more: name each capture once")
+            if own.st_size == known.st_size > IDLE and "-" not in (name, other) and filecmp.cmp(name, other, shallow=False):
+                raise Refused(f"{name}: holds the same bytes as {other}: name each capture once")
+        seen[name] = own

@@ -238,8 +238,10 @@ def differences(look: Look, explained: Explained) -> Iterator[Answer]:
         unasked = next((word for begin, word in UNASKED.items() if request.startswith(begin)), None) if some[0].index < 0 else None
         if unasked:
             text = f"{counted(len(some), unasked)} differ: {difference}"
-            if "missing" in (some[0].switch, some[0].forwarder) or "none" in (some[0].switch, some[0].forwarder):
-                text = f"{counted(len(some), unasked)}: {some[0].switch} by the switch, {some[0].forwarder} by this forwarder"
+            if some[0].switch == "missing":
+                text = f"this forwarder sends {counted(len(some), unasked)} that the switch doesn't"
+            elif some[0].forwarder == "none":
+                text = f"the switch sends {counted(len(some), unasked)} that this forwarder doesn't"
         if some[0].switch == "no answer" and some[0].index >= 0:
             (text, name), step = unanswered(look, some), "the switch's log at that time; does the request reach it, and is that service up for this port?"
         yield Answer(Severity.DIFFERENT, text, step, some[0].port, name, some[0].clock, some[-1].clock, numbers)

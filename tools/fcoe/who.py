@@ -1,4 +1,5 @@
 """Who stands behind the addresses of a frame, as the run goes on."""
+from .enodes import enodes_of
 from .fabric import Login
 from .frames import Heard, colons, fcid, login_names
 from .looking import Look
@@ -16,6 +17,9 @@ class Names:
         for it in look.walk.fabric.logins:
             self.of_address.setdefault(it.address, []).append(it)
             self.of_enode.setdefault((it.port, it.enode), colons(it.name))
+        for one in enodes_of(look.captured):  # those that got no login too
+            if one.name:
+                self.of_enode.setdefault((one.port.number, one.mac), colons(one.name))
 
     def entry_at(self, clock: int) -> int:
         """The last entry of the journal up to a moment."""
