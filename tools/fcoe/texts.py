@@ -1,6 +1,7 @@
 """Views as text: what a person reads in a terminal."""
 import json
 from dataclasses import dataclass
+from itertools import accumulate
 from typing import Any, Iterable, Optional
 
 from .codes import spelled, type_text
@@ -8,7 +9,7 @@ from .compare import Compared, Comparison, by_kind, followers_text, states_in, t
 from .looking import Look
 from .moments import short, stamp
 from .places import text_of
-from .terminal import Colour, folded, painted
+from .terminal import Colour, folded, painted, width
 from .traffic_answers import NOISE
 from .views import Row, first_clock
 
@@ -20,10 +21,17 @@ COLOURS = {"failed": Colour.BAD, "lost": Colour.BAD, "dropped": Colour.MIND, "di
 
 
 def table(heads: list[str], rows: Iterable[list[Any]], indent: str = "  ") -> list[str]:
-    """Columns under their heads."""
+    """Columns under their heads; those that a terminal has no room for stand below each row, by their heads."""
     cells = [[("-" if it is None else str(it)) for it in row] for row in rows]
     widths = [max([len(head)] + [len(row[at]) for row in cells]) for at, head in enumerate(heads)]
-    return [indent + "  ".join(it.ljust(width) for it, width in zip(row, widths)).rstrip() for row in [heads, *cells]]
+    ends = accumulate((it + 2 for it in widths), initial=len(indent) - 2)
+    fit = max(sum(it <= width() for it in ends) - 1, 1)
+    lines = []
+    for at, row in enumerate([heads, *cells]):
+        lines.append(indent + "  ".join(it.ljust(size) for it, size in zip(row[:fit], widths)).rstrip())
+        rest = [f"{head}: {it}" for head, it in zip(heads[fit:], row[fit:]) if at and it not in ("-", "")]
+        lines += folded("; ".join(rest), indent + "    ") if rest else []
+    return lines
 
 
 def as_json(value: Any) -> str:
