@@ -132,13 +132,13 @@ def rejected(look: Look, all_seen: list[Seen]) -> Iterator[Answer]:
     groups = rejects_in(all_seen)
     own = entries_of(look, [it for some in groups.values() for it in some])
     for (port, name, kind, verdict), requests in groups.items():
-        since, until, numbers = span_of(look, requests)
+        span = span_of(look, requests)
         here = [own[it].verdict for it in requests if it in own]
         got_in = any(it.name == name and it.port == port and look.replied(it) for it in look.walk.fabric.logins)
         said = f"{'' if got_in else 'got no login: '}the switch rejected {counted(len(requests), kind)}, {spelled(verdict)[len('rejected '):]}"
         said += "" if set(here) == {verdict} else here_text(here)
-        step, rivals = step_of(look, verdict, name, requests[0], since), rivals_text(look, port)
-        yield Answer(Severity.FAILED, said, step, port, colons(name), since, until, numbers, [*([rivals] if rivals else []), *followers_of(look, requests)])
+        followers = [it for it in (rivals_text(look, port), *followers_of(look, requests)) if it]
+        yield Answer(Severity.FAILED, said, step_of(look, verdict, name, requests[0], span[0]), port, colons(name), *span, followers)
 
 
 def rejected_here(look: Look, all_seen: list[Seen]) -> Iterator[Answer]:
@@ -244,10 +244,10 @@ def silent_logins(look: Look) -> list[Silence]:
 def silent_text(look: Look, it: Silence) -> str:
     """What a login's silence is, and what the switch did."""
     port, period = look.captured[it.port - 1], look.run.config.period
-    cleared = cleared_at(port, it.login, it.heard)
+    clear = cleared_at(port, it.login, it.heard)
     said = f"fell silent: {it.why} (the period is {period} ms), so its login {fcid(look.on_switch(it.login))} ends {short(it.ends, it.heard)}"
-    if cleared is not None:
-        return f"{said}; the switch cleared it {short(cleared, it.heard)}"
+    if clear is not None:
+        return f"{said}; the switch cleared it {short(clear, it.heard)}"
     return said + ("; the switch sent no clear link message" if port.replies else "")
 
 

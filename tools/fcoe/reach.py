@@ -6,7 +6,7 @@ from .fabric import Login
 from .frames import colons, fcid
 from .looking import Look
 from .moments import short, stamp
-from .views import Row, busiest, fabric_of, first_clock
+from .views import Row, address_of, busiest, fabric_of, first_clock
 from .zoning.model import Pair, Plan, pair_of
 from .rezone import plan_of
 
@@ -15,7 +15,7 @@ def reach(look: Look, clock: int) -> Row:
     """The N_Ports that are logged in at a moment, and which zones join each two of them."""
     plan = plan_of(look.run.config, clock)
     live = sorted(fabric_of(look, clock).live.values(), key=lambda it: it.address)
-    rows: list[Row] = [{"wwpn": colons(it.name), "fcid": fcid(it.address), "port": it.port} for it in live]
+    rows: list[Row] = [{"wwpn": colons(it.name), "fcid": fcid(it.address), "address": address_of(look, it), "port": it.port} for it in live]
     names = [row["wwpn"] for row in rows]
     return {"at": clock, "set": plan.name, "ports": rows, "pairs": pair_rows(plan, names), "absent": [it for it in plan.zones_of() if it not in names]}
 

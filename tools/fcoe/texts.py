@@ -88,7 +88,7 @@ def login_line(row: Row) -> Line:
     """A login, or a reject, as a line."""
     if "verdict" in row:
         return Line(row["port"], row["wwpn"], row["request"], spelled(row["switch"] or ""), spelled(row["verdict"]), row["clock"], row["clock"], "", row)
-    by, switch = f"FDISC of {row['parent']}" if row["kind"] == "FDISC" else "FLOGI", row["switch"] or ""
+    by, switch = f"FDISC of {row['switch_parent'] or row['parent']}" if row["kind"] == "FDISC" else "FLOGI", row["switch"] or ""
     why = "" if switch.startswith(UNGRANTED) else row["why"]
     return Line(row["port"], row["wwpn"], by, spelled(switch), f"granted {row['fcid']}", row["from"], row["to"], why, row)
 
@@ -129,7 +129,7 @@ def names_text(rows: list[Row]) -> list[str]:
     cells = []
     for row in rows:
         types = ", ".join(type_text(it, row["features"].get(str(it))) for it in row["types"])
-        cells.append([row["fcid"], row["port"], row["wwpn"], row["wwnn"], types or None, row["receive_size"] or None, row["watching"] or None, row["symbolic_port_name"] or None])
+        cells.append([row["address"], row["port"], row["wwpn"], row["wwnn"], types or None, row["receive_size"] or None, row["watching"] or None, row["symbolic_port_name"] or None])
     return table(["FCID", "port", "WWPN", "WWNN", "FC-4 types:features", "receive size", "SCR", "symbolic port name"], cells)
 
 
@@ -140,7 +140,7 @@ def zones_text(found: Row, most: Optional[int] = None) -> list[str]:
         lines.append(f"  zone {zone['zone']}")
         for member in zone["members"][:LISTED]:
             had = f" [had FCID {member['had']}]" if member["had"] else ""
-            lines.append(f"    * {member['wwpn']} [FCID {member['fcid']}]" if member["fcid"] else f"      {member['wwpn']}{had}")
+            lines.append(f"    * {member['wwpn']} [FCID {member['address']}]" if member["fcid"] else f"      {member['wwpn']}{had}")
         if len(zone["members"]) > LISTED:
             lines.append(f"      and {len(zone['members']) - LISTED} more")
     if most is not None and len(found["zones"]) > most:

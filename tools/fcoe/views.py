@@ -46,6 +46,19 @@ def switch_address(look: Look, login: Login) -> Optional[int]:
     return found[0] if found else None
 
 
+def address_of(look: Look, login: Login) -> str:
+    """A login's address as the captures have it, with the run's where it is another."""
+    return address_text(look.on_switch(login), login.address)
+
+
+def parent_on_switch(look: Look, login: Login) -> Optional[str]:
+    """The address that the switch granted to the ENode's own login, of one by FDISC."""
+    if login.parent is None or not look.grants:
+        return None
+    own = [it for it in look.walk.fabric.logins if (it.address, it.enode, it.port) == (login.parent, login.enode, login.port) and it.since <= login.since]
+    return fcid(look.on_switch(own[-1])) if own else None
+
+
 def login_row(look: Look, login: Login) -> Row:
     first = look.run.entries[login.granted_by]
     last = look.run.entries[login.ended_by] if login.ended_by is not None else None
@@ -61,6 +74,7 @@ def login_row(look: Look, login: Login) -> Row:
         "switch": switch_verdict(look, *login.granted_frame),
         "switch_frame": switch_frame(look, *login.granted_frame),
         "switch_fcid": fcid(it) if (it := switch_address(look, login)) is not None else None,
+        "switch_parent": parent_on_switch(look, login),
         "from": login.since,
         "from_frame": number_of(look, first),
         "to": login.until,
@@ -114,7 +128,7 @@ def fabric_of(look: Look, clock: Optional[int]) -> Fabric:
 def names(look: Look, clock: Optional[int]) -> list[Row]:
     """The name server's entries at a moment, or at the end."""
     live = fabric_of(look, clock).live
-    return [name_row(live[it]) for it in sorted(live)]
+    return [{**name_row(live[it]), "address": address_of(look, live[it])} for it in sorted(live)]
 
 
 def busiest(look: Look) -> int:
@@ -134,10 +148,12 @@ def zones(look: Look, clock: Optional[int]) -> Row:
     moment = clock if clock is not None else last
     held = {it.name: it for it in fabric_of(look, clock).live.values()}
     active, found = look.run.config.active(moment)
-    had = {it.name: fcid(it.address) for it in look.walk.fabric.logins if it.since <= moment}
+    had = {it.name: address_of(look, it) for it in look.walk.fabric.logins if it.since <= moment}
     rows: list[Row] = []
     for name, members in found.items():
-        rows.append({"zone": name, "members": [{"wwpn": colons(it), "fcid": fcid(held[it].address) if it in held else None, "had": had.get(it)} for it in members]})
+        logged = [(it, held.get(it)) for it in members]
+        own = [{"wwpn": colons(it), "fcid": fcid(one.address) if one else None, "address": address_of(look, one) if one else None, "had": had.get(it)} for it, one in logged]
+        rows.append({"zone": name, "members": own})
     return {"at": moment, "set": active, "zones": rows}
 
 

@@ -22,7 +22,7 @@ def matrix(found: Row) -> list[str]:
     rows = []
     for at, row in enumerate(found["ports"]):
         marks = ["." if other == row["wwpn"] else "x" if frozenset((row["wwpn"], other)) in pairs else "" for other in names]
-        called = [joined(row["called"], "")] if "called" in row else [row["fcid"], row["port"]]
+        called = [joined(row["called"], "")] if "called" in row else [row["address"], row["port"]]
         rows.append([numbers[at], row["wwpn"], *called, *marks])
     return table(["", "WWPN", *(["names"] if found["at"] is None else ["FCID", "port"]), *numbers], rows)
 
