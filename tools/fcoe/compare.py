@@ -30,6 +30,8 @@ CHOICES = {
     "versions": "FC-LS-2: any that both ports support",
     "R_A_TOV": f"FC-LS-2: the fabric's time-out, which hosts take over; {PROFILE} says 10,000 ms",
     "E_D_TOV": f"FC-LS-2: the fabric's time-out, which hosts take over; {PROFILE} says 2,000 ms",
+    "concurrent sequences": "FC-LS-2: how many the port takes at once",
+    "relative offset": "FC-LS-2: of which kinds of payload the port takes it",
     "receive size": "FC-LS-2: what the port takes, at least 256",
     "WWPN": f"the name of the fabric's port; {PROFILE} makes it of the switch name",
     "WWNN": "the switch name: `switch` in the configuration",

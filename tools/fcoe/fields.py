@@ -66,14 +66,23 @@ def header_fields(fc: Fc) -> Fields:
     }
 
 
+def is_with_fabric(payload: bytes) -> bool:
+    """A FLOGI, an FDISC or their accept, whose time-outs are the fabric's (FC-LS-2); the others are between N_Ports."""
+    return payload[0] in (0x04, 0x51) or payload[0] == 0x02 and bool(number(payload[8:10]) & 0x1000)
+
+
 def login_fields(payload: bytes) -> Fields:
     """A login's payload of 116 bytes."""
+    if is_with_fabric(payload):
+        times = {"R_A_TOV": str(number(payload[12:16]))}
+    else:
+        times = {"concurrent sequences": str(number(payload[12:14])), "relative offset": payload[14:16].hex()}
     found = {
         "versions": payload[4:6].hex(),
         "B-B credit": str(number(payload[6:8])),
         "features": flag_words(number(payload[8:10]), FEATURES),
         "receive size": str(number(payload[10:12]) & 0xFFF),
-        "R_A_TOV": str(number(payload[12:16])),
+        **times,
         "E_D_TOV": str(number(payload[16:20])),
         "WWPN": colons(payload[20:28]),
         "WWNN": colons(payload[28:36]),

@@ -108,7 +108,7 @@ def run_program(program: str, inputs: Inputs, folder: str) -> Run:
     checked = say([program, "replay", "fabric.conf", "journal", *names], folder)
     if checked.returncode or checked.stdout.strip() != f"legal {printed.split()[-1]}":
         raise Refused(f"{folder}: `replay` says '{checked.stdout.strip()}' of this run: keep its files with --keep and report it")
-    outputs = [classic(os.path.join(folder, f"out{port.number}.pcap"), is_plain=True).frames for port in inputs.ports]
+    outputs = [classic(os.path.join(folder, f"out{it.number}.pcap"), f"what port {it.number} is sent", True).frames for it in inputs.ports]
     entries = read_journal(os.path.join(folder, "journal"))
     return Run(inputs.config, inputs.ports, entries, outputs, printed, checked.stdout.strip(), folder)
 

@@ -185,20 +185,20 @@ def together(some: list[Compared]) -> list[list[Compared]]:
     return list(groups.values())
 
 
-def answer_lines(some: list[Compared], first: int) -> list[str]:
-    """What differs, of frames that differ alike: the first of them, and how many there are."""
+def answer_lines(some: list[Compared], first: int, is_short: bool) -> list[str]:
+    """What differs, of frames that differ alike: the first of them, and how many there are; choices are left out where it is short."""
     it = some[0]
     where = f"port {it.port}" + (f", frame {it.frame}" if it.frame else "")
     more = f" ×{len(some)}, the last {short(some[-1].clock, first)}" if len(some) > 1 else ""
     lines = folded(f"{where}, {short(it.clock, first)}{more}: {it.request}: switch {spelled(it.switch)}, forwarder {spelled(it.forwarder)}", "  ")
-    for difference in it.differences:
+    for difference in [one for one in it.differences if not is_short or one.is_open or not one.note]:
         note = f"  ({difference.note})" if difference.note else ""
         lines += folded(f"{difference.field}: switch {spelled(difference.switch)[:120]} | forwarder {spelled(difference.forwarder)[:120]}{note}", "    ")
     return lines
 
 
-def compare_text(found: Optional[Comparison], first: int) -> list[str]:
-    """The comparison with the switch, differences first."""
+def compare_text(found: Optional[Comparison], first: int, is_short: bool = False) -> list[str]:
+    """The comparison with the switch, differences first; choices are left out of a short one."""
     if found is None:
         return ["  the captures hold no frame of the switch: nothing to compare with"]
     sums = totals(found)
@@ -207,10 +207,13 @@ def compare_text(found: Optional[Comparison], first: int) -> list[str]:
     lines += table(["request", *states], ([kind, *(some[state] for state in states)] for kind, some in by_kind(found).items()))
     for title, state in (("Differences", "different"), ("Choices", "choice"), ("Open", "open")):
         groups = together([it for it in found.all() if it.state == state])
+        if groups and is_short and state == "choice":
+            lines.append(" Where a choice is left open: `look compare` has each, field by field")
+            continue
         if groups:
             lines.append(f" {title}")
         for some in groups[:LISTED]:
-            lines += answer_lines(some, first)
+            lines += answer_lines(some, first, is_short)
             followers = [it for it in found.notices if any(it.follows is one for one in some)]
             lines += [f"    {followers_text(followers)}"] if followers else []
         if len(groups) > LISTED:
@@ -242,7 +245,7 @@ def summary_text(look: Look, found: Row) -> list[str]:
     hosts, switch = sum(it["hosts"] for it in found["ports"]), sum(it["switch"] for it in found["ports"])
     lines = [painted("Answer", Colour.HEAD), *answers_text(found["answers"], first)]
     lines += titled("Logins", logins_text(found["logins"] + found["rejected_logins"], first, SUMMARISED))
-    lines += titled("The switch's answers beside this forwarder's", compare_text(look.compared, first))
+    lines += titled("The switch's answers beside this forwarder's", compare_text(look.compared, first, is_short=True))
     lines += titled("Dropped, rejected, refused by this forwarder", troubles_text(found["troubles"]))
     lines += titled("Verdicts", verdicts_text(found["verdicts"]))
     lines += titled("Zones at the end", zones_text(found["zones"], LISTED // 3))
