@@ -316,21 +316,30 @@ def cleared_logins(look: Look) -> list[Cleared]:
     return found
 
 
+def why_cleared(some: list[Cleared], period: int) -> tuple[str, str]:
+    """Why the switch cleared a host's logins, by when it did and by the host's keep alives; and what to do next."""
+    log = "the switch's log at that time: why it cleared the link (its port, its VSAN or fabric, a limit)"
+    if not all(it.beats and 2 * (it.at - it.beats[-1]) < 5 * period for it in some):
+        return "", log
+    if not all(2 * period <= it.at - it.login.since <= 4 * period for it in some):
+        last = (some[0].at - some[0].beats[-1]) / 1000
+        return f", though the host's keep alives stand in this capture up to {last:.1f} s before", f"whether they reach the switch (capture at its port too); {log}"
+    beats = sum(len(it.beats) for it in some)
+    text = f", though {counted(beats, 'keep alive')} of the host {'stands' if beats == 1 else 'stand'} in this capture (the period is {period} ms): they don't reach the switch"
+    step = "the path of its keep alives, FIP to the switch's own MAC, from where this was captured to the switch: a bridge, FIP snooping or a filter loses them"
+    return text, f"{step}; capture at the switch's port too"
+
+
 def cleared(look: Look) -> Iterator[Answer]:
-    """Logins that the switch cleared; where their hosts kept them alive, these keep alives don't reach it."""
+    """Logins that the switch cleared."""
     groups: dict[tuple[int, bytes], list[Cleared]] = {}
     for it in cleared_logins(look):
         groups.setdefault((it.login.port, it.login.name), []).append(it)
     for (port, name), some in groups.items():
-        behind, most = (some[0].at - some[0].login.since) / 1000, look.run.config.period * 5 // 2
-        text = f"the switch cleared its login {times(len(some))}{', first' if len(some) > 1 else ','} {behind:.1f} s behind its accept"
-        step = "the switch's log at that time: why it cleared the link (its port, its VSAN or fabric, a limit)"
-        if all(it.beats and it.at - it.beats[-1] < most for it in some):
-            beats = sum(len(it.beats) for it in some)
-            text += f", though {counted(beats, 'keep alive')} of the host {'stands' if beats == 1 else 'stand'} in this capture (the period is {look.run.config.period} ms): they don't reach the switch"
-            step = "the path of its keep alives, FIP to the switch's own MAC, from where this was captured to the switch: a bridge, FIP snooping or a filter loses them; capture at the switch's port too"
-        frames = [(port, it.number) for it in some]
-        yield Answer(Severity.LOST, text, step, port, colons(name), some[0].at, some[-1].at, frames)
+        behind = (some[0].at - some[0].login.since) / 1000
+        why, step = why_cleared(some, look.run.config.period)
+        text = f"the switch cleared its login {times(len(some))}{', first' if len(some) > 1 else ','} {behind:.1f} s behind its accept{why}"
+        yield Answer(Severity.LOST, text, step, port, colons(name), some[0].at, some[-1].at, [(port, it.number) for it in some])
 
 
 def again(look: Look, told: set[tuple[int, bytes]]) -> Iterator[Answer]:
