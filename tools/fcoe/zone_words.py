@@ -9,7 +9,7 @@ def add_taking(made: Parser) -> None:
     add("--vsan", type=int, metavar="N", help="the VSAN, where a file has several; with --to nxos the VSAN of the commands")
     add("--set", metavar="NAME", help="the zone set that is taken, in place of the active one")
     add("--defined", action="store_true", help="the defined zoning, where files have the active one too")
-    add("--all", action="store_true", help="all zone sets that are defined")
+    add("--all", action="store_true", help="all zone sets that are defined; `look check`: all rules, each in a line")
     add("--logins", action="append", default=[], metavar="FILE", help="a switch's list of logins: it says which WWPN an FCID, an interface or a port is")
     add("--skip", action="store_true", help="goes on without members that can't be said; each is named")
     add("--to", metavar="FORM", help="what is written: lines of the configuration (config), or a switch's commands (nxos, fos)")

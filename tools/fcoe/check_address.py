@@ -1,0 +1,201 @@
+"""Rules on MACs and addresses: used once granted, each with its frame, and not behind the end of a login (FC-BB-5, FC-LS-2)."""
+from typing import Iterator, Optional
+
+from .check_rules import ENODE, ONE_WAY, Fault, Group, Rule, Tally, want
+from .check_talk import PERIODS, Grant, Shown, Talk, mac_in, period_in
+from .configs import FPMA
+from .frames import ALL_ENODES, LOGIN, colons, fcid, number
+
+IN_FLIGHT = 2000  # milliseconds (E_D_TOV) within which a frame may have crossed what ended its login
+EARLIER = "the ENode may have logged in before the capture began"
+FIRST_SERVICE = 0xFFFC00
+
+
+def is_fpma(mac: bytes) -> bool:
+    return mac[:2] == FPMA
+
+
+def uses(talk: Talk) -> Iterator[Shown]:
+    """Frames that the ENode sends as an N_Port: FCoE, and keep alives of VN_Ports."""
+    return (it for it in talk.own if it.heard.is_fcoe and it.fc is not None and it.fc.s_id or it.heard.kind == "VN_Port keep alive")
+
+
+def granted_uses(talk: Talk, tally: Tally) -> Iterator[tuple[Shown, Grant]]:
+    """Frames from a MAC that a grant of the capture gave, with the latest grant of it."""
+    for it in uses(talk):
+        found = talk.grant_of(it.heard.source, it.at)
+        if found:
+            yield it, found
+        elif not talk.is_two_way:
+            tally.leave(ONE_WAY, it)
+
+
+def granted(talk: Talk, tally: Tally) -> None:
+    for it in uses(talk):
+        source = it.heard.source
+        if talk.grant_of(source, it.at):
+            tally.held.append(it)
+        elif not talk.is_two_way:
+            tally.leave(ONE_WAY, it)
+        elif talk.began_before(it):
+            tally.leave(EARLIER, it)
+        else:
+            live = ", ".join(colons(grant.mac) for grant in talk.live(it.at)) or "none yet"
+            tally.judge(it, Fault("source", colons(source), f"a MAC that was granted ({live})"))
+
+
+def beside_address(talk: Talk, tally: Tally) -> None:
+    """The FC-MAP and the S_ID are the source; a MAC that isn't the fabric's is another matter."""
+    for it, fc in talk.in_fcoe():
+        source = it.heard.source
+        if not fc.s_id:
+            continue
+        if is_fpma(source):
+            tally.judge(it, want("source", colons(source), f"the FC-MAP and the S_ID, {colons(source[:3] + fc.s_id.to_bytes(3, 'big'))}", number(source[3:]) == fc.s_id))
+        elif not talk.is_two_way:
+            tally.leave("the MAC isn't of an FC-MAP: a MAC of the ENode's own (SPMA), which the capture doesn't show the grant of", it)
+        else:
+            held = [grant for grant in talk.live(it.at) if grant.mac == source and grant.address == fc.s_id]
+            if held or not talk.began_before(it):
+                tally.judge(it, want("source", colons(source), f"the MAC that was granted with {fcid(fc.s_id)}", bool(held)))
+
+
+def to_forwarder(talk: Talk, tally: Tally) -> None:
+    for it, grant in granted_uses(talk, tally):
+        tally.judge(it, want("destination", colons(it.heard.destination), colons(grant.forwarder)))
+
+
+def in_vlan(talk: Talk, tally: Tally) -> None:
+    """The VLAN of a login is that of all that follows."""
+    for it, grant in granted_uses(talk, tally):
+        tally.judge(it, want("VLAN", it.heard.vlan, grant.granted.heard.vlan))
+
+
+def behind(talk: Talk, tally: Tally, *whys: str) -> None:
+    """Nothing goes out from a MAC whose login ended in one of these ways."""
+    ends = [grant for grant in talk.grants if grant.ended and grant.why in whys]
+    for grant in ends:
+        late = next((it for it in uses(talk) if is_late(talk, grant, it)), None)
+        if grant.ended is None:
+            continue
+        if late:
+            tally.judge(late, Fault("source", colons(late.heard.source), f"nothing from this MAC: {ENDED[grant.why]} in frame {grant.ended.place}"))
+        elif talk.end - grant.ended.clock >= IN_FLIGHT:
+            tally.held.append(grant.ended)
+        else:
+            tally.leave("the capture ends within E_D_TOV", grant.ended)
+
+
+ENDED = {
+    "LOGO": "its LOGO was accepted",
+    "clear link": "a Clear Virtual Links listed it",
+    "clear link of all": "a Clear Virtual Links without a list ended all",
+    "login": "a further FLOGI of its ENode was accepted",
+}
+
+
+def is_late(talk: Talk, grant: Grant, it: Shown) -> bool:
+    """Sent from the MAC of a grant though it has ended, and not in flight."""
+    ended = grant.ended
+    if ended is None or it.heard.source != grant.mac or it.at < ended.at or it.clock - ended.clock < IN_FLIGHT:
+        return False
+    return talk.grant_of(grant.mac, it.at) is grant
+
+
+def behind_logo(talk: Talk, tally: Tally) -> None:
+    behind(talk, tally, "LOGO")
+
+
+def behind_clear(talk: Talk, tally: Tally) -> None:
+    behind(talk, tally, "clear link")
+
+
+def behind_clear_of_all(talk: Talk, tally: Tally) -> None:
+    behind(talk, tally, "clear link of all")
+
+
+def behind_login(talk: Talk, tally: Tally) -> None:
+    behind(talk, tally, "login")
+
+
+def silences(talk: Talk) -> Iterator[tuple[Shown, float, float]]:
+    """Advertisements behind which their forwarder fell silent: with the moment at which links end, and that of the next one or of the capture's end."""
+    by_forwarder: dict[tuple[bytes, int], list[Shown]] = {}
+    for it in talk.advertisements:
+        by_forwarder.setdefault((it.heard.source, it.heard.vlan), []).append(it)
+    for some in by_forwarder.values():
+        if not any(it.heard.destination == ALL_ENODES for it in some):
+            continue
+        for it, after in zip(some, [*some[1:], None]):
+            period = period_in(it.heard)
+            until = after.clock if after else talk.end
+            if period and until - it.clock > PERIODS * period[0] + IN_FLIGHT:
+                yield it, it.clock + PERIODS * period[0] + IN_FLIGHT, until
+
+
+def behind_silence(talk: Talk, tally: Tally) -> None:
+    """Two and a half periods without an advertisement end the logins at a forwarder."""
+    for last, begin, end in silences(talk):
+        held = [grant for grant in talk.live(last.at + 1) if grant.forwarder == last.heard.source]
+        late = next((it for it in uses(talk) if begin < it.clock < end and it.heard.source in {grant.mac for grant in held} and not anew(talk, it, last)), None)
+        if late:
+            tally.judge(late, Fault("source", colons(late.heard.source), f"nothing from this MAC: its forwarder fell silent behind frame {last.place}"))
+        elif held:
+            tally.held.append(last)
+
+
+def anew(talk: Talk, it: Shown, last: Shown) -> bool:
+    found = talk.grant_of(it.heard.source, it.at)
+    return found is not None and found.granted.at > last.at
+
+
+def fresh(talk: Talk, tally: Tally) -> None:
+    """Behind a further login an N_Port logs in to others anew: a PLOGI comes before any other request to the same address."""
+    for grant in talk.grants:
+        earlier = [one for one in talk.grants if one is not grant and one.ended and one.ended.at <= grant.granted.at and one.address == grant.address]
+        if earlier:
+            judge_fresh(talk, grant, tally)
+
+
+def judge_fresh(talk: Talk, grant: Grant, tally: Tally) -> None:
+    logged: set[int] = set()
+    for it in talk.frames:
+        fc = it.heard.fc
+        if it.at < grant.granted.at or grant.ended and it.at > grant.ended.at or fc is None or not it.heard.is_fcoe:
+            continue
+        there = fc.s_id if it.is_switch else fc.d_id
+        if grant.address not in (fc.s_id, fc.d_id):
+            continue
+        if it.heard.kind == "PLOGI":
+            logged.add(there)
+        elif not it.is_switch and fc.r_ctl in (0x02, 0x06) and there not in logged:
+            logged.add(there)
+            tally.judge(it, Fault("N_Port login", f"none with {fcid(there)} since the login anew in frame {grant.granted.place}", "a PLOGI first"))
+        elif not it.is_switch and fc.r_ctl in (0x02, 0x06):
+            tally.held.append(it)
+
+
+def of_own(talk: Talk, tally: Tally) -> None:
+    """FIP but keep alives of VN_Ports comes from the ENode's MAC, also behind the grant."""
+    for it in talk.own:
+        if it.heard.is_fip and it.heard.operation == LOGIN:
+            mac = mac_in(it.heard)
+            tally.judge(it, want("source", colons(it.heard.source), f"the ENode's MAC, not the {colons(mac) if mac else 'MAC'} of a VN_Port", not is_fpma(it.heard.source)))
+
+
+RULES = Group(
+    "addresses",
+    [
+        Rule("fpma-granted", ENODE, "FC-BB-5, fabric-provided MAC addresses", "An N_Port sends from a MAC that was granted, and not before.", granted),
+        Rule("source-mac", ENODE, "FC-BB-5, fabric-provided MAC addresses", "The source of an FCoE frame is the FC-MAP and the S_ID, or the MAC that was granted with it.", beside_address),
+        Rule("login-source", ENODE, "FC-BB-5, FIP FLOGI", "Logins in FIP come from the ENode's MAC.", of_own),
+        Rule("fcoe-destination", ENODE, "FC-BB-5, FCoE virtual links", "FCoE goes to the forwarder that granted the address.", to_forwarder),
+        Rule("fcoe-vlan", ENODE, "FC-BB-5, FCoE virtual links; IEEE 802.1Q", "FCoE stays in the VLAN of its login.", in_vlan),
+        Rule("end-by-logo", ENODE, "FC-LS-2, LOGO; FC-BB-5, FIP LOGO", "Nothing comes from an address behind its accepted LOGO.", behind_logo),
+        Rule("end-by-clear", ENODE, "FC-BB-5, FIP Clear Virtual Links", "Nothing comes from a VN_Port that a Clear Virtual Links listed, before it logs in anew.", behind_clear),
+        Rule("end-by-clear-of-all", ENODE, "FC-BB-5, FIP Clear Virtual Links", "Nothing comes from any VN_Port of a forwarder behind its Clear Virtual Links without a list.", behind_clear_of_all),
+        Rule("end-by-silence", ENODE, "FC-BB-5, FIP discovery, FKA_ADV_PERIOD", "Two and a half periods without an advertisement end the logins at a forwarder.", behind_silence),
+        Rule("end-by-login", ENODE, "FC-LS-2, FLOGI", "A further FLOGI ends the earlier logins of its ENode.", behind_login),
+        Rule("login-anew", ENODE, "FC-LS-2, FLOGI and PLOGI", "Behind a login anew with the same address a PLOGI comes before other requests.", fresh),
+    ],
+)

@@ -1,0 +1,139 @@
+"""Rules on keep alives (FC-BB-5, FIP keep alive)."""
+from typing import Iterator, Optional
+
+from .check_discovery import has_kinds
+from .check_rules import ENODE, ONE_WAY, Fault, Group, Rule, Tally, want
+from .check_talk import PERIODS, Shown, Talk, mac_in, period_in, vx_in
+from .frames import KEEP_ALIVE, colons, fcid
+
+PORT_PERIOD = 90_000  # FKA_VN_PERIOD in milliseconds
+LATE = 1.5  # periods behind which one may be missing from the capture
+BOTH = ("Keep alive", "VN_Port keep alive")
+
+
+def described(talk: Talk, tally: Tally) -> None:
+    for it in talk.of(*BOTH):
+        kinds = (2, 11) if it.heard.kind == "VN_Port keep alive" else (2,)
+        tally.judge(it, has_kinds(it.heard, kinds))
+
+
+def sources(talk: Talk, tally: Tally) -> None:
+    """That of an ENode comes from its MAC, that of a VN_Port from the VN_Port's."""
+    for it in talk.of(*BOTH):
+        ports = vx_in(it.heard)
+        should = ports[0][0] if ports else mac_in(it.heard)
+        if should is not None:
+            tally.judge(it, want("source", colons(it.heard.source), colons(should)))
+
+
+def enode_named(talk: Talk, tally: Tally) -> None:
+    for it in talk.of(*BOTH):
+        mac = mac_in(it.heard)
+        if mac is not None and any(one.heard.operation and one.heard.operation != KEEP_ALIVE for one in talk.own):
+            tally.judge(it, want("MAC descriptor", colons(mac), colons(talk.mac)))
+
+
+def port_named(talk: Talk, tally: Tally) -> None:
+    """MAC, address and port name are those of the login."""
+    for it in talk.of("VN_Port keep alive"):
+        for mac, address, name in vx_in(it.heard):
+            found = talk.grant_of(mac, it.at)
+            if found is None:
+                tally.leave(ONE_WAY if not talk.is_two_way else "the grant of this MAC isn't in the capture", it)
+            else:
+                tally.judge(it, want("address", fcid(address), fcid(found.address)), want("port name", colons(name), colons(found.name)) if any(found.name) else None)
+
+
+def to_forwarder(talk: Talk, tally: Tally) -> None:
+    for it in talk.of(*BOTH):
+        held = {grant.forwarder for grant in talk.grants if grant.granted.at < it.at}
+        if held:
+            tally.judge(it, want("destination", colons(it.heard.destination), " or ".join(map(colons, sorted(held))), it.heard.destination in held))
+        else:
+            tally.judge(it, want("destination", colons(it.heard.destination), "the forwarder's MAC", not it.heard.destination[0] & 1))
+
+
+def spans(talk: Talk) -> Iterator[tuple[Shown, Optional[Shown], float]]:
+    """When somebody of the ENode was logged in: from each accepted FLOGI to the end of its last login, or to a further FLOGI."""
+    firsts = [it for it in talk.grants if it.granted.heard.login_kind == "FLOGI"]
+    for grant, after in zip(firsts, [*firsts[1:], None]):
+        until = after.granted.at if after else len(talk.port.frames)
+        ends = [it.ended for it in talk.grants if grant.granted.at <= it.granted.at < until]
+        last = max((it for it in ends if it), key=lambda it: it.at, default=None)
+        ended = None if any(it is None for it in ends) else last
+        yield grant.granted, ended, ended.clock if ended else talk.end
+
+
+def gaps(tally: Tally, begin: Shown, end: float, beats: list[Shown], period: int, silent: float) -> None:
+    """Judges the time between keep alives, from a login to its end."""
+    last, last_frame = begin.clock, begin
+    for it in [*beats, None]:
+        clock = it.clock if it else min(end, silent)
+        gap = clock - last
+        shown = it or last_frame
+        if gap > PERIODS * period:
+            tally.judge(shown, Fault("time without a keep alive", f"{gap / 1000:.1f} s behind frame {last_frame.place}", f"one each {period / 1000:g} s"))
+        elif gap > LATE * period:
+            tally.leave(f"{gap / 1000:.1f} s without a keep alive behind frame {last_frame.place}, with a period of {period / 1000:g} s: one may be missing from the capture", shown)
+        elif it:
+            tally.held.append(it)
+        last, last_frame = clock, shown
+
+
+def enode_alive(talk: Talk, tally: Tally) -> None:
+    if not talk.grants:
+        for it in talk.of("Keep alive"):
+            tally.leave(ONE_WAY if not talk.is_two_way else "no login is in the capture, so the period isn't known", it)
+    for begin, ended, end in spans(talk):
+        told = talk.advertised(begin.at, begin.heard.source)
+        period = period_in(told.heard) if told else None
+        beats = [it for it in talk.of("Keep alive") if begin.at < it.at and (ended is None or it.at < ended.at)]
+        if period is None:
+            tally.leave("no advertisement with the period stands before the login", begin)
+        elif not period[1]:
+            gaps(tally, begin, end, beats, period[0], silent_from(talk, begin))
+
+
+def silent_from(talk: Talk, begin: Shown) -> float:
+    """The moment at which the forwarder of a login fell silent for good, so that nobody owes it a keep alive."""
+    last = next((it for it in reversed(talk.advertisements) if it.heard.source == begin.heard.source), None)
+    period = period_in(last.heard) if last else None
+    return last.clock + PERIODS * period[0] if last and period else talk.end
+
+
+def port_alive(talk: Talk, tally: Tally) -> None:
+    for grant in talk.grants:
+        told = talk.advertised(grant.granted.at, grant.forwarder)
+        period = period_in(told.heard) if told else None
+        end = grant.ended.clock if grant.ended else talk.end
+        if period and not period[1]:
+            beats = [it for it in talk.of("VN_Port keep alive") if it.heard.source == grant.mac and grant.granted.at < it.at and (grant.ended is None or it.at < grant.ended.at)]
+            gaps(tally, grant.granted, end, beats, PORT_PERIOD, silent_from(talk, grant.granted))
+    if not talk.grants:
+        for it in talk.of("VN_Port keep alive"):
+            tally.leave(ONE_WAY if not talk.is_two_way else "the grant isn't in the capture", it)
+
+
+def quiet(talk: Talk, tally: Tally) -> None:
+    """With D set no keep alive is owed."""
+    for told in talk.advertisements:
+        period = period_in(told.heard)
+        after = next((it.at for it in talk.advertisements if it.at > told.at and it.heard.source == told.heard.source), len(talk.port.frames))
+        if period and period[1] and talk.live(told.at):
+            sent = [it for it in talk.of(*BOTH) if told.at < it.at < after and it.heard.destination == told.heard.source]
+            tally.usual(sent[0] if sent else told, want("keep alives behind D", len(sent), 0))
+
+
+RULES = Group(
+    "keep alives",
+    [
+        Rule("alive-descriptors", ENODE, "FC-BB-5, FIP operations", "An ENode's keep alive has a MAC descriptor, a VN_Port's a Vx_Port descriptor too.", described),
+        Rule("alive-source", ENODE, "FC-BB-5, FIP keep alive", "An ENode's keep alive comes from the ENode's MAC, a VN_Port's from the VN_Port's.", sources),
+        Rule("alive-mac", ENODE, "FC-BB-5, FIP keep alive", "The MAC descriptor of both is the ENode's MAC.", enode_named),
+        Rule("alive-port", ENODE, "FC-BB-5, FIP keep alive, Vx_Port descriptor", "A VN_Port's keep alive has the address and port name of its login.", port_named),
+        Rule("alive-destination", ENODE, "FC-BB-5, FIP keep alive", "Keep alives go to the forwarder of the login.", to_forwarder),
+        Rule("alive-enode-period", ENODE, "FC-BB-5, FIP keep alive, FKA_ADV_PERIOD", "While logged in an ENode sends one each advertised period.", enode_alive),
+        Rule("alive-port-period", ENODE, "FC-BB-5, FIP keep alive, FKA_VN_PERIOD", "Each VN_Port sends one each 90 s.", port_alive),
+        Rule("alive-quiet", ENODE, "FC-BB-5, FIP discovery, D bit", "None is sent while the forwarder says so by D.", quiet, True),
+    ],
+)

@@ -1,0 +1,272 @@
+"""Rules on exchanges: OX_IDs, answers, ABTS, RSCN, LOGO, PLOGI and PRLI (FC-FS-3, FC-LS-2)."""
+from typing import Iterator, Optional
+
+from .check_login import LOGO_SIZE, login_faults
+from .check_rules import ENODE, LEFT, ONE_WAY, Fault, Group, Rule, Tally, want
+from .check_talk import Exchange, Shown, Talk
+from .frames import CONTROLLER, Fc, fcid
+
+E_D_TOV, R_A_TOV = 2_000, 10_000  # milliseconds: the usual ones
+PATIENCE = 2 * R_A_TOV  # of a link service without an answer
+FIRST_SERVICE = 0xFF0000
+QUERIES = ("GA_NXT", "GPN_ID", "GNN_ID", "GFT_ID", "GFF_ID", "GID_PN", "GID_FT", "GPN_FT", "GNN_FT", "GID_PT", "ADISC", "PLOGI")
+SOON = 10_000  # milliseconds behind an RSCN within which a host that asks has asked
+BLS_SIZES = {0x81: 0, 0x84: 12, 0x85: 4}
+
+
+def ended_between(talk: Talk, one: Exchange, until: float) -> bool:
+    """The login of an exchange's N_Port ended meanwhile, or a login with the other was given up."""
+    fc = one.request.fc
+    if fc is None:
+        return True
+    own = fc.d_id if one.request.is_switch else fc.s_id
+    if any(grant.address == own and grant.ended and one.request.clock <= grant.ended.clock <= until for grant in talk.grants):
+        return True
+    pair = {fc.s_id, fc.d_id}
+    return any(it.heard.kind == "LOGO" and it.fc and {it.fc.s_id, it.fc.d_id} == pair and one.request.clock <= it.clock <= until for it in talk.frames if it is not one.request)
+
+
+def own_requests(talk: Talk, *r_ctls: int) -> Iterator[tuple[Exchange, Fc]]:
+    for one in talk.exchanges.all:
+        fc = one.request.fc
+        if not one.request.is_switch and fc is not None and fc.r_ctl in r_ctls:
+            yield one, fc
+
+
+def not_reused(talk: Talk, tally: Tally) -> None:
+    """An OX_ID names one exchange of its originator with a responder while that is open."""
+    for one, fc in own_requests(talk, 0x22, 0x02, 0x06):
+        again = one.reused
+        if not talk.is_two_way:
+            tally.leave(ONE_WAY, one.request)
+        elif again is None or one.aborted or again.clock - one.request.clock > PATIENCE:
+            tally.held.append(one.request)
+        elif again.heard.data == one.request.heard.data and again.clock - one.request.clock < 1:
+            tally.leave("the same frame twice in the capture", again)
+        else:
+            tally.judge(again, Fault("OX_ID", f"{fc.ox_id:04x}", f"another: the exchange of frame {one.request.place} is open with it"))
+
+
+def never_ended(talk: Talk, tally: Tally) -> None:
+    """A request of a link service or of CT that isn't answered is aborted behind twice R_A_TOV."""
+    for one, _ in own_requests(talk, 0x22, 0x02):
+        if one.request.heard.is_fip or one.request.heard.kind == "LOGO":
+            continue
+        until = one.request.clock + PATIENCE
+        if not talk.is_two_way:
+            tally.leave(ONE_WAY, one.request)
+        elif one.reply or one.aborted or one.reused:
+            tally.held.append(one.request)
+        elif talk.end < until + E_D_TOV:
+            tally.leave("no answer until the capture ends", one.request)
+        elif ended_between(talk, one, until):
+            tally.held.append(one.request)
+        else:
+            tally.judge(one.request, Fault("exchange", f"no answer and no ABTS until the capture ends, {(talk.end - one.request.clock) / 1000:.0f} s later", "an ABTS behind twice R_A_TOV"))
+
+
+def asked_of_host(talk: Talk) -> Iterator[Exchange]:
+    """Link services that others ask of the ENode's N_Ports, logged in when they come."""
+    for one in talk.exchanges.all:
+        fc = one.request.fc
+        if one.request.is_switch and one.request.heard.is_fcoe and fc is not None and fc.r_ctl == 0x22:
+            if any(grant.address == fc.d_id for grant in talk.live(one.request.at)):
+                yield one
+
+
+def judge_answer(talk: Talk, one: Exchange, tally: Tally, should: str) -> None:
+    """An answer within twice R_A_TOV, where nothing ended the login meanwhile."""
+    until = one.request.clock + PATIENCE
+    if one.reply:
+        tally.judge(one.reply, want("answer", f"{(one.reply.clock - one.request.clock) / 1000:.1f} s behind frame {one.request.place}", "within twice R_A_TOV", one.reply.clock <= until))
+    elif one.aborted or ended_between(talk, one, until):
+        tally.leave("its login or its exchange ended before it was answered", one.request)
+    elif talk.end < until:
+        tally.leave("no answer until the capture ends", one.request)
+    else:
+        tally.judge(one.request, Fault("answer", "none", should))
+
+
+def answered(talk: Talk, tally: Tally) -> None:
+    for one in asked_of_host(talk):
+        if one.request.heard.kind != "RSCN":
+            judge_answer(talk, one, tally, "an LS_ACC or LS_RJT within twice R_A_TOV")
+
+
+def rscn_answered(talk: Talk, tally: Tally) -> None:
+    for one in asked_of_host(talk):
+        if one.request.heard.kind == "RSCN":
+            judge_answer(talk, one, tally, "an LS_ACC within twice R_A_TOV")
+
+
+def rscn_soon(talk: Talk, tally: Tally) -> None:
+    for one in asked_of_host(talk):
+        if one.request.heard.kind == "RSCN" and one.reply:
+            gap = one.reply.clock - one.request.clock
+            tally.usual(one.reply, want("answer to an RSCN", f"{gap / 1000:.1f} s behind it", "within E_D_TOV", gap <= E_D_TOV))
+
+
+def rscn_heeded(talk: Talk, tally: Tally) -> None:
+    """Who was told of a change asks what it is."""
+    for one in asked_of_host(talk):
+        if one.request.heard.kind != "RSCN" or not one.reply or one.reply.payload[:1] != b"\x02":
+            continue
+        after = [it for it in talk.own if one.request.clock <= it.clock <= one.request.clock + SOON and it.at > one.request.at]
+        asked = next((it for it in after if it.heard.kind in QUERIES), None)
+        if asked:
+            tally.held.append(asked)
+        elif talk.end < one.request.clock + SOON:
+            tally.leave("the capture ends before", one.request)
+        else:
+            tally.leave(f"no query within {SOON // 1000} s behind an RSCN: {LEFT}", one.request)
+
+
+def rscn_reply(talk: Talk, tally: Tally) -> None:
+    for one in asked_of_host(talk):
+        if one.request.heard.kind == "RSCN" and one.reply and one.reply.fc:
+            fc = one.reply.fc
+            tally.judge(one.reply, want("D_ID", fcid(fc.d_id), fcid(CONTROLLER)), want("payload", fc.payload[:4].hex(), "02000000 (LS_ACC)", fc.payload[:4].hex() == "02000000" or fc.payload[:1] == b"\x01"))
+
+
+def logo(talk: Talk, tally: Tally) -> None:
+    """A LOGO to an N_Port or a service names the N_Port that sends it."""
+    for it, fc in talk.in_fcoe():
+        if it.heard.kind == "LOGO" and fc.r_ctl == 0x22 and it.is_whole:
+            payload = fc.payload
+            if len(payload) < LOGO_SIZE:
+                tally.judge(it, Fault("payload", f"{len(payload)} bytes", f"{LOGO_SIZE} bytes"))
+                continue
+            held = next((grant for grant in talk.live(it.at) if grant.address == fc.s_id), None)
+            tally.judge(
+                it,
+                want("address in the payload", payload[5:8].hex(), fcid(fc.s_id)),
+                want("port name", payload[8:16].hex(), held.name.hex()) if held and any(held.name) else None,
+            )
+
+
+def logged(talk: Talk, it: Shown, fc: Fc) -> tuple[bool, bool]:
+    """Whether a PLOGI between both ends stands before a frame, and whether it was accepted; both since the grant of the address."""
+    grant = next((one for one in reversed(talk.grants) if one.address == fc.s_id and one.granted.at < it.at), None)
+    since = grant.granted.at if grant else -1
+    pair, asked, accepted = {fc.s_id, fc.d_id}, False, False
+    for one in talk.exchanges.all:
+        first = one.request
+        if first.at >= it.at:
+            break
+        if first.at > since and first.heard.kind == "PLOGI" and first.fc and {first.fc.s_id, first.fc.d_id} == pair:
+            asked = True
+            accepted = bool(one.reply and one.reply.at < it.at and one.reply.payload[:1] == b"\x02")
+        elif first.at > since and first.heard.kind == "LOGO" and first.heard.is_fcoe and first.fc and {first.fc.s_id, first.fc.d_id} == pair:
+            asked = accepted = False
+    return asked, accepted
+
+
+def behind_plogi(talk: Talk, it: Shown, fc: Fc, tally: Tally) -> None:
+    """Judges that an N_Port login stands before a frame."""
+    asked, accepted = logged(talk, it, fc)
+    if accepted or asked and not talk.is_two_way:
+        tally.held.append(it)
+    elif not talk.grant_of(it.heard.source, it.at):
+        tally.leave("the login of its N_Port isn't in the capture", it)
+    else:
+        tally.judge(it, Fault("N_Port login", "a PLOGI that isn't accepted" if asked else "none", f"an accepted PLOGI between {fcid(fc.s_id)} and {fcid(fc.d_id)}"))
+
+
+def prli_behind_plogi(talk: Talk, tally: Tally) -> None:
+    for one, fc in own_requests(talk, 0x22):
+        if one.request.heard.kind == "PRLI":
+            behind_plogi(talk, one.request, fc, tally)
+
+
+def prli_form(talk: Talk, tally: Tally) -> None:
+    for it, fc in talk.in_fcoe():
+        if it.heard.kind == "PRLI" and fc.r_ctl == 0x22:
+            payload = fc.payload
+            size = int.from_bytes(payload[2:4], "big")
+            tally.judge(
+                it,
+                want("page length", payload[1], 16),
+                want("payload length", size, "4 and 16 for each page, and no more than the payload", 20 <= size <= len(payload) and size % 16 == 4),
+            )
+
+
+def command_behind_prli(talk: Talk, tally: Tally) -> None:
+    """FCP commands want an image pair, which a PRLI of either end makes."""
+    for one, fc in own_requests(talk, 0x06):
+        if fc.kind != 0x08:
+            continue
+        pair, it = {fc.s_id, fc.d_id}, one.request
+        asked = [two for two in talk.exchanges.all if two.request.at < it.at and two.request.heard.kind == "PRLI" and two.request.fc and {two.request.fc.s_id, two.request.fc.d_id} == pair]
+        if any(two.reply and two.reply.at < it.at and two.reply.payload[:1] == b"\x02" for two in asked) or asked and not talk.is_two_way:
+            tally.held.append(it)
+        elif not talk.grant_of(it.heard.source, it.at):
+            tally.leave("the login of its N_Port isn't in the capture", it)
+        else:
+            tally.judge(it, Fault("process login", "a PRLI that isn't accepted" if asked else "none", f"an accepted PRLI between {fcid(fc.s_id)} and {fcid(fc.d_id)}"))
+
+
+def plogi(talk: Talk, tally: Tally) -> None:
+    for it, fc in talk.in_fcoe():
+        if it.heard.kind == "PLOGI" and fc.r_ctl == 0x22 and it.is_whole:
+            if len(fc.payload) < 116:
+                tally.judge(it, Fault("payload", f"{len(fc.payload)} bytes", "116 bytes"))
+            else:
+                held = talk.grant_of(it.heard.source, it.at)
+                tally.judge(it, *login_faults(fc.payload), want("port name", fc.payload[20:28].hex(), held.name.hex()) if held and any(held.name) else None)
+
+
+def aborts(talk: Talk, tally: Tally) -> None:
+    """An ABTS names an exchange that was there, and has no payload; its answers have their sizes."""
+    for it, fc in talk.in_fcoe():
+        if fc.kind != 0 or fc.r_ctl not in BLS_SIZES or not it.is_whole:
+            continue
+        size = BLS_SIZES[fc.r_ctl]
+        tally.judge(it, want("payload", f"{len(fc.payload)} bytes", f"{size} bytes", len(fc.payload) == size))
+
+
+def abts_known(talk: Talk, tally: Tally) -> None:
+    for it, fc in talk.in_fcoe():
+        if it.heard.kind == "ABTS":
+            one = talk.exchanges.of_frame.get(it.at)
+            if one is not None:
+                tally.held.append(it)
+            elif not talk.is_two_way:
+                tally.leave(ONE_WAY, it)
+            else:
+                tally.judge(it, Fault("OX_ID", f"{fc.ox_id:04x}", f"that of an exchange with {fcid(fc.d_id)}"))
+
+
+def abts_answered(talk: Talk, tally: Tally) -> None:
+    for it in talk.by_switch("ABTS"):
+        fc = it.heard.fc
+        if fc is None or not any(grant.address == fc.d_id for grant in talk.live(it.at)):
+            continue
+        reply = next((one for one in talk.own if one.at > it.at and one.heard.kind in ("BA_ACC", "BA_RJT") and one.fc and one.fc.ox_id == fc.ox_id and one.fc.d_id == fc.s_id), None)
+        if reply:
+            tally.judge(reply, want("answer", f"{(reply.clock - it.clock) / 1000:.1f} s behind the ABTS", "within twice R_A_TOV", reply.clock - it.clock <= PATIENCE))
+        elif talk.end - it.clock < PATIENCE:
+            tally.leave("no answer until the capture ends", it)
+        else:
+            tally.judge(it, Fault("answer", "none", "a BA_ACC or BA_RJT"))
+
+
+RULES = Group(
+    "exchanges",
+    [
+        Rule("ox-id", ENODE, "FC-FS-3, OX_ID", "An OX_ID isn't used anew while its exchange is open.", not_reused),
+        Rule("exchange-ends", ENODE, "FC-FS-3, exchanges; FC-LS-2, R_A_TOV", "A link service or CT request without an answer is aborted.", never_ended),
+        Rule("els-answered", ENODE, "FC-LS-2, link services", "A link service that asks an N_Port is answered.", answered),
+        Rule("rscn-answered", ENODE, "FC-LS-2, RSCN", "An RSCN is answered.", rscn_answered),
+        Rule("rscn-reply", ENODE, "FC-LS-2, RSCN", "The answer is an LS_ACC, or an LS_RJT, to FFFFFD.", rscn_reply),
+        Rule("rscn-soon", ENODE, "FC-LS-2, RSCN; FC-FS-3, E_D_TOV", "It comes within E_D_TOV.", rscn_soon, True),
+        Rule("rscn-heeded", ENODE, "FC-LS-2, RSCN; FC-GS-6, queries", "A query of the name server or of the N_Port follows.", rscn_heeded, True),
+        Rule("plogi-parameters", ENODE, "FC-LS-2, PLOGI, service parameters", "Class 3, a receive size of 256 to 2112, the port name of its login.", plogi),
+        Rule("prli-behind-plogi", ENODE, "FC-LS-2, PRLI", "PRLI goes out behind an accepted PLOGI.", prli_behind_plogi),
+        Rule("prli-form", ENODE, "FC-LS-2, PRLI, service parameter page", "Pages have 16 bytes, and the length counts them.", prli_form),
+        Rule("fcp-behind-prli", ENODE, "FC-LS-2, PRLI, image pairs", "FCP commands go out behind an accepted PRLI.", command_behind_prli),
+        Rule("logo-form", ENODE, "FC-LS-2, LOGO", "A LOGO in FCoE has address and port name of who sends it.", logo),
+        Rule("abts-form", ENODE, "FC-FS-3, ABTS, BA_ACC, BA_RJT", "An ABTS has no payload, BA_ACC 12 bytes, BA_RJT 4.", aborts),
+        Rule("abts-exchange", ENODE, "FC-FS-3, ABTS", "An ABTS is of an exchange that there is.", abts_known),
+        Rule("abts-answered", ENODE, "FC-FS-3, ABTS", "An ABTS is answered by BA_ACC or BA_RJT.", abts_answered),
+    ],
+)

@@ -1,0 +1,188 @@
+"""Rules on each frame: Ethernet, tag, FCoE, delimiters, check sequence, F_CTL, counts, sizes (IEEE 802.3, 802.1Q, FC-BB-5, FC-FS-3)."""
+from collections import Counter
+from typing import Iterator, Optional
+
+from .check_rules import ENODE, ONE_WAY, Fault, Group, Rule, Tally, want
+from .check_talk import END_SEQUENCE, RESPONDER, Shown, Talk
+from .fields import DELIMITERS, delimiter
+from .frames import EOFN, EOFT, FABRIC_PORT, NAME_SERVER, SOFI3, SOFN3, Fc, fc_check, fcid, number
+
+SHORTEST, LONGEST_PAYLOAD = 60, 2112
+FIRST_SEQUENCE, INITIATIVE = 0x200000, 0x010000
+SOFS = {code for code, name in DELIMITERS.items() if name.startswith("SOF")}
+EOFS = {code for code, name in DELIMITERS.items() if name.startswith("EOF")}
+LEAST_SERVICE = 0xFF0000
+
+
+def whole(talk: Talk) -> Iterator[tuple[Shown, Fc]]:
+    return ((it, fc) for it, fc in talk.in_fcoe() if it.is_whole)
+
+
+def padding(talk: Talk, tally: Tally) -> None:
+    """A capture on the sending host has its frames before they are padded."""
+    short = [it for it in talk.own if it.is_whole and len(it.heard.data) < SHORTEST]
+    padded = [it for it in talk.own if it.is_whole and len(it.heard.data) == SHORTEST]
+    for it in short:
+        if padded:
+            tally.judge(it, Fault("length", f"{len(it.heard.data)} bytes", f"{SHORTEST}, as of other frames of this host"))
+        else:
+            tally.leave("a capture on the sending host has its frames before they are padded to 60 bytes", it)
+    if not short:
+        tally.held += [it for it in talk.own if it.is_whole]
+
+
+def tagged(talk: Talk, tally: Tally) -> None:
+    """One priority for all FCoE of an ENode, so that the order is kept."""
+    def priority(it: Shown) -> int:
+        return it.heard.data[14] >> 5
+
+    sent = [it for it, _ in talk.in_fcoe() if it.heard.at == 18]
+    if sent:
+        most = Counter(map(priority, sent)).most_common(1)[0][0]
+        for it in sent:
+            tally.usual(it, want("priority of the tag", priority(it), f"{most}, as in the other frames", priority(it) == most))
+
+
+def encapsulated(talk: Talk, tally: Tally) -> None:
+    for it in talk.own:
+        heard = it.heard
+        if not heard.is_fcoe or not it.is_whole:
+            continue
+        size = len(heard.data) - heard.at - 14 - 8 - 24
+        head = heard.data[heard.at : heard.at + 13]
+        tally.judge(
+            it,
+            want("FC payload", f"{size} bytes", "0 to 2112 bytes, in words of four", 0 <= size <= LONGEST_PAYLOAD and size % 4 == 0),
+            want("FCoE version", head[0] >> 4 if head else "none", 0),
+            want("reserved bytes of FCoE", f"{head[0] & 15:x}{head[1:].hex()}" if head else "", "0" * 25) if size >= 0 else None,
+            want("reserved bytes behind EOF", heard.data[-3:].hex(), "000000"),
+        )
+
+
+def delimited(talk: Talk, tally: Tally) -> None:
+    for it, _ in whole(talk):
+        start, end = it.heard.data[it.heard.at + 13], it.heard.data[it.heard.eof_at]
+        tally.judge(it, want("SOF", f"{start:02x}", "a code of the table", start in SOFS), want("EOF", f"{end:02x}", "a code of the table", end in EOFS))
+
+
+def ended(talk: Talk, tally: Tally) -> None:
+    """In class 3 EOFt stands on the last frame of a sequence, EOFn on the others."""
+    for it, fc in whole(talk):
+        end = it.heard.data[it.heard.eof_at]
+        if end in (EOFN, EOFT):
+            should = EOFT if fc.f_ctl & END_SEQUENCE else EOFN
+            tally.judge(it, want("EOF", delimiter(end), f"{delimiter(should)}, as F_CTL {fc.f_ctl:06x} says", end == should))
+
+
+def started(talk: Talk, tally: Tally) -> None:
+    """In class 3 SOFi3 stands on the first frame of a sequence, SOFn3 on the others."""
+    running: dict[tuple[int, int, int, int], int] = {}
+    for it, fc in whole(talk):
+        start = it.heard.data[it.heard.at + 13]
+        key = (fc.s_id, fc.d_id, fc.ox_id, fc.data[fc.at + 12])
+        if start in (SOFI3, SOFN3):
+            should = SOFN3 if key in running else SOFI3
+            if key in running or fc.seq_cnt == 0 or start == SOFI3:
+                tally.judge(it, want("SOF", delimiter(start), f"{delimiter(should)}, as SEQ_CNT {fc.seq_cnt} says", start == should))
+        running[key] = 1
+        if fc.f_ctl & END_SEQUENCE:
+            running.pop(key)
+
+
+def counted(talk: Talk, tally: Tally) -> None:
+    """SEQ_CNT of the frames of a sequence goes up by one."""
+    running: dict[tuple[int, int, int, int], int] = {}
+    for it, fc in whole(talk):
+        key = (fc.s_id, fc.d_id, fc.ox_id, fc.data[fc.at + 12])
+        if key in running:
+            should = (running[key] + 1) & 0xFFFF
+            if fc.seq_cnt > should:
+                tally.leave(f"SEQ_CNT {fc.seq_cnt} behind {running[key]}: frames may be missing from the capture", it)
+            else:
+                tally.judge(it, want("SEQ_CNT", fc.seq_cnt, should))
+        elif fc.f_ctl & FIRST_SEQUENCE and it.heard.data[it.heard.at + 13] == SOFI3:
+            tally.judge(it, want("SEQ_CNT", fc.seq_cnt, 0))
+        running[key] = fc.seq_cnt
+        if fc.f_ctl & END_SEQUENCE:
+            running.pop(key)
+
+
+def checked(talk: Talk, tally: Tally) -> None:
+    """A check sequence that the Ethernet port fills in stands in no capture of the sending host."""
+    wrong: list[tuple[Shown, str, str]] = []
+    for it, fc in whole(talk):
+        stands, should = it.heard.data[fc.end : fc.end + 4], fc_check(it.heard.data[fc.at : fc.end])
+        if stands == should:
+            tally.held.append(it)
+        else:
+            wrong.append((it, stands.hex(), should.hex()))
+    for it, stood, right in wrong:
+        if tally.held:
+            tally.judge(it, Fault("CRC", stood, right))
+        else:
+            tally.leave("no frame of this host has its CRC: the Ethernet port fills it in behind the capture", it)
+
+
+def controlled(talk: Talk, tally: Tally) -> None:
+    """What F_CTL says of requests and replies."""
+    for it, fc in whole(talk):
+        bits = fc.f_ctl
+        if fc.r_ctl in (0x22, 0x02, 0x06) and fc.seq_cnt == 0:
+            tally.judge(it, want("F_CTL", f"{bits:06x}", "exchange originator, first sequence", not bits & RESPONDER and bool(bits & FIRST_SEQUENCE)))
+        elif fc.r_ctl in (0x23, 0x03, 0x05, 0x07, 0x84, 0x85):
+            tally.judge(it, want("F_CTL", f"{bits:06x}", "exchange responder", bool(bits & RESPONDER)))
+
+
+def initiative(talk: Talk, tally: Tally) -> None:
+    for it, fc in whole(talk):
+        if fc.f_ctl & INITIATIVE:
+            tally.judge(it, want("F_CTL", f"{fc.f_ctl:06x}", "sequence initiative with the end of a sequence alone", bool(fc.f_ctl & END_SEQUENCE)))
+
+
+def size_in(payload: bytes) -> Optional[int]:
+    """The receive size in a login's payload."""
+    return number(payload[10:12]) & 0xFFF if len(payload) >= 116 else None
+
+
+def sizes(talk: Talk, by_switch: bool, tally: Tally) -> None:
+    """Payloads of one side are no larger than what the other said it takes."""
+    agreed: dict[tuple[int, int], int] = {}
+    fabric: dict[int, int] = {}
+    for it in talk.frames:
+        fc = it.heard.fc
+        if fc is None or not it.is_whole:
+            continue
+        is_login = it.heard.kind in ("PLOGI", "PDISC") or it.heard.kind == "LS_ACC" and len(fc.payload) >= 116
+        size = size_in(fc.payload)
+        if it.heard.is_fip and it.heard.kind in ("FLOGI accept", "FDISC accept") and size and not by_switch:
+            fabric[fc.d_id] = size
+        elif it.heard.is_fcoe and is_login and size:
+            agreed[fc.s_id, fc.d_id] = size
+        if it.heard.is_fcoe and it.is_switch == by_switch and not is_login:
+            most = [one for one in (agreed.get((fc.d_id, fc.s_id)), fabric.get(fc.s_id)) if one]
+            if most:
+                tally.judge(it, want("FC payload", f"{len(fc.payload)} bytes", f"{min(most)} bytes at most, as the login of {fcid(fc.d_id)} or of the fabric says", len(fc.payload) <= min(most)))
+            elif len(fc.payload) > 256 and not talk.is_two_way:
+                tally.leave(ONE_WAY, it)
+
+
+def sizes_sent(talk: Talk, tally: Tally) -> None:
+    sizes(talk, False, tally)
+
+
+RULES = Group(
+    "frames",
+    [
+        Rule("ethernet-padding", ENODE, "IEEE 802.3, minimum frame size", "Frames are padded to 60 bytes.", padding),
+        Rule("tag-priority", ENODE, "IEEE 802.1Q, priority", "FCoE of an ENode has one priority.", tagged, True),
+        Rule("fcoe-form", ENODE, "FC-BB-5, FCoE frame format", "Version 0, reserved bytes 0, a payload of 0 to 2112 bytes in words.", encapsulated),
+        Rule("delimiter-codes", ENODE, "FC-BB-5, FCoE frame format, SOF and EOF codes", "SOF and EOF have codes of the table.", delimited),
+        Rule("sof", ENODE, "FC-FS-3, frame delimiters, class 3", "SOFi3 stands on the first frame of a sequence, SOFn3 on the others.", started),
+        Rule("eof", ENODE, "FC-FS-3, frame delimiters, class 3", "EOFt stands on the last frame of a sequence, EOFn on the others.", ended),
+        Rule("crc", ENODE, "FC-FS-3, CRC", "The check sequence is right.", checked),
+        Rule("f-ctl", ENODE, "FC-FS-3, F_CTL", "A request comes from the exchange's originator in the first sequence, a reply from its responder.", controlled),
+        Rule("f-ctl-initiative", ENODE, "FC-FS-3, F_CTL, sequence initiative", "Sequence initiative goes over with the last frame of a sequence.", initiative),
+        Rule("seq-cnt", ENODE, "FC-FS-3, SEQ_CNT", "It begins at 0 in an exchange and goes up by one within a sequence.", counted),
+        Rule("receive-size", ENODE, "FC-LS-2, receive data field size", "Payloads are no larger than what the fabric and the other N_Port take.", sizes_sent),
+    ],
+)

@@ -1,0 +1,166 @@
+"""Rules on FLOGI, FDISC and LOGO in FIP (FC-BB-5, FC-LS-2)."""
+from typing import Iterator, Optional
+
+from .check_discovery import FP, SP, has_kinds
+from .check_rules import ENODE, LEFT, ONE_WAY, Fault, Group, Rule, Tally, want
+from .check_talk import Shown, Talk, mac_in
+from .frames import FABRIC_PORT, LOGIN, Fc, colons, fcid, number
+
+COMMANDS = {"FLOGI": 0x04, "FDISC": 0x51, "LOGO": 0x05}
+DESCRIPTOR = {"FLOGI": 7, "FDISC": 8, "LOGO": 9}
+MANY = 0x2000  # the feature of an accept that grants several addresses
+LOGIN_SIZE, LOGO_SIZE = 116, 16
+AT_ONCE = 100  # milliseconds behind a reject within which the same request is hardly another try
+
+
+def sent(talk: Talk, *kinds: str) -> Iterator[tuple[Shown, Fc]]:
+    """The ENode's logins in FIP of some kinds."""
+    for it in talk.own:
+        fc = it.heard.fc
+        if it.heard.operation == LOGIN and it.heard.login_kind in kinds and fc is not None and it.is_whole:
+            yield it, fc
+
+
+def in_fip(talk: Talk, tally: Tally) -> None:
+    for it, _ in sent(talk, "FLOGI", "FDISC", "LOGO"):
+        tally.held.append(it)
+    for it, fc in talk.in_fcoe():
+        if fc.kind == 0x01 and fc.r_ctl == 0x22 and fc.d_id == FABRIC_PORT and it.heard.kind in COMMANDS:
+            tally.judge(it, Fault("encapsulation", "FCoE", "FIP"))
+
+
+def addressed(talk: Talk, tally: Tally) -> None:
+    for it, _ in sent(talk, "FLOGI", "FDISC", "LOGO"):
+        there = it.heard.destination
+        tally.judge(it, want("destination", colons(there), "the forwarder's MAC", not there[0] & 1))
+
+
+def described(talk: Talk, tally: Tally) -> None:
+    for it, _ in sent(talk, "FLOGI", "FDISC", "LOGO"):
+        tally.judge(it, has_kinds(it.heard, (DESCRIPTOR[it.heard.login_kind or ""], 2)))
+
+
+def flagged(talk: Talk, tally: Tally) -> None:
+    for it, _ in sent(talk, "FLOGI", "FDISC"):
+        flags = it.heard.flags
+        tally.judge(it, want("flags", f"{flags:04x}", "FP (8000) or SP (4000) set", bool(flags & (FP | SP))))
+
+
+def proposed(talk: Talk, tally: Tally) -> None:
+    """The MAC that is asked for where the ENode provides it itself."""
+    for it, _ in sent(talk, "FLOGI", "FDISC"):
+        mac = mac_in(it.heard)
+        if mac is not None and it.heard.flags & SP:
+            tally.judge(it, want("MAC descriptor", colons(mac), "a MAC of one station, which isn't 0", any(mac) and not mac[0] & 1))
+
+
+def header_faults(it: Shown, fc: Fc) -> list[Optional[Fault]]:
+    return [
+        want("R_CTL", f"{fc.r_ctl:02x}", "22"),
+        want("TYPE", f"{fc.kind:02x}", "01"),
+        want("D_ID", fcid(fc.d_id), fcid(FABRIC_PORT)),
+        want("F_CTL", f"{fc.f_ctl:06x}", "290000", fc.f_ctl & 0xF90000 == 0x290000),
+        want("RX_ID", f"{fc.rx_id:04x}", "ffff"),
+        want("SEQ_CNT", fc.seq_cnt, 0),
+        want("command", fc.payload[:1].hex(), f"{COMMANDS[it.heard.login_kind or '']:02x}"),
+    ]
+
+
+def headed(talk: Talk, tally: Tally) -> None:
+    for it, fc in sent(talk, "FLOGI", "FDISC", "LOGO"):
+        tally.judge(it, *header_faults(it, fc))
+
+
+def without_address(talk: Talk, tally: Tally) -> None:
+    for it, fc in sent(talk, "FLOGI", "FDISC"):
+        tally.judge(it, want("S_ID", fcid(fc.s_id), "000000"))
+
+
+def parameters(talk: Talk, tally: Tally) -> None:
+    for it, fc in sent(talk, "FLOGI", "FDISC"):
+        payload = fc.payload
+        if len(payload) < LOGIN_SIZE:
+            tally.judge(it, Fault("payload", f"{len(payload)} bytes", f"{LOGIN_SIZE} bytes"))
+            continue
+        tally.judge(it, *login_faults(payload), want("feature of a fabric port", f"{number(payload[8:10]) & 0x1000:04x}", "0000"))
+
+
+def login_faults(payload: bytes) -> list[Optional[Fault]]:
+    """What is wrong in the parameters of a FLOGI, FDISC or PLOGI."""
+    size = number(payload[10:12]) & 0xFFF
+    return [
+        want("receive size", size, "256 to 2112, in words of four bytes", 256 <= size <= 2112 and size % 4 == 0),
+        want("port name", payload[20:28].hex(), "a name that isn't 0", any(payload[20:28])),
+        want("node name", payload[28:36].hex(), "a name that isn't 0", any(payload[28:36])),
+        want("class 3", payload[68:70].hex(), "its first bit set", bool(payload[68] & 0x80)),
+    ]
+
+
+def first_flogi(talk: Talk, tally: Tally) -> None:
+    """An FDISC goes out where the ENode has a login, and the fabric grants several addresses."""
+    for it, _ in sent(talk, "FDISC"):
+        live = [grant for grant in talk.live(it.at, it.heard.source) if grant.granted.heard.login_kind == "FLOGI"]
+        if not talk.is_two_way or not live and talk.began_before(it):
+            tally.leave(ONE_WAY if not talk.is_two_way else "the ENode may have logged in before the capture began", it)
+            continue
+        features = number(live[0].granted.payload[8:10]) if live else 0
+        tally.judge(
+            it,
+            want("login of its ENode", "none" if not live else "there", "an accepted FLOGI", bool(live)),
+            want(f"features in the accept, frame {live[0].granted.place}", f"{features:04x}", "2000 (several addresses) set", bool(features & MANY)) if live else None,
+        )
+
+
+def logged_out(talk: Talk, tally: Tally) -> None:
+    """A LOGO in FIP names one N_Port: address, MAC and port name."""
+    for it, fc in sent(talk, "LOGO"):
+        payload = fc.payload
+        if len(payload) < LOGO_SIZE:
+            tally.judge(it, Fault("payload", f"{len(payload)} bytes", f"{LOGO_SIZE} bytes"))
+            continue
+        held = next((grant for grant in talk.live(it.at) if grant.address == fc.s_id), None)
+        mac = mac_in(it.heard)
+        tally.judge(
+            it,
+            want("address in the payload", payload[5:8].hex(), f"{fcid(fc.s_id)}, its S_ID", payload[5:8].hex() == fcid(fc.s_id)),
+            want("MAC descriptor", colons(mac), colons(held.mac)) if mac and held else None,
+            want("port name", colons(payload[8:16]), colons(held.name)) if held and any(held.name) else None,
+        )
+
+
+def again(talk: Talk, tally: Tally) -> None:
+    """What follows a reject, by its reason: busy asks for another try, the others for another request."""
+    for one in talk.exchanges.all:
+        reply, fc = one.reply, one.request.fc
+        if one.request.is_switch or reply is None or fc is None or reply.payload[:1] != b"\x01" or len(reply.payload) < 8 or reply.fc is None or reply.fc.kind != 1:
+            continue
+        same = next((it for it in talk.own if it.at > reply.at and is_same(it, one.request)), None)
+        if same is None or same.clock - reply.clock >= AT_ONCE:
+            tally.held.append(reply)
+        else:
+            reason = reply.payload[5]
+            tally.leave(f"the same request again {same.clock - reply.clock:.0f} ms behind a reject with reason {reason:02x} (frame {reply.place}): {LEFT}", same)
+
+
+def is_same(it: Shown, other: Shown) -> bool:
+    """The same request, to the same N_Port."""
+    fc, asked = it.heard.fc, other.heard.fc
+    return fc is not None and asked is not None and (fc.r_ctl, fc.d_id, fc.s_id, fc.payload) == (asked.r_ctl, asked.d_id, asked.s_id, asked.payload)
+
+
+RULES = Group(
+    "fabric login",
+    [
+        Rule("login-in-fip", ENODE, "FC-BB-5, FIP FLOGI, FDISC and LOGO", "FLOGI, FDISC and the LOGO to FFFFFE go in FIP.", in_fip),
+        Rule("login-destination", ENODE, "FC-BB-5, FIP FLOGI", "They go to the forwarder's own MAC.", addressed),
+        Rule("login-descriptors", ENODE, "FC-BB-5, FIP operations", "They have their descriptor and a MAC descriptor, each once.", described),
+        Rule("login-flags", ENODE, "FC-BB-5, FIP FLOGI, flags FP and SP", "FLOGI and FDISC say by FP or SP who provides the MAC.", flagged),
+        Rule("login-mac", ENODE, "FC-BB-5, server-provided MAC addresses", "With SP the MAC descriptor has a MAC of one station.", proposed),
+        Rule("login-header", ENODE, "FC-LS-2, FLOGI, FDISC, LOGO; FC-FS-3, frame header", "R_CTL 22, TYPE 01, D_ID FFFFFE, the first and only frame of a request, RX_ID FFFF.", headed),
+        Rule("login-address", ENODE, "FC-LS-2, FLOGI and FDISC", "The S_ID of FLOGI and FDISC is 000000.", without_address),
+        Rule("login-parameters", ENODE, "FC-LS-2, service parameters", "Class 3, a receive size of 256 to 2112, port name and node name, not as a fabric port.", parameters),
+        Rule("fdisc-behind-flogi", ENODE, "FC-LS-2, FDISC", "An FDISC goes out behind an accepted FLOGI that grants several addresses.", first_flogi),
+        Rule("logo-names", ENODE, "FC-LS-2, LOGO; FC-BB-5, FIP LOGO", "A LOGO in FIP names its own address, MAC and port name.", logged_out),
+        Rule("reject-heeded", ENODE, "FC-LS-2, LS_RJT reasons", "A request that was rejected doesn't come again unchanged at once.", again, True),
+    ],
+)

@@ -1,0 +1,130 @@
+"""Rules on the name server and the fabric controller (FC-GS-6, FC-LS-2)."""
+from typing import Iterator, Optional
+
+from .check_exchange import behind_plogi
+from .check_rules import ENODE, ONE_WAY, Fault, Group, Rule, Tally, want
+from .check_talk import Shown, Talk
+from .frames import CONTROLLER, CT, NAME_SERVER, Fc, fcid, number
+
+PREAMBLE = 16
+# bytes behind the preamble of each request; of symbolic names up to their length byte
+SIZES = {
+    0x0100: 4, 0x0112: 4, 0x0113: 4, 0x0117: 4, 0x011F: 4, 0x0121: 8, 0x0171: 4, 0x0172: 4, 0x0173: 4, 0x01A1: 4,
+    0x0213: 12, 0x0217: 36, 0x0218: 5, 0x021F: 8, 0x0239: 9, 0x0300: 4,
+}  # fmt: skip
+LENGTH_AT = {0x0218: 4, 0x0239: 8}  # where the length of a symbolic name stands
+OF_ADDRESS = (0x0213, 0x0217, 0x0218, 0x021F, 0x0300)
+FUNCTIONS = (1, 2, 3, 255)
+
+
+def requests(talk: Talk, *commands: int) -> Iterator[tuple[Shown, Fc, bytes]]:
+    """CT requests to the name server, with what stands behind the preamble."""
+    for it, fc in talk.in_fcoe():
+        if fc.kind == 0x20 and fc.r_ctl == 0x02 and fc.d_id == NAME_SERVER and it.is_whole and len(fc.payload) >= PREAMBLE:
+            if not commands or fc.command in commands:
+                yield it, fc, fc.payload[PREAMBLE:]
+
+
+def behind_login(talk: Talk, tally: Tally) -> None:
+    for it, fc, _ in requests(talk):
+        behind_plogi(talk, it, fc, tally)
+
+
+def preamble(talk: Talk, tally: Tally) -> None:
+    for it, fc in talk.in_fcoe():
+        if fc.kind != 0x20 or fc.r_ctl != 0x02 or fc.d_id != NAME_SERVER or not it.is_whole:
+            continue
+        payload = fc.payload
+        if len(payload) < PREAMBLE:
+            tally.judge(it, Fault("CT preamble", f"{len(payload)} bytes", f"{PREAMBLE} bytes"))
+            continue
+        tally.judge(
+            it,
+            want("CT revision", f"{payload[0]:02x}", "01 or later", payload[0] > 0),
+            want("IN_ID", payload[1:4].hex(), "000000"),
+            want("GS type and subtype", payload[4:6].hex(), "fc02 (name server)", payload[4:6] == b"\xfc\x02"),
+            want("reason and explanation", payload[12:16].hex(), "00000000"),
+        )
+
+
+def sized(talk: Talk, tally: Tally) -> None:
+    for it, fc, rest in requests(talk):
+        size = SIZES.get(fc.command or 0)
+        if size is None:
+            continue
+        if fc.command in LENGTH_AT and len(rest) >= size:
+            size += rest[LENGTH_AT[fc.command or 0]]
+        tally.judge(it, want(f"bytes behind the preamble of {CT[fc.command or 0]}", len(rest), f"{size} or more", len(rest) >= size))
+
+
+def own_address(talk: Talk, tally: Tally) -> None:
+    for it, fc, rest in requests(talk, *OF_ADDRESS):
+        if len(rest) >= 4:
+            tally.usual(it, want("address", rest[1:4].hex(), f"{fcid(fc.s_id)}, its own", rest[1:4].hex() == fcid(fc.s_id)))
+
+
+def node_name(talk: Talk, tally: Tally) -> None:
+    """The node name of RSNN_NN is registered: by RNN_ID, or by the login to the name server."""
+    for it, fc, rest in requests(talk, 0x0239):
+        known: dict[bytes, Shown] = {}
+        for one, other in talk.in_fcoe():
+            if one.at >= it.at or other.s_id != fc.s_id:
+                continue
+            if one.heard.kind == "PLOGI" and len(other.payload) >= 36:
+                known[other.payload[28:36]] = one
+            elif one.heard.kind == "RNN_ID" and len(other.payload) >= PREAMBLE + 12:
+                known[other.payload[PREAMBLE + 4 : PREAMBLE + 12]] = one
+        if known:
+            tally.judge(it, want("node name", rest[:8].hex(), f"{' or '.join(it.hex() for it in known)}, as registered", rest[:8] in known))
+
+
+def types(rest: bytes) -> set[int]:
+    """The FC-4 types of an RFT_ID."""
+    return {32 * at + bit for at in range(8) for bit in range(32) if number(rest[4 + 4 * at : 8 + 4 * at]) >> bit & 1}
+
+
+def features_behind_types(talk: Talk, tally: Tally) -> None:
+    for it, fc, rest in requests(talk, 0x021F):
+        told = [types(more) for one, other, more in requests(talk, 0x0217) if one.at < it.at and other.s_id == fc.s_id and len(more) >= 36]
+        if len(rest) >= 8:
+            tally.usual(it, want("FC-4 type of RFF_ID", f"{rest[7]:02x}", "one that RFT_ID registered before", any(rest[7] in some for some in told)))
+
+
+def types_used(talk: Talk, tally: Tally) -> None:
+    """Whoever uses an FC-4 type by PRLI registers it."""
+    for it, fc in talk.in_fcoe():
+        if it.heard.kind != "PRLI" or fc.r_ctl != 0x22 or len(fc.payload) < 8:
+            continue
+        told = [types(more) for one, other, more in requests(talk, 0x0217) if other.s_id == fc.s_id and len(more) >= 36]
+        if told:
+            tally.usual(it, want("FC-4 type of PRLI", f"{fc.payload[4]:02x}", "one that it registered by RFT_ID", any(fc.payload[4] in some for some in told)))
+
+
+def watched(talk: Talk, tally: Tally) -> None:
+    for it, fc in talk.in_fcoe():
+        if it.heard.kind == "SCR" and fc.r_ctl == 0x22:
+            payload = fc.payload
+            stands = payload[7] if len(payload) >= 8 else None
+            tally.judge(it, want("function", stands, "1, 2, 3 or 255", stands in FUNCTIONS))
+
+
+def watched_at(talk: Talk, tally: Tally) -> None:
+    for it, fc in talk.in_fcoe():
+        if it.heard.kind == "SCR" and fc.r_ctl == 0x22:
+            tally.judge(it, want("D_ID", fcid(fc.d_id), fcid(CONTROLLER)))
+
+
+RULES = Group(
+    "services",
+    [
+        Rule("ns-login", ENODE, "FC-GS-6, name server; FC-LS-2, PLOGI", "Requests go to the name server behind an accepted PLOGI to it.", behind_login),
+        Rule("ct-preamble", ENODE, "FC-GS-6, CT_IU preamble", "A request has IN_ID 0, the name server's type and subtype, no reason.", preamble),
+        Rule("ct-size", ENODE, "FC-GS-6, name server, requests", "A request has the bytes of its command, and a symbolic name those of its length.", sized),
+        Rule("register-own", ENODE, "FC-GS-6, name server, registrations", "An N_Port registers its own address.", own_address, True),
+        Rule("register-node-name", ENODE, "FC-GS-6, RSNN_NN", "A symbolic node name is of a node name that is registered.", node_name),
+        Rule("register-order", ENODE, "FC-GS-6, RFT_ID and RFF_ID", "Features are registered behind their FC-4 type.", features_behind_types, True),
+        Rule("register-types", ENODE, "FC-GS-6, RFT_ID; FC-LS-2, PRLI", "The FC-4 types that are used are registered.", types_used, True),
+        Rule("scr-function", ENODE, "FC-LS-2, SCR", "SCR has a function of the table.", watched),
+        Rule("scr-destination", ENODE, "FC-LS-2, SCR", "SCR goes to FFFFFD.", watched_at),
+    ],
+)
