@@ -8,7 +8,7 @@ from .frames import ALL_ENODES, LOGIN, colons, fcid, number
 
 IN_FLIGHT = 2000  # milliseconds (E_D_TOV) within which a frame may have crossed what ended its login
 EARLIER = "the ENode may have logged in before the capture began"
-FIRST_SERVICE = 0xFFFC00
+COMMAND = 0x06  # R_CTL of an FCP command
 
 
 def is_fpma(mac: bytes) -> bool:
@@ -150,7 +150,7 @@ def anew(talk: Talk, it: Shown, last: Shown) -> bool:
 
 
 def fresh(talk: Talk, tally: Tally) -> None:
-    """Behind a further login an N_Port logs in to others anew: a PLOGI comes before any other request to the same address."""
+    """Behind a further login an N_Port logs in to others anew: a PLOGI comes before FCP commands to the same address."""
     for grant in talk.grants:
         earlier = [one for one in talk.grants if one is not grant and one.ended and one.ended.at <= grant.granted.at and one.address == grant.address]
         if earlier:
@@ -161,18 +161,13 @@ def judge_fresh(talk: Talk, grant: Grant, tally: Tally) -> None:
     logged: set[int] = set()
     for it in talk.frames:
         fc = it.heard.fc
-        if it.at < grant.granted.at or grant.ended and it.at > grant.ended.at or fc is None or not it.heard.is_fcoe:
+        if not grant.granted.at < it.at or grant.ended and it.at > grant.ended.at or fc is None or not it.heard.is_fcoe:
             continue
-        there = fc.s_id if it.is_switch else fc.d_id
-        if grant.address not in (fc.s_id, fc.d_id):
-            continue
-        if it.heard.kind == "PLOGI":
+        there = fc.s_id if fc.d_id == grant.address else fc.d_id
+        if it.heard.kind == "PLOGI" and grant.address in (fc.s_id, fc.d_id):
             logged.add(there)
-        elif not it.is_switch and fc.r_ctl in (0x02, 0x06) and there not in logged:
-            logged.add(there)
-            tally.judge(it, Fault("N_Port login", f"none with {fcid(there)} since the login anew in frame {grant.granted.place}", "a PLOGI first"))
-        elif not it.is_switch and fc.r_ctl in (0x02, 0x06):
-            tally.held.append(it)
+        elif not it.is_switch and fc.r_ctl == COMMAND and fc.s_id == grant.address:
+            tally.judge(it, want("N_Port login", f"none with {fcid(there)} since the login anew in frame {grant.granted.place}", "a PLOGI first", there in logged))
 
 
 def of_own(talk: Talk, tally: Tally) -> None:
@@ -196,6 +191,6 @@ RULES = Group(
         Rule("end-by-clear-of-all", ENODE, "FC-BB-5, FIP Clear Virtual Links", "Nothing comes from any VN_Port of a forwarder behind its Clear Virtual Links without a list.", behind_clear_of_all),
         Rule("end-by-silence", ENODE, "FC-BB-5, FIP discovery, FKA_ADV_PERIOD", "Two and a half periods without an advertisement end the logins at a forwarder.", behind_silence),
         Rule("end-by-login", ENODE, "FC-LS-2, FLOGI", "A further FLOGI ends the earlier logins of its ENode.", behind_login),
-        Rule("login-anew", ENODE, "FC-LS-2, FLOGI and PLOGI", "Behind a login anew with the same address a PLOGI comes before other requests.", fresh),
+        Rule("login-anew", ENODE, "FC-LS-2, FLOGI and PLOGI", "Behind a login anew with the same address a PLOGI comes before FCP commands.", fresh),
     ],
 )

@@ -125,7 +125,7 @@ def rscn_reply(talk: Talk, tally: Tally) -> None:
     for one in asked_of_host(talk):
         if one.request.heard.kind == "RSCN" and one.reply and one.reply.fc:
             fc = one.reply.fc
-            tally.judge(one.reply, want("D_ID", fcid(fc.d_id), fcid(CONTROLLER)), want("payload", fc.payload[:4].hex(), "02000000 (LS_ACC)", fc.payload[:4].hex() == "02000000" or fc.payload[:1] == b"\x01"))
+            tally.judge(one.reply, want("payload", fc.payload[:4].hex(), "02000000 (LS_ACC), or an LS_RJT", fc.payload[:4] in (b"\2\0\0\0", b"\1\0\0\0")))
 
 
 def logo(talk: Talk, tally: Tally) -> None:
@@ -257,7 +257,7 @@ RULES = Group(
         Rule("exchange-ends", ENODE, "FC-FS-3, exchanges; FC-LS-2, R_A_TOV", "A link service or CT request without an answer is aborted.", never_ended),
         Rule("els-answered", ENODE, "FC-LS-2, link services", "A link service that asks an N_Port is answered.", answered),
         Rule("rscn-answered", ENODE, "FC-LS-2, RSCN", "An RSCN is answered.", rscn_answered),
-        Rule("rscn-reply", ENODE, "FC-LS-2, RSCN", "The answer is an LS_ACC, or an LS_RJT, to FFFFFD.", rscn_reply),
+        Rule("rscn-reply", ENODE, "FC-LS-2, RSCN", "The answer is an LS_ACC or an LS_RJT.", rscn_reply),
         Rule("rscn-soon", ENODE, "FC-LS-2, RSCN; FC-FS-3, E_D_TOV", "It comes within E_D_TOV.", rscn_soon, True),
         Rule("rscn-heeded", ENODE, "FC-LS-2, RSCN; FC-GS-6, queries", "A query of the name server or of the N_Port follows.", rscn_heeded, True),
         Rule("plogi-parameters", ENODE, "FC-LS-2, PLOGI, service parameters", "Class 3, a receive size of 256 to 2112, the port name of its login.", plogi),

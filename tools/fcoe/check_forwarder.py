@@ -182,6 +182,6 @@ RULES = Group(
         Rule("fcf-destination", FCF, "FC-BB-5, fabric-provided MAC addresses", "FCoE to an N_Port goes to the FC-MAP and its address.", delivered),
         Rule("fcf-crc", FCF, "FC-FS-3, CRC", "The check sequence is right.", checked),
         Rule("fcf-answers", FCF, "FC-LS-2; FC-GS-6", "Requests to FFFFFC and FFFFFD are answered.", answered),
-        Rule("fcf-receive-size", FCF, "FC-LS-2, receive data field size", "Payloads are no larger than what the N_Port takes.", sizes_sent),
+        Rule("fcf-receive-size", FCF, "FC-LS-2, receive data field size", "What comes to an N_Port is no larger than it takes, of the forwarder itself and of other N_Ports.", sizes_sent),
     ],
 )

@@ -99,7 +99,7 @@ def login_faults(payload: bytes) -> list[Optional[Fault]]:
 def first_flogi(talk: Talk, tally: Tally) -> None:
     """An FDISC goes out where the ENode has a login, and the fabric grants several addresses."""
     for it, _ in sent(talk, "FDISC"):
-        live = [grant for grant in talk.live(it.at, it.heard.source) if grant.granted.heard.login_kind == "FLOGI"]
+        live = [grant for grant in talk.live(it.at, talk.mac) if grant.granted.heard.login_kind == "FLOGI"]
         if not talk.is_two_way or not live and talk.began_before(it):
             tally.leave(ONE_WAY if not talk.is_two_way else "the ENode may have logged in before the capture began", it)
             continue

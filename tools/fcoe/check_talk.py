@@ -86,6 +86,11 @@ class Grant:
         return self.granted.heard.source
 
 
+def fpma(address: int) -> bytes:
+    """The MAC of an address under the usual FC-MAP."""
+    return FPMA + bytes(1) + address.to_bytes(3, "big")
+
+
 def mac_in(heard: Heard) -> Optional[bytes]:
     """The MAC of a message's MAC descriptor."""
     found = heard.descriptor(2)
@@ -258,7 +263,7 @@ class Talk:
         if it.heard.login_kind == "FLOGI":
             for grant in self.live(it.at, it.heard.destination):
                 grant.ended, grant.why = it, "login"
-        mac = mac_in(it.heard) or FPMA + bytes(1) + address.to_bytes(3, "big")
+        mac = mac_in(it.heard) or fpma(address)
         self.grants.append(Grant(it.heard.destination, address, mac, it, asked, names[0] if names else b""))
 
     def request_of(self, it: Shown) -> Optional[Shown]:
@@ -288,35 +293,39 @@ class Talk:
         return not any(one.at < it.at and one.heard.kind in ("VLAN request", "Solicitation", "FLOGI") for one in self.own)
 
 
+Told = dict[bytes, list[tuple[int, bytes]]]  # of a MAC: places in the capture, and the ENode that has it from there on
+
+
 class Owners:
-    """Which ENode uses a MAC in FCoE, by grants, keep alives and LOGOs."""
+    """Which ENode uses a MAC in FCoE: by grants, or else by keep alives and LOGOs."""
 
     def __init__(self, port: Port) -> None:
         self.enodes = {it.mac for it in enodes_of([port])}
-        self.by_mac: dict[bytes, list[tuple[int, bytes]]] = {}
+        self.granted: Told = {}
+        self.named: Told = {}
         for at in port.frames.messages():
             heard = port.frames.heard(at)
-            if not heard.is_fip:
-                continue
-            mac, address = mac_in(heard), granted_in(heard)
-            if address is not None:
-                self.tell(mac or FPMA + bytes(1) + address.to_bytes(3, "big"), at, heard.destination)
-            elif heard.kind == "VN_Port keep alive" and mac:
-                self.tell(heard.source, at, mac)
-            elif heard.operation == KEEP_ALIVE:
-                self.enodes.add(heard.source)
-            elif heard.operation == LOGIN and heard.login_kind == "LOGO" and mac:
-                self.tell(mac, at, heard.source)
+            if heard.is_fip:
+                self.take(at, heard)
+        self.enodes -= set(self.granted)
 
-    def tell(self, mac: bytes, at: int, enode: bytes) -> None:
-        self.enodes.add(enode)
-        self.by_mac.setdefault(mac, []).append((at, enode))
+    def take(self, at: int, heard: Heard) -> None:
+        mac, address = mac_in(heard), granted_in(heard)
+        if address is not None:
+            self.enodes.add(heard.destination)
+            self.granted.setdefault(mac or fpma(address), []).append((at, heard.destination))
+        elif heard.kind == "VN_Port keep alive" and mac and mac != heard.source:
+            self.named.setdefault(heard.source, []).append((at, mac))
+        elif heard.operation == KEEP_ALIVE and heard.kind != "VN_Port keep alive":
+            self.enodes.add(heard.source)
+        elif heard.operation == LOGIN and heard.login_kind == "LOGO" and mac:
+            self.named.setdefault(mac, []).append((at, heard.source))
 
     def owner(self, mac: bytes, at: int) -> bytes:
         """The ENode behind a MAC at a place of the capture."""
         if mac in self.enodes:
             return mac
-        told = self.by_mac.get(mac)
+        told = self.granted.get(mac) or self.named.get(mac)
         if told:
             return next((enode for place, enode in reversed(told) if place <= at), told[0][1])
         return next(iter(self.enodes)) if len(self.enodes) == 1 else mac
