@@ -17,7 +17,7 @@ def is_fpma(mac: bytes) -> bool:
 
 def uses(talk: Talk) -> Iterator[Shown]:
     """Frames that the ENode sends as an N_Port: FCoE, and keep alives of VN_Ports."""
-    return (it for it in talk.own if it.heard.is_fcoe and it.fc is not None and it.fc.s_id or it.heard.kind == "VN_Port keep alive")
+    return (it for it in talk.own if it.heard.is_fcoe and it.fc is not None and it.fc.s_id or it.heard.kind == "VN_Port keep alive" and it.heard.source != talk.mac)
 
 
 def granted_uses(talk: Talk, tally: Tally) -> Iterator[tuple[Shown, Grant]]:
