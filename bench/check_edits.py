@@ -106,7 +106,11 @@ def add(seconds: float, data: bytes) -> Edit:
 
 def again(pick: Pick, seconds: float, change: Callable[[bytes], bytes] = lambda data: data) -> Edit:
     """A frame once more at a moment, maybe changed."""
-    return lambda tape: add(seconds, checked(change(tape[pick.place(tape)].data)))(tape)
+
+    def edit(tape: Tape) -> Tape:
+        return add(seconds, checked(change(tape[pick.place(tape)].data)))(tape)
+
+    return edit
 
 
 def cut(pick: Pick, count: int) -> Edit:

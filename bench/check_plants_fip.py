@@ -3,7 +3,7 @@ from dataclasses import dataclass
 from typing import Optional
 
 from check_edits import (
-    SWITCH, Edit, Pick, Tape, add, again, all_of, before, body, cut, descriptor, drop, drop_all, each, fip, frame, header, move, ordered, payload, put,
+    SWITCH, Edit, Pick, Tape, add, again, all_of, before, body, checked, cut, descriptor, drop, drop_all, each, fip, frame, header, move, ordered, payload, put,
 )
 from fcoe.columns import Record
 from fcoe.frames import hear
@@ -12,6 +12,7 @@ HOST = bytes.fromhex("001b2100000a")
 OTHER = bytes.fromhex("00051e000009")
 ALL_ENODES = bytes.fromhex("011018010001")
 FIRST, SECOND_PORT = bytes.fromhex("0efc00010101"), bytes.fromhex("0efc00010102")
+ONE_ALIVE = fip(HOST, SWITCH, (3, 1), 0x8000, b"\x02\x02" + HOST)
 FREE = b"\xc8"  # a type of descriptor that receivers skip
 FLOGI, FDISC, ALIVE = Pick("FLOGI", 1), Pick("FDISC"), Pick("Keep alive", 3)
 SOLICITED = Pick("Advertisement", 0, True, behind=71.0)  # the answer to the second solicitation
@@ -100,6 +101,27 @@ def own_mac(tape: Tape) -> Tape:
     return put(FLOGI, descriptor(2, 2), HOST)(put(FLOGI, body(8), b"\xc0\0")(tape))
 
 
+def with_fallback(tape: Tape) -> Tape:
+    """A FLOGI in FCoE, as Linux sends it where FIP isn't answered."""
+    data = tape[FLOGI.place(tape)].data
+    fc = hear(data).fc
+    assert fc is not None
+    like = hear(tape[Pick("PLOGI").place(tape)].data)
+    assert like.fc is not None
+    start = bytes.fromhex("0efc00fffffe") + HOST + like.data[12 : like.fc.at]
+    content = data[fc.at : fc.payload_at + 116]
+    return add(95.0, checked(start + content + bytes(4) + b"\x42\0\0\0"))(tape)
+
+
+def from_stranger(data: bytes) -> bytes:
+    """The same from an address that wasn't granted, and its MAC."""
+    fc = hear(data).fc
+    assert fc is not None
+    made = bytearray(data)
+    made[9:12] = made[fc.at + 5 : fc.at + 8] = b"\1\1\5"
+    return bytes(made)
+
+
 NEW_ACCEPT = Pick("FDISC accept", 1, True)
 DISCOVERY = [
     Plant("fip-version", "initiator", put(ALIVE, body(0), b"\x20")),
@@ -124,7 +146,7 @@ DISCOVERY = [
     Plant("forwarder-priority", "initiator", put(Pick("Advertisement"), descriptor(1, 3), b"\x01"), add(70.5, other_forwarder(200))),
 ]
 LOGINS = [
-    Plant("login-in-fip", "initiator", lambda tape: add(95.0, fallback(tape))(tape)),
+    Plant("login-in-fip", "initiator", with_fallback),
     Plant("login-destination", "initiator", put(FDISC, frame(0), ALL_ENODES)),
     Plant("login-descriptors", "initiator", put(FDISC, descriptor(2, 0), FREE)),
     Plant("login-flags", "initiator", put(FDISC, body(8), b"\0\0")),
@@ -134,27 +156,14 @@ LOGINS = [
     Plant("login-parameters", "initiator", put(FDISC, payload(10), b"\0\x80")),
     Plant("fdisc-behind-flogi", "initiator", put(Pick("FLOGI accept", 0, True), payload(8), b"\x10\0")),
     Plant("logo-names", "initiator", put(Pick("LOGO", 0, s_id=0x010102, behind=61.905), payload(5), b"\1\1\7")),
+    Plant("login-again", "initiator", move(FLOGI, 75.5), all_of(again(FLOGI, 74.0), put(FLOGI, header(16), b"\0\7"))),
     Plant("reject-heeded", "initiator", all_of(again(Pick("ECHO"), 31.75), again(Pick("LS_RJT", 0, True), 31.76))),
     Plant("login-source", "initiator", put(FDISC, frame(6), FIRST)),
 ]
 
 
-def fallback(tape: Tape) -> bytes:
-    """A FLOGI in FCoE, as Linux sends it where FIP isn't answered."""
-    data = tape[FLOGI.place(tape)].data
-    fc = hear(data).fc
-    assert fc is not None
-    like = hear(tape[Pick("PLOGI").place(tape)].data)
-    assert like.fc is not None
-    start = bytes.fromhex("0efc00fffffe") + HOST + like.data[12 : like.fc.at]
-    content = data[fc.at : fc.payload_at + 116]
-    from check_edits import checked  # pylint: disable=import-outside-toplevel
-
-    return checked(start + content + bytes(4) + b"\x42\0\0\0")
-
-
 ADDRESSES = [
-    Plant("fpma-granted", "initiator", lambda tape: again(Pick("LS_ACC"), 10.0, from_stranger)(tape)),
+    Plant("fpma-granted", "initiator", again(Pick("LS_ACC"), 10.0, from_stranger)),
     Plant("source-mac", "initiator", put(Pick("FCP_DATA", 2), header(5), b"\1\1\3")),
     Plant("fcoe-destination", "initiator", put(Pick("FCP_DATA", 2), frame(0), OTHER)),
     Plant("fcoe-vlan", "initiator", put(Pick("FCP_DATA", 2), frame(14), b"\0\x65")),
@@ -167,15 +176,6 @@ ADDRESSES = [
 ]
 
 
-def from_stranger(data: bytes) -> bytes:
-    """The same from an address that wasn't granted, and its MAC."""
-    fc = hear(data).fc
-    assert fc is not None
-    made = bytearray(data)
-    made[9:12] = made[fc.at + 5 : fc.at + 8] = b"\1\1\5"
-    return bytes(made)
-
-
 ALIVES = [
     Plant("alive-descriptors", "initiator", put(ALIVE, descriptor(2, 0), FREE)),
     Plant("alive-source", "target", put(Pick("VN_Port keep alive"), frame(6), bytes.fromhex("001b2100000b"))),
@@ -184,9 +184,8 @@ ALIVES = [
     Plant("alive-destination", "initiator", put(ALIVE, frame(0), OTHER)),
     Plant("alive-enode-period", "initiator", drop(Pick("Keep alive", 2), Pick("Keep alive", 3))),
     Plant("alive-port-period", "target", drop(Pick("VN_Port keep alive", 1), Pick("VN_Port keep alive", 2)), with_alives),
-    Plant("alive-quiet", "initiator", again(FLOGI, 20.0, lambda data: ALIVE_DATA), all_of(each("Advertisement", descriptor(12, 3), b"\1", True), drop_all("Keep alive"))),
+    Plant("alive-quiet", "initiator", add(20.0, ONE_ALIVE), all_of(each("Advertisement", descriptor(12, 3), b"\1", True), drop_all("Keep alive"))),
 ]
-ALIVE_DATA = fip(HOST, SWITCH, (3, 1), 0x8000, b"\x02\x02" + HOST)
 FORWARDER = [
     Plant("fcf-descriptors", "initiator", put(Pick("Advertisement", 0, True, 35.0), descriptor(12, 0), FREE)),
     Plant("fcf-mac", "initiator", put(Pick("Advertisement", 0, True, 35.0), descriptor(2, 2), OTHER)),
@@ -196,7 +195,7 @@ FORWARDER = [
     Plant("fcf-vlans", "initiator", put(Pick("VLAN notification", 0, True), descriptor(14, 2), b"\x0f\xff")),
     Plant("fcf-fpma", "initiator", put(NEW_ACCEPT, descriptor(2, 2), bytes.fromhex("0efc00010177")), logged_in_more(95.0, 0x010104)),
     Plant("fcf-replies", "initiator", put(NEW_ACCEPT, header(16), b"\x09\x99"), logged_in_more(95.0, 0x010104)),
-    Plant("fcf-addresses", "both", lambda tape: logged_in_more(100.9, 0x010100)(tape), before(100.5)),
+    Plant("fcf-addresses", "both", logged_in_more(100.9, 0x010100), before(100.5)),
     Plant("fcf-addresses-rest", "initiator", all_of(move(Pick("FDISC", 1), 63.0), move(NEW_ACCEPT, 63.001)), logged_in_more(73.0, 0x010102)),
 ]
 PLANTS = [*DISCOVERY, *LOGINS, *ADDRESSES, *ALIVES, *FORWARDER]

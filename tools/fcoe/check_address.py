@@ -1,10 +1,10 @@
 """Rules on MACs and addresses: used once granted, each with its frame, and not behind the end of a login (FC-BB-5, FC-LS-2)."""
-from typing import Iterator, Optional
+from typing import Iterator
 
 from .check_rules import ENODE, ONE_WAY, Fault, Group, Rule, Tally, want
-from .check_talk import PERIODS, Grant, Shown, Talk, mac_in, period_in
+from .check_talk import Grant, Shown, Talk, mac_in
 from .configs import FPMA
-from .frames import ALL_ENODES, LOGIN, colons, fcid, number
+from .frames import LOGIN, colons, fcid, number
 
 IN_FLIGHT = 2000  # milliseconds (E_D_TOV) within which a frame may have crossed what ended its login
 EARLIER = "the ENode may have logged in before the capture began"
@@ -118,29 +118,15 @@ def behind_login(talk: Talk, tally: Tally) -> None:
     behind(talk, tally, "login")
 
 
-def silences(talk: Talk) -> Iterator[tuple[Shown, float, float]]:
-    """Advertisements behind which their forwarder fell silent: with the moment at which links end, and that of the next one or of the capture's end."""
-    by_forwarder: dict[tuple[bytes, int], list[Shown]] = {}
-    for it in talk.advertisements:
-        by_forwarder.setdefault((it.heard.source, it.heard.vlan), []).append(it)
-    for some in by_forwarder.values():
-        if not any(it.heard.destination == ALL_ENODES for it in some):
-            continue
-        for it, after in zip(some, [*some[1:], None]):
-            period = period_in(it.heard)
-            until = after.clock if after else talk.end
-            if period and until - it.clock > PERIODS * period[0] + IN_FLIGHT:
-                yield it, it.clock + PERIODS * period[0] + IN_FLIGHT, until
-
-
 def behind_silence(talk: Talk, tally: Tally) -> None:
     """Two and a half periods without an advertisement end the logins at a forwarder."""
-    for last, begin, end in silences(talk):
-        held = [grant for grant in talk.live(last.at + 1) if grant.forwarder == last.heard.source]
-        late = next((it for it in uses(talk) if begin < it.clock < end and it.heard.source in {grant.mac for grant in held} and not anew(talk, it, last)), None)
+    for one in talk.silences:
+        last, begin = one.last, one.begin + IN_FLIGHT
+        macs = {grant.mac for grant in talk.live(last.at + 1) if grant.forwarder == last.heard.source}
+        late = next((it for it in uses(talk) if begin < it.clock < one.end and it.heard.source in macs and not anew(talk, it, last)), None)
         if late:
             tally.judge(late, Fault("source", colons(late.heard.source), f"nothing from this MAC: its forwarder fell silent behind frame {last.place}"))
-        elif held:
+        elif macs and one.end > begin:
             tally.held.append(last)
 
 

@@ -64,20 +64,30 @@ def spans(talk: Talk) -> Iterator[tuple[Shown, Optional[Shown], float]]:
         yield grant.granted, ended, ended.clock if ended else talk.end
 
 
-def gaps(tally: Tally, begin: Shown, end: float, beats: list[Shown], period: int, silent: float) -> None:
-    """Judges the time between keep alives, from a login to its end."""
-    last, last_frame = begin.clock, begin
+def advertised_period(talk: Talk, forwarder: bytes, begin: float, end: float) -> Optional[int]:
+    """The longest period that a forwarder advertised up to the end of a gap, from the last one before it on; none where D says that no keep alive is owed."""
+    told = [it for it in talk.advertisements if it.heard.source == forwarder and it.clock <= end]
+    earlier = [it for it in told if it.clock <= begin][-1:]
+    found = [period for it in earlier + [it for it in told if it.clock > begin] if (period := period_in(it.heard))]
+    return None if not found or any(is_quiet for _, is_quiet in found) else max(period for period, _ in found)
+
+
+def gaps(talk: Talk, tally: Tally, begin: Shown, end: float, beats: list[Shown], fixed: Optional[int] = None) -> None:
+    """Judges the time between keep alives, from a login to its end; while the forwarder is silent none is owed."""
+    last = begin
     for it in [*beats, None]:
-        clock = it.clock if it else min(end, silent)
-        gap = clock - last
-        shown = it or last_frame
-        if gap > PERIODS * period:
-            tally.judge(shown, Fault("time without a keep alive", f"{gap / 1000:.1f} s behind frame {last_frame.place}", f"one each {period / 1000:g} s"))
-        elif gap > LATE * period:
-            tally.leave(f"{gap / 1000:.1f} s without a keep alive behind frame {last_frame.place}, with a period of {period / 1000:g} s: one may be missing from the capture", shown)
-        elif it:
+        clock, shown = it.clock if it else end, it or last
+        silent = [one.begin for one in talk.silences if one.last.heard.source == begin.heard.source and one.begin < clock and last.clock < one.end]
+        gap = min([clock, *silent]) - last.clock
+        advertised = advertised_period(talk, begin.heard.source, last.clock, clock)
+        period = fixed if fixed and advertised else advertised
+        if period and gap > PERIODS * period:
+            tally.judge(shown, Fault("time without a keep alive", f"{gap / 1000:.1f} s behind frame {last.place}", f"one each {period / 1000:g} s"))
+        elif period and gap > LATE * period:
+            tally.leave(f"{gap / 1000:.1f} s without a keep alive behind frame {last.place}, with a period of {period / 1000:g} s: one may be missing from the capture", shown)
+        elif it and period:
             tally.held.append(it)
-        last, last_frame = clock, shown
+        last = shown
 
 
 def enode_alive(talk: Talk, tally: Tally) -> None:
@@ -86,29 +96,18 @@ def enode_alive(talk: Talk, tally: Tally) -> None:
             tally.leave(ONE_WAY if not talk.is_two_way else "no login is in the capture, so the period isn't known", it)
     for begin, ended, end in spans(talk):
         told = talk.advertised(begin.at, begin.heard.source)
-        period = period_in(told.heard) if told else None
         beats = [it for it in talk.of("Keep alive") if begin.at < it.at and (ended is None or it.at < ended.at)]
-        if period is None:
+        if told is None:
             tally.leave("no advertisement with the period stands before the login", begin)
-        elif not period[1]:
-            gaps(tally, begin, end, beats, period[0], silent_from(talk, begin))
-
-
-def silent_from(talk: Talk, begin: Shown) -> float:
-    """The moment at which the forwarder of a login fell silent for good, so that nobody owes it a keep alive."""
-    last = next((it for it in reversed(talk.advertisements) if it.heard.source == begin.heard.source), None)
-    period = period_in(last.heard) if last else None
-    return last.clock + PERIODS * period[0] if last and period else talk.end
+        else:
+            gaps(talk, tally, begin, end, beats)
 
 
 def port_alive(talk: Talk, tally: Tally) -> None:
     for grant in talk.grants:
-        told = talk.advertised(grant.granted.at, grant.forwarder)
-        period = period_in(told.heard) if told else None
         end = grant.ended.clock if grant.ended else talk.end
-        if period and not period[1]:
-            beats = [it for it in talk.of("VN_Port keep alive") if it.heard.source == grant.mac and grant.granted.at < it.at and (grant.ended is None or it.at < grant.ended.at)]
-            gaps(tally, grant.granted, end, beats, PORT_PERIOD, silent_from(talk, grant.granted))
+        beats = [it for it in talk.of("VN_Port keep alive") if it.heard.source == grant.mac and grant.granted.at < it.at and (grant.ended is None or it.at < grant.ended.at)]
+        gaps(talk, tally, grant.granted, end, beats, PORT_PERIOD)
     if not talk.grants:
         for it in talk.of("VN_Port keep alive"):
             tally.leave(ONE_WAY if not talk.is_two_way else "the grant isn't in the capture", it)

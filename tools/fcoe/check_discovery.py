@@ -131,7 +131,11 @@ def known(talk: Talk, tally: Tally) -> None:
     for it in talk.of("FLOGI"):
         if it.heard.is_fip and talk.is_two_way:
             there = it.heard.destination
-            tally.judge(it, want("destination", colons(there), "the MAC of a forwarder that advertised itself in this VLAN before", any(one.at < it.at and one.heard.source == there and one.heard.vlan == it.heard.vlan for one in talk.advertisements)))
+            is_known = any(one.at < it.at and one.heard.source == there and one.heard.vlan == it.heard.vlan for one in talk.advertisements)
+            if is_known or any(one.at < it.at for one in talk.of("Solicitation")):
+                tally.judge(it, want("destination", colons(there), "the MAC of a forwarder that advertised itself in this VLAN before", is_known))
+            else:
+                tally.leave("the capture may have begun behind the advertisement", it)
         elif it.heard.is_fip:
             tally.leave(ONE_WAY, it)
 

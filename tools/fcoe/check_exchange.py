@@ -1,14 +1,13 @@
 """Rules on exchanges: OX_IDs, answers, ABTS, RSCN, LOGO, PLOGI and PRLI (FC-FS-3, FC-LS-2)."""
-from typing import Iterator, Optional
+from typing import Iterator
 
 from .check_login import LOGO_SIZE, login_faults
 from .check_rules import ENODE, LEFT, ONE_WAY, Fault, Group, Rule, Tally, want
 from .check_talk import Exchange, Shown, Talk
-from .frames import CONTROLLER, Fc, fcid
+from .frames import Fc, fcid
 
 E_D_TOV, R_A_TOV = 2_000, 10_000  # milliseconds: the usual ones
 PATIENCE = 2 * R_A_TOV  # of a link service without an answer
-FIRST_SERVICE = 0xFF0000
 QUERIES = ("GA_NXT", "GPN_ID", "GNN_ID", "GFT_ID", "GFF_ID", "GID_PN", "GID_FT", "GPN_FT", "GNN_FT", "GID_PT", "ADISC", "PLOGI")
 SOON = 10_000  # milliseconds behind an RSCN within which a host that asks has asked
 BLS_SIZES = {0x81: 0, 0x84: 12, 0x85: 4}
@@ -19,8 +18,7 @@ def ended_between(talk: Talk, one: Exchange, until: float) -> bool:
     fc = one.request.fc
     if fc is None:
         return True
-    own = fc.d_id if one.request.is_switch else fc.s_id
-    if any(grant.address == own and grant.ended and one.request.clock <= grant.ended.clock <= until for grant in talk.grants):
+    if talk.gave_up(fc.d_id if one.request.is_switch else fc.s_id, one.request.clock, until):
         return True
     pair = {fc.s_id, fc.d_id}
     return any(it.heard.kind == "LOGO" and it.fc and {it.fc.s_id, it.fc.d_id} == pair and one.request.clock <= it.clock <= until for it in talk.frames if it is not one.request)
@@ -227,11 +225,10 @@ def aborts(talk: Talk, tally: Tally) -> None:
 def abts_known(talk: Talk, tally: Tally) -> None:
     for it, fc in talk.in_fcoe():
         if it.heard.kind == "ABTS":
-            one = talk.exchanges.of_frame.get(it.at)
-            if one is not None:
+            if it.at in talk.exchanges.of_frame:
                 tally.held.append(it)
-            elif not talk.is_two_way:
-                tally.leave(ONE_WAY, it)
+            elif not talk.grant_of(it.heard.source, it.at):
+                tally.leave(ONE_WAY if not talk.is_two_way else "its exchange may have begun before the capture", it)
             else:
                 tally.judge(it, Fault("OX_ID", f"{fc.ox_id:04x}", f"that of an exchange with {fcid(fc.d_id)}"))
 
@@ -244,8 +241,8 @@ def abts_answered(talk: Talk, tally: Tally) -> None:
         reply = next((one for one in talk.own if one.at > it.at and one.heard.kind in ("BA_ACC", "BA_RJT") and one.fc and one.fc.ox_id == fc.ox_id and one.fc.d_id == fc.s_id), None)
         if reply:
             tally.judge(reply, want("answer", f"{(reply.clock - it.clock) / 1000:.1f} s behind the ABTS", "within twice R_A_TOV", reply.clock - it.clock <= PATIENCE))
-        elif talk.end - it.clock < PATIENCE:
-            tally.leave("no answer until the capture ends", it)
+        elif talk.end - it.clock < PATIENCE or talk.gave_up(fc.d_id, it.clock, it.clock + PATIENCE):
+            tally.leave("no answer until its login or the capture ends", it)
         else:
             tally.judge(it, Fault("answer", "none", "a BA_ACC or BA_RJT"))
 

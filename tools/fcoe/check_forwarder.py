@@ -1,11 +1,10 @@
 """Rules on the forwarder, where its frames are in the capture (FC-BB-5, FC-LS-2, FC-FS-3)."""
-from typing import Optional
 
 from .check_discovery import FROM_FORWARDER, SOLICITED, has_kinds
-from .check_exchange import PATIENCE, R_A_TOV
+from .check_exchange import PATIENCE, R_A_TOV, ended_between
 from .check_frames import sizes
 from .check_rules import FCF, Fault, Group, Rule, Tally, want
-from .check_talk import PERIODS, RESPONDER, Grant, Shown, Talk, mac_in, period_in
+from .check_talk import PERIODS, RESPONDER, Shown, Talk, mac_in, period_in
 from .configs import FPMA
 from .frames import ADVERTISE, ALL_ENODES, CLEAR, LOGIN, LOGIN_REPLY, SOLICIT, VLAN_TELL, colons, fc_check, fcid, granted_in, number
 
@@ -58,7 +57,7 @@ def spaced(talk: Talk, tally: Tally) -> None:
         before, period = last.get(key), period_in(it.heard)
         if before and period:
             gap = it.clock - before.clock
-            if gap > LATE * period[0] and gap <= PERIODS * period[0]:
+            if LATE * period[0] < gap <= PERIODS * period[0]:
                 tally.leave(f"{gap / 1000:.1f} s without an advertisement, with a period of {period[0] / 1000:g} s: one may be missing from the capture", it)
             else:
                 tally.judge(it, want("time without an advertisement", f"{gap / 1000:.1f} s behind frame {before.place}", f"one each {period[0] / 1000:g} s", gap <= PERIODS * period[0]))
@@ -146,8 +145,8 @@ def answered(talk: Talk, tally: Tally) -> None:
             continue
         if one.reply or one.aborted:
             tally.held.append(it)
-        elif talk.end - it.clock < PATIENCE:
-            tally.leave("no answer until the capture ends", it)
+        elif talk.end - it.clock < PATIENCE or ended_between(talk, one, it.clock + PATIENCE):
+            tally.leave("no answer until its login or the capture ends", it)
         else:
             judge_unanswered(talk, it, tally)
 

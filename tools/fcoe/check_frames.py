@@ -5,23 +5,28 @@ from typing import Iterator, Optional
 from .check_rules import ENODE, ONE_WAY, Fault, Group, Rule, Tally, want
 from .check_talk import END_SEQUENCE, RESPONDER, Shown, Talk
 from .fields import DELIMITERS, delimiter
-from .frames import EOFN, EOFT, FABRIC_PORT, NAME_SERVER, SOFI3, SOFN3, Fc, fc_check, fcid, number
+from .frames import EOFN, EOFT, SOFI3, SOFN3, Fc, fc_check, fcid, number
 
 SHORTEST, LONGEST_PAYLOAD = 60, 2112
 FIRST_SEQUENCE, INITIATIVE = 0x200000, 0x010000
 SOFS = {code for code, name in DELIMITERS.items() if name.startswith("SOF")}
 EOFS = {code for code, name in DELIMITERS.items() if name.startswith("EOF")}
-LEAST_SERVICE = 0xFF0000
 
 
 def whole(talk: Talk) -> Iterator[tuple[Shown, Fc]]:
     return ((it, fc) for it, fc in talk.in_fcoe() if it.is_whole)
 
 
+def is_padded(it: Shown) -> bool:
+    """FIP with bytes behind its list, up to the shortest frame."""
+    heard = it.heard
+    return heard.is_fip and it.is_whole and len(heard.data) == SHORTEST > heard.at + 10 + sum(len(one.data) for one in heard.descriptors)
+
+
 def padding(talk: Talk, tally: Tally) -> None:
     """A capture on the sending host has its frames before they are padded."""
     short = [it for it in talk.own if it.is_whole and len(it.heard.data) < SHORTEST]
-    padded = [it for it in talk.own if it.is_whole and len(it.heard.data) == SHORTEST]
+    padded = any(is_padded(it) for it in talk.own)
     for it in short:
         if padded:
             tally.judge(it, Fault("length", f"{len(it.heard.data)} bytes", f"{SHORTEST}, as of other frames of this host"))
@@ -80,11 +85,11 @@ def started(talk: Talk, tally: Tally) -> None:
     for it, fc in whole(talk):
         start = it.heard.data[it.heard.at + 13]
         key = (fc.s_id, fc.d_id, fc.ox_id, fc.data[fc.at + 12])
-        if start in (SOFI3, SOFN3):
-            should = SOFN3 if key in running else SOFI3
-            if key in running or fc.seq_cnt == 0 or start == SOFI3:
-                tally.judge(it, want("SOF", delimiter(start), f"{delimiter(should)}, as SEQ_CNT {fc.seq_cnt} says", start == should))
-        running[key] = 1
+        goes_on = key in running and fc.seq_cnt == running[key] + 1
+        if start in (SOFI3, SOFN3) and (goes_on or key not in running and fc.seq_cnt == 0):
+            should = SOFN3 if goes_on else SOFI3
+            tally.judge(it, want("SOF", delimiter(start), f"{delimiter(should)}, as SEQ_CNT {fc.seq_cnt} says", start == should))
+        running[key] = fc.seq_cnt
         if fc.f_ctl & END_SEQUENCE:
             running.pop(key)
 
@@ -94,13 +99,14 @@ def counted(talk: Talk, tally: Tally) -> None:
     running: dict[tuple[int, int, int, int], int] = {}
     for it, fc in whole(talk):
         key = (fc.s_id, fc.d_id, fc.ox_id, fc.data[fc.at + 12])
-        if key in running:
+        is_first = it.heard.data[it.heard.at + 13] == SOFI3
+        if key in running and not (is_first and fc.seq_cnt == 0):
             should = (running[key] + 1) & 0xFFFF
             if fc.seq_cnt > should:
                 tally.leave(f"SEQ_CNT {fc.seq_cnt} behind {running[key]}: frames may be missing from the capture", it)
             else:
                 tally.judge(it, want("SEQ_CNT", fc.seq_cnt, should))
-        elif fc.f_ctl & FIRST_SEQUENCE and it.heard.data[it.heard.at + 13] == SOFI3:
+        elif fc.f_ctl & FIRST_SEQUENCE and is_first:
             tally.judge(it, want("SEQ_CNT", fc.seq_cnt, 0))
         running[key] = fc.seq_cnt
         if fc.f_ctl & END_SEQUENCE:
@@ -129,14 +135,14 @@ def controlled(talk: Talk, tally: Tally) -> None:
         bits = fc.f_ctl
         if fc.r_ctl in (0x22, 0x02, 0x06) and fc.seq_cnt == 0:
             tally.judge(it, want("F_CTL", f"{bits:06x}", "exchange originator, first sequence", not bits & RESPONDER and bool(bits & FIRST_SEQUENCE)))
-        elif fc.r_ctl in (0x23, 0x03, 0x05, 0x07, 0x84, 0x85):
+        elif fc.r_ctl in (0x23, 0x03, 0x05, 0x07):
             tally.judge(it, want("F_CTL", f"{bits:06x}", "exchange responder", bool(bits & RESPONDER)))
 
 
 def initiative(talk: Talk, tally: Tally) -> None:
     for it, fc in whole(talk):
         if fc.f_ctl & INITIATIVE:
-            tally.judge(it, want("F_CTL", f"{fc.f_ctl:06x}", "sequence initiative with the end of a sequence alone", bool(fc.f_ctl & END_SEQUENCE)))
+            tally.usual(it, want("F_CTL", f"{fc.f_ctl:06x}", "sequence initiative with the end of a sequence alone", bool(fc.f_ctl & END_SEQUENCE)))
 
 
 def size_in(payload: bytes) -> Optional[int]:
@@ -181,7 +187,7 @@ RULES = Group(
         Rule("eof", ENODE, "FC-FS-3, frame delimiters, class 3", "EOFt stands on the last frame of a sequence, EOFn on the others.", ended),
         Rule("crc", ENODE, "FC-FS-3, CRC", "The check sequence is right.", checked),
         Rule("f-ctl", ENODE, "FC-FS-3, F_CTL", "A request comes from the exchange's originator in the first sequence, a reply from its responder.", controlled),
-        Rule("f-ctl-initiative", ENODE, "FC-FS-3, F_CTL, sequence initiative", "Sequence initiative goes over with the last frame of a sequence.", initiative),
+        Rule("f-ctl-initiative", ENODE, "FC-FS-3, F_CTL, sequence initiative", "Sequence initiative goes over with the last frame of a sequence.", initiative, True),
         Rule("seq-cnt", ENODE, "FC-FS-3, SEQ_CNT", "It begins at 0 in an exchange and goes up by one within a sequence.", counted),
         Rule("receive-size", ENODE, "FC-LS-2, receive data field size", "Payloads are no larger than what the fabric and the other N_Port take.", sizes_sent),
     ],

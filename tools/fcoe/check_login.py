@@ -1,10 +1,10 @@
 """Rules on FLOGI, FDISC and LOGO in FIP (FC-BB-5, FC-LS-2)."""
 from typing import Iterator, Optional
 
-from .check_discovery import FP, SP, has_kinds
+from .check_discovery import BEHIND, FP, SOON, SP, has_kinds
 from .check_rules import ENODE, LEFT, ONE_WAY, Fault, Group, Rule, Tally, want
 from .check_talk import Shown, Talk, mac_in
-from .frames import FABRIC_PORT, LOGIN, Fc, colons, fcid, number
+from .frames import FABRIC_PORT, LOGIN, LOGIN_REPLY, Fc, colons, fcid, number
 
 COMMANDS = {"FLOGI": 0x04, "FDISC": 0x51, "LOGO": 0x05}
 DESCRIPTOR = {"FLOGI": 7, "FDISC": 8, "LOGO": 9}
@@ -131,8 +131,8 @@ def logged_out(talk: Talk, tally: Tally) -> None:
 def again(talk: Talk, tally: Tally) -> None:
     """What follows a reject, by its reason: busy asks for another try, the others for another request."""
     for one in talk.exchanges.all:
-        reply, fc = one.reply, one.request.fc
-        if one.request.is_switch or reply is None or fc is None or reply.payload[:1] != b"\x01" or len(reply.payload) < 8 or reply.fc is None or reply.fc.kind != 1:
+        reply = one.reply
+        if one.request.is_switch or reply is None or not is_reject(reply):
             continue
         same = next((it for it in talk.own if it.at > reply.at and is_same(it, one.request)), None)
         if same is None or same.clock - reply.clock >= AT_ONCE:
@@ -140,6 +140,22 @@ def again(talk: Talk, tally: Tally) -> None:
         else:
             reason = reply.payload[5]
             tally.leave(f"the same request again {same.clock - reply.clock:.0f} ms behind a reject with reason {reason:02x} (frame {reply.place}): {LEFT}", same)
+
+
+def asked_again(talk: Talk, tally: Tally) -> None:
+    """A FLOGI that isn't answered comes again, and not at once."""
+    last: Optional[Shown] = None
+    for it, fc in sent(talk, "FLOGI"):
+        is_answered = last and any(last.at < one.at < it.at and one.heard.operation == LOGIN_REPLY for one in talk.theirs)
+        if last and not is_answered and last.heard.destination == it.heard.destination and it.clock - last.clock < BEHIND:
+            gap = round(it.clock - last.clock)
+            tally.usual(it, want(f"FLOGI {fc.ox_id:04x} again behind", f"{gap} ms", f"{SOON} ms or more", gap >= SOON))
+        last = it
+
+
+def is_reject(it: Shown) -> bool:
+    """An LS_RJT."""
+    return it.fc is not None and it.fc.kind == 1 and it.payload[:1] == b"\x01" and len(it.payload) >= 8
 
 
 def is_same(it: Shown, other: Shown) -> bool:
@@ -161,6 +177,7 @@ RULES = Group(
         Rule("login-parameters", ENODE, "FC-LS-2, service parameters", "Class 3, a receive size of 256 to 2112, port name and node name, not as a fabric port.", parameters),
         Rule("fdisc-behind-flogi", ENODE, "FC-LS-2, FDISC", "An FDISC goes out behind an accepted FLOGI that grants several addresses.", first_flogi),
         Rule("logo-names", ENODE, "FC-LS-2, LOGO; FC-BB-5, FIP LOGO", "A LOGO in FIP names its own address, MAC and port name.", logged_out),
+        Rule("login-again", ENODE, "FC-BB-5, FIP FLOGI; FC-LS-2, FLOGI", "A FLOGI without an answer is repeated, and not at once.", asked_again, True),
         Rule("reject-heeded", ENODE, "FC-LS-2, LS_RJT reasons", "A request that was rejected doesn't come again unchanged at once.", again, True),
     ],
 )

@@ -1,8 +1,8 @@
 """Rules on the name server and the fabric controller (FC-GS-6, FC-LS-2)."""
-from typing import Iterator, Optional
+from typing import Iterator
 
 from .check_exchange import behind_plogi
-from .check_rules import ENODE, ONE_WAY, Fault, Group, Rule, Tally, want
+from .check_rules import ENODE, Fault, Group, Rule, Tally, want
 from .check_talk import Shown, Talk
 from .frames import CONTROLLER, CT, NAME_SERVER, Fc, fcid, number
 
@@ -43,7 +43,7 @@ def preamble(talk: Talk, tally: Tally) -> None:
             want("CT revision", f"{payload[0]:02x}", "01 or later", payload[0] > 0),
             want("IN_ID", payload[1:4].hex(), "000000"),
             want("GS type and subtype", payload[4:6].hex(), "fc02 (name server)", payload[4:6] == b"\xfc\x02"),
-            want("reason and explanation", payload[12:16].hex(), "00000000"),
+            want("reason and explanation", payload[13:15].hex(), "0000"),
         )
 
 
@@ -75,7 +75,7 @@ def node_name(talk: Talk, tally: Tally) -> None:
             elif one.heard.kind == "RNN_ID" and len(other.payload) >= PREAMBLE + 12:
                 known[other.payload[PREAMBLE + 4 : PREAMBLE + 12]] = one
         if known:
-            tally.judge(it, want("node name", rest[:8].hex(), f"{' or '.join(it.hex() for it in known)}, as registered", rest[:8] in known))
+            tally.usual(it, want("node name", rest[:8].hex(), f"{' or '.join(it.hex() for it in known)}, as registered", rest[:8] in known))
 
 
 def types(rest: bytes) -> set[int]:
@@ -121,7 +121,7 @@ RULES = Group(
         Rule("ct-preamble", ENODE, "FC-GS-6, CT_IU preamble", "A request has IN_ID 0, the name server's type and subtype, no reason.", preamble),
         Rule("ct-size", ENODE, "FC-GS-6, name server, requests", "A request has the bytes of its command, and a symbolic name those of its length.", sized),
         Rule("register-own", ENODE, "FC-GS-6, name server, registrations", "An N_Port registers its own address.", own_address, True),
-        Rule("register-node-name", ENODE, "FC-GS-6, RSNN_NN", "A symbolic node name is of a node name that is registered.", node_name),
+        Rule("register-node-name", ENODE, "FC-GS-6, RSNN_NN", "A symbolic node name is of a node name that is registered.", node_name, True),
         Rule("register-order", ENODE, "FC-GS-6, RFT_ID and RFF_ID", "Features are registered behind their FC-4 type.", features_behind_types, True),
         Rule("register-types", ENODE, "FC-GS-6, RFT_ID; FC-LS-2, PRLI", "The FC-4 types that are used are registered.", types_used, True),
         Rule("scr-function", ENODE, "FC-LS-2, SCR", "SCR has a function of the table.", watched),

@@ -7,7 +7,7 @@ from typing import Hashable, Iterator, Optional, Sequence
 from .columns import MILLISECOND
 from .configs import FPMA
 from .enodes import enodes_of
-from .frames import ADVERTISE, CLEAR, KEEP_ALIVE, LOGIN, LOGIN_REPLY, Fc, Heard, colons, granted_in, login_names, number
+from .frames import ADVERTISE, ALL_ENODES, CLEAR, KEEP_ALIVE, LOGIN, LOGIN_REPLY, Fc, Heard, colons, granted_in, login_names, number
 from .inputs import Port
 from .progress import PROGRESS
 
@@ -84,6 +84,15 @@ class Grant:
     @property
     def forwarder(self) -> bytes:
         return self.granted.heard.source
+
+
+@dataclass(frozen=True)
+class Silence:
+    """A forwarder without an advertisement: the last one, the moment at which links end by it, and when it came back or the capture ends."""
+
+    last: Shown
+    begin: float
+    end: float
 
 
 def fpma(address: int) -> bytes:
@@ -212,8 +221,8 @@ class Talk:
 
     @property
     def is_two_way(self) -> bool:
-        """The capture has the switch's frames too."""
-        return bool(self.theirs)
+        """The capture has what the switch sends to it, too; what goes to all ENodes may be heard anywhere."""
+        return any(not it.heard.destination[0] & 1 for it in self.theirs)
 
     @property
     def end(self) -> float:
@@ -289,8 +298,36 @@ class Talk:
         return next((it for it in reversed(self.advertisements) if it.at < at and forwarder in (None, it.heard.source)), None)
 
     def began_before(self, it: Shown) -> bool:
-        """The ENode may have logged in before the capture began: nothing of a discovery or a login stands before this frame."""
-        return not any(one.at < it.at and one.heard.kind in ("VLAN request", "Solicitation", "FLOGI") for one in self.own)
+        """The ENode may have logged in before the capture began: no accepted FLOGI stands before this frame, nor a discovery with a FLOGI at the
+        begin of all that it sent."""
+        if any(grant.granted.at < it.at for grant in self.grants):
+            return False
+        first, kinds = next(iter(self.own), it), {one.heard.kind for one in self.own if one.at < it.at}
+        return first.heard.kind not in ("VLAN request", "Solicitation") or "FLOGI" not in kinds
+
+    @cached_property
+    def silences(self) -> list[Silence]:
+        """Where a forwarder fell silent for two and a half periods: from which advertisement on, from when on, and until when."""
+        by_forwarder: dict[tuple[bytes, int], list[Shown]] = {}
+        for it in self.advertisements:
+            by_forwarder.setdefault((it.heard.source, it.heard.vlan), []).append(it)
+        found = []
+        for some in by_forwarder.values():
+            if not any(it.heard.destination == ALL_ENODES for it in some):
+                continue
+            for it, after in zip(some, [*some[1:], None]):
+                period, until = period_in(it.heard), after.clock if after else self.end
+                if period and until - it.clock > PERIODS * period[0]:
+                    found.append(Silence(it, it.clock + PERIODS * period[0], until))
+        return found
+
+    def gave_up(self, address: int, begin: float, end: float) -> bool:
+        """The ENode or its forwarder ended the login of an address meanwhile: by FLOGI, LOGO, Clear Virtual Links, a solicitation or silence."""
+        if any(it.begin <= end and begin <= it.end for it in self.silences):
+            return True
+        kinds = ("FLOGI", "Solicitation", "VLAN request", "Clear links")
+        some = [it for it in self.frames if begin <= it.clock <= end and it.heard.is_fip]
+        return any(it.heard.kind in kinds or it.heard.kind == "LOGO" and it.fc and it.fc.s_id == address for it in some)
 
 
 Told = dict[bytes, list[tuple[int, bytes]]]  # of a MAC: places in the capture, and the ENode that has it from there on

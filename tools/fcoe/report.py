@@ -16,6 +16,7 @@ from .ladder import LEGEND
 from .looking import Look
 from .moments import short, stamp
 from .places import text_of
+from .report_check import check_rows
 from .report_frames import frames_of_page, rules_of
 from .report_zoning import reach_rows, whatif_rows
 from .texts import UNGRANTED, Line, lines_of, together
@@ -146,6 +147,7 @@ def values_of(look: Look) -> Row:
         "busiest": stamp(busiest(look)),
         "reach": reach_rows(look),
         "whatif": whatif_rows(look),
+        "checks": check_rows(look, found["from"]),
     }
 
 

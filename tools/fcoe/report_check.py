@@ -1,0 +1,48 @@
+"""The report's section of what the standards ask, and what the captures show of it."""
+import tempfile
+from typing import Any
+
+from .check_command import Checked, Found, Row, check, of_session, spot, whys
+from .check_rules import BROKEN, HELD, OPEN, STATES, UNSEEN
+from .frames import colons
+from .looking import Look
+from .moments import short
+
+LISTED = 20  # frames of a rule that the page lists
+
+
+def checked(look: Look) -> Checked:
+    """The rules over the captures; over a run that exists in both directions."""
+    if look.program:
+        return check(look.captured)
+    with tempfile.TemporaryDirectory() as room:
+        return check(of_session(look, room))
+
+
+def broken_row(it: Found, first: int) -> Row:
+    frames = [
+        {"spot": spot(it.talk, shown), "at": short(int(shown.clock), first), "kind": shown.heard.kind, "field": fault.field, "stands": fault.stands, "should": fault.should}
+        for shown, fault in it.tally.broken[:LISTED]
+    ]
+    return {"rule": it.rule.name, "text": it.rule.text, "source": it.rule.source, "frames": frames, "more": max(len(it.tally.broken) - LISTED, 0)}
+
+
+def check_rows(look: Look, first: int) -> list[dict[str, Any]]:
+    """Each host and forwarder with its rules by their states."""
+    found = []
+    for talk, rows in checked(look).by_whom():
+        of = {state: [it for it in rows if it.tally.state == state] for state in STATES}
+        found.append(
+            {
+                "who": rows[0].who,
+                "port": talk.port.number,
+                "mac": colons(talk.mac),
+                "directions": "both directions" if talk.is_two_way else "its direction alone",
+                "counts": {state: len(some) for state, some in of.items()},
+                "broken": [broken_row(it, first) for it in of[BROKEN]],
+                "open": [{"rule": it.rule.name, "text": it.rule.text, "whys": list(whys(it))} for it in of[OPEN]],
+                "held": [{"rule": it.rule.name, "text": it.rule.text, "source": it.rule.source, "frames": len(it.tally.held)} for it in of[HELD]],
+                "unseen": [it.rule.name for it in of[UNSEEN]],
+            }
+        )
+    return found
