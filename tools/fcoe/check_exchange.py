@@ -20,8 +20,8 @@ def ended_between(talk: Talk, one: Exchange, until: float) -> bool:
         return True
     if talk.gave_up(fc.d_id if one.request.is_switch else fc.s_id, one.request.clock, until):
         return True
-    pair = {fc.s_id, fc.d_id}
-    return any(it.heard.kind == "LOGO" and it.fc and {it.fc.s_id, it.fc.d_id} == pair and one.request.clock <= it.clock <= until for it in talk.frames if it is not one.request)
+    logos = talk.exchanges.by_pair.get(frozenset((fc.s_id, fc.d_id)), [])
+    return any(it is not one and it.request.heard.kind == "LOGO" and one.request.clock <= it.request.clock <= until for it in logos)
 
 
 def own_requests(talk: Talk, *r_ctls: int) -> Iterator[tuple[Exchange, Fc]]:
@@ -109,8 +109,8 @@ def rscn_heeded(talk: Talk, tally: Tally) -> None:
     for one in asked_of_host(talk):
         if one.request.heard.kind != "RSCN" or not one.reply or one.reply.payload[:1] != b"\x02":
             continue
-        after = [it for it in talk.own if one.request.clock <= it.clock <= one.request.clock + SOON and it.at > one.request.at]
-        asked = next((it for it in after if it.heard.kind in QUERIES), None)
+        after = talk.within(one.request.clock, one.request.clock + SOON)
+        asked = next((it for it in after if it.at > one.request.at and not it.is_switch and it.heard.kind in QUERIES), None)
         if asked:
             tally.held.append(asked)
         elif talk.end < one.request.clock + SOON:
@@ -146,17 +146,15 @@ def logged(talk: Talk, it: Shown, fc: Fc) -> tuple[bool, bool]:
     """Whether a PLOGI between both ends stands before a frame, and whether it was accepted; both since the grant of the address."""
     grant = next((one for one in reversed(talk.grants) if one.address == fc.s_id and one.granted.at < it.at), None)
     since = grant.granted.at if grant else -1
-    pair, asked, accepted = {fc.s_id, fc.d_id}, False, False
-    for one in talk.exchanges.all:
-        first = one.request
-        if first.at >= it.at:
-            break
-        if first.at > since and first.heard.kind == "PLOGI" and first.fc and {first.fc.s_id, first.fc.d_id} == pair:
-            asked = True
-            accepted = bool(one.reply and one.reply.at < it.at and one.reply.payload[:1] == b"\x02")
-        elif first.at > since and first.heard.kind == "LOGO" and first.heard.is_fcoe and first.fc and {first.fc.s_id, first.fc.d_id} == pair:
-            asked = accepted = False
-    return asked, accepted
+    ended = [one.request.at for one in talk.exchanges.between(fc, "LOGO", it.at)]
+    since = max([since, *ended])
+    asked = [one for one in talk.exchanges.between(fc, "PLOGI", it.at) if one.request.at > since]
+    return bool(asked), bool(asked) and is_accepted(asked[-1], it)
+
+
+def is_accepted(one: Exchange, it: Shown) -> bool:
+    """Accepted before a frame."""
+    return one.reply is not None and one.reply.at < it.at and one.reply.payload[:1] == b"\x02"
 
 
 def behind_plogi(talk: Talk, it: Shown, fc: Fc, tally: Tally) -> None:
@@ -193,9 +191,9 @@ def command_behind_prli(talk: Talk, tally: Tally) -> None:
     for one, fc in own_requests(talk, 0x06):
         if fc.kind != 0x08:
             continue
-        pair, it = {fc.s_id, fc.d_id}, one.request
-        asked = [two for two in talk.exchanges.all if two.request.at < it.at and two.request.heard.kind == "PRLI" and two.request.fc and {two.request.fc.s_id, two.request.fc.d_id} == pair]
-        if any(two.reply and two.reply.at < it.at and two.reply.payload[:1] == b"\x02" for two in asked) or asked and not talk.is_two_way:
+        it = one.request
+        asked = talk.exchanges.between(fc, "PRLI", it.at)
+        if any(is_accepted(two, it) for two in asked) or asked and not talk.is_two_way:
             tally.held.append(it)
         elif not talk.grant_of(it.heard.source, it.at):
             tally.leave("the login of its N_Port isn't in the capture", it)
@@ -238,7 +236,7 @@ def abts_answered(talk: Talk, tally: Tally) -> None:
         fc = it.heard.fc
         if fc is None or not any(grant.address == fc.d_id for grant in talk.live(it.at)):
             continue
-        reply = next((one for one in talk.own if one.at > it.at and one.heard.kind in ("BA_ACC", "BA_RJT") and one.fc and one.fc.ox_id == fc.ox_id and one.fc.d_id == fc.s_id), None)
+        reply = next((one for one in talk.within(it.clock, talk.end) if one.at > it.at and not one.is_switch and one.heard.kind in ("BA_ACC", "BA_RJT") and one.fc and one.fc.ox_id == fc.ox_id and one.fc.d_id == fc.s_id), None)
         if reply:
             tally.judge(reply, want("answer", f"{(reply.clock - it.clock) / 1000:.1f} s behind the ABTS", "within twice R_A_TOV", reply.clock - it.clock <= PATIENCE))
         elif talk.end - it.clock < PATIENCE or talk.gave_up(fc.d_id, it.clock, it.clock + PATIENCE):

@@ -6,7 +6,7 @@ from .check_frames import sizes
 from .check_rules import FCF, Fault, Group, Rule, Tally, want
 from .check_talk import PERIODS, RESPONDER, Shown, Talk, mac_in, period_in
 from .configs import FPMA
-from .frames import ADVERTISE, ALL_ENODES, CLEAR, LOGIN, LOGIN_REPLY, SOLICIT, VLAN_TELL, colons, fc_check, fcid, granted_in, number
+from .frames import ADVERTISE, ALL_ENODES, CLEAR, LOGIN_REPLY, SOLICIT, VLAN_TELL, colons, fc_check, fcid, granted_in, number
 
 MESSAGES = {ADVERTISE: (1, 2, 4, 5, 12), CLEAR: (2, 4), VLAN_TELL: (2,)}
 LATE = 1.5
@@ -92,7 +92,7 @@ def replied(talk: Talk, tally: Tally) -> None:
         fc = it.heard.fc
         if it.heard.operation != LOGIN_REPLY or fc is None:
             continue
-        waiting = [one for one in talk.own if one.at < it.at and one.heard.operation == LOGIN and one.heard.source == it.heard.destination and one.heard.login_kind == it.heard.login_kind]
+        waiting = [one for one in talk.logins if one.at < it.at and one.heard.source == it.heard.destination and one.heard.login_kind == it.heard.login_kind]
         known = {one.fc.ox_id for one in waiting if one.fc}
         if not waiting or it.clock - waiting[-1].clock > PATIENCE:
             tally.leave("its request isn't in the capture", it)

@@ -4,7 +4,7 @@ from typing import Iterator, Optional
 from .check_discovery import BEHIND, FP, SOON, SP, has_kinds
 from .check_rules import ENODE, LEFT, ONE_WAY, Fault, Group, Rule, Tally, want
 from .check_talk import Shown, Talk, mac_in
-from .frames import FABRIC_PORT, LOGIN, LOGIN_REPLY, Fc, colons, fcid, number
+from .frames import FABRIC_PORT, LOGIN_REPLY, Fc, colons, fcid, number
 
 COMMANDS = {"FLOGI": 0x04, "FDISC": 0x51, "LOGO": 0x05}
 DESCRIPTOR = {"FLOGI": 7, "FDISC": 8, "LOGO": 9}
@@ -15,9 +15,9 @@ AT_ONCE = 100  # milliseconds behind a reject within which the same request is h
 
 def sent(talk: Talk, *kinds: str) -> Iterator[tuple[Shown, Fc]]:
     """The ENode's logins in FIP of some kinds."""
-    for it in talk.own:
+    for it in talk.logins:
         fc = it.heard.fc
-        if it.heard.operation == LOGIN and it.heard.login_kind in kinds and fc is not None and it.is_whole:
+        if it.heard.login_kind in kinds and fc is not None and it.is_whole:
             yield it, fc
 
 
@@ -134,8 +134,8 @@ def again(talk: Talk, tally: Tally) -> None:
         reply = one.reply
         if one.request.is_switch or reply is None or not is_reject(reply):
             continue
-        same = next((it for it in talk.own if it.at > reply.at and is_same(it, one.request)), None)
-        if same is None or same.clock - reply.clock >= AT_ONCE:
+        same = next((it for it in talk.within(reply.clock, reply.clock + AT_ONCE) if it.at > reply.at and is_same(it, one.request)), None)
+        if same is None:
             tally.held.append(reply)
         else:
             reason = reply.payload[5]

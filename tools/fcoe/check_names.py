@@ -92,10 +92,14 @@ def features_behind_types(talk: Talk, tally: Tally) -> None:
 
 def types_used(talk: Talk, tally: Tally) -> None:
     """Whoever uses an FC-4 type by PRLI registers it."""
+    by_address: dict[int, list[set[int]]] = {}
+    for _, other, more in requests(talk, 0x0217):
+        if len(more) >= 36:
+            by_address.setdefault(other.s_id, []).append(types(more))
     for it, fc in talk.in_fcoe():
         if it.heard.kind != "PRLI" or fc.r_ctl != 0x22 or len(fc.payload) < 8:
             continue
-        told = [types(more) for one, other, more in requests(talk, 0x0217) if other.s_id == fc.s_id and len(more) >= 36]
+        told = by_address.get(fc.s_id)
         if told:
             tally.usual(it, want("FC-4 type of PRLI", f"{fc.payload[4]:02x}", "one that it registered by RFT_ID", any(fc.payload[4] in some for some in told)))
 

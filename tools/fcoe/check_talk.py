@@ -1,4 +1,5 @@
 """What ENodes and the switch said to each other on a port, in order, with exchanges and grants: what the rules of `look check` are judged over."""
+from bisect import bisect_left, bisect_right
 from dataclasses import dataclass, field
 from functools import cached_property
 from itertools import accumulate
@@ -161,6 +162,7 @@ class Exchanges:
         self.all: list[Exchange] = []
         self.open: dict[Hashable, Exchange] = {}
         self.of_frame: dict[int, Exchange] = {}
+        self.by_pair: dict[frozenset[int], list[Exchange]] = {}  # of PLOGI, PRLI and LOGO, by both addresses
 
     def begin(self, it: Shown, key: Hashable) -> Exchange:
         if it.heard.kind == "LOGO":
@@ -170,7 +172,13 @@ class Exchanges:
             found.reused = it
         made = self.open[key] = Exchange(it)
         self.all.append(made)
+        if it.heard.kind in ("PLOGI", "PRLI", "LOGO") and it.heard.is_fcoe and it.fc:
+            self.by_pair.setdefault(frozenset((it.fc.s_id, it.fc.d_id)), []).append(made)
         return made
+
+    def between(self, fc: Fc, kind: str, at: int) -> list[Exchange]:
+        """The exchanges of a kind between both ends of a frame, before it."""
+        return [it for it in self.by_pair.get(frozenset((fc.s_id, fc.d_id)), []) if it.request.heard.kind == kind and it.request.at < at]
 
     def log_out(self, it: Shown) -> None:
         """A LOGO ends the exchanges between both N_Ports."""
@@ -243,6 +251,19 @@ class Talk:
     def by_switch(self, *kinds: str) -> Iterator[Shown]:
         return (it for it in self.theirs if it.heard.kind in kinds)
 
+    @cached_property
+    def clocks(self) -> list[float]:
+        return [it.clock for it in self.frames]
+
+    def within(self, begin: float, end: float) -> list[Shown]:
+        """The frames between two moments."""
+        return self.frames[bisect_left(self.clocks, begin) : bisect_right(self.clocks, end)]
+
+    @cached_property
+    def logins(self) -> list[Shown]:
+        """The ENode's FLOGIs, FDISCs and LOGOs in FIP."""
+        return [it for it in self.own if it.heard.operation == LOGIN]
+
     def in_fcoe(self) -> Iterator[tuple[Shown, Fc]]:
         """The ENode's frames in FCoE."""
         return ((it, it.heard.fc) for it in self.own if it.heard.is_fcoe and it.heard.fc is not None)
@@ -278,7 +299,7 @@ class Talk:
     def request_of(self, it: Shown) -> Optional[Shown]:
         """The request in FIP that this frame answers."""
         fc = it.heard.fc
-        earlier = (asked for asked in reversed(self.own) if asked.at < it.at and asked.heard.operation == LOGIN and asked.heard.source == it.heard.destination)
+        earlier = (asked for asked in reversed(self.logins) if asked.at < it.at and asked.heard.source == it.heard.destination)
         return next((asked for asked in earlier if asked.fc and fc and asked.fc.ox_id == fc.ox_id), None)
 
     def live(self, at: int, enode: Optional[bytes] = None) -> list[Grant]:
@@ -326,7 +347,7 @@ class Talk:
         if any(it.begin <= end and begin <= it.end for it in self.silences):
             return True
         kinds = ("FLOGI", "Solicitation", "VLAN request", "Clear links")
-        some = [it for it in self.frames if begin <= it.clock <= end and it.heard.is_fip]
+        some = [it for it in self.within(begin, end) if it.heard.is_fip]
         return any(it.heard.kind in kinds or it.heard.kind == "LOGO" and it.fc and it.fc.s_id == address for it in some)
 
 
