@@ -2,7 +2,7 @@
 import os
 from dataclasses import dataclass, field
 from itertools import groupby
-from typing import Any, Iterable, Iterator, Optional, Sequence
+from typing import Any, Iterator, Optional, Sequence
 
 from . import check_address, check_alive, check_discovery, check_exchange, check_forwarder, check_frames, check_login, check_names
 from .captures import classic, write_classic
@@ -220,7 +220,3 @@ def rules_text() -> list[str]:
 
 def rules_data() -> list[Row]:
     return [{"rule": it.name, "group": group.name, "who": it.who, "source": it.source, "text": it.text, "is_choice": it.is_choice} for group in GROUPS for it in group.rules]
-
-
-def names(rules: Iterable[Group]) -> list[str]:
-    return [it.name for group in rules for it in group.rules]

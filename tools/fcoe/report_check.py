@@ -9,6 +9,7 @@ from .looking import Look
 from .moments import short
 
 LISTED = 20  # frames of a rule that the page lists
+WHOLE = 8  # hosts and forwarders up to which each has its tables; of more those with a broken rule alone
 
 
 def checked(look: Look) -> Checked:
@@ -29,16 +30,19 @@ def broken_row(it: Found, first: int) -> Row:
 
 def check_rows(look: Look, first: int) -> list[dict[str, Any]]:
     """Each host and forwarder with its rules by their states."""
-    found = []
-    for talk, rows in checked(look).by_whom():
+    found, everyone = [], list(checked(look).by_whom())
+    for talk, rows in everyone:
         of = {state: [it for it in rows if it.tally.state == state] for state in STATES}
+        counts = {state: len(some) for state, some in of.items()}
+        if len(everyone) > WHOLE and not of[BROKEN]:
+            of = {state: [] for state in STATES}
         found.append(
             {
                 "who": rows[0].who,
                 "port": talk.port.number,
                 "mac": colons(talk.mac),
                 "directions": "both directions" if talk.is_two_way else "its direction alone",
-                "counts": {state: len(some) for state, some in of.items()},
+                "counts": counts,
                 "broken": [broken_row(it, first) for it in of[BROKEN]],
                 "open": [{"rule": it.rule.name, "text": it.rule.text, "whys": list(whys(it))} for it in of[OPEN]],
                 "held": [{"rule": it.rule.name, "text": it.rule.text, "source": it.rule.source, "frames": len(it.tally.held)} for it in of[HELD]],
