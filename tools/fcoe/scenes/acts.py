@@ -1,0 +1,67 @@
+"""What the peer does in scenes."""
+from typing import Callable
+
+from ..host.enode import ENode
+from ..host.asking import Asked
+from ..host.speech import ABORT, ECHO, Head, accept, logout
+from .script import Peer
+
+ELS, BLS = 0x01, 0x00
+STRANGE = 0x77  # a link service that nobody knows
+OPEN_NOWHERE = 0x7ABC  # an OX_ID that no exchange has
+TEXT = bytes(range(16))
+
+
+def partners(peer: ENode) -> list[int]:
+    """The addresses that are logged in at the peer."""
+    return [address for port in peer.ports for address, it in port.peers.items() if it.is_logged_in]
+
+
+def refuses(reason: int, explanation: int) -> Callable[[ENode], None]:
+    def act(peer: ENode) -> None:
+        peer.manner.refuses = (reason, explanation)
+
+    return act
+
+
+def refuses_process(reason: int, explanation: int) -> Callable[[ENode], None]:
+    def act(peer: ENode) -> None:
+        peer.manner.refuses_process = (reason, explanation)
+
+    return act
+
+
+def falls_silent(peer: ENode) -> None:
+    peer.is_mute = True
+
+
+def asks(payload: bytes) -> Callable[[ENode], None]:
+    def act(peer: ENode) -> None:
+        for address in partners(peer):
+            peer.ports[0].ask(Asked(address, ELS, payload, lambda _: None, tries=9))
+
+    return act
+
+
+def logs_out(peer: ENode) -> None:
+    """LOGO to its partners, not to the fabric."""
+    port = peer.ports[0]
+    for address in partners(peer):
+        port.forget(address)
+        port.ask(Asked(address, ELS, logout(port.address, port.name), lambda _: None, tries=9))
+
+
+def aborts(peer: ENode) -> None:
+    for address in partners(peer):
+        peer.ports[0].send(address, Head(0x81, BLS, ABORT, OPEN_NOWHERE), b"")
+
+
+STARTS = Peer("logs in", ENode.start)
+STOPS = Peer("logs out at the fabric", ENode.stop)
+FALLS_SILENT = Peer("sends no keep alives any more", falls_silent)
+REFUSES = Peer("rejects PLOGIs (03 00)", refuses(0x03, 0x00))
+REFUSES_PRLI = Peer("rejects PRLIs (03 00)", refuses_process(0x03, 0x00))
+LOGS_OUT = Peer("sends LOGO to the host", logs_out)
+ECHOES = Peer("sends ECHO", asks(bytes([ECHO, 0, 0, 0]) + TEXT))
+ASKS_STRANGE = Peer("sends a link service that isn't known (77)", asks(bytes([STRANGE]) + accept()[1:]))
+ABORTS = Peer("sends ABTS of an exchange that isn't open", aborts)

@@ -1,0 +1,47 @@
+"""Keep alives, and a forwarder that falls silent."""
+from .changes import period
+from .holding import ADVERTISED_ALL, ALIVE, FABRIC_LOGIN, FIRST, FLOGI, FROM_ENODE, IN_VLAN, PORT_ALIVE, PORT_KEEP, TO_FORWARDER, quiet, stays, upto_login
+from .script import ANY, Begin, Like, Lose, Never, OtherMac, Rewrite, Scene, Setup, Spaced, Straight, Wait, Want, kind
+
+SOURCE, SILENCE = "FC-BB-5, FIP keep alive", "FC-BB-5, FIP discovery: 2.5 periods without an advertisement"
+OTHER = bytes.fromhex("00051e0000ee")
+LOOKS = Like(("Solicitation", "VLAN request"), words="solicitation or VLAN request")
+KEEPS = Like(("Keep alive", "VN_Port keep alive"), words="keep alive")
+BEATS = Want(ALIVE, FIRST, (IN_VLAN, TO_FORWARDER, FROM_ENODE))
+
+SCENES = (
+    Scene("keep-alive", "The period is a second: keep alives come each second.", SOURCE, (*upto_login(), BEATS, Spaced(ALIVE, 6, 0.3, 1.6))),
+    Scene("keep-alive-slow", "The period is three seconds: keep alives come each three.", SOURCE, (*upto_login(), BEATS, Spaced(ALIVE, 4, 1.5, 4.5)), Setup(period=3000)),
+    Scene(
+        "period-changes",
+        "The advertised period changes from two seconds to 0.6: keep alives come faster.",
+        SOURCE,
+        (*upto_login(), Begin(Rewrite(period(600), "a period of 600 ms", ADVERTISED_ALL)), Want(ALIVE, FIRST, count=4), Spaced(ALIVE, 6, 0.1, 1.1)),
+        Setup(period=2000),
+    ),
+    Scene(
+        "port-keep-alive",
+        "Within 90 seconds a keep alive of the VN_Port comes (the scene takes that long).",
+        SOURCE,
+        (*upto_login(), Want(PORT_KEEP, 95, (IN_VLAN, TO_FORWARDER, PORT_ALIVE))),
+    ),
+    Scene("advertisement-lost", "One advertisement is lost: the host stays.", SILENCE, (*upto_login(), Wait(2.5), Begin(Lose(ADVERTISED_ALL, 1)), stays(6))),
+    Scene(
+        "forwarder-silent",
+        "The forwarder falls silent: the host ends its logins, looks for a forwarder, and logs in once it is back.",
+        SILENCE,
+        (*upto_login(), BEATS, Begin(Lose(ANY)), Want(LOOKS, 15), quiet(3, 0.5), Never(KEEPS, 1), Straight(), Want(FLOGI, FIRST, FABRIC_LOGIN), BEATS),
+    ),
+    Scene(
+        "advertisements-cease",
+        "Advertisements cease, all else arrives: the host ends its logins, and doesn't log in without an advertisement.",
+        SILENCE,
+        (*upto_login(), BEATS, Begin(Lose(kind("Advertisement"))), Want(LOOKS, 15), quiet(3, 0.5), Never(FLOGI, 2), Straight(), Want(FLOGI, FIRST, FABRIC_LOGIN)),
+    ),
+    Scene(
+        "other-mac",
+        "The forwarder comes back with another MAC: the host logs in there, and sends nothing to the old one.",
+        SILENCE,
+        (*upto_login(), BEATS, Begin(OtherMac(OTHER)), Want(FLOGI, FIRST, FABRIC_LOGIN), Want(ALIVE, FIRST, (IN_VLAN, TO_FORWARDER, FROM_ENODE)), stays(4)),
+    ),
+)

@@ -1,0 +1,86 @@
+"""FLOGI, FDISC and LOGO in FIP."""
+from ..frames import NAME_SERVER, Heard
+from .acts import STOPS
+from .holding import ACCEPTED, ASKS_FP, AT_NAMES, FABRIC_LOGIN, FDISC, FIRST, FIRST_LOGIN, FLOGI, FROM_ENODE_MAC, IN_FABRIC
+from .holding import IN_VLAN, LATER, LINK_SERVICE, NEW_OX_ID, TO_FORWARDER, stays, upto_login
+from .script import FCOE, All, EndHost, Holds, Late, Lose, Never, Scene, Setup, Twice, Want, World, kind
+
+SOURCE, EXCHANGES = "FC-BB-5, FIP FLOGI; FC-LS-2, FLOGI", "FC-FS-3, exchange identifiers"
+ALONE = Setup(peer="none")
+ENTERS = kind("PLOGI", to=NAME_SERVER)
+
+
+def is_second_login(heard: Heard, world: World) -> bool:
+    """A PLOGI from a granted MAC, and from an S_ID that had none before."""
+    if heard.kind != "PLOGI" or heard.fc is None:
+        return True
+    earlier = [it.fc.s_id for it in world.said if it is not heard and it.kind == "PLOGI" and it.fc is not None and it.fc.d_id == heard.fc.d_id]
+    return world.granted.get(heard.fc.s_id) == heard.source and heard.fc.s_id not in earlier
+
+
+SCENES = (
+    Scene("login", "The host logs in, and sends FCoE from the MAC that it was granted.", SOURCE, upto_login(), ALONE),
+    Scene(
+        "flogi-lost",
+        "Two FLOGIs are lost: the host sends another, in an exchange of its own.",
+        f"{SOURCE}; {EXCHANGES}",
+        (Want(FLOGI, FIRST, FABRIC_LOGIN), Want(FLOGI, LINK_SERVICE, (*FABRIC_LOGIN, NEW_OX_ID), 2), Want(AT_NAMES, LATER, IN_FABRIC)),
+        Setup(peer="none", bends=(Lose(FLOGI, 2, from_host=True),)),
+    ),
+    Scene(
+        "accept-lost",
+        "The accept of a FLOGI is lost: the host sends another FLOGI, and uses what that was granted.",
+        f"{SOURCE}; {EXCHANGES}",
+        (Want(FLOGI, FIRST, FABRIC_LOGIN), Want(FLOGI, LINK_SERVICE, (*FABRIC_LOGIN, NEW_OX_ID), without=FCOE), Want(AT_NAMES, LATER, IN_FABRIC)),
+        Setup(peer="none", bends=(Lose(ACCEPTED, 1),)),
+    ),
+    Scene("accept-twice", "The accept of the FLOGI arrives twice: the host is logged in once.", SOURCE, (*upto_login(), stays(4)), Setup(peer="none", bends=(Twice(ACCEPTED),))),
+    Scene(
+        "accept-late",
+        "The accept of the FLOGI is late by a second: the host uses no granted MAC before it.",
+        SOURCE,
+        (Want(FLOGI, FIRST, FABRIC_LOGIN), Want(AT_NAMES, LATER, IN_FABRIC), stays(3)),
+        Setup(peer="none", bends=(Late(1.0, ACCEPTED),)),
+    ),
+    Scene(
+        "rejected",
+        "The fabric takes one login, which the peer has: the host is rejected (09 29), and logs in once there is room.",
+        "FC-LS-2, LS_RJT; FC-BB-5, fabric-provided MAC addresses",
+        (Want(FLOGI, FIRST, FABRIC_LOGIN), Never(FCOE, 5), STOPS, Want(FLOGI, 60, (*FABRIC_LOGIN, NEW_OX_ID)), Want(AT_NAMES, LATER, IN_FABRIC)),
+        Setup(limit=1, peer="there"),
+    ),
+    Scene(
+        "fc-map",
+        "The fabric's FC-MAP is 0E:FC:10: the host's MAC begins with it.",
+        "FC-BB-5, fabric-provided MAC addresses",
+        upto_login(),
+        Setup(peer="none", fc_map="0e:fc:10"),
+    ),
+    Scene(
+        "second-port",
+        "The host has a second N_Port (NPIV): FDISC, and an address and a MAC of its own.",
+        "FC-BB-5, FIP FDISC; FC-LS-2, FDISC",
+        (
+            Want(FLOGI, FIRST, FABRIC_LOGIN),
+            All((FDISC, ENTERS, ENTERS), FIRST, (IN_VLAN, TO_FORWARDER, Holds("each PLOGI from an S_ID and MAC of its own", is_second_login))),
+        ),
+        ALONE,
+        frozenset({"npiv"}),
+    ),
+    Scene(
+        "second-port-rejected",
+        "The fabric takes one login: the FDISC is rejected, and the first N_Port stays.",
+        "FC-LS-2, FDISC, LS_RJT",
+        (Want(FLOGI, FIRST, FABRIC_LOGIN), Want(FDISC, LATER, (IN_VLAN, TO_FORWARDER, FROM_ENODE_MAC, ASKS_FP, FIRST_LOGIN)), stays(5)),
+        Setup(peer="none", limit=1),
+        frozenset({"npiv"}),
+    ),
+    Scene(
+        "logout",
+        "The host ends: it logs out at the fabric, and is silent then.",
+        "FC-BB-5, FIP LOGO; FC-LS-2, LOGO",
+        (*upto_login(), EndHost(), Want(kind("LOGO", is_fcoe=False, words="LOGO in FIP"), LATER, (IN_VLAN, TO_FORWARDER, FROM_ENODE_MAC)), Never(FCOE, 2, 1)),
+        ALONE,
+        frozenset({"end"}),
+    ),
+)

@@ -1,0 +1,68 @@
+"""The name server, and the fabric's notices (RSCN)."""
+from ..frames import CONTROLLER, NAME_SERVER
+from .acts import STARTS, STOPS
+from .changes import wrong_check
+from .holding import AT_NAMES, AT_PEER, FABRIC_LOGIN, FIRST, FLOGI, IN_FABRIC, LATER, LINK_SERVICE, NEW_OX_ID, OWN_ADDRESS
+from .holding import PRLI_PEER, QUERIES, REGISTERS, TO_PEER, WATCHES, WITH_FCP, answers, stays, upto_login, upto_peer, upto_watching
+from .script import All, Begin, Like, Lose, Never, Rewrite, Scene, Setup, Twice, Want, kind
+
+NAMES, NOTICES = "FC-GS-6, name server", "FC-LS-2, RSCN"
+ANSWER = Like(("LS_ACC",), to=CONTROLLER, of="host", words="LS_ACC to the RSCN")
+ANSWERED = (*IN_FABRIC, answers("RSCN"))
+
+SCENES = (
+    Scene(
+        "registers",
+        "The host registers its address with the type of FCP, and asks to be told of changes (SCR).",
+        f"{NAMES}; FC-LS-2, SCR",
+        (*upto_login(), Want(REGISTERS, LATER, (*IN_FABRIC, OWN_ADDRESS, WITH_FCP)), All((WATCHES, QUERIES), LATER, IN_FABRIC)),
+        Setup(peer="none"),
+    ),
+    Scene(
+        "name-server-silent",
+        "The answer to the PLOGI at the name server is lost: the host sends another, in an exchange of its own.",
+        "FC-LS-2, PLOGI: 2 x R_A_TOV; FC-FS-3, exchange identifiers",
+        (Want(FLOGI, FIRST, FABRIC_LOGIN), Want(AT_NAMES, LATER, IN_FABRIC), Want(AT_NAMES, LINK_SERVICE, (*IN_FABRIC, NEW_OX_ID)), Want(REGISTERS, LATER, IN_FABRIC)),
+        Setup(peer="none", bends=(Lose(Like(("LS_ACC",), of=NAME_SERVER, words="LS_ACC of the name server"), 1),)),
+    ),
+    Scene(
+        "told-of-login",
+        "The peer logs in: the host accepts the RSCN, asks the name server, and logs in at the peer.",
+        NOTICES,
+        (
+            *upto_watching(),
+            Want(QUERIES, LATER),
+            STARTS,
+            Want(ANSWER, LATER, ANSWERED),
+            Want(QUERIES, 10, IN_FABRIC),
+            Want(AT_PEER, LATER, IN_FABRIC),
+            Want(PRLI_PEER, LATER, IN_FABRIC),
+        ),
+    ),
+    Scene(
+        "told-twice",
+        "Each RSCN arrives twice: the host logs in at the peer all the same.",
+        NOTICES,
+        (*upto_watching(), Want(QUERIES, LATER), Begin(Twice(kind("RSCN"))), STARTS, Want(ANSWER, LATER, ANSWERED), Want(AT_PEER, LATER, IN_FABRIC), stays(3)),
+    ),
+    Scene(
+        "notice-broken",
+        "The CRC of RSCNs is wrong: they are discarded.",
+        "FC-FS-3, CRC",
+        (*upto_watching(), Want(QUERIES, LATER), Begin(Rewrite(wrong_check, "the CRC is wrong", kind("RSCN"))), STARTS, Never(ANSWER, 6)),
+    ),
+    Scene(
+        "told-of-logout",
+        "The peer logs out: the host accepts the RSCN, asks the name server, and sends nothing to the peer.",
+        NOTICES,
+        (*upto_peer(), STOPS, Want(ANSWER, LATER, ANSWERED), Want(QUERIES, 10, IN_FABRIC), Never(TO_PEER, 4, 2)),
+        Setup(peer="there"),
+    ),
+    Scene(
+        "not-zoned",
+        "No zone has both: the host isn't told of the peer, and sends nothing to it.",
+        "FC-GS-6, zoning",
+        (*upto_watching(), Want(QUERIES, LATER), STARTS, Never(TO_PEER, 6)),
+        Setup(zoned=False),
+    ),
+)
