@@ -42,3 +42,21 @@ _live() {
     fi
 }
 complete -o default -F _live live
+
+# The completion of scenes, fcoe_host and load: options by --help, names of scenes and faults by --list, interfaces, and then files.
+_scenes() {
+    local word=${COMP_WORDS[COMP_CWORD]} before=${COMP_WORDS[COMP_CWORD - 1]} tool=${COMP_WORDS[0]} words=
+    case $before in
+    --scene | --fault) words=$("$tool" --list 2>/dev/null | awk 'NR > 1 { print $1 }') ;;
+    --without) words="npiv commands end" ;;
+    *)
+        if [[ $word == -* ]]; then
+            words=$("$tool" --help 2>/dev/null | grep -oE -- '--[a-z-]+' | sort -u)
+        elif [[ $before != -* && $tool != *load ]]; then
+            words=$(ls /sys/class/net)
+        fi
+        ;;
+    esac
+    [ -z "$words" ] || mapfile -t COMPREPLY < <(compgen -W "$words" -- "$word")
+}
+complete -o default -F _scenes scenes fcoe_host load
