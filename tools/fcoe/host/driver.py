@@ -5,15 +5,16 @@ import time
 from types import FrameType
 from typing import Optional
 
+from ..interfaces import said
 from ..wires import Wire
 from .enode import ENode
 
 
 class Driver:
-    """Runs a host until it is told to end, which it does by logging out."""
+    """Runs a host until it is told to end, which it does by logging out. With its link its logins go, and it begins anew once the link is there."""
 
-    def __init__(self, wire: Wire, host: ENode) -> None:
-        self.wire, self.host, self.is_ending = wire, host, False
+    def __init__(self, name: str, wire: Wire, host: ENode) -> None:
+        self.name, self.wire, self.host, self.is_ending, self.is_up = name, wire, host, False, False
         for number in (signal.SIGINT, signal.SIGTERM, signal.SIGHUP):
             signal.signal(number, self.asked)
 
@@ -25,14 +26,23 @@ class Driver:
         try:
             while not self.is_ending:
                 self.host.take(self.wire.receive().frame)
-        except BlockingIOError:
+        except OSError:  # nothing waits, or the interface is down
             pass
+
+    def see_link(self) -> None:
+        """Notices that the link came or went."""
+        is_up = said(self.name, "carrier") != "0"
+        if is_up and not self.is_up:
+            self.host.start()
+        elif self.is_up and not is_up:
+            self.host.lose_link()
+        self.is_up = is_up
 
     def run(self, seconds: Optional[float]) -> None:
         end = None if seconds is None else time.monotonic() + seconds
-        self.host.start()
         while not self.is_ending and (end is None or time.monotonic() < end):
             select.select([self.wire], [], [], self.host.timers.left(0.1))
+            self.see_link()
             self.take()
             self.host.timers.run()
         self.host.stop()

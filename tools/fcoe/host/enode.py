@@ -293,6 +293,13 @@ class ENode:
             self.wishes.append(Wish(FDISC, *port.names))
             self.log_in(self.wishes[-1])
 
+    def lose_link(self) -> None:
+        """With the link all logins are over."""
+        self.tell("the link is down")
+        self.end_all()
+        self.timers.clear()
+        self.stand = Stand()
+
     def stop(self) -> None:
         """Logs out, N_Ports by NPIV first."""
         forwarder = self.stand.forwarder

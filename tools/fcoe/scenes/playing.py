@@ -50,6 +50,7 @@ class Outcome:
     steps: list[Played] = field(default_factory=list)
     broken: list[str] = field(default_factory=list)  # rules that `look check` found broken
     rules: dict[str, int] = field(default_factory=dict)
+    unchecked: str = ""  # why `look check` found nothing
     replay: str = ""
     bent: int = 0
     names: list[str] = field(default_factory=list)
@@ -158,8 +159,8 @@ def looked(folder: pathlib.Path, found: Outcome) -> Any:
     try:
         said = json.loads(ran.stdout)
     except ValueError:
-        found.rules = {}
-        return {"error": ran.stderr.strip()}
+        found.unchecked = ran.stderr.strip().rpartition("\n")[2] or f"status {ran.returncode}"
+        return {"error": found.unchecked}
     count_rules(said, found)
     return said
 

@@ -9,12 +9,6 @@ from ..texts import table
 from .playing import BROKEN, FAILED, PASSED, SKIPPED, Outcome
 
 
-def row(found: Outcome) -> list[object]:
-    held = sum(it.held is True for it in found.steps)
-    rules = ", ".join(f"{count} {state}" for state, count in sorted(found.rules.items())) or "-"
-    return [found.scene, found.verdict, f"{held} of {len(found.steps)}", rules, found.replay or "-"]
-
-
 def line(found: Outcome) -> str:
     """One scene, as soon as it's over."""
     return f"{found.scene:22} {found.verdict:8} {found.seconds:6.1f} s  {found.why}".rstrip()
@@ -25,7 +19,8 @@ def summary(outcomes: list[Outcome]) -> list[str]:
     counts = Counter(it.verdict for it in outcomes)
     rows = [[it.scene, it.verdict, f"{sum(step.held is True for step in it.steps)} of {len(it.steps)}", it.source] for it in outcomes]
     total = ", ".join(f"{count} {verdict}" for verdict, count in counts.most_common())
-    return [*table(["scene", "verdict", "steps", "source"], rows, ""), "", f"{len(outcomes)} scenes: {total}"]
+    unchecked = sorted({it.unchecked for it in outcomes if it.unchecked})
+    return [*table(["scene", "verdict", "steps", "source"], rows, ""), "", *(f"`look check` couldn't look: {it}" for it in unchecked), f"{len(outcomes)} scenes: {total}"]
 
 
 def details(found: Outcome) -> Iterable[str]:
