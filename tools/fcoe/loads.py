@@ -6,7 +6,7 @@ from dataclasses import dataclass
 from typing import BinaryIO, Callable, Iterator, NamedTuple
 
 from .errors import Refused
-from .frames import CONTROLLER, NAME_SERVER, colons
+from .frames import CONTROLLER, NAME_SERVER, colons, fc_check
 from .host import speech
 from .host.speech import FDISC, FLOGI, Head, Names
 
@@ -23,7 +23,8 @@ MOST_FRAMES, MOST_BYTES, MOST_SPAN = 4_000_000, 1 << 30, 21_600_000
 MOST_PORTS, MOST_LOGINS, PER_PORT = 64, 1_000, 100
 HEAD = struct.pack("<IHHIIII", 0xA1B2C3D4, 2, 4, 0, 0, 65535, 1)
 RECORD = 16
-ELS, CT, FCP = 0x01, 0x20, 0x08
+ELS, CT = 0x01, 0x20
+FC_AT, TRAILER = 32, b"\x42\0\0\0"  # where the FC frame begins, and EOFt with what is reserved behind it
 
 
 @dataclass(frozen=True)
@@ -86,6 +87,11 @@ def node_name(node: int) -> bytes:
     return (0x1000_001B_2100_0000 + node).to_bytes(8, "big")
 
 
+def front_of(address: int) -> bytes:
+    """Of an FCoE frame of this address, all before its FC frame."""
+    return speech.fcoe(FORWARDER, FC_MAP + speech.three(address), VLAN, b"")[:FC_AT]
+
+
 def check_size(size: Size) -> None:
     """Refuses what passes the forwarder's limits."""
     bounds = (
@@ -126,6 +132,8 @@ class Load:
         self.random = random.Random(size.seed)
         self.moment = START
         self.exchange = 0
+        self.filling = bytes(size.payload - 8 + -size.payload % 4)
+        self.senders = [(it.port, front_of(address), address.to_bytes(3, "big")) for it, address in self.addresses.items()]
 
     def configuration(self) -> str:
         size = self.size
@@ -155,9 +163,13 @@ class Load:
 
     def data(self, number: int) -> Made:
         """A data frame between two N_Ports that were granted an address; its payload begins with its number."""
-        sender, receiver = self.random.sample(self.ports[: self.size.limit], 2)
-        payload = number.to_bytes(8, "big") + bytes(self.size.payload - 8)
-        return Made(sender.port, self.moment, "data", self.framed(sender, self.addresses[receiver], Head(0x06, FCP, 0x380000, number % 0x8000), payload))
+        count = len(self.senders)
+        first = int(self.random.random() * count)
+        port, front, source = self.senders[first]
+        to = FIRST + (first + 1 + int(self.random.random() * (count - 1))) % count
+        head = b"\x06" + to.to_bytes(3, "big") + b"\0" + source + struct.pack(">IIHHI", 0x08380000, 0, number % 0x8000, speech.NONE, 0)
+        frame = head + number.to_bytes(8, "big") + self.filling
+        return Made(port, self.moment, "data", b"".join((front, frame, fc_check(frame), TRAILER)))
 
     # ---- the course
 

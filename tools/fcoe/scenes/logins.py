@@ -3,7 +3,7 @@ from ..frames import NAME_SERVER, Heard
 from .acts import STOPS
 from .holding import ACCEPTED, ASKS_FP, AT_NAMES, FABRIC_LOGIN, FDISC, FIRST, FIRST_LOGIN, FLOGI, FROM_ENODE_MAC, IN_FABRIC
 from .holding import IN_VLAN, LATER, LINK_SERVICE, NEW_OX_ID, TO_FORWARDER, stays, upto_login
-from .script import FCOE, All, EndHost, Holds, Late, Lose, Never, Scene, Setup, Twice, Want, World, kind
+from .script import FCOE, All, EndHost, Holds, Late, Lose, Never, Scene, Setup, Twice, Wait, Want, World, kind
 
 SOURCE, EXCHANGES = "FC-BB-5, FIP FLOGI; FC-LS-2, FLOGI", "FC-FS-3, exchange identifiers"
 ALONE = Setup(peer="none")
@@ -79,7 +79,7 @@ SCENES = (
         "logout",
         "The host ends: it logs out at the fabric, and is silent then.",
         "FC-BB-5, FIP LOGO; FC-LS-2, LOGO",
-        (*upto_login(), EndHost(), Want(kind("LOGO", is_fcoe=False, words="LOGO in FIP"), LATER, (IN_VLAN, TO_FORWARDER, FROM_ENODE_MAC)), Never(FCOE, 2, 1)),
+        (*upto_login(), Wait(1), EndHost(), Want(kind("LOGO", is_fcoe=False, words="LOGO in FIP"), LATER, (IN_VLAN, TO_FORWARDER, FROM_ENODE_MAC)), Never(FCOE, 2, 1)),
         ALONE,
         frozenset({"end"}),
     ),
