@@ -337,6 +337,7 @@ class Setup:
     fc_map: str = ""
     peer: str = "later"  # "there" before the host begins, "later" where a step starts it, "none"
     zoned: bool = True  # the peer with the host
+    rezoned: float = 0.0  # seconds behind which it's the other way, by a zone set that is activated then; 0 is never
     receive: int = 2112  # of the peer
     bends: tuple[Bend, ...] = ()  # from the beginning on
 

@@ -59,6 +59,20 @@ SCENES = (
         Setup(peer="there"),
     ),
     Scene(
+        "zone-closes",
+        "20 seconds in a zone set is activated that parts both: the host accepts the RSCN, asks the name server, and sends nothing to the peer.",
+        f"{NOTICES}; FC-GS-6, zoning",
+        (*upto_peer(), Want(ANSWER, 40, ANSWERED), Want(QUERIES, 10, IN_FABRIC), Never(TO_PEER, 4, 2)),
+        Setup(peer="there", rezoned=20),
+    ),
+    Scene(
+        "zone-opens",
+        "20 seconds in a zone set is activated that joins both: the host accepts the RSCN, asks the name server, and logs in at the peer.",
+        f"{NOTICES}; FC-GS-6, zoning",
+        (*upto_watching(), Want(ANSWER, 40, ANSWERED, without=AT_PEER), Want(QUERIES, 10, IN_FABRIC), Want(AT_PEER, LATER, IN_FABRIC), Want(PRLI_PEER, LATER, IN_FABRIC)),
+        Setup(peer="there", zoned=False, rezoned=20),
+    ),
+    Scene(
         "not-zoned",
         "No zone has both: the host isn't told of the peer, and sends nothing to it.",
         "FC-GS-6, zoning",

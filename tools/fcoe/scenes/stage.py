@@ -198,9 +198,14 @@ def configuration(setup: Setup, names: list[bytes]) -> str:
     lines = ["fcf-mac 00:05:1e:00:00:02", "vlan 100", "window 10", f"period {setup.period}", f"limit {setup.limit}"]
     if setup.fc_map:
         lines.append(f"fc-map {setup.fc_map}")
-    members = [*names, *([PEER.port] if setup.zoned else [])]
-    if members:
-        lines.append("zone scene " + " ".join(map(colons, members)))
+    alone, together = (" ".join(map(colons, it)) for it in (names, [*names, PEER.port]))
+    if names and setup.rezoned:
+        first, then = ("together", "alone") if setup.zoned else ("alone", "together")
+        moment = time.time_ns() // 1_000_000 + int(1000 * setup.rezoned)
+        lines += [f"zone alone {alone}", f"zone together {together}", f"zoneset first {first}", f"zoneset then {then}"]
+        lines += ["activate first 0", f"activate then {moment}"]
+    elif names or setup.zoned:
+        lines.append(f"zone scene {together if setup.zoned else alone}")
     return "\n".join(lines) + "\n"
 
 
