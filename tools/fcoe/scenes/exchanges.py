@@ -3,7 +3,7 @@ from ..frames import Heard
 from .acts import ABORTS, ASKS_STRANGE, ECHOES, LOGS_OUT, REFUSES, REFUSES_PRLI
 from .changes import wrong_check
 from .holding import AT_PEER, COMMAND, FABRIC_LOGIN, FIRST, FLOGI, IN_FABRIC, LATER, LINK_SERVICE, NEW_OX_ID, PRLI_PEER, answers, stays, upto_peer
-from .script import FCOE, Astray, Begin, Holds, Like, Lose, Never, Rewrite, Scene, Setup, Want, World, kind
+from .script import FCOE, Astray, Begin, Holds, Like, Lose, Never, Rewrite, Scene, Setup, Wait, Want, World, kind
 
 PLOGI, SERVICES, SEQUENCES, IDENTIFIERS = "FC-LS-2, PLOGI", "FC-LS-2", "FC-FS-3", "FC-FS-3, exchange identifiers"
 THERE, COMMANDS = Setup(peer="there"), frozenset({"commands"})
@@ -82,7 +82,7 @@ SCENES = (
         "peer-logs-out",
         "The peer sends LOGO: the host accepts it, and sends no commands before another PLOGI.",
         "FC-LS-2, LOGO",
-        (*upto_peer(), LOGS_OUT, Want(REPLY, LATER, (*IN_FABRIC, answers("LOGO"))), Never(STORAGE, 6, 0.3, until=AT_PEER)),
+        (*upto_peer(), Wait(1), LOGS_OUT, Want(REPLY, LATER, (*IN_FABRIC, answers("LOGO"))), Never(STORAGE, 6, 0.3, until=AT_PEER)),
         THERE,
     ),
     Scene("echo", "The peer sends ECHO: the host answers.", f"{SERVICES}, ECHO", (*upto_peer(), ECHOES, Want(REPLY, LATER, (*IN_FABRIC, answers("ECHO")))), THERE),
