@@ -8,13 +8,14 @@ from typing import TYPE_CHECKING
 from ..frames import EOFN, EOFT, SOFI3, SOFN3, Fc
 from . import speech
 from .asking import Asked
-from .speech import RECEIVE, Head
+from .speech import Head
 
 if TYPE_CHECKING:
     from .nport import NPort
 
 INITIATOR, TARGET = 0x22, 0x12  # functions in a PRLI
 IS_TARGET = 0x10
+UNDER = 0x08  # FCP_RESID_UNDER
 ENDED = 4.0  # seconds that a command has
 INQUIRY, WRITE = bytes([0x12, 0, 0, 0, 36, 0]), bytes([0x2A, 0, 0, 0, 0, 0, 0, 0, 8, 0])
 WRITTEN = 4096
@@ -99,9 +100,12 @@ class Storage:
             self.writing[fc.s_id, fc.ox_id] = Writing(struct.unpack(">I", fc.payload[28:32])[0])
             payload = struct.pack(">III", 0, self.writing[fc.s_id, fc.ox_id].left, 0)
             self.port.send(fc.s_id, Head(READY, FCP_TYPE, BACK_READY, fc.ox_id, 1), payload)
-        else:
-            size = min(struct.unpack(">I", fc.payload[28:32])[0], RECEIVE, peer.receive)
+        elif fc.payload[11] & 0x02:
+            wanted = struct.unpack(">I", fc.payload[28:32])[0]
+            size = min(wanted, LARGEST, peer.receive)
             self.port.send(fc.s_id, Head(DATA, FCP_TYPE, BACK_LAST, fc.ox_id, 1), bytes(size))
+            self.respond(fc, wanted - size)
+        else:
             self.respond(fc)
 
     def take_data(self, fc: Fc) -> None:
@@ -111,8 +115,10 @@ class Storage:
             del self.writing[fc.s_id, fc.ox_id]
             self.respond(fc)
 
-    def respond(self, fc: Fc) -> None:
-        self.port.send(fc.s_id, Head(RESPONSE, FCP_TYPE, BACK_RESPONSE, fc.ox_id, 1, 1), bytes(24))
+    def respond(self, fc: Fc, left: int = 0) -> None:
+        """FCP_RSP: good, with what wasn't sent of the data as residual."""
+        payload = bytes(10) + bytes([UNDER if left else 0, 0]) + left.to_bytes(4, "big") + bytes(8)
+        self.port.send(fc.s_id, Head(RESPONSE, FCP_TYPE, BACK_RESPONSE, fc.ox_id, 1, 1), payload)
 
     def abort(self, fc: Fc) -> None:
         self.writing.pop((fc.s_id, fc.ox_id), None)
