@@ -244,6 +244,10 @@ crc-fed l =
     let sum : number_of (map not before) + number_of before + 1 ≡ 2 ^ 32 = number_of-not before ∙ ap (λ (n : ℕ). 2 ^ n) len in
     crc-is l ∙ omega arith
 
+-- a CRC has 32 bits
+pub crc-lt : (l : List ℕ) → crc l < 2 ^ 32
+crc-lt l = omega (arith, crc-fed l)
+
 -- ---- sixteen turns at once
 
 block : (k : ℕ) (r : List Bool) (l : List ℕ) (i : ℕ) → length r ≡ 32 → ((j : ℕ) → get_or l j 0 < 256) → i + 4 + k ≤ length l → number_of (fed r (flat_map bits_of (take (suc (suc (suc (suc k)))) (drop i l)))) ≡ bit_xor (words_of k (bit_xor (number_of r) (four_at l i))) (number_of (fed (none 32) (flat_map bits_of (take k (drop (i + 4) l)))))
