@@ -102,6 +102,9 @@ fn first_difference(found: &[u8], wanted: &[u8]) -> Option<usize>
     ensures within { IfSome result (λ n. n < length wanted.now) }
     ensures none { IfNone result (found.now ≡ wanted.now) }
 {
+    if found == wanted {
+        return None;
+    }
     let mut place = 0;
     while place < found.len() {
         if found[place] != wanted[place] {
