@@ -1,5 +1,5 @@
 //! The table: each login at a place of its own, and the places in three orders.
-ghost use Rattle.std.specs.Prelude.{◌≡◌, ℕ, ◌<◌, if◌then◌else◌, ◌==◌, length, IfOk, Some, None, [], is_some, true, false, option_copied, option_map};
+ghost use Rattle.std.specs.Prelude.{◌≡◌, ℕ, ◌<◌, if◌then◌else◌, ◌==◌, length, IfOk, Some, None, [], is_some, true, false, option_copied, option_map, find, nat_le};
 ghost use Rattle.fab_base.specs.Fabric.{same_enode};
 ghost use Rattle.login_table.specs.Logins.{Logins, login_at, named, next_of, added, sized, with_server, without, IsSound};
 
@@ -9,7 +9,7 @@ use crate::orders::{
 };
 use fab_base::{Enode, FcId, NoMemory, Wwn};
 use slab::Slab;
-use sorted_lists::{order_put, order_take};
+use sorted_lists::{order_next, order_put, order_take};
 use std::alloc::Global;
 use std::marker::Model;
 
@@ -149,6 +149,15 @@ impl LoginTable {
         ensures sound { IsSound self.now }
     {
         first_from(&self.logins, &self.by_address, from)
+    }
+
+    /// The login of the least live address that isn't below `from`.
+    pub fn login_from(&self, from: u32) -> Option<&Login>
+        ensures first { option_copied result
+            ≡ find (λ l. nat_le from l.address) self.now.logins }
+        ensures sound { IsSound self.now }
+    {
+        order_next(&ByAddress, &self.logins, &self.by_address, from as u128)
     }
 
     /// How many logins there are.
