@@ -1,5 +1,5 @@
 -- The N_Ports of a roll ascend, and a walk over the logins is a walk over them.
-use Rattle.std.proofs.Common.{◌≡◌, ℕ, ◌+◌, ◌&&◌, nat_le, Bool, true, List, [], ◌∷◌, map, find, Some, option_map, ap, ◌∙◌, refl, arith}
+use Rattle.std.proofs.Common.{◌≡◌, ℕ, ◌+◌, ◌&&◌, nat_le, Bool, true, List, [], ◌∷◌, map, find, Some, option_map, ap, sym, ◌∙◌, refl, arith}
 use Rattle.std.proofs.Math.Bool.{and-true}
 use Rattle.std.proofs.lemmas.Bool.Decides.{nat_tests}
 use Rattle.fab_base.specs.Keyed.{AscendFrom}
@@ -35,3 +35,10 @@ next_is_first from ls = ap (option_map logins.address_of) (find-same (λ (l : Lo
 
 pub next_login : (from a : ℕ) (t : Logins) → logins.IsSound t → Some a ≡ next_of (λ l. true) from t.logins → IsNext logins.address_of from t.logins a
 next_login from a t sound is = next_some logins.address_of 0 from a t.logins sound.ascending (is ∙ next_is_first from t.logins)
+
+-- the same where the walk answers the login itself
+pub next_item : (from : ℕ) (l : Login) (t : Logins) → logins.IsSound t → Some l ≡ find (λ (x : Login). nat_le from x.address) t.logins → IsNext logins.address_of from t.logins l.address
+next_item from l t sound is = next_some logins.address_of 0 from l.address t.logins sound.ascending (ap (option_map logins.address_of) is)
+
+pub item_found : (from : ℕ) (l : Login) (t : Logins) → logins.IsSound t → Some l ≡ find (λ (x : Login). nat_le from x.address) t.logins → Some l ≡ logins.login_at l.address t.logins
+item_found from l t sound is = let n = next_item from l t sound is in is ∙ n.first ∙ sym n.found

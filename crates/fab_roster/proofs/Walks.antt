@@ -18,6 +18,7 @@ module _ {X : Type 0} (key : X → ℕ) where
     pub item : X
     pub at : key item ≡ a
     pub found : item_at key a xs ≡ Some item
+    pub first : find (λ x. nat_le from (key x)) xs ≡ Some item
     pub above : from ≤ a
     pub rest : from_on from xs ≡ item ∷ from_on (a + 1) xs
 
@@ -37,11 +38,11 @@ module _ {X : Type 0} (key : X → ℕ) where
       go true t i later =
           let at : key x ≡ a = cc in
           let rest : from_on (a + 1) xs ≡ xs = from_on-ascending (a + 1) (key x + 1) xs (omega arith) ascend.1 in
-          record { item = x; at = at; found = grind (arith, nat_tests); above = grind (arith, nat_tests); rest = grind (arith, nat_tests, rest) }
+          record { item = x; at = at; found = grind (arith, nat_tests); first = grind (arith, nat_tests); above = grind (arith, nat_tests); rest = grind (arith, nat_tests, rest) }
       go false f i later =
           let n : IsNext from xs a = later i in
           let behind : key x < a = grind (arith, nat_tests, n.above) in
-          record { item = n.item; at = n.at; found = grind (arith, nat_tests, n.found); above = n.above; rest = grind (arith, nat_tests, n.rest) }
+          record { item = n.item; at = n.at; found = grind (arith, nat_tests, n.found); first = grind (arith, nat_tests, n.first); above = n.above; rest = grind (arith, nat_tests, n.rest) }
 
   next_none : (from : ℕ) (xs : List X) → None ≡ first_key from xs → from_on from xs ≡ []
   next_none from [] is = refl

@@ -58,14 +58,11 @@ fn seen_by(
 {
     let mut seen = Seen::new(alloc)?;
     let mut from = 0;
-    while let Some(address) = logins.after(from) {
-        let Some(login) = logins.by_address(address) else {
-            unreachable!()
-        };
+    while let Some(login) = logins.login_from(from) {
         if may_see(zones, at, asker, login) {
             seen.push(alloc, seen_port(config, login))?;
         }
-        from = address.value() + 1;
+        from = login.address.value() + 1;
     }
     Ok(seen)
 }

@@ -4,11 +4,11 @@ use Rattle.fab_roster.proofs.Seen.{AreBelow, seen_of}
 use Rattle.fab_roster.proofs.Walks.{Walked}
 use Rattle.fab_roster.proofs.asking.seen_by.Given as goal
 
-abbrev pub invariant-loop-address : goal.invariant-loop-address
-invariant-loop-address l = record {
+abbrev pub invariant-loop-login : goal.invariant-loop-login
+invariant-loop-login l = record {
   walked : Walked address_of (seen_of l.config l.zones l.at l.asker) l.from l.logins.logins l.seen;
   below : AreBelow l.from l.seen;
 }
 
-abbrev pub decreases-loop-address : goal.decreases-loop-address
-decreases-loop-address l = 2 ^ 24 - l.from
+abbrev pub decreases-loop-login : goal.decreases-loop-login
+decreases-loop-login l = 2 ^ 24 - l.from
