@@ -154,7 +154,7 @@ LOGINS = [
     Plant("login-header", "initiator", put(FDISC, header(18), b"\0\1")),
     Plant("login-address", "initiator", put(FDISC, header(5), b"\1\1\1")),
     Plant("login-parameters", "initiator", put(FDISC, payload(10), b"\0\x80")),
-    Plant("fdisc-behind-flogi", "initiator", put(Pick("FLOGI accept", 0, True), payload(8), b"\x10\0")),
+    Plant("fdisc-after-flogi", "initiator", put(Pick("FLOGI accept", 0, True), payload(8), b"\x10\0")),
     Plant("logo-names", "initiator", put(Pick("LOGO", 0, s_id=0x010102, behind=61.905), payload(5), b"\1\1\7")),
     Plant("login-again", "initiator", move(FLOGI, 75.5), all_of(again(FLOGI, 74.0), put(FLOGI, header(16), b"\0\7"))),
     Plant("reject-heeded", "initiator", all_of(again(Pick("ECHO"), 31.75), again(Pick("LS_RJT", 0, True), 31.76))),

@@ -4,8 +4,10 @@ from typing import Optional
 from .answers import Answer, Severity, grouped
 from .discovery import why_not_in
 from .enodes import seen_of
-from .login_answers import again, cleared, cleared_logins, rejected, rejected_here, rejects_in, several, shared, silent, silent_logins
+from .login_answers import again, cleared, cleared_logins, silent, silent_logins
 from .looking import Look
+from .reject_answers import rejected, rejected_here, rejects_in, shared
+from .rivals import several
 from .traffic_answers import Explained, differences, drops, well
 
 
@@ -29,9 +31,9 @@ def answers_of(look: Look) -> list[Answer]:
         told.ended |= {(twice.login.port, twice.login.enode), (twice.seen.enode.port.number, twice.seen.enode.mac)}
     own = list(drops(look, told))
     found += [*silent(look), *cleared(look), *again(look, told.astray | by_switch), *differences(look, told), *own]
-    found += [Answer(Severity.NOTED, it, "--config takes another configuration, --zone other zones") for it in look.inputs.derived]
+    found += [Answer(Severity.NOTED, it, "whether that is as planned; `--zone`, `--zoning` or `--config` take other zones") for it in look.inputs.derived]
     told_of = {line for it in found for line in it.followers}
-    found += [it for it in several(look) if it.text not in told_of]
+    found += [it for it in several(look) if not told_of.intersection(it.followers)]
     if not any(it.severity < Severity.NOTED for it in found):
         found.append(well(look))
     found = grouped(found)

@@ -8,7 +8,7 @@ from .enodes import Enode, enodes_of
 from .errors import Refused
 from .frames import colons, login_names
 from .looking import Look
-from .message_fields import compared, firsts, rule_of, shown
+from .message_fields import compared, firsts, is_choice, rule_of, shown
 from .runs import say
 
 ROUNDS = 8  # of node and forwarder, of which each answers the other
@@ -63,7 +63,7 @@ def fields_beside(look: Look, room: str) -> list[Row]:
                 continue
             numbers = [frames.number(at) for at in enode.port.host_messages if frames.heard(at).kind == kind and frames.heard(at).source == enode.mac]
             pairs = compared(own[kind].data, right[kind].data) if kind in right else []
-            apart = [{"field": name, "host": shown(a), "enode": shown(b), "rule": rule_of(name)} for name, a, b in pairs]
+            apart = [{"field": name, "host": shown(a), "enode": shown(b), "rule": rule_of(name), "is_choice": is_choice(kind, name, a)} for name, a, b in pairs]
             rows.append({"port": enode.port.number, "enode": colons(enode.mac), "message": kind, "frame": numbers[0], "count": len(numbers), "compared": kind in right, "differences": apart})
     return rows
 
@@ -72,7 +72,8 @@ def fields_text(rows: list[Row]) -> list[str]:
     """The same as text: a line for each field that differs, and under it the rule."""
     lines: list[str] = []
     for row in rows:
-        lines.append(f"port {row['port']}, {row['enode']}: {row['message']}, frame {row['frame']}, the first of {row['count']}")
+        count = f", the first of {row['count']} that it sent (the others aren't compared)" if row["count"] > 1 else ""
+        lines.append(f"port {row['port']}, {row['enode']}: {row['message']}, frame {row['frame']}{count}")
         if not row["compared"]:
             lines.append("  `enode` sends none here")
         elif not row["differences"]:
@@ -80,4 +81,14 @@ def fields_text(rows: list[Row]) -> list[str]:
         for it in row["differences"]:
             lines.append(f"  {it['field']}: {it['host']}, enode {it['enode']}")
             lines += [f"    {it['rule']}"] if it["rule"] else []
-    return lines or ["no host sends FIP here"]
+    hosts = dict.fromkeys((row["port"], row["enode"]) for row in rows)
+    return lines + [verdict_text([row for row in rows if (row["port"], row["enode"]) == host]) for host in hosts] or ["no host sends FIP here"]
+
+
+def verdict_text(rows: list[Row]) -> str:
+    """What a host's messages are in all: as `enode` sends them but for what is free, or with other fields too."""
+    apart = {row["message"]: [it["field"] for it in row["differences"] if not it["is_choice"]] for row in rows if row["compared"]}
+    same, others = [kind for kind, fields in apart.items() if not fields], {kind: fields for kind, fields in apart.items() if fields}
+    told = [f"{', '.join(same)}: as `enode` sends {'it' if len(same) == 1 else 'them'}, but for padding and what is the host's choice"] if same else []
+    told += [f"look at {kind}: {', '.join(fields)}" for kind, fields in others.items()]
+    return f"port {rows[0]['port']}, {rows[0]['enode']}, in all: " + ("; ".join(told) or "nothing to compare with")

@@ -77,7 +77,7 @@ def classic(name: str, shown: Optional[str] = None, is_plain: bool = False) -> C
     check_link(struct.unpack_from(order + "I", head, 20)[0] & 0xFFFF, shown)
     capture, cuts = Capture(shown, Frames(source)), list[int]()
     capture.frames.fill(classic_rows(source, order, unit, cuts), is_plain)
-    capture.remarks += [f"cut at byte {it}, behind frame {len(capture.frames)}: the frames before it are taken" for it in cuts]
+    capture.remarks += [f"cut at byte {it}, after frame {len(capture.frames)}: the frames before it are taken" for it in cuts]
     return capture
 
 
@@ -134,7 +134,7 @@ def saved(path: str, shown: str) -> Capture:
     if reader.fault and not frames:
         raise Refused(f"{shown}: no packet can be read of it ({reader.fault}): capture or copy it again")
     if reader.fault:
-        capture.remarks.append(f"cut behind frame {len(frames)}: the frames before it are taken")
+        capture.remarks.append(f"cut after frame {len(frames)}: the frames before it are taken")
     return capture
 
 

@@ -125,7 +125,7 @@ def behind_silence(talk: Talk, tally: Tally) -> None:
         macs = {grant.mac for grant in talk.live(last.at + 1) if grant.forwarder == last.heard.source}
         late = next((it for it in uses(talk) if begin < it.clock < one.end and it.heard.source in macs and not anew(talk, it, last)), None)
         if late:
-            tally.judge(late, Fault("source", colons(late.heard.source), f"nothing from this MAC: its forwarder fell silent behind frame {last.place}"))
+            tally.judge(late, Fault("source", colons(late.heard.source), f"nothing from this MAC: its forwarder fell silent after frame {last.place}"))
         elif macs and one.end > begin:
             tally.held.append(last)
 
@@ -172,9 +172,9 @@ RULES = Group(
         Rule("login-source", ENODE, "FC-BB-5, FIP FLOGI", "Logins in FIP come from the ENode's MAC.", of_own),
         Rule("fcoe-destination", ENODE, "FC-BB-5, FCoE virtual links", "FCoE goes to the forwarder that granted the address.", to_forwarder),
         Rule("fcoe-vlan", ENODE, "FC-BB-5, FCoE virtual links; IEEE 802.1Q", "FCoE stays in the VLAN of its login.", in_vlan),
-        Rule("end-by-logo", ENODE, "FC-LS-2, LOGO; FC-BB-5, FIP LOGO", "Nothing comes from an address behind its accepted LOGO.", behind_logo),
+        Rule("end-by-logo", ENODE, "FC-LS-2, LOGO; FC-BB-5, FIP LOGO", "Nothing comes from an address after its accepted LOGO.", behind_logo),
         Rule("end-by-clear", ENODE, "FC-BB-5, FIP Clear Virtual Links", "Nothing comes from a VN_Port that a Clear Virtual Links listed, before it logs in anew.", behind_clear),
-        Rule("end-by-clear-of-all", ENODE, "FC-BB-5, FIP Clear Virtual Links", "Nothing comes from any VN_Port of a forwarder behind its Clear Virtual Links without a list.", behind_clear_of_all),
+        Rule("end-by-clear-of-all", ENODE, "FC-BB-5, FIP Clear Virtual Links", "Nothing comes from any VN_Port of a forwarder after its Clear Virtual Links without a list.", behind_clear_of_all),
         Rule("end-by-silence", ENODE, "FC-BB-5, FIP discovery, FKA_ADV_PERIOD", "Two and a half periods without an advertisement end the logins at a forwarder.", behind_silence),
         Rule("end-by-login", ENODE, "FC-LS-2, FLOGI", "A further FLOGI ends the earlier logins of its ENode.", behind_login),
         Rule("login-anew", ENODE, "FC-LS-2, FLOGI and PLOGI", "Behind a login anew with the same address a PLOGI comes before FCP commands.", fresh),

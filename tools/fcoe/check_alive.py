@@ -82,9 +82,9 @@ def gaps(talk: Talk, tally: Tally, begin: Shown, end: float, beats: list[Shown],
         advertised = advertised_period(talk, begin.heard.source, last.clock, clock)
         period = fixed if fixed and advertised else advertised
         if period and gap > PERIODS * period:
-            tally.judge(shown, Fault("time without a keep alive", f"{gap / 1000:.1f} s behind frame {last.place}", f"one each {period / 1000:g} s"))
+            tally.judge(shown, Fault("time without a keep alive", f"{gap / 1000:.1f} s after frame {last.place}", f"one each {period / 1000:g} s"))
         elif period and gap > LATE * period:
-            tally.leave(f"{gap / 1000:.1f} s without a keep alive behind frame {last.place}, with a period of {period / 1000:g} s: one may be missing from the capture", shown)
+            tally.leave(f"{gap / 1000:.1f} s without a keep alive after frame {last.place}, with a period of {period / 1000:g} s: one may be missing from the capture", shown)
         elif it and period:
             tally.held.append(it)
         last = shown
@@ -120,7 +120,7 @@ def quiet(talk: Talk, tally: Tally) -> None:
         after = next((it.at for it in talk.advertisements if it.at > told.at and it.heard.source == told.heard.source), len(talk.port.frames))
         if period and period[1] and talk.live(told.at):
             sent = [it for it in talk.of(*BOTH) if told.at < it.at < after and it.heard.destination == told.heard.source]
-            tally.usual(sent[0] if sent else told, want("keep alives behind D", len(sent), 0))
+            tally.usual(sent[0] if sent else told, want("keep alives after D", len(sent), 0))
 
 
 RULES = Group(

@@ -89,7 +89,7 @@ def spaced(kind: str, answered_by: tuple[int, int], talk: Talk, tally: Tally) ->
     for it in talk.of(kind):
         if last and it.heard.vlan == last.heard.vlan and not any(last.at < at < it.at for at in answers) and it.clock - last.clock < BEHIND:
             gap = round(it.clock - last.clock)
-            tally.usual(it, want("asked again behind", f"{gap} ms", f"{SOON} ms or more", gap >= SOON))
+            tally.usual(it, want("asked again after", f"{gap} ms", f"{SOON} ms or more", gap >= SOON))
         last = it
 
 
@@ -135,7 +135,7 @@ def known(talk: Talk, tally: Tally) -> None:
             if is_known or any(one.at < it.at for one in talk.of("Solicitation")):
                 tally.judge(it, want("destination", colons(there), "the MAC of a forwarder that advertised itself in this VLAN before", is_known))
             else:
-                tally.leave("the capture may have begun behind the advertisement", it)
+                tally.leave("the capture may have begun after the advertisement", it)
         elif it.heard.is_fip:
             tally.leave(ONE_WAY, it)
 

@@ -9,7 +9,7 @@ from .frames import Fc, fcid
 E_D_TOV, R_A_TOV = 2_000, 10_000  # milliseconds: the usual ones
 PATIENCE = 2 * R_A_TOV  # of a link service without an answer
 QUERIES = ("GA_NXT", "GPN_ID", "GNN_ID", "GFT_ID", "GFF_ID", "GID_PN", "GID_FT", "GPN_FT", "GNN_FT", "GID_PT", "ADISC", "PLOGI")
-SOON = 10_000  # milliseconds behind an RSCN within which a host that asks has asked
+SOON = 10_000  # milliseconds after an RSCN within which a host that asks has asked
 BLS_SIZES = {0x81: 0, 0x84: 12, 0x85: 4}
 
 
@@ -60,7 +60,7 @@ def never_ended(talk: Talk, tally: Tally) -> None:
         elif ended_between(talk, one, until):
             tally.held.append(one.request)
         else:
-            tally.judge(one.request, Fault("exchange", f"no answer and no ABTS until the capture ends, {(talk.end - one.request.clock) / 1000:.0f} s later", "an ABTS behind twice R_A_TOV"))
+            tally.judge(one.request, Fault("exchange", f"no answer and no ABTS until the capture ends, {(talk.end - one.request.clock) / 1000:.0f} s later", "an ABTS after twice R_A_TOV"))
 
 
 def asked_of_host(talk: Talk) -> Iterator[Exchange]:
@@ -76,7 +76,7 @@ def judge_answer(talk: Talk, one: Exchange, tally: Tally, should: str) -> None:
     """An answer within twice R_A_TOV, where nothing ended the login meanwhile."""
     until = one.request.clock + PATIENCE
     if one.reply:
-        tally.judge(one.reply, want("answer", f"{(one.reply.clock - one.request.clock) / 1000:.1f} s behind frame {one.request.place}", "within twice R_A_TOV", one.reply.clock <= until))
+        tally.judge(one.reply, want("answer", f"{(one.reply.clock - one.request.clock) / 1000:.1f} s after frame {one.request.place}", "within twice R_A_TOV", one.reply.clock <= until))
     elif one.aborted or ended_between(talk, one, until):
         tally.leave("its login or its exchange ended before it was answered", one.request)
     elif talk.end < until:
@@ -101,7 +101,7 @@ def rscn_soon(talk: Talk, tally: Tally) -> None:
     for one in asked_of_host(talk):
         if one.request.heard.kind == "RSCN" and one.reply:
             gap = one.reply.clock - one.request.clock
-            tally.usual(one.reply, want("answer to an RSCN", f"{gap / 1000:.1f} s behind it", "within E_D_TOV", gap <= E_D_TOV))
+            tally.usual(one.reply, want("answer to an RSCN", f"{gap / 1000:.1f} s after it", "within E_D_TOV", gap <= E_D_TOV))
 
 
 def rscn_heeded(talk: Talk, tally: Tally) -> None:
@@ -116,7 +116,7 @@ def rscn_heeded(talk: Talk, tally: Tally) -> None:
         elif talk.end < one.request.clock + SOON:
             tally.leave("the capture ends before", one.request)
         else:
-            tally.leave(f"no query within {SOON // 1000} s behind an RSCN: {LEFT}", one.request)
+            tally.leave(f"no query within {SOON // 1000} s after an RSCN: {LEFT}", one.request)
 
 
 def rscn_reply(talk: Talk, tally: Tally) -> None:
@@ -238,7 +238,7 @@ def abts_answered(talk: Talk, tally: Tally) -> None:
             continue
         reply = next((one for one in talk.within(it.clock, talk.end) if one.at > it.at and not one.is_switch and one.heard.kind in ("BA_ACC", "BA_RJT") and one.fc and one.fc.ox_id == fc.ox_id and one.fc.d_id == fc.s_id), None)
         if reply:
-            tally.judge(reply, want("answer", f"{(reply.clock - it.clock) / 1000:.1f} s behind the ABTS", "within twice R_A_TOV", reply.clock - it.clock <= PATIENCE))
+            tally.judge(reply, want("answer", f"{(reply.clock - it.clock) / 1000:.1f} s after the ABTS", "within twice R_A_TOV", reply.clock - it.clock <= PATIENCE))
         elif talk.end - it.clock < PATIENCE or talk.gave_up(fc.d_id, it.clock, it.clock + PATIENCE):
             tally.leave("no answer until its login or the capture ends", it)
         else:
@@ -256,9 +256,9 @@ RULES = Group(
         Rule("rscn-soon", ENODE, "FC-LS-2, RSCN; FC-FS-3, E_D_TOV", "It comes within E_D_TOV.", rscn_soon, True),
         Rule("rscn-heeded", ENODE, "FC-LS-2, RSCN; FC-GS-6, queries", "A query of the name server or of the N_Port follows.", rscn_heeded, True),
         Rule("plogi-parameters", ENODE, "FC-LS-2, PLOGI, service parameters", "Class 3, a receive size of 256 to 2112, the port name of its login.", plogi),
-        Rule("prli-behind-plogi", ENODE, "FC-LS-2, PRLI", "PRLI goes out behind an accepted PLOGI.", prli_behind_plogi),
+        Rule("prli-after-plogi", ENODE, "FC-LS-2, PRLI", "PRLI goes out after an accepted PLOGI.", prli_behind_plogi),
         Rule("prli-form", ENODE, "FC-LS-2, PRLI, service parameter page", "Pages have 16 bytes, and the length counts them.", prli_form),
-        Rule("fcp-behind-prli", ENODE, "FC-LS-2, PRLI, image pairs", "FCP commands go out behind an accepted PRLI.", command_behind_prli),
+        Rule("fcp-after-prli", ENODE, "FC-LS-2, PRLI, image pairs", "FCP commands go out after an accepted PRLI.", command_behind_prli),
         Rule("logo-form", ENODE, "FC-LS-2, LOGO", "A LOGO in FCoE has address and port name of who sends it.", logo),
         Rule("abts-form", ENODE, "FC-FS-3, ABTS, BA_ACC, BA_RJT", "An ABTS has no payload, BA_ACC 12 bytes, BA_RJT 4.", aborts),
         Rule("abts-exchange", ENODE, "FC-FS-3, ABTS", "An ABTS is of an exchange that there is.", abts_known),

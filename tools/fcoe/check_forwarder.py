@@ -60,7 +60,7 @@ def spaced(talk: Talk, tally: Tally) -> None:
             if LATE * period[0] < gap <= PERIODS * period[0]:
                 tally.leave(f"{gap / 1000:.1f} s without an advertisement, with a period of {period[0] / 1000:g} s: one may be missing from the capture", it)
             else:
-                tally.judge(it, want("time without an advertisement", f"{gap / 1000:.1f} s behind frame {before.place}", f"one each {period[0] / 1000:g} s", gap <= PERIODS * period[0]))
+                tally.judge(it, want("time without an advertisement", f"{gap / 1000:.1f} s after frame {before.place}", f"one each {period[0] / 1000:g} s", gap <= PERIODS * period[0]))
         last[key] = it
 
 
@@ -111,13 +111,13 @@ def distinct(talk: Talk, tally: Tally) -> None:
 
 
 def rested(talk: Talk, tally: Tally) -> None:
-    """An address that ended goes to another port name behind R_A_TOV alone."""
+    """An address that ended goes to another port name after R_A_TOV alone."""
     for grant in talk.grants:
         before = [it for it in talk.grants if it.address == grant.address and it.ended and it.ended.at < grant.granted.at]
         if before and any(before[-1].name) and any(grant.name):
             other = before[-1].ended
             gap = grant.granted.clock - other.clock if other else 0
-            tally.judge(grant.granted, want("address", f"{fcid(grant.address)} to another port name, {gap / 1000:.1f} s behind its end", "R_A_TOV", before[-1].name == grant.name or gap >= R_A_TOV))
+            tally.judge(grant.granted, want("address", f"{fcid(grant.address)} to another port name, {gap / 1000:.1f} s after its end", "R_A_TOV", before[-1].name == grant.name or gap >= R_A_TOV))
 
 
 def delivered(talk: Talk, tally: Tally) -> None:
@@ -177,7 +177,7 @@ RULES = Group(
         Rule("fcf-fpma", FCF, "FC-BB-5, fabric-provided MAC addresses", "An accept has the FC-MAP and the address as its MAC.", granted),
         Rule("fcf-replies", FCF, "FC-FS-3, OX_ID and F_CTL", "A reply in FIP has the OX_ID of a request, and is the responder's.", replied),
         Rule("fcf-addresses", FCF, "FC-LS-2, FLOGI, address assignment", "No address is granted to two ENodes at once.", distinct),
-        Rule("fcf-addresses-rest", FCF, "FC-FS-3, R_A_TOV", "An address that ended goes to another port name behind R_A_TOV alone.", rested),
+        Rule("fcf-addresses-rest", FCF, "FC-FS-3, R_A_TOV", "An address that ended goes to another port name after R_A_TOV alone.", rested),
         Rule("fcf-destination", FCF, "FC-BB-5, fabric-provided MAC addresses", "FCoE to an N_Port goes to the FC-MAP and its address.", delivered),
         Rule("fcf-crc", FCF, "FC-FS-3, CRC", "The check sequence is right.", checked),
         Rule("fcf-answers", FCF, "FC-LS-2; FC-GS-6", "Requests to FFFFFC and FFFFFD are answered.", answered),

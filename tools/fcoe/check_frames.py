@@ -60,7 +60,7 @@ def encapsulated(talk: Talk, tally: Tally) -> None:
             want("FC payload", f"{size} bytes", "0 to 2112 bytes, in words of four", 0 <= size <= LONGEST_PAYLOAD and size % 4 == 0),
             want("FCoE version", head[0] >> 4 if head else "none", 0),
             want("reserved bytes of FCoE", f"{head[0] & 15:x}{head[1:].hex()}" if head else "", "0" * 25) if size >= 0 else None,
-            want("reserved bytes behind EOF", heard.data[-3:].hex(), "000000"),
+            want("reserved bytes after EOF", heard.data[-3:].hex(), "000000"),
         )
 
 
@@ -103,7 +103,7 @@ def counted(talk: Talk, tally: Tally) -> None:
         if key in running and not (is_first and fc.seq_cnt == 0):
             should = (running[key] + 1) & 0xFFFF
             if fc.seq_cnt > should:
-                tally.leave(f"SEQ_CNT {fc.seq_cnt} behind {running[key]}: frames may be missing from the capture", it)
+                tally.leave(f"SEQ_CNT {fc.seq_cnt} after {running[key]}: frames may be missing from the capture", it)
             else:
                 tally.judge(it, want("SEQ_CNT", fc.seq_cnt, should))
         elif fc.f_ctl & FIRST_SEQUENCE and is_first:
@@ -126,7 +126,7 @@ def checked(talk: Talk, tally: Tally) -> None:
         if tally.held:
             tally.judge(it, Fault("CRC", stood, right))
         else:
-            tally.leave("no frame of this host has its CRC: the Ethernet port fills it in behind the capture", it)
+            tally.leave("no frame of this host has its CRC: the Ethernet port fills it in after the capture", it)
 
 
 def controlled(talk: Talk, tally: Tally) -> None:

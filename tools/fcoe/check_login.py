@@ -139,7 +139,7 @@ def again(talk: Talk, tally: Tally) -> None:
             tally.held.append(reply)
         else:
             reason = reply.payload[5]
-            tally.leave(f"the same request again {same.clock - reply.clock:.0f} ms behind a reject with reason {reason:02x} (frame {reply.place}): {LEFT}", same)
+            tally.leave(f"the same request again {same.clock - reply.clock:.0f} ms after a reject with reason {reason:02x} (frame {reply.place}): {LEFT}", same)
 
 
 def asked_again(talk: Talk, tally: Tally) -> None:
@@ -149,7 +149,7 @@ def asked_again(talk: Talk, tally: Tally) -> None:
         is_answered = last and any(last.at < one.at < it.at and one.heard.operation == LOGIN_REPLY for one in talk.theirs)
         if last and not is_answered and last.heard.destination == it.heard.destination and it.clock - last.clock < BEHIND:
             gap = round(it.clock - last.clock)
-            tally.usual(it, want(f"FLOGI {fc.ox_id:04x} again behind", f"{gap} ms", f"{SOON} ms or more", gap >= SOON))
+            tally.usual(it, want(f"FLOGI {fc.ox_id:04x} again after", f"{gap} ms", f"{SOON} ms or more", gap >= SOON))
         last = it
 
 
@@ -175,7 +175,7 @@ RULES = Group(
         Rule("login-header", ENODE, "FC-LS-2, FLOGI, FDISC, LOGO; FC-FS-3, frame header", "R_CTL 22, TYPE 01, D_ID FFFFFE, the first and only frame of a request, RX_ID FFFF.", headed),
         Rule("login-address", ENODE, "FC-LS-2, FLOGI and FDISC", "The S_ID of FLOGI and FDISC is 000000.", without_address),
         Rule("login-parameters", ENODE, "FC-LS-2, service parameters", "Class 3, a receive size of 256 to 2112, port name and node name, not as a fabric port.", parameters),
-        Rule("fdisc-behind-flogi", ENODE, "FC-LS-2, FDISC", "An FDISC goes out behind an accepted FLOGI that grants several addresses.", first_flogi),
+        Rule("fdisc-after-flogi", ENODE, "FC-LS-2, FDISC", "An FDISC goes out after an accepted FLOGI that grants several addresses.", first_flogi),
         Rule("logo-names", ENODE, "FC-LS-2, LOGO; FC-BB-5, FIP LOGO", "A LOGO in FIP names its own address, MAC and port name.", logged_out),
         Rule("login-again", ENODE, "FC-BB-5, FIP FLOGI; FC-LS-2, FLOGI", "A FLOGI without an answer is repeated, and not at once.", asked_again, True),
         Rule("reject-heeded", ENODE, "FC-LS-2, LS_RJT reasons", "A request that was rejected doesn't come again unchanged at once.", again, True),

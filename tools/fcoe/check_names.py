@@ -54,7 +54,7 @@ def sized(talk: Talk, tally: Tally) -> None:
             continue
         if fc.command in LENGTH_AT and len(rest) >= size:
             size += rest[LENGTH_AT[fc.command or 0]]
-        tally.judge(it, want(f"bytes behind the preamble of {CT[fc.command or 0]}", len(rest), f"{size} or more", len(rest) >= size))
+        tally.judge(it, want(f"bytes after the preamble of {CT[fc.command or 0]}", len(rest), f"{size} or more", len(rest) >= size))
 
 
 def own_address(talk: Talk, tally: Tally) -> None:
@@ -121,12 +121,12 @@ def watched_at(talk: Talk, tally: Tally) -> None:
 RULES = Group(
     "services",
     [
-        Rule("ns-login", ENODE, "FC-GS-6, name server; FC-LS-2, PLOGI", "Requests go to the name server behind an accepted PLOGI to it.", behind_login),
+        Rule("ns-login", ENODE, "FC-GS-6, name server; FC-LS-2, PLOGI", "Requests go to the name server after an accepted PLOGI to it.", behind_login),
         Rule("ct-preamble", ENODE, "FC-GS-6, CT_IU preamble", "A request has IN_ID 0, the name server's type and subtype, no reason.", preamble),
         Rule("ct-size", ENODE, "FC-GS-6, name server, requests", "A request has the bytes of its command, and a symbolic name those of its length.", sized),
         Rule("register-own", ENODE, "FC-GS-6, name server, registrations", "An N_Port registers its own address.", own_address, True),
         Rule("register-node-name", ENODE, "FC-GS-6, RSNN_NN", "A symbolic node name is of a node name that is registered.", node_name, True),
-        Rule("register-order", ENODE, "FC-GS-6, RFT_ID and RFF_ID", "Features are registered behind their FC-4 type.", features_behind_types, True),
+        Rule("register-order", ENODE, "FC-GS-6, RFT_ID and RFF_ID", "Features are registered after their FC-4 type.", features_behind_types, True),
         Rule("register-types", ENODE, "FC-GS-6, RFT_ID; FC-LS-2, PRLI", "The FC-4 types that are used are registered.", types_used, True),
         Rule("scr-function", ENODE, "FC-LS-2, SCR", "SCR has a function of the table.", watched),
         Rule("scr-destination", ENODE, "FC-LS-2, SCR", "SCR goes to FFFFFD.", watched_at),

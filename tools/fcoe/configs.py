@@ -87,10 +87,11 @@ def read_config(name: str) -> Config:
 
 @dataclass
 class Drawn:
-    """A configuration drawn from captures: its text, and what was assumed, one remark each."""
+    """A configuration drawn from captures: its text, and what was assumed, one remark each, and what is of less weight."""
 
     lines: list[str]
     remarks: list[str]
+    details: list[str]
     config: Config
 
 
@@ -158,7 +159,8 @@ def switch_of(frames: list[Heard], wanted: Optional[bytes]) -> tuple[Optional[by
         used = {mac: upon[mac] for mac in known}
         best = min(known, key=lambda it: (-used[it], known[it].priority if known[it].priority is not None else 255, it))
         rest = [colons(it) for it in sorted(known) if it != best]
-        more = f"; {len(rest)} more advertise themselves ({', '.join(rest)}): --fcf MAC takes another" if rest else ""
+        themselves = "advertises itself" if len(rest) == 1 else "advertise themselves"
+        more = f"; {len(rest)} more {themselves} ({', '.join(rest)}): --fcf MAC takes another" if rest else ""
         return best, f"from its advertisements{more}", known
     granted = Counter(it.source for it in frames if it.is_fip and it.operation == (2, 2))
     if granted:
@@ -246,11 +248,11 @@ def draw(frames: list[Heard], wanted: Optional[bytes], window: int, zones: list[
     if len(names) > 200:
         config.pool = 4096
         lines += ["limit 1000", "pool 4096"]
-    remarks = [f"switch {colons(config.mac)}, {how}", f"VLAN {config.vlan}, FC-MAP {colons(config.fc_map)}"]
-    remarks.append(f"period {config.period} ms, priority {config.priority}{'' if said else ' (the defaults: no advertisement)'}")
+    known = f"period {config.period} ms, priority {config.priority}{'' if said else ' (the defaults: no advertisement)'}"
+    remarks = [f"switch {colons(config.mac)}, {how}", f"VLAN {config.vlan}, FC-MAP {colons(config.fc_map)}, {known}"]
     if said and said.period is not None and said.period != config.period:
         remarks.append(f"the advertised period of {said.period} ms is out of range (250 to 90000): {config.period} is taken")
     for it in added:
         words = it.split()
         config.zones[words[1]] = [octets(word) for word in words[2:]]
-    return Drawn(lines + added, [*remarks, f"window {window} ms", about], config)
+    return Drawn(lines + added, remarks, [f"window {window} ms", about], config)

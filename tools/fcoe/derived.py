@@ -10,8 +10,9 @@ from .hosts import WELL_KNOWN
 from .inputs import Inputs, Port
 from .readdress import LISTED, Request
 from .replies import Reply, replies_to
+from .steps import NO_ROOM
 
-NO_ROOM, NO_TYPES = "rejected 09 29", "refused 09 07"
+NO_TYPES = "refused 09 07"
 RFT_ID = 0x0217
 MOST_NAMES = 40  # of which zones are derived
 Pair = frozenset[bytes]
@@ -187,11 +188,11 @@ def derive(inputs: Inputs, has_zones: bool) -> None:
     if limit is not None:
         lines = [it for it in inputs.text.splitlines() if not it.startswith("limit ")]
         inputs.text = "\n".join([*lines, f"limit {limit}"]) + "\n"
-        inputs.derived.append(f"limit {limit}, since the switch rejected the {ordinal(limit + 1)} login with 09 29 (insufficient resources)")
+        inputs.details.append(f"limit {limit}, since the switch rejected the {ordinal(limit + 1)} login with 09 29 (insufficient resources)")
     evidence = Evidence()
     holders = from_lists(told, evidence)
     from_data(inputs.ports, inputs.switches, holders, evidence)
     split = evidence.split()
     if split and not has_zones and 2 <= len(Counter(name for members in inputs.config.zones.values() for name in members)) <= MOST_NAMES:
         with_zones(inputs, split)
-    inputs.remarks += inputs.derived
+    inputs.details += inputs.derived

@@ -5,6 +5,7 @@ from .answers import Answer, Severity, times
 from .enodes import ASKED, FALLBACK, SOLICITED, TALKED, Seen
 from .errors import counted
 from .frames import colons
+from .rivals import PART, rivals_on, switch_text
 
 PADDED = "2,158 bytes"  # of a solicited advertisement, which a path without mini-jumbo frames loses
 AVAILABLE, PATIENCE = 0x0004, 5000  # the flag A of an advertisement; milliseconds that a host may wait before its FLOGI
@@ -52,11 +53,27 @@ def unheard(seen: Seen) -> Optional[Answer]:
     logins = seen.enode.all("FLOGI")
     if not logins or seen.answered("FLOGI"):
         return None
-    said = f"sent {counted(len(logins), 'FLOGI')} to {colons(seen.enode.heard(logins[-1]).destination)}"
+    to = seen.enode.heard(logins[-1]).destination
+    said = f"sent {counted(len(logins), 'FLOGI')} to {colons(to)}"
     if not seen.enode.port.replies:
-        return failed(seen, f"{said} and nothing behind {'it' if len(logins) == 1 else 'them'}; this capture has no frame of the switch", "capture both directions of the port: the switch's answer has the reason", logins)
-    step = "the switch's log for this port at that time; is the FLOGI's destination the switch's MAC (`look fields`), does a bridge drop FIP?"
+        return failed(seen, f"{said} and nothing after {'it' if len(logins) == 1 else 'them'}; this capture has no frame of the switch", "capture both directions of the port: the switch's answer has the reason", logins)
+    own = seen.look.run.config.mac
+    if to != own:
+        return elsewhere(seen, said, to, logins)
+    step = "the switch's log for this port at that time" + ("" if seen.answered(ASKED, SOLICITED) else "; does a bridge drop FIP?")
     return failed(seen, f"{said}, the switch answered none", step, logins)
+
+
+def elsewhere(seen: Seen, said: str, to: bytes, logins: list[int]) -> Answer:
+    """It sent its FLOGIs to another MAC than the switch's: to another switch of its VLAN, or to nobody who advertises himself."""
+    rivals, own = rivals_on(seen.look, seen.enode.port.number), colons(seen.look.run.config.mac)
+    other = rivals.other(to) if rivals else None
+    if rivals is None or other is None:
+        return failed(seen, f"{said}, which isn't the switch's MAC ({own}), and nobody answered", "where the host has that MAC from: it logs in to the source of the advertisement that it chose", logins)
+    text = f"{said} and none to this switch: {rivals.text}, {switch_text(rivals.own)} and {switch_text(other)}"
+    answer = failed(seen, text, f"if {own} is its own: {PART}; `--fcf {colons(to)}` has what the other answered", logins)
+    answer.followers.append(rivals.fabrics)
+    return answer
 
 
 def untagged(seen: Seen) -> Optional[Answer]:
@@ -80,7 +97,7 @@ def advertised_to(seen: Seen) -> Optional[Answer]:
     last = seen.reply(solicited[-1])
     left = seen.enode.port.frames.milliseconds(-1) - last.clock if last else 0
     if left < PATIENCE:
-        step = f"the capture ends {left / 1000:.1f} s behind the advertisement: capture on; a host may wait some seconds before its FLOGI"
+        step = f"the capture ends {left / 1000:.1f} s after the advertisement: capture on; a host may wait some seconds before its FLOGI"
         return failed(seen, "solicited, was advertised to, sent no FLOGI yet", step, solicited)
     return failed(seen, f"solicited, was advertised to, sent no FLOGI: look whether {PADDED} come through", JUMBO, solicited)
 

@@ -92,11 +92,12 @@ class Inputs:
     ports: list[Port]
     config: Config
     text: str
-    remarks: list[str]
+    remarks: list[str]  # what a reader must know before the answer
     switches: set[bytes]
     is_drawn: bool
     fc_map: bytes = FPMA + b"\0"  # of the captures, which --config may have otherwise
-    derived: list[str] = field(default_factory=list)  # what the switch's own answers told of its configuration
+    derived: list[str] = field(default_factory=list)  # what the switch's own answers told of its zones
+    details: list[str] = field(default_factory=list)  # what else was assumed
 
 
 def remarks_on(port: Port) -> list[str]:
@@ -238,6 +239,7 @@ def gather(names: list[str], room: str, options: Options) -> Inputs:
         check_config(inputs, drawn, options.config)
     else:
         remarks += drawn.remarks
+        inputs.details += drawn.details
     chosen_macs = {it for it in (options.switch, inputs.config.mac) if it}
     inputs.switches = switches_in(frames, chosen_macs, drawn.config.fc_map)
     check_directions(inputs)
@@ -265,7 +267,7 @@ def check_directions(inputs: Inputs) -> None:
             inputs.remarks.append(f"{port.label}: no FIP or FCoE frame of a host")
         both = f", {len(port.replies)} of the switch (left out, compared with the forwarder's)" if port.replies else ", none of the switch"
         first, last = (port.frames.number(0), port.frames.number(len(port.frames) - 1)) if port.frames else (0, 0)
-        inputs.remarks.append(f"port {port.number} is {port.label}, frames {first} to {last}: {len(port.hosts)} of hosts{both}")
+        inputs.details.append(f"port {port.number} is {port.label}, frames {first} to {last}: {len(port.hosts)} of hosts{both}")
 
 
 def switch_mac(word: str) -> bytes:

@@ -189,7 +189,7 @@ def text_of(sent: Sent, line: str, folder: Folder, lost: int) -> str:
     told = ", ".join(f"{count} {word}" for word, count in sorted(found.items(), key=lambda it: -it[1]))
     return (
         f"{line}; {sent.frames / max(sent.seconds, 0.001):.0f} frames a second over {sent.seconds:.1f} s\n"
-        f"data frames: {sent.data} sent, {forwarded} forwarded, {sent.came} arrived, {lost} lost before the program, {forwarded - sent.came} behind it\n"
+        f"data frames: {sent.data} sent, {forwarded} forwarded, {sent.came} arrived, {lost} lost before the program, {forwarded - sent.came} after it\n"
         f"from sender to receiver: median {1e6 * took[len(took) // 2]:.0f}, 99% {1e6 * took[len(took) * 99 // 100]:.0f} microseconds\n"
         f"verdicts: {told}"
     )

@@ -1,35 +1,17 @@
-"""Answers on logins: those that were rejected, those that fell silent, those that were made again."""
+"""Answers on logins that ended: by silence, by the switch, by another of their ENode."""
 from dataclasses import dataclass
 from typing import Iterable, Iterator, Optional
 
 from .answers import Answer, Severity, times
-from .codes import spelled
-from .compare import followers_text
-from .configs import Advertised, forwarders, is_advertisement
-from .enodes import Seen
 from .errors import counted
 from .fabric import Login
-from .frames import CLEAR, KEEP_ALIVE, LOGIN, colons, fcid, login_names
+from .frames import CLEAR, KEEP_ALIVE, LOGIN, colons, fcid
 from .inputs import Port
-from .journals import Frame
 from .looking import Look
 from .moments import short
-from .readdress import Request
-from .steps import next_step
 
 HEEDED = 500  # milliseconds: Linux heeds no shorter advertised period
 AGAIN = "its ENode logged in again (FLOGI)"
-NAME_HELD = "rejected 03 00"
-
-
-def entries_of(look: Look, wanted: Iterable[Request]) -> dict[Request, Frame]:
-    """The journal's entries of some requests."""
-    some, found, entries = set(wanted), {}, look.run.entries
-    for place in entries.places(lambda verdict: verdict.startswith(("granted", "rejected", "dropped"))) if some else ():
-        request = look.request_of(entries.ports[place], entries.indexes[place])
-        if request in some:
-            found[request] = entries.frame(place)
-    return found
 
 
 def beats_of(look: Look) -> dict[tuple[int, bytes], list[int]]:
@@ -46,149 +28,6 @@ def beats_of(look: Look) -> dict[tuple[int, bytes], list[int]]:
 def last_heard(beats: dict[tuple[int, bytes], list[int]], login: Login, clock: int) -> int:
     """When the ENode of a login was heard last before a moment."""
     return max((it for it in beats.get((login.port, login.enode), []) if it < clock), default=login.since)
-
-
-def holder_text(look: Look, name: bytes, request: Request, clock: int) -> str:
-    """Which login holds a name at a moment, and when it ends if it stays silent."""
-    places = {look.request_of(*it.granted_frame): it for it in look.walk.fabric.logins}
-    own = [it for place, it in places.items() if it.name == name and place != request and it.is_live(clock)]
-    if not own:
-        return "no login of these captures holds the name: it is on a port that wasn't captured, or is older than the capture"
-    it = own[-1]
-    address = look.on_switch(it)
-    heard = last_heard(beats_of(look), it, clock)
-    ends = heard + look.run.config.period * 5 // 2
-    return (
-        f"the name is held by {fcid(address)} on port {it.port} (ENode {colons(it.enode)}, since {short(it.since, clock)}, "
-        f"heard last {short(heard, clock)}): it ends by its LOGO, by a FLOGI of its ENode, or by silence at {short(ends, clock)}"
-    )
-
-
-def rejects_in(all_seen: list[Seen]) -> dict[tuple[int, bytes, str, str], list[Request]]:
-    """The FLOGIs and FDISCs that the switch rejected, by port, port name, kind and verdict."""
-    found: dict[tuple[int, bytes, str, str], list[Request]] = {}
-    for seen in all_seen:
-        for at in seen.enode.all("FLOGI", "FDISC"):
-            reply, names = seen.reply(at), login_names(seen.enode.heard(at))
-            if reply and names and reply.verdict.startswith("rejected"):
-                found.setdefault((seen.enode.port.number, names[0], seen.enode.heard(at).kind, reply.verdict), []).append((seen.enode.port.number, at))
-    return found
-
-
-def here_text(verdicts: list[str]) -> str:
-    """What this forwarder does with the first of the same requests."""
-    first = verdicts[0] if verdicts else ""
-    if first.startswith("granted"):
-        return "; this forwarder grants it"
-    return f"; this forwarder answers {spelled(first)}" if first else ""
-
-
-def span_of(look: Look, requests: list[Request]) -> tuple[int, int, list[tuple[int, int]]]:
-    """The first moment, the last one, and where the frames stand in the user's files."""
-    frames = [(look.captured[port - 1].frames, at) for port, at in requests]
-    clocks = [it.milliseconds(at) for it, at in frames]
-    return min(clocks), max(clocks), [(port, it.number(at)) for (port, _), (it, at) in zip(requests, frames)]
-
-
-def step_of(look: Look, verdict: str, name: bytes, first: Request, clock: int) -> str:
-    """What to look at next, by the codes."""
-    if verdict == NAME_HELD:
-        return holder_text(look, name, first, clock) if any(name) else "the port name is 0: the host's driver"
-    return next_step(verdict, look.captured[first[0] - 1].frames.heard(first[1]))
-
-
-def followers_of(look: Look, requests: list[Request]) -> list[str]:
-    """What this forwarder tells of logins that the switch rejected, in one line."""
-    told = look.compared.notices if look.compared else []
-    some = [it for it in told if it.follows and look.request_of(it.follows.port, it.follows.index) in requests]
-    return [followers_text(some)] if some else []
-
-
-def rivals_text(look: Look, port: int) -> str:
-    """Which switches advertise themselves on a port, where there are several, and which of them the run's is."""
-    known = forwarders([it.heard for it in look.captured[port - 1].frames.used() if is_advertisement(it.heard)])
-    own = known.get(look.run.config.mac)
-    others = [it for mac, it in sorted(known.items()) if mac != look.run.config.mac]
-    if own is None or not others:
-        return ""
-    told = " and ".join(f"{colons(it.mac)} of {fabric_of(it)}" for it in others)
-    return f"this switch is {colons(own.mac)} of {fabric_of(own)}; {told} advertises itself too: which is the host's? It takes the lowest priority value"
-
-
-def several(look: Look) -> Iterator[Answer]:
-    """Ports on which several switches advertise themselves."""
-    for port in look.captured:
-        text = rivals_text(look, port.number)
-        if text:
-            yield Answer(Severity.NOTED, text, "--fcf takes another switch; two fabrics in one VLAN want their VLANs parted, or their priorities set", port.number)
-
-
-def fabric_of(it: Advertised) -> str:
-    return f"fabric {colons(it.fabric) if it.fabric else 'unknown'} (priority {it.priority if it.priority is not None else 'unknown'})"
-
-
-def rejected(look: Look, all_seen: list[Seen]) -> Iterator[Answer]:
-    """Logins that the switch rejected, the reason first."""
-    groups = rejects_in(all_seen)
-    own = entries_of(look, [it for some in groups.values() for it in some])
-    for (port, name, kind, verdict), requests in groups.items():
-        span = span_of(look, requests)
-        here = [own[it].verdict for it in requests if it in own]
-        got_in = any(it.name == name and it.port == port and look.replied(it) for it in look.walk.fabric.logins)
-        said = f"{'' if got_in else 'got no login: '}the switch rejected {counted(len(requests), kind)}, {spelled(verdict)[len('rejected '):]}"
-        said += "" if set(here) == {verdict} else here_text(here)
-        followers = [it for it in (rivals_text(look, port), *followers_of(look, requests)) if it]
-        yield Answer(Severity.FAILED, said, step_of(look, verdict, name, requests[0], span[0]), port, colons(name), *span, followers)
-
-
-def rejected_here(look: Look, all_seen: list[Seen]) -> Iterator[Answer]:
-    """Logins that this forwarder rejects, of hosts of which the captures don't tell what the switch said."""
-    groups: dict[tuple[int, bytes, str, str], list[Request]] = {}
-    places = {(seen.enode.port.number, at): seen.enode.heard(at) for seen in all_seen for at in seen.enode.all("FLOGI", "FDISC") if not seen.reply(at)}
-    for request, entry in entries_of(look, places).items():
-        heard = places[request]
-        names = login_names(heard)
-        if entry.word == "rejected" and names and request not in look.grants:
-            groups.setdefault((entry.port, names[0], heard.kind, entry.verdict), []).append(request)
-    for (port, name, kind, verdict), requests in groups.items():
-        span = span_of(look, requests)
-        text = f"this forwarder rejects {counted(len(requests), kind)}, {spelled(verdict)[len('rejected '):]}; the switch's answer isn't in the captures"
-        yield Answer(Severity.FAILED, text, step_of(look, verdict, name, requests[0], span[0]), port, colons(name), *span)
-
-
-@dataclass
-class Shared:
-    """A port name that two hosts use at the same time: the login that had it, and who asks for it too."""
-
-    login: Login
-    seen: Seen
-    requests: list[Request]
-
-    def answer(self, look: Look) -> Answer:
-        port, mac = self.seen.enode.port.number, self.seen.enode.mac
-        since, until, numbers = span_of(look, self.requests)
-        reply = self.seen.reply(self.requests[0][1])
-        said = f"; the switch's answer to the latter: {spelled(reply.verdict)}" if reply else ""
-        text = f"two hosts use this port name at once: {colons(self.login.enode)} on port {self.login.port}, and from {short(since, since)} on {colons(mac)} on port {port}{said}"
-        step = "which of the two it belongs to; give the other a WWPN of its own (a cloned machine, a virtual N_Port that was copied)"
-        return Answer(Severity.FAILED, text, step, port, colons(self.login.name), since, until, numbers)
-
-
-def shared(look: Look, all_seen: list[Seen]) -> Iterator[Shared]:
-    """Port names for which a second host asks while the first goes on with its own login."""
-    beats = beats_of(look)
-    for seen in all_seen:
-        asked: dict[bytes, list[int]] = {}
-        for at in seen.enode.all("FLOGI", "FDISC"):
-            names = login_names(seen.enode.heard(at))
-            if names:
-                asked.setdefault(names[0], []).append(at)
-        for name, places in asked.items():
-            clock = seen.clock(places[0])
-            had = (it for it in look.walk.fabric.logins if it.name == name and it.enode != seen.enode.mac and not it.is_fdisc and it.is_live(clock))
-            login = next((it for it in had if max(beats.get((it.port, it.enode), [0])) > clock), None)
-            if login is not None:
-                yield Shared(login, seen, [(seen.enode.port.number, at) for at in places])
 
 
 def real(look: Look, logins: Iterable[Login]) -> list[Login]:
@@ -228,7 +67,7 @@ class Silence:
 
 
 def silent_logins(look: Look) -> list[Silence]:
-    """The logins that ended by silence, and those that stay live only because no frame of a host comes behind them."""
+    """The logins that ended by silence, and those that stay live only because no frame of a host comes after them."""
     end = max((it.frames.milliseconds(-1) for it in look.captured if it.frames), default=0)
     found, beats = [], beats_of(look)
     for it in real(look, look.walk.fabric.logins):
@@ -302,17 +141,29 @@ class Cleared:
     at: int
     number: int  # of the clear link message, as Wireshark shows it
     beats: list[int]
+    is_taken: bool  # this forwarder takes each of them as a keep alive of that login
 
 
 def cleared_logins(look: Look) -> list[Cleared]:
     """The logins that the switch cleared while they were live here."""
-    beats, found = beats_of(look), []
+    beats, taken, found = beats_of(look), taken_beats(look), []
     for it in real(look, look.walk.fabric.logins):
         frames = look.captured[it.port - 1].frames
         place = None if it.is_fdisc else clear_of(look.captured[it.port - 1], it, it.since)
         at = frames.milliseconds(place) if place is not None else 0
         if place is not None and (it.until is None or at < it.until):
-            found.append(Cleared(it, at, frames.number(place), [beat for beat in beats.get((it.port, it.enode), []) if it.since + look.run.config.window < beat < at]))
+            own = [beat for beat in beats.get((it.port, it.enode), []) if it.since + look.run.config.window < beat < at]
+            found.append(Cleared(it, at, frames.number(place), own, all((it.port, it.enode, beat) in taken for beat in own)))
+    return found
+
+
+def taken_beats(look: Look) -> set[tuple[int, bytes, int]]:
+    """The keep alives that this forwarder takes: port, ENode and moment of each."""
+    found, entries = set(), look.run.entries
+    for place in entries.places(lambda verdict: verdict.startswith("alive")):
+        port, at = look.request_of(entries.ports[place], entries.indexes[place])
+        frames = look.captured[port - 1].frames
+        found.add((port, frames.heard(at).source, frames.milliseconds(at)))
     return found
 
 
@@ -325,8 +176,11 @@ def why_cleared(some: list[Cleared], period: int) -> tuple[str, str]:
         last = (some[0].at - some[0].beats[-1]) / 1000
         return f", though the host's keep alives stand in this capture up to {last:.1f} s before", f"whether they reach the switch (capture at its port too); {log}"
     beats = sum(len(it.beats) for it in some)
-    text = f", though {counted(beats, 'keep alive')} of the host {'stands' if beats == 1 else 'stand'} in this capture (the period is {period} ms): they don't reach the switch"
-    step = "the path of its keep alives, FIP to the switch's own MAC, from where this was captured to the switch: a bridge, FIP snooping or a filter loses them"
+    text = f", as if it heard no keep alive: {counted(beats, 'keep alive')} of the host {'stands' if beats == 1 else 'stand'} in this capture before that"
+    if not all(it.is_taken for it in some):
+        return f"{text}, and this forwarder doesn't take all of them either", f"the keep alives themselves (`look fields`, `look check`); {log}"
+    text += ", well formed, to the switch's MAC and in its VLAN: probably they are lost on the way"
+    step = "the path of its keep alives from where this was captured to the switch: a bridge, FIP snooping or a filter may lose FIP to the switch's own MAC"
     return text, f"{step}; capture at the switch's port too"
 
 
@@ -336,9 +190,10 @@ def cleared(look: Look) -> Iterator[Answer]:
     for it in cleared_logins(look):
         groups.setdefault((it.login.port, it.login.name), []).append(it)
     for (port, name), some in groups.items():
-        behind = (some[0].at - some[0].login.since) / 1000
-        why, step = why_cleared(some, look.run.config.period)
-        text = f"the switch cleared its login {times(len(some))}{', first' if len(some) > 1 else ','} {behind:.1f} s behind its accept{why}"
+        lasted, period = some[0].at - some[0].login.since, look.run.config.period
+        why, step = why_cleared(some, period)
+        after = f"{lasted / 1000:.1f} s after its accept ({lasted / period:.1f} periods of {period} ms)"
+        text = f"the switch cleared its login {times(len(some))}{', first' if len(some) > 1 else ','} {after}{why}"
         yield Answer(Severity.LOST, text, step, port, colons(name), some[0].at, some[-1].at, [(port, it.number) for it in some])
 
 

@@ -136,7 +136,7 @@ def settle(program: str, inputs: Inputs, room: str) -> tuple[Run, Grants, int]:
             inputs.ports = run.ports
             if found.strangers:
                 pairs = ", ".join(f"{old:06x} as {new:06x}" for old, new in sorted(found.strangers.items())[:6])
-                inputs.remarks.append(f"{counted(len(found.strangers), 'address', 'es')} that nobody here was granted would be the run's own: moved out of its way ({pairs})")
+                inputs.details.append(f"{counted(len(found.strangers), 'address', 'es')} that nobody here was granted would be the run's own: moved out of its way ({pairs})")
             return run, made, found.turns
         found.grants = made
     raise Refused(f"{captured[0].file}: the run's grants don't stand still after {TURNS} turns: look at one host at a time (tshark -Y 'eth.addr == MAC' -w OUT)")
@@ -155,7 +155,7 @@ def look(names: list[str], options: Options, program: str, room: str) -> Look:
     if moved:
         pairs = ", ".join(f"{old:06x} as {new[0]:06x}" for old, new in sorted(moved.items())[:6])
         more = " .." if len(moved) > 6 else ""
-        inputs.remarks.append(f"{counted(len(moved), 'address', 'es')} of the switch rewritten to those that the run grants ({pairs}{more}), with granted MACs and check sequences, in {counted(turns, 'run')}")
+        inputs.details.append(f"{counted(len(moved), 'address', 'es')} of the switch {'stands' if len(moved) == 1 else 'stand'} in the run as this forwarder grants {'it' if len(moved) == 1 else 'them'} ({pairs}{more}), granted MACs and check sequences too: found in {counted(turns, 'run')}")
     return result
 
 

@@ -15,7 +15,7 @@ PARTS: dict[int, tuple[str, list[tuple[str, int]]]] = {
     11: ("Vx_Port descriptor", [("MAC", 6), ("reserved", 1), ("address", 3), ("port name", 8)]),
     14: ("VLAN descriptor", [("VLAN", 2)]),
 }
-FIP_HEADER = [("version", 1), ("reserved", 1), ("operation", 2), ("reserved behind it", 1), ("subcode", 1), ("list length", 2), ("flags", 2)]
+FIP_HEADER = [("version", 1), ("reserved", 1), ("operation", 2), ("reserved after it", 1), ("subcode", 1), ("list length", 2), ("flags", 2)]
 LENGTH_OF_LOGIN = 4 + 24 + 116
 # what a field must be, by the last part of its name
 RULES = {
@@ -24,9 +24,9 @@ RULES = {
     "tag": "IEEE 802.1Q: the FCoE VLAN; the priority is the sender's choice",
     "tag type": "IEEE 802.1Q: the FCoE VLAN's tag; a VLAN request may go without one",
     "version": "FC-BB-5: 1 in the upper half of the byte",
-    "flags": "FC-BB-5: FP (8000) or SP (4000) in a solicitation and a login, for the kind of MAC; no forwarder heeds them in a keep alive",
+    "flags": "FC-BB-5: FP (8000) or SP (4000) in a solicitation and a login, for the kind of MAC; no forwarder heeds them in a VLAN request or a keep alive",
     "list length": "FC-BB-5: the descriptors' length in words of four bytes",
-    "bytes behind the list": "IEEE 802.3: padding to 60 bytes, which a capture inside the host doesn't have yet",
+    "bytes after the list": "IEEE 802.3: padding to 60 bytes, which a capture inside the host doesn't have yet",
     "size": "FC-BB-5: the largest FCoE frame that the ENode takes, which the advertisement is padded to",
     "MAC": "FC-BB-5: the ENode's MAC; in a login zeros, where the fabric is to provide it",
     "D_ID": "FC-LS-2: FFFFFE",
@@ -47,6 +47,8 @@ RULES = {
     "class 3": "FC-LS-2: its first bit must be set; the further ones are the port's choice",
     "reserved": "reserved: 0, and no receiver tests it",
 }
+
+FREE = {"bytes after the list", "OX_ID", "SEQ_ID", "credit", "class 2", "reserved"}  # by the rules of these fields
 
 
 def cut(data: bytes, parts: Iterable[tuple[str, int]], before: str = "") -> Iterator[tuple[str, bytes]]:
@@ -81,7 +83,7 @@ def fields_of(data: bytes) -> Iterator[tuple[str, bytes]]:
         yield f"{name}: type and length", part[:2]
         yield from cut(part[2:], parts, f"{name}: ")
         at += len(part)
-    yield "bytes behind the list", body[end:]
+    yield "bytes after the list", body[end:]
 
 
 def compared(one: bytes, other: bytes) -> Iterator[tuple[str, Optional[bytes], Optional[bytes]]]:
@@ -102,6 +104,14 @@ def rule_of(name: str) -> str:
     """The standard's rule for a field."""
     last = name.rsplit(": ", 1)[-1]
     return RULES.get(last, "FC-BB-5: the message's own" if ": " not in name else "")
+
+
+def is_choice(kind: str, name: str, value: Optional[bytes]) -> bool:
+    """A field of a message in which the standards leave the host free, or which no forwarder heeds."""
+    last = name.rsplit(": ", 1)[-1]
+    if last == "class 3":
+        return (value or b"\0")[0] >= 0x80
+    return last in FREE or last == "flags" and kind not in ("Solicitation", "FLOGI")
 
 
 def firsts(frames: Iterable[bytes]) -> dict[str, Heard]:

@@ -53,5 +53,5 @@ def moment_of(word: str, first: int, option: str = "--at") -> int:
     try:
         found = datetime.fromisoformat(text.strip()).replace(tzinfo=timezone.utc)
     except ValueError:
-        raise Refused(f"{option} {word}: wants +SECONDS behind the first frame, a date and time (UTC), or milliseconds as the journal has them") from None
+        raise Refused(f"{option} {word}: wants +SECONDS after the first frame, a date and time (UTC), or milliseconds as the journal has them") from None
     return int(found.timestamp() * 1000)

@@ -77,9 +77,9 @@ def with_lines(look: Look, lines: Lines, moments: list[int]) -> Inputs:
     text = "\n".join([*kept, *lines.text(), *(f"activate {it} {moment}" for it, moment in activations)]) + "\n"
     zones = {zone: [octets(it) for it in members] for zone, members in lines.zones.items()}
     config = replace(look.inputs.config, zones=zones, sets=dict(lines.sets), activations=activations)
-    remarks = [it for it in look.inputs.remarks if not it.startswith(("one zone of all", "no zone: ", "zones: "))] + lines.remarks
+    details = [it for it in look.inputs.details if not it.startswith(("one zone of ", "no zone: ", "zones: "))]
     derived = [it for it in look.inputs.derived if not it.startswith("zones: ")]
-    return replace(look.inputs, ports=look.ports, config=config, text=text, remarks=remarks, derived=derived)
+    return replace(look.inputs, ports=look.ports, config=config, text=text, remarks=look.inputs.remarks + lines.remarks, derived=derived, details=details)
 
 
 def rezoned(look: Look, plans: list[tuple[Plan, int]], room: str, name: str) -> Look:

@@ -2,8 +2,8 @@
 from .frames import VN2VN, Heard, number
 from .journals import row_of
 
+NO_ROOM = "rejected 09 29"
 LOGIN_STEPS = {
-    "rejected 09 29": "the switch's list of logins (`show flogi database`, `switchshow`) beside the limit of its port; for an FDISC, whether it takes NPIV",
     "rejected 0b 2c": "the FIP flags: FP and SP say which kind of MAC the host asks for (`look fields`)",
     "rejected 0b 00": "the class of service that the host asks for (`look fields`)",
     "rejected 09 00": "the ENode's own FLOGI comes before its FDISC",

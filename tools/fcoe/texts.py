@@ -2,20 +2,22 @@
 import json
 from dataclasses import dataclass
 from itertools import accumulate
-from typing import Any, Iterable, Optional
+from typing import Any, Collection, Iterable, Optional
 
 from .codes import spelled, type_text
 from .compare import Compared, Comparison, by_kind, followers_text, states_in, totals
+from .journals import row_of
 from .looking import Look
 from .moments import short, stamp
 from .places import text_of
 from .terminal import Colour, folded, painted, width
 from .traffic_answers import NOISE
-from .views import Row, first_clock
+from .views import Row, first_clock, is_trouble
 
 LISTED = 12  # rows of one kind that a terminal shows
 SUMMARISED = 30  # logins that the summary shows
 ANSWERED = 5  # answers that stand on top
+ALIVE = "A keep alive of an ENode or a VN_Port that has a login."
 UNGRANTED = ("rejected", "no answer")
 COLOURS = {"failed": Colour.BAD, "lost": Colour.BAD, "dropped": Colour.MIND, "different": Colour.MIND, "well": Colour.GOOD}
 
@@ -60,7 +62,10 @@ def answer_text(row: Row, first: int) -> list[str]:
 
 def answers_text(rows: list[Row], first: int, most: Optional[int] = ANSWERED) -> list[str]:
     """The answer on top: a few lines, worst first."""
-    lines = [line for row in rows[:most] for line in answer_text(row, first)]
+    lines, told = list[str](), set[str]()
+    for row in rows[:most]:  # a step that several have stands once
+        lines += answer_text({**row, "next": "as above"} if row["next"] in told else row, first)
+        told.add(row["next"])
     return lines + ([f"  and {len(rows) - most} more (look answers)"] if most is not None and len(rows) > most else [])
 
 
@@ -148,18 +153,24 @@ def zones_text(found: Row, most: Optional[int] = None) -> list[str]:
     return lines if found["zones"] else lines + ["  no zone is active: nobody reaches anybody"]
 
 
+def gloss(word: str) -> str:
+    """What a verdict is; of drops, rejects and refusals it stands among them."""
+    row = row_of(word)
+    return ALIVE if word == "alive" else row.meaning if row and not is_trouble(word) else ""
+
+
 def verdicts_text(counts: dict[int, dict[str, int]]) -> list[str]:
     """Counts of verdicts by port."""
     words: dict[str, int] = {}
     for some in counts.values():
         for word, count in some.items():
             words[word] = words.get(word, 0) + count
-    heads = ["verdict", *(f"port {it}" for it in counts), "in all"]
-    return table(heads, ([spelled(word), *(counts[it].get(word, "") for it in counts), total] for word, total in sorted(words.items(), key=lambda it: (it[0] == NOISE, -it[1], it[0]))))
+    heads = ["verdict", *(f"port {it}" for it in counts), "in all", "what it is"]
+    return table(heads, ([spelled(word), *(counts[it].get(word, "") for it in counts), total, gloss(word)] for word, total in sorted(words.items(), key=lambda it: (it[0] == NOISE, -it[1], it[0]))))
 
 
-def troubles_text(rows: list[Row]) -> list[str]:
-    """Each kind of drop, reject and refusal."""
+def troubles_text(rows: list[Row], told: Collection[Optional[str]] = ()) -> list[str]:
+    """Each kind of drop, reject and refusal; steps that were told above are left out."""
     lines: list[str] = []
     for row in rows:
         where = ", ".join(f"{port}/{number}" for port, number in row["frames"])
@@ -172,7 +183,7 @@ def troubles_text(rows: list[Row]) -> list[str]:
         own += folded(f"{row['meaning']} [{row['standard']}]", "    ") if row["meaning"] else []
         own += folded(f"in the first: {text_of(row['place'])}", "    ") if row["place"] else []
         lines += own + [line for hint in row["hints"] for line in folded(hint, "    ")]
-        lines += folded(f"look next at: {row['look']}", "    ") if row["look"] else []
+        lines += folded(f"look next at: {row['look']}", "    ") if row["look"] and row["look"] not in told else []
     return lines or ["  nothing was dropped, rejected or refused"]
 
 
@@ -205,10 +216,11 @@ def compare_text(found: Optional[Comparison], first: int, is_short: bool = False
     states = states_in(sums)
     lines = ["  " + ", ".join(f"{sums[state]} {words}" for state, words in states.items())]
     lines += table(["request", *states], ([kind, *(some[state] for state in states)] for kind, some in by_kind(found).items()))
+    beyond: list[str] = []
     for title, state in (("Differences", "different"), ("Choices", "choice"), ("Open", "open")):
         groups = together([it for it in found.all() if it.state == state])
-        if groups and is_short and state == "choice":
-            lines.append(" Where a choice is left open: `look compare` has each, field by field")
+        if groups and is_short and state != "different":
+            beyond.append({"choice": "where a choice is left open", "open": "what can't be told"}[state])
             continue
         if groups:
             lines.append(f" {title}")
@@ -218,6 +230,7 @@ def compare_text(found: Optional[Comparison], first: int, is_short: bool = False
             lines += [f"    {followers_text(followers)}"] if followers else []
         if len(groups) > LISTED:
             lines.append(f"  and {sum(map(len, groups[LISTED:]))} more (--json, --report)")
+    lines += [f" `look compare` has each of them, field by field: {' and '.join(beyond)}"] if beyond else []
     if found.forwarded:
         lines.append(" Data frames: " + ", ".join(f"{count} {word}" for word, count in found.forwarded.most_common()))
     if found.others:
@@ -246,7 +259,7 @@ def summary_text(look: Look, found: Row) -> list[str]:
     lines = [painted("Answer", Colour.HEAD), *answers_text(found["answers"], first)]
     lines += titled("Logins", logins_text(found["logins"] + found["rejected_logins"], first, SUMMARISED))
     lines += titled("The switch's answers beside this forwarder's", compare_text(look.compared, first, is_short=True))
-    lines += titled("Dropped, rejected, refused by this forwarder", troubles_text(found["troubles"]))
+    lines += titled("Dropped, rejected, refused by this forwarder", troubles_text(found["troubles"], {it["next"] for it in found["answers"][:ANSWERED]}))
     lines += titled("Verdicts", verdicts_text(found["verdicts"]))
     lines += titled("Zones at the end", zones_text(found["zones"], LISTED // 3))
     lines += ["", f"{hosts} frames of hosts and {switch} of the switch, {stamp(found['from'])} to {stamp(found['to'])} (UTC)"]

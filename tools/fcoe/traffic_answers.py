@@ -3,7 +3,7 @@ from array import array
 from dataclasses import dataclass, field
 from typing import Iterator, Optional
 
-from .answers import Answer, Severity
+from .answers import Answer, Severity, times
 from .codes import spelled
 from .compare import Compared
 from .errors import counted
@@ -11,6 +11,7 @@ from .frames import Heard, colons, fcid
 from .hosts import WELL_KNOWN
 from .journals import Frame, row_of
 from .looking import Look
+from .pairs import asks
 from .readdress import Request
 from .steps import next_step
 from .who import SERVICES
@@ -37,6 +38,7 @@ class Drops:
     is_there: bool = False  # the switch granted it
     source: bytes = b""  # the MAC that it was sent from, where its sender was granted another
     granted: bytes = b""  # that other one
+    enode: bytes = b""  # and the MAC of its ENode
     places: "array[int]" = field(default_factory=lambda: array("I"))  # in the journal
 
 
@@ -103,7 +105,7 @@ def drops_of(known: Directory, explained: Explained, entry: Frame, said: Heard, 
         made.never, made.is_there = lost[1], lost[1] in known.switch_alone
     granted = known.fc_map + said.fc.s_id.to_bytes(3, "big")
     if login and entry.verdict == "dropped source-mac" and (login.enode == said.source or said.source[3:] == granted[3:]):
-        made.source, made.granted = said.source, granted
+        made.source, made.granted, made.enode = said.source, granted, login.enode
         explained.astray.add((login.port, login.enode))
     return made
 
@@ -147,7 +149,7 @@ def drop_text(it: Drops) -> tuple[Severity, str, str]:
     if it.never is not None and it.is_there:
         return Severity.NOTED, f"{count}{from_to}: the switch granted {fcid(it.never)}, this forwarder didn't", "`look logins` has both verdicts"
     if it.granted:
-        return Severity.DROPPED, f"{count}{from_to} dropped by {rule}: {astray_text(it)}", ASTRAY[it.source[3:] == it.granted[3:]]
+        return Severity.DROPPED, f"{count}{from_to} dropped by this forwarder ({rule}): {astray_text(it)}", ASTRAY[it.source[3:] == it.granted[3:]]
     if it.verdict == "dropped dest-login" and it.never is not None:
         return Severity.NOTED, f"{count}{from_to}, which isn't in these captures", "add the capture of its port, to see what becomes of them"
     if it.verdict == "dropped source-login" and it.never is not None:
@@ -155,13 +157,40 @@ def drop_text(it: Drops) -> tuple[Severity, str, str]:
     if it.verdict == "dropped zone":
         return Severity.DROPPED, f"{count}{from_to} dropped: no active zone joins the two", "a zone with both port names in the active zone set (`look zones`)"
     if it.verdict in ("dropped dest-login", "dropped keepalive-unknown"):
-        return Severity.NOTED, f"{count}{from_to} behind the end of the login ({rule})", "`look why` of the first tells what ended it, and whether the window did"
+        return Severity.NOTED, f"{count}{from_to} after the end of the login ({rule})", "`look why` of the first tells what ended it, and whether the window did"
     return Severity.DROPPED, f"{count}{from_to} dropped by {rule}: {meaning_of(it.verdict)}", next_step(it.verdict, it.heard) or "`look why` of the first"
+
+
+def at_switch(look: Look, it: Drops) -> str:
+    """What the switch made of the requests among frames from another MAC than it granted."""
+    entries, port = look.run.entries, look.captured[it.port - 1]
+    requests = [look.request_of(it.port, entries.indexes[place]) for place in it.places]
+    asked = [request for request in requests if asks(port.frames.heard(request[1]))] if port.replies else []
+    if not asked:
+        return ""
+    kinds = {port.frames.heard(request[1]).kind for request in asked}
+    answered, what = sum(request in look.replies for request in asked), counted(len(asked), kinds.pop() if len(kinds) == 1 else "request")
+    if not answered:
+        return f"; the real switch answered none of the {what} either"
+    return f"; the real switch answered {'all' if answered == len(asked) else answered} of the {what}"
+
+
+def anew(look: Look, it: Drops) -> str:
+    """How their host logs in again and again."""
+    since = [one.since for one in look.walk.fabric.logins if (one.port, one.enode) == (it.port, it.enode) and not one.is_fdisc]
+    gaps = [after - before for before, after in zip(since, since[1:])]
+    if not gaps:
+        return ""
+    is_steady = len(gaps) > 1 and 10 * (max(gaps) - min(gaps)) <= max(gaps)
+    each = f"{sum(gaps) / len(gaps) / 1000:.0f} s"
+    return f", and the host logs in anew each {each}" if is_steady else f", and the host logged in anew {times(len(gaps))}" + (f", {each} later" if len(gaps) == 1 else "")
 
 
 def drop_answer(look: Look, it: Drops) -> Answer:
     """Drops between the same two ends."""
     entries, (severity, text, step) = look.run.entries, drop_text(it)
+    if it.granted:
+        text += at_switch(look, it) + anew(look, it)
     numbers = [(it.port, look.ports[it.port - 1].frame_number(entries.indexes[place])) for place in it.places[:LISTED]]
     return Answer(severity, text, step, it.port, "", entries.clocks[it.places[0]], entries.clocks[it.places[-1]], numbers, more=len(it.places) - len(numbers))
 

@@ -14,8 +14,8 @@ from .frames import Heard, colons, fcid
 from .journals import TICK, Entry, Frame, code_rows, counted, row_of
 from .looking import Look
 from .places import place_of
+from .reject_answers import step_of
 from .runs import alike, shown_at_end
-from .steps import next_step
 from .traffic_answers import NOISE, address_text, both
 from .windows import is_otherwise, near_changes, otherwise
 
@@ -215,7 +215,7 @@ def troubles(look: Look) -> list[Row]:
                 "frames": [[entries.ports[it], number_of(look, entries.frame(it))] for it in places[:8]],
                 "meaning": row.meaning if row else "",
                 "standard": row.standard if row else "",
-                "look": next_step(verdict, heard),
+                "look": step_of(look, verdict, look.request_of(first.port, first.index)),
                 "place": place_of(verdict, look.captured[first.port - 1].host(first.index)),
                 "hints": code_rows(verdict, heard.kind) + hints(look, verdict, kinds, places) + window_hints(look, verdict, places),
             }
@@ -306,7 +306,7 @@ def summary(look: Look) -> Row:
         "printed": run.printed,
         "checked": run.checked,
         "runs": look.turns,
-        "assumed": look.inputs.remarks,
+        "assumed": look.inputs.remarks + look.inputs.details,
         "answers": answers(look),
         "logins": logins(look, None),
         "rejected_logins": refused_logins(look),

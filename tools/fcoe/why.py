@@ -7,10 +7,10 @@ from .errors import Refused
 from .fields import fields_of
 from .frames import Heard, colons, fcid, is_login, login_names
 from .journals import Frame, code_rows, row_of
-from .login_answers import NAME_HELD, holder_text
 from .looking import Look
 from .places import place_of
 from .replies import answered_request
+from .reject_answers import NAME_HELD, holder_text, step_of
 from .steps import next_step
 from .views import login_row
 from .windows import ends_of, gap_of, in_window, login_of, logins_near, otherwise
@@ -53,7 +53,7 @@ def window_notes(look: Look, asked: Asked, address: int, role: str) -> list[str]
     near = [it for login in logins_near(look.walk, address, asked.place) for it in in_window(look.run, asked.entry, login)]
     for what, place, other in near:
         gap = gap_of(look.run, asked.entry, other)
-        when = f"{abs(gap) / 1_000_000:.3f} ms {'before' if gap >= 0 else 'behind'} it"
+        when = f"{abs(gap) / 1_000_000:.3f} ms {'before' if gap >= 0 else 'after'} it"
         number = look.ports[other.port - 1].frame_number(other.index)
         text = f"the {what} of {fcid(address)} ({role}) stands in the same window of {look.run.config.window} ms on port {other.port} (frame {number}), captured {when}"
         if (gap >= 0) != (place < asked.place):
@@ -139,7 +139,7 @@ def why_of(look: Look, asked: Asked) -> Row:
         "switch": switch_verdict(look, entry.port, entry.index),
         "switch_frame": switch_frame(look, entry.port, entry.index),
         "holder": holder_of(look, asked),
-        "look": next_step(entry.verdict, heard),
+        "look": next_step(entry.verdict, heard) if entry.verdict == NAME_HELD else step_of(look, entry.verdict, look.request_of(entry.port, entry.index)),
         "codes": code_rows(entry.verdict, heard.kind),
         "place": place_of(entry.verdict, said),
         "ends": ends,

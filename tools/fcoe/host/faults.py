@@ -13,7 +13,7 @@ FAULTS = {
     "same-ox-id": "has one OX_ID for all exchanges",
     "enode-mac": "sends FCoE from the MAC of its ENode",
     "fc-map": "makes its MAC of 0e:fc:00 whatever FC-MAP was told",
-    "rejected-goes-on": "goes on behind a reject of its FLOGI, with an address of its own choice",
+    "rejected-goes-on": "goes on after a reject of its FLOGI, with an address of its own choice",
     "no-keep-alive": "sends no keep alives",
     "own-period": "sends keep alives each eight seconds, whatever period was told",
     "keep-alive-group": "sends its keep alives to All-FCF-MACs",

@@ -166,7 +166,7 @@ class Director:
             if step.like.fits(it.heard, self.world):
                 before = self.under.found[-1].moment if self.under.found else None
                 if before is not None and not step.least <= it.moment - before <= step.most * self.slack:
-                    return self.end(False, f"{told(it)}: {it.moment - before:.2f} s behind the one before")
+                    return self.end(False, f"{told(it)}: {it.moment - before:.2f} s after the one before")
                 self.under.found.append(it)
                 if len(self.under.found) == step.count:
                     spaces = [two.moment - one.moment for one, two in zip(self.under.found, self.under.found[1:])]

@@ -38,7 +38,7 @@ SCENES = (
     ),
     Scene(
         "commands",
-        "The host sends commands behind PLOGI and PRLI, each in an exchange of its own.",
+        "The host sends commands after PLOGI and PRLI, each in an exchange of its own.",
         f"FCP-4; {IDENTIFIERS}",
         (
             Want(AT_PEER, FIRST, IN_FABRIC, without=STORAGE),

@@ -262,7 +262,7 @@ class Never:
     until: Optional[Like] = None
 
     def __str__(self) -> str:
-        return f"no {self.like} for {self.seconds:g} s" + (f" behind {self.grace:g} s" if self.grace else "") + (f", before {self.until}" if self.until else "")
+        return f"no {self.like} for {self.seconds:g} s" + (f" after {self.grace:g} s" if self.grace else "") + (f", before {self.until}" if self.until else "")
 
 
 @dataclass(frozen=True)

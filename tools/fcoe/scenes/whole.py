@@ -7,7 +7,7 @@ SOURCE = "FC-BB-5, FIP; FC-FS-3, class 3: frames may be lost"
 SCENES = (
     Scene(
         "lossy",
-        "Each twentieth frame is lost, both ways, for 20 seconds: the host is logged in behind it.",
+        "Each twentieth frame is lost, both ways, for 20 seconds: the host is logged in after it.",
         SOURCE,
         (Want(FLOGI, FIRST, FABRIC_LOGIN), Wait(20), Straight(), Want(ALIVE, 60), Want(ALIVE, 20, count=3)),
         Setup(peer="there", bends=(Lose(share=0.05), Lose(share=0.05, from_host=True))),
