@@ -11,7 +11,6 @@ from .codes import spelled, type_text
 from .compare import STATES, by_kind, states_in, totals
 from .errors import Refused, counted
 from .journals import counted as rule_of
-from .journals import row_of
 from .ladder import LEGEND
 from .looking import Look
 from .moments import short, stamp
@@ -21,7 +20,7 @@ from .report_frames import frames_of_page, rules_of
 from .report_zoning import reach_rows, whatif_rows
 from .texts import UNGRANTED, Line, lines_of, together
 from .traffic_answers import NOISE
-from .views import Row, busiest, counts, first_clock, names, summary, zones
+from .views import Row, busiest, counts, first_clock, meaning_of, names, summary, zones
 
 FOLDER = pathlib.Path(__file__).resolve().parent
 TITLED = 3  # files that a title names
@@ -70,10 +69,9 @@ def verdict_rows(look: Look) -> list[Row]:
     most = max((count for verdict, count in words.items() if verdict != NOISE), default=1)
     found = []
     for verdict, count in sorted(words.items(), key=lambda it: (it[0] == NOISE, -it[1], it[0])):
-        row = row_of(verdict)
         kind = "noise" if verdict == NOISE else verdict.split(" ")[0]
         share = min(round(100 * count / most, 1), 100)
-        found.append({"verdict": verdict, "kind": kind, "count": count, "share": share, "ports": [some.get(verdict, 0) for some in by_port.values()], "meaning": row.meaning if row else ""})
+        found.append({"verdict": verdict, "kind": kind, "count": count, "share": share, "ports": [some.get(verdict, 0) for some in by_port.values()], "meaning": meaning_of(verdict)})
     return found
 
 

@@ -95,8 +95,13 @@ function lineOf(it, y, lines) {
     return made;
 }
 
+// The first window begins up to a window before the first frame.
+function since(behind) {
+    return "+" + (Math.max(behind, 0) / 1000).toFixed(2) + " s";
+}
+
 function clockText(behind) {
-    return clock(behind).slice(0, 11) + "  +" + (behind / 1000).toFixed(2) + " s";
+    return clock(behind).slice(0, 11) + "  " + since(behind);
 }
 
 function bodyOf(some, lines) {
@@ -117,7 +122,7 @@ function said(some) {
     const other = noise ? "; not drawn: " + noise + " frames of other traffic" : "";
     if (!some.length) return "no arrows" + other;
     const begin = part * PART, range = "arrows " + (begin + 1) + " to " + (begin + some.length) + " of " + arrows.length;
-    return range + ", +" + (some[0].clock / 1000).toFixed(2) + " s to +" + (some[some.length - 1].clock / 1000).toFixed(2) + " s" + other;
+    return range + ", " + since(some[0].clock) + " to " + since(some[some.length - 1].clock) + other;
 }
 
 function drawPart() {

@@ -6,18 +6,16 @@ from typing import Any, Collection, Iterable, Optional
 
 from .codes import spelled, type_text
 from .compare import Compared, Comparison, by_kind, followers_text, states_in, totals
-from .journals import row_of
 from .looking import Look
 from .moments import short, stamp
 from .places import text_of
 from .terminal import Colour, folded, painted, width
 from .traffic_answers import NOISE
-from .views import Row, first_clock, is_trouble
+from .views import Row, first_clock, is_trouble, meaning_of
 
 LISTED = 12  # rows of one kind that a terminal shows
 SUMMARISED = 30  # logins that the summary shows
 ANSWERED = 5  # answers that stand on top
-ALIVE = "A keep alive of an ENode or a VN_Port that has a login."
 UNGRANTED = ("rejected", "no answer")
 COLOURS = {"failed": Colour.BAD, "lost": Colour.BAD, "dropped": Colour.MIND, "different": Colour.MIND, "well": Colour.GOOD}
 
@@ -155,8 +153,7 @@ def zones_text(found: Row, most: Optional[int] = None) -> list[str]:
 
 def gloss(word: str) -> str:
     """What a verdict is; of drops, rejects and refusals it stands among them."""
-    row = row_of(word)
-    return ALIVE if word == "alive" else row.meaning if row and not is_trouble(word) else ""
+    return "" if is_trouble(word) else meaning_of(word)
 
 
 def verdicts_text(counts: dict[int, dict[str, int]]) -> list[str]:

@@ -20,6 +20,7 @@ from .traffic_answers import NOISE, address_text, both
 from .windows import is_otherwise, near_changes, otherwise
 
 Row = dict[str, Any]
+ALIVE = "A keep alive of an ENode or a VN_Port that has a login."
 
 
 def first_clock(look: Look) -> int:
@@ -189,6 +190,12 @@ def counts(look: Look) -> dict[int, dict[str, int]]:
         if said != TICK:
             found[port][counted(entries.verdicts[said])] += count
     return {port: dict(some.most_common()) for port, some in found.items()}
+
+
+def meaning_of(verdict: str) -> str:
+    """What a verdict is, as counts have it: keep alives of both kinds are one word."""
+    row = row_of(verdict)
+    return ALIVE if verdict == "alive" else row.meaning if row else ""
 
 
 def is_trouble(verdict: str) -> bool:
