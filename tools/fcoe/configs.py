@@ -248,8 +248,8 @@ def draw(frames: list[Heard], wanted: Optional[bytes], window: int, zones: list[
     if len(names) > 200:
         config.pool = 4096
         lines += ["limit 1000", "pool 4096"]
-    known = f"period {config.period} ms, priority {config.priority}{'' if said else ' (the defaults: no advertisement)'}"
-    remarks = [f"switch {colons(config.mac)}, {how}", f"VLAN {config.vlan}, FC-MAP {colons(config.fc_map)}, {known}"]
+    remarks = [f"switch {colons(config.mac)}, {how}", f"VLAN {config.vlan}, FC-MAP {colons(config.fc_map)}"]
+    remarks[1] += f", period {config.period} ms, priority {config.priority}{'' if said else ' (the defaults: no advertisement)'}"
     if said and said.period is not None and said.period != config.period:
         remarks.append(f"the advertised period of {said.period} ms is out of range (250 to 90000): {config.period} is taken")
     for it in added:

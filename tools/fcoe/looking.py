@@ -153,10 +153,15 @@ def look(names: list[str], options: Options, program: str, room: str) -> Look:
     result.compared = compare(run, walked)
     moved = result.moved()
     if moved:
-        pairs = ", ".join(f"{old:06x} as {new[0]:06x}" for old, new in sorted(moved.items())[:6])
-        more = " .." if len(moved) > 6 else ""
-        inputs.details.append(f"{counted(len(moved), 'address', 'es')} of the switch {'stands' if len(moved) == 1 else 'stand'} in the run as this forwarder grants {'it' if len(moved) == 1 else 'them'} ({pairs}{more}), granted MACs and check sequences too: found in {counted(turns, 'run')}")
+        inputs.details.append(f"{moved_text(moved)}, granted MACs and check sequences too: found in {counted(turns, 'run')}")
     return result
+
+
+def moved_text(moved: dict[int, list[int]]) -> str:
+    """Which addresses of the switch are others in the run."""
+    pairs = ", ".join(f"{old:06x} as {new[0]:06x}" for old, new in sorted(moved.items())[:6]) + (" .." if len(moved) > 6 else "")
+    stand, them = ("stands", "it") if len(moved) == 1 else ("stand", "them")
+    return f"{counted(len(moved), 'address', 'es')} of the switch {stand} in the run as this forwarder grants {them} ({pairs})"
 
 
 def of_run(config: str, journal: str, names: list[str]) -> Look:
