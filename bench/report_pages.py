@@ -21,7 +21,7 @@ from fcoe.frames import hear
 LOOK = str(TOP / "tools" / "look")
 OWN = bytes.fromhex("001b2100000a")  # the demo's initiator
 KINDS = ("VLAN request", "Solicitation", "FLOGI", "Keep alive")
-PATIENCE = 120  # seconds until a page must be ready
+PATIENCE = 600  # seconds until a page must be there and ready: a machine with other work takes minutes over one
 
 
 @dataclass
@@ -94,6 +94,7 @@ class Browser:
         options.set_capability("goog:loggingPrefs", {"browser": "ALL", "performance": "ALL"})
         self.driver = webdriver.Chrome(service=Service("/usr/bin/chromedriver"), options=options)
         self.driver.set_script_timeout(PATIENCE)
+        self.driver.set_page_load_timeout(PATIENCE)
 
     def see(self, width: int, scheme: str, height: int = 1000) -> None:
         """A window of this size, in light or dark colours."""
