@@ -35,8 +35,9 @@ IN_VN2VN = "the host is in VN2VN mode: it looks for other hosts, not for a switc
 def next_step(verdict: str, heard: Heard) -> str:
     """What to look at next; empty where nothing is amiss."""
     if verdict.startswith("rejected") and verdict.endswith(" 07") and heard.fc is not None and heard.kind in ("FLOGI", "FDISC"):
-        size = number(heard.fc.payload[10:12]) & 0xFFF
-        return f"the host's receive size is {size}: " + (MTU if size < FULL else "the switch's log has what it wants (`look fields`)")
+        common, own = (number(heard.fc.payload[at : at + 2]) & 0xFFF for at in (10, 74))  # of the port, and of class 3 (FC-LS-2)
+        size, whose = (own, f" of class 3 is {own}, the common one {common}") if 0 < own < common else (common, f" is {common}")
+        return f"the host's receive size{whose}: " + (MTU if size < FULL else "the switch's log has what it wants (`look fields`)")
     if verdict.startswith(("rejected", "refused")):
         steps = LOGIN_STEPS if heard.kind in ("FLOGI", "FDISC") else SERVICE_STEPS
         return steps.get(verdict) or BY_REASON.get(verdict.split(" ")[1]) or BY_EXPLANATION.get(verdict.split(" ")[-1]) or OTHERWISE
