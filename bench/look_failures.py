@@ -544,7 +544,11 @@ def virtual_limit() -> list[Wire]:
 
 FAILURES: dict[str, Callable[[], list[Wire]]] = {
     it.__name__: it
-    for it in (no_fip, untagged, vlan200, vn2vn, no_jumbo, no_answer_padded, limit, name_held, name_elsewhere, short_period, silence, relogin, unheard, not_available, not_zoned, unused, busy, watched, own_mac, no_server, cloned, sends_on, other_map, other_fabric, lost_keep_alives, receive_size, virtual_limit)
+    for it in (
+        *(no_fip, untagged, vlan200, vn2vn, no_jumbo, no_answer_padded, limit, name_held, name_elsewhere, short_period, silence, relogin, unheard),
+        *(not_available, not_zoned, unused, busy, watched, own_mac, no_server, cloned, sends_on, other_map, other_fabric, lost_keep_alives, receive_size),
+        virtual_limit,
+    )
 }
 
 
