@@ -1,4 +1,4 @@
-//! How answers are appended. Where memory is refused, a front of the text may stand there.
+//! How answers are appended. Where memory is refused, a prefix of the text may stand there.
 ghost use Rattle.std.specs.Prelude.{◌≡◌, ◌++◌, ◌∷◌, [], OnOk, decimal};
 ghost use Rattle.fab_base.specs.Texts.{hex, hex_bytes};
 ghost use Rattle.case_lines.specs.Printing as spec;

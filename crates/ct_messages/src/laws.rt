@@ -16,8 +16,8 @@ pub fn the_table_is_what_is_decoded()
     ensures unique { (ask other : Ask) (l : List ℕ) → IsCt ask l → IsCt other l → ask ≡ other }
 {}
 
-/// The answer to a query is never a reject. So who asks is told a reject exactly where a refusal
-/// says why.
+/// The answer to a query is never a reject. So a request is rejected exactly where a refusal says
+/// why.
 pub fn a_query_is_no_reject()
     ensures query { (ports : List Known) (ask : Ask) (reason explanation : ℕ)
         → query ports ask ≡ Reject reason explanation → ⊥ }

@@ -8,8 +8,8 @@ use crate::command::Command;
 use crate::{CtAsk, CtFault, DIRECTORY, NAME_SERVER, PREAMBLE};
 use fab_base::fields::u16_at;
 
-/// The request in this payload. Of the preamble type, subtype and command count, and more bytes
-/// than the command needs are free.
+/// The request in this payload. Only type, subtype and command of the preamble are tested, and
+/// bytes behind the command's own are ignored.
 #[tactic(auto, unfolding(crate::specs::Ct::decoded))]
 pub fn read_ask(payload: &[u8]) -> Result<CtAsk<'_>, CtFault>
     ensures exact { MatchResult result (λ ask. spec.decoded payload.now ≡ Ok (spec.view ask))

@@ -45,7 +45,7 @@ pub enum Els<'a> {
     Plogi(LoginParms),
     /// LOGO, 05: the end of a login.
     Logo { address: FcId, name: Wwn },
-    /// SCR, 62: which state changes are to be told.
+    /// SCR, 62: of which state changes it is to be notified.
     Scr { function: u8 },
     /// RSCN, 61: what has changed, in pages of four bytes, the format of an address and the
     /// address.

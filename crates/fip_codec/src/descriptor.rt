@@ -72,7 +72,7 @@ pub(crate) fn words_fit(kind: u8, words: u8) -> bool
     }
 }
 
-/// The type that stands for this one: the three encapsulated frames count as one.
+/// The type that this one counts as: the three encapsulated frames count as one.
 pub(crate) fn family(kind: u8) -> u8
     ensures { result ≡ family kind }
 {

@@ -27,7 +27,7 @@ pub enum FipFault {
     /// A type that the message has at most once stands a second time.
     #[error("the descriptor at byte {at} stands a second time")]
     Double { at: u32 },
-    /// A type that the message must have is absent; 7 stands for 7, 8 and 9.
+    /// A type that the message must have is absent; 7 is any of 7, 8 and 9.
     #[error("a descriptor of type {kind} is missing")]
     Missing { kind: u8 },
 }

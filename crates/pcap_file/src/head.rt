@@ -61,7 +61,7 @@ impl CaptureHead {
     }
 }
 
-// The byte order and the unit that the magic names.
+// The byte order and the unit that the magic gives.
 fn of_magic(bytes: &[u8]) -> Option<CaptureHead>
     requires { 4 ≤ length bytes.now }
     ensures { result ≡ magic_of bytes.now }

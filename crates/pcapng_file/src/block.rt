@@ -70,7 +70,7 @@ fn is_header(bytes: &[u8]) -> bool
     number_at(false, bytes, 0) == SECTION
 }
 
-// The byte order that the magic of a section header names.
+// The byte order that the magic of a section header gives.
 fn magic_of(bytes: &[u8]) -> Option<bool>
     requires { 12 ≤ length bytes.now }
     ensures { result ≡ magic_of bytes.now }

@@ -14,7 +14,7 @@ pub enum NgWhy {
     /// The first block is no section header.
     #[error("the first block is no section header")]
     Section,
-    /// The magic of a section header names no byte order.
+    /// The magic of a section header is that of no byte order.
     #[error("the magic of the section header names no byte order")]
     Order,
     /// A length that no such block has, a second length that differs, or a packet past its block.

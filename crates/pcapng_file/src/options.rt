@@ -43,7 +43,7 @@ pub(crate) fn read_options(big: bool, area: &[u8]) -> Option<Told>
 }
 
 impl Told {
-    // With one option more: the first that tells a unit counts.
+    // With one option more: the first that gives a unit counts.
     fn with(self, code: u16, value: &[u8]) -> Told
         ensures { result ≡ told_with self code value.now }
     {

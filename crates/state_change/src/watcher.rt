@@ -27,7 +27,7 @@ impl Order<Watcher> for ByAddress {
     }
 }
 
-// Whether the fabric tells it of changes.
+// Whether the fabric notifies it of changes.
 fn is_told(watcher: &Watcher) -> bool
     ensures { result ≡ spec.is_told watcher.now }
 {

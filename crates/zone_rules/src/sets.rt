@@ -1,4 +1,4 @@
-//! For each zone set a row with the bits of the zones that it names.
+//! For each zone set a row with the bits of the zones that it lists.
 ghost use Rattle.std.specs.Prelude.{◌≡◌, ◌<◌, ℕ, IfOk};
 ghost use Rattle.bit_rows.specs.Row.{has};
 ghost use Rattle.zone_rules.specs.Joined as spec;
