@@ -3,7 +3,7 @@ use crate::{FcId, PortNo};
 
 /// Called by a worker round each of its frames. It promises nothing, and may wait.
 pub trait Gate {
-    /// Whether a worker may be held here, or is told anything that matters.
+    /// Whether a worker may be held here, or learns anything that matters.
     const HOLDS: bool = true;
 
     /// Before the frame of that index is submitted.

@@ -37,7 +37,7 @@ pub fn fill<D: Depot>(depot: &mut D, slot: u32, into: &mut [u8]) -> Result<usize
     Ok(got)
 }
 
-/// Puts all these bytes to an open output. After an error it has put a front of them.
+/// Puts all these bytes to an open output. After an error it has put a prefix of them.
 pub fn put_all<D: Depot>(depot: &mut D, slot: u32, from: &[u8]) -> Result<(), Failed>
     requires { IsTrue ((D.seen depot.old).output slot) }
     ensures puts { PutsAll slot from.now (D.seen depot.old) (D.seen depot.new) result }
@@ -49,7 +49,7 @@ pub fn put_all<D: Depot>(depot: &mut D, slot: u32, from: &[u8]) -> Result<(), Fa
     Ok(())
 }
 
-/// Puts all these bytes to a sink. After an error it has put a front of them.
+/// Puts all these bytes to a sink. After an error it has put a prefix of them.
 pub fn say_all<K: Sink>(say: &mut K, from: &[u8]) -> Result<(), Failed>
     ensures says { SinksAll from.now (K.sunk say.old) (K.sunk say.new) result }
 {

@@ -76,7 +76,7 @@ impl Draft {
         }
     }
 
-    // With what a key says that names no zones.
+    // With the value of a key that isn't about zones.
     fn with_value(self, alloc: Global, keyword: Keyword, values: &[u8]) -> Result<Draft, LineError>
         requires { spec.takes_value keyword ≡ true }
         ensures { Answers result (spec.with_keyword self keyword (words values.now)) }

@@ -9,7 +9,7 @@ use indexmap::IndexSet;
 use std::alloc::Global;
 use std::marker::Model;
 
-/// Names that differ, in their order.
+/// Distinct names, in the order of insertion.
 #[derive(Drop)]
 pub(crate) struct NameIndex {
     names: IndexSet<Vec<u8>>,
@@ -49,7 +49,7 @@ impl NameIndex {
     }
 }
 
-/// Numbers that differ, in their order.
+/// Distinct numbers, in the order of insertion.
 #[derive(Drop)]
 pub(crate) struct NumberIndex {
     numbers: IndexSet<u64>,

@@ -262,7 +262,7 @@ fn read_zones(alloc: Global, zones: &NamedZones, values: &[u8]) -> Result<PlaceL
     }
 }
 
-// The places of the zones that words name, if each names one.
+// The places of the zones of these names, if each is the name of one.
 fn read_places(
     alloc: Global,
     zones: &NamedZones,

@@ -80,7 +80,7 @@ fn word_start(line: &[u8]) -> usize
     line.len()
 }
 
-// The length of the word at the front.
+// The length of the word at the beginning.
 fn word_end(line: &[u8]) -> usize
     ensures bound { result ≤ length line.now }
     ensures word { spec.words line.now

@@ -34,7 +34,7 @@ pub enum Answer {
     ServerLogin,
 }
 
-/// N_Ports of which a clear link message tells.
+/// The N_Ports that a clear link message lists.
 #[derive(Debug, Drop)]
 pub struct VxPorts {
     items: Vec<VxPort>,

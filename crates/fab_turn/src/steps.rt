@@ -108,7 +108,7 @@ impl<V: Chronicle> TurnLock<V> {
         self.read(root, TICKETS);
     }
 
-    // Whether nobody has or awaits a turn, as far as two words tell that are read one after the
+    // Whether nobody has or awaits a turn, as far as two words show that are read one after the
     // other.
     pub(crate) fn seems_free(&self, pass: &mut Pass<V>) -> bool
         requires { IsPassOf self.now pass.old }

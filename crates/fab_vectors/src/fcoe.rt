@@ -42,7 +42,7 @@ pub(crate) fn write_server_login(
     write_payload(alloc, &head, &payload, out)
 }
 
-// Appends its request to be told of state changes.
+// Appends its request to be notified of state changes.
 pub(crate) fn write_watch(
     alloc: Global,
     port: PortNo,
