@@ -31,7 +31,7 @@ pub enum Replied {
     Rejected(u8, u8),
     /// `logout`: the login of this address ends.
     Logout(FcId),
-    /// `ns-login`, with the receive size that the login names.
+    /// `ns-login`, with the receive size that the login gives.
     NsLogin(u16),
     /// `ns-logout`.
     NsLogout,

@@ -15,7 +15,7 @@ use fab_config::Config;
 use fip_codec::{FipMessage, is_forwarders};
 
 /// The first rule on the frame itself that drops it: it can't be read, or its VLAN, its
-/// destination, its kind or the MAC that it names is wrong. It doesn't go by who is logged in.
+/// destination, its kind or the MAC that it gives is wrong. It doesn't go by who is logged in.
 pub fn frame_rule(config: &Config, heard: &Heard<'_>) -> Option<Dropped>
     ensures { result ≡ rules.frame_rule config.now (decoded heard.now.caught.now) }
 {
@@ -110,7 +110,7 @@ fn is_solicitation(message: &FipMessage<'_>) -> bool
     }
 }
 
-// Whether a message names another MAC than the frame's source.
+// Whether a message gives another MAC than the frame's source.
 fn names_another(eth: &EthFrame<'_>, message: &FipMessage<'_>) -> bool
     ensures { result ≡ rules.names_another (eth_view eth.now) (fip_view message.now) }
 {
@@ -120,7 +120,7 @@ fn names_another(eth: &EthFrame<'_>, message: &FipMessage<'_>) -> bool
     }
 }
 
-// The MAC that a solicitation, a VLAN request or an ENode's keep alive names for its sender.
+// The MAC that a solicitation, a VLAN request or an ENode's keep alive gives for its sender.
 fn named_mac(message: &FipMessage<'_>) -> Option<Mac>
     ensures { result ≡ rules.named_mac (fip_view message.now) }
 {

@@ -65,8 +65,8 @@ pub fn frames_are_carried()
     ensures answer { AnswersAreAsked }
 {}
 
-/// A fabric before anything happened stands for the empty journal. One that takes an entry which is
-/// right by its own tables stands for each journal that it stood for with that entry, and this
+/// A fabric before anything happened represents the empty journal. One that takes an entry which is
+/// right by its own tables represents each journal that it represented with that entry, and this
 /// journal is legal if the one before was. What it has sent since the last drain is what its events
 /// send after the journal that they follow, and a tick that is due by its tables is due by the
 /// journal.
@@ -80,7 +80,7 @@ pub fn fabric_steps()
     ensures grows { GrowsByFrames }
 {}
 
-/// VLANs are told as the answer to a captured frame of bytes exactly where the layout of Ethernet
+/// A captured frame of bytes is answered by a list of VLANs exactly where the layout of Ethernet
 /// and the grammar of FIP make it a VLAN request to this forwarder, whoever is logged in.
 pub fn requests_are_answered()
     ensures { RequestsAreAnswered }
@@ -114,10 +114,10 @@ pub fn verdicts_are_one()
 /// The live addresses of each journal ascend, and their granted MACs differ. After each legal
 /// journal the names of live N_Ports differ too, there are at most as many as the limit, and nobody
 /// is overdue at the clock. An address is granted only where nobody holds it, or where it is given
-/// back to its ENode, and whoever is logged in has one of the pool. Whom a forwarder names in what
-/// it sends is logged in: who asks the name server and whom the answer is about, both ends of a
-/// frame that goes on, and who is told of a state change and of whom, but for those whose login the
-/// entry ends.
+/// back to its ENode, and whoever is logged in has one of the pool. Whom the forwarder's messages
+/// are about is logged in: who asks the name server and whom the answer is about, both ends of a
+/// frame that goes on, and who is notified of a state change and of whom, but for those whose login
+/// the entry ends.
 pub fn legal_journals()
     ensures ascend { TablesAscend }
     ensures quiet { LegalIsQuiet }

@@ -9,7 +9,7 @@ pub fn looks_go_on()
 {}
 
 /// A reader's steps at looks in their order find where the reading of captures stops: an error
-/// tells the stop, and so does a look that is too late.
+/// determines the stop, and so does a look that is too late.
 pub fn steps_find_the_stop()
     ensures steps { StepsFindStop }
     ensures late { LateIsStop }

@@ -36,7 +36,7 @@ pub enum Rule {
     FipDest,
     /// `fip-role`: A message that only a forwarder sends.
     FipRole,
-    /// `fip-mac`: The message names another MAC than its source.
+    /// `fip-mac`: The message gives another MAC than its source.
     FipMac,
     /// `els-short`: A link service that can't be read.
     ElsShort,

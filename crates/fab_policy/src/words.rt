@@ -10,7 +10,7 @@ use crate::Rule;
 use fab_base::{FcId, PortNo};
 use std::str::from_utf8;
 
-/// The word at the front of a text, and what is behind it.
+/// The word at the beginning of a text, and what is behind it.
 pub(crate) fn first_word(text: &[u8]) -> (&[u8], &[u8])
     ensures { IsCut text.now result.0.now result.1.now }
 {
@@ -18,7 +18,7 @@ pub(crate) fn first_word(text: &[u8]) -> (&[u8], &[u8])
     (&text[..end], &text[end..])
 }
 
-/// The word behind a space at the front of a text, and what is behind it.
+/// The word behind a space at the beginning of a text, and what is behind it.
 pub(crate) fn next_word(text: &[u8]) -> Option<(&[u8], &[u8])>
     ensures some { IfSome result (λ p. IsNext text.now p.0.now p.1.now) }
     ensures none { IfNone result ((more : List ℕ) → text.now ≡ SPACE ∷ more → ⊥) }
@@ -29,7 +29,7 @@ pub(crate) fn next_word(text: &[u8]) -> Option<(&[u8], &[u8])>
     Some(first_word(&text[1..]))
 }
 
-// The length of the word at the front of a text.
+// The length of the word at the beginning of a text.
 fn word_end(text: &[u8]) -> usize
     ensures bound { result ≤ length text.now }
     ensures inside { IsWord (take result text.now) }
