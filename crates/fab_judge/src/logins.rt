@@ -304,7 +304,7 @@ fn judge_logout(
     Judged::Replied { verdict, to }
 }
 
-// Whether a LOGO names the live login of its S_ID, which is one of its sender.
+// Whether a LOGO is about the live login of its S_ID, which is one of its sender.
 fn is_own_logout(
     config: &Config,
     roster: &Roster,

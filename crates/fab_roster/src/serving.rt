@@ -1,4 +1,4 @@
-//! What live N_Ports tell the services: logins to the name server, watchers, registrations.
+//! What live N_Ports ask of the services: logins to the name server, watchers, registrations.
 ghost use Rattle.std.specs.Prelude.{◌≡◌, IsSome, IfSome, IsTrue, Some, None, true, option_map};
 ghost use Rattle.ct_messages.specs.Ask.{view};
 ghost use Rattle.ct_messages.specs.CanWrite.{CanWrite};

@@ -26,7 +26,7 @@ pub(crate) fn rscns_after(first: u32, more: usize) -> u32
     (first + (more % IDS as usize) as u32) % IDS
 }
 
-// Each of these watchers is told of an address.
+// Each of these watchers is notified of an address.
 fn tell(
     alloc: Global,
     before: &Before<'_>,
@@ -57,7 +57,7 @@ fn tell(
     Ok(())
 }
 
-/// The watchers that are joined with a name are told of an address, but for these logins.
+/// The watchers that are joined with a name are notified of an address, but for these logins.
 pub(crate) fn tell_of(
     alloc: Global,
     before: &Before<'_>,
@@ -77,7 +77,7 @@ pub(crate) fn tell_of(
     Ok(())
 }
 
-/// The watchers are told of each of these logins, which end, but for those that end.
+/// The watchers are notified of each of these logins, which end, but for those that end.
 pub(crate) fn tell_of_ends(
     alloc: Global,
     before: &Before<'_>,
@@ -104,8 +104,8 @@ pub(crate) fn tell_of_ends(
     Ok(())
 }
 
-/// The watchers whose joining with one of these logins changes between two moments are told of it,
-/// but for those that end.
+/// The watchers whose joining with one of these logins changes between two moments are notified
+/// of it, but for those that end.
 pub(crate) fn tell_of_zones(
     alloc: Global,
     before: &Before<'_>,

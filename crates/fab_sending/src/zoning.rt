@@ -36,8 +36,8 @@ fn has_turned(activations: &[Activation], since: Moment, moment: Moment) -> bool
         .any(|activation| is_turned(activation, since, moment))
 }
 
-// The watchers are told of each live N_Port with which their joining changes between two moments,
-// but for those that end.
+// The watchers are notified of each live N_Port with which their joining changes between two
+// moments, but for those that end.
 fn tell_of_changes(
     alloc: Global,
     before: &Before<'_>,

@@ -58,7 +58,7 @@ impl Fabric {
         ensures stands { IfOk result (λ f. Stands f []) }
         ensures back { IfErr result (λ e. e.0 ≡ config) }
     {
-        // Law: before anything happened a fabric stands for the empty journal, as stands says.
+        // Law: before anything happened a fabric represents the empty journal; the clause stands.
         fabric_steps();
         let Ok((zones, roster)) = empty_tables(alloc, &config) else {
             return Err((config, NoMemory));
@@ -92,7 +92,7 @@ impl Fabric {
         ensures ranged { AreRanged self.old.events }
         ensures stands { (J : Journal) → Stands self.old J → Stands self.new J }
     {
-        // Law: after a drain a fabric stands for the same journals, as the clause stands says.
+        // Law: after a drain a fabric represents the same journals; the clause stands.
         fabric_steps();
         let events = with_room(self.alloc, self.events.len());
         let outs = with_room(self.alloc, self.outs.len());

@@ -12,7 +12,7 @@ pub(crate) struct WishTaken;
 
 impl Fabric {
     // The address that a login gets for which this one is free: the wished one, or else this one.
-    // It takes no memory, so a wished one that isn't free is told as such.
+    // It takes no memory, so a wished one that isn't free is answered as such.
     pub(crate) fn address_for(
         &self,
         request: &Request,

@@ -49,7 +49,7 @@ impl From<WishTaken> for StepFault {
 }
 
 impl Fabric {
-    /// Handles a frame of a port, the one of that index, and answers its verdict. A wish names the
+    /// Handles a frame of a port, the one of that index, and answers its verdict. A wish is the
     /// address that a login is to get; without one it gets any free address. After an error nothing
     /// has changed.
     pub fn step(
@@ -76,7 +76,7 @@ impl Fabric {
             heard.now.caught.now wish → ⊥) }
         ensures err { OnErr result (self.new ≡ self.old) }
     {
-        // Law: with an entry that is right by its tables a fabric stands for the longer journal,
+        // Law: with an entry that is right by its tables a fabric represents the longer journal,
         // which is legal if the one before was; the clause journal says so.
         fabric_steps();
         let judged = judge(alloc, &self.config, &self.zones, &self.roster, port, heard)?;

@@ -36,7 +36,7 @@ impl Fabric {
             Legal self.old.settings K × Stands self.new K) }
         ensures err { OnErr result (self.new ≡ self.old) }
     {
-        // Law: with a right tick a fabric stands for the longer journal, and which tables are after
+        // Law: with a right tick a fabric represents the longer journal, and which tables are after
         // a tick; the clauses journal and takes rest on them.
         fabric_steps();
         tables_change();
