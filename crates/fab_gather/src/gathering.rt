@@ -34,7 +34,7 @@ pub fn gather<D: Depot>(
         (walk_at (D.seen depot.old) ins.old shelves.old budget.old)
         (walk_at (D.seen depot.new) ins.new shelves.new budget.new) result }
 {
-    // Law: where the next window is too late, the looks to come stop there, as the refusal says.
+    // Law: where the next window is too late, what is still to be read stops there, as it says.
     looks_to_come();
     if window.saturating_sub(first) > MOST_SPAN {
         return Err(GatherFault::Limit(LimitKind::Span));

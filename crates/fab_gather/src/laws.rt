@@ -15,8 +15,8 @@ ghost use Rattle.fab_gather.specs.Laws.{
 
 use fab_policy::{steps_find_the_stop, stops_keep_what_is_before};
 
-/// The looks to come are those from the next window on: it is the window of the first of them, and
-/// where it is too late they stop there. Without a next window there are none.
+/// The looks that are left are those from the next window on: it is the window of the first of
+/// them, and where it is too late they stop there. Without a next window there are none.
 pub fn looks_to_come()
     ensures ahead { LooksAhead }
     ensures next { NextIsAhead }
@@ -34,7 +34,7 @@ pub fn windows_move_on()
     ensures { WindowMoves }
 {}
 
-/// What was read grows by what is taken. It is the front of each capture's records, and at the end
+/// What was read grows by what is taken. It is a prefix of each capture's records, and at the end
 /// all of them.
 pub fn records_are_read()
     ensures on { ReadsOn }

@@ -9,7 +9,7 @@ use fab_policy::{Event, Format, Line, LineError, read_line, write_head_line, wri
 use std::alloc::{AllocError, Global};
 use thiserror::Error;
 
-/// Why a line is none that may come, in the order of the tests.
+/// Why a line can't stand at its place: the first test that fails.
 #[derive(Clone, Copy, Debug, PartialEq, Eq, Error)]
 pub enum OldWhy {
     /// It is no line of format 1.
@@ -155,7 +155,7 @@ fn clock_at(clock: Option<Moment>, line: &Line) -> Option<Moment>
     }
 }
 
-// The entry of a line. No line tells the frame, and no writer of lines looks at it.
+// The entry of a line. No line holds the frame, and no writer of lines looks at it.
 fn entry(alloc: Global, line: Line) -> Event
     ensures { result ≡ entry_of line }
 {

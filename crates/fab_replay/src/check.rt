@@ -34,10 +34,10 @@ struct Begun {
 
 /// Checks a journal, in either format, against captures in port order and against outputs of the
 /// first ports, and answers how many entries it has; without outputs none is compared. A window of
-/// the captures is read before its lines are checked, and an output that differs is told only where
-/// all lines are right. The fabric, which is new, stands for the journal then; on Err it stands for
-/// the entries of the lines before the fault, and at most one more: the frame or the tick that
-/// should stand there. However it ends, `ins` keep their slots, and the budget isn't raised.
+/// the captures is read before its lines are checked, and an output that differs is answered only
+/// where all lines are right. The fabric, which is new, represents the journal then; on Err it has
+/// taken the entries of the lines before the fault, and at most one more: the frame or the tick
+/// that should stand there. However it ends, `ins` keep their slots, and the budget isn't raised.
 pub fn check_captures<D: Depot>(
     alloc: Global,
     depot: &mut D,
@@ -94,7 +94,7 @@ fn look_first<D: Depot>(
     ensures takes { TakesFrom ins.old ins.new budget.old budget.new }
     ensures counts { TellsFaults (D.seen depot.old) (D.seen depot.new) result }
 {
-    // Law: what the looks to come are, what was read and what a stop keeps; Going begins with them.
+    // Law: which looks are left, what was read and what a stop keeps; Going begins with them.
     laws_of_windows();
     let place = first_place(written.journal);
     let owed = Owed::new(alloc, written.outs.len())?;
@@ -128,7 +128,7 @@ fn check_begun<D: Depot>(
     ensures takes { TakesFrom ins.old ins.new budget.old budget.new }
     ensures counts { TellsFaults (D.seen depot.old) (D.seen depot.new) result }
 {
-    // Law: what the looks to come are, what was read and what a stop keeps; Checks ends with them.
+    // Law: which looks are left, what was read and what a stop keeps; Checks ends with them.
     laws_of_windows();
     // For the checker: a fault that is handed on by `?` holds these enums.
     let _verdicts: &[Verdict] = &[];

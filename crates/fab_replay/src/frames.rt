@@ -30,7 +30,7 @@ pub(crate) struct Gathered<'a> {
     pub(crate) shelves: &'a [Shelf],
 }
 
-// A frame that a line names, with the verdict that it has there.
+// The frame of a line, with the verdict that it has there.
 #[derive(Clone, Copy, Debug)]
 struct NamedFrame<'a> {
     port: PortNo,
@@ -165,7 +165,7 @@ fn take_frame(
     Ok(())
 }
 
-// What a frame is refused with whose line at a place tells a verdict that isn't right.
+// What a frame is refused with whose line at a place has a verdict that isn't right.
 fn refusal(place: &Place, found: Verdict, misjudged: Misjudged) -> CheckFault
     requires room { place.now.entries + place.now.entries ≤ place.now.at }
     ensures { result ≡ spec.refusal place.now found misjudged }
@@ -176,7 +176,7 @@ fn refusal(place: &Place, found: Verdict, misjudged: Misjudged) -> CheckFault
     }
 }
 
-// The next record on the shelf of a port, if a line names it.
+// The next record on the shelf of a port, if a line is about it.
 fn next_on_shelf<'a>(
     gathered: &Gathered<'a>,
     done: &[usize],
@@ -229,7 +229,7 @@ fn done_at(done: &[usize], port: usize) -> Option<usize>
     }
 }
 
-// Whether a line tells another clock.
+// Whether a line has another clock.
 fn is_other(told: Option<Moment>, clock: u64) -> bool
     ensures { MatchBool result (IfSome told (λ t. t ≡ clock) → ⊥) (IfSome told (λ t. t ≡ clock)) }
 {

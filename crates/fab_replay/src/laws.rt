@@ -7,11 +7,11 @@ ghost use Rattle.fab_replay.specs.Laws.{Laws};
 use fab_gather::{looks_to_come, records_are_read, windows_move_on};
 use fab_policy::stops_keep_what_is_before;
 
-/// The looks to come, what was read, and what a stop keeps.
+/// The looks that are left, what was read, and what a stop keeps.
 pub(crate) fn laws_of_windows()
     ensures { Laws }
 {
-    // Law: what a stop keeps, which looks are to come, and that what was read grows to all of it.
+    // Law: what a stop keeps, which looks are left, and that what was read grows to all of it.
     stops_keep_what_is_before();
     looks_to_come();
     windows_move_on();
@@ -19,9 +19,9 @@ pub(crate) fn laws_of_windows()
 }
 
 /// The answers of a check exclude each other: at most one holds of a text, its captures and its
-/// outputs, so the fault that is told is the first. Where a text names a run over whole captures
-/// and the outputs are what the run sends, no fault of a line, of a capture, of a limit or of an
-/// output is told, and the text names no other run.
+/// outputs, so the fault that is answered is the first. Where a text is that of a run over whole
+/// captures and the outputs are what the run sends, no fault of a line, of a capture, of a limit or
+/// of an output is answered, and the text is that of no other run.
 pub fn faults_are_exact()
     ensures exact { AnswerIsOne }
     ensures one { RunIsOne }

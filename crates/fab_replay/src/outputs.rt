@@ -27,7 +27,7 @@ impl Compared {
     }
 
     /// Reads on against the bytes that come next. Once a difference was found it reads nothing.
-    /// After an error it was compared with a front of them, and bytes of the file may be lost.
+    /// After an error it was compared with a prefix of them, and bytes of the file may be lost.
     pub fn feed<D: Depot>(&mut self, depot: &mut D, slot: u32, wanted: &[u8]) -> Result<(), Failed>
         requires input { IsTrue ((D.seen depot.old).input slot) }
         ensures feeds { Feeds slot wanted.now (D.seen depot.old) (D.seen depot.new) self.old
@@ -80,7 +80,7 @@ impl Compared {
     }
 }
 
-// Fills so many bytes at the front of a buffer.
+// Fills so many bytes at the beginning of a buffer.
 fn fill_front<D: Depot>(
     depot: &mut D,
     slot: u32,

@@ -1,4 +1,4 @@
-//! What is told of a live N_Port, a line or two.
+//! What is printed of a live N_Port, a line or two.
 ghost use Rattle.std.specs.Prelude.{◌≡◌, ◌++◌, decimal, IfOk, OnOk, OnErr};
 ghost use Rattle.fab_replay.specs.Rows.{after_space, login_line, types_line, row_lines};
 ghost use Rattle.fab_replay.specs.Rows.{name_words, enode_words, number_words, map_digits};
@@ -14,7 +14,7 @@ use std::alloc::{AllocError, Global};
 /// Room for both lines, so that their memory is asked for once.
 const ROOM: usize = 256;
 
-/// What is told of a live N_Port.
+/// What is printed of a live N_Port.
 #[derive(Clone, Copy, Debug, PartialEq, Eq)]
 pub struct Row {
     pub address: FcId,

@@ -1,4 +1,4 @@
-//! What is told of a fabric: its entries, its clock and its live N_Ports.
+//! What is printed of a fabric: its entries, its clock and its live N_Ports.
 ghost use Rattle.std.specs.Prelude.{◌≡◌, ◌++◌, ◌≤◌, nat_le, find, option_map, Some};
 ghost use Rattle.std.specs.Prelude.{IfOk, IfSome, OnErr, OnOk};
 ghost use Rattle.fab_policy.specs.Journal.{Journal};

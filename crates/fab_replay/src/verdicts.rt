@@ -1,4 +1,4 @@
-//! A frame with the verdict that a line tells.
+//! A frame with the verdict of a line.
 ghost use Rattle.std.specs.Prelude.{◌≡◌, ◌∷◌, IsSome, IfErr, IfOk, OnErr, OnOk};
 ghost use Rattle.fab_policy.specs.Journal.{Journal};
 ghost use Rattle.fab_policy.specs.Legal.{Legal};
@@ -13,7 +13,7 @@ use fab_policy::{Heard, Verdict, verdicts_are_one};
 use forward_core::{Fabric, StepFault, granted_address};
 use std::alloc::Global;
 
-/// Why a frame isn't taken with the verdict that its line tells.
+/// Why a frame isn't taken with the verdict of its line.
 #[derive(Clone, Copy, Debug, PartialEq, Eq)]
 pub enum Misjudged {
     /// No forwarder gives that verdict here; this one it may give.

@@ -57,7 +57,7 @@ pub(crate) fn check_windows<D: Depot>(
         (stand_at fabric.new course.new (walk_at (seen depot.new) ins.new shelves.new budget.new))
         result }
 {
-    // Law: what the looks to come are, what was read and what a stop keeps; Going goes on by them.
+    // Law: which looks are left, what was read and what a stop keeps; Going goes on by them.
     laws_of_windows();
     // For the checker: a fault that is handed on by `?` holds these enums.
     let _verdicts: &[Verdict] = &[];

@@ -8,7 +8,7 @@ use fab_onward::journals_go_on;
 use fab_policy::{entries_come_in_parts, fabric_steps, records_come_later};
 
 /// A run over the records of all earlier windows goes on by the ticks and the frames of a window to
-/// a run over its records too; their numbers are those that the shelves tell.
+/// a run over its records too; their numbers are those that the shelves have.
 pub(crate) fn windows_are_runs()
     ensures firsts { FirstsAreTaken }
     ensures run { WindowIsRun }
