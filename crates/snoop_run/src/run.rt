@@ -32,7 +32,8 @@ pub struct Crossed {
 /// forwarder's. The captures are read in port order off one budget, and each is read to its end
 /// before the next is opened. The outputs are opened only behind that, and behind all that needs
 /// memory in advance: a `Capture`, `Limit` or `Read` leaves every file as it was. After `Write`,
-/// and after `Memory` while frames cross, each output is as it was or holds a front of its capture.
+/// and after `Memory` while frames cross, each output is as it was or holds a prefix of its
+/// capture.
 pub fn run_bridge<D: Depot>(
     alloc: Global,
     depot: &mut D,
