@@ -13,7 +13,7 @@ use run_files::RunFault;
 use std::alloc::Global;
 
 /// Opens the captures of all ports, in port order, and reads their heads. Each takes 24 bytes from
-/// the budget, and is told as past it before it is looked at.
+/// the budget, and is answered as past it before it is looked at.
 pub(crate) fn heads_of<D: Depot>(
     alloc: Global,
     depot: &mut D,

@@ -55,7 +55,7 @@ pub enum Outcome {
     NoPort { face: u32 },
     /// The journal to migrate has this first fault, at a line.
     BadLine { line: u64, why: OldWhy },
-    /// A journal is that of a run, of which this is told.
+    /// A journal is that of a run, of which this is printed.
     Shown { text: Bytes },
     /// A line of the journal that is checked is the first that is wrong.
     WrongLine { line: u64, why: LineWhy },

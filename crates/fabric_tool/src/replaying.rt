@@ -37,7 +37,7 @@ pub(crate) fn replay<D: Depot>(alloc: Global, words: &[String], depot: &mut D) -
     }
 }
 
-/// Checks a journal against the captures of all ports, and tells what stands at its end.
+/// Checks a journal against the captures of all ports, and answers what stands at its end.
 pub(crate) fn show<D: Depot>(alloc: Global, words: &[String], depot: &mut D) -> Outcome
     requires singles { spec.are_singles words.now ≡ true }
     requires known { spec.AllKnown (D.seen depot.old) words.now }
@@ -63,7 +63,7 @@ fn show_fabric(alloc: Global, fabric: &Fabric, entries: u64) -> Outcome
     }
 }
 
-// Checks the journal, and answers the fabric that stands for it with the number of its entries.
+// Checks the journal, and answers the fabric that represents it with the number of its entries.
 fn check_files<D: Depot>(
     alloc: Global,
     words: &[String],

@@ -56,7 +56,7 @@ pub fn fabric_tool<R: Threads + Wait + Sync, D: Depot, K: Sink, G: Gate + Sync>(
     ensures read { result ≡ 3 → OfCommand words.now (λ k. Holds k (D.seen depot.old)
         (D.seen depot.new) Outcome.ReadFault) }
     // What is printed couldn't be, or an output couldn't be written: each output is as it was, or a
-    // front of what it would hold up to some window.
+    // prefix of what it would hold up to some window.
     ensures write { result ≡ 4 → Rose (K.sunk say.old).faults (K.sunk say.new).faults
         ⊎ OfCommand words.now (λ k. Holds k (D.seen depot.old)
         (D.seen depot.new) Outcome.WriteFault) }
@@ -69,9 +69,9 @@ pub fn fabric_tool<R: Threads + Wait + Sync, D: Depot, K: Sink, G: Gate + Sync>(
     // No file changes but the outputs.
     ensures others { (k : spec.Command) → spec.command words.now ≡ Some k →
         spec.KeepsOthers k (D.seen depot.old) (D.seen depot.new) }
-    // The output of `convert` is as it was, or a front of the capture of the input's packets; that
-    // of `migrate` is as it was, or a front of the input's journal in format 2; those of `snoop`
-    // and `enode` are as they were, or fronts of what status 0 leaves.
+    // The output of `convert` is as it was, or a prefix of the capture of the input's packets; that
+    // of `migrate` is as it was, or a prefix of the input's journal in format 2; those of `snoop`
+    // and `enode` are as they were, or prefixes of what status 0 leaves.
     ensures front { IsTrue (D.seen depot.old).told → (k : spec.Command) →
         spec.command words.now ≡ Some k → HasFront k (D.seen depot.old) (D.seen depot.new) }
     // Inputs of the right forms are taken, where nothing fails and memory is there.
@@ -88,7 +88,7 @@ pub fn fabric_tool<R: Threads + Wait + Sync, D: Depot, K: Sink, G: Gate + Sync>(
     ensures exact { (outcome : Outcome) → IsNamed words.now outcome (D.seen depot.old)
         (D.seen depot.new) (K.sunk say.old) (K.sunk say.new) →
         Prints outcome (K.sunk say.old) (K.sunk say.new) result ⊎ (result ≡ 5) }
-    // What was printed is the line of an outcome, or a front of it where the sink failed.
+    // What was printed is the line of an outcome, or a prefix of it where the sink failed.
     ensures printed { IsTrue (K.sunk say.old).told → Printed words.now (D.seen depot.old)
         (D.seen depot.new) (K.sunk say.old) (K.sunk say.new) result }
     // The call ended by an outcome whose cause holds, and the line of that outcome was printed.

@@ -1,4 +1,4 @@
-//! The real files and the real output, which tell no content.
+//! The real files and the real output, of which no content is known.
 ghost use Rattle.std.specs.Prelude.{◌≡◌, ◌<◌, ◌≤◌, ◌^◌, ◌↔◌, ℕ, List, IsTrue, length, IfSome, IfOk, OnOk};
 ghost use Rattle.fab_base.specs.Desk.{knows};
 ghost use Rattle.tool_process.specs.Edge.{KnowsAll, ReadsAt, WritesAt};

@@ -51,7 +51,7 @@ const NULL: u64 = 0x103;
 // As many links as Linux follows in one name.
 const LINKS: usize = 40;
 
-/// The place of the first word that names a file.
+/// The place of the first word that is a file's name.
 pub(crate) fn first_name(words: &[String]) -> usize {
     if words.is_empty() {
         return 0;

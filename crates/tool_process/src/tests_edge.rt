@@ -215,7 +215,7 @@ fn are<R: Files + AllocGlobal + Abort>(rt: &R, texts: [&str; 2]) -> Result<(), F
     Ok(())
 }
 
-// The same of a whole run over two ports: each output is as it was, or holds a front of the whole.
+// The same of a whole run over two ports: each output is as it was, or holds a prefix of the whole.
 #[test]
 fn outputs_are_as_they_were_or_fronts(rt: HostRuntime) -> Result<(), Fail> {
     let alloc = rt.alloc();
