@@ -74,7 +74,7 @@ fn put_often(held: &mut Vec<u8>, bytes: &[u8], count: u64) -> Result<(), AllocEr
     Ok(())
 }
 
-// Adds so many lines, in which the sign % stands for 0, 1 and so on.
+// Adds so many lines, in which the sign % is replaced by 0, 1 and so on.
 fn each(line: &[u8], held: &mut Vec<u8>) -> Result<(), AllocError> {
     let word = word_at(line, 1);
     let count = number_of(word).unwrap_or(0);

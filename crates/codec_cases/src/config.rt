@@ -5,7 +5,7 @@ use fab_base::NoMemory;
 use fab_config::{Config, read_config, write_config};
 use std::alloc::{AllocError, Global};
 
-/// A longer text is told by its number of bytes and its CRC.
+/// A longer text is given by its number of bytes and its CRC.
 const MOST_TEXT: usize = 2000;
 
 pub(crate) fn config(alloc: Global, text: &[u8], out: &mut Vec<u8>) -> Result<(), AllocError> {

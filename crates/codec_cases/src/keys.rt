@@ -5,7 +5,7 @@ use fc_check::crc32;
 use std::alloc::{AllocError, Global};
 use std::fmt;
 
-/// More bytes than these are told by their number and their CRC.
+/// More bytes than these are given by their number and their CRC.
 const MOST_BYTES: usize = 700;
 
 pub(crate) fn number(out: &mut Vec<u8>, key: &[u8], value: u64) -> Result<(), AllocError> {

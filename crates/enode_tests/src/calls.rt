@@ -8,7 +8,7 @@ use std::test::Fail;
 // Each line: the moment; a frame, `timer`, or `!` and a frame that was captured in part; what the
 // node sends then; its phase, with the OX_ID where it logs in; and when its timer is due.
 //
-// What no rule names does nothing: frames in part, to another node, on another VLAN, or of another
+// What no rule covers does nothing: frames in part, to another node, on another VLAN, or of another
 // stage. Each timer is made once. An accept of an older FLOGI brings nothing. Advertisements keep
 // the node up until none was heard for more than two and a half periods.
 const LOGIN: &str = "\
@@ -48,7 +48,7 @@ const LOGIN: &str = "\
 41001 timer solicitation looking 42001";
 
 // With a period of 90,000 both keep alives are due at once, the node's own first. A clear that
-// names another MAC, address or name, from another forwarder, on another VLAN or to another node
+// lists another MAC, address or name, from another forwarder, on another VLAN or to another node
 // ends nothing; one of its own does, or one of nothing.
 const CLEARS: &str = "\
 1100 notification solicitation looking 2100
@@ -147,7 +147,7 @@ fn is_named(alloc: Global, frame: Option<&Bytes>, name: &str) -> Result<bool, Fa
     }
 }
 
-// The phase is told by this word; a node that is up has the address 010100 and its MAC.
+// The phase is given by this word; a node that is up has the address 010100 and its MAC.
 fn is_phase(node: &Node, word: &str) -> bool {
     match node.phase() {
         Phase::Asking => word == "asking",

@@ -139,7 +139,7 @@ fn in_both(alloc: Global, clock: Moment, event: &Event, out: &mut Vec<u8>) -> Re
     Ok(())
 }
 
-// The entry of a frame, which isn't told.
+// The entry of a frame, which isn't written.
 fn framed(alloc: Global, port: PortNo, index: u64, verdict: Verdict) -> Event
     ensures clock { (t : ℕ) → IsClockOf t result }
     ensures ascending { EndsAscend result }

@@ -8,7 +8,7 @@ use fab_base::{Depot, Failed};
 /// More fetches than any test makes.
 const AMPLE: u64 = 1_000_000_000;
 
-/// A depot whose every slot is open, of which it tells nothing, and whose counts stand at their
+/// A depot whose every slot is open, whose contents aren't known, and whose counts stand at their
 /// end. Slot 0 reads the first file and every other slot the second one, at most `step` bytes a
 /// fetch. A fetch fails once `fetches` more were made; opens and puts fail always.
 #[derive(Drop)]

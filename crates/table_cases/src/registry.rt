@@ -71,7 +71,7 @@ fn asked(
     }
 }
 
-// What is told before a registration, and then its outcome.
+// Who is notified before a registration, and then its outcome.
 fn register(
     registry: &mut Registry,
     asker: FcId,
@@ -203,7 +203,7 @@ pub fn said_refusal(out: &mut Vec<u8>, refusal: Option<RegFault>) -> Result<(), 
     }
 }
 
-// Whether watchers are told of a registration.
+// Whether watchers are notified of a registration.
 fn said_notice(out: &mut Vec<u8>, noticed: bool) -> Result<(), CaseFault> {
     say(out, if noticed { "noticed" } else { "quiet" })
 }
@@ -221,7 +221,7 @@ fn said_types(out: &mut Vec<u8>, types: Option<TypeMap>) -> Result<(), CaseFault
     }
 }
 
-/// `codes REASON EXPLANATION`: how a refused registration is told.
+/// `codes REASON EXPLANATION`: how a refused registration is rejected.
 pub(crate) fn codes_call(alloc: Global, line: &[u8], out: &mut Vec<u8>) -> Result<(), CaseFault> {
     let fault = RegFault::Refused {
         reason: code(line, 1)?,

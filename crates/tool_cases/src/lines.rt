@@ -1,4 +1,4 @@
-//! Words of a line, and what they stand for.
+//! Words of a line, and what they mean.
 use case_lines::{bytes_of, number_of};
 use fab_base::NoMemory;
 use std::alloc::{AllocError, AllocFailed, Global};
@@ -6,7 +6,7 @@ use std::alloc::{AllocError, AllocFailed, Global};
 /// Why a line isn't obeyed.
 #[derive(Clone, Copy, Debug, PartialEq, Eq)]
 pub(crate) enum Fault {
-    /// It can't be read, or names a file that isn't there.
+    /// It can't be read, or has the name of a file that isn't there.
     Line,
     /// Memory was refused.
     Memory,

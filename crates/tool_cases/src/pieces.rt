@@ -79,7 +79,7 @@ fn put_record(alloc: Global, bytes: &mut Vec<u8>, words: &str) -> Result<(), Fau
     put_zeros(bytes, zeros)
 }
 
-// How many bytes digits stand for.
+// How many bytes digits write.
 fn length_of(digits: &str) -> u32 {
     match u32::try_from(digits.len() / 2) {
         Ok(length) => length,

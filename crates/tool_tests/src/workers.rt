@@ -192,7 +192,7 @@ fn two_logins(alloc: Global) -> Result<MemDepot, Fail> {
     Ok(depot_of(alloc, &CONFIG, &first, &second)?)
 }
 
-// The order that a gate forces stands in the journal, and the gate is told the addresses.
+// The order that a gate forces stands in the journal, and the gate gets the addresses.
 fn is_forced<R: Threads + Wait + Sync + Abort>(
     rt: &R,
     alloc: Global,
