@@ -7,20 +7,11 @@ ghost use Rattle.bit_rows.specs.Row.{has, IsCommon, HasNone, IsNextBit};
 
 mod tree;
 
-use std::alloc::{AllocError, Global};
+use fab_base::NoMemory;
+use std::alloc::Global;
 pub use tree::Tree;
 
 pub type Row = Vec<u64>;
-
-/// Memory was refused.
-#[derive(Clone, Copy, Debug, PartialEq, Eq)]
-pub struct NoMemory;
-
-impl From<AllocError> for NoMemory {
-    fn from(_refused: AllocError) -> NoMemory {
-        NoMemory
-    }
-}
 
 /// Sets the bit of a place. Where memory is refused the row stays.
 pub fn set_bit(_alloc: Global, row: &mut Row, place: usize) -> Result<(), NoMemory>
@@ -68,7 +59,7 @@ pub fn put_bit(row: &mut Row, place: usize)
 }
 
 /// A row for this many places, whose bits are all set.
-pub fn full_row(alloc: Global, places: u32) -> Result<Row, AllocError>
+pub fn full_row(alloc: Global, places: u32) -> Result<Row, NoMemory>
     ensures bits { IfOk result (λ row. (q : ℕ) → q < places → has row.items q ≡ true) }
     ensures words { IfOk result (λ row. length row.items ≡ places / 64 + 1) }
 {
@@ -77,7 +68,7 @@ pub fn full_row(alloc: Global, places: u32) -> Result<Row, AllocError>
 }
 
 /// A row for this many places, of which none is set.
-pub fn empty_row(alloc: Global, places: usize) -> Result<Row, AllocError>
+pub fn empty_row(alloc: Global, places: usize) -> Result<Row, NoMemory>
     ensures bits { IfOk result (λ row. (q : ℕ) → has row.items q ≡ false) }
     ensures words { IfOk result (λ row. length row.items ≡ places / 64 + 1) }
 {

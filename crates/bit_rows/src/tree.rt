@@ -3,7 +3,8 @@ ghost use Rattle.std.specs.Prelude.{◌≡◌, ◌==◌, ◌&&◌, ◌<◌, ◌�
 ghost use Rattle.bit_rows.specs.Row.{has, IsNextBit};
 
 use crate::{Row, clear_bit, full_row, next_bit};
-use std::alloc::{AllocError, Global};
+use fab_base::NoMemory;
+use std::alloc::Global;
 use std::marker::Model;
 
 /// A row whose bits are only cleared.
@@ -27,7 +28,7 @@ impl Model for Tree {
 
 impl Tree {
     /// A row for this many places, whose bits are all set.
-    pub fn full(alloc: Global, places: u32) -> Result<Tree, AllocError>
+    pub fn full(alloc: Global, places: u32) -> Result<Tree, NoMemory>
         ensures bits { IfOk result (λ t. (q : ℕ) → q < places → has t q ≡ true) }
         ensures words { IfOk result (λ t. length t ≡ places / 64 + 1) }
     {

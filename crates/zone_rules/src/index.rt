@@ -45,10 +45,7 @@ fn add(alloc: Global, rows: &mut NameRows, name: u64, place: usize) -> Result<()
         ≡ ((place == q && name == x) || has (of_name rows.old x) q)) }
 {
     let row = rows.entry(name)?.or_insert(Vec::new(alloc));
-    match set_bit(alloc, row, place) {
-        Ok(()) => Ok(()),
-        Err(_) => Err(NoMemory),
-    }
+    set_bit(alloc, row, place)
 }
 
 /// The row of a name.

@@ -34,9 +34,7 @@ fn row_of_places(alloc: Global, places: &PlaceList, zones: usize) -> Result<Row,
     for index in 0..places.len() {
         let place = *places.at(index).unwrap() as usize;
         if place < zones {
-            let Ok(()) = set_bit(alloc, &mut row, place) else {
-                return Err(NoMemory);
-            };
+            set_bit(alloc, &mut row, place)?;
         }
     }
     Ok(row)
