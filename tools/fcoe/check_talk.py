@@ -289,6 +289,8 @@ class Talk:
 
     def grant(self, it: Shown, address: int) -> None:
         asked = self.request_of(it)
+        if asked is not None and any(one.request is asked and one.address == address for one in self.grants):
+            return  # the same accept once more
         names = login_names(asked.heard) if asked else None
         if it.heard.login_kind == "FLOGI":
             for grant in self.live(it.at, it.heard.destination):

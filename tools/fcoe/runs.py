@@ -58,11 +58,11 @@ def program_of(named: Optional[str]) -> str:
     for word in (named, os.environ.get("FCOE_TOOL")):
         if word:
             if not os.access(word, os.X_OK) or os.path.isdir(word):
-                raise Refused(f"{word}: no program: build one with `bench/build crates/fcoe_tool ~/bin/fcoe_tool`")
+                raise Refused(f"{word}: no program: `tools/install ~/.local` builds one")
             return os.path.realpath(word)
     found = shutil.which("fcoe_tool") or (str(BUILT) if BUILT.exists() else None)
     if not found:
-        raise Refused("no fcoe_tool on PATH: build it with `bench/build crates/fcoe_tool ~/bin/fcoe_tool`, or name it with --program or FCOE_TOOL")
+        raise Refused("no fcoe_tool on PATH: `tools/install ~/.local` builds it; or name it with --program or FCOE_TOOL")
     return os.path.realpath(found)
 
 

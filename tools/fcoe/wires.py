@@ -1,4 +1,8 @@
-"""Frames of a network interface, in and out, by a raw socket of Linux."""
+"""Frames of a network interface, in and out, by a raw socket of Linux; and of the other end of a tap device."""
+import contextlib
+import errno
+import fcntl
+import os
 import socket
 import struct
 import time
@@ -19,6 +23,7 @@ AUXDATA = struct.Struct("=IIIHHHH")  # status, length, stored, two places, the t
 TIMESPEC = struct.Struct("=qq")
 NOTES = socket.CMSG_SPACE(AUXDATA.size) + socket.CMSG_SPACE(TIMESPEC.size)
 TAG_PLACE, TAG_LENGTH = 12, 4
+TUN, TUNSETIFF, IFF_TAP, IFF_NO_PI = "/dev/net/tun", 0x400454CA, 0x0002, 0x1000  # linux/if_tun.h
 LONGEST = 65535 - TAG_LENGTH  # with its tag put back a frame is no longer than a capture's record may be
 BUFFER = 8 << 20
 
@@ -103,3 +108,32 @@ class Wire:
 
     def close(self) -> None:
         self.socket.close()
+
+
+class TapEnd(Wire):
+    """The other end of a tap device, as a virtual machine has it: what is sent here comes in on the device."""
+
+    def __init__(self, name: str) -> None:  # pylint: disable=super-init-not-called
+        try:
+            self.file = os.open(TUN, os.O_RDWR | os.O_NONBLOCK | os.O_CLOEXEC)
+            fcntl.ioctl(self.file, TUNSETIFF, struct.pack("16sH22x", name.encode(), IFF_TAP | IFF_NO_PI))
+        except OSError as why:
+            whys = {errno.EBUSY: "another program has its other end", errno.EINVAL: "no tap device of one queue (`ip tuntap add NAME mode tap`)"}
+            raise Refused(f"{name}: {whys.get(why.errno or 0, f'{why.strerror}: {TUN} wants root')}") from None
+
+    def fileno(self) -> int:
+        return self.file
+
+    def receive(self) -> Arrived:
+        frame = os.read(self.file, LONGEST)
+        return Arrived(frame, len(frame), time.time_ns())
+
+    def send(self, frame: bytes) -> None:
+        with contextlib.suppress(OSError):  # the device is down: the frame is lost
+            os.write(self.file, frame)
+
+    def lost(self) -> int:
+        return 0
+
+    def close(self) -> None:
+        os.close(self.file)

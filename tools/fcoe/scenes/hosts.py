@@ -1,4 +1,5 @@
 """The host that is tried: begun before each scene, and ended behind it."""
+import contextlib
 import os
 import shlex
 import signal
@@ -7,6 +8,7 @@ from dataclasses import dataclass
 from typing import IO, Optional
 
 ENDING = 10.0  # seconds that a host has to log out
+UNSTARTED = (126, 127, 255)  # statuses of a shell that couldn't run a command, and of ssh that reached no machine
 
 
 @dataclass
@@ -30,7 +32,9 @@ class Host:
     def __init__(self, tried: Tried, log: str) -> None:
         self.tried = tried
         self.log: IO[bytes] = open(log, "wb")  # pylint: disable=consider-using-with
-        self.process: Optional["subprocess.Popen[bytes]"] = None
+        self.process: Optional["subprocess.Popen[bytes]"] = None  # the host itself
+        self.begun: Optional["subprocess.Popen[bytes]"] = None  # the command that begins it
+        self.stopping: Optional["subprocess.Popen[bytes]"] = None  # the command that ends it
 
     def run(self, words: list[str]) -> "subprocess.Popen[bytes]":
         return subprocess.Popen(words, stdin=subprocess.DEVNULL, stdout=self.log, stderr=self.log, start_new_session=True)
@@ -41,29 +45,56 @@ class Host:
             self.process = self.run(["ip", "netns", "exec", self.tried.namespace, *shlex.split(self.tried.command)])
         else:
             link = f"ip link set dev {shlex.quote(self.tried.interface)}"
-            self.run(["sh", "-c", self.tried.start or f"{link} down; sleep 1; {link} up"])
+            self.begun = self.run(["sh", "-c", self.tried.start or f"{link} down; sleep 1; {link} up"])
 
     def stop(self) -> None:
-        """Tells it to end."""
+        """Tells it to end, once."""
         if self.process is not None:
             if self.process.poll() is None:
                 self.process.send_signal(signal.SIGTERM)
-        elif self.tried.stop:
-            self.run(["sh", "-c", self.tried.stop])
+        elif self.tried.stop and self.stopping is None:
+            self.stopping = self.run(["sh", "-c", self.tried.stop])
 
     def end(self) -> None:
-        """Sees to it that it has ended."""
+        """Sees to it that it has ended, and each command of it."""
         self.stop()
-        if self.process is not None:
-            try:
-                self.process.wait(ENDING)
-            except subprocess.TimeoutExpired:
-                os.killpg(self.process.pid, signal.SIGKILL)
-                self.process.wait()
+        for it in (self.process, self.stopping):
+            if it is not None:
+                ended(it)
+        if self.begun is not None:
+            if self.tried.start:
+                tell_group(self.begun, signal.SIGTERM)
+            ended(self.begun)
         self.log.close()
 
     @property
     def trouble(self) -> str:
         """Why it isn't there, where it ended by itself at once."""
-        code = self.process.poll() if self.process is not None else None
-        return f"the host ended with status {code}" if code not in (None, 0) else ""
+        if self.process is not None:
+            code = self.process.poll()
+            return f"the host ended with status {code}" if code not in (None, 0) else ""
+        code = status_of(self.begun) if self.begun is not None else None
+        return f"the command that begins the host ended with status {code}" if code in UNSTARTED else ""
+
+
+def status_of(it: "subprocess.Popen[bytes]") -> Optional[int]:
+    """The status of a command that has ended; its number isn't given back yet, so that its group can still be told."""
+    if it.returncode is not None:
+        return it.returncode
+    ended_so = os.waitid(os.P_PID, it.pid, os.WEXITED | os.WNOHANG | os.WNOWAIT)
+    return ended_so.si_status if ended_so is not None else None
+
+
+def tell_group(it: "subprocess.Popen[bytes]", number: signal.Signals) -> None:
+    """Sends a signal to a command, and to what it began."""
+    with contextlib.suppress(ProcessLookupError):
+        os.killpg(it.pid, number)
+
+
+def ended(it: "subprocess.Popen[bytes]") -> None:
+    """Waits for a command, and ends it where it goes on."""
+    try:
+        it.wait(ENDING)
+    except subprocess.TimeoutExpired:
+        tell_group(it, signal.SIGKILL)
+        it.wait()

@@ -20,7 +20,8 @@ def summary(outcomes: list[Outcome]) -> list[str]:
     rows = [[it.scene, it.verdict, f"{sum(step.held is True for step in it.steps)} of {len(it.steps)}", it.source] for it in outcomes]
     total = ", ".join(f"{count} {verdict}" for verdict, count in counts.most_common())
     unchecked = sorted({it.unchecked for it in outcomes if it.unchecked})
-    return [*table(["scene", "verdict", "steps", "source"], rows, ""), "", *(f"`look check` couldn't look: {it}" for it in unchecked), f"{len(outcomes)} scenes: {total}"]
+    last = f"{len(outcomes)} scene{'s' * (len(outcomes) != 1)}: {total}"
+    return [*table(["scene", "verdict", "steps", "source"], rows, ""), "", *(f"`look check` couldn't look: {it}" for it in unchecked), last]
 
 
 def details(found: Outcome) -> Iterable[str]:

@@ -13,7 +13,7 @@ from typing import Callable, Iterator, Optional
 from ..runs import TOP
 from .catalogue import LEARN
 from .hosts import Tried
-from .playing import Job, Outcome, outcome_of, skipped
+from .playing import STOPPED, UNABLE, Job, Outcome, outcome_of, skipped
 from .rooms import PORT, remove_stale, room
 from .script import Scene
 
@@ -76,12 +76,14 @@ class Runner:
         )
         self.running.append(Running(scene, folder, process, closing))
 
-    def ended(self, it: Running) -> None:
-        """Takes a scene's outcome, and its room away."""
+    def ended(self, it: Running, is_stopped: bool = False) -> None:
+        """Takes a scene's outcome, and its room away. One that was stopped at its begin has left none."""
         said = it.process.communicate()[0].strip()
         it.closing.close()
         self.running.remove(it)
         found = outcome_of(it.folder, it.scene, said.rpartition("\n")[2] or f"status {it.process.returncode}")
+        if is_stopped and found.verdict == UNABLE:
+            found.verdict, found.why = STOPPED, "it was stopped"
         self.outcomes[it.scene.name] = found
         self.tell(found)
 
@@ -119,7 +121,7 @@ class Runner:
                 it.process.wait(ENDING)
             if it.process.poll() is None:
                 it.process.kill()
-            self.ended(it)
+            self.ended(it, is_stopped=True)
 
 
 @contextlib.contextmanager
