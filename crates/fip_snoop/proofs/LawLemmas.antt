@@ -147,11 +147,11 @@ unfour q r s t false false true d e1 e2 e3 e4 = absurd (false≢true (sym e3))
 unfour q r s t false false false true e1 e2 e3 e4 = absurd (false≢true (sym e4))
 unfour q r s t false false false false e1 e2 e3 e4 = refl
 
-not_not : (b : Bool) → not b ≡ false → b ≡ true
+pub not_not : (b : Bool) → not b ≡ false → b ≡ true
 not_not true e = refl
 not_not false e = absurd (false≢true (sym e))
 
-not_is : (b : Bool) → b ≡ true → not b ≡ false
+pub not_is : (b : Bool) → b ≡ true → not b ≡ false
 not_is true e = refl
 not_is false e = absurd (false≢true e)
 
@@ -162,10 +162,10 @@ on_is port (Some b) e = (b, refl, grind (arith, nat_tests))
 of_is : (a : ℕ) (b : Binding) → is_of a (Some b) ≡ true → b.address ≡ a
 of_is a b e = grind (arith, nat_tests)
 
-vlan_is : (w : Forwarder) (f : eth.Eth) → is_wrong_vlan w f false ≡ false → eth.vlan_of_tag f.tag ≡ w.vlan
+pub vlan_is : (w : Forwarder) (f : eth.Eth) → is_wrong_vlan w f false ≡ false → eth.vlan_of_tag f.tag ≡ w.vlan
 vlan_is w f e = grind (arith, nat_tests)
 
-is_vlan : (w : Forwarder) (f : eth.Eth) → eth.vlan_of_tag f.tag ≡ w.vlan → is_wrong_vlan w f false ≡ false
+pub is_vlan : (w : Forwarder) (f : eth.Eth) → eth.vlan_of_tag f.tag ≡ w.vlan → is_wrong_vlan w f false ≡ false
 is_vlan w f e = grind (arith, nat_tests)
 
 -- the way of data from the port of an ENode
@@ -191,7 +191,7 @@ module _ (w : Forwarder) (L : History) (port : ℕ) (f : eth.Eth) (x : capsule.F
       unfour _ _ _ _ (is_wrong_vlan w f false) (not (same_bytes f.dst w.mac)) (not (is_on port (bound w L f.src))) (not (is_of x.frame.head.s_id (bound w L f.src)))
       (is_vlan w f i.vlan) (not_is _ (is_same f.dst w.mac i.forwarder)) (not_is _ on) (not_is _ own)
 
-abbrev read_as : capsule.Fcoe → Result capsule.Fcoe FcoeFault
+abbrev pub read_as : capsule.Fcoe → Result capsule.Fcoe FcoeFault
 read_as x = Ok x
 
 pub data_up : DataGoesUp

@@ -12,6 +12,7 @@ pub mod KeptLemmas
 pub mod MovedLemmas
 pub mod FrameLemmas
 pub mod LawLemmas
+pub mod WayLemmas
 pub mod EachLemmas
 pub mod QueueLemmas
 pub mod BridgeLemmas

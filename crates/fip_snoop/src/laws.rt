@@ -1,7 +1,8 @@
 //! What the definitions imply. Each function does nothing: its contract is the law.
 ghost use Rattle.fip_snoop.specs.Bridge.{HistoryGoesOn, RecordsGoOn};
 ghost use Rattle.fip_snoop.specs.Bridge.{AllAreCounted, ArrivalsAreInOrder};
-ghost use Rattle.fip_snoop.specs.Laws.{HomeGrows, BoundGrows, BoundIs, MovedIs, DataGoesUp};
+ghost use Rattle.fip_snoop.specs.Laws.{HomeGrows, BoundGrows, HomeIs, BoundIs, MovedIs};
+ghost use Rattle.fip_snoop.specs.Laws.{ENodesAreApart, DataGoesUp, DataGoesDown};
 ghost use Rattle.fip_snoop.specs.Queue.{LeastIsNext, NoneIsEnd, PortsKeepTheirOrder};
 
 /// How homes and bindings change with one more frame.
@@ -17,9 +18,24 @@ pub fn bindings_stand()
     ensures moved { MovedIs }
 {}
 
+/// An ENode is on a port exactly where the last message from its MAC that went up came on it.
+pub fn homes_stand()
+    ensures { HomeIs }
+{}
+
+/// No ENode gets what another one sent.
+pub fn enodes_are_apart()
+    ensures { ENodesAreApart }
+{}
+
 /// An FC frame goes up exactly where a login that stands allows it.
 pub fn data_goes_up()
     ensures { DataGoesUp }
+{}
+
+/// An FC frame goes down exactly to the port of the login that stands for its destination.
+pub fn data_goes_down()
+    ensures { DataGoesDown }
 {}
 
 /// The frame that is handled next is the first of those that come next in each capture.

@@ -20,8 +20,8 @@ pub use bindings::Binding;
 pub use forwarder::Forwarder;
 pub use home::Home;
 pub use laws::{
-    bindings_stand, captures_are_merged, data_goes_up, frames_come_in_order, frames_go_on,
-    histories_grow,
+    bindings_stand, captures_are_merged, data_goes_down, data_goes_up, enodes_are_apart,
+    frames_come_in_order, frames_go_on, histories_grow, homes_stand,
 };
 pub use pages::{add_copy, is_dropped};
 pub use queue::{Head, first_port};
