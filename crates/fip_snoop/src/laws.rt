@@ -33,7 +33,7 @@ pub fn data_goes_up()
     ensures { DataGoesUp }
 {}
 
-/// An FC frame goes down exactly to the port of the login that stands for its destination.
+/// An FC frame goes down exactly to the port to which its destination MAC is bound.
 pub fn data_goes_down()
     ensures { DataGoesDown }
 {}
