@@ -196,7 +196,7 @@ RULES = Group(
         Rule("forwarder-known", ENODE, "FC-BB-5, FIP discovery", "A FLOGI goes to a forwarder that advertised itself in that VLAN.", known),
         Rule("forwarder-available", ENODE, "FC-BB-5, FIP discovery, flag A", "A FLOGI goes to a forwarder that is available for login.", available),
         Rule("forwarder-macs", ENODE, "FC-BB-5, FIP discovery, flags FP and SP", "A FLOGI asks for a kind of MAC that the forwarder has.", same_kind_of_mac),
-        Rule("forwarder-size", ENODE, "FC-BB-5, FIP discovery, FCoE size", "A FLOGI follows a solicited advertisement of the size that was asked for.", padded),
+        Rule("forwarder-size", ENODE, "FC-BB-5, FIP discovery, FCoE size (from memory)", "A FLOGI follows a solicited advertisement of the size that was asked for.", padded),
         Rule("forwarder-priority", ENODE, "FC-BB-5, FIP discovery, priority", "Of several forwarders the one of the best priority is taken.", best, True),
     ],
 )

@@ -187,7 +187,7 @@ def prli_form(talk: Talk, tally: Tally) -> None:
 
 
 def command_behind_prli(talk: Talk, tally: Tally) -> None:
-    """FCP commands want an image pair, which a PRLI of either end makes."""
+    """FCP commands want an image pair, which a PRLI of either end makes; or something that no frame shows."""
     for one, fc in own_requests(talk, 0x06):
         if fc.kind != 0x08:
             continue
@@ -198,7 +198,7 @@ def command_behind_prli(talk: Talk, tally: Tally) -> None:
         elif not talk.grant_of(it.heard.source, it.at):
             tally.leave("the login of its N_Port isn't in the capture", it)
         else:
-            tally.judge(it, Fault("process login", "a PRLI that isn't accepted" if asked else "none", f"an accepted PRLI between {fcid(fc.s_id)} and {fcid(fc.d_id)}"))
+            tally.usual(it, Fault("process login", "a PRLI that isn't accepted" if asked else "none", f"an accepted PRLI between {fcid(fc.s_id)} and {fcid(fc.d_id)}"))
 
 
 def plogi(talk: Talk, tally: Tally) -> None:
@@ -249,7 +249,7 @@ RULES = Group(
     "exchanges",
     [
         Rule("ox-id", ENODE, "FC-FS-3, OX_ID", "An OX_ID isn't used anew while its exchange is open.", not_reused),
-        Rule("exchange-ends", ENODE, "FC-FS-3, exchanges; FC-LS-2, R_A_TOV", "A link service or CT request without an answer is aborted.", never_ended),
+        Rule("exchange-ends", ENODE, "FC-FS-3, exchanges; FC-LS-2, R_A_TOV (from memory)", "A link service or CT request without an answer is aborted.", never_ended),
         Rule("els-answered", ENODE, "FC-LS-2, link services", "A link service that asks an N_Port is answered.", answered),
         Rule("rscn-answered", ENODE, "FC-LS-2, RSCN", "An RSCN is answered.", rscn_answered),
         Rule("rscn-reply", ENODE, "FC-LS-2, RSCN", "The answer is an LS_ACC or an LS_RJT.", rscn_reply),
@@ -258,7 +258,7 @@ RULES = Group(
         Rule("plogi-parameters", ENODE, "FC-LS-2, PLOGI, service parameters", "Class 3, a receive size of 256 to 2112, the port name of its login.", plogi),
         Rule("prli-after-plogi", ENODE, "FC-LS-2, PRLI", "PRLI goes out after an accepted PLOGI.", prli_behind_plogi),
         Rule("prli-form", ENODE, "FC-LS-2, PRLI, service parameter page", "Pages have 16 bytes, and the length counts them.", prli_form),
-        Rule("fcp-after-prli", ENODE, "FC-LS-2, PRLI, image pairs", "FCP commands go out after an accepted PRLI.", command_behind_prli),
+        Rule("fcp-after-prli", ENODE, "FC-LS-2, PRLI, image pairs", "FCP commands go out after an accepted PRLI.", command_behind_prli, True),
         Rule("logo-form", ENODE, "FC-LS-2, LOGO", "A LOGO in FCoE has address and port name of who sends it.", logo),
         Rule("abts-form", ENODE, "FC-FS-3, ABTS, BA_ACC, BA_RJT", "An ABTS has no payload, BA_ACC 12 bytes, BA_RJT 4.", aborts),
         Rule("abts-exchange", ENODE, "FC-FS-3, ABTS", "An ABTS is of an exchange that there is.", abts_known),

@@ -177,7 +177,7 @@ RULES = Group(
         Rule("fcf-fpma", FCF, "FC-BB-5, fabric-provided MAC addresses", "An accept has the FC-MAP and the address as its MAC.", granted),
         Rule("fcf-replies", FCF, "FC-FS-3, OX_ID and F_CTL", "A reply in FIP has the OX_ID of a request, and is the responder's.", replied),
         Rule("fcf-addresses", FCF, "FC-LS-2, FLOGI, address assignment", "No address is granted to two ENodes at once.", distinct),
-        Rule("fcf-addresses-rest", FCF, "FC-FS-3, R_A_TOV", "An address that ended goes to another port name after R_A_TOV alone.", rested),
+        Rule("fcf-addresses-rest", FCF, "FC-FS-3, R_A_TOV (from memory)", "An address that ended goes to another port name after R_A_TOV alone.", rested),
         Rule("fcf-destination", FCF, "FC-BB-5, fabric-provided MAC addresses", "FCoE to an N_Port goes to the FC-MAP and its address.", delivered),
         Rule("fcf-crc", FCF, "FC-FS-3, CRC", "The check sequence is right.", checked),
         Rule("fcf-answers", FCF, "FC-LS-2; FC-GS-6", "Requests to FFFFFC and FFFFFD are answered.", answered),

@@ -167,7 +167,7 @@ def is_same(it: Shown, other: Shown) -> bool:
 RULES = Group(
     "fabric login",
     [
-        Rule("login-in-fip", ENODE, "FC-BB-5, FIP FLOGI, FDISC and LOGO", "FLOGI, FDISC and the LOGO to FFFFFE go in FIP.", in_fip),
+        Rule("login-in-fip", ENODE, "FC-BB-5, FIP FLOGI, FDISC and LOGO (from memory)", "FLOGI, FDISC and the LOGO to FFFFFE go in FIP.", in_fip),
         Rule("login-destination", ENODE, "FC-BB-5, FIP FLOGI", "They go to the forwarder's own MAC.", addressed),
         Rule("login-descriptors", ENODE, "FC-BB-5, FIP operations", "They have their descriptor and a MAC descriptor, each once.", described),
         Rule("login-flags", ENODE, "FC-BB-5, FIP FLOGI, flags FP and SP", "FLOGI and FDISC say by FP or SP who provides the MAC.", flagged),
