@@ -1,0 +1,4 @@
+pub fn block(alloc: Global) -> Result<(), Fault> {
+    // block
+    Ok(())
+}
