@@ -63,6 +63,7 @@ module _ (port slot : ℕ) (a : Seen) (r : Reading) (had : Budget) where
     place = place;
     fit = tt;
     frames = omega arith;
+    bytes = omega arith;
     ascends = tt;
     last = refl;
     taken = λ told n less. (n, less, sym (in_front_none (to_take n port slot (reader_stand a r had))));
@@ -75,6 +76,10 @@ module _ (port slot : ℕ) (a : Seen) (r : Reading) (had : Budget) where
 
     reads_c : {x : Result (Option Record) CapError} → NextReads slot (reader_stand b s left) (reader_stand c t now) x → Reads (a.name slot) a c
     reads_c n = reads_trans (a.name slot) a b c f.reads (subst (λ m. Reads m b c) f.name n.reads)
+
+    -- a call that takes nothing leaves no more of the limits than there was
+    no_more : now ≡ left → (now.bytes ≤ had.bytes) × (now.frames ≤ had.frames)
+    no_more same = (omega (arith, f.bytes, ap (λ (z : Budget). z.bytes) same), omega (arith, f.frames, ap (λ (z : Budget). z.frames) same))
 
     -- the step that the next call answers
     abbrev step_b : Step
@@ -110,6 +115,7 @@ module _ (port slot : ℕ) (a : Seen) (r : Reading) (had : Budget) where
           place = omega (arith, f.place, k.bytes, at);
           fit = fit_push records x f.fit k.range k.stored;
           frames = let more = length-append records (x ∷ []) in let was = f.frames in omega (arith, k.frames);
+          bytes = omega (arith, f.bytes, k.bytes);
           ascends = ascends-push r.greatest records x f.ascends (subst (λ m. m ≤ x.moment) f.last k.onward);
           last = greatest ∙ sym (last-push r.greatest records x);
           taken = λ told m less.
@@ -138,6 +144,7 @@ module _ (port slot : ℕ) (a : Seen) (r : Reading) (had : Budget) where
       reads = reads_c n;
       fit = (f.fit, f.ascends);
       frames = ap (λ (z : Budget). z.frames + length records) n.taken.budget ∙ f.frames;
+      limits = no_more n.taken.budget;
       taken = λ told m less.
           let h = f.taken told m less in
           let end = last_step Ends (n.says (told_b told) f.fresh).0 (to_take m port slot (reader_stand a r had)) h.0 h.1 h.2 in
@@ -152,6 +159,7 @@ module _ (port slot : ℕ) (a : Seen) (r : Reading) (had : Budget) where
       reads = reads_c n;
       fit = tt;
       frames = tt;
+      limits = no_more n.kept.budget;
       taken = λ told m less. tt;
       stops = λ told m less stopped.
           let h = f.taken told m less in
@@ -196,6 +204,7 @@ module _ (port slot : ℕ) (a b : Seen) (had left : Budget) (input : IsTrue (a.i
         reads = reads_trans (a.name slot) a b c o.reads (subst (λ m. Reads m b c) name k.reads);
         fit = subst (λ g. IfOk result (λ rs. AreFit rs × Ascends g rs)) o.begins.1 k.fit;
         frames = subst (λ (n : ℕ). IfOk result (λ rs. now.frames + length rs ≡ n)) o.taken.1 k.frames;
+        limits = (omega (arith, k.limits.0, o.taken.0), omega (arith, k.limits.1, o.taken.1));
         taken = λ told. taken_as result (whole_is r o told) (k.taken (told_stays (a.name slot) a b o.reads.keeps told) (suc (length (a.left slot))) (whole_less r o told));
         stops = λ told. stops_as result (whole_is r o told) (k.stops (told_stays (a.name slot) a b o.reads.keeps told) (suc (length (a.left slot))) (whole_less r o told));
         cause = λ e. rose_later (a.read_faults (a.name slot)) (b.read_faults (a.name slot)) (c.read_faults (a.name slot)) o.reads.keeps.reads_rise
@@ -230,6 +239,7 @@ module _ (port slot : ℕ) (a b : Seen) (had left : Budget) (input : IsTrue (a.i
     reads = o.reads;
     fit = tt;
     frames = tt;
+    limits = (omega (arith, ap (λ (z : Budget). z.bytes) o.untouched), omega (arith, ap (λ (z : Budget). z.frames) o.untouched));
     taken = λ told. tt;
     stops = λ told stopped. not_opened e o told stopped;
     cause = λ is. caused e o is;

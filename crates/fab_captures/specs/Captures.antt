@@ -68,11 +68,13 @@ abbrev pub AreFit : List Record → Type 0
 AreFit [] = Unit {0}
 AreFit (r ∷ records) = (r.moment < 2 ^ 43) × (length r.caught.bytes ≤ 65535) × AreFit records
 
--- What reading the capture of a port whole does: all of it is as `capture_by` says of the bytes that the slot had to give.
+-- What reading the capture of a port whole does: all of it is as `capture_by` says of the bytes that the slot had to give. However it
+-- ends, no limit grows.
 pub record ReadsCapture (port slot : ℕ) (a b : Seen) (had left : Budget) (result : Result (List Record) GatherFault) : Type 0 where
   pub reads : Reads (a.name slot) a b
   pub fit : IfOk result (λ records. AreFit records × Ascends 0 records)
   pub frames : IfOk result (λ records. left.frames + length records ≡ had.frames)
+  pub limits : (left.bytes ≤ had.bytes) × (left.frames ≤ had.frames)
   pub taken : IsTrue a.told → IfOk result (λ records. capture_by port had (a.left slot) ≡ Ok (record { records = records; left = left }))
   pub stops : IsTrue a.told → IfErr result (λ e. IsStopped e → capture_by port had (a.left slot) ≡ Err e)
   pub cause : IsErrOf result faults.Read → Rose (a.read_faults (a.name slot)) (b.read_faults (a.name slot))
@@ -92,6 +94,7 @@ pub record ReadsRecords (port slot : ℕ) (before after : ReaderStand) (result :
   pub reads : Reads (before.depot.name slot) before.depot after.depot
   pub fit : IfOk result (λ records. AreFit records × Ascends before.reader.greatest records)
   pub frames : IfOk result (λ records. after.budget.frames + length records ≡ before.budget.frames)
+  pub limits : (after.budget.bytes ≤ before.budget.bytes) × (after.budget.frames ≤ before.budget.frames)
   pub taken : IsTrue before.depot.told → (n : ℕ) → length (to_come before.reader before.depot slot) < n → IfOk result (λ records. to_take n port slot before ≡ Ok (record { records = records; left = after.budget }))
   pub stops : IsTrue before.depot.told → (n : ℕ) → length (to_come before.reader before.depot slot) < n → IfErr result (λ e. IsStopped e → to_take n port slot before ≡ Err e)
   pub cause : IsErrOf result faults.Read → Rose (before.depot.read_faults (before.depot.name slot)) (after.depot.read_faults (before.depot.name slot))
@@ -106,6 +109,7 @@ pub record SoFar (port slot : ℕ) (begin now : ReaderStand) (records : List Rec
   pub place : now.reader.at + now.budget.bytes < 2 ^ 64
   pub fit : AreFit records
   pub frames : now.budget.frames + length records ≡ begin.budget.frames
+  pub bytes : now.budget.bytes ≤ begin.budget.bytes
   pub ascends : Ascends begin.reader.greatest records
   pub last : now.reader.greatest ≡ last_moment begin.reader.greatest records
   pub taken : IsTrue begin.depot.told → (n : ℕ) → length (to_come begin.reader begin.depot slot) < n →
