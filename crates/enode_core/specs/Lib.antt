@@ -8,3 +8,4 @@ pub mod Phases
 pub mod Goes
 pub mod RunLaws
 pub mod Course
+pub mod Alive
