@@ -2,19 +2,12 @@
 use Rattle.std.proofs.Common.{◌≡◌, ℕ, zero, suc, ◌+◌, ◌-◌, ◌*◌, ◌/◌, ◌%◌, ◌^◌, ◌<◌, ◌≤◌, List, [], ◌++◌, length, Bool, true, false, not, Some, eqb, ◌&&◌, ◌||◌, ◌⊎◌, inl, inr, get_or, take, replicate, bit_and, bit_or, min, refl, sym, ◌∙◌, ap, arith}
 use Rattle.std.proofs.Math.ListN.{set}
 use Rattle.std.specs.Int.{bit_at, w64, trailing_zeros}
-use Rattle.std.proofs.lemmas.Bool.{eqb-true, cases_eq, cases_lt}
+use Rattle.std.proofs.lemmas.Bool.{ne_eqb, cases_eq, cases_lt}
 use Rattle.std.proofs.lemmas.Nat.{and_le_l, and_le_r}
 use Rattle.std.proofs.lemmas.Nat.Bits.{bit_at-zero, bit_at_and, bit_at-lt, bit_at_set_same, bit_at_set_other, bit_at_clear_same, bit_at_clear_other, bit_at-trailing_zeros, ones_shl, bit_at_mask_inside, bit_at_mask_below, bit_at_ones}
 use Rattle.std.proofs.lemmas.Grind.{get_or_default_zero}
 use Rattle.std.proofs.lemmas.List.{get_or_past, get_or_append_left, get_or-append_right, get_or-replicate, get_or-set_same, get_or-set_other, take_all, length-replicate}
 use Rattle.bit_rows.specs.Row.{has, IsCommon, HasNone, IsNextBit}
-
-eqb_no : (m n : ℕ) → (m ≡ n → ⊥) → eqb m n ≡ false
-eqb_no m n ne = by (eqb m n) refl
-  where
-    by : (t : Bool) → eqb m n ≡ t → t ≡ false
-    by true e = absurd (ne (eqb-true m n e))
-    by false e = refl
 
 eqb_yes : (n : ℕ) → eqb n n ≡ true
 eqb_yes n = grind arith
@@ -48,7 +41,7 @@ has-set_word row wide place q same within = by (cases_eq (q / 64) (place / 64)) 
     here e = ap (λ (n : ℕ). get_or (set wide (place / 64) (bit_or (get_or wide (place / 64) 0) (1 * 2 ^ (place % 64) % 2 ^ 64))) n 0) e ∙ get_or-set_same wide (place / 64) (bit_or (get_or wide (place / 64) 0) (1 * 2 ^ (place % 64) % 2 ^ 64)) 0 within
 
     kept : (place ≡ q → ⊥) → (b : Bool) → b ≡ (eqb place q || b)
-    kept ne b = ap (λ t. t || b) (sym (eqb_no place q ne))
+    kept ne b = ap (λ t. t || b) (sym (ne_eqb place q ne))
 
     by : (q / 64 ≡ place / 64) ⊎ (q / 64 ≡ place / 64 → ⊥) → (q % 64 ≡ place % 64) ⊎ (q % 64 ≡ place % 64 → ⊥)
         → eqb (bit_at (get_or (set wide (place / 64) (bit_or (get_or wide (place / 64) 0) (1 * 2 ^ (place % 64) % 2 ^ 64))) (q / 64) 0) (q % 64)) 1 ≡ (eqb place q || eqb (bit_at (get_or row (q / 64) 0) (q % 64)) 1)
@@ -83,7 +76,7 @@ has-clear_word row place q within = by (cases_eq (q / 64) (place / 64)) (cases_e
     here e = ap (λ (n : ℕ). get_or (set row (place / 64) (bit_and (get_or row (place / 64) 0) (2 ^ 64 - 1 - 1 * 2 ^ (place % 64) % 2 ^ 64))) n 0) e ∙ get_or-set_same row (place / 64) (bit_and (get_or row (place / 64) 0) (2 ^ 64 - 1 - 1 * 2 ^ (place % 64) % 2 ^ 64)) 0 within
 
     kept : (place ≡ q → ⊥) → (b : Bool) → b ≡ (not (eqb place q) && b)
-    kept ne b = ap (λ t. not t && b) (sym (eqb_no place q ne))
+    kept ne b = ap (λ t. not t && b) (sym (ne_eqb place q ne))
 
     by : (q / 64 ≡ place / 64) ⊎ (q / 64 ≡ place / 64 → ⊥) → (q % 64 ≡ place % 64) ⊎ (q % 64 ≡ place % 64 → ⊥)
         → eqb (bit_at (get_or (set row (place / 64) (bit_and (get_or row (place / 64) 0) (2 ^ 64 - 1 - 1 * 2 ^ (place % 64) % 2 ^ 64))) (q / 64) 0) (q % 64)) 1 ≡ (not (eqb place q) && eqb (bit_at (get_or row (q / 64) 0) (q % 64)) 1)

@@ -5,7 +5,7 @@ use Rattle.std.specs.Bool.{OnTrue, OnFalse}
 use Rattle.std.proofs.Math.Dec.{eqb-suc-suc, eqb-zero-suc, eqb-suc-zero}
 use Rattle.std.proofs.lemmas.List.Folds.{list_any-append}
 use Rattle.std.proofs.lemmas.List.{length-take-le, reverse-append}
-use Rattle.std.proofs.lemmas.Bool.{eqb-true, ltb-true, lt-ltb, leb-true, le-leb}
+use Rattle.std.proofs.lemmas.Bool.{ne_eqb, ltb-true, lt-ltb, leb-true, le-leb}
 use Rattle.fab_config.specs.declared.Zone.{Zone}
 use Rattle.zone_rules.specs.Joined.{contains, has_zone_of, active_set, is_active, joined, next_change}
 use Rattle.fab_config.specs.declared.ZoneSet.{ZoneSet}
@@ -28,13 +28,6 @@ pub take_slice : {X : Type 0} (xs : List X) (i : ℕ) (x : X) → slice_get xs i
 take_slice [] i x e = absurd (cc)
 take_slice (y ∷ ys) zero x e = let is : y ≡ x = cc in ap (λ z. z ∷ []) is
 take_slice (y ∷ ys) (suc i) x e = ap (λ (n : ℕ). take n (y ∷ ys)) (let s : suc i + 1 ≡ suc (i + 1) = omega arith in s) ∙ ap (λ l. y ∷ l) (take_slice ys i x e)
-
-pub eqb_no : (m n : ℕ) → (m ≡ n → ⊥) → eqb m n ≡ false
-eqb_no m n ne = by (eqb m n) refl
-  where
-    by : (t : Bool) → eqb m n ≡ t → t ≡ false
-    by true e = absurd (ne (eqb-true m n e))
-    by false e = refl
 
 pub eqb_yes : (n : ℕ) → eqb n n ≡ true
 eqb_yes n = grind arith
@@ -155,7 +148,7 @@ module _ (zones : List Zone) (sets : List ZoneSet) (activations : List Activatio
       ∙ ap (λ (s : Option ℕ). has_zone_of (is_active sets s) xn yn 0 zones) is
       ∙ ap (λ (n : ℕ). has_zone_of (is_active sets (active_set activations at)) n yn 0 zones) x_is
       ∙ ap (λ (n : ℕ). has_zone_of (is_active sets (active_set activations at)) x n 0 zones) y_is
-      ∙ sym (ap (λ b. not b && has_zone_of (is_active sets (active_set activations at)) x y 0 zones) (eqb_no x y (λ h. ne (x_is ∙ h ∙ sym y_is))))
+      ∙ sym (ap (λ b. not b && has_zone_of (is_active sets (active_set activations at)) x y 0 zones) (ne_eqb x y (λ h. ne (x_is ∙ h ∙ sym y_is))))
 
 -- ---- activations
 

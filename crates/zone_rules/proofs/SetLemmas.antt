@@ -1,12 +1,13 @@
 -- The rows of the zone sets.
 use Rattle.std.proofs.Common.{◌≡◌, ℕ, zero, suc, ◌+◌, ◌<◌, ◌≤◌, List, [], ◌∷◌, ◌++◌, take, length, Bool, true, eqb, ◌||◌, Some, slice_get, Vec, sym, ◌∙◌, ap, arith}
 use Rattle.std.specs.declared.alloc.Global.{Global}
+use Rattle.std.proofs.lemmas.Bool.{ne_eqb}
 use Rattle.fab_config.specs.declared.Zone.{Zone}
 use Rattle.fab_config.specs.declared.ZoneSet.{ZoneSet}
 use Rattle.zone_rules.specs.Joined.{contains, is_active}
 use Rattle.bit_rows.specs.Row.{has}
 use Rattle.zone_rules.specs.Index.{AreRows, of_set, lists}
-use Rattle.zone_rules.proofs.JoinLemmas.{take_slice, contains-push, eqb_no}
+use Rattle.zone_rules.proofs.JoinLemmas.{take_slice, contains-push}
 use Rattle.bit_rows.proofs.RowLemmas.{has-none}
 
 pub AreRows-push : (n : ℕ) (rows : List (Vec ℕ Global)) (sets : List ZoneSet) (r : Vec ℕ Global) (s : ZoneSet) → AreRows n rows sets → ((q : ℕ) → q < n → has r.items q ≡ contains q s.places) → AreRows n (rows ++ r ∷ []) (sets ++ s ∷ [])
@@ -37,4 +38,4 @@ place_in q i p ps was now e before is = is ∙ ap (λ b. eqb p q || b) before �
 
 -- and one that no zone has
 pub place_out : (n q i p : ℕ) (ps : List ℕ) (was : Bool) → slice_get ps i ≡ Some p → q < n → n ≤ p → was ≡ contains q (take i ps) → was ≡ contains q (take (i + 1) ps)
-place_out n q i p ps was e lt le before = before ∙ sym (ap (contains q) (take_slice ps i p e) ∙ contains-push q p (take i ps) ∙ ap (λ b. b || contains q (take i ps)) (eqb_no p q (λ h. omega arith)))
+place_out n q i p ps was e lt le before = before ∙ sym (ap (contains q) (take_slice ps i p e) ∙ contains-push q p (take i ps) ∙ ap (λ b. b || contains q (take i ps)) (ne_eqb p q (λ h. omega arith)))
