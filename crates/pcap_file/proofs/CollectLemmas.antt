@@ -6,6 +6,7 @@ use Rattle.fab_base.specs.declared.values.Failed.{Failed}
 use Rattle.fab_base.proofs.Depots.{reads_trans, reads_refl, input_name, told_stays, rose_later}
 use Rattle.pcap_file.specs.Reading.{Supply, supply, coming, Collects, Refills}
 use Rattle.pcap_file.proofs.lemmas.Numbers.{none_is}
+use Rattle.pcap_file.proofs.PullLemmas.{come_again}
 
 -- a buffer that is filled so far
 pub record Collected (slot : ℕ) (buffer : List ℕ) (before after : Supply) : Type 0 where
@@ -64,7 +65,7 @@ module _ (s : ℕ) (a b c : Seen) (buffer held mid more : List ℕ) (is_in : IsT
   collect_failed count e r fits = record {
     reads = reads_trans (a.name s) a b c f.reads (subst (λ m. Reads m b c) same r.reads);
     bound = fits;
-    taken = λ told. tt;
+    taken = λ told. ap (λ l. buffer ++ l) (come_again s b c mid more e (told_b told) r) ∙ f.taken told;
     ended = λ told. tt;
     cause = rose_later _ _ _ f.reads.keeps.reads_rise (subst (λ m. Rose (b.read_faults m) (c.read_faults m)) same r.cause);
     counts = tt;

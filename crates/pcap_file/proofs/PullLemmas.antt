@@ -19,6 +19,10 @@ window_rest l from to count = elim (le_or_lt count (to - from)) [
       ap (λ (m : ℕ). take m (drop (from + count) l)) none ∙ sym (drop_all count (take (to - from) (drop from l)) (omega (arith, length-take (to - from) (drop from l))))
 ]
 
+-- a fetch that fails leaves what is to come
+pub come_again : (s : ℕ) (b c : Seen) (mid more : List ℕ) (e : Failed) → IsTrue b.told → Refills {T = Unit {0}} s (supply mid b) (supply more c) (Err e) → coming s (supply more c) ≡ coming s (supply mid b)
+come_again s b c mid more e told r = ap (λ (l : List ℕ). l ++ c.left s) r.empty ∙ r.nothing told ∙ ap (λ (l : List ℕ). l ++ b.left s) (sym r.needed)
+
 -- a buffer that is filled up to a place
 pub record Pulled (slot got : ℕ) (into : List ℕ) (before after : Supply) : Type 0 where
   pub reads : Reads (before.depot.name slot) before.depot after.depot
@@ -76,6 +80,7 @@ module _ (s got : ℕ) (a b c : Seen) (into held mid more : List ℕ) (is_in : I
           ended = λ told less. (λ i. none_left i ++ c.left s) ∙ r.ended (told_b told) none_held;
           still = λ enough. (step.still enough).0;
           waits = λ told. tt;
+          front = λ told. tt;
           cause = tt;
           counts = step.counts;
         }
@@ -91,6 +96,11 @@ module _ (s got : ℕ) (a b c : Seen) (into held mid more : List ℕ) (is_in : I
         let taken = f.taken told in
         let none : mid ++ b.left s ≡ b.left s = ap (λ (l : List ℕ). l ++ b.left s) r.needed in
         omega (arith, ap length taken, length-append (take got into) (mid ++ b.left s), ap length none, ap length (r.nothing (told_b told)), length-take-le got into (omega arith));
+    front = λ told. (
+      got,
+      omega arith,
+      ap (λ l. take got into ++ l) (come_again s b c mid more e (told_b told) r) ∙ f.taken told,
+    );
     cause = rose_later _ _ _ f.reads.keeps.reads_rise (subst (λ m. Rose (b.read_faults m) (c.read_faults m)) same r.cause);
     counts = tt;
   }

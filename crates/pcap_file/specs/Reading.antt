@@ -182,7 +182,8 @@ coming slot s = s.held ++ s.depot.left slot
 
 -- Filling a buffer from what is held and then from a slot. It fetches only while it holds fewer bytes than are wanted: the depot is the
 -- same where enough is held (`still`), and where a fetch failed fewer were held and fetched than are wanted (`waits`). Each fetch may fail,
--- and none fails unheard (`counts`), so none is made behind the last wanted byte.
+-- and none fails unheard (`counts`), so none is made behind the last wanted byte. Where one failed the buffer begins with what was
+-- taken, and what is to come stands behind it (`front`).
 pub record Pulls (slot : ℕ) (buffer : List ℕ) (before after : Supply) (result : Result ℕ Failed) : Type 0 where
   pub reads : Reads (before.depot.name slot) before.depot after.depot
   pub bound : IfOk result (λ n. n ≤ length buffer)
@@ -190,25 +191,28 @@ pub record Pulls (slot : ℕ) (buffer : List ℕ) (before after : Supply) (resul
   pub ended : IsTrue before.depot.told → IfOk result (λ n. n < length buffer → coming slot after ≡ [])
   pub still : length buffer ≤ length before.held → after.depot ≡ before.depot
   pub waits : IsTrue before.depot.told → OnErr result (length (coming slot before) < length buffer + length (after.depot.left slot))
+  pub front : IsTrue before.depot.told → OnErr result ((n : ℕ) × (n ≤ length buffer) × (take n buffer ++ coming slot after ≡ coming slot before))
   pub cause : OnErr result (ReadsRose slot before.depot after.depot)
   pub counts : OnOk result (SameReadFaults before.depot after.depot)
 
--- So many bytes from what is held and then from a slot, put into an empty buffer: fewer only at the end.
+-- So many bytes from what is held and then from a slot, put into an empty buffer: fewer only at the end. However it ends, the buffer
+-- has what was taken, and what is to come stands behind it.
 pub record Collects {T : Type 0} (slot count : ℕ) (buffer : List ℕ) (before after : Supply) (result : Result T Failed) : Type 0 where
   pub reads : Reads (before.depot.name slot) before.depot after.depot
   pub bound : length buffer ≤ count
-  pub taken : IsTrue before.depot.told → OnOk result (buffer ++ coming slot after ≡ coming slot before)
+  pub taken : IsTrue before.depot.told → buffer ++ coming slot after ≡ coming slot before
   pub ended : IsTrue before.depot.told → OnOk result (length buffer < count → coming slot after ≡ [])
   pub cause : OnErr result (ReadsRose slot before.depot after.depot)
   pub counts : OnOk result (SameReadFaults before.depot after.depot)
 
--- One fetch where nothing is held; nothing is held then only where nothing is left.
+-- One fetch where nothing is held; nothing is held then only where nothing is left, or where it failed.
 pub record Refills {T : Type 0} (slot : ℕ) (before after : Supply) (result : Result T Failed) : Type 0 where
   pub reads : Reads (before.depot.name slot) before.depot after.depot
   pub taken : IsTrue before.depot.told → OnOk result (coming slot after ≡ coming slot before)
   pub ended : IsTrue before.depot.told → OnOk result (after.held ≡ [] → after.depot.left slot ≡ [])
   pub still : 0 < length before.held → after ≡ before
   pub needed : OnErr result (before.held ≡ [])
+  pub empty : OnErr result (after.held ≡ [])
   pub nothing : IsTrue before.depot.told → OnErr result (after.depot.left slot ≡ before.depot.left slot)
   pub cause : OnErr result (ReadsRose slot before.depot after.depot)
   pub counts : OnOk result (SameReadFaults before.depot after.depot)
