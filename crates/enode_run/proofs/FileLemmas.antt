@@ -51,7 +51,7 @@ module _ (start : ℕ) (from : List ℕ) (budget left : Budget) (port slot : ℕ
   says : (r : Result Taken GatherFault) → capture_by port budget (b.left slot) ≡ r → files.taken_by budget start (b.left slot) ≡ unless_stopped r (λ t. unless_too_long start t.records)
   says r e = ap (λ x. unless_stopped x (λ t. unless_too_long start t.records)) (ap (λ p. capture_by p budget (b.left slot)) (sym is_one) ∙ e)
 
-  pub refused : (fault : GatherFault) → ReadsCapture port slot b c budget left (Err fault) → ReadsInput start from budget a c (Err fault)
+  refused : (fault : GatherFault) → ReadsCapture port slot b c budget left (Err fault) → ReadsInput start from budget a c (Err fault)
   refused fault h = record {
     reads = reads (Err fault) h;
     far = tt;
@@ -61,7 +61,7 @@ module _ (start : ℕ) (from : List ℕ) (budget left : Budget) (port slot : ℕ
     counts = λ other m. h.counts other m ∙ opens.counts m;
   }
 
-  pub read : (records : List Record) → ReadsCapture port slot b c budget left (Ok records) → (r : Result (List Record) GatherFault) → r ≡ unless_too_long start records → ReadsInput start from budget a c r
+  read : (records : List Record) → ReadsCapture port slot b c budget left (Ok records) → (r : Result (List Record) GatherFault) → r ≡ unless_too_long start records → ReadsInput start from budget a c r
   read records h r e = subst (λ x. ReadsInput start from budget a c x) (sym e) (by_test (is_too_long start records) refl)
     where
       counts : {T : Type 0} {r : Result T GatherFault} → TellsReads a c r
@@ -87,6 +87,11 @@ module _ (start : ℕ) (from : List ℕ) (budget left : Budget) (port slot : ℕ
         cause = cause (Ok records) h;
         counts = counts;
       }
+
+  -- what was read, or why it couldn't be
+  pub taken : (x : Result (List Record) GatherFault) → ReadsCapture port slot b c budget left x → (r : Result (List Record) GatherFault) → r ≡ unless_stopped x (unless_too_long start) → ReadsInput start from budget a c r
+  taken (Ok records) h r e = read records h r e
+  taken (Err fault) h r e = subst (λ x. ReadsInput start from budget a c x) (sym e) (refused fault h)
 
 -- ---- the output
 
