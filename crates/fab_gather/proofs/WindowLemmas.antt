@@ -4,7 +4,7 @@ use Rattle.std.specs.Prelude.{nat_le}
 use Rattle.std.proofs.lemmas.Bool.{leb-true}
 use Rattle.std.proofs.Math.Nat.{div-add-mod, div-mul-le_self, le-div_iff_mul-le, mul-le-mul_left, mul-mod_right}
 use Rattle.fab_config.specs.Settings.{Settings, is_between, is_in_range}
-use Rattle.fip_codec.proofs.Sound.{and-left, and-right}
+use Rattle.fab_policy.proofs.WordLemmas.{and_left, and_right}
 use Rattle.fab_policy.specs.Legal.{window_start}
 
 -- a window is a multiple
@@ -27,7 +27,7 @@ window_start-mod c m = ap (λ (x : ℕ). x % c.window) (window_mul c m) ∙ mul-
 
 -- a configuration has a window
 pub window_some : (c : Settings) → IsTrue (is_in_range c) → 0 < c.window
-window_some c h = least_is (and-right _ _ (and-left _ _ (and-left _ _ (and-left _ _ (and-left _ _ h)))))
+window_some c h = least_is (and_right _ _ (and_left _ _ (and_left _ _ (and_left _ _ (and_left _ _ h)))))
   where
     least_is : IsTrue (is_between 10 1000 c.window) → 0 < c.window
-    least_is own = let least = leb-true 10 c.window (and-left (nat_le 10 c.window) (nat_le c.window 1000) own) in omega arith
+    least_is own = let least = leb-true 10 c.window (and_left (nat_le 10 c.window) (nat_le c.window 1000) own) in omega arith
