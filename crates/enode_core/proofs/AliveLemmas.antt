@@ -292,7 +292,7 @@ Again own more kept next_kept a b next_node next_port last =
     Sends own s.vlan kept a node_due port_due next_kept b next_node next_port (sent own s more)
 
 module _ (own : Identity) (s : State) (more : List Input) (kept next_kept : Kept) (a node_due port_due at b next_node next_port last : ℕ)
-  (up : s.stage ≡ Up kept a node_due port_due at) (again : Again own more kept next_kept a b next_node next_port last) where
+    (up : s.stage ≡ Up kept a node_due port_due at) (again : Again own more kept next_kept a b next_node next_port last) where
   abbrev SendsAt : ℕ → Turn → Type 0
   SendsAt now t = StaysUp own t.state more → (after own t.state more).stage ≡ Up next_kept b next_node next_port last →
       Sends own s.vlan kept a node_due port_due next_kept b next_node next_port (sendings now t.sent ++ sent own t.state more)
@@ -307,9 +307,12 @@ module _ (own : Identity) (s : State) (more : List Input) (kept next_kept : Kept
       })
   sends_keep x n y p still end =
       let next : State = record s { stage = Up kept a (if x then soonest + kept.period else node_due) (if y then soonest + 90000 else port_due) at } in
-      let h = again next (if x then soonest + kept.period else node_due) (if y then soonest + 90000 else port_due) at refl still end in
-      (h.0, h.1, keep_alives own s.vlan kept a node_due port_due soonest x y (sent own next more) next_node next_port n p
-        (due_node node_due port_due (silent_from kept.period at)) (due_port node_due port_due (silent_from kept.period at)) h.2)
+      let h = again next (if x then soonest + kept.period else node_due) (if y then soonest + 90000 else port_due) at refl still end in (
+        h.0,
+        h.1,
+        keep_alives own s.vlan kept a node_due port_due soonest x y (sent own next more) next_node next_port n p
+            (due_node node_due port_due (silent_from kept.period at)) (due_port node_due port_due (silent_from kept.period at)) h.2,
+      )
 
   sends_due : (x : Bool) → (silent_from kept.period at == soonest) ≡ x → SendsAt soonest (if x then looks own s soonest else keeps own s kept a node_due port_due at soonest)
   sends_due true silent still end = absurd (still_up own (looks own s soonest).state more still)
