@@ -15,7 +15,7 @@ ghost use Rattle.fc_frames.specs.Frame.{view as fc_view};
 ghost use Rattle.fcoe_codec.specs.Fcoe.{view as fcoe_view};
 
 use crate::Judged;
-use crate::frames::{granted_mac, is_same};
+use crate::frames::granted_mac;
 use crate::sender::asker;
 use crate::services::judge_request;
 use crate::verdicts::dropped;
@@ -51,10 +51,10 @@ pub(crate) fn judge_fcoe(
     if !body.is_class3() {
         return Ok(dropped(Rule::FcoeClass));
     }
-    if !is_same(&eth.dst, &config.fcf_mac) {
+    if eth.dst != config.fcf_mac {
         return Ok(dropped(Rule::FcoeDest));
     }
-    if !is_same(&eth.src, &granted_mac(config, body.frame.head.s_id)) {
+    if eth.src != granted_mac(config, body.frame.head.s_id) {
         return Ok(dropped(Rule::SourceMac));
     }
     let to = asker(&eth.src, &body.frame.head);

@@ -14,7 +14,7 @@ ghost use Rattle.fip_codec.specs.Message as fip;
 ghost use Rattle.fip_codec.specs.Message.{view as fip_view};
 
 use crate::Judged;
-use crate::frames::{granted_mac, is_same};
+use crate::frames::granted_mac;
 use crate::logins::{LoginAsk, judge_login};
 use crate::sender::Sender;
 use crate::verdicts::dropped;
@@ -112,8 +112,8 @@ fn is_unknown_port(config: &Config, roster: &Roster, from: &Sender, mac: &Mac, v
     let granted = granted_mac(config, vx.address);
     let known = login.enode.port == enode.port
         && login.name == vx.name
-        && is_same(&login.enode.mac, mac)
-        && is_same(&granted, &vx.mac)
-        && is_same(&granted, &enode.mac);
+        && login.enode.mac == *mac
+        && granted == vx.mac
+        && granted == enode.mac;
     !known
 }

@@ -1,6 +1,5 @@
 //! What an FCoE frame is by its delimiters and its header.
 ghost use Rattle.std.specs.Prelude.{◌≡◌, ◌==◌};
-ghost use Rattle.fab_config.specs.Settings.{same_bytes};
 ghost use Rattle.fab_policy.specs.Logins.{granted_mac as mac_granted};
 ghost use Rattle.fab_policy.specs.Rules as rules;
 ghost use Rattle.fc_frames.specs.Frame.{view as fc_view};
@@ -10,15 +9,6 @@ use fab_base::{FcId, Mac, fpma};
 use fab_config::Config;
 use fc_frames::{CONTROLLER, FcFrame, Kind, NAME_SERVER};
 use fcoe_codec::FcoeFrame;
-
-// Whether two MACs are the same.
-pub(crate) fn is_same(one: &Mac, other: &Mac) -> bool
-    ensures { result ≡ same_bytes one.now other.now }
-{
-    let one: &[u8] = &one.0;
-    let other: &[u8] = &other.0;
-    one == other
-}
 
 // The MAC that comes with an address by a configuration.
 pub(crate) fn granted_mac(config: &Config, address: FcId) -> Mac

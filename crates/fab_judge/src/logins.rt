@@ -20,7 +20,7 @@ ghost use Rattle.fc_frames.specs.Frame.{Frame, view as fc_view};
 ghost use Rattle.fip_codec.specs.Message as fip;
 
 use crate::fip::is_known;
-use crate::frames::{granted_mac, is_els_request, is_same};
+use crate::frames::{granted_mac, is_els_request};
 use crate::sender::Sender;
 use crate::verdicts::{dropped, rejected};
 use crate::{Candidate, Judged};
@@ -267,14 +267,8 @@ fn is_taken(roster: &Roster, request: &Request) -> bool
 fn is_left(request: &Request, enode: &Enode) -> bool
     ensures { result ≡ not (request.now.flogi && same_enode enode.now request.now.enode) }
 {
-    let ends = request.flogi && is_same_enode(enode, &request.enode);
+    let ends = request.flogi && *enode == request.enode;
     !ends
-}
-
-fn is_same_enode(one: &Enode, other: &Enode) -> bool
-    ensures { result ≡ same_enode one.now other.now }
-{
-    one.port == other.port && is_same(&one.mac, &other.mac)
 }
 
 // The judgement of a LOGO.
@@ -321,8 +315,8 @@ fn is_own_logout(
     let Some(login) = roster.by_address(s_id) else {
         return false;
     };
-    is_same_enode(&login.enode, &from.enode())
-        && is_same(mac, &granted_mac(config, login.address))
+    login.enode == from.enode()
+        && *mac == granted_mac(config, login.address)
         && address == login.address
         && name == login.name
 }

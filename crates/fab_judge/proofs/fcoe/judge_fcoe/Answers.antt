@@ -1,4 +1,5 @@
 use Rattle.std.proofs.Common.{sym, ◌∙◌, ap}
+use Rattle.std.proofs.lemmas.Bool.{not-false}
 use Rattle.eth_frames.specs.Ethernet.{view as eth_view}
 use Rattle.fab_config.specs.Settings.{same_bytes}
 use Rattle.fab_judge.specs.Judged.{asker_by}
@@ -10,8 +11,8 @@ returns-clause-judged c =
     c.in_ok-judged.ensures.judged f
     ∙ sym (rw (
       sym c.is_class3.ensures ∙ c.if-not-is_class3.false,
-      ap (λ s. same_bytes f.dst s.fcf_mac) (sym c.config.view_is) ∙ (sym c.is_same.ensures ∙ c.if-not-is_same.false),
-      ap (same_bytes f.src) (sym c.granted_mac.ensures) ∙ (sym c.is_same-2.ensures ∙ c.if-not-is_same-2.false),
+      ap (λ s. same_bytes f.dst s.fcf_mac) (sym c.config.view_is) ∙ not-false _ (sym c.ne.ensures ∙ c.if-ne.false),
+      ap (same_bytes f.src) (sym c.granted_mac.ensures) ∙ not-false _ (sym c.ne-2.ensures ∙ c.if-ne-2.false),
     ))
 
 pub returns-clause-grounds : goal.returns-clause-grounds
