@@ -3,18 +3,14 @@ ghost use Rattle.std.specs.Prelude.{◌≡◌, ◌≤◌, ◌+◌, ◌<◌, IsTr
 ghost use Rattle.std.specs.List.{list_any};
 ghost use Rattle.enode_core.specs.Acts.{option_holds};
 ghost use Rattle.enode_core.specs.Runs as runs;
-ghost use Rattle.fab_captures.specs.Captures.{unless_stopped};
 ghost use Rattle.enode_run.specs.Files as files;
 ghost use Rattle.enode_run.specs.Steps.{ReadsInput};
 
 use fab_base::{Depot, Moment, PortNo};
 use fab_captures::{RecordList, read_capture};
-use fab_gather::{GatherFault, LimitKind};
+use fab_gather::{GatherFault, LimitKind, MOST_SPAN};
 use pcap_file::Budget;
 use std::alloc::Global;
-
-/// How far the last record may lie behind the start, in milliseconds.
-const MOST_SPAN: u64 = 21_600_000;
 
 // Reads the capture of a name whole, and tests last how far it reaches.
 pub(crate) fn read_input<D: Depot>(
@@ -34,8 +30,10 @@ pub(crate) fn read_input<D: Depot>(
         Err(_) => return Err(GatherFault::Read),
     };
     let mut left = budget;
-    let read = read_capture(alloc, depot, first_port(), slot, &mut left);
-    unless_too_long(start, read)
+    match read_capture(alloc, depot, first_port(), slot, &mut left) {
+        Ok(records) => unless_too_long(start, records),
+        Err(fault) => Err(fault),
+    }
 }
 
 fn first_port() -> PortNo
@@ -47,23 +45,15 @@ fn first_port() -> PortNo
     }
 }
 
-// Records that were read, unless one lies too far behind the start.
-fn unless_too_long(
-    start: Moment,
-    read: Result<RecordList, GatherFault>,
-) -> Result<RecordList, GatherFault>
+// Records, unless one lies too far behind the start.
+fn unless_too_long(start: Moment, records: RecordList) -> Result<RecordList, GatherFault>
     requires { start ≤ 4294967295999 }
-    ensures { result ≡ unless_stopped read (files.unless_too_long start) }
+    ensures { result ≡ files.unless_too_long start records }
 {
-    match read {
-        Ok(records) => {
-            if is_too_long(start, &records) {
-                return Err(GatherFault::Limit(LimitKind::Span));
-            }
-            Ok(records)
-        }
-        Err(fault) => Err(fault),
+    if is_too_long(start, &records) {
+        return Err(GatherFault::Limit(LimitKind::Span));
     }
+    Ok(records)
 }
 
 fn is_too_long(start: Moment, records: &RecordList) -> bool
