@@ -3,14 +3,18 @@ ghost use Rattle.std.specs.Prelude.{◌≡◌, ◌≤◌, ◌+◌, ◌<◌, IsTr
 ghost use Rattle.std.specs.List.{list_any};
 ghost use Rattle.enode_core.specs.Acts.{option_holds};
 ghost use Rattle.enode_core.specs.Runs as runs;
+ghost use Rattle.fab_captures.specs.Captures.{unless_stopped};
 ghost use Rattle.enode_run.specs.Files as files;
 ghost use Rattle.enode_run.specs.Steps.{ReadsInput};
 
 use fab_base::{Depot, Moment, PortNo};
 use fab_captures::{RecordList, read_capture};
-use fab_gather::{GatherFault, LimitKind, MOST_SPAN};
+use fab_gather::{GatherFault, LimitKind};
 use pcap_file::Budget;
 use std::alloc::Global;
+
+/// How far the last record may lie behind the start, in milliseconds.
+const MOST_SPAN: u64 = 21_600_000;
 
 // Reads the capture of a name whole, and tests last how far it reaches.
 pub(crate) fn read_input<D: Depot>(
@@ -30,10 +34,8 @@ pub(crate) fn read_input<D: Depot>(
         Err(_) => return Err(GatherFault::Read),
     };
     let mut left = budget;
-    match read_capture(alloc, depot, first_port(), slot, &mut left) {
-        Ok(records) => unless_too_long(start, records),
-        Err(fault) => Err(fault),
-    }
+    let read = read_capture(alloc, depot, first_port(), slot, &mut left);
+    unless_too_long(start, read)
 }
 
 fn first_port() -> PortNo
@@ -45,15 +47,23 @@ fn first_port() -> PortNo
     }
 }
 
-// Records, unless one lies too far behind the start.
-fn unless_too_long(start: Moment, records: RecordList) -> Result<RecordList, GatherFault>
+// Records that were read, unless one lies too far behind the start.
+fn unless_too_long(
+    start: Moment,
+    read: Result<RecordList, GatherFault>,
+) -> Result<RecordList, GatherFault>
     requires { start ≤ 4294967295999 }
-    ensures { result ≡ files.unless_too_long start records }
+    ensures { result ≡ unless_stopped read (files.unless_too_long start) }
 {
-    if is_too_long(start, &records) {
-        return Err(GatherFault::Limit(LimitKind::Span));
+    match read {
+        Ok(records) => {
+            if is_too_long(start, &records) {
+                return Err(GatherFault::Limit(LimitKind::Span));
+            }
+            Ok(records)
+        }
+        Err(fault) => Err(fault),
     }
-    Ok(records)
 }
 
 fn is_too_long(start: Moment, records: &RecordList) -> bool
