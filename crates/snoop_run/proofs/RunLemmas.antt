@@ -85,8 +85,8 @@ module _ (sides : List (String Global)) (ins : List (List Record)) (c : Settings
   pub over_long : is_too_long came ≡ true → RunsOver outs ins c a a (Err (faults.Limit limit.Span))
   over_long long = record { touches = touches_refl (Among outs) (Among outs) a; ends = (λ m. refl, long); reads = λ m. refl; writes = λ other m. refl }
 
-  pub over_memory : RunsOver outs ins c a a (Err faults.Memory)
-  over_memory = record { touches = touches_refl (Among outs) (Among outs) a; ends = inl (λ m. refl); reads = λ m. refl; writes = λ other m. refl }
+  pub over_memory : is_too_long came ≡ false → RunsOver outs ins c a a (Err faults.Memory)
+  over_memory short = record { touches = touches_refl (Among outs) (Among outs) a; ends = (short, inl (λ m. refl)); reads = λ m. refl; writes = λ other m. refl }
 
   -- the wholes, by port
   wholes_are : captures c (length outs) came ≡ map (λ q. capture (forwarder_of c) q came) (counting 1 n)
@@ -166,7 +166,7 @@ module _ (sides : List (String Global)) (ins : List (List Record)) (c : Settings
     pub over_crossed : (r : Result Crossed RunFault) → is_too_long came ≡ false → Crosses (forwarder_of c) ins slots.items b d r → RunsOver outs ins c a d r
     over_crossed (Ok done) short x = record { touches = touches_on x; ends = (short, whole_on done x, x.passed_, x.dropped_); reads = reads_on x; writes = writes_on x }
     over_crossed (Err e) short x =
-        record { touches = touches_on x; ends = elim x.cause [ inl memory ↦ subst (λ f. OverEnds outs ins c a d (Err f)) (sym memory) (inr (short, fronts_on x)) | inr write ↦ subst (λ f. OverEnds outs ins c a d (Err f)) (sym write.0) (short, rose_on x write.1.0 write.1.1 write.1.2, fronts_on x) ]; reads = reads_on x; writes = writes_on x }
+        record { touches = touches_on x; ends = elim x.cause [ inl memory ↦ subst (λ f. OverEnds outs ins c a d (Err f)) (sym memory) (short, inr (fronts_on x)) | inr write ↦ subst (λ f. OverEnds outs ins c a d (Err f)) (sym write.0) (short, rose_on x write.1.0 write.1.1 write.1.2, fronts_on x) ]; reads = reads_on x; writes = writes_on x }
 
 -- a new bridge is one of its own forwarder
 pub own_new : (w : Forwarder) (n : ℕ) (b : Bridge) → IsNew w n b → IsNew b.snoop.forwarder n b
@@ -229,7 +229,7 @@ module _ (inn outs : List (List ℕ)) (budget : Budget) (c : Settings) (a b : Se
     ended (Err (faults.Limit limit.Span)) e = (λ m. e.0 m ∙ same_b m, λ told. too_long told e.1)
     ended (Err faults.Read) e = absurd e
     ended (Err faults.Write) e = (rose_since a.write_faults b.write_faults d.write_faults read.touches.writes_rise outs e.1, λ told. fronts told e.0 e.2)
-    ended (Err faults.Memory) e = λ told. elim e [ inl same ↦ inl (λ m. same m ∙ same_b m) | inr crossed ↦ inr (fronts told crossed.0 crossed.1) ]
+    ended (Err faults.Memory) e = λ told. elim e.1 [ inl same ↦ inl (λ m. same m ∙ same_b m) | inr are ↦ inr (fronts told e.0 are) ]
 
     pub bridges_over : (r : Result Crossed RunFault) → RunsOver outs v.items c b d r → Bridges inn outs budget c a d r
     bridges_over r over = record {

@@ -91,7 +91,7 @@ OverEnds outs ins c old new (Err (faults.Limit limit.Span)) = SameFiles old new 
 OverEnds outs ins c old new (Err faults.Write) =
     (is_too_long (arrivals ins) ≡ false) × AnyRose old.write_faults new.write_faults outs × (IsTrue old.told → AreOldOrFront old new outs (captures c (length outs) (arrivals ins)))
 OverEnds outs ins c old new (Err faults.Memory) =
-    SameFiles old new ⊎ ((is_too_long (arrivals ins) ≡ false) × (IsTrue old.told → AreOldOrFront old new outs (captures c (length outs) (arrivals ins))))
+    (is_too_long (arrivals ins) ≡ false) × (SameFiles old new ⊎ (IsTrue old.told → AreOldOrFront old new outs (captures c (length outs) (arrivals ins))))
 OverEnds outs ins c old new (Err fault) = ⊥
 
 pub record RunsOver (outs : List (List ℕ)) (ins : List (List Record)) (c : Settings) (old new : Seen) (result : Result Crossed RunFault) : Type 0 where

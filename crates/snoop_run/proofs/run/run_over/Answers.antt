@@ -4,8 +4,11 @@ use Rattle.fip_snoop.specs.Bridge.{arrivals, is_too_long}
 use Rattle.fip_snoop.specs.Messages.{forwarder_of}
 use Rattle.run_files.specs.Outputs.{AreOutputs}
 use Rattle.snoop_run.specs.State.{Crosses}
-use Rattle.snoop_run.proofs.RunLemmas.{over_unopened, over_crossed, opened_outputs, opened_count, opened_empty, own_crosses}
+use Rattle.snoop_run.proofs.RunLemmas.{over_memory, over_unopened, over_crossed, opened_outputs, opened_count, opened_empty, own_crosses}
 use Rattle.snoop_run.proofs.run.run_over.Goals as goal
+
+pub returns-in-Err : goal.returns-in-Err
+returns-in-Err g c = over_memory c.args.sides.now c.args.ins.now c.args.config.now (g.D.Depot.seen c.args.depot.now) (sym c.is_too_long.ensures ∙ c.if-is_too_long.false)
 
 pub returns-in-Err-open_outputs : goal.returns-in-Err-open_outputs
 returns-in-Err-open_outputs g c =
