@@ -9,6 +9,8 @@ use Rattle.fab_policy.specs.declared.event.Event.{Event}
 use Rattle.fab_policy.specs.declared.event.Event.TheVariants as event
 use Rattle.fab_policy.specs.declared.line.Format.TheVariants.{One, Two}
 use Rattle.fab_policy.specs.declared.line.Line.{Line}
+use Rattle.fab_policy.specs.declared.reading.LineError.{LineError}
+use Rattle.fab_policy.specs.declared.reading.LineError.TheVariants as unread
 use Rattle.fab_policy.specs.declared.line.Line.TheVariants.{Tick, Frame}
 use Rattle.fab_migrate.specs.Old.{IsOld, HasFirstFault, MayCome, clock_after, clocked, new_text}
 use Rattle.fab_migrate.specs.declared.old.OldWhy.TheVariants as why
@@ -34,6 +36,16 @@ AddsLine clock line old new (Ok t) = (l : Line) × Spells One line l × MayCome 
 AddsLine clock line old new (Err (refused.Fault why.Text)) = (l : Line) → Spells One line l → ⊥
 AddsLine clock line old new (Err (refused.Fault why.Tick)) = (l : Line) × Spells One line l × (MayCome clock l → ⊥)
 AddsLine clock line old new (Err refused.Memory) = Unit {0}
+
+-- why a text that can't be read as a line isn't added
+abbrev pub refusal_by : LineError → Refused
+refusal_by unread.Fault = refused.Fault why.Text
+refusal_by unread.Memory = refused.Memory
+
+-- what the refusal of a line ends the reading with
+abbrev pub old_fault_by : Refused → ℕ → OldError
+old_fault_by (refused.Fault why) line = errors.Fault line why
+old_fault_by refused.Memory line = errors.Memory
 
 -- A text is a journal of format 1, and this is it in format 2 with the number of its entries; or its first fault.
 abbrev pub Rewrites : List ℕ → Result Rewritten OldError → Type 0

@@ -2,6 +2,7 @@
 ghost use Rattle.std.specs.Prelude.{◌≡◌, ◌≤◌, ◌<◌, length, take};
 ghost use Rattle.fab_policy.specs.Spelling.{IsRangedLine};
 ghost use Rattle.fab_migrate.specs.OldWords.{AddsLine, Admits, Rewrites, entry_of};
+ghost use Rattle.fab_migrate.specs.OldWords.{old_fault_by, refusal_by};
 ghost use Rattle.std.specs.Io.BufRead.{take_through};
 
 use fab_base::{Bytes, Caught, Failed, Moment, NoMemory};
@@ -86,17 +87,23 @@ pub(crate) fn in_format_two(alloc: Global, text: &[u8]) -> Result<Rewritten, Old
         let (line, behind) = rest.split_at(line_end(rest));
         match add_line(alloc, clock, line, &mut out) {
             Ok(moment) => clock = Some(moment),
-            Err(Refused::Memory) => return Err(OldError::Memory),
-            Err(Refused::Fault(why)) => {
-                let line = entries + 1;
-                return Err(OldError::Fault { line, why });
-            }
+            Err(refusal) => return Err(old_fault_of(refusal, entries + 1)),
         }
         rest = behind;
         entries += 1;
     }
     let text = out;
     Ok(Rewritten { text, entries })
+}
+
+// What the refusal of a line ends the reading with.
+fn old_fault_of(refusal: Refused, line: u64) -> OldError
+    ensures { result ≡ old_fault_by refusal line }
+{
+    match refusal {
+        Refused::Fault(why) => OldError::Fault { line, why },
+        Refused::Memory => OldError::Memory,
+    }
 }
 
 // Where the first line of a text ends.
@@ -124,8 +131,7 @@ fn add_line(
 {
     let line = match read_line(alloc, Format::One, line) {
         Ok(line) => line,
-        Err(LineError::Fault) => return Err(Refused::Fault(OldWhy::Text)),
-        Err(LineError::Memory) => return Err(Refused::Memory),
+        Err(error) => return Err(line_refusal(error)),
     };
     let Some(now) = clock_at(clock, &line) else {
         return Err(Refused::Fault(OldWhy::Tick));
@@ -133,6 +139,16 @@ fn add_line(
     match write_line(alloc, now, &entry(alloc, line), out) {
         Ok(()) => Ok(now),
         Err(NoMemory) => Err(Refused::Memory),
+    }
+}
+
+// Why a text that can't be read as a line isn't added.
+fn line_refusal(error: LineError) -> Refused
+    ensures { result ≡ refusal_by error }
+{
+    match error {
+        LineError::Fault => Refused::Fault(OldWhy::Text),
+        LineError::Memory => Refused::Memory,
     }
 }
 
