@@ -177,6 +177,6 @@ RULES = Group(
         Rule("end-by-clear-of-all", ENODE, "FC-BB-5, FIP Clear Virtual Links", "Nothing comes from any VN_Port of a forwarder after its Clear Virtual Links without a list.", behind_clear_of_all),
         Rule("end-by-silence", ENODE, "FC-BB-5, FIP discovery, FKA_ADV_PERIOD", "Two and a half periods without an advertisement end the logins at a forwarder.", behind_silence),
         Rule("end-by-login", ENODE, "FC-LS-2, FLOGI", "A further FLOGI ends the earlier logins of its ENode.", behind_login),
-        Rule("login-anew", ENODE, "FC-LS-2, FLOGI and PLOGI", "Behind a login anew with the same address a PLOGI comes before FCP commands.", fresh),
+        Rule("login-anew", ENODE, "FC-LS-2, FLOGI and PLOGI (from memory)", "Behind a login anew with the same address a PLOGI comes before FCP commands.", fresh),
     ],
 )

@@ -194,7 +194,7 @@ RULES = Group(
         Rule("solicitation-name", ENODE, "FC-BB-5, FIP discovery; FC-FS-3, names", "It has the ENode's node name.", each(["Solicitation"], has_name)),
         Rule("solicitation-again", ENODE, "FC-BB-5, FIP discovery", "A solicitation without an answer is repeated, and not at once.", solicited_again, True),
         Rule("forwarder-known", ENODE, "FC-BB-5, FIP discovery", "A FLOGI goes to a forwarder that advertised itself in that VLAN.", known),
-        Rule("forwarder-available", ENODE, "FC-BB-5, FIP discovery, flag A", "A FLOGI goes to a forwarder that is available for login.", available),
+        Rule("forwarder-available", ENODE, "FC-BB-5, FIP discovery, flag A (from memory)", "A FLOGI goes to a forwarder that is available for login.", available),
         Rule("forwarder-macs", ENODE, "FC-BB-5, FIP discovery, flags FP and SP", "A FLOGI asks for a kind of MAC that the forwarder has.", same_kind_of_mac),
         Rule("forwarder-size", ENODE, "FC-BB-5, FIP discovery, FCoE size (from memory)", "A FLOGI follows a solicited advertisement of the size that was asked for.", padded),
         Rule("forwarder-priority", ENODE, "FC-BB-5, FIP discovery, priority", "Of several forwarders the one of the best priority is taken.", best, True),
