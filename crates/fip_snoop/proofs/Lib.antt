@@ -13,6 +13,7 @@ pub mod MovedLemmas
 pub mod FrameLemmas
 pub mod LawLemmas
 pub mod WayLemmas
+pub mod KnownLemmas
 pub mod EachLemmas
 pub mod QueueLemmas
 pub mod BridgeLemmas

@@ -5,10 +5,17 @@ use Rattle.std.specs.List.{All, filter}
 use Rattle.fab_base.specs.Keyed.{AscendFrom, added, without}
 use Rattle.fab_base.specs.Layout.{big_endian}
 use Rattle.fab_config.specs.Settings.{same_bytes}
-use Rattle.fip_codec.specs.Message.{Fip, Clear, view}
+use Rattle.fip_codec.specs.Message as fip
+use Rattle.fip_codec.specs.Message.{Clear, view}
 use Rattle.sorted_lists.specs.Index.{IsIndex}
-use Rattle.fip_snoop.specs.Snoop.{Contents, is_home_of, is_binding_of, is_ended}
+use Rattle.fab_policy.specs.Heard.{What, Fip}
+use Rattle.fip_snoop.specs.History.{Delivery, bound_by}
+use Rattle.fip_snoop.specs.Messages.{is_port_alive}
+use Rattle.fip_snoop.specs.Snoop.{Contents, is_home_of, home_in, is_binding_of, binding_in, is_ended, delivery_to}
 use Rattle.fip_snoop.specs.declared.bindings.Binding.{Binding}
+use Rattle.fip_snoop.specs.declared.forwarder.Forwarder.{Forwarder}
+use Rattle.fip_snoop.specs.declared.way.Way.{Way}
+use Rattle.fip_snoop.specs.declared.way.Way.TheVariants.{Up, Down}
 use Rattle.fip_snoop.specs.declared.grant.Ending.{Ending}
 use Rattle.fip_snoop.specs.declared.grant.Ending.TheVariants.{Others, Told}
 use Rattle.fip_snoop.specs.declared.home.Home.{Home}
@@ -71,7 +78,7 @@ forgotten b None enodes = enodes
 forgotten b (Some old) enodes = if enode_number old == enode_number b then enodes else without enode_number (enode_number old) enodes
 
 -- a message that is no grant may end a binding: it clears some, or accepts a LOGO
-abbrev pub may_end : Fip → Option ℕ → Bool
+abbrev pub may_end : fip.Fip → Option ℕ → Bool
 may_end (Clear _ _ _) released = true
 may_end _ released = is_some released
 
@@ -124,3 +131,15 @@ pub record IsLike (s t : Contents) : Type 0 where
   pub forwarder : s.forwarder ≡ t.forwarder
   pub homes : SameHomes s.homes t.homes
   pub bindings : SameBindings s.bindings t.bindings
+
+-- ---- what is known already
+
+-- what a delivery binds is bound so already, if it binds anything
+abbrev pub IsBoundAlready : Forwarder → Delivery → List Binding → Type 0
+IsBoundAlready w d bindings = (b : Binding) → bound_by w d ≡ Some b → binding_in bindings b.mac ≡ Some b
+
+-- a frame of a port that goes this way tells nothing new: of where its ENode is, or of what it binds
+abbrev pub IsKnownAlready : ℕ → What → Way → Contents → Type 0
+IsKnownAlready port (Fip f m) Up s = is_port_alive m ≡ false → home_in s.homes f.src ≡ Some port
+IsKnownAlready port (Fip f m) (Down q) s = IsBoundAlready s.forwarder (delivery_to q f.dst m) s.bindings
+IsKnownAlready port what way s = Unit {0}

@@ -1,5 +1,5 @@
 //! Which MACs are bound to which ports: the bindings by MAC, and the same by ENode.
-ghost use Rattle.std.specs.Prelude.{◌≡◌, true};
+ghost use Rattle.std.specs.Prelude.{◌≡◌, ◌≢◌, true, false};
 ghost use Rattle.fip_snoop.specs.Snoop as kept;
 
 use crate::forwarder::{Forwarder, is_same};
@@ -42,8 +42,8 @@ impl Model for Bindings {
 }
 
 impl Bindings {
-    ghost use Rattle.std.specs.Prelude.{◌≡◌, ◌≤◌, [], true, false, not};
-    ghost use Rattle.std.specs.Prelude.{OnOk, OnErr, IfSome, IfNone};
+    ghost use Rattle.std.specs.Prelude.{◌≡◌, ◌≢◌, ◌≤◌, [], true, false, not};
+    ghost use Rattle.std.specs.Prelude.{OnOk, OnErr, IsOk, IfSome, IfNone, Some};
     ghost use Rattle.std.specs.List.{filter};
     ghost use Rattle.fip_codec.specs.Message.{view as fip_view};
     ghost use Rattle.fip_snoop.specs.Snoop as kept;
@@ -92,6 +92,8 @@ impl Bindings {
         ensures ok { OnOk result (maps.SameBindings self.new (kept.behind forwarder.now
             (kept.delivery_to port enode.now (fip_view message.now)) self.old)) }
         ensures err { OnErr result (self.new ≡ self.old) }
+        ensures known { maps.IsBoundAlready forwarder.now (kept.delivery_to port enode.now
+            (fip_view message.now)) self.old → IsOk result }
     {
         match grant_in(forwarder, message) {
             None => {
@@ -149,7 +151,9 @@ impl Bindings {
 
     // Whether a binding is there.
     fn is_bound(&self, binding: &Binding) -> bool
-        ensures { result ≡ true → maps.IsBound binding.now self.now }
+        ensures bound { result ≡ true → maps.IsBound binding.now self.now }
+        ensures other { result ≡ false
+            → kept.binding_in self.now binding.now.mac ≢ Some binding.now }
     {
         match self.by_mac.find(mac_rank(&binding.mac)) {
             Some(found) => are_same(found, binding),
@@ -157,10 +161,11 @@ impl Bindings {
         }
     }
 
-    // Keeps a binding in place of the one of its MAC.
+    // Keeps a binding in place of the one of its MAC. One that is there is never refused memory.
     fn put(&mut self, binding: Binding) -> Result<(), NoMemory>
         ensures ok { OnOk result (maps.SameBindings self.new (kept.with_one binding self.old)) }
         ensures err { OnErr result (self.new ≡ self.old) }
+        ensures known { kept.binding_in self.old binding.mac ≡ Some binding → IsOk result }
     {
         if self.is_bound(&binding) {
             return Ok(());
@@ -193,7 +198,8 @@ impl Bindings {
 }
 
 fn are_same(one: &Binding, other: &Binding) -> bool
-    ensures { result ≡ true → one.now ≡ other.now }
+    ensures same { result ≡ true → one.now ≡ other.now }
+    ensures other { result ≡ false → one.now ≢ other.now }
 {
     *one == *other
 }

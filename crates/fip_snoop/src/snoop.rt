@@ -8,7 +8,7 @@ ghost use Rattle.fip_snoop.specs.Messages.{forwarder_of};
 ghost use Rattle.fip_snoop.specs.Ways as ways;
 ghost use Rattle.fip_snoop.specs.Snoop as kept;
 ghost use Rattle.fip_snoop.specs.Snoop.{Remembers};
-ghost use Rattle.fip_snoop.specs.Maps.{IsLike};
+ghost use Rattle.fip_snoop.specs.Maps.{IsLike, IsKnownAlready};
 
 use crate::bindings::Bindings;
 use crate::down::{data_down, down};
@@ -46,14 +46,19 @@ impl Model for Snoop {
 }
 
 impl Snoop {
-    ghost use Rattle.std.specs.Prelude.{◌≡◌, ◌∷◌, [], IfOk, OnOk, OnErr};
+    ghost use Rattle.std.specs.Prelude.{◌≡◌, ◌∷◌, [], IfOk, IsOk, OnOk, OnErr, Result};
+    ghost use Rattle.eth_frames.specs.Ethernet.{Eth};
+    ghost use Rattle.fcoe_codec.specs.Fcoe.{Fcoe};
+    ghost use Rattle.fcoe_codec.specs.declared.FcoeFault.{FcoeFault};
+    ghost use Rattle.fab_policy.specs.Heard as heard;
+    ghost use Rattle.fab_policy.specs.Heard.{decoded};
     ghost use Rattle.fab_policy.specs.View.{view};
     ghost use Rattle.fip_snoop.specs.History.{History};
     ghost use Rattle.fip_snoop.specs.Messages.{forwarder_of};
     ghost use Rattle.fip_snoop.specs.Ways as ways;
     ghost use Rattle.fip_snoop.specs.Snoop as kept;
     ghost use Rattle.fip_snoop.specs.Snoop.{Remembers};
-    ghost use Rattle.fip_snoop.specs.Maps.{IsLike};
+    ghost use Rattle.fip_snoop.specs.Maps.{IsLike, IsKnownAlready};
     ghost use Rattle.fip_snoop.specs.declared.forwarder.Forwarder as of_bridge;
 
     /// A bridge that has handled nothing, for the forwarder of a configuration.
@@ -68,8 +73,8 @@ impl Snoop {
     }
 
     /// Handles a frame that came on a port, and says where it goes. Where memory is refused nothing
-    /// changes. The allocator is handed in as to every call that may take memory; the lists that
-    /// grow here keep their own.
+    /// changes; an FCoE frame is never refused any, nor is one that changes nothing. The allocator
+    /// is handed in as to every call that may take memory; the lists that grow here keep their own.
     pub fn frame(&mut self, _alloc: Global, port: PortNo, caught: &Caught) -> Result<Way, NoMemory>
         ensures way { IfOk result (λ way. (w : of_bridge.Forwarder) (L : History)
             → Remembers w L self.old → way ≡ ways.way_of w L port caught.now) }
@@ -77,6 +82,14 @@ impl Snoop {
             → Remembers w L self.old
             → Remembers w (record { port = port; caught = caught.now; way = way } ∷ L) self.new) }
         ensures err { OnErr result (self.new ≡ self.old) }
+        ensures data { (f : Eth) (read : Result Fcoe FcoeFault)
+            → decoded caught.now ≡ heard.Fcoe f read → IsOk result }
+        ensures known { (w : of_bridge.Forwarder) (L : History) → Remembers w L self.old
+            → Remembers w (record {
+              port = port;
+              caught = caught.now;
+              way = ways.way_of w L port caught.now;
+            } ∷ L) self.old → IsOk result }
     {
         let heard = hear(caught);
         let way = way_for(
@@ -95,6 +108,7 @@ impl Snoop {
         ensures ok { OnOk result (IsLike self.new
             (kept.after port (view what.now) way.now self.old)) }
         ensures err { OnErr result (self.new ≡ self.old) }
+        ensures known { IsKnownAlready port (view what.now) way.now self.old → IsOk result }
     {
         match what {
             What::Fip { eth, message } => match way {

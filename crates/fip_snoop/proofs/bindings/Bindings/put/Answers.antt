@@ -44,4 +44,4 @@ pub returns-in-Err-clause-err : goal.returns-in-Err-clause-err
 returns-in-Err-clause-err c = back c ∙ c.self.view_is
 
 pub returns-then-is_bound-clause-ok : goal.returns-then-is_bound-clause-ok
-returns-then-is_bound-clause-ok c = bound_stays c.args.binding c.args.self.now (c.is_bound.ensures c.if-is_bound.true)
+returns-then-is_bound-clause-ok c = bound_stays c.args.binding c.args.self.now (c.is_bound.ensures.bound c.if-is_bound.true)
