@@ -31,8 +31,7 @@ use els_messages::reject::{
 use els_messages::{Els, FDISC, FLOGI, Feature, LOGO, LoginParms, read_els};
 use fab_base::{Enode, FcId, Mac, NoMemory, Wwn};
 use fab_config::Config;
-use fab_messages::Asker;
-use fab_policy::{Replied, Rule};
+use fab_policy::{Asker, Replied, Rule};
 use fab_roster::{LoginList, Request, Roster};
 use fc_frames::{FABRIC_PORT, FcFrame, read_frame};
 use fip_codec::LoginKind;

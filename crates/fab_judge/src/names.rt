@@ -23,8 +23,7 @@ use ct_messages::reject::{
 use ct_messages::{CtAsk, CtFault, CtTell, a_query_is_no_reject, read_ask};
 use fab_base::NoMemory;
 use fab_config::Config;
-use fab_messages::Asker;
-use fab_policy::Replied;
+use fab_policy::{Asker, Replied};
 use fab_roster::{Login, RegFault, Roster};
 use fc_frames::FcFrame;
 use std::alloc::Global;

@@ -4,7 +4,7 @@ ghost use Rattle.fab_judge.specs.Judged.{asker_by};
 ghost use Rattle.fab_policy.specs.Heard.{sender, source};
 
 use fab_base::{Caught, Enode, Mac, PortNo};
-use fab_messages::Asker;
+use fab_policy::Asker;
 use fc_frames::FcHeader;
 use std::marker::Model;
 use std::snapshot::Snapshot;

@@ -4,8 +4,7 @@ ghost use Rattle.fab_policy.specs.Cause.{is_numbered};
 ghost use Rattle.fab_policy.specs.Heard.{plain};
 
 use crate::Judged;
-use fab_messages::Asker;
-use fab_policy::{Dropped, Replied, Rule, Settled};
+use fab_policy::{Asker, Dropped, Replied, Rule, Settled};
 
 // A frame is dropped by a rule that has no number.
 pub(crate) fn dropped(rule: Rule) -> Judged

@@ -3,12 +3,13 @@ ghost use Rattle.std.specs.Prelude.{◌≡◌, ◌++◌, ◌≤◌, IsTrue, leng
 ghost use Rattle.fab_policy.specs.Replies as spec;
 ghost use Rattle.fab_messages.specs.Message.{els_of, is_payload};
 
+use crate::Answer;
 use crate::carried::write_carried;
 use crate::parts::{answer_bytes, header};
-use crate::{Answer, Asker};
 use els_messages::{Els, els_bytes};
 use fab_base::{FcId, NoMemory, fpma};
 use fab_config::Config;
+use fab_policy::Asker;
 use fc_frames::{CONTROLLER, F_CTL_EARLIER, F_CTL_LAST, F_CTL_REQUEST, FcFrame, Kind, NAME_SERVER};
 use fcoe_codec::{EOF_N, EOF_T, FcoeFrame, SOF_I3, SOF_N3};
 use std::alloc::Global;

@@ -7,13 +7,14 @@ ghost use Rattle.fip_codec.specs.CanWrite.{CanWrite, IsFrame};
 ghost use Rattle.fab_policy.specs.Replies as spec;
 ghost use Rattle.fab_messages.specs.Message.{els_of};
 
+use crate::Answer;
 use crate::own::write_own;
 use crate::parts::{answer_bytes, fabric_parms, header, own_tag};
-use crate::{Answer, Asker};
 use els_messages::{Els, els_bytes};
 use eth_frames::FIP;
 use fab_base::{FcId, Mac, NoMemory, PortNo, fpma};
 use fab_config::Config;
+use fab_policy::Asker;
 use fc_frames::{F_CTL_LAST, FcFrame, Kind, write_frame};
 use fip_codec::{FipOut, LoginKind, VxPort, fip_bytes};
 use std::alloc::Global;

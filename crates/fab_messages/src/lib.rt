@@ -14,5 +14,5 @@ mod writing;
 
 pub use discovery::{write_advertisement, write_advertisement_to, write_notice_to};
 pub use laws::{data_frames_go_on, messages_are_kept, replies_fit};
-pub use message::{Answer, Asker, EventList, Out, OutList, OutMessage, VxPorts};
+pub use message::{Answer, EventList, Out, OutList, OutMessage, VxPorts};
 pub use writing::write_out;

@@ -1,6 +1,7 @@
 //! Events, verdicts and rules of the forwarder, and what a journal of them means.
 #![tactic(auto)]
 
+mod asker;
 mod bytes;
 mod classes;
 mod event;
@@ -19,6 +20,7 @@ mod verdict;
 mod verdict_words;
 mod words;
 
+pub use asker::Asker;
 pub use classes::{Replied, Settled};
 pub use event::Event;
 pub use frame_rules::frame_rule;

@@ -12,7 +12,8 @@ ghost use Rattle.fc_frames.specs.Pieces as fc;
 
 use ct_messages::{CtTell, write_tell};
 use fab_base::{Bytes, Moment, NoMemory, PortNo};
-use fab_messages::{Asker, Out, OutList, OutMessage};
+use fab_messages::{Out, OutList, OutMessage};
+use fab_policy::Asker;
 use fc_frames::{Piece, pieces, ranges_have_the_pieces};
 use std::alloc::Global;
 

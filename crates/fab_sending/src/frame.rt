@@ -26,8 +26,8 @@ use crate::replies::{accept, frames_of, reply};
 use crate::{Before, Grant, Sends};
 use ct_messages::{CtAsk, CtTell};
 use fab_base::{Moment, NoMemory, PortNo};
-use fab_messages::{Asker, OutList};
-use fab_policy::{Heard, Replied, Settled};
+use fab_messages::OutList;
+use fab_policy::{Asker, Heard, Replied, Settled};
 use fc_frames::MOST_PAYLOAD;
 use std::alloc::Global;
 

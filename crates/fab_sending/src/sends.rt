@@ -4,7 +4,8 @@ ghost use Rattle.fab_roster.specs.Reaching.{zones_of};
 
 use fab_base::{FcId, Moment};
 use fab_config::Config;
-use fab_messages::{Asker, OutList};
+use fab_messages::OutList;
+use fab_policy::Asker;
 use fab_roster::{LoginList, Request, Roster};
 use zone_rules::Zones;
 

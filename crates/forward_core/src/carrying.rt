@@ -17,8 +17,7 @@ ghost use Rattle.forward_core.specs.Carrying.{Asks, CarriesOut, IsDecoded, WasJu
 use crate::arrived::Arrived;
 use ct_messages::CtAsk;
 use fab_base::{Enode, FcId, Wwn};
-use fab_messages::Asker;
-use fab_policy::{Replied, Settled, What, frames_are_carried, tables_change};
+use fab_policy::{Asker, Replied, Settled, What, frames_are_carried, tables_change};
 use fab_roster::{Login, LoginList, Request, Roster};
 
 /// Carries out a verdict that needs nothing but the frame.

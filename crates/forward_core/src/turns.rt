@@ -16,8 +16,7 @@ use crate::payload::payload_of;
 use ct_messages::{CtTell, read_ask};
 use fab_base::{FcId, NoMemory};
 use fab_judge::Candidate;
-use fab_messages::Asker;
-use fab_policy::{Replied, Settled, Verdict, tables_change};
+use fab_policy::{Asker, Replied, Settled, Verdict, tables_change};
 use fab_sending::{
     Grant, answer_sends, frame_sends, grant_sends, registration_sends, reply_sends,
     right_frames_suit,

@@ -1,6 +1,7 @@
 //! Messages that are sent, in the field's terms.
 use case_lines::put_hex;
-use fab_messages::{Answer, Asker, Out, OutList, OutMessage};
+use fab_messages::{Answer, Out, OutList, OutMessage};
+use fab_policy::Asker;
 use table_cases::say::{
     end, end_address, end_hex, end_number, say, say_address, say_mac, say_number, say_when,
 };
