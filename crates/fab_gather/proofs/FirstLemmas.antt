@@ -7,9 +7,9 @@ use Rattle.std.proofs.lemmas.Option.{slice_get_within, slice_get-get_or}
 use Rattle.fab_base.specs.Seen.{Seen, Reads, Touches, Nothing, SameReadFaults, SameWriteFaults}
 use Rattle.fab_base.proofs.SeenLemmas.{touches_refl}
 use Rattle.fab_config.specs.Settings.{Settings}
-use Rattle.fab_policy.specs.Keeping.{IsFrom}
+use Rattle.fab_gather.specs.Keeping.{IsFrom}
 use Rattle.fab_policy.specs.Legal.{window_start}
-use Rattle.fab_policy.specs.Looks.{Opened, Look, found_at, is_found, behind, looks, looks_of, first_spot, window_before, comes_before, in_order, first_window, stop_in, Stop, stop, LooksFound, LooksEnd}
+use Rattle.fab_gather.specs.Looks.{Opened, Look, found_at, is_found, behind, looks, looks_of, first_spot, window_before, comes_before, in_order, first_window, stop_in, Stop, stop, LooksFound, LooksEnd}
 use Rattle.pcap_file.specs.Capture.{Next, Found, End, CutHead, TooLong, CutBytes}
 use Rattle.pcap_file.specs.Reading.{Reading, to_come, reader_stand}
 use Rattle.pcap_file.specs.Records.{Chain, last_moment}

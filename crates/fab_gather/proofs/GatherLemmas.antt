@@ -4,7 +4,7 @@ use Rattle.std.specs.Prelude.{nat_lt}
 use Rattle.fab_base.specs.Seen.{Seen, Nothing}
 use Rattle.fab_base.proofs.SeenLemmas.{touches_refl}
 use Rattle.fab_config.specs.Settings.{Settings}
-use Rattle.fab_policy.specs.Looks.{MOST_SPAN}
+use Rattle.fab_gather.specs.Looks.{MOST_SPAN}
 use Rattle.pcap_file.specs.declared.Budget.{Budget}
 use Rattle.fab_gather.specs.declared.shelf.Input.{Input}
 use Rattle.fab_gather.specs.declared.shelf.Shelf.{Shelf}

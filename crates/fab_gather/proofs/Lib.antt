@@ -1,3 +1,5 @@
+mod LooksLemmas
+mod KeepLemmas
 pub mod WindowLemmas
 pub mod SlotLemmas
 pub mod OrderLemmas

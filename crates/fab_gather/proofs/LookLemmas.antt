@@ -5,7 +5,7 @@ use Rattle.std.specs.Int.{from_bool}
 use Rattle.fab_base.specs.Seen.{Seen}
 use Rattle.fab_config.specs.Settings.{Settings}
 use Rattle.fab_policy.specs.Legal.{window_start}
-use Rattle.fab_policy.specs.Looks.{Opened, Look, found_at, is_found, behind, looks, first_spot, stop_in, stop_at, Fails, record_size, LooksFound, LooksEnd, StepsFindStop}
+use Rattle.fab_gather.specs.Looks.{Opened, Look, found_at, is_found, behind, looks, first_spot, stop_in, stop_at, Fails, record_size, LooksFound, LooksEnd, StepsFindStop}
 use Rattle.pcap_file.specs.Capture.{HEAD, Found, End, next}
 use Rattle.pcap_file.specs.Reading.{Reading, Step, Gives, Ends, Stops, step_of, to_come, place_after, NextReads, reader_stand}
 use Rattle.pcap_file.specs.Records.{Chain, last_moment}

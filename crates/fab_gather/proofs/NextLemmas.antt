@@ -4,9 +4,9 @@ use Rattle.std.specs.Prelude.{nat_lt, option_to_list, unwrap_or}
 use Rattle.std.proofs.lemmas.Option.{slice_get_within, slice_get-map}
 use Rattle.fab_base.specs.Seen.{Seen}
 use Rattle.fab_config.specs.Settings.{Settings}
-use Rattle.fab_policy.specs.Keeping.{IsFrom, AllAhead, StopsAhead}
+use Rattle.fab_gather.specs.Keeping.{IsFrom, AllAhead, StopsAhead}
 use Rattle.fab_policy.specs.Legal.{window_start}
-use Rattle.fab_policy.specs.Looks.{Spot, Look, looks, comes_before, with_look, in_order, first_window, is_too_late, stop_in, Stop, Span, stop_at, LateIsStop, MOST_SPAN}
+use Rattle.fab_gather.specs.Looks.{Spot, Look, looks, comes_before, with_look, in_order, first_window, is_too_late, stop_in, Stop, Span, stop_at, LateIsStop, MOST_SPAN}
 use Rattle.pcap_file.specs.Reading.{Reading}
 use Rattle.pcap_file.specs.declared.Budget.{Budget}
 use Rattle.pcap_file.specs.declared.Record.{Record}

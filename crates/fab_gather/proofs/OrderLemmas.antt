@@ -4,9 +4,9 @@ use Rattle.std.specs.Prelude.{nat_lt, ◌==◌}
 use Rattle.std.proofs.lemmas.Bool.{lt-ltb, le-ltb}
 use Rattle.fab_base.specs.Seen.{Seen}
 use Rattle.fab_config.specs.Settings.{Settings}
-use Rattle.fab_policy.specs.Keeping.{IsFrom}
+use Rattle.fab_gather.specs.Keeping.{IsFrom}
 use Rattle.fab_policy.specs.Legal.{window_start}
-use Rattle.fab_policy.specs.Looks.{Spot, Look, look_at, found_at, behind, looks_from, looks, window_before, comes_before, with_look, in_order}
+use Rattle.fab_gather.specs.Looks.{Spot, Look, look_at, found_at, behind, looks_from, looks, window_before, comes_before, with_look, in_order}
 use Rattle.pcap_file.specs.Capture.{Next, Found, End, CutHead, TooLong, CutBytes}
 use Rattle.pcap_file.specs.Reading.{Reading}
 use Rattle.pcap_file.specs.declared.Record.{Record}

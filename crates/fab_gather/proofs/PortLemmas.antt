@@ -8,7 +8,7 @@ use Rattle.fab_base.specs.declared.values.Failed.{Failed}
 use Rattle.fab_base.proofs.SeenLemmas.{reads_refl, reads_trans, input_name, rose_later}
 use Rattle.fab_config.specs.Settings.{Settings}
 use Rattle.fab_policy.specs.Legal.{window_start}
-use Rattle.fab_policy.specs.Looks.{Spot, Look, look_at, found_at, is_found, behind, looks, stop_in, stop_at, Fails, record_size, LooksFound, LooksEnd, StepsFindStop, MOST_SPAN}
+use Rattle.fab_gather.specs.Looks.{Spot, Look, look_at, found_at, is_found, behind, looks, stop_in, stop_at, Fails, record_size, LooksFound, LooksEnd, StepsFindStop, MOST_SPAN}
 use Rattle.pcap_file.specs.Capture.{Next, Found, End, CutHead, TooLong, CutBytes, next}
 use Rattle.pcap_file.specs.Reading.{Reading, Step, Gives, Ends, Stops, step_of, to_come, place_after, Says, SparesReads, NextReads, reader_stand}
 use Rattle.pcap_file.specs.Records.{Chain}

@@ -7,7 +7,7 @@ use Rattle.fab_base.specs.Seen.{Seen, Touches, Nothing, SameReadFaults, SameWrit
 use Rattle.fab_base.proofs.SeenLemmas.{touches_refl}
 use Rattle.fab_config.specs.Settings.{Settings}
 use Rattle.fab_policy.specs.Legal.{window_start}
-use Rattle.fab_policy.specs.Looks.{Look, looks, in_order, stop_in, MOST_SPAN}
+use Rattle.fab_gather.specs.Looks.{Look, looks, in_order, stop_in, MOST_SPAN}
 use Rattle.pcap_file.specs.Reading.{Reading, to_come}
 use Rattle.pcap_file.specs.Records.{Chain}
 use Rattle.pcap_file.specs.declared.Budget.{Budget}

@@ -4,7 +4,7 @@ use Rattle.std.specs.declared.alloc.Global.{Global}
 use Rattle.fab_base.specs.Seen.{Seen, Reads, Rose, Touches, Nothing, SameWriteFaults}
 use Rattle.fab_config.specs.Settings.{Settings}
 use Rattle.fab_policy.specs.Legal.{window_start}
-use Rattle.fab_policy.specs.Looks.{Opened, Look, look_at, looks, first_spot, in_order, first_window, stop_in, Stop, stop}
+use Rattle.fab_gather.specs.Looks.{Opened, Look, look_at, looks, first_spot, in_order, first_window, stop_in, Stop, stop}
 use Rattle.pcap_file.specs.Capture.{HEAD}
 use Rattle.pcap_file.specs.Reading.{Reading, to_come, ReaderStand}
 use Rattle.pcap_file.specs.Records.{Chain, last_moment}

@@ -2,7 +2,7 @@
 use Rattle.std.specs.Prelude.{◌≡◌, ℕ, ◌+◌, ◌-◌, ◌<◌, ◌↔◌, true, false, nat_lt, IsTrue, length, Some, Result, OnOk, OnErr, IfErr, IsErrOf}
 use Rattle.fab_base.specs.Seen.{Touches, Nothing, Rose, SameWriteFaults}
 use Rattle.fab_config.specs.Settings.{Settings}
-use Rattle.fab_policy.specs.Looks.{Stop, MOST_SPAN}
+use Rattle.fab_gather.specs.Looks.{Stop, MOST_SPAN}
 use Rattle.fab_gather.specs.declared.fault.LimitKind.TheVariants as limit
 use Rattle.fab_gather.specs.declared.fault.GatherFault.{GatherFault}
 use Rattle.fab_gather.specs.declared.fault.GatherFault.TheVariants as fault

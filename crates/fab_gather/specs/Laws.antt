@@ -4,8 +4,8 @@ use Rattle.std.specs.List.{All}
 use Rattle.fab_base.specs.Seen.{Seen}
 use Rattle.fab_config.specs.Settings.{Settings}
 use Rattle.fab_policy.specs.Growing.{with_more, AllBelow}
-use Rattle.fab_policy.specs.Keeping.{IsAhead, Splits}
-use Rattle.fab_policy.specs.Looks.{Opened, Stop, in_order, first_window, all_records, MOST_SPAN}
+use Rattle.fab_gather.specs.Keeping.{IsAhead, Splits}
+use Rattle.fab_gather.specs.Looks.{Opened, Stop, in_order, first_window, all_records, MOST_SPAN}
 use Rattle.pcap_file.specs.declared.Budget.{Budget}
 use Rattle.pcap_file.specs.declared.Record.{Record}
 use Rattle.fab_gather.specs.declared.shelf.Input.{Input}

@@ -1,3 +1,5 @@
+pub mod Looks
+pub mod Keeping
 pub mod Port
 pub mod Ports
 pub mod First

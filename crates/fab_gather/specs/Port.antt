@@ -3,7 +3,7 @@ use Rattle.std.specs.Prelude.{◌≡◌, ◌≢◌, ℕ, ◌+◌, ◌-◌, ◌*�
 use Rattle.fab_base.specs.Seen.{Seen, Reads, Rose, SameReadFaults}
 use Rattle.fab_config.specs.Settings.{Settings}
 use Rattle.fab_policy.specs.Legal.{window_start}
-use Rattle.fab_policy.specs.Looks.{Spot, Look, looks, stop_in, Stop, Reason, Fails, Span, MOST_SPAN}
+use Rattle.fab_gather.specs.Looks.{Spot, Look, looks, stop_in, Stop, Reason, Fails, Span, MOST_SPAN}
 use Rattle.pcap_file.specs.Capture.{RECORD_HEAD}
 use Rattle.pcap_file.specs.Reading.{Reading, to_come, error_of}
 use Rattle.pcap_file.specs.Records.{Chain, last_moment}

@@ -3,7 +3,7 @@ use Rattle.std.specs.Prelude.{◌≡◌, ◌≢◌, ℕ, ◌+◌, ◌≤◌, ◌
 use Rattle.fab_base.specs.Seen.{Seen}
 use Rattle.fab_config.specs.Settings.{Settings}
 use Rattle.fab_policy.specs.Legal.{window_start}
-use Rattle.fab_policy.specs.Looks.{Look, in_order, stop_in, Stop}
+use Rattle.fab_gather.specs.Looks.{Look, in_order, stop_in, Stop}
 use Rattle.pcap_file.specs.Reading.{to_come}
 use Rattle.pcap_file.specs.Records.{Chain, last_moment}
 use Rattle.pcap_file.specs.declared.Budget.{Budget}

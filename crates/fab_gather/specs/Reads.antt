@@ -3,7 +3,7 @@ use Rattle.std.specs.Prelude.{◌≡◌, ℕ, ◌+◌, ◌-◌, true, IsTrue, Li
 use Rattle.fab_base.specs.Seen.{Seen}
 use Rattle.fab_config.specs.Settings.{Settings}
 use Rattle.fab_policy.specs.Growing.{AreBelow}
-use Rattle.fab_policy.specs.Looks.{Opened}
+use Rattle.fab_gather.specs.Looks.{Opened}
 use Rattle.pcap_file.specs.Capture.{HEAD, is_whole_from}
 use Rattle.pcap_file.specs.Reading.{to_come}
 use Rattle.pcap_file.specs.Records.{Chain, last_moment}

@@ -6,9 +6,8 @@ ghost use Rattle.fab_gather.specs.Ports.{AreInputs, slots_of};
 ghost use Rattle.pcap_file.specs.Reading.{reader_stand};
 
 use crate::fault::fault_of;
-use crate::{GatherFault, Input, Shelf};
+use crate::{GatherFault, Input, Shelf, looks_go_on, steps_find_the_stop};
 use fab_base::{Depot, PortNo};
-use fab_policy::{looks_go_on, steps_find_the_stop};
 use pcap_file::Budget;
 use std::alloc::Global;
 

@@ -13,7 +13,7 @@ ghost use Rattle.fab_gather.specs.Laws.{
   WindowMoves,
 };
 
-use fab_policy::{steps_find_the_stop, stops_keep_what_is_before};
+use crate::{steps_find_the_stop, stops_keep_what_is_before};
 
 /// The looks that are left are those from the next window on: it is the window of the first of
 /// them, and where it is too late they stop there. Without a next window there are none.

@@ -4,10 +4,9 @@ ghost use Rattle.fab_gather.specs.Port.{IsReady, TakesWindow, is_in, port_walk_a
 
 use crate::fault::fault_of;
 use crate::window::window_start;
-use crate::{GatherFault, Input, Shelf};
+use crate::{GatherFault, Input, Shelf, looks_go_on, steps_find_the_stop};
 use fab_base::{Depot, PortNo};
 use fab_config::Config;
-use fab_policy::{looks_go_on, steps_find_the_stop};
 use pcap_file::{Budget, Record};
 use std::alloc::Global;
 

@@ -12,7 +12,7 @@ use Rattle.pcapng_file.specs.File.{IsPacketKept}
 use Rattle.fab_policy.specs.Growing.{lines_from, records_to}
 use Rattle.fab_policy.specs.Journal.{Journal, followed, frame_count, clock}
 use Rattle.fab_policy.specs.Legal.{window_start, Timed}
-use Rattle.fab_policy.specs.Looks.{is_too_late}
+use Rattle.fab_gather.specs.Looks.{is_too_late}
 use Rattle.fab_policy.specs.Standing.{Contents}
 use Rattle.fab_policy.specs.Text.{text}
 use Rattle.fab_policy.specs.declared.event.Event.{Event}

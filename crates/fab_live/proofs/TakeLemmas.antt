@@ -10,7 +10,7 @@ use Rattle.pcapng_file.specs.declared.NgRecord.{NgRecord}
 use Rattle.pcapng_file.specs.File.{IsPacketKept, AreKept}
 use Rattle.pcapng_file.specs.Classic.{classic_record, classic_records, classic_bytes}
 use Rattle.fab_policy.specs.Legal.{window_start}
-use Rattle.fab_policy.specs.Looks.{is_too_late}
+use Rattle.fab_gather.specs.Looks.{is_too_late}
 use Rattle.fab_policy.specs.Standing.{Contents}
 use Rattle.fab_gather.proofs.SlotLemmas.{some_is, get_set_same, get_set_other}
 use Rattle.fab_gather.proofs.WindowLemmas.{window_start-mono}

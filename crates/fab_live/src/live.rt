@@ -2,7 +2,7 @@
 ghost use Rattle.std.specs.Prelude.{◌≡◌, ◌+◌, ◌-◌, ◌<◌, ◌^◌, ◌++◌, ◌∷◌, [], List, Some, length, max, min, MatchResult, IfOk};
 ghost use Rattle.fab_config.specs.Settings.{Settings};
 ghost use Rattle.fab_policy.specs.Journal.{Journal};
-ghost use Rattle.fab_policy.specs.Looks as looks;
+ghost use Rattle.fab_gather.specs.Looks as looks;
 ghost use Rattle.pcapng_file.specs.Classic.{classic_record};
 ghost use Rattle.pcapng_file.specs.File.{IsPacketKept};
 ghost use Rattle.pcapng_file.specs.declared.NgRecord as of_stream;

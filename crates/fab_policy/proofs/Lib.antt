@@ -24,8 +24,6 @@ pub mod Sound
 pub mod SoundMacs
 pub mod SoundFree
 pub mod RegistryFits
-mod LooksLemmas
 mod GrowLemmas
-mod KeepLemmas
 pub mod Ticks
 pub mod Changes

@@ -24,10 +24,8 @@ pub mod Ranged
 pub mod Fits
 pub mod Changes
 pub mod Standing
-pub mod Looks
 pub mod Written
 pub mod Growing
-pub mod Keeping
 pub mod Sound
 pub mod Laws
 pub mod Spelling

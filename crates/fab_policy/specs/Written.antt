@@ -1,5 +1,5 @@
 -- What a run leaves in its files, and which journal the files name.
-use Rattle.std.specs.Prelude.{◌≡◌, ℕ, ◌⊎◌, List, [], ◌∷◌, ◌++◌, length, map, filter, nat_lt, Some, ◌≤◌}
+use Rattle.std.specs.Prelude.{◌≡◌, ℕ, ◌⊎◌, List, [], ◌∷◌, ◌++◌, length, map, filter, nat_lt, ◌≤◌}
 use Rattle.fab_config.specs.Settings.{Settings}
 use Rattle.pcap_file.specs.declared.Record.{Record}
 use Rattle.fab_policy.specs.Journal.{Journal}
@@ -9,7 +9,6 @@ use Rattle.fab_policy.specs.Legal.{Legal, HasPorts, HoldsFrames, window_start}
 use Rattle.fab_policy.specs.Text.{text, text1, egress}
 use Rattle.fab_policy.specs.Ranged.{IsRanged}
 use Rattle.fab_policy.specs.Steps.{InPool}
-use Rattle.fab_policy.specs.Looks.{Stop, kept}
 
 -- the captures that a journal sends, for ports 1 to n
 abbrev pub egresses : Settings → ℕ → Journal → List (List ℕ)
@@ -22,10 +21,6 @@ IsPrefixOf front whole = (rest : List ℕ) × (front ++ rest ≡ whole)
 -- the records of each port in windows that start before a moment
 abbrev pub before : Settings → ℕ → List (List Record) → List (List Record)
 before c t ins = map (λ records. filter (λ r. nat_lt (window_start c r.moment) t) records) ins
-
--- the records of each port that a stop keeps
-abbrev pub all_kept : Settings → Stop → List (List Record) → List (List Record)
-all_kept c s ins = map (kept c (Some s)) ins
 
 -- A journal file and captures name a journal: its text in one of the two formats, and the frames of each port.
 pub record IsNamed (ins : List (List Record)) (J : Journal) (journal : List ℕ) : Type 0 where

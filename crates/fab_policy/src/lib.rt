@@ -11,7 +11,6 @@ mod heard;
 mod laws;
 mod line;
 mod lines;
-mod looks;
 mod named;
 mod periods;
 mod ranged;
@@ -33,7 +32,6 @@ pub use laws::{
 };
 pub use line::{Format, Line};
 pub use lines::{write_frame_line, write_head_line, write_line, write_line1, write_tick_line};
-pub use looks::{looks_go_on, steps_find_the_stop, stops_keep_what_is_before};
 pub use named::journal_is_named;
 pub use periods::PORT_PERIOD;
 pub use ranged::{known, known_verdict};

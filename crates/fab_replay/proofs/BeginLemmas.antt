@@ -5,7 +5,7 @@ use Rattle.std.specs.declared.alloc.Global.{Global}
 use Rattle.fab_base.specs.Seen.{Touches, Nothing}
 use Rattle.fab_base.proofs.SeenLemmas.{touches_wider}
 use Rattle.fab_config.specs.Settings.{Settings}
-use Rattle.fab_policy.specs.Looks.{all_records}
+use Rattle.fab_gather.specs.Looks.{all_records}
 use Rattle.fab_policy.specs.Outputs.{State, state_of}
 use Rattle.fab_policy.specs.Standing.{Contents}
 use Rattle.fab_policy.specs.declared.line.Format.{Format}

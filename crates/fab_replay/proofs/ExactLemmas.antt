@@ -3,7 +3,7 @@ use Rattle.std.proofs.Common.{◌≡◌, ℕ, Option, Some, None, Ok, Err, sym, 
 use Rattle.std.specs.Prelude.{slice_get}
 use Rattle.fab_config.specs.Settings.{Settings}
 use Rattle.fab_policy.specs.Journal.{Journal}
-use Rattle.fab_policy.specs.Looks.{Stop, all_records}
+use Rattle.fab_gather.specs.Looks.{Stop, all_records}
 use Rattle.fab_policy.specs.Standing.{Stands}
 use Rattle.fab_gather.specs.Port.{ending}
 use Rattle.fab_gather.specs.declared.fault.GatherFault.{GatherFault}

@@ -7,12 +7,12 @@ use Rattle.fab_base.proofs.SeenLemmas.{touches_refl, touches_trans, touches_wide
 use Rattle.fab_config.specs.Settings.{Settings}
 use Rattle.fab_policy.specs.Growing.{with_more}
 use Rattle.fab_policy.specs.Journal.{Journal}
-use Rattle.fab_policy.specs.Keeping.{IsAhead, Splits}
+use Rattle.fab_gather.specs.Keeping.{IsAhead, Splits}
 use Rattle.fab_policy.specs.Legal.{HoldsFrames, left_of, numbered_from, of_port}
-use Rattle.fab_policy.specs.Looks.{Opened, Stop, all_records, records_in}
+use Rattle.fab_gather.specs.Looks.{Opened, Stop, all_records, records_in}
 use Rattle.fab_policy.specs.Standing.{Contents}
 use Rattle.fab_policy.specs.Text.{egress, text, text1}
-use Rattle.fab_policy.specs.Written.{all_kept}
+use Rattle.fab_gather.specs.Looks.{all_kept}
 use Rattle.fab_policy.specs.declared.line.Format.{Format}
 use Rattle.fab_policy.specs.declared.line.Format.TheVariants.{One, Two}
 use Rattle.pcap_file.specs.declared.Budget.{Budget}

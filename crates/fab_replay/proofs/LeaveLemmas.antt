@@ -4,10 +4,10 @@ use Rattle.std.specs.Prelude.{filter, nat_lt}
 use Rattle.fab_config.specs.Settings.{Settings}
 use Rattle.fab_policy.specs.Journal.{Journal, followed}
 use Rattle.fab_policy.specs.Legal.{HoldsFrames, numbered_from, window_start}
-use Rattle.fab_policy.specs.Looks.{Stop}
+use Rattle.fab_gather.specs.Looks.{Stop}
 use Rattle.fab_policy.specs.Outputs.{state_of}
 use Rattle.fab_policy.specs.Standing.{Contents, sent_after}
-use Rattle.fab_policy.specs.Written.{all_kept}
+use Rattle.fab_gather.specs.Looks.{all_kept}
 use Rattle.pcap_file.specs.declared.Budget.{Budget}
 use Rattle.pcap_file.specs.declared.Record.{Record}
 use Rattle.fab_gather.specs.Port.{IsStopped}

@@ -6,9 +6,9 @@ use Rattle.fab_base.specs.Seen.{Seen}
 use Rattle.fab_config.specs.Settings.{Settings}
 use Rattle.fab_policy.specs.Growing.{AreFrom, with_more}
 use Rattle.fab_policy.specs.Journal.{Journal}
-use Rattle.fab_policy.specs.Keeping.{IsAhead, Splits}
+use Rattle.fab_gather.specs.Keeping.{IsAhead, Splits}
 use Rattle.fab_policy.specs.Legal.{of_port}
-use Rattle.fab_policy.specs.Looks.{Opened, Stop, all_records, records_in}
+use Rattle.fab_gather.specs.Looks.{Opened, Stop, all_records, records_in}
 use Rattle.fab_gather.specs.Laws.{AllIn, HasSome}
 use Rattle.fab_gather.specs.Port.{AreIn}
 use Rattle.fab_gather.specs.Reads.{HasRead, HaveRead, batches_of, first_index}

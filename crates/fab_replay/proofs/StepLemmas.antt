@@ -3,7 +3,7 @@ use Rattle.std.proofs.Common.{◌≡◌, ℕ, ◌+◌, ◌<◌, ◌≤◌, inl, 
 use Rattle.fab_base.specs.declared.values.Caught.{Caught}
 use Rattle.fab_config.specs.Settings.{Settings}
 use Rattle.fab_policy.specs.Journal.{Journal, clock}
-use Rattle.fab_policy.specs.Keeping.{IsAhead}
+use Rattle.fab_gather.specs.Keeping.{IsAhead}
 use Rattle.fab_policy.specs.Legal.{IsLeastOf, IsNextTick, windows_left}
 use Rattle.fab_policy.specs.Spelling.{HasClockOf, Spells, line_of}
 use Rattle.fab_policy.specs.Standing.{Contents, Stands}

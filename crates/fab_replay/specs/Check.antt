@@ -6,10 +6,11 @@ use Rattle.fab_config.specs.Settings.{Settings}
 use Rattle.pcap_file.specs.declared.Budget.{Budget}
 use Rattle.fab_policy.specs.Journal.{Journal}
 use Rattle.fab_policy.specs.Legal.{HoldsFrames, Run}
-use Rattle.fab_policy.specs.Looks.{Opened, Stop, stop, all_records}
+use Rattle.fab_gather.specs.Looks.{Opened, Stop, stop, all_records}
 use Rattle.fab_policy.specs.Standing.{Contents, Stands}
 use Rattle.fab_policy.specs.Text.{egress}
-use Rattle.fab_policy.specs.Written.{IsNamed, all_kept}
+use Rattle.fab_policy.specs.Written.{IsNamed}
+use Rattle.fab_gather.specs.Looks.{all_kept}
 use Rattle.fab_gather.specs.declared.fault.GatherFault.{GatherFault}
 use Rattle.fab_gather.specs.declared.fault.GatherFault.TheVariants as gather_fault
 use Rattle.fab_gather.specs.declared.shelf.Input.{Input}

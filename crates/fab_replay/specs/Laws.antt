@@ -1,5 +1,5 @@
 -- The laws of the layers below on which a check rests. No public clause cites this module.
-use Rattle.fab_policy.specs.Keeping.{KeepsJust}
+use Rattle.fab_gather.specs.Keeping.{KeepsJust}
 use Rattle.fab_gather.specs.Laws.{LateEnds, LooksAhead, NextIsAhead, NextIsFirst, NoneIsLeft, ReadIsAll, ReadIsBelow, ReadSplits, ReadStays, ReadsOn, WindowMoves}
 
 pub record Laws : Type 0 where

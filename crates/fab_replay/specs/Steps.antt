@@ -6,9 +6,9 @@ use Rattle.fab_config.specs.Settings.{Settings}
 use Rattle.pcap_file.specs.declared.Record.{Record}
 use Rattle.fab_policy.specs.Growing.{AreFrom}
 use Rattle.fab_policy.specs.Journal.{Journal, clock}
-use Rattle.fab_policy.specs.Keeping.{IsAhead}
+use Rattle.fab_gather.specs.Keeping.{IsAhead}
 use Rattle.fab_policy.specs.Legal.{IsLeastOf, IsNextTick, Legal, left_of, of_port, windows_left}
-use Rattle.fab_policy.specs.Looks.{Stop}
+use Rattle.fab_gather.specs.Looks.{Stop}
 use Rattle.fab_policy.specs.Ranged.{IsRanged}
 use Rattle.fab_policy.specs.Standing.{Contents, Stands}
 use Rattle.fab_policy.specs.State.{Tables}

@@ -4,7 +4,7 @@ use Rattle.fab_base.specs.Seen.{Seen, Touches, Nothing}
 use Rattle.pcap_file.specs.declared.Record.{Record}
 use Rattle.fab_policy.specs.Journal.{Journal}
 use Rattle.fab_policy.specs.Legal.{of_port}
-use Rattle.fab_policy.specs.Looks.{stop, all_records}
+use Rattle.fab_gather.specs.Looks.{stop, all_records}
 use Rattle.fab_policy.specs.Standing.{Contents}
 use Rattle.fab_gather.specs.declared.fault.GatherFault.{GatherFault}
 use Rattle.fab_gather.specs.declared.fault.GatherFault.TheVariants as gather_fault

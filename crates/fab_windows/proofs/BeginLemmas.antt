@@ -9,7 +9,7 @@ use Rattle.fab_config.specs.Settings.{Settings}
 use Rattle.fab_policy.specs.Growing.{AllBelow}
 use Rattle.fab_policy.specs.Journal.{followed}
 use Rattle.fab_policy.specs.Legal.{Run}
-use Rattle.fab_policy.specs.Looks.{Opened, stop}
+use Rattle.fab_gather.specs.Looks.{Opened, stop}
 use Rattle.fab_policy.specs.Outputs.{State, state_of}
 use Rattle.fab_policy.specs.Standing.{Contents, sent_after}
 use Rattle.fab_policy.specs.Text.{text, head_line}

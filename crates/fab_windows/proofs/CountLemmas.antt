@@ -9,7 +9,7 @@ use Rattle.fab_base.specs.declared.values.Caught.{Caught}
 use Rattle.fab_config.specs.Settings.{Settings}
 use Rattle.fab_policy.specs.Journal.{Journal, followed, clock, frame_count}
 use Rattle.fab_policy.specs.Legal.{Run, Timed, HasPorts, HoldsFrames, of_port, numbered_from, IsNextTick, IsTickTime, is_owed_after}
-use Rattle.fab_policy.specs.Looks.{Opened}
+use Rattle.fab_gather.specs.Looks.{Opened}
 use Rattle.fab_policy.specs.declared.event.Event.{Event}
 use Rattle.fab_policy.specs.declared.event.Event.TheVariants.{Tick, Frame}
 use Rattle.fab_policy.specs.declared.verdict.Verdict.{Verdict}

@@ -7,9 +7,9 @@ use Rattle.fab_base.specs.Seen.{Seen}
 use Rattle.fab_config.specs.Settings.{Settings}
 use Rattle.fab_policy.specs.Journal.{Journal, frame_count}
 use Rattle.fab_policy.specs.Growing.{NothingIsRun}
-use Rattle.fab_policy.specs.Keeping.{Splits, IsAhead, KeepsBefore, KeepsJust}
+use Rattle.fab_gather.specs.Keeping.{Splits, IsAhead, KeepsBefore, KeepsJust}
 use Rattle.fab_policy.specs.Legal.{Run, window_start}
-use Rattle.fab_policy.specs.Looks.{Opened, Stop, stop, kept, all_records}
+use Rattle.fab_gather.specs.Looks.{Opened, Stop, stop, kept, all_records}
 use Rattle.fab_policy.specs.Text.{text}
 use Rattle.pcap_file.specs.declared.Budget.{Budget}
 use Rattle.pcap_file.specs.declared.Record.{Record}

@@ -4,7 +4,7 @@ use Rattle.fab_base.specs.Seen.{Seen, Touches, Nothing}
 use Rattle.fab_config.specs.Settings.{Settings}
 use Rattle.fab_policy.specs.Journal.{Journal}
 use Rattle.fab_policy.specs.Legal.{window_start}
-use Rattle.fab_policy.specs.Looks.{Opened, stop_in, in_order, looks}
+use Rattle.fab_gather.specs.Looks.{Opened, stop_in, in_order, looks}
 use Rattle.fab_policy.specs.Text.{text}
 use Rattle.pcap_file.specs.Reading.{to_come}
 use Rattle.pcap_file.specs.Records.{Chain}

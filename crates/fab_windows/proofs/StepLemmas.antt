@@ -10,7 +10,7 @@ use Rattle.fab_gather.specs.declared.shelf.Shelf.{Shelf}
 use Rattle.fab_policy.specs.Growing.{FollowedByParts, RangedByParts, TimedGrows, with_more}
 use Rattle.fab_policy.specs.Journal.{Journal, followed}
 use Rattle.fab_policy.specs.Legal.{Legal, Run, HasPorts}
-use Rattle.fab_policy.specs.Looks.{Opened}
+use Rattle.fab_gather.specs.Looks.{Opened}
 use Rattle.fab_policy.specs.Ranged.{IsRanged, IsRangedEvent}
 use Rattle.fab_policy.specs.Standing.{Contents, Stands, StandsDrained, drained}
 use Rattle.fab_policy.specs.declared.event.Event.{Event}

@@ -5,8 +5,8 @@ use Rattle.fab_base.specs.Seen.{Seen, Touches, Nothing, Rose, SameReadFaults, Sa
 use Rattle.fab_base.specs.declared.values.Failed.{Failed}
 use Rattle.fab_base.proofs.SeenLemmas.{rose_later, touches_trans, touches_wider}
 use Rattle.fab_policy.specs.Journal.{Journal}
-use Rattle.fab_policy.specs.Keeping.{IsAhead}
-use Rattle.fab_policy.specs.Looks.{Stop, stop}
+use Rattle.fab_gather.specs.Keeping.{IsAhead}
+use Rattle.fab_gather.specs.Looks.{Stop, stop}
 use Rattle.fab_policy.specs.Standing.{Contents}
 use Rattle.pcap_file.specs.declared.Budget.{Budget}
 use Rattle.fab_gather.specs.declared.shelf.Input.{Input}

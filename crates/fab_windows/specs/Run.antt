@@ -7,7 +7,7 @@ use Rattle.pcap_file.specs.declared.Budget.{Budget}
 use Rattle.pcap_file.specs.declared.Record.{Record}
 use Rattle.fab_policy.specs.Journal.{Journal, frame_count}
 use Rattle.fab_policy.specs.Legal.{Run}
-use Rattle.fab_policy.specs.Looks.{Opened, Stop, stop, kept, all_records}
+use Rattle.fab_gather.specs.Looks.{Opened, Stop, stop, kept, all_records}
 use Rattle.fab_policy.specs.Ranged.{IsRanged}
 use Rattle.fab_policy.specs.Written.{before}
 use Rattle.fab_gather.specs.declared.shelf.Input.{Input}

@@ -3,7 +3,7 @@ use Rattle.std.specs.Prelude.{◌≡◌, ℕ, ◌+◌, ◌≤◌, List, [], leng
 use Rattle.fab_config.specs.Settings.{Settings}
 use Rattle.fab_policy.specs.Growing.{with_more, AllBelow}
 use Rattle.fab_policy.specs.Journal.{Journal, followed}
-use Rattle.fab_policy.specs.Looks.{Opened}
+use Rattle.fab_gather.specs.Looks.{Opened}
 use Rattle.fab_policy.specs.Standing.{Contents, Stands, drained}
 use Rattle.pcap_file.specs.declared.Record.{Record}
 use Rattle.forward_core.specs.Fabric.{AreRanged}

@@ -6,9 +6,9 @@ use Rattle.fab_config.specs.Settings.{Settings}
 use Rattle.pcap_file.specs.declared.Budget.{Budget}
 use Rattle.pcap_file.specs.declared.Record.{Record}
 use Rattle.fab_policy.specs.Growing.{records_to, FollowedByParts, SentByParts, TextGrows, EgressGrows, NothingIsWritten, NothingIsRun}
-use Rattle.fab_policy.specs.Keeping.{KeepsBefore, KeepsJust}
+use Rattle.fab_gather.specs.Keeping.{KeepsBefore, KeepsJust}
 use Rattle.fab_policy.specs.Journal.{Journal, frame_count}
-use Rattle.fab_policy.specs.Looks.{Opened, stop, in_order, first_window}
+use Rattle.fab_gather.specs.Looks.{Opened, stop, in_order, first_window}
 use Rattle.fab_policy.specs.Outputs.{Sent}
 use Rattle.fab_policy.specs.Standing.{Contents, drained}
 use Rattle.fab_policy.specs.declared.event.Event.{Event}

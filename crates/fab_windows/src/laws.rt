@@ -4,10 +4,8 @@
 ghost use Rattle.fab_windows.specs.Turns.{Laws};
 
 use crate::steps::windows_are_runs;
-use fab_gather::{looks_to_come, records_are_read, windows_move_on};
-use fab_policy::{
-    entries_add_to_files, entries_come_in_parts, records_come_later, stops_keep_what_is_before,
-};
+use fab_gather::{looks_to_come, records_are_read, stops_keep_what_is_before, windows_move_on};
+use fab_policy::{entries_add_to_files, entries_come_in_parts, records_come_later};
 
 /// Further entries, further records, where reading stops, and what was read.
 pub fn laws_of_runs()

@@ -7,7 +7,7 @@ use Rattle.fab_config.specs.declared.ConfigFault.{ConfigFault}
 use Rattle.pcap_file.specs.Capture.{HEAD, head_decoded}
 use Rattle.pcap_file.specs.declared.CapFault.{CapFault}
 use Rattle.pcap_file.specs.declared.CaptureHead.{CaptureHead}
-use Rattle.fab_policy.specs.Looks.{Opened, Stop}
+use Rattle.fab_gather.specs.Looks.{Opened, Stop}
 use Rattle.fab_gather.specs.Port.{why_of, ending}
 use Rattle.fab_gather.specs.declared.fault.CapWhy.{CapWhy}
 use Rattle.run_files.specs.Faults.{fault_from}

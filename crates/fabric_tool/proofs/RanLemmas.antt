@@ -10,7 +10,7 @@ use Rattle.pcap_file.specs.declared.Budget.{Budget}
 use Rattle.fab_policy.specs.Growing.{NothingIsRun}
 use Rattle.fab_policy.specs.Journal.{Journal}
 use Rattle.fab_policy.specs.Logins.{counting}
-use Rattle.fab_policy.specs.Looks.{Opened, stop, kept, all_records}
+use Rattle.fab_gather.specs.Looks.{Opened, stop, kept, all_records}
 use Rattle.fab_policy.specs.Outputs.{state_of}
 use Rattle.fab_policy.specs.Standing.{Contents}
 use Rattle.fab_policy.specs.Text.{text, egress}

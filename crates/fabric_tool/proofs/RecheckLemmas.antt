@@ -6,7 +6,7 @@ use Rattle.fab_base.specs.Sunk.{Sunk}
 use Rattle.fab_config.specs.Settings.{Settings}
 use Rattle.fab_policy.specs.Journal.{Journal}
 use Rattle.fab_policy.specs.Logins.{counting}
-use Rattle.fab_policy.specs.Looks.{Opened, all_records, stop}
+use Rattle.fab_gather.specs.Looks.{Opened, all_records, stop}
 use Rattle.fab_policy.specs.Text.{egress, text}
 use Rattle.std.specs.List.{All}
 use Rattle.pcap_file.specs.Capture.{HEAD, IsCapture}

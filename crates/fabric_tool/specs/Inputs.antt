@@ -9,7 +9,7 @@ use Rattle.pcap_file.specs.Capture.{HEAD, IsCapture, head_decoded}
 use Rattle.fab_config.specs.Settings.{Settings}
 use Rattle.fab_config.specs.Text.{decoded}
 use Rattle.fab_config.specs.declared.ConfigFault.{ConfigFault}
-use Rattle.fab_policy.specs.Looks.{Opened, Stop, stop, kept, all_records}
+use Rattle.fab_gather.specs.Looks.{Opened, Stop, stop, kept, all_records}
 use Rattle.fab_gather.specs.declared.fault.CapWhy.{CapWhy}
 use Rattle.run_files.specs.Faults.{fault_from}
 use Rattle.run_files.specs.declared.fault.RunFault.{RunFault}

@@ -5,8 +5,8 @@ use Rattle.pcap_file.specs.Capture as pcap
 use Rattle.pcap_file.specs.declared.CaptureHead.{CaptureHead}
 use Rattle.pcap_file.specs.declared.CapFault.TheVariants.{Short, BadMagic, BadVersion, NotEthernet}
 use Rattle.pcap_file.specs.Reading as reader
-use Rattle.fab_policy.specs.Looks as looks
-use Rattle.fab_policy.specs.Looks.{MOST_SPAN}
+use Rattle.fab_gather.specs.Looks as looks
+use Rattle.fab_gather.specs.Looks.{MOST_SPAN}
 use Rattle.fab_policy.specs.Written as written
 use Rattle.worked.specs.Given.{K}
 
@@ -159,7 +159,7 @@ unfolding pcap.next
 before_a_moment = refl
 
 -- what a stop in the window 1100 keeps of two ports
-pub kept_of_all : map (map (λ r. r.moment)) (written.all_kept K (record { why = looks.Fails reader.Cut; port = 1; at = 56; window = Some 1100 })
+pub kept_of_all : map (map (λ r. r.moment)) (looks.all_kept K (record { why = looks.Fails reader.Cut; port = 1; at = 56; window = Some 1100 })
     (pcap.records head (pcap.head_bytes ++ empty_at 1000 ++ empty_at 1100) ∷ pcap.records head (pcap.head_bytes ++ empty_at 1150) ∷ [])) ≡ (1000 ∷ []) ∷ [] ∷ []
 unfolding pcap.next
 kept_of_all = refl

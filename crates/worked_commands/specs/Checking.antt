@@ -7,7 +7,7 @@ use Rattle.pcap_file.specs.Capture as captures
 use Rattle.pcap_file.specs.Capture.{HEAD, head_decoded, head_bytes}
 use Rattle.fab_policy.specs.Journal.{Journal, followed}
 use Rattle.fab_policy.specs.Legal.{Run}
-use Rattle.fab_policy.specs.Looks as looks
+use Rattle.fab_gather.specs.Looks as looks
 use Rattle.fab_policy.specs.State.{tables_of, overdue, now_of}
 use Rattle.fab_policy.specs.Text as text
 use Rattle.fab_policy.specs.declared.event.Event.{Event}

@@ -2,7 +2,7 @@ use Rattle.std.proofs.Common.{◌≡◌, ℕ, [], ◌∷◌, true, false, None, 
 use Rattle.std.specs.Prelude.{nat_lt}
 use Rattle.std.proofs.lemmas.Bool.{le-ltb}
 use Rattle.fab_base.specs.Seen.{Seen}
-use Rattle.fab_policy.specs.Looks.{MOST_SPAN}
+use Rattle.fab_gather.specs.Looks.{MOST_SPAN}
 use Rattle.fab_gather.specs.Ports.{walk_at}
 use Rattle.fab_gather.proofs.FirstLemmas.{none_below}
 use Rattle.fab_gather.proofs.SlotLemmas.{same_length}

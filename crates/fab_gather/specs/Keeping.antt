@@ -3,7 +3,7 @@ use Rattle.std.specs.Prelude.{◌≡◌, ℕ, ◌≤◌, List, [], ◌∷◌, �
 use Rattle.fab_config.specs.Settings.{Settings}
 use Rattle.pcap_file.specs.declared.Record.{Record}
 use Rattle.fab_policy.specs.Growing.{AreBelow, AreFrom}
-use Rattle.fab_policy.specs.Looks.{Opened, Look, Stop, stop_in, in_order, kept, records_in, all_records}
+use Rattle.fab_gather.specs.Looks.{Opened, Look, Stop, stop_in, in_order, kept, records_in, all_records}
 use Rattle.fab_policy.specs.Written.{before}
 
 -- The records of each capture are those that were taken, all in windows before one, and later ones.

@@ -1,6 +1,6 @@
 //! The laws of the looks at captures.
-ghost use Rattle.fab_policy.specs.Keeping.{StopsAhead, KeepsBefore, KeepsJust, KeepsAll};
-ghost use Rattle.fab_policy.specs.Looks.{LooksFound, LooksEnd, StepsFindStop, LateIsStop};
+ghost use Rattle.fab_gather.specs.Keeping.{StopsAhead, KeepsBefore, KeepsJust, KeepsAll};
+ghost use Rattle.fab_gather.specs.Looks.{LooksFound, LooksEnd, StepsFindStop, LateIsStop};
 
 /// Behind a record the looks at a capture go on, and elsewhere they end.
 pub fn looks_go_on()

@@ -161,6 +161,10 @@ abbrev pub kept : Settings → Option Stop → List Record → List Record
 kept c None records = records
 kept c (Some s) records = elim s.window [ None ↦ [] | Some w ↦ filter (λ r. nat_lt (window_start c r.moment) w) records ]
 
+-- the records of each port that a stop keeps
+abbrev pub all_kept : Settings → Stop → List (List Record) → List (List Record)
+all_kept c s ins = map (kept c (Some s)) ins
+
 -- ---- laws
 
 -- behind a record that is found the looks go on

@@ -6,9 +6,9 @@ use Rattle.fab_config.specs.Settings.{Settings}
 use Rattle.pcap_file.specs.Reading.{Why, failure}
 use Rattle.pcap_file.specs.declared.Record.{Record}
 use Rattle.fab_policy.specs.Growing.{AreFrom, AreBelow}
-use Rattle.fab_policy.specs.Keeping.{IsFrom, AllAhead, IsAhead, StopsAhead, KeepsBefore, KeepsJust, KeepsAll}
+use Rattle.fab_gather.specs.Keeping.{IsFrom, AllAhead, IsAhead, StopsAhead, KeepsBefore, KeepsJust, KeepsAll}
 use Rattle.fab_policy.specs.Legal.{window_start}
-use Rattle.fab_policy.specs.Looks.{Look, Stop, Fails, Span, stop_in, stop_at, kept, records_in, with_look, in_order, comes_before, is_too_late, taken, count_of}
+use Rattle.fab_gather.specs.Looks.{Look, Stop, Fails, Span, stop_in, stop_at, kept, records_in, with_look, in_order, comes_before, is_too_late, taken, count_of}
 
 -- ---- what is kept
 

@@ -5,7 +5,7 @@ use Rattle.pcap_file.specs.Capture.{Next, Found, End, CutHead, TooLong, CutBytes
 use Rattle.pcap_file.specs.Reading.{Why, failure, Gives, Ends, Stops}
 use Rattle.pcap_file.proofs.lemmas.Chains.{found_stands}
 use Rattle.pcap_file.proofs.lemmas.Steps.{step_tells}
-use Rattle.fab_policy.specs.Looks.{Spot, Look, look_at, found_at, is_found, behind, looks_from, looks, Stop, Fails, Span, stop_at, stop_in, is_too_late, taken, count_of, LooksFound, LooksEnd, StepsFindStop}
+use Rattle.fab_gather.specs.Looks.{Spot, Look, look_at, found_at, is_found, behind, looks_from, looks, Stop, Fails, Span, stop_at, stop_in, is_too_late, taken, count_of, LooksFound, LooksEnd, StepsFindStop}
 
 -- the looks behind one that finds this
 abbrev pub on : Settings → ℕ → ℕ → Spot → Next → List Look
