@@ -28,7 +28,7 @@ UNKNOWN: dict[str, tuple[str, str]] = {
     "forward_core": (f"{EDGE} fab_turn fab_shared pcap_file pcapng_file {RUNS}", f"{FILES} {THREADS}"),
     "snoop_run": (f"{EDGE} {CODECS} fab_judge forward_core", "Rule Verdict"),
     "enode_run": (f"{EDGE} {CODECS} {FABRIC}", "Stage Verdict"),
-    "fab_judge": (f"{EDGE} fab_sending {RUNS} pcap_file", "Out OutMessage OutList Answer write_out"),
+    "fab_judge": (f"{EDGE} fab_messages fab_sending {RUNS} pcap_file", "Out OutMessage OutList"),
     "fab_sending": (f"{EDGE} fab_judge {RUNS} pcap_file", "judge frame_rule"),
     "fab_captures": (f"{CODECS} {FABRIC}", "Verdict Rule"),
     "run_files": (f"{CODECS} fab_judge fab_messages fab_sending forward_core", "Caught Event Verdict"),
