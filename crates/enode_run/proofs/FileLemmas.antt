@@ -6,15 +6,15 @@ use Rattle.fab_base.specs.declared.values.Failed.{Failed}
 use Rattle.fab_base.proofs.SeenLemmas.{keeps_trans, reads_trans, reads_touches, told_stays, rose_later}
 use Rattle.pcap_file.specs.declared.Budget.{Budget}
 use Rattle.pcap_file.specs.declared.Record.{Record}
-use Rattle.fab_gather.specs.Port.{TellsReads}
-use Rattle.fab_gather.specs.declared.fault.LimitKind.TheVariants as limit
-use Rattle.fab_gather.specs.declared.fault.GatherFault.{GatherFault}
-use Rattle.fab_gather.specs.declared.fault.GatherFault.TheVariants as gather
+use Rattle.pcap_file.specs.Faults.{TellsReads}
+use Rattle.pcap_file.specs.declared.fault.LimitKind.TheVariants as limit
+use Rattle.pcap_file.specs.declared.fault.GatherFault.{GatherFault}
+use Rattle.pcap_file.specs.declared.fault.GatherFault.TheVariants as gather
 use Rattle.run_files.specs.Faults.{fault_from}
 use Rattle.run_files.specs.Faults as run_faults
 use Rattle.run_files.specs.declared.fault.RunFault.{RunFault}
 use Rattle.run_files.specs.declared.fault.RunFault.TheVariants as faults
-use Rattle.fab_captures.specs.Captures.{Taken, ReadsCapture, AreFit, unless_stopped, capture_by}
+use Rattle.pcap_file.specs.Captures.{Taken, ReadsCapture, AreFit, unless_stopped, capture_by}
 use Rattle.enode_core.specs.declared.node.Identity.{Identity}
 use Rattle.enode_core.specs.declared.node.Phase.{Phase}
 use Rattle.enode_core.specs.declared.node.State.{State}

@@ -3,9 +3,9 @@ use Rattle.std.specs.Prelude.{◌≡◌, ℕ, IsTrue, List, take, Some, Result, 
 use Rattle.fab_base.specs.Seen.{Seen, Keeps, Reads, Rose, SameReadFaults, SameWriteFaults}
 use Rattle.pcap_file.specs.declared.Budget.{Budget}
 use Rattle.pcap_file.specs.declared.Record.{Record}
-use Rattle.fab_gather.specs.Port.{IsStopped, TellsReads}
-use Rattle.fab_gather.specs.declared.fault.GatherFault.{GatherFault}
-use Rattle.fab_gather.specs.declared.fault.GatherFault.TheVariants as gather
+use Rattle.pcap_file.specs.Faults.{IsStopped, TellsReads}
+use Rattle.pcap_file.specs.declared.fault.GatherFault.{GatherFault}
+use Rattle.pcap_file.specs.declared.fault.GatherFault.TheVariants as gather
 use Rattle.enode_core.specs.Course.{AreFar}
 use Rattle.enode_run.specs.Files.{taken_by, IsUntaken}
 

@@ -3,14 +3,12 @@ ghost use Rattle.std.specs.Prelude.{◌≡◌, ◌≤◌, ◌+◌, ◌<◌, IsTr
 ghost use Rattle.std.specs.List.{list_any};
 ghost use Rattle.enode_core.specs.Acts.{option_holds};
 ghost use Rattle.enode_core.specs.Runs as runs;
-ghost use Rattle.fab_captures.specs.Captures.{unless_stopped};
+ghost use Rattle.pcap_file.specs.Captures.{unless_stopped};
 ghost use Rattle.enode_run.specs.Files as files;
 ghost use Rattle.enode_run.specs.Steps.{ReadsInput};
 
 use fab_base::{Depot, Moment, PortNo};
-use fab_captures::{RecordList, read_capture};
-use fab_gather::{GatherFault, LimitKind};
-use pcap_file::Budget;
+use pcap_file::{Budget, GatherFault, LimitKind, RecordList, read_capture};
 use std::alloc::Global;
 
 /// How far the last record may lie behind the start, in milliseconds.

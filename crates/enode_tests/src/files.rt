@@ -5,8 +5,8 @@ use crate::frames::{
 use enode_core::Phase;
 use enode_run::run_node;
 use fab_base::{FcId, Mac, MemDepot, Moment, PortNo, word_at};
-use pcap_file::Budget;
-use run_files::{CapWhy, LimitKind, RunFault};
+use pcap_file::{Budget, CapWhy, LimitKind};
+use run_files::RunFault;
 use std::alloc::Global;
 use std::process::Abort;
 use std::test::Fail;

@@ -1,4 +1,5 @@
 pub mod SeenLemmas
+pub mod EndingLemmas
 pub mod Depots
 pub mod WholeLemmas
 pub mod LayoutLemmas

@@ -3,6 +3,9 @@ pub mod Fabric
 pub mod Keyed
 pub mod Texts
 pub mod Seen
+pub mod Slots
+pub mod Counting
+pub mod Ending
 pub mod Whole
 pub mod Sunk
 pub mod Places

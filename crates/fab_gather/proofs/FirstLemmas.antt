@@ -18,11 +18,12 @@ use Rattle.pcap_file.specs.declared.Record.{Record}
 use Rattle.pcap_file.proofs.lemmas.Numbers.{le_or_lt}
 use Rattle.fab_gather.specs.declared.shelf.Input.{Input}
 use Rattle.fab_gather.specs.declared.shelf.Shelf.{Shelf}
-use Rattle.fab_gather.specs.declared.fault.GatherFault.{GatherFault}
-use Rattle.fab_gather.specs.declared.fault.GatherFault.TheVariants as fault
+use Rattle.pcap_file.specs.declared.fault.GatherFault.{GatherFault}
+use Rattle.pcap_file.specs.declared.fault.GatherFault.TheVariants as fault
 use Rattle.fab_gather.specs.First.{IsFresh, AreFresh, opened_by, opened_in, first_look, Looked, StopsFirst, LeavesFirst, LooksOnce, LooksFirst, start_at, Start}
 use Rattle.fab_gather.specs.Port.{IsReady, Spends, Gave, to_look, ending}
-use Rattle.fab_gather.specs.Ports.{AreInputs, At, slots_of, NameIn, TakesFrom, rests, joined, counts_of, walk_at, Walk}
+use Rattle.fab_base.specs.Slots.{NameIn}
+use Rattle.fab_gather.specs.Ports.{AreInputs, At, slots_of, TakesFrom, rests, joined, counts_of, walk_at, Walk}
 use Rattle.fab_gather.specs.Reads.{HasRead, HaveRead}
 use Rattle.fab_gather.proofs.OrderLemmas.{After, AllNotBefore, TakesAt, taken_at, Later, ordered, later_looks, before_by}
 use Rattle.fab_gather.proofs.LeavesLemmas.{gave_none, gave_between, gave_first}

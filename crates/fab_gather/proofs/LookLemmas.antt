@@ -15,11 +15,13 @@ use Rattle.pcap_file.specs.declared.Record.{Record}
 use Rattle.pcap_file.proofs.lemmas.Chains.{end_is}
 use Rattle.pcap_file.proofs.lemmas.Steps.{gives_found, ends_end}
 use Rattle.fab_gather.specs.declared.shelf.Shelf.{Shelf}
-use Rattle.fab_gather.specs.declared.fault.GatherFault.TheVariants as fault
+use Rattle.pcap_file.specs.declared.fault.GatherFault.TheVariants as fault
 use Rattle.fab_gather.specs.First.{IsFresh, opened_by, first_look, Looked, LooksOnce}
-use Rattle.fab_gather.specs.Port.{to_look, spot_of, fault_by}
+use Rattle.pcap_file.specs.Faults.{fault_by}
+use Rattle.fab_gather.specs.Port.{to_look, spot_of}
 use Rattle.fab_gather.proofs.LeavesLemmas.{gave_failed}
-use Rattle.fab_gather.proofs.PortLemmas.{some_look, says_at, own_of, read_of, spared}
+use Rattle.pcap_file.proofs.lemmas.Faults.{read_of, spared}
+use Rattle.fab_gather.proofs.PortLemmas.{some_look, says_at, own_of}
 
 -- one record is looked at, or none
 pub count_is : (next : Option Record) (some : Bool) (n : ℕ) → some ≡ is_some next → n ≡ from_bool some → n ≡ length (option_to_list next)

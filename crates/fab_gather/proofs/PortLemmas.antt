@@ -18,10 +18,12 @@ use Rattle.pcap_file.specs.declared.CapError.TheVariants as errors
 use Rattle.pcap_file.specs.declared.Record.{Record}
 use Rattle.pcap_file.proofs.lemmas.Chains.{chain_push, last-push, end_is}
 use Rattle.pcap_file.proofs.lemmas.Steps.{gives_found, ends_end}
+use Rattle.pcap_file.proofs.lemmas.Faults.{read_of, spared}
 use Rattle.fab_gather.specs.declared.shelf.Shelf.{Shelf}
-use Rattle.fab_gather.specs.declared.fault.LimitKind.TheVariants as limit
-use Rattle.fab_gather.specs.declared.fault.GatherFault.TheVariants as fault
-use Rattle.fab_gather.specs.Port.{IsReady, Spends, Taking, TakesWindow, StopsIn, AreOf, AreIn, Pass, is_in, spot_of, to_look, fault_by, IsStopped, LeavesPort, stand_at, port_walk_at}
+use Rattle.pcap_file.specs.declared.fault.LimitKind.TheVariants as limit
+use Rattle.pcap_file.specs.declared.fault.GatherFault.TheVariants as fault
+use Rattle.pcap_file.specs.Faults.{fault_by, IsStopped}
+use Rattle.fab_gather.specs.Port.{IsReady, Spends, Taking, TakesWindow, StopsIn, AreOf, AreIn, Pass, is_in, spot_of, to_look, LeavesPort, stand_at, port_walk_at}
 use Rattle.fab_gather.proofs.LeavesLemmas.{gave_more, gave_end, gave_broken}
 
 -- ---- lists
@@ -72,14 +74,6 @@ own_of port (errors.Read f) st = absurd st
 own_of port errors.Memory st = absurd st
 
 -- a read fault is the depot's
-pub read_of : (port : ℕ) (q : CapError) → fault_by q port ≡ fault.Read → (f : Failed) × (q ≡ errors.Read f)
-read_of port (errors.Cut at) same = absurd (cc)
-read_of port (errors.TooLong at len) same = absurd (cc)
-read_of port errors.Bytes same = absurd (cc)
-read_of port errors.Frames same = absurd (cc)
-read_of port (errors.Read f) same = (f, refl)
-read_of port errors.Memory same = absurd (cc)
-
 pub never_span : (port : ℕ) (q : CapError) → fault_by q port ≢ fault.Limit limit.Span
 never_span port (errors.Cut at) same = absurd (cc)
 never_span port (errors.TooLong at len) same = absurd (cc)
@@ -87,15 +81,6 @@ never_span port errors.Bytes same = absurd (cc)
 never_span port errors.Frames same = absurd (cc)
 never_span port (errors.Read f) same = absurd (cc)
 never_span port errors.Memory same = absurd (cc)
-
--- an error that is no read fault counts none
-pub spared : (port : ℕ) (q : CapError) (old new : Seen) → SparesReads old new (Err q) → fault_by q port ≢ fault.Read → SameReadFaults old new
-spared port (errors.Cut at) old new spares other = spares
-spared port (errors.TooLong at len) old new spares other = spares
-spared port errors.Bytes old new spares other = spares
-spared port errors.Frames old new spares other = spares
-spared port (errors.Read f) old new spares other = absurd (other refl)
-spared port errors.Memory old new spares other = spares
 
 -- ---- before the first
 

@@ -15,12 +15,13 @@ use Rattle.pcap_file.specs.declared.Record.{Record}
 use Rattle.pcap_file.proofs.lemmas.Numbers.{le_or_lt}
 use Rattle.fab_gather.specs.declared.shelf.Input.{Input}
 use Rattle.fab_gather.specs.declared.shelf.Shelf.{Shelf}
-use Rattle.fab_gather.specs.declared.fault.GatherFault.{GatherFault}
-use Rattle.fab_gather.specs.declared.fault.GatherFault.TheVariants as fault
-use Rattle.fab_gather.specs.declared.fault.LimitKind.TheVariants as limit
+use Rattle.pcap_file.specs.declared.fault.GatherFault.{GatherFault}
+use Rattle.pcap_file.specs.declared.fault.GatherFault.TheVariants as fault
+use Rattle.pcap_file.specs.declared.fault.LimitKind.TheVariants as limit
 use Rattle.fab_gather.specs.Gather.{TakesAll}
 use Rattle.fab_gather.specs.Port.{IsReady, Spends, AreOf, Taking, TakesWindow, PortStand, stand_at, port_walk_at, LeavesPort, to_look}
-use Rattle.fab_gather.specs.Ports.{AreInputs, AreReady, At, Walk, walk_at, Took, slots_of, NameIn, rests, joined, stop_after, counts_of}
+use Rattle.fab_base.specs.Slots.{NameIn}
+use Rattle.fab_gather.specs.Ports.{AreInputs, AreReady, At, Walk, walk_at, Took, slots_of, rests, joined, stop_after, counts_of}
 use Rattle.fab_gather.proofs.OrderLemmas.{TakesAt, taken_at, Sorted, AllNotBefore, Leads, EachBefore, each-append, each-nil, leads_more, sorted_leads, sorted_looks, later_looks, later_not_before, made_before}
 use Rattle.fab_gather.proofs.LeavesLemmas.{took_leaves, waits_leaves, leaves_from}
 use Rattle.fab_gather.proofs.PortLemmas.{are_of-push}

@@ -4,7 +4,8 @@ use Rattle.std.proofs.lemmas.Option.{slice_get_within}
 use Rattle.fab_base.specs.Seen.{Seen, Reads, Rose, Touches, Nothing, Only}
 use Rattle.fab_base.proofs.SeenLemmas.{touches_trans, touches_wider, reads_touches, rose_later}
 use Rattle.fab_gather.specs.declared.shelf.Input.{Input}
-use Rattle.fab_gather.specs.Ports.{AreInputs, slots_of, slot_at, name_of, NameIn}
+use Rattle.fab_base.specs.Slots.{slot_at, name_of, NameIn}
+use Rattle.fab_gather.specs.Ports.{AreInputs, slots_of}
 
 -- ---- places in lists
 

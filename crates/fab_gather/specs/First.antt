@@ -12,10 +12,12 @@ use Rattle.pcap_file.specs.declared.Budget.{Budget}
 use Rattle.pcap_file.specs.declared.Record.{Record}
 use Rattle.fab_gather.specs.declared.shelf.Input.{Input}
 use Rattle.fab_gather.specs.declared.shelf.Shelf.{Shelf}
-use Rattle.fab_gather.specs.declared.fault.GatherFault.{GatherFault}
-use Rattle.fab_gather.specs.declared.fault.GatherFault.TheVariants as fault
-use Rattle.fab_gather.specs.Port.{IsReady, Spends, Gave, to_look, ending, IsStopped, TellsReads}
-use Rattle.fab_gather.specs.Ports.{slots_of, name_of, NameIn, TakesFrom, rests, joined, stop_from, AreReady, counts_of}
+use Rattle.pcap_file.specs.declared.fault.GatherFault.{GatherFault}
+use Rattle.pcap_file.specs.declared.fault.GatherFault.TheVariants as fault
+use Rattle.pcap_file.specs.Faults.{IsStopped, TellsReads}
+use Rattle.fab_gather.specs.Port.{IsReady, Spends, Gave, to_look, ending}
+use Rattle.fab_base.specs.Slots.{name_of, NameIn}
+use Rattle.fab_gather.specs.Ports.{slots_of, TakesFrom, rests, joined, stop_from, AreReady, counts_of}
 use Rattle.fab_gather.specs.Reads.{HaveRead}
 
 -- ---- the captures that are handed in

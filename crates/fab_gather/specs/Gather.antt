@@ -3,11 +3,13 @@ use Rattle.std.specs.Prelude.{◌≡◌, ℕ, ◌+◌, ◌-◌, ◌<◌, ◌↔�
 use Rattle.fab_base.specs.Seen.{Touches, Nothing, Rose, SameWriteFaults}
 use Rattle.fab_config.specs.Settings.{Settings}
 use Rattle.fab_gather.specs.Looks.{Stop, MOST_SPAN}
-use Rattle.fab_gather.specs.declared.fault.LimitKind.TheVariants as limit
-use Rattle.fab_gather.specs.declared.fault.GatherFault.{GatherFault}
-use Rattle.fab_gather.specs.declared.fault.GatherFault.TheVariants as fault
-use Rattle.fab_gather.specs.Port.{Spends, IsStopped, ending, TellsReads}
-use Rattle.fab_gather.specs.Ports.{slots_of, name_of, NameIn, AreReady, TakesFrom, Walk, TookAll, LeavesAll, counts_of, stop_after}
+use Rattle.pcap_file.specs.declared.fault.LimitKind.TheVariants as limit
+use Rattle.pcap_file.specs.declared.fault.GatherFault.{GatherFault}
+use Rattle.pcap_file.specs.declared.fault.GatherFault.TheVariants as fault
+use Rattle.pcap_file.specs.Faults.{IsStopped, TellsReads}
+use Rattle.fab_gather.specs.Port.{Spends, ending}
+use Rattle.fab_base.specs.Slots.{name_of, NameIn}
+use Rattle.fab_gather.specs.Ports.{slots_of, AreReady, TakesFrom, Walk, TookAll, LeavesAll, counts_of, stop_after}
 
 -- What gathering a window does: the looks to come stop where they stopped, or it ends as the first stop among them says.
 -- A window that starts too late changes nothing.

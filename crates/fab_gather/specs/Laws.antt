@@ -10,8 +10,8 @@ use Rattle.pcap_file.specs.declared.Budget.{Budget}
 use Rattle.pcap_file.specs.declared.Record.{Record}
 use Rattle.fab_gather.specs.declared.shelf.Input.{Input}
 use Rattle.fab_gather.specs.declared.shelf.Shelf.{Shelf}
-use Rattle.fab_gather.specs.declared.fault.LimitKind.TheVariants as limit
-use Rattle.fab_gather.specs.declared.fault.GatherFault.TheVariants as fault
+use Rattle.pcap_file.specs.declared.fault.LimitKind.TheVariants as limit
+use Rattle.pcap_file.specs.declared.fault.GatherFault.TheVariants as fault
 use Rattle.fab_gather.specs.First.{IsNextWindow}
 use Rattle.fab_gather.specs.Port.{Spends, AreIn, ending}
 use Rattle.fab_gather.specs.Ports.{AreReady, Walk, TookAll, rests, joined, stop_from, counts_of}

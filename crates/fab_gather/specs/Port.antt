@@ -8,44 +8,15 @@ use Rattle.pcap_file.specs.Capture.{RECORD_HEAD}
 use Rattle.pcap_file.specs.Reading.{Reading, to_come, error_of}
 use Rattle.pcap_file.specs.Records.{Chain, last_moment}
 use Rattle.pcap_file.specs.declared.Budget.{Budget}
-use Rattle.pcap_file.specs.declared.CapError.{CapError}
-use Rattle.pcap_file.specs.declared.CapError.TheVariants as errors
-use Rattle.pcap_file.specs.declared.CapFault.{CapFault}
-use Rattle.pcap_file.specs.declared.CapFault.TheVariants as heads
-use Rattle.pcap_file.specs.declared.CapOpen.{CapOpen}
-use Rattle.pcap_file.specs.declared.CapOpen.TheVariants as opens
 use Rattle.pcap_file.specs.declared.Record.{Record}
+use Rattle.pcap_file.specs.Faults.{fault_by, IsStopped, TellsReads}
 use Rattle.fab_gather.specs.declared.shelf.Input.{Input}
 use Rattle.fab_gather.specs.declared.shelf.Shelf.{Shelf}
-use Rattle.fab_gather.specs.declared.fault.CapWhy.{CapWhy}
-use Rattle.fab_gather.specs.declared.fault.CapWhy.TheVariants as why
-use Rattle.fab_gather.specs.declared.fault.LimitKind.TheVariants as limit
-use Rattle.fab_gather.specs.declared.fault.GatherFault.{GatherFault}
-use Rattle.fab_gather.specs.declared.fault.GatherFault.TheVariants as fault
+use Rattle.pcap_file.specs.declared.fault.LimitKind.TheVariants as limit
+use Rattle.pcap_file.specs.declared.fault.GatherFault.{GatherFault}
+use Rattle.pcap_file.specs.declared.fault.GatherFault.TheVariants as fault
 
 -- ---- endings
-
--- the word for the fault of a head
-abbrev pub why_of : CapFault → CapWhy
-why_of heads.Short = why.Short
-why_of heads.BadMagic = why.Magic
-why_of heads.BadVersion = why.Version
-why_of heads.NotEthernet = why.Link
-
--- what an error of opening a port's capture ends the reading with
-abbrev pub open_fault_by : CapOpen → ℕ → GatherFault
-open_fault_by (opens.Head head) port = fault.Capture port 0 (why_of head)
-open_fault_by (opens.Read failed) port = fault.Read
-open_fault_by opens.Bytes port = fault.Limit limit.Bytes
-
--- what an error of the reader of a port ends the reading with
-abbrev pub fault_by : CapError → ℕ → GatherFault
-fault_by (errors.Cut at) port = fault.Capture port at why.Cut
-fault_by (errors.TooLong at len) port = fault.Capture port at why.Long
-fault_by errors.Bytes port = fault.Limit limit.Bytes
-fault_by errors.Frames port = fault.Limit limit.Frames
-fault_by (errors.Read failed) port = fault.Read
-fault_by errors.Memory port = fault.Memory
 
 -- what a stop ends the reading with: what the reader's error there does, or the limit of the span
 abbrev pub ending_of : Reason → ℕ → ℕ → GatherFault
@@ -54,17 +25,6 @@ ending_of Span port at = fault.Limit limit.Span
 
 abbrev pub ending : Stop → GatherFault
 ending s = ending_of s.why s.port s.at
-
--- an ending that stands in the captures, and not in the store or in the memory
-abbrev pub IsStopped : GatherFault → Type 0
-IsStopped (fault.Capture port at w) = Unit {0}
-IsStopped (fault.Limit kind) = Unit {0}
-IsStopped fault.Read = ⊥
-IsStopped fault.Memory = ⊥
-
--- Every fault of reading is told: none is counted where the answer isn't `Read`. So want of memory never stands for one.
-abbrev pub TellsReads : {T : Type 0} → Seen → Seen → Result T GatherFault → Type 0
-TellsReads old new result = ¬ IsErrOf result fault.Read → SameReadFaults old new
 
 -- ---- a port
 

@@ -1,6 +1,7 @@
 -- The records of a window, taken of all ports in their order.
 use Rattle.std.specs.Prelude.{◌≡◌, ◌≢◌, ℕ, ◌+◌, ◌≤◌, ◌<◌, IsTrue, List, [], ◌∷◌, ◌++◌, length, map, Option, Some, None, IfSome, option_to_list, slice_get, slice_index}
 use Rattle.fab_base.specs.Seen.{Seen}
+use Rattle.fab_base.specs.Slots.{slot_at, name_of}
 use Rattle.fab_config.specs.Settings.{Settings}
 use Rattle.fab_policy.specs.Legal.{window_start}
 use Rattle.fab_gather.specs.Looks.{Look, in_order, stop_in, Stop}
@@ -16,17 +17,6 @@ use Rattle.fab_gather.specs.Port.{IsReady, AreIn, to_look, PortStand, stand_at, 
 
 abbrev pub slots_of : List Input → List ℕ
 slots_of ins = map (λ i. i.slot) ins
-
-abbrev pub slot_at : List ℕ → ℕ → ℕ
-slot_at slots q = slice_index slots q
-
--- the name of one of these slots
-abbrev pub name_of : Seen → List ℕ → ℕ → List ℕ
-name_of d slots q = d.name (slot_at slots q)
-
--- a name of one of them
-abbrev pub NameIn : Seen → List ℕ → List ℕ → Type 0
-NameIn d slots m = (q : ℕ) × (q < length slots) × (m ≡ name_of d slots q)
 
 -- slots that are open inputs of different names
 pub record AreInputs (d : Seen) (slots : List ℕ) : Type 0 where

@@ -5,10 +5,9 @@ ghost use Rattle.fab_gather.specs.First.{AreFresh, IsFresh, LooksFirst, LooksOnc
 ghost use Rattle.fab_gather.specs.Ports.{AreInputs, slots_of};
 ghost use Rattle.pcap_file.specs.Reading.{reader_stand};
 
-use crate::fault::fault_of;
 use crate::{GatherFault, Input, Shelf, looks_go_on, steps_find_the_stop};
 use fab_base::{Depot, PortNo};
-use pcap_file::Budget;
+use pcap_file::{Budget, fault_of};
 use std::alloc::Global;
 
 /// Looks at the first record of each port, in port order. Nothing is on the shelves then.

@@ -2,12 +2,11 @@
 ghost use Rattle.std.specs.Prelude.{◌≡◌, IsTrue};
 ghost use Rattle.fab_gather.specs.Port.{IsReady, TakesWindow, is_in, port_walk_at};
 
-use crate::fault::fault_of;
 use crate::window::window_start;
 use crate::{GatherFault, Input, Shelf, looks_go_on, steps_find_the_stop};
 use fab_base::{Depot, PortNo};
 use fab_config::Config;
-use pcap_file::{Budget, Record};
+use pcap_file::{Budget, Record, fault_of};
 use std::alloc::Global;
 
 /// Takes the records of a window of a port into its shelf, in place of those that it has, and looks

@@ -8,7 +8,7 @@ use Rattle.pcapng_file.specs.declared.NgRecord.{NgRecord}
 use Rattle.fab_policy.specs.Growing.{with_more}
 use Rattle.fab_policy.specs.Journal.{followed}
 use Rattle.fab_policy.specs.Legal.{of_port, numbered_from, window_start}
-use Rattle.fab_policy.specs.Logins.{counting}
+use Rattle.fab_base.specs.Counting.{counting}
 use Rattle.fab_policy.specs.Standing.{Contents}
 use Rattle.fab_policy.specs.declared.event.Event.{Event}
 use Rattle.fab_gather.specs.Laws.{AllIn, HasSome}

@@ -6,7 +6,7 @@ use Rattle.pcap_file.specs.declared.Record.{Record}
 use Rattle.fab_policy.specs.Growing.{AllBelow}
 use Rattle.fab_policy.specs.Journal.{followed}
 use Rattle.fab_policy.specs.Legal.{Run}
-use Rattle.fab_policy.specs.Logins.{counting}
+use Rattle.fab_base.specs.Counting.{counting}
 use Rattle.fab_policy.specs.Outputs.{State, state_of}
 use Rattle.fab_policy.specs.Standing.{Contents, Stands, sent_after}
 use Rattle.fab_windows.specs.Steps.{Sofar}

@@ -8,7 +8,7 @@ use Rattle.fab_base.proofs.SeenLemmas.{touches_refl, touches_trans, touches_wide
 use Rattle.fab_config.specs.Settings.{Settings}
 use Rattle.pcap_file.specs.Capture.{head_bytes}
 use Rattle.fab_policy.specs.Text.{text, head_line}
-use Rattle.fab_gather.specs.Ports.{name_of, NameIn}
+use Rattle.fab_base.specs.Slots.{name_of, NameIn}
 use Rattle.run_files.specs.Outputs.{PutsEach}
 use Rattle.run_files.specs.Pages.{piece_at}
 use Rattle.run_files.proofs.OutputLemmas.{stays_named, same_name}

@@ -16,7 +16,7 @@ use Rattle.fab_policy.specs.Journal.{Journal}
 use Rattle.run_files.proofs.OutputLemmas.{stays_named, same_name}
 use Rattle.run_files.specs.Faults.{NoFaults}
 use Rattle.fab_windows.specs.declared.Done.{Done}
-use Rattle.fab_gather.specs.declared.fault.LimitKind.TheVariants as limits
+use Rattle.pcap_file.specs.declared.fault.LimitKind.TheVariants as limits
 use Rattle.fab_live.specs.declared.live.Live.{Live}
 use Rattle.fab_live.specs.declared.fault.LiveFault.{LiveFault}
 use Rattle.fab_live.specs.declared.fault.LiveFault.TheVariants as fault

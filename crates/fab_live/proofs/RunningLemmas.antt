@@ -27,7 +27,7 @@ use Rattle.fab_windows.specs.Steps.{Sofar}
 use Rattle.fab_windows.specs.Turns.{Laws}
 use Rattle.fab_windows.proofs.CountLemmas.{entries_few}
 use Rattle.fab_windows.proofs.SentLemmas.{clock_is}
-use Rattle.fab_gather.specs.declared.fault.LimitKind.TheVariants as limits
+use Rattle.pcap_file.specs.declared.fault.LimitKind.TheVariants as limits
 use Rattle.fab_live.specs.declared.live.Live.{Live}
 use Rattle.fab_windows.specs.declared.pages.Pages.{Pages}
 use Rattle.fab_live.specs.declared.fault.LiveFault.{LiveFault}

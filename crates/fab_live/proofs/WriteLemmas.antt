@@ -6,7 +6,7 @@ use Rattle.std.proofs.lemmas.List.{append-nil, take-append-drop}
 use Rattle.fab_base.specs.Seen.{Seen, Rose, SameWriteFaults, PutsAll, Touches, Only}
 use Rattle.fab_base.specs.declared.values.Failed.{Failed}
 use Rattle.fab_base.proofs.SeenLemmas.{touches_trans, touches_wider, keeps_touches}
-use Rattle.fab_gather.specs.Ports.{name_of, slot_at, NameIn}
+use Rattle.fab_base.specs.Slots.{name_of, slot_at, NameIn}
 use Rattle.run_files.specs.Pages.{piece_at}
 use Rattle.run_files.proofs.OutputLemmas.{stays_named, same_name, outputs_stay}
 use Rattle.fab_windows.specs.Files.{Written, Hold, Pending, Writes}

@@ -2,7 +2,7 @@
 use Rattle.std.specs.Prelude.{◌≡◌, ◌≢◌, ℕ, ◌<◌, ◌⊎◌, IsTrue, List, ◌++◌, length, Some, Result, OnOk, IsErrOf}
 use Rattle.fab_base.specs.Seen.{Seen, Touches, Rose, SameReadFaults, SameWriteFaults}
 use Rattle.fab_policy.specs.Written.{IsPrefixOf}
-use Rattle.fab_gather.specs.Ports.{name_of, NameIn}
+use Rattle.fab_base.specs.Slots.{name_of, NameIn}
 use Rattle.run_files.specs.Outputs.{AreOutputs}
 use Rattle.run_files.specs.Pages.{piece_at}
 use Rattle.fab_windows.specs.Files.{AreFiles, Written, Hold, HoldFronts, Pending, file_bytes}

@@ -13,7 +13,7 @@ use Rattle.pcapng_file.specs.Stream.{BeginsWith}
 use Rattle.fab_policy.specs.Journal.{Journal, frame_count}
 use Rattle.fab_policy.specs.Legal.{window_start}
 use Rattle.fab_policy.specs.Standing.{Contents}
-use Rattle.fab_gather.specs.declared.fault.LimitKind.TheVariants as limits
+use Rattle.pcap_file.specs.declared.fault.LimitKind.TheVariants as limits
 use Rattle.fab_windows.specs.declared.Done.{Done}
 use Rattle.fab_windows.specs.Files.{Hold, Wholes, Fronts, text_so_far, captures_so_far}
 use Rattle.fab_windows.specs.Pages.{IsNothing, pending}

@@ -6,7 +6,8 @@ use Rattle.fab_base.specs.Fabric.{Past, past_at}
 use Rattle.fab_config.specs.Settings.{Settings, is_in_range}
 use Rattle.fab_policy.specs.Free.{Request, is_open, is_free, has_free}
 use Rattle.fab_policy.specs.Journal.{Journal}
-use Rattle.fab_policy.specs.Logins.{NPort, counting, ends, grants, n_port, login, last_grant, since, is_live, end_clock}
+use Rattle.fab_base.specs.Counting.{counting}
+use Rattle.fab_policy.specs.Logins.{NPort, ends, grants, n_port, login, last_grant, since, is_live, end_clock}
 use Rattle.fab_policy.specs.Ranged.{IsRanged}
 use Rattle.fab_policy.specs.Rules.{holds}
 use Rattle.fab_policy.specs.State.{Tables, LivePort, tables_of, live_port, with_all, past_of, port_at}

@@ -25,7 +25,8 @@ use Rattle.fab_policy.specs.Cause.{Cause}
 use Rattle.fab_policy.specs.Heard.{What, Bad, Fip, Fcoe, decoded, plain, fc_of, s_id, d_id, ask_of, carried}
 use Rattle.fab_policy.specs.Legal.{Legal}
 use Rattle.fab_policy.specs.Live.{IsLive, IsEndedBy, asked_about, listed, AnswersAreLive, EndsAreLive, notices_of, LegalNamesTheLive}
-use Rattle.fab_policy.specs.Logins.{NPort, login, ends, counting, granted_mac}
+use Rattle.fab_base.specs.Counting.{counting}
+use Rattle.fab_policy.specs.Logins.{NPort, login, ends, granted_mac}
 use Rattle.fab_policy.specs.Outputs.{Notice, notices, told, told_of, told_of_zones, ended_by, granted_by, changed_by, watchers, is_watcher, has_changed, differs}
 use Rattle.fab_policy.specs.Queries.{known, visible, known_to, query, refusal, ask_refusal, fault_refusal}
 use Rattle.fab_policy.specs.Rules.{joined, first_row, rule_for, fcoe_rows, is_wrong_vlan, is_class3, holds, is_els_request, is_els_reply, NAME_SERVER, SERVICES}

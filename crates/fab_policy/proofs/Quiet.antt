@@ -8,7 +8,8 @@ use Rattle.fab_base.specs.Fabric.{is_silent, PORT_PERIOD}
 use Rattle.fab_config.specs.Settings.{Settings}
 use Rattle.zone_rules.specs.Joined.{contains}
 use Rattle.fab_policy.specs.Journal.{Journal, now}
-use Rattle.fab_policy.specs.Logins.{counting, grants, ends, n_port, hears_node, hears_port}
+use Rattle.fab_base.specs.Counting.{counting}
+use Rattle.fab_policy.specs.Logins.{grants, ends, n_port, hears_node, hears_port}
 use Rattle.fab_policy.specs.State.{LivePort, live_port, is_overdue, addresses}
 use Rattle.fab_policy.specs.Steps.{touched, fresh}
 use Rattle.fab_policy.specs.Legal.{Legal}

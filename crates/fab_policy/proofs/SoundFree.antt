@@ -6,7 +6,8 @@ use Rattle.fab_base.specs.declared.values.Caught.{Caught}
 use Rattle.fab_config.specs.Settings.{Settings}
 use Rattle.fab_policy.specs.Journal.{Journal}
 use Rattle.fab_policy.specs.Legal.{Legal}
-use Rattle.fab_policy.specs.Logins.{NPort, counting, ends, grants, n_port, login, last_grant, is_live, end_clock}
+use Rattle.fab_base.specs.Counting.{counting}
+use Rattle.fab_policy.specs.Logins.{NPort, ends, grants, n_port, login, last_grant, is_live, end_clock}
 use Rattle.fab_policy.specs.declared.event.Event.{Event}
 use Rattle.fab_policy.specs.declared.event.Event.TheVariants.{Frame}
 use Rattle.fab_policy.specs.declared.verdict.Verdict.TheVariants.{Granted}

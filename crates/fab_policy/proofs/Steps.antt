@@ -15,7 +15,8 @@ use Rattle.ct_messages.specs.declared.TypeMap.{TypeMap}
 use Rattle.ct_messages.specs.Server.{Values, NO_TYPES, NO_FEATURES, first_values}
 use Rattle.fab_policy.specs.Registered.{newest, feature, values, registrations, registration, says_node, says_types, says_feature, says_symbol, says_node_symbol}
 use Rattle.fab_policy.specs.State.{LivePort, Tables, with_all, live_port, past_of, past_made, port_at, tables_of}
-use Rattle.fab_policy.specs.Logins.{NPort, login, is_live, end_clock, up_to_end, pool, grants, n_port, ends, last_grant, since, counting, server, watch, says_server, says_watch, node_heard, port_heard, hears_node, hears_port}
+use Rattle.fab_base.specs.Counting.{counting}
+use Rattle.fab_policy.specs.Logins.{NPort, login, is_live, end_clock, up_to_end, pool, grants, n_port, ends, last_grant, since, server, watch, says_server, says_watch, node_heard, port_heard, hears_node, hears_port}
 use Rattle.fab_policy.specs.Steps.{login_after, StepsLogin, said, features_after, values_after, touched, fresh, port_after, past_after, clock_after, after, Steps}
 use Rattle.fab_policy.specs.declared.event.Event.{Event}
 use Rattle.fab_policy.specs.declared.event.Event.TheVariants.{Tick, Frame}

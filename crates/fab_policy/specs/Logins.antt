@@ -1,6 +1,7 @@
 -- Who is logged in, since when, and what it did since (FC-LS-2, "Login"; FC-BB-5, "FIP FLOGI" and "FIP keep alive").
-use Rattle.std.specs.Prelude.{ℕ, zero, suc, ◌+◌, ◌*◌, Bool, true, false, not, ◌==◌, ◌&&◌, if◌then◌else◌, List, [], ◌∷◌, Option, Some, None, is_some, unwrap_or, option_and_then}
+use Rattle.std.specs.Prelude.{ℕ, ◌+◌, ◌*◌, Bool, true, false, not, ◌==◌, ◌&&◌, if◌then◌else◌, List, [], ◌∷◌, Option, Some, None, is_some, unwrap_or, option_and_then}
 use Rattle.std.specs.List.{list_any}
+use Rattle.fab_base.specs.Counting.{counting}
 use Rattle.fab_base.specs.Fabric.{same_enode, fpma}
 use Rattle.fab_base.specs.declared.values.Enode.{Enode}
 use Rattle.fab_config.specs.Settings.{Settings}
@@ -67,11 +68,6 @@ abbrev pub end_clock : ℕ → Journal → ℕ
 end_clock a J = now (up_to_end a J)
 
 -- ---- the pool
-
--- n numbers from this one on
-abbrev pub counting : ℕ → ℕ → List ℕ
-counting from zero = []
-counting from (suc n) = from ∷ counting (from + 1) n
 
 -- the addresses that are granted, ascending
 abbrev pub pool : Settings → List ℕ

@@ -11,7 +11,8 @@ use Rattle.ct_messages.specs.declared.CtTell.TheVariants as tell
 use Rattle.fip_codec.specs.declared.message.VxPort.{VxPort}
 use Rattle.fab_policy.specs.Journal.{Journal}
 use Rattle.fab_policy.specs.Heard.{s_id, ask_of, login_of}
-use Rattle.fab_policy.specs.Logins.{ends, granted_mac, counting}
+use Rattle.fab_base.specs.Counting.{counting}
+use Rattle.fab_policy.specs.Logins.{ends, granted_mac}
 use Rattle.fab_policy.specs.State.{Tables, LivePort, tables_of, now_of, port_at}
 use Rattle.fab_policy.specs.Rules.{joined}
 use Rattle.fab_policy.specs.Queries.{query}

@@ -3,7 +3,7 @@ use Rattle.std.specs.Prelude.{◌≡◌, ℕ, ◌⊎◌, List, [], ◌∷◌, �
 use Rattle.fab_config.specs.Settings.{Settings}
 use Rattle.pcap_file.specs.declared.Record.{Record}
 use Rattle.fab_policy.specs.Journal.{Journal}
-use Rattle.fab_policy.specs.Logins.{counting}
+use Rattle.fab_base.specs.Counting.{counting}
 use Rattle.fab_policy.specs.State.{Tables, LivePort, tables_of, overdue, now_of}
 use Rattle.fab_policy.specs.Legal.{Legal, HasPorts, HoldsFrames, window_start}
 use Rattle.fab_policy.specs.Text.{text, text1, egress}

@@ -12,9 +12,10 @@ use Rattle.fab_policy.specs.declared.line.Format.{Format}
 use Rattle.pcap_file.specs.declared.Record.{Record}
 use Rattle.fab_gather.specs.declared.shelf.Input.{Input}
 use Rattle.fab_gather.specs.declared.shelf.Shelf.{Shelf}
-use Rattle.fab_gather.specs.declared.fault.GatherFault.{GatherFault}
+use Rattle.pcap_file.specs.declared.fault.GatherFault.{GatherFault}
 use Rattle.fab_gather.specs.First.{IsNextWindow, LooksFirst, Start}
-use Rattle.fab_gather.specs.Ports.{AreInputs, NameIn, slots_of, stop_from, walk_at}
+use Rattle.fab_base.specs.Slots.{NameIn}
+use Rattle.fab_gather.specs.Ports.{AreInputs, slots_of, stop_from, walk_at}
 use Rattle.fab_replay.specs.Laws.{Laws}
 use Rattle.fab_replay.specs.Lines.{IsBehind, IsInside, text_in}
 use Rattle.fab_replay.specs.Owed.{AreNew}

@@ -3,9 +3,9 @@ use Rattle.std.proofs.Common.{◌≡◌, Result, Ok, Err, refl, ◌∙◌, ap}
 use Rattle.std.specs.Prelude.{IsErrOf}
 use Rattle.std.specs.Result.{IsErrAnd}
 use Rattle.fab_base.specs.Seen.{Seen, SameReadFaults, SameWriteFaults}
-use Rattle.fab_gather.specs.Port.{TellsReads}
-use Rattle.fab_gather.specs.declared.fault.GatherFault.{GatherFault}
-use Rattle.fab_gather.specs.declared.fault.GatherFault.TheVariants as gather_fault
+use Rattle.pcap_file.specs.Faults.{TellsReads}
+use Rattle.pcap_file.specs.declared.fault.GatherFault.{GatherFault}
+use Rattle.pcap_file.specs.declared.fault.GatherFault.TheVariants as gather_fault
 use Rattle.fab_replay.specs.Counts.{TellsFaults}
 use Rattle.fab_replay.specs.Windows.{check_fault}
 use Rattle.fab_replay.specs.declared.fault.CheckFault.{CheckFault}

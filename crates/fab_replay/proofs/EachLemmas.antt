@@ -10,7 +10,8 @@ use Rattle.fab_base.proofs.SeenLemmas.{rose_later, touches_refl, touches_trans, 
 use Rattle.fab_replay.specs.AllOutputs.{page_at, AreRead, OneRose, FeedsEach, FinishesEach}
 use Rattle.fab_replay.specs.Outputs.{IsRead, GoesPart, Feeds, Finishes}
 use Rattle.fab_replay.proofs.OutputLemmas.{part_none}
-use Rattle.fab_gather.specs.Ports.{AreInputs, slot_at, name_of, NameIn}
+use Rattle.fab_base.specs.Slots.{slot_at, name_of, NameIn}
+use Rattle.fab_gather.specs.Ports.{AreInputs}
 use Rattle.fab_replay.specs.declared.outputs.Compared.{Compared}
 
 -- ---- places in lists

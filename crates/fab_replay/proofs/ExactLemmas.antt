@@ -6,8 +6,8 @@ use Rattle.fab_policy.specs.Journal.{Journal}
 use Rattle.fab_gather.specs.Looks.{Stop, all_records}
 use Rattle.fab_policy.specs.Standing.{Stands}
 use Rattle.fab_gather.specs.Port.{ending}
-use Rattle.fab_gather.specs.declared.fault.GatherFault.{GatherFault}
-use Rattle.fab_gather.specs.declared.fault.GatherFault.TheVariants as gather_fault
+use Rattle.pcap_file.specs.declared.fault.GatherFault.{GatherFault}
+use Rattle.pcap_file.specs.declared.fault.GatherFault.TheVariants as gather_fault
 use Rattle.pcap_file.specs.declared.Budget.{Budget}
 use Rattle.fab_replay.specs.AllOutputs.{IsFirst}
 use Rattle.fab_replay.specs.Check.{IsFirstLine, IsFirstOutput, IsFirstStop, Matter, sent_on}

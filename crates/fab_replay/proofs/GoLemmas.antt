@@ -19,12 +19,13 @@ use Rattle.pcap_file.specs.declared.Budget.{Budget}
 use Rattle.pcap_file.specs.declared.Record.{Record}
 use Rattle.fab_gather.specs.declared.shelf.Input.{Input}
 use Rattle.fab_gather.specs.declared.shelf.Shelf.{Shelf}
-use Rattle.fab_gather.specs.declared.fault.GatherFault.{GatherFault}
-use Rattle.fab_gather.specs.declared.fault.GatherFault.TheVariants as gather_fault
+use Rattle.pcap_file.specs.declared.fault.GatherFault.{GatherFault}
+use Rattle.pcap_file.specs.declared.fault.GatherFault.TheVariants as gather_fault
 use Rattle.fab_gather.specs.First.{IsNextWindow, opened_in}
 use Rattle.fab_gather.specs.Gather.{Gathers}
-use Rattle.fab_gather.specs.Port.{IsStopped}
-use Rattle.fab_gather.specs.Ports.{AreInputs, NameIn, Walk, slot_at, slots_of, stop_from, walk_at}
+use Rattle.pcap_file.specs.Faults.{IsStopped}
+use Rattle.fab_base.specs.Slots.{NameIn, slot_at}
+use Rattle.fab_gather.specs.Ports.{AreInputs, Walk, slots_of, stop_from, walk_at}
 use Rattle.fab_gather.specs.Reads.{HaveRead, IsWhole, batches_of}
 use Rattle.fab_replay.specs.AllOutputs.{IsFirst, OneRose, page_at}
 use Rattle.fab_replay.specs.Check.{Checks, IsFirstStop, NamesRun, Says, sent_on, Task, captures_in, matter_of, slots_in}

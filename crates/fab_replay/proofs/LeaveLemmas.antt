@@ -10,9 +10,9 @@ use Rattle.fab_policy.specs.Standing.{Contents, sent_after}
 use Rattle.fab_gather.specs.Looks.{all_kept}
 use Rattle.pcap_file.specs.declared.Budget.{Budget}
 use Rattle.pcap_file.specs.declared.Record.{Record}
-use Rattle.fab_gather.specs.Port.{IsStopped}
-use Rattle.fab_gather.specs.declared.fault.GatherFault.{GatherFault}
-use Rattle.fab_gather.specs.declared.fault.GatherFault.TheVariants as gather_fault
+use Rattle.pcap_file.specs.Faults.{IsStopped}
+use Rattle.pcap_file.specs.declared.fault.GatherFault.{GatherFault}
+use Rattle.pcap_file.specs.declared.fault.GatherFault.TheVariants as gather_fault
 use Rattle.fab_replay.specs.Check.{HasAll, HasKept, Matter, Task, matter_of}
 use Rattle.fab_replay.specs.Lines.{IsBehind, IsOfLine}
 use Rattle.fab_replay.specs.Steps.{IsAlong, IsFound, Left, Scene}

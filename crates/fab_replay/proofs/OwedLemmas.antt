@@ -10,7 +10,8 @@ use Rattle.fab_base.specs.declared.values.Failed.{Failed}
 use Rattle.fab_base.proofs.SeenLemmas.{touches_trans, touches_wider}
 use Rattle.fab_config.specs.Settings.{Settings}
 use Rattle.fab_gather.proofs.SlotLemmas.{push_before, push_last}
-use Rattle.fab_gather.specs.Ports.{AreInputs, NameIn, slot_at}
+use Rattle.fab_base.specs.Slots.{NameIn, slot_at}
+use Rattle.fab_gather.specs.Ports.{AreInputs}
 use Rattle.fab_pages.proofs.PageLemmas.{length-items, page_of}
 use Rattle.fab_pages.specs.Pages.{items_in, piece_at}
 use Rattle.fab_policy.specs.Journal.{Journal}

@@ -4,7 +4,8 @@ use Rattle.std.specs.Prelude.{option_to_list}
 use Rattle.fab_base.specs.Seen.{Seen}
 use Rattle.fab_config.specs.Settings.{Settings}
 use Rattle.fab_gather.specs.Port.{to_look}
-use Rattle.fab_gather.specs.Ports.{joined, rests, slot_at, slots_of, stop_from}
+use Rattle.fab_base.specs.Slots.{slot_at}
+use Rattle.fab_gather.specs.Ports.{joined, rests, slots_of, stop_from}
 use Rattle.fab_gather.specs.Reads.{HasRead, HaveRead}
 use Rattle.fab_gather.specs.declared.shelf.Input.{Input}
 use Rattle.fab_gather.specs.declared.shelf.Shelf.{Shelf}

@@ -4,7 +4,7 @@ use Rattle.std.specs.declared.alloc.Global.{Global}
 use Rattle.fab_base.specs.Seen.{Seen, Rose, Touches, Nothing, SameReadFaults, SameWriteFaults}
 use Rattle.fab_base.specs.declared.values.Failed.{Failed}
 use Rattle.fab_pages.specs.Pages.{items_in, piece_at}
-use Rattle.fab_gather.specs.Ports.{slot_at, name_of, NameIn}
+use Rattle.fab_base.specs.Slots.{slot_at, name_of, NameIn}
 use Rattle.fab_replay.specs.Outputs.{IsCompared, IsRead, GoesPart}
 use Rattle.fab_replay.specs.declared.outputs.Compared.{Compared}
 

@@ -11,12 +11,13 @@ use Rattle.fab_policy.specs.Standing.{Contents, Stands}
 use Rattle.fab_policy.specs.Text.{egress}
 use Rattle.fab_policy.specs.Written.{IsNamed}
 use Rattle.fab_gather.specs.Looks.{all_kept}
-use Rattle.fab_gather.specs.declared.fault.GatherFault.{GatherFault}
-use Rattle.fab_gather.specs.declared.fault.GatherFault.TheVariants as gather_fault
+use Rattle.pcap_file.specs.declared.fault.GatherFault.{GatherFault}
+use Rattle.pcap_file.specs.declared.fault.GatherFault.TheVariants as gather_fault
 use Rattle.fab_gather.specs.declared.shelf.Input.{Input}
 use Rattle.fab_gather.specs.First.{Start, opened_in, start_at}
 use Rattle.fab_gather.specs.Port.{ending}
-use Rattle.fab_gather.specs.Ports.{slots_of, slot_at, NameIn}
+use Rattle.fab_base.specs.Slots.{slot_at, NameIn}
+use Rattle.fab_gather.specs.Ports.{slots_of}
 use Rattle.fab_gather.specs.Reads.{IsWhole}
 use Rattle.fab_replay.specs.AllOutputs.{IsFirst, OneRose}
 use Rattle.fab_replay.specs.Front.{AreRightLines, IsFirstWrong}

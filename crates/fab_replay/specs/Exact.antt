@@ -2,7 +2,7 @@
 use Rattle.std.specs.Prelude.{◌≡◌, ℕ, Ok, Err, Result, length}
 use Rattle.fab_config.specs.Settings.{Settings}
 use Rattle.pcap_file.specs.declared.Budget.{Budget}
-use Rattle.fab_gather.specs.declared.fault.GatherFault.{GatherFault}
+use Rattle.pcap_file.specs.declared.fault.GatherFault.{GatherFault}
 use Rattle.fab_policy.specs.Journal.{Journal}
 use Rattle.fab_policy.specs.Standing.{Contents, Stands}
 use Rattle.fab_policy.specs.declared.verdict.Verdict.{Verdict}

@@ -7,7 +7,7 @@ use Rattle.pcap_file.specs.Capture.{head_bytes}
 use Rattle.fab_policy.specs.Journal.{Journal}
 use Rattle.fab_policy.specs.Outputs.{Sent}
 use Rattle.fab_policy.specs.Text.{egress}
-use Rattle.fab_gather.specs.Ports.{NameIn, slot_at}
+use Rattle.fab_base.specs.Slots.{NameIn, slot_at}
 use Rattle.fab_pages.specs.Pages.{piece_at}
 use Rattle.fab_replay.specs.AllOutputs.{AreRead, IsFirst, OneRose, page_at}
 use Rattle.fab_replay.specs.Counts.{TellsFaults}

@@ -6,10 +6,11 @@ use Rattle.fab_policy.specs.Journal.{Journal}
 use Rattle.fab_policy.specs.Legal.{of_port}
 use Rattle.fab_gather.specs.Looks.{stop, all_records}
 use Rattle.fab_policy.specs.Standing.{Contents}
-use Rattle.fab_gather.specs.declared.fault.GatherFault.{GatherFault}
-use Rattle.fab_gather.specs.declared.fault.GatherFault.TheVariants as gather_fault
+use Rattle.pcap_file.specs.declared.fault.GatherFault.{GatherFault}
+use Rattle.pcap_file.specs.declared.fault.GatherFault.TheVariants as gather_fault
 use Rattle.fab_gather.specs.First.{IsNextWindow}
-use Rattle.fab_gather.specs.Ports.{slots_of, NameIn, AreInputs, AreReady, TakesFrom, Walk, stop_after}
+use Rattle.fab_base.specs.Slots.{NameIn}
+use Rattle.fab_gather.specs.Ports.{slots_of, AreInputs, AreReady, TakesFrom, Walk, stop_after}
 use Rattle.fab_gather.specs.Reads.{HaveRead}
 use Rattle.fab_replay.specs.Check.{Checks, Leaves, Task, captures_in, matter_of, slots_in}
 use Rattle.fab_replay.specs.Counts.{TellsFaults}

@@ -1,6 +1,6 @@
 //! How the check of a journal ends before its end.
 use fab_base::{Failed, NoMemory, PortNo};
-use fab_gather::{CapWhy, LimitKind};
+use pcap_file::{CapWhy, LimitKind};
 use fab_policy::Verdict;
 
 /// What is wrong with a line of a journal, in the order of the tests.

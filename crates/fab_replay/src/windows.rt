@@ -1,7 +1,8 @@
 //! The windows of the captures: each is gathered, and then its lines checked.
 ghost use Rattle.std.specs.Prelude.{◌≡◌, ℕ, Bool, IsErrOf, IsTrue, MatchResult, OnOk, length};
 ghost use Rattle.fab_base.specs.Seen.{Nothing, Seen, Touches};
-ghost use Rattle.fab_gather.specs.Ports.{AreInputs, NameIn, walk_at};
+ghost use Rattle.fab_base.specs.Slots.{NameIn};
+ghost use Rattle.fab_gather.specs.Ports.{AreInputs, walk_at};
 ghost use Rattle.fab_policy.specs.Journal.{Journal};
 ghost use Rattle.fab_replay.specs.AllOutputs.{OneRose};
 ghost use Rattle.fab_replay.specs.Counts.{TellsFaults};
@@ -17,10 +18,10 @@ use crate::owed::Owed;
 use crate::ticks::check_ticks;
 use crate::{CheckFault, LineWhy, Place};
 use fab_base::Depot;
-use fab_gather::{GatherFault, Input, Shelf, gather, next_window};
+use fab_gather::{Input, Shelf, gather, next_window};
 use fab_policy::Verdict;
 use forward_core::Fabric;
-use pcap_file::Budget;
+use pcap_file::{Budget, GatherFault};
 use std::alloc::Global;
 
 /// What is checked: a journal's text, and the slots of the outputs of the first ports.

@@ -7,7 +7,7 @@ use Rattle.std.specs.Option.{option_map_or}
 use Rattle.fab_base.specs.Keyed as keyed
 use Rattle.fab_base.proofs.KeyedLemmas.{list_any-keys-filter, item_at-below}
 use Rattle.zone_rules.specs.Joined.{contains}
-use Rattle.fab_policy.specs.Logins.{counting}
+use Rattle.fab_base.specs.Counting.{counting}
 use Rattle.fab_policy.specs.State.{LivePort, addresses, port_at}
 use Rattle.fab_policy.proofs.Steps.{AreAddressed, absent, beyond, present}
 use Rattle.fab_roster.proofs.Found.{All-item_at}

@@ -4,7 +4,7 @@ use Rattle.std.proofs.lemmas.List.{append-nil, map-append}
 use Rattle.fab_base.specs.Fabric.{same_enode}
 use Rattle.fab_base.specs.declared.values.Enode.{Enode}
 use Rattle.fab_config.specs.Settings.{Settings}
-use Rattle.fab_policy.specs.Logins.{counting}
+use Rattle.fab_base.specs.Counting.{counting}
 use Rattle.fab_policy.specs.Outputs as policy
 use Rattle.fab_policy.specs.Outputs.{Notice, Sent, State, enodes_of, hundreds, is_owed, notices, outputs_by, replies, rscn_frames, vx_port_of}
 use Rattle.fab_policy.specs.Replies.{advertised_to_all, clear_links, rscn}

@@ -4,7 +4,7 @@ use Rattle.fab_base.specs.Fabric.{same_enode}
 use Rattle.fab_base.specs.declared.values.Caught.{Caught}
 use Rattle.fab_base.specs.declared.values.Enode.{Enode}
 use Rattle.fab_config.specs.Settings.{Settings}
-use Rattle.fab_policy.specs.Logins.{counting}
+use Rattle.fab_base.specs.Counting.{counting}
 use Rattle.fab_policy.specs.Outputs.{Notice, State, enodes_of, hundreds, is_owed, vx_port_of}
 use Rattle.fab_policy.specs.State.{LivePort, overdue}
 use Rattle.fab_policy.specs.declared.verdict.Verdict.{Verdict}

@@ -18,13 +18,14 @@ use Rattle.pcap_file.specs.declared.Budget.{Budget}
 use Rattle.pcap_file.specs.declared.Record.{Record}
 use Rattle.fab_gather.specs.declared.shelf.Input.{Input}
 use Rattle.fab_gather.specs.declared.shelf.Shelf.{Shelf}
-use Rattle.fab_gather.specs.declared.fault.GatherFault.{GatherFault}
-use Rattle.fab_gather.specs.declared.fault.GatherFault.TheVariants as gather
+use Rattle.pcap_file.specs.declared.fault.GatherFault.{GatherFault}
+use Rattle.pcap_file.specs.declared.fault.GatherFault.TheVariants as gather
 use Rattle.run_files.specs.Faults.{fault_from}
 use Rattle.run_files.specs.declared.fault.RunFault.{RunFault}
 use Rattle.run_files.specs.declared.fault.RunFault.TheVariants as fault
 use Rattle.fab_gather.specs.First.{IsNextWindow, LooksFirst, opened_in, start_at}
-use Rattle.fab_gather.specs.Ports.{slots_of, name_of, NameIn, AreInputs, AreReady, stop_from, walk_at}
+use Rattle.fab_base.specs.Slots.{name_of, NameIn}
+use Rattle.fab_gather.specs.Ports.{slots_of, AreInputs, AreReady, stop_from, walk_at}
 use Rattle.fab_gather.specs.Reads.{HaveRead}
 use Rattle.fab_windows.specs.declared.Done.{Done}
 use Rattle.fab_windows.specs.Files.{AreFiles, Written, Pending, Hold, Wholes, Fronts, Writes, captures, file_slots}

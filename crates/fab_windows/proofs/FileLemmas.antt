@@ -6,7 +6,7 @@ use Rattle.fab_base.specs.Seen.{Seen, Rose, PutsAll, Touches, Only}
 use Rattle.fab_base.specs.declared.values.Failed.{Failed}
 use Rattle.fab_base.proofs.SeenLemmas.{rose_later, touches_trans, touches_wider, keeps_touches}
 use Rattle.fab_policy.specs.Written.{IsPrefixOf}
-use Rattle.fab_gather.specs.Ports.{name_of, NameIn}
+use Rattle.fab_base.specs.Slots.{name_of, NameIn}
 use Rattle.run_files.specs.Outputs.{AreOutputs, FailsAt, PutsEach}
 use Rattle.run_files.specs.Pages.{piece_at}
 use Rattle.run_files.proofs.OutputLemmas.{stays_output, stays_named, same_name, outputs_stay}

@@ -19,10 +19,11 @@ use Rattle.fab_gather.specs.declared.shelf.Input.{Input}
 use Rattle.fab_gather.specs.declared.shelf.Shelf.{Shelf}
 use Rattle.run_files.specs.declared.fault.RunFault.{RunFault}
 use Rattle.run_files.specs.declared.fault.RunFault.TheVariants as fault
-use Rattle.fab_gather.specs.declared.fault.GatherFault.{GatherFault}
+use Rattle.pcap_file.specs.declared.fault.GatherFault.{GatherFault}
 use Rattle.fab_gather.specs.First.{IsNextWindow}
 use Rattle.fab_gather.specs.Port.{Spends}
-use Rattle.fab_gather.specs.Ports.{slots_of, NameIn, counts_of, walk_at}
+use Rattle.fab_base.specs.Slots.{NameIn}
+use Rattle.fab_gather.specs.Ports.{slots_of, counts_of, walk_at}
 use Rattle.fab_gather.specs.Reads.{HaveRead, batches_of}
 use Rattle.fab_windows.specs.declared.Done.{Done}
 use Rattle.fab_windows.specs.Files.{AreFiles, Pending, GoesOn, WholesBut, Writes, captures, file_slots}

@@ -14,7 +14,7 @@ use Rattle.fab_policy.specs.Journal.{Journal}
 use Rattle.fab_policy.specs.Outputs.{Sent}
 use Rattle.fab_policy.specs.Text.{text}
 use Rattle.run_files.specs.declared.fault.RunFault.TheVariants as fault
-use Rattle.fab_gather.specs.Ports.{name_of}
+use Rattle.fab_base.specs.Slots.{name_of}
 use Rattle.fab_windows.specs.Files.{Written, Pending, Hold, HoldBut, InOrder, HoldFronts, Wholes, WholesBut, Fronts, Writes, captures, file_bytes, file_slots}
 use Rattle.run_files.specs.Pages.{items_in, piece_at}
 use Rattle.fab_windows.specs.Pages.{AreShort, IsNothing, are_full, pending}

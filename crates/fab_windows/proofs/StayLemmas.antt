@@ -13,7 +13,8 @@ use Rattle.pcap_file.specs.declared.Record.{Record}
 use Rattle.fab_gather.specs.declared.shelf.Input.{Input}
 use Rattle.fab_gather.specs.declared.shelf.Shelf.{Shelf}
 use Rattle.fab_gather.specs.Port.{to_look}
-use Rattle.fab_gather.specs.Ports.{slots_of, slot_at, name_of, NameIn, AreInputs, rests, joined, stop_from}
+use Rattle.fab_base.specs.Slots.{slot_at, name_of, NameIn}
+use Rattle.fab_gather.specs.Ports.{slots_of, AreInputs, rests, joined, stop_from}
 use Rattle.fab_gather.specs.Reads.{HasRead, HaveRead}
 use Rattle.fab_windows.specs.Files.{AreFiles, Written, Pending, Hold, WholesBut, captures}
 use Rattle.run_files.proofs.OutputLemmas.{same_name, stays_named}

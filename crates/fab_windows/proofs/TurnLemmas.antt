@@ -13,13 +13,14 @@ use Rattle.fab_gather.specs.declared.shelf.Input.{Input}
 use Rattle.fab_gather.specs.declared.shelf.Shelf.{Shelf}
 use Rattle.run_files.specs.declared.fault.RunFault.{RunFault}
 use Rattle.run_files.specs.declared.fault.RunFault.TheVariants as fault
-use Rattle.fab_gather.specs.declared.fault.GatherFault.{GatherFault}
-use Rattle.fab_gather.specs.declared.fault.GatherFault.TheVariants as gather
+use Rattle.pcap_file.specs.declared.fault.GatherFault.{GatherFault}
+use Rattle.pcap_file.specs.declared.fault.GatherFault.TheVariants as gather
 use Rattle.fab_gather.specs.Port.{ending}
-use Rattle.fab_gather.specs.Port as gathering
+use Rattle.pcap_file.specs.Faults as gathering
 use Rattle.run_files.specs.Faults.{NoFaults, IsStopped, fault_from}
 use Rattle.run_files.proofs.FaultLemmas.{none_then}
-use Rattle.fab_gather.specs.Ports.{slots_of, name_of, NameIn, AreInputs, stop_from, walk_at}
+use Rattle.fab_base.specs.Slots.{name_of, NameIn}
+use Rattle.fab_gather.specs.Ports.{slots_of, AreInputs, stop_from, walk_at}
 use Rattle.fab_windows.specs.declared.Done.{Done}
 use Rattle.fab_windows.specs.Files.{AreFiles, Written, Pending, Wholes, WholesBut, Fronts, Writes}
 use Rattle.fab_windows.specs.Run.{Interrupted, Stopped, Ends}

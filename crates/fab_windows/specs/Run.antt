@@ -15,7 +15,8 @@ use Rattle.run_files.specs.declared.fault.RunFault.{RunFault}
 use Rattle.run_files.specs.declared.fault.RunFault.TheVariants as fault
 use Rattle.fab_gather.specs.First.{opened_in, AreFresh, Start}
 use Rattle.fab_gather.specs.Port.{ending}
-use Rattle.fab_gather.specs.Ports.{slots_of, name_of, NameIn, AreInputs}
+use Rattle.fab_base.specs.Slots.{name_of, NameIn}
+use Rattle.fab_gather.specs.Ports.{slots_of, AreInputs}
 use Rattle.fab_gather.specs.Reads.{IsWhole}
 use Rattle.fab_windows.specs.declared.Done.{Done}
 use Rattle.run_files.specs.Faults.{fault_from}

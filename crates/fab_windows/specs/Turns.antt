@@ -23,7 +23,8 @@ use Rattle.fab_gather.specs.First.{Start, start_at, opened_in, IsNextWindow}
 use Rattle.fab_gather.specs.Gather.{Gathers}
 use Rattle.fab_gather.specs.Laws.{LooksAhead, NextIsAhead, NextIsFirst, NoneIsLeft, WindowMoves, ReadsOn, ReadStays, ReadIsBelow, ReadSplits, ReadIsAll}
 use Rattle.fab_gather.specs.Port.{Spends}
-use Rattle.fab_gather.specs.Ports.{Walk, walk_at, slots_of, NameIn, AreReady, rests, joined, counts_of, stop_after}
+use Rattle.fab_base.specs.Slots.{NameIn}
+use Rattle.fab_gather.specs.Ports.{Walk, walk_at, slots_of, AreReady, rests, joined, counts_of, stop_after}
 use Rattle.fab_gather.specs.Reads.{HaveRead, batches_of}
 use Rattle.fab_windows.specs.declared.Done.{Done}
 use Rattle.run_files.specs.Faults.{NoFaults}

@@ -4,7 +4,7 @@ use Rattle.std.specs.Prelude.{List}
 use Rattle.std.specs.declared.alloc.Global.{Global}
 use Rattle.fab_base.specs.Seen.{Seen}
 use Rattle.fab_base.specs.Sunk.{Sunk}
-use Rattle.fab_gather.specs.declared.fault.LimitKind.{LimitKind}
+use Rattle.pcap_file.specs.declared.fault.LimitKind.{LimitKind}
 use Rattle.fabric_tool.specs.Command.{Command, Help, KeepsOthers, command}
 use Rattle.fabric_tool.specs.Ends.{Holds, HoldsFor, TakesMemory, Reports, Ends, meaning}
 use Rattle.fabric_tool.specs.Outcome.{status_of}

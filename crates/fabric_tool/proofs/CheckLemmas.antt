@@ -9,9 +9,10 @@ use Rattle.pcap_file.specs.declared.Budget.{Budget}
 use Rattle.fab_policy.specs.Journal.{Journal}
 use Rattle.fab_policy.specs.Standing.{Contents}
 use Rattle.fab_gather.specs.First.{opened_in}
-use Rattle.fab_gather.specs.Ports.{slots_of, slot_at, name_of}
+use Rattle.fab_base.specs.Slots.{slot_at, name_of}
+use Rattle.fab_gather.specs.Ports.{slots_of}
 use Rattle.fab_gather.specs.declared.shelf.Input.{Input}
-use Rattle.fab_gather.specs.declared.fault.GatherFault.{GatherFault}
+use Rattle.pcap_file.specs.declared.fault.GatherFault.{GatherFault}
 use Rattle.fab_replay.specs.Outputs.{IsCompared}
 use Rattle.fab_replay.specs.Check.{Matter, NamesRun, IsAccepted, IsFirstOutput, IsFirstStop, Says, Checks, matter_in, sent_on, task_of}
 use Rattle.fab_replay.specs.Counts as counts

@@ -3,8 +3,8 @@ use Rattle.std.proofs.Common.{◌≡◌, ℕ, ◌+◌, ◌*◌, ◌<◌, ◌≤�
 use Rattle.std.specs.Prelude.{Result}
 use Rattle.fab_base.specs.Seen.{Seen}
 use Rattle.fab_config.specs.declared.ConfigFault.{ConfigFault}
-use Rattle.fab_gather.specs.declared.fault.CapWhy.{CapWhy}
-use Rattle.fab_gather.specs.declared.fault.LimitKind.TheVariants as kinds
+use Rattle.pcap_file.specs.declared.fault.CapWhy.{CapWhy}
+use Rattle.pcap_file.specs.declared.fault.LimitKind.TheVariants as kinds
 use Rattle.fab_policy.specs.declared.verdict.Verdict.{Verdict}
 use Rattle.pcap_file.specs.Capture.{HEAD}
 use Rattle.fab_replay.specs.Check.{IsAnswer}

@@ -8,8 +8,9 @@ use Rattle.pcap_file.specs.Capture.{HEAD, head_decoded}
 use Rattle.pcap_file.specs.declared.CapFault.{CapFault}
 use Rattle.pcap_file.specs.declared.CaptureHead.{CaptureHead}
 use Rattle.fab_gather.specs.Looks.{Opened, Stop}
-use Rattle.fab_gather.specs.Port.{why_of, ending}
-use Rattle.fab_gather.specs.declared.fault.CapWhy.{CapWhy}
+use Rattle.pcap_file.specs.Faults.{why_of}
+use Rattle.fab_gather.specs.Port.{ending}
+use Rattle.pcap_file.specs.declared.fault.CapWhy.{CapWhy}
 use Rattle.run_files.specs.Faults.{fault_from}
 use Rattle.run_files.specs.declared.fault.RunFault.{RunFault}
 use Rattle.run_files.specs.declared.fault.RunFault.TheVariants as faults

@@ -4,7 +4,8 @@ use Rattle.std.specs.Prelude.{String}
 use Rattle.std.specs.declared.alloc.Global.{Global}
 use Rattle.fab_base.specs.Seen.{Seen}
 use Rattle.fab_gather.specs.First.{AreFresh}
-use Rattle.fab_gather.specs.Ports.{slot_at, slots_of, name_of, NameIn}
+use Rattle.fab_base.specs.Slots.{slot_at, name_of, NameIn}
+use Rattle.fab_gather.specs.Ports.{slots_of}
 use Rattle.fab_gather.specs.declared.shelf.Input.{Input}
 use Rattle.fab_windows.specs.Files.{Written}
 use Rattle.fab_windows.specs.Run.{AreGiven}

@@ -10,7 +10,7 @@ use Rattle.fab_migrate.specs.OldWords.{WholeRead, IsWhole}
 use Rattle.fab_migrate.specs.declared.old.OldError.{OldError}
 use Rattle.fab_migrate.specs.declared.old.OldError.TheVariants as errors
 use Rattle.fab_config.specs.Settings.{Settings}
-use Rattle.fab_policy.specs.Logins.{counting}
+use Rattle.fab_base.specs.Counting.{counting}
 use Rattle.fabric_tool.specs.Checking.{JournalRead, JournalEnds, AreOpenInputs, OutputsRead, unread_by, GivenRead, GivenEnds}
 use Rattle.fabric_tool.specs.Command.{RunNames, are_pairs, run_of, show_of, names_of, port_count, output_at}
 use Rattle.run_files.specs.Faults.{NoFaults}

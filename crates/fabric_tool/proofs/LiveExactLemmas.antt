@@ -16,8 +16,8 @@ use Rattle.pcapng_file.specs.Laws.{Within}
 use Rattle.pcapng_file.specs.Stream.{Parts}
 use Rattle.pcapng_file.proofs.LawLemmas.{Stands, size_fits, long_enough, step_stands}
 use Rattle.pcapng_file.proofs.StepLemmas.{step_end}
-use Rattle.fab_gather.specs.declared.fault.LimitKind.{LimitKind}
-use Rattle.fab_gather.specs.declared.fault.LimitKind.TheVariants as kinds
+use Rattle.pcap_file.specs.declared.fault.LimitKind.{LimitKind}
+use Rattle.pcap_file.specs.declared.fault.LimitKind.TheVariants as kinds
 use Rattle.fab_live.specs.Arriving.{arrive, arrived, AllFaces, NoneTooLate, IsInSpan}
 use Rattle.fab_live.specs.Live.{BeginsWithin, Stops, left_behind}
 use Rattle.fabric_tool.specs.Command.{LiveWords, Live}

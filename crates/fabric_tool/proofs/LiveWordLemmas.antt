@@ -7,7 +7,7 @@ use Rattle.std.specs.declared.alloc.Global.{Global}
 use Rattle.fab_base.specs.Places.{name_at}
 use Rattle.fab_base.specs.Seen.{Seen, OpensOut}
 use Rattle.fab_base.specs.declared.values.Failed.{Failed}
-use Rattle.fab_policy.specs.Logins.{counting}
+use Rattle.fab_base.specs.Counting.{counting}
 use Rattle.run_files.specs.Names.{Among}
 use Rattle.run_files.specs.Opening.{AreEmptyOutputs}
 use Rattle.run_files.proofs.NameLemmas.{among_counted, among_split, split_names, length-counted}

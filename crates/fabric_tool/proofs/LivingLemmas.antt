@@ -16,15 +16,15 @@ use Rattle.pcapng_file.specs.Classic.{classic_bytes, timed, written, ReadsBack}
 use Rattle.fab_policy.specs.Growing.{NothingIsRun}
 use Rattle.fab_policy.specs.Journal.{Journal}
 use Rattle.fab_policy.specs.Legal.{Run}
-use Rattle.fab_policy.specs.Logins.{counting}
+use Rattle.fab_base.specs.Counting.{counting}
 use Rattle.fab_policy.specs.Outputs.{state_of}
 use Rattle.fab_policy.specs.Standing.{Contents}
 use Rattle.fab_policy.specs.Text.{text, egress}
 use Rattle.fab_policy.specs.Written.{IsPrefixOf}
 use Rattle.fab_policy.proofs.NamedLemmas.{text_names_journal}
-use Rattle.fab_gather.specs.Ports.{slot_at, name_of, NameIn}
-use Rattle.fab_gather.specs.declared.fault.LimitKind.{LimitKind}
-use Rattle.fab_gather.specs.declared.fault.LimitKind.TheVariants as kinds
+use Rattle.fab_base.specs.Slots.{slot_at, name_of, NameIn}
+use Rattle.pcap_file.specs.declared.fault.LimitKind.{LimitKind}
+use Rattle.pcap_file.specs.declared.fault.LimitKind.TheVariants as kinds
 use Rattle.fab_windows.specs.Files.{Written, Wholes, Fronts, InOrder, file_bytes, captures, text_so_far, captures_so_far}
 use Rattle.fab_windows.specs.Run.{IsRunOver}
 use Rattle.fab_windows.specs.declared.Done.{Done}

@@ -7,7 +7,7 @@ use Rattle.std.specs.declared.alloc.Global.{Global}
 use Rattle.fab_base.specs.Places.{name_at}
 use Rattle.fab_base.specs.Seen.{Seen, SameReadFaults, SameWriteFaults, OpensOut}
 use Rattle.fab_base.specs.declared.values.Failed.{Failed}
-use Rattle.fab_policy.specs.Logins.{counting}
+use Rattle.fab_base.specs.Counting.{counting}
 use Rattle.pcap_file.proofs.lemmas.Numbers.{le_or_lt}
 use Rattle.fab_vectors.specs.Making.{AreNine, IsNamed, Makes, file_text}
 use Rattle.fab_vectors.specs.declared.MakeFault.{MakeFault}

@@ -13,7 +13,7 @@ use Rattle.pcapng_file.specs.declared.fault.NgError.TheVariants as ng
 use Rattle.pcapng_file.specs.File.{ng_read}
 use Rattle.pcapng_file.specs.Classic.{Converted, IsFront, Same, Front, classic_bytes, timed, written}
 use Rattle.pcapng_file.proofs.LawLemmas.{file_is_read}
-use Rattle.fab_gather.specs.declared.fault.LimitKind.{LimitKind}
+use Rattle.pcap_file.specs.declared.fault.LimitKind.{LimitKind}
 use Rattle.fab_policy.specs.declared.line.Line.{Line}
 use Rattle.fab_migrate.specs.Migrating.{Migrated, IsNewFront, Untouched, Begun}
 use Rattle.fab_migrate.specs.Old.{new_text}

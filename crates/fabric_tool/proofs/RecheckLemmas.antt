@@ -5,7 +5,7 @@ use Rattle.fab_base.specs.Seen.{Seen, bytes_of}
 use Rattle.fab_base.specs.Sunk.{Sunk}
 use Rattle.fab_config.specs.Settings.{Settings}
 use Rattle.fab_policy.specs.Journal.{Journal}
-use Rattle.fab_policy.specs.Logins.{counting}
+use Rattle.fab_base.specs.Counting.{counting}
 use Rattle.fab_gather.specs.Looks.{Opened, all_records, stop}
 use Rattle.fab_policy.specs.Text.{egress, text}
 use Rattle.std.specs.List.{All}

@@ -3,7 +3,7 @@ use Rattle.std.proofs.Common.{◌≡◌, ℕ, ◌≤◌, List, [], ◌∷◌, sy
 use Rattle.fab_base.specs.Seen.{Seen, SameFiles}
 use Rattle.fab_base.proofs.SeenLemmas.{rose_later}
 use Rattle.fab_gather.specs.Looks.{Opened}
-use Rattle.fab_gather.specs.declared.fault.CapWhy.{CapWhy}
+use Rattle.pcap_file.specs.declared.fault.CapWhy.{CapWhy}
 use Rattle.fabric_tool.specs.Inputs.{AreOpened, IsFirstWithout, HaveNoRoom, IsFirstUnread}
 
 pub opened_since : (old b : Seen) → SameFiles old b → (names : List (List ℕ)) (opened : List Opened) → AreOpened b names opened → AreOpened old names opened

@@ -7,9 +7,9 @@ use Rattle.fab_base.specs.Sunk.{Sunk}
 use Rattle.fab_base.proofs.SeenLemmas.{reads_touches}
 use Rattle.fab_config.specs.Settings.{Settings}
 use Rattle.fab_config.specs.declared.ConfigFault.{ConfigFault}
-use Rattle.fab_captures.specs.Captures.{captures_by}
-use Rattle.fab_gather.specs.declared.fault.GatherFault.{GatherFault}
-use Rattle.fab_gather.specs.declared.fault.GatherFault.TheVariants as gather
+use Rattle.pcap_file.specs.Captures.{captures_by}
+use Rattle.pcap_file.specs.declared.fault.GatherFault.{GatherFault}
+use Rattle.pcap_file.specs.declared.fault.GatherFault.TheVariants as gather
 use Rattle.fip_snoop.specs.Bridge.{Arrival, arrivals, history, passed, dropped}
 use Rattle.fip_snoop.specs.Laws.{DataGoesUp}
 use Rattle.fip_snoop.specs.Messages.{forwarder_of}

@@ -10,9 +10,9 @@ use Rattle.fab_policy.specs.Journal.{Journal}
 use Rattle.fab_gather.specs.Looks.{Opened}
 use Rattle.fab_policy.specs.Standing.{Contents, Stands}
 use Rattle.fab_policy.specs.State.{tables_of}
-use Rattle.fab_gather.specs.declared.fault.CapWhy.{CapWhy}
-use Rattle.fab_gather.specs.declared.fault.LimitKind.TheVariants as kinds
-use Rattle.fab_gather.specs.declared.fault.GatherFault.TheVariants as gather
+use Rattle.pcap_file.specs.declared.fault.CapWhy.{CapWhy}
+use Rattle.pcap_file.specs.declared.fault.LimitKind.TheVariants as kinds
+use Rattle.pcap_file.specs.declared.fault.GatherFault.TheVariants as gather
 use Rattle.fab_migrate.specs.declared.old.OldError.{OldError}
 use Rattle.fab_migrate.specs.declared.old.OldError.TheVariants as olds
 use Rattle.fab_replay.specs.Check.{Matter, NamesRun, AreSent, IsLegal, IsFirstLine, IsFirstOutput, IsFirstStop}

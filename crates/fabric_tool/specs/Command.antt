@@ -8,7 +8,7 @@ use Rattle.std.specs.declared.alloc.Global.{Global}
 use Rattle.fab_base.specs.Places.{name_at}
 use Rattle.fab_base.specs.Seen.{Seen}
 use Rattle.fab_config.specs.Values.{octets_of, name}
-use Rattle.fab_policy.specs.Logins.{counting}
+use Rattle.fab_base.specs.Counting.{counting}
 use Rattle.enode_core.specs.declared.node.Identity.{Identity}
 use Rattle.run_files.specs.Names.{AnyRose}
 use Rattle.snoop_run.specs.Sides as sides

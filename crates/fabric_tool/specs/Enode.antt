@@ -3,7 +3,7 @@ use Rattle.std.specs.Prelude.{◌≡◌, ℕ, IsTrue, List, ◌++◌, Some, Ok}
 use Rattle.fab_base.specs.Seen.{Seen}
 use Rattle.fab_base.specs.Sunk.{Sunk}
 use Rattle.pcap_file.specs.declared.Record.{Record}
-use Rattle.fab_gather.specs.declared.fault.GatherFault.TheVariants as gather
+use Rattle.pcap_file.specs.declared.fault.GatherFault.TheVariants as gather
 use Rattle.enode_core.specs.declared.node.Phase.{Phase}
 use Rattle.enode_core.specs.Phases.{phase_of}
 use Rattle.enode_core.specs.Runs.{Input, IsRun, stands}

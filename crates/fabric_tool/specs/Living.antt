@@ -9,10 +9,10 @@ use Rattle.pcapng_file.specs.declared.fault.NgError.TheVariants as errors
 use Rattle.pcapng_file.specs.declared.fault.NgLimit.TheVariants as ng_limits
 use Rattle.pcapng_file.specs.Classic.{classic_bytes}
 use Rattle.fab_policy.specs.Journal.{Journal, frame_count}
-use Rattle.fab_policy.specs.Logins.{counting}
+use Rattle.fab_base.specs.Counting.{counting}
 use Rattle.fab_policy.specs.Text.{text}
-use Rattle.fab_gather.specs.declared.fault.LimitKind.{LimitKind}
-use Rattle.fab_gather.specs.declared.fault.LimitKind.TheVariants as kinds
+use Rattle.pcap_file.specs.declared.fault.LimitKind.{LimitKind}
+use Rattle.pcap_file.specs.declared.fault.LimitKind.TheVariants as kinds
 use Rattle.fab_windows.specs.Run.{IsRunOver}
 use Rattle.fab_live.specs.Arriving.{arrived, of_face, records_of, AllFaces, IsInSpan}
 use Rattle.fab_live.specs.Live.{IsLiveRun, Begins, BeginsWithin, Stops}

@@ -10,10 +10,10 @@ use Rattle.pcapng_file.specs.declared.fault.NgLimit.{NgLimit}
 use Rattle.pcapng_file.specs.declared.fault.NgLimit.TheVariants as limits
 use Rattle.fabric_tool.specs.Help.{help_text, version_text}
 use Rattle.fab_gather.specs.Looks.{MOST_SPAN}
-use Rattle.fab_gather.specs.declared.fault.CapWhy.{CapWhy}
-use Rattle.fab_gather.specs.declared.fault.CapWhy.TheVariants as caps
-use Rattle.fab_gather.specs.declared.fault.LimitKind.{LimitKind}
-use Rattle.fab_gather.specs.declared.fault.LimitKind.TheVariants as kinds
+use Rattle.pcap_file.specs.declared.fault.CapWhy.{CapWhy}
+use Rattle.pcap_file.specs.declared.fault.CapWhy.TheVariants as caps
+use Rattle.pcap_file.specs.declared.fault.LimitKind.{LimitKind}
+use Rattle.pcap_file.specs.declared.fault.LimitKind.TheVariants as kinds
 use Rattle.fab_replay.specs.declared.fault.LineWhy.{LineWhy}
 use Rattle.fab_replay.specs.declared.fault.LineWhy.TheVariants as lines
 use Rattle.fab_migrate.specs.declared.old.OldWhy.{OldWhy}

@@ -19,7 +19,7 @@ use Rattle.fabric_tool.specs.Outcome.{converted_text, kind_of, migrated_text}
 use Rattle.fabric_tool.specs.Reading.{unconverted_by}
 use Rattle.fabric_tool.specs.declared.outcome.Outcome.{Outcome}
 use Rattle.fabric_tool.specs.declared.outcome.Outcome.TheVariants as ends
-use Rattle.fab_gather.specs.declared.fault.LimitKind.TheVariants as kinds
+use Rattle.pcap_file.specs.declared.fault.LimitKind.TheVariants as kinds
 use Rattle.pcapng_file.specs.declared.fault.NgError.TheVariants as ng
 use Rattle.fab_migrate.specs.declared.old.OldError.TheVariants as olds
 

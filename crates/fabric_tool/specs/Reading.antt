@@ -11,9 +11,9 @@ use Rattle.pcap_file.specs.declared.CapOpen.{CapOpen}
 use Rattle.pcapng_file.specs.declared.fault.NgError.{NgError}
 use Rattle.pcapng_file.specs.declared.fault.NgError.TheVariants as ng
 use Rattle.fab_gather.specs.First.{IsFresh, opened_by}
-use Rattle.fab_gather.specs.Port.{open_fault_by}
+use Rattle.pcap_file.specs.Faults.{open_fault_by}
 use Rattle.fab_gather.specs.declared.shelf.Input.{Input}
-use Rattle.fab_gather.specs.declared.fault.LimitKind.TheVariants as kinds
+use Rattle.pcap_file.specs.declared.fault.LimitKind.TheVariants as kinds
 use Rattle.fab_migrate.specs.declared.old.OldError.{OldError}
 use Rattle.fab_migrate.specs.declared.old.OldError.TheVariants as olds
 use Rattle.run_files.specs.Faults.{fault_from}

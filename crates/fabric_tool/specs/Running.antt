@@ -4,7 +4,7 @@ use Rattle.fab_base.specs.Seen.{SameFiles, Seen}
 use Rattle.fab_base.specs.Sunk.{Sunk}
 use Rattle.fab_config.specs.Settings.{Settings}
 use Rattle.fab_gather.specs.Looks.{Opened}
-use Rattle.fab_gather.specs.declared.fault.CapWhy.{CapWhy}
+use Rattle.pcap_file.specs.declared.fault.CapWhy.{CapWhy}
 use Rattle.fabric_tool.specs.Command.{Run, RunNames}
 use Rattle.fabric_tool.specs.Ending.{Ending, EndsBy, Leaves, LeavesUnread, LeavesUnwritten, Never, Untouched}
 use Rattle.fabric_tool.specs.Inputs.{HasBadHead, HasFault, HasInputs, StopsBy, stop_of}

@@ -7,8 +7,8 @@ use Rattle.eth_frames.specs.Ethernet as eth
 use Rattle.fcoe_codec.specs.Fcoe as capsule
 use Rattle.fcoe_codec.specs.declared.FcoeFault.{FcoeFault}
 use Rattle.fab_policy.specs.Heard.{Fcoe, decoded}
-use Rattle.fab_gather.specs.declared.fault.GatherFault.{GatherFault}
-use Rattle.fab_gather.specs.declared.fault.GatherFault.TheVariants as gather
+use Rattle.pcap_file.specs.declared.fault.GatherFault.{GatherFault}
+use Rattle.pcap_file.specs.declared.fault.GatherFault.TheVariants as gather
 use Rattle.fip_snoop.specs.Bridge.{Arrival, arrivals, history, passed, dropped}
 use Rattle.fip_snoop.specs.Laws.{IsOfLogin}
 use Rattle.fip_snoop.specs.Messages.{forwarder_of}

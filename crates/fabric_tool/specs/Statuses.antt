@@ -3,7 +3,7 @@ use Rattle.std.specs.Prelude.{◌≡◌, ℕ, ◌≤◌, IsTrue, ◌++◌, List,
 use Rattle.std.specs.declared.alloc.Global.{Global}
 use Rattle.fab_base.specs.Seen.{Seen, Rose}
 use Rattle.fab_base.specs.Sunk.{Sunk}
-use Rattle.fab_gather.specs.declared.fault.LimitKind.{LimitKind}
+use Rattle.pcap_file.specs.declared.fault.LimitKind.{LimitKind}
 use Rattle.fabric_tool.specs.Command.{Command, command, ReadRose, WriteRose}
 use Rattle.fabric_tool.specs.Ends.{Holds, HoldsFor, meaning}
 use Rattle.fabric_tool.specs.Outcome.{status_of, line_of}

@@ -8,8 +8,7 @@ ghost use Rattle.fabric_tool.specs.Reading.{unconverted_by};
 use crate::limits::{MOST_BYTES, MOST_FRAMES};
 use crate::outcome::Outcome;
 use fab_base::{Depot, word_at};
-use fab_gather::LimitKind;
-use pcap_file::Budget;
+use pcap_file::{Budget, LimitKind};
 use pcapng_file::{ConvertError, NgError, NgLimit, convert};
 use std::alloc::Global;
 

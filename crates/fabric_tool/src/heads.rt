@@ -7,8 +7,8 @@ use crate::command::{Width, count_of, input_of};
 use crate::outcome::Outcome;
 use crate::running::stopped;
 use fab_base::{Depot, PortNo};
-use fab_gather::{Input, open_fault_of};
-use pcap_file::{Budget, CapOpen, Reader};
+use fab_gather::Input;
+use pcap_file::{Budget, CapOpen, Reader, open_fault_of};
 use run_files::RunFault;
 use std::alloc::Global;
 

@@ -7,7 +7,7 @@ ghost use Rattle.fabric_tool.specs.Reading.{unmigrated_by};
 use crate::limits::MOST_BYTES;
 use crate::outcome::Outcome;
 use fab_base::{Depot, word_at};
-use fab_gather::LimitKind;
+use pcap_file::LimitKind;
 use fab_migrate::{MigrateError, OldError, migrate};
 use std::alloc::Global;
 

@@ -16,11 +16,10 @@ use crate::running::in_range;
 use arrayvec::ArrayVec;
 use fab_base::{Bytes, Depot, Failed, word_at};
 use fab_config::Config;
-use fab_gather::LimitKind;
 use fab_migrate::{OldError, read_whole};
 use fab_replay::{CheckFault, check_captures, write_shown};
 use forward_core::Fabric;
-use pcap_file::Budget;
+use pcap_file::{Budget, LimitKind};
 use run_files::add_slot;
 use std::alloc::Global;
 

@@ -4,7 +4,8 @@ use Rattle.std.specs.Prelude.{filter_map}
 use Rattle.fab_base.specs.Fabric.{Past}
 use Rattle.fab_config.specs.Settings.{Settings}
 use Rattle.fc_addresses.specs.Pool.{unused}
-use Rattle.fab_policy.specs.Logins.{counting, pool}
+use Rattle.fab_base.specs.Counting.{counting}
+use Rattle.fab_policy.specs.Logins.{pool}
 use Rattle.fab_policy.specs.Outputs.{Sent, State, state_of}
 use Rattle.fab_policy.specs.Standing.{Contents, Stands, StandsNew}
 use Rattle.fab_policy.specs.State.{LivePort, Tables, live_port, past_of, tables_of}

@@ -5,4 +5,5 @@ mod CollectLemmas
 mod StepLemmas
 mod StopLemmas
 mod WrittenLemmas
+mod CaptureLemmas
 pub mod lemmas

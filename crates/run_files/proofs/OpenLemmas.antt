@@ -7,8 +7,8 @@ use Rattle.std.proofs.lemmas.Slice.Eq.{bytes_eq-Decides}
 use Rattle.fab_base.specs.Seen.{Seen, OpensOut, Touches, Only, SameWriteFaults}
 use Rattle.fab_base.specs.declared.values.Failed.{Failed}
 use Rattle.fab_base.proofs.SeenLemmas.{touches_refl, touches_trans, touches_wider, keeps_touches}
-use Rattle.fab_policy.specs.Logins.{counting}
-use Rattle.fab_gather.specs.Ports.{slot_at}
+use Rattle.fab_base.specs.Counting.{counting}
+use Rattle.fab_base.specs.Slots.{slot_at}
 use Rattle.run_files.specs.Names.{Among, AnyRose}
 use Rattle.run_files.specs.Opening.{AreEmptyOutputs, Opens}
 use Rattle.run_files.specs.Outputs.{AreOutputs}

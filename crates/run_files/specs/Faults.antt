@@ -1,8 +1,8 @@
 -- How a run ends early, and which faults of the store its answer tells.
 use Rattle.std.specs.Prelude.{Result, IsErrOf}
 use Rattle.fab_base.specs.Seen.{Seen, SameReadFaults, SameWriteFaults}
-use Rattle.fab_gather.specs.declared.fault.GatherFault.{GatherFault}
-use Rattle.fab_gather.specs.declared.fault.GatherFault.TheVariants as gather
+use Rattle.pcap_file.specs.declared.fault.GatherFault.{GatherFault}
+use Rattle.pcap_file.specs.declared.fault.GatherFault.TheVariants as gather
 use Rattle.run_files.specs.declared.fault.RunFault.{RunFault}
 use Rattle.run_files.specs.declared.fault.RunFault.TheVariants as fault
 

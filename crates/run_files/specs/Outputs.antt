@@ -2,7 +2,7 @@
 use Rattle.std.specs.Prelude.{◌≡◌, ℕ, ◌<◌, IsTrue, List, ◌++◌, length, take, Some, Result, OnOk, OnErr}
 use Rattle.fab_base.specs.Seen.{Seen, Rose, Touches, SameReadFaults, SameWriteFaults}
 use Rattle.fab_base.specs.declared.values.Failed.{Failed}
-use Rattle.fab_gather.specs.Ports.{slot_at, name_of, NameIn}
+use Rattle.fab_base.specs.Slots.{slot_at, name_of, NameIn}
 use Rattle.run_files.specs.Pages.{piece_at}
 
 -- slots that are open outputs of different names

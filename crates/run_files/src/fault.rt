@@ -1,7 +1,7 @@
 //! How a run ends early.
 
 use fab_base::{NoMemory, PortNo};
-use fab_gather::{CapWhy, GatherFault, LimitKind};
+use pcap_file::{CapWhy, GatherFault, LimitKind};
 
 /// How a run ends before the end of the captures.
 #[derive(Clone, Copy, Debug, PartialEq, Eq)]

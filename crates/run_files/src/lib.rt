@@ -5,7 +5,7 @@ mod fault;
 mod outputs;
 mod pages;
 
-pub use fab_gather::{CapWhy, LimitKind};
 pub use fault::RunFault;
 pub use outputs::{add_slot, put_each};
 pub use pages::{clear_all, head_records};
+pub use pcap_file::{CapWhy, LimitKind};

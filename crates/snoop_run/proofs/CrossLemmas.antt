@@ -10,7 +10,7 @@ use Rattle.fab_base.proofs.SeenLemmas.{rose_later, touches_refl, touches_trans, 
 use Rattle.fab_policy.specs.Written.{IsPrefixOf}
 use Rattle.pcap_file.specs.Capture.{head_bytes}
 use Rattle.pcap_file.specs.declared.Record.{Record}
-use Rattle.fab_gather.specs.Ports.{name_of, NameIn}
+use Rattle.fab_base.specs.Slots.{name_of, NameIn}
 use Rattle.fip_snoop.specs.Bridge.{Arrival, arrivals, history, records_to, capture, passed, dropped}
 use Rattle.fip_snoop.specs.Queue.{AllAscend, least, left_in}
 use Rattle.fip_snoop.specs.Snoop.{Remembers}

@@ -8,10 +8,10 @@ use Rattle.fab_base.proofs.SeenLemmas.{reads_trans, rose_later, told_stays, touc
 use Rattle.pcap_file.specs.declared.Budget.{Budget}
 use Rattle.pcap_file.specs.declared.Record.{Record}
 use Rattle.pcap_file.specs.Records.{Ascends}
-use Rattle.fab_gather.specs.Port.{IsStopped}
-use Rattle.fab_gather.specs.declared.fault.GatherFault.{GatherFault}
-use Rattle.fab_gather.specs.declared.fault.GatherFault.TheVariants as gather
-use Rattle.fab_captures.specs.Captures.{AreFit, Taken, unless_stopped, capture_by, captures_by, ReadsCapture}
+use Rattle.pcap_file.specs.Faults.{IsStopped}
+use Rattle.pcap_file.specs.declared.fault.GatherFault.{GatherFault}
+use Rattle.pcap_file.specs.declared.fault.GatherFault.TheVariants as gather
+use Rattle.pcap_file.specs.Captures.{AreFit, Taken, unless_stopped, capture_by, captures_by, ReadsCapture}
 use Rattle.fip_snoop.specs.Queue.{AllAscend}
 use Rattle.run_files.specs.Names.{Among}
 use Rattle.snoop_run.specs.Opening.{in_front, ReadsInput, AreRead, ReadsInputs}

@@ -6,7 +6,7 @@ use Rattle.std.proofs.lemmas.List.{length-map}
 use Rattle.std.proofs.lemmas.Option.{slice_get-get_or}
 use Rattle.pcap_file.specs.declared.Record.{Record}
 use Rattle.pcap_file.specs.Records.{Ascends}
-use Rattle.fab_captures.specs.Captures.{AreFit}
+use Rattle.pcap_file.specs.Captures.{AreFit}
 use Rattle.fip_snoop.specs.Bridge.{Arrival, arrival, arrivals, arrivals_from, with_arrival, in_order}
 use Rattle.fip_snoop.specs.Queue.{sooner, least, without_first, AllAscend, left_in, head_of}
 use Rattle.fip_snoop.specs.declared.queue.Head.{Head}

@@ -6,9 +6,9 @@ use Rattle.fab_base.specs.Seen.{Seen, OpensOut}
 use Rattle.fab_base.specs.declared.values.Failed.{Failed}
 use Rattle.pcap_file.specs.declared.Budget.{Budget}
 use Rattle.pcap_file.specs.declared.Record.{Record}
-use Rattle.fab_policy.specs.Logins.{counting}
-use Rattle.fab_gather.specs.declared.fault.GatherFault.{GatherFault}
-use Rattle.fab_gather.specs.declared.fault.GatherFault.TheVariants as gather
+use Rattle.fab_base.specs.Counting.{counting}
+use Rattle.pcap_file.specs.declared.fault.GatherFault.{GatherFault}
+use Rattle.pcap_file.specs.declared.fault.GatherFault.TheVariants as gather
 use Rattle.snoop_run.specs.Opening.{ReadsInput, ReadsInputs, OpensOutputs}
 use Rattle.snoop_run.specs.Sides.{side_count, input_at, output_at, ins_of, outs_of, AreDifferent}
 use Rattle.snoop_run.proofs.InputLemmas.{InputsSoFar, inputs_more, inputs_failed, inputs_no_room}

@@ -7,7 +7,7 @@ use Rattle.pcap_file.specs.Records.{Ascends}
 use Rattle.pcap_file.specs.Records as records
 use Rattle.fip_snoop.specs.Bridge.{Arrival, arrival, arrivals, arrivals_from, with_arrival, in_order, last_moment, is_too_long}
 use Rattle.fip_snoop.specs.Queue.{AllAscend}
-use Rattle.fab_captures.specs.Captures.{AreFit}
+use Rattle.pcap_file.specs.Captures.{AreFit}
 use Rattle.snoop_run.specs.Records.{AllFit, first_moment}
 
 -- the greatest moment less the least, beside these two

@@ -11,10 +11,10 @@ use Rattle.pcap_file.specs.Reading.{Step, Gives, Ends, Stops, step_of}
 use Rattle.pcap_file.specs.Records.{Chain, last_moment, EndsAsCapture}
 use Rattle.pcap_file.proofs.lemmas.Chains.{found_stands}
 use Rattle.pcap_file.proofs.lemmas.Steps.{gives_found, ends_end}
-use Rattle.fab_gather.specs.declared.fault.LimitKind.TheVariants as limit
-use Rattle.fab_gather.specs.declared.fault.GatherFault.{GatherFault}
-use Rattle.fab_gather.specs.declared.fault.GatherFault.TheVariants as gather
-use Rattle.fab_captures.specs.Captures.{Taken, unless_stopped, without_head, without_record, with_record, by_step, records_by, body_by, capture_by, captures_by}
+use Rattle.pcap_file.specs.declared.fault.LimitKind.TheVariants as limit
+use Rattle.pcap_file.specs.declared.fault.GatherFault.{GatherFault}
+use Rattle.pcap_file.specs.declared.fault.GatherFault.TheVariants as gather
+use Rattle.pcap_file.specs.Captures.{Taken, unless_stopped, without_head, without_record, with_record, by_step, records_by, body_by, capture_by, captures_by}
 use Rattle.snoop_run.specs.Laws.{AreCaptures, TakenAreCaptures}
 
 -- records that are taken stand one after another, up to the end

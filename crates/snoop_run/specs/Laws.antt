@@ -4,7 +4,7 @@ use Rattle.pcap_file.specs.Capture.{IsCapture}
 use Rattle.pcap_file.specs.declared.Budget.{Budget}
 use Rattle.pcap_file.specs.declared.CaptureHead.{CaptureHead}
 use Rattle.pcap_file.specs.declared.Record.{Record}
-use Rattle.fab_captures.specs.Captures.{captures_by}
+use Rattle.pcap_file.specs.Captures.{captures_by}
 
 -- each of these files is there, and is a capture of these records
 abbrev pub AreCaptures : List (Option (List ℕ)) → List (List Record) → Type 0

@@ -7,10 +7,10 @@ use Rattle.fab_base.specs.declared.values.Failed.{Failed}
 use Rattle.pcap_file.specs.declared.Budget.{Budget}
 use Rattle.pcap_file.specs.declared.Record.{Record}
 use Rattle.pcap_file.specs.Records.{Ascends}
-use Rattle.fab_gather.specs.Port.{IsStopped, TellsReads}
-use Rattle.fab_gather.specs.declared.fault.GatherFault.{GatherFault}
-use Rattle.fab_gather.specs.declared.fault.GatherFault.TheVariants as gather
-use Rattle.fab_captures.specs.Captures.{AreFit, unless_stopped, captures_by}
+use Rattle.pcap_file.specs.Faults.{IsStopped, TellsReads}
+use Rattle.pcap_file.specs.declared.fault.GatherFault.{GatherFault}
+use Rattle.pcap_file.specs.declared.fault.GatherFault.TheVariants as gather
+use Rattle.pcap_file.specs.Captures.{AreFit, unless_stopped, captures_by}
 use Rattle.fip_snoop.specs.Queue.{AllAscend}
 use Rattle.run_files.specs.Names.{Among, AnyRose}
 use Rattle.run_files.specs.Opening.{AreEmptyOutputs, Opens}

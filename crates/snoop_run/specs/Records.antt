@@ -1,7 +1,7 @@
 -- The records of several captures.
 use Rattle.std.specs.Prelude.{ℕ, ◌+◌, List, [], ◌∷◌, length}
 use Rattle.pcap_file.specs.declared.Record.{Record}
-use Rattle.fab_captures.specs.Captures.{AreFit}
+use Rattle.pcap_file.specs.Captures.{AreFit}
 
 -- each can be written
 abbrev pub AllFit : List (List Record) → Type 0

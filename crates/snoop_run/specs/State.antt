@@ -5,7 +5,7 @@ use Rattle.fab_base.specs.declared.values.Failed.{Failed}
 use Rattle.fab_policy.specs.Written.{IsPrefixOf}
 use Rattle.pcap_file.specs.Capture.{head_bytes}
 use Rattle.pcap_file.specs.declared.Record.{Record}
-use Rattle.fab_gather.specs.Ports.{name_of, NameIn}
+use Rattle.fab_base.specs.Slots.{name_of, NameIn}
 use Rattle.fip_snoop.specs.Bridge.{Arrival, arrival, arrivals, handled, history, records_to, capture, passed, dropped}
 use Rattle.fip_snoop.specs.History.{History}
 use Rattle.fip_snoop.specs.Queue.{least, left_in}

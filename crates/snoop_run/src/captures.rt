@@ -5,9 +5,7 @@ ghost use Rattle.snoop_run.specs.Sides.{AreKnown, ins_of};
 
 use crate::sides::{input_at, side_count};
 use fab_base::{Depot, OwnedList, PortNo};
-use fab_captures::read_capture;
-use fab_gather::GatherFault;
-use pcap_file::{Budget, Record};
+use pcap_file::{Budget, GatherFault, Record, read_capture};
 use std::alloc::Global;
 
 /// Reads the captures of all ports, in port order, off one budget.

@@ -1,6 +1,6 @@
 //! The frames of captures, which cross a bridge in their order.
 ghost use Rattle.std.specs.Prelude.{◌≡◌, ℕ, ◌<◌, ◌≤◌, ◌^◌, [], length, IsTrue, Some};
-ghost use Rattle.fab_gather.specs.Ports.{name_of};
+ghost use Rattle.fab_base.specs.Slots.{name_of};
 ghost use Rattle.fip_snoop.specs.Queue.{AllAscend};
 ghost use Rattle.pcap_file.specs.Capture.{head_bytes};
 ghost use Rattle.run_files.specs.Outputs.{AreOutputs};

@@ -13,8 +13,7 @@ use crate::outputs::open_outputs;
 use crate::span::is_too_long;
 use fab_base::{Depot, OwnedList};
 use fab_config::Config;
-use fab_gather::LimitKind;
-use pcap_file::{Budget, Record};
+use pcap_file::{Budget, LimitKind, Record};
 use run_files::RunFault;
 use std::alloc::Global;
 

@@ -23,7 +23,7 @@ use Rattle.ct_messages.specs.Answer as answer
 use Rattle.zone_rules.specs.Joined as zones
 use Rattle.std.specs.Fmt as fmt
 use Rattle.fab_policy.specs.Journal.{Journal}
-use Rattle.fab_policy.specs.Logins.{counting}
+use Rattle.fab_base.specs.Counting.{counting}
 use Rattle.fab_policy.specs.Free as free
 use Rattle.fab_policy.specs.Text as text
 use Rattle.fab_base.specs.Layout.{zeros}

@@ -4,7 +4,7 @@ use Rattle.fab_base.specs.Layout.{zeros}
 use Rattle.els_messages.specs.Els as els
 use Rattle.els_messages.specs.declared.LoginParms.{LoginParms}
 use Rattle.els_messages.specs.declared.ElsFault.TheVariants.{Short}
-use Rattle.fab_policy.specs.Logins.{counting}
+use Rattle.fab_base.specs.Counting.{counting}
 
 -- 116 bytes: the command, and behind it bytes that rise from 1 on, so that no two fields are alike
 abbrev pub payload : ℕ → List ℕ

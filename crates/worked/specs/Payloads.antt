@@ -18,7 +18,7 @@ use Rattle.ct_messages.specs.declared.CtTell.TheVariants.{Next}
 use Rattle.fip_codec.specs.Message.{Advertise, Clear, VlanTell, Solicit}
 use Rattle.fip_codec.specs.Reading as reading
 use Rattle.zone_rules.specs.Joined as zones
-use Rattle.fab_policy.specs.Logins.{counting}
+use Rattle.fab_base.specs.Counting.{counting}
 use Rattle.fab_policy.specs.State as state
 use Rattle.ct_messages.specs.Server as server
 use Rattle.fab_policy.specs.Queries as queries

@@ -10,7 +10,7 @@ use Rattle.fab_policy.specs.Ranged as ranged
 use Rattle.fab_policy.specs.declared.event.Event.TheVariants.{Tick, Frame}
 use Rattle.fab_policy.specs.declared.verdict.Verdict.TheVariants.{Granted, Logout, Rejected, Refused, Watching, Forwarded, Dropped}
 use Rattle.fab_policy.specs.declared.verdict.Rule.TheVariants as rule
-use Rattle.fab_policy.specs.Logins.{counting}
+use Rattle.fab_base.specs.Counting.{counting}
 use Rattle.worked.specs.Given.{K}
 
 -- ---- a configuration

@@ -3,7 +3,7 @@ use Rattle.std.specs.Prelude.{◌≡◌, List, [], ◌∷◌, codes, Some, Strin
 use Rattle.std.specs.declared.alloc.Global.{Global}
 use Rattle.pcap_file.specs.Capture as captures
 use Rattle.pcap_file.specs.Capture.{head_decoded, head_bytes}
-use Rattle.fab_captures.specs.Captures.{capture_by}
+use Rattle.pcap_file.specs.Captures.{capture_by}
 use Rattle.enode_core.specs.declared.node.Phase.TheVariants as phase
 use Rattle.fabric_tool.specs.Command.{SnoopNames, EnodeNames, Snoop, Enode, command}
 use Rattle.fabric_tool.specs.Statuses.{IsComplete, IsNamed}

@@ -1,6 +1,6 @@
 use Rattle.std.proofs.Common.{[], Err, refl, sym, subst}
 use Rattle.fab_gather.specs.Ports.{slots_of}
-use Rattle.fab_gather.specs.declared.fault.GatherFault.TheVariants as gather_fault
+use Rattle.pcap_file.specs.declared.fault.GatherFault.TheVariants as gather_fault
 use Rattle.fab_gather.proofs.LeavesLemmas.{takes_none}
 use Rattle.fab_replay.specs.Check.{task_of}
 use Rattle.fab_replay.specs.Windows.{Ends, scene_of}

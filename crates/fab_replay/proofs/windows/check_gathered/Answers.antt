@@ -1,7 +1,7 @@
 use Rattle.std.proofs.Common.{◌∙◌, Err, ap, length, refl, subst}
 use Rattle.fab_base.specs.Seen.{Nothing}
 use Rattle.fab_base.proofs.SeenLemmas.{touches_refl}
-use Rattle.fab_gather.specs.Ports.{NameIn}
+use Rattle.fab_base.specs.Slots.{NameIn}
 use Rattle.fab_pages.specs.Pages.{items_in}
 use Rattle.fab_replay.specs.Owed.{PagesGrow}
 use Rattle.fab_replay.specs.declared.fault.CheckFault.TheVariants as fault

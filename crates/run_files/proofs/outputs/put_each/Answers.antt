@@ -1,6 +1,6 @@
 use Rattle.std.proofs.Common.{◌∙◌, arith, subst, Ok, Err}
 use Rattle.fab_base.specs.Seen.{PutsAll}
-use Rattle.fab_gather.specs.Ports.{slot_at}
+use Rattle.fab_base.specs.Slots.{slot_at}
 use Rattle.run_files.specs.Pages.{items_in}
 use Rattle.run_files.proofs.OutputLemmas.{put_more, put_failed, put_all_of, output_on}
 use Rattle.run_files.proofs.PageLemmas.{piece-item}

@@ -1,7 +1,7 @@
 use Rattle.std.proofs.Common.{◌≡◌, ◌+◌, ◌<◌, ℕ, List, [], Ok, refl, sym, subst, arith}
 use Rattle.std.specs.Prelude.{map}
 use Rattle.pcap_file.specs.declared.Record.{Record}
-use Rattle.fab_policy.specs.Logins.{counting}
+use Rattle.fab_base.specs.Counting.{counting}
 use Rattle.snoop_run.specs.Opening.{ReadsInputs}
 use Rattle.snoop_run.specs.Sides.{side_count, input_at}
 use Rattle.snoop_run.proofs.InputLemmas.{InputsSoFar, inputs_none, inputs_all}

@@ -1,5 +1,5 @@
 use Rattle.std.specs.Prelude.{map}
-use Rattle.fab_policy.specs.Logins.{counting}
+use Rattle.fab_base.specs.Counting.{counting}
 use Rattle.snoop_run.specs.Sides.{input_at}
 use Rattle.snoop_run.proofs.InputLemmas.{InputsSoFar}
 use Rattle.snoop_run.proofs.captures.read_captures.Given as goal

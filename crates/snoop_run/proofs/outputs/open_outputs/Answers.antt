@@ -1,6 +1,6 @@
 use Rattle.std.proofs.Common.{◌+◌, ◌<◌, [], sym, subst, arith}
 use Rattle.std.specs.Prelude.{map}
-use Rattle.fab_policy.specs.Logins.{counting}
+use Rattle.fab_base.specs.Counting.{counting}
 use Rattle.snoop_run.specs.Sides.{side_count, output_at}
 use Rattle.run_files.proofs.OpenLemmas.{OpenedSoFar, opened_none}
 use Rattle.snoop_run.proofs.PortLoops.{out_as, output_more, output_failed, opened_count}

@@ -1,5 +1,5 @@
 use Rattle.std.specs.Prelude.{map}
-use Rattle.fab_policy.specs.Logins.{counting}
+use Rattle.fab_base.specs.Counting.{counting}
 use Rattle.snoop_run.specs.Sides.{output_at}
 use Rattle.run_files.proofs.OpenLemmas.{OpenedSoFar}
 use Rattle.snoop_run.proofs.outputs.open_outputs.Given as goal

@@ -1,5 +1,5 @@
 use Rattle.std.proofs.Common.{◌≡◌, ◌∙◌, ℕ, ◌<◌, [], Some, false, length, ap, sym, subst}
-use Rattle.fab_gather.specs.Ports.{name_of}
+use Rattle.fab_base.specs.Slots.{name_of}
 use Rattle.fip_snoop.specs.Bridge.{arrivals, is_too_long}
 use Rattle.fip_snoop.specs.Messages.{forwarder_of}
 use Rattle.run_files.specs.Outputs.{AreOutputs}

@@ -9,10 +9,10 @@ use Rattle.pcap_file.specs.declared.Record.{Record}
 use Rattle.pcap_file.specs.Capture.{HEAD, RECORD_HEAD, next, head_decoded}
 use Rattle.pcap_file.specs.Reading.{ReaderStand, to_come, Step, Gives, Ends, Stops, step_of}
 use Rattle.pcap_file.specs.Records.{Ascends, last_moment}
-use Rattle.fab_gather.specs.declared.fault.LimitKind.TheVariants as limit
-use Rattle.fab_gather.specs.declared.fault.GatherFault.{GatherFault}
-use Rattle.fab_gather.specs.declared.fault.GatherFault.TheVariants as faults
-use Rattle.fab_gather.specs.Port.{why_of, fault_by, IsStopped, TellsReads}
+use Rattle.pcap_file.specs.declared.fault.LimitKind.TheVariants as limit
+use Rattle.pcap_file.specs.declared.fault.GatherFault.{GatherFault}
+use Rattle.pcap_file.specs.declared.fault.GatherFault.TheVariants as faults
+use Rattle.pcap_file.specs.Faults.{why_of, fault_by, IsStopped, TellsReads}
 
 -- The records of a capture, and what is left of the budget.
 pub record Taken : Type 0 where

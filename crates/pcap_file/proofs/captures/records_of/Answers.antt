@@ -1,8 +1,8 @@
 use Rattle.std.proofs.Common.{Ok, Err, sym, subst}
 use Rattle.pcap_file.specs.Reading.{NextReads, reader_stand}
-use Rattle.fab_captures.specs.Captures.{SoFar, ReadsRecords}
-use Rattle.fab_captures.proofs.CaptureLemmas.{so_far_none, so_far_more, so_far_ended, so_far_failed}
-use Rattle.fab_captures.proofs.captures.records_of.Goals as goal
+use Rattle.pcap_file.specs.Captures.{SoFar, ReadsRecords}
+use Rattle.pcap_file.proofs.CaptureLemmas.{so_far_none, so_far_more, so_far_ended, so_far_failed}
+use Rattle.pcap_file.proofs.captures.records_of.Goals as goal
 
 pub loop-record-init : goal.loop-record-init
 loop-record-init g c =

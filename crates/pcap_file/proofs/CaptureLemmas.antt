@@ -19,12 +19,12 @@ use Rattle.pcap_file.specs.Reading.{Reading, to_come, Step, Gives, Ends, Stops, 
 use Rattle.pcap_file.specs.Records.{Ascends}
 use Rattle.pcap_file.proofs.lemmas.Steps.{gives_found}
 use Rattle.pcap_file.proofs.lemmas.Chains.{found_stands, last-push, ascends-push}
-use Rattle.fab_gather.specs.declared.fault.LimitKind.TheVariants as limit
-use Rattle.fab_gather.specs.declared.fault.GatherFault.{GatherFault}
-use Rattle.fab_gather.specs.declared.fault.GatherFault.TheVariants as faults
-use Rattle.fab_gather.specs.Port.{fault_by, open_fault_by, IsStopped, TellsReads}
-use Rattle.fab_gather.proofs.PortLemmas.{read_of, spared}
-use Rattle.fab_captures.specs.Captures.{Taken, unless_stopped, without_head, without_record, body_by, capture_by, with_record, by_step, records_by, AreFit, in_front, to_take, ReadsCapture, ReadsRecords, SoFar}
+use Rattle.pcap_file.specs.declared.fault.LimitKind.TheVariants as limit
+use Rattle.pcap_file.specs.declared.fault.GatherFault.{GatherFault}
+use Rattle.pcap_file.specs.declared.fault.GatherFault.TheVariants as faults
+use Rattle.pcap_file.specs.Faults.{fault_by, open_fault_by, IsStopped, TellsReads}
+use Rattle.pcap_file.proofs.lemmas.Faults.{read_of, spared}
+use Rattle.pcap_file.specs.Captures.{Taken, unless_stopped, without_head, without_record, body_by, capture_by, with_record, by_step, records_by, AreFit, in_front, to_take, ReadsCapture, ReadsRecords, SoFar}
 
 in_front_none : (t : Result Taken GatherFault) → in_front [] t ≡ t
 in_front_none (Err e) = refl

@@ -1,11 +1,10 @@
 //! Reading a capture whole.
 ghost use Rattle.std.specs.Prelude.{◌≡◌, ◌+◌, ◌<◌, ◌^◌, IsTrue, None};
 ghost use Rattle.pcap_file.specs.Reading.{reader_stand};
-ghost use Rattle.fab_captures.specs.Captures.{ReadsCapture, ReadsRecords};
+ghost use Rattle.pcap_file.specs.Captures.{ReadsCapture, ReadsRecords};
 
+use crate::{Budget, GatherFault, Reader, Record, fault_of, open_fault_of};
 use fab_base::{Depot, OwnedList, PortNo};
-use fab_gather::{GatherFault, fault_of, open_fault_of};
-use pcap_file::{Budget, Reader, Record};
 use std::alloc::Global;
 
 /// The records of a capture, in its order.

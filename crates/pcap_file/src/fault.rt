@@ -1,9 +1,9 @@
 //! How the reading of captures ends early.
 ghost use Rattle.std.specs.Prelude.{◌≡◌};
-ghost use Rattle.fab_gather.specs.Port.{fault_by, open_fault_by, why_of};
+ghost use Rattle.pcap_file.specs.Faults.{fault_by, open_fault_by, why_of};
 
+use crate::{CapError, CapFault, CapOpen};
 use fab_base::{NoMemory, PortNo};
-use pcap_file::{CapError, CapFault, CapOpen};
 
 /// Why a capture isn't taken. The first four speak of its head, the others of a record.
 #[derive(Clone, Copy, Debug, PartialEq, Eq)]
@@ -48,7 +48,7 @@ pub enum GatherFault {
 
 impl From<NoMemory> for GatherFault {
     ghost use Rattle.std.specs.Prelude.{◌≡◌};
-    ghost use Rattle.fab_gather.specs.declared.fault.GatherFault.TheVariants.{Memory};
+    ghost use Rattle.pcap_file.specs.declared.fault.GatherFault.TheVariants.{Memory};
 
     ghost from_gives = { λ _ e. e ≡ Memory };
 

@@ -1,7 +1,7 @@
 use Rattle.std.proofs.Common.{Err, rules, sym, subst}
-use Rattle.fab_captures.specs.Captures.{ReadsCapture}
-use Rattle.fab_captures.proofs.CaptureLemmas.{whole_place, whole_read, whole_refused}
-use Rattle.fab_captures.proofs.captures.read_capture.Goals as goal
+use Rattle.pcap_file.specs.Captures.{ReadsCapture}
+use Rattle.pcap_file.proofs.CaptureLemmas.{whole_place, whole_read, whole_refused}
+use Rattle.pcap_file.proofs.captures.read_capture.Goals as goal
 
 pub records_of-requires-clause-place : goal.records_of-requires-clause-place
 records_of-requires-clause-place g c = whole_place c.args.port c.args.slot (g.D.Depot.seen c.args.depot.now) (g.D.Depot.seen c.open.new.depot) c.args.budget.now c.open.new.budget c.requires.input c.in-Ok.reader c.in-Ok.ensures.opens (search rules)

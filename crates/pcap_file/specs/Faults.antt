@@ -1,0 +1,47 @@
+-- How the reading of captures ends early, and which faults of the store its answer tells.
+use Rattle.std.specs.Prelude.{ℕ, Result, IsErrOf}
+use Rattle.fab_base.specs.Seen.{Seen, SameReadFaults}
+use Rattle.pcap_file.specs.declared.CapError.{CapError}
+use Rattle.pcap_file.specs.declared.CapError.TheVariants as errors
+use Rattle.pcap_file.specs.declared.CapFault.{CapFault}
+use Rattle.pcap_file.specs.declared.CapFault.TheVariants as heads
+use Rattle.pcap_file.specs.declared.CapOpen.{CapOpen}
+use Rattle.pcap_file.specs.declared.CapOpen.TheVariants as opens
+use Rattle.pcap_file.specs.declared.fault.CapWhy.{CapWhy}
+use Rattle.pcap_file.specs.declared.fault.CapWhy.TheVariants as why
+use Rattle.pcap_file.specs.declared.fault.LimitKind.TheVariants as limit
+use Rattle.pcap_file.specs.declared.fault.GatherFault.{GatherFault}
+use Rattle.pcap_file.specs.declared.fault.GatherFault.TheVariants as fault
+
+-- the word for the fault of a head
+abbrev pub why_of : CapFault → CapWhy
+why_of heads.Short = why.Short
+why_of heads.BadMagic = why.Magic
+why_of heads.BadVersion = why.Version
+why_of heads.NotEthernet = why.Link
+
+-- what an error of opening a port's capture ends the reading with
+abbrev pub open_fault_by : CapOpen → ℕ → GatherFault
+open_fault_by (opens.Head head) port = fault.Capture port 0 (why_of head)
+open_fault_by (opens.Read failed) port = fault.Read
+open_fault_by opens.Bytes port = fault.Limit limit.Bytes
+
+-- what an error of the reader of a port ends the reading with
+abbrev pub fault_by : CapError → ℕ → GatherFault
+fault_by (errors.Cut at) port = fault.Capture port at why.Cut
+fault_by (errors.TooLong at len) port = fault.Capture port at why.Long
+fault_by errors.Bytes port = fault.Limit limit.Bytes
+fault_by errors.Frames port = fault.Limit limit.Frames
+fault_by (errors.Read failed) port = fault.Read
+fault_by errors.Memory port = fault.Memory
+
+-- an ending that stands in the captures, and not in the store or in the memory
+abbrev pub IsStopped : GatherFault → Type 0
+IsStopped (fault.Capture port at w) = Unit {0}
+IsStopped (fault.Limit kind) = Unit {0}
+IsStopped fault.Read = ⊥
+IsStopped fault.Memory = ⊥
+
+-- Every fault of reading is told: none is counted where the answer isn't `Read`. So want of memory never stands for one.
+abbrev pub TellsReads : {T : Type 0} → Seen → Seen → Result T GatherFault → Type 0
+TellsReads old new result = ¬ IsErrOf result fault.Read → SameReadFaults old new
