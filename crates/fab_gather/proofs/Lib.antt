@@ -10,5 +10,7 @@ pub mod LookLemmas
 pub mod FirstLemmas
 pub mod NextLemmas
 pub mod ReadLemmas
+pub mod StayLemmas
+pub mod WalkedLemmas
 pub mod GatherLemmas
 pub mod ClockLemmas

@@ -68,14 +68,19 @@ length-slots (x ∷ ins) = let e = length-slots ins in omega arith
 pub same_length : (ins ins' : List Input) → slots_of ins' ≡ slots_of ins → length ins' ≡ length ins
 same_length ins ins' slots = sym (length-slots ins') ∙ ap length slots ∙ length-slots ins
 
--- inputs stay open where no call closes them
-pub inputs_stay : (may counted : List ℕ → Type 0) (a b : Seen) (slots : List ℕ) → Touches may counted a b → AreInputs a slots → AreInputs b slots
-inputs_stay may counted a b slots touches are =
-    let same = λ (q : ℕ) (lt : q < length slots). touches.slots (slot_at slots q) (inl (are.inputs q lt)) in
-    record {
-      inputs = λ q lt. subst IsTrue (sym (same q lt).input) (are.inputs q lt);
-      differ = λ p q lt less e. are.differ p q lt less (sym (same p lt).name ∙ e ∙ (same q less).name);
-    }
+-- inputs stay open where no call closes them, and keep their names
+module _ (may counted : List ℕ → Type 0) (a b : Seen) (slots : List ℕ) (touches : Touches may counted a b) (are : AreInputs a slots) where
+  pub named_as : (q : ℕ) → q < length slots → name_of b slots q ≡ name_of a slots q
+  named_as q lt = (touches.slots (slot_at slots q) (inl (are.inputs q lt))).name
+
+  pub inputs_stay : AreInputs b slots
+  inputs_stay = record {
+    inputs = λ q lt. subst IsTrue (sym (touches.slots (slot_at slots q) (inl (are.inputs q lt))).input) (are.inputs q lt);
+    differ = λ p q lt less e. are.differ p q lt less (sym (named_as p lt) ∙ e ∙ named_as q less);
+  }
+
+  pub name_in : (m : List ℕ) → NameIn b slots m → NameIn a slots m
+  name_in m h = (h.0, h.1, h.2 ∙ named_as h.0 h.1)
 
 -- ---- a turn
 

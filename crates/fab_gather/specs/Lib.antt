@@ -6,3 +6,4 @@ pub mod First
 pub mod Reads
 pub mod Laws
 pub mod Gather
+pub mod Walked

@@ -9,7 +9,7 @@ use Rattle.fab_config.specs.Settings.{Settings}
 use Rattle.fab_policy.specs.Growing.{AllBelow}
 use Rattle.fab_policy.specs.Journal.{followed}
 use Rattle.fab_policy.specs.Legal.{Run}
-use Rattle.fab_gather.specs.Looks.{Opened, stop}
+use Rattle.fab_gather.specs.Looks.{stop}
 use Rattle.fab_policy.specs.Outputs.{State, state_of}
 use Rattle.fab_policy.specs.Standing.{Contents, sent_after}
 use Rattle.fab_policy.specs.Text.{text, head_line}
@@ -25,27 +25,21 @@ use Rattle.run_files.specs.declared.fault.RunFault.{RunFault}
 use Rattle.run_files.specs.declared.fault.RunFault.TheVariants as fault
 use Rattle.fab_gather.specs.First.{IsNextWindow, LooksFirst, opened_in, start_at}
 use Rattle.fab_base.specs.Slots.{name_of, NameIn}
-use Rattle.fab_gather.specs.Ports.{slots_of, AreInputs, AreReady, stop_from, walk_at}
-use Rattle.fab_gather.specs.Reads.{HaveRead}
+use Rattle.fab_gather.specs.Ports.{slots_of, AreInputs, walk_at}
+use Rattle.fab_gather.specs.Walked.{Walked}
+use Rattle.fab_gather.proofs.SlotLemmas.{inputs_stay, length-slots, name_in}
+use Rattle.fab_gather.proofs.StayLemmas.{LeftStays, opened_stay}
+use Rattle.fab_gather.proofs.WalkedLemmas.{next_later, next_soon, walked_before, walked_first, walked_next}
 use Rattle.fab_windows.specs.declared.Done.{Done}
 use Rattle.fab_windows.specs.Files.{AreFiles, Written, Pending, Hold, Wholes, Fronts, Writes, captures, file_slots}
 use Rattle.run_files.specs.Pages.{piece_at}
 use Rattle.fab_windows.specs.Pages.{IsNothing}
 use Rattle.fab_windows.specs.Run.{AreGiven, Runs, Stopped}
-use Rattle.fab_windows.specs.Turns.{Laws, Task, captures_in, Touched, Begun, Reached, Going, Ended, Finishes}
+use Rattle.fab_windows.specs.Turns.{Laws, Task, captures_in, start_of, Touched, Begun, Reached, Going, Ended, Finishes}
 use Rattle.fab_windows.proofs.EndLemmas.{whole_is_front, ends_before, stops_first, finished}
 use Rattle.fab_windows.proofs.PublishLemmas.{wholes_but_nothing, flushed_whole, flushed_part, write_cause}
-use Rattle.fab_windows.proofs.StayLemmas.{LeftStays, inputs_stay, input_name_in, hold_stays, length-slots, same_ports, writing_leaves}
+use Rattle.fab_windows.proofs.StayLemmas.{hold_stays, writing_leaves}
 use Rattle.fab_windows.proofs.TurnLemmas.{stopped_from, read_from, no_write_from, ended, ended_writing, files_now, reached_on}
-
--- a capture with these bytes left in its file
-abbrev with_rest : Input → List ℕ → Opened
-with_rest i rest = record { head = i.reader.head; body = i.reader.held ++ rest }
-
-opened_stay : (a b : Seen) (ins : List Input) → LeftStays a b ins → opened_in b ins ≡ opened_in a ins
-opened_stay a b [] h = refl
-opened_stay a b (i ∷ ins) h =
-    (λ j. ap (with_rest i) h.0 j ∷ opened_stay a b ins h.1 j)
 
 -- ---- the heads, and the first looks
 
@@ -101,7 +95,7 @@ module _ (laws : Laws) (k : Task) (given : AreGiven k.seen k.ins k.journal k.out
       told_then told = subst IsTrue (sym w.touches.told) told
 
       name_then : (m : List ℕ) → NameIn a (slots_of k.ins) m → NameIn k.seen (slots_of k.ins) m
-      name_then m h = input_name_in Ours Ours k.seen a w.touches (slots_of k.ins) given.inputs m h
+      name_then m h = name_in Ours Ours k.seen a (slots_of k.ins) w.touches given.inputs m h
 
       module _ (t : Touches Nothing (NameIn a (slots_of k.ins)) a d) where
         touches_looks : Touches Ours (Touched k) k.seen d
@@ -141,12 +135,9 @@ module _ (laws : Laws) (k : Task) (given : AreGiven k.seen k.ins k.journal k.out
         limits = limits;
         touches = touches_looks f.touches;
         faults = (λ m. f.counts (λ is. not_read shelves is) m ∙ w.reads m, λ m. f.writes m ∙ w.counts m);
-        slots = f.slots;
-        count = f.count ∙ sym (same_ports k.ins ins f.slots);
-        ready = f.ready;
-        read = subst (λ o. HaveRead k.settings 0 o (map (λ i. []) k.ins) ins shelves.items d) opened_then f.read;
-        spent = f.spent;
-        stops = λ told. sym (ap (stop k.settings k.budget.bytes k.budget.frames) opened_then) ∙ f.looks_ (told_then told);
+        walked = λ o next.
+            walked_before k.settings k.seen a k.ins k.budget 0 (unwrap_or o 0) (map (λ i. []) k.ins) (walk_at d ins shelves.items left) w.touches.told (lefts_heads w)
+            (walked_first k.settings (start_at a k.ins k.budget) (start_at d ins left) shelves f o next);
         whole = wholes_looks f.touches;
       }
         where
@@ -171,12 +162,6 @@ none_none [] = refl
 none_none (i ∷ ins) = ap (λ l. [] ∷ l) (none_none ins)
 
 module _ (laws : Laws) (k : Task) (d : Seen) (ins : List Input) (shelves : List Shelf) (left : Budget) (b : Begun k (walk_at d ins shelves left)) where
-  -- the first window comes before all others
-  first_is : (o : Option ℕ) → IsNextWindow k.settings shelves o → IsTrue k.seen.told →
-      stop k.settings k.budget.bytes k.budget.frames (captures_in k) ≡ stop_from k.settings (unwrap_or o 0) d ins shelves left
-  first_is None h told = b.stops told ∙ laws.none_left k.settings _ d ins shelves left h ∙ sym (laws.none_left k.settings 0 d ins shelves left h)
-  first_is (Some w) h told = b.stops told ∙ ap (λ (f : ℕ). stop_from k.settings f d ins shelves left) (laws.next_first k.settings 0 w d ins shelves left b.count b.ready h)
-
   pub going_first : (F : Contents) (o : Option ℕ) (done : Done) (p : Pending) → IsNothing p → F.settings ≡ k.settings → F.count ≡ length k.ins → F.state ≡ state_of F.settings [] → F.events ≡ [] → F.outs ≡ [] →
       IsNextWindow k.settings shelves o → done.frames ≡ 0 → done.entries ≡ 0 → Going k 0 (unwrap_or o 0) F (walk_at d ins shelves left) done p
   going_first F o done p none settings count state events outs next frames entries = record {
@@ -187,9 +172,8 @@ module _ (laws : Laws) (k : Task) (d : Seen) (ins : List Input) (shelves : List 
       limits = b.limits;
       touches = b.touches;
       faults = b.faults;
-      slots = b.slots;
-      count = b.count;
       taken = map (λ i. []) k.ins;
+      walked = b.walked o next;
       entry_list = [];
       sofar = record {
         run = record { ranged = tt; run = subst (λ l. Run k.settings l []) (none_none k.ins) (laws.nothing_run k.settings (map (λ i. []) k.ins)).0 };
@@ -202,10 +186,6 @@ module _ (laws : Laws) (k : Task) (d : Seen) (ins : List Input) (shelves : List 
         outs = outs;
       };
       clock = subst (λ x. IfSome x (λ t. t < 0)) (sym (ap (λ (S : State). S.tables.clock) state)) tt;
-      ready = b.ready;
-      read = b.read;
-      spent = b.spent;
-      stops = first_is o next;
     };
     files = λ told. wholes_but_nothing p k.settings d k.journal k.outs [] none (b.whole told);
     frames = frames;
@@ -219,18 +199,15 @@ module _ (laws : Laws) (k : Task) (v w first : ℕ) (F : Contents) (d : Seen) (i
   abbrev r : Reached k v first F (walk_at d ins shelves left)
   r = g.reached
 
-  ahead : (v ≤ w) × (w < 2 ^ 43) × AreReady k.settings w ins shelves left
-  ahead = laws.next_ahead k.settings v w ins shelves left r.count r.ready next
-
   pub next_early : w < 2 ^ 43
-  next_early = ahead.1
+  next_early = next_soon k.settings (start_of k) v first r.taken (walk_at d ins shelves left) r.walked w next
 
-  read_then : HaveRead k.settings w (captures_in k) r.taken ins shelves d
-  read_then = laws.read_stays k.settings v w (captures_in k) r.taken ins shelves d ahead.0 r.read
+  walked_then : Walked k.settings (start_of k) w first r.taken (walk_at d ins shelves left)
+  walked_then = walked_next k.settings (start_of k) v first r.taken (walk_at d ins shelves left) r.walked w next
 
   clock_then : (o : Option ℕ) → IfSome o (λ t. t < v) → IfSome o (λ t. t < w)
   clock_then None h = tt
-  clock_then (Some t) h = omega (arith, h, ahead.0)
+  clock_then (Some t) h = let later = next_later k.settings (start_of k) v first r.taken (walk_at d ins shelves left) r.walked w next in omega (arith, h, later)
 
   pub going_next : Going k w first F (walk_at d ins shelves left) done p
   going_next = record {
@@ -241,14 +218,13 @@ module _ (laws : Laws) (k : Task) (v w first : ℕ) (F : Contents) (d : Seen) (i
       limits = r.limits;
       touches = r.touches;
       faults = r.faults;
-      slots = r.slots;
-      count = r.count;
       taken = r.taken;
+      walked = walked_then;
       entry_list = r.entry_list;
       sofar = record {
         run = r.sofar.run;
         width = r.sofar.width;
-        below = (laws.read_below k.settings w (captures_in k) r.taken ins shelves d read_then).1;
+        below = (laws.read_below k.settings w (captures_in k) r.taken ins shelves d walked_then.read).1;
         stands = r.sofar.stands;
         settings = r.sofar.settings;
         count = r.sofar.count;
@@ -256,10 +232,6 @@ module _ (laws : Laws) (k : Task) (v w first : ℕ) (F : Contents) (d : Seen) (i
         outs = r.sofar.outs;
       };
       clock = clock_then F.state.tables.clock r.clock;
-      ready = ahead.2;
-      read = read_then;
-      spent = r.spent;
-      stops = r.stops;
     };
     files = g.files;
     frames = g.frames;
@@ -283,8 +255,8 @@ module _ (laws : Laws) (k : Task) (w first : ℕ) (F : Contents) (d : Seen) (ins
       record {
         touches = r.touches;
         ends = λ told.
-            let read = laws.read_all k.settings w (captures_in k) r.taken ins shelves z (subst IsTrue (sym r.touches.told) told) r.read next in
-            finished k.settings k.budget (captures_in k) r.taken r.entry_list z k.journal k.outs done r.sofar.run (r.stops told ∙ laws.none_left k.settings first z ins shelves left next) read.0 read.1
+            let read = laws.read_all k.settings w (captures_in k) r.taken ins shelves z (subst IsTrue (sym r.touches.told) told) r.walked.read next in
+            finished k.settings k.budget (captures_in k) r.taken r.entry_list z k.journal k.outs done r.sofar.run (r.walked.stops told ∙ laws.none_left k.settings first z ins shelves left next) read.0 read.1
             (flushed_whole p k.settings d z k.journal k.outs g.reached.entry_list (told_end told) (g.files told) x) g.frames g.entries;
         read = λ y. absurd (cc);
         write = λ y. absurd (cc);
@@ -304,7 +276,7 @@ module _ (laws : Laws) (k : Task) (w first : ℕ) (F : Contents) (d : Seen) (ins
 
 -- the captures are still open when the heads are written
 pub inputs_heads : (d : Seen) (ins : List Input) (journal : ℕ) (outs : List ℕ) → AreGiven d ins journal outs → (b : Seen) {lines : List ℕ} {pieces : List (List ℕ)} {r : Result (Unit {0}) Failed} → Writes journal outs lines pieces d b r → AreInputs b (slots_of ins)
-inputs_heads d ins journal outs given b w = inputs_stay (Written d journal outs) (Written d journal outs) d b w.touches (slots_of ins) given.inputs
+inputs_heads d ins journal outs given b w = inputs_stay (Written d journal outs) (Written d journal outs) d b (slots_of ins) w.touches given.inputs
 
 -- the next window, by the code's own configuration and its own list of shelves
 pub next_as : (c d : Settings) (l shelves : List Shelf) (o : Option ℕ) → c ≡ d → l ≡ shelves → IsNextWindow c l o → IsNextWindow d shelves o

@@ -21,10 +21,9 @@ use Rattle.run_files.specs.declared.fault.RunFault.{RunFault}
 use Rattle.run_files.specs.declared.fault.RunFault.TheVariants as fault
 use Rattle.pcap_file.specs.declared.fault.GatherFault.{GatherFault}
 use Rattle.fab_gather.specs.First.{IsNextWindow}
-use Rattle.fab_gather.specs.Port.{Spends}
 use Rattle.fab_base.specs.Slots.{NameIn}
-use Rattle.fab_gather.specs.Ports.{slots_of, counts_of, walk_at}
-use Rattle.fab_gather.specs.Reads.{HaveRead, batches_of}
+use Rattle.fab_gather.specs.Ports.{slots_of, walk_at}
+use Rattle.fab_gather.specs.Reads.{batches_of}
 use Rattle.fab_windows.specs.declared.Done.{Done}
 use Rattle.fab_windows.specs.Files.{AreFiles, Pending, GoesOn, WholesBut, Writes, captures, file_slots}
 use Rattle.fab_pages.specs.Pages.{AreEarly}
@@ -32,13 +31,15 @@ use Rattle.fab_windows.specs.Pages.{FlushedFor}
 use Rattle.run_files.specs.Faults.{NoFaults, fault_from}
 use Rattle.run_files.proofs.FaultLemmas.{none_then}
 use Rattle.fab_windows.specs.Steps.{Sofar}
-use Rattle.fab_windows.specs.Turns.{Laws, Task, captures_in, Reached, Going, Gathered, Ended, Handles, Publishes, paged_at}
+use Rattle.fab_windows.specs.Turns.{Laws, Task, captures_in, start_of, Reached, Going, Gathered, Ended, Handles, Publishes, paged_at}
 use Rattle.fab_gather.specs.Gather.{Gathers}
 use Rattle.fab_windows.specs.Window.{Ticked, Handled, firsts_of}
 use Rattle.fab_windows.proofs.CountLemmas.{frames_found, entries_few, length-followed, frames-followed}
 use Rattle.fab_windows.proofs.SentLemmas.{NotAfter, outs_are, outs_early, early, clock_is}
 use Rattle.fab_pages.proofs.PageLemmas.{front_of}
-use Rattle.fab_windows.proofs.StayLemmas.{same_ports}
+use Rattle.fab_gather.specs.Walked.{Walked}
+use Rattle.fab_gather.proofs.SlotLemmas.{same_length}
+use Rattle.fab_gather.proofs.WalkedLemmas.{walked_on}
 use Rattle.fab_windows.proofs.FileLemmas.{files_stay}
 use Rattle.fab_windows.proofs.TurnLemmas.{not_err, read_touches, reached_on, ended_writing, ended_gathering, ended_closing, ended_unwritten, but_on, files_now}
 
@@ -62,10 +63,6 @@ handles_by w shelves F G H E events outs t f after es sents ranged =
       ranged = subst AreRanged (sym es) ranged;
     }
 
--- what is left of the limits after both
-pub spends_both : (had mid left : Budget) (a b : ℕ) → Spends had mid 0 a → Spends mid left a b → Spends had left 0 b
-spends_both had mid left a b h k = record { frames = omega (arith, h.frames, k.frames); bytes = omega (arith, h.bytes, k.bytes) }
-
 -- a window that was gathered: no fault was counted
 pub read_well : {c : Settings} {first w : ℕ} {a b : Seen} {ins ins' : List Input} {shelves shelves' : List Shelf} {had left : Budget} → Gathers c first w (walk_at a ins shelves had) (walk_at b ins' shelves' left) (Ok tt) → NoFaults a b
 read_well t = (t.counts (λ is. not_err is), t.writes)
@@ -82,20 +79,17 @@ module _ (laws : Laws) (k : Task) (w first : ℕ) (F : Contents) (d : Seen) (ins
   abbrev K : Journal
   K = followed r.entry_list events
 
-  pub count_on : length shelves' ≡ length ins'
-  count_on = t.count ∙ r.count ∙ sym (same_ports ins ins' t.slots)
-
-  pub read_on : HaveRead c (w + 1) (captures_in k) taken' ins' shelves' b
-  read_on = laws.reads_on c w (captures_in k) r.taken (walk_at d ins shelves left) (walk_at b ins' shelves' left') t.touches.told (same_ports ins ins' t.slots) t.count r.read t.took
+  pub walked_after : Walked c (start_of k) (w + 1) first taken' (walk_at b ins' shelves' left')
+  walked_after = walked_on c (start_of k) w first r.taken (walk_at d ins shelves left) r.walked (walk_at b ins' shelves' left') t
 
   width : length r.taken ≡ length shelves'
-  width = r.sofar.width ∙ sym (same_ports k.ins ins r.slots) ∙ sym r.count ∙ sym t.count
+  width = r.sofar.width ∙ sym (same_length k.ins ins r.walked.slots) ∙ sym r.walked.count ∙ sym t.count
 
   pub sofar_on : Sofar c (length k.ins) (w + 1) taken' K E
   sofar_on =
-      let moved = laws.moves c w (walk_at d ins shelves left) (walk_at b ins' shelves' left') r.count (same_ports ins ins' t.slots) t.count next t.took t.ready t.spent in
+      let moved = laws.moves c w (walk_at d ins shelves left) (walk_at b ins' shelves' left') r.walked.count (same_length ins ins' t.slots) t.count next t.took t.ready t.spent in
       let n : length (batches_of shelves') ≡ length k.ins = length-batches shelves' ∙ sym width ∙ r.sofar.width in
-      let frames = subst (λ l. Handled l (batches_of shelves') h.ticked h.handled) (laws.firsts_taken c (w + 1) (captures_in k) r.taken ins' shelves' b width read_on) h.frames in
+      let frames = subst (λ l. Handled l (batches_of shelves') h.ticked h.handled) (laws.firsts_taken c (w + 1) (captures_in k) r.taken ins' shelves' b width walked_after.read) h.frames in
       let ranged = subst AreRanged h.events_ h.ranged in
       let s = laws.windows_run c (length k.ins) w w r.taken (batches_of shelves') r.entry_list F h.ticked h.handled r.sofar (let le : w ≤ w + 1 = omega arith in le) n moved.batches moved.some h.ticks frames ranged in
       subst (Sofar c (length k.ins) (w + 1) taken' K) (sym h.after) (subst (λ l. Sofar c (length k.ins) (w + 1) taken' (followed r.entry_list l) (drained h.handled)) (sym h.events_) s)
@@ -111,16 +105,11 @@ module _ (laws : Laws) (k : Task) (w first : ℕ) (F : Contents) (d : Seen) (ins
     limits = r.limits;
     touches = read_touches laws k w first F d ins shelves left r b t.touches;
     faults = none_then k.seen d b r.faults (read_well t);
-    slots = t.slots ∙ r.slots;
-    count = count_on;
     taken = taken';
+    walked = walked_after;
     entry_list = K;
     sofar = sofar_on;
     clock = subst (λ o. IfSome o (λ u. u < w + 1)) (sym clock_on) (omega arith);
-    ready = t.ready;
-    read = read_on;
-    spent = spends_both k.budget left left' (counts_of shelves) (counts_of shelves') r.spent t.spent;
-    stops = λ told. r.stops told ∙ t.looks (subst IsTrue (sym r.touches.told) told);
   }
 
   -- ---- what it adds to the files
@@ -186,11 +175,11 @@ module _ (laws : Laws) (k : Task) (w first : ℕ) (F : Contents) (d : Seen) (ins
       pub room_on : w < 2 ^ 43 → (done.frames + frame_count events < 2 ^ 64) × (done.entries + length events < 2 ^ 64)
       room_on lt =
           let x = reached_after in
-          let found = frames_found c (length k.ins) (w + 1) (captures_in k) taken' K ins' shelves' b x.sofar.width x.sofar.run.run read_on in
+          let found = frames_found c (length k.ins) (w + 1) (captures_in k) taken' K ins' shelves' b x.sofar.width x.sofar.run.run x.walked.read in
           let few = entries_few c taken' K (w + 1) x.sofar.run.run.timed (subst (λ o. IfSome o (λ u. u < w + 1)) (clock_is E K x.sofar.stands) x.clock) in
           let a = frames-followed r.entry_list events in
           let e = length-followed r.entry_list events in
-          let bytes = x.spent.bytes in
+          let bytes = x.walked.spent.bytes in
           (omega (arith, found, a, frames, bytes, r.limits), omega (arith, found, few, a, e, entries, bytes, lt, r.limits))
 
 -- ---- one turn
@@ -269,7 +258,7 @@ module _ (laws : Laws) (k : Task) (w first : ℕ) (F : Contents) (b : Seen) (ins
   old = x.going.reached
 
   pub gathered_ports : length shelves ≡ length k.ins
-  gathered_ports = x.gathers.count ∙ old.count ∙ same_ports k.ins x.ins old.slots
+  gathered_ports = x.gathers.count ∙ old.walked.count ∙ same_length k.ins x.ins old.walked.slots
 
   pub gathered_files : AreFiles b k.journal k.outs
   gathered_files = files_b laws k w first F x.seen x.ins x.shelves x.left done p x.going b ins shelves left x.gathers

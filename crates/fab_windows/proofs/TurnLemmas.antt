@@ -5,8 +5,8 @@ use Rattle.fab_base.specs.Seen.{Seen, Touches, Nothing, Rose, SameReadFaults, Sa
 use Rattle.fab_base.specs.declared.values.Failed.{Failed}
 use Rattle.fab_base.proofs.SeenLemmas.{rose_later, touches_trans, touches_wider}
 use Rattle.fab_policy.specs.Journal.{Journal}
-use Rattle.fab_gather.specs.Keeping.{IsAhead}
-use Rattle.fab_gather.specs.Looks.{Stop, stop}
+use Rattle.fab_gather.specs.Keeping.{Splits}
+use Rattle.fab_gather.specs.Looks.{Stop}
 use Rattle.fab_policy.specs.Standing.{Contents}
 use Rattle.pcap_file.specs.declared.Budget.{Budget}
 use Rattle.fab_gather.specs.declared.shelf.Input.{Input}
@@ -24,12 +24,15 @@ use Rattle.fab_gather.specs.Ports.{slots_of, AreInputs, stop_from, walk_at}
 use Rattle.fab_windows.specs.declared.Done.{Done}
 use Rattle.fab_windows.specs.Files.{AreFiles, Written, Pending, Wholes, WholesBut, Fronts, Writes}
 use Rattle.fab_windows.specs.Run.{Interrupted, Stopped, Ends}
-use Rattle.fab_windows.specs.Turns.{Laws, Task, captures_in, Touched, Reached, Ended, IsUnwritten}
+use Rattle.fab_windows.specs.Turns.{Laws, Task, captures_in, start_of, Touched, Reached, Ended, IsUnwritten}
 use Rattle.fab_gather.specs.Gather.{Gathers}
+use Rattle.fab_gather.proofs.SlotLemmas.{inputs_stay, length-slots, name_in}
+use Rattle.fab_gather.proofs.StayLemmas.{LeftStays}
+use Rattle.fab_gather.proofs.WalkedLemmas.{walked_ahead, walked_splits, walked_stays}
 use Rattle.fab_windows.proofs.EndLemmas.{interrupted, stopped}
 use Rattle.fab_windows.proofs.FileLemmas.{files_stay}
 use Rattle.fab_windows.proofs.PublishLemmas.{wholes_but_front, flushed_whole, flushed_part, write_cause}
-use Rattle.fab_windows.proofs.StayLemmas.{LeftStays, inputs_stay, input_name_in, written_in, but_stays, same_ports, length-slots, writing_leaves, read_stays, stop_stays}
+use Rattle.fab_windows.proofs.StayLemmas.{written_in, but_stays, writing_leaves}
 
 -- ---- how a run ends, fault by fault
 
@@ -110,13 +113,10 @@ module _ (laws : Laws) (k : Task) (w first : ℕ) (F : Contents) (d : Seen) (ins
   files_now = files_stay Ours (Touched k) k.seen d r.touches k.journal k.outs r.given.files
 
   pub inputs_now : AreInputs d (slots_of ins)
-  inputs_now = subst (AreInputs d) (sym r.slots) (inputs_stay Ours (Touched k) k.seen d r.touches (slots_of k.ins) r.given.inputs)
-
-  pub ports_now : length ins ≡ length k.ins
-  ports_now = same_ports k.ins ins r.slots
+  inputs_now = subst (AreInputs d) (sym r.walked.slots) (inputs_stay Ours (Touched k) k.seen d (slots_of k.ins) r.touches r.given.inputs)
 
   name_now : (m : List ℕ) → NameIn d (slots_of ins) m → NameIn k.seen (slots_of k.ins) m
-  name_now m h = input_name_in Ours (Touched k) k.seen d r.touches (slots_of k.ins) r.given.inputs m (subst (λ slots. NameIn d slots m) r.slots h)
+  name_now m h = name_in Ours (Touched k) k.seen d (slots_of k.ins) r.touches r.given.inputs m (subst (λ slots. NameIn d slots m) r.walked.slots h)
 
   written_now : (m : List ℕ) → Written d k.journal k.outs m → Ours m
   written_now = written_in Ours (Touched k) k.seen d r.touches k.journal k.outs r.given.files
@@ -124,16 +124,19 @@ module _ (laws : Laws) (k : Task) (w first : ℕ) (F : Contents) (d : Seen) (ins
   apart_now : (m : List ℕ) → NameIn d (slots_of ins) m → ¬ Written d k.journal k.outs m
   apart_now m h x = r.given.apart m (name_now m h) (written_now m x)
 
+  splits_here : IsTrue k.seen.told → Splits k.settings w (captures_in k) r.taken
+  splits_here = walked_splits k.settings (start_of k) w first r.taken (walk_at d ins shelves left) r.walked
+
   -- by a fault or want of memory, where the files are told this of the journal
   pub interrupted_here : IsTrue k.seen.told → (Files : Journal → Type 0) → Files r.entry_list → Interrupted k.settings k.budget (captures_in k) Files
   interrupted_here told Files files =
-      interrupted k.settings k.budget (captures_in k) w r.taken r.entry_list r.sofar.run (laws.read_splits k.settings w (captures_in k) r.taken ins shelves d left (told_on told) r.read r.ready) laws.keeps_before Files
-      (subst (IsAhead w) (sym (r.stops told)) (laws.looks_ahead k.settings first w d ins shelves left r.ready)) files
+      interrupted k.settings k.budget (captures_in k) w r.taken r.entry_list r.sofar.run (splits_here told) laws.keeps_before Files
+      (walked_ahead k.settings (start_of k) w first r.taken (walk_at d ins shelves left) r.walked laws.looks_ahead told) files
 
   -- at a look of the next window
   pub stopped_here : IsTrue k.seen.told → (b : Seen) (s : Stop) → stop_from k.settings first d ins shelves left ≡ Some s → s.window ≡ Some w → Wholes k.settings b k.journal k.outs r.entry_list → Stopped k.settings k.budget (captures_in k) b k.journal k.outs (fault_from (ending s))
   stopped_here told b s is own files =
-      stopped k.settings k.budget (captures_in k) w r.taken r.entry_list r.sofar.run (laws.read_splits k.settings w (captures_in k) r.taken ins shelves d left (told_on told) r.read r.ready) laws.keeps_just b k.journal k.outs s (r.stops told ∙ is) own files
+      stopped k.settings k.budget (captures_in k) w r.taken r.entry_list r.sofar.run (splits_here told) laws.keeps_just b k.journal k.outs s (r.walked.stops told ∙ is) own files
 
   -- ---- reading touches nothing else
 
@@ -220,16 +223,11 @@ module _ (laws : Laws) (k : Task) (w first : ℕ) (F : Contents) (d : Seen) (ins
       limits = r.limits;
       touches = write_touches;
       faults = none_then k.seen d z r.faults (reads, writes);
-      slots = r.slots;
-      count = r.count;
       taken = r.taken;
+      walked = walked_stays k.settings (start_of k) w first r.taken (walk_at d ins shelves left) r.walked z t.told lefts;
       entry_list = r.entry_list;
       sofar = r.sofar;
       clock = r.clock;
-      ready = r.ready;
-      read = read_stays d z t.told k.settings w (captures_in k) r.taken ins shelves lefts r.read;
-      spent = r.spent;
-      stops = λ told. r.stops told ∙ sym (stop_stays k.settings first d z ins shelves left lefts);
     }
 
     -- a window that can't be written: beginnings of its journal

@@ -1,5 +1,5 @@
 -- What stands between the windows of a run, and what its parts do. Of the public clauses only that of the laws cites it.
-use Rattle.std.specs.Prelude.{◌≡◌, ℕ, ◌+◌, ◌<◌, ◌≤◌, ◌^◌, ◌⊎◌, IsTrue, IfSome, List, [], ◌++◌, length, map, Some, Result, Ok, Err, OnOk, IfErr, IsErrOf}
+use Rattle.std.specs.Prelude.{◌≡◌, ℕ, ◌+◌, ◌<◌, ◌≤◌, ◌^◌, ◌⊎◌, IsTrue, IfSome, List, [], ◌++◌, length, map, Option, Some, unwrap_or, Result, Ok, Err, OnOk, IfErr, IsErrOf}
 use Rattle.fab_base.specs.Seen.{Seen, Touches, Rose, SameReadFaults, SameWriteFaults}
 use Rattle.fab_base.specs.declared.values.Failed.{Failed}
 use Rattle.fab_config.specs.Settings.{Settings}
@@ -8,7 +8,7 @@ use Rattle.pcap_file.specs.declared.Record.{Record}
 use Rattle.fab_policy.specs.Growing.{records_to, FollowedByParts, SentByParts, TextGrows, EgressGrows, NothingIsWritten, NothingIsRun}
 use Rattle.fab_gather.specs.Keeping.{KeepsBefore, KeepsJust}
 use Rattle.fab_policy.specs.Journal.{Journal, frame_count}
-use Rattle.fab_gather.specs.Looks.{Opened, stop, in_order, first_window}
+use Rattle.fab_gather.specs.Looks.{Opened}
 use Rattle.fab_policy.specs.Outputs.{Sent}
 use Rattle.fab_policy.specs.Standing.{Contents, drained}
 use Rattle.fab_policy.specs.declared.event.Event.{Event}
@@ -22,10 +22,10 @@ use Rattle.run_files.specs.declared.fault.RunFault.TheVariants as fault
 use Rattle.fab_gather.specs.First.{Start, start_at, opened_in, IsNextWindow}
 use Rattle.fab_gather.specs.Gather.{Gathers}
 use Rattle.fab_gather.specs.Laws.{LooksAhead, NextIsAhead, NextIsFirst, NoneIsLeft, WindowMoves, ReadsOn, ReadStays, ReadIsBelow, ReadSplits, ReadIsAll}
-use Rattle.fab_gather.specs.Port.{Spends}
 use Rattle.fab_base.specs.Slots.{NameIn}
-use Rattle.fab_gather.specs.Ports.{Walk, walk_at, slots_of, AreReady, rests, joined, counts_of, stop_after}
-use Rattle.fab_gather.specs.Reads.{HaveRead, batches_of}
+use Rattle.fab_gather.specs.Ports.{Walk, walk_at, slots_of}
+use Rattle.fab_gather.specs.Reads.{batches_of}
+use Rattle.fab_gather.specs.Walked.{Walked}
 use Rattle.fab_windows.specs.declared.Done.{Done}
 use Rattle.run_files.specs.Faults.{NoFaults}
 use Rattle.fab_windows.specs.Files.{Written, Writes, FileSlots, file_slots, file_bytes, Pending, HoldBut, HoldFronts, Wholes, WholesBut}
@@ -78,6 +78,10 @@ pub record Task : Type 0 where
 abbrev pub task_of : Start → Settings → ℕ → List ℕ → Task
 task_of s c journal outs = record { settings = c; budget = s.left; ins = s.ins; seen = s.seen; journal = journal; outs = outs }
 
+-- where its captures stand at the start
+abbrev pub start_of : Task → Start
+start_of k = start_at k.seen k.ins k.budget
+
 -- the captures of a task
 abbrev pub captures_in : Task → List Opened
 captures_in k = opened_in k.seen k.ins
@@ -86,8 +90,8 @@ captures_in k = opened_in k.seen k.ins
 abbrev pub Touched : Task → List ℕ → Type 0
 Touched k m = Written k.seen k.journal k.outs m ⊎ NameIn k.seen (slots_of k.ins) m
 
--- What stands of a task before a window: which records were taken, a journal that stands for them, where the readers are, and,
--- where the depot tells, that the looks to come stop where all looks do.
+-- What stands of a task before a window: which records were taken, how far the captures were read, and a journal that stands for
+-- these records.
 pub record Reached (k : Task) (w first : ℕ) (F : Contents) (walk : Walk) : Type 0 where
   pub given : AreGiven k.seen k.ins k.journal k.outs
   pub ports : (1 ≤ length k.ins) × (length k.ins ≤ 64)
@@ -95,16 +99,11 @@ pub record Reached (k : Task) (w first : ℕ) (F : Contents) (walk : Walk) : Typ
   pub limits : k.budget.bytes < 2 ^ 64
   pub touches : Touches (Written k.seen k.journal k.outs) (Touched k) k.seen walk.seen
   pub faults : NoFaults k.seen walk.seen
-  pub slots : slots_of walk.ins ≡ slots_of k.ins
-  pub count : length walk.shelves ≡ length walk.ins
   pub taken : List (List Record)
+  pub walked : Walked k.settings (start_of k) w first taken walk
   pub entry_list : Journal
   pub sofar : Sofar k.settings (length k.ins) w taken entry_list F
   pub clock : IfSome F.state.tables.clock (λ t. t < w)
-  pub ready : AreReady k.settings w walk.ins walk.shelves walk.left
-  pub read : HaveRead k.settings w (captures_in k) taken walk.ins walk.shelves walk.seen
-  pub spent : Spends k.budget walk.left 0 (counts_of walk.shelves)
-  pub stops : IsTrue k.seen.told → stop k.settings k.budget.bytes k.budget.frames (captures_in k) ≡ stop_after k.settings first walk
 
 -- The files hold that journal but for what is still to be written, and its frames and entries are counted.
 pub record Going (k : Task) (w first : ℕ) (F : Contents) (walk : Walk) (done : Done) (p : Pending) : Type 0 where
@@ -121,18 +120,12 @@ pub record Begun (k : Task) (walk : Walk) : Type 0 where
   pub limits : k.budget.bytes < 2 ^ 64
   pub touches : Touches (Written k.seen k.journal k.outs) (Touched k) k.seen walk.seen
   pub faults : NoFaults k.seen walk.seen
-  pub slots : slots_of walk.ins ≡ slots_of k.ins
-  pub count : length walk.shelves ≡ length walk.ins
-  pub ready : AreReady k.settings 0 walk.ins walk.shelves walk.left
-  pub read : HaveRead k.settings 0 (captures_in k) (map (λ i. []) k.ins) walk.ins walk.shelves walk.seen
-  pub spent : Spends k.budget walk.left 0 (counts_of walk.shelves)
-  pub stops : IsTrue k.seen.told →
-      stop k.settings k.budget.bytes k.budget.frames (captures_in k) ≡ stop_after k.settings (first_window (in_order (joined (rests k.settings 1 walk.seen walk.ins walk.shelves)))) walk
+  pub walked : (o : Option ℕ) → IsNextWindow k.settings walk.shelves o → Walked k.settings (start_of k) 0 (unwrap_or o 0) (map (λ i. []) k.ins) walk
   pub whole : IsTrue k.seen.told → Wholes k.settings walk.seen k.journal k.outs []
 
 -- the run of a task ended with this fault
 abbrev pub Ended : Task → Seen → RunFault → Type 0
-Ended k d e = Runs k.settings (start_at k.seen k.ins k.budget) d (file_slots k.journal k.outs) (Err e)
+Ended k d e = Runs k.settings (start_of k) d (file_slots k.journal k.outs) (Err e)
 
 -- Nothing is still to be written, and the numbers are told; or some of it couldn't be.
 abbrev pub Finishes : ℕ → List ℕ → Pending → Done → Seen → Seen → Result Done RunFault → Type 0

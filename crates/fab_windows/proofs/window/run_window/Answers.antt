@@ -1,21 +1,21 @@
 use Rattle.std.proofs.Common.{◌∙◌, ap, sym, subst, length, Some, Err, arith}
 use Rattle.fab_gather.specs.First.{IsNextWindow}
 use Rattle.fab_gather.specs.Ports.{AreReady}
+use Rattle.fab_gather.proofs.SlotLemmas.{same_length}
 use Rattle.fab_windows.specs.Pages.{FlushedFor, pending}
 use Rattle.fab_windows.specs.Turns.{task_of}
 use Rattle.fab_windows.proofs.GoLemmas.{gathers_as, gathered_by, window_ends, files_then}
-use Rattle.fab_windows.proofs.StayLemmas.{same_ports}
 use Rattle.fab_windows.proofs.TurnLemmas.{inputs_now}
 use Rattle.fab_windows.proofs.window.run_window.Goals as goal
 
 pub gather-requires-clause-count : goal.gather-requires-clause-count
-gather-requires-clause-count g c = ap length c.deref_mut.ensures.value ∙ c.requires.going.1.reached.count
+gather-requires-clause-count g c = ap length c.deref_mut.ensures.value ∙ c.requires.going.1.reached.walked.count
 
 pub gather-requires-clause-ports : goal.gather-requires-clause-ports
 gather-requires-clause-ports g c =
     let k = task_of c.requires.going.0 c.args.fabric.settings c.args.slots.now.journal c.args.slots.now.outs.now in
     let r = c.requires.going.1.reached in
-    omega (arith, same_ports k.ins c.args.ins.now r.slots, r.ports.1)
+    omega (arith, same_length k.ins c.args.ins.now r.walked.slots, r.ports.1)
 
 pub gather-requires-clause-inputs : goal.gather-requires-clause-inputs
 gather-requires-clause-inputs g c =
@@ -26,7 +26,7 @@ gather-requires-clause-inputs g c =
 pub gather-requires-clause-ready : goal.gather-requires-clause-ready
 gather-requires-clause-ready g c =
     subst (λ l. AreReady c.config.result.now c.args.window c.args.ins.now l c.args.budget.now) (sym c.deref_mut.ensures.value)
-    (subst (λ s. AreReady s c.args.window c.args.ins.now c.args.run.now.shelves.items c.args.budget.now) (sym c.config.ensures) c.requires.going.1.reached.ready)
+    (subst (λ s. AreReady s c.args.window c.args.ins.now c.args.run.now.shelves.items c.args.budget.now) (sym c.config.ensures) c.requires.going.1.reached.walked.ready)
 
 pub gather-requires-clause-next : goal.gather-requires-clause-next
 gather-requires-clause-next g c =
