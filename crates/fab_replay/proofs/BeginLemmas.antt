@@ -1,5 +1,5 @@
 -- How a check begins, before the first window.
-use Rattle.std.proofs.Common.{◌≡◌, ℕ, zero, suc, ◌<◌, ◌≤◌, List, [], ◌∷◌, ◌++◌, length, map, drop, slice_get, Option, Some, None, IfSome, IsTrue, Ok, Err, refl, sym, ap, ◌∙◌, subst, arith}
+use Rattle.std.proofs.Common.{◌≡◌, ℕ, zero, suc, ◌<◌, ◌≤◌, List, [], ◌∷◌, ◌++◌, length, map, drop, slice_get, Option, Some, IfSome, Ok, Err, refl, sym, ap, ◌∙◌, subst, arith}
 use Rattle.std.specs.Prelude.{unwrap_or, Vec}
 use Rattle.std.specs.declared.alloc.Global.{Global}
 use Rattle.fab_base.specs.Seen.{Touches, Nothing}
@@ -15,8 +15,10 @@ use Rattle.fab_gather.specs.declared.shelf.Shelf.{Shelf}
 use Rattle.pcap_file.specs.declared.fault.GatherFault.{GatherFault}
 use Rattle.fab_gather.specs.First.{IsNextWindow, LooksFirst, Start}
 use Rattle.fab_base.specs.Slots.{NameIn}
-use Rattle.fab_gather.specs.Ports.{AreInputs, slots_of, stop_from, walk_at}
-use Rattle.fab_replay.specs.Laws.{Laws}
+use Rattle.fab_gather.specs.Ports.{AreInputs, slots_of, walk_at}
+use Rattle.fab_gather.specs.Walked.{Walked}
+use Rattle.fab_gather.proofs.SlotLemmas.{length-slots}
+use Rattle.fab_gather.proofs.WalkedLemmas.{walked_first}
 use Rattle.fab_replay.specs.Lines.{IsBehind, IsInside, text_in}
 use Rattle.fab_replay.specs.Owed.{AreNew}
 use Rattle.fab_replay.specs.Steps.{IsAlong}
@@ -28,7 +30,7 @@ use Rattle.fab_replay.specs.declared.windows.Course.{Course}
 use Rattle.fab_replay.proofs.LeaveLemmas.{along_none, holds_nothing, left_stopped}
 use Rattle.fab_replay.proofs.OwedLemmas.{owed_first}
 use Rattle.fab_replay.proofs.SlotsLemmas.{in_front, left_back, rose_front}
-use Rattle.fab_replay.proofs.GoLemmas.{ended_gather, length-scene, length-slots, same_ports}
+use Rattle.fab_replay.proofs.GoLemmas.{ended_gather, length-scene}
 
 abbrev no_records : List Record
 no_records = []
@@ -36,7 +38,7 @@ no_records = []
 abbrev pub course_at : ℕ → Place → Owed → Course
 course_at first p o = record { first = first; place = p; owed = o }
 
-module _ (laws : Laws) (k : Task) (looked : Start) (F : Contents) (p : Place)
+module _ (k : Task) (looked : Start) (F : Contents) (p : Place)
     (inputs : AreInputs k.start.seen (slots_in k)) (ports : length k.start.ins ≤ 64) where
   wider : Touches Nothing (NameIn k.start.seen (slots_of k.start.ins)) k.start.seen looked.seen → Touches Nothing (OfTask k) k.start.seen looked.seen
   wider t = touches_wider Nothing (NameIn k.start.seen (slots_of k.start.ins)) Nothing (OfTask k) k.start.seen looked.seen (λ m h. h) (in_front (slots_of k.start.ins) k.outs k.start.seen) t
@@ -69,12 +71,6 @@ module _ (laws : Laws) (k : Task) (looked : Start) (F : Contents) (p : Place)
   ends_looks e f behind along = record { checks = ended_looks e f behind F; leaves = left_looks e f along }
 
   module _ (s : Vec Shelf Global) (f : LooksFirst k.settings k.start looked (Ok s)) where
-    first_is : (v : Option ℕ) → IsNextWindow k.settings s.items v → IsTrue k.start.seen.told → (scene_of k).stop ≡ stop_from k.settings (unwrap_or v 0) looked.seen looked.ins s.items looked.left
-    first_is None h told = f.looks_ told ∙ laws.none_left k.settings _ looked.seen looked.ins s.items looked.left h ∙ sym (laws.none_left k.settings 0 looked.seen looked.ins s.items looked.left h)
-    first_is (Some w) h told =
-        f.looks_ told
-        ∙ ap (λ (n : ℕ). stop_from k.settings n looked.seen looked.ins s.items looked.left) (laws.next_first k.settings 0 w looked.seen looked.ins s.items looked.left (f.count ∙ sym (same_ports k.start.ins looked.ins f.slots)) f.ready h)
-
     lines_none : (is : List Input) (q : ℕ) (records : List Record) → slice_get (map (λ (i : Input). no_records) is) q ≡ Some records → 0 ≡ length records
     lines_none [] q records at = absurd (cc)
     lines_none (i ∷ is) zero records at = let e : [] ≡ records = cc in ap length e
@@ -92,14 +88,9 @@ module _ (laws : Laws) (k : Task) (looked : Start) (F : Contents) (p : Place)
           outputs = outputs;
           many = new.many;
           touches = wider f.touches;
-          slots = f.slots;
-          count = f.count ∙ sym (same_ports k.start.ins looked.ins f.slots);
-          ready = f.ready;
           taken = map (λ i. []) k.start.ins;
-          read = f.read;
-          stops = λ told.
-              first_is v (subst (λ c. IsNextWindow c s.items v) same (subst (λ t. IsNextWindow c t v) l_is next)) told
-              ∙ ap (λ (n : ℕ). stop_from k.settings n looked.seen looked.ins s.items looked.left) (sym first_is_);
+          walked = subst (λ (n : ℕ). Walked k.settings k.start 0 n (map (λ i. []) k.start.ins) (walk_at looked.seen looked.ins s.items looked.left)) (sym first_is_)
+              (walked_first k.settings k.start looked s f v (subst (λ c. IsNextWindow c s.items v) same (subst (λ t. IsNextWindow c t v) l_is next)));
           settings_ = settings;
           count_ = counted;
           clock = subst (λ x. IfSome x (λ t. t < 0)) (sym (ap (λ (S : State). S.tables.clock) state)) tt;

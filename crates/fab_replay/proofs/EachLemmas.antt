@@ -12,21 +12,10 @@ use Rattle.fab_replay.specs.Outputs.{IsRead, GoesPart, Feeds, Finishes}
 use Rattle.fab_replay.proofs.OutputLemmas.{part_none}
 use Rattle.fab_base.specs.Slots.{slot_at, name_of, NameIn}
 use Rattle.fab_gather.specs.Ports.{AreInputs}
+use Rattle.fab_gather.proofs.SlotLemmas.{get_set_same, get_set_other}
 use Rattle.fab_replay.specs.declared.outputs.Compared.{Compared}
 
 -- ---- places in lists
-
-get_set_same : {A : Type 0} (l : List A) (k : ℕ) (v : A) → k < length l → slice_get (set l k v) k ≡ Some v
-get_set_same [] k v lt = absurd (omega arith)
-get_set_same (x ∷ l) zero v lt = refl
-get_set_same (x ∷ l) (suc k) v lt = get_set_same l k v (omega arith)
-
-get_set_other : {A : Type 0} (l : List A) (k q : ℕ) (v : A) → q ≢ k → slice_get (set l k v) q ≡ slice_get l q
-get_set_other [] k q v ne = refl
-get_set_other (x ∷ l) zero zero v ne = absurd (ne refl)
-get_set_other (x ∷ l) zero (suc q) v ne = refl
-get_set_other (x ∷ l) (suc k) zero v ne = refl
-get_set_other (x ∷ l) (suc k) (suc q) v ne = get_set_other l k q v (λ e. ne (ap suc e))
 
 length-set : {A : Type 0} (l : List A) (k : ℕ) (v : A) → length (set l k v) ≡ length l
 length-set [] k v = refl

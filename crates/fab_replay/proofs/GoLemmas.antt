@@ -7,7 +7,7 @@ use Rattle.fab_base.proofs.SeenLemmas.{touches_refl, touches_trans, touches_wide
 use Rattle.fab_config.specs.Settings.{Settings}
 use Rattle.fab_policy.specs.Growing.{with_more}
 use Rattle.fab_policy.specs.Journal.{Journal}
-use Rattle.fab_gather.specs.Keeping.{IsAhead, Splits}
+use Rattle.fab_gather.specs.Keeping.{Splits}
 use Rattle.fab_policy.specs.Legal.{HoldsFrames, left_of, numbered_from, of_port}
 use Rattle.fab_gather.specs.Looks.{Opened, Stop, all_records, records_in}
 use Rattle.fab_policy.specs.Standing.{Contents}
@@ -25,8 +25,12 @@ use Rattle.fab_gather.specs.First.{IsNextWindow, opened_in}
 use Rattle.fab_gather.specs.Gather.{Gathers}
 use Rattle.pcap_file.specs.Faults.{IsStopped}
 use Rattle.fab_base.specs.Slots.{NameIn, slot_at}
-use Rattle.fab_gather.specs.Ports.{AreInputs, Walk, slots_of, stop_from, walk_at}
-use Rattle.fab_gather.specs.Reads.{HaveRead, IsWhole, batches_of}
+use Rattle.fab_gather.specs.Ports.{AreInputs, Walk, slots_of, walk_at}
+use Rattle.fab_gather.specs.Reads.{IsWhole, batches_of}
+use Rattle.fab_gather.specs.Walked.{Walked}
+use Rattle.fab_gather.proofs.SlotLemmas.{inputs_stay, length-slots, name_in, same_length}
+use Rattle.fab_gather.proofs.StayLemmas.{LeftStays, left_stays}
+use Rattle.fab_gather.proofs.WalkedLemmas.{next_later, next_soon, ports_on, tells_on, walked_ahead, walked_next, walked_on, walked_splits, walked_stays}
 use Rattle.fab_replay.specs.AllOutputs.{IsFirst, OneRose, page_at}
 use Rattle.fab_replay.specs.Check.{Checks, IsFirstStop, NamesRun, Says, sent_on, Task, captures_in, matter_of, slots_in}
 use Rattle.fab_replay.specs.Front.{AreRightLines, HoldsFronts, expects_tick, has_left}
@@ -48,17 +52,7 @@ use Rattle.fab_replay.proofs.ListLemmas.{rest_none, take_front}
 use Rattle.fab_replay.proofs.OwedLemmas.{first_as, owed_stays}
 use Rattle.fab_replay.proofs.ReadLemmas.{gathered, length-records, lines_on}
 use Rattle.fab_replay.proofs.RemainLemmas.{stays}
-use Rattle.fab_replay.proofs.SlotsLemmas.{in_back, in_front, inputs_back, inputs_front, inputs_stay, left_back, left_front, name_in, rose_back, rose_front, rose_in_all}
-use Rattle.fab_replay.proofs.StayLemmas.{SameLeft, read_stays, same_left, stop_stays}
-
--- ---- slots
-
-pub length-slots : (ins : List Input) → length (slots_of ins) ≡ length ins
-length-slots [] = refl
-length-slots (i ∷ ins) = ap suc (length-slots ins)
-
-pub same_ports : (ins ins' : List Input) → slots_of ins' ≡ slots_of ins → length ins' ≡ length ins
-same_ports ins ins' e = sym (length-slots ins') ∙ ap length e ∙ length-slots ins
+use Rattle.fab_replay.proofs.SlotsLemmas.{in_back, in_front, inputs_back, inputs_front, left_back, left_front, rose_back, rose_front, rose_in_all}
 
 length-opened : (d : Seen) (ins : List Input) → length (opened_in d ins) ≡ length ins
 length-opened d [] = refl
@@ -175,25 +169,25 @@ module _ (laws : Laws) (k : Task) (w : ℕ) (here : Stand) (g : Going k w here) 
   xs = slots_of k.start.ins
 
   told_on : IsTrue k.start.seen.told → IsTrue d.told
-  told_on told = subst IsTrue (sym g.touches.told) told
+  told_on = tells_on k.settings k.start w first g.taken here.walk g.walked
 
   all_inputs : AreInputs d (slots_in k)
-  all_inputs = inputs_stay (OfTask k) k.start.seen d g.touches (slots_in k) g.inputs
+  all_inputs = inputs_stay Nothing (OfTask k) k.start.seen d (slots_in k) g.touches g.inputs
 
   pub inputs_now : AreInputs d (slots_of ins)
-  inputs_now = subst (AreInputs d) (sym g.slots) (inputs_front xs k.outs d all_inputs)
+  inputs_now = subst (AreInputs d) (sym g.walked.slots) (inputs_front xs k.outs d all_inputs)
 
   pub ports_now : length ins ≡ length k.start.ins
-  ports_now = same_ports k.start.ins ins g.slots
+  ports_now = ports_on k.settings k.start w first g.taken here.walk g.walked
 
   name_now : (m : List ℕ) → NameIn d (slots_of ins) m → OfTask k m
-  name_now m h = name_in (OfTask k) k.start.seen d g.touches (slots_in k) g.inputs m (in_front xs k.outs d m (subst (λ s. NameIn d s m) g.slots h))
+  name_now m h = name_in Nothing (OfTask k) k.start.seen d (slots_in k) g.touches g.inputs m (in_front xs k.outs d m (subst (λ s. NameIn d s m) g.walked.slots h))
 
   touches_on : (b : Seen) → Touches Nothing (NameIn d (slots_of ins)) d b → Touches Nothing (OfTask k) k.start.seen b
   touches_on b t = touches_trans Nothing (OfTask k) k.start.seen d b g.touches (touches_wider Nothing (NameIn d (slots_of ins)) Nothing (OfTask k) d b (λ m h. h) name_now t)
 
   taken_width : length g.taken ≡ length ins
-  taken_width = (laws.read_below k.settings w (captures_in k) g.taken ins shelves d g.read).0
+  taken_width = (laws.read_below k.settings w (captures_in k) g.taken ins shelves d g.walked.read).0
 
   opened_width : length ins ≡ length (captures_in k)
   opened_width = ports_now ∙ sym (length-opened k.start.seen k.start.ins)
@@ -201,7 +195,7 @@ module _ (laws : Laws) (k : Task) (w : ℕ) (here : Stand) (g : Going k w here) 
   -- a journal of all records that were taken
   module _ (J : Journal) (told : IsTrue k.start.seen.told) (fronts : HoldsFronts J (scene_of k).records) (own : HaveLines J g.taken) where
     splits_here : Splits k.settings w (captures_in k) g.taken
-    splits_here = laws.read_splits k.settings w (captures_in k) g.taken ins shelves d left (told_on told) g.read g.ready
+    splits_here = walked_splits k.settings k.start w first g.taken here.walk g.walked told
 
     taken_held : HoldsFrames J 1 g.taken
     taken_held =
@@ -224,7 +218,6 @@ module _ (laws : Laws) (k : Task) (w : ℕ) (here : Stand) (g : Going k w here) 
   pub window_here : (c : Settings) → c ≡ F.settings → (v : ℕ) → IsNextWindow c shelves (Some v) → AtWindow k v here
   window_here c e v h =
       let next = next_here c e (Some v) h in
-      let ahead = laws.next_ahead k.settings w v ins shelves left g.count g.ready next in
       record {
         going = record {
           inputs = g.inputs;
@@ -232,22 +225,18 @@ module _ (laws : Laws) (k : Task) (w : ℕ) (here : Stand) (g : Going k w here) 
           outputs = g.outputs;
           many = g.many;
           touches = g.touches;
-          slots = g.slots;
-          count = g.count;
-          ready = ahead.2;
           taken = g.taken;
-          read = laws.read_stays k.settings w v (captures_in k) g.taken ins shelves d ahead.0 g.read;
-          stops = g.stops;
+          walked = walked_next k.settings k.start w first g.taken here.walk g.walked v next;
           settings_ = g.settings_;
           count_ = g.count_;
-          clock = clock_then v ahead.0 F.state.tables.clock g.clock;
+          clock = clock_then v (next_later k.settings k.start w first g.taken here.walk g.walked v next) F.state.tables.clock g.clock;
           idle = g.idle;
           inside = g.inside;
           stood = g.stood;
           lines = g.lines;
         };
         next = next;
-        early = ahead.1;
+        early = next_soon k.settings k.start w first g.taken here.walk g.walked v next;
       }
 
   -- ---- gathering it
@@ -275,7 +264,7 @@ module _ (laws : Laws) (k : Task) (w : ℕ) (here : Stand) (g : Going k w here) 
         let own = (g.lines told).2 in
         record {
           at = s.0;
-          is = g.stops told ∙ s.1;
+          is = g.walked.stops told ∙ s.1;
           says = s.2;
           entry_list = J;
           before = right_lines (scene_of k) J F p h;
@@ -284,13 +273,13 @@ module _ (laws : Laws) (k : Task) (w : ℕ) (here : Stand) (g : Going k w here) 
         (λ is.
         let cause = t.cause (ap (λ y. Err y) is) in
         let rose : OneRose (slots_of ins) d b = (cause.0, (let lt = cause.1 in omega (arith, lt, length-slots ins)), cause.2) in
-        rose_in_all (OfTask k) k.start.seen d g.touches (slots_in k) g.inputs b (rose_front xs k.outs d b (subst (λ s. OneRose s d b) g.slots rose)))
+        rose_in_all (OfTask k) k.start.seen d g.touches (slots_in k) g.inputs b (rose_front xs k.outs d b (subst (λ s. OneRose s d b) g.walked.slots rose)))
 
     -- what the fabric stands for where that ends the check
     left_gathering : (e : GatherFault) → Gathers k.settings first w here.walk new (Err e) → LeftBy k F (check_fault e)
     left_gathering e t = left_stopped k g.stood.0 F p g.stood.1 e (λ told stopped.
         let s = t.stops (told_on told) stopped in
-        record { at = s.0; is = g.stops told ∙ s.1; all = kept_held g.stood.0 told (g.stood.1.begun told).frames (g.stood.2 told) s.0 s.3 })
+        record { at = s.0; is = g.walked.stops told ∙ s.1; all = kept_held g.stood.0 told (g.stood.1.begun told).frames (g.stood.2 told) s.0 s.3 })
 
     pub ends_gathering : (e : GatherFault) → Gathers k.settings first w here.walk new (Err e) → Ends k b F (Err (check_fault e))
     ends_gathering e t = record { checks = ended_gathering e t F; leaves = left_gathering e t }
@@ -300,27 +289,23 @@ module _ (laws : Laws) (k : Task) (w : ℕ) (here : Stand) (g : Going k w here) 
       taken' = with_more g.taken (batches_of shelves')
 
       same_ins : length ins' ≡ length ins
-      same_ins = same_ports ins ins' t.slots
+      same_ins = same_length ins ins' t.slots
 
-      read_on : HaveRead k.settings (w + 1) (captures_in k) taken' ins' shelves' b
-      read_on = laws.reads_on k.settings w (captures_in k) g.taken here.walk new t.touches.told same_ins t.count g.read t.took
+      walked_now : Walked k.settings k.start (w + 1) first taken' new
+      walked_now = walked_on k.settings k.start w first g.taken here.walk g.walked new t
 
       width_on : length g.taken ≡ length shelves'
-      width_on = taken_width ∙ sym g.count ∙ sym t.count
+      width_on = taken_width ∙ sym g.walked.count ∙ sym t.count
 
       told_b : IsTrue k.start.seen.told → IsTrue b.told
-      told_b told = subst IsTrue (sym t.touches.told) (told_on told)
-
-      shelves_width : length shelves' ≡ length k.start.ins
-      shelves_width = t.count ∙ g.count ∙ ports_now
+      told_b = tells_on k.settings k.start (w + 1) first taken' new walked_now
 
       gathered_for : (told : IsTrue k.start.seen.told) (J : Journal) → HaveLines J g.taken → IsGathered (scene_of k) w J shelves'
       gathered_for told J own =
-          let moved = laws.moves k.settings w here.walk new g.count same_ins t.count next t.took t.ready t.spent in
-          let splits = laws.read_splits k.settings (w + 1) (captures_in k) taken' ins' shelves' b left' (told_b told) read_on t.ready in
-          let stops = g.stops told ∙ t.looks (told_on told) in
-          let ahead = subst (IsAhead (w + 1)) (sym stops) (laws.looks_ahead k.settings first (w + 1) b ins' shelves' left' t.ready) in
-          gathered k.settings w (captures_in k) g.taken ins' shelves' b width_on read_on J (scene_of k).stop k.bytes ahead (t.count ∙ g.count ∙ opened_width) splits moved.batches moved.some own
+          let moved = laws.moves k.settings w here.walk new g.walked.count same_ins t.count next t.took t.ready t.spent in
+          let splits = walked_splits k.settings k.start (w + 1) first taken' new walked_now told in
+          let ahead = walked_ahead k.settings k.start (w + 1) first taken' new walked_now laws.looks_ahead told in
+          gathered k.settings w (captures_in k) g.taken ins' shelves' b width_on walked_now.read J (scene_of k).stop k.bytes ahead (t.count ∙ g.walked.count ∙ opened_width) splits moved.batches moved.some own
 
       gathered_now : (told : IsTrue k.start.seen.told) → IsGathered (scene_of k) w (g.lines told).0 shelves'
       gathered_now told = gathered_for told (g.lines told).0 (g.lines told).2
@@ -334,7 +319,7 @@ module _ (laws : Laws) (k : Task) (w : ℕ) (here : Stand) (g : Going k w here) 
       touches_b = touches_on b t.touches
 
       inputs_b : AreInputs b (slots_in k)
-      inputs_b = inputs_stay (OfTask k) k.start.seen b touches_b (slots_in k) g.inputs
+      inputs_b = inputs_stay Nothing (OfTask k) k.start.seen b (slots_in k) touches_b g.inputs
 
       pub outputs_b : AreInputs b k.outs
       outputs_b = inputs_back xs k.outs b inputs_b
@@ -343,7 +328,7 @@ module _ (laws : Laws) (k : Task) (w : ℕ) (here : Stand) (g : Going k w here) 
       owed_now : (told : IsTrue k.start.seen.told) → IsOwed k.settings (length (scene_of k).records) k.start.seen b k.outs (g.lines told).0 o
       owed_now told =
           owed_stays k.settings (length (scene_of k).records) k.start.seen d k.outs (g.lines told).0 o g.many (g.lines told).3 b
-          (left_back xs k.outs d all_inputs b (subst (λ s. Touches Nothing (NameIn d s) d b) g.slots t.touches))
+          (left_back xs k.outs d all_inputs b (subst (λ s. Touches Nothing (NameIn d s) d b) g.walked.slots t.touches))
 
       module _ (G : Contents) (to : Course) (e : Seen) where
         abbrev q : Place
@@ -374,10 +359,10 @@ module _ (laws : Laws) (k : Task) (w : ℕ) (here : Stand) (g : Going k w here) 
         touches_e : Touches Nothing (NameIn b k.outs) b e → Touches Nothing (OfTask k) k.start.seen e
         touches_e touched =
             touches_trans Nothing (OfTask k) k.start.seen b e touches_b
-            (touches_wider Nothing (NameIn b k.outs) Nothing (OfTask k) b e (λ m h. h) (λ m h. name_in (OfTask k) k.start.seen b touches_b (slots_in k) g.inputs m (in_back xs k.outs b m h)) touched)
+            (touches_wider Nothing (NameIn b k.outs) Nothing (OfTask k) b e (λ m h. h) (λ m h. name_in Nothing (OfTask k) k.start.seen b (slots_in k) touches_b g.inputs m (in_back xs k.outs b m h)) touched)
 
-        same_e : Touches Nothing (NameIn b k.outs) b e → SameLeft b e ins'
-        same_e touched = same_left b e ins' (subst (λ s. (q : ℕ) → q < length s → e.left (slot_at s q) ≡ b.left (slot_at s q)) (sym (t.slots ∙ g.slots)) (left_front xs k.outs b inputs_b e touched))
+        same_e : Touches Nothing (NameIn b k.outs) b e → LeftStays b e ins'
+        same_e touched = left_stays b e ins' (subst (λ s. (q : ℕ) → q < length s → e.left (slot_at s q) ≡ b.left (slot_at s q)) (sym walked_now.slots) (left_front xs k.outs b inputs_b e touched))
 
         -- what the fabric stands for then
         abbrev pub Leave : Result (Unit {0}) CheckFault → Type 0
@@ -396,21 +381,17 @@ module _ (laws : Laws) (k : Task) (w : ℕ) (here : Stand) (g : Going k w here) 
           outputs = g.outputs;
           many = many;
           touches = touches_e touched;
-          slots = t.slots ∙ g.slots;
-          count = t.count ∙ g.count ∙ sym same_ins;
-          ready = t.ready;
           taken = taken';
-          read = read_stays k.settings b e touched.told (w + 1) (captures_in k) taken' ins' shelves' (same_e touched) read_on;
-          stops = λ told. g.stops told ∙ t.looks (told_on told) ∙ sym (stop_stays k.settings b e first ins' shelves' left' (same_e touched)) ∙ ap (λ (f : ℕ). stop_from k.settings f e ins' shelves' left') (sym same);
+          walked = subst (λ (f : ℕ). Walked k.settings k.start (w + 1) f taken' (walk_at e ins' shelves' left')) (sym same) (walked_stays k.settings k.start (w + 1) first taken' new walked_now e touched.told (same_e touched));
           settings_ = settings;
           count_ = count ∙ g.count_;
           clock = subst (λ o. IfSome o (λ n. n < w + 1)) (sym clock) (omega arith);
           idle = idle;
           inside = inside;
-          stood = (leave.0, leave.1, λ told. lines_on k.settings w (captures_in k) g.taken ins' shelves' b width_on read_on leave.0 (leave.2 told));
+          stood = (leave.0, leave.1, λ told. lines_on k.settings w (captures_in k) g.taken ins' shelves' b width_on walked_now.read leave.0 (leave.2 told));
           lines = λ told.
               let l = lines told in
-              (l.0, l.1, lines_on k.settings w (captures_in k) g.taken ins' shelves' b width_on read_on l.0 l.2, l.3);
+              (l.0, l.1, lines_on k.settings w (captures_in k) g.taken ins' shelves' b width_on walked_now.read l.0 l.2, l.3);
         }
         turn_ends (Err f) lines leave touched cause many inside clock settings count idle same = record {
           checks =
@@ -443,7 +424,7 @@ module _ (laws : Laws) (k : Task) (w : ℕ) (here : Stand) (g : Going k w here) 
     J = (g.lines told).0
 
     all : (g.taken ≡ all_records (captures_in k)) × All IsWhole (captures_in k)
-    all = laws.read_all k.settings w (captures_in k) g.taken ins shelves d (told_on told) g.read none
+    all = laws.read_all k.settings w (captures_in k) g.taken ins shelves d (told_on told) g.walked.read none
 
     none_for : (K : Journal) → HaveLines K g.taken → (q : ℕ) (records : List Record) → slice_get (scene_of k).records q ≡ Some records → left_of (q + 1) records K ≡ []
     none_for K own q records at =
@@ -454,7 +435,7 @@ module _ (laws : Laws) (k : Task) (w : ℕ) (here : Stand) (g : Going k w here) 
     none_of = none_for J (g.lines told).2
 
     no_stop : (scene_of k).stop ≡ None
-    no_stop = g.stops told ∙ laws.none_left k.settings first d ins shelves left none
+    no_stop = g.walked.stops told ∙ laws.none_left k.settings first d ins shelves left none
 
     nothing_for : (K : Journal) → HaveLines K g.taken → (has_left k.settings (scene_of k).records K ≡ false) × (expects_tick k.settings (scene_of k).records K ≡ false)
     nothing_for K own =
@@ -541,7 +522,7 @@ module _ (laws : Laws) (k : Task) (w : ℕ) (here : Stand) (g : Going k w here) 
     touches_out : Touches Nothing (NameIn d k.outs) d e → Touches Nothing (OfTask k) k.start.seen e
     touches_out t =
         touches_trans Nothing (OfTask k) k.start.seen d e g.touches
-        (touches_wider Nothing (NameIn d k.outs) Nothing (OfTask k) d e (λ m h. h) (λ m h. name_in (OfTask k) k.start.seen d g.touches (slots_in k) g.inputs m (in_back xs k.outs d m h)) t)
+        (touches_wider Nothing (NameIn d k.outs) Nothing (OfTask k) d e (λ m h. h) (λ m h. name_in Nothing (OfTask k) k.start.seen d (slots_in k) g.touches g.inputs m (in_back xs k.outs d m h)) t)
 
     -- an output differs, or can't be read
     ended_out : (f : CheckFault) → ReadsOut k.outs d e o (Err f) → Ended k e f

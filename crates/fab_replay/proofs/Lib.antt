@@ -23,7 +23,6 @@ pub mod SentLemmas
 pub mod ShowLemmas
 pub mod SlotsLemmas
 pub mod SpotLemmas
-pub mod StayLemmas
 pub mod StepLemmas
 pub mod VerdictLemmas
 pub mod WalkLemmas

@@ -1,9 +1,10 @@
 -- The slots of the captures, and those of the outputs behind them.
-use Rattle.std.proofs.Common.{◌≡◌, ℕ, zero, suc, ◌+◌, ◌<◌, inl, List, [], ◌∷◌, ◌++◌, length, length-append, IsTrue, refl, sym, ap, ◌∙◌, subst, arith}
+use Rattle.std.proofs.Common.{◌≡◌, ℕ, zero, suc, ◌+◌, ◌<◌, List, [], ◌∷◌, ◌++◌, length, length-append, IsTrue, refl, sym, ap, ◌∙◌, subst, arith}
 use Rattle.fab_base.specs.Seen.{Seen, Rose, Touches, Nothing}
 use Rattle.fab_base.proofs.SeenLemmas.{rose_later}
 use Rattle.fab_base.specs.Slots.{NameIn, name_of, slot_at}
 use Rattle.fab_gather.specs.Ports.{AreInputs}
+use Rattle.fab_gather.proofs.SlotLemmas.{named_as}
 use Rattle.fab_replay.specs.AllOutputs.{OneRose}
 
 at_front : (xs ys : List ℕ) (q : ℕ) → q < length xs → slot_at (xs ++ ys) q ≡ slot_at xs q
@@ -77,19 +78,7 @@ module _ (xs ys : List ℕ) where
 
 -- ---- open slots, while some of them are read
 
-module _ (counted : List ℕ → Type 0) (a b : Seen) (t : Touches Nothing counted a b) (slots : List ℕ) (o : AreInputs a slots) where
-  named : (q : ℕ) → q < length slots → name_of b slots q ≡ name_of a slots q
-  named q lt = (t.slots (slot_at slots q) (inl (o.inputs q lt))).name
-
-  pub inputs_stay : AreInputs b slots
-  inputs_stay = record {
-    inputs = λ q lt. subst IsTrue (sym (t.slots (slot_at slots q) (inl (o.inputs q lt))).input) (o.inputs q lt);
-    differ = λ p q less lt e. o.differ p q less lt (sym (named p less) ∙ e ∙ named q lt);
-  }
-
-  pub name_in : (m : List ℕ) → NameIn b slots m → NameIn a slots m
-  name_in m h = (h.0, h.1, h.2 ∙ named h.0 h.1)
-
-  -- a count that rose later rose in all
-  pub rose_in_all : (d : Seen) → OneRose slots b d → OneRose slots a d
-  rose_in_all d h = (h.0, h.1, rose_later _ _ _ (t.reads_rise (name_of a slots h.0)) (subst (λ n. Rose (b.read_faults n) (d.read_faults n)) (named h.0 h.1) h.2))
+-- a count that rose later rose in all
+pub rose_in_all : (counted : List ℕ → Type 0) (a b : Seen) → Touches Nothing counted a b → (slots : List ℕ) → AreInputs a slots → (d : Seen) → OneRose slots b d → OneRose slots a d
+rose_in_all counted a b t slots o d h =
+    (h.0, h.1, rose_later _ _ _ (t.reads_rise (name_of a slots h.0)) (subst (λ n. Rose (b.read_faults n) (d.read_faults n)) (named_as Nothing counted a b slots t o h.0 h.1) h.2))

@@ -10,8 +10,8 @@ use Rattle.pcap_file.specs.declared.fault.GatherFault.{GatherFault}
 use Rattle.pcap_file.specs.declared.fault.GatherFault.TheVariants as gather_fault
 use Rattle.fab_gather.specs.First.{IsNextWindow}
 use Rattle.fab_base.specs.Slots.{NameIn}
-use Rattle.fab_gather.specs.Ports.{slots_of, AreInputs, AreReady, TakesFrom, Walk, stop_after}
-use Rattle.fab_gather.specs.Reads.{HaveRead}
+use Rattle.fab_gather.specs.Ports.{AreInputs, TakesFrom, Walk}
+use Rattle.fab_gather.specs.Walked.{Walked}
 use Rattle.fab_replay.specs.Check.{Checks, Leaves, Task, captures_in, matter_of, slots_in}
 use Rattle.fab_replay.specs.Counts.{TellsFaults}
 use Rattle.fab_replay.specs.Lines.{IsInside}
@@ -54,21 +54,16 @@ pub record Stand : Type 0 where
 abbrev pub stand_at : Contents → Course → Walk → Stand
 stand_at F course walk = record { fabric = F; course = course; walk = walk }
 
--- What stands before a window: which records were taken, where the readers are, and, where the depot tells, that the looks to
--- come stop where all looks do, that the lines so far are right and name the frames of these records, and that the outputs were
--- read against what they send.
+-- What stands before a window: which records were taken, how far the captures were read, and, where the depot tells, that the lines
+-- so far are right and name the frames of these records, and that the outputs were read against what they send.
 pub record Going (k : Task) (w : ℕ) (s : Stand) : Type 0 where
   pub inputs : AreInputs k.start.seen (slots_in k)
   pub ports : length k.start.ins ≤ 64
   pub outputs : length k.outs ≤ length k.start.ins
   pub many : AreMany (length k.outs) s.course.owed
   pub touches : Touches Nothing (OfTask k) k.start.seen s.walk.seen
-  pub slots : slots_of s.walk.ins ≡ slots_of k.start.ins
-  pub count : length s.walk.shelves ≡ length s.walk.ins
-  pub ready : AreReady k.settings w s.walk.ins s.walk.shelves s.walk.left
   pub taken : List (List Record)
-  pub read : HaveRead k.settings w (captures_in k) taken s.walk.ins s.walk.shelves s.walk.seen
-  pub stops : IsTrue k.start.seen.told → (scene_of k).stop ≡ stop_after k.settings s.course.first s.walk
+  pub walked : Walked k.settings k.start w s.course.first taken s.walk
   pub settings_ : s.fabric.settings ≡ k.settings
   pub count_ : s.fabric.count ≡ length k.start.ins
   pub clock : IfSome s.fabric.state.tables.clock (λ t. t < w)

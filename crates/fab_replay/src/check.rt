@@ -94,8 +94,6 @@ fn look_first<D: Depot>(
     ensures takes { TakesFrom ins.old ins.new budget.old budget.new }
     ensures counts { TellsFaults (D.seen depot.old) (D.seen depot.new) result }
 {
-    // Law: which looks are left, what was read and what a stop keeps; Going begins with them.
-    laws_of_windows();
     let place = first_place(written.journal);
     let owed = Owed::new(alloc, written.outs.len())?;
     let shelves = match first_looks(alloc, depot, ins, budget) {

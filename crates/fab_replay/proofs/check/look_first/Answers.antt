@@ -48,7 +48,7 @@ returns-in-Err g c =
     let t = c.in-Err.ensures.looks F.settings in
     record {
       begins = subst (λ e. Ends k (seen c.first_looks.new.depot) F (Err e)) (sym c.fault_of.ensures)
-          (ends_looks c.laws_of_windows.ensures k _ F p c.requires.inputs c.requires.ports.1 c.in-Err.fault t c.first_place-place.ensures.behind
+          (ends_looks k _ F p c.requires.inputs c.requires.ports.1 c.in-Err.fault t c.first_place-place.ensures.behind
           (along_none k F p refl c.requires.state c.requires.nothing.0 c.requires.nothing.1 c.first_place-place.ensures.behind));
       takes = t.takes;
       counts = counts_gathering (seen c.args.depot.now) (seen c.first_looks.new.depot) c.in-Err.fault c.fault_of.result c.fault_of.ensures t.counts t.writes;
@@ -61,7 +61,7 @@ returns g c =
     let k = task_of F.settings c.args.budget.now c.args.ins.now (seen c.args.depot.now) c.args.written.now.journal.now c.args.written.now.outs.now in
     let t = c.in-Ok.ensures.looks F.settings in
     record {
-      begins = going_begin c.laws_of_windows.ensures k _ F c.first_place-place.result c.requires.inputs c.requires.ports.1 c.in-Ok.shelves t c.in_ok-owed.owed c.in_ok-owed.ensures c.requires.outputs
+      begins = going_begin k _ F c.first_place-place.result c.requires.inputs c.requires.ports.1 c.in-Ok.shelves t c.in_ok-owed.owed c.in_ok-owed.ensures c.requires.outputs
           c.next_window.result c.config.result.now c.deref.result.now c.unwrap_or-first.result c.next_window.ensures.least c.config.ensures c.deref.ensures.value c.unwrap_or-first.ensures
           refl c.requires.count c.requires.state c.requires.nothing.0 c.requires.nothing.1 c.first_place-place.ensures.behind c.first_place-place.ensures.inside;
       takes = t.takes;

@@ -2,6 +2,7 @@ use Rattle.std.proofs.Common.{◌∙◌, ◌+◌, ◌%◌, ◌^◌, Some, None, 
 use Rattle.fab_config.specs.Settings.{Settings}
 use Rattle.fab_gather.proofs.ClockLemmas.{nearer}
 use Rattle.fab_gather.proofs.LeavesLemmas.{takes_none, takes_then}
+use Rattle.fab_gather.proofs.SlotLemmas.{same_length}
 use Rattle.fab_gather.specs.First.{IsNextWindow}
 use Rattle.fab_gather.specs.Ports.{AreInputs, AreReady}
 use Rattle.pcap_file.specs.declared.fault.GatherFault.TheVariants as gather_fault
@@ -10,7 +11,7 @@ use Rattle.fab_replay.specs.Owed.{AreMany}
 use Rattle.fab_replay.specs.Windows.{Ends}
 use Rattle.fab_replay.specs.declared.fault.CheckFault.TheVariants as fault
 use Rattle.fab_replay.proofs.CountLemmas.{counts_gathering, counts_on, counts_then, not_ok}
-use Rattle.fab_replay.proofs.GoLemmas.{ends_gathering, gathers_as, inputs_now, next_here, outputs_b, same_ports, turned, window_here}
+use Rattle.fab_replay.proofs.GoLemmas.{ends_gathering, gathers_as, inputs_now, next_here, outputs_b, turned, window_here}
 use Rattle.fab_replay.proofs.ResultLemmas.{told_on}
 use Rattle.fab_replay.proofs.windows.check_windows.Goals as goal
 
@@ -24,13 +25,13 @@ gather-requires g c =
     let k = c.requires.going.0 in
     let at = c.windows.invariant.turns k c.requires.going.1 c.requires.going.2 in
     let h = window_here c.laws_of_windows.ensures k at.0 _ at.1 _ c.config.ensures c.in-Some.window c.in-Some.ensures.least in
-    let same = same_ports k.start.ins c.windows.ins h.going.slots in
+    let same = same_length k.start.ins c.windows.ins h.going.walked.slots in
     let few = h.going.ports in
     record {
-      count = h.going.count;
+      count = h.going.walked.count;
       ports = omega (arith, same, few);
       inputs = inputs_now c.laws_of_windows.ensures k _ _ h.going;
-      ready = subst (λ s. AreReady s c.in-Some.window c.windows.ins c.windows.shelves c.windows.budget) (sym (c.config-config.ensures ∙ h.going.settings_)) h.going.ready;
+      ready = subst (λ s. AreReady s c.in-Some.window c.windows.ins c.windows.shelves c.windows.budget) (sym (c.config-config.ensures ∙ h.going.settings_)) h.going.walked.ready;
       next = subst (λ s. IsNextWindow s c.windows.shelves (Some c.in-Some.window)) (c.config.ensures ∙ sym c.config-config.ensures) c.in-Some.ensures.least;
     }
 
@@ -61,9 +62,9 @@ check_gathered-requires g c =
     let h = window_here c.laws_of_windows.ensures k at.0 _ at.1 _ c.config.ensures c.in-Some.window c.in-Some.ensures.least in
     let same = c.requires.going.1 in
     let t = gathers_as (c.config-config.ensures ∙ h.going.settings_) c.in-Ok.ensures.gathers in
-    let ports = same_ports k.start.ins c.windows.ins h.going.slots in
+    let ports = same_length k.start.ins c.windows.ins h.going.walked.slots in
     let few = h.going.ports in
-    let count = h.going.count in
+    let count = h.going.walked.count in
     let on = t.count in
     let early = h.early in
     record {
