@@ -8,11 +8,9 @@ ghost use Rattle.enode_run.specs.Files as files;
 ghost use Rattle.enode_run.specs.Steps.{ReadsInput};
 
 use fab_base::{Depot, Moment, PortNo};
+use fab_gather::MOST_SPAN;
 use pcap_file::{Budget, GatherFault, LimitKind, RecordList, read_capture};
 use std::alloc::Global;
-
-/// How far the last record may lie behind the start, in milliseconds.
-const MOST_SPAN: u64 = 21_600_000;
 
 // Reads the capture of a name whole, and tests last how far it reaches.
 pub(crate) fn read_input<D: Depot>(

@@ -16,16 +16,13 @@ use crate::files::write_packet;
 use crate::handling::handle;
 use crate::{Done, LimitKind, LiveFault, LiveFiles};
 use fab_base::{Depot, Moment, NoMemory, PortNo};
-use fab_gather::window_start;
+use fab_gather::{MOST_SPAN, window_start};
 use fab_pages::Sendings;
 use fab_windows::{Pages, laws_of_runs};
 use forward_core::Fabric;
 use pcapng_file::{NgRecord, add_packet};
 use std::alloc::Global;
 use std::thread::Threads;
-
-/// The most milliseconds from the first window to the last: six hours.
-const MOST_SPAN: u64 = 21_600_000;
 
 /// What a forwarder that runs keeps: the fabric, how many packets each port had, the first window
 /// and the greatest time so far, how many frames and entries there were, and the pages, which are

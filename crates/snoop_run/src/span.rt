@@ -6,10 +6,8 @@ ghost use Rattle.fip_snoop.specs.Queue.{AllAscend};
 ghost use Rattle.snoop_run.specs.Records.{AllFit, first_moment};
 
 use fab_base::OwnedList;
+use fab_gather::MOST_SPAN;
 use pcap_file::Record;
-
-/// The most milliseconds from the first frame to the last: six hours.
-const MOST_SPAN: u64 = 21_600_000;
 
 /// Whether the moments of all captures span more than the most.
 pub(crate) fn is_too_long(ins: &[OwnedList<Record>]) -> bool
