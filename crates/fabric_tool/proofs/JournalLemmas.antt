@@ -6,9 +6,9 @@ use Rattle.fab_base.specs.Seen.{Seen, Reads, Rose, OpensIn, Touches, Nothing, On
 use Rattle.fab_base.specs.declared.values.Failed.{Failed}
 use Rattle.fab_base.specs.Places.{name_at}
 use Rattle.fab_base.proofs.SeenLemmas.{reads_trans, rose_later, told_stays, touches_refl, touches_trans, touches_wider, reads_touches}
-use Rattle.fab_migrate.specs.OldWords.{WholeRead, IsWhole}
-use Rattle.fab_migrate.specs.declared.old.OldError.{OldError}
-use Rattle.fab_migrate.specs.declared.old.OldError.TheVariants as errors
+use Rattle.fab_base.specs.Whole.{WholeRead, IsWhole}
+use Rattle.fab_base.specs.declared.whole.WholeError.{WholeError}
+use Rattle.fab_base.specs.declared.whole.WholeError.TheVariants as errors
 use Rattle.fab_config.specs.Settings.{Settings}
 use Rattle.fab_base.specs.Counting.{counting}
 use Rattle.fabric_tool.specs.Checking.{JournalRead, JournalEnds, AreOpenInputs, OutputsRead, unread_by, GivenRead, GivenEnds}
@@ -47,17 +47,15 @@ module _ (name : List ℕ) (limit s : ℕ) (a b c : Seen) (o : OpensIn {E = Fail
     counts = λ no m. w.counts m ∙ o.counts m;
   }
 
-  pub journal_unread : (e : OldError) (x : Outcome) → x ≡ unread_by e → WholeRead s limit b c (Err e) → JournalRead name limit a c (Err x)
+  pub journal_unread : (e : WholeError) (x : Outcome) → x ≡ unread_by e → WholeRead s limit b c (Err e) → JournalRead name limit a c (Err x)
   journal_unread e x is w = record { reads = all_reads w.reads; ok = λ told. tt; within = tt; ended = subst (JournalEnds name limit a c) (sym is) (go e w.whole); counts = subst (λ (y : Outcome). TellsReads {T = Vec ℕ Global} a c (Err y)) (sym is) (told_as e w) }
     where
-      go : (e : OldError) → IsWhole s limit b c (Err e) → JournalEnds name limit a c (unread_by e)
-      go (errors.Fault line why) whole = absurd whole
+      go : (e : WholeError) → IsWhole s limit b c (Err e) → JournalEnds name limit a c (unread_by e)
       go errors.Bytes whole = (refl, λ told. (b.left s, o.left told, whole (told_b told)))
       go (errors.Read f) whole = rose_later _ _ _ o.reads.keeps.reads_rise (subst (λ n. Rose (b.read_faults n) (c.read_faults n)) o.opened.2 whole)
       go errors.Memory whole = tt
 
-      told_as : (e : OldError) → WholeRead s limit b c (Err e) → TellsReads {T = Vec ℕ Global} a c (Err (unread_by e))
-      told_as (errors.Fault line why) w = λ no. absurd (no refl)
+      told_as : (e : WholeError) → WholeRead s limit b c (Err e) → TellsReads {T = Vec ℕ Global} a c (Err (unread_by e))
       told_as errors.Bytes w = λ no m. w.counts m ∙ o.counts m
       told_as (errors.Read f) w = λ no. absurd (no refl)
       told_as errors.Memory w = λ no m. w.counts m ∙ o.counts m

@@ -13,8 +13,8 @@ use Rattle.fab_policy.specs.State.{tables_of}
 use Rattle.pcap_file.specs.declared.fault.CapWhy.{CapWhy}
 use Rattle.pcap_file.specs.declared.fault.LimitKind.TheVariants as kinds
 use Rattle.pcap_file.specs.declared.fault.GatherFault.TheVariants as gather
-use Rattle.fab_migrate.specs.declared.old.OldError.{OldError}
-use Rattle.fab_migrate.specs.declared.old.OldError.TheVariants as olds
+use Rattle.fab_base.specs.declared.whole.WholeError.{WholeError}
+use Rattle.fab_base.specs.declared.whole.WholeError.TheVariants as wholes
 use Rattle.fab_replay.specs.Check.{Matter, NamesRun, AreSent, IsLegal, IsFirstLine, IsFirstOutput, IsFirstStop}
 use Rattle.fab_replay.specs.Showing.{shown, shown_by}
 use Rattle.fab_replay.specs.declared.fault.CheckFault.{CheckFault}
@@ -208,12 +208,11 @@ refused_by (checks.Limit kind) = ends.Limit kind
 refused_by checks.Read = ends.ReadFault
 refused_by checks.Memory = ends.Memory
 
--- what an error of reading a journal whole ends the command with; it has no fault at a line
-abbrev pub unread_by : OldError → Outcome
-unread_by (olds.Fault line why) = ends.ReadFault
-unread_by olds.Bytes = ends.Limit kinds.Bytes
-unread_by (olds.Read failed) = ends.ReadFault
-unread_by olds.Memory = ends.Memory
+-- what an error of reading a journal whole ends the command with
+abbrev pub unread_by : WholeError → Outcome
+unread_by wholes.Bytes = ends.Limit kinds.Bytes
+unread_by (wholes.Read failed) = ends.ReadFault
+unread_by wholes.Memory = ends.Memory
 
 -- what an outcome says of reading a journal
 abbrev pub JournalEnds : List ℕ → ℕ → Seen → Seen → Outcome → Type 0

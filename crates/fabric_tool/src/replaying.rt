@@ -14,9 +14,8 @@ use crate::limits::{MOST_BYTES, MOST_FRAMES};
 use crate::outcome::Outcome;
 use crate::running::in_range;
 use arrayvec::ArrayVec;
-use fab_base::{Bytes, Depot, Failed, word_at};
+use fab_base::{Bytes, Depot, Failed, WholeError, read_whole, word_at};
 use fab_config::Config;
-use fab_migrate::{OldError, read_whole};
 use fab_replay::{CheckFault, check_captures, write_shown};
 use forward_core::Fabric;
 use pcap_file::{Budget, LimitKind};
@@ -186,17 +185,16 @@ fn journal_of<D: Depot>(
     }
 }
 
-// How an error of reading the journal ends the command. It has no fault at a line.
-fn outcome_of_error(error: OldError) -> Outcome
+// How an error of reading the journal ends the command.
+fn outcome_of_error(error: WholeError) -> Outcome
     ensures { result ≡ unread_by error }
 {
     match error {
-        OldError::Bytes => Outcome::Limit {
+        WholeError::Bytes => Outcome::Limit {
             kind: LimitKind::Bytes,
         },
-        OldError::Memory => Outcome::Memory,
-        OldError::Read(_) => Outcome::ReadFault,
-        OldError::Fault { .. } => Outcome::ReadFault,
+        WholeError::Memory => Outcome::Memory,
+        WholeError::Read(_) => Outcome::ReadFault,
     }
 }
 
