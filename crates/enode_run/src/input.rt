@@ -8,8 +8,7 @@ ghost use Rattle.enode_run.specs.Files as files;
 ghost use Rattle.enode_run.specs.Steps.{ReadsInput};
 
 use fab_base::{Depot, Moment, PortNo};
-use fab_gather::MOST_SPAN;
-use pcap_file::{Budget, GatherFault, LimitKind, RecordList, read_capture};
+use pcap_file::{Budget, GatherFault, LimitKind, MOST_SPAN, RecordList, read_capture};
 use std::alloc::Global;
 
 // Reads the capture of a name whole, and tests last how far it reaches.

@@ -7,11 +7,8 @@ ghost use Rattle.fab_gather.specs.Ports.{AreInputs, AreReady, slots_of, walk_at}
 use crate::{GatherFault, Input, LimitKind, Shelf, looks_to_come, take_windows};
 use fab_base::Depot;
 use fab_config::Config;
-use pcap_file::Budget;
+use pcap_file::{Budget, MOST_SPAN};
 use std::alloc::Global;
-
-/// The most milliseconds from the first window of a run to its last, six hours.
-pub const MOST_SPAN: u64 = 21_600_000;
 
 /// Takes the records of the next window, unless it starts more than the most span of milliseconds
 /// after the first one. On Err the shelves hold some of them.

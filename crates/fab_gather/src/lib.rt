@@ -11,7 +11,7 @@ mod shelf;
 mod window;
 
 pub use first::first_looks;
-pub use gathering::{MOST_SPAN, gather};
+pub use gathering::gather;
 pub use laws::{looks_to_come, records_are_read, windows_move_on};
 pub use looks::{looks_go_on, steps_find_the_stop, stops_keep_what_is_before};
 pub use pcap_file::{CapWhy, GatherFault, LimitKind, fault_of, open_fault_of};

@@ -1,7 +1,7 @@
 //! How the check of a journal ends before its end.
 use fab_base::{Failed, NoMemory, PortNo};
-use pcap_file::{CapWhy, LimitKind};
 use fab_policy::Verdict;
+use pcap_file::{CapWhy, LimitKind};
 
 /// What is wrong with a line of a journal, in the order of the tests.
 #[derive(Clone, Copy, Debug, PartialEq, Eq)]

@@ -7,8 +7,8 @@ ghost use Rattle.fabric_tool.specs.Reading.{unmigrated_by};
 use crate::limits::MOST_BYTES;
 use crate::outcome::Outcome;
 use fab_base::{Depot, word_at};
-use pcap_file::LimitKind;
 use fab_migrate::{MigrateError, OldError, migrate};
+use pcap_file::LimitKind;
 use std::alloc::Global;
 
 /// Writes a journal of format 1 in format 2. The journal is read whole before the other file is

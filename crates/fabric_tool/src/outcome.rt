@@ -11,10 +11,9 @@ use arrayvec::ArrayVec;
 use enode_core::Phase;
 use fab_base::{Bytes, FcId, Mac, PortNo, Sink, address_text, mac_text, put, say_all};
 use fab_config::{ConfigFault, ConfigWhy};
-use pcap_file::{CapWhy, LimitKind};
-use fab_gather::MOST_SPAN;
 use fab_migrate::OldWhy;
 use fab_replay::LineWhy;
+use pcap_file::{CapWhy, LimitKind, MOST_SPAN};
 use pcapng_file::NgWhy;
 use std::alloc::{AllocError, Global};
 

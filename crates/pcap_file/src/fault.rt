@@ -33,6 +33,10 @@ pub enum LimitKind {
     Span,
 }
 
+/// The most milliseconds from the first window of a run to its last, or between the first moment
+/// and the last where whole captures are read: six hours.
+pub const MOST_SPAN: u64 = 21_600_000;
+
 /// How the reading of captures ends before their end.
 #[derive(Clone, Copy, Debug, PartialEq, Eq)]
 pub enum GatherFault {

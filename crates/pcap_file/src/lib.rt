@@ -12,7 +12,7 @@ mod writing;
 pub use ahead::Ahead;
 pub use captures::{RecordList, read_capture};
 use fab_base::{Caught, Failed, Moment};
-pub use fault::{CapWhy, GatherFault, LimitKind, fault_of, open_fault_of};
+pub use fault::{CapWhy, GatherFault, LimitKind, MOST_SPAN, fault_of, open_fault_of};
 pub use head::{ETHERNET, LAST_SECOND, MOST_STORED, RECORD_HEAD, half_at, number_at};
 pub use laws::{
     a_capture_says_one_thing, a_fault_makes_no_capture, a_reader_answers_what_stands_there,

@@ -6,8 +6,7 @@ ghost use Rattle.fip_snoop.specs.Queue.{AllAscend};
 ghost use Rattle.snoop_run.specs.Records.{AllFit, first_moment};
 
 use fab_base::OwnedList;
-use fab_gather::MOST_SPAN;
-use pcap_file::Record;
+use pcap_file::{MOST_SPAN, Record};
 
 /// Whether the moments of all captures span more than the most.
 pub(crate) fn is_too_long(ins: &[OwnedList<Record>]) -> bool
