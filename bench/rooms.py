@@ -13,7 +13,7 @@ CODECS = "eth_frames fc_frames fcoe_codec fip_codec els_messages ct_messages"
 TABLES = "fc_addresses login_table keepalive_clock name_server state_change"
 FABRIC = "fab_policy fab_messages fab_roster fab_sending fab_judge forward_core fab_shared"
 EDGE = "open_files tool_process fcoe_tool"
-RUNS = "fab_gather fab_windows fab_replay fab_live fab_pages run_files fab_captures snoop_run enode_run fabric_tool"
+RUNS = "fab_gather fab_windows fab_replay fab_live fab_pages run_files snoop_run enode_run fabric_tool"
 FILES = "Depot Sink create open_read"
 THREADS = "Threads Wait spawn"
 
@@ -30,7 +30,6 @@ UNKNOWN: dict[str, tuple[str, str]] = {
     "enode_run": (f"{EDGE} {CODECS} {FABRIC}", "Stage Verdict"),
     "fab_judge": (f"{EDGE} fab_messages fab_sending {RUNS} pcap_file", "Out OutMessage OutList"),
     "fab_sending": (f"{EDGE} fab_judge {RUNS} pcap_file", "judge frame_rule"),
-    "fab_captures": (f"{CODECS} {FABRIC}", "Verdict Rule"),
     "run_files": (f"{CODECS} fab_judge fab_messages fab_sending forward_core", "Caught Event Verdict"),
     "fab_roster": (f"{EDGE} eth_frames fip_codec fc_frames fcoe_codec fab_messages fab_judge pcap_file", "Rule Verdict Caught"),
     "fab_messages": (f"fab_roster fab_sending fab_judge pcap_file {TABLES}", "Roster"),

@@ -26,7 +26,8 @@ use Rattle.fab_replay.specs.declared.fault.CheckFault.TheVariants as fault
 use Rattle.fab_replay.specs.declared.outputs.Compared.{Compared}
 use Rattle.fab_replay.specs.declared.owed.Owed.{Owed}
 use Rattle.fab_replay.proofs.CountLemmas.{counts_read}
-use Rattle.fab_replay.proofs.SlotsLemmas.{name_in, rose_in_all}
+use Rattle.fab_gather.proofs.SlotLemmas.{name_in}
+use Rattle.fab_replay.proofs.SlotsLemmas.{rose_in_all}
 
 -- ---- before anything is read
 
@@ -109,7 +110,7 @@ module _ (slots : List ℕ) (a b : Seen) (o o' : Owed) (are : AreInputs a slots)
 
   module _ (d : Seen) (r : ReadsOn slots a b o o' (Ok tt)) where
     touches_out : Touches Nothing (NameIn b slots) b d → Touches Nothing (NameIn a slots) a d
-    touches_out t = touches_trans Nothing (NameIn a slots) a b d r.touches (touches_wider Nothing (NameIn b slots) Nothing (NameIn a slots) b d (λ m h. h) (name_in (NameIn a slots) a b r.touches slots are) t)
+    touches_out t = touches_trans Nothing (NameIn a slots) a b d r.touches (touches_wider Nothing (NameIn b slots) Nothing (NameIn a slots) b d (λ m h. h) (name_in Nothing (NameIn a slots) a b slots r.touches are) t)
 
     first_out : (first : Option (ℕ × ℕ)) → FinishesEach slots b d o'.all.items (Ok first) → IsTrue a.told → (found wanted : ℕ → List ℕ) → AreRead a slots o.all.items found wanted →
         IsFirst first (length slots) found (λ q. wanted q ++ page_at o.pages.items q)
