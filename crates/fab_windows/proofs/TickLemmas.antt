@@ -1,5 +1,5 @@
 -- The ticks up to a window, one after another.
-use Rattle.std.proofs.Common.{◌≡◌, ℕ, ◌≤◌, List, [], ◌∷◌, ◌++◌, Option, Some, IfSome, sym, ap, ◌∙◌, subst, append_assoc}
+use Rattle.std.proofs.Common.{◌≡◌, ℕ, ◌≤◌, List, [], ◌∷◌, ◌++◌, Option, Some, IfSome, Result, Ok, Err, OnErr, sym, ap, ◌∙◌, subst, append_assoc}
 use Rattle.std.proofs.lemmas.List.{append-nil}
 use Rattle.fab_config.specs.Settings.{Settings}
 use Rattle.fab_policy.specs.Growing.{FollowedByParts}
@@ -9,7 +9,7 @@ use Rattle.fab_policy.specs.Outputs.{State}
 use Rattle.fab_policy.specs.Standing.{Contents, Stands, Takes}
 use Rattle.fab_policy.specs.declared.event.Event.{Event}
 use Rattle.fab_policy.specs.declared.event.Event.TheVariants.{Tick}
-use Rattle.fab_windows.specs.Window.{AreTicksTo, Ticked}
+use Rattle.fab_windows.specs.Window.{AreTicksTo, Ticked, TickedPart}
 use Rattle.forward_core.specs.Fabric.{IsTickOf}
 
 -- a fabric's clock is that of its journals
@@ -68,3 +68,18 @@ ticking_all w F G so_far at = record {
       let last : clock (followed J so_far.ticks) ≡ Some w = sym (same_clock G (followed J so_far.ticks) all.1) ∙ at in
       (subst (AreTicksTo F.settings w J) (append-nil so_far.ticks) (so_far.on J [] l s last), all.0, all.1);
 }
+
+-- the ticks that were made before memory was refused
+pub ticking_part : (w : ℕ) (F G H : Contents) → Ticking w F G → H ≡ G → TickedPart F H
+ticking_part w F G H so_far same = subst (TickedPart F) (sym same) (record {
+  settings = so_far.settings;
+  count = so_far.count;
+  ticks = so_far.ticks;
+  events = so_far.events;
+  stands = so_far.stands;
+})
+
+-- what holds anyhow holds of a refusal
+pub all_on_err : {A B P : Type 0} (r : Result A B) → P → OnErr r P
+all_on_err (Ok v) p = tt
+all_on_err (Err e) p = p

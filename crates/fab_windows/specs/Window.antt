@@ -24,3 +24,11 @@ pub record Ticked (w : ℕ) (F G : Contents) : Type 0 where
   pub ticks : List Event
   pub events : G.events ≡ F.events ++ ticks
   pub stands : (J : Journal) → Legal F.settings J → Stands F J → AreTicksTo F.settings w J ticks × Legal F.settings (followed J ticks) × Stands G (followed J ticks)
+
+-- Memory was refused on the way: the ticks that were made before come behind each legal journal that the fabric stood for.
+pub record TickedPart (F G : Contents) : Type 0 where
+  pub settings : G.settings ≡ F.settings
+  pub count : G.count ≡ F.count
+  pub ticks : List Event
+  pub events : G.events ≡ F.events ++ ticks
+  pub stands : (J : Journal) → Legal F.settings J → Stands F J → Legal F.settings (followed J ticks) × Stands G (followed J ticks)

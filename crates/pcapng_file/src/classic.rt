@@ -1,11 +1,11 @@
 //! The classic capture of the packets of a file.
-ghost use Rattle.std.specs.Prelude.{◌≡◌, ◌++◌, IsTrue, IfOk, OnOk};
+ghost use Rattle.std.specs.Prelude.{◌≡◌, ◌++◌, IsTrue, IfOk, OnOk, OnErr};
 ghost use Rattle.pcapng_file.specs.Classic.{classic_record, classic_bytes, Converts, KeepsBut};
 
 use crate::fault::{ConvertError, NgError};
 use crate::reading::read_ng;
 use crate::{NgRecord, NgRecords};
-use fab_base::{Depot, NoMemory, put_all};
+use fab_base::{Depot, NoMemory, append_made, put_all};
 use pcap_file::{Budget, write_head};
 use std::alloc::{AllocError, Global};
 
@@ -60,13 +60,12 @@ pub fn classic_capture(alloc: Global, records: &NgRecords) -> Result<Vec<u8>, No
     Ok(out)
 }
 
-/// Appends the record of a packet to a classic capture.
+/// Appends the record of a packet to a classic capture, or nothing where memory is refused.
 pub fn add_packet(alloc: Global, packet: &NgRecord, out: &mut Vec<u8>) -> Result<(), NoMemory>
-    ensures { OnOk result (out.new.items ≡ out.old.items ++ classic_record packet.now) }
+    ensures ok { OnOk result (out.new.items ≡ out.old.items ++ classic_record packet.now) }
+    ensures err { OnErr result (out.new.items ≡ out.old.items) }
 {
-    let made = bytes_of(alloc, packet)?;
-    out.extend_from_slice(&made)?;
-    Ok(())
+    append_made(alloc, bytes_of(alloc, packet), out)
 }
 
 fn bytes_of(alloc: Global, packet: &NgRecord) -> Result<Vec<u8>, AllocError>
