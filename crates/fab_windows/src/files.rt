@@ -1,5 +1,5 @@
 //! The journal and the outputs, which grow by what the pages hold.
-ghost use Rattle.std.specs.Prelude.{◌≡◌, length, Ok, Err, OnOk, IfErr, MatchResult};
+ghost use Rattle.std.specs.Prelude.{◌≡◌, length, Ok, Err, OnOk, OnErr, IfErr, MatchResult};
 ghost use Rattle.fab_base.specs.declared.values.Failed as of_files;
 ghost use Rattle.run_files.specs.Pages.{items_in};
 ghost use Rattle.fab_windows.specs.Files.{AreFiles, Writes};
@@ -17,7 +17,8 @@ pub struct Slots<'a> {
     pub outs: &'a [u32],
 }
 
-/// Writes what the pages hold, and empties them. Its one fault is `Write`.
+/// Writes what the pages hold, and empties them. Its one fault is `Write`, and the pages then hold
+/// what they held.
 pub fn flush<D: Depot>(depot: &mut D, slots: &Slots<'_>, pages: &mut Pages) -> Result<(), RunFault>
     requires count { length slots.now.outs.now ≡ length pages.old.records.items }
     requires files { AreFiles (D.seen depot.old) slots.now.journal slots.now.outs.now }
@@ -28,6 +29,7 @@ pub fn flush<D: Depot>(depot: &mut D, slots: &Slots<'_>, pages: &mut Pages) -> R
     ensures nothing { OnOk result (IsNothing (pending pages.new)) }
     ensures count { OnOk result (length pages.new.records.items
         ≡ length pages.old.records.items) }
+    ensures kept { OnErr result (pages.new ≡ pages.old) }
 {
     match write_pages(depot, slots, &pages.lines, &pages.records) {
         Ok(()) => {

@@ -1,5 +1,5 @@
 //! What is still to be written to the files, in buffers that are used again.
-ghost use Rattle.std.specs.Prelude.{◌≡◌, ℕ, ◌+◌, ◌<◌, ◌++◌, length, nat_le, vec_len, IfOk, OnOk};
+ghost use Rattle.std.specs.Prelude.{◌≡◌, ℕ, ◌+◌, ◌<◌, ◌++◌, length, nat_le, vec_len, IfOk, OnOk, OnErr};
 ghost use Rattle.std.specs.List.{All, list_any};
 ghost use Rattle.pcap_file.specs.Capture.{head_bytes};
 ghost use Rattle.fab_policy.specs.Growing.{clock_after, lines_from, records_to};
@@ -43,6 +43,7 @@ impl Pages {
     }
 
     /// Adds the lines of entries, from a clock on, and the records of what they sent on each port.
+    /// Where memory is refused some of the lines may stand there, and no record.
     pub fn add<R: Threads + Sync>(
         &mut self,
         rt: &R,
@@ -60,6 +61,8 @@ impl Pages {
             → piece_at (items_in self.new.records.items) q
             ≡ piece_at (items_in self.old.records.items) q
             ++ records_to (q + 1) (sents_of sendings.now)) }
+        ensures kept { OnErr result (items_in self.new.records.items
+            ≡ items_in self.old.records.items) }
     {
         write_lines(alloc, clock, &sendings.drained.events, &mut self.lines)?;
         sendings.write_records_at_once(rt, alloc, &mut self.records)?;
