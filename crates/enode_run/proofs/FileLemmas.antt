@@ -1,6 +1,7 @@
 -- A node over files: the input is read whole, and then the output is written.
 use Rattle.std.proofs.Common.{◌≡◌, ℕ, Bool, true, false, cond, IsTrue, List, [], ◌∷◌, take, Some, Ok, Err, refl, sym, ap, ◌∙◌, subst, arith}
 use Rattle.std.specs.Prelude.{Result, IsErrOf}
+use Rattle.fab_base.specs.Ending.{KeepsBut}
 use Rattle.fab_base.specs.Seen.{Seen, Keeps, Reads, Rose, OpensIn, OpensOut, PutsAll}
 use Rattle.fab_base.specs.declared.values.Failed.{Failed}
 use Rattle.fab_base.proofs.SeenLemmas.{keeps_trans, reads_trans, reads_touches, told_stays, rose_later}
@@ -24,7 +25,7 @@ use Rattle.enode_core.specs.Phases.{phase_of}
 use Rattle.enode_core.specs.RunLaws.{RunsAreGranted}
 use Rattle.enode_core.specs.Runs.{is_too_long}
 use Rattle.enode_run.specs.Files as files
-use Rattle.enode_run.specs.Files.{KeepsBut, RunsNode, node_task, unless_too_long}
+use Rattle.enode_run.specs.Files.{RunsNode, node_task, unless_too_long}
 use Rattle.enode_run.specs.Steps as steps
 use Rattle.enode_run.specs.Steps.{ReadsInput, WritesFile}
 

@@ -1,5 +1,5 @@
 -- What a node does with files: a capture that its port receives, and the capture of what it sends.
-use Rattle.std.specs.Prelude.{◌≡◌, ◌≢◌, ℕ, if◌then◌else◌, IsTrue, List, take, Some, Result, Ok, Err}
+use Rattle.std.specs.Prelude.{◌≡◌, ℕ, if◌then◌else◌, IsTrue, List, take, Some, Result, Ok, Err}
 use Rattle.fab_base.specs.Seen.{Seen, SameFiles, Rose}
 use Rattle.pcap_file.specs.declared.Budget.{Budget}
 use Rattle.pcap_file.specs.declared.Record.{Record}
@@ -76,7 +76,3 @@ RunsNode task old new (Err (faults.Limit kind)) = SameFiles old new × (IsTrue o
 RunsNode task old new (Err faults.Read) = SameFiles old new × Rose (old.read_faults task.from) (new.read_faults task.from)
 RunsNode task old new (Err faults.Write) = Rose (old.write_faults task.to) (new.write_faults task.to) × (IsTrue old.told → IsFront task old new)
 RunsNode task old new (Err faults.Memory) = SameFiles old new
-
--- no file changes but the output
-abbrev pub KeepsBut : List ℕ → Seen → Seen → Type 0
-KeepsBut to old new = (m : List ℕ) → m ≢ to → new.file m ≡ old.file m

@@ -1,8 +1,9 @@
 //! A node over files.
 ghost use Rattle.std.specs.Prelude.{◌≡◌, ◌≤◌, ◌<◌, ◌^◌, IsTrue, length};
+ghost use Rattle.fab_base.specs.Ending.{KeepsBut};
 ghost use Rattle.enode_core.specs.Laws.{IsTyped};
 ghost use Rattle.enode_core.specs.Phases.{phase_of};
-ghost use Rattle.enode_run.specs.Files.{KeepsBut, RunsNode, node_task};
+ghost use Rattle.enode_run.specs.Files.{RunsNode, node_task};
 ghost use Rattle.run_files.specs.Faults.{TellsReads, TellsWrites};
 
 use crate::input::read_input;

@@ -1,6 +1,7 @@
 -- What stands behind each packet of a stream, and at its end.
 use Rattle.std.proofs.Common.{◌≡◌, ◌≢◌, ℕ, zero, suc, ◌+◌, ◌-◌, ◌<◌, ◌≤◌, ◌^◌, ◌⊎◌, inl, inr, List, [], ◌∷◌, ◌++◌, length, length-append, Option, Some, None, Ok, Err, IsTrue, refl, sym, ap, ◌∙◌, subst, arith}
 use Rattle.std.specs.Prelude.{Result, IsErrOf}
+use Rattle.fab_base.specs.Ending.{NoFaults}
 use Rattle.fab_base.specs.Seen.{Seen, Rose, Only, Nothing, Reads, Touches, SameReadFaults, SameWriteFaults}
 use Rattle.fab_base.proofs.SeenLemmas.{keeps_touches, reads_touches, touches_refl, touches_trans, touches_wider}
 use Rattle.fab_config.specs.Settings.{Settings}
@@ -14,7 +15,6 @@ use Rattle.pcapng_file.proofs.StreamedLemmas.{parts_long, streamed_none, streame
 use Rattle.pcapng_file.specs.Stream.{Streaming, streaming, StreamStand, StreamReads, Streamed, stream_stand, IsSaid}
 use Rattle.fab_policy.specs.Journal.{Journal}
 use Rattle.run_files.proofs.OutputLemmas.{stays_named, same_name}
-use Rattle.run_files.specs.Faults.{NoFaults}
 use Rattle.fab_windows.specs.declared.Done.{Done}
 use Rattle.pcap_file.specs.declared.fault.LimitKind.TheVariants as limits
 use Rattle.fab_live.specs.declared.live.Live.{Live}

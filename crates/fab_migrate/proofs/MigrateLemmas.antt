@@ -2,10 +2,11 @@
 use Rattle.std.proofs.Common.{◌≡◌, ℕ, ◌≤◌, IsTrue, List, [], length, take, Some, Ok, Err, sym, ap, ◌∙◌, subst, arith}
 use Rattle.std.specs.Prelude.{Result, Vec}
 use Rattle.std.specs.declared.alloc.Global.{Global}
+use Rattle.fab_base.specs.Ending.{NoFaults}
 use Rattle.fab_base.specs.Seen.{Seen, Reads, Rose, OpensIn, OpensOut, PutsAll, SameReadFaults}
 use Rattle.fab_base.specs.declared.values.Failed.{Failed}
 use Rattle.fab_base.proofs.SeenLemmas.{reads_trans, reads_touches, told_stays, rose_later}
-use Rattle.fab_migrate.specs.Migrating.{Migrates, NoFault, CauseOld, SaysOld, Untouched, Begun}
+use Rattle.fab_migrate.specs.Migrating.{Migrates, CauseOld, SaysOld, Untouched, Begun}
 use Rattle.fab_migrate.specs.Old.{IsOld, new_text}
 use Rattle.fab_migrate.specs.OldWords.{Rewrites, WholeRead}
 use Rattle.fab_migrate.specs.declared.old.MigrateError.TheVariants as ends
@@ -25,7 +26,7 @@ module _ (from to : List ℕ) (slot limit : ℕ) (a b c : Seen) (opens : OpensIn
   reads result r = reads_trans from a b c opens.reads (subst (λ n. Reads n b c) is_name r.reads)
 
   -- no fault was counted so far
-  none_counted : (result : Result (Vec ℕ Global) OldError) → WholeRead slot limit b c result → SameReadFaults b c → NoFault a c
+  none_counted : (result : Result (Vec ℕ Global) OldError) → WholeRead slot limit b c result → SameReadFaults b c → NoFaults a c
   none_counted result r counts = (λ m. counts m ∙ opens.counts m, λ m. r.reads.writes m ∙ opens.reads.writes m)
 
   -- ---- the input isn't read whole
@@ -55,7 +56,7 @@ module _ (from to : List ℕ) (slot limit : ℕ) (a b c : Seen) (opens : OpensIn
     within : IsTrue a.told → length v.items ≤ limit
     within told = (r.whole (told_b told)).1
 
-    counts_kept : NoFault a c
+    counts_kept : NoFaults a c
     counts_kept = none_counted (Ok v) r r.counts
 
     -- ---- the input isn't rewritten

@@ -1,6 +1,7 @@
 //! The journal in one file, migrated to another.
 ghost use Rattle.std.specs.Prelude.{IsTrue};
-ghost use Rattle.fab_migrate.specs.Migrating.{Migrates, KeepsBut};
+ghost use Rattle.fab_base.specs.Ending.{KeepsBut};
+ghost use Rattle.fab_migrate.specs.Migrating.{Migrates};
 
 use crate::old::{MigrateError, OldError, in_format_two};
 use crate::whole::read_whole;

@@ -1,6 +1,7 @@
 -- A window that was gathered and handled: what stands after it, before and behind its writing.
 use Rattle.std.proofs.Common.{◌≡◌, ℕ, suc, ◌+◌, ◌^◌, ◌<◌, ◌≤◌, List, [], ◌∷◌, ◌++◌, length, map, Option, Some, IfSome, IsTrue, Result, Ok, Err, inl, inr, take, drop, refl, sym, ap, ◌∙◌, subst, arith}
 use Rattle.std.specs.Prelude.{unwrap_or, IsErrOf}
+use Rattle.fab_base.specs.Ending.{NoFaults}
 use Rattle.fab_base.specs.Seen.{Seen, Touches, Nothing}
 use Rattle.fab_base.specs.declared.values.Failed.{Failed}
 use Rattle.fab_config.specs.Settings.{Settings}
@@ -28,8 +29,8 @@ use Rattle.fab_windows.specs.declared.Done.{Done}
 use Rattle.fab_windows.specs.Files.{AreFiles, Pending, GoesOn, WholesBut, Writes, captures, file_slots}
 use Rattle.fab_pages.specs.Pages.{AreEarly}
 use Rattle.fab_windows.specs.Pages.{FlushedFor}
-use Rattle.run_files.specs.Faults.{NoFaults, fault_from}
-use Rattle.run_files.proofs.FaultLemmas.{none_then}
+use Rattle.run_files.specs.Faults.{fault_from}
+use Rattle.fab_base.proofs.EndingLemmas.{none_then}
 use Rattle.fab_windows.specs.Steps.{Sofar}
 use Rattle.fab_windows.specs.Turns.{Laws, Task, captures_in, start_of, Reached, Going, Gathered, Ended, Handles, Publishes, paged_at}
 use Rattle.fab_gather.specs.Gather.{Gathers}

@@ -1,6 +1,7 @@
 -- One window after another: how a turn ends, and what stands after it.
 use Rattle.std.proofs.Common.{◌≡◌, ◌≢◌, ℕ, ◌<◌, ◌≤◌, ◌⊎◌, inl, inr, List, length, Some, IsTrue, Result, Ok, Err, refl, sym, ap, ◌∙◌, subst, arith}
 use Rattle.std.specs.Prelude.{IsErrOf}
+use Rattle.fab_base.specs.Ending.{NoFaults}
 use Rattle.fab_base.specs.Seen.{Seen, Touches, Nothing, Rose, SameReadFaults, SameWriteFaults}
 use Rattle.fab_base.specs.declared.values.Failed.{Failed}
 use Rattle.fab_base.proofs.SeenLemmas.{rose_later, touches_trans, touches_wider}
@@ -17,8 +18,8 @@ use Rattle.pcap_file.specs.declared.fault.GatherFault.{GatherFault}
 use Rattle.pcap_file.specs.declared.fault.GatherFault.TheVariants as gather
 use Rattle.fab_gather.specs.Port.{ending}
 use Rattle.pcap_file.specs.Faults as gathering
-use Rattle.run_files.specs.Faults.{NoFaults, IsStopped, fault_from}
-use Rattle.run_files.proofs.FaultLemmas.{none_then}
+use Rattle.run_files.specs.Faults.{IsStopped, fault_from}
+use Rattle.fab_base.proofs.EndingLemmas.{none_then}
 use Rattle.fab_base.specs.Slots.{name_of, NameIn}
 use Rattle.fab_gather.specs.Ports.{slots_of, AreInputs, stop_from, walk_at}
 use Rattle.fab_windows.specs.declared.Done.{Done}

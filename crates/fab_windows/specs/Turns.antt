@@ -1,5 +1,6 @@
 -- What stands between the windows of a run, and what its parts do. Of the public clauses only that of the laws cites it.
 use Rattle.std.specs.Prelude.{◌≡◌, ℕ, ◌+◌, ◌<◌, ◌≤◌, ◌^◌, ◌⊎◌, IsTrue, IfSome, List, [], ◌++◌, length, map, Option, Some, unwrap_or, Result, Ok, Err, OnOk, IfErr, IsErrOf}
+use Rattle.fab_base.specs.Ending.{NoFaults}
 use Rattle.fab_base.specs.Seen.{Seen, Touches, Rose, SameReadFaults, SameWriteFaults}
 use Rattle.fab_base.specs.declared.values.Failed.{Failed}
 use Rattle.fab_config.specs.Settings.{Settings}
@@ -27,7 +28,6 @@ use Rattle.fab_gather.specs.Ports.{Walk, walk_at, slots_of}
 use Rattle.fab_gather.specs.Reads.{batches_of}
 use Rattle.fab_gather.specs.Walked.{Walked}
 use Rattle.fab_windows.specs.declared.Done.{Done}
-use Rattle.run_files.specs.Faults.{NoFaults}
 use Rattle.fab_windows.specs.Files.{Written, Writes, FileSlots, file_slots, file_bytes, Pending, HoldBut, HoldFronts, Wholes, WholesBut}
 use Rattle.fab_windows.specs.Run.{AreGiven, Runs}
 use Rattle.fab_windows.specs.Steps.{Sofar, WindowIsRun, FirstsAreTaken}

@@ -2,6 +2,7 @@
 use Rattle.std.proofs.Common.{◌≡◌, ◌≢◌, ℕ, zero, suc, ◌+◌, ◌-◌, ◌*◌, ◌<◌, ◌≤◌, List, [], ◌∷◌, ◌++◌, length, get_or, true, Some, Ok, Err, IsTrue, refl, sym, ap, ◌∙◌, subst, arith, inl, inr}
 use Rattle.std.specs.Prelude.{Result, String}
 use Rattle.std.specs.declared.alloc.Global.{Global}
+use Rattle.fab_base.specs.Ending.{NoFaults}
 use Rattle.fab_base.specs.Seen.{Seen, SameFiles, SameWriteFaults, Touches, Nothing, bytes_of}
 use Rattle.fab_config.specs.Settings.{Settings}
 use Rattle.pcap_file.specs.Capture.{HEAD}
@@ -20,7 +21,6 @@ use Rattle.fab_replay.specs.declared.fault.CheckFault.{CheckFault}
 use Rattle.fab_replay.specs.declared.fault.CheckFault.TheVariants as checks
 use Rattle.fabric_tool.specs.Checking.{budget_of, output_in, matter_of, HasMatter, HasGiven, Finds, IsStanding, IsUnread, IsChecked, AreOpenInputs, command_of, refused_by}
 use Rattle.fabric_tool.specs.Command.{ReadRose, are_ports, names_of, ins_of, count_of, input_of}
-use Rattle.run_files.specs.Faults.{NoFaults}
 use Rattle.run_files.specs.Names.{Among, AnyRose}
 use Rattle.fabric_tool.specs.Inputs.{AreOpened, MOST_BYTES, MOST_FRAMES}
 use Rattle.fabric_tool.specs.Reading.{AreHeads, HeadsRead, HeadsEnd}
@@ -28,7 +28,7 @@ use Rattle.fabric_tool.specs.declared.command.Width.{Width}
 use Rattle.fabric_tool.specs.declared.command.Width.TheVariants as widths
 use Rattle.fabric_tool.specs.declared.outcome.Outcome.{Outcome}
 use Rattle.fabric_tool.specs.declared.outcome.Outcome.TheVariants as ends
-use Rattle.run_files.proofs.FaultLemmas.{none_then}
+use Rattle.fab_base.proofs.EndingLemmas.{none_then}
 use Rattle.run_files.proofs.NameLemmas.{rose_among, rose_since, length-counted}
 use Rattle.fabric_tool.proofs.HeadLemmas.{heads_opened, heads_since, unread_is}
 use Rattle.fabric_tool.proofs.JournalLemmas.{outs_count}

@@ -3,6 +3,7 @@ use Rattle.std.proofs.Common.{◌≡◌, ℕ, List, ◌++◌, length, ◌⊎◌,
 use Rattle.std.proofs.lemmas.List.{take_all}
 use Rattle.std.specs.Prelude.{Result}
 use Rattle.std.specs.Str.{bytes_eq}
+use Rattle.fab_base.specs.Ending.{KeepsBut}
 use Rattle.fab_base.specs.Seen.{Seen}
 use Rattle.fab_base.specs.Sunk.{Sunk}
 use Rattle.pcap_file.specs.declared.Record.{Record}
@@ -12,7 +13,7 @@ use Rattle.enode_core.specs.declared.node.Phase.{Phase}
 use Rattle.enode_core.specs.Phases.{phase_of}
 use Rattle.enode_core.specs.Runs.{Input, IsRun, stands, all_sent, capture}
 use Rattle.enode_core.proofs.RunLemmas.{runs_are_one}
-use Rattle.enode_run.specs.Files.{IsUntaken, Same, Front, KeepsBut, RunsNode, node_task, taken_by}
+use Rattle.enode_run.specs.Files.{IsUntaken, Same, Front, RunsNode, node_task, taken_by}
 use Rattle.run_files.specs.Faults.{fault_from, TellsReads, TellsWrites}
 use Rattle.run_files.specs.declared.fault.RunFault.{RunFault}
 use Rattle.run_files.specs.declared.fault.RunFault.TheVariants as faults

@@ -2,10 +2,11 @@
 use Rattle.std.proofs.Common.{◌≡◌, List, ℕ, Err, inl, sym, subst}
 use Rattle.std.specs.Prelude.{Result}
 use Rattle.std.specs.Str.{bytes_eq}
+use Rattle.fab_base.specs.Ending.{KeepsBut}
 use Rattle.fab_base.specs.Seen.{Seen}
 use Rattle.pcapng_file.specs.declared.fault.ConvertError.{ConvertError}
 use Rattle.pcapng_file.specs.declared.fault.ConvertError.TheVariants as errors
-use Rattle.pcapng_file.specs.Classic.{Converts, KeepsBut}
+use Rattle.pcapng_file.specs.Classic.{Converts}
 use Rattle.fab_base.specs.declared.values.Failed.{Failed}
 use Rattle.fab_migrate.specs.Migrating.{Migrates}
 use Rattle.fab_migrate.specs.declared.old.MigrateError.{MigrateError}

@@ -2,6 +2,7 @@
 use Rattle.std.proofs.Common.{◌≡◌, ℕ, ◌+◌, ◌-◌, ◌<◌, ◌≤◌, List, [], ◌∷◌, ◌++◌, length, true, Some, Ok, Err, IsTrue, refl, sym, ap, ◌∙◌, subst, arith, inl, inr}
 use Rattle.std.specs.Prelude.{Result, Vec, String, map}
 use Rattle.std.specs.declared.alloc.Global.{Global}
+use Rattle.fab_base.specs.Ending.{NoFaults}
 use Rattle.fab_base.specs.Seen.{Seen, Reads, Rose, OpensIn, Touches, Nothing, Only, SameReadFaults, SameWriteFaults}
 use Rattle.fab_base.specs.declared.values.Failed.{Failed}
 use Rattle.fab_base.specs.Places.{name_at}
@@ -13,7 +14,6 @@ use Rattle.fab_config.specs.Settings.{Settings}
 use Rattle.fab_base.specs.Counting.{counting}
 use Rattle.fabric_tool.specs.Checking.{JournalRead, JournalEnds, AreOpenInputs, OutputsRead, unread_by, GivenRead, GivenEnds}
 use Rattle.fabric_tool.specs.Command.{RunNames, are_pairs, run_of, show_of, names_of, port_count, output_at}
-use Rattle.run_files.specs.Faults.{NoFaults}
 use Rattle.run_files.specs.Names.{Among, AnyRose}
 use Rattle.fabric_tool.specs.Inputs.{MOST_BYTES}
 use Rattle.fabric_tool.specs.Reading.{TellsReads, ConfigRead}
@@ -21,7 +21,7 @@ use Rattle.fabric_tool.specs.declared.command.Width.{Width}
 use Rattle.fabric_tool.specs.declared.command.Width.TheVariants as widths
 use Rattle.fabric_tool.specs.declared.outcome.Outcome.{Outcome}
 use Rattle.fabric_tool.specs.declared.outcome.Outcome.TheVariants as ends
-use Rattle.run_files.proofs.FaultLemmas.{none_yet, none_then}
+use Rattle.fab_base.proofs.EndingLemmas.{none_yet, none_then}
 use Rattle.run_files.proofs.NameLemmas.{among_front, among_back, among_split, rose_among, rose_since, split_names, push_name, length-counted}
 use Rattle.fabric_tool.proofs.HeadLemmas.{not_unread, unread_is}
 use Rattle.fabric_tool.proofs.NameLemmas.{new_output}

@@ -2,6 +2,7 @@
 use Rattle.std.proofs.Common.{◌≡◌, ℕ, zero, suc, ◌+◌, ◌-◌, ◌<◌, ◌≤◌, ◌^◌, ◌*◌, List, [], ◌∷◌, ◌++◌, ◌⊎◌, Bool, true, false, length, Some, Ok, Err, IsTrue, refl, sym, ap, ◌∙◌, subst, arith, inl, inr}
 use Rattle.std.specs.Prelude.{Result, String, map, filter, get_or, max, ◌==◌, if◌then◌else◌}
 use Rattle.std.specs.declared.alloc.Global.{Global}
+use Rattle.fab_base.specs.Ending.{NoFaults}
 use Rattle.fab_base.specs.Places.{name_at}
 use Rattle.fab_base.specs.Seen.{Seen, SameFiles, Reads, Touches, Nothing, Only, OpensIn, Rose}
 use Rattle.fab_base.specs.declared.values.Failed.{Failed}
@@ -34,10 +35,9 @@ use Rattle.fab_live.specs.Live.{AreGiven, HoldLive, HoldSome, IsLiveRun, LeftWho
 use Rattle.fab_live.specs.declared.fault.LiveFault.{LiveFault}
 use Rattle.fab_live.specs.declared.fault.LiveFault.TheVariants as fault
 use Rattle.fab_replay.proofs.OneLemmas.{same_frames}
-use Rattle.run_files.specs.Faults.{NoFaults}
 use Rattle.run_files.specs.Names.{Among, AnyRose}
 use Rattle.run_files.specs.Opening.{AreEmptyOutputs}
-use Rattle.run_files.proofs.FaultLemmas.{none_then}
+use Rattle.fab_base.proofs.EndingLemmas.{none_then}
 use Rattle.run_files.proofs.NameLemmas.{rose_among, rose_since, length-counted, counted_among}
 use Rattle.run_files.proofs.OpenLemmas.{there, slots_count, are_outputs}
 use Rattle.fabric_tool.specs.Command.{LiveWords, Live, AllKnown, KeepsOthers, is_live, live_of, live_count, came_at, sent_at, by_port}

@@ -2,6 +2,7 @@
 use Rattle.std.proofs.Common.{◌≡◌, ℕ, zero, suc, ◌+◌, ◌-◌, ◌*◌, ◌<◌, ◌≤◌, List, [], ◌∷◌, ◌⊎◌, length, true, Some, Ok, Err, IsTrue, refl, sym, ap, ◌∙◌, subst, arith, inl, inr}
 use Rattle.std.specs.Prelude.{Result, String, Vec, IsErrOf, map, get_or}
 use Rattle.std.specs.declared.alloc.Global.{Global}
+use Rattle.fab_base.specs.Ending.{NoFaults}
 use Rattle.fab_base.specs.Seen.{Seen, SameFiles, Touches, Nothing, Only, SameWriteFaults}
 use Rattle.fab_base.proofs.SeenLemmas.{touches_trans, touches_wider, reads_touches}
 use Rattle.fab_config.specs.Settings.{Settings, is_in_range}
@@ -27,8 +28,7 @@ use Rattle.fab_windows.specs.Run.{AreGiven, IsRunOver, Runs, TellsFaults, Finish
 use Rattle.fab_windows.specs.declared.Done.{Done}
 use Rattle.fab_replay.proofs.OneLemmas.{same_frames}
 use Rattle.fabric_tool.specs.Command.{RunNames, Run, are_pairs, run_of, port_count, input_at, KeepsOthers}
-use Rattle.run_files.specs.Faults.{NoFaults}
-use Rattle.run_files.proofs.FaultLemmas.{none_then}
+use Rattle.fab_base.proofs.EndingLemmas.{none_then}
 use Rattle.run_files.specs.Names.{Among, AnyRose}
 use Rattle.fabric_tool.specs.Running.{RunHolds}
 use Rattle.fabric_tool.specs.Inputs.{HasConfig, HasInputs, stop_of, kept_of, LIMITS, MOST_BYTES, MOST_FRAMES}

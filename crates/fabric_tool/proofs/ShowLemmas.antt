@@ -2,6 +2,7 @@
 use Rattle.std.proofs.Common.{◌≡◌, ◌≢◌, ℕ, ◌-◌, ◌<◌, ◌≤◌, List, [], ◌∷◌, ◌++◌, length, true, Ok, Err, refl, ap, ◌∙◌, arith, inl, inr}
 use Rattle.std.specs.Prelude.{String}
 use Rattle.std.specs.declared.alloc.Global.{Global}
+use Rattle.fab_base.specs.Ending.{NoFaults}
 use Rattle.fab_base.specs.Seen.{Seen, SameFiles}
 use Rattle.fab_config.specs.Settings.{Settings}
 use Rattle.pcap_file.specs.declared.Budget.{Budget}
@@ -12,7 +13,6 @@ use Rattle.fab_replay.specs.Check.{Matter}
 use Rattle.fab_replay.specs.Showing.{shown_by}
 use Rattle.fabric_tool.specs.Checking.{Finds, IsStanding, IsLegalJournal, IsShownJournal, IsChecked, ReplayHolds, ShowHolds, GivenRead, GivenEnds, Tells}
 use Rattle.fabric_tool.specs.Command.{RunNames, are_ports, names_of, show_of, input_of, count_of}
-use Rattle.run_files.specs.Faults.{NoFaults}
 use Rattle.fabric_tool.specs.Inputs.{HaveNoRoom, MOST_BYTES}
 use Rattle.fabric_tool.specs.declared.command.Width.{Width}
 use Rattle.fabric_tool.specs.declared.command.Width.TheVariants as widths

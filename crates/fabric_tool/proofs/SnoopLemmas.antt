@@ -2,6 +2,7 @@
 use Rattle.std.proofs.Common.{◌≡◌, ◌≢◌, ℕ, List, ◌++◌, [], ◌∷◌, length, ◌⊎◌, Ok, Err, IsTrue, refl, sym, ap, ◌∙◌, subst, arith, inl, inr}
 use Rattle.std.specs.Prelude.{Result, String, map}
 use Rattle.std.specs.declared.alloc.Global.{Global}
+use Rattle.fab_base.specs.Ending.{NoFaults}
 use Rattle.fab_base.specs.Seen.{Seen, SameFiles, SameReadFaults, SameWriteFaults, Touches, Nothing, Only}
 use Rattle.fab_base.specs.Sunk.{Sunk}
 use Rattle.fab_base.proofs.SeenLemmas.{reads_touches}
@@ -20,7 +21,7 @@ use Rattle.snoop_run.specs.Sides.{ins_of, outs_of}
 use Rattle.snoop_run.specs.declared.run.Crossed.{Crossed}
 use Rattle.snoop_run.proofs.RunLemmas.{fronts_since}
 use Rattle.fabric_tool.specs.Command.{SnoopNames, Snoop, KeepsOthers}
-use Rattle.run_files.specs.Faults.{fault_from, TellsReads, NoFaults, TellsWrites}
+use Rattle.run_files.specs.Faults.{fault_from, TellsReads, TellsWrites}
 use Rattle.run_files.specs.declared.fault.RunFault.{RunFault}
 use Rattle.run_files.specs.declared.fault.RunFault.TheVariants as faults
 use Rattle.fabric_tool.specs.Ends.{TakesMemory}
@@ -34,7 +35,7 @@ use Rattle.fabric_tool.specs.declared.outcome.Outcome.TheVariants as ends
 use Rattle.fabric_tool.proofs.EndingLemmas.{Left, Said, IsAnswer, less}
 use Rattle.fabric_tool.proofs.Laws.{Laws, PrintsAlike, alike}
 use Rattle.fabric_tool.proofs.AmongLemmas.{none_among}
-use Rattle.run_files.proofs.FaultLemmas.{none_then}
+use Rattle.fab_base.proofs.EndingLemmas.{none_then}
 use Rattle.run_files.proofs.NameLemmas.{rose_since}
 use Rattle.fabric_tool.proofs.ConfigLemmas.{one_value, one_fault, no_fault}
 use Rattle.fabric_tool.proofs.HeadLemmas.{not_unread, unread_is}

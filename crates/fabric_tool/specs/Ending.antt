@@ -1,7 +1,7 @@
 -- How a command can end: what is left of the files, and which faults are counted.
 use Rattle.std.specs.Prelude.{IsTrue}
+use Rattle.fab_base.specs.Ending.{NoFaults}
 use Rattle.fab_base.specs.Seen.{Seen, SameFiles, SameReadFaults, SameWriteFaults}
-use Rattle.run_files.specs.Faults.{NoFaults}
 use Rattle.fabric_tool.specs.Command.{Command, ReadRose, WriteRose, KeepsOthers}
 
 -- How a command can end. What is said here of bytes needs a depot that tells them.

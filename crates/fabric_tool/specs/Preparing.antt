@@ -1,12 +1,12 @@
 -- What `run` and `live` do before they open an output.
 use Rattle.std.specs.Prelude.{◌≡◌, ℕ, ◌+◌, ◌*◌, IsTrue, List, [], ◌∷◌, length, Result, IfOk, IfErr, OnOk}
+use Rattle.fab_base.specs.Ending.{NoFaults}
 use Rattle.fab_base.specs.Seen.{Seen, Reads, Touches, Nothing}
 use Rattle.fab_config.specs.Settings.{is_in_range}
 use Rattle.pcap_file.specs.Capture.{HEAD}
 use Rattle.fab_policy.specs.Outputs.{state_of}
 use Rattle.fab_policy.specs.Standing.{Contents}
 use Rattle.fabric_tool.specs.Command.{RunNames, LiveWords}
-use Rattle.run_files.specs.Faults.{NoFaults}
 use Rattle.run_files.specs.Names.{Among}
 use Rattle.fabric_tool.specs.Running.{RunHolds}
 use Rattle.fabric_tool.specs.Inputs.{HasConfig, MOST_BYTES, MOST_FRAMES}

@@ -1,7 +1,8 @@
 -- What reading an input answers.
 use Rattle.std.specs.Prelude.{◌≡◌, ℕ, ◌+◌, ◌*◌, ◌<◌, ◌≤◌, ◌⊎◌, IsTrue, List, [], ◌∷◌, length, Ok, Err, Result, IfOk, IfErr, IsErrOf, Vec}
 use Rattle.std.specs.declared.alloc.Global.{Global}
-use Rattle.fab_base.specs.Seen.{Seen, Reads, Rose, Touches, Nothing, SameReadFaults, SameWriteFaults}
+use Rattle.fab_base.specs.Ending as ending
+use Rattle.fab_base.specs.Seen.{Seen, Reads, Rose, Touches, Nothing, SameWriteFaults}
 use Rattle.fab_config.specs.Settings.{Settings}
 use Rattle.fab_config.specs.Text.{decoded}
 use Rattle.fab_config.specs.declared.ConfigFault.{ConfigFault}
@@ -26,7 +27,7 @@ use Rattle.fabric_tool.specs.declared.outcome.Outcome.TheVariants as ends
 
 -- Every fault of reading is told: none is counted where a command doesn't end by it. So want of memory never stands for one.
 abbrev pub TellsReads : {T : Type 0} → Seen → Seen → Result T Outcome → Type 0
-TellsReads old new result = ¬ IsErrOf result ends.ReadFault → SameReadFaults old new
+TellsReads old new result = ending.TellsReads ends.ReadFault old new result
 
 -- ---- a configuration
 

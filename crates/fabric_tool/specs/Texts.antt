@@ -1,8 +1,8 @@
 -- How `--help` and `--version` end.
 use Rattle.std.specs.Prelude.{◌≡◌, ℕ, ◌++◌, IsTrue, List}
+use Rattle.fab_base.specs.Ending.{NoFaults}
 use Rattle.fab_base.specs.Seen.{SameFiles, SameSlots, Seen}
 use Rattle.fab_base.specs.Sunk.{Sunk}
-use Rattle.run_files.specs.Faults.{NoFaults}
 use Rattle.fabric_tool.specs.Ending.{Also, Ending, Never, Untouched}
 use Rattle.fabric_tool.specs.Help.{help_text, version_text}
 use Rattle.fabric_tool.specs.Meaning.{Meaning}

@@ -1,6 +1,7 @@
 -- How the reading of captures ends early, and which faults of the store its answer tells.
-use Rattle.std.specs.Prelude.{ℕ, Result, IsErrOf}
-use Rattle.fab_base.specs.Seen.{Seen, SameReadFaults}
+use Rattle.std.specs.Prelude.{ℕ, Result}
+use Rattle.fab_base.specs.Ending as ending
+use Rattle.fab_base.specs.Seen.{Seen}
 use Rattle.pcap_file.specs.declared.CapError.{CapError}
 use Rattle.pcap_file.specs.declared.CapError.TheVariants as errors
 use Rattle.pcap_file.specs.declared.CapFault.{CapFault}
@@ -44,4 +45,4 @@ IsStopped fault.Memory = ⊥
 
 -- Every fault of reading is told: none is counted where the answer isn't `Read`. So want of memory never stands for one.
 abbrev pub TellsReads : {T : Type 0} → Seen → Seen → Result T GatherFault → Type 0
-TellsReads old new result = ¬ IsErrOf result fault.Read → SameReadFaults old new
+TellsReads old new result = ending.TellsReads fault.Read old new result

@@ -3,6 +3,7 @@ use Rattle.std.proofs.Common.{◌≡◌, ℕ, suc, ◌+◌, ◌≤◌, IsTrue, L
 use Rattle.std.specs.Prelude.{Result, slice_get}
 use Rattle.std.proofs.Math.Seq.{drop-cons}
 use Rattle.std.proofs.lemmas.Option.{slice_get_within, get_or_from_slice_get}
+use Rattle.fab_base.specs.Ending.{NoFaults}
 use Rattle.fab_base.specs.Seen.{Seen, Reads, Rose, SameReadFaults, OpensIn, OpensOut, PutsAll}
 use Rattle.fab_base.specs.declared.values.Failed.{Failed}
 use Rattle.fab_base.proofs.SeenLemmas.{reads_trans, reads_touches, told_stays, rose_later}
@@ -12,7 +13,7 @@ use Rattle.pcapng_file.specs.declared.fault.NgError.TheVariants as errors
 use Rattle.pcapng_file.specs.declared.NgRecord.{NgRecord}
 use Rattle.pcapng_file.specs.File.{before_all, NgReads}
 use Rattle.pcapng_file.specs.declared.fault.ConvertError.TheVariants as ends
-use Rattle.pcapng_file.specs.Classic.{classic_record, classic_records, classic_bytes, SaysInput, NoFault, CauseInput, Converts, Same, Front}
+use Rattle.pcapng_file.specs.Classic.{classic_record, classic_records, classic_bytes, SaysInput, CauseInput, Converts, Same, Front}
 use Rattle.pcapng_file.proofs.BackLemmas.{read_back}
 use Rattle.pcapng_file.proofs.GoingLemmas.{read_is}
 use Rattle.pcapng_file.proofs.LawLemmas.{Read, read_is_file}
@@ -38,7 +39,7 @@ module _ (from to : List ℕ) (slot : ℕ) (budget left : Budget) (a b c : Seen)
   reads : (result : Result (List NgRecord) NgError) → NgReads slot b c budget left result → Reads from a c
   reads result r = reads_trans from a b c opens.reads (subst (λ n. Reads n b c) is_name r.reads)
 
-  spared : (result : Result (List NgRecord) NgError) → NgReads slot b c budget left result → SameReadFaults b c → NoFault a c
+  spared : (result : Result (List NgRecord) NgError) → NgReads slot b c budget left result → SameReadFaults b c → NoFaults a c
   spared result r none = (λ m. none m ∙ opens.counts m, (reads result r).writes)
 
   cause_of : (e : NgError) → NgReads slot b c budget left (Err e) → CauseInput from a c e

@@ -1,6 +1,7 @@
 -- The classic capture of the packets of a file, and what converting a file does.
-use Rattle.std.specs.Prelude.{◌≡◌, ◌≢◌, ℕ, ◌*◌, ◌/◌, ◌%◌, ◌≤◌, max, false, List, [], ◌∷◌, ◌++◌, length, map, take, IsTrue, Some, Result, Ok, Err}
+use Rattle.std.specs.Prelude.{◌≡◌, ℕ, ◌*◌, ◌/◌, ◌%◌, ◌≤◌, max, false, List, [], ◌∷◌, ◌++◌, length, map, take, IsTrue, Some, Result, Ok, Err}
 use Rattle.fab_base.specs.Layout.{spelled_low}
+use Rattle.fab_base.specs.Ending.{NoFaults}
 use Rattle.fab_base.specs.Seen.{Seen, SameFiles, SameReadFaults, SameWriteFaults, Rose}
 use Rattle.pcap_file.specs.declared.Budget.{Budget}
 use Rattle.pcap_file.specs.declared.CaptureHead.{CaptureHead}
@@ -54,16 +55,12 @@ SaysInput from budget old (errors.Limit limit) = (l : List ℕ) × (old.file fro
 SaysInput from budget old (errors.Read failed) = Unit {0}
 SaysInput from budget old errors.Memory = Unit {0}
 
--- the depot counted no fault
-abbrev pub NoFault : Seen → Seen → Type 0
-NoFault old new = SameReadFaults old new × SameWriteFaults old new
-
 -- A fault of reading is counted where one is told, and else none: want of memory never stands for one. None of writing is counted.
 abbrev pub CauseInput : List ℕ → Seen → Seen → NgError → Type 0
-CauseInput from old new (errors.Fault at fault) = NoFault old new
-CauseInput from old new (errors.Limit limit) = NoFault old new
+CauseInput from old new (errors.Fault at fault) = NoFaults old new
+CauseInput from old new (errors.Limit limit) = NoFaults old new
 CauseInput from old new (errors.Read failed) = Rose (old.read_faults from) (new.read_faults from) × SameWriteFaults old new
-CauseInput from old new errors.Memory = NoFault old new
+CauseInput from old new errors.Memory = NoFaults old new
 
 -- the input that was found is a file of packets within the limits, and the output is their capture
 pub record Converted (from to : List ℕ) (budget : Budget) (old new : Seen) (count : ℕ) : Type 0 where
@@ -84,13 +81,9 @@ pub data IsFront (from to : List ℕ) (budget : Budget) (old new : Seen) : Type 
 
 -- How a conversion ends. The output is opened only behind the whole input: an error of the input leaves every file.
 abbrev pub Converts : List ℕ → List ℕ → Budget → Seen → Seen → Result ℕ ConvertError → Type 0
-Converts from to budget old new (Ok count) = NoFault old new × (IsTrue old.told → Converted from to budget old new count)
+Converts from to budget old new (Ok count) = NoFaults old new × (IsTrue old.told → Converted from to budget old new count)
 Converts from to budget old new (Err (ends.Input e)) = SameFiles old new × CauseInput from old new e × (IsTrue old.told → SaysInput from budget old e)
 Converts from to budget old new (Err (ends.Write failed)) = Rose (old.write_faults to) (new.write_faults to) × (IsTrue old.told → IsFront from to budget old new) × SameReadFaults old new
-
--- no file changes but the output
-abbrev pub KeepsBut : List ℕ → Seen → Seen → Type 0
-KeepsBut to old new = (m : List ℕ) → m ≢ to → new.file m ≡ old.file m
 
 -- ---- law
 

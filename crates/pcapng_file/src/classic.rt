@@ -1,6 +1,7 @@
 //! The classic capture of the packets of a file.
 ghost use Rattle.std.specs.Prelude.{◌≡◌, ◌++◌, IsTrue, IfOk, OnOk, OnErr};
-ghost use Rattle.pcapng_file.specs.Classic.{classic_record, classic_bytes, Converts, KeepsBut};
+ghost use Rattle.fab_base.specs.Ending.{KeepsBut};
+ghost use Rattle.pcapng_file.specs.Classic.{classic_record, classic_bytes, Converts};
 
 use crate::fault::{ConvertError, NgError};
 use crate::reading::read_ng;

@@ -1,4 +1,3 @@
-pub mod FaultLemmas
 pub mod NameLemmas
 pub mod PageLemmas
 pub mod OutputLemmas

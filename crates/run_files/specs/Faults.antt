@@ -1,6 +1,7 @@
 -- How a run ends early, and which faults of the store its answer tells.
-use Rattle.std.specs.Prelude.{Result, IsErrOf}
-use Rattle.fab_base.specs.Seen.{Seen, SameReadFaults, SameWriteFaults}
+use Rattle.std.specs.Prelude.{Result}
+use Rattle.fab_base.specs.Ending as ending
+use Rattle.fab_base.specs.Seen.{Seen}
 use Rattle.pcap_file.specs.declared.fault.GatherFault.{GatherFault}
 use Rattle.pcap_file.specs.declared.fault.GatherFault.TheVariants as gather
 use Rattle.run_files.specs.declared.fault.RunFault.{RunFault}
@@ -21,14 +22,10 @@ IsStopped fault.Read = ⊥
 IsStopped fault.Write = ⊥
 IsStopped fault.Memory = ⊥
 
--- no count of faults has changed, neither of reading nor of writing
-abbrev pub NoFaults : Seen → Seen → Type 0
-NoFaults old new = SameReadFaults old new × SameWriteFaults old new
-
 -- Every fault of reading is told: none is counted where the answer isn't `Read`. So want of memory never stands for one.
 abbrev pub TellsReads : {T : Type 0} → Seen → Seen → Result T RunFault → Type 0
-TellsReads old new result = ¬ IsErrOf result fault.Read → SameReadFaults old new
+TellsReads old new result = ending.TellsReads fault.Read old new result
 
 -- The same of writing and `Write`.
 abbrev pub TellsWrites : {T : Type 0} → Seen → Seen → Result T RunFault → Type 0
-TellsWrites old new result = ¬ IsErrOf result fault.Write → SameWriteFaults old new
+TellsWrites old new result = ending.TellsWrites fault.Write old new result

@@ -4,7 +4,7 @@ use Rattle.fab_policy.specs.Outputs.{state_of}
 use Rattle.fabric_tool.specs.Command.{names_of}
 use Rattle.fabric_tool.specs.Checking.{IsChecked}
 use Rattle.fabric_tool.specs.Inputs.{MOST_BYTES, MOST_FRAMES}
-use Rattle.run_files.proofs.FaultLemmas.{none_then}
+use Rattle.fab_base.proofs.EndingLemmas.{none_then}
 use Rattle.fabric_tool.proofs.CheckLemmas.{heads_ended, outs_ended, no_fabric, checks_as, check_done, check_refused}
 use Rattle.fabric_tool.proofs.HeadLemmas.{not_unread}
 use Rattle.fabric_tool.proofs.SlotLemmas.{handed}

@@ -3,7 +3,7 @@ use Rattle.fab_base.specs.Places.{name_at}
 use Rattle.fabric_tool.specs.Command.{run_of, input_at, port_count}
 use Rattle.fabric_tool.specs.Running.{RunHolds}
 use Rattle.run_files.proofs.NameLemmas.{length-counted}
-use Rattle.run_files.proofs.FaultLemmas.{none_then}
+use Rattle.fab_base.proofs.EndingLemmas.{none_then}
 use Rattle.fabric_tool.proofs.RanLemmas.{not_opened, some_ports, same_count, one_a_port, given_as, runs_as, windows_ended}
 use Rattle.fabric_tool.proofs.running.run.Goals as goal
 
