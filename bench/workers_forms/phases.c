@@ -2,8 +2,8 @@
 #include <stdio.h>
 #include <time.h>
 
-static const char *names[] = {"all", "read", "in turn", "decode", "step", "copy", "lines", "records", "write"};
-static double begun[9], took[9];
+static const char *names[] = {"all", "read", "fetch", "in turn", "decode", "step", "copy", "lines", "records", "write"};
+static double begun[sizeof names / sizeof *names], took[sizeof names / sizeof *names];
 
 static double now(void) {
     struct timespec at;
@@ -16,5 +16,5 @@ void phase_enter(int part) { begun[part] = now(); }
 void phase_leave(int part) {
     took[part] += now() - begun[part];
     if (part) return;
-    for (int each = 0; each < 9; ++each) fprintf(stderr, "%s %.0f\n", names[each], took[each]);
+    for (unsigned each = 0; each < sizeof names / sizeof *names; ++each) fprintf(stderr, "%s %.0f\n", names[each], took[each]);
 }
