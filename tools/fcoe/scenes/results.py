@@ -34,7 +34,7 @@ def details(found: Outcome) -> Iterable[str]:
     if found.why:
         yield f"  why: {found.why}"
     if found.folder:
-        yield f"  next: tools/look {found.folder}/wire.pcap; the journal is {found.folder}/journal"
+        yield f"  next: look check {found.folder}/wire.pcap; the journal is {found.folder}/journal"
 
 
 def as_json(outcomes: list[Outcome]) -> str:
