@@ -33,6 +33,8 @@ impl<'a, R: Files> FileDepot<'a, R> {
     ghost use Rattle.std.specs.Prelude.{slice_get, IsTrue, true, false, ◌≤◌};
     ghost use Rattle.fab_base.specs.Desk.{place_of, Stays, KeepsOtherSlots, KeepsCounts};
     ghost use Rattle.tool_process.specs.Edge.{KnowsAll, AddsFile, HasSame};
+    ghost use Rattle.tool_process.specs.Same.{IsMixOf};
+    ghost use Rattle.tool_process.specs.declared.same.Mix.TheVariants.{Apart};
 
     /// A depot that knows these words, beside a standard output that leads to this place.
     pub fn new(
@@ -42,6 +44,7 @@ impl<'a, R: Files> FileDepot<'a, R> {
         printed: &Spot,
     ) -> Result<FileDepot<'a, R>, NoMemory>
         ensures knows { IfOk result (λ d. KnowsAll d.desk words.now) }
+        ensures mix { IfOk result (λ d. IsMixOf words.now printed.now d.mix) }
     {
         let desk = desk_of(alloc, words)?;
         let mix = mix_of(rt, alloc, words, printed)?;
@@ -88,8 +91,10 @@ impl<'a, R: Files> FileDepot<'a, R> {
             self.new.desk) }
         ensures none { IfNone result (HasSame self.old.desk self.new.desk self.old.files.items
             self.new.files.items) }
+        ensures apart { IfSome result (λ s. self.old.mix ≡ Apart) }
+        ensures mix { self.new.mix ≡ self.old.mix }
     {
-        if self.mix != Mix::Apart {
+        if self.mix.is_mixed() {
             return None;
         }
         self.try_open(name, place, false)
@@ -109,6 +114,7 @@ impl<'a, R: Files> FileDepot<'a, R> {
             self.new.desk) }
         ensures none { IfNone result (HasSame self.old.desk self.new.desk self.old.files.items
             self.new.files.items) }
+        ensures mix { self.new.mix ≡ self.old.mix }
     {
         if !has_number(&self.desk) {
             return None;
@@ -139,6 +145,7 @@ impl<R: Files> Depot for FileDepot<'_, R> {
     ghost use Rattle.fab_base.specs.Desk.{at_of};
     ghost use Rattle.fab_base.specs.Seen.{OpensIn, OpensOut, Fetches, Puts};
     ghost use Rattle.tool_process.specs.Edge.{untold, AddsFile, HasSame, ReadsAt, WritesAt};
+    ghost use Rattle.tool_process.specs.declared.same.Mix.TheVariants.{Apart};
 
     ghost seen = { λ d. untold d.desk };
 
@@ -149,6 +156,7 @@ impl<R: Files> Depot for FileDepot<'_, R> {
             self.new.desk) }
         ensures err { OnErr result (HasSame self.old.desk self.new.desk self.old.files.items
             self.new.files.items) }
+        ensures mix { self.new.mix ≡ self.old.mix }
     {
         let place = self.desk.place(name).unwrap();
         match self.try_open(name, place, true) {
@@ -167,6 +175,9 @@ impl<R: Files> Depot for FileDepot<'_, R> {
             self.new.desk) }
         ensures err { OnErr result (HasSame self.old.desk self.new.desk self.old.files.items
             self.new.files.items) }
+        // No output is opened where two names are one file, or one is the standard output.
+        ensures apart { IfOk result (λ s. self.old.mix ≡ Apart) }
+        ensures mix { self.new.mix ≡ self.old.mix }
     {
         let place = self.desk.place(name).unwrap();
         match self.try_output(name, place) {
@@ -186,6 +197,7 @@ impl<R: Files> Depot for FileDepot<'_, R> {
         ensures reads { ReadsAt R.File.remaining
             (at_of self.old.desk slot) self.old.files.items self.new.files.items into.new result }
         ensures err { OnErr result (self.new.desk.slots.items ≡ self.old.desk.slots.items) }
+        ensures mix { self.new.mix ≡ self.old.mix }
     {
         let source = self.desk.file(slot);
         let at = self.desk.at(slot);
@@ -206,6 +218,7 @@ impl<R: Files> Depot for FileDepot<'_, R> {
         ensures writes { WritesAt R.File.contents
             (at_of self.old.desk slot) self.old.files.items self.new.files.items from.now result }
         ensures err { OnErr result (self.new.desk.slots.items ≡ self.old.desk.slots.items) }
+        ensures mix { self.new.mix ≡ self.old.mix }
     {
         let target = self.desk.file(slot);
         let at = self.desk.at(slot);

@@ -1,5 +1,9 @@
 //! Which names of a command lead to one real file, or to the standard output.
-ghost use Rattle.std.specs.Prelude.{◌<◌, length};
+ghost use Rattle.std.specs.Prelude.{◌≡◌, ◌<◌, length, IfOk, IfSome};
+ghost use Rattle.std.specs.Fs.{file_type};
+ghost use Rattle.tool_process.specs.Same as spec;
+ghost use Rattle.tool_process.specs.Same.{IsSpotOf, IsNextOne, IsFirstPair, IsFirstPrinted, IsMix};
+ghost use Rattle.tool_process.specs.Same.{HasSpots, IsMixOf};
 
 use fab_base::{NoMemory, word_at};
 use std::alloc::Global;
@@ -45,6 +49,21 @@ pub(crate) enum Mix {
     Piped(usize),
 }
 
+impl Mix {
+    ghost use Rattle.std.specs.Prelude.{◌≡◌, false};
+    ghost use Rattle.tool_process.specs.declared.same.Mix.TheVariants.{Apart};
+
+    /// Whether two names lead to one place.
+    pub(crate) fn is_mixed(self) -> bool
+        ensures { result ≡ false → self ≡ Apart }
+    {
+        match self {
+            Mix::Apart => false,
+            _ => true,
+        }
+    }
+}
+
 // The device number of /dev/null: major 1, minor 3.
 const NULL: u64 = 0x103;
 
@@ -52,7 +71,9 @@ const NULL: u64 = 0x103;
 const LINKS: usize = 40;
 
 /// The place of the first word that is a file's name.
-pub(crate) fn first_name(words: &[String]) -> usize {
+pub(crate) fn first_name(words: &[String]) -> usize
+    ensures { result ≡ spec.first_name words.now }
+{
     if words.is_empty() {
         return 0;
     }
@@ -71,7 +92,17 @@ pub(crate) fn mix_of<R: Files>(
     alloc: Global,
     words: &[String],
     printed: &Spot,
-) -> Result<Mix, NoMemory> {
+) -> Result<Mix, NoMemory>
+    ensures { IfOk result (IsMixOf words.now printed.now) }
+{
+    let spots = spots_of(files, alloc, words)?;
+    Ok(mix_by(&spots, printed))
+}
+
+// Where the name of each word leads.
+fn spots_of<R: Files>(files: &R, alloc: Global, words: &[String]) -> Result<Vec<Spot>, NoMemory>
+    ensures { IfOk result (λ v. HasSpots words.now v.items) }
+{
     let mut spots: Vec<Spot> = Vec::with_capacity(alloc, words.len())?;
     for place in 0..words.len() {
         let spot = if place < first_name(words) {
@@ -81,13 +112,20 @@ pub(crate) fn mix_of<R: Files>(
         };
         spots.push(spot)?;
     }
-    if let Some(mix) = printed_over(&spots, printed) {
-        return Ok(mix);
+    Ok(spots)
+}
+
+// What names are to each other that lead to these spots, beside a standard output.
+fn mix_by(spots: &[Spot], printed: &Spot) -> Mix
+    ensures { IsMix spots.now printed.now result }
+{
+    if let Some(mix) = printed_over(spots, printed) {
+        return mix;
     }
-    Ok(match two_of_one(&spots) {
+    match two_of_one(spots) {
         Some((one, other)) => Mix::Two(one, other),
         None => Mix::Apart,
-    })
+    }
 }
 
 /// Where the standard output leads.
@@ -107,7 +145,9 @@ fn spot_of<R: Files>(files: &R, alloc: Global, name: &str) -> Result<Spot, NoMem
     Ok(spot_at(&found))
 }
 
-fn spot_at(found: &Metadata) -> Spot {
+fn spot_at(found: &Metadata) -> Spot
+    ensures { IsSpotOf (file_type found.now) result }
+{
     let (device, inode) = (found.dev(), found.ino());
     if found.is_file() {
         return Spot::File { device, inode };
@@ -171,7 +211,9 @@ fn new_spot<R: Files>(files: &R, alloc: Global, name: &str) -> Result<Spot, NoMe
 }
 
 // The first name that leads to the standard output.
-fn printed_over(spots: &[Spot], printed: &Spot) -> Option<Mix> {
+fn printed_over(spots: &[Spot], printed: &Spot) -> Option<Mix>
+    ensures { IsFirstPrinted spots.now printed.now result }
+{
     for place in 0..spots.len() {
         if are_one(&spots[place], printed) {
             return Some(Mix::Printed(place));
@@ -184,7 +226,9 @@ fn printed_over(spots: &[Spot], printed: &Spot) -> Option<Mix> {
 }
 
 // The first two places at which one file is.
-fn two_of_one(spots: &[Spot]) -> Option<(usize, usize)> {
+fn two_of_one(spots: &[Spot]) -> Option<(usize, usize)>
+    ensures { IsFirstPair spots.now result }
+{
     for place in 0..spots.len() {
         if let Some(other) = met_again(spots, place) {
             return Some((place, other));
@@ -195,6 +239,7 @@ fn two_of_one(spots: &[Spot]) -> Option<(usize, usize)> {
 
 fn met_again(spots: &[Spot], place: usize) -> Option<usize>
     requires { place < length spots.now }
+    ensures { IsNextOne spots.now place result }
 {
     for later in place + 1..spots.len() {
         if are_one(&spots[place], &spots[later]) {
@@ -205,7 +250,9 @@ fn met_again(spots: &[Spot], place: usize) -> Option<usize>
 }
 
 // Whether two names are one regular file, which is there or would be made.
-fn are_one(one: &Spot, other: &Spot) -> bool {
+fn are_one(one: &Spot, other: &Spot) -> bool
+    ensures { result ≡ spec.are_one one.now other.now }
+{
     match (one, other) {
         (
             Spot::File { device, inode },
@@ -230,7 +277,9 @@ fn are_one(one: &Spot, other: &Spot) -> bool {
     }
 }
 
-fn are_one_stream(one: &Spot, other: &Spot) -> bool {
+fn are_one_stream(one: &Spot, other: &Spot) -> bool
+    ensures { result ≡ spec.are_one_stream one.now other.now }
+{
     match (one, other) {
         (
             Spot::Stream { device, inode },

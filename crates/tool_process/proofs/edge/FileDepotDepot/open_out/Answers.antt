@@ -7,7 +7,7 @@ use Rattle.tool_process.proofs.edge.FileDepotDepot.open_out.Goals as goal
 pub returns-in-Some : goal.returns-in-Some
 returns-in-Some g c =
     let e = c.in-Some.ensures in
-    record { opens = untold_opens_out c.args.name.now c.unwrap-place.result c.args.self.now.desk c.try_output.new.self.desk (sym c.place.ensures.found ∙ c.unwrap-place.ensures) e.stays c.in-Some.slot (length c.args.self.now.files.items) e.fresh.0 e.fresh.1 e.slots e.counts; file = e.file; err = tt }
+    record { opens = untold_opens_out c.args.name.now c.unwrap-place.result c.args.self.now.desk c.try_output.new.self.desk (sym c.place.ensures.found ∙ c.unwrap-place.ensures) e.stays c.in-Some.slot (length c.args.self.now.files.items) e.fresh.0 e.fresh.1 e.slots e.counts; file = e.file; err = tt; apart = e.apart; mix = e.mix }
 
 pub returns-in-None : goal.returns-in-None
 returns-in-None g c =
@@ -29,4 +29,6 @@ returns-in-None g c =
       };
       file = tt;
       err = record { slots = ap (λ v. v.items) c.write_failed.ensures.slots ∙ e.none.slots; files = e.none.files };
+      apart = tt;
+      mix = e.mix;
     }
