@@ -6,7 +6,6 @@ use Rattle.std.specs.declared.alloc.Global.{Global}
 use Rattle.fab_base.specs.Seen.{Seen, Reads, Rose, Fills, KeepsOthers, SameReadFaults}
 use Rattle.fab_base.specs.Whole.{WholeRead}
 use Rattle.fab_base.specs.declared.values.Failed.{Failed}
-use Rattle.fab_base.specs.declared.whole.WholeError.{WholeError}
 use Rattle.fab_base.specs.declared.whole.WholeError.TheVariants as errors
 use Rattle.fab_base.proofs.SeenLemmas.{input_name, reads_trans, others_trans, rose_later}
 

@@ -1,10 +1,60 @@
--- What the ending of a call says of the store.
-use Rattle.std.specs.Prelude.{◌≡◌, ◌≢◌, ℕ, List, Result, IsErrOf}
-use Rattle.fab_base.specs.Seen.{Seen, SameReadFaults, SameWriteFaults}
+-- How a call ends, and what its ending says of the store.
+use Rattle.std.specs.Prelude.{◌≡◌, ◌≢◌, ℕ, List, ◌⊎◌, Result, Ok, Err, IsErrOf}
+use Rattle.fab_base.specs.Seen.{Seen, Touches, Rose, SameReadFaults, SameWriteFaults}
+
+-- ---- how a call ends
+
+-- What an answer rests on.
+pub data End : Type 0 where
+  -- what was found; it may be wrong, or pass a limit
+  Said : End
+  -- a fault of the store, which was reading or writing
+  Read : End
+  Write : End
+  -- memory was refused
+  Memory : End
+
+-- the ending of a result, from that of its faults
+abbrev pub end_by : {T F : Type 0} → (F → End) → Result T F → End
+end_by end_of (Ok x) = Said
+end_by end_of (Err fault) = end_of fault
+
+-- an answer that rests on what was found
+abbrev pub IsSaid : End → Type 0
+IsSaid Said = Unit {0}
+IsSaid end = ⊥
+
+-- such an answer says this; a fault of the store and want of memory say nothing
+abbrev pub WhereSaid : End → Type 0 → Type 0
+WhereSaid Said fact = fact
+WhereSaid end fact = Unit {0}
+
+-- ---- what was counted
 
 -- no count of faults has changed, neither of reading nor of writing
 abbrev pub NoFaults : Seen → Seen → Type 0
 NoFaults old new = SameReadFaults old new × SameWriteFaults old new
+
+-- A fault of reading is counted only by a call that ends in one. So want of memory never stands for one.
+abbrev pub SparesReads : End → Seen → Seen → Type 0
+SparesReads Read old new = Unit {0}
+SparesReads end old new = SameReadFaults old new
+
+-- The same of writing.
+abbrev pub SparesWrites : End → Seen → Seen → Type 0
+SparesWrites Write old new = Unit {0}
+SparesWrites end old new = SameWriteFaults old new
+
+-- Both, and the other way round: a call that ends in a fault of the store has counted it, which is `read` or `write`.
+abbrev pub Counts : Type 0 → Type 0 → End → Seen → Seen → Type 0
+Counts read write Said old new = NoFaults old new
+Counts read write Read old new = read × SameWriteFaults old new
+Counts read write Write old new = write × SameReadFaults old new
+Counts read write Memory old new = NoFaults old new
+
+-- The same of a call that reads one name and writes none.
+abbrev pub CountsRead : List ℕ → End → Seen → Seen → Type 0
+CountsRead name end old new = Counts (Rose (old.read_faults name) (new.read_faults name)) ⊥ end old new
 
 -- Every fault of reading is answered, by this fault: none is counted where the answer is another. So want of memory never stands
 -- for one.
@@ -15,6 +65,22 @@ TellsReads read old new result = ¬ IsErrOf result read → SameReadFaults old n
 abbrev pub TellsWrites : {T E : Type 0} → E → Seen → Seen → Result T E → Type 0
 TellsWrites write old new result = ¬ IsErrOf result write → SameWriteFaults old new
 
+-- ---- what a call did to the store
+
 -- no file changes but this one
 abbrev pub KeepsBut : List ℕ → Seen → Seen → Type 0
 KeepsBut to old new = (m : List ℕ) → m ≢ to → new.file m ≡ old.file m
+
+-- one of these names, or of those
+abbrev pub Either : (List ℕ → Type 0) → (List ℕ → Type 0) → List ℕ → Type 0
+Either these those m = these m ⊎ those m
+
+-- the count of one of these names rose
+abbrev pub RoseIn : (List ℕ → Type 0) → (List ℕ → ℕ) → (List ℕ → ℕ) → Type 0
+RoseIn names before now = (m : List ℕ) × names m × Rose (before m) (now m)
+
+-- What calls leave that read files of some names and write files of others, and end so: no other file, slot or count is touched, and
+-- of the faults of the store exactly that one is counted in which they end.
+pub record Uses (reads writes : List ℕ → Type 0) (end : End) (old new : Seen) : Type 0 where
+  pub touches : Touches writes (Either reads writes) old new
+  pub counts : Counts (RoseIn reads old.read_faults new.read_faults) (RoseIn writes old.write_faults new.write_faults) end old new
