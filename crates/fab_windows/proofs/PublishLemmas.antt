@@ -3,7 +3,7 @@ use Rattle.std.proofs.Common.{◌≡◌, ℕ, zero, suc, ◌+◌, ◌<◌, false
 use Rattle.std.specs.Prelude.{Vec, vec_len}
 use Rattle.std.specs.List.{list_any}
 use Rattle.std.specs.declared.alloc.Global.{Global}
-use Rattle.std.proofs.lemmas.Bool.{or_parts, leb-false}
+use Rattle.std.proofs.lemmas.Bool.{or_parts}
 use Rattle.std.proofs.lemmas.List.{append-nil}
 use Rattle.fab_base.specs.Seen.{Seen, Rose}
 use Rattle.fab_base.specs.declared.values.Failed.{Failed}
@@ -17,6 +17,7 @@ use Rattle.run_files.specs.declared.fault.RunFault.TheVariants as fault
 use Rattle.fab_base.specs.Slots.{name_of}
 use Rattle.fab_windows.specs.Files.{Written, Pending, Hold, HoldBut, InOrder, HoldFronts, Wholes, WholesBut, Fronts, Writes, captures, file_bytes, file_slots}
 use Rattle.run_files.specs.Pages.{items_in, piece_at}
+use Rattle.run_files.proofs.PageLemmas.{short, short_empty, short_pages, short_nothings}
 use Rattle.fab_windows.specs.Pages.{AreShort, IsNothing, are_full, pending}
 use Rattle.fab_windows.specs.declared.pages.Pages.{Pages}
 use Rattle.fab_windows.specs.Turns.{Publishes, paged_at}
@@ -139,19 +140,11 @@ module _ (journal : ℕ) (outs lines : List ℕ) (sents : List Sent) (p : Pendin
         counts = λ no. absurd (no refl);
       }
 
--- ---- pages below 64 KiB
-
-short : (v : Vec ℕ Global) → nat_le 65536 (vec_len v) ≡ false → length v.items < 65536
-short v e = let less = leb-false 65536 (vec_len v) e in let same = v.ok.0 in omega (arith, less, same)
-
-short_pieces : (pages : List (Vec ℕ Global)) → list_any (λ v. nat_le 65536 (vec_len v)) pages ≡ false → (q : ℕ) → length (piece_at (items_in pages) q) < 65536
-short_pieces [] e q = lit< tt
-short_pieces (v ∷ pages) e zero = short v (or_parts _ _ e).0
-short_pieces (v ∷ pages) e (suc q) = short_pieces pages (or_parts _ _ e).1 q
+-- ---- pages that are short
 
 -- that is so where none is full, and where nothing is still to be written
 pub short_not_full : (p : Pages) → are_full p ≡ false → AreShort (pending p)
-short_not_full p e = let parts = or_parts _ _ e in record { lines_ = short p.lines parts.0; pieces_ = short_pieces p.records.items parts.1 }
+short_not_full p e = let parts = or_parts _ _ e in record { lines_ = short p.lines.items parts.0; pieces_ = short_pages p.records.items parts.1 }
 
 pub short_nothing : (p : Pending) → IsNothing p → AreShort p
-short_nothing p none = record { lines_ = subst (λ (l : List ℕ). length l < 65536) (sym none.lines_) (lit< tt); pieces_ = λ q. subst (λ (l : List ℕ). length l < 65536) (sym (none.pieces_ q)) (lit< tt) }
+short_nothing p none = record { lines_ = short_empty p.lines none.lines_; pieces_ = short_nothings p.pieces none.pieces_ }

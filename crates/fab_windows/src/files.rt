@@ -1,14 +1,13 @@
 //! The journal and the outputs, which grow by what the pages hold.
-ghost use Rattle.std.specs.Prelude.{◌≡◌, length, Ok, Err, OnOk, OnErr, IfErr, MatchResult};
+ghost use Rattle.std.specs.Prelude.{◌≡◌, ℕ, [], length, Ok, Err, OnOk, OnErr, IfErr, MatchResult};
 ghost use Rattle.fab_base.specs.declared.values.Failed as of_files;
-ghost use Rattle.run_files.specs.Pages.{items_in};
+ghost use Rattle.run_files.specs.Pages.{items_in, piece_at};
 ghost use Rattle.fab_windows.specs.Files.{AreFiles, Writes};
 ghost use Rattle.fab_windows.specs.Pages.{FlushedFor, IsNothing, pending};
 
 use crate::RunFault;
 use crate::pages::Pages;
 use fab_base::{Depot, Failed, put_all};
-use run_files::put_each;
 
 /// Where a run writes: the slot of the journal, and those of the outputs in port order.
 #[derive(Clone, Copy, Debug)]
@@ -31,9 +30,9 @@ pub fn flush<D: Depot>(depot: &mut D, slots: &Slots<'_>, pages: &mut Pages) -> R
         ≡ length pages.old.records.items) }
     ensures kept { OnErr result (pages.new ≡ pages.old) }
 {
-    match write_pages(depot, slots, &pages.lines, &pages.records) {
+    match write_pages(depot, slots, &pages.lines, &mut pages.records) {
         Ok(()) => {
-            pages.clear();
+            pages.lines.clear();
             Ok(())
         }
         Err(_) => Err(RunFault::Write),
@@ -59,23 +58,26 @@ pub(crate) fn flush_for<D: Depot>(
     }
 }
 
-// The lines of the journal, and then the records of each output, in port order.
+// The lines of the journal, and then the records of each output, in port order, which are emptied.
 fn write_pages<D: Depot>(
     depot: &mut D,
     slots: &Slots<'_>,
     lines: &[u8],
-    records: &[Vec<u8>],
+    records: &mut Vec<Vec<u8>>,
 ) -> Result<(), Failed>
-    requires count { length slots.now.outs.now ≡ length records.now }
+    requires count { length slots.now.outs.now ≡ length records.old.items }
     requires files { AreFiles (D.seen depot.old) slots.now.journal slots.now.outs.now }
     ensures writes { Writes slots.now.journal slots.now.outs.now lines.now
-        (items_in records.now) (D.seen depot.old) (D.seen depot.new) result }
+        (items_in records.old.items) (D.seen depot.old) (D.seen depot.new) result }
+    ensures nothing { OnOk result ((q : ℕ) → piece_at (items_in records.new.items) q ≡ []) }
+    ensures count { OnOk result (length records.new.items ≡ length records.old.items) }
+    ensures kept { OnErr result (records.new ≡ records.old) }
 {
     match put_all(depot, slots.journal, lines) {
         Ok(()) => {}
         Err(failed) => return Err(failed),
     }
-    match put_each(depot, slots.outs, records) {
+    match run_files::flush(depot, slots.outs, records) {
         Ok(()) => Ok(()),
         Err(failed) => Err(failed),
     }

@@ -1,6 +1,6 @@
 //! What is still to be written to the files, in buffers that are used again.
-ghost use Rattle.std.specs.Prelude.{◌≡◌, ℕ, ◌+◌, ◌<◌, ◌++◌, length, nat_le, vec_len, IfOk, OnOk, OnErr};
-ghost use Rattle.std.specs.List.{All, list_any};
+ghost use Rattle.std.specs.Prelude.{◌≡◌, ℕ, ◌+◌, ◌<◌, ◌++◌, length, IfOk, OnOk, OnErr};
+ghost use Rattle.std.specs.List.{All};
 ghost use Rattle.pcap_file.specs.Capture.{head_bytes};
 ghost use Rattle.fab_policy.specs.Growing.{clock_after, lines_from, records_to};
 ghost use Rattle.fab_policy.specs.Text.{head_line};
@@ -8,18 +8,14 @@ ghost use Rattle.fab_policy.specs.Ranged.{IsRangedEvent};
 ghost use Rattle.fab_pages.specs.Pages.{AreEarly, sents_of};
 ghost use Rattle.run_files.specs.Pages.{items_in, piece_at};
 ghost use Rattle.fab_windows.specs.Pages as spec;
-ghost use Rattle.fab_windows.specs.Pages.{IsNothing, pending};
 
 use fab_base::{Moment, NoMemory};
 use fab_pages::Sendings;
 use fab_policy::{Event, write_head_line, write_line};
 use forward_core::EventList;
-use run_files::{clear_all, head_records};
+use run_files::{has_full, head_records, is_full};
 use std::alloc::Global;
 use std::thread::Threads;
-
-/// The bytes of a page from which on it is written.
-const FULL: usize = 65536;
 
 /// What is still to be written: lines of the journal, and records of the output of each port.
 #[derive(Debug, Drop)]
@@ -73,31 +69,8 @@ impl Pages {
     pub(crate) fn are_full(&self) -> bool
         ensures { result ≡ spec.are_full self.now }
     {
-        is_full(self.lines.len()) || has_full(&self.records)
+        is_full(&self.lines) || has_full(&self.records)
     }
-
-    /// Empties all pages, whose room is used again.
-    pub(crate) fn clear(&mut self)
-        ensures nothing { IsNothing (pending self.new) }
-        ensures count { length self.new.records.items ≡ length self.old.records.items }
-    {
-        self.lines.clear();
-        clear_all(&mut self.records);
-    }
-}
-
-// Whether a page of this length is written.
-fn is_full(len: usize) -> bool
-    ensures { result ≡ nat_le 65536 len }
-{
-    len >= FULL
-}
-
-// Whether one of these pages is.
-fn has_full(pages: &[Vec<u8>]) -> bool
-    ensures { result ≡ list_any (λ v. nat_le 65536 (vec_len v)) pages.now }
-{
-    pages.iter().any(|page| page.len() >= FULL)
 }
 
 // Appends the lines of entries, from a clock on.

@@ -1,9 +1,9 @@
 -- Pages, by their places.
-use Rattle.std.proofs.Common.{◌≡◌, ◌≢◌, ℕ, zero, suc, ◌+◌, ◌<◌, ◌≤◌, List, [], ◌∷◌, ◌++◌, length, take, get_or, inl, inr, refl, ap, ◌∙◌, subst, arith}
+use Rattle.std.proofs.Common.{◌≡◌, ◌≢◌, ℕ, zero, suc, ◌+◌, ◌<◌, ◌≤◌, false, List, [], ◌∷◌, ◌++◌, length, get_or, refl, ap, sym, ◌∙◌, subst, arith, lit<}
 use Rattle.std.specs.Prelude.{Vec, slice_set, replicate}
 use Rattle.std.specs.declared.alloc.Global.{Global}
-use Rattle.pcap_file.proofs.lemmas.Numbers.{le_or_lt}
-use Rattle.run_files.specs.Pages.{items_in, piece_at}
+use Rattle.std.proofs.lemmas.Bool.{or_parts, leb-false}
+use Rattle.run_files.specs.Pages.{items_in, piece_at, FULL, is_full, has_full, AreShort}
 
 pub length-items : (l : List (Vec ℕ Global)) → length (items_in l) ≡ length l
 length-items [] = refl
@@ -58,3 +58,19 @@ length-pages x (suc n) = ap suc (length-pages x n)
 pub one_page : (n : ℕ) (x : List ℕ) → replicate n x ++ x ∷ [] ≡ replicate (n + 1) x
 one_page zero x = refl
 one_page (suc n) x = ap (λ l. x ∷ l) (one_page n x) ∙ ap (λ (m : ℕ). replicate m x) (let e : suc (n + 1) ≡ suc n + 1 = omega arith in e)
+
+-- ---- pages below the bound
+
+pub short : (page : List ℕ) → is_full page ≡ false → length page < FULL
+short page e = let less = leb-false FULL (length page) e in omega (arith, less)
+
+pub short_pages : (pages : List (Vec ℕ Global)) → has_full pages ≡ false → AreShort (items_in pages)
+short_pages [] e q = lit< tt
+short_pages (v ∷ pages) e zero = short v.items (or_parts _ _ e).0
+short_pages (v ∷ pages) e (suc q) = short_pages pages (or_parts _ _ e).1 q
+
+pub short_empty : (page : List ℕ) → page ≡ [] → length page < FULL
+short_empty page none = subst (λ (l : List ℕ). length l < FULL) (sym none) (lit< tt)
+
+pub short_nothings : (pages : List (List ℕ)) → ((q : ℕ) → piece_at pages q ≡ []) → AreShort pages
+short_nothings pages none q = short_empty (piece_at pages q) (none q)

@@ -20,7 +20,7 @@ use Rattle.run_files.specs.Outputs.{AreOutputs}
 use Rattle.run_files.specs.Pages.{items_in, piece_at}
 use Rattle.run_files.specs.declared.fault.RunFault.TheVariants as faults
 use Rattle.snoop_run.specs.Records.{count_in}
-use Rattle.snoop_run.specs.State.{Stands, PassesNext, IsNew, IsNext, Writes, Crosses}
+use Rattle.snoop_run.specs.State.{Stands, PassesNext, IsNew, IsNext, Writes, WritesFull, Crosses}
 use Rattle.snoop_run.specs.declared.bridge.Bridge.{Bridge}
 use Rattle.run_files.proofs.OutputLemmas.{same_name, outputs_stay}
 use Rattle.snoop_run.proofs.NextLemmas.{all_left, next_order, none_next}
@@ -80,6 +80,11 @@ crossing_none w ins outs a b new count empty = record {
   reads = λ m. refl;
   writes = λ m. refl;
 }
+
+-- writing handles no frame
+pub same_places : (outs : List ℕ) (b b' : Bridge) (d d' : Seen) → WritesFull outs b b' d d' (Ok tt) → b'.places ≡ b.places
+same_places outs b b' d d' (inl wr) = wr.same.1
+same_places outs b b' d d' (inr same) = ap (λ (x : Bridge). x.places) same.0
 
 module _ (w : Forwarder) (ins : List (List Record)) (outs : List ℕ) (a d : Seen) (b : Bridge) (outputs : AreOutputs a outs) (c : Crossing w ins outs a d b) where
   -- one frame more
@@ -190,6 +195,11 @@ module _ (w : Forwarder) (ins : List (List Record)) (outs : List ℕ) (a d : See
           writes = λ m. wr.puts.counts m ∙ c.writes m;
         }
 
+    -- where no page was full nothing changed
+    pub crossing_on : WritesFull outs b b' d d' (Ok tt) → Crossing w ins outs a d' b'
+    crossing_on (inl wr) = crossing_written wr
+    crossing_on (inr same) = subst (λ x. Crossing w ins outs a x b') (sym same.1) (subst (λ x. Crossing w ins outs a d x) (sym same.0) c)
+
     pub crosses_all : least 1 (left_in ins b.places.items) ≡ None → Writes outs b b' d d' (Ok tt) → Crosses w ins outs a d' (Ok (record { passed = b'.passed; dropped = b'.dropped }))
     crosses_all none wr =
         let all : c.done ≡ arrivals ins = sym (append-nil c.done) ∙ ap (λ l. c.done ++ l) (sym (none_next (left_in ins b.places.items) none)) ∙ came in
@@ -230,3 +240,7 @@ module _ (w : Forwarder) (ins : List (List Record)) (outs : List ℕ) (a d : See
       reads = reads_on wr;
       writes = λ other. absurd (other refl);
     }
+
+    pub crosses_full : (e : Failed) → WritesFull outs b b' d d' (Err e) → Crosses w ins outs a d' (Err faults.Write)
+    crosses_full e (inl wr) = crosses_failed e wr
+    crosses_full e (inr same) = let no = same.2 in absurd (cc)

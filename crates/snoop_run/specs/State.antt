@@ -1,5 +1,5 @@
 -- What stands of a bridge between two frames.
-use Rattle.std.specs.Prelude.{◌≡◌, ℕ, ◌+◌, ◌^◌, ◌<◌, ◌≤◌, ◌⊎◌, IsTrue, List, [], ◌∷◌, ◌++◌, length, replicate, slice_index, Some, Result, IfOk, IfErr, OnOk}
+use Rattle.std.specs.Prelude.{◌≡◌, ℕ, ◌+◌, ◌^◌, ◌<◌, ◌≤◌, ◌⊎◌, IsTrue, List, [], ◌∷◌, ◌++◌, length, replicate, slice_index, Some, Result, Ok, IfOk, IfErr, OnOk}
 use Rattle.fab_base.specs.Seen.{Seen, Rose, SameReadFaults, Touches}
 use Rattle.fab_base.specs.declared.values.Failed.{Failed}
 use Rattle.fab_policy.specs.Written.{IsPrefixOf}
@@ -74,6 +74,10 @@ pub record Writes (outs : List ℕ) (old new : Bridge) (a b : Seen) (result : Re
   pub nothing : OnOk result ((q : ℕ) → piece_at (items_in new.pages.items) q ≡ [])
   pub count : OnOk result (length new.pages.items ≡ length old.pages.items)
   pub same : OnOk result ((new.snoop ≡ old.snoop) × (new.places ≡ old.places) × (new.passed ≡ old.passed) × (new.dropped ≡ old.dropped))
+
+-- What writing them does where one of them is full: else nothing.
+abbrev pub WritesFull : List ℕ → Bridge → Bridge → Seen → Seen → Result (Unit {0}) Failed → Type 0
+WritesFull outs old new a b result = Writes outs old new a b result ⊎ ((new ≡ old) × (b ≡ a) × (result ≡ Ok tt))
 
 -- What handling all frames does: each output holds the capture of its port, or, where it ends early, a front of it.
 pub record Crosses (w : Forwarder) (ins : List (List Record)) (outs : List ℕ) (old new : Seen) (result : Result Crossed RunFault) : Type 0 where

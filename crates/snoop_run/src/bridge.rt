@@ -15,9 +15,6 @@ use pcap_file::Record;
 use run_files::head_records;
 use std::alloc::Global;
 
-/// The bytes of a page from which on it is written.
-const FULL: usize = 65536;
-
 /// A bridge over captures. Of the capture at each place so many frames were handled, and the page
 /// there has what its port's output grows by next.
 #[derive(Debug, Drop)]
@@ -96,11 +93,6 @@ impl Bridge {
         } else {
             self.passed += 1;
         }
-    }
-
-    /// Whether a page is so long that all are best written.
-    pub(crate) fn are_full(&self) -> bool {
-        self.pages.iter().any(|page| page.len() >= FULL)
     }
 }
 

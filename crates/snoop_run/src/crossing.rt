@@ -1,19 +1,19 @@
 //! The frames of captures, which cross a bridge in their order.
-ghost use Rattle.std.specs.Prelude.{◌≡◌, ℕ, ◌<◌, ◌≤◌, ◌^◌, [], length, IsTrue, Some};
+ghost use Rattle.std.specs.Prelude.{◌≡◌, ℕ, ◌<◌, ◌≤◌, ◌^◌, [], length, IsTrue, OnOk, Some};
 ghost use Rattle.fab_base.specs.Slots.{name_of};
 ghost use Rattle.fip_snoop.specs.Queue.{AllAscend};
 ghost use Rattle.pcap_file.specs.Capture.{head_bytes};
 ghost use Rattle.run_files.specs.Outputs.{AreOutputs};
+ghost use Rattle.run_files.specs.Pages.{AreShort, items_in};
 ghost use Rattle.snoop_run.specs.Records.{AllFit, count_in};
-ghost use Rattle.snoop_run.specs.State.{Crosses, IsNew, Writes};
+ghost use Rattle.snoop_run.specs.State.{Crosses, IsNew, Writes, WritesFull};
 
 use crate::Crossed;
 use crate::bridge::Bridge;
-use crate::files::flush;
 use fab_base::{Depot, Failed, OwnedList};
 use fip_snoop::first_port;
 use pcap_file::Record;
-use run_files::RunFault;
+use run_files::{RunFault, flush, has_full};
 use std::alloc::Global;
 
 /// Handles all frames by moment, then port, then place, and writes what goes to each output.
@@ -41,11 +41,9 @@ pub(crate) fn cross<D: Depot>(
             Ok(()) => {}
             Err(_) => return Err(RunFault::Memory),
         }
-        if bridge.are_full() {
-            match write(depot, outs, bridge) {
-                Ok(()) => {}
-                Err(_) => return Err(RunFault::Write),
-            }
+        match write_full(depot, outs, bridge) {
+            Ok(()) => {}
+            Err(_) => return Err(RunFault::Write),
         }
     }
     match write(depot, outs, bridge) {
@@ -55,6 +53,20 @@ pub(crate) fn cross<D: Depot>(
         }),
         Err(_) => Err(RunFault::Write),
     }
+}
+
+// Writes what the pages hold where one of them is full; then none is.
+fn write_full<D: Depot>(depot: &mut D, outs: &[u32], bridge: &mut Bridge) -> Result<(), Failed>
+    requires count { length outs.now ≡ length bridge.old.pages.items }
+    requires outputs { AreOutputs (D.seen depot.old) outs.now }
+    ensures writes { WritesFull outs.now bridge.old bridge.new (D.seen depot.old)
+        (D.seen depot.new) result }
+    ensures short { OnOk result (AreShort (items_in bridge.new.pages.items)) }
+{
+    if !has_full(&bridge.pages) {
+        return Ok(());
+    }
+    write(depot, outs, bridge)
 }
 
 // Writes what the pages hold, and empties them.

@@ -5,7 +5,6 @@
 mod bridge;
 mod captures;
 mod crossing;
-mod files;
 mod laws;
 mod outputs;
 mod run;
