@@ -15,6 +15,7 @@ FABRIC = "fab_policy fab_messages fab_roster fab_sending fab_judge forward_core 
 EDGE = "open_files tool_process fcoe_tool"
 RUNS = "fab_gather fab_windows fab_replay fab_live fab_pages run_files snoop_run enode_run fabric_tool"
 FILES = "Depot Sink create open_read"
+WRITTEN = "write_head write_record"
 THREADS = "Threads Wait spawn"
 
 # crate: what it doesn't know, as crates, and as words of its src
@@ -36,7 +37,7 @@ UNKNOWN: dict[str, tuple[str, str]] = {
     "fab_gather": (f"{EDGE} {CODECS} fab_judge forward_core", "Verdict Rule What"),
     "fab_onward": (f"{EDGE} {TABLES} {RUNS} fab_messages fab_roster fab_sending fab_judge forward_core", "Config Fabric"),
     "fab_migrate": (f"{EDGE} {CODECS} {TABLES} forward_core fab_replay fab_judge", "Legal judged"),
-    "fip_snoop": (f"{EDGE} {RUNS} {TABLES} forward_core", FILES),
+    "fip_snoop": (f"{EDGE} {RUNS} {TABLES} forward_core", f"{FILES} {WRITTEN}"),
     "enode_core": (f"{EDGE} {RUNS} {TABLES} forward_core", FILES),
     "fab_policy": (f"{EDGE} {RUNS} {TABLES} fab_turn fab_roster", f"{FILES} {THREADS} Reader Budget"),
     "fab_vectors": (f"{EDGE} {RUNS} {FABRIC} {TABLES}", "Roster Verdict"),

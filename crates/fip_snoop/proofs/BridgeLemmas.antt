@@ -1,21 +1,13 @@
 -- Frames that are handled one after another.
-use Rattle.std.proofs.Common.{◌≡◌, ◌+◌, Bool, true, false, not, filter, [], ◌∷◌, ◌++◌, length, append_assoc, refl, sym, ◌∙◌, ap}
+use Rattle.std.proofs.Common.{◌≡◌, ◌+◌, Bool, true, false, not, filter, [], ◌∷◌, length, refl, sym, ◌∙◌, ap}
 use Rattle.std.proofs.lemmas.List.Filters.{length-filter_both}
 use Rattle.std.proofs.lemmas.List.Sums.{length-filter}
 use Rattle.fip_snoop.specs.History.{Handled}
-use Rattle.fip_snoop.specs.Ways.{way_of}
-use Rattle.fip_snoop.specs.Bridge.{handled, history, copy_to, records_to, is_dropped, dropped, HistoryGoesOn, RecordsGoOn, AllAreCounted}
+use Rattle.fip_snoop.specs.Bridge.{handled, is_dropped, dropped, HistoryGoesOn, AllAreCounted}
 
 pub history_goes_on : HistoryGoesOn
 history_goes_on w L [] ys = refl
 history_goes_on w L (x ∷ xs) ys = history_goes_on w (handled w L x ∷ L) xs ys
-
-pub records_go_on : RecordsGoOn
-records_go_on w q L [] ys = refl
-records_go_on w q L (x ∷ xs) ys =
-    let here = copy_to q x (way_of w L x.port x.caught) in
-    ap (λ l. here ++ l) (records_go_on w q (handled w L x ∷ L) xs ys)
-    ∙ sym (append_assoc here (records_to w q (handled w L x ∷ L) xs) (records_to w q (history w (handled w L x ∷ L) xs) ys))
 
 pub all_are_counted : AllAreCounted
 all_are_counted L =

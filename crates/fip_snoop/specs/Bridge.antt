@@ -1,8 +1,7 @@
--- What a bridge makes of captures: the order in which frames are handled, and the capture of each port.
+-- What a bridge makes of the frames of several ports: the order in which they are handled, and to which ports each goes.
 use Rattle.std.specs.Prelude.{◌≡◌, ◌⊎◌, ◌<◌, ◌≤◌, ℕ, ◌+◌, ◌-◌, Bool, true, false, not, ◌==◌, nat_lt, nat_le, if◌then◌else◌, List, [], ◌∷◌, ◌++◌, length, map}
 use Rattle.std.specs.List.{count_by}
 use Rattle.fab_base.specs.declared.values.Caught.{Caught}
-use Rattle.pcap_file.specs.Capture.{head_bytes, record_bytes}
 use Rattle.pcap_file.specs.declared.Record.{Record}
 use Rattle.fip_snoop.specs.History.{Handled, History}
 use Rattle.fip_snoop.specs.Ways.{FORWARDER_PORT, way_of}
@@ -67,22 +66,6 @@ leads_to q (Down p) = q == p
 leads_to q All = not (q == FORWARDER_PORT)
 leads_to q (Dropped why) = false
 
--- a record with its frame's bytes as they came, both lengths the same, and the time of its moment; nothing where the way leads elsewhere
-abbrev pub copy_of : ℕ → ℕ → List ℕ → Way → List ℕ
-copy_of q moment bytes way = if leads_to q way then record_bytes moment bytes else []
-
-abbrev pub copy_to : ℕ → Arrival → Way → List ℕ
-copy_to q a way = copy_of q a.moment a.caught.bytes way
-
--- the records of a port behind a history
-abbrev pub records_to : Forwarder → ℕ → History → List Arrival → List ℕ
-records_to w q L [] = []
-records_to w q L (a ∷ more) = copy_to q a (way_of w L a.port a.caught) ++ records_to w q (handled w L a ∷ L) more
-
--- The capture of a port: the head, and each frame whose way leads to it.
-abbrev pub capture : Forwarder → ℕ → List Arrival → List ℕ
-capture w q came = head_bytes ++ records_to w q [] came
-
 -- ---- how many
 
 abbrev pub is_dropped : Way → Bool
@@ -100,10 +83,6 @@ passed L = count_by (λ h. not (is_dropped h.way)) L
 -- frames that are handled later go on from the history of those before
 abbrev pub HistoryGoesOn : Type 0
 HistoryGoesOn = (w : Forwarder) (L : History) (xs ys : List Arrival) → history w L (xs ++ ys) ≡ history w (history w L xs) ys
-
--- and their records stand behind the others
-abbrev pub RecordsGoOn : Type 0
-RecordsGoOn = (w : Forwarder) (q : ℕ) (L : History) (xs ys : List Arrival) → records_to w q L (xs ++ ys) ≡ records_to w q L xs ++ records_to w q (history w L xs) ys
 
 -- no frame is lost: each passed or was dropped
 abbrev pub AllAreCounted : Type 0

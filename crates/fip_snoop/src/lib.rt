@@ -10,7 +10,6 @@ mod home;
 mod homes;
 mod laws;
 mod orders;
-mod pages;
 mod queue;
 mod snoop;
 mod up;
@@ -23,7 +22,6 @@ pub use laws::{
     bindings_stand, captures_are_merged, data_goes_down, data_goes_up, enodes_are_apart,
     frames_come_in_order, frames_go_on, histories_grow, homes_stand,
 };
-pub use pages::{add_copy, is_dropped};
 pub use queue::{Head, first_port};
 pub use snoop::Snoop;
-pub use way::{SnoopRule, Way};
+pub use way::{SnoopRule, Way, is_dropped, leads_to};

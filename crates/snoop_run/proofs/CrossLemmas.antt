@@ -11,14 +11,15 @@ use Rattle.fab_policy.specs.Written.{IsPrefixOf}
 use Rattle.pcap_file.specs.Capture.{head_bytes}
 use Rattle.pcap_file.specs.declared.Record.{Record}
 use Rattle.fab_base.specs.Slots.{name_of, NameIn}
-use Rattle.fip_snoop.specs.Bridge.{Arrival, arrivals, history, records_to, capture, passed, dropped}
+use Rattle.fip_snoop.specs.Bridge.{Arrival, arrivals, history, passed, dropped}
 use Rattle.fip_snoop.specs.Queue.{AllAscend, least, left_in}
 use Rattle.fip_snoop.specs.Snoop.{Remembers}
 use Rattle.fip_snoop.specs.declared.forwarder.Forwarder.{Forwarder}
-use Rattle.fip_snoop.proofs.BridgeLemmas.{records_go_on}
+use Rattle.snoop_run.proofs.CopyLemmas.{records_go_on}
 use Rattle.run_files.specs.Outputs.{AreOutputs}
 use Rattle.run_files.specs.Pages.{items_in, piece_at}
 use Rattle.run_files.specs.declared.fault.RunFault.TheVariants as faults
+use Rattle.snoop_run.specs.Copies.{records_to, capture}
 use Rattle.snoop_run.specs.Records.{count_in}
 use Rattle.snoop_run.specs.State.{Stands, PassesNext, IsNew, IsNext, Writes, WritesFull, Crosses}
 use Rattle.snoop_run.specs.declared.bridge.Bridge.{Bridge}

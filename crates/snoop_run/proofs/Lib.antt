@@ -2,6 +2,7 @@ pub mod SpanLemmas
 pub mod PageLemmas
 pub mod NextLemmas
 pub mod StepLemmas
+pub mod CopyLemmas
 pub mod CrossLemmas
 pub mod NameLemmas
 pub mod InputLemmas

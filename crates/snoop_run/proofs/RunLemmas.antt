@@ -16,9 +16,10 @@ use Rattle.pcap_file.specs.declared.fault.LimitKind.TheVariants as limit
 use Rattle.pcap_file.specs.declared.fault.GatherFault.{GatherFault}
 use Rattle.pcap_file.specs.declared.fault.GatherFault.TheVariants as gather
 use Rattle.pcap_file.specs.Captures.{unless_stopped, captures_by}
-use Rattle.fip_snoop.specs.Bridge.{Arrival, arrivals, is_too_long, capture}
+use Rattle.fip_snoop.specs.Bridge.{Arrival, arrivals, is_too_long}
 use Rattle.fip_snoop.specs.Messages.{forwarder_of}
 use Rattle.fip_snoop.specs.declared.forwarder.Forwarder.{Forwarder}
+use Rattle.snoop_run.specs.Copies.{capture}
 use Rattle.snoop_run.specs.Bridged.{AmongBoth, IsOldOrFront, AreOldOrFront, HasFronts, HasStop, Ends, Bridges, OverEnds, RunsOver}
 use Rattle.run_files.specs.Faults.{TellsWrites}
 use Rattle.run_files.specs.Faults.{fault_from}

@@ -5,7 +5,7 @@ use Rattle.std.specs.Vec.{with_items}
 use Rattle.std.specs.declared.alloc.Global.{Global}
 use Rattle.std.proofs.lemmas.List.Sums.{sum_by-append}
 use Rattle.pcap_file.specs.declared.Record.{Record}
-use Rattle.fip_snoop.specs.Bridge.{Arrival, arrival, arrivals, handled, history, records_to, copy_of, is_dropped, passed, dropped}
+use Rattle.fip_snoop.specs.Bridge.{Arrival, arrival, arrivals, handled, history, is_dropped, passed, dropped}
 use Rattle.fip_snoop.specs.History.{Handled, History}
 use Rattle.fip_snoop.specs.Queue.{least, left_in, AllAscend}
 use Rattle.fip_snoop.specs.Snoop.{Remembers}
@@ -14,6 +14,7 @@ use Rattle.fip_snoop.specs.declared.forwarder.Forwarder.{Forwarder}
 use Rattle.fip_snoop.specs.declared.way.Way.{Way}
 use Rattle.fip_snoop.proofs.BridgeLemmas.{history_goes_on, all_are_counted}
 use Rattle.run_files.specs.Pages.{items_in, piece_at}
+use Rattle.snoop_run.specs.Copies.{records_to, copy_of}
 use Rattle.snoop_run.specs.Records.{count_in}
 use Rattle.snoop_run.specs.State.{Stands, Adds, Passes, PassesNext}
 use Rattle.snoop_run.specs.declared.bridge.Bridge.{Bridge}

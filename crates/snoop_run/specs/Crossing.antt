@@ -7,8 +7,9 @@ use Rattle.pcap_file.specs.declared.fault.LimitKind.TheVariants as limit
 use Rattle.pcap_file.specs.declared.fault.GatherFault.{GatherFault}
 use Rattle.pcap_file.specs.declared.fault.GatherFault.TheVariants as gather
 use Rattle.pcap_file.specs.Captures.{unless_stopped, captures_by}
-use Rattle.fip_snoop.specs.Bridge.{Arrival, arrivals, is_too_long, capture}
+use Rattle.fip_snoop.specs.Bridge.{Arrival, arrivals, is_too_long}
 use Rattle.fip_snoop.specs.Messages.{forwarder_of}
+use Rattle.snoop_run.specs.Copies.{capture}
 
 -- the frames, unless it takes too long from the first to the last
 abbrev pub unless_too_long : List Arrival → Result (List Arrival) GatherFault

@@ -1,5 +1,6 @@
 pub mod Sides
 pub mod Records
+pub mod Copies
 pub mod Crossing
 pub mod Bridged
 pub mod Opening

@@ -6,7 +6,7 @@ use Rattle.fab_policy.specs.Written.{IsPrefixOf}
 use Rattle.pcap_file.specs.Capture.{head_bytes}
 use Rattle.pcap_file.specs.declared.Record.{Record}
 use Rattle.fab_base.specs.Slots.{name_of, NameIn}
-use Rattle.fip_snoop.specs.Bridge.{Arrival, arrival, arrivals, handled, history, records_to, capture, passed, dropped}
+use Rattle.fip_snoop.specs.Bridge.{Arrival, arrival, arrivals, handled, history, passed, dropped}
 use Rattle.fip_snoop.specs.History.{History}
 use Rattle.fip_snoop.specs.Queue.{least, left_in}
 use Rattle.fip_snoop.specs.Snoop.{Remembers}
@@ -16,6 +16,7 @@ use Rattle.run_files.specs.Outputs.{PutsEach}
 use Rattle.run_files.specs.Pages.{items_in, piece_at}
 use Rattle.run_files.specs.declared.fault.RunFault.{RunFault}
 use Rattle.run_files.specs.declared.fault.RunFault.TheVariants as faults
+use Rattle.snoop_run.specs.Copies.{records_to, capture}
 use Rattle.snoop_run.specs.declared.bridge.Bridge.{Bridge}
 use Rattle.snoop_run.specs.declared.run.Crossed.{Crossed}
 

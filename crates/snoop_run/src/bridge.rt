@@ -4,13 +4,13 @@ ghost use Rattle.std.specs.Prelude.{IfOk, OnOk, length, replicate, slice_index, 
 ghost use Rattle.fip_snoop.specs.Bridge as bridging;
 ghost use Rattle.fip_snoop.specs.Messages.{forwarder_of};
 ghost use Rattle.fip_snoop.specs.Queue.{AllAscend};
-ghost use Rattle.run_files.specs.Pages.{items_in, piece_at};
 ghost use Rattle.snoop_run.specs.Records.{AllFit, count_in};
 ghost use Rattle.snoop_run.specs.State.{IsFound, IsNew, IsNext, Passes, PassesNext};
 
+use crate::copies::add_copies;
 use fab_base::{NoMemory, OwnedList, PortNo};
 use fab_config::Config;
-use fip_snoop::{Snoop, Way, add_copy, is_dropped};
+use fip_snoop::{Snoop, Way, is_dropped};
 use pcap_file::Record;
 use run_files::head_records;
 use std::alloc::Global;
@@ -127,31 +127,4 @@ fn zeros(alloc: Global, count: usize) -> Result<Vec<usize>, NoMemory>
         places.push(0)?;
     }
     Ok(places)
-}
-
-// Appends a record of a frame to the page of each port to which its way leads.
-fn add_copies(
-    alloc: Global,
-    found: &Record,
-    way: &Way,
-    pages: &mut [Vec<u8>],
-) -> Result<(), NoMemory>
-    requires moment { found.now.moment < 2 ^ 53 }
-    requires bytes { length found.now.caught.bytes ≤ 65535 }
-    ensures adds { OnOk result ((q : ℕ) → q < length pages.old
-        → piece_at (items_in pages.new) q ≡ piece_at (items_in pages.old) q
-        ++ bridging.copy_of (q + 1) found.now.moment found.now.caught.bytes way.now) }
-    ensures count { length pages.new ≡ length pages.old }
-{
-    for place in 0..pages.len() {
-        add_copy(
-            alloc,
-            place + 1,
-            found.moment,
-            found.caught.bytes.view(),
-            way,
-            &mut pages[place],
-        )?;
-    }
-    Ok(())
 }

@@ -1,4 +1,5 @@
-//! What the definitions imply. The function does nothing; its contract is the law.
+//! What the definitions imply. Each function does nothing: its contract is the law.
+ghost use Rattle.snoop_run.specs.Copies.{RecordsGoOn};
 ghost use Rattle.snoop_run.specs.Laws.{TakenAreCaptures};
 
 use pcap_file::the_end_makes_a_capture;
@@ -11,3 +12,8 @@ pub fn what_is_taken_are_captures()
     // Law: behind its last record a capture is at its end; so what was taken is all of it.
     the_end_makes_a_capture();
 }
+
+/// The records of frames that are handled later come behind those of the frames before.
+pub fn records_go_on()
+    ensures records { RecordsGoOn }
+{}

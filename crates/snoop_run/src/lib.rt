@@ -4,6 +4,7 @@
 
 mod bridge;
 mod captures;
+mod copies;
 mod crossing;
 mod laws;
 mod outputs;
@@ -11,5 +12,6 @@ mod run;
 mod sides;
 mod span;
 
-pub use laws::what_is_taken_are_captures;
+pub use copies::add_copy;
+pub use laws::{records_go_on, what_is_taken_are_captures};
 pub use run::{Crossed, run_bridge};

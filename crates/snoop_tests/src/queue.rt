@@ -1,7 +1,8 @@
 //! Which frame of several captures comes next, and the copies of a frame.
 use fab_base::{Bytes, Caught, Moment, NoMemory, OwnedList, PortNo};
-use fip_snoop::{Head, SnoopRule, Way, add_copy, first_port, is_dropped};
+use fip_snoop::{Head, SnoopRule, Way, first_port, is_dropped};
 use pcap_file::Record;
+use snoop_run::add_copy;
 use std::alloc::Global;
 use std::test::Fail;
 

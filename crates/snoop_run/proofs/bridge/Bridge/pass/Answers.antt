@@ -1,7 +1,7 @@
 use Rattle.std.proofs.Common.{◌∙◌, ◌+◌, ◌<◌, ◌∷◌, ◌++◌, length, ap, sym, subst}
-use Rattle.fip_snoop.specs.Bridge.{copy_of}
 use Rattle.fip_snoop.specs.Snoop.{Remembers}
 use Rattle.run_files.specs.Pages.{items_in, piece_at}
+use Rattle.snoop_run.specs.Copies.{copy_of}
 use Rattle.snoop_run.proofs.StepLemmas.{passes, pages_back}
 use Rattle.snoop_run.proofs.bridge.Bridge.pass.Goals as goal
 

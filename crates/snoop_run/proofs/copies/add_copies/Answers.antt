@@ -2,10 +2,10 @@ use Rattle.std.proofs.Common.{◌∙◌, ◌+◌, ◌++◌, ap, sym, arith}
 use Rattle.std.specs.Prelude.{Vec}
 use Rattle.std.specs.declared.alloc.Global.{Global}
 use Rattle.std.proofs.Common.{ℕ}
-use Rattle.fip_snoop.specs.Bridge.{copy_of}
 use Rattle.run_files.specs.Pages.{items_in}
+use Rattle.snoop_run.specs.Copies.{copy_of}
 use Rattle.snoop_run.proofs.PageLemmas.{grown_next}
-use Rattle.snoop_run.proofs.bridge.add_copies.Goals as goal
+use Rattle.snoop_run.proofs.copies.add_copies.Goals as goal
 
 pub loop-place-preserved : goal.loop-place-preserved
 loop-place-preserved c =
