@@ -38,7 +38,7 @@ UNKNOWN: dict[str, tuple[str, str]] = {
     "fab_onward": (f"{EDGE} {TABLES} {RUNS} fab_messages fab_roster fab_sending fab_judge forward_core", "Config Fabric"),
     "fab_migrate": (f"{EDGE} {CODECS} {TABLES} forward_core fab_replay fab_judge", "Legal judged"),
     "fip_snoop": (f"{EDGE} {RUNS} {TABLES} forward_core", f"{FILES} {WRITTEN}"),
-    "enode_core": (f"{EDGE} {RUNS} {TABLES} forward_core", FILES),
+    "enode_core": (f"{EDGE} {RUNS} {TABLES} forward_core", f"{FILES} {WRITTEN}"),
     "fab_policy": (f"{EDGE} {RUNS} {TABLES} fab_turn fab_roster", f"{FILES} {THREADS} Reader Budget"),
     "fab_vectors": (f"{EDGE} {RUNS} {FABRIC} {TABLES}", "Roster Verdict"),
     "state_change": (f"{CODECS} login_table fab_policy".replace("els_messages ", ""), "Login"),

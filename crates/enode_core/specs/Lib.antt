@@ -7,5 +7,4 @@ pub mod Acts
 pub mod Phases
 pub mod Goes
 pub mod RunLaws
-pub mod Course
 pub mod Alive

@@ -1,7 +1,6 @@
 -- The run of a node over the frames that its port receives.
-use Rattle.std.specs.Prelude.{◌≡◌, ℕ, ◌+◌, ◌<◌, ◌≤◌, Bool, nat_le, nat_lt, List, [], ◌∷◌, ◌++◌, filter, map, flat_map}
+use Rattle.std.specs.Prelude.{◌≡◌, ℕ, ◌+◌, ◌<◌, ◌≤◌, Bool, nat_le, nat_lt, List, [], ◌∷◌, ◌++◌, filter, map}
 use Rattle.std.specs.List.{list_any}
-use Rattle.pcap_file.specs.Capture.{head_bytes, record_bytes}
 use Rattle.pcap_file.specs.declared.Record.{Record}
 use Rattle.enode_core.specs.declared.node.Identity.{Identity}
 use Rattle.enode_core.specs.declared.node.State.{State}
@@ -90,7 +89,3 @@ stands own start inputs = after own (begun own start).state inputs
 -- all that it sends, from its start on
 abbrev pub all_sent : Identity → ℕ → List Input → List Sending
 all_sent own start inputs = sendings start (begun own start).sent ++ sent own (begun own start).state inputs
-
--- the capture of what is sent
-abbrev pub capture : List Sending → List ℕ
-capture frames = head_bytes ++ flat_map (λ x. record_bytes x.moment x.bytes) frames

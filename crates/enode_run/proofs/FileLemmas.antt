@@ -19,7 +19,7 @@ use Rattle.pcap_file.specs.Captures.{Taken, ReadsCapture, AreFit, unless_stopped
 use Rattle.enode_core.specs.declared.node.Identity.{Identity}
 use Rattle.enode_core.specs.declared.node.Phase.{Phase}
 use Rattle.enode_core.specs.declared.node.State.{State}
-use Rattle.enode_core.specs.Course.{AreFar, IsAt}
+use Rattle.enode_run.specs.Course.{AreFar, IsAt}
 use Rattle.enode_core.specs.Laws.{IsTyped}
 use Rattle.enode_core.specs.Phases.{phase_of}
 use Rattle.enode_core.specs.RunLaws.{RunsAreGranted}

@@ -12,8 +12,9 @@ use Rattle.pcap_file.specs.Captures.{unless_stopped, capture_by}
 use Rattle.enode_core.specs.declared.node.Identity.{Identity}
 use Rattle.enode_core.specs.declared.node.Phase.{Phase}
 use Rattle.enode_core.specs.Phases.{phase_of}
-use Rattle.enode_core.specs.Runs.{Input, IsRun, is_too_long, stands, all_sent, capture}
+use Rattle.enode_core.specs.Runs.{Input, IsRun, is_too_long, stands, all_sent}
 use Rattle.enode_core.specs.RunLaws.{IsGrantedBy}
+use Rattle.enode_run.specs.Course.{capture}
 
 -- What a node is run for: who it is, the moment that it starts at, the names of its input and its output, and the limits of the
 -- input.

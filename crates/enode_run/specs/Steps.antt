@@ -6,7 +6,7 @@ use Rattle.pcap_file.specs.declared.Record.{Record}
 use Rattle.pcap_file.specs.Faults.{IsStopped, TellsReads}
 use Rattle.pcap_file.specs.declared.fault.GatherFault.{GatherFault}
 use Rattle.pcap_file.specs.declared.fault.GatherFault.TheVariants as gather
-use Rattle.enode_core.specs.Course.{AreFar}
+use Rattle.enode_run.specs.Course.{AreFar}
 use Rattle.enode_run.specs.Files.{taken_by, IsUntaken}
 
 -- the file of a name is a capture that is taken, with these records

@@ -6,10 +6,11 @@ ghost use Rattle.enode_core.specs.Phases.{phase_of};
 ghost use Rattle.enode_run.specs.Files.{RunsNode, node_task};
 ghost use Rattle.run_files.specs.Faults.{TellsReads, TellsWrites};
 
+use crate::course::{Course, play};
 use crate::input::read_input;
 use crate::output::write_file;
 use enode_core::laws::runs_are_one;
-use enode_core::{Course, Identity, Phase, play};
+use enode_core::{Identity, Phase};
 use fab_base::{Depot, Moment};
 use pcap_file::Budget;
 use run_files::RunFault;

@@ -11,7 +11,8 @@ use Rattle.pcap_file.specs.declared.fault.GatherFault.{GatherFault}
 use Rattle.pcap_file.specs.declared.fault.GatherFault.TheVariants as gather
 use Rattle.enode_core.specs.declared.node.Phase.{Phase}
 use Rattle.enode_core.specs.Phases.{phase_of}
-use Rattle.enode_core.specs.Runs.{Input, IsRun, stands, all_sent, capture}
+use Rattle.enode_core.specs.Runs.{Input, IsRun, stands, all_sent}
+use Rattle.enode_run.specs.Course.{capture}
 use Rattle.enode_core.proofs.RunLemmas.{runs_are_one}
 use Rattle.enode_run.specs.Files.{IsUntaken, Same, Front, RunsNode, node_task, taken_by}
 use Rattle.run_files.specs.Faults.{fault_from, TellsReads, TellsWrites}

@@ -1,7 +1,7 @@
 use Rattle.std.proofs.Common.{◌≡◌, drop}
-use Rattle.enode_core.specs.Course.{AreFar, IsAt}
+use Rattle.enode_run.specs.Course.{AreFar, IsAt}
 use Rattle.enode_core.specs.Runs.{from}
-use Rattle.enode_core.proofs.course.play.Given as goal
+use Rattle.enode_run.proofs.course.play.Given as goal
 
 -- the records that are left are those of the run that are left
 abbrev pub invariant-loop-place : goal.invariant-loop-place

@@ -1,6 +1,6 @@
 use Rattle.std.proofs.Common.{◌<◌, ◌∙◌, subst}
-use Rattle.enode_core.proofs.CourseLemmas.{far_next, offered}
-use Rattle.enode_core.proofs.course.play.Goals as goal
+use Rattle.enode_run.proofs.CourseLemmas.{far_next, offered}
+use Rattle.enode_run.proofs.course.play.Goals as goal
 
 pub loop-place-preserved : goal.loop-place-preserved
 loop-place-preserved c = record {

@@ -2,12 +2,12 @@
 ghost use Rattle.std.specs.Prelude.{◌≡◌, ◌≤◌, ◌<◌, ◌^◌, ◌++◌, ◌∷◌, [], ℕ, List, false, length};
 ghost use Rattle.std.specs.Prelude.{slice_index_or, IfOk, OnOk};
 ghost use Rattle.pcap_file.specs.declared.Record.{Record as Row};
-ghost use Rattle.enode_core.specs.Course.{AreFar, IsAt, Takes, turn_bytes};
+ghost use Rattle.enode_run.specs.Course.{AreFar, IsAt, Takes, turn_bytes};
 ghost use Rattle.enode_core.specs.Goes.{AreSmall};
 ghost use Rattle.enode_core.specs.Machine as spec;
 ghost use Rattle.enode_core.specs.Runs.{from};
 
-use crate::{Identity, Node};
+use enode_core::{Identity, Node};
 use fab_base::{Bytes, Moment, NoMemory, OwnedList};
 use pcap_file::{Record, write_head, write_record};
 use std::alloc::Global;
