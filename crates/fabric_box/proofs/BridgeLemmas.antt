@@ -9,7 +9,7 @@ use Rattle.pcap_file.specs.Capture.{head_bytes, record_bytes}
 use Rattle.pcap_file.specs.declared.Record.{Record}
 use Rattle.fab_policy.specs.Heard.{What, Bad, Fip, Fcoe, decoded}
 use Rattle.fab_policy.specs.Rules.{first_row, ALL_ENODES}
-use Rattle.fip_snoop.specs.Bridge.{Arrival, arrival, arrivals_from, with_arrival, in_order, arrivals, handled, leads_to, records_to, capture}
+use Rattle.fip_snoop.specs.Bridge.{Arrival, arrival, arrivals_from, with_arrival, in_order, arrivals, handled, history, leads_to, records_to, capture}
 use Rattle.fip_snoop.specs.History.{Handled, History, Delivery, or_else, latest, shown, shows, home, delivered, delivery, bound_by, if_of, binds, last_binding, since, if_unended, ends, bound, has_moved}
 use Rattle.fip_snoop.specs.Laws.{ENodesAreApart}
 use Rattle.fip_snoop.specs.Messages.{grant_in, granted_mac, is_port_alive}
@@ -23,7 +23,8 @@ use Rattle.fip_snoop.specs.declared.way.Way.TheVariants.{Up, Down, All, Dropped}
 use Rattle.enode_core.specs.Laws.{IsAmong}
 use Rattle.enode_core.proofs.Sources.{Each}
 use Rattle.fabric_box.specs.Box.{IsAt}
-use Rattle.fabric_box.proofs.AmongLemmas.{among_append}
+use Rattle.fabric_box.specs.Sent.{IsPassed}
+use Rattle.fabric_box.proofs.AmongLemmas.{among_append, among_back}
 use Rattle.fabric_box.proofs.BackLemmas.{written_of}
 
 -- ---- what comes
@@ -214,43 +215,49 @@ records_are w q L (a ∷ more) = go (leads_to q (way_of w L a.port a.caught)) (r
 pub capture_is : (w : Forwarder) (q : ℕ) (came : List Arrival) → capture w q came ≡ head_bytes ++ written_of moment bytes (copied w q [] came)
 capture_is w q came = ap (λ l. head_bytes ++ l) (records_are w q [] came)
 
--- each of them came, and its way led there
-pub record IsCopied (w : Forwarder) (q : ℕ) (came : List Arrival) (a : Arrival) : Type 0 where
-  pub among : IsAmong a came
-  pub history_ : History
-  pub leads : leads_to q (way_of w history_ a.port a.caught) ≡ true
-  pub sided : IsSided a.port (way_of w history_ a.port a.caught)
+-- where a frame came of which a copy was sent
+record IsCopied (w : Forwarder) (q : ℕ) (L : History) (came : List Arrival) (a : Arrival) : Type 0 where
+  before : List Arrival
+  later : List Arrival
+  are : came ≡ before ++ a ∷ later
+  leads : leads_to q (way_of w (history w L before) a.port a.caught) ≡ true
+  sided : IsSided a.port (way_of w (history w L before) a.port a.caught)
 
-copied_from : (w : Forwarder) (q : ℕ) (L : History) (came : List Arrival) (a : Arrival) → AreSided L → IsAmong a (copied w q L came) → IsCopied w q came a
+copied_from : (w : Forwarder) (q : ℕ) (L : History) (came : List Arrival) (a : Arrival) → AreSided L → IsAmong a (copied w q L came) → IsCopied w q L came a
 copied_from w q L [] a sided h = absurd h
 copied_from w q L (x ∷ more) a sided h =
     let one : IsSided x.port (way_of w L x.port x.caught) = way_sided w L x.port x.caught sided in
     go one (leads_to q (way_of w L x.port x.caught)) refl h (copied_from w q (handled w L x ∷ L) more a (one, sided))
   where
-    later : IsCopied w q more a → IsCopied w q (x ∷ more) a
-    later c = record { among = inr c.among; history_ = c.history_; leads = c.leads; sided = c.sided }
+    onward : IsCopied w q (handled w L x ∷ L) more a → IsCopied w q L (x ∷ more) a
+    onward c = record { before = x ∷ c.before; later = c.later; are = ap (λ l. x ∷ l) c.are; leads = c.leads; sided = c.sided }
 
     go : IsSided x.port (way_of w L x.port x.caught) → (b : Bool) → leads_to q (way_of w L x.port x.caught) ≡ b → IsAmong a (cond b (x ∷ copied w q (handled w L x ∷ L) more) (copied w q (handled w L x ∷ L) more)) →
-        (IsAmong a (copied w q (handled w L x ∷ L) more) → IsCopied w q more a) → IsCopied w q (x ∷ more) a
+        (IsAmong a (copied w q (handled w L x ∷ L) more) → IsCopied w q (handled w L x ∷ L) more a) → IsCopied w q L (x ∷ more) a
     go one true is (inl same) rest = record {
-      among = inl same;
-      history_ = L;
+      before = [];
+      later = more;
+      are = ap (λ y. y ∷ more) (sym same);
       leads = ap (λ (y : Arrival). leads_to q (way_of w L y.port y.caught)) same ∙ is;
       sided = subst (λ (y : Arrival). IsSided y.port (way_of w L y.port y.caught)) (sym same) one;
     }
-    go one true is (inr there) rest = later (rest there)
-    go one false is there rest = later (rest there)
+    go one true is (inr there) rest = onward (rest there)
+    go one false is there rest = onward (rest there)
 
-pub copied_came : (w : Forwarder) (q : ℕ) (came : List Arrival) (a : Arrival) → IsAmong a (copied w q [] came) → IsCopied w q came a
-copied_came w q came a h = copied_from w q [] came a tt h
+pub passed_of : ENodesAreApart → (w : Forwarder) (q : ℕ) (came : List Arrival) (a : Arrival) → IsAmong a (copied w q [] came) → IsPassed w came q a
+passed_of apart w q came a h =
+    let c = copied_from w q [] came a tt h in
+    record {
+      before = c.before;
+      later = c.later;
+      are = c.are;
+      leads = c.leads;
+      from_enode = λ is. up_from a.port (way_of w (history w [] c.before) a.port a.caught) c.sided (ap (λ p. leads_to p (way_of w (history w [] c.before) a.port a.caught)) (sym is) ∙ c.leads);
+      from_forwarder = λ far. elim (eqb_tells a.port FORWARDER_PORT) [
+        | inl is ↦ is.1
+        | inr not ↦ absurd (far (apart w (history w [] c.before) a.port a.caught q not.1 c.leads))
+      ];
+    }
 
--- a frame that goes to the forwarder's port came on another
-pub up_came : (w : Forwarder) (came : List Arrival) (a : Arrival) → IsCopied w FORWARDER_PORT came a → a.port ≢ FORWARDER_PORT
-up_came w came a c = up_from a.port _ c.sided c.leads
-
--- a frame that goes to another port came on the forwarder's
-pub down_came : ENodesAreApart → (w : Forwarder) (q : ℕ) (came : List Arrival) (a : Arrival) → q ≢ FORWARDER_PORT → IsCopied w q came a → a.port ≡ FORWARDER_PORT
-down_came apart w q came a far c = elim (eqb_tells a.port FORWARDER_PORT) [
-  | inl is ↦ is.1
-  | inr not ↦ absurd (far (apart w c.history_ a.port a.caught q not.1 c.leads))
-]
+pub passed_among : (w : Forwarder) (came : List Arrival) (q : ℕ) (a : Arrival) → IsPassed w came q a → IsAmong a came
+passed_among w came q a p = subst (λ (l : List Arrival). IsAmong a l) (sym p.are) (among_back p.before (a ∷ p.later) a (inl refl))

@@ -1,8 +1,11 @@
 pub mod AmongLemmas
 pub mod BackLemmas
 pub mod TakenLemmas
+pub mod StopLemmas
 pub mod RunLemmas
 pub mod BridgeLemmas
 pub mod HoldLemmas
 pub mod NodeLemmas
+pub mod WireLemmas
 pub mod BoxLemmas
+pub mod SentLemmas

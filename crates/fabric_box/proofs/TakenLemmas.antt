@@ -10,12 +10,11 @@ use Rattle.pcap_file.specs.declared.Record.{Record}
 use Rattle.pcap_file.specs.declared.fault.LimitKind.TheVariants as limit
 use Rattle.pcap_file.specs.declared.fault.GatherFault.{GatherFault}
 use Rattle.pcap_file.specs.declared.fault.GatherFault.TheVariants as gather
-use Rattle.pcap_file.specs.Capture.{HEAD, RECORD_HEAD, Next, End, Found, CutHead, TooLong, CutBytes, IsCapture, next, head_decoded, records_from}
+use Rattle.pcap_file.specs.Capture.{HEAD, RECORD_HEAD, Found, IsCapture, next, head_decoded}
 use Rattle.pcap_file.specs.Captures.{Taken, unless_stopped, without_head, without_record, with_record, by_step, records_by, body_by, capture_by, captures_by}
 use Rattle.pcap_file.specs.Reading.{Why, NoBytes, NoFrames, limit_of, failure, Step, Gives, Ends, Stops, step_of}
-use Rattle.pcap_file.proofs.lemmas.Chains.{found_stands, end_is, go_on}
+use Rattle.pcap_file.proofs.lemmas.Chains.{found_stands, end_is}
 use Rattle.pcap_file.proofs.lemmas.Steps.{step_tells}
-use Rattle.enode_core.specs.Laws.{IsAmong}
 use Rattle.snoop_run.specs.Laws.{TakenAreCaptures}
 use Rattle.fabric_box.specs.Box.{IsAt}
 
@@ -27,7 +26,7 @@ within_as : (budget : Budget) (l : List ℕ) (x y : Taken) → ◌≡◌ {A = Re
 within_as budget l x y e h = subst (λ (t : Taken). Within budget l t) (let same : x ≡ y = cc in same) h
 
 -- a record within the limits takes no more bytes than are left
-enough_bytes : (bytes frames len : ℕ) → limit_of bytes frames len ≡ None → RECORD_HEAD + len ≤ bytes
+pub enough_bytes : (bytes frames len : ℕ) → limit_of bytes frames len ≡ None → RECORD_HEAD + len ≤ bytes
 enough_bytes bytes frames len e = go (nat_lt bytes (RECORD_HEAD + len)) refl e
   where
     go : (b : Bool) → nat_lt bytes (RECORD_HEAD + len) ≡ b → cond {A = Option Why} b (Some NoBytes) (cond (frames == 0) (Some NoFrames) None) ≡ None → RECORD_HEAD + len ≤ bytes
@@ -145,27 +144,3 @@ module _ (are : TakenAreCaptures) where
       let capture = one_taken port budget l t is in
       let w = capture_within port budget l t is in
       record { bytes = l; found = found; within = omega arith; head = capture.0; capture = capture.1 }
-
--- ---- frames of a capture
-
-frames_from : (n : ℕ) (h : CaptureHead) (g : ℕ) (l : List ℕ) (r : Record) → IsAmong r (records_from n h g l) → length r.caught.bytes ≤ length l
-frames_from zero h g l r among = absurd among
-frames_from (suc n) h g l r among = go (next h g l) refl among (λ moment rest there. frames_from n h moment rest r there)
-  where
-    go : (x : Next) → next h g l ≡ x → IsAmong r (go_on n h x) → ((moment : ℕ) (rest : List ℕ) → IsAmong r (records_from n h moment rest) → length r.caught.bytes ≤ length rest) → length r.caught.bytes ≤ length l
-    go (Found moment caught rest) is (inl same) later =
-        let size = (found_stands h g l moment caught rest is).size in
-        let one : length r.caught.bytes ≡ length caught.bytes = ap (λ (q : Record). length q.caught.bytes) same in
-        omega (arith, size, one)
-    go (Found moment caught rest) is (inr there) later = let size = (found_stands h g l moment caught rest is).size in let less = later moment rest there in omega (arith, size, less)
-    go End is among later = absurd among
-    go CutHead is among later = absurd among
-    go (TooLong len) is among later = absurd among
-    go (CutBytes len) is among later = absurd among
-
--- a frame of a capture has no more bytes than the file
-pub frame_within : (h : CaptureHead) (records : List Record) (l : List ℕ) → IsCapture h records l → (r : Record) → IsAmong r records → length r.caught.bytes ≤ length l
-frame_within h records l is r among =
-    let n = length-drop HEAD l in
-    let less = frames_from (length l) h 0 (drop HEAD l) r (subst (λ (rs : List Record). IsAmong r rs) (sym is.says) among) in
-    omega (arith, n, less)

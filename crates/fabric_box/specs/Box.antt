@@ -1,8 +1,10 @@
--- A forwarder, a bridge and a node that are joined by their files: what one of them left as a capture is what another found.
-use Rattle.std.specs.Prelude.{◌≡◌, ◌≢◌, ℕ, ◌+◌, ◌⊎◌, true, List, [], ◌∷◌, Some}
+-- A forwarder, a bridge and a node that are joined by their files: what one of them left as a capture comes to another.
+use Rattle.std.specs.Prelude.{◌≡◌, ◌≢◌, ℕ, ◌+◌, ◌^◌, ◌<◌, ◌⊎◌, true, List, [], ◌∷◌, length, Some}
 use Rattle.fab_base.specs.Seen.{Seen}
 use Rattle.fab_base.specs.declared.values.Enode.{Enode}
 use Rattle.fab_config.specs.Settings.{Settings}
+use Rattle.pcap_file.specs.Capture.{IsCapture}
+use Rattle.pcap_file.specs.declared.CaptureHead.{CaptureHead}
 use Rattle.pcap_file.specs.declared.Record.{Record}
 use Rattle.fab_policy.specs.Heard.{source, asked}
 use Rattle.fab_policy.specs.Journal.{Journal, followed}
@@ -39,11 +41,24 @@ pub record IsPort (ins outs : List (List ℕ)) (port : ℕ) (input output : List
   pub comes : IsAt 1 ins port input
   pub goes : IsAt 1 outs port output
 
--- A wire: what was left under one name is what was found under another.
+-- Each frame of a capture is one of another, of less than 4 GiB. Some may come later, more than once, in another order, or never.
+pub record IsCarried (sent came : List ℕ) : Type 0 where
+  pub few : length sent < 2 ^ 32
+  pub sent_head : CaptureHead
+  pub sent_records : List Record
+  pub sent_ : IsCapture sent_head sent_records sent
+  pub came_head : CaptureHead
+  pub came_records : List Record
+  pub came_ : IsCapture came_head came_records came
+  pub each : (r : Record) → IsAmong r came_records → (s : Record) × IsAmong s sent_records × (s.caught ≡ r.caught)
+
+-- A wire: what was found under a name is what was left under another, or its frames are carried from there.
 pub record IsWire (left : Seen) (output : List ℕ) (found : Seen) (input : List ℕ) : Type 0 where
-  pub bytes : List ℕ
-  pub sent : left.file output ≡ Some bytes
-  pub came : found.file input ≡ Some bytes
+  pub sent : List ℕ
+  pub came : List ℕ
+  pub left_ : left.file output ≡ Some sent
+  pub found_ : found.file input ≡ Some came
+  pub carries : (came ≡ sent) ⊎ IsCarried sent came
 
 -- no frame of the capture under a name has this source
 abbrev pub IsFreeOf : List ℕ → Seen → List ℕ → Type 0
@@ -76,45 +91,43 @@ pub record IsGranted (c : Settings) (J : Journal) (port : ℕ) (own : Identity) 
   pub stands_ : (since later : List Event) → J ≡ followed (followed (Frame port grant.index grant.caught (Granted a) ∷ grant.before) since) later →
       Holds (followed (Frame port grant.index grant.caught (Granted a) ∷ grant.before) since) port own a ⊎ HasEnded a (node_at port own) since
 
--- ---- a node and a forwarder
+-- ---- a forwarder and a node
 
--- A `run` ended, and an `enode` whose node is up with an address; each found as the capture of one port what the other left there.
-pub record AreJoined (run_names : RunNames) (node_names : EnodeNames) (port : ℕ) (run node : Files) : Type 0 where
+-- A `run` ended, and an `enode` whose node is up with an address; and this is a port of that `run`.
+pub record AreDone (run_names : RunNames) (node_names : EnodeNames) (port : ℕ) (run node : Files) : Type 0 where
   pub frames : ℕ
   pub entries : ℕ
+  pub ran : HasRun run_names frames entries run.old run.new
   pub address : ℕ
   pub mac : List ℕ
-  pub ran : HasRun run_names frames entries run.old run.new
   pub played : HasPlayed node_names node.old node.new (Up address mac)
   pub input : List ℕ
   pub output : List ℕ
   pub port_ : IsPort run_names.ins run_names.outs port input output
-  pub down : IsWire run.new output node.old node_names.from
-  pub up : IsWire node.new node_names.to run.old input
 
--- Then the journal of that `run` has granted the node its address.
+-- The journal of the `run` has granted the node the address that it is up with.
+abbrev pub NodeIsGranted : (run_names : RunNames) (node_names : EnodeNames) (port : ℕ) (run node : Files) → AreDone run_names node_names port run node → Type 0
+NodeIsGranted run_names node_names port run node d =
+    IsGranted d.ran.settings d.ran.journal port node_names.own d.address (stands node_names.own node_names.start d.played.inputs).ox_id
+
+-- They are joined: what each of them left comes to the other.
+pub record AreJoined (run_names : RunNames) (node_names : EnodeNames) (port : ℕ) (run node : Files) : Type 0 where
+  pub done : AreDone run_names node_names port run node
+  pub down : IsWire run.new done.output node.old node_names.from
+  pub up : IsWire node.new node_names.to run.old done.input
+
 abbrev pub JoinedIsGranted : Type 0
-JoinedIsGranted =
-    (run_names : RunNames) (node_names : EnodeNames) (port : ℕ) (run node : Files) (b : AreJoined run_names node_names port run node)
-    → IsGranted b.ran.settings b.ran.journal port node_names.own b.address (stands node_names.own node_names.start b.played.inputs).ox_id
+JoinedIsGranted = (run_names : RunNames) (node_names : EnodeNames) (port : ℕ) (run node : Files) (j : AreJoined run_names node_names port run node) → NodeIsGranted run_names node_names port run node j.done
 
 -- ---- and a bridge between them
 
--- The same with a `snoop` between: its port of the forwarder's side is joined to the port of `run`, and the node to another port,
--- which alone sends frames from the node's MAC.
+-- They are joined over a `snoop`: its port of the forwarder's side to the port of the `run`, and the node to another port, which alone
+-- has frames from the node's MAC.
 pub record AreBridged (run_names : RunNames) (bridge_names : SnoopNames) (node_names : EnodeNames) (port far : ℕ) (run bridge node : Files) : Type 0 where
-  pub frames : ℕ
-  pub entries : ℕ
+  pub done : AreDone run_names node_names port run node
   pub passes : ℕ
   pub drops : ℕ
-  pub address : ℕ
-  pub mac : List ℕ
-  pub ran : HasRun run_names frames entries run.old run.new
   pub snooped : HasSnooped bridge_names passes drops bridge.old bridge.new
-  pub played : HasPlayed node_names node.old node.new (Up address mac)
-  pub input : List ℕ
-  pub output : List ℕ
-  pub port_ : IsPort run_names.ins run_names.outs port input output
   pub near_input : List ℕ
   pub near_output : List ℕ
   pub near : IsPort bridge_names.ins bridge_names.outs FORWARDER_PORT near_input near_output
@@ -122,14 +135,13 @@ pub record AreBridged (run_names : RunNames) (bridge_names : SnoopNames) (node_n
   pub far_output : List ℕ
   pub far_ : IsPort bridge_names.ins bridge_names.outs far far_input far_output
   pub apart : far ≢ FORWARDER_PORT
-  pub run_to_bridge : IsWire run.new output bridge.old near_input
+  pub run_to_bridge : IsWire run.new done.output bridge.old near_input
   pub bridge_to_node : IsWire bridge.new far_output node.old node_names.from
   pub node_to_bridge : IsWire node.new node_names.to bridge.old far_input
-  pub bridge_to_run : IsWire bridge.new near_output run.old input
+  pub bridge_to_run : IsWire bridge.new near_output run.old done.input
   pub alone : (other : ℕ) (name : List ℕ) → IsAt 1 bridge_names.ins other name → other ≢ FORWARDER_PORT → other ≢ far → IsFreeOf node_names.own.mac bridge.old name
 
--- Then the journal of that `run` has granted the node its address.
 abbrev pub BridgedIsGranted : Type 0
 BridgedIsGranted =
     (run_names : RunNames) (bridge_names : SnoopNames) (node_names : EnodeNames) (port far : ℕ) (run bridge node : Files) (b : AreBridged run_names bridge_names node_names port far run bridge node)
-    → IsGranted b.ran.settings b.ran.journal port node_names.own b.address (stands node_names.own node_names.start b.played.inputs).ox_id
+    → NodeIsGranted run_names node_names port run node b.done

@@ -1,6 +1,8 @@
-//! Programs that are joined by their files, in laws over what each of them left.
+//! What holds of a forwarder, a bridge and nodes that are joined by their files.
 #![tactic(auto)]
 
-pub mod laws;
+mod laws;
 
-pub use laws::a_node_behind_a_bridge_is_granted;
+pub use laws::{
+    a_joined_node_is_granted, a_node_behind_a_bridge_is_granted, what_is_left_was_sent,
+};
