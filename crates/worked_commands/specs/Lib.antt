@@ -5,3 +5,5 @@ pub mod Running
 pub mod Checking
 pub mod Pairs
 pub mod Sides
+pub mod Boxed
+pub mod Box
