@@ -21,6 +21,7 @@ THREADS = "Threads Wait spawn"
 # crate: what it doesn't know, as crates, and as words of its src
 UNKNOWN: dict[str, tuple[str, str]] = {
     "fabric_tool": (EDGE, "MemDepot OsDepot"),
+    "fabric_box": (f"{EDGE} {TABLES} {CODECS} fab_turn fab_roster fab_judge fab_sending forward_core fab_shared", f"{FILES} {THREADS}"),
     "fab_windows": (f"{EDGE} fab_turn fab_judge fab_sending fab_roster", "spawn"),
     "fab_live": (f"{EDGE} fab_turn fab_judge fab_sending fab_roster", "Stdin TcpStream"),
     "fab_replay": (f"{EDGE} fab_turn fab_shared fab_windows fab_live run_files fab_migrate", THREADS),
