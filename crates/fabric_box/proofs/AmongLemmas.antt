@@ -1,5 +1,5 @@
 -- Lists and those that are among them.
-use Rattle.std.proofs.Common.{◌≡◌, ℕ, ◌+◌, ◌≤◌, Bool, true, false, cond, ◌⊎◌, inl, inr, List, [], ◌∷◌, ◌++◌, filter, refl, sym, ap, ◌∙◌, arith}
+use Rattle.std.proofs.Common.{◌≡◌, ℕ, ◌+◌, ◌≤◌, ◌⊎◌, inl, inr, List, [], ◌∷◌, ◌++◌, refl, sym, ◌∙◌, arith}
 use Rattle.enode_core.specs.Laws.{IsAmong}
 use Rattle.enode_core.proofs.Sources.{Each}
 use Rattle.fabric_box.specs.Box.{IsAt}
@@ -18,15 +18,6 @@ module _ {X : Type 0} where
   pub among_back : (xs ys : List X) (x : X) → IsAmong x ys → IsAmong x (xs ++ ys)
   among_back [] ys x h = h
   among_back (z ∷ xs) ys x h = inr (among_back xs ys x h)
-
-  pub among_filter : (q : X → Bool) (xs : List X) (x : X) → IsAmong x (filter q xs) → IsAmong x xs × (q x ≡ true)
-  among_filter q [] x h = absurd h
-  among_filter q (z ∷ xs) x h = by_test (q z) refl h (among_filter q xs x)
-    where
-      by_test : (b : Bool) → q z ≡ b → IsAmong x (cond b (z ∷ filter q xs) (filter q xs)) → (IsAmong x (filter q xs) → IsAmong x xs × (q x ≡ true)) → IsAmong x (z ∷ xs) × (q x ≡ true)
-      by_test true t (inl is) later = (inl is, ap q is ∙ t)
-      by_test true t (inr there) later = let l = later there in (inr l.0, l.1)
-      by_test false t there later = let l = later there in (inr l.0, l.1)
 
   pub at_least : (first : ℕ) (xs : List X) (port : ℕ) (x : X) → IsAt first xs port x → first ≤ port
   at_least first [] port x h = absurd h

@@ -29,7 +29,7 @@ use Rattle.fabric_tool.specs.Enode.{HasPlayed, task_of}
 use Rattle.fabric_tool.specs.Inputs.{LIMITS}
 use Rattle.fabric_tool.specs.Left.{HasRun}
 use Rattle.fabric_tool.specs.Snooping.{HasSnooped}
-use Rattle.fabric_box.specs.Box.{Files, IsAt, AreDone, AreJoined, AreBridged, NodeIsGranted}
+use Rattle.fabric_box.specs.Box.{Any, IsFrom, Files, IsAt, AreDone, AreJoined, AreBridged, NodeIsGranted}
 use Rattle.fabric_box.proofs.AmongLemmas.{at_one}
 use Rattle.fabric_box.proofs.BackLemmas.{IsShort, written_of}
 use Rattle.fabric_box.proofs.BridgeLemmas.{IsOfPort, came_from, copied, capture_is, passed_of, passed_among, moment, bytes}
@@ -134,16 +134,16 @@ module _ (are : TakenAreCaptures) (run_names : RunNames) (node_names : EnodeName
   joined_hears : Hears run_names node_names port run node both
   joined_hears r among =
       let s =
-      over_taken at_moment of_frame (sent_on both.ran.settings (length run_names.outs) port both.ran.journal) run.new node.old both.output node_names.from j.down
-      (run_left run_names both.frames both.entries run.old run.new both.ran port both.output both.port_.goes) both.played.records (node_came run_names node_names port run node both are) r among in
+      over_taken at_moment of_frame (sent_on both.ran.settings (length run_names.outs) port both.ran.journal) Any run.new node.old both.output node_names.from j.down
+      (run_left run_names both.frames both.entries run.old run.new both.ran port both.output both.port_.goes) both.played.records (node_came run_names node_names port run node both are) r among tt in
       output_as both.ran.settings (length run_names.outs) port both.ran.journal s.0.bytes r.caught s.2 (sent_there both.ran.settings (length run_names.outs) port both.ran.journal s.0 s.1)
 
   joined_takes : Takes run_names node_names port run node both
   joined_takes r among from =
       let came = run_came run_names node_names port run node both in
       let x =
-      over sent_when sent_what (all_sent node_names.own node_names.start both.played.inputs) node.new run.old node_names.to both.input j.up
-      (node_left node_names node.old node.new (Up both.address both.mac) both.played) came.records came.capture (run_short run_names node_names port run node both) r among in
+      over sent_when sent_what (all_sent node_names.own node_names.start both.played.inputs) (IsFrom node_names.own.mac) node.new run.old node_names.to both.input j.up
+      (node_left node_names node.old node.new (Up both.address both.mac) both.played) came.records came.capture (run_short run_names node_names port run node both) r among from in
       (x.0, x.1, sent_back x.0.bytes r.caught x.2)
 
   pub joined_is_granted : NodeIsGranted run_names node_names port run node both
@@ -193,15 +193,15 @@ module _
     bridged_hears : Hears run_names node_names port run node ends
     bridged_hears r among =
         let there =
-        over_taken moment bytes (copied way_to far [] came) bridge.new node.old b.far_output node_names.from b.bridge_to_node
-        (bridge_left bridge_names b.passes b.drops bridge.old bridge.new b.snooped far b.far_output b.far_.goes) ends.played.records (node_came run_names node_names port run node ends are) r among in
+        over_taken moment bytes (copied way_to far [] came) Any bridge.new node.old b.far_output node_names.from b.bridge_to_node
+        (bridge_left bridge_names b.passes b.drops bridge.old bridge.new b.snooped far b.far_output b.far_.goes) ends.played.records (node_came run_names node_names port run node ends are) r among tt in
         let x = there.0 in
         let p = passed_of sides way_to far came x there.1 in
         let h = handled_of x (passed_among way_to came far x p) in
         let near = named_as x h FORWARDER_PORT b.near_input (p.from_forwarder b.apart) b.near.comes in
         let s =
-        over_taken at_moment of_frame (sent_on ends.ran.settings (length run_names.outs) port ends.ran.journal) run.new bridge.old ends.output b.near_input b.run_to_bridge
-        (run_left run_names ends.frames ends.entries run.old run.new ends.ran port ends.output ends.port_.goes) h.of_port.records near h.of_port.r h.of_port.among in
+        over_taken at_moment of_frame (sent_on ends.ran.settings (length run_names.outs) port ends.ran.journal) Any run.new bridge.old ends.output b.near_input b.run_to_bridge
+        (run_left run_names ends.frames ends.entries run.old run.new ends.ran port ends.output ends.port_.goes) h.of_port.records near h.of_port.r h.of_port.among tt in
         output_as ends.ran.settings (length run_names.outs) port ends.ran.journal s.0.bytes r.caught (across s.0.bytes x.caught h.of_port.r.caught r.caught there.2 h.of_port.frame s.2)
         (sent_there ends.ran.settings (length run_names.outs) port ends.ran.journal s.0 s.1)
 
@@ -210,19 +210,20 @@ module _
     bridged_takes r among from =
         let taken = run_came run_names node_names port run node ends in
         let there =
-        over moment bytes (copied way_to FORWARDER_PORT [] came) bridge.new run.old b.near_output ends.input b.bridge_to_run
-        (bridge_left bridge_names b.passes b.drops bridge.old bridge.new b.snooped FORWARDER_PORT b.near_output b.near.goes) taken.records taken.capture (run_short run_names node_names port run node ends) r among in
+        over moment bytes (copied way_to FORWARDER_PORT [] came) (IsFrom node_names.own.mac) bridge.new run.old b.near_output ends.input b.bridge_to_run
+        (bridge_left bridge_names b.passes b.drops bridge.old bridge.new b.snooped FORWARDER_PORT b.near_output b.near.goes) taken.records taken.capture (run_short run_names node_names port run node ends) r among from in
         let x = there.0 in
         let p = passed_of sides way_to FORWARDER_PORT came x there.1 in
         let h = handled_of x (passed_among way_to came FORWARDER_PORT x p) in
+        let source_is = source_as x.caught h.of_port.r.caught r.caught node_names.own.mac there.2 h.of_port.frame from in
         elim (eqb_tells x.port far) [
           | inl is ↦
               let s =
-              over_taken sent_when sent_what (all_sent node_names.own node_names.start ends.played.inputs) node.new bridge.old node_names.to b.far_input b.node_to_bridge
-              (node_left node_names node.old node.new (Up ends.address ends.mac) ends.played) h.of_port.records (named_as x h far b.far_input is.1 b.far_.comes) h.of_port.r h.of_port.among in
+              over_taken sent_when sent_what (all_sent node_names.own node_names.start ends.played.inputs) (IsFrom node_names.own.mac) node.new bridge.old node_names.to b.far_input b.node_to_bridge
+              (node_left node_names node.old node.new (Up ends.address ends.mac) ends.played) h.of_port.records (named_as x h far b.far_input is.1 b.far_.comes) h.of_port.r h.of_port.among source_is in
               (s.0, s.1, sent_back s.0.bytes r.caught (across s.0.bytes x.caught h.of_port.r.caught r.caught there.2 h.of_port.frame s.2))
           | inr not ↦ absurd (b.alone x.port h.name h.at (p.from_enode refl) not.1 h.of_port.records h.of_port.r (taken_is bridge.old h.name h.of_port.records LIMITS.bytes h.capture_) h.of_port.among
-              (source_as x.caught h.of_port.r.caught r.caught node_names.own.mac there.2 h.of_port.frame from))
+              source_is)
         ]
 
     pub bridged_is_granted : NodeIsGranted run_names node_names port run node ends

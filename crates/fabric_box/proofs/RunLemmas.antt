@@ -21,7 +21,7 @@ use Rattle.enode_core.specs.Laws.{IsAmong, IsEntry, IsOutput, AreOutputs, AreFro
 use Rattle.enode_core.specs.Runs.{Sending}
 use Rattle.fabric_tool.specs.Inputs.{HasCapture, AreCaptures}
 use Rattle.fabric_box.specs.Box.{IsAt}
-use Rattle.fabric_box.proofs.AmongLemmas.{among_append, among_front, among_back, among_filter}
+use Rattle.fabric_box.proofs.AmongLemmas.{among_append, among_front, among_back}
 use Rattle.fabric_box.proofs.BackLemmas.{written_of}
 
 -- ---- files of ports
@@ -49,6 +49,16 @@ egress_is c n p (e ∷ J) =
     ∙ append_assoc head_bytes (flat_map sent_bytes (sent_on c n p J)) (flat_map sent_bytes here)
     ∙ ap (λ l. head_bytes ++ l) (sym (flat_map-append sent_bytes (sent_on c n p J) here))
 
+-- those of a port
+on_port : (p : ℕ) (xs : List Sent) (s : Sent) → IsAmong s (filter (λ x. x.port == p) xs) → IsAmong s xs × (s.port ≡ p)
+on_port p [] s h = absurd h
+on_port p (x ∷ xs) s h = by_test (x.port == p) refl h (on_port p xs s)
+  where
+    by_test : (b : Bool) → (x.port == p) ≡ b → IsAmong s (cond b (x ∷ filter (λ y. y.port == p) xs) (filter (λ y. y.port == p) xs)) → (IsAmong s (filter (λ y. y.port == p) xs) → IsAmong s xs × (s.port ≡ p)) → IsAmong s (x ∷ xs) × (s.port ≡ p)
+    by_test true is (inl same) more = (inl same, ap (λ (y : Sent). y.port) same ∙ eqb-true x.port p is)
+    by_test true is (inr there) more = let m = more there in (inr m.0, m.1)
+    by_test false is there more = let m = more there in (inr m.0, m.1)
+
 -- each of them is an output
 pub sent_there : (c : Settings) (n p : ℕ) (J : Journal) (s : Sent) → IsAmong s (sent_on c n p J) → IsOutput c n p J s.bytes
 sent_there c n p [] s among = absurd among
@@ -57,8 +67,8 @@ sent_there c n p (e ∷ J) s among = elim (among_append (sent_on c n p J) (filte
       let o = sent_there c n p J s before in
       record { entry = o.entry; before = o.before; stands = inr o.stands; sent = o.sent; among = o.among; port = o.port; bytes_are = o.bytes_are }
   | inr here ↦
-      let h = among_filter (λ (s : Sent). s.port == p) (outputs c n J e) s here in
-      record { entry = e; before = J; stands = inl (refl, refl); sent = s; among = h.0; port = eqb-true s.port p h.1; bytes_are = refl }
+      let h = on_port p (outputs c n J e) s here in
+      record { entry = e; before = J; stands = inl (refl, refl); sent = s; among = h.0; port = h.1; bytes_are = refl }
 ]
 
 pub outputs_of : (c : Settings) (n p : ℕ) (J : Journal) (records : List Record) → ((r : Record) → IsAmong r records → IsOutput c n p J r.caught.bytes) → AreOutputs c n p J records

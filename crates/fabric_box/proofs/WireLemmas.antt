@@ -1,13 +1,14 @@
 -- What comes over a wire was written on its other side.
 use Rattle.std.proofs.Common.{◌≡◌, ℕ, ◌+◌, ◌≤◌, ◌⊎◌, inl, inr, List, ◌++◌, length, Option, Some, sym, ◌∙◌, subst, arith}
 use Rattle.fab_base.specs.Seen.{Seen}
+use Rattle.fab_base.specs.declared.values.Caught.{Caught}
 use Rattle.pcap_file.specs.Capture.{HEAD, head_bytes, IsCapture}
 use Rattle.pcap_file.specs.declared.CaptureHead.{CaptureHead}
 use Rattle.pcap_file.specs.declared.Record.{Record}
 use Rattle.pcap_file.proofs.lemmas.Chains.{one_capture}
 use Rattle.enode_core.specs.Laws.{IsAmong, whole}
 use Rattle.fabric_tool.specs.Inputs.{HasCapture, LIMITS}
-use Rattle.fabric_box.specs.Box.{IsCarried, IsWire}
+use Rattle.fabric_box.specs.Box.{AreCarried, IsWire}
 use Rattle.fabric_box.proofs.BackLemmas.{IsShort, written_of, back, short_in}
 use Rattle.fabric_box.proofs.TakenLemmas.{IsTaken}
 
@@ -34,9 +35,9 @@ module _ {X : Type 0} (time : X → ℕ) (frame : X → List ℕ) (xs : List X) 
       (x : X) × IsAmong x xs × (r.caught ≡ whole (frame x))
   left_back d name is records f short r among = written_back f.bytes (same_bytes f.bytes (head_bytes ++ written_of time frame xs) (d.file name) f.file is) short f.head records f.capture r among
 
-  pub over : (left found : Seen) (output input : List ℕ) → IsWire left output found input → left.file output ≡ Some (head_bytes ++ written_of time frame xs) →
-      (records : List Record) (f : HasCapture found input records) → IsShort f.bytes → (r : Record) → IsAmong r records → (x : X) × IsAmong x xs × (r.caught ≡ whole (frame x))
-  over left found output input wire is records f short r among = by wire.carries
+  pub over : (Such : Caught → Type 0) (left found : Seen) (output input : List ℕ) → IsWire Such left output found input → left.file output ≡ Some (head_bytes ++ written_of time frame xs) →
+      (records : List Record) (f : HasCapture found input records) → IsShort f.bytes → (r : Record) → IsAmong r records → Such r.caught → (x : X) × IsAmong x xs × (r.caught ≡ whole (frame x))
+  over Such left found output input wire is records f short r among such = by wire.carries
     where
       came_is : f.bytes ≡ wire.came
       came_is = same_bytes f.bytes wire.came (found.file input) f.file wire.found_
@@ -44,17 +45,17 @@ module _ {X : Type 0} (time : X → ℕ) (frame : X → List ℕ) (xs : List X) 
       sent_is : wire.sent ≡ head_bytes ++ written_of time frame xs
       sent_is = same_bytes wire.sent (head_bytes ++ written_of time frame xs) (left.file output) wire.left_ is
 
-      by : (wire.came ≡ wire.sent) ⊎ IsCarried wire.sent wire.came → (x : X) × IsAmong x xs × (r.caught ≡ whole (frame x))
+      by : (wire.came ≡ wire.sent) ⊎ AreCarried Such wire.sent wire.came → (x : X) × IsAmong x xs × (r.caught ≡ whole (frame x))
       by (inl same) = written_back f.bytes (came_is ∙ same ∙ sent_is) short f.head records f.capture r among
       by (inr c) =
           let one = (one_capture wire.came f.head c.came_head records c.came_records (subst (λ (m : List ℕ). IsCapture f.head records m) came_is f.capture) c.came_).1 in
-          let s = c.each r (subst (λ (rs : List Record). IsAmong r rs) one among) in
+          let s = c.each r (subst (λ (rs : List Record). IsAmong r rs) one among) such in
           let x = written_back wire.sent sent_is c.few c.sent_head c.sent_records c.sent_ s.0 s.1 in
           (x.0, x.1, sym s.2 ∙ x.2)
 
   -- the same of what was taken within the limits
-  pub over_taken : (left found : Seen) (output input : List ℕ) → IsWire left output found input → left.file output ≡ Some (head_bytes ++ written_of time frame xs) →
-      (records : List Record) → IsTaken found.file input records LIMITS.bytes → (r : Record) → IsAmong r records → (x : X) × IsAmong x xs × (r.caught ≡ whole (frame x))
-  over_taken left found output input wire is records t r among =
+  pub over_taken : (Such : Caught → Type 0) (left found : Seen) (output input : List ℕ) → IsWire Such left output found input → left.file output ≡ Some (head_bytes ++ written_of time frame xs) →
+      (records : List Record) → IsTaken found.file input records LIMITS.bytes → (r : Record) → IsAmong r records → Such r.caught → (x : X) × IsAmong x xs × (r.caught ≡ whole (frame x))
+  over_taken Such left found output input wire is records t r among such =
       let most = t.within in
-      over left found output input wire is records (taken_is found input records LIMITS.bytes t) (short_of t.bytes (omega arith)) r among
+      over Such left found output input wire is records (taken_is found input records LIMITS.bytes t) (short_of t.bytes (omega arith)) r among such

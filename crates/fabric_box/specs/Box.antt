@@ -1,6 +1,7 @@
 -- A forwarder, a bridge and a node that are joined by their files: what one of them left as a capture comes to another.
 use Rattle.std.specs.Prelude.{◌≡◌, ◌≢◌, ℕ, ◌+◌, ◌^◌, ◌<◌, ◌⊎◌, true, List, [], ◌∷◌, length, Some}
 use Rattle.fab_base.specs.Seen.{Seen}
+use Rattle.fab_base.specs.declared.values.Caught.{Caught}
 use Rattle.fab_base.specs.declared.values.Enode.{Enode}
 use Rattle.fab_config.specs.Settings.{Settings}
 use Rattle.pcap_file.specs.Capture.{IsCapture}
@@ -41,8 +42,15 @@ pub record IsPort (ins outs : List (List ℕ)) (port : ℕ) (input output : List
   pub comes : IsAt 1 ins port input
   pub goes : IsAt 1 outs port output
 
--- Each frame of a capture is one of another, of less than 4 GiB. Some may come later, more than once, in another order, or never.
-pub record IsCarried (sent came : List ℕ) : Type 0 where
+-- any frame, and one from this MAC
+abbrev pub Any : Caught → Type 0
+Any caught = Unit {0}
+
+abbrev pub IsFrom : List ℕ → Caught → Type 0
+IsFrom mac caught = source caught ≡ mac
+
+-- Each such frame of a capture is one of another, of less than 4 GiB. Some may come later, more than once, in another order, or never.
+pub record AreCarried (Such : Caught → Type 0) (sent came : List ℕ) : Type 0 where
   pub few : length sent < 2 ^ 32
   pub sent_head : CaptureHead
   pub sent_records : List Record
@@ -50,19 +58,19 @@ pub record IsCarried (sent came : List ℕ) : Type 0 where
   pub came_head : CaptureHead
   pub came_records : List Record
   pub came_ : IsCapture came_head came_records came
-  pub each : (r : Record) → IsAmong r came_records → (s : Record) × IsAmong s sent_records × (s.caught ≡ r.caught)
+  pub each : (r : Record) → IsAmong r came_records → Such r.caught → (s : Record) × IsAmong s sent_records × (s.caught ≡ r.caught)
 
--- A wire: what was found under a name is what was left under another, or its frames are carried from there.
-pub record IsWire (left : Seen) (output : List ℕ) (found : Seen) (input : List ℕ) : Type 0 where
+-- A wire: what was found under a name is what was left under another, or such frames of it are carried from there.
+pub record IsWire (Such : Caught → Type 0) (left : Seen) (output : List ℕ) (found : Seen) (input : List ℕ) : Type 0 where
   pub sent : List ℕ
   pub came : List ℕ
   pub left_ : left.file output ≡ Some sent
   pub found_ : found.file input ≡ Some came
-  pub carries : (came ≡ sent) ⊎ IsCarried sent came
+  pub carries : (came ≡ sent) ⊎ AreCarried Such sent came
 
--- no frame of the capture under a name has this source
+-- no frame of the capture under a name is from this MAC
 abbrev pub IsFreeOf : List ℕ → Seen → List ℕ → Type 0
-IsFreeOf mac d name = (records : List Record) (r : Record) → HasCapture d name records → IsAmong r records → source r.caught ≢ mac
+IsFreeOf mac d name = (records : List Record) (r : Record) → HasCapture d name records → IsAmong r records → IsFrom mac r.caught → ⊥
 
 -- ---- a grant that stands
 
@@ -110,11 +118,11 @@ abbrev pub NodeIsGranted : (run_names : RunNames) (node_names : EnodeNames) (por
 NodeIsGranted run_names node_names port run node d =
     IsGranted d.ran.settings d.ran.journal port node_names.own d.address (stands node_names.own node_names.start d.played.inputs).ox_id
 
--- They are joined: what each of them left comes to the other.
+-- They are joined: all that the node is given comes from the port, and all that the port takes from the node's MAC comes from the node.
 pub record AreJoined (run_names : RunNames) (node_names : EnodeNames) (port : ℕ) (run node : Files) : Type 0 where
   pub done : AreDone run_names node_names port run node
-  pub down : IsWire run.new done.output node.old node_names.from
-  pub up : IsWire node.new node_names.to run.old done.input
+  pub down : IsWire Any run.new done.output node.old node_names.from
+  pub up : IsWire (IsFrom node_names.own.mac) node.new node_names.to run.old done.input
 
 abbrev pub JoinedIsGranted : Type 0
 JoinedIsGranted = (run_names : RunNames) (node_names : EnodeNames) (port : ℕ) (run node : Files) (j : AreJoined run_names node_names port run node) → NodeIsGranted run_names node_names port run node j.done
@@ -135,10 +143,10 @@ pub record AreBridged (run_names : RunNames) (bridge_names : SnoopNames) (node_n
   pub far_output : List ℕ
   pub far_ : IsPort bridge_names.ins bridge_names.outs far far_input far_output
   pub apart : far ≢ FORWARDER_PORT
-  pub run_to_bridge : IsWire run.new done.output bridge.old near_input
-  pub bridge_to_node : IsWire bridge.new far_output node.old node_names.from
-  pub node_to_bridge : IsWire node.new node_names.to bridge.old far_input
-  pub bridge_to_run : IsWire bridge.new near_output run.old done.input
+  pub run_to_bridge : IsWire Any run.new done.output bridge.old near_input
+  pub bridge_to_node : IsWire Any bridge.new far_output node.old node_names.from
+  pub node_to_bridge : IsWire (IsFrom node_names.own.mac) node.new node_names.to bridge.old far_input
+  pub bridge_to_run : IsWire (IsFrom node_names.own.mac) bridge.new near_output run.old done.input
   pub alone : (other : ℕ) (name : List ℕ) → IsAt 1 bridge_names.ins other name → other ≢ FORWARDER_PORT → other ≢ far → IsFreeOf node_names.own.mac bridge.old name
 
 abbrev pub BridgedIsGranted : Type 0
