@@ -1,10 +1,12 @@
 -- A forwarder, a bridge and a node over each other's files, the node being up: the premises of the law of fabric_box, all together.
-use Rattle.std.specs.Prelude.{◌≡◌, ◌≢◌, ℕ, nat_lt, true, false, List, [], ◌∷◌, map, drop, codes, Some, None, refl}
+use Rattle.std.specs.Prelude.{◌≡◌, ◌≢◌, ℕ, ◌<◌, ◌^◌, nat_lt, true, false, List, [], ◌∷◌, map, length, drop, codes, Some, None, refl}
 use Rattle.std.specs.List.{AllPass, list_all}
 use Rattle.std.proofs.lemmas.List.Sums.{AllPass-from_list_all}
 use Rattle.std.proofs.Common.{inl, inr, arith, lit≤, lit<, ap, sym, subst}
 use Rattle.pcap_file.specs.Capture as pcap
-use Rattle.pcap_file.specs.Capture.{HEAD, head_decoded}
+use Rattle.pcap_file.specs.Capture.{HEAD, IsCapture, head_decoded}
+use Rattle.pcap_file.specs.declared.CaptureHead.{CaptureHead}
+use Rattle.pcap_file.specs.declared.Record.{Record}
 use Rattle.pcap_file.proofs.lemmas.Chains.{ends_as_capture}
 use Rattle.eth_frames.specs.Ethernet as eth
 use Rattle.fc_frames.specs.Frame as fc
@@ -30,7 +32,7 @@ use Rattle.fip_snoop.specs.Bridge as bridge
 use Rattle.fip_snoop.specs.Messages.{forwarder_of}
 use Rattle.fip_snoop.proofs.LawLemmas.{data_up}
 use Rattle.snoop_run.proofs.TakenLemmas.{taken_are_captures}
-use Rattle.enode_core.specs.Laws.{IsTyped}
+use Rattle.enode_core.specs.Laws.{IsAmong, IsTyped}
 use Rattle.enode_core.specs.declared.node.Phase.TheVariants as phase
 use Rattle.enode_core.proofs.RunLemmas.{runs_are_granted}
 use Rattle.fabric_tool.specs.Command.{SnoopNames, EnodeNames}
@@ -41,8 +43,8 @@ use Rattle.fabric_tool.specs.Snooping.{HasSnooped}
 use Rattle.fabric_tool.proofs.SafeLemmas as safe_lemmas
 use Rattle.pcap_file.specs.Captures.{unless_stopped}
 use Rattle.snoop_run.specs.Crossing.{unless_too_long}
-use Rattle.fabric_box.specs.Box.{Files, IsAt, IsFreeOf, IsGranted, AreDone, AreBridged, BridgedIsGranted}
-use Rattle.worked_commands.specs.Boxed.{own, request, solicitation, flogi, requests, answers, passed, capture_of, inputs, node_run, node_leaves, node_is_up, node_ox_id, passed_is_taken, both_are_taken, bridge_leaves, bridge_counts, J, run, run_leaves}
+use Rattle.fabric_box.specs.Box.{Any, AreCarried, Files, IsAt, IsFreeOf, IsGranted, AreDone, AreBridged, BridgedIsGranted}
+use Rattle.worked_commands.specs.Boxed.{own, at, advertisement, accept, request, solicitation, flogi, requests, answers, passed, capture_of, inputs, node_run, node_leaves, node_is_up, node_ox_id, passed_is_taken, both_are_taken, bridge_leaves, bridge_counts, J, run, run_leaves}
 use Rattle.worked_commands.specs.Running.{value}
 use Rattle.worked_commands.specs.Store.{File, CONFIG, K, K_FILE, names, holding}
 
@@ -249,3 +251,32 @@ bridged = record {
 pub is_granted : BridgedIsGranted → IsGranted K J 1 own 0x010100 1
 unfolding bridged done has_run has_played
 is_granted law = subst (IsGranted K J 1 own 0x010100) node_ox_id (law names sides node 1 2 run_files bridge_files node_files bridged)
+
+-- ---- a wire that holds frames back
+
+-- what passed the bridge, a window later and without the first frame
+abbrev pub late : List Record
+late = at 2100 advertisement ∷ at 2100 accept ∷ []
+
+low : CaptureHead
+low = record { big = false; nano = false }
+
+passed_capture : IsCapture low passed (capture_of passed)
+unfolding low head_decoded pcap.next heard.carried eth.decoded reading.decoded fc.decoded els.decoded fip.written els.written
+passed_capture = record { head = refl; whole = refl; says = refl }
+
+late_capture : IsCapture low late (capture_of late)
+unfolding low head_decoded pcap.next heard.carried eth.decoded reading.decoded fc.decoded els.decoded fip.written els.written
+late_capture = record { head = refl; whole = refl; says = refl }
+
+few : length (capture_of passed) < 2 ^ 32
+unfolding heard.carried eth.decoded reading.decoded fc.decoded els.decoded fip.written els.written
+few = lit< tt
+
+pub carried : AreCarried Any (capture_of passed) (capture_of late)
+carried = record { few = few; sent_head = low; sent_records = passed; sent_ = passed_capture; came_head = low; came_records = late; came_ = late_capture; each = each }
+  where
+    each : (r : Record) → IsAmong r late → Any r.caught → (s : Record) × IsAmong s passed × (s.caught ≡ r.caught)
+    each r (inl is) such = (at 2000 advertisement, inr (inl refl), ap (λ (q : Record). q.caught) (sym is))
+    each r (inr (inl is)) such = (at 2000 accept, inr (inr (inl refl)), ap (λ (q : Record). q.caught) (sym is))
+    each r (inr (inr none)) such = absurd none
