@@ -29,6 +29,7 @@ pub fn a_joined_node_is_granted()
 pub fn a_node_behind_a_bridge_is_granted()
     ensures { BridgedIsGranted }
 {
+    // Law: what was taken of files is all of their captures.
     what_is_taken_are_captures();
     // Law: what comes from an ENode goes to the forwarder's port or nowhere.
     enodes_are_apart();
