@@ -13,7 +13,8 @@ use Rattle.fab_policy.specs.Journal.{Journal}
 use Rattle.fab_policy.specs.Outputs.{Sent}
 use Rattle.fab_policy.specs.Text.{egress}
 use Rattle.fab_gather.specs.Looks.{all_records}
-use Rattle.fip_snoop.specs.Bridge.{Arrival, arrivals, capture}
+use Rattle.fip_snoop.specs.Bridge.{Arrival, arrivals}
+use Rattle.snoop_run.specs.Copies.{capture}
 use Rattle.fip_snoop.specs.Laws.{ENodesAreApart}
 use Rattle.fip_snoop.specs.Messages.{forwarder_of}
 use Rattle.fip_snoop.specs.Ways.{FORWARDER_PORT}
