@@ -1,4 +1,6 @@
 //! Which subject a line is about.
+ghost use Rattle.case_lines.specs.Printing.{Grows};
+
 use crate::frames::{Settings, reply_call, rule_call};
 use crate::messages::message_call;
 use crate::sending::send_call;
@@ -7,13 +9,16 @@ use fab_policy::Format;
 use std::alloc::Global;
 use table_cases::words::{CaseFault, name_at};
 
-/// Appends the answer of a call that needs a configuration at most.
+/// Appends the answer of a call that needs a configuration at most. After a refusal the new
+/// configuration may be there.
 pub fn answer(
     alloc: Global,
     settings: &mut Settings,
     line: &[u8],
     out: &mut Vec<u8>,
-) -> Result<(), CaseFault> {
+) -> Result<(), CaseFault>
+    ensures grows { Grows out.old.items out.new.items }
+{
     match name_at(line, 0) {
         "config" => settings.call(alloc, line, out),
         "rule" => rule_call(alloc, settings.config()?, line, out),
@@ -25,7 +30,9 @@ pub fn answer(
 }
 
 // A call that is asked of nothing.
-fn plain_call(alloc: Global, line: &[u8], out: &mut Vec<u8>) -> Result<(), CaseFault> {
+fn plain_call(alloc: Global, line: &[u8], out: &mut Vec<u8>) -> Result<(), CaseFault>
+    ensures grows { Grows out.old.items out.new.items }
+{
     match name_at(line, 0) {
         "line" => match name_at(line, 1) {
             "1" => line_call(alloc, Format::One, line, out),

@@ -1,5 +1,6 @@
 //! What is read of a frame and sent in answer to it by the configuration alone (FC-BB-5, "FIP VLAN
 //! discovery", "FIP discovery").
+ghost use Rattle.case_lines.specs.Printing.{Grows};
 ghost use Rattle.std.specs.Prelude.{◌<◌};
 
 use case_lines::{put, word_at};
@@ -33,7 +34,9 @@ impl Settings {
         alloc: Global,
         line: &[u8],
         out: &mut Vec<u8>,
-    ) -> Result<(), CaseFault> {
+    ) -> Result<(), CaseFault>
+        ensures grows { Grows out.old.items out.new.items }
+    {
         match name_at(line, 1) {
             "" => self.read(alloc, out),
             "new" => {
@@ -48,7 +51,9 @@ impl Settings {
         }
     }
 
-    fn read(&mut self, alloc: Global, out: &mut Vec<u8>) -> Result<(), CaseFault> {
+    fn read(&mut self, alloc: Global, out: &mut Vec<u8>) -> Result<(), CaseFault>
+        ensures grows { Grows out.old.items out.new.items }
+    {
         self.config = Some(config_of(alloc, &self.text)?);
         end(out, "read")
     }
@@ -86,7 +91,9 @@ pub(crate) fn rule_call(
     config: &Config,
     line: &[u8],
     out: &mut Vec<u8>,
-) -> Result<(), CaseFault> {
+) -> Result<(), CaseFault>
+    ensures grows { Grows out.old.items out.new.items }
+{
     let caught = caught(alloc, line, 1)?;
     match frame_rule(config, &hear(&caught)) {
         Some(cause) => {
@@ -104,7 +111,9 @@ pub(crate) fn reply_call(
     config: &Config,
     line: &[u8],
     out: &mut Vec<u8>,
-) -> Result<(), CaseFault> {
+) -> Result<(), CaseFault>
+    ensures grows { Grows out.old.items out.new.items }
+{
     let mut bytes = Vec::new(alloc);
     bytes.push(7)?;
     replied(alloc, config, line, &mut bytes)?;

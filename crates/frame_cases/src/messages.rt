@@ -1,5 +1,6 @@
 //! Each kind of message that a forwarder sends, byte by byte (FC-BB-5 "FIP messages", FC-LS-2,
 //! FC-GS-6).
+ghost use Rattle.case_lines.specs.Printing.{Grows};
 ghost use Rattle.std.specs.Prelude.{◌≡◌, ◌<◌, IsTrue, [], IfOk, Some};
 ghost use Rattle.fab_messages.specs.Message.{can_send, frame_at};
 
@@ -21,7 +22,9 @@ pub(crate) fn message_call(
     config: &Config,
     line: &[u8],
     out: &mut Vec<u8>,
-) -> Result<(), CaseFault> {
+) -> Result<(), CaseFault>
+    ensures grows { Grows out.old.items out.new.items }
+{
     let kind = name_at(line, 1);
     match kind {
         "ct" => said_ct(alloc, config, line, out),
@@ -133,12 +136,9 @@ fn answer(line: &[u8], place: usize) -> Result<Answer, CaseFault>
 }
 
 // `ct ASKER COUNT last|more PAYLOAD`.
-fn said_ct(
-    alloc: Global,
-    config: &Config,
-    line: &[u8],
-    out: &mut Vec<u8>,
-) -> Result<(), CaseFault> {
+fn said_ct(alloc: Global, config: &Config, line: &[u8], out: &mut Vec<u8>) -> Result<(), CaseFault>
+    ensures grows { Grows out.old.items out.new.items }
+{
     let to = asker(line, 2)?;
     let count = short(line, 6)?;
     let last = name_at(line, 7) == "last";
@@ -162,7 +162,9 @@ fn said_clear(
     config: &Config,
     line: &[u8],
     out: &mut Vec<u8>,
-) -> Result<(), CaseFault> {
+) -> Result<(), CaseFault>
+    ensures grows { Grows out.old.items out.new.items }
+{
     let to = mac(line, 2)?;
     let mut ports = Vec::new(alloc);
     ports_at(line, &mut ports)?;
@@ -194,7 +196,9 @@ fn said_forwarded(
     config: &Config,
     line: &[u8],
     out: &mut Vec<u8>,
-) -> Result<(), CaseFault> {
+) -> Result<(), CaseFault>
+    ensures grows { Grows out.old.items out.new.items }
+{
     let to = address(line, 2)?;
     let caught = caught(alloc, line, 3)?;
     let size = caught.bytes.view().len();
@@ -235,6 +239,7 @@ fn said(
     out: &mut Vec<u8>,
 ) -> Result<(), CaseFault>
     requires { IsTrue (can_send events.now message) }
+    ensures grows { Grows out.old.items out.new.items }
 {
     let sent = Out {
         port: PortNo::at(0),

@@ -1,5 +1,6 @@
 //! What is sent where no roster is needed: replies, pieces of an answer, advertisements, clear link
 //! messages.
+ghost use Rattle.case_lines.specs.Printing.{Grows};
 ghost use Rattle.std.specs.Prelude.{◌≤◌, ◌^◌};
 ghost use Rattle.ct_messages.specs.CanWrite.{CanTell};
 ghost use Rattle.ct_messages.specs.Answer.{size_of};
@@ -28,7 +29,9 @@ pub(crate) fn send_call(
     config: &Config,
     line: &[u8],
     out: &mut Vec<u8>,
-) -> Result<(), CaseFault> {
+) -> Result<(), CaseFault>
+    ensures grows { Grows out.old.items out.new.items }
+{
     match name_at(line, 1) {
         "advertisements" => {
             let ports = small(line, 2)?;
@@ -50,7 +53,9 @@ pub(crate) fn send_call(
 
 // `next ADDRESS PORT-NAME NODE-NAME FABRIC-PORT-NAME SIZE`: an answer to GA_NXT, in frames of a
 // receive size.
-fn pieces(alloc: Global, line: &[u8], out: &mut Vec<u8>) -> Result<(), CaseFault> {
+fn pieces(alloc: Global, line: &[u8], out: &mut Vec<u8>) -> Result<(), CaseFault>
+    ensures grows { Grows out.old.items out.new.items }
+{
     let size = short(line, 6)?;
     if size < 256 || size > 2112 || size % 4 != 0 {
         return Err(CaseFault::Refused);
@@ -97,7 +102,9 @@ fn next_port(
 }
 
 // `clear PORT MAC COUNT AT`: so many N_Ports of an ENode, from 010100 on.
-fn cleared(alloc: Global, line: &[u8], out: &mut Vec<u8>) -> Result<(), CaseFault> {
+fn cleared(alloc: Global, line: &[u8], out: &mut Vec<u8>) -> Result<(), CaseFault>
+    ensures grows { Grows out.old.items out.new.items }
+{
     let enode = enode(line, 2)?;
     let now = moment(line, 5)?;
     let mut ports = Vec::new(alloc);
@@ -121,7 +128,9 @@ fn append_ports(count: u32, ports: &mut Vec<VxPort>) -> Result<(), CaseFault> {
 }
 
 // `reply PORT ENTRY AT VERDICT.. whole FRAME`: what a frame's verdict sends back or on.
-fn replied(alloc: Global, line: &[u8], out: &mut Vec<u8>) -> Result<(), CaseFault> {
+fn replied(alloc: Global, line: &[u8], out: &mut Vec<u8>) -> Result<(), CaseFault>
+    ensures grows { Grows out.old.items out.new.items }
+{
     let caught = caught(alloc, line, 7)?;
     let heard = hear(&caught);
     let outs = made(alloc, line, &heard)?;

@@ -1,4 +1,6 @@
 //! Messages that are sent, in the field's terms.
+ghost use Rattle.case_lines.specs.Printing.{Grows};
+
 use case_lines::put_hex;
 use fab_messages::{Answer, Out, OutList, OutMessage};
 use fab_policy::Asker;
@@ -8,7 +10,9 @@ use table_cases::say::{
 use table_cases::words::CaseFault;
 
 /// Each message, a line each; `nothing` where there is none.
-pub(crate) fn said_outs(outs: &OutList, out: &mut Vec<u8>) -> Result<(), CaseFault> {
+pub(crate) fn said_outs(outs: &OutList, out: &mut Vec<u8>) -> Result<(), CaseFault>
+    ensures grows { Grows out.old.items out.new.items }
+{
     if outs.len() == 0 {
         return end(out, "nothing");
     }
@@ -21,7 +25,9 @@ pub(crate) fn said_outs(outs: &OutList, out: &mut Vec<u8>) -> Result<(), CaseFau
 }
 
 // The port and the moment of a message, and then its kind and its fields.
-fn said_out(sent: &Out, out: &mut Vec<u8>) -> Result<(), CaseFault> {
+fn said_out(sent: &Out, out: &mut Vec<u8>) -> Result<(), CaseFault>
+    ensures grows { Grows out.old.items out.new.items }
+{
     say_when(out, sent.port, sent.moment)?;
     match &sent.message {
         OutMessage::Vlans { to, untagged } => {
@@ -45,7 +51,9 @@ fn said_out(sent: &Out, out: &mut Vec<u8>) -> Result<(), CaseFault> {
 }
 
 // A message in a frame of Fibre Channel.
-fn said_in_frame(message: &OutMessage, out: &mut Vec<u8>) -> Result<(), CaseFault> {
+fn said_in_frame(message: &OutMessage, out: &mut Vec<u8>) -> Result<(), CaseFault>
+    ensures grows { Grows out.old.items out.new.items }
+{
     match message {
         OutMessage::LoginAccept { to, address, .. } => {
             say(out, "login-accept")?;
@@ -83,14 +91,18 @@ fn said_in_frame(message: &OutMessage, out: &mut Vec<u8>) -> Result<(), CaseFaul
     }
 }
 
-fn said_reply(out: &mut Vec<u8>, kind: &str, to: &Asker, answer: &Answer) -> Result<(), CaseFault> {
+fn said_reply(out: &mut Vec<u8>, kind: &str, to: &Asker, answer: &Answer) -> Result<(), CaseFault>
+    ensures grows { Grows out.old.items out.new.items }
+{
     say(out, kind)?;
     say_asker(out, to)?;
     end_answer(out, answer)
 }
 
 // The MAC, D_ID, S_ID and OX_ID of a reply.
-fn say_asker(out: &mut Vec<u8>, to: &Asker) -> Result<(), CaseFault> {
+fn say_asker(out: &mut Vec<u8>, to: &Asker) -> Result<(), CaseFault>
+    ensures grows { Grows out.old.items out.new.items }
+{
     say_mac(out, &to.mac)?;
     say_address(out, to.d_id)?;
     say_address(out, to.s_id)?;
@@ -98,7 +110,9 @@ fn say_asker(out: &mut Vec<u8>, to: &Asker) -> Result<(), CaseFault> {
     say(out, "")
 }
 
-fn end_answer(out: &mut Vec<u8>, answer: &Answer) -> Result<(), CaseFault> {
+fn end_answer(out: &mut Vec<u8>, answer: &Answer) -> Result<(), CaseFault>
+    ensures grows { Grows out.old.items out.new.items }
+{
     match answer {
         Answer::Accept => end(out, "accept"),
         Answer::ServerLogin => end(out, "server-login"),

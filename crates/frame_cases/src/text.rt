@@ -1,4 +1,5 @@
 //! Lines of journals, read and written.
+ghost use Rattle.case_lines.specs.Printing.{Grows};
 ghost use Rattle.std.specs.Prelude.{ℕ};
 ghost use Rattle.fab_policy.specs.Spelling.{IsRangedLine, IsClockOf, EndsAscend};
 ghost use Rattle.fab_policy.specs.declared.line.Format.TheVariants.{One};
@@ -19,7 +20,9 @@ pub(crate) fn line_call(
     format: Format,
     line: &[u8],
     out: &mut Vec<u8>,
-) -> Result<(), CaseFault> {
+) -> Result<(), CaseFault>
+    ensures grows { Grows out.old.items out.new.items }
+{
     let mut text = Vec::new(alloc);
     quoted(line, &mut text)?;
     match read_line(alloc, format, &text) {
@@ -29,7 +32,9 @@ pub(crate) fn line_call(
 }
 
 /// `entry CLOCK "TEXT"`: a line of the first format as it is written in both.
-pub(crate) fn entry_call(alloc: Global, line: &[u8], out: &mut Vec<u8>) -> Result<(), CaseFault> {
+pub(crate) fn entry_call(alloc: Global, line: &[u8], out: &mut Vec<u8>) -> Result<(), CaseFault>
+    ensures grows { Grows out.old.items out.new.items }
+{
     let mut text = Vec::new(alloc);
     quoted(line, &mut text)?;
     let clock = moment(line, 1)?;
@@ -40,7 +45,9 @@ pub(crate) fn entry_call(alloc: Global, line: &[u8], out: &mut Vec<u8>) -> Resul
 }
 
 /// `head`: the first line of a journal in the second format.
-pub(crate) fn head_call(alloc: Global, out: &mut Vec<u8>) -> Result<(), CaseFault> {
+pub(crate) fn head_call(alloc: Global, out: &mut Vec<u8>) -> Result<(), CaseFault>
+    ensures grows { Grows out.old.items out.new.items }
+{
     write_head_line(alloc, out)?;
     Ok(())
 }
@@ -66,7 +73,9 @@ fn quoted(line: &[u8], text: &mut Vec<u8>) -> Result<(), CaseFault> {
 }
 
 // A line that was read.
-fn said(alloc: Global, line: &Line, out: &mut Vec<u8>) -> Result<(), CaseFault> {
+fn said(alloc: Global, line: &Line, out: &mut Vec<u8>) -> Result<(), CaseFault>
+    ensures grows { Grows out.old.items out.new.items }
+{
     match line {
         Line::Tick { moment, ended } => write_tick_line(alloc, *moment, ended, out)?,
         Line::Frame {
@@ -84,14 +93,18 @@ fn said(alloc: Global, line: &Line, out: &mut Vec<u8>) -> Result<(), CaseFault> 
 }
 
 // The verdict itself, beside its words.
-fn said_verdict(alloc: Global, verdict: &Verdict, out: &mut Vec<u8>) -> Result<(), CaseFault> {
+fn said_verdict(alloc: Global, verdict: &Verdict, out: &mut Vec<u8>) -> Result<(), CaseFault>
+    ensures grows { Grows out.old.items out.new.items }
+{
     let text = format!(in alloc; "{verdict:?}")?;
     put_line(out, text.as_bytes())?;
     Ok(())
 }
 
 // The clock of a frame's line, where it stands there.
-fn said_clock(out: &mut Vec<u8>, clock: Option<Moment>) -> Result<(), CaseFault> {
+fn said_clock(out: &mut Vec<u8>, clock: Option<Moment>) -> Result<(), CaseFault>
+    ensures grows { Grows out.old.items out.new.items }
+{
     match clock {
         Some(clock) => {
             put(out, b"at ")?;
@@ -101,7 +114,9 @@ fn said_clock(out: &mut Vec<u8>, clock: Option<Moment>) -> Result<(), CaseFault>
     }
 }
 
-fn said_fault(alloc: Global, fault: LineError, out: &mut Vec<u8>) -> Result<(), CaseFault> {
+fn said_fault(alloc: Global, fault: LineError, out: &mut Vec<u8>) -> Result<(), CaseFault>
+    ensures grows { Grows out.old.items out.new.items }
+{
     match fault {
         LineError::Fault => {
             let text = format!(in alloc; "{fault}")?;
@@ -115,6 +130,7 @@ fn said_fault(alloc: Global, fault: LineError, out: &mut Vec<u8>) -> Result<(), 
 // An entry of a line in both formats.
 fn clocked(alloc: Global, clock: Moment, line: Line, out: &mut Vec<u8>) -> Result<(), CaseFault>
     requires { IsRangedLine One line }
+    ensures grows { Grows out.old.items out.new.items }
 {
     match line {
         Line::Tick { moment, ended } => {
@@ -133,6 +149,7 @@ fn clocked(alloc: Global, clock: Moment, line: Line, out: &mut Vec<u8>) -> Resul
 fn in_both(alloc: Global, clock: Moment, event: &Event, out: &mut Vec<u8>) -> Result<(), CaseFault>
     requires clock { IsClockOf clock event.now }
     requires ascending { EndsAscend event.now }
+    ensures grows { Grows out.old.items out.new.items }
 {
     write_line1(alloc, event, out)?;
     write_line(alloc, clock, event, out)?;

@@ -1,4 +1,6 @@
 //! What is open, and which table a line is about.
+ghost use Rattle.case_lines.specs.Printing.{Grows};
+
 use crate::logins::{Logins, login_call};
 use crate::pool::pool_call;
 use crate::registry::{codes_call, registry_call};
@@ -34,13 +36,15 @@ impl Tables {
     }
 }
 
-/// Appends the answer of a call of a table.
+/// Appends the answer of a call of a table. After a refusal that table may have taken the call.
 pub fn answer(
     alloc: Global,
     tables: &mut Tables,
     line: &[u8],
     out: &mut Vec<u8>,
-) -> Result<(), CaseFault> {
+) -> Result<(), CaseFault>
+    ensures grows { Grows out.old.items out.new.items }
+{
     match name_at(line, 0) {
         "pool" => pool_call(alloc, &mut tables.pool, line, out),
         "logins" => login_call(alloc, &mut tables.logins, line, out),

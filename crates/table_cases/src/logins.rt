@@ -1,4 +1,5 @@
 //! The table of logins (FC-LS-2, "FLOGI" and "FDISC").
+ghost use Rattle.case_lines.specs.Printing.{Grows};
 ghost use Rattle.std.specs.Prelude.{◌≡◌};
 
 use crate::held::{open, open_in};
@@ -22,7 +23,9 @@ pub(crate) fn login_call(
     held: &mut Option<Logins>,
     line: &[u8],
     out: &mut Vec<u8>,
-) -> Result<(), CaseFault> {
+) -> Result<(), CaseFault>
+    ensures grows { Grows out.old.items out.new.items }
+{
     if name_at(line, 1) == "open" {
         return open(held, opened(alloc, small(line, 2)?)?, out);
     }
@@ -35,7 +38,9 @@ fn opened(alloc: Global, limit: u32) -> Result<Logins, NoMemory> {
 }
 
 impl Logins {
-    fn asked(&mut self, line: &[u8], out: &mut Vec<u8>) -> Result<(), CaseFault> {
+    fn asked(&mut self, line: &[u8], out: &mut Vec<u8>) -> Result<(), CaseFault>
+        ensures grows { Grows out.old.items out.new.items }
+    {
         match name_at(line, 1) {
             "add" => self.add(line, out),
             "server" => self.set_server(line, out),
@@ -44,7 +49,9 @@ impl Logins {
         }
     }
 
-    fn found(&self, line: &[u8], out: &mut Vec<u8>) -> Result<(), CaseFault> {
+    fn found(&self, line: &[u8], out: &mut Vec<u8>) -> Result<(), CaseFault>
+        ensures grows { Grows out.old.items out.new.items }
+    {
         match name_at(line, 1) {
             "at" => said(out, self.table.by_address(address(line, 2)?)),
             "named" => said(out, self.table.by_name(name(line, 2)?)),
@@ -59,7 +66,9 @@ impl Logins {
     }
 
     // `add ADDRESS NAME NODE PORT MAC`.
-    fn add(&mut self, line: &[u8], out: &mut Vec<u8>) -> Result<(), CaseFault> {
+    fn add(&mut self, line: &[u8], out: &mut Vec<u8>) -> Result<(), CaseFault>
+        ensures grows { Grows out.old.items out.new.items }
+    {
         let login = login_of(line)?;
         if self.table.len() >= self.limit
             || self.table.by_address(login.address).is_some()
@@ -72,7 +81,9 @@ impl Logins {
     }
 
     // `server ADDRESS SIZE`, or - for no size.
-    fn set_server(&mut self, line: &[u8], out: &mut Vec<u8>) -> Result<(), CaseFault> {
+    fn set_server(&mut self, line: &[u8], out: &mut Vec<u8>) -> Result<(), CaseFault>
+        ensures grows { Grows out.old.items out.new.items }
+    {
         let size = match name_at(line, 3) {
             "-" => None,
             _ => Some(short(line, 3)?),
@@ -93,7 +104,9 @@ pub fn login_of(line: &[u8]) -> Result<Login, CaseFault> {
 }
 
 /// A login, or `none`.
-pub fn said(out: &mut Vec<u8>, login: Option<&Login>) -> Result<(), CaseFault> {
+pub fn said(out: &mut Vec<u8>, login: Option<&Login>) -> Result<(), CaseFault>
+    ensures grows { Grows out.old.items out.new.items }
+{
     let Some(login) = login else {
         return end(out, "none");
     };

@@ -1,4 +1,5 @@
 //! The pool of N_Port_IDs (FC-LS-2, "FLOGI"), without a login around it.
+ghost use Rattle.case_lines.specs.Printing.{Grows};
 ghost use Rattle.std.specs.Prelude.{◌≡◌, ◌+◌, ◌<◌};
 
 use crate::held::{open, open_in};
@@ -14,7 +15,9 @@ pub(crate) fn pool_call(
     held: &mut Option<Pool>,
     line: &[u8],
     out: &mut Vec<u8>,
-) -> Result<(), CaseFault> {
+) -> Result<(), CaseFault>
+    ensures grows { Grows out.old.items out.new.items }
+{
     match name_at(line, 1) {
         "open" => open(held, opened(alloc, line)?, out),
         "quarantine" => quarantine(alloc, line, out),
@@ -33,7 +36,9 @@ fn opened(alloc: Global, line: &[u8]) -> Result<Pool, CaseFault> {
 }
 
 // `find NAME AT`, `free ADDRESS NAME AT`, `take ADDRESS NAME AT`.
-fn asked(pool: &mut Pool, line: &[u8], out: &mut Vec<u8>) -> Result<(), CaseFault> {
+fn asked(pool: &mut Pool, line: &[u8], out: &mut Vec<u8>) -> Result<(), CaseFault>
+    ensures grows { Grows out.old.items out.new.items }
+{
     match name_at(line, 1) {
         "find" => end_address(out, pool.find(name(line, 2)?, moment(line, 3)?)),
         "free" => end_bool(
@@ -57,7 +62,9 @@ fn take(
     name: Wwn,
     now: Moment,
     out: &mut Vec<u8>,
-) -> Result<(), CaseFault> {
+) -> Result<(), CaseFault>
+    ensures grows { Grows out.old.items out.new.items }
+{
     if !pool.is_free(address, name, now) {
         return Err(CaseFault::Refused);
     }
@@ -67,14 +74,18 @@ fn take(
 
 // `quarantine ADDRESS NAME TAKEN ENDED`, and then pairs of a name and a moment: the address that
 // each finds in a pool of this one address, whose login was from one moment to the other.
-fn quarantine(alloc: Global, line: &[u8], out: &mut Vec<u8>) -> Result<(), CaseFault> {
+fn quarantine(alloc: Global, line: &[u8], out: &mut Vec<u8>) -> Result<(), CaseFault>
+    ensures grows { Grows out.old.items out.new.items }
+{
     let first = address(line, 2)?;
     let holder = name(line, 3)?;
     let pool = released(alloc, first, holder, moment(line, 4)?, moment(line, 5)?)?;
     said_finds(&pool, line, out)
 }
 
-fn said_finds(pool: &Pool, line: &[u8], out: &mut Vec<u8>) -> Result<(), CaseFault> {
+fn said_finds(pool: &Pool, line: &[u8], out: &mut Vec<u8>) -> Result<(), CaseFault>
+    ensures grows { Grows out.old.items out.new.items }
+{
     for index in 3..20 {
         let place = 2 * index;
         if !has_word(line, place) {

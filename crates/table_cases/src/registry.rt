@@ -1,4 +1,5 @@
 //! What N_Ports registered, and what queries of it are answered (FC-GS-6, name server).
+ghost use Rattle.case_lines.specs.Printing.{Grows};
 ghost use Rattle.std.specs.Prelude.{◌≡◌, ◌<◌, ◌≢◌, IfOk, IsSome, false};
 ghost use Rattle.ct_messages.specs.Ask.{view};
 ghost use Rattle.ct_messages.specs.CanWrite.{CanTell};
@@ -20,7 +21,9 @@ pub(crate) fn registry_call(
     held: &mut Option<Registry>,
     line: &[u8],
     out: &mut Vec<u8>,
-) -> Result<(), CaseFault> {
+) -> Result<(), CaseFault>
+    ensures grows { Grows out.old.items out.new.items }
+{
     if name_at(line, 1) == "open" {
         let first = address(line, 2)?;
         let second = address(line, 4)?;
@@ -54,7 +57,9 @@ fn asked(
     registry: &mut Registry,
     line: &[u8],
     out: &mut Vec<u8>,
-) -> Result<(), CaseFault> {
+) -> Result<(), CaseFault>
+    ensures grows { Grows out.old.items out.new.items }
+{
     match name_at(line, 1) {
         "forget" => end_bool(out, registry.forget(address(line, 2)?)),
         "types" => said_types(out, registry.types(address(line, 2)?)),
@@ -77,7 +82,9 @@ fn register(
     asker: FcId,
     payload: &[u8],
     out: &mut Vec<u8>,
-) -> Result<(), CaseFault> {
+) -> Result<(), CaseFault>
+    ensures grows { Grows out.old.items out.new.items }
+{
     let Ok(ask) = read_ask(payload) else {
         return Err(CaseFault::Words);
     };
@@ -110,7 +117,9 @@ fn query(
     line: &[u8],
     payload: &[u8],
     out: &mut Vec<u8>,
-) -> Result<(), CaseFault> {
+) -> Result<(), CaseFault>
+    ensures grows { Grows out.old.items out.new.items }
+{
     let Ok(ask) = read_ask(payload) else {
         return Err(CaseFault::Words);
     };
@@ -180,6 +189,7 @@ fn answer(
 /// The bytes of an answer.
 pub fn end_answer(alloc: Global, tell: &CtTell, out: &mut Vec<u8>) -> Result<(), CaseFault>
     requires { CanTell tell.now }
+    ensures grows { Grows out.old.items out.new.items }
 {
     let mut bytes = Vec::new(alloc);
     write_tell(alloc, tell, &mut bytes)?;
@@ -187,7 +197,9 @@ pub fn end_answer(alloc: Global, tell: &CtTell, out: &mut Vec<u8>) -> Result<(),
 }
 
 /// `allowed`, or the codes with which a registration is refused.
-pub fn said_refusal(out: &mut Vec<u8>, refusal: Option<RegFault>) -> Result<(), CaseFault> {
+pub fn said_refusal(out: &mut Vec<u8>, refusal: Option<RegFault>) -> Result<(), CaseFault>
+    ensures grows { Grows out.old.items out.new.items }
+{
     match refusal {
         Some(
             RegFault::Refused {
@@ -204,12 +216,16 @@ pub fn said_refusal(out: &mut Vec<u8>, refusal: Option<RegFault>) -> Result<(), 
 }
 
 // Whether watchers are notified of a registration.
-fn said_notice(out: &mut Vec<u8>, noticed: bool) -> Result<(), CaseFault> {
+fn said_notice(out: &mut Vec<u8>, noticed: bool) -> Result<(), CaseFault>
+    ensures grows { Grows out.old.items out.new.items }
+{
     say(out, if noticed { "noticed" } else { "quiet" })
 }
 
 // The registered types, word by word.
-fn said_types(out: &mut Vec<u8>, types: Option<TypeMap>) -> Result<(), CaseFault> {
+fn said_types(out: &mut Vec<u8>, types: Option<TypeMap>) -> Result<(), CaseFault>
+    ensures grows { Grows out.old.items out.new.items }
+{
     match types {
         Some(types) => {
             for index in 0..8 {
@@ -222,7 +238,9 @@ fn said_types(out: &mut Vec<u8>, types: Option<TypeMap>) -> Result<(), CaseFault
 }
 
 /// `codes REASON EXPLANATION`: how a refused registration is rejected.
-pub(crate) fn codes_call(alloc: Global, line: &[u8], out: &mut Vec<u8>) -> Result<(), CaseFault> {
+pub(crate) fn codes_call(alloc: Global, line: &[u8], out: &mut Vec<u8>) -> Result<(), CaseFault>
+    ensures grows { Grows out.old.items out.new.items }
+{
     let fault = RegFault::Refused {
         reason: code(line, 1)?,
         explanation: code(line, 2)?,

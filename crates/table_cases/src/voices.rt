@@ -1,4 +1,5 @@
 //! Who was heard when, and who is silent too long (FC-BB-5, "FIP keep alive").
+ghost use Rattle.case_lines.specs.Printing.{Grows};
 ghost use Rattle.std.specs.Prelude.{◌≡◌, ◌<◌, ◌≤◌, length};
 
 use crate::held::{open, open_in};
@@ -26,7 +27,9 @@ pub(crate) fn voice_call(
     held: &mut Option<Voices>,
     line: &[u8],
     out: &mut Vec<u8>,
-) -> Result<(), CaseFault> {
+) -> Result<(), CaseFault>
+    ensures grows { Grows out.old.items out.new.items }
+{
     if name_at(line, 1) == "open" {
         let voices = opened(alloc, small(line, 2)?, small(line, 3)?, small(line, 4)?)?;
         return open(held, voices, out);
@@ -41,7 +44,9 @@ fn opened(alloc: Global, nodes: u32, ports: u32, room: u32) -> Result<Voices, No
 }
 
 impl Voices {
-    fn asked(&mut self, line: &[u8], out: &mut Vec<u8>) -> Result<(), CaseFault> {
+    fn asked(&mut self, line: &[u8], out: &mut Vec<u8>) -> Result<(), CaseFault>
+        ensures grows { Grows out.old.items out.new.items }
+    {
         match name_at(line, 1) {
             "heard" => {
                 self.heard(voice(line, 3)?, moment(line, 2)?)?;
@@ -103,14 +108,18 @@ fn voice(line: &[u8], place: usize) -> Result<Voice, CaseFault>
     }
 }
 
-fn said(out: &mut Vec<u8>, voice: Option<Voice>) -> Result<(), CaseFault> {
+fn said(out: &mut Vec<u8>, voice: Option<Voice>) -> Result<(), CaseFault>
+    ensures grows { Grows out.old.items out.new.items }
+{
     match voice {
         Some(voice) => said_voice(out, &voice),
         None => end(out, "none"),
     }
 }
 
-fn said_voice(out: &mut Vec<u8>, voice: &Voice) -> Result<(), CaseFault> {
+fn said_voice(out: &mut Vec<u8>, voice: &Voice) -> Result<(), CaseFault>
+    ensures grows { Grows out.old.items out.new.items }
+{
     match voice {
         Voice::Node(enode) => {
             say(out, "node")?;

@@ -1,4 +1,5 @@
 //! Zones (FC-SW, "zone set"), and whom a state change reaches (FC-LS-2, "SCR" and "RSCN").
+ghost use Rattle.case_lines.specs.Printing.{Grows};
 ghost use Rattle.std.specs.Prelude.{◌≡◌, ◌≤◌, length, IsTrue};
 ghost use Rattle.state_change.specs.Watchers as spec;
 
@@ -47,7 +48,9 @@ pub(crate) fn zone_call(
     held: &mut Option<Zoning>,
     line: &[u8],
     out: &mut Vec<u8>,
-) -> Result<(), CaseFault> {
+) -> Result<(), CaseFault>
+    ensures grows { Grows out.old.items out.new.items }
+{
     if name_at(line, 1) == "open" {
         return open(held, opened(alloc)?, out);
     }
@@ -71,7 +74,9 @@ impl Drawn {
 }
 
 impl Zoning {
-    fn asked(&mut self, alloc: Global, line: &[u8], out: &mut Vec<u8>) -> Result<(), CaseFault> {
+    fn asked(&mut self, alloc: Global, line: &[u8], out: &mut Vec<u8>) -> Result<(), CaseFault>
+        ensures grows { Grows out.old.items out.new.items }
+    {
         match name_at(line, 1) {
             "zone" => self.drawn.zones.push(alloc, zone(alloc, line)?)?,
             "set" => self.drawn.sets.push(alloc, set(alloc, line)?)?,
@@ -83,7 +88,9 @@ impl Zoning {
     }
 
     // `joined AT NAME NAME`, `next AFTER`.
-    fn found(&self, line: &[u8], out: &mut Vec<u8>) -> Result<(), CaseFault> {
+    fn found(&self, line: &[u8], out: &mut Vec<u8>) -> Result<(), CaseFault>
+        ensures grows { Grows out.old.items out.new.items }
+    {
         match name_at(line, 1) {
             "joined" => end_bool(
                 out,
@@ -151,7 +158,9 @@ pub(crate) fn watcher_call(
     zoning: &Option<Zoning>,
     line: &[u8],
     out: &mut Vec<u8>,
-) -> Result<(), CaseFault> {
+) -> Result<(), CaseFault>
+    ensures grows { Grows out.old.items out.new.items }
+{
     if name_at(line, 1) == "open" {
         return open(held, watchers_opened(alloc, small(line, 2)?)?, out);
     }
@@ -174,7 +183,9 @@ impl Watched {
         zoning: &Option<Zoning>,
         line: &[u8],
         out: &mut Vec<u8>,
-    ) -> Result<(), CaseFault> {
+    ) -> Result<(), CaseFault>
+        ensures grows { Grows out.old.items out.new.items }
+    {
         match name_at(line, 1) {
             "set" => {
                 self.set(address(line, 2)?, name(line, 3)?, octet(line, 4)?)?;
@@ -211,7 +222,9 @@ fn end_recipient(
     zones: &Zones,
     line: &[u8],
     out: &mut Vec<u8>,
-) -> Result<(), CaseFault> {
+) -> Result<(), CaseFault>
+    ensures grows { Grows out.old.items out.new.items }
+{
     match name_at(line, 1) {
         "told" => end_address(
             out,
