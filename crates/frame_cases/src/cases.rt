@@ -1,4 +1,5 @@
 //! Which subject a line is about.
+ghost use Rattle.std.specs.Prelude.{◌≡◌, ◌⊎◌};
 ghost use Rattle.case_lines.specs.Printing.{Grows};
 
 use crate::frames::{Settings, reply_call, rule_call};
@@ -9,8 +10,8 @@ use fab_policy::Format;
 use std::alloc::Global;
 use table_cases::words::{CaseFault, name_at};
 
-/// Appends the answer of a call that needs a configuration at most. After a refusal the new
-/// configuration may be there.
+/// Appends the answer of a call that needs a configuration at most. The text of the
+/// configuration changes or what was read of it, never both, refused or not.
 pub fn answer(
     alloc: Global,
     settings: &mut Settings,
@@ -18,6 +19,8 @@ pub fn answer(
     out: &mut Vec<u8>,
 ) -> Result<(), CaseFault>
     ensures grows { Grows out.old.items out.new.items }
+    ensures one { (settings.new.text ≡ settings.old.text)
+        ⊎ (settings.new.config ≡ settings.old.config) }
 {
     match name_at(line, 0) {
         "config" => settings.call(alloc, line, out),

@@ -1,7 +1,7 @@
 //! What is read of a frame and sent in answer to it by the configuration alone (FC-BB-5, "FIP VLAN
 //! discovery", "FIP discovery").
 ghost use Rattle.case_lines.specs.Printing.{Grows};
-ghost use Rattle.std.specs.Prelude.{◌<◌};
+ghost use Rattle.std.specs.Prelude.{◌≡◌, ◌<◌, ◌⊎◌};
 
 use case_lines::{put, word_at};
 use fab_base::{Bytes, Caught, PortNo};
@@ -36,6 +36,7 @@ impl Settings {
         out: &mut Vec<u8>,
     ) -> Result<(), CaseFault>
         ensures grows { Grows out.old.items out.new.items }
+        ensures one { (self.new.text ≡ self.old.text) ⊎ (self.new.config ≡ self.old.config) }
     {
         match name_at(line, 1) {
             "" => self.read(alloc, out),
@@ -53,6 +54,7 @@ impl Settings {
 
     fn read(&mut self, alloc: Global, out: &mut Vec<u8>) -> Result<(), CaseFault>
         ensures grows { Grows out.old.items out.new.items }
+        ensures text { self.new.text ≡ self.old.text }
     {
         self.config = Some(config_of(alloc, &self.text)?);
         end(out, "read")

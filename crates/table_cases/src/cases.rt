@@ -1,5 +1,6 @@
 //! What is open, and which table a line is about.
 ghost use Rattle.case_lines.specs.Printing.{Grows};
+ghost use Rattle.table_cases.specs.Tables.{ChangesOne};
 
 use crate::logins::{Logins, login_call};
 use crate::pool::pool_call;
@@ -36,7 +37,8 @@ impl Tables {
     }
 }
 
-/// Appends the answer of a call of a table. After a refusal that table may have taken the call.
+/// Appends the answer of a call of a table. After a refusal that table may have taken the call, and
+/// no other.
 pub fn answer(
     alloc: Global,
     tables: &mut Tables,
@@ -44,6 +46,7 @@ pub fn answer(
     out: &mut Vec<u8>,
 ) -> Result<(), CaseFault>
     ensures grows { Grows out.old.items out.new.items }
+    ensures others { ChangesOne tables.old tables.new }
 {
     match name_at(line, 0) {
         "pool" => pool_call(alloc, &mut tables.pool, line, out),
