@@ -6,7 +6,7 @@ use Rattle.ct_messages.specs.declared.CtTell.TheVariants as tell
 use Rattle.fab_policy.specs.Replies.{Asker}
 use Rattle.fab_policy.specs.Verdicts as policy
 use Rattle.fab_policy.specs.declared.verdict.Verdict.TheVariants.{Answered}
-use Rattle.fab_judge.specs.Judged.{judgement_of}
+use Rattle.fab_judge.specs.Judged.{HasKind, judgement_of}
 use Rattle.fab_judge.specs.Told.{told_as, unless_refusal}
 
 module _ (to : Asker) (size : ℕ) where
@@ -27,3 +27,15 @@ module _ (to : Asker) (size : ℕ) where
       judgement_of (told_as to size (refused_or o t)) ≡ unless_refusal o (policy.Must Answered)
   told None t h = told_no_reject t h
   told (Some why) t h = refl
+
+  -- it is one of a body of FCoE
+  pub told_kind : (t : CtTell) → HasKind None (told_as to size t)
+  told_kind tell.Done = tt
+  told_kind (tell.Port a) = tt
+  told_kind (tell.Name a) = tt
+  told_kind (tell.Types a) = tt
+  told_kind (tell.Features a) = tt
+  told_kind (tell.Addresses a) = tt
+  told_kind (tell.Names a) = tt
+  told_kind (tell.Next a) = tt
+  told_kind (tell.Reject reason explanation) = tt

@@ -1,7 +1,10 @@
 -- The judgement of a frame: the rows on the frame itself, and then those of its message.
-use Rattle.std.proofs.Common.{◌≡◌, ℕ, Bool, true, false, List, [], ◌∷◌, ◌++◌, Option, Some, None, Result, Ok, Err, refl, ap, ◌∙◌}
+use Rattle.std.proofs.Common.{◌≡◌, ℕ, Bool, true, false, List, [], ◌∷◌, ◌++◌, Option, Some, None, Result, Ok, Err, refl, ap, sym, ◌∙◌}
 use Rattle.fab_base.specs.declared.values.Caught.{Caught}
+use Rattle.fab_base.specs.declared.values.Enode.{Enode}
 use Rattle.fab_config.specs.Settings.{Settings}
+use Rattle.fc_frames.specs.Frame as fc
+use Rattle.fip_codec.specs.declared.message.LoginKind.{LoginKind}
 use Rattle.eth_frames.specs.Ethernet as eth
 use Rattle.fcoe_codec.specs.Fcoe as capsule
 use Rattle.fcoe_codec.specs.declared.FcoeFault.{FcoeFault}
@@ -14,7 +17,11 @@ use Rattle.fab_policy.specs.Verdicts.{Judgement, Must, judged, message_judged, f
 use Rattle.fab_policy.specs.declared.verdict.Verdict.TheVariants.{Dropped}
 use Rattle.fab_policy.specs.declared.verdict.Rule.TheVariants as rule
 use Rattle.fab_policy.specs.Carried.{BodiesAreCarried}
+use Rattle.fab_policy.specs.declared.classes.Settled.TheVariants.{Vlans, Advertised, AliveNode, Forwarded}
+use Rattle.fab_judge.specs.Judged.{HasKind, HasValues, Rests}
 use Rattle.fab_judge.specs.Rows.{unless_dropped, body_judged, IsCarried}
+use Rattle.fab_judge.specs.declared.judging.Judged.{Judged}
+use Rattle.fab_judge.specs.declared.judging.Judged.TheVariants.{Must as Settles}
 
 -- rows behind others count where none of those holds
 first : (rows more : List (Bool × Cause)) (cause : Cause) → first_row rows ≡ Some cause → first_row (rows ++ more) ≡ Some cause
@@ -65,3 +72,22 @@ module _ (c : Settings) (T : Tables) (port : ℕ) (caught : Caught) where
 pub carried_by : BodiesAreCarried → (caught : Caught) (f : eth.Eth) (read : Result capsule.Fcoe FcoeFault) → decoded caught ≡ Fcoe f read → IsCarried read (carried caught)
 carried_by law caught f (Ok x) d = (law caught f x d).0
 carried_by law caught f (Err fault) d = tt
+
+-- the values of a judgement of a body
+pub body_values : BodiesAreCarried → (c : Settings) (T : Tables) (x : Enode) (flogi : Bool) (port : ℕ) (caught : Caught) (g : eth.Eth) (b : capsule.Fcoe) → decoded caught ≡ Fcoe g (Ok b) →
+    (j : Judged) → Rests c T x flogi b.frame j → HasKind None j → HasValues port caught j
+body_values law c T x flogi port caught g b d (Settles (Forwarded q to)) rests kind = ((g, b, d), rests.3 ∙ ap (λ (f : fc.Frame). f.head.d_id) (sym (law caught g b d).0))
+body_values law c T x flogi port caught g b d (Settles (Vlans to untagged)) rests kind = absurd kind
+body_values law c T x flogi port caught g b d (Settles (Advertised to size)) rests kind = absurd kind
+body_values law c T x flogi port caught g b d (Settles (AliveNode y)) rests kind = absurd kind
+body_values law c T x flogi port caught g b d (Settles _) rests kind = tt
+body_values law c T x flogi port caught g b d _ rests kind = tt
+
+-- the values of a judgement of a login
+pub login_values : (port : ℕ) (caught : Caught) (kind : LoginKind) (j : Judged) → HasKind (Some kind) j → HasValues port caught j
+login_values port caught kind (Settles (Forwarded q to)) h = cc
+login_values port caught kind (Settles (Vlans to untagged)) h = absurd h
+login_values port caught kind (Settles (Advertised to size)) h = absurd h
+login_values port caught kind (Settles (AliveNode y)) h = absurd h
+login_values port caught kind (Settles _) h = tt
+login_values port caught kind _ h = tt

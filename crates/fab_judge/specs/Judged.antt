@@ -1,10 +1,11 @@
 -- What the tables say of a frame, and what of it a step can rely on.
-use Rattle.std.specs.Prelude.{◌≡◌, ℕ, ◌<◌, ◌&&◌, Bool, true, false, ◌==◌, length, List, map, filter, Some, None, Ok, Err, IsSome, IsTrue}
+use Rattle.std.specs.Prelude.{◌≡◌, ℕ, ◌<◌, ◌&&◌, Bool, true, false, ◌==◌, length, List, map, filter, Option, Some, None, Ok, Err, IsSome, IsTrue}
 use Rattle.std.specs.List.{list_any}
 use Rattle.fab_base.specs.Fabric.{same_enode}
 use Rattle.fab_base.specs.declared.values.Caught.{Caught}
 use Rattle.fab_base.specs.declared.values.Enode.{Enode}
 use Rattle.fab_config.specs.Settings.{Settings}
+use Rattle.fip_codec.specs.declared.message.LoginKind.{LoginKind}
 use Rattle.fc_frames.specs.Frame as fc
 use Rattle.fc_frames.specs.declared.FcHeader.{FcHeader}
 use Rattle.els_messages.specs.Els as els
@@ -13,7 +14,7 @@ use Rattle.ct_messages.specs.CanWrite.{CanTell, CanWrite, HasByte}
 use Rattle.ct_messages.specs.Server.{is_registration, registration_refusal}
 use Rattle.ct_messages.specs.declared.CtTell.{CtTell}
 use Rattle.state_change.specs.Watchers.{is_function}
-use Rattle.fab_policy.specs.Classes.{of_replied, of_settled}
+use Rattle.fab_policy.specs.Classes.{IsSettledFor, of_replied, of_settled}
 use Rattle.fab_policy.specs.Free.{Request, is_free}
 use Rattle.fab_policy.specs.Heard.{sender, is_flogi, carried}
 use Rattle.fab_policy.specs.Queries.{query}
@@ -54,22 +55,22 @@ HasSource T f = IsSome (port_at f.head.s_id T.ports)
 abbrev pub ask_in : fc.Frame → ct.Ask
 ask_in f = elim (ct.decoded f.payload) [ Ok ask ↦ ask | Err fault ↦ ct.Unknown 0 ]
 
--- The D_ID of the frame has a login on this port.
-abbrev pub GoesTo : Tables → fc.Frame → ℕ → Type 0
-GoesTo T f port = (q : LivePort) × (port_at f.head.d_id T.ports ≡ Some q) × (port ≡ q.enode.port)
+-- The frame goes on to its D_ID, which has a login on this port.
+abbrev pub GoesTo : Tables → fc.Frame → ℕ → ℕ → Type 0
+GoesTo T f port to = (q : LivePort) × (port_at f.head.d_id T.ports ≡ Some q) × (port ≡ q.enode.port) × (to ≡ f.head.d_id)
 
 -- the logins that a request ends, if it is granted: a FLOGI those of its ENode
 abbrev pub ended_by : Request → Tables → List Login
 ended_by r T = map login_of (filter (λ p. r.flogi && same_enode p.enode r.enode) T.ports)
 
--- A verdict that needs nothing but the frame.
+-- A verdict that sends a FIP answer, the frame itself, or nothing.
 abbrev pub SettledRests : Tables → Enode → fc.Frame → Settled → Type 0
-SettledRests T x f Vlans = Unit {0}
-SettledRests T x f Advertised = Unit {0}
-SettledRests T x f AliveNode = list_any (λ p. same_enode p.enode x) T.ports ≡ true
+SettledRests T x f (Vlans to untagged) = Unit {0}
+SettledRests T x f (Advertised to size) = Unit {0}
+SettledRests T x f (AliveNode y) = list_any (λ p. same_enode p.enode y) T.ports ≡ true
 SettledRests T x f (AlivePort a) = IsSome (port_at a T.ports)
 SettledRests T x f Noted = HasSource T f
-SettledRests T x f (Forwarded port) = GoesTo T f port
+SettledRests T x f (Forwarded port to) = GoesTo T f port to
 SettledRests T x f (Dropped cause) = Unit {0}
 
 -- A login to the name server of a live N_Port, with a receive size at which answers can be cut.
@@ -124,10 +125,33 @@ Rests c T x flogi f (MayGrant login) = GrantRests c T x flogi f login
 Rests c T x flogi f (Registers to) = RegistrationRests T f × (to ≡ asker_by x.mac f.head)
 Rests c T x flogi f (Answers to tell size) = AnswerRests c T f tell size × (to ≡ asker_by x.mac f.head)
 
+-- ---- the values of the frame
+
+-- A settled verdict is one of a frame that carries an FC frame, in a login of this kind or else in a body of FCoE.
+abbrev pub SettlesKind : Option LoginKind → Settled → Type 0
+SettlesKind kind (Vlans to untagged) = ⊥
+SettlesKind kind (Advertised to size) = ⊥
+SettlesKind kind (AliveNode x) = ⊥
+SettlesKind kind (Forwarded port to) = kind ≡ None
+SettlesKind kind _ = Unit {0}
+
+-- So is a judgement.
+abbrev pub HasKind : Option LoginKind → Judged → Type 0
+HasKind kind (Must verdict) = SettlesKind kind verdict
+HasKind kind _ = Unit {0}
+
+-- A judgement has the values of a frame that came on a port.
+abbrev pub HasValues : ℕ → Caught → Judged → Type 0
+HasValues port caught (Must verdict) = IsSettledFor port caught verdict
+HasValues port caught _ = Unit {0}
+
+-- ---- judgements
+
 -- A request to the name server is judged: this is said of the live N_Port that sent it, and what the judgement rests on holds.
 pub record IsAskJudged (c : Settings) (T : Tables) (f : fc.Frame) (to : Asker) (said : LivePort → Judgement) (j : Judged) : Type 0 where
   pub judged : (p : LivePort) → port_at f.head.s_id T.ports ≡ Some p → judgement_of j ≡ said p
   pub grounds : (x : Enode) (flogi : Bool) → to ≡ asker_by x.mac f.head → Rests c T x flogi f j
+  pub kind : HasKind None j
 
 -- What the verdict of a frame rests on.
 abbrev pub Grounds : Settings → Tables → ℕ → Caught → Judged → Type 0

@@ -3,7 +3,7 @@ ghost use Rattle.std.specs.Prelude.{◌≡◌, ◌<◌, nat_lt, true, false, dro
 ghost use Rattle.std.specs.Prelude.{Bool, Some, None, IfOk, option_map};
 ghost use Rattle.eth_frames.specs.Ethernet.{Eth, view as eth_view};
 ghost use Rattle.fab_base.specs.declared.values.Enode.{Enode};
-ghost use Rattle.fab_judge.specs.Judged.{asker_by, judgement_of, Rests};
+ghost use Rattle.fab_judge.specs.Judged.{asker_by, judgement_of, HasKind, Rests};
 ghost use Rattle.fab_judge.specs.Rows.{unless_dropped};
 ghost use Rattle.fab_policy.specs.Rules as rules;
 ghost use Rattle.fab_policy.specs.Rules.{fcoe_rows};
@@ -46,6 +46,7 @@ pub(crate) fn judge_fcoe(
     ensures grounds { IfOk result (λ j. (x : Enode) (flogi : Bool)
         → x.mac ≡ (eth_view eth.now).src
         → Rests config.now roster.now.tables x flogi (fc_view body.now.frame) j) }
+    ensures kind { IfOk result (HasKind None) }
 {
     if !body.is_class3() {
         return Ok(dropped(Rule::FcoeClass));
@@ -78,6 +79,7 @@ fn judge_sent(
     ensures grounds { IfOk result (λ j. (x : Enode) (flogi : Bool)
         → to ≡ asker_by x.mac body.now.frame.head
         → Rests config.now roster.now.tables x flogi (fc_view body.now.frame) j) }
+    ensures kind { IfOk result (HasKind None) }
 {
     let Some(login) = roster.by_address(body.frame.head.s_id) else {
         return Ok(dropped(Rule::SourceLogin));
@@ -110,6 +112,7 @@ fn judge_data(
         (fcoe_judged config.now roster.now.tables (fc_view body.now.frame)) }
     ensures grounds { (x : Enode) (flogi : Bool)
         → Rests config.now roster.now.tables x flogi (fc_view body.now.frame) result }
+    ensures kind { HasKind None result }
 {
     let head = &body.frame.head;
     if head.d_id == head.s_id {
@@ -122,5 +125,8 @@ fn judge_data(
     if !zones.joined(now, login.name, to.name) {
         return dropped(Rule::Zone);
     }
-    Judged::Must(Settled::Forwarded(to.enode.port))
+    Judged::Must(Settled::Forwarded {
+        port: to.enode.port,
+        to: head.d_id,
+    })
 }

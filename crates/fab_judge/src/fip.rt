@@ -1,9 +1,9 @@
 //! Messages of FIP that no rule on the frame itself drops (FC-BB-5, "FIP operations").
 ghost use Rattle.std.specs.Prelude.{◌≡◌, ◌∷◌, [], not, Some, IfOk};
 ghost use Rattle.std.specs.List.{list_any};
-ghost use Rattle.eth_frames.specs.Ethernet.{Eth};
+ghost use Rattle.eth_frames.specs.Ethernet.{view as eth_view};
 ghost use Rattle.fab_base.specs.Fabric.{same_enode};
-ghost use Rattle.fab_judge.specs.Judged.{judgement_of, Grounds};
+ghost use Rattle.fab_judge.specs.Judged.{judgement_of, Grounds, HasValues};
 ghost use Rattle.fab_judge.specs.Rows.{unless_dropped};
 ghost use Rattle.fab_policy.specs.Heard.{Fip, decoded, plain, sender};
 ghost use Rattle.fab_policy.specs.Rules as rules;
@@ -18,6 +18,7 @@ use crate::frames::granted_mac;
 use crate::logins::{LoginAsk, judge_login};
 use crate::sender::Sender;
 use crate::verdicts::dropped;
+use eth_frames::EthFrame;
 use fab_base::{Mac, NoMemory};
 use fab_config::Config;
 use fab_policy::{Rule, Settled, frames_are_carried};
@@ -31,9 +32,10 @@ pub(crate) fn judge_fip(
     config: &Config,
     roster: &Roster,
     from: &Sender,
+    eth: &EthFrame<'_>,
     message: &FipMessage<'_>,
 ) -> Result<Judged, NoMemory>
-    requires { (f : Eth) × (decoded from.now.caught ≡ Fip f (fip_view message.now)) }
+    requires { decoded from.now.caught ≡ Fip (eth_view eth.now) (fip_view message.now) }
     ensures judged { IfOk result (λ j. judgement_of j ≡ unless_dropped
         (fip_login_rows config.now roster.now.tables from.now.port from.now.caught
         (fip_view message.now))
@@ -41,10 +43,19 @@ pub(crate) fn judge_fip(
         (fip_view message.now))) }
     ensures grounds { IfOk result (λ j.
         Grounds config.now roster.now.tables from.now.port from.now.caught j) }
+    ensures values { IfOk result (HasValues from.now.port from.now.caught) }
 {
+    // Law: what a decoded frame says is what a journal reads from its bytes.
+    frames_are_carried();
     match message {
-        FipMessage::VlanAsk { .. } => Ok(Judged::Must(Settled::Vlans)),
-        FipMessage::Solicit { .. } => Ok(Judged::Must(Settled::Advertised)),
+        FipMessage::VlanAsk { .. } => Ok(Judged::Must(Settled::Vlans {
+            to: eth.src,
+            untagged: eth.vlan() == 0,
+        })),
+        FipMessage::Solicit { size, .. } => Ok(Judged::Must(Settled::Advertised {
+            to: eth.src,
+            size: *size,
+        })),
         FipMessage::Keep { mac, port } => Ok(judge_keep(config, roster, from, mac, port)),
         FipMessage::Login {
             kind,
@@ -52,8 +63,6 @@ pub(crate) fn judge_fip(
             frame,
             mac,
         } => {
-            // Law: what a decoded frame says is what a journal reads from its bytes.
-            frames_are_carried();
             let login = LoginAsk {
                 kind: *kind,
                 fp: *fp,
@@ -80,10 +89,11 @@ fn judge_keep(
         (fip_judged config.now roster.now.tables from.now.port from.now.caught
         (fip.Keep mac.now port.now)) }
     ensures grounds { Grounds config.now roster.now.tables from.now.port from.now.caught result }
+    ensures values { HasValues from.now.port from.now.caught result }
 {
     match port {
         None if !is_known(roster, from) => dropped(Rule::KeepaliveUnknown),
-        None => Judged::Must(Settled::AliveNode),
+        None => Judged::Must(Settled::AliveNode(from.enode())),
         Some(vx) if is_unknown_port(config, roster, from, mac, vx) => {
             dropped(Rule::KeepaliveUnknown)
         }

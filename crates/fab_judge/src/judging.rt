@@ -1,9 +1,11 @@
 //! The judgement of one frame.
 ghost use Rattle.std.specs.Prelude.{◌≡◌, Bool, IfOk};
 ghost use Rattle.eth_frames.specs.Ethernet.{view as eth_view};
+ghost use Rattle.fab_base.specs.declared.values.Caught.{Caught as Captured};
 ghost use Rattle.fab_base.specs.declared.values.Enode.{Enode};
-ghost use Rattle.fab_judge.specs.Judged.{judgement_of, Grounds, Rests};
+ghost use Rattle.fab_judge.specs.Judged.{judgement_of, Grounds, HasValues, Rests};
 ghost use Rattle.fab_judge.specs.Rows.{body_judged, IsCarried};
+ghost use Rattle.fab_policy.specs.Heard.{Fcoe, decoded};
 ghost use Rattle.fab_policy.specs.Rules.{rule_of};
 ghost use Rattle.fab_policy.specs.Verdicts.{judged};
 ghost use Rattle.fab_policy.specs.View.{read_view};
@@ -27,7 +29,7 @@ use zone_rules::Zones;
 /// What the tables say of a frame, with what a step needs to carry it out.
 #[derive(Debug, Drop)]
 pub enum Judged {
-    /// This verdict, which needs nothing but the frame.
+    /// This verdict, which has what it takes of the frame.
     Must(Settled),
     /// This verdict, which is replied to the sender of the frame.
     Replied { verdict: Replied, to: Asker },
@@ -71,6 +73,7 @@ pub fn judge(
         ≡ judged config.now roster.now.tables port heard.now.caught.now) }
     ensures grounds { IfOk result (λ j.
         Grounds config.now roster.now.tables port heard.now.caught.now j) }
+    ensures values { IfOk result (HasValues port heard.now.caught.now) }
 {
     if let Some(cause) = frame_rule(config, heard) {
         return Ok(Judged::Must(Settled::Dropped(cause)));
@@ -81,7 +84,7 @@ pub fn judge(
         What::Bad { .. } => unreachable!(),
         What::Fip { eth, message } => {
             let from = Sender::of(port, heard.caught, eth.src);
-            let judged = judge_fip(alloc, config, roster, &from, message)?;
+            let judged = judge_fip(alloc, config, roster, &from, eth, message)?;
             Ok(judged)
         }
         What::Fcoe { eth, read } => {
@@ -107,9 +110,14 @@ fn judge_body(
     ensures grounds { IfOk result (λ j. (x : Enode) (flogi : Bool) (f : Frame)
         → x.mac ≡ (eth_view eth.now).src → IsCarried (read_view read.now) f
         → Rests config.now roster.now.tables x flogi f j) }
+    ensures values { IfOk result (λ j. (caught : Captured)
+        → decoded caught ≡ Fcoe (eth_view eth.now) (read_view read.now)
+        → HasValues port caught j) }
 {
     match read {
         Ok(body) => {
+            // Law: what a decoded frame says is what a journal reads from its bytes.
+            frames_are_carried();
             let judged = judge_fcoe(alloc, config, zones, roster, port, eth, body)?;
             Ok(judged)
         }

@@ -1,12 +1,12 @@
 //! Logins and logouts in FIP (FC-LS-2, "FLOGI", "FDISC" and "LOGO").
-ghost use Rattle.std.specs.Prelude.{◌≡◌, ◌==◌, ◌&&◌, ◌||◌, nat_le, ◌∷◌, IfOk, IfSome, IsTrue};
+ghost use Rattle.std.specs.Prelude.{◌≡◌, ◌==◌, ◌&&◌, ◌||◌, nat_le, ◌∷◌, IfOk, IfSome, Some, IsTrue};
 ghost use Rattle.std.specs.Prelude.{[], not, Bool, length, is_some};
 ghost use Rattle.std.specs.List.{list_any};
 ghost use Rattle.els_messages.specs.Els as els_spec;
 ghost use Rattle.fab_base.specs.Fabric.{same_enode};
 ghost use Rattle.fab_base.specs.declared.values.Caught.{Caught};
 ghost use Rattle.fab_config.specs.Settings.{Settings};
-ghost use Rattle.fab_judge.specs.Judged.{asker_by, ended_by, judgement_of, Rests};
+ghost use Rattle.fab_judge.specs.Judged.{asker_by, ended_by, judgement_of, HasKind, Rests};
 ghost use Rattle.fab_judge.specs.Origin.{is_flogi_by, begins_with};
 ghost use Rattle.fab_judge.specs.Rows.{unless_dropped};
 ghost use Rattle.fab_policy.specs.Heard.{fc_of, plain, sender};
@@ -18,6 +18,7 @@ ghost use Rattle.fab_policy.specs.Written.{HaveDifferentNames};
 ghost use Rattle.fab_policy.specs.declared.verdict.Verdict.TheVariants.{Logout};
 ghost use Rattle.fc_frames.specs.Frame.{Frame, view as fc_view};
 ghost use Rattle.fip_codec.specs.Message as fip;
+ghost use Rattle.fip_codec.specs.declared.message.LoginKind.{LoginKind as Kind};
 
 use crate::fip::is_known;
 use crate::frames::{granted_mac, is_els_request};
@@ -63,6 +64,7 @@ pub(crate) fn judge_login(
     ensures grounds { IfOk result (λ j. Rests config.now roster.now.tables
         (sender from.now.port from.now.caught)
         (is_flogi_by asked.now.kind from.now.caught) (fc_of frame.now) j) }
+    ensures kind { IfOk result (HasKind (Some asked.now.kind)) }
 {
     let Ok(frame) = read_frame(frame) else {
         return Ok(dropped(Rule::ElsShort));
@@ -95,6 +97,7 @@ fn judge_command(
     ensures grounds { IfOk result (λ j. Rests config.now roster.now.tables
         (sender from.now.port from.now.caught)
         (is_flogi_by asked.now.kind from.now.caught) (fc_view frame.now) j) }
+    ensures kind { IfOk result (HasKind (Some asked.now.kind)) }
 {
     let to = from.asker(&frame.head);
     match els {
@@ -126,6 +129,7 @@ fn judge_request(
         → to ≡ asker_by (sender from.now.port from.now.caught).mac f.head
         → Rests config.now roster.now.tables (sender from.now.port from.now.caught)
         (is_flogi_by asked.now.kind from.now.caught) f j) }
+    ensures kind { IfOk result (HasKind (Some asked.now.kind)) }
 {
     let request = request_of(asked.kind, from, parms);
     let judged = judge_asked(alloc, config, roster, from, asked.fp, request, parms, to)?;
@@ -150,6 +154,7 @@ fn judge_asked(
         → request ≡ record { flogi = flogi; enode = x; name = parms.now.port_name }
         → els_spec.parms_of f.payload ≡ parms.now → to ≡ asker_by x.mac f.head
         → Rests config.now roster.now.tables x flogi f j) }
+    ensures kind { IfOk result (λ j. (kind : Kind) → HasKind (Some kind) j) }
 {
     if !fp {
         return Ok(rejected(to, COMMAND_NOT_SUPPORTED, REQUEST_NOT_SUPPORTED));
@@ -289,6 +294,7 @@ fn judge_logout(
         (verdicts.Must (Logout to.s_id)) }
     ensures grounds { (x : Enode) (flogi : Bool) (f : Frame) → to ≡ asker_by x.mac f.head
         → Rests config.now roster.now.tables x flogi f result }
+    ensures kind { (kind : Kind) → HasKind (Some kind) result }
 {
     if !is_own_logout(config, roster, from, to.s_id, mac, address, name) {
         return rejected(to, LOGICAL_ERROR, NO_EXPLANATION);

@@ -1,11 +1,11 @@
 //! Requests to the services of the fabric (FC-LS-2, "Extended Link Services").
 ghost use Rattle.std.specs.Prelude.{◌≡◌, ◌==◌, ◌∷◌, [], ◌||◌, not, nat_lt, true};
-ghost use Rattle.std.specs.Prelude.{false, drop, Bool, Some, IfOk, option_map};
+ghost use Rattle.std.specs.Prelude.{false, drop, Bool, Some, None, IfOk, option_map};
 ghost use Rattle.els_messages.specs.Els as spec;
 ghost use Rattle.eth_frames.specs.Ethernet.{Eth};
 ghost use Rattle.fab_base.specs.declared.values.Enode.{Enode};
 ghost use Rattle.fab_config.specs.Settings.{Settings};
-ghost use Rattle.fab_judge.specs.Judged.{asker_by, judgement_of, Rests, HasSource};
+ghost use Rattle.fab_judge.specs.Judged.{asker_by, judgement_of, HasKind, HasSource, Rests};
 ghost use Rattle.fab_judge.specs.Rows.{unless_dropped};
 ghost use Rattle.fab_policy.specs.Rules as rules;
 ghost use Rattle.fab_policy.specs.Rules.{fcoe_rows};
@@ -62,6 +62,7 @@ pub(crate) fn judge_request(
     ensures grounds { IfOk result (λ j. (x : Enode) (flogi : Bool)
         → to ≡ asker_by x.mac body.now.frame.head
         → Rests config.now roster.now.tables x flogi (fc_view body.now.frame) j) }
+    ensures kind { IfOk result (HasKind None) }
 {
     let frame = &body.frame;
     if !is_service(frame.head.d_id) {
@@ -93,6 +94,7 @@ fn judge_service(login: &Login, frame: &FcFrame<'_>, to: Asker) -> Judged
     ensures grounds { (c : Settings) (T : Tables) (x : Enode) (flogi : Bool)
         → HasSource T (fc_view frame.now) → to ≡ asker_by x.mac frame.now.head
         → Rests c T x flogi (fc_view frame.now) result }
+    ensures kind { HasKind None result }
 {
     match read_els(frame.payload) {
         Ok(els) => {
@@ -114,6 +116,7 @@ fn to_name_server(login: &Login, els: &Els<'_>, to: Asker) -> Judged
     ensures grounds { (c : Settings) (T : Tables) (x : Enode) (flogi : Bool) (f : Frame)
         → HasSource T f → to ≡ asker_by x.mac f.head → spec.IsEls (spec.view els.now) f.payload
         → Rests c T x flogi f result }
+    ensures kind { HasKind None result }
 {
     match els {
         Els::Plogi(parms) => judge_server_login(login, parms, to),
@@ -134,6 +137,7 @@ fn judge_server_login(login: &Login, parms: &LoginParms, to: Asker) -> Judged
     ensures grounds { (c : Settings) (T : Tables) (x : Enode) (flogi : Bool) (f : Frame)
         → HasSource T f → to ≡ asker_by x.mac f.head → spec.parms_of f.payload ≡ parms.now
         → Rests c T x flogi f result }
+    ensures kind { HasKind None result }
 {
     if !parms.offers_class3() {
         return rejected(to, COMMAND_NOT_SUPPORTED, NO_EXPLANATION);
@@ -153,6 +157,7 @@ fn to_controller(els: &Els<'_>, to: Asker) -> Judged
         → judgement_of result ≡ verdicts.els_judged c T p f }
     ensures grounds { (c : Settings) (T : Tables) (x : Enode) (flogi : Bool) (f : Frame)
         → HasSource T f → to ≡ asker_by x.mac f.head → Rests c T x flogi f result }
+    ensures kind { HasKind None result }
 {
     match els {
         Els::Scr { function } => judge_watch(*function, to),
@@ -167,6 +172,7 @@ fn judge_watch(function: u8, to: Asker) -> Judged
         (verdicts.Must (Watching function)) }
     ensures grounds { (c : Settings) (T : Tables) (x : Enode) (flogi : Bool) (f : Frame)
         → HasSource T f → to ≡ asker_by x.mac f.head → Rests c T x flogi f result }
+    ensures kind { HasKind None result }
 {
     if function == FABRIC_DETECTED
         || function == NX_PORT_DETECTED

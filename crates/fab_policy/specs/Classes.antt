@@ -1,4 +1,10 @@
 -- Verdicts in two classes, by what carrying them out needs beside the frame. The others are grants, registrations and answers.
+use Rattle.std.specs.Prelude.{◌≡◌, ℕ, Ok}
+use Rattle.eth_frames.specs.Ethernet as eth
+use Rattle.fcoe_codec.specs.Fcoe as capsule
+use Rattle.fab_base.specs.declared.values.Caught.{Caught}
+use Rattle.fab_policy.specs.Heard.{Fcoe, decoded, d_id, sender, source}
+use Rattle.fab_policy.specs.Replies.{is_untagged, size_asked}
 use Rattle.fab_policy.specs.declared.classes.Replied.{Replied}
 use Rattle.fab_policy.specs.declared.classes.Replied.TheVariants as replied
 use Rattle.fab_policy.specs.declared.classes.Settled.{Settled}
@@ -6,14 +12,14 @@ use Rattle.fab_policy.specs.declared.classes.Settled.TheVariants as settled
 use Rattle.fab_policy.specs.declared.verdict.Verdict.{Verdict}
 use Rattle.fab_policy.specs.declared.verdict.Verdict.TheVariants.{Vlans, Advertised, Rejected, Logout, AliveNode, AlivePort, NsLogin, NsLogout, Watching, Refused, Noted, Forwarded, Dropped}
 
--- a verdict that sends no reply, or one that needs nothing but the frame
+-- a verdict that sends a FIP answer, the frame itself, or nothing
 abbrev pub of_settled : Settled → Verdict
-of_settled settled.Vlans = Vlans
-of_settled settled.Advertised = Advertised
-of_settled settled.AliveNode = AliveNode
+of_settled (settled.Vlans to untagged) = Vlans
+of_settled (settled.Advertised to size) = Advertised
+of_settled (settled.AliveNode x) = AliveNode
 of_settled (settled.AlivePort a) = AlivePort a
 of_settled settled.Noted = Noted
-of_settled (settled.Forwarded port) = Forwarded port
+of_settled (settled.Forwarded port to) = Forwarded port
 of_settled (settled.Dropped cause) = Dropped cause
 
 -- a verdict that is replied to the sender of the frame
@@ -24,3 +30,19 @@ of_replied (replied.NsLogin size) = NsLogin
 of_replied replied.NsLogout = NsLogout
 of_replied (replied.Watching function) = Watching function
 of_replied (replied.Refused reason explanation) = Refused reason explanation
+
+-- ---- what they have of a frame that came on a port
+
+-- The frame has a body of FCoE that was read.
+abbrev pub HasBody : Caught → Type 0
+HasBody caught = (f : eth.Eth) × (x : capsule.Fcoe) × (decoded caught ≡ Fcoe f (Ok x))
+
+-- A settled verdict has the values of the frame: who sent it, how the answer is wanted, and to which address it goes on.
+abbrev pub IsSettledFor : ℕ → Caught → Settled → Type 0
+IsSettledFor port caught (settled.Vlans to untagged) = (to ≡ source caught) × (untagged ≡ is_untagged caught)
+IsSettledFor port caught (settled.Advertised to size) = (to ≡ source caught) × (size ≡ size_asked caught)
+IsSettledFor port caught (settled.AliveNode x) = x ≡ sender port caught
+IsSettledFor port caught (settled.AlivePort a) = Unit {0}
+IsSettledFor port caught settled.Noted = Unit {0}
+IsSettledFor port caught (settled.Forwarded q to) = HasBody caught × (to ≡ d_id caught)
+IsSettledFor port caught (settled.Dropped cause) = Unit {0}

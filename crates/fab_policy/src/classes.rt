@@ -3,23 +3,24 @@ ghost use Rattle.std.specs.Prelude.{◌≡◌};
 ghost use Rattle.fab_policy.specs.Classes.{of_replied, of_settled};
 
 use crate::{Dropped, Verdict};
-use fab_base::{FcId, PortNo};
+use fab_base::{Enode, FcId, Mac, PortNo};
 
-/// A verdict that needs nothing but the frame: it sends a FIP answer, the frame itself, or nothing.
+/// A verdict that sends a FIP answer, the frame itself, or nothing, with what that takes from the
+/// frame.
 #[derive(Clone, Copy, Debug, PartialEq, Eq)]
 pub enum Settled {
-    /// `vlans`.
-    Vlans,
-    /// `advertised`.
-    Advertised,
-    /// `alive` of an ENode.
-    AliveNode,
+    /// `vlans`, to this MAC, without a tag where the request has none.
+    Vlans { to: Mac, untagged: bool },
+    /// `advertised`, to this MAC, in a frame of the size in bytes that it asks for.
+    Advertised { to: Mac, size: u16 },
+    /// `alive` of this ENode.
+    AliveNode(Enode),
     /// `alive` of this VN_Port.
     AlivePort(FcId),
     /// `noted`.
     Noted,
-    /// `forwarded` to this port.
-    Forwarded(PortNo),
+    /// `forwarded` to this port, for the N_Port of this address.
+    Forwarded { port: PortNo, to: FcId },
     /// `dropped` by a rule.
     Dropped(Dropped),
 }
@@ -47,12 +48,12 @@ impl Settled {
         ensures { result ≡ of_settled self }
     {
         match self {
-            Settled::Vlans => Verdict::Vlans,
-            Settled::Advertised => Verdict::Advertised,
-            Settled::AliveNode => Verdict::AliveNode,
+            Settled::Vlans { .. } => Verdict::Vlans,
+            Settled::Advertised { .. } => Verdict::Advertised,
+            Settled::AliveNode(_) => Verdict::AliveNode,
             Settled::AlivePort(address) => Verdict::AlivePort(address),
             Settled::Noted => Verdict::Noted,
-            Settled::Forwarded(port) => Verdict::Forwarded(port),
+            Settled::Forwarded { port, .. } => Verdict::Forwarded(port),
             Settled::Dropped(cause) => Verdict::Dropped(cause),
         }
     }

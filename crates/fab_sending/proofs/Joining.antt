@@ -80,7 +80,7 @@ sends_made send tell b port entry caught v replies changed s pool outs counted f
 module _ (c : Settings) (T : Tables) (port : ℕ) (caught : Caught) where
   -- a settled one changes nothing that is told
   pub settled_tells : (v : Settled) → [] ≡ notices_of_frame c T port caught (of_settled v)
-  settled_tells Vlans = refl
+  settled_tells (Vlans to untagged) = refl
   settled_tells _ = refl
 
 -- the frames of an answer to a live N_Port

@@ -4,7 +4,7 @@ ghost use Rattle.ct_messages.specs.Ask.{view};
 ghost use Rattle.ct_messages.specs.CanWrite.{CanTell};
 ghost use Rattle.ct_messages.specs.Server.{is_registration};
 ghost use Rattle.fab_base.specs.declared.values.Caught.{Caught as Captured};
-ghost use Rattle.fab_policy.specs.Classes.{of_replied, of_settled};
+ghost use Rattle.fab_policy.specs.Classes.{IsSettledFor, of_replied, of_settled};
 ghost use Rattle.fab_policy.specs.Heard.{ask_of, s_id};
 ghost use Rattle.fab_policy.specs.Queries.{query};
 ghost use Rattle.fab_policy.specs.Replies.{asker_of};
@@ -31,23 +31,19 @@ use fab_policy::{Asker, Heard, Replied, Settled};
 use fc_frames::MOST_PAYLOAD;
 use std::alloc::Global;
 
-/// What a frame of a port sends by a right verdict that needs nothing but the frame: an answer in
-/// FIP, itself, or nothing. It stands in the entry at this place of the entries.
-#[tactic(auto, using(crate::proofs::ReplyMade::right_suits))]
+/// What a frame of a port sends by a settled verdict: an answer in FIP, itself, or nothing. It
+/// stands in the entry at this place of the entries.
 pub fn frame_sends(
     alloc: Global,
     before: &Before<'_>,
     port: PortNo,
     entry: usize,
-    heard: &Heard<'_>,
     verdict: Settled,
 ) -> Result<Sends, NoMemory>
-    requires { IsRight before.now.config.now before.now.roster.now.tables port
-        heard.now.caught.now (of_settled verdict) }
-    ensures { IfOk result (FrameSends before.now port entry heard.now.caught.now
-        (of_settled verdict)) }
+    ensures { IfOk result (λ s. (caught : Captured) → IsSettledFor port caught verdict
+        → FrameSends before.now port entry caught (of_settled verdict) s) }
 {
-    let frames = frames_of(alloc, now(before.roster), port, entry, heard, verdict)?;
+    let frames = frames_of(alloc, now(before.roster), port, entry, verdict)?;
     let changes = OutList::empty(alloc);
     let sends = sends_of(alloc, before, frames, changes)?;
     Ok(sends)

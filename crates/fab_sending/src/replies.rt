@@ -2,9 +2,10 @@
 ghost use Rattle.std.specs.Prelude.{◌≡◌, ◌∷◌, [], ℕ, List, IfOk, Some, is_some, true, option_map, if◌then◌else◌};
 ghost use Rattle.els_messages.specs.Els as spec;
 ghost use Rattle.fab_config.specs.Settings.{Settings};
-ghost use Rattle.fab_policy.specs.Classes.{of_replied, of_settled};
-ghost use Rattle.fab_policy.specs.Heard.{asked, d_id, decoded, login_of, source};
-ghost use Rattle.fab_policy.specs.Replies.{asker_of, is_untagged, kind_asked, size_asked};
+ghost use Rattle.fab_base.specs.declared.values.Caught.{Caught as Captured};
+ghost use Rattle.fab_policy.specs.Classes.{IsSettledFor, of_replied, of_settled};
+ghost use Rattle.fab_policy.specs.Heard.{asked, decoded, login_of};
+ghost use Rattle.fab_policy.specs.Replies.{asker_of, kind_asked};
 ghost use Rattle.fab_policy.specs.State.{Tables};
 ghost use Rattle.fab_policy.specs.declared.event.Event.{Event as Entry};
 ghost use Rattle.fab_policy.specs.declared.verdict.Verdict.TheVariants.{Granted};
@@ -14,8 +15,7 @@ ghost use Rattle.fab_messages.specs.declared.message.Answer.TheVariants.{Accept,
 ghost use Rattle.fab_messages.specs.declared.message.OutMessage.TheVariants as out;
 ghost use Rattle.fab_sending.specs.Asking.{CarriesFrame};
 ghost use Rattle.fab_sending.specs.Messages.{at_moment};
-ghost use Rattle.fab_sending.specs.Replies.{AsksAddress, InFip, IsBody, IsFip};
-ghost use Rattle.fab_sending.specs.Replies.{IsSolicit, RightFramesSuit, Suits};
+ghost use Rattle.fab_sending.specs.Replies.{AsksAddress, InFip, RightFramesSuit, Suits};
 
 use crate::Grant;
 use crate::answers::frames_of_answer;
@@ -34,31 +34,32 @@ pub fn right_frames_suit()
     ensures { RightFramesSuit }
 {}
 
-/// What a verdict sends that needs nothing but the frame: an answer in FIP, the frame itself where
-/// it goes on, or nothing. The frame stands in the entry at this place.
+/// What a settled verdict of a frame of this port sends: an answer in FIP, the frame itself where it
+/// goes on, or nothing. The frame stands in the entry at this place.
 pub fn frames_of(
     alloc: Global,
     moment: Moment,
     port: PortNo,
     entry: usize,
-    heard: &Heard<'_>,
     verdict: Settled,
 ) -> Result<OutList, NoMemory>
-    requires { Suits (decoded heard.now.caught.now) (of_settled verdict) }
-    ensures made { IfOk result (λ outs. (c : Settings) (T : Tables) → outs
-        ≡ at_moment moment (messages c T port entry heard.now.caught.now
-        (of_settled verdict))) }
-    ensures sendable { IfOk result (λ outs. (events : List Entry)
-        → frame_at entry events ≡ Some heard.now.caught.now → AreSendable events outs) }
+    ensures made { IfOk result (λ outs. (c : Settings) (T : Tables) (caught : Captured)
+        → IsSettledFor port caught verdict → outs
+        ≡ at_moment moment (messages c T port entry caught (of_settled verdict))) }
+    ensures sendable { IfOk result (λ outs. (events : List Entry) (caught : Captured)
+        → IsSettledFor port caught verdict → frame_at entry events ≡ Some caught
+        → AreSendable events outs) }
 {
-    match verdict {
-        Settled::Forwarded(to) => single_message(alloc, moment, to, forwarded(entry, heard)),
-        Settled::Vlans => single_message(alloc, moment, port, vlans(heard)),
-        Settled::Advertised => single_message(alloc, moment, port, solicited(heard)),
-        Settled::Dropped(_) | Settled::AliveNode | Settled::AlivePort(_) | Settled::Noted => {
-            Ok(OutList::empty(alloc))
-        }
-    }
+    // Law: a frame with a body of FCoE can go on, by its size; the clause sendable says so.
+    data_frames_go_on();
+    let (port, message) = match verdict {
+        Settled::Vlans { to, untagged } => (port, OutMessage::Vlans { to, untagged }),
+        Settled::Advertised { to, size } => (port, OutMessage::Solicited { to, size }),
+        Settled::Forwarded { port, to } => (port, OutMessage::Forwarded { entry, to }),
+        Settled::AliveNode(_) | Settled::AlivePort(_) | Settled::Noted | Settled::Dropped(_) =>
+            return Ok(OutList::empty(alloc)),
+    };
+    single_message(alloc, moment, port, message)
 }
 
 /// The reply to a frame by a verdict that is replied to its sender.
@@ -140,42 +141,6 @@ fn single_message(
     Ok(OutList::from_vec(outs))
 }
 
-// The VLAN notification that answers a request in FIP.
-fn vlans(heard: &Heard<'_>) -> OutMessage
-    requires { IsFip (decoded heard.now.caught.now) }
-    ensures { result ≡ out.Vlans (source heard.now.caught.now) (is_untagged heard.now.caught.now) }
-{
-    // Law: what a decoded frame says is what a journal reads from its bytes.
-    frames_are_carried();
-    match &heard.what {
-        What::Fip { eth, .. } => OutMessage::Vlans {
-            to: eth.src,
-            untagged: eth.vlan() == 0,
-        },
-        _ => unreachable!(),
-    }
-}
-
-// The advertisement that answers a solicitation.
-fn solicited(heard: &Heard<'_>) -> OutMessage
-    requires { InFip IsSolicit (decoded heard.now.caught.now) }
-    ensures { result
-        ≡ out.Solicited (source heard.now.caught.now) (size_asked heard.now.caught.now) }
-{
-    // Law: what a decoded frame says is what a journal reads from its bytes.
-    frames_are_carried();
-    match &heard.what {
-        What::Fip { eth, message } => match message {
-            FipMessage::Solicit { size, .. } => OutMessage::Solicited {
-                to: eth.src,
-                size: *size,
-            },
-            _ => unreachable!(),
-        },
-        _ => unreachable!(),
-    }
-}
-
 // The reject of a login or of a link service.
 fn rejected(heard: &Heard<'_>, to: Asker, reason: u8, explanation: u8) -> OutMessage
     requires { CarriesFrame (decoded heard.now.caught.now) }
@@ -207,26 +172,6 @@ fn served(to: Asker, answer: Answer) -> OutMessage
     ensures { result ≡ out.ServiceReply to answer }
 {
     OutMessage::ServiceReply { to, answer }
-}
-
-// The frame goes on.
-fn forwarded(entry: usize, heard: &Heard<'_>) -> OutMessage
-    requires { IsBody (decoded heard.now.caught.now) }
-    ensures made { result ≡ out.Forwarded entry (d_id heard.now.caught.now) }
-    ensures sendable { (events : List Entry) → frame_at entry events ≡ Some heard.now.caught.now
-        → can_send events result ≡ true }
-{
-    // Law: a frame with a body of FCoE can go on, by its size; the clause sendable says so. And
-    // what a decoded frame says is what a journal reads from its bytes.
-    data_frames_go_on();
-    frames_are_carried();
-    match &heard.what {
-        What::Fcoe { read: Ok(body), .. } => OutMessage::Forwarded {
-            entry,
-            to: body.frame.head.d_id,
-        },
-        _ => unreachable!(),
-    }
 }
 
 // Which login a frame is, or a FLOGI where it is none.

@@ -5,7 +5,6 @@ mod GrantedLemmas
 mod KeepLemmas
 mod NewLemmas
 mod RangeLemmas
-mod ReadLemmas
 mod ServiceLemmas
 mod TakeLemmas
 mod TickLemmas

@@ -4,7 +4,7 @@ use Rattle.fab_base.specs.Fabric.{same_enode}
 use Rattle.fab_config.specs.Settings.{Settings}
 use Rattle.fab_judge.specs.declared.judging.Judged.{Judged}
 use Rattle.fab_policy.specs.Free.{Request}
-use Rattle.fab_policy.specs.Heard.{What, Bad, Fip, Fcoe, asked}
+use Rattle.fab_policy.specs.Heard.{asked}
 use Rattle.fab_policy.specs.State.{LivePort, Tables}
 use Rattle.fab_policy.specs.Steps.{after}
 use Rattle.fab_policy.specs.declared.verdict.Verdict.{Verdict}
@@ -32,12 +32,6 @@ pub record CarriesOut (frame : Arrived) (v : Verdict) (old new : Roll) : Type 0 
   pub clock : new.tables.clock ≡ old.tables.clock
   pub tables : (c : Settings) → IsRollOf c old → new.tables ≡ after c old.tables (entry_of frame v)
   pub follows : (c : Settings) → IsRollOf c old → CanFollow c old.tables frame.port frame.index (caught_of frame) v
-
--- the frame could be decoded
-abbrev pub IsDecoded : What → Type 0
-IsDecoded (Bad cause) = ⊥
-IsDecoded (Fip f m) = Unit {0}
-IsDecoded (Fcoe f read) = Unit {0}
 
 -- ---- grants
 

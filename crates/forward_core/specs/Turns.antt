@@ -2,7 +2,7 @@
 use Rattle.std.specs.Prelude.{◌≡◌, [], ◌∷◌, ◌++◌, length, map, Result, OnOk, OnErr, IsSome}
 use Rattle.fab_base.specs.declared.values.NoMemory.{NoMemory}
 use Rattle.fab_config.specs.Settings.{Settings}
-use Rattle.fab_judge.specs.Judged.{Grounds}
+use Rattle.fab_judge.specs.Judged.{Grounds, HasValues}
 use Rattle.fab_judge.specs.declared.judging.Judged.{Judged}
 use Rattle.fab_policy.specs.Standing.{Contents, Takes}
 use Rattle.fab_policy.specs.State.{Tables}
@@ -16,11 +16,13 @@ use Rattle.fab_sending.specs.declared.sends.Sends.{Sends}
 use Rattle.forward_core.specs.Arrived.{caught_of, entry_of}
 use Rattle.forward_core.specs.declared.arrived.Arrived.{Arrived}
 
--- A frame is judged so over these tables, whose clock runs: the verdict is right, and what it rests on holds.
+-- A frame is judged so over these tables, whose clock runs: the verdict is right, what it rests on holds, and its values are
+-- those of the frame.
 pub record IsJudged (c : Settings) (T : Tables) (frame : Arrived) (j : Judged) (v : Verdict) : Type 0 where
   pub clock : IsSome T.clock
   pub right : IsRight c T frame.port (caught_of frame) v
   pub rests : Grounds c T frame.port (caught_of frame) j
+  pub values : HasValues frame.port (caught_of frame) j
 
 -- what is known before an entry is what the fabric holds
 pub record IsBefore (b : Before) (F : Contents) : Type 0 where

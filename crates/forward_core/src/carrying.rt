@@ -1,5 +1,5 @@
 //! What a verdict does to the tables.
-#![tactic(auto, using(crate::proofs::CarryLemmas::changed, crate::proofs::ReadLemmas::sender_read))]
+#![tactic(auto, using(crate::proofs::CarryLemmas::changed))]
 
 ghost use Rattle.std.specs.Prelude.{◌≡◌, ◌<◌, ◌==◌, length, IsSome, IsTrue, false};
 ghost use Rattle.std.specs.List.{list_any};
@@ -8,19 +8,19 @@ ghost use Rattle.fab_judge.specs.Judged.{ended_by};
 ghost use Rattle.fab_judge.specs.declared.judging.Judged.TheVariants as judged;
 ghost use Rattle.fab_policy.specs.Classes.{of_replied, of_settled};
 ghost use Rattle.fab_policy.specs.Free.{is_free};
-ghost use Rattle.fab_policy.specs.Heard.{ask_of, decoded, sender};
+ghost use Rattle.fab_policy.specs.Heard.{ask_of};
 ghost use Rattle.fab_policy.specs.declared.verdict.Verdict.TheVariants.{Granted, Registered};
 ghost use Rattle.fab_roster.specs.Changes.{IsSoundRoll};
 ghost use Rattle.forward_core.specs.Arrived.{caught_of};
-ghost use Rattle.forward_core.specs.Carrying.{Asks, CarriesOut, IsDecoded, WasJudged, left_to};
+ghost use Rattle.forward_core.specs.Carrying.{Asks, CarriesOut, WasJudged, left_to};
 
 use crate::arrived::Arrived;
 use ct_messages::CtAsk;
-use fab_base::{Enode, FcId, Wwn};
-use fab_policy::{Asker, Replied, Settled, What, frames_are_carried, tables_change};
+use fab_base::{FcId, Wwn};
+use fab_policy::{Asker, Replied, Settled, tables_change};
 use fab_roster::{Login, LoginList, Request, Roster};
 
-/// Carries out a verdict that needs nothing but the frame.
+/// Carries out a settled verdict.
 pub(crate) fn carry_out(roster: &mut Roster, arrived: &Arrived<'_>, verdict: Settled)
     requires sound { IsSoundRoll roster.old }
     requires judged { WasJudged roster.old.tables arrived.now (judged.Must verdict)
@@ -30,12 +30,12 @@ pub(crate) fn carry_out(roster: &mut Roster, arrived: &Arrived<'_>, verdict: Set
     // Law: tables that change as a verdict says are the tables after its entry.
     tables_change();
     match verdict {
-        Settled::AliveNode => roster.hear_node(&enode_of(arrived)),
+        Settled::AliveNode(enode) => roster.hear_node(&enode),
         Settled::AlivePort(address) => roster.hear_port(address),
-        Settled::Vlans
-        | Settled::Advertised
+        Settled::Vlans { .. }
+        | Settled::Advertised { .. }
         | Settled::Noted
-        | Settled::Forwarded(_)
+        | Settled::Forwarded { .. }
         | Settled::Dropped(_) => {}
     }
 }
@@ -104,20 +104,4 @@ pub(crate) fn grant(
         enode: request.enode,
         server_size: None,
     });
-}
-
-// The ENode that sent a frame.
-fn enode_of(arrived: &Arrived<'_>) -> Enode
-    requires { IsDecoded (decoded (caught_of arrived.now)) }
-    ensures { result ≡ sender arrived.now.port (caught_of arrived.now) }
-{
-    // Law: what a decoded frame says is what a journal reads from its bytes.
-    frames_are_carried();
-    match &arrived.heard.what {
-        What::Fip { eth, .. } | What::Fcoe { eth, .. } => Enode {
-            port: arrived.port,
-            mac: eth.src,
-        },
-        What::Bad { .. } => unreachable!(),
-    }
 }

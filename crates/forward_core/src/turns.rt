@@ -24,7 +24,7 @@ use fab_sending::{
 use std::alloc::Global;
 
 impl Fabric {
-    // A verdict that needs nothing but the frame.
+    // A settled verdict.
     pub(crate) fn settle(
         &mut self,
         alloc: Global,
@@ -35,8 +35,7 @@ impl Fabric {
             (judged.Must verdict.now) (of_settled verdict.now) }
         ensures { TakesOrStays self.old arrived.now (of_settled verdict.now) result self.new }
     {
-        let &Arrived { port, heard, .. } = arrived;
-        let sends = frame_sends(alloc, &self.before(), port, self.place(), heard, *verdict)?;
+        let sends = frame_sends(alloc, &self.before(), arrived.port, self.place(), *verdict)?;
         self.keep_frame(alloc, arrived, verdict.verdict(), sends)?;
         carry_out(&mut self.roster, arrived, *verdict);
         Ok(())

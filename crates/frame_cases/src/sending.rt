@@ -163,7 +163,13 @@ fn in_fip(
     heard: &Heard<'_>,
 ) -> Result<OutList, CaseFault> {
     match &heard.what {
-        What::Fip { .. } => Ok(frames_of(alloc, now, port, 3, heard, Settled::Vlans)?),
+        What::Fip { eth, .. } => {
+            let verdict = Settled::Vlans {
+                to: eth.src,
+                untagged: eth.vlan() == 0,
+            };
+            Ok(frames_of(alloc, now, port, 3, verdict)?)
+        }
         _ => Err(CaseFault::Refused),
     }
 }
@@ -176,9 +182,14 @@ fn sent_on(
     heard: &Heard<'_>,
     to: PortNo,
 ) -> Result<OutList, CaseFault> {
-    let verdict = Settled::Forwarded(to);
     match &heard.what {
-        What::Fcoe { read: Ok(_), .. } => Ok(frames_of(alloc, now, port, 3, heard, verdict)?),
+        What::Fcoe { read: Ok(body), .. } => {
+            let verdict = Settled::Forwarded {
+                port: to,
+                to: body.frame.head.d_id,
+            };
+            Ok(frames_of(alloc, now, port, 3, verdict)?)
+        }
         _ => Err(CaseFault::Refused),
     }
 }

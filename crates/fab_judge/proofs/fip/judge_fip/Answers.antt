@@ -1,4 +1,5 @@
 use Rattle.std.proofs.Common.{ap, sym, ◌∙◌}
+use Rattle.eth_frames.specs.Ethernet as eth
 use Rattle.fip_codec.specs.Message as fip
 use Rattle.fab_policy.specs.Heard.{Fip}
 use Rattle.fab_policy.specs.Rules.{fip_login_rows}
@@ -20,6 +21,7 @@ pub returns-in_ok-judged-in-Login-clause-grounds : goal.returns-in_ok-judged-in-
 returns-in_ok-judged-in-Login-clause-grounds c =
     let caught = c.args.from.now.caught in
     let l = c.in-Login.frame.now in
-    let message = c.requires.1 ∙ ap (λ m. Fip c.requires.0 (fip.view m)) c.in-Login.is in
-    let login = c.frames_are_carried.ensures.login caught c.requires.0 c.in-Login.kind c.in-Login.fp l c.in-Login.mac message in
+    let f = eth.view c.args.eth.now in
+    let message = c.requires ∙ ap (λ m. Fip f (fip.view m)) c.in-Login.is in
+    let login = c.frames_are_carried.ensures.login caught f c.in-Login.kind c.in-Login.fp l c.in-Login.mac message in
     rw (flogi_is caught c.in-Login.kind l login.0, login.1) c.in_ok-judged-in-Login.ensures.grounds

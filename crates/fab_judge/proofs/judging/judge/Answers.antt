@@ -15,7 +15,7 @@ returns-in-Some-clause-judged c =
 
 pub judge_fip-requires : goal.judge_fip-requires
 judge_fip-requires c =
-    (eth.view c.in-Fip.eth, ap (λ o. decoded o.caught) c.of-from.ensures ∙ (sym c.args.heard.now.decoded ∙ ap view c.in-Fip.is))
+    ap (λ o. decoded o.caught) c.of-from.ensures ∙ (sym c.args.heard.now.decoded ∙ ap view c.in-Fip.is)
 
 pub returns-in_ok-judged-in-Fip-clause-judged : goal.returns-in_ok-judged-in-Fip-clause-judged
 returns-in_ok-judged-in-Fip-clause-judged c =
