@@ -1,5 +1,5 @@
 -- The judgement of a frame: the rows on the frame itself, and then those of its message.
-use Rattle.std.proofs.Common.{◌≡◌, ℕ, Bool, true, false, List, [], ◌∷◌, ◌++◌, Option, Some, None, Result, Ok, Err, refl, ap, sym, ◌∙◌}
+use Rattle.std.proofs.Common.{◌≡◌, ℕ, Bool, true, false, List, [], ◌∷◌, ◌++◌, Option, Some, None, option_map, Result, Ok, Err, refl, ap, sym, ◌∙◌}
 use Rattle.fab_base.specs.declared.values.Caught.{Caught}
 use Rattle.fab_base.specs.declared.values.Enode.{Enode}
 use Rattle.fab_config.specs.Settings.{Settings}
@@ -10,18 +10,20 @@ use Rattle.fcoe_codec.specs.Fcoe as capsule
 use Rattle.fcoe_codec.specs.declared.FcoeFault.{FcoeFault}
 use Rattle.fip_codec.specs.Message as fip
 use Rattle.fab_policy.specs.Cause.{Cause}
-use Rattle.fab_policy.specs.Heard.{What, Bad, Fip, Fcoe, decoded, plain, carried}
+use Rattle.fab_policy.specs.Heard.{What, Bad, Fip, Fcoe, decoded, plain, carried, login_of}
+use Rattle.fab_policy.specs.Replies.{kind_asked}
 use Rattle.fab_policy.specs.Rules.{first_row, frame_rule, rule_for, rule_of, is_wrong_vlan, fip_frame_rows, fip_login_rows, fcoe_rows}
 use Rattle.fab_policy.specs.State.{Tables}
 use Rattle.fab_policy.specs.Verdicts.{Judgement, Must, judged, message_judged, fip_judged}
 use Rattle.fab_policy.specs.declared.verdict.Verdict.TheVariants.{Dropped}
 use Rattle.fab_policy.specs.declared.verdict.Rule.TheVariants as rule
 use Rattle.fab_policy.specs.Carried.{BodiesAreCarried}
+use Rattle.fab_policy.specs.declared.classes.Replied.TheVariants.{Rejected, Logout}
 use Rattle.fab_policy.specs.declared.classes.Settled.TheVariants.{Vlans, Advertised, AliveNode, Forwarded}
 use Rattle.fab_judge.specs.Judged.{HasKind, HasValues, Rests}
 use Rattle.fab_judge.specs.Rows.{unless_dropped, body_judged, IsCarried}
 use Rattle.fab_judge.specs.declared.judging.Judged.{Judged}
-use Rattle.fab_judge.specs.declared.judging.Judged.TheVariants.{Must as Settles}
+use Rattle.fab_judge.specs.declared.judging.Judged.TheVariants.{Must as Settles, Replied, MayGrant, Registers, Answers}
 
 -- rows behind others count where none of those holds
 first : (rows more : List (Bool × Cause)) (cause : Cause) → first_row rows ≡ Some cause → first_row (rows ++ more) ≡ Some cause
@@ -81,13 +83,27 @@ body_values law c T x flogi port caught g b d (Settles (Vlans to untagged)) rest
 body_values law c T x flogi port caught g b d (Settles (Advertised to size)) rests kind = absurd kind
 body_values law c T x flogi port caught g b d (Settles (AliveNode y)) rests kind = absurd kind
 body_values law c T x flogi port caught g b d (Settles _) rests kind = tt
-body_values law c T x flogi port caught g b d _ rests kind = tt
+body_values law c T x flogi port caught g b d (Replied (Rejected login reason explanation) to) rests kind = kind ∙ ap (option_map (λ l. l.0)) (sym (law caught g b d).1)
+body_values law c T x flogi port caught g b d (Replied (Logout own a) to) rests kind = cc
+body_values law c T x flogi port caught g b d (Replied _ to) rests kind = tt
+body_values law c T x flogi port caught g b d (MayGrant login) rests kind = cc
+body_values law c T x flogi port caught g b d (Registers to) rests kind = (g, b, d)
+body_values law c T x flogi port caught g b d (Answers to tell size) rests kind = tt
+
+-- the kind of a login is the one that its frame asks for
+kind_is : (caught : Caught) (kind own : LoginKind) (l : List ℕ) → login_of caught ≡ Some (kind, l) → Some kind ≡ Some own → own ≡ kind_asked caught
+kind_is caught kind own l is same = rw (kind_asked, is) cc
 
 -- the values of a judgement of a login
-pub login_values : (port : ℕ) (caught : Caught) (kind : LoginKind) (j : Judged) → HasKind (Some kind) j → HasValues port caught j
-login_values port caught kind (Settles (Forwarded q to)) h = cc
-login_values port caught kind (Settles (Vlans to untagged)) h = absurd h
-login_values port caught kind (Settles (Advertised to size)) h = absurd h
-login_values port caught kind (Settles (AliveNode y)) h = absurd h
-login_values port caught kind (Settles _) h = tt
-login_values port caught kind _ h = tt
+pub login_values : (port : ℕ) (caught : Caught) (kind : LoginKind) (l : List ℕ) → login_of caught ≡ Some (kind, l) → (j : Judged) → HasKind (Some kind) j → HasValues port caught j
+login_values port caught kind l is (Settles (Forwarded q to)) h = cc
+login_values port caught kind l is (Settles (Vlans to untagged)) h = absurd h
+login_values port caught kind l is (Settles (Advertised to size)) h = absurd h
+login_values port caught kind l is (Settles (AliveNode y)) h = absurd h
+login_values port caught kind l is (Settles _) h = tt
+login_values port caught kind l is (Replied (Rejected login reason explanation) to) h = h ∙ ap (option_map (λ l. l.0)) (sym is)
+login_values port caught kind l is (Replied (Logout own a) to) h = kind_is caught kind own l is h
+login_values port caught kind l is (Replied _ to) h = tt
+login_values port caught kind l is (MayGrant login) h = kind_is caught kind login.kind l is h
+login_values port caught kind l is (Registers to) h = cc
+login_values port caught kind l is (Answers to tell size) h = tt

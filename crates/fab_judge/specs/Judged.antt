@@ -14,11 +14,11 @@ use Rattle.ct_messages.specs.CanWrite.{CanTell, CanWrite, HasByte}
 use Rattle.ct_messages.specs.Server.{is_registration, registration_refusal}
 use Rattle.ct_messages.specs.declared.CtTell.{CtTell}
 use Rattle.state_change.specs.Watchers.{is_function}
-use Rattle.fab_policy.specs.Classes.{IsSettledFor, of_replied, of_settled}
+use Rattle.fab_policy.specs.Classes.{HasBody, IsRepliedFor, IsSettledFor, of_replied, of_settled}
 use Rattle.fab_policy.specs.Free.{Request, is_free}
 use Rattle.fab_policy.specs.Heard.{sender, is_flogi, carried}
 use Rattle.fab_policy.specs.Queries.{query}
-use Rattle.fab_policy.specs.Replies.{Asker}
+use Rattle.fab_policy.specs.Replies.{Asker, kind_asked}
 use Rattle.fab_policy.specs.State.{LivePort, Tables, port_at}
 use Rattle.fab_policy.specs.Verdicts as policy
 use Rattle.fab_policy.specs.Verdicts.{Judgement, staying}
@@ -81,8 +81,8 @@ pub record ServerRests (T : Tables) (f : fc.Frame) (size : ℕ) : Type 0 where
 
 -- A verdict that is replied to the sender of the frame.
 abbrev pub ReplyRests : Tables → fc.Frame → Reply → Type 0
-ReplyRests T f (Rejected reason explanation) = Unit {0}
-ReplyRests T f (Logout a) = IsSome (port_at a T.ports)
+ReplyRests T f (Rejected login reason explanation) = Unit {0}
+ReplyRests T f (Logout kind a) = IsSome (port_at a T.ports)
 ReplyRests T f (NsLogin size) = ServerRests T f size
 ReplyRests T f NsLogout = HasSource T f
 ReplyRests T f (Watching function) = HasSource T f × IsTrue (is_function function)
@@ -135,15 +135,27 @@ SettlesKind kind (AliveNode x) = ⊥
 SettlesKind kind (Forwarded port to) = kind ≡ None
 SettlesKind kind _ = Unit {0}
 
+-- So is a verdict that is replied, which has the kind.
+abbrev pub RepliesKind : Option LoginKind → Reply → Type 0
+RepliesKind kind (Rejected login reason explanation) = login ≡ kind
+RepliesKind kind (Logout own a) = kind ≡ Some own
+RepliesKind kind _ = Unit {0}
+
 -- So is a judgement.
 abbrev pub HasKind : Option LoginKind → Judged → Type 0
 HasKind kind (Must verdict) = SettlesKind kind verdict
-HasKind kind _ = Unit {0}
+HasKind kind (Replied verdict to) = RepliesKind kind verdict
+HasKind kind (MayGrant login) = kind ≡ Some login.kind
+HasKind kind (Registers to) = kind ≡ None
+HasKind kind (Answers to tell size) = Unit {0}
 
 -- A judgement has the values of a frame that came on a port.
 abbrev pub HasValues : ℕ → Caught → Judged → Type 0
 HasValues port caught (Must verdict) = IsSettledFor port caught verdict
-HasValues port caught _ = Unit {0}
+HasValues port caught (Replied verdict to) = IsRepliedFor caught verdict
+HasValues port caught (MayGrant login) = login.kind ≡ kind_asked caught
+HasValues port caught (Registers to) = HasBody caught
+HasValues port caught (Answers to tell size) = Unit {0}
 
 -- ---- judgements
 

@@ -23,6 +23,7 @@ use fab_config::Config;
 use fab_policy::{Asker, Heard, Replied, Rule, Settled, What, frame_rule, frames_are_carried};
 use fab_roster::{LoginList, Request, Roster};
 use fcoe_codec::{FcoeFault, FcoeFrame};
+use fip_codec::LoginKind;
 use std::alloc::Global;
 use zone_rules::Zones;
 
@@ -50,6 +51,8 @@ pub struct Candidate {
     pub node: Wwn,
     /// Whom the accept answers.
     pub to: Asker,
+    /// Which login it is.
+    pub kind: LoginKind,
     /// Whether it asks for several addresses.
     pub several: bool,
     /// An address that is free for it.

@@ -18,7 +18,6 @@ ghost use Rattle.fab_policy.specs.Written.{HaveDifferentNames};
 ghost use Rattle.fab_policy.specs.declared.verdict.Verdict.TheVariants.{Logout};
 ghost use Rattle.fc_frames.specs.Frame.{Frame, view as fc_view};
 ghost use Rattle.fip_codec.specs.Message as fip;
-ghost use Rattle.fip_codec.specs.declared.message.LoginKind.{LoginKind as Kind};
 
 use crate::fip::is_known;
 use crate::frames::{granted_mac, is_els_request};
@@ -106,7 +105,7 @@ fn judge_command(
             Ok(judged)
         }
         Els::Logo { address, name } => {
-            let judged = judge_logout(config, roster, from, &asked.mac, *address, *name, to);
+            let judged = judge_logout(config, roster, from, asked, *address, *name, to);
             Ok(judged)
         }
         _ => Ok(dropped(Rule::ElsKind)),
@@ -132,7 +131,7 @@ fn judge_request(
     ensures kind { IfOk result (HasKind (Some asked.now.kind)) }
 {
     let request = request_of(asked.kind, from, parms);
-    let judged = judge_asked(alloc, config, roster, from, asked.fp, request, parms, to)?;
+    let judged = judge_asked(alloc, config, roster, from, asked, request, parms, to)?;
     Ok(judged)
 }
 
@@ -142,42 +141,44 @@ fn judge_asked(
     config: &Config,
     roster: &Roster,
     from: &Sender,
-    fp: bool,
+    asked: &LoginAsk,
     request: Request,
     parms: &LoginParms,
     to: Asker,
 ) -> Result<Judged, NoMemory>
     ensures judged { IfOk result (λ j. judgement_of j ≡ verdicts.unless_refused
         (verdicts.login_rows config.now roster.now.tables from.now.port from.now.caught
-        fp request parms.now) (verdicts.MayGrant request)) }
+        asked.now.fp request parms.now) (verdicts.MayGrant request)) }
     ensures grounds { IfOk result (λ j. (x : Enode) (flogi : Bool) (f : Frame)
         → request ≡ record { flogi = flogi; enode = x; name = parms.now.port_name }
         → els_spec.parms_of f.payload ≡ parms.now → to ≡ asker_by x.mac f.head
         → Rests config.now roster.now.tables x flogi f j) }
-    ensures kind { IfOk result (λ j. (kind : Kind) → HasKind (Some kind) j) }
+    ensures kind { IfOk result (HasKind (Some asked.now.kind)) }
 {
-    if !fp {
-        return Ok(rejected(to, COMMAND_NOT_SUPPORTED, REQUEST_NOT_SUPPORTED));
+    let login = Some(asked.kind);
+    if !asked.fp {
+        return Ok(rejected(to, login, COMMAND_NOT_SUPPORTED, REQUEST_NOT_SUPPORTED));
     }
     if is_first_missing(roster, from, &request) {
-        return Ok(rejected(to, UNABLE_TO_PERFORM, NO_EXPLANATION));
+        return Ok(rejected(to, login, UNABLE_TO_PERFORM, NO_EXPLANATION));
     }
     if !parms.offers_class3() {
-        return Ok(rejected(to, COMMAND_NOT_SUPPORTED, NO_EXPLANATION));
+        return Ok(rejected(to, login, COMMAND_NOT_SUPPORTED, NO_EXPLANATION));
     }
     // For the proof: the roster is sound, so names differ.
     let _ = roster.len();
     if is_name_refused(roster, &request) {
-        return Ok(rejected(to, LOGICAL_ERROR, NO_EXPLANATION));
+        return Ok(rejected(to, login, LOGICAL_ERROR, NO_EXPLANATION));
     }
     let ended = ended_by(alloc, roster, &request)?;
     let Some(free) = free_for(config, roster, &request, &ended) else {
-        return Ok(rejected(to, UNABLE_TO_PERFORM, INSUFFICIENT_RESOURCES));
+        return Ok(rejected(to, login, UNABLE_TO_PERFORM, INSUFFICIENT_RESOURCES));
     };
     Ok(Judged::MayGrant(Candidate {
         request,
         node: parms.node_name,
         to,
+        kind: asked.kind,
         several: parms.has_feature(Feature::MultipleNPortIds),
         free,
         ended,
@@ -280,7 +281,7 @@ fn judge_logout(
     config: &Config,
     roster: &Roster,
     from: &Sender,
-    mac: &Mac,
+    asked: &LoginAsk,
     address: FcId,
     name: Wwn,
     to: Asker,
@@ -288,18 +289,21 @@ fn judge_logout(
     ensures judged { judgement_of result ≡ verdicts.unless_refused
         ((
           not (rules.holds (verdicts.is_own_logout config.now roster.now.tables from.now.port
-              from.now.caught mac.now address name) (port_at to.s_id roster.now.tables.ports)),
+              from.now.caught asked.now.mac address name)
+              (port_at to.s_id roster.now.tables.ports)),
           (3, 0),
         ) ∷ [])
         (verdicts.Must (Logout to.s_id)) }
     ensures grounds { (x : Enode) (flogi : Bool) (f : Frame) → to ≡ asker_by x.mac f.head
         → Rests config.now roster.now.tables x flogi f result }
-    ensures kind { (kind : Kind) → HasKind (Some kind) result }
+    ensures kind { HasKind (Some asked.now.kind) result }
 {
-    if !is_own_logout(config, roster, from, to.s_id, mac, address, name) {
-        return rejected(to, LOGICAL_ERROR, NO_EXPLANATION);
+    let kind = asked.kind;
+    if !is_own_logout(config, roster, from, to.s_id, &asked.mac, address, name) {
+        return rejected(to, Some(kind), LOGICAL_ERROR, NO_EXPLANATION);
     }
-    let verdict = Replied::Logout(to.s_id);
+    let address = to.s_id;
+    let verdict = Replied::Logout { kind, address };
     Judged::Replied { verdict, to }
 }
 

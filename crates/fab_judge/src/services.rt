@@ -124,7 +124,7 @@ fn to_name_server(login: &Login, els: &Els<'_>, to: Asker) -> Judged
             verdict: Replied::NsLogout,
             to,
         },
-        _ => rejected(to, COMMAND_NOT_SUPPORTED, REQUEST_NOT_SUPPORTED),
+        _ => rejected(to, None, COMMAND_NOT_SUPPORTED, REQUEST_NOT_SUPPORTED),
     }
 }
 
@@ -140,10 +140,10 @@ fn judge_server_login(login: &Login, parms: &LoginParms, to: Asker) -> Judged
     ensures kind { HasKind None result }
 {
     if !parms.offers_class3() {
-        return rejected(to, COMMAND_NOT_SUPPORTED, NO_EXPLANATION);
+        return rejected(to, None, COMMAND_NOT_SUPPORTED, NO_EXPLANATION);
     }
     if parms.port_name != login.name || parms.size < LEAST_SIZE {
-        return rejected(to, LOGICAL_ERROR, NO_EXPLANATION);
+        return rejected(to, None, LOGICAL_ERROR, NO_EXPLANATION);
     }
     let verdict = Replied::NsLogin(parms.receive_size());
     Judged::Replied { verdict, to }
@@ -161,7 +161,7 @@ fn to_controller(els: &Els<'_>, to: Asker) -> Judged
 {
     match els {
         Els::Scr { function } => judge_watch(*function, to),
-        _ => rejected(to, COMMAND_NOT_SUPPORTED, REQUEST_NOT_SUPPORTED),
+        _ => rejected(to, None, COMMAND_NOT_SUPPORTED, REQUEST_NOT_SUPPORTED),
     }
 }
 
@@ -182,6 +182,6 @@ fn judge_watch(function: u8, to: Asker) -> Judged
         let verdict = Replied::Watching(function);
         Judged::Replied { verdict, to }
     } else {
-        rejected(to, LOGICAL_ERROR, NO_EXPLANATION)
+        rejected(to, None, LOGICAL_ERROR, NO_EXPLANATION)
     }
 }

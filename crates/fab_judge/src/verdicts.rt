@@ -5,6 +5,7 @@ ghost use Rattle.fab_policy.specs.Heard.{plain};
 
 use crate::Judged;
 use fab_policy::{Asker, Dropped, Replied, Rule, Settled};
+use fip_codec::LoginKind;
 
 // A frame is dropped by a rule that has no number.
 pub(crate) fn dropped(rule: Rule) -> Judged
@@ -14,10 +15,15 @@ pub(crate) fn dropped(rule: Rule) -> Judged
     Judged::Must(Settled::Dropped(Dropped::new(rule, None).unwrap()))
 }
 
-// A request is rejected: reason and explanation (FC-LS-2, "LS_RJT").
-pub(crate) fn rejected(to: Asker, reason: u8, explanation: u8) -> Judged
-    ensures { result ≡ Judged.Replied (Replied.Rejected reason explanation) to }
+// A request is rejected, a login in FIP of this kind or else a link service: reason and explanation
+// (FC-LS-2, "LS_RJT").
+pub(crate) fn rejected(to: Asker, login: Option<LoginKind>, reason: u8, explanation: u8) -> Judged
+    ensures { result ≡ Judged.Replied (Replied.Rejected login reason explanation) to }
 {
-    let verdict = Replied::Rejected(reason, explanation);
+    let verdict = Replied::Rejected {
+        login,
+        reason,
+        explanation,
+    };
     Judged::Replied { verdict, to }
 }

@@ -1,10 +1,10 @@
--- Verdicts in two classes, by what carrying them out needs beside the frame. The others are grants, registrations and answers.
-use Rattle.std.specs.Prelude.{◌≡◌, ℕ, Ok}
+-- Verdicts in two classes, with what carrying them out takes from the frame. The others are grants, registrations and answers.
+use Rattle.std.specs.Prelude.{◌≡◌, ℕ, Ok, option_map}
 use Rattle.eth_frames.specs.Ethernet as eth
 use Rattle.fcoe_codec.specs.Fcoe as capsule
 use Rattle.fab_base.specs.declared.values.Caught.{Caught}
-use Rattle.fab_policy.specs.Heard.{Fcoe, decoded, d_id, sender, source}
-use Rattle.fab_policy.specs.Replies.{is_untagged, size_asked}
+use Rattle.fab_policy.specs.Heard.{Fcoe, decoded, d_id, login_of, sender, source}
+use Rattle.fab_policy.specs.Replies.{is_untagged, kind_asked, size_asked}
 use Rattle.fab_policy.specs.declared.classes.Replied.{Replied}
 use Rattle.fab_policy.specs.declared.classes.Replied.TheVariants as replied
 use Rattle.fab_policy.specs.declared.classes.Settled.{Settled}
@@ -24,8 +24,8 @@ of_settled (settled.Dropped cause) = Dropped cause
 
 -- a verdict that is replied to the sender of the frame
 abbrev pub of_replied : Replied → Verdict
-of_replied (replied.Rejected reason explanation) = Rejected reason explanation
-of_replied (replied.Logout a) = Logout a
+of_replied (replied.Rejected login reason explanation) = Rejected reason explanation
+of_replied (replied.Logout kind a) = Logout a
 of_replied (replied.NsLogin size) = NsLogin
 of_replied replied.NsLogout = NsLogout
 of_replied (replied.Watching function) = Watching function
@@ -46,3 +46,12 @@ IsSettledFor port caught (settled.AlivePort a) = Unit {0}
 IsSettledFor port caught settled.Noted = Unit {0}
 IsSettledFor port caught (settled.Forwarded q to) = HasBody caught × (to ≡ d_id caught)
 IsSettledFor port caught (settled.Dropped cause) = Unit {0}
+
+-- A verdict that is replied has which login in FIP the frame is, if it is one.
+abbrev pub IsRepliedFor : Caught → Replied → Type 0
+IsRepliedFor caught (replied.Rejected login reason explanation) = login ≡ option_map (λ l. l.0) (login_of caught)
+IsRepliedFor caught (replied.Logout kind a) = kind ≡ kind_asked caught
+IsRepliedFor caught (replied.NsLogin size) = Unit {0}
+IsRepliedFor caught replied.NsLogout = Unit {0}
+IsRepliedFor caught (replied.Watching function) = Unit {0}
+IsRepliedFor caught (replied.Refused reason explanation) = Unit {0}

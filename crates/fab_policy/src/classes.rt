@@ -1,9 +1,10 @@
-//! Verdicts by what carrying them out needs beside the frame.
+//! Verdicts with what carrying them out takes from the frame.
 ghost use Rattle.std.specs.Prelude.{◌≡◌};
 ghost use Rattle.fab_policy.specs.Classes.{of_replied, of_settled};
 
 use crate::{Dropped, Verdict};
 use fab_base::{Enode, FcId, Mac, PortNo};
+use fip_codec::LoginKind;
 
 /// A verdict that sends a FIP answer, the frame itself, or nothing, with what that takes from the
 /// frame.
@@ -28,10 +29,17 @@ pub enum Settled {
 /// A verdict that is replied to the sender of the frame, with what the tables then keep of it.
 #[derive(Clone, Copy, Debug, PartialEq, Eq)]
 pub enum Replied {
-    /// `rejected`: reason and explanation.
-    Rejected(u8, u8),
-    /// `logout`: the login of this address ends.
-    Logout(FcId),
+    /// `rejected`: a login in FIP of this kind, or else a link service.
+    Rejected {
+        login: Option<LoginKind>,
+        reason: u8,
+        explanation: u8,
+    },
+    /// `logout`: the login of this address ends. The kind is that of the request.
+    Logout {
+        kind: LoginKind,
+        address: FcId,
+    },
     /// `ns-login`, with the receive size that the login gives.
     NsLogin(u16),
     /// `ns-logout`.
@@ -65,8 +73,12 @@ impl Replied {
         ensures { result ≡ of_replied self }
     {
         match self {
-            Replied::Rejected(reason, explanation) => Verdict::Rejected(reason, explanation),
-            Replied::Logout(address) => Verdict::Logout(address),
+            Replied::Rejected {
+                reason,
+                explanation,
+                ..
+            } => Verdict::Rejected(reason, explanation),
+            Replied::Logout { address, .. } => Verdict::Logout(address),
             Replied::NsLogin(_) => Verdict::NsLogin,
             Replied::NsLogout => Verdict::NsLogout,
             Replied::Watching(function) => Verdict::Watching(function),

@@ -84,13 +84,13 @@ module _ (c : Settings) (T : Tables) (port : ℕ) (caught : Caught) where
   settled_tells _ = refl
 
 -- the frames of an answer to a live N_Port
-pub answer_frames : (c : Settings) (T : Tables) (port entry size : ℕ) (caught : Caught) (tell : CtTell) → IsSome (port_at (s_id caught) T.ports) →
-    ((b : LivePort) → port_at (s_id caught) T.ports ≡ Some b → tell ≡ query c T b (ask_of caught)) → ((b : LivePort) → port_at (s_id caught) T.ports ≡ Some b → size ≡ unwrap_or b.server 2112) →
+pub answer_frames : (c : Settings) (T : Tables) (port entry size a : ℕ) (caught : Caught) (tell : CtTell) → a ≡ s_id caught → IsSome (port_at a T.ports) →
+    ((b : LivePort) → port_at a T.ports ≡ Some b → tell ≡ query c T b (ask_of caught)) → ((b : LivePort) → port_at a T.ports ≡ Some b → size ≡ unwrap_or b.server 2112) →
     on port (in_frames caught size tell) ≡ messages c T port entry caught Answered
-answer_frames c T port entry size caught tell live told asked =
-    let b = some_found (port_at (s_id caught) T.ports) live in
+answer_frames c T port entry size a caught tell is live told asked =
+    let b = some_found (port_at a T.ports) live in
     ap (λ n. on port (in_frames caught n tell)) (asked b.0 b.1) ∙ ap (λ x. on port (in_frames caught (unwrap_or b.0.server 2112) x)) (told b.0 b.1)
-    ∙ sym (ap (λ o. elim o as (λ _. List (ℕ × OutMessage)) [ None ↦ [] | Some p ↦ on port (in_frames caught (unwrap_or p.server 2112) (query c T p (ask_of caught))) ]) b.1)
+    ∙ sym (ap (λ o. elim o as (λ _. List (ℕ × OutMessage)) [ None ↦ [] | Some p ↦ on port (in_frames caught (unwrap_or p.server 2112) (query c T p (ask_of caught))) ]) (ap (λ x. port_at x T.ports) (sym is) ∙ b.1))
 
 -- ---- at the clock
 
@@ -140,8 +140,9 @@ tick_sent send tell c n S m ended events s cleared told advertised mid asc ends 
     })
 
 -- an answer to a live N_Port is short enough to be cut
-pub answer_fits : (c : Settings) (T : Tables) (caught : Caught) (tell : CtTell) → IsSome (port_at (s_id caught) T.ports) →
-    ((b : LivePort) → port_at (s_id caught) T.ports ≡ Some b → tell ≡ query c T b (ask_of caught)) → length T.ports ≤ 65535 → size_of tell ≤ 2 ^ 20
-answer_fits c T caught tell live told few =
-    let b = some_found (port_at (s_id caught) T.ports) live in
-    subst (λ x. size_of x ≤ 2 ^ 20) (sym (told b.0 b.1)) (answer_short c T b.0 (ask_of caught) few)
+pub answer_fits : (c : Settings) (T : Tables) (a : ℕ) (tell : CtTell) → IsSome (port_at a T.ports) →
+    ((b : LivePort) → port_at a T.ports ≡ Some b → (ask : Ask) × (tell ≡ query c T b ask)) → length T.ports ≤ 65535 → size_of tell ≤ 2 ^ 20
+answer_fits c T a tell live told few =
+    let b = some_found (port_at a T.ports) live in
+    let is = told b.0 b.1 in
+    subst (λ x. size_of x ≤ 2 ^ 20) (sym is.1) (answer_short c T b.0 is.0 few)

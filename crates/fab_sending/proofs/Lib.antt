@@ -8,7 +8,6 @@ pub mod Counted
 pub mod Sendable
 pub mod AdvertMade
 pub mod FrameMade
-pub mod ReplyMade
 pub mod Joining
 pub mod ClearMade
 pub mod AnswerFits

@@ -2,8 +2,6 @@ pub mod Notices
 pub mod Messages
 pub mod Sends
 pub mod Laws
-pub mod Asking
 pub mod Counting
 pub mod Framed
-pub mod Replies
 pub mod Clearing

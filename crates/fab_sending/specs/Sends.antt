@@ -6,7 +6,8 @@ use Rattle.fab_policy.specs.Changes.{CanStay}
 use Rattle.fab_policy.specs.Free.{Request, is_free}
 use Rattle.fab_policy.specs.Heard.{asked, is_flogi, s_id, sender}
 use Rattle.fab_policy.specs.Outputs.{State, notices, outputs_by}
-use Rattle.fab_policy.specs.Replies.{asker_of}
+use Rattle.fab_policy.specs.Queries.{query}
+use Rattle.fab_policy.specs.Replies.{asker_of, kind_asked}
 use Rattle.fab_policy.specs.State.{LivePort, Tables, now_of, port_at}
 use Rattle.fab_policy.specs.Steps.{after}
 use Rattle.fab_policy.specs.declared.event.Event.{Event}
@@ -14,6 +15,8 @@ use Rattle.fab_policy.specs.declared.event.Event.TheVariants.{Frame}
 use Rattle.fab_policy.specs.declared.verdict.Verdict.{Verdict}
 use Rattle.fab_policy.specs.declared.verdict.Verdict.TheVariants.{Granted, Registered}
 use Rattle.els_messages.specs.Els as els
+use Rattle.ct_messages.specs.Ct.{Ask}
+use Rattle.ct_messages.specs.declared.CtTell.{CtTell}
 use Rattle.fab_messages.specs.Laws.{messages}
 use Rattle.fab_messages.specs.Message.{AreSendable, frame_at, sent_of}
 use Rattle.fab_messages.specs.declared.message.Out.{Out}
@@ -61,9 +64,18 @@ pub record AreParts (b : Before) (port entry : ℕ) (caught : Caught) (v : Verdi
   pub sendable : (events : List Event) → frame_at entry events ≡ Some caught → AreSendable events replies
   pub changes_are : changed ≡ at_moment (now_of b.roster.now.tables) (changes b.rscns (notices_of_frame b.config.now b.roster.now.tables port caught v))
 
+-- What the accept of a login says is what the frame asks for.
+pub record IsAccept (caught : Caught) (g : Grant) : Type 0 where
+  pub to : g.to ≡ asker_of caught
+  pub kind : g.kind ≡ kind_asked caught
+  pub several : g.several ≡ els.has_feature 0x8000 (asked caught)
+
 -- A login of a frame of a port that gets an address, with what its accept says and the logins that it ends.
 pub record IsGrant (T : Tables) (port : ℕ) (caught : Caught) (g : Grant) : Type 0 where
   pub request : g.request.now ≡ request_from port caught
-  pub to : g.to ≡ asker_of caught
-  pub several : g.several ≡ els.has_feature 0x8000 (asked caught)
+  pub accept : IsAccept caught g
   pub ended : g.ended.now ≡ map login_of (ended_by_grant T port caught)
+
+-- An answer to a query of a live N_Port.
+abbrev pub IsAnswer : Before → LivePort → CtTell → Type 0
+IsAnswer b p tell = (ask : Ask) × (tell ≡ query b.config.now b.roster.now.tables p ask)

@@ -4,19 +4,18 @@ ghost use Rattle.ct_messages.specs.Ask.{view};
 ghost use Rattle.ct_messages.specs.CanWrite.{CanTell};
 ghost use Rattle.ct_messages.specs.Server.{is_registration};
 ghost use Rattle.fab_base.specs.declared.values.Caught.{Caught as Captured};
-ghost use Rattle.fab_policy.specs.Classes.{IsSettledFor, of_replied, of_settled};
-ghost use Rattle.fab_policy.specs.Heard.{ask_of, s_id};
+ghost use Rattle.fab_policy.specs.Classes.{IsRepliedFor, IsSettledFor, of_replied, of_settled};
+ghost use Rattle.fab_policy.specs.Heard.{ask_of};
 ghost use Rattle.fab_policy.specs.Queries.{query};
 ghost use Rattle.fab_policy.specs.Replies.{asker_of};
 ghost use Rattle.fab_policy.specs.State.{LivePort, now_of, port_at};
 ghost use Rattle.fab_policy.specs.Steps.{InPool};
-ghost use Rattle.fab_policy.specs.Verdicts.{IsRight};
 ghost use Rattle.fab_policy.specs.declared.verdict.Verdict.{Verdict as Ruling};
 ghost use Rattle.fab_policy.specs.declared.verdict.Verdict.TheVariants.{Answered, Granted, Registered};
 ghost use Rattle.fab_roster.specs.Changes.{IsSize};
 ghost use Rattle.fab_sending.specs.Messages.{at_moment, changes};
 ghost use Rattle.fab_sending.specs.Notices.{notices_of_frame};
-ghost use Rattle.fab_sending.specs.Sends.{AreParts, FrameSends, IsGrant};
+ghost use Rattle.fab_sending.specs.Sends.{AreParts, FrameSends, IsAnswer, IsGrant};
 
 use crate::answers::frames_of_answer;
 use crate::changing::{grant_changes, logout_changes, now, registration_changes};
@@ -27,7 +26,7 @@ use crate::{Before, Grant, Sends};
 use ct_messages::{CtAsk, CtTell};
 use fab_base::{Moment, NoMemory, PortNo};
 use fab_messages::OutList;
-use fab_policy::{Asker, Heard, Replied, Settled};
+use fab_policy::{Asker, Replied, Settled};
 use fc_frames::MOST_PAYLOAD;
 use std::alloc::Global;
 
@@ -49,70 +48,57 @@ pub fn frame_sends(
     Ok(sends)
 }
 
-/// What a frame sends by a right verdict that is replied to its sender: the reply, and the state
-/// changes.
-#[tactic(auto, using(crate::proofs::ReplyMade::right_suits))]
+/// What a frame of a port sends by a verdict that is replied to its sender: the reply, and the
+/// state changes.
 pub fn reply_sends(
     alloc: Global,
     before: &Before<'_>,
     port: PortNo,
-    heard: &Heard<'_>,
     verdict: Replied,
     to: Asker,
 ) -> Result<Sends, NoMemory>
-    requires right { IsRight before.now.config.now before.now.roster.now.tables port
-        heard.now.caught.now (of_replied verdict) }
-    requires to { to ≡ asker_of heard.now.caught.now }
-    ensures { IfOk result (λ s. (entry : ℕ)
-        → FrameSends before.now port entry heard.now.caught.now (of_replied verdict) s) }
+    ensures { IfOk result (λ s. (entry : ℕ) (caught : Captured) → IsRepliedFor caught verdict
+        → to ≡ asker_of caught
+        → FrameSends before.now port entry caught (of_replied verdict) s) }
 {
     let moment = clock(before);
     let changes = reply_changes(alloc, before, &verdict)?;
-    let frames = reply(alloc, moment, port, heard, verdict, to)?;
+    let frames = reply(alloc, moment, port, verdict, to)?;
     let sends = sends_of(alloc, before, frames, changes)?;
     Ok(sends)
 }
 
 /// What a login sends that gets an address: its accept, and the state changes.
-#[tactic(auto, using(crate::proofs::ReplyMade::right_suits))]
 pub fn grant_sends(
     alloc: Global,
     before: &Before<'_>,
     port: PortNo,
-    heard: &Heard<'_>,
     grant: &Grant<'_>,
 ) -> Result<Sends, NoMemory>
-    requires right { IsRight before.now.config.now before.now.roster.now.tables port
-        heard.now.caught.now (Granted grant.now.address) }
-    requires grant { IsGrant before.now.roster.now.tables port heard.now.caught.now grant.now }
-    ensures { IfOk result (λ s. (entry : ℕ)
-        → FrameSends before.now port entry heard.now.caught.now (Granted grant.now.address) s) }
+    ensures { IfOk result (λ s. (entry : ℕ) (caught : Captured)
+        → IsGrant before.now.roster.now.tables port caught grant.now
+        → FrameSends before.now port entry caught (Granted grant.now.address) s) }
 {
-    let frames = accept(alloc, clock(before), port, heard, grant)?;
+    let frames = accept(alloc, clock(before), port, grant)?;
     let changes = grant_changes(alloc, before, grant)?;
     let sends = sends_of(alloc, before, frames, changes)?;
     Ok(sends)
 }
 
-/// What a registration at the name server sends that isn't refused: its accept, and the state
-/// changes.
+/// What a registration at the name server sends that isn't refused, of a live N_Port: its accept,
+/// and the state changes.
 pub fn registration_sends(
     alloc: Global,
     before: &Before<'_>,
     port: PortNo,
-    heard: &Heard<'_>,
     to: Asker,
     ask: &CtAsk<'_>,
 ) -> Result<Sends, NoMemory>
-    requires right { IsRight before.now.config.now before.now.roster.now.tables port
-        heard.now.caught.now Registered }
-    requires to { to ≡ asker_of heard.now.caught.now }
-    requires ask { view ask.now ≡ ask_of heard.now.caught.now }
-    requires registers { is_registration (ask_of heard.now.caught.now) ≡ true }
-    requires live { IsSome (port_at (s_id heard.now.caught.now)
-        before.now.roster.now.tables.ports) }
-    ensures { IfOk result (λ s. (entry : ℕ)
-        → FrameSends before.now port entry heard.now.caught.now Registered s) }
+    requires registers { is_registration (view ask.now) ≡ true }
+    requires live { IsSome (port_at to.s_id before.now.roster.now.tables.ports) }
+    ensures { IfOk result (λ s. (entry : ℕ) (caught : Captured) → to ≡ asker_of caught
+        → view ask.now ≡ ask_of caught
+        → FrameSends before.now port entry caught Registered s) }
 {
     let moment = clock(before);
     let frames = frames_of_answer(alloc, moment, port, to, &CtTell::Done, MOST_PAYLOAD)?;
@@ -121,34 +107,31 @@ pub fn registration_sends(
     Ok(sends)
 }
 
-/// What a query of the name server sends: this answer, cut into frames of the receive size that its
-/// sender has at the name server.
+/// What a query of the name server sends, of a live N_Port: this answer, cut into frames of the
+/// receive size that it has at the name server.
 pub fn answer_sends(
     alloc: Global,
     before: &Before<'_>,
     port: PortNo,
-    heard: &Heard<'_>,
     to: Asker,
     tell: &CtTell,
     size: u16,
 ) -> Result<Sends, NoMemory>
-    requires right { IsRight before.now.config.now before.now.roster.now.tables port
-        heard.now.caught.now Answered }
-    requires to { to ≡ asker_of heard.now.caught.now }
+    requires live { IsSome (port_at to.s_id before.now.roster.now.tables.ports) }
     requires answer { (b : LivePort)
-        → port_at (s_id heard.now.caught.now) before.now.roster.now.tables.ports ≡ Some b
-        → tell.now ≡ query before.now.config.now before.now.roster.now.tables b
-        (ask_of heard.now.caught.now) }
-    requires live { IsSome (port_at (s_id heard.now.caught.now)
-        before.now.roster.now.tables.ports) }
-    requires writable { CanTell tell.now }
+        → port_at to.s_id before.now.roster.now.tables.ports ≡ Some b
+        → IsAnswer before.now b tell.now }
     requires asked { (b : LivePort)
-        → port_at (s_id heard.now.caught.now) before.now.roster.now.tables.ports ≡ Some b
+        → port_at to.s_id before.now.roster.now.tables.ports ≡ Some b
         → size ≡ unwrap_or b.server 2112 }
+    requires writable { CanTell tell.now }
     requires few { length before.now.roster.now.tables.ports ≤ 65535 }
     requires size { IsSize size }
-    ensures { IfOk result (λ s. (entry : ℕ)
-        → FrameSends before.now port entry heard.now.caught.now Answered s) }
+    ensures { IfOk result (λ s. (entry : ℕ) (caught : Captured) → to ≡ asker_of caught
+        → ((b : LivePort) → port_at to.s_id before.now.roster.now.tables.ports ≡ Some b
+        → tell.now ≡ query before.now.config.now before.now.roster.now.tables b
+        (ask_of caught))
+        → FrameSends before.now port entry caught Answered s) }
 {
     let frames = frames_of_answer(alloc, now(before.roster), port, to, tell, size)?;
     let changes = OutList::empty(alloc);
@@ -190,8 +173,8 @@ fn reply_changes(alloc: Global, before: &Before<'_>, verdict: &Replied) -> Resul
         (of_replied verdict.now)))) }
 {
     match verdict {
-        Replied::Logout(address) => logout_changes(alloc, before, *address),
-        Replied::Rejected(..)
+        Replied::Logout { address, .. } => logout_changes(alloc, before, *address),
+        Replied::Rejected { .. }
         | Replied::NsLogin(_)
         | Replied::NsLogout
         | Replied::Watching(_)

@@ -19,6 +19,5 @@ pub use answers::frames_of_answer;
 pub use clears::clear;
 pub use frame::{answer_sends, frame_sends, grant_sends, registration_sends, reply_sends};
 pub use laws::{frames_send, frames_tell, ticks_send, ticks_tell};
-pub use replies::right_frames_suit;
 pub use sends::{Before, Grant, Sends};
 pub use tick::tick_sends;

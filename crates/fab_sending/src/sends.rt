@@ -7,6 +7,7 @@ use fab_config::Config;
 use fab_messages::OutList;
 use fab_policy::Asker;
 use fab_roster::{LoginList, Request, Roster};
+use fip_codec::LoginKind;
 use zone_rules::Zones;
 
 /// What decides over the frames that an entry sends, as it stands before the entry: how many ports
@@ -41,6 +42,8 @@ pub struct Sends {
 pub struct Grant<'a> {
     pub request: &'a Request,
     pub to: Asker,
+    /// Which login it is.
+    pub kind: LoginKind,
     /// Whether it asks for several addresses.
     pub several: bool,
     pub address: FcId,

@@ -55,11 +55,11 @@ pub(crate) fn carry_out_reply(
     // Law: tables that change as a verdict says are the tables after its entry.
     tables_change();
     match verdict {
-        Replied::Logout(address) => roster.end(address),
+        Replied::Logout { address, .. } => roster.end(address),
         Replied::NsLogin(size) => roster.set_server(to.s_id, Some(size)),
         Replied::NsLogout => roster.set_server(to.s_id, None),
         Replied::Watching(function) => roster.watch(to.s_id, function),
-        Replied::Rejected(..) | Replied::Refused(..) => {}
+        Replied::Rejected { .. } | Replied::Refused(..) => {}
     }
 }
 

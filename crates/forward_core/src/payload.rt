@@ -1,13 +1,13 @@
 //! The payload of the FC frame in a body of FCoE.
 ghost use Rattle.std.specs.Prelude.{◌≡◌};
-ghost use Rattle.fab_policy.specs.Heard.{carried, decoded};
-ghost use Rattle.fab_sending.specs.Replies.{IsBody};
+ghost use Rattle.fab_policy.specs.Classes.{HasBody};
+ghost use Rattle.fab_policy.specs.Heard.{carried};
 
 use fab_policy::{Heard, What, frames_are_carried};
 
 /// The payload of the FC frame in a body of FCoE that was read.
 pub(crate) fn payload_of<'a>(heard: &'a Heard<'_>) -> &'a [u8]
-    requires { IsBody (decoded heard.now.caught.now) }
+    requires { HasBody heard.now.caught.now }
     ensures { result.now ≡ (carried heard.now.caught.now).payload }
 {
     // Law: what a decoded frame says is what a journal reads from its bytes.

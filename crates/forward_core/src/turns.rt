@@ -17,10 +17,7 @@ use ct_messages::{CtTell, read_ask};
 use fab_base::{FcId, NoMemory};
 use fab_judge::Candidate;
 use fab_policy::{Asker, Replied, Settled, Verdict, tables_change};
-use fab_sending::{
-    Grant, answer_sends, frame_sends, grant_sends, registration_sends, reply_sends,
-    right_frames_suit,
-};
+use fab_sending::{Grant, answer_sends, frame_sends, grant_sends, registration_sends, reply_sends};
 use std::alloc::Global;
 
 impl Fabric {
@@ -53,8 +50,7 @@ impl Fabric {
             (judged.Replied verdict.now to) (of_replied verdict.now) }
         ensures { TakesOrStays self.old arrived.now (of_replied verdict.now) result self.new }
     {
-        let &Arrived { port, heard, .. } = arrived;
-        let sends = reply_sends(alloc, &self.before(), port, heard, *verdict, to)?;
+        let sends = reply_sends(alloc, &self.before(), arrived.port, *verdict, to)?;
         self.keep_frame(alloc, arrived, verdict.verdict(), sends)?;
         carry_out_reply(&mut self.roster, arrived, *verdict, to);
         Ok(())
@@ -73,15 +69,15 @@ impl Fabric {
         requires free { IsTrue (is_free self.old.state.tables login.now.request address) }
         ensures { TakesOrStays self.old arrived.now (Granted address) result self.new }
     {
-        let &Arrived { port, heard, .. } = arrived;
         let granted = Grant {
             request: &login.request,
             to: login.to,
+            kind: login.kind,
             several: login.several,
             address,
             ended: &login.ended,
         };
-        let sends = grant_sends(alloc, &self.before(), port, heard, &granted)?;
+        let sends = grant_sends(alloc, &self.before(), arrived.port, &granted)?;
         self.keep_frame(alloc, arrived, Verdict::Granted(address), sends)?;
         grant(
             &mut self.roster,
@@ -105,13 +101,10 @@ impl Fabric {
             (judged.Registers to) Registered }
         ensures { TakesOrStays self.old arrived.now Registered result self.new }
     {
-        let &Arrived { port, heard, .. } = arrived;
-        // Law: a right verdict suits what the frame was decoded as: here a registration.
-        right_frames_suit();
-        let Ok(ask) = read_ask(payload_of(heard)) else {
+        let Ok(ask) = read_ask(payload_of(arrived.heard)) else {
             unreachable!()
         };
-        let sends = registration_sends(alloc, &self.before(), port, heard, to, &ask)?;
+        let sends = registration_sends(alloc, &self.before(), arrived.port, to, &ask)?;
         self.keep_frame(alloc, arrived, Verdict::Registered, sends)?;
         register(&mut self.roster, arrived, to, &ask);
         Ok(())
@@ -130,10 +123,9 @@ impl Fabric {
             (judged.Answers to tell.now size) Answered }
         ensures { TakesOrStays self.old arrived.now Answered result self.new }
     {
-        let &Arrived { port, heard, .. } = arrived;
         // Law: an answer leaves the tables as they are.
         tables_change();
-        let sends = answer_sends(alloc, &self.before(), port, heard, to, tell, size)?;
+        let sends = answer_sends(alloc, &self.before(), arrived.port, to, tell, size)?;
         self.keep_frame(alloc, arrived, Verdict::Answered, sends)?;
         // For the proof: the roster is the one before.
         let _ = &self.roster;

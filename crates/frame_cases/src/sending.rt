@@ -4,9 +4,6 @@ ghost use Rattle.case_lines.specs.Printing.{Grows};
 ghost use Rattle.std.specs.Prelude.{◌≤◌, ◌^◌};
 ghost use Rattle.ct_messages.specs.CanWrite.{CanTell};
 ghost use Rattle.ct_messages.specs.Answer.{size_of};
-ghost use Rattle.fab_policy.specs.Classes.{of_replied};
-ghost use Rattle.fab_policy.specs.Heard.{What as Decoded};
-ghost use Rattle.fab_sending.specs.Replies.{IsBody, Suits};
 
 use crate::frames::caught;
 use crate::sent::said_outs;
@@ -14,7 +11,7 @@ use ct_messages::{CtTell, NextPort, TypeMap};
 use fab_base::{Bytes, FcId, Mac, Moment, NoMemory, PortNo, Wwn};
 use fab_config::Config;
 use fab_messages::OutList;
-use fab_policy::{Asker, Heard, Replied, Settled, What, frames_are_carried, hear};
+use fab_policy::{Asker, Heard, Replied, Settled, What, hear};
 use fab_sending::replies::{frames_of, reply};
 use fab_sending::{advertise, clear, frames_of_answer};
 use fip_codec::VxPort;
@@ -201,11 +198,7 @@ fn to_body(
     port: PortNo,
     heard: &Heard<'_>,
     verdict: Replied,
-) -> Result<OutList, CaseFault>
-    requires { (what : Decoded) → IsBody what → Suits what (of_replied verdict) }
-{
-    // Law: what a decoded frame says is what a journal reads from its bytes.
-    frames_are_carried();
+) -> Result<OutList, CaseFault> {
     match &heard.what {
         What::Fcoe {
             eth,
@@ -218,7 +211,7 @@ fn to_body(
                 s_id: head.s_id,
                 ox_id: head.ox_id,
             };
-            Ok(reply(alloc, now, port, heard, verdict, to)?)
+            Ok(reply(alloc, now, port, verdict, to)?)
         }
         _ => Err(CaseFault::Refused),
     }

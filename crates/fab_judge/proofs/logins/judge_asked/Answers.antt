@@ -9,19 +9,19 @@ use Rattle.fab_judge.proofs.logins.judge_asked.Goals as goal
 pub returns-then-is_first_missing-clause-judged : goal.returns-then-is_first_missing-clause-judged
 returns-then-is_first_missing-clause-judged c =
     let C = c.args.config.now in
-    rw (c.rejected-then-is_first_missing.ensures, c.if-not-fp.false, sym (c.is_first_missing.ensures C) ∙ c.if-is_first_missing.true)
+    rw (c.rejected-then-is_first_missing.ensures, c.if-not-asked.false, sym (c.is_first_missing.ensures C) ∙ c.if-is_first_missing.true)
 
 pub returns-then-not-offers_class3-clause-judged : goal.returns-then-not-offers_class3-clause-judged
 returns-then-not-offers_class3-clause-judged c =
     let C = c.args.config.now in
-    rw (c.rejected-then-not-offers_class3.ensures, c.if-not-fp.false, sym (c.is_first_missing.ensures C) ∙ c.if-is_first_missing.false, sym c.offers_class3.ensures ∙ c.if-not-offers_class3.true)
+    rw (c.rejected-then-not-offers_class3.ensures, c.if-not-asked.false, sym (c.is_first_missing.ensures C) ∙ c.if-is_first_missing.false, sym c.offers_class3.ensures ∙ c.if-not-offers_class3.true)
 
 pub returns-then-is_name_refused-clause-judged : goal.returns-then-is_name_refused-clause-judged
 returns-then-is_name_refused-clause-judged c =
     let C = c.args.config.now in
     rw (
       c.rejected-then-is_name_refused.ensures,
-      c.if-not-fp.false,
+      c.if-not-asked.false,
       sym (c.is_first_missing.ensures C) ∙ c.if-is_first_missing.false,
       sym c.offers_class3.ensures ∙ c.if-not-offers_class3.false,
       sym (c.is_name_refused.ensures C) ∙ c.if-is_name_refused.true,
@@ -32,7 +32,7 @@ returns-in_default-clause-judged c =
     let C = c.args.config.now in
     rw (
       c.rejected-in_default.ensures,
-      c.if-not-fp.false,
+      c.if-not-asked.false,
       sym (c.is_first_missing.ensures C) ∙ c.if-is_first_missing.false,
       sym c.offers_class3.ensures ∙ c.if-not-offers_class3.false,
       sym (c.is_name_refused.ensures C) ∙ c.if-is_name_refused.false,
@@ -43,7 +43,7 @@ pub returns-clause-judged : goal.returns-clause-judged
 returns-clause-judged c =
     let C = c.args.config.now in
     rw (
-      c.if-not-fp.false,
+      c.if-not-asked.false,
       sym (c.is_first_missing.ensures C) ∙ c.if-is_first_missing.false,
       sym c.offers_class3.ensures ∙ c.if-not-offers_class3.false,
       sym (c.is_name_refused.ensures C) ∙ c.if-is_name_refused.false,

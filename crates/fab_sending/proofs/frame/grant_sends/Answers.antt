@@ -4,14 +4,13 @@ use Rattle.fab_sending.proofs.Joining.{at_clock}
 use Rattle.fab_sending.proofs.frame.grant_sends.Goals as goal
 
 pub returns : goal.returns
-returns c = λ entry.
+returns c = λ entry caught grant.
     let b = c.args.before.now in
     let T = b.roster.now.tables in
-    let caught = c.args.heard.now.caught.now in
     let v = Granted c.args.grant.now.address in
     c.in_ok-sends.ensures c.args.port entry caught v (record {
       made = at_clock _ _ (messages b.config.now T c.args.port entry caught v) c.in_ok-frames.frames c.clock.ensures.now
-          (c.in_ok-frames.ensures.made b.config.now T entry c.requires.grant.to c.requires.grant.several);
+          (c.in_ok-frames.ensures.made b.config.now T entry caught grant.accept);
       sendable = λ events at. c.in_ok-frames.ensures.sendable events;
-      changes_are = c.in_ok-changes.ensures c.args.port caught c.requires.grant;
+      changes_are = c.in_ok-changes.ensures c.args.port caught grant;
     })

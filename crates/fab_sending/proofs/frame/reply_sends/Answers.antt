@@ -4,13 +4,12 @@ use Rattle.fab_sending.proofs.Joining.{at_clock}
 use Rattle.fab_sending.proofs.frame.reply_sends.Goals as goal
 
 pub returns : goal.returns
-returns c = λ entry.
+returns c = λ entry caught values to.
     let b = c.args.before.now in
     let T = b.roster.now.tables in
-    let caught = c.args.heard.now.caught.now in
     let v = of_replied c.args.verdict in
     c.in_ok-sends.ensures c.args.port entry caught v (record {
-      made = at_clock _ _ (messages b.config.now T c.args.port entry caught v) c.in_ok-frames.frames c.clock-moment.ensures.now (c.in_ok-frames.ensures.made b.config.now T entry);
+      made = at_clock _ _ (messages b.config.now T c.args.port entry caught v) c.in_ok-frames.frames c.clock-moment.ensures.now (c.in_ok-frames.ensures.made b.config.now T entry caught values to);
       sendable = λ events at. c.in_ok-frames.ensures.sendable events;
       changes_are = c.in_ok-changes.ensures c.args.port caught;
     })
