@@ -1,7 +1,6 @@
 //! The parts of what is sent: tags, MACs, names, headers and link services.
 ghost use Rattle.std.specs.Prelude.{◌≡◌, ◌+◌, ◌<◌, ◌≤◌, IfOk, vec_len};
 ghost use Rattle.els_messages.specs.Els as els;
-ghost use Rattle.fab_policy.specs.Queries.{fport};
 ghost use Rattle.fab_policy.specs.Replies as spec;
 ghost use Rattle.fc_frames.specs.Frame.{IsPayload};
 ghost use Rattle.fc_frames.specs.Kind.{r_ctl_of, type_of};
@@ -9,8 +8,9 @@ ghost use Rattle.fab_messages.specs.Message.{els_of};
 
 use crate::Answer;
 use els_messages::{CLASS_3, Els, Feature, LoginParms, els_bytes};
-use fab_base::{FcId, NoMemory, PortNo, Wwn};
+use fab_base::{FcId, NoMemory, PortNo};
 use fab_config::Config;
+use fab_policy::port_name;
 use fc_frames::{FcHeader, Kind, MOST_PAYLOAD, UNASSIGNED};
 use std::alloc::Global;
 
@@ -19,15 +19,6 @@ pub(crate) fn own_tag(config: &Config) -> u16
     ensures { result ≡ 0x6000 + config.now.vlan }
 {
     0x6000 + config.vlan
-}
-
-// The name of a port of the forwarder; 0 is its name server.
-fn port_name(config: &Config, port: u32) -> Wwn
-    requires { port ≤ 64 }
-    ensures { result ≡ fport config.now port }
-{
-    let space = 1 << 48;
-    Wwn((0x2000 + u64::from(port)) * space + config.switch.0 % space)
 }
 
 // A header with what an answer and a state change have in common.

@@ -3,14 +3,15 @@ ghost use Rattle.std.specs.Prelude.{◌≡◌, IfOk, IsSome, Some, false, map, f
 ghost use Rattle.ct_messages.specs.Ask.{view};
 ghost use Rattle.ct_messages.specs.CanWrite.{CanTell};
 ghost use Rattle.ct_messages.specs.Server as server;
-ghost use Rattle.fab_policy.specs.Queries.{known_to, fport};
+ghost use Rattle.fab_policy.specs.Queries.{known_to};
 ghost use Rattle.fab_policy.specs.State.{LivePort, port_at};
 ghost use Rattle.fab_roster.specs.Reaching.{zones_of, may_see, seen_port};
 
 use crate::{Login, Roster};
 use ct_messages::{CtAsk, CtTell};
-use fab_base::{FcId, Moment, NoMemory, PortNo, Wwn};
+use fab_base::{FcId, Moment, NoMemory};
 use fab_config::Config;
+use fab_policy::port_name;
 use login_table::LoginTable;
 use name_server::{Seen, SeenPort};
 use std::alloc::Global;
@@ -80,15 +81,6 @@ fn seen_port(config: &Config, login: &Login) -> SeenPort
     SeenPort {
         address: login.address,
         name: login.name,
-        fabric_port: fabric_port_name(config, login.enode.port),
+        fabric_port: port_name(config, login.enode.port.value()),
     }
-}
-
-// The name of a port of the forwarder: 2000 (hexadecimal) plus its number, and the low 48 bits of
-// the switch name.
-fn fabric_port_name(config: &Config, port: PortNo) -> Wwn
-    ensures { result ≡ fport config.now port }
-{
-    let high = 0x2000 + u64::from(port.value());
-    Wwn((high << 48) + config.switch.0 % (1 << 48))
 }
