@@ -10,8 +10,8 @@ use Rattle.fc_frames.specs.declared.FcFault.{FcFault}
 use Rattle.fip_codec.specs.Message as fip
 use Rattle.fip_codec.specs.declared.message.LoginKind.TheVariants.{Flogi, Fdisc, Logo}
 use Rattle.els_messages.specs.Els as els
-use Rattle.fab_policy.specs.Heard.{What, Bad, Fip, Fcoe, decoded}
-use Rattle.fab_policy.specs.Rules.{ALL_ENODES, ALL_FCFS}
+use Rattle.heard_frames.specs.Heard.{What, Bad, Fip, Fcoe, decoded}
+use Rattle.heard_frames.specs.Rows.{ALL_ENODES, ALL_FCFS}
 use Rattle.fab_base.specs.Layout.{zeros}
 use Rattle.enode_core.specs.declared.node.Identity.{Identity}
 use Rattle.enode_core.specs.declared.node.Kept.{Kept}

@@ -4,8 +4,8 @@ use Rattle.fab_base.specs.declared.values.Caught.{Caught}
 use Rattle.pcap_file.specs.declared.Record.{Record}
 use Rattle.eth_frames.specs.Ethernet as eth
 use Rattle.fip_codec.specs.Message as fip
-use Rattle.fab_policy.specs.Heard.{Fip, decoded}
-use Rattle.fab_policy.specs.Rules.{ALL_ENODES}
+use Rattle.heard_frames.specs.Heard.{Fip, decoded}
+use Rattle.heard_frames.specs.Rows.{ALL_ENODES}
 use Rattle.enode_core.specs.declared.node.Identity.{Identity}
 use Rattle.enode_core.specs.declared.node.Kept.{Kept}
 use Rattle.enode_core.specs.declared.node.Stage.{Stage}

@@ -1,7 +1,7 @@
 -- What each run of a node over records keeps.
 use Rattle.std.specs.Prelude.{◌≡◌, ℕ, IsTrue, List, ◌++◌}
 use Rattle.fab_config.specs.Settings.{Settings, is_in_range}
-use Rattle.fab_policy.specs.Heard.{asked}
+use Rattle.heard_frames.specs.Heard.{asked}
 use Rattle.fab_policy.specs.Journal.{Journal}
 use Rattle.fab_policy.specs.Legal.{Legal}
 use Rattle.pcap_file.specs.declared.Record.{Record}

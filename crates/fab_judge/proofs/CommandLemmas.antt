@@ -7,7 +7,7 @@ use Rattle.fip_codec.specs.Message as fip
 use Rattle.fip_codec.specs.declared.message.LoginKind.{LoginKind}
 use Rattle.fip_codec.specs.declared.message.LoginKind.TheVariants.{Flogi, Fdisc, Logo}
 use Rattle.els_messages.specs.Els as els
-use Rattle.fab_policy.specs.Heard.{login_of, is_flogi, NO_FRAME}
+use Rattle.heard_frames.specs.Heard.{login_of, is_flogi, NO_FRAME}
 use Rattle.fab_policy.specs.Rules.{is_unreadable}
 use Rattle.fab_judge.specs.Origin.{is_flogi_by}
 

@@ -9,10 +9,11 @@ use Rattle.eth_frames.specs.Ethernet as eth
 use Rattle.fcoe_codec.specs.Fcoe as capsule
 use Rattle.fcoe_codec.specs.declared.FcoeFault.{FcoeFault}
 use Rattle.fip_codec.specs.Message as fip
-use Rattle.fab_policy.specs.Cause.{Cause}
-use Rattle.fab_policy.specs.Heard.{What, Bad, Fip, Fcoe, decoded, plain, carried, login_of}
+use Rattle.fab_policy.specs.Cause.{Cause, plain}
+use Rattle.heard_frames.specs.Heard.{What, Bad, Fip, Fcoe, decoded, carried, login_of}
 use Rattle.fab_policy.specs.Replies.{kind_asked}
-use Rattle.fab_policy.specs.Rules.{first_row, frame_rule, rule_for, rule_of, is_wrong_vlan, fip_frame_rows, fip_login_rows, fcoe_rows}
+use Rattle.heard_frames.specs.Rows.{first_row, is_wrong_vlan}
+use Rattle.fab_policy.specs.Rules.{frame_rule, rule_for, rule_of, fip_frame_rows, fip_login_rows, fcoe_rows}
 use Rattle.fab_policy.specs.State.{Tables}
 use Rattle.fab_policy.specs.Verdicts.{Judgement, Must, judged, message_judged, fip_judged}
 use Rattle.fab_policy.specs.declared.verdict.Verdict.TheVariants.{Dropped}
@@ -45,8 +46,8 @@ module _ (c : Settings) (T : Tables) (port : ℕ) (caught : Caught) where
   unfolding rule_for
   rule_first (Bad why) cause e = e
   rule_first (Fip f m) cause e = first (fip_frame_rows c f m) (fip_login_rows c T port caught m) cause e
-  rule_first (Fcoe f (Ok x)) cause e = first ((is_wrong_vlan c f false, plain rule.Vlan) ∷ []) (fcoe_rows c T port f x) cause e
-  rule_first (Fcoe f (Err fault)) cause e = first ((is_wrong_vlan c f false, plain rule.Vlan) ∷ []) ((true, rule_of fault) ∷ []) cause e
+  rule_first (Fcoe f (Ok x)) cause e = first ((is_wrong_vlan c.vlan f false, plain rule.Vlan) ∷ []) (fcoe_rows c T port f x) cause e
+  rule_first (Fcoe f (Err fault)) cause e = first ((is_wrong_vlan c.vlan f false, plain rule.Vlan) ∷ []) ((true, rule_of fault) ∷ []) cause e
 
   pub judged_by_rule : (cause : Cause) → frame_rule c (decoded caught) ≡ Some cause → judged c T port caught ≡ Must (Dropped cause)
   unfolding judged
@@ -67,8 +68,8 @@ module _ (c : Settings) (T : Tables) (port : ℕ) (caught : Caught) where
   pub judged_fcoe : (f : eth.Eth) (read : Result capsule.Fcoe FcoeFault) → decoded caught ≡ Fcoe f read → frame_rule c (Fcoe f read) ≡ None →
       judged c T port caught ≡ body_judged c T port f read
   unfolding rule_for
-  judged_fcoe f (Ok x) d e = judged_is (Fcoe f (Ok x)) d ∙ ap (λ o. by_rule o (message_judged c T port caught (Fcoe f (Ok x)))) (behind ((is_wrong_vlan c f false, plain rule.Vlan) ∷ []) (fcoe_rows c T port f x) e)
-  judged_fcoe f (Err fault) d e = judged_is (Fcoe f (Err fault)) d ∙ ap (λ o. by_rule o (message_judged c T port caught (Fcoe f (Err fault)))) (behind ((is_wrong_vlan c f false, plain rule.Vlan) ∷ []) ((true, rule_of fault) ∷ []) e)
+  judged_fcoe f (Ok x) d e = judged_is (Fcoe f (Ok x)) d ∙ ap (λ o. by_rule o (message_judged c T port caught (Fcoe f (Ok x)))) (behind ((is_wrong_vlan c.vlan f false, plain rule.Vlan) ∷ []) (fcoe_rows c T port f x) e)
+  judged_fcoe f (Err fault) d e = judged_is (Fcoe f (Err fault)) d ∙ ap (λ o. by_rule o (message_judged c T port caught (Fcoe f (Err fault)))) (behind ((is_wrong_vlan c.vlan f false, plain rule.Vlan) ∷ []) ((true, rule_of fault) ∷ []) e)
 
 -- a body carries its frame
 pub carried_by : BodiesAreCarried → (caught : Caught) (f : eth.Eth) (read : Result capsule.Fcoe FcoeFault) → decoded caught ≡ Fcoe f read → IsCarried read (carried caught)

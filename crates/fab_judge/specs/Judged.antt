@@ -16,7 +16,7 @@ use Rattle.ct_messages.specs.declared.CtTell.{CtTell}
 use Rattle.state_change.specs.Watchers.{is_function}
 use Rattle.fab_policy.specs.Classes.{HasBody, IsRepliedFor, IsSettledFor, of_replied, of_settled}
 use Rattle.fab_policy.specs.Free.{Request, is_free}
-use Rattle.fab_policy.specs.Heard.{sender, is_flogi, carried}
+use Rattle.heard_frames.specs.Heard.{sender, is_flogi, carried}
 use Rattle.fab_policy.specs.Queries.{query}
 use Rattle.fab_policy.specs.Replies.{Asker, kind_asked}
 use Rattle.fab_policy.specs.State.{LivePort, Tables, port_at}

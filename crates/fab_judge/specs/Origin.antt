@@ -2,7 +2,7 @@
 use Rattle.std.specs.Prelude.{ℕ, Bool, false, ◌==◌, List, [], ◌∷◌}
 use Rattle.fab_base.specs.declared.values.Caught.{Caught}
 use Rattle.fip_codec.specs.declared.message.LoginKind.{LoginKind}
-use Rattle.fab_policy.specs.Heard.{asked}
+use Rattle.heard_frames.specs.Heard.{asked}
 use Rattle.fab_policy.specs.Verdicts.{request_of}
 
 pub record Origin : Type 0 where

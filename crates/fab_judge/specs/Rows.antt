@@ -6,7 +6,8 @@ use Rattle.fcoe_codec.specs.Fcoe as capsule
 use Rattle.fcoe_codec.specs.declared.FcoeFault.{FcoeFault}
 use Rattle.fab_config.specs.Settings.{Settings}
 use Rattle.fab_policy.specs.Cause.{Cause}
-use Rattle.fab_policy.specs.Rules.{first_row, fcoe_rows, rule_of}
+use Rattle.heard_frames.specs.Rows.{first_row}
+use Rattle.fab_policy.specs.Rules.{fcoe_rows, rule_of}
 use Rattle.fab_policy.specs.State.{Tables}
 use Rattle.fab_policy.specs.Verdicts.{Judgement, Must, fcoe_judged}
 use Rattle.fab_policy.specs.declared.verdict.Verdict.TheVariants.{Dropped}

@@ -5,10 +5,10 @@ ghost use Rattle.fab_base.specs.declared.values.Caught.{Caught as Captured};
 ghost use Rattle.fab_base.specs.declared.values.Enode.{Enode};
 ghost use Rattle.fab_judge.specs.Judged.{judgement_of, Grounds, HasValues, Rests};
 ghost use Rattle.fab_judge.specs.Rows.{body_judged, IsCarried};
-ghost use Rattle.fab_policy.specs.Heard.{Fcoe, decoded};
+ghost use Rattle.heard_frames.specs.Heard.{Fcoe, decoded};
 ghost use Rattle.fab_policy.specs.Rules.{rule_of};
 ghost use Rattle.fab_policy.specs.Verdicts.{judged};
-ghost use Rattle.fab_policy.specs.View.{read_view};
+ghost use Rattle.heard_frames.specs.View.{read_view};
 ghost use Rattle.fab_roster.specs.Reaching.{zones_of};
 ghost use Rattle.fc_frames.specs.Frame.{Frame};
 
@@ -20,10 +20,11 @@ use ct_messages::CtTell;
 use eth_frames::EthFrame;
 use fab_base::{FcId, NoMemory, PortNo, Wwn};
 use fab_config::Config;
-use fab_policy::{Asker, Heard, Replied, Rule, Settled, What, frame_rule, frames_are_carried};
+use fab_policy::{Asker, Replied, Rule, Settled, frame_rule, frames_are_carried};
 use fab_roster::{LoginList, Request, Roster};
 use fcoe_codec::{FcoeFault, FcoeFrame};
 use fip_codec::LoginKind;
+use heard_frames::{Heard, What};
 use std::alloc::Global;
 use zone_rules::Zones;
 

@@ -1,7 +1,7 @@
 //! Who sent a frame.
 ghost use Rattle.std.specs.Prelude.{◌≡◌};
 ghost use Rattle.fab_judge.specs.Judged.{asker_by};
-ghost use Rattle.fab_policy.specs.Heard.{sender, source};
+ghost use Rattle.heard_frames.specs.Heard.{sender, source};
 
 use fab_base::{Caught, Enode, Mac, PortNo};
 use fab_policy::Asker;
@@ -31,7 +31,7 @@ pub(crate) struct Sender {
 
 impl Model for Sender {
     ghost use Rattle.std.specs.Prelude.{◌≡◌};
-    ghost use Rattle.fab_policy.specs.Heard.{sender};
+    ghost use Rattle.heard_frames.specs.Heard.{sender};
     ghost use Rattle.fab_judge.specs.Origin.{Origin};
 
     ghost Value = { Origin };

@@ -12,7 +12,7 @@ ghost use Rattle.fab_policy.specs.Rules.{fcoe_rows};
 ghost use Rattle.fab_policy.specs.State.{LivePort, Tables, port_at};
 ghost use Rattle.fab_policy.specs.Verdicts as verdicts;
 ghost use Rattle.fab_policy.specs.Verdicts.{fcoe_judged, unless_refused};
-ghost use Rattle.fab_policy.specs.Heard.{plain};
+ghost use Rattle.fab_policy.specs.Cause.{plain};
 ghost use Rattle.fab_policy.specs.declared.verdict.Verdict.TheVariants.{NsLogin, Watching};
 ghost use Rattle.fab_roster.specs.Reaching.{zones_of};
 ghost use Rattle.fab_roster.specs.Roll.{login_of};

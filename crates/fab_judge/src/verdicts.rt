@@ -1,7 +1,6 @@
 //! Judgements that are one verdict.
 ghost use Rattle.std.specs.Prelude.{◌≡◌, false};
-ghost use Rattle.fab_policy.specs.Cause.{is_numbered};
-ghost use Rattle.fab_policy.specs.Heard.{plain};
+ghost use Rattle.fab_policy.specs.Cause.{is_numbered, plain};
 
 use crate::Judged;
 use fab_policy::{Asker, Dropped, Replied, Rule, Settled};

@@ -5,9 +5,10 @@ ghost use Rattle.fab_shared.specs.Handled.{HandledPort};
 ghost use Rattle.fab_live.specs.Handling.{HandlesOne};
 
 use fab_base::{Caught, NoMemory, PortNo};
-use fab_policy::{Verdict, fabric_steps, hear};
+use fab_policy::{Verdict, fabric_steps};
 use fab_windows::tick_to;
 use forward_core::{Drained, Fabric, StepFault};
+use heard_frames::hear;
 use std::alloc::Global;
 
 /// Makes the ticks up to a window, handles a frame of a port in it, and hands out what both made.

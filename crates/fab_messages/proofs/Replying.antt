@@ -3,7 +3,7 @@ use Rattle.std.proofs.Common.{◌≡◌, ℕ, ◌+◌, true, false, Bool, if◌t
 use Rattle.fab_base.specs.declared.values.Caught.{Caught}
 use Rattle.fab_config.specs.Settings.{Settings}
 use Rattle.els_messages.specs.Els as els
-use Rattle.fab_policy.specs.Heard.{ask_of, d_id, login_of, s_id}
+use Rattle.heard_frames.specs.Heard.{ask_of, d_id, login_of, s_id}
 use Rattle.fab_policy.specs.Queries.{query}
 use Rattle.fab_policy.specs.Replies.{Asker, asker_of, kind_asked, ct_frames, ct_frame, ct_reply, login_reply, service_reply}
 use Rattle.fab_policy.specs.State.{Tables, LivePort, port_at}

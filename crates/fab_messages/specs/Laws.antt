@@ -9,7 +9,7 @@ use Rattle.els_messages.specs.Els as els
 use Rattle.ct_messages.specs.Answer as ct
 use Rattle.ct_messages.specs.declared.CtTell.{CtTell}
 use Rattle.ct_messages.specs.declared.CtTell.TheVariants as tell
-use Rattle.fab_policy.specs.Heard.{Fcoe, ask_of, decoded, asked, d_id, login_of, s_id, source}
+use Rattle.heard_frames.specs.Heard.{Fcoe, ask_of, decoded, asked, d_id, login_of, s_id, source}
 use Rattle.fab_policy.specs.Outputs.{replies}
 use Rattle.fab_policy.specs.Queries.{query}
 use Rattle.fab_policy.specs.Replies.{Asker, asker_of, kind_asked, is_untagged, size_asked}

@@ -4,7 +4,7 @@ ghost use Rattle.fab_base.specs.Layout.{padded};
 ghost use Rattle.fip_codec.specs.CanWrite.{CanWrite};
 ghost use Rattle.fip_codec.specs.Message as fip;
 ghost use Rattle.fab_policy.specs.Replies as spec;
-ghost use Rattle.fab_policy.specs.Rules.{ALL_ENODES as ALL_NODES};
+ghost use Rattle.heard_frames.specs.Rows.{ALL_ENODES as ALL_NODES};
 
 use crate::fip::write_message;
 use crate::own::write_own;

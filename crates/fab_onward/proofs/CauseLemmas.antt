@@ -12,9 +12,10 @@ use Rattle.fip_codec.specs.Message as fip
 use Rattle.fip_codec.specs.Reading as reading
 use Rattle.fip_codec.specs.declared.fault.FipFault.{FipFault}
 use Rattle.fip_codec.specs.declared.fault.FipFault.TheVariants.{Short, Version, Operation, ListLength, DescLength, Critical, Double, Missing}
-use Rattle.fab_policy.specs.Cause.{Cause, is_numbered}
-use Rattle.fab_policy.specs.Heard.{What, Bad, Fip, Fcoe, FIP, FCOE, plain, cause_of, fip_in, frame_in, decoded}
-use Rattle.fab_policy.specs.Rules.{first_row, fip_rows, fcoe_rows, rule_of, rule_for, is_wrong_vlan}
+use Rattle.fab_policy.specs.Cause.{Cause, is_numbered, plain, cause_of}
+use Rattle.heard_frames.specs.Heard.{What, Bad, Fip, Fcoe, FIP, FCOE, fip_in, frame_in, decoded}
+use Rattle.heard_frames.specs.Rows.{first_row, is_wrong_vlan}
+use Rattle.fab_policy.specs.Rules.{fip_rows, fcoe_rows, rule_of, rule_for}
 use Rattle.fab_policy.specs.State.{Tables}
 use Rattle.fab_policy.specs.declared.verdict.Rule.TheVariants as rule
 use Rattle.fab_onward.proofs.FaultLemmas.{IsSmall, SmallRead, HasBody, body_bytes, read_small}
@@ -95,9 +96,9 @@ unfolding rule_for
 rules_ranged c T port caught (Bad cause) h = h
 rules_ranged c T port caught (Fip f m) h =
     first_ranged (fip_rows c T port caught f m) ((refl, tt), ((refl, tt), ((refl, tt), ((refl, tt), ((refl, tt), ((refl, tt), ((refl, tt), tt)))))))
-rules_ranged c T port caught (Fcoe f (Err e)) h = first_ranged ((is_wrong_vlan c f false, plain rule.Vlan) ∷ (true, rule_of e) ∷ []) ((refl, tt), (rule_ranged e, tt))
+rules_ranged c T port caught (Fcoe f (Err e)) h = first_ranged ((is_wrong_vlan c.vlan f false, plain rule.Vlan) ∷ (true, rule_of e) ∷ []) ((refl, tt), (rule_ranged e, tt))
 rules_ranged c T port caught (Fcoe f (Ok x)) h =
-    first_ranged ((is_wrong_vlan c f false, plain rule.Vlan) ∷ fcoe_rows c T port f x)
+    first_ranged ((is_wrong_vlan c.vlan f false, plain rule.Vlan) ∷ fcoe_rows c T port f x)
     ((refl, tt), ((refl, tt), ((refl, tt), ((refl, tt), ((refl, tt), ((refl, tt), ((refl, tt), ((refl, tt), ((refl, tt), ((refl, tt), ((refl, tt), ((refl, tt), ((refl, tt), tt)))))))))))))
 
 -- rows none of which drops a frame

@@ -14,14 +14,15 @@ use Rattle.ct_messages.specs.Ct as ct
 use Rattle.ct_messages.specs.declared.CtFault.{CtFault}
 use Rattle.ct_messages.specs.declared.CtFault.TheVariants as ct_fault
 use Rattle.ct_messages.specs.Server.{Refusal, Known, refused_if, is_registration, registration_refusal, query_refusal, types_refusal, known_at, known_by_name, of_type, is_port_type}
-use Rattle.fab_policy.specs.Cause.{Cause}
+use Rattle.fab_policy.specs.Cause.{Cause, plain}
 use Rattle.fab_policy.specs.Free.{Request, has_free}
-use Rattle.fab_policy.specs.Heard.{What, Bad, Fip, Fcoe, plain, decoded, source, fc_of}
+use Rattle.heard_frames.specs.Heard.{What, Bad, Fip, Fcoe, decoded, source, fc_of}
 use Rattle.fab_policy.specs.Journal.{Journal}
 use Rattle.fab_policy.specs.Logins.{granted_mac}
 use Rattle.fab_policy.specs.Queries.{refusal, ask_refusal, fault_refusal, known_to}
 use Rattle.fab_policy.specs.Ranged.{IsRanged, IsRangedVerdict}
-use Rattle.fab_policy.specs.Rules.{first_row, rule_for, fip_rows, holds, is_known, is_els_reply, is_els_request, NAME_SERVER, SERVICES}
+use Rattle.heard_frames.specs.Rows.{first_row}
+use Rattle.fab_policy.specs.Rules.{rule_for, fip_rows, holds, is_known, is_els_reply, is_els_request, NAME_SERVER, SERVICES}
 use Rattle.fab_policy.specs.State.{Tables, LivePort, tables_of, port_at}
 use Rattle.fab_policy.specs.Verdicts.{Judgement, Must, MayGrant, Meets, judged, message_judged, fip_judged, frame_judged, login_judged, fcoe_judged, service_judged, els_judged, ct_judged, request_of, staying, unless_refused, is_own_logout, is_function}
 use Rattle.fab_policy.specs.declared.verdict.Verdict.{Verdict}

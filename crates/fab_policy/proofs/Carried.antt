@@ -17,7 +17,8 @@ use Rattle.fip_codec.specs.declared.fault.FipFault.{FipFault}
 use Rattle.fip_codec.specs.declared.message.LoginKind.{LoginKind}
 use Rattle.els_messages.specs.Els as els
 use Rattle.fab_policy.specs.Carried.{SourcesAreRead, LoginsAreCarried, BodiesAreCarried, ParmsAreAsked, AnswersAreAsked}
-use Rattle.fab_policy.specs.Heard.{What, Bad, Fip, Fcoe, FIP, FCOE, plain, cause_of, decoded, frame_in, fip_in, source, fc_of, login_of, carried, NO_FRAME}
+use Rattle.heard_frames.specs.Heard.{What, Bad, Fip, Fcoe, FIP, FCOE, decoded, frame_in, fip_in, source, fc_of, login_of, carried, NO_FRAME}
+use Rattle.fab_policy.specs.Cause.{plain, cause_of}
 use Rattle.fab_policy.specs.Replies.{size_in, size_asked}
 use Rattle.fab_policy.specs.declared.verdict.Rule.TheVariants as rule
 use Rattle.fab_policy.proofs.SoundParms.{SaysParms, says_parms}

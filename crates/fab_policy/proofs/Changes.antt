@@ -8,7 +8,7 @@ use Rattle.els_messages.specs.Els.{receive_size}
 use Rattle.ct_messages.specs.Server.{Values, is_registration}
 use Rattle.ct_messages.specs.Server as server
 use Rattle.fab_policy.specs.Changes.{ChangesAreAfter, PortsStay, CanStay, FrameSteps, LogoutSteps, GrantPorts, GrantPast, GrantSteps, stays_as, leaves_logins, heard_node, holder_of, ended_at, granted_to, left_by, now_after}
-use Rattle.fab_policy.specs.Heard.{sender, is_flogi, s_id, ask_of, asked}
+use Rattle.heard_frames.specs.Heard.{sender, is_flogi, s_id, ask_of, asked}
 use Rattle.fab_policy.specs.Logins.{grants, ends, n_port}
 use Rattle.fab_policy.specs.State.{LivePort, port_at, now_of}
 use Rattle.fab_policy.specs.Steps.{fresh, touched, values_after, port_after, past_after}

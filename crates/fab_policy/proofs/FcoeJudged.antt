@@ -6,9 +6,10 @@ use Rattle.els_messages.specs.Els as els
 use Rattle.ct_messages.specs.Ct as ct
 use Rattle.ct_messages.specs.declared.CtFault.{CtFault}
 use Rattle.ct_messages.specs.Server.{Refusal, is_registration}
-use Rattle.fab_policy.specs.Heard.{plain}
+use Rattle.fab_policy.specs.Cause.{plain}
 use Rattle.fab_policy.specs.Queries.{refusal}
-use Rattle.fab_policy.specs.Rules.{first_row, is_els_reply, is_els_request, NAME_SERVER, SERVICES}
+use Rattle.heard_frames.specs.Rows.{first_row}
+use Rattle.fab_policy.specs.Rules.{is_els_reply, is_els_request, NAME_SERVER, SERVICES}
 use Rattle.fab_policy.specs.State.{Tables, LivePort, port_at}
 use Rattle.fab_policy.specs.Verdicts.{Judgement, Must, MayGrant, unless_refused, fcoe_judged, service_judged, els_judged, ct_judged, is_function}
 use Rattle.fab_policy.specs.declared.verdict.Verdict.{Verdict}

@@ -6,13 +6,14 @@ use Rattle.fab_base.specs.declared.values.Caught.{Caught}
 use Rattle.fab_config.specs.Settings.{Settings, same_bytes}
 use Rattle.eth_frames.specs.Ethernet as eth
 use Rattle.fcoe_codec.specs.Fcoe as capsule
-use Rattle.fab_policy.specs.Heard.{What, Bad, Fip, Fcoe, decoded, plain, d_id}
+use Rattle.heard_frames.specs.Heard.{What, Bad, Fip, Fcoe, decoded, d_id}
+use Rattle.fab_policy.specs.Cause.{plain, Cause}
 use Rattle.fab_policy.specs.Logins.{granted_mac}
 use Rattle.fab_policy.specs.State.{Tables, LivePort, port_at, tables_of}
-use Rattle.fab_policy.specs.Rules.{first_row, rule_for, is_class3, is_service, is_for_service, is_bad_els, is_ct_request, holds, joined, SERVICES}
+use Rattle.heard_frames.specs.Rows.{first_row}
+use Rattle.fab_policy.specs.Rules.{rule_for, is_class3, is_service, is_for_service, is_bad_els, is_ct_request, holds, joined, SERVICES}
 use Rattle.fab_policy.specs.Verdicts.{Judgement, Must, Meets, judged, message_judged, service_judged}
 use Rattle.fab_policy.specs.Forwarding.{ForwardsExactly, LegalForwards, IsForwardedTo, IsDroppedBy, is_data, is_allowed, is_frame}
-use Rattle.fab_policy.specs.Cause.{Cause}
 use Rattle.fab_policy.specs.declared.verdict.Verdict.{Verdict}
 use Rattle.fab_policy.specs.declared.verdict.Verdict.TheVariants.{Forwarded, Dropped}
 use Rattle.fab_policy.specs.declared.verdict.Rule.TheVariants as rule

@@ -9,9 +9,9 @@ use Rattle.fip_codec.specs.Message as fip
 use Rattle.fip_codec.specs.Reading as reading
 use Rattle.fip_codec.specs.declared.fault.FipFault.{FipFault}
 use Rattle.fip_codec.specs.declared.fault.FipFault.TheVariants.{Short, Version, Operation, ListLength, DescLength, Critical, Double, Missing}
-use Rattle.fab_policy.specs.Cause.{Cause, is_numbered}
-use Rattle.fab_policy.specs.Heard.{What, Bad, Fip, Fcoe, FIP, FCOE, plain, numbered, cause_of, fip_in, frame_in, decoded}
-use Rattle.fab_policy.specs.View.{cause_at}
+use Rattle.fab_policy.specs.Cause.{Cause, is_numbered, plain, numbered, cause_of}
+use Rattle.heard_frames.specs.Heard.{What, Bad, Fip, Fcoe, FIP, FCOE, fip_in, frame_in, decoded}
+use Rattle.heard_frames.specs.View.{cause_at}
 use Rattle.fab_policy.specs.declared.verdict.Rule.{Rule}
 use Rattle.fab_policy.specs.declared.verdict.Rule.TheVariants as rule
 

@@ -23,11 +23,12 @@ use Rattle.fip_codec.specs.declared.fault.FipFault.{FipFault}
 use Rattle.fip_codec.specs.declared.message.LoginKind.{LoginKind}
 use Rattle.fip_codec.proofs.Grammar.{IsFip-from_decoded}
 use Rattle.fip_codec.proofs.Unique.{decoded-from_IsFip}
-use Rattle.fab_policy.specs.Cause.{Cause}
+use Rattle.fab_policy.specs.Cause.{Cause, plain, cause_of}
 use Rattle.fab_policy.specs.Free.{Request}
-use Rattle.fab_policy.specs.Heard.{What, Bad, Fip, Fcoe, FIP, FCOE, plain, cause_of, decoded, fc_of}
+use Rattle.heard_frames.specs.Heard.{What, Bad, Fip, Fcoe, FIP, FCOE, decoded, fc_of}
 use Rattle.fab_policy.specs.Laws.{AsksVlans, Solicits}
-use Rattle.fab_policy.specs.Rules.{first_row, rule_for, holds, is_wrong_vlan, ALL_FCFS}
+use Rattle.heard_frames.specs.Rows.{first_row, is_wrong_vlan, ALL_FCFS}
+use Rattle.fab_policy.specs.Rules.{rule_for, holds}
 use Rattle.fab_policy.specs.State.{Tables, port_at}
 use Rattle.fab_policy.specs.Verdicts.{Judgement, Must, MayGrant, Meets, IsRight, judged, message_judged, frame_judged, login_judged, login_rows, request_of, unless_refused, is_own_logout, fcoe_judged}
 use Rattle.fab_policy.specs.declared.verdict.Verdict.{Verdict}
@@ -267,14 +268,14 @@ record HeardAsk (c : Settings) (what : What) : Type 0 where
   named : List ℕ
   node : Option ℕ
   is : what ≡ Fip frame (VlanAsk named node)
-  vlan : is_wrong_vlan c frame true ≡ false
+  vlan : is_wrong_vlan c.vlan frame true ≡ false
   dest : not (is_to c frame) ≡ false
   source : not (same_bytes named frame.src) ≡ false
 
 heard_ask : (c : Settings) (T : Tables) (port : ℕ) (caught : Caught) (what : What) → judged_of c T port caught what ≡ Must Vlans → HeardAsk c what
 unfolding rule_for
 heard_ask c T port caught (Fip f (VlanAsk named node)) e =
-    let rows = none_holds (is_wrong_vlan c f true) (not (is_to c f)) false (not (same_bytes named f.src)) no_logins Vlans vlans_answer e in
+    let rows = none_holds (is_wrong_vlan c.vlan f true) (not (is_to c f)) false (not (same_bytes named f.src)) no_logins Vlans vlans_answer e in
     record { frame = f; named = named; node = node; is = refl; vlan = rows.0; dest = rows.1; source = rows.3 }
 heard_ask c T port caught (Fip f (Solicit from_fcf fp mac node size)) e =
     absurd (otherwise (rule_for c T port caught (Fip f (Solicit from_fcf fp mac node size))) (Must Advertised) Vlans vlans_answer (λ w. cc) e)
@@ -283,9 +284,9 @@ heard_ask c T port caught (Fcoe f read) e = absurd (not_asking c T port caught (
 heard_ask c T port caught (Bad cause) e = absurd (not_asking c T port caught (Bad cause) Vlans vlans_answer refl e)
 
 ask_judged : (c : Settings) (T : Tables) (port : ℕ) (caught : Caught) (f : Eth) (named : List ℕ) (node : Option ℕ) →
-    is_wrong_vlan c f true ≡ false → not (is_to c f) ≡ false → not (same_bytes named f.src) ≡ false → judged_of c T port caught (Fip f (VlanAsk named node)) ≡ Must Vlans
+    is_wrong_vlan c.vlan f true ≡ false → not (is_to c f) ≡ false → not (same_bytes named f.src) ≡ false → judged_of c T port caught (Fip f (VlanAsk named node)) ≡ Must Vlans
 unfolding rule_for
-ask_judged c T port caught f named who vlan dest source = passes (is_wrong_vlan c f true) (not (is_to c f)) false (not (same_bytes named f.src)) Vlans vlan dest refl source
+ask_judged c T port caught f named who vlan dest source = passes (is_wrong_vlan c.vlan f true) (not (is_to c f)) false (not (same_bytes named f.src)) Vlans vlan dest refl source
 
 pub request_means : (c : Settings) (T : Tables) (port : ℕ) (caught : Caught) → AllPass (λ b. nat_lt b 256) caught.bytes → IsRight c T port caught Vlans → AsksVlans c caught
 request_means c T port caught bytes e =
@@ -309,7 +310,7 @@ pub request_from : (c : Settings) (T : Tables) (port : ℕ) (caught : Caught) �
 request_from c T port caught a =
     let f = a.frame in
     let heard = message_heard caught f (VlanAsk a.named a.node) a.whole (decoded-is f caught.bytes a.stands) (eq-eqb f.kind FIP a.kind) (decoded-from_IsFip (VlanAsk a.named a.node) f.body a.request) in
-    let vlan : is_wrong_vlan c f true ≡ false = ap not (⊎_elim (λ t. or_left (vlan_of_tag f.tag == c.vlan) (vlan_of_tag f.tag == 0) (eq-eqb (vlan_of_tag f.tag) c.vlan t)) (λ t. or_right (vlan_of_tag f.tag == c.vlan) (vlan_of_tag f.tag == 0) (eq-eqb (vlan_of_tag f.tag) 0 t)) a.vlan) in
+    let vlan : is_wrong_vlan c.vlan f true ≡ false = ap not (⊎_elim (λ t. or_left (vlan_of_tag f.tag == c.vlan) (vlan_of_tag f.tag == 0) (eq-eqb (vlan_of_tag f.tag) c.vlan t)) (λ t. or_right (vlan_of_tag f.tag == c.vlan) (vlan_of_tag f.tag == 0) (eq-eqb (vlan_of_tag f.tag) 0 t)) a.vlan) in
     let is = judged_is c T port caught ∙ ap (judged_of c T port caught) heard ∙ ask_judged c T port caught f a.named a.node vlan (to_from c f a.dest) (names_from a.named f.src a.source) in
     subst (λ j. Meets c T j Vlans) (sym is) refl
 
@@ -326,7 +327,7 @@ record HeardSolicit (c : Settings) (what : What) : Type 0 where
   node : ℕ
   size : ℕ
   is : what ≡ Fip frame (Solicit from_fcf fp named node size)
-  vlan : is_wrong_vlan c frame false ≡ false
+  vlan : is_wrong_vlan c.vlan frame false ≡ false
   dest : not (is_to c frame) ≡ false
   role : from_fcf ≡ false
   source : not (same_bytes named frame.src) ≡ false
@@ -334,7 +335,7 @@ record HeardSolicit (c : Settings) (what : What) : Type 0 where
 heard_solicit : (c : Settings) (T : Tables) (port : ℕ) (caught : Caught) (what : What) → judged_of c T port caught what ≡ Must Advertised → HeardSolicit c what
 unfolding rule_for
 heard_solicit c T port caught (Fip f (Solicit from_fcf fp named node size)) e =
-    let rows = none_holds (is_wrong_vlan c f false) (not (is_to c f)) from_fcf (not (same_bytes named f.src)) no_logins Advertised advertised_answers e in
+    let rows = none_holds (is_wrong_vlan c.vlan f false) (not (is_to c f)) from_fcf (not (same_bytes named f.src)) no_logins Advertised advertised_answers e in
     record {
       frame = f;
       from_fcf = from_fcf;
@@ -355,9 +356,9 @@ heard_solicit c T port caught (Fcoe f read) e = absurd (not_asking c T port caug
 heard_solicit c T port caught (Bad cause) e = absurd (not_asking c T port caught (Bad cause) Advertised advertised_answers refl e)
 
 solicit_judged : (c : Settings) (T : Tables) (port : ℕ) (caught : Caught) (f : Eth) (fp : Bool) (named : List ℕ) (node size : ℕ) →
-    is_wrong_vlan c f false ≡ false → not (is_to c f) ≡ false → not (same_bytes named f.src) ≡ false → judged_of c T port caught (Fip f (Solicit false fp named node size)) ≡ Must Advertised
+    is_wrong_vlan c.vlan f false ≡ false → not (is_to c f) ≡ false → not (same_bytes named f.src) ≡ false → judged_of c T port caught (Fip f (Solicit false fp named node size)) ≡ Must Advertised
 unfolding rule_for
-solicit_judged c T port caught f fp named node size vlan dest source = passes (is_wrong_vlan c f false) (not (is_to c f)) false (not (same_bytes named f.src)) Advertised vlan dest refl source
+solicit_judged c T port caught f fp named node size vlan dest source = passes (is_wrong_vlan c.vlan f false) (not (is_to c f)) false (not (same_bytes named f.src)) Advertised vlan dest refl source
 
 -- either the VLAN is right, or nothing
 or_false : (a b : Bool) → (a || (false && b)) ≡ true → a ≡ true
@@ -390,6 +391,6 @@ solicitation_from c T port caught a =
     let f = a.frame in
     let m = Solicit false a.fp a.named a.node a.size in
     let heard = message_heard caught f m a.whole (decoded-is f caught.bytes a.stands) (eq-eqb f.kind FIP a.kind) (decoded-from_IsFip m f.body a.request) in
-    let vlan : is_wrong_vlan c f false ≡ false = ap not (or_left (vlan_of_tag f.tag == c.vlan) (false && vlan_of_tag f.tag == 0) (eq-eqb (vlan_of_tag f.tag) c.vlan a.vlan)) in
+    let vlan : is_wrong_vlan c.vlan f false ≡ false = ap not (or_left (vlan_of_tag f.tag == c.vlan) (false && vlan_of_tag f.tag == 0) (eq-eqb (vlan_of_tag f.tag) c.vlan a.vlan)) in
     let is = judged_is c T port caught ∙ ap (judged_of c T port caught) heard ∙ solicit_judged c T port caught f a.fp a.named a.node a.size vlan (to_from c f a.dest) (names_from a.named f.src a.source) in
     subst (λ j. Meets c T j Advertised) (sym is) refl

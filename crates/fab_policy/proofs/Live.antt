@@ -21,15 +21,16 @@ use Rattle.ct_messages.specs.declared.CtFault.{CtFault}
 use Rattle.ct_messages.specs.declared.CtTell.TheVariants as tell
 use Rattle.ct_messages.specs.Answer.{has_type}
 use Rattle.fab_policy.specs.Journal.{Journal}
-use Rattle.fab_policy.specs.Cause.{Cause}
-use Rattle.fab_policy.specs.Heard.{What, Bad, Fip, Fcoe, decoded, plain, fc_of, s_id, d_id, ask_of, carried}
+use Rattle.fab_policy.specs.Cause.{Cause, plain}
+use Rattle.heard_frames.specs.Heard.{What, Bad, Fip, Fcoe, decoded, fc_of, s_id, d_id, ask_of, carried}
 use Rattle.fab_policy.specs.Legal.{Legal}
 use Rattle.fab_policy.specs.Live.{IsLive, IsEndedBy, asked_about, listed, AnswersAreLive, EndsAreLive, notices_of, LegalNamesTheLive}
 use Rattle.fab_base.specs.Counting.{counting}
 use Rattle.fab_policy.specs.Logins.{NPort, login, ends, granted_mac}
 use Rattle.fab_policy.specs.Outputs.{Notice, notices, told, told_of, told_of_zones, ended_by, granted_by, changed_by, watchers, is_watcher, has_changed, differs}
 use Rattle.fab_policy.specs.Queries.{known, visible, known_to, query, refusal, ask_refusal, fault_refusal}
-use Rattle.fab_policy.specs.Rules.{joined, first_row, rule_for, fcoe_rows, is_wrong_vlan, is_class3, holds, is_els_request, is_els_reply, NAME_SERVER, SERVICES}
+use Rattle.fab_policy.specs.Rules.{joined, rule_for, fcoe_rows, is_class3, holds, is_els_request, is_els_reply, NAME_SERVER, SERVICES}
+use Rattle.heard_frames.specs.Rows.{first_row, is_wrong_vlan}
 use Rattle.fab_policy.specs.State.{LivePort, Tables, live_port, port_at, tables_of, with_all}
 use Rattle.fab_policy.specs.Verdicts.{Judgement, Must, MayGrant, Meets, judged, message_judged, fip_judged, frame_judged, fcoe_judged, service_judged, els_judged, ct_judged, unless_refused, login_judged, login_rows, request_of, is_own_logout, is_function}
 use Rattle.fab_policy.specs.declared.event.Event.{Event}
@@ -493,7 +494,7 @@ source_there : (c : Settings) (T : Tables) (port : ℕ) (caught : Caught) (f : e
     (p : LivePort) × (port_at x.frame.head.s_id T.ports ≡ Some p)
 unfolding rule_for
 source_there c T port caught f x e =
-    fifth_row (is_wrong_vlan c f false) (not (is_class3 x)) (not (same_bytes f.dst c.fcf_mac)) (not (same_bytes f.src (granted_mac c x.frame.head.s_id))) (port_at x.frame.head.s_id T.ports)
+    fifth_row (is_wrong_vlan c.vlan f false) (not (is_class3 x)) (not (same_bytes f.dst c.fcf_mac)) (not (same_bytes f.src (granted_mac c x.frame.head.s_id))) (port_at x.frame.head.s_id T.ports)
     (drop 4 (fcoe_rows c T port f x)) e
 
 -- ---- a frame that goes on

@@ -6,7 +6,7 @@ use Rattle.fab_base.specs.declared.values.Caught.{Caught}
 use Rattle.fab_base.specs.Fabric.{same_enode}
 use Rattle.fab_config.specs.Settings.{Settings}
 use Rattle.fab_policy.specs.Journal.{Journal, now}
-use Rattle.fab_policy.specs.Heard.{sender, is_flogi, asked}
+use Rattle.heard_frames.specs.Heard.{sender, is_flogi, asked}
 use Rattle.fab_base.specs.Counting.{counting}
 use Rattle.fab_policy.specs.Logins.{grants, ends, n_port}
 use Rattle.fab_policy.specs.State.{LivePort, Tables, tables_of, live_port}

@@ -10,8 +10,8 @@ use Rattle.fip_codec.specs.declared.message.LoginKind.{LoginKind}
 use Rattle.fip_codec.specs.declared.message.LoginKind.TheVariants.{Flogi, Fdisc, Logo}
 use Rattle.els_messages.specs.Els as els
 use Rattle.els_messages.specs.declared.LoginParms.{LoginParms}
-use Rattle.fab_policy.specs.Cause.{Cause}
-use Rattle.fab_policy.specs.Heard.{What, Bad, Fip, Fcoe, plain, decoded, sender, fc_of, login_of, carried, asked, is_flogi}
+use Rattle.fab_policy.specs.Cause.{Cause, plain}
+use Rattle.heard_frames.specs.Heard.{What, Bad, Fip, Fcoe, decoded, sender, fc_of, login_of, carried, asked, is_flogi}
 use Rattle.fab_policy.specs.State.{Tables, port_at}
 use Rattle.fab_policy.specs.Free.{Request, has_free, is_free}
 use Rattle.fab_policy.specs.Rules.{rule_for, holds, is_known}

@@ -21,7 +21,7 @@ use Rattle.fab_policy.specs.Steps.{login_after, StepsLogin, said, features_after
 use Rattle.fab_policy.specs.declared.event.Event.{Event}
 use Rattle.fab_policy.specs.declared.event.Event.TheVariants.{Tick, Frame}
 use Rattle.fab_policy.specs.declared.verdict.Verdict.TheVariants.{Granted}
-use Rattle.fab_policy.specs.Heard.{sender}
+use Rattle.heard_frames.specs.Heard.{sender}
 
 -- a login that stood is left where neither an earlier entry nor this one ended it
 kept : (a : ℕ) (e : Event) (s : List Event) (g : Option NPort) →

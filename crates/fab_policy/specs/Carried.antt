@@ -8,7 +8,7 @@ use Rattle.fip_codec.specs.Message as fip
 use Rattle.fip_codec.specs.declared.message.LoginKind.{LoginKind}
 use Rattle.els_messages.specs.Els as els
 use Rattle.els_messages.specs.declared.LoginParms.{LoginParms}
-use Rattle.fab_policy.specs.Heard.{Fip, Fcoe, decoded, source, login_of, carried, fc_of, asked}
+use Rattle.heard_frames.specs.Heard.{Fip, Fcoe, decoded, source, login_of, carried, fc_of, asked}
 use Rattle.fab_policy.specs.Replies.{is_untagged, size_asked}
 
 -- The sender of a frame is the source of its Ethernet header.

@@ -10,7 +10,7 @@ use Rattle.ct_messages.specs.Ct.{Ask}
 use Rattle.ct_messages.specs.CanWrite.{HasByte}
 use Rattle.ct_messages.specs.Server.{is_registration}
 use Rattle.ct_messages.specs.Server as server
-use Rattle.fab_policy.specs.Heard.{sender, is_flogi, s_id, ask_of, asked}
+use Rattle.heard_frames.specs.Heard.{sender, is_flogi, s_id, ask_of, asked}
 use Rattle.fab_policy.specs.Logins.{n_port}
 use Rattle.fab_policy.specs.State.{LivePort, Tables, port_at, overdue, is_overdue, addresses, now_of}
 use Rattle.fab_policy.specs.Steps.{after, InPool, fresh, touched, clock_after, port_after, past_after}

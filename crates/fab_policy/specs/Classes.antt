@@ -3,7 +3,7 @@ use Rattle.std.specs.Prelude.{◌≡◌, ℕ, Ok, option_map}
 use Rattle.eth_frames.specs.Ethernet as eth
 use Rattle.fcoe_codec.specs.Fcoe as capsule
 use Rattle.fab_base.specs.declared.values.Caught.{Caught}
-use Rattle.fab_policy.specs.Heard.{Fcoe, decoded, d_id, login_of, sender, source}
+use Rattle.heard_frames.specs.Heard.{Fcoe, decoded, d_id, login_of, sender, source}
 use Rattle.fab_policy.specs.Replies.{is_untagged, kind_asked, size_asked}
 use Rattle.fab_policy.specs.declared.classes.Replied.{Replied}
 use Rattle.fab_policy.specs.declared.classes.Replied.TheVariants as replied

@@ -5,7 +5,7 @@ use Rattle.fab_config.specs.Settings.{Settings, same_bytes}
 use Rattle.eth_frames.specs.Ethernet as eth
 use Rattle.fcoe_codec.specs.Fcoe as capsule
 use Rattle.fab_policy.specs.Cause.{Cause}
-use Rattle.fab_policy.specs.Heard.{What, Bad, Fip, Fcoe, decoded, d_id}
+use Rattle.heard_frames.specs.Heard.{What, Bad, Fip, Fcoe, decoded, d_id}
 use Rattle.fab_policy.specs.Logins.{granted_mac}
 use Rattle.fab_policy.specs.Journal.{Journal}
 use Rattle.fab_policy.specs.Legal.{Legal}

@@ -7,8 +7,8 @@ use Rattle.fab_config.specs.Settings.{Settings}
 use Rattle.eth_frames.specs.Ethernet.{Eth, IsEth, vlan_of_tag}
 use Rattle.fip_codec.specs.Message.{VlanAsk, Solicit}
 use Rattle.fip_codec.specs.Reading.{IsFip}
-use Rattle.fab_policy.specs.Heard.{FIP}
-use Rattle.fab_policy.specs.Rules.{ALL_FCFS}
+use Rattle.heard_frames.specs.Heard.{FIP}
+use Rattle.heard_frames.specs.Rows.{ALL_FCFS}
 use Rattle.fab_policy.specs.State.{Tables}
 use Rattle.fab_policy.specs.Verdicts.{IsRight}
 use Rattle.fab_policy.specs.declared.verdict.Verdict.TheVariants.{Vlans, Advertised}

@@ -1,8 +1,6 @@
 pub mod Cause
 pub mod Classes
 pub mod Journal
-pub mod Heard
-pub mod View
 pub mod Logins
 pub mod Registered
 pub mod State

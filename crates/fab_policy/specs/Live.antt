@@ -8,7 +8,7 @@ use Rattle.ct_messages.specs.Ct.{Ask, PortNameOf, NodeNameOf, TypesOf, FeaturesO
 use Rattle.ct_messages.specs.declared.CtTell.{CtTell}
 use Rattle.ct_messages.specs.declared.CtTell.TheVariants as tell
 use Rattle.fab_policy.specs.Journal.{Journal}
-use Rattle.fab_policy.specs.Heard.{s_id, d_id, ask_of}
+use Rattle.heard_frames.specs.Heard.{s_id, d_id, ask_of}
 use Rattle.fab_policy.specs.Legal.{Legal}
 use Rattle.fab_policy.specs.Logins.{NPort, login, is_live, ends}
 use Rattle.fab_policy.specs.Outputs.{Notice, notices}

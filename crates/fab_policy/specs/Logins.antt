@@ -8,7 +8,7 @@ use Rattle.fab_config.specs.Settings.{Settings}
 use Rattle.zone_rules.specs.Joined.{contains}
 use Rattle.els_messages.specs.Els.{receive_size}
 use Rattle.fab_policy.specs.Journal.{Journal, latest, up_to_last, after_last, now}
-use Rattle.fab_policy.specs.Heard.{sender, is_flogi, asked, s_id}
+use Rattle.heard_frames.specs.Heard.{sender, is_flogi, asked, s_id}
 use Rattle.fab_policy.specs.declared.event.Event.{Event}
 use Rattle.fab_policy.specs.declared.event.Event.TheVariants.{Tick, Frame}
 use Rattle.fab_policy.specs.declared.verdict.Verdict.TheVariants.{Granted, Logout, AliveNode, AlivePort, NsLogin, NsLogout, Watching}

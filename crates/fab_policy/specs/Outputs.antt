@@ -10,7 +10,7 @@ use Rattle.ct_messages.specs.Server as server
 use Rattle.ct_messages.specs.declared.CtTell.TheVariants as tell
 use Rattle.fip_codec.specs.declared.message.VxPort.{VxPort}
 use Rattle.fab_policy.specs.Journal.{Journal}
-use Rattle.fab_policy.specs.Heard.{s_id, ask_of, login_of}
+use Rattle.heard_frames.specs.Heard.{s_id, ask_of, login_of}
 use Rattle.fab_base.specs.Counting.{counting}
 use Rattle.fab_policy.specs.Logins.{ends, granted_mac}
 use Rattle.fab_policy.specs.State.{Tables, LivePort, tables_of, now_of, port_at}

@@ -5,7 +5,7 @@ use Rattle.ct_messages.specs.Ct.{Ask, SetNode, SetTypes, SetSymbol, SetFeature, 
 use Rattle.ct_messages.specs.Server.{Values, NO_TYPES}
 use Rattle.ct_messages.specs.declared.TypeMap.{TypeMap}
 use Rattle.fab_policy.specs.Journal.{Journal}
-use Rattle.fab_policy.specs.Heard.{s_id, ask_of}
+use Rattle.heard_frames.specs.Heard.{s_id, ask_of}
 use Rattle.fab_base.specs.Counting.{counting}
 use Rattle.fab_policy.specs.Logins.{since}
 use Rattle.fab_policy.specs.declared.event.Event.{Event}

@@ -18,9 +18,10 @@ use Rattle.els_messages.specs.Els as els
 use Rattle.els_messages.specs.declared.LoginParms.{LoginParms}
 use Rattle.ct_messages.specs.Answer as ct
 use Rattle.ct_messages.specs.declared.CtTell.{CtTell}
-use Rattle.fab_policy.specs.Heard.{FIP, FCOE, carried, asked, source, s_id, d_id, login_of}
+use Rattle.heard_frames.specs.Heard.{FIP, FCOE, carried, asked, source, s_id, d_id, login_of}
 use Rattle.fab_policy.specs.Logins.{granted_mac}
-use Rattle.fab_policy.specs.Rules.{ALL_ENODES, CONTROLLER, NAME_SERVER}
+use Rattle.heard_frames.specs.Rows.{ALL_ENODES}
+use Rattle.fab_policy.specs.Rules.{CONTROLLER, NAME_SERVER}
 use Rattle.fab_policy.specs.Queries.{fport}
 
 -- ---- Ethernet

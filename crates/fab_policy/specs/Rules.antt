@@ -15,8 +15,8 @@ use Rattle.fip_codec.specs.Message as fip
 use Rattle.fip_codec.specs.declared.message.LoginKind.{LoginKind}
 use Rattle.fip_codec.specs.declared.message.LoginKind.TheVariants.{Flogi, Fdisc, Logo}
 use Rattle.els_messages.specs.Els as els
-use Rattle.fab_policy.specs.Cause.{Cause}
-use Rattle.fab_policy.specs.Heard.{What, Bad, Fip, Fcoe, plain, sender, source, fc_of}
+use Rattle.fab_policy.specs.Cause.{Cause, plain}
+use Rattle.heard_frames.specs.Heard.{What, Bad, Fip, Fcoe, sender, source, fc_of}
 use Rattle.fab_policy.specs.Logins.{granted_mac}
 use Rattle.fab_policy.specs.State.{Tables, LivePort, now_of, port_at}
 use Rattle.fab_policy.specs.declared.verdict.Rule.TheVariants as rule

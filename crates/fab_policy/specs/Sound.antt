@@ -4,7 +4,7 @@ use Rattle.fab_base.specs.Fabric.{same_enode}
 use Rattle.fab_base.specs.declared.values.Caught.{Caught}
 use Rattle.fab_config.specs.Settings.{Settings, is_in_range}
 use Rattle.fab_policy.specs.Journal.{Journal}
-use Rattle.fab_policy.specs.Heard.{sender, asked, is_flogi}
+use Rattle.heard_frames.specs.Heard.{sender, asked, is_flogi}
 use Rattle.fab_policy.specs.Legal.{Legal}
 use Rattle.fab_policy.specs.Logins.{NPort, granted_mac, login}
 use Rattle.fab_policy.specs.State.{LivePort, tables_of}

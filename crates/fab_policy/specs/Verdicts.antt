@@ -12,11 +12,13 @@ use Rattle.fip_codec.specs.declared.message.LoginKind.TheVariants.{Flogi, Fdisc,
 use Rattle.els_messages.specs.Els as els
 use Rattle.els_messages.specs.declared.LoginParms.{LoginParms}
 use Rattle.ct_messages.specs.Ct as ct
-use Rattle.fab_policy.specs.Heard.{What, Bad, Fip, Fcoe, plain, decoded, sender, fc_of}
+use Rattle.heard_frames.specs.Heard.{What, Bad, Fip, Fcoe, decoded, sender, fc_of}
+use Rattle.fab_policy.specs.Cause.{plain}
 use Rattle.fab_policy.specs.Logins.{granted_mac}
 use Rattle.fab_policy.specs.State.{Tables, LivePort, port_at}
 use Rattle.fab_policy.specs.Free.{Request, is_free, has_free}
-use Rattle.fab_policy.specs.Rules.{first_row, rule_for, is_known, holds, is_els_request, is_els_reply, NAME_SERVER, SERVICES}
+use Rattle.heard_frames.specs.Rows.{first_row}
+use Rattle.fab_policy.specs.Rules.{rule_for, is_known, holds, is_els_request, is_els_reply, NAME_SERVER, SERVICES}
 use Rattle.ct_messages.specs.Server.{Refusal, is_registration}
 use Rattle.fab_policy.specs.Queries.{refusal}
 use Rattle.fab_policy.specs.declared.verdict.Verdict.{Verdict}

@@ -2,17 +2,19 @@
 ghost use Rattle.std.specs.Prelude.{◌≡◌, ◌∷◌, [], ◌||◌, not, false, ◌&&◌, if◌then◌else◌};
 ghost use Rattle.eth_frames.specs.Ethernet.{view as eth_view};
 ghost use Rattle.fip_codec.specs.Message.{view as fip_view};
-ghost use Rattle.fab_policy.specs.Cause.{is_numbered};
-ghost use Rattle.fab_policy.specs.Heard.{decoded, plain, numbered};
-ghost use Rattle.fab_policy.specs.View.{cause_at as cause_of_place};
+ghost use Rattle.fab_policy.specs.Cause.{is_numbered, plain, numbered};
+ghost use Rattle.heard_frames.specs.Heard.{decoded};
+ghost use Rattle.heard_frames.specs.View.{cause_at as cause_of_place};
 ghost use Rattle.fab_policy.specs.Rules as rules;
+ghost use Rattle.heard_frames.specs.Rows as rows;
 
 use crate::bytes::is_same;
-use crate::{Dropped, Heard, Rule, What};
+use crate::{Dropped, Rule};
 use eth_frames::{ALL_FCFS, EthFrame};
 use fab_base::Mac;
 use fab_config::Config;
 use fip_codec::{FipMessage, is_forwarders};
+use heard_frames::{Heard, What};
 
 /// The first rule on the frame itself that drops it: it can't be read, or its VLAN, its
 /// destination, its kind or the MAC that it gives is wrong. It doesn't go by who is logged in.
@@ -47,8 +49,8 @@ fn dropped(rule: Rule) -> Dropped
 }
 
 fn fcoe_rule(config: &Config, eth: &EthFrame<'_>) -> Option<Dropped>
-    ensures { result ≡ rules.first_row (
-        (rules.is_wrong_vlan config.now (eth_view eth.now) false, plain Rule.Vlan) ∷ []) }
+    ensures { result ≡ rows.first_row (
+        (rows.is_wrong_vlan config.now (eth_view eth.now) false, plain Rule.Vlan) ∷ []) }
 {
     if is_wrong_vlan(config, eth, false) {
         return Some(dropped(Rule::Vlan));
@@ -57,7 +59,7 @@ fn fcoe_rule(config: &Config, eth: &EthFrame<'_>) -> Option<Dropped>
 }
 
 fn fip_rule(config: &Config, eth: &EthFrame<'_>, message: &FipMessage<'_>) -> Option<Dropped>
-    ensures { result ≡ rules.first_row (
+    ensures { result ≡ rows.first_row (
         rules.fip_frame_rows config.now (eth_view eth.now) (fip_view message.now)) }
 {
     if is_wrong_vlan(config, eth, is_vlan_request(message)) {
@@ -77,7 +79,7 @@ fn fip_rule(config: &Config, eth: &EthFrame<'_>, message: &FipMessage<'_>) -> Op
 
 // Whether a frame isn't on the forwarder's VLAN, nor untagged where it may be.
 fn is_wrong_vlan(config: &Config, eth: &EthFrame<'_>, may_be_untagged: bool) -> bool
-    ensures { result ≡ rules.is_wrong_vlan config.now (eth_view eth.now) may_be_untagged }
+    ensures { result ≡ rows.is_wrong_vlan config.now (eth_view eth.now) may_be_untagged }
 {
     let vlan = eth.vlan();
     let right = vlan == config.vlan || (may_be_untagged && vlan == 0);

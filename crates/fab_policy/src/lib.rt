@@ -7,7 +7,6 @@ mod classes;
 mod event;
 mod frame_rules;
 mod growing;
-mod heard;
 mod laws;
 mod line;
 mod lines;
@@ -25,7 +24,6 @@ pub use classes::{Replied, Settled};
 pub use event::Event;
 pub use frame_rules::frame_rule;
 pub use growing::{entries_add_to_files, entries_come_in_parts, records_come_later};
-pub use heard::{Heard, What, hear};
 pub use laws::{
     fabric_steps, forwarding_rule, frames_are_carried, journal_steps, legal_journals, lookups,
     registrations_fit, requests_are_answered, solicitations_are_answered, tables_change,

@@ -18,8 +18,9 @@ use crate::verdicts::{Misjudged, step_as};
 use crate::{CheckFault, LineWhy, Place};
 use fab_base::{Moment, NoMemory, PortNo};
 use fab_gather::Shelf;
-use fab_policy::{Line, Verdict, hear};
+use fab_policy::{Line, Verdict};
 use forward_core::Fabric;
+use heard_frames::hear;
 use pcap_file::Record;
 use std::alloc::Global;
 

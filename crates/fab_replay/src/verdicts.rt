@@ -9,8 +9,9 @@ ghost use Rattle.fab_policy.specs.declared.event.Event.TheVariants.{Frame};
 ghost use Rattle.fab_replay.specs.Verdicts.{IsAfter, IsMisjudged};
 
 use fab_base::{NoMemory, PortNo};
-use fab_policy::{Heard, Verdict, verdicts_are_one};
+use fab_policy::{Verdict, verdicts_are_one};
 use forward_core::{Fabric, StepFault, granted_address};
+use heard_frames::Heard;
 use std::alloc::Global;
 
 /// Why a frame isn't taken with the verdict of its line.

@@ -10,7 +10,7 @@ use Rattle.ct_messages.specs.Server as server
 use Rattle.ct_messages.specs.declared.CtTell.{CtTell}
 use Rattle.fc_frames.specs.Pieces.{pieces}
 use Rattle.fab_policy.specs.Classes.{of_settled}
-use Rattle.fab_policy.specs.Heard.{ask_of, s_id}
+use Rattle.heard_frames.specs.Heard.{ask_of, s_id}
 use Rattle.fab_policy.specs.Outputs.{Notice, State}
 use Rattle.fab_policy.specs.Queries.{query}
 use Rattle.fab_policy.specs.Replies.{Asker, asker_of}

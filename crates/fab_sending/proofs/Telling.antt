@@ -12,7 +12,7 @@ use Rattle.ct_messages.specs.Server as server
 use Rattle.zone_rules.specs.Joined.{contains}
 use Rattle.fab_policy.specs.Changes.{PortsStay, TickSteps, now_after}
 use Rattle.fab_policy.specs.Free.{is_free, is_open}
-use Rattle.fab_policy.specs.Heard.{asked, ask_of, is_flogi, s_id, sender}
+use Rattle.heard_frames.specs.Heard.{asked, ask_of, is_flogi, s_id, sender}
 use Rattle.fab_policy.specs.Logins.{ends, grants, n_port}
 use Rattle.fab_policy.specs.Outputs.{Notice, differs, has_changed, notices, told, told_of, told_of_zones, watchers}
 use Rattle.fab_policy.specs.Rules.{joined}

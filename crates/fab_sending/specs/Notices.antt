@@ -4,7 +4,7 @@ use Rattle.fab_base.specs.Fabric.{same_enode}
 use Rattle.fab_base.specs.declared.values.Caught.{Caught}
 use Rattle.fab_config.specs.Settings.{Settings}
 use Rattle.ct_messages.specs.Server as server
-use Rattle.fab_policy.specs.Heard.{asked, ask_of, is_flogi, s_id, sender}
+use Rattle.heard_frames.specs.Heard.{asked, ask_of, is_flogi, s_id, sender}
 use Rattle.fab_policy.specs.Outputs.{Notice, told}
 use Rattle.fab_policy.specs.State.{LivePort, Tables, addresses, is_overdue, overdue, port_at}
 use Rattle.fab_policy.specs.declared.verdict.Verdict.{Verdict}

@@ -4,7 +4,7 @@ use Rattle.fab_base.specs.declared.values.Caught.{Caught}
 use Rattle.fab_config.specs.Settings.{Settings}
 use Rattle.fab_policy.specs.Changes.{CanStay}
 use Rattle.fab_policy.specs.Free.{Request, is_free}
-use Rattle.fab_policy.specs.Heard.{asked, is_flogi, s_id, sender}
+use Rattle.heard_frames.specs.Heard.{asked, is_flogi, s_id, sender}
 use Rattle.fab_policy.specs.Outputs.{State, notices, outputs_by}
 use Rattle.fab_policy.specs.Queries.{query}
 use Rattle.fab_policy.specs.Replies.{asker_of, kind_asked}

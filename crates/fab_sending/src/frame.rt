@@ -5,7 +5,7 @@ ghost use Rattle.ct_messages.specs.CanWrite.{CanTell};
 ghost use Rattle.ct_messages.specs.Server.{is_registration};
 ghost use Rattle.fab_base.specs.declared.values.Caught.{Caught as Captured};
 ghost use Rattle.fab_policy.specs.Classes.{IsRepliedFor, IsSettledFor, of_replied, of_settled};
-ghost use Rattle.fab_policy.specs.Heard.{ask_of};
+ghost use Rattle.heard_frames.specs.Heard.{ask_of};
 ghost use Rattle.fab_policy.specs.Queries.{query};
 ghost use Rattle.fab_policy.specs.Replies.{asker_of};
 ghost use Rattle.fab_policy.specs.State.{LivePort, now_of, port_at};

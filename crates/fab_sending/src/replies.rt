@@ -3,7 +3,7 @@ ghost use Rattle.std.specs.Prelude.{◌≡◌, ◌∷◌, [], ℕ, List, IfOk, S
 ghost use Rattle.fab_config.specs.Settings.{Settings};
 ghost use Rattle.fab_base.specs.declared.values.Caught.{Caught as Captured};
 ghost use Rattle.fab_policy.specs.Classes.{IsRepliedFor, IsSettledFor, of_replied, of_settled};
-ghost use Rattle.fab_policy.specs.Heard.{login_of};
+ghost use Rattle.heard_frames.specs.Heard.{login_of};
 ghost use Rattle.fab_policy.specs.Replies.{asker_of, kind_asked};
 ghost use Rattle.fab_policy.specs.State.{Tables};
 ghost use Rattle.fab_policy.specs.declared.event.Event.{Event as Entry};

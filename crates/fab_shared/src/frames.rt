@@ -5,8 +5,9 @@ ghost use Rattle.fab_shared.specs.Handled.{CanTake, HandledPort, HandledShelves}
 
 use fab_base::{Gate, NoMemory, PortNo};
 use fab_gather::Shelf;
-use fab_policy::{Verdict, entries_come_in_parts, fabric_steps, hear};
+use fab_policy::{Verdict, entries_come_in_parts, fabric_steps};
 use forward_core::{Fabric, StepFault, granted_address};
+use heard_frames::hear;
 use pcap_file::Record;
 use std::alloc::Global;
 

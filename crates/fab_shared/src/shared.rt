@@ -10,9 +10,10 @@ ghost use Rattle.fab_shared.specs.Shared.{opened, IsStep, Closes};
 
 use crate::locked::{LockedFabric, Pass};
 use fab_base::{NoMemory, PortNo};
-use fab_policy::{Heard, Verdict, fabric_steps};
+use fab_policy::{Verdict, fabric_steps};
 use fab_turn::TurnLock;
 use forward_core::{Fabric, StepFault};
+use heard_frames::Heard;
 use std::alloc::Global;
 use std::sync::Wait;
 

@@ -9,8 +9,8 @@ ghost use Rattle.fab_shared.specs.Workers.{frames_in, IsReady, IsNew, IsDone};
 use crate::{Pass, SharedFabric};
 use fab_base::{Gate, NoMemory, PortNo};
 use fab_gather::Shelf;
-use fab_policy::hear;
 use forward_core::granted_address;
+use heard_frames::hear;
 use std::alloc::Global;
 use std::sync::Wait;
 

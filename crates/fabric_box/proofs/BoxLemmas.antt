@@ -8,7 +8,7 @@ use Rattle.fab_config.specs.Settings.{Settings}
 use Rattle.fab_config.proofs.SoundLemmas.{decoded_sound}
 use Rattle.pcap_file.specs.Capture.{head_bytes}
 use Rattle.pcap_file.specs.declared.Record.{Record}
-use Rattle.fab_policy.specs.Heard.{source, asked}
+use Rattle.heard_frames.specs.Heard.{source, asked}
 use Rattle.fab_policy.specs.Journal.{Journal}
 use Rattle.fab_policy.specs.Outputs.{Sent}
 use Rattle.fab_policy.specs.Text.{egress}

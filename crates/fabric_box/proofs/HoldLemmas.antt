@@ -5,7 +5,7 @@ use Rattle.std.proofs.lemmas.Bool.Decides.{nat_tests}
 use Rattle.fab_base.specs.declared.values.Caught.{Caught}
 use Rattle.fab_base.specs.declared.values.Enode.{Enode}
 use Rattle.fab_config.specs.Settings.{Settings}
-use Rattle.fab_policy.specs.Heard.{asked, source}
+use Rattle.heard_frames.specs.Heard.{asked, source}
 use Rattle.fab_policy.specs.Journal.{Journal, followed}
 use Rattle.fab_policy.specs.Logins.{NPort, login, ends, grants, n_port}
 use Rattle.fab_policy.specs.Sound.{IsGivenBack, IsGrantable}

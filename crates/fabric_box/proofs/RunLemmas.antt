@@ -9,7 +9,7 @@ use Rattle.fab_base.specs.declared.values.Caught.{Caught}
 use Rattle.fab_config.specs.Settings.{Settings}
 use Rattle.pcap_file.specs.Capture.{head_bytes}
 use Rattle.pcap_file.specs.declared.Record.{Record}
-use Rattle.fab_policy.specs.Heard.{source}
+use Rattle.heard_frames.specs.Heard.{source}
 use Rattle.fab_policy.specs.Journal.{Journal}
 use Rattle.fab_policy.specs.Legal.{HoldsFrames, of_port, numbered_from}
 use Rattle.fab_policy.specs.Outputs.{Sent, outputs}

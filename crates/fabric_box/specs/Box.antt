@@ -7,7 +7,7 @@ use Rattle.fab_config.specs.Settings.{Settings}
 use Rattle.pcap_file.specs.Capture.{IsCapture}
 use Rattle.pcap_file.specs.declared.CaptureHead.{CaptureHead}
 use Rattle.pcap_file.specs.declared.Record.{Record}
-use Rattle.fab_policy.specs.Heard.{source, asked}
+use Rattle.heard_frames.specs.Heard.{source, asked}
 use Rattle.fab_policy.specs.Journal.{Journal, followed}
 use Rattle.fab_policy.specs.Logins.{NPort, login, ends}
 use Rattle.fab_policy.specs.Sound.{IsGrantable}

@@ -3,10 +3,11 @@ ghost use Rattle.std.specs.Prelude.{◌≡◌, ◌≤◌, ◌<◌, ◌^◌, IsSo
 
 use fab_base::{Caught, FcId, Moment, NoMemory, PortNo};
 use fab_config::Config;
-use fab_policy::{hear, write_frame_line, write_line1};
+use fab_policy::{write_frame_line, write_line1};
 use fab_replay::write_shown;
 use forward_core::{Drained, EventList, Fabric, Out, StepFault, write_out};
 use frame_cases::{caught, config_of};
+use heard_frames::hear;
 use std::alloc::Global;
 use table_cases::held::{open, open_in};
 use table_cases::logins::said;

@@ -5,9 +5,10 @@ ghost use Rattle.fabric_tests.specs.Passes.{IsOf, IsSplit};
 
 use crate::settings::settings;
 use fab_base::{Bytes, Caught, Moment, NoMemory, PortNo};
-use fab_policy::{Event, Verdict, hear};
+use fab_policy::{Event, Verdict};
 use fab_shared::{Pass, SharedFabric};
 use forward_core::{EventList, Fabric};
+use heard_frames::hear;
 use std::alloc::Global;
 use std::sync::Wait;
 use std::test::*;

@@ -5,9 +5,9 @@ ghost use Rattle.fabric_tests.specs.Passes.{IsOf};
 
 use crate::shared::{events_of, is_answered, passes_of, request, ticked};
 use fab_base::{Caught, PortNo};
-use fab_policy::hear;
 use fab_shared::{Pass, SharedFabric};
 use forward_core::{EventList, Fabric};
+use heard_frames::hear;
 use std::alloc::Global;
 use std::process::Abort;
 use std::sync::Wait;

@@ -4,7 +4,7 @@ use Rattle.fab_base.specs.Seen.{Seen, Rose, SameFiles}
 use Rattle.fab_base.specs.declared.values.Caught.{Caught}
 use Rattle.fab_config.specs.Settings.{Settings, is_in_range}
 use Rattle.fab_policy.specs.Forwarding.{is_data_frame, forwards, IsForwardedTo, IsDroppedBy}
-use Rattle.fab_policy.specs.Heard.{decoded, d_id}
+use Rattle.heard_frames.specs.Heard.{decoded, d_id}
 use Rattle.fab_policy.specs.Journal.{Journal, followed, frame_count}
 use Rattle.fab_policy.specs.Live.{NamesTheLive}
 use Rattle.fab_policy.specs.Legal.{Legal}

@@ -6,7 +6,7 @@ use Rattle.fab_config.specs.Settings.{Settings}
 use Rattle.eth_frames.specs.Ethernet as eth
 use Rattle.fcoe_codec.specs.Fcoe as capsule
 use Rattle.fcoe_codec.specs.declared.FcoeFault.{FcoeFault}
-use Rattle.fab_policy.specs.Heard.{Fcoe, decoded}
+use Rattle.heard_frames.specs.Heard.{Fcoe, decoded}
 use Rattle.pcap_file.specs.declared.fault.GatherFault.{GatherFault}
 use Rattle.pcap_file.specs.declared.fault.GatherFault.TheVariants as gather
 use Rattle.fip_snoop.specs.Bridge.{Arrival, arrivals, history, passed, dropped}

@@ -2,7 +2,7 @@
 use Rattle.std.proofs.Common.{◌≡◌, ℕ, Bool, List, ◌∷◌, Option, refl, sym, ◌∙◌, ap, subst}
 use Rattle.std.specs.Prelude.{Ok, Err}
 use Rattle.fab_base.specs.declared.values.Caught.{Caught}
-use Rattle.fab_policy.specs.Heard.{What, Bad, Fip, Fcoe, decoded}
+use Rattle.heard_frames.specs.Heard.{What, Bad, Fip, Fcoe, decoded}
 use Rattle.fip_snoop.specs.History.{Handled, History, home, bound, has_moved}
 use Rattle.fip_snoop.specs.Ways.{way_by, way_of}
 use Rattle.fip_snoop.specs.Snoop.{Contents, is_home_of, home_in, is_binding_of, binding_in, is_moved_in, way_for, after, Remembers}

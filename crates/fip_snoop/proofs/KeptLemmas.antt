@@ -3,7 +3,7 @@ use Rattle.std.proofs.Common.{◌≡◌, ℕ, Bool, true, false, not, cond, ◌&
 use mathlib.Core.Bool.{false≢true}
 use Rattle.std.proofs.lemmas.List.Elements.{filter-append}
 use Rattle.fab_config.specs.Settings.{same_bytes}
-use Rattle.fab_policy.specs.Heard.{What, Bad, Fip, Fcoe, decoded}
+use Rattle.heard_frames.specs.Heard.{What, Bad, Fip, Fcoe, decoded}
 use Rattle.fip_snoop.specs.Messages.{is_port_alive}
 use Rattle.fip_snoop.specs.History.{Handled, History, or_else, shown, home, Delivery, delivered, bound_by, if_of, ends_by, bound, bound_after}
 use Rattle.fip_snoop.specs.Snoop.{Contents, is_home_of, with_home, without_home, is_binding_of, without_binding, with_binding, unended, behind, delivery_to, after, Remembers}

@@ -7,7 +7,7 @@ use Rattle.fcoe_codec.specs.Fcoe as capsule
 use Rattle.fip_codec.specs.Message as fip
 use Rattle.fcoe_codec.specs.declared.FcoeFault.{FcoeFault}
 use Rattle.std.specs.Prelude.{Result}
-use Rattle.fab_policy.specs.Heard.{What, Bad, Fip, Fcoe, decoded}
+use Rattle.heard_frames.specs.Heard.{What, Bad, Fip, Fcoe, decoded}
 use Rattle.fip_snoop.specs.History.{History, Delivery, shown, home, or_else, if_of, bound, bound_by, bound_after, delivered, ends_by}
 use Rattle.fip_snoop.specs.Messages.{grant_in, is_port_alive}
 use Rattle.fip_snoop.specs.declared.grant.Grant.{Grant}

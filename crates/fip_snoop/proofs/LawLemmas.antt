@@ -8,7 +8,7 @@ use Rattle.fab_config.specs.Settings.{same_bytes}
 use Rattle.eth_frames.specs.Ethernet as eth
 use Rattle.fcoe_codec.specs.Fcoe as capsule
 use Rattle.fcoe_codec.specs.declared.FcoeFault.{FcoeFault}
-use Rattle.fab_policy.specs.Heard.{Fcoe}
+use Rattle.heard_frames.specs.Heard.{Fcoe}
 use Rattle.fip_snoop.specs.History.{Handled, History, home, or_else, binds, ends, is_grant, last_binding, since, if_unended, bound, is_elsewhere, has_moved}
 use Rattle.fip_snoop.specs.Laws.{NoneOf, IsBound, BoundIs, MovedIs, IsOfLogin, DataGoesUp}
 use Rattle.fip_snoop.specs.Ways.{FORWARDER_PORT, is_wrong_vlan, is_on, is_of, drops, up_data_rows, down_data_rows, down_data_to, way_of, way_by}

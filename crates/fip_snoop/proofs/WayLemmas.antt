@@ -7,8 +7,8 @@ use Rattle.fab_config.specs.Settings.{same_bytes}
 use Rattle.eth_frames.specs.Ethernet as eth
 use Rattle.fcoe_codec.specs.Fcoe as capsule
 use Rattle.fcoe_codec.specs.declared.FcoeFault.{FcoeFault}
-use Rattle.fab_policy.specs.Heard.{What, Bad, Fip, Fcoe, decoded}
-use Rattle.fab_policy.specs.Rules.{first_row}
+use Rattle.heard_frames.specs.Heard.{What, Bad, Fip, Fcoe, decoded}
+use Rattle.heard_frames.specs.Rows.{first_row}
 use Rattle.fip_snoop.specs.Bridge.{leads_to}
 use Rattle.fip_snoop.specs.History.{Handled, History, shown, shows, home, or_else, bound, has_moved}
 use Rattle.fip_snoop.specs.Laws.{ShowsHome, NoneShows, IsHome, HomeIs, ENodesAreApart, IsToLogin, DataGoesDown}
@@ -140,13 +140,13 @@ port_to d_id q b on own = ap (λ t. leads_to q (cond t (Down b.port) (Dropped ru
 module _ (w : Forwarder) (L : History) (q : ℕ) (f : eth.Eth) (x : capsule.Fcoe) where
   down_is : leads_to q (drops (down_data_rows w f) (down_data_to x.frame.head.d_id (bound w L f.dst))) ≡ true → IsToLogin w L q f x
   down_is e =
-      let r = two _ _ (is_wrong_vlan w f false) (not (same_bytes f.src w.mac)) (down_data_to x.frame.head.d_id (bound w L f.dst)) q e in
+      let r = two _ _ (is_wrong_vlan w.vlan f false) (not (same_bytes f.src w.mac)) (down_data_to x.frame.head.d_id (bound w L f.dst)) q e in
       let o = to_port x.frame.head.d_id q (bound w L f.dst) r.2 in
       record { vlan = vlan_is w f r.0; forwarder = same_is f.src w.mac (not_not _ r.1); binding = o.0; bound_ = (bound_is w L f.dst o.0).0 o.1; port_ = o.2; address = o.3 }
 
   is_down : IsToLogin w L q f x → leads_to q (drops (down_data_rows w f) (down_data_to x.frame.head.d_id (bound w L f.dst))) ≡ true
   is_down i =
-      ap (leads_to q) (untwo _ _ (is_wrong_vlan w f false) (not (same_bytes f.src w.mac)) (down_data_to x.frame.head.d_id (bound w L f.dst)) (is_vlan w f i.vlan) (not_is _ (is_same f.src w.mac i.forwarder)))
+      ap (leads_to q) (untwo _ _ (is_wrong_vlan w.vlan f false) (not (same_bytes f.src w.mac)) (down_data_to x.frame.head.d_id (bound w L f.dst)) (is_vlan w f i.vlan) (not_is _ (is_same f.src w.mac i.forwarder)))
       ∙ ap (λ o. leads_to q (down_data_to x.frame.head.d_id o)) ((bound_is w L f.dst i.binding).1 i.bound_)
       ∙ port_to x.frame.head.d_id q i.binding i.port_ i.address
 

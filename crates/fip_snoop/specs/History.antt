@@ -3,7 +3,7 @@ use Rattle.std.specs.Prelude.{ℕ, Bool, false, not, ◌==◌, ◌&&◌, ◌||�
 use Rattle.std.specs.List.{list_any}
 use Rattle.fab_base.specs.declared.values.Caught.{Caught}
 use Rattle.fab_config.specs.Settings.{same_bytes}
-use Rattle.fab_policy.specs.Heard.{What, Fip, decoded}
+use Rattle.heard_frames.specs.Heard.{What, Fip, decoded}
 use Rattle.fip_codec.specs.Message as fip
 use Rattle.fip_snoop.specs.Messages.{granted_mac, grant_in, is_first_grant, released_in, is_at, clears, is_port_alive}
 use Rattle.fip_snoop.specs.declared.forwarder.Forwarder.{Forwarder}

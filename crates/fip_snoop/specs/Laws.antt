@@ -4,7 +4,7 @@ use Rattle.fab_base.specs.declared.values.Caught.{Caught}
 use Rattle.eth_frames.specs.Ethernet as eth
 use Rattle.fcoe_codec.specs.Fcoe as capsule
 use Rattle.fcoe_codec.specs.declared.FcoeFault.{FcoeFault}
-use Rattle.fab_policy.specs.Heard.{Fip, Fcoe, decoded}
+use Rattle.heard_frames.specs.Heard.{Fip, Fcoe, decoded}
 use Rattle.fip_codec.specs.Message as fip
 use Rattle.fip_snoop.specs.Bridge.{leads_to}
 use Rattle.fip_snoop.specs.Messages.{is_port_alive}

@@ -8,7 +8,7 @@ use Rattle.fab_config.specs.Settings.{same_bytes}
 use Rattle.fip_codec.specs.Message as fip
 use Rattle.fip_codec.specs.Message.{Clear, view}
 use Rattle.sorted_lists.specs.Index.{IsIndex}
-use Rattle.fab_policy.specs.Heard.{What, Fip}
+use Rattle.heard_frames.specs.Heard.{What, Fip}
 use Rattle.fip_snoop.specs.History.{Delivery, bound_by}
 use Rattle.fip_snoop.specs.Messages.{is_port_alive}
 use Rattle.fip_snoop.specs.Snoop.{Contents, is_home_of, home_in, is_binding_of, binding_in, is_ended, delivery_to}

@@ -4,7 +4,7 @@ use Rattle.std.specs.List.{list_any, filter}
 use Rattle.fab_config.specs.Settings.{same_bytes}
 use Rattle.fip_codec.specs.Message as fip
 use Rattle.fip_snoop.specs.Messages.{granted_mac, grant_in, is_first_grant, released_in, is_at, clears, is_port_alive}
-use Rattle.fab_policy.specs.Heard.{What, Fip}
+use Rattle.heard_frames.specs.Heard.{What, Fip}
 use Rattle.fip_snoop.specs.History.{History, Delivery, home, bound, bound_by}
 use Rattle.fip_snoop.specs.Ways.{way_by}
 use Rattle.fip_snoop.specs.declared.bindings.Binding.{Binding}

@@ -3,8 +3,8 @@
 use Rattle.std.specs.Prelude.{ℕ, Bool, true, false, not, ◌==◌, ◌&&◌, ◌||◌, if◌then◌else◌, List, [], ◌∷◌, Option, Some, None, Ok, Err}
 use Rattle.fab_base.specs.declared.values.Caught.{Caught}
 use Rattle.fab_config.specs.Settings.{same_bytes}
-use Rattle.fab_policy.specs.Heard.{What, Bad, Fip, Fcoe, decoded}
-use Rattle.fab_policy.specs.Rules.{first_row, ALL_FCFS, ALL_ENODES}
+use Rattle.heard_frames.specs.Heard.{What, Bad, Fip, Fcoe, decoded}
+use Rattle.heard_frames.specs.Rows.{first_row, ALL_FCFS, ALL_ENODES}
 use Rattle.fab_policy.specs.declared.verdict.Rule.{Rule}
 use Rattle.fab_policy.specs.declared.verdict.Rule.TheVariants as unreadable
 use Rattle.eth_frames.specs.Ethernet as eth
@@ -31,7 +31,7 @@ rule_of _ = rule.FipFault
 
 -- the VLAN isn't the forwarder's, except that a message of VLANs may be untagged
 abbrev pub is_wrong_vlan : Forwarder → eth.Eth → Bool → Bool
-is_wrong_vlan w f may_be_untagged = not (eth.vlan_of_tag f.tag == w.vlan || (may_be_untagged && eth.vlan_of_tag f.tag == 0))
+is_wrong_vlan w.vlan f may_be_untagged = not (eth.vlan_of_tag f.tag == w.vlan || (may_be_untagged && eth.vlan_of_tag f.tag == 0))
 
 -- the binding is of this port
 abbrev pub is_on : ℕ → Option Binding → Bool
@@ -63,7 +63,7 @@ is_to_forwarders w dst = same_bytes dst w.mac || same_bytes dst ALL_FCFS
 -- the rows of a message, by what its source MAC is bound to
 abbrev pub up_rows : Forwarder → ℕ → eth.Eth → fip.Fip → Option Binding → Bool → List (Bool × SnoopRule)
 up_rows w port f m b moved =
-    (is_wrong_vlan w f (is_of_vlans m), rule.Vlan)
+    (is_wrong_vlan w.vlan f (is_of_vlans m), rule.Vlan)
     ∷ (fip.is_forwarders m, rule.Role)
     ∷ (not (is_to_forwarders w f.dst), rule.Dest)
     ∷ (not (is_port_alive m) && moved, rule.Moved)
@@ -73,7 +73,7 @@ up_rows w port f m b moved =
 
 abbrev pub up_data_rows : Forwarder → ℕ → eth.Eth → capsule.Fcoe → Option Binding → List (Bool × SnoopRule)
 up_data_rows w port f x b =
-    (is_wrong_vlan w f false, rule.Vlan)
+    (is_wrong_vlan w.vlan f false, rule.Vlan)
     ∷ (not (same_bytes f.dst w.mac), rule.Dest)
     ∷ (not (is_on port b), rule.Unbound)
     ∷ (not (is_of x.frame.head.s_id b), rule.Source)
@@ -96,7 +96,7 @@ is_enodes _ = false
 
 abbrev pub down_rows : Forwarder → eth.Eth → fip.Fip → List (Bool × SnoopRule)
 down_rows w f m =
-    (is_wrong_vlan w f (is_of_vlans m), rule.Vlan)
+    (is_wrong_vlan w.vlan f (is_of_vlans m), rule.Vlan)
     ∷ (not (same_bytes f.src w.mac), rule.NotFcf)
     ∷ (is_enodes m, rule.Role)
     ∷ []
@@ -107,7 +107,7 @@ down_data_to d_id (Some b) = if b.address == d_id then Down b.port else Dropped 
 
 abbrev pub down_data_rows : Forwarder → eth.Eth → List (Bool × SnoopRule)
 down_data_rows w f =
-    (is_wrong_vlan w f false, rule.Vlan)
+    (is_wrong_vlan w.vlan f false, rule.Vlan)
     ∷ (not (same_bytes f.src w.mac), rule.NotFcf)
     ∷ []
 

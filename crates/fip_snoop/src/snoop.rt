@@ -1,7 +1,7 @@
 //! The bridge (FC-BB-5, "FIP snooping").
 ghost use Rattle.std.specs.Prelude.{◌≡◌, ◌∷◌, [], IfOk, OnOk, OnErr};
 ghost use Rattle.eth_frames.specs.Ethernet.{view as eth_view};
-ghost use Rattle.fab_policy.specs.View.{view};
+ghost use Rattle.heard_frames.specs.View.{view};
 ghost use Rattle.fcoe_codec.specs.Fcoe.{view as fcoe_view};
 ghost use Rattle.fip_snoop.specs.History.{History};
 ghost use Rattle.fip_snoop.specs.Messages.{forwarder_of};
@@ -20,8 +20,9 @@ use crate::way::{SnoopRule, Way};
 use eth_frames::EthFrame;
 use fab_base::{Caught, NoMemory, PortNo};
 use fab_config::Config;
-use fab_policy::{Rule, What, hear};
+use fab_policy::Rule;
 use fcoe_codec::FcoeFrame;
+use heard_frames::{What, hear};
 use std::alloc::Global;
 use std::marker::Model;
 
@@ -50,9 +51,9 @@ impl Snoop {
     ghost use Rattle.eth_frames.specs.Ethernet.{Eth};
     ghost use Rattle.fcoe_codec.specs.Fcoe.{Fcoe};
     ghost use Rattle.fcoe_codec.specs.declared.FcoeFault.{FcoeFault};
-    ghost use Rattle.fab_policy.specs.Heard as heard;
-    ghost use Rattle.fab_policy.specs.Heard.{decoded};
-    ghost use Rattle.fab_policy.specs.View.{view};
+    ghost use Rattle.heard_frames.specs.Heard as heard;
+    ghost use Rattle.heard_frames.specs.Heard.{decoded};
+    ghost use Rattle.heard_frames.specs.View.{view};
     ghost use Rattle.fip_snoop.specs.History.{History};
     ghost use Rattle.fip_snoop.specs.Messages.{forwarder_of};
     ghost use Rattle.fip_snoop.specs.Ways as ways;

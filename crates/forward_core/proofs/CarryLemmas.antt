@@ -4,7 +4,7 @@ use Rattle.std.specs.List.{All}
 use Rattle.std.proofs.lemmas.List.Elements.{All-head, All-tail}
 use Rattle.fab_config.specs.Settings.{Settings}
 use Rattle.fab_policy.specs.Changes.{CanStay, FrameSteps, leaves_logins, stays_as}
-use Rattle.fab_policy.specs.Heard.{s_id}
+use Rattle.heard_frames.specs.Heard.{s_id}
 use Rattle.fab_policy.specs.State.{LivePort, Tables, now_of, port_at}
 use Rattle.fab_policy.specs.declared.verdict.Verdict.{Verdict}
 use Rattle.fab_policy.specs.declared.verdict.Verdict.TheVariants.{Granted, Registered}

@@ -13,7 +13,7 @@ use Rattle.fab_base.proofs.SamenessLemmas.{find-map, found_passes}
 use Rattle.zone_rules.specs.Joined.{contains}
 use Rattle.fab_policy.specs.Changes.{GrantSteps, all_ended, granted_to, heard_node, left_by}
 use Rattle.fab_policy.specs.Free.{Request, is_free, is_open}
-use Rattle.fab_policy.specs.Heard.{is_flogi}
+use Rattle.heard_frames.specs.Heard.{is_flogi}
 use Rattle.fab_policy.specs.Logins.{NPort, n_port}
 use Rattle.fab_policy.specs.State.{LivePort, Tables, addresses, now_of, port_at}
 use Rattle.fab_policy.specs.Steps.{after, fresh}

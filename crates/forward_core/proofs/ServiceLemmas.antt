@@ -9,7 +9,7 @@ use Rattle.ct_messages.specs.declared.CtTell.{CtTell}
 use Rattle.fab_judge.specs.Judged.{GrantRests}
 use Rattle.fab_judge.specs.declared.judging.Candidate.{Candidate}
 use Rattle.fab_policy.specs.Free.{Request}
-use Rattle.fab_policy.specs.Heard.{carried, is_flogi, sender}
+use Rattle.heard_frames.specs.Heard.{carried, is_flogi, sender}
 use Rattle.fab_policy.specs.Outputs.{State}
 use Rattle.fab_policy.specs.Queries.{query}
 use Rattle.fab_policy.specs.State.{LivePort, Tables, port_at}

@@ -4,7 +4,7 @@ use Rattle.fab_base.specs.Fabric.{same_enode}
 use Rattle.fab_config.specs.Settings.{Settings}
 use Rattle.fab_judge.specs.declared.judging.Judged.{Judged}
 use Rattle.fab_policy.specs.Free.{Request}
-use Rattle.fab_policy.specs.Heard.{asked}
+use Rattle.heard_frames.specs.Heard.{asked}
 use Rattle.fab_policy.specs.State.{LivePort, Tables}
 use Rattle.fab_policy.specs.Steps.{after}
 use Rattle.fab_policy.specs.declared.verdict.Verdict.{Verdict}

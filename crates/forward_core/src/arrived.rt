@@ -1,7 +1,7 @@
 //! A frame that came on a port.
 
 use fab_base::PortNo;
-use fab_policy::Heard;
+use heard_frames::Heard;
 
 /// A frame of a port with its index, as it was heard.
 #[derive(Drop)]

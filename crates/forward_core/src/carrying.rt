@@ -8,7 +8,7 @@ ghost use Rattle.fab_judge.specs.Judged.{ended_by};
 ghost use Rattle.fab_judge.specs.declared.judging.Judged.TheVariants as judged;
 ghost use Rattle.fab_policy.specs.Classes.{of_replied, of_settled};
 ghost use Rattle.fab_policy.specs.Free.{is_free};
-ghost use Rattle.fab_policy.specs.Heard.{ask_of};
+ghost use Rattle.heard_frames.specs.Heard.{ask_of};
 ghost use Rattle.fab_policy.specs.declared.verdict.Verdict.TheVariants.{Granted, Registered};
 ghost use Rattle.fab_roster.specs.Changes.{IsSoundRoll};
 ghost use Rattle.forward_core.specs.Arrived.{caught_of};

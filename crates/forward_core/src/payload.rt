@@ -1,9 +1,10 @@
 //! The payload of the FC frame in a body of FCoE.
 ghost use Rattle.std.specs.Prelude.{◌≡◌};
 ghost use Rattle.fab_policy.specs.Classes.{HasBody};
-ghost use Rattle.fab_policy.specs.Heard.{carried};
+ghost use Rattle.heard_frames.specs.Heard.{carried};
 
-use fab_policy::{Heard, What, frames_are_carried};
+use fab_policy::frames_are_carried;
+use heard_frames::{Heard, What};
 
 /// The payload of the FC frame in a body of FCoE that was read.
 pub(crate) fn payload_of<'a>(heard: &'a Heard<'_>) -> &'a [u8]

@@ -14,7 +14,8 @@ use crate::arrived::Arrived;
 use crate::granting::WishTaken;
 use fab_base::{FcId, NoMemory, PortNo};
 use fab_judge::{Judged, judge};
-use fab_policy::{Heard, Verdict, fabric_steps, known_verdict};
+use fab_policy::{Verdict, fabric_steps, known_verdict};
+use heard_frames::Heard;
 use std::alloc::Global;
 
 /// Why a step changed nothing.

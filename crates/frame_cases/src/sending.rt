@@ -11,10 +11,11 @@ use ct_messages::{CtTell, NextPort, TypeMap};
 use fab_base::{Bytes, FcId, Mac, Moment, NoMemory, PortNo, Wwn};
 use fab_config::Config;
 use fab_messages::OutList;
-use fab_policy::{Asker, Heard, Replied, Settled, What, hear};
+use fab_policy::{Asker, Replied, Settled};
 use fab_sending::replies::{frames_of, reply};
 use fab_sending::{advertise, clear, frames_of_answer};
 use fip_codec::VxPort;
+use heard_frames::{Heard, What, hear};
 use std::alloc::Global;
 use table_cases::words::{
     CaseFault, address, code, enode, moment, name, name_at, port, short, small, some_moment,

@@ -5,7 +5,8 @@ use Rattle.fab_config.specs.Settings.{Settings}
 use Rattle.fab_policy.specs.State as state
 use Rattle.fab_policy.specs.Verdicts as verdicts
 use Rattle.fab_policy.specs.Rules as rules
-use Rattle.fab_policy.specs.Heard as heard
+use Rattle.heard_frames.specs.Heard as heard
+use Rattle.fab_policy.specs.Cause as cause
 use Rattle.fab_policy.specs.Outputs as outs
 use Rattle.fab_policy.specs.declared.event.Event.TheVariants.{Tick, Frame}
 use Rattle.fab_policy.specs.declared.verdict.Verdict.TheVariants.{Forwarded, Rejected, Dropped}
@@ -36,7 +37,7 @@ pub sent : map {B = ℕ × List ℕ} (λ s. (s.port, s.bytes)) (outs.outputs few
 unfolding outs.outputs_by outs.notices heard.carried heard.is_flogi eth.decoded reading.decoded fc.decoded capsule.written crc.crc crc.remainder zones.joined
 sent = refl
 
-pub other_port : verdicts.judged few tables 2 (fcp 0x010100 0x010101) ≡ verdicts.Must (Dropped (heard.plain rule.SourcePort))
+pub other_port : verdicts.judged few tables 2 (fcp 0x010100 0x010101) ≡ verdicts.Must (Dropped (cause.plain rule.SourcePort))
 unfolding verdicts.judged rules.rule_for heard.decoded heard.carried heard.is_flogi eth.decoded reading.decoded fc.decoded els.decoded capsule.decoded capsule.written crc.crc crc.remainder zones.joined
 other_port = refl
 
@@ -44,24 +45,24 @@ other_port = refl
 abbrev pub forged : Caught
 forged = in_vlan (mac_of 0x010101) 0x8906 (capsule.written (record { sof = 0x2e; eof = 0x42; frame = record { head = data_head 0x010100 0x010101; payload = [] } }))
 
-pub other_mac : verdicts.judged few tables 1 forged ≡ verdicts.Must (Dropped (heard.plain rule.SourceMac))
+pub other_mac : verdicts.judged few tables 1 forged ≡ verdicts.Must (Dropped (cause.plain rule.SourceMac))
 unfolding verdicts.judged rules.rule_for heard.decoded heard.carried heard.is_flogi eth.decoded reading.decoded fc.decoded els.decoded capsule.decoded capsule.written crc.crc crc.remainder zones.joined
 other_mac = refl
 
-pub to_itself : verdicts.judged few tables 1 (fcp 0x010100 0x010100) ≡ verdicts.Must (Dropped (heard.plain rule.OwnAddress))
+pub to_itself : verdicts.judged few tables 1 (fcp 0x010100 0x010100) ≡ verdicts.Must (Dropped (cause.plain rule.OwnAddress))
 unfolding verdicts.judged rules.rule_for heard.decoded heard.carried heard.is_flogi eth.decoded reading.decoded fc.decoded els.decoded capsule.decoded capsule.written crc.crc crc.remainder zones.joined
 to_itself = refl
 
-pub to_nobody : verdicts.judged few tables 1 (fcp 0x010100 0x010102) ≡ verdicts.Must (Dropped (heard.plain rule.DestLogin))
+pub to_nobody : verdicts.judged few tables 1 (fcp 0x010100 0x010102) ≡ verdicts.Must (Dropped (cause.plain rule.DestLogin))
 unfolding verdicts.judged rules.rule_for heard.decoded heard.carried heard.is_flogi eth.decoded reading.decoded fc.decoded els.decoded capsule.decoded capsule.written crc.crc crc.remainder zones.joined
 to_nobody = refl
 
 -- without zones nobody is joined
-pub without_zone : verdicts.judged K (state.tables_of K two_logins) 1 (fcp 0x010100 0x010101) ≡ verdicts.Must (Dropped (heard.plain rule.Zone))
+pub without_zone : verdicts.judged K (state.tables_of K two_logins) 1 (fcp 0x010100 0x010101) ≡ verdicts.Must (Dropped (cause.plain rule.Zone))
 unfolding verdicts.judged rules.rule_for heard.decoded heard.carried heard.is_flogi eth.decoded reading.decoded fc.decoded els.decoded capsule.decoded capsule.written crc.crc crc.remainder zones.joined
 without_zone = refl
 
-pub cut : verdicts.judged few tables 1 (record { bytes = (fcp 0x010100 0x010101).bytes; whole = false }) ≡ verdicts.Must (Dropped (heard.plain rule.Truncated))
+pub cut : verdicts.judged few tables 1 (record { bytes = (fcp 0x010100 0x010101).bytes; whole = false }) ≡ verdicts.Must (Dropped (cause.plain rule.Truncated))
 unfolding verdicts.judged rules.rule_for heard.decoded
 cut = refl
 

@@ -6,7 +6,8 @@ use Rattle.fab_policy.specs.State as state
 use Rattle.fab_policy.specs.Verdicts as verdicts
 use Rattle.ct_messages.specs.Server as server
 use Rattle.fab_policy.specs.Rules as rules
-use Rattle.fab_policy.specs.Heard as heard
+use Rattle.heard_frames.specs.Heard as heard
+use Rattle.fab_policy.specs.Cause as cause
 use Rattle.fab_policy.specs.Outputs as outs
 use Rattle.fab_policy.specs.declared.event.Event.{Event}
 use Rattle.fab_policy.specs.declared.event.Event.TheVariants.{Tick, Frame}
@@ -74,9 +75,9 @@ frame3 = record { bytes = (bytes (codes "00051e0000020efc00010100810000c88906") 
 
 -- 1000 1 2 dropped vlan
 abbrev pub entry3 : Event
-entry3 = Frame 1 2 frame3 (Dropped (heard.plain rule.Vlan))
+entry3 = Frame 1 2 frame3 (Dropped (cause.plain rule.Vlan))
 
-pub entry3_is_right : verdicts.IsRight C (state.tables_of C J3) 1 frame3 (Dropped (heard.plain rule.Vlan))
+pub entry3_is_right : verdicts.IsRight C (state.tables_of C J3) 1 frame3 (Dropped (cause.plain rule.Vlan))
 unfolding eth.decoded fc.decoded reading.decoded heard.carried heard.is_flogi heard.decoded capsule.decoded crc.crc crc.remainder els.decoded ct.decoded zones.joined rules.rule_for verdicts.judged
 entry3_is_right = refl
 
@@ -88,9 +89,9 @@ frame4 = record { bytes = (bytes (codes "00051e0000020efc000101008906") ++ zeros
 
 -- 1000 1 3 dropped vlan
 abbrev pub entry4 : Event
-entry4 = Frame 1 3 frame4 (Dropped (heard.plain rule.Vlan))
+entry4 = Frame 1 3 frame4 (Dropped (cause.plain rule.Vlan))
 
-pub entry4_is_right : verdicts.IsRight C (state.tables_of C J4) 1 frame4 (Dropped (heard.plain rule.Vlan))
+pub entry4_is_right : verdicts.IsRight C (state.tables_of C J4) 1 frame4 (Dropped (cause.plain rule.Vlan))
 unfolding eth.decoded fc.decoded reading.decoded heard.carried heard.is_flogi heard.decoded capsule.decoded crc.crc crc.remainder els.decoded ct.decoded zones.joined rules.rule_for verdicts.judged
 entry4_is_right = refl
 
@@ -102,9 +103,9 @@ frame5 = record { bytes = (bytes (codes "00051e0000020efc00010100810000648906") 
 
 -- 1000 1 4 dropped fcoe-length
 abbrev pub entry5 : Event
-entry5 = Frame 1 4 frame5 (Dropped (heard.plain rule.FcoeLength))
+entry5 = Frame 1 4 frame5 (Dropped (cause.plain rule.FcoeLength))
 
-pub entry5_is_right : verdicts.IsRight C (state.tables_of C J5) 1 frame5 (Dropped (heard.plain rule.FcoeLength))
+pub entry5_is_right : verdicts.IsRight C (state.tables_of C J5) 1 frame5 (Dropped (cause.plain rule.FcoeLength))
 unfolding eth.decoded fc.decoded reading.decoded heard.carried heard.is_flogi heard.decoded capsule.decoded crc.crc crc.remainder els.decoded ct.decoded zones.joined rules.rule_for verdicts.judged
 entry5_is_right = refl
 
@@ -116,9 +117,9 @@ frame6 = record { bytes = (bytes (codes "00051e0000020efc00010100810000648906") 
 
 -- 1000 1 5 dropped fcoe-length
 abbrev pub entry6 : Event
-entry6 = Frame 1 5 frame6 (Dropped (heard.plain rule.FcoeLength))
+entry6 = Frame 1 5 frame6 (Dropped (cause.plain rule.FcoeLength))
 
-pub entry6_is_right : verdicts.IsRight C (state.tables_of C J6) 1 frame6 (Dropped (heard.plain rule.FcoeLength))
+pub entry6_is_right : verdicts.IsRight C (state.tables_of C J6) 1 frame6 (Dropped (cause.plain rule.FcoeLength))
 unfolding eth.decoded fc.decoded reading.decoded heard.carried heard.is_flogi heard.decoded capsule.decoded crc.crc crc.remainder els.decoded ct.decoded zones.joined rules.rule_for verdicts.judged
 entry6_is_right = refl
 
@@ -130,9 +131,9 @@ frame7 = record { bytes = (bytes (codes "00051e0000020efc0001010081000064890610"
 
 -- 1000 1 6 dropped fcoe-version
 abbrev pub entry7 : Event
-entry7 = Frame 1 6 frame7 (Dropped (heard.plain rule.FcoeVersion))
+entry7 = Frame 1 6 frame7 (Dropped (cause.plain rule.FcoeVersion))
 
-pub entry7_is_right : verdicts.IsRight C (state.tables_of C J7) 1 frame7 (Dropped (heard.plain rule.FcoeVersion))
+pub entry7_is_right : verdicts.IsRight C (state.tables_of C J7) 1 frame7 (Dropped (cause.plain rule.FcoeVersion))
 unfolding eth.decoded fc.decoded reading.decoded heard.carried heard.is_flogi heard.decoded capsule.decoded crc.crc crc.remainder els.decoded ct.decoded zones.joined rules.rule_for verdicts.judged
 entry7_is_right = refl
 
@@ -144,9 +145,9 @@ frame8 = record { bytes = (bytes (codes "00051e0000020efc00010100810000648906") 
 
 -- 1000 1 7 dropped fcoe-class
 abbrev pub entry8 : Event
-entry8 = Frame 1 7 frame8 (Dropped (heard.plain rule.FcoeClass))
+entry8 = Frame 1 7 frame8 (Dropped (cause.plain rule.FcoeClass))
 
-pub entry8_is_right : verdicts.IsRight C (state.tables_of C J8) 1 frame8 (Dropped (heard.plain rule.FcoeClass))
+pub entry8_is_right : verdicts.IsRight C (state.tables_of C J8) 1 frame8 (Dropped (cause.plain rule.FcoeClass))
 unfolding eth.decoded fc.decoded reading.decoded heard.carried heard.is_flogi heard.decoded capsule.decoded crc.crc crc.remainder els.decoded ct.decoded zones.joined rules.rule_for verdicts.judged
 entry8_is_right = refl
 
@@ -158,9 +159,9 @@ frame9 = record { bytes = (bytes (codes "00051e0000020efc00010100810000648906") 
 
 -- 1000 1 8 dropped fcoe-sof
 abbrev pub entry9 : Event
-entry9 = Frame 1 8 frame9 (Dropped (heard.plain rule.FcoeSof))
+entry9 = Frame 1 8 frame9 (Dropped (cause.plain rule.FcoeSof))
 
-pub entry9_is_right : verdicts.IsRight C (state.tables_of C J9) 1 frame9 (Dropped (heard.plain rule.FcoeSof))
+pub entry9_is_right : verdicts.IsRight C (state.tables_of C J9) 1 frame9 (Dropped (cause.plain rule.FcoeSof))
 unfolding eth.decoded fc.decoded reading.decoded heard.carried heard.is_flogi heard.decoded capsule.decoded crc.crc crc.remainder els.decoded ct.decoded zones.joined rules.rule_for verdicts.judged
 entry9_is_right = refl
 
@@ -172,9 +173,9 @@ frame10 = record { bytes = (bytes (codes "00051e0000020efc00010100810000648906")
 
 -- 1000 1 9 dropped fcoe-class
 abbrev pub entry10 : Event
-entry10 = Frame 1 9 frame10 (Dropped (heard.plain rule.FcoeClass))
+entry10 = Frame 1 9 frame10 (Dropped (cause.plain rule.FcoeClass))
 
-pub entry10_is_right : verdicts.IsRight C (state.tables_of C J10) 1 frame10 (Dropped (heard.plain rule.FcoeClass))
+pub entry10_is_right : verdicts.IsRight C (state.tables_of C J10) 1 frame10 (Dropped (cause.plain rule.FcoeClass))
 unfolding eth.decoded fc.decoded reading.decoded heard.carried heard.is_flogi heard.decoded capsule.decoded crc.crc crc.remainder els.decoded ct.decoded zones.joined rules.rule_for verdicts.judged
 entry10_is_right = refl
 
@@ -186,9 +187,9 @@ frame11 = record { bytes = (bytes (codes "00051e0000020efc00010100810000648906")
 
 -- 1000 1 10 dropped fcoe-class
 abbrev pub entry11 : Event
-entry11 = Frame 1 10 frame11 (Dropped (heard.plain rule.FcoeClass))
+entry11 = Frame 1 10 frame11 (Dropped (cause.plain rule.FcoeClass))
 
-pub entry11_is_right : verdicts.IsRight C (state.tables_of C J11) 1 frame11 (Dropped (heard.plain rule.FcoeClass))
+pub entry11_is_right : verdicts.IsRight C (state.tables_of C J11) 1 frame11 (Dropped (cause.plain rule.FcoeClass))
 unfolding eth.decoded fc.decoded reading.decoded heard.carried heard.is_flogi heard.decoded capsule.decoded crc.crc crc.remainder els.decoded ct.decoded zones.joined rules.rule_for verdicts.judged
 entry11_is_right = refl
 
@@ -200,9 +201,9 @@ frame12 = record { bytes = (bytes (codes "00051e0000020efc00010100810000648906")
 
 -- 1000 1 11 dropped fcoe-eof
 abbrev pub entry12 : Event
-entry12 = Frame 1 11 frame12 (Dropped (heard.plain rule.FcoeEof))
+entry12 = Frame 1 11 frame12 (Dropped (cause.plain rule.FcoeEof))
 
-pub entry12_is_right : verdicts.IsRight C (state.tables_of C J12) 1 frame12 (Dropped (heard.plain rule.FcoeEof))
+pub entry12_is_right : verdicts.IsRight C (state.tables_of C J12) 1 frame12 (Dropped (cause.plain rule.FcoeEof))
 unfolding eth.decoded fc.decoded reading.decoded heard.carried heard.is_flogi heard.decoded capsule.decoded crc.crc crc.remainder els.decoded ct.decoded zones.joined rules.rule_for verdicts.judged
 entry12_is_right = refl
 
@@ -214,9 +215,9 @@ frame13 = record { bytes = (bytes (codes "0110180100020efc00010100810000648906")
 
 -- 1000 1 12 dropped fcoe-class
 abbrev pub entry13 : Event
-entry13 = Frame 1 12 frame13 (Dropped (heard.plain rule.FcoeClass))
+entry13 = Frame 1 12 frame13 (Dropped (cause.plain rule.FcoeClass))
 
-pub entry13_is_right : verdicts.IsRight C (state.tables_of C J13) 1 frame13 (Dropped (heard.plain rule.FcoeClass))
+pub entry13_is_right : verdicts.IsRight C (state.tables_of C J13) 1 frame13 (Dropped (cause.plain rule.FcoeClass))
 unfolding eth.decoded fc.decoded reading.decoded heard.carried heard.is_flogi heard.decoded capsule.decoded crc.crc crc.remainder els.decoded ct.decoded zones.joined rules.rule_for verdicts.judged
 entry13_is_right = refl
 
@@ -228,9 +229,9 @@ frame14 = record { bytes = (bytes (codes "0110180100020efc00010100810000648906")
 
 -- 1000 1 13 dropped fcoe-dest
 abbrev pub entry14 : Event
-entry14 = Frame 1 13 frame14 (Dropped (heard.plain rule.FcoeDest))
+entry14 = Frame 1 13 frame14 (Dropped (cause.plain rule.FcoeDest))
 
-pub entry14_is_right : verdicts.IsRight C (state.tables_of C J14) 1 frame14 (Dropped (heard.plain rule.FcoeDest))
+pub entry14_is_right : verdicts.IsRight C (state.tables_of C J14) 1 frame14 (Dropped (cause.plain rule.FcoeDest))
 unfolding eth.decoded fc.decoded reading.decoded heard.carried heard.is_flogi heard.decoded capsule.decoded crc.crc crc.remainder els.decoded ct.decoded zones.joined rules.rule_for verdicts.judged
 entry14_is_right = refl
 
@@ -242,9 +243,9 @@ frame15 = record { bytes = (bytes (codes "00051e0000020efc00010100810000648906")
 
 -- 1000 1 14 dropped source-mac
 abbrev pub entry15 : Event
-entry15 = Frame 1 14 frame15 (Dropped (heard.plain rule.SourceMac))
+entry15 = Frame 1 14 frame15 (Dropped (cause.plain rule.SourceMac))
 
-pub entry15_is_right : verdicts.IsRight C (state.tables_of C J15) 1 frame15 (Dropped (heard.plain rule.SourceMac))
+pub entry15_is_right : verdicts.IsRight C (state.tables_of C J15) 1 frame15 (Dropped (cause.plain rule.SourceMac))
 unfolding eth.decoded fc.decoded reading.decoded heard.carried heard.is_flogi heard.decoded capsule.decoded crc.crc crc.remainder els.decoded ct.decoded zones.joined rules.rule_for verdicts.judged
 entry15_is_right = refl
 
@@ -256,9 +257,9 @@ frame16 = record { bytes = (bytes (codes "00051e0000020efc00010102810000648906")
 
 -- 1000 1 15 dropped source-login
 abbrev pub entry16 : Event
-entry16 = Frame 1 15 frame16 (Dropped (heard.plain rule.SourceLogin))
+entry16 = Frame 1 15 frame16 (Dropped (cause.plain rule.SourceLogin))
 
-pub entry16_is_right : verdicts.IsRight C (state.tables_of C J16) 1 frame16 (Dropped (heard.plain rule.SourceLogin))
+pub entry16_is_right : verdicts.IsRight C (state.tables_of C J16) 1 frame16 (Dropped (cause.plain rule.SourceLogin))
 unfolding eth.decoded fc.decoded reading.decoded heard.carried heard.is_flogi heard.decoded capsule.decoded crc.crc crc.remainder els.decoded ct.decoded zones.joined rules.rule_for verdicts.judged
 entry16_is_right = refl
 
@@ -270,9 +271,9 @@ frame17 = record { bytes = (bytes (codes "00051e0000020efc00010102810000648906")
 
 -- 1000 1 16 dropped source-login
 abbrev pub entry17 : Event
-entry17 = Frame 1 16 frame17 (Dropped (heard.plain rule.SourceLogin))
+entry17 = Frame 1 16 frame17 (Dropped (cause.plain rule.SourceLogin))
 
-pub entry17_is_right : verdicts.IsRight C (state.tables_of C J17) 1 frame17 (Dropped (heard.plain rule.SourceLogin))
+pub entry17_is_right : verdicts.IsRight C (state.tables_of C J17) 1 frame17 (Dropped (cause.plain rule.SourceLogin))
 unfolding eth.decoded fc.decoded reading.decoded heard.carried heard.is_flogi heard.decoded capsule.decoded crc.crc crc.remainder els.decoded ct.decoded zones.joined rules.rule_for verdicts.judged
 entry17_is_right = refl
 
@@ -284,9 +285,9 @@ frame18 = record { bytes = (bytes (codes "00051e0000020efc00010100810000648906")
 
 -- 1000 1 17 dropped self
 abbrev pub entry18 : Event
-entry18 = Frame 1 17 frame18 (Dropped (heard.plain rule.OwnAddress))
+entry18 = Frame 1 17 frame18 (Dropped (cause.plain rule.OwnAddress))
 
-pub entry18_is_right : verdicts.IsRight C (state.tables_of C J18) 1 frame18 (Dropped (heard.plain rule.OwnAddress))
+pub entry18_is_right : verdicts.IsRight C (state.tables_of C J18) 1 frame18 (Dropped (cause.plain rule.OwnAddress))
 unfolding eth.decoded fc.decoded reading.decoded heard.carried heard.is_flogi heard.decoded capsule.decoded crc.crc crc.remainder els.decoded ct.decoded zones.joined rules.rule_for verdicts.judged
 entry18_is_right = refl
 
@@ -298,9 +299,9 @@ frame19 = record { bytes = (bytes (codes "00051e0000020efc00010100810000648906")
 
 -- 1000 1 18 dropped dest-login
 abbrev pub entry19 : Event
-entry19 = Frame 1 18 frame19 (Dropped (heard.plain rule.DestLogin))
+entry19 = Frame 1 18 frame19 (Dropped (cause.plain rule.DestLogin))
 
-pub entry19_is_right : verdicts.IsRight C (state.tables_of C J19) 1 frame19 (Dropped (heard.plain rule.DestLogin))
+pub entry19_is_right : verdicts.IsRight C (state.tables_of C J19) 1 frame19 (Dropped (cause.plain rule.DestLogin))
 unfolding eth.decoded fc.decoded reading.decoded heard.carried heard.is_flogi heard.decoded capsule.decoded crc.crc crc.remainder els.decoded ct.decoded zones.joined rules.rule_for verdicts.judged
 entry19_is_right = refl
 

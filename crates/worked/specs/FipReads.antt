@@ -6,7 +6,8 @@ use Rattle.fab_policy.specs.State as state
 use Rattle.fab_policy.specs.Verdicts as verdicts
 use Rattle.ct_messages.specs.Server as server
 use Rattle.fab_policy.specs.Rules as rules
-use Rattle.fab_policy.specs.Heard as heard
+use Rattle.heard_frames.specs.Heard as heard
+use Rattle.fab_policy.specs.Cause as cause
 use Rattle.fab_policy.specs.Outputs as outs
 use Rattle.fab_policy.specs.declared.event.Event.{Event}
 use Rattle.fab_policy.specs.declared.event.Event.TheVariants.{Tick, Frame}
@@ -46,9 +47,9 @@ frame1 = record { bytes = bytes (codes "00051e000002001b2100000a8100006489142000
 
 -- 1000 1 0 dropped fip-version
 abbrev pub entry1 : Event
-entry1 = Frame 1 0 frame1 (Dropped (heard.plain rule.FipVersion))
+entry1 = Frame 1 0 frame1 (Dropped (cause.plain rule.FipVersion))
 
-pub entry1_is_right : verdicts.IsRight C (state.tables_of C J1) 1 frame1 (Dropped (heard.plain rule.FipVersion))
+pub entry1_is_right : verdicts.IsRight C (state.tables_of C J1) 1 frame1 (Dropped (cause.plain rule.FipVersion))
 unfolding eth.decoded fc.decoded reading.decoded heard.carried heard.is_flogi heard.decoded capsule.decoded crc.crc crc.remainder els.decoded ct.decoded zones.joined rules.rule_for verdicts.judged
 entry1_is_right = refl
 
@@ -74,9 +75,9 @@ frame3 = record { bytes = bytes (codes "011018010002001b2100000a8100006489141000
 
 -- 1000 1 2 dropped fip-list
 abbrev pub entry3 : Event
-entry3 = Frame 1 2 frame3 (Dropped (heard.plain rule.FipList))
+entry3 = Frame 1 2 frame3 (Dropped (cause.plain rule.FipList))
 
-pub entry3_is_right : verdicts.IsRight C (state.tables_of C J3) 1 frame3 (Dropped (heard.plain rule.FipList))
+pub entry3_is_right : verdicts.IsRight C (state.tables_of C J3) 1 frame3 (Dropped (cause.plain rule.FipList))
 unfolding eth.decoded fc.decoded reading.decoded heard.carried heard.is_flogi heard.decoded capsule.decoded crc.crc crc.remainder els.decoded ct.decoded zones.joined rules.rule_for verdicts.judged
 entry3_is_right = refl
 
@@ -102,9 +103,9 @@ frame5 = record { bytes = bytes (codes "011018010002001b2100000a8100006489141000
 
 -- 1000 1 4 dropped fip-critical 18
 abbrev pub entry5 : Event
-entry5 = Frame 1 4 frame5 (Dropped (heard.numbered rule.FipCritical 18))
+entry5 = Frame 1 4 frame5 (Dropped (cause.numbered rule.FipCritical 18))
 
-pub entry5_is_right : verdicts.IsRight C (state.tables_of C J5) 1 frame5 (Dropped (heard.numbered rule.FipCritical 18))
+pub entry5_is_right : verdicts.IsRight C (state.tables_of C J5) 1 frame5 (Dropped (cause.numbered rule.FipCritical 18))
 unfolding eth.decoded fc.decoded reading.decoded heard.carried heard.is_flogi heard.decoded capsule.decoded crc.crc crc.remainder els.decoded ct.decoded zones.joined rules.rule_for verdicts.judged
 entry5_is_right = refl
 
@@ -116,9 +117,9 @@ frame6 = record { bytes = (bytes (codes "00051e000002001b2100000a810000648914100
 
 -- 1000 1 5 dropped fip-length 10
 abbrev pub entry6 : Event
-entry6 = Frame 1 5 frame6 (Dropped (heard.numbered rule.FipLength 10))
+entry6 = Frame 1 5 frame6 (Dropped (cause.numbered rule.FipLength 10))
 
-pub entry6_is_right : verdicts.IsRight C (state.tables_of C J6) 1 frame6 (Dropped (heard.numbered rule.FipLength 10))
+pub entry6_is_right : verdicts.IsRight C (state.tables_of C J6) 1 frame6 (Dropped (cause.numbered rule.FipLength 10))
 unfolding eth.decoded fc.decoded reading.decoded heard.carried heard.is_flogi heard.decoded capsule.decoded crc.crc crc.remainder els.decoded ct.decoded zones.joined rules.rule_for verdicts.judged
 entry6_is_right = refl
 
@@ -130,9 +131,9 @@ frame7 = record { bytes = bytes (codes "00051e000002001b2100000a8100006489141000
 
 -- 1000 1 6 dropped fip-double 38
 abbrev pub entry7 : Event
-entry7 = Frame 1 6 frame7 (Dropped (heard.numbered rule.FipDouble 38))
+entry7 = Frame 1 6 frame7 (Dropped (cause.numbered rule.FipDouble 38))
 
-pub entry7_is_right : verdicts.IsRight C (state.tables_of C J7) 1 frame7 (Dropped (heard.numbered rule.FipDouble 38))
+pub entry7_is_right : verdicts.IsRight C (state.tables_of C J7) 1 frame7 (Dropped (cause.numbered rule.FipDouble 38))
 unfolding eth.decoded fc.decoded reading.decoded heard.carried heard.is_flogi heard.decoded capsule.decoded crc.crc crc.remainder els.decoded ct.decoded zones.joined rules.rule_for verdicts.judged
 entry7_is_right = refl
 
@@ -144,9 +145,9 @@ frame8 = record { bytes = bytes (codes "00051e000002001b2100000a8100006489141000
 
 -- 1000 1 7 dropped fip-list
 abbrev pub entry8 : Event
-entry8 = Frame 1 7 frame8 (Dropped (heard.plain rule.FipList))
+entry8 = Frame 1 7 frame8 (Dropped (cause.plain rule.FipList))
 
-pub entry8_is_right : verdicts.IsRight C (state.tables_of C J8) 1 frame8 (Dropped (heard.plain rule.FipList))
+pub entry8_is_right : verdicts.IsRight C (state.tables_of C J8) 1 frame8 (Dropped (cause.plain rule.FipList))
 unfolding eth.decoded fc.decoded reading.decoded heard.carried heard.is_flogi heard.decoded capsule.decoded crc.crc crc.remainder els.decoded ct.decoded zones.joined rules.rule_for verdicts.judged
 entry8_is_right = refl
 
@@ -158,9 +159,9 @@ frame9 = record { bytes = bytes (codes "00051e000002001b2100000a8100006489141000
 
 -- 1000 1 8 dropped fip-short
 abbrev pub entry9 : Event
-entry9 = Frame 1 8 frame9 (Dropped (heard.plain rule.FipShort))
+entry9 = Frame 1 8 frame9 (Dropped (cause.plain rule.FipShort))
 
-pub entry9_is_right : verdicts.IsRight C (state.tables_of C J9) 1 frame9 (Dropped (heard.plain rule.FipShort))
+pub entry9_is_right : verdicts.IsRight C (state.tables_of C J9) 1 frame9 (Dropped (cause.plain rule.FipShort))
 unfolding eth.decoded fc.decoded reading.decoded heard.carried heard.is_flogi heard.decoded capsule.decoded crc.crc crc.remainder els.decoded ct.decoded zones.joined rules.rule_for verdicts.judged
 entry9_is_right = refl
 
@@ -172,9 +173,9 @@ frame10 = record { bytes = bytes (codes "00051e000002001b2100000a810000648914100
 
 -- 1000 1 9 dropped fip-operation
 abbrev pub entry10 : Event
-entry10 = Frame 1 9 frame10 (Dropped (heard.plain rule.FipOperation))
+entry10 = Frame 1 9 frame10 (Dropped (cause.plain rule.FipOperation))
 
-pub entry10_is_right : verdicts.IsRight C (state.tables_of C J10) 1 frame10 (Dropped (heard.plain rule.FipOperation))
+pub entry10_is_right : verdicts.IsRight C (state.tables_of C J10) 1 frame10 (Dropped (cause.plain rule.FipOperation))
 unfolding eth.decoded fc.decoded reading.decoded heard.carried heard.is_flogi heard.decoded capsule.decoded crc.crc crc.remainder els.decoded ct.decoded zones.joined rules.rule_for verdicts.judged
 entry10_is_right = refl
 
@@ -186,9 +187,9 @@ frame11 = record { bytes = bytes (codes "011018010002001b2100000a89"); whole = t
 
 -- 1000 1 10 dropped eth-short
 abbrev pub entry11 : Event
-entry11 = Frame 1 10 frame11 (Dropped (heard.plain rule.EthShort))
+entry11 = Frame 1 10 frame11 (Dropped (cause.plain rule.EthShort))
 
-pub entry11_is_right : verdicts.IsRight C (state.tables_of C J11) 1 frame11 (Dropped (heard.plain rule.EthShort))
+pub entry11_is_right : verdicts.IsRight C (state.tables_of C J11) 1 frame11 (Dropped (cause.plain rule.EthShort))
 unfolding eth.decoded fc.decoded reading.decoded heard.carried heard.is_flogi heard.decoded capsule.decoded crc.crc crc.remainder els.decoded ct.decoded zones.joined rules.rule_for verdicts.judged
 entry11_is_right = refl
 
@@ -200,9 +201,9 @@ frame12 = record { bytes = bytes (codes "00051e000002001b2100000a8100006489"); w
 
 -- 1000 1 11 dropped eth-short
 abbrev pub entry12 : Event
-entry12 = Frame 1 11 frame12 (Dropped (heard.plain rule.EthShort))
+entry12 = Frame 1 11 frame12 (Dropped (cause.plain rule.EthShort))
 
-pub entry12_is_right : verdicts.IsRight C (state.tables_of C J12) 1 frame12 (Dropped (heard.plain rule.EthShort))
+pub entry12_is_right : verdicts.IsRight C (state.tables_of C J12) 1 frame12 (Dropped (cause.plain rule.EthShort))
 unfolding eth.decoded fc.decoded reading.decoded heard.carried heard.is_flogi heard.decoded capsule.decoded crc.crc crc.remainder els.decoded ct.decoded zones.joined rules.rule_for verdicts.judged
 entry12_is_right = refl
 
@@ -214,9 +215,9 @@ frame13 = record { bytes = (bytes (codes "00051e000002001b2100000a8100006481") +
 
 -- 1000 1 12 dropped ethertype
 abbrev pub entry13 : Event
-entry13 = Frame 1 12 frame13 (Dropped (heard.plain rule.Ethertype))
+entry13 = Frame 1 12 frame13 (Dropped (cause.plain rule.Ethertype))
 
-pub entry13_is_right : verdicts.IsRight C (state.tables_of C J13) 1 frame13 (Dropped (heard.plain rule.Ethertype))
+pub entry13_is_right : verdicts.IsRight C (state.tables_of C J13) 1 frame13 (Dropped (cause.plain rule.Ethertype))
 unfolding eth.decoded fc.decoded reading.decoded heard.carried heard.is_flogi heard.decoded capsule.decoded crc.crc crc.remainder els.decoded ct.decoded zones.joined rules.rule_for verdicts.judged
 entry13_is_right = refl
 
@@ -228,9 +229,9 @@ frame14 = record { bytes = (bytes (codes "00051e000002001b2100000a8100006488cc")
 
 -- 1000 1 13 dropped ethertype
 abbrev pub entry14 : Event
-entry14 = Frame 1 13 frame14 (Dropped (heard.plain rule.Ethertype))
+entry14 = Frame 1 13 frame14 (Dropped (cause.plain rule.Ethertype))
 
-pub entry14_is_right : verdicts.IsRight C (state.tables_of C J14) 1 frame14 (Dropped (heard.plain rule.Ethertype))
+pub entry14_is_right : verdicts.IsRight C (state.tables_of C J14) 1 frame14 (Dropped (cause.plain rule.Ethertype))
 unfolding eth.decoded fc.decoded reading.decoded heard.carried heard.is_flogi heard.decoded capsule.decoded crc.crc crc.remainder els.decoded ct.decoded zones.joined rules.rule_for verdicts.judged
 entry14_is_right = refl
 
@@ -242,9 +243,9 @@ frame15 = record { bytes = bytes (codes "011018010002001b2100000a891410000004000
 
 -- 1000 1 14 dropped truncated
 abbrev pub entry15 : Event
-entry15 = Frame 1 14 frame15 (Dropped (heard.plain rule.Truncated))
+entry15 = Frame 1 14 frame15 (Dropped (cause.plain rule.Truncated))
 
-pub entry15_is_right : verdicts.IsRight C (state.tables_of C J15) 1 frame15 (Dropped (heard.plain rule.Truncated))
+pub entry15_is_right : verdicts.IsRight C (state.tables_of C J15) 1 frame15 (Dropped (cause.plain rule.Truncated))
 unfolding eth.decoded fc.decoded reading.decoded heard.carried heard.is_flogi heard.decoded capsule.decoded crc.crc crc.remainder els.decoded ct.decoded zones.joined rules.rule_for verdicts.judged
 entry15_is_right = refl
 

@@ -6,7 +6,8 @@ use Rattle.fab_config.specs.Settings.{Settings}
 use Rattle.fab_policy.specs.State as state
 use Rattle.fab_policy.specs.Verdicts as verdicts
 use Rattle.fab_policy.specs.Rules as rules
-use Rattle.fab_policy.specs.Heard as heard
+use Rattle.heard_frames.specs.Heard as heard
+use Rattle.fab_policy.specs.Cause as cause
 use Rattle.fab_policy.specs.Outputs as outs
 use Rattle.fab_policy.specs.declared.event.Event.TheVariants.{Tick, Frame}
 use Rattle.fab_policy.specs.declared.verdict.Verdict.TheVariants.{Advertised, Forwarded, Dropped}
@@ -44,7 +45,7 @@ pub forwarded : verdicts.judged few (state.tables_of few two_logins) 1 (large (r
 unfolding verdicts.judged rules.rule_for heard.decoded heard.carried heard.is_flogi eth.decoded reading.decoded fc.decoded els.decoded capsule.decoded capsule.written crc.crc crc.remainder zones.joined
 forwarded = refl
 
-pub too_long : verdicts.judged few (state.tables_of few two_logins) 1 (large (replicate 2116 0x55)) ≡ verdicts.Must (Dropped (heard.plain rule.FcoeLength))
+pub too_long : verdicts.judged few (state.tables_of few two_logins) 1 (large (replicate 2116 0x55)) ≡ verdicts.Must (Dropped (cause.plain rule.FcoeLength))
 unfolding verdicts.judged rules.rule_for heard.decoded heard.carried heard.is_flogi eth.decoded reading.decoded fc.decoded els.decoded capsule.decoded capsule.written crc.crc crc.remainder zones.joined
 too_long = refl
 
@@ -52,6 +53,6 @@ too_long = refl
 abbrev pub damaged : Caught
 damaged = record { bytes = slice_set (large (replicate 64 0x55)).bytes 60 0x54; whole = true }
 
-pub damage_found : verdicts.judged few (state.tables_of few two_logins) 1 damaged ≡ verdicts.Must (Dropped (heard.plain rule.FcoeCrc))
+pub damage_found : verdicts.judged few (state.tables_of few two_logins) 1 damaged ≡ verdicts.Must (Dropped (cause.plain rule.FcoeCrc))
 unfolding verdicts.judged rules.rule_for heard.decoded heard.carried heard.is_flogi eth.decoded reading.decoded fc.decoded els.decoded capsule.decoded capsule.written crc.crc crc.remainder zones.joined
 damage_found = refl

@@ -5,7 +5,8 @@ use Rattle.fab_config.specs.Settings.{Settings}
 use Rattle.fab_policy.specs.State as state
 use Rattle.fab_policy.specs.Verdicts as verdicts
 use Rattle.fab_policy.specs.Rules as rules
-use Rattle.fab_policy.specs.Heard as heard
+use Rattle.heard_frames.specs.Heard as heard
+use Rattle.fab_policy.specs.Cause as cause
 use Rattle.fab_policy.specs.declared.event.Event.{Event}
 use Rattle.fab_policy.specs.declared.event.Event.TheVariants.{Tick, Frame}
 use Rattle.fab_policy.specs.declared.verdict.Verdict.TheVariants.{Granted, AlivePort, Dropped}
@@ -63,9 +64,9 @@ frame3 = record { bytes = bytes (codes "00051e0000020efc000101008100006489141000
 
 -- 1100 1 1 dropped keepalive-unknown
 abbrev pub entry3 : Event
-entry3 = Frame 1 1 frame3 (Dropped (heard.plain rule.KeepaliveUnknown))
+entry3 = Frame 1 1 frame3 (Dropped (cause.plain rule.KeepaliveUnknown))
 
-pub entry3_is_right : verdicts.IsRight C (state.tables_of C J3) 1 frame3 (Dropped (heard.plain rule.KeepaliveUnknown))
+pub entry3_is_right : verdicts.IsRight C (state.tables_of C J3) 1 frame3 (Dropped (cause.plain rule.KeepaliveUnknown))
 unfolding eth.decoded fc.decoded reading.decoded heard.carried heard.is_flogi heard.decoded capsule.decoded crc.crc crc.remainder els.decoded ct.decoded zones.joined rules.rule_for verdicts.judged
 entry3_is_right = refl
 
@@ -84,9 +85,9 @@ frame5 = record { bytes = bytes (codes "00051e0000020efc000101008100006489141000
 
 -- 1200 1 2 dropped keepalive-unknown
 abbrev pub entry5 : Event
-entry5 = Frame 1 2 frame5 (Dropped (heard.plain rule.KeepaliveUnknown))
+entry5 = Frame 1 2 frame5 (Dropped (cause.plain rule.KeepaliveUnknown))
 
-pub entry5_is_right : verdicts.IsRight C (state.tables_of C J5) 1 frame5 (Dropped (heard.plain rule.KeepaliveUnknown))
+pub entry5_is_right : verdicts.IsRight C (state.tables_of C J5) 1 frame5 (Dropped (cause.plain rule.KeepaliveUnknown))
 unfolding eth.decoded fc.decoded reading.decoded heard.carried heard.is_flogi heard.decoded capsule.decoded crc.crc crc.remainder els.decoded ct.decoded zones.joined rules.rule_for verdicts.judged
 entry5_is_right = refl
 
@@ -105,9 +106,9 @@ frame7 = record { bytes = bytes (codes "00051e0000020efc000101008100006489141000
 
 -- 1300 1 3 dropped keepalive-unknown
 abbrev pub entry7 : Event
-entry7 = Frame 1 3 frame7 (Dropped (heard.plain rule.KeepaliveUnknown))
+entry7 = Frame 1 3 frame7 (Dropped (cause.plain rule.KeepaliveUnknown))
 
-pub entry7_is_right : verdicts.IsRight C (state.tables_of C J7) 1 frame7 (Dropped (heard.plain rule.KeepaliveUnknown))
+pub entry7_is_right : verdicts.IsRight C (state.tables_of C J7) 1 frame7 (Dropped (cause.plain rule.KeepaliveUnknown))
 unfolding eth.decoded fc.decoded reading.decoded heard.carried heard.is_flogi heard.decoded capsule.decoded crc.crc crc.remainder els.decoded ct.decoded zones.joined rules.rule_for verdicts.judged
 entry7_is_right = refl
 
@@ -126,9 +127,9 @@ frame9 = record { bytes = bytes (codes "00051e0000020efc000101018100006489141000
 
 -- 1400 1 4 dropped keepalive-unknown
 abbrev pub entry9 : Event
-entry9 = Frame 1 4 frame9 (Dropped (heard.plain rule.KeepaliveUnknown))
+entry9 = Frame 1 4 frame9 (Dropped (cause.plain rule.KeepaliveUnknown))
 
-pub entry9_is_right : verdicts.IsRight C (state.tables_of C J9) 1 frame9 (Dropped (heard.plain rule.KeepaliveUnknown))
+pub entry9_is_right : verdicts.IsRight C (state.tables_of C J9) 1 frame9 (Dropped (cause.plain rule.KeepaliveUnknown))
 unfolding eth.decoded fc.decoded reading.decoded heard.carried heard.is_flogi heard.decoded capsule.decoded crc.crc crc.remainder els.decoded ct.decoded zones.joined rules.rule_for verdicts.judged
 entry9_is_right = refl
 
@@ -147,9 +148,9 @@ frame11 = record { bytes = bytes (codes "00051e0000020efc00010100810000648914100
 
 -- 1500 1 5 dropped keepalive-unknown
 abbrev pub entry11 : Event
-entry11 = Frame 1 5 frame11 (Dropped (heard.plain rule.KeepaliveUnknown))
+entry11 = Frame 1 5 frame11 (Dropped (cause.plain rule.KeepaliveUnknown))
 
-pub entry11_is_right : verdicts.IsRight C (state.tables_of C J11) 1 frame11 (Dropped (heard.plain rule.KeepaliveUnknown))
+pub entry11_is_right : verdicts.IsRight C (state.tables_of C J11) 1 frame11 (Dropped (cause.plain rule.KeepaliveUnknown))
 unfolding eth.decoded fc.decoded reading.decoded heard.carried heard.is_flogi heard.decoded capsule.decoded crc.crc crc.remainder els.decoded ct.decoded zones.joined rules.rule_for verdicts.judged
 entry11_is_right = refl
 
@@ -168,9 +169,9 @@ frame13 = record { bytes = bytes (codes "00051e0000020efc00010100810000648914100
 
 -- 1600 2 0 dropped keepalive-unknown
 abbrev pub entry13 : Event
-entry13 = Frame 2 0 frame13 (Dropped (heard.plain rule.KeepaliveUnknown))
+entry13 = Frame 2 0 frame13 (Dropped (cause.plain rule.KeepaliveUnknown))
 
-pub entry13_is_right : verdicts.IsRight C (state.tables_of C J13) 2 frame13 (Dropped (heard.plain rule.KeepaliveUnknown))
+pub entry13_is_right : verdicts.IsRight C (state.tables_of C J13) 2 frame13 (Dropped (cause.plain rule.KeepaliveUnknown))
 unfolding eth.decoded fc.decoded reading.decoded heard.carried heard.is_flogi heard.decoded capsule.decoded crc.crc crc.remainder els.decoded ct.decoded zones.joined rules.rule_for verdicts.judged
 entry13_is_right = refl
 
@@ -182,9 +183,9 @@ frame14 = record { bytes = bytes (codes "00051e000002001b2100000a810000648914100
 
 -- 1600 2 1 dropped keepalive-unknown
 abbrev pub entry14 : Event
-entry14 = Frame 2 1 frame14 (Dropped (heard.plain rule.KeepaliveUnknown))
+entry14 = Frame 2 1 frame14 (Dropped (cause.plain rule.KeepaliveUnknown))
 
-pub entry14_is_right : verdicts.IsRight C (state.tables_of C J14) 2 frame14 (Dropped (heard.plain rule.KeepaliveUnknown))
+pub entry14_is_right : verdicts.IsRight C (state.tables_of C J14) 2 frame14 (Dropped (cause.plain rule.KeepaliveUnknown))
 unfolding eth.decoded fc.decoded reading.decoded heard.carried heard.is_flogi heard.decoded capsule.decoded crc.crc crc.remainder els.decoded ct.decoded zones.joined rules.rule_for verdicts.judged
 entry14_is_right = refl
 

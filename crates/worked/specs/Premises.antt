@@ -8,7 +8,7 @@ use Rattle.ct_messages.specs.Ct.{SetNode, SetFeature, Erase}
 use Rattle.ct_messages.specs.CanWrite.{HasByte}
 use Rattle.ct_messages.specs.Server.{is_registration}
 use Rattle.fab_policy.specs.Changes.{CanStay, leaves_logins}
-use Rattle.fab_policy.specs.Heard.{ask_of}
+use Rattle.heard_frames.specs.Heard.{ask_of}
 use Rattle.fab_policy.specs.State.{LivePort}
 use Rattle.fab_policy.specs.Journal.{Journal}
 use Rattle.fab_policy.specs.Legal.{HoldsFrames}

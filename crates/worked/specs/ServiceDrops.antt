@@ -5,7 +5,8 @@ use Rattle.fab_config.specs.Settings.{Settings}
 use Rattle.fab_policy.specs.State as state
 use Rattle.fab_policy.specs.Verdicts as verdicts
 use Rattle.fab_policy.specs.Rules as rules
-use Rattle.fab_policy.specs.Heard as heard
+use Rattle.heard_frames.specs.Heard as heard
+use Rattle.fab_policy.specs.Cause as cause
 use Rattle.fab_policy.specs.declared.event.Event.{Event}
 use Rattle.fab_policy.specs.declared.event.Event.TheVariants.{Tick, Frame}
 use Rattle.fab_policy.specs.declared.verdict.Verdict.TheVariants.{Granted, Dropped}
@@ -56,9 +57,9 @@ frame2 = record { bytes = (bytes (codes "00051e0000020efc00010100810000648906") 
 
 -- 1000 1 1 dropped service-frame
 abbrev pub entry2 : Event
-entry2 = Frame 1 1 frame2 (Dropped (heard.plain rule.ServiceFrame))
+entry2 = Frame 1 1 frame2 (Dropped (cause.plain rule.ServiceFrame))
 
-pub entry2_is_right : verdicts.IsRight C (state.tables_of C J2) 1 frame2 (Dropped (heard.plain rule.ServiceFrame))
+pub entry2_is_right : verdicts.IsRight C (state.tables_of C J2) 1 frame2 (Dropped (cause.plain rule.ServiceFrame))
 unfolding eth.decoded fc.decoded reading.decoded heard.carried heard.is_flogi heard.decoded capsule.decoded crc.crc crc.remainder els.decoded ct.decoded zones.joined rules.rule_for verdicts.judged
 entry2_is_right = refl
 
@@ -70,9 +71,9 @@ frame3 = record { bytes = (bytes (codes "00051e0000020efc00010100810000648906") 
 
 -- 1000 1 2 dropped service-frame
 abbrev pub entry3 : Event
-entry3 = Frame 1 2 frame3 (Dropped (heard.plain rule.ServiceFrame))
+entry3 = Frame 1 2 frame3 (Dropped (cause.plain rule.ServiceFrame))
 
-pub entry3_is_right : verdicts.IsRight C (state.tables_of C J3) 1 frame3 (Dropped (heard.plain rule.ServiceFrame))
+pub entry3_is_right : verdicts.IsRight C (state.tables_of C J3) 1 frame3 (Dropped (cause.plain rule.ServiceFrame))
 unfolding eth.decoded fc.decoded reading.decoded heard.carried heard.is_flogi heard.decoded capsule.decoded crc.crc crc.remainder els.decoded ct.decoded zones.joined rules.rule_for verdicts.judged
 entry3_is_right = refl
 
@@ -84,9 +85,9 @@ frame4 = record { bytes = (bytes (codes "00051e0000020efc00010100810000648906") 
 
 -- 1000 1 3 dropped service-frame
 abbrev pub entry4 : Event
-entry4 = Frame 1 3 frame4 (Dropped (heard.plain rule.ServiceFrame))
+entry4 = Frame 1 3 frame4 (Dropped (cause.plain rule.ServiceFrame))
 
-pub entry4_is_right : verdicts.IsRight C (state.tables_of C J4) 1 frame4 (Dropped (heard.plain rule.ServiceFrame))
+pub entry4_is_right : verdicts.IsRight C (state.tables_of C J4) 1 frame4 (Dropped (cause.plain rule.ServiceFrame))
 unfolding eth.decoded fc.decoded reading.decoded heard.carried heard.is_flogi heard.decoded capsule.decoded crc.crc crc.remainder els.decoded ct.decoded zones.joined rules.rule_for verdicts.judged
 entry4_is_right = refl
 
@@ -98,9 +99,9 @@ frame5 = record { bytes = (bytes (codes "00051e0000020efc00010100810000648906") 
 
 -- 1000 1 4 dropped service-frame
 abbrev pub entry5 : Event
-entry5 = Frame 1 4 frame5 (Dropped (heard.plain rule.ServiceFrame))
+entry5 = Frame 1 4 frame5 (Dropped (cause.plain rule.ServiceFrame))
 
-pub entry5_is_right : verdicts.IsRight C (state.tables_of C J5) 1 frame5 (Dropped (heard.plain rule.ServiceFrame))
+pub entry5_is_right : verdicts.IsRight C (state.tables_of C J5) 1 frame5 (Dropped (cause.plain rule.ServiceFrame))
 unfolding eth.decoded fc.decoded reading.decoded heard.carried heard.is_flogi heard.decoded capsule.decoded crc.crc crc.remainder els.decoded ct.decoded zones.joined rules.rule_for verdicts.judged
 entry5_is_right = refl
 
@@ -112,9 +113,9 @@ frame6 = record { bytes = (bytes (codes "00051e0000020efc00010100810000648906") 
 
 -- 1000 1 5 dropped service-address
 abbrev pub entry6 : Event
-entry6 = Frame 1 5 frame6 (Dropped (heard.plain rule.ServiceAddress))
+entry6 = Frame 1 5 frame6 (Dropped (cause.plain rule.ServiceAddress))
 
-pub entry6_is_right : verdicts.IsRight C (state.tables_of C J6) 1 frame6 (Dropped (heard.plain rule.ServiceAddress))
+pub entry6_is_right : verdicts.IsRight C (state.tables_of C J6) 1 frame6 (Dropped (cause.plain rule.ServiceAddress))
 unfolding eth.decoded fc.decoded reading.decoded heard.carried heard.is_flogi heard.decoded capsule.decoded crc.crc crc.remainder els.decoded ct.decoded zones.joined rules.rule_for verdicts.judged
 entry6_is_right = refl
 
@@ -126,9 +127,9 @@ frame7 = record { bytes = (bytes (codes "00051e0000020efc00010100810000648906") 
 
 -- 1000 1 6 dropped service-address
 abbrev pub entry7 : Event
-entry7 = Frame 1 6 frame7 (Dropped (heard.plain rule.ServiceAddress))
+entry7 = Frame 1 6 frame7 (Dropped (cause.plain rule.ServiceAddress))
 
-pub entry7_is_right : verdicts.IsRight C (state.tables_of C J7) 1 frame7 (Dropped (heard.plain rule.ServiceAddress))
+pub entry7_is_right : verdicts.IsRight C (state.tables_of C J7) 1 frame7 (Dropped (cause.plain rule.ServiceAddress))
 unfolding eth.decoded fc.decoded reading.decoded heard.carried heard.is_flogi heard.decoded capsule.decoded crc.crc crc.remainder els.decoded ct.decoded zones.joined rules.rule_for verdicts.judged
 entry7_is_right = refl
 
@@ -140,9 +141,9 @@ frame8 = record { bytes = (bytes (codes "00051e0000020efc00010100810000648906") 
 
 -- 1000 1 7 dropped dest-login
 abbrev pub entry8 : Event
-entry8 = Frame 1 7 frame8 (Dropped (heard.plain rule.DestLogin))
+entry8 = Frame 1 7 frame8 (Dropped (cause.plain rule.DestLogin))
 
-pub entry8_is_right : verdicts.IsRight C (state.tables_of C J8) 1 frame8 (Dropped (heard.plain rule.DestLogin))
+pub entry8_is_right : verdicts.IsRight C (state.tables_of C J8) 1 frame8 (Dropped (cause.plain rule.DestLogin))
 unfolding eth.decoded fc.decoded reading.decoded heard.carried heard.is_flogi heard.decoded capsule.decoded crc.crc crc.remainder els.decoded ct.decoded zones.joined rules.rule_for verdicts.judged
 entry8_is_right = refl
 
@@ -154,9 +155,9 @@ frame9 = record { bytes = (bytes (codes "00051e0000020efc00010100810000648906") 
 
 -- 1000 1 8 dropped ct-short
 abbrev pub entry9 : Event
-entry9 = Frame 1 8 frame9 (Dropped (heard.plain rule.CtShort))
+entry9 = Frame 1 8 frame9 (Dropped (cause.plain rule.CtShort))
 
-pub entry9_is_right : verdicts.IsRight C (state.tables_of C J9) 1 frame9 (Dropped (heard.plain rule.CtShort))
+pub entry9_is_right : verdicts.IsRight C (state.tables_of C J9) 1 frame9 (Dropped (cause.plain rule.CtShort))
 unfolding eth.decoded fc.decoded reading.decoded heard.carried heard.is_flogi heard.decoded capsule.decoded crc.crc crc.remainder els.decoded ct.decoded zones.joined rules.rule_for verdicts.judged
 entry9_is_right = refl
 
@@ -168,9 +169,9 @@ frame10 = record { bytes = (bytes (codes "00051e0000020efc00010100810000648906")
 
 -- 1000 1 9 dropped els-short
 abbrev pub entry10 : Event
-entry10 = Frame 1 9 frame10 (Dropped (heard.plain rule.ElsShort))
+entry10 = Frame 1 9 frame10 (Dropped (cause.plain rule.ElsShort))
 
-pub entry10_is_right : verdicts.IsRight C (state.tables_of C J10) 1 frame10 (Dropped (heard.plain rule.ElsShort))
+pub entry10_is_right : verdicts.IsRight C (state.tables_of C J10) 1 frame10 (Dropped (cause.plain rule.ElsShort))
 unfolding eth.decoded fc.decoded reading.decoded heard.carried heard.is_flogi heard.decoded capsule.decoded crc.crc crc.remainder els.decoded ct.decoded zones.joined rules.rule_for verdicts.judged
 entry10_is_right = refl
 
@@ -182,9 +183,9 @@ frame11 = record { bytes = (bytes (codes "00051e0000020efc00010100810000648906")
 
 -- 1000 1 10 dropped service-frame
 abbrev pub entry11 : Event
-entry11 = Frame 1 10 frame11 (Dropped (heard.plain rule.ServiceFrame))
+entry11 = Frame 1 10 frame11 (Dropped (cause.plain rule.ServiceFrame))
 
-pub entry11_is_right : verdicts.IsRight C (state.tables_of C J11) 1 frame11 (Dropped (heard.plain rule.ServiceFrame))
+pub entry11_is_right : verdicts.IsRight C (state.tables_of C J11) 1 frame11 (Dropped (cause.plain rule.ServiceFrame))
 unfolding eth.decoded fc.decoded reading.decoded heard.carried heard.is_flogi heard.decoded capsule.decoded crc.crc crc.remainder els.decoded ct.decoded zones.joined rules.rule_for verdicts.judged
 entry11_is_right = refl
 
@@ -196,9 +197,9 @@ frame12 = record { bytes = (bytes (codes "00051e0000020efc00010100810000648906")
 
 -- 1000 1 11 dropped service-address
 abbrev pub entry12 : Event
-entry12 = Frame 1 11 frame12 (Dropped (heard.plain rule.ServiceAddress))
+entry12 = Frame 1 11 frame12 (Dropped (cause.plain rule.ServiceAddress))
 
-pub entry12_is_right : verdicts.IsRight C (state.tables_of C J12) 1 frame12 (Dropped (heard.plain rule.ServiceAddress))
+pub entry12_is_right : verdicts.IsRight C (state.tables_of C J12) 1 frame12 (Dropped (cause.plain rule.ServiceAddress))
 unfolding eth.decoded fc.decoded reading.decoded heard.carried heard.is_flogi heard.decoded capsule.decoded crc.crc crc.remainder els.decoded ct.decoded zones.joined rules.rule_for verdicts.judged
 entry12_is_right = refl
 

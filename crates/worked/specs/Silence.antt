@@ -4,7 +4,8 @@ use Rattle.fab_policy.specs.Journal.{Journal}
 use Rattle.fab_policy.specs.State as state
 use Rattle.fab_policy.specs.Verdicts as verdicts
 use Rattle.fab_policy.specs.Rules as rules
-use Rattle.fab_policy.specs.Heard as heard
+use Rattle.heard_frames.specs.Heard as heard
+use Rattle.fab_policy.specs.Cause as cause
 use Rattle.fab_policy.specs.Outputs as outs
 use Rattle.fab_policy.specs.declared.event.Event.{Event}
 use Rattle.fab_policy.specs.declared.event.Event.TheVariants.{Tick, Frame}
@@ -38,6 +39,6 @@ unfolding outs.outputs_by outs.notices heard.carried heard.is_flogi eth.decoded 
 cleared = refl
 
 -- a keep alive comes too late
-pub too_late : verdicts.judged K (state.tables_of K (end ∷ silent)) 1 (alive MAC_A) ≡ verdicts.Must (Dropped (heard.plain rule.KeepaliveUnknown))
+pub too_late : verdicts.judged K (state.tables_of K (end ∷ silent)) 1 (alive MAC_A) ≡ verdicts.Must (Dropped (cause.plain rule.KeepaliveUnknown))
 unfolding verdicts.judged rules.rule_for heard.decoded heard.carried heard.is_flogi eth.decoded reading.decoded fc.decoded els.decoded fip.written
 too_late = refl

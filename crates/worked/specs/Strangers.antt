@@ -3,8 +3,10 @@
 use Rattle.std.specs.Prelude.{◌≡◌, ℕ, false, List, [], ◌∷◌, ◌++◌, None, Some, refl}
 use Rattle.fab_base.specs.Layout.{zeros}
 use Rattle.fab_base.specs.declared.values.Caught.{Caught}
-use Rattle.fab_policy.specs.Heard as heard
+use Rattle.heard_frames.specs.Heard as heard
+use Rattle.fab_policy.specs.Cause as cause
 use Rattle.fab_policy.specs.Rules as rules
+use Rattle.heard_frames.specs.Rows as rows
 use Rattle.fab_policy.specs.State as state
 use Rattle.fab_policy.specs.Verdicts as verdicts
 use Rattle.fab_policy.specs.declared.event.Event.TheVariants.{Tick}
@@ -23,7 +25,7 @@ use Rattle.worked.specs.Given.{K, FORWARDER, MAC_A, MAC_B, NODE_A, whole, vlan_r
 
 -- a rule without a number
 abbrev pub drops : Rule → Verdict
-drops r = Dropped (heard.plain r)
+drops r = Dropped (cause.plain r)
 
 -- after the first tick, on port 1
 abbrev pub is_judged : Caught → verdicts.Judgement
@@ -88,7 +90,7 @@ unfolding verdicts.judged rules.rule_for heard.decoded eth.decoded reading.decod
 keep_alive_without_vlan = refl
 
 -- to all forwarders, which is for solicitations and VLAN requests alone
-pub keep_alive_to_all : is_judged (whole (rules.ALL_FCFS ++ MAC_A ++ 0x81 ∷ 0 ∷ 0 ∷ 0x64 ∷ 0x89 ∷ 0x14 ∷ fip.written (fip.Keep MAC_A None))) ≡ verdicts.Must (drops rule.FipDest)
+pub keep_alive_to_all : is_judged (whole (rows.ALL_FCFS ++ MAC_A ++ 0x81 ∷ 0 ∷ 0 ∷ 0x64 ∷ 0x89 ∷ 0x14 ∷ fip.written (fip.Keep MAC_A None))) ≡ verdicts.Must (drops rule.FipDest)
 unfolding verdicts.judged rules.rule_for heard.decoded eth.decoded reading.decoded fip.written
 keep_alive_to_all = refl
 

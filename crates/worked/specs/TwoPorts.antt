@@ -7,7 +7,7 @@ use Rattle.fab_base.specs.Layout.{zeros}
 use Rattle.pcap_file.specs.Capture as pcap
 use Rattle.pcap_file.specs.declared.Record.{Record}
 use Rattle.fab_policy.specs.Journal.{Journal}
-use Rattle.fab_policy.specs.Heard as heard
+use Rattle.heard_frames.specs.Heard as heard
 use Rattle.fab_policy.specs.Legal as legal
 use Rattle.fab_policy.specs.Outputs as outs
 use Rattle.fab_policy.specs.Rules as rules

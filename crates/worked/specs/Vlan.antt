@@ -9,7 +9,7 @@ use Rattle.pcap_file.specs.declared.Record.{Record}
 use Rattle.fab_policy.specs.Legal as legal
 use Rattle.fab_policy.specs.Verdicts as verdicts
 use Rattle.fab_policy.specs.Rules as rules
-use Rattle.fab_policy.specs.Heard as heard
+use Rattle.heard_frames.specs.Heard as heard
 use Rattle.fab_policy.specs.Outputs as outs
 use Rattle.fab_policy.specs.Text as text
 use Rattle.fab_policy.specs.declared.event.Event.TheVariants.{Tick, Frame}

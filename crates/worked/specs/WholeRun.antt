@@ -5,7 +5,7 @@ use Rattle.std.proofs.Common.{lit≤, lit<, arith, inl, inr, ap}
 use Rattle.std.proofs.lemmas.Bool.{le-ltb, lt-leb}
 use Rattle.fab_config.specs.Settings.{Settings}
 use Rattle.pcap_file.specs.declared.Record.{Record}
-use Rattle.fab_policy.specs.Heard as heard
+use Rattle.heard_frames.specs.Heard as heard
 use Rattle.fab_policy.specs.Journal.{Journal}
 use Rattle.fab_policy.specs.Legal as legal
 use Rattle.fab_policy.specs.Rules as rules

@@ -1,7 +1,7 @@
 -- The one spelling of each verdict and each rule in a journal.
 use Rattle.std.specs.Prelude.{◌≡◌, ℕ, List, [], ◌∷◌, ◌++◌, flat_map, map, codes, refl}
 use Rattle.std.specs.Fmt as fmt
-use Rattle.fab_policy.specs.Heard.{plain, cause_of}
+use Rattle.fab_policy.specs.Cause.{plain, cause_of}
 use Rattle.fab_policy.specs.Text as text
 use Rattle.fab_policy.specs.declared.event.Event.TheVariants.{Tick, Frame}
 use Rattle.fab_policy.specs.declared.verdict.Rule.{Rule}

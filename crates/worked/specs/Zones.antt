@@ -6,7 +6,8 @@ use Rattle.fab_policy.specs.State as state
 use Rattle.fab_policy.specs.Verdicts as verdicts
 use Rattle.fab_policy.specs.Forwarding as forwarding
 use Rattle.fab_policy.specs.Rules as rules
-use Rattle.fab_policy.specs.Heard as heard
+use Rattle.heard_frames.specs.Heard as heard
+use Rattle.fab_policy.specs.Cause as cause
 use Rattle.fab_policy.specs.Legal as legal
 use Rattle.fab_policy.specs.Outputs as outs
 use Rattle.fab_policy.specs.declared.event.Event.TheVariants.{Tick, Frame}
@@ -36,7 +37,7 @@ pub to_b : verdicts.judged few (state.tables_of few (Tick 1500 [] ∷ watched)) 
 unfolding verdicts.judged rules.rule_for heard.decoded heard.carried heard.is_flogi eth.decoded reading.decoded fc.decoded els.decoded capsule.decoded capsule.written crc.crc crc.remainder zones.joined
 to_b = refl
 
-pub not_to_b : verdicts.judged few (state.tables_of few (Tick 6000 [] ∷ Tick 5000 [] ∷ watched)) 1 (fcp 0x010100 0x010101) ≡ verdicts.Must (Dropped (heard.plain rule.Zone))
+pub not_to_b : verdicts.judged few (state.tables_of few (Tick 6000 [] ∷ Tick 5000 [] ∷ watched)) 1 (fcp 0x010100 0x010101) ≡ verdicts.Must (Dropped (cause.plain rule.Zone))
 unfolding verdicts.judged rules.rule_for heard.decoded heard.carried heard.is_flogi eth.decoded reading.decoded fc.decoded els.decoded capsule.decoded capsule.written crc.crc crc.remainder zones.joined
 not_to_b = refl
 

@@ -13,7 +13,7 @@ use Rattle.fc_frames.specs.Frame as fc
 use Rattle.fip_codec.specs.Message as fip
 use Rattle.fip_codec.specs.Reading as reading
 use Rattle.els_messages.specs.Els as els
-use Rattle.fab_policy.specs.Heard as heard
+use Rattle.heard_frames.specs.Heard as heard
 use Rattle.fab_policy.specs.Journal.{Journal}
 use Rattle.fab_policy.specs.Ranged.{AscendFrom, IsRanged}
 use Rattle.fab_policy.specs.Text.{text}

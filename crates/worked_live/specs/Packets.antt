@@ -7,7 +7,8 @@ use Rattle.fab_base.specs.declared.values.Caught.{Caught}
 use Rattle.pcap_file.specs.declared.Record.{Record}
 use Rattle.pcapng_file.specs.declared.NgRecord.{NgRecord}
 use Rattle.eth_frames.specs.Ethernet as eth
-use Rattle.fab_policy.specs.Heard as heard
+use Rattle.heard_frames.specs.Heard as heard
+use Rattle.fab_policy.specs.Cause as cause
 use Rattle.fab_policy.specs.Journal.{Journal}
 use Rattle.fab_policy.specs.Legal as legal
 use Rattle.fab_policy.specs.Rules as rules
@@ -58,7 +59,7 @@ abbrev pub packets : List NgRecord
 packets = packet 205 1 ∷ packet 203 0 ∷ []
 
 abbrev pub J : Journal
-J = Frame 1 0 mark (Dropped (heard.plain rule.Ethertype)) ∷ Frame 2 0 mark (Dropped (heard.plain rule.Ethertype)) ∷ Tick 200 [] ∷ []
+J = Frame 1 0 mark (Dropped (cause.plain rule.Ethertype)) ∷ Frame 2 0 mark (Dropped (cause.plain rule.Ethertype)) ∷ Tick 200 [] ∷ []
 
 -- they are entries in the order of the stream, behind the tick of their window
 pub run : legal.Run K (records_of 2 (arrived 0 packets)) J

@@ -1,7 +1,7 @@
 use Rattle.std.proofs.Common.{ap, sym, ◌∙◌}
 use Rattle.eth_frames.specs.Ethernet as eth
 use Rattle.fip_codec.specs.Message as fip
-use Rattle.fab_policy.specs.Heard.{Fip}
+use Rattle.heard_frames.specs.Heard.{Fip}
 use Rattle.fab_policy.specs.Rules.{fip_login_rows}
 use Rattle.fab_policy.specs.Verdicts.{fip_judged}
 use Rattle.fab_judge.specs.Rows.{unless_dropped}

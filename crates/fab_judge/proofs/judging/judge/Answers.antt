@@ -1,10 +1,10 @@
 use Rattle.std.proofs.Common.{ap, sym, ◌∙◌}
 use Rattle.eth_frames.specs.Ethernet as eth
 use Rattle.fip_codec.specs.Message as fip
-use Rattle.fab_policy.specs.Heard.{decoded, carried, is_flogi, sender}
+use Rattle.heard_frames.specs.Heard.{decoded, carried, is_flogi, sender}
 use Rattle.fab_policy.specs.Rules.{frame_rule, fip_login_rows}
 use Rattle.fab_policy.specs.Verdicts.{fip_judged}
-use Rattle.fab_policy.specs.View.{view, read_view}
+use Rattle.heard_frames.specs.View.{view, read_view}
 use Rattle.fab_judge.specs.Rows.{unless_dropped}
 use Rattle.fab_judge.proofs.JudgedLemmas.{judged_by_rule, judged_fip, judged_fcoe, carried_by}
 use Rattle.fab_judge.proofs.judging.judge.Goals as goal

@@ -2,8 +2,8 @@ use Rattle.std.proofs.Common.{ap, false, refl, ◌∙◌}
 use Rattle.eth_frames.specs.Ethernet.{view as eth_view}
 use Rattle.fcoe_codec.specs.Fcoe.{view as fcoe_view}
 use Rattle.fab_base.specs.declared.values.Enode.{Enode}
-use Rattle.fab_policy.specs.Heard.{Fcoe}
-use Rattle.fab_policy.specs.View.{read_view}
+use Rattle.heard_frames.specs.Heard.{Fcoe}
+use Rattle.heard_frames.specs.View.{read_view}
 use Rattle.fab_judge.proofs.JudgedLemmas.{body_values}
 use Rattle.fab_judge.proofs.judging.judge_body.Goals as goal
 

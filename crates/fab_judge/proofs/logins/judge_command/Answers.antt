@@ -1,6 +1,6 @@
 use Rattle.std.proofs.Common.{◌≡◌, ap, sym, inl, inr, ◌∙◌}
 use Rattle.els_messages.specs.Els as els
-use Rattle.fab_policy.specs.Heard.{sender}
+use Rattle.heard_frames.specs.Heard.{sender}
 use Rattle.fab_policy.specs.Verdicts.{frame_judged}
 use Rattle.fc_frames.specs.Frame.{view as fc_view}
 use Rattle.fab_judge.specs.Origin.{is_flogi_by}

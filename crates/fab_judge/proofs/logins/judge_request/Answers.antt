@@ -1,4 +1,4 @@
-use Rattle.fab_policy.specs.Heard.{sender}
+use Rattle.heard_frames.specs.Heard.{sender}
 use Rattle.fab_judge.specs.Origin.{is_flogi_by}
 use Rattle.fab_judge.proofs.logins.judge_request.Goals as goal
 

@@ -1,6 +1,6 @@
 use Rattle.std.proofs.Common.{Some, ap, sym, ◌∙◌}
 use Rattle.fab_policy.specs.Rules as rules
-use Rattle.fab_policy.specs.View.{view}
+use Rattle.heard_frames.specs.View.{view}
 use Rattle.fab_policy.proofs.FrameRuleLemmas.{place_is}
 use Rattle.fab_policy.proofs.frame_rules.frame_rule.Goals as goal
 

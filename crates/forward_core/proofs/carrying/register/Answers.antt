@@ -3,7 +3,7 @@ use Rattle.fab_policy.specs.Changes.{with_values}
 use Rattle.fab_policy.specs.State.{LivePort}
 use Rattle.fab_policy.specs.declared.verdict.Verdict.TheVariants.{Registered}
 use Rattle.ct_messages.specs.Ask.{view}
-use Rattle.fab_policy.specs.Heard.{s_id}
+use Rattle.heard_frames.specs.Heard.{s_id}
 use Rattle.forward_core.specs.Arrived.{caught_of}
 use Rattle.forward_core.proofs.CarryLemmas.{changed, found_one}
 use Rattle.forward_core.proofs.carrying.register.Goals as goal

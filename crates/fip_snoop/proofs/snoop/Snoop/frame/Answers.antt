@@ -1,7 +1,7 @@
 use Rattle.std.proofs.Common.{◌∷◌, ◌∙◌, sym, ap, subst}
 use mathlib.Core.Bool.{false≢true}
-use Rattle.fab_policy.specs.Heard.{decoded}
-use Rattle.fab_policy.specs.View.{view}
+use Rattle.heard_frames.specs.Heard.{decoded}
+use Rattle.heard_frames.specs.View.{view}
 use Rattle.fip_snoop.specs.Snoop.{Contents, way_for, Remembers}
 use Rattle.fip_snoop.specs.declared.way.Way.{Way}
 use Rattle.fip_snoop.proofs.FrameLemmas.{frame_way, frame_kept}

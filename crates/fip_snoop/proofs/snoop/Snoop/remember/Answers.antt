@@ -1,5 +1,5 @@
 use Rattle.std.proofs.Common.{ap}
-use Rattle.fab_policy.specs.View.{view}
+use Rattle.heard_frames.specs.View.{view}
 use Rattle.fip_snoop.proofs.KnownLemmas.{known_as}
 use Rattle.fip_snoop.proofs.snoop.Snoop.remember.Goals as goal
 

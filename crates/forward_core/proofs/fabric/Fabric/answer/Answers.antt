@@ -1,5 +1,5 @@
 use Rattle.std.proofs.Common.{◌≡◌, Some, length, unwrap_or, refl, ap, sym}
-use Rattle.fab_policy.specs.Heard.{ask_of, s_id}
+use Rattle.heard_frames.specs.Heard.{ask_of, s_id}
 use Rattle.fab_policy.specs.Replies.{Asker}
 use Rattle.fab_policy.specs.State.{LivePort, port_at}
 use Rattle.forward_core.specs.Arrived.{caught_of}

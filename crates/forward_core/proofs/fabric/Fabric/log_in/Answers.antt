@@ -1,7 +1,7 @@
 use Rattle.std.proofs.Common.{◌≡◌, ◌==◌, ◌∙◌, false, length, map, refl, ap, sym, subst}
 use Rattle.std.specs.List.{list_any}
 use Rattle.fab_judge.specs.Judged.{ended_by}
-use Rattle.fab_policy.specs.Heard.{is_flogi, sender}
+use Rattle.heard_frames.specs.Heard.{is_flogi, sender}
 use Rattle.fab_policy.specs.Standing.{Contents}
 use Rattle.fab_policy.specs.State.{Tables}
 use Rattle.fab_roster.specs.Roll.{login_of}

@@ -1,6 +1,6 @@
 use Rattle.std.proofs.Common.{◌≡◌, length, refl, rules}
 use Rattle.ct_messages.specs.Ask.{view}
-use Rattle.fab_policy.specs.Heard.{ask_of}
+use Rattle.heard_frames.specs.Heard.{ask_of}
 use Rattle.forward_core.specs.Arrived.{caught_of}
 use Rattle.forward_core.proofs.FrameLemmas.{sent_as}
 use Rattle.forward_core.proofs.fabric.Fabric.register.Goals as goal

@@ -2,10 +2,10 @@
 ghost use Rattle.std.specs.Prelude.{◌≡◌, nat_lt, false};
 ghost use Rattle.std.specs.List.{AllPass};
 ghost use Rattle.eth_frames.specs.Ethernet.{view as eth_view};
-ghost use Rattle.fab_policy.specs.Cause.{is_numbered};
-ghost use Rattle.fab_policy.specs.View.{view};
-ghost use Rattle.fab_policy.specs.Heard as spec;
-ghost use Rattle.fab_policy.specs.Heard.{decoded, frame_in, cause_of, plain, Bad};
+ghost use Rattle.fab_policy.specs.Cause.{is_numbered, cause_of, plain};
+ghost use Rattle.heard_frames.specs.View.{view};
+ghost use Rattle.heard_frames.specs.Heard as spec;
+ghost use Rattle.heard_frames.specs.Heard.{decoded, frame_in, Bad};
 
 use crate::Rule;
 use eth_frames::{EthFrame, FCOE, FIP, read_eth};

@@ -6,11 +6,11 @@ use Rattle.fcoe_codec.specs.Fcoe as capsule
 use Rattle.fcoe_codec.specs.declared.FcoeFault.{FcoeFault}
 use Rattle.fcoe_codec.specs.declared.FcoeFrame.{FcoeFrame}
 use Rattle.fip_codec.specs.Message as fip
-use Rattle.fab_policy.specs.Cause.{Cause, is_numbered}
-use Rattle.fab_policy.specs.Heard.{What, Bad, Fip, Fcoe, plain, numbered}
+use Rattle.fab_policy.specs.Cause.{Cause, is_numbered, plain, numbered}
+use Rattle.heard_frames.specs.Heard.{What, Bad, Fip, Fcoe}
 use Rattle.fab_policy.specs.declared.verdict.Rule.{Rule}
-use Rattle.fab_policy.specs.declared.heard.What as declared
-use Rattle.fab_policy.specs.declared.heard.What.TheVariants as variants
+use Rattle.heard_frames.specs.declared.heard.What as declared
+use Rattle.heard_frames.specs.declared.heard.What.TheVariants as variants
 
 abbrev pub read_view : Result FcoeFrame FcoeFault → Result capsule.Fcoe FcoeFault
 read_view (Ok f) = Ok (capsule.view f)
