@@ -85,7 +85,7 @@ pub fn judge(
     // Law: what a decoded frame says is what a journal reads from its bytes.
     frames_are_carried();
     match &heard.what {
-        What::Bad { .. } => unreachable!(),
+        What::Bad(_) => unreachable!(),
         What::Fip { eth, message } => {
             let from = Sender::of(port, heard.caught, eth.src);
             let judged = judge_fip(alloc, config, roster, &from, eth, message)?;

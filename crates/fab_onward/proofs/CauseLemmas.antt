@@ -12,8 +12,9 @@ use Rattle.fip_codec.specs.Message as fip
 use Rattle.fip_codec.specs.Reading as reading
 use Rattle.fip_codec.specs.declared.fault.FipFault.{FipFault}
 use Rattle.fip_codec.specs.declared.fault.FipFault.TheVariants.{Short, Version, Operation, ListLength, DescLength, Critical, Double, Missing}
-use Rattle.fab_policy.specs.Cause.{Cause, is_numbered, plain, cause_of}
+use Rattle.fab_policy.specs.Cause.{Cause, is_numbered, plain, cause_of, cause_of_unreadable}
 use Rattle.heard_frames.specs.Heard.{What, Bad, Fip, Fcoe, FIP, FCOE, fip_in, frame_in, decoded}
+use Rattle.heard_frames.specs.declared.unreadable.Unreadable.TheVariants as unreadable
 use Rattle.heard_frames.specs.Rows.{first_row, is_wrong_vlan}
 use Rattle.fab_policy.specs.Rules.{fip_rows, fcoe_rows, rule_of, rule_for}
 use Rattle.fab_policy.specs.State.{Tables}
@@ -36,18 +37,18 @@ fault_ranged (Double at) h = (refl, h)
 fault_ranged (Missing kind) h = (refl, h)
 
 abbrev pub IsRangedWhat : What → Type 0
-IsRangedWhat (Bad cause) = IsRangedCause cause
+IsRangedWhat (Bad fault) = IsRangedCause (cause_of_unreadable fault)
 IsRangedWhat (Fip f m) = Unit {0}
 IsRangedWhat (Fcoe f read) = Unit {0}
 
-ranged_fip : (f : eth.Eth) (read : Result fip.Fip FipFault) → SmallRead read → IsRangedWhat (elim read as (λ _. What) [ Err fault ↦ Bad (cause_of fault) | Ok message ↦ Fip f message ])
+ranged_fip : (f : eth.Eth) (read : Result fip.Fip FipFault) → SmallRead read → IsRangedWhat (elim read as (λ _. What) [ Err fault ↦ Bad (unreadable.Fip fault) | Ok message ↦ Fip f message ])
 ranged_fip f (Ok m) h = tt
 ranged_fip f (Err fault) h = fault_ranged fault h
 
 ranged_frame : (f : eth.Eth) (is_fip is_fcoe : Bool) → AreBytes f.body →
     IsRangedWhat (elim is_fip as (λ _. What) [
       | true ↦ fip_in f
-      | false ↦ elim is_fcoe as (λ _. What) [ true ↦ Fcoe f (capsule.decoded f.body) | false ↦ Bad (plain rule.Ethertype) ]
+      | false ↦ elim is_fcoe as (λ _. What) [ true ↦ Fcoe f (capsule.decoded f.body) | false ↦ Bad unreadable.Ethertype ]
     ])
 ranged_frame f true is_fcoe are = ranged_fip f (reading.decoded f.body) (read_small f.body are)
 ranged_frame f false true are = tt
@@ -55,8 +56,8 @@ ranged_frame f false false are = (refl, tt)
 
 ranged_read : (whole : Bool) (read : Result eth.Eth EthFault) → HasBody read →
     IsRangedWhat (elim whole as (λ _. What) [
-      | false ↦ Bad (plain rule.Truncated)
-      | true ↦ elim read as (λ _. What) [ Err fault ↦ Bad (plain rule.EthShort) | Ok f ↦ frame_in f ]
+      | false ↦ Bad unreadable.Truncated
+      | true ↦ elim read as (λ _. What) [ Err fault ↦ Bad unreadable.EthShort | Ok f ↦ frame_in f ]
     ])
 ranged_read false read are = (refl, tt)
 ranged_read true (Err fault) are = (refl, tt)
@@ -93,7 +94,7 @@ rule_ranged (fcoe_fault.Crc found made) = (refl, tt)
 
 pub rules_ranged : (c : Settings) (T : Tables) (port : ℕ) (caught : Caught) (w : What) → IsRangedWhat w → RangedIf (rule_for c T port caught w)
 unfolding rule_for
-rules_ranged c T port caught (Bad cause) h = h
+rules_ranged c T port caught (Bad fault) h = h
 rules_ranged c T port caught (Fip f m) h =
     first_ranged (fip_rows c T port caught f m) ((refl, tt), ((refl, tt), ((refl, tt), ((refl, tt), ((refl, tt), ((refl, tt), ((refl, tt), tt)))))))
 rules_ranged c T port caught (Fcoe f (Err e)) h = first_ranged ((is_wrong_vlan c.vlan f false, plain rule.Vlan) ∷ (true, rule_of e) ∷ []) ((refl, tt), (rule_ranged e, tt))

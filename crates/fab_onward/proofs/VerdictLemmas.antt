@@ -14,7 +14,7 @@ use Rattle.ct_messages.specs.Ct as ct
 use Rattle.ct_messages.specs.declared.CtFault.{CtFault}
 use Rattle.ct_messages.specs.declared.CtFault.TheVariants as ct_fault
 use Rattle.ct_messages.specs.Server.{Refusal, Known, refused_if, is_registration, registration_refusal, query_refusal, types_refusal, known_at, known_by_name, of_type, is_port_type}
-use Rattle.fab_policy.specs.Cause.{Cause, plain}
+use Rattle.fab_policy.specs.Cause.{Cause, plain, cause_of_unreadable}
 use Rattle.fab_policy.specs.Free.{Request, has_free}
 use Rattle.heard_frames.specs.Heard.{What, Bad, Fip, Fcoe, decoded, source, fc_of}
 use Rattle.fab_policy.specs.Journal.{Journal}
@@ -254,7 +254,7 @@ module _ (c : Settings) (J : Journal) (range : IsTrue (is_in_range c)) (ranged :
 
   message_met : (port : ℕ) (caught : Caught) (w : What) → IsRangedWhat w → rule_for c (tables_of c J) port caught w ≡ None → Met c (tables_of c J) (message_judged c (tables_of c J) port caught w)
   unfolding rule_for
-  message_met port caught (Bad cause) h none = (Dropped cause, refl, h)
+  message_met port caught (Bad fault) h none = (Dropped (cause_of_unreadable fault), refl, h)
   message_met port caught (Fip f m) h none = fip_met port caught f m none
   message_met port caught (Fcoe f (Ok x)) h none = fcoe_met x.frame
   message_met port caught (Fcoe f (Err e)) h none = (Dropped (plain rule.FcoeLength), refl, (refl, tt))
