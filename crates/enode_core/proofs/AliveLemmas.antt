@@ -126,7 +126,7 @@ module _ (own : Identity) (s : State) (r : Record) where
   message_does (Up kept a node_due port_due at) f m is reads to = up_does kept a node_due port_due at f m is reads to
 
   what_does : (w : What) → decoded r.caught ≡ w → FrameDoes own s r (at_what own s r.moment w)
-  what_does (Bad cause) reads = Nothing refl
+  what_does (Bad fault) reads = Nothing refl
   what_does (Fcoe f read) reads = Nothing refl
   what_does (Fip f m) reads = by_count (counts own f) refl
     where

@@ -18,9 +18,8 @@ use Rattle.fip_codec.specs.declared.message.LoginKind.{LoginKind}
 use Rattle.els_messages.specs.Els as els
 use Rattle.fab_policy.specs.Carried.{SourcesAreRead, LoginsAreCarried, BodiesAreCarried, ParmsAreAsked, AnswersAreAsked}
 use Rattle.heard_frames.specs.Heard.{What, Bad, Fip, Fcoe, FIP, FCOE, decoded, frame_in, fip_in, source, fc_of, login_of, carried, NO_FRAME}
-use Rattle.fab_policy.specs.Cause.{plain, cause_of}
+use Rattle.heard_frames.specs.declared.unreadable.Unreadable.TheVariants as unreadable
 use Rattle.fab_policy.specs.Replies.{size_in, size_asked}
-use Rattle.fab_policy.specs.declared.verdict.Rule.TheVariants as rule
 use Rattle.fab_policy.proofs.SoundParms.{SaysParms, says_parms}
 
 -- ---- which parts a decoded frame comes from
@@ -38,7 +37,7 @@ pub record IsFcoeOf (caught : Caught) (f : eth.Eth) (read : Result capsule.Fcoe 
   pub body : capsule.decoded f.body ≡ read
 
 abbrev PartsOf : Caught → What → Type 0
-PartsOf caught (Bad cause) = Unit {0}
+PartsOf caught (Bad fault) = Unit {0}
 PartsOf caught (Fip f m) = IsFipOf caught f m
 PartsOf caught (Fcoe f read) = IsFcoeOf caught f read
 
@@ -47,18 +46,18 @@ unfolding decoded
 parts_of caught = by_whole caught.whole (eth.decoded caught.bytes) refl
   where
     by_message : (f : eth.Eth) → eth.decoded caught.bytes ≡ Ok f → f.kind == FIP ≡ true → (r : Result fip.Fip FipFault) → reading.decoded f.body ≡ r →
-        PartsOf caught (elim r as (λ _. What) [ Err fault ↦ Bad (cause_of fault) | Ok message ↦ Fip f message ])
+        PartsOf caught (elim r as (λ _. What) [ Err fault ↦ Bad (unreadable.Fip fault) | Ok message ↦ Fip f message ])
     by_message f x k (Err fault) y = tt
     by_message f x k (Ok m) y = record { frame = x; kind = k; message = y }
 
     by_kind : (f : eth.Eth) → eth.decoded caught.bytes ≡ Ok f → (b o : Bool) → f.kind == FIP ≡ b → f.kind == FCOE ≡ o →
-        PartsOf caught (elim b as (λ _. What) [ true ↦ fip_in f | false ↦ elim o as (λ _. What) [ true ↦ Fcoe f (capsule.decoded f.body) | false ↦ Bad (plain rule.Ethertype) ] ])
+        PartsOf caught (elim b as (λ _. What) [ true ↦ fip_in f | false ↦ elim o as (λ _. What) [ true ↦ Fcoe f (capsule.decoded f.body) | false ↦ Bad unreadable.Ethertype ] ])
     by_kind f x true o k j = by_message f x k (reading.decoded f.body) refl
     by_kind f x false true k j = record { frame = x; kind = j; body = refl }
     by_kind f x false false k j = tt
 
     by_whole : (b : Bool) (r : Result eth.Eth EthFault) → eth.decoded caught.bytes ≡ r →
-        PartsOf caught (elim b as (λ _. What) [ false ↦ Bad (plain rule.Truncated) | true ↦ elim r as (λ _. What) [ Err fault ↦ Bad (plain rule.EthShort) | Ok f ↦ frame_in f ] ])
+        PartsOf caught (elim b as (λ _. What) [ false ↦ Bad unreadable.Truncated | true ↦ elim r as (λ _. What) [ Err fault ↦ Bad unreadable.EthShort | Ok f ↦ frame_in f ] ])
     by_whole false r x = tt
     by_whole true (Err fault) x = tt
     by_whole true (Ok f) x = by_kind f x (f.kind == FIP) (f.kind == FCOE) refl refl

@@ -162,7 +162,7 @@ forwards_exactly c T port caught h = by_what (decoded caught) refl h
     by_what : (w : What) → decoded caught ≡ w → is_frame (is_data c) w ≡ true → (verdict : Verdict) × (judged c T port caught ≡ Must verdict)
         × (is_frame (λ p. is_data c p && is_allowed c T port p) w ≡ true → IsForwardedTo (port_at (d_id caught) T.ports) verdict)
         × (is_frame (λ p. is_data c p && is_allowed c T port p) w ≡ false → IsDroppedBy (rule_for c T port caught (decoded caught)) verdict)
-    by_what (Bad cause) e h = absurd cc
+    by_what (Bad fault) e h = absurd cc
     by_what (Fip f m) e h = absurd cc
     by_what (Fcoe f (Err fault)) e h = absurd cc
     by_what (Fcoe f (Ok x)) e h =

@@ -23,9 +23,10 @@ use Rattle.fip_codec.specs.declared.fault.FipFault.{FipFault}
 use Rattle.fip_codec.specs.declared.message.LoginKind.{LoginKind}
 use Rattle.fip_codec.proofs.Grammar.{IsFip-from_decoded}
 use Rattle.fip_codec.proofs.Unique.{decoded-from_IsFip}
-use Rattle.fab_policy.specs.Cause.{Cause, plain, cause_of}
+use Rattle.fab_policy.specs.Cause.{Cause, plain, cause_of_unreadable}
 use Rattle.fab_policy.specs.Free.{Request}
 use Rattle.heard_frames.specs.Heard.{What, Bad, Fip, Fcoe, FIP, FCOE, decoded, fc_of}
+use Rattle.heard_frames.specs.declared.unreadable.Unreadable.TheVariants as unreadable
 use Rattle.fab_policy.specs.Laws.{AsksVlans, Solicits}
 use Rattle.heard_frames.specs.Rows.{first_row, is_wrong_vlan, ALL_FCFS}
 use Rattle.fab_policy.specs.Rules.{rule_for, holds}
@@ -77,20 +78,20 @@ stands l f bytes e =
 -- ---- a frame of FIP
 
 abbrev body_of : Eth → Result fip.Fip FipFault → What
-body_of f read = elim read as (λ _. What) [ Err fault ↦ Bad (cause_of fault) | Ok message ↦ Fip f message ]
+body_of f read = elim read as (λ _. What) [ Err fault ↦ Bad (unreadable.Fip fault) | Ok message ↦ Fip f message ]
 
 abbrev frame_of : Eth → Bool → Bool → What
 frame_of f is_fip is_fcoe =
     elim is_fip as (λ _. What) [
       | true ↦ body_of f (reading.decoded f.body)
-      | false ↦ elim is_fcoe as (λ _. What) [ true ↦ Fcoe f (capsule.decoded f.body) | false ↦ Bad (plain rule.Ethertype) ]
+      | false ↦ elim is_fcoe as (λ _. What) [ true ↦ Fcoe f (capsule.decoded f.body) | false ↦ Bad unreadable.Ethertype ]
     ]
 
 abbrev read_of : Bool → Result Eth EthFault → What
 read_of whole read =
     elim whole as (λ _. What) [
-      | false ↦ Bad (plain rule.Truncated)
-      | true ↦ elim read as (λ _. What) [ Err fault ↦ Bad (plain rule.EthShort) | Ok f ↦ frame_of f (f.kind == FIP) (f.kind == FCOE) ]
+      | false ↦ Bad unreadable.Truncated
+      | true ↦ elim read as (λ _. What) [ Err fault ↦ Bad unreadable.EthShort | Ok f ↦ frame_of f (f.kind == FIP) (f.kind == FCOE) ]
     ]
 
 -- a message in a frame that was read
@@ -221,7 +222,7 @@ is_asking (Fip f (Solicit _ _ _ _ _)) = true
 is_asking _ = false
 
 not_asking : (c : Settings) (T : Tables) (port : ℕ) (caught : Caught) (what : What) (v : Verdict) → Answers v → is_asking what ≡ false → judged_of c T port caught what ≡ Must v → ⊥
-not_asking c T port caught (Bad cause) v h off e = unanswered (rule_for c T port caught (Bad cause)) (Must (Dropped cause)) v h refl e
+not_asking c T port caught (Bad fault) v h off e = unanswered (rule_for c T port caught (Bad fault)) (Must (Dropped (cause_of_unreadable fault))) v h refl e
 not_asking c T port caught (Fcoe f (Ok x)) v h off e =
     unanswered (rule_for c T port caught (Fcoe f (Ok x))) (fcoe_judged c T x.frame) v h (fcoe_unanswered (fcoe_judged c T x.frame) (body_of_fcoe c T x.frame)) e
 not_asking c T port caught (Fcoe f (Err fault)) v h off e = unanswered (rule_for c T port caught (Fcoe f (Err fault))) (Must (Dropped (plain rule.FcoeLength))) v h refl e
@@ -281,7 +282,7 @@ heard_ask c T port caught (Fip f (Solicit from_fcf fp mac node size)) e =
     absurd (otherwise (rule_for c T port caught (Fip f (Solicit from_fcf fp mac node size))) (Must Advertised) Vlans vlans_answer (λ w. cc) e)
 heard_ask c T port caught (Fip f m) e = absurd (not_asking c T port caught (Fip f m) Vlans vlans_answer refl e)
 heard_ask c T port caught (Fcoe f read) e = absurd (not_asking c T port caught (Fcoe f read) Vlans vlans_answer refl e)
-heard_ask c T port caught (Bad cause) e = absurd (not_asking c T port caught (Bad cause) Vlans vlans_answer refl e)
+heard_ask c T port caught (Bad fault) e = absurd (not_asking c T port caught (Bad fault) Vlans vlans_answer refl e)
 
 ask_judged : (c : Settings) (T : Tables) (port : ℕ) (caught : Caught) (f : Eth) (named : List ℕ) (node : Option ℕ) →
     is_wrong_vlan c.vlan f true ≡ false → not (is_to c f) ≡ false → not (same_bytes named f.src) ≡ false → judged_of c T port caught (Fip f (VlanAsk named node)) ≡ Must Vlans
@@ -353,7 +354,7 @@ heard_solicit c T port caught (Fip f (VlanAsk named node)) e =
     absurd (otherwise (rule_for c T port caught (Fip f (VlanAsk named node))) (Must Vlans) Advertised advertised_answers (λ w. cc) e)
 heard_solicit c T port caught (Fip f m) e = absurd (not_asking c T port caught (Fip f m) Advertised advertised_answers refl e)
 heard_solicit c T port caught (Fcoe f read) e = absurd (not_asking c T port caught (Fcoe f read) Advertised advertised_answers refl e)
-heard_solicit c T port caught (Bad cause) e = absurd (not_asking c T port caught (Bad cause) Advertised advertised_answers refl e)
+heard_solicit c T port caught (Bad fault) e = absurd (not_asking c T port caught (Bad fault) Advertised advertised_answers refl e)
 
 solicit_judged : (c : Settings) (T : Tables) (port : ℕ) (caught : Caught) (f : Eth) (fp : Bool) (named : List ℕ) (node size : ℕ) →
     is_wrong_vlan c.vlan f false ≡ false → not (is_to c f) ≡ false → not (same_bytes named f.src) ≡ false → judged_of c T port caught (Fip f (Solicit false fp named node size)) ≡ Must Advertised

@@ -15,7 +15,6 @@ pub mod SoundParms
 pub mod Carried
 pub mod Due
 pub mod Right
-pub mod FrameRuleLemmas
 pub mod ReplyLemmas
 pub mod FcoeJudged
 pub mod LawLemmas

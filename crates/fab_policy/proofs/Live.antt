@@ -304,7 +304,7 @@ is_read c T port caught h = by_what (decoded caught) refl (rule_for c T port cau
   where
     by_what : (w : What) → decoded caught ≡ w → (o : Option Cause) → rule_for c T port caught (decoded caught) ≡ o → is_named (judged_so c T port caught o (decoded caught)) ≡ true → IsRead c T port caught
     by_what w x (Some cause) y t = absurd cc
-    by_what (Bad cause) x None y t = absurd (true_is_false (sym t ∙ ap (λ v. is_named (judged_so c T port caught None v)) x))
+    by_what (Bad fault) x None y t = absurd (true_is_false (sym t ∙ ap (λ v. is_named (judged_so c T port caught None v)) x))
     by_what (Fip f m) x None y t = absurd (true_is_false (sym t ∙ ap (λ v. is_named (judged_so c T port caught None v)) x ∙ fip_silent c T port caught m))
     by_what (Fcoe f (Err fault)) x None y t = absurd (true_is_false (sym t ∙ ap (λ v. is_named (judged_so c T port caught None v)) x))
     by_what (Fcoe f (Ok b)) x None y t = record {

@@ -120,7 +120,7 @@ unfolding judged
 judged_allowed c T port caught = by_rule (rule_for c T port caught (decoded caught)) (by_message (decoded caught) refl)
   where
     by_message : (w : What) → decoded caught ≡ w → GrantsAllowed c T port caught (message_judged c T port caught w)
-    by_message (Bad cause) e = refl
+    by_message (Bad fault) e = refl
     by_message (Fip f m) e = fip_allowed c T port caught f m (fip_of caught f m e)
     by_message (Fcoe f (Ok x)) e = never c T port caught _ (body_of_fcoe c T x.frame)
     by_message (Fcoe f (Err fault)) e = refl

@@ -20,7 +20,7 @@ use Rattle.fab_policy.specs.declared.verdict.Verdict.TheVariants.{Forwarded, Dro
 abbrev pub is_frame : (eth.Eth × capsule.Fcoe → Bool) → What → Bool
 is_frame passes (Fcoe f (Ok x)) = passes (f, x)
 is_frame passes (Fcoe f (Err e)) = false
-is_frame passes (Bad cause) = false
+is_frame passes (Bad fault) = false
 is_frame passes (Fip f m) = false
 
 -- A data frame: FCoE without fault on the configured VLAN to the forwarder's MAC, of class 3, from one N_Port to another.

@@ -15,25 +15,14 @@ use Rattle.fip_codec.specs.Message as fip
 use Rattle.fip_codec.specs.declared.message.LoginKind.{LoginKind}
 use Rattle.fip_codec.specs.declared.message.LoginKind.TheVariants.{Flogi, Fdisc, Logo}
 use Rattle.els_messages.specs.Els as els
-use Rattle.fab_policy.specs.Cause.{Cause, plain}
+use Rattle.fab_policy.specs.Cause.{Cause, plain, cause_of_unreadable}
 use Rattle.heard_frames.specs.Heard.{What, Bad, Fip, Fcoe, sender, source, fc_of}
+use Rattle.heard_frames.specs.Rows.{first_row, is_wrong_vlan, ALL_FCFS}
 use Rattle.fab_policy.specs.Logins.{granted_mac}
 use Rattle.fab_policy.specs.State.{Tables, LivePort, now_of, port_at}
 use Rattle.fab_policy.specs.declared.verdict.Rule.TheVariants as rule
 
--- the first row whose condition holds
-abbrev pub first_row : {X : Type 0} → List (Bool × X) → Option X
-first_row [] = None
-first_row (row ∷ rows) = elim row.0 [ true ↦ Some row.1 | false ↦ first_row rows ]
-
 -- ---- addresses of the standards
-
--- All-FCF-MACs and All-ENode-MACs
-abbrev pub ALL_FCFS : List ℕ
-ALL_FCFS = 0x01 ∷ 0x10 ∷ 0x18 ∷ 0x01 ∷ 0x00 ∷ 0x02 ∷ []
-
-abbrev pub ALL_ENODES : List ℕ
-ALL_ENODES = 0x01 ∷ 0x10 ∷ 0x18 ∷ 0x01 ∷ 0x00 ∷ 0x01 ∷ []
 
 -- the fabric port, the fabric controller, the name server, and the least address of a service
 abbrev pub FABRIC_PORT : ℕ
@@ -126,10 +115,6 @@ is_keepalive_unknown c T port caught (fip.Keep mac (Some vx)) =
     && same_bytes (granted_mac c vx.address) vx.mac && same_bytes (granted_mac c vx.address) (source caught)) (port_at vx.address T.ports))
 is_keepalive_unknown c T port caught _ = false
 
--- the VLAN isn't the configured one, except that a VLAN request may be untagged
-abbrev pub is_wrong_vlan : Settings → eth.Eth → Bool → Bool
-is_wrong_vlan c f may_be_untagged = not (eth.vlan_of_tag f.tag == c.vlan || (may_be_untagged && eth.vlan_of_tag f.tag == 0))
-
 -- the frame is to the forwarder, or to all forwarders and of a kind that may be
 abbrev pub is_to_forwarder : Settings → eth.Eth → fip.Fip → Bool
 is_to_forwarder c f m = same_bytes f.dst c.fcf_mac || ((is_solicitation m || is_vlan_request m) && same_bytes f.dst ALL_FCFS)
@@ -138,10 +123,10 @@ is_to_forwarder c f m = same_bytes f.dst c.fcf_mac || ((is_solicitation m || is_
 abbrev pub names_another : eth.Eth → fip.Fip → Bool
 names_another f m = elim (named_mac m) [ None ↦ false | Some mac ↦ not (same_bytes mac f.src) ]
 
--- the rows on the frame itself: its VLAN, its destination, who may send it, and whom it names
+-- the rows on the frame itself: its VLAN (a VLAN request may be untagged), its destination, who may send it, and whom it names
 abbrev pub fip_frame_rows : Settings → eth.Eth → fip.Fip → List (Bool × Cause)
 fip_frame_rows c f m =
-    (is_wrong_vlan c f (is_vlan_request m), plain rule.Vlan)
+    (is_wrong_vlan c.vlan f (is_vlan_request m), plain rule.Vlan)
     ∷ (not (is_to_forwarder c f m), plain rule.FipDest)
     ∷ (fip.is_forwarders m, plain rule.FipRole)
     ∷ (names_another f m, plain rule.FipMac)
@@ -149,9 +134,9 @@ fip_frame_rows c f m =
 
 -- the first rule on the frame itself that drops it, or none
 abbrev pub frame_rule : Settings → What → Option Cause
-frame_rule c (Bad cause) = Some cause
+frame_rule c (Bad fault) = Some (cause_of_unreadable fault)
 frame_rule c (Fip f m) = first_row (fip_frame_rows c f m)
-frame_rule c (Fcoe f read) = first_row ((is_wrong_vlan c f false, plain rule.Vlan) ∷ [])
+frame_rule c (Fcoe f read) = first_row ((is_wrong_vlan c.vlan f false, plain rule.Vlan) ∷ [])
 
 -- the rows on what it carries and on who is logged in
 abbrev pub fip_login_rows : Settings → Tables → ℕ → Caught → fip.Fip → List (Bool × Cause)
@@ -211,7 +196,7 @@ fcoe_rows c T port f x =
 
 -- The rule by which a frame of a port is dropped, or none.
 unfoldable pub rule_for : Settings → Tables → ℕ → Caught → What → Option Cause
-rule_for c T port caught (Bad cause) = Some cause
+rule_for c T port caught (Bad fault) = Some (cause_of_unreadable fault)
 rule_for c T port caught (Fip f m) = first_row (fip_rows c T port caught f m)
-rule_for c T port caught (Fcoe f (Err e)) = first_row ((is_wrong_vlan c f false, plain rule.Vlan) ∷ (true, rule_of e) ∷ [])
-rule_for c T port caught (Fcoe f (Ok x)) = first_row ((is_wrong_vlan c f false, plain rule.Vlan) ∷ fcoe_rows c T port f x)
+rule_for c T port caught (Fcoe f (Err e)) = first_row ((is_wrong_vlan c.vlan f false, plain rule.Vlan) ∷ (true, rule_of e) ∷ [])
+rule_for c T port caught (Fcoe f (Ok x)) = first_row ((is_wrong_vlan c.vlan f false, plain rule.Vlan) ∷ fcoe_rows c T port f x)

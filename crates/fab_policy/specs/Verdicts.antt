@@ -13,7 +13,7 @@ use Rattle.els_messages.specs.Els as els
 use Rattle.els_messages.specs.declared.LoginParms.{LoginParms}
 use Rattle.ct_messages.specs.Ct as ct
 use Rattle.heard_frames.specs.Heard.{What, Bad, Fip, Fcoe, decoded, sender, fc_of}
-use Rattle.fab_policy.specs.Cause.{plain}
+use Rattle.fab_policy.specs.Cause.{plain, cause_of_unreadable}
 use Rattle.fab_policy.specs.Logins.{granted_mac}
 use Rattle.fab_policy.specs.State.{Tables, LivePort, port_at}
 use Rattle.fab_policy.specs.Free.{Request, is_free, has_free}
@@ -133,7 +133,7 @@ fcoe_judged c T f =
 -- ---- any frame
 
 abbrev pub message_judged : Settings → Tables → ℕ → Caught → What → Judgement
-message_judged c T port caught (Bad cause) = Must (Dropped cause)
+message_judged c T port caught (Bad fault) = Must (Dropped (cause_of_unreadable fault))
 message_judged c T port caught (Fip f m) = fip_judged c T port caught m
 message_judged c T port caught (Fcoe f (Ok x)) = fcoe_judged c T x.frame
 message_judged c T port caught (Fcoe f (Err e)) = Must (Dropped (plain rule.FcoeLength))

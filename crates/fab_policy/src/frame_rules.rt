@@ -1,20 +1,19 @@
 //! The first rule on a frame itself that drops it.
-ghost use Rattle.std.specs.Prelude.{◌≡◌, ◌∷◌, [], ◌||◌, not, false, ◌&&◌, if◌then◌else◌};
+ghost use Rattle.std.specs.Prelude.{◌≡◌, ◌∷◌, [], false};
 ghost use Rattle.eth_frames.specs.Ethernet.{view as eth_view};
 ghost use Rattle.fip_codec.specs.Message.{view as fip_view};
-ghost use Rattle.fab_policy.specs.Cause.{is_numbered, plain, numbered};
+ghost use Rattle.fab_policy.specs.Cause.{plain as plain_cause};
 ghost use Rattle.heard_frames.specs.Heard.{decoded};
-ghost use Rattle.heard_frames.specs.View.{cause_at as cause_of_place};
 ghost use Rattle.fab_policy.specs.Rules as rules;
 ghost use Rattle.heard_frames.specs.Rows as rows;
 
-use crate::bytes::is_same;
+use crate::cause::{cause_of_unreadable, plain};
 use crate::{Dropped, Rule};
 use eth_frames::{ALL_FCFS, EthFrame};
 use fab_base::Mac;
 use fab_config::Config;
 use fip_codec::{FipMessage, is_forwarders};
-use heard_frames::{Heard, What};
+use heard_frames::{Heard, What, is_wrong_vlan};
 
 /// The first rule on the frame itself that drops it: it can't be read, or its VLAN, its
 /// destination, its kind or the MAC that it gives is wrong. It doesn't go by who is logged in.
@@ -22,38 +21,18 @@ pub fn frame_rule(config: &Config, heard: &Heard<'_>) -> Option<Dropped>
     ensures { result ≡ rules.frame_rule config.now (decoded heard.now.caught.now) }
 {
     match &heard.what {
-        What::Bad { rule, at } => Some(cause_at(*rule, *at)),
+        What::Bad(fault) => Some(cause_of_unreadable(*fault)),
         What::Fip { eth, message } => fip_rule(config, eth, message),
         What::Fcoe { eth, .. } => fcoe_rule(config, eth),
     }
 }
 
-// A rule with its number, if it has one.
-fn cause_at(rule: Rule, at: u32) -> Dropped
-    requires { is_numbered rule ≡ false → at ≡ 0 }
-    ensures { result ≡ cause_of_place rule at }
-{
-    if rule.is_numbered() {
-        Dropped::new(rule, Some(at)).unwrap()
-    } else {
-        dropped(rule)
-    }
-}
-
-// A rule without a number.
-fn dropped(rule: Rule) -> Dropped
-    requires { is_numbered rule ≡ false }
-    ensures { result ≡ plain rule }
-{
-    Dropped::new(rule, None).unwrap()
-}
-
 fn fcoe_rule(config: &Config, eth: &EthFrame<'_>) -> Option<Dropped>
     ensures { result ≡ rows.first_row (
-        (rows.is_wrong_vlan config.now (eth_view eth.now) false, plain Rule.Vlan) ∷ []) }
+        (rows.is_wrong_vlan config.now.vlan (eth_view eth.now) false, plain_cause Rule.Vlan) ∷ []) }
 {
-    if is_wrong_vlan(config, eth, false) {
-        return Some(dropped(Rule::Vlan));
+    if is_wrong_vlan(config.vlan, eth, false) {
+        return Some(plain(Rule::Vlan));
     }
     None
 }
@@ -62,28 +41,19 @@ fn fip_rule(config: &Config, eth: &EthFrame<'_>, message: &FipMessage<'_>) -> Op
     ensures { result ≡ rows.first_row (
         rules.fip_frame_rows config.now (eth_view eth.now) (fip_view message.now)) }
 {
-    if is_wrong_vlan(config, eth, is_vlan_request(message)) {
-        return Some(dropped(Rule::Vlan));
+    if is_wrong_vlan(config.vlan, eth, is_vlan_request(message)) {
+        return Some(plain(Rule::Vlan));
     }
     if !is_to_forwarder(config, eth, message) {
-        return Some(dropped(Rule::FipDest));
+        return Some(plain(Rule::FipDest));
     }
     if is_forwarders(message) {
-        return Some(dropped(Rule::FipRole));
+        return Some(plain(Rule::FipRole));
     }
     if names_another(eth, message) {
-        return Some(dropped(Rule::FipMac));
+        return Some(plain(Rule::FipMac));
     }
     None
-}
-
-// Whether a frame isn't on the forwarder's VLAN, nor untagged where it may be.
-fn is_wrong_vlan(config: &Config, eth: &EthFrame<'_>, may_be_untagged: bool) -> bool
-    ensures { result ≡ rows.is_wrong_vlan config.now (eth_view eth.now) may_be_untagged }
-{
-    let vlan = eth.vlan();
-    let right = vlan == config.vlan || (may_be_untagged && vlan == 0);
-    !right
 }
 
 // Whether a frame is to the forwarder, or to all forwarders and of a kind that may be.
@@ -91,7 +61,7 @@ fn is_to_forwarder(config: &Config, eth: &EthFrame<'_>, message: &FipMessage<'_>
     ensures { result ≡ rules.is_to_forwarder config.now (eth_view eth.now) (fip_view message.now) }
 {
     let may_be_to_all = is_solicitation(message) || is_vlan_request(message);
-    is_same(&eth.dst.0, &config.fcf_mac.0) || (may_be_to_all && is_same(&eth.dst.0, &ALL_FCFS.0))
+    eth.dst == config.fcf_mac || (may_be_to_all && eth.dst == ALL_FCFS)
 }
 
 fn is_vlan_request(message: &FipMessage<'_>) -> bool
@@ -117,7 +87,7 @@ fn names_another(eth: &EthFrame<'_>, message: &FipMessage<'_>) -> bool
     ensures { result ≡ rules.names_another (eth_view eth.now) (fip_view message.now) }
 {
     match named_mac(message) {
-        Some(mac) => !is_same(&mac.0, &eth.src.0),
+        Some(mac) => mac != eth.src,
         None => false,
     }
 }

@@ -2,7 +2,7 @@
 #![tactic(auto)]
 
 mod asker;
-mod bytes;
+mod cause;
 mod classes;
 mod event;
 mod frame_rules;

@@ -17,7 +17,7 @@ use Rattle.fip_snoop.proofs.MovedLemmas.{moved-kept}
 -- look-ups that find the same give the same way
 same_way : (w : Forwarder) (h k : List ℕ → Option ℕ) (b c : List ℕ → Option Binding) (m n : List ℕ → Bool) (port : ℕ) (what : What)
     → ((mac : List ℕ) → h mac ≡ k mac) → ((mac : List ℕ) → b mac ≡ c mac) → ((mac : List ℕ) → m mac ≡ n mac) → way_by w h b m port what ≡ way_by w k c n port what
-same_way w h k b c m n port (Bad cause) homes bounds moved = refl
+same_way w h k b c m n port (Bad fault) homes bounds moved = refl
 same_way w h k b c m n port (Fip f x) homes bounds moved = rw (homes f.dst) (rw (bounds f.src) (rw (moved f.src) refl))
 same_way w h k b c m n port (Fcoe f (Err fault)) homes bounds moved = refl
 same_way w h k b c m n port (Fcoe f (Ok x)) homes bounds moved = rw (bounds f.dst) (rw (bounds f.src) refl)

@@ -102,7 +102,7 @@ kept_homes w L s port (Fip f m) (Down q) r mac = r.homes mac
 kept_homes w L s port (Fip f m) All r mac = r.homes mac
 kept_homes w L s port (Fip f m) (Dropped why) r mac = r.homes mac
 kept_homes w L s port (Fcoe f x) way r mac = r.homes mac
-kept_homes w L s port (Bad cause) way r mac = r.homes mac
+kept_homes w L s port (Bad fault) way r mac = r.homes mac
 
 kept_bindings : (w : Forwarder) (L : History) (s : Contents) (port : ℕ) (what : What) (way : Way) → Remembers w L s
     → (mac : List ℕ) → filter (is_binding_of mac) (after port what way s).bindings ≡ option_to_list (bound_after w mac (delivered what way) (bound w L mac))
@@ -120,7 +120,7 @@ kept_bindings w L s port (Fip f m) (Down q) r mac =
 kept_bindings w L s port (Fip f m) All r mac = r.bindings mac
 kept_bindings w L s port (Fip f m) (Dropped why) r mac = r.bindings mac
 kept_bindings w L s port (Fcoe f x) way r mac = r.bindings mac
-kept_bindings w L s port (Bad cause) way r mac = r.bindings mac
+kept_bindings w L s port (Bad fault) way r mac = r.bindings mac
 
 kept_forwarder : (s : Contents) (port : ℕ) (what : What) (way : Way) → (after port what way s).forwarder ≡ s.forwarder
 kept_forwarder s port (Fip f m) Up = go (is_port_alive m)
@@ -132,7 +132,7 @@ kept_forwarder s port (Fip f m) (Down q) = refl
 kept_forwarder s port (Fip f m) All = refl
 kept_forwarder s port (Fip f m) (Dropped why) = refl
 kept_forwarder s port (Fcoe f x) way = refl
-kept_forwarder s port (Bad cause) way = refl
+kept_forwarder s port (Bad fault) way = refl
 
 -- What is kept behind an entry is what its history has.
 pub remembers-entry : (w : Forwarder) (L : History) (s : Contents) (h : Handled) → Remembers w L s → Remembers w (h ∷ L) (after h.port (decoded h.caught) h.way s)

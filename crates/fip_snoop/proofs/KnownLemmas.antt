@@ -51,7 +51,7 @@ module _ (w : Forwarder) (L : History) (s : Contents) (port : ℕ) (caught : Cau
           ∙ ap (λ t. or_else (cond t (Some b) None) (option_and_then (λ x. cond (ends_by w x d) None (Some x)) (bound w L b.mac))) (is_same b.mac b.mac refl)
 
   by_what : (what : What) (way : Way) → decoded caught ≡ what → Remembers w (record { port = port; caught = caught; way = way } ∷ L) s → IsKnownAlready port what way s
-  by_what (Bad cause) way is r = tt
+  by_what (Bad fault) way is r = tt
   by_what (Fcoe f read) way is r = tt
   by_what (Fip f m) All is r = tt
   by_what (Fip f m) (Dropped why) is r = tt

@@ -9,9 +9,10 @@ use Rattle.eth_frames.specs.Ethernet as eth
 use Rattle.fcoe_codec.specs.Fcoe as capsule
 use Rattle.fcoe_codec.specs.declared.FcoeFault.{FcoeFault}
 use Rattle.heard_frames.specs.Heard.{Fcoe}
+use Rattle.heard_frames.specs.Rows.{is_wrong_vlan}
 use Rattle.fip_snoop.specs.History.{Handled, History, home, or_else, binds, ends, is_grant, last_binding, since, if_unended, bound, is_elsewhere, has_moved}
 use Rattle.fip_snoop.specs.Laws.{NoneOf, IsBound, BoundIs, MovedIs, IsOfLogin, DataGoesUp}
-use Rattle.fip_snoop.specs.Ways.{FORWARDER_PORT, is_wrong_vlan, is_on, is_of, drops, up_data_rows, down_data_rows, down_data_to, way_of, way_by}
+use Rattle.fip_snoop.specs.Ways.{FORWARDER_PORT, is_on, is_of, drops, up_data_rows, down_data_rows, down_data_to, way_of, way_by}
 use Rattle.fip_snoop.specs.declared.bindings.Binding.{Binding}
 use Rattle.fip_snoop.specs.declared.forwarder.Forwarder.{Forwarder}
 use Rattle.fip_snoop.specs.declared.way.Way.TheVariants.{Up}
@@ -162,17 +163,17 @@ on_is port (Some b) e = (b, refl, grind (arith, nat_tests))
 of_is : (a : ℕ) (b : Binding) → is_of a (Some b) ≡ true → b.address ≡ a
 of_is a b e = grind (arith, nat_tests)
 
-pub vlan_is : (w : Forwarder) (f : eth.Eth) → is_wrong_vlan w f false ≡ false → eth.vlan_of_tag f.tag ≡ w.vlan
+pub vlan_is : (w : Forwarder) (f : eth.Eth) → is_wrong_vlan w.vlan f false ≡ false → eth.vlan_of_tag f.tag ≡ w.vlan
 vlan_is w f e = grind (arith, nat_tests)
 
-pub is_vlan : (w : Forwarder) (f : eth.Eth) → eth.vlan_of_tag f.tag ≡ w.vlan → is_wrong_vlan w f false ≡ false
+pub is_vlan : (w : Forwarder) (f : eth.Eth) → eth.vlan_of_tag f.tag ≡ w.vlan → is_wrong_vlan w.vlan f false ≡ false
 is_vlan w f e = grind (arith, nat_tests)
 
 -- the way of data from the port of an ENode
 module _ (w : Forwarder) (L : History) (port : ℕ) (f : eth.Eth) (x : capsule.Fcoe) where
   up_is : drops (up_data_rows w port f x (bound w L f.src)) Up ≡ Up → IsOfLogin w L port f x
   up_is e =
-      let r = four _ _ _ _ (is_wrong_vlan w f false) (not (same_bytes f.dst w.mac)) (not (is_on port (bound w L f.src))) (not (is_of x.frame.head.s_id (bound w L f.src))) e in
+      let r = four _ _ _ _ (is_wrong_vlan w.vlan f false) (not (same_bytes f.dst w.mac)) (not (is_on port (bound w L f.src))) (not (is_of x.frame.head.s_id (bound w L f.src))) e in
       let o = on_is port (bound w L f.src) (not_not _ r.2) in
       record {
         vlan = vlan_is w f r.0;
@@ -188,7 +189,7 @@ module _ (w : Forwarder) (L : History) (port : ℕ) (f : eth.Eth) (x : capsule.F
       let is = (bound_is w L f.src i.binding).1 i.bound_ in
       let on : is_on port (bound w L f.src) ≡ true = ap (is_on port) is ∙ grind (arith, nat_tests, i.port_) in
       let own : is_of x.frame.head.s_id (bound w L f.src) ≡ true = ap (is_of x.frame.head.s_id) is ∙ grind (arith, nat_tests, i.address) in
-      unfour _ _ _ _ (is_wrong_vlan w f false) (not (same_bytes f.dst w.mac)) (not (is_on port (bound w L f.src))) (not (is_of x.frame.head.s_id (bound w L f.src)))
+      unfour _ _ _ _ (is_wrong_vlan w.vlan f false) (not (same_bytes f.dst w.mac)) (not (is_on port (bound w L f.src))) (not (is_of x.frame.head.s_id (bound w L f.src)))
       (is_vlan w f i.vlan) (not_is _ (is_same f.dst w.mac i.forwarder)) (not_is _ on) (not_is _ own)
 
 abbrev pub read_as : capsule.Fcoe → Result capsule.Fcoe FcoeFault

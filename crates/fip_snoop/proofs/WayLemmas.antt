@@ -8,12 +8,12 @@ use Rattle.eth_frames.specs.Ethernet as eth
 use Rattle.fcoe_codec.specs.Fcoe as capsule
 use Rattle.fcoe_codec.specs.declared.FcoeFault.{FcoeFault}
 use Rattle.heard_frames.specs.Heard.{What, Bad, Fip, Fcoe, decoded}
-use Rattle.heard_frames.specs.Rows.{first_row}
+use Rattle.heard_frames.specs.Rows.{first_row, is_wrong_vlan}
 use Rattle.fip_snoop.specs.Bridge.{leads_to}
 use Rattle.fip_snoop.specs.History.{Handled, History, shown, shows, home, or_else, bound, has_moved}
 use Rattle.fip_snoop.specs.Laws.{ShowsHome, NoneShows, IsHome, HomeIs, ENodesAreApart, IsToLogin, DataGoesDown}
 use Rattle.fip_snoop.specs.Messages.{is_port_alive}
-use Rattle.fip_snoop.specs.Ways.{FORWARDER_PORT, is_wrong_vlan, drops, down_rows, down_to, up_rows, up_data_rows, down_data_rows, down_data_to, way_of, way_by}
+use Rattle.fip_snoop.specs.Ways.{FORWARDER_PORT, drops, down_rows, down_to, up_rows, up_data_rows, down_data_rows, down_data_to, way_of, way_by}
 use Rattle.fip_snoop.specs.declared.bindings.Binding.{Binding}
 use Rattle.fip_snoop.specs.declared.forwarder.Forwarder.{Forwarder}
 use Rattle.fip_snoop.specs.declared.way.SnoopRule.{SnoopRule}
@@ -32,7 +32,7 @@ shown_is mac h port e = by_what (decoded h.caught) refl h.way refl e
     some_is p q e = cc
 
     by_what : (what : What) → decoded h.caught ≡ what → (way : Way) → h.way ≡ way → shown mac h.port what way ≡ Some port → ShowsHome mac h × (h.port ≡ port)
-    by_what (Bad cause) is way goes e = absurd (cc)
+    by_what (Bad fault) is way goes e = absurd (cc)
     by_what (Fcoe f read) is way goes e = absurd (cc)
     by_what (Fip f m) is (Down q) goes e = absurd (cc)
     by_what (Fip f m) is All goes e = absurd (cc)
@@ -100,7 +100,7 @@ enodes_are_apart w L port caught q differ e = by_what (decoded caught) e
     not_there = grind (arith, nat_tests)
 
     by_what : (what : What) → leads_to q (way_by w (home L) (bound w L) (has_moved w L port) port what) ≡ true → q ≡ FORWARDER_PORT
-    by_what (Bad cause) e = absurd (false≢true e)
+    by_what (Bad fault) e = absurd (false≢true e)
     by_what (Fcoe f (Err fault)) e = absurd (false≢true e)
     by_what (Fcoe f (Ok x)) e =
         up_alone (up_data_rows w port f x (bound w L f.src)) q

@@ -4,9 +4,9 @@ use Rattle.std.specs.Prelude.{ℕ, Bool, true, false, not, ◌==◌, ◌&&◌, �
 use Rattle.fab_base.specs.declared.values.Caught.{Caught}
 use Rattle.fab_config.specs.Settings.{same_bytes}
 use Rattle.heard_frames.specs.Heard.{What, Bad, Fip, Fcoe, decoded}
-use Rattle.heard_frames.specs.Rows.{first_row, ALL_FCFS, ALL_ENODES}
-use Rattle.fab_policy.specs.declared.verdict.Rule.{Rule}
-use Rattle.fab_policy.specs.declared.verdict.Rule.TheVariants as unreadable
+use Rattle.heard_frames.specs.Rows.{first_row, is_wrong_vlan, ALL_FCFS, ALL_ENODES}
+use Rattle.heard_frames.specs.declared.unreadable.Unreadable.{Unreadable}
+use Rattle.heard_frames.specs.declared.unreadable.Unreadable.TheVariants as unreadable
 use Rattle.eth_frames.specs.Ethernet as eth
 use Rattle.fcoe_codec.specs.Fcoe as capsule
 use Rattle.fip_codec.specs.Message as fip
@@ -23,15 +23,11 @@ use Rattle.fip_snoop.specs.declared.way.Way.TheVariants.{Up, Down, All, Dropped}
 -- ---- rows
 
 -- the rule of a frame that can't be read: all faults of FIP are one rule here
-abbrev pub rule_of : Rule → SnoopRule
+abbrev pub rule_of : Unreadable → SnoopRule
 rule_of unreadable.Truncated = rule.Truncated
 rule_of unreadable.EthShort = rule.EthShort
 rule_of unreadable.Ethertype = rule.Ethertype
-rule_of _ = rule.FipFault
-
--- the VLAN isn't the forwarder's, except that a message of VLANs may be untagged
-abbrev pub is_wrong_vlan : Forwarder → eth.Eth → Bool → Bool
-is_wrong_vlan w.vlan f may_be_untagged = not (eth.vlan_of_tag f.tag == w.vlan || (may_be_untagged && eth.vlan_of_tag f.tag == 0))
+rule_of (unreadable.Fip fault) = rule.FipFault
 
 -- the binding is of this port
 abbrev pub is_on : ℕ → Option Binding → Bool
@@ -60,7 +56,7 @@ drops rows way = elim (first_row rows) [ Some r ↦ Dropped r | None ↦ way ]
 abbrev pub is_to_forwarders : Forwarder → List ℕ → Bool
 is_to_forwarders w dst = same_bytes dst w.mac || same_bytes dst ALL_FCFS
 
--- the rows of a message, by what its source MAC is bound to
+-- the rows of a message, by what its source MAC is bound to; a message of VLANs may be untagged
 abbrev pub up_rows : Forwarder → ℕ → eth.Eth → fip.Fip → Option Binding → Bool → List (Bool × SnoopRule)
 up_rows w port f m b moved =
     (is_wrong_vlan w.vlan f (is_of_vlans m), rule.Vlan)
@@ -124,7 +120,7 @@ data_way w bound_of port f x =
 
 -- The way of a decoded frame, by where ENodes are, which MACs are bound, and which ENodes have a binding on another port.
 abbrev pub way_by : Forwarder → (List ℕ → Option ℕ) → (List ℕ → Option Binding) → (List ℕ → Bool) → ℕ → What → Way
-way_by w home_of bound_of moved port (Bad cause) = Dropped (rule_of cause.rule)
+way_by w home_of bound_of moved port (Bad fault) = Dropped (rule_of fault)
 way_by w home_of bound_of moved port (Fcoe f (Err fault)) = Dropped rule.FcoeFault
 way_by w home_of bound_of moved port (Fcoe f (Ok x)) = data_way w bound_of port f x
 way_by w home_of bound_of moved port (Fip f m) =

@@ -2,7 +2,7 @@
 ghost use Rattle.std.specs.Prelude.{◌≡◌, ◌≢◌, true, false};
 ghost use Rattle.fip_snoop.specs.Snoop as kept;
 
-use crate::forwarder::{Forwarder, is_same};
+use crate::forwarder::Forwarder;
 use crate::grant::{Ending, Grant, grant_in, is_ended, may_end, released_in};
 use crate::orders::{
     ByEnode, enode_rank, first_of, forget, has_between, mac_rank, number_from, restore,

@@ -5,7 +5,6 @@ ghost use Rattle.fab_base.specs.Keyed.{item_at};
 ghost use Rattle.fip_snoop.specs.Maps as maps;
 
 use crate::Binding;
-use crate::forwarder::is_same;
 use fab_base::Mac;
 use sorted_lists::{HasRank, mac_number};
 use sorted_trees::SortedTree;
@@ -87,7 +86,7 @@ pub(crate) fn first_of(by_enode: &SortedTree<ByEnode>, enode: &Mac, from: u128) 
     match by_enode.next(from) {
         Some(kept) => {
             let found = kept.binding;
-            if is_same(enode, &found.enode) {
+            if *enode == found.enode {
                 Some(found)
             } else {
                 None

@@ -20,9 +20,8 @@ use crate::way::{SnoopRule, Way};
 use eth_frames::EthFrame;
 use fab_base::{Caught, NoMemory, PortNo};
 use fab_config::Config;
-use fab_policy::Rule;
 use fcoe_codec::FcoeFrame;
-use heard_frames::{What, hear};
+use heard_frames::{Unreadable, What, hear};
 use std::alloc::Global;
 use std::marker::Model;
 
@@ -137,7 +136,7 @@ fn way_for(
         (view what.now) }
 {
     match what {
-        What::Bad { rule, .. } => Way::Dropped(rule_of(*rule)),
+        What::Bad(fault) => Way::Dropped(rule_of(*fault)),
         What::Fip { eth, message } => {
             if port.value() == 1 {
                 down(forwarder, eth, message, homes.at(&eth.dst))
@@ -174,13 +173,13 @@ fn data_way(
 }
 
 // The rule of a frame that can't be read.
-fn rule_of(rule: Rule) -> SnoopRule
-    ensures { result ≡ ways.rule_of rule }
+fn rule_of(fault: Unreadable) -> SnoopRule
+    ensures { result ≡ ways.rule_of fault }
 {
-    match rule {
-        Rule::Truncated => SnoopRule::Truncated,
-        Rule::EthShort => SnoopRule::EthShort,
-        Rule::Ethertype => SnoopRule::Ethertype,
-        _ => SnoopRule::FipFault,
+    match fault {
+        Unreadable::Truncated => SnoopRule::Truncated,
+        Unreadable::EthShort => SnoopRule::EthShort,
+        Unreadable::Ethertype => SnoopRule::Ethertype,
+        Unreadable::Fip(_) => SnoopRule::FipFault,
     }
 }

@@ -9,22 +9,19 @@ use Rattle.fcoe_codec.specs.Fcoe as capsule
 use Rattle.fcoe_codec.specs.declared.FcoeFault.{FcoeFault}
 use Rattle.fip_codec.specs.Message as fip
 use Rattle.fip_codec.specs.Reading as reading
-use Rattle.fip_codec.specs.declared.fault.FipFault.{FipFault}
-use Rattle.fip_codec.specs.declared.fault.FipFault.TheVariants.{Short, Version, Operation, ListLength, DescLength, Critical, Double, Missing}
 use Rattle.fip_codec.specs.declared.message.LoginKind.{LoginKind}
 use Rattle.fip_codec.specs.declared.message.LoginKind.TheVariants.{Flogi, Fdisc, Logo}
 use Rattle.els_messages.specs.Els as els
 use Rattle.ct_messages.specs.Ct as ct
 use Rattle.els_messages.specs.declared.LoginParms.{LoginParms}
-use Rattle.fab_policy.specs.Cause.{Cause}
-use Rattle.fab_policy.specs.declared.verdict.Rule.{Rule}
-use Rattle.fab_policy.specs.declared.verdict.Rule.TheVariants as rule
+use Rattle.heard_frames.specs.declared.unreadable.Unreadable.{Unreadable}
+use Rattle.heard_frames.specs.declared.unreadable.Unreadable.TheVariants as unreadable
 
 -- ---- decoding
 
--- A captured frame is unreadable by a rule, or a FIP message, or a body of FCoE that was read or has a fault.
+-- A captured frame has a fault, or is a FIP message, or a body of FCoE that was read or has a fault of its own.
 pub data What : Type 0 where
-  Bad : (cause : Cause) → What
+  Bad : (fault : Unreadable) → What
   Fip : (frame : eth.Eth) (message : fip.Fip) → What
   Fcoe : (frame : eth.Eth) (read : Result capsule.Fcoe FcoeFault) → What
 
@@ -34,40 +31,22 @@ FCOE = 0x8906
 abbrev pub FIP : ℕ
 FIP = 0x8914
 
--- a rule without a number, and with one
-abbrev pub plain : Rule → Cause
-plain r = record { rule = r; number = None }
-
-abbrev pub numbered : Rule → ℕ → Cause
-numbered r n = record { rule = r; number = Some n }
-
--- the rule of a fault of a FIP body, with the place or the kind that it names
-abbrev pub cause_of : FipFault → Cause
-cause_of Short = plain rule.FipShort
-cause_of Version = plain rule.FipVersion
-cause_of Operation = plain rule.FipOperation
-cause_of ListLength = plain rule.FipList
-cause_of (DescLength at) = numbered rule.FipLength at
-cause_of (Critical at kind) = numbered rule.FipCritical at
-cause_of (Double at) = numbered rule.FipDouble at
-cause_of (Missing kind) = numbered rule.FipMissing kind
-
 abbrev pub fip_in : eth.Eth → What
-fip_in f = elim (reading.decoded f.body) [ Err fault ↦ Bad (cause_of fault) | Ok message ↦ Fip f message ]
+fip_in f = elim (reading.decoded f.body) [ Err fault ↦ Bad (unreadable.Fip fault) | Ok message ↦ Fip f message ]
 
 abbrev pub frame_in : eth.Eth → What
 frame_in f =
     elim (f.kind == FIP) [
       | true ↦ fip_in f
-      | false ↦ elim (f.kind == FCOE) [ true ↦ Fcoe f (capsule.decoded f.body) | false ↦ Bad (plain rule.Ethertype) ]
+      | false ↦ elim (f.kind == FCOE) [ true ↦ Fcoe f (capsule.decoded f.body) | false ↦ Bad unreadable.Ethertype ]
     ]
 
--- The decoding of a captured frame: the first rule that makes it unreadable, or its message or body.
+-- The decoding of a captured frame: its first fault, or its message or body.
 unfoldable pub decoded : Caught → What
 decoded caught =
     elim caught.whole [
-      | false ↦ Bad (plain rule.Truncated)
-      | true ↦ elim (eth.decoded caught.bytes) [ Err fault ↦ Bad (plain rule.EthShort) | Ok f ↦ frame_in f ]
+      | false ↦ Bad unreadable.Truncated
+      | true ↦ elim (eth.decoded caught.bytes) [ Err fault ↦ Bad unreadable.EthShort | Ok f ↦ frame_in f ]
     ]
 
 -- ---- parts of a frame

@@ -1,26 +1,22 @@
 //! A captured frame and what it is (IEEE 802.3, IEEE 802.1Q; FC-BB-5).
-ghost use Rattle.std.specs.Prelude.{◌≡◌, nat_lt, false};
+ghost use Rattle.std.specs.Prelude.{◌≡◌, nat_lt};
 ghost use Rattle.std.specs.List.{AllPass};
 ghost use Rattle.eth_frames.specs.Ethernet.{view as eth_view};
-ghost use Rattle.fab_policy.specs.Cause.{is_numbered, cause_of, plain};
 ghost use Rattle.heard_frames.specs.View.{view};
 ghost use Rattle.heard_frames.specs.Heard as spec;
-ghost use Rattle.heard_frames.specs.Heard.{decoded, frame_in, Bad};
+ghost use Rattle.heard_frames.specs.Heard.{decoded, frame_in};
 
-use crate::Rule;
+use crate::Unreadable;
 use eth_frames::{EthFrame, FCOE, FIP, read_eth};
 use fab_base::Caught;
 use fcoe_codec::{FcoeFault, FcoeFrame, read_fcoe};
-use fip_codec::{FipFault, FipMessage, read_fip};
+use fip_codec::{FipMessage, read_fip};
 
 /// A frame as it was decoded.
 #[derive(Debug, Drop)]
 pub enum What<'a> {
-    /// It can't be read, by this rule; `at` is its number, and 0 for a rule without one.
-    Bad {
-        rule: Rule,
-        at: u32,
-    },
+    /// It can't be read, for this fault.
+    Bad(Unreadable),
     /// A message of FIP.
     Fip {
         eth: EthFrame<'a>,
@@ -57,11 +53,11 @@ fn what_of(caught: &Caught) -> What<'_>
 {
     let bytes = caught.bytes.view();
     if !caught.whole {
-        return unreadable(Rule::Truncated);
+        return What::Bad(Unreadable::Truncated);
     }
     match read_eth(bytes) {
         Ok(eth) => what_in(&eth),
-        Err(_) => unreadable(Rule::EthShort),
+        Err(_) => What::Bad(Unreadable::EthShort),
     }
 }
 
@@ -79,7 +75,7 @@ fn what_in<'a>(eth: &EthFrame<'a>) -> What<'a>
             read,
         };
     }
-    unreadable(Rule::Ethertype)
+    What::Bad(Unreadable::Ethertype)
 }
 
 fn fip_in<'a>(eth: &EthFrame<'a>) -> What<'a>
@@ -90,44 +86,8 @@ fn fip_in<'a>(eth: &EthFrame<'a>) -> What<'a>
             eth: same_frame(eth),
             message,
         },
-        Err(fault) => faulty(fault),
+        Err(fault) => What::Bad(Unreadable::Fip(fault)),
     }
-}
-
-// A frame whose FIP body has this fault.
-fn faulty<'a>(fault: FipFault) -> What<'a>
-    ensures { view result ≡ Bad (cause_of fault) }
-{
-    match fault {
-        FipFault::Short => unreadable(Rule::FipShort),
-        FipFault::Version => unreadable(Rule::FipVersion),
-        FipFault::Operation => unreadable(Rule::FipOperation),
-        FipFault::ListLength => unreadable(Rule::FipList),
-        FipFault::DescLength { at } => What::Bad {
-            rule: Rule::FipLength,
-            at,
-        },
-        FipFault::Critical { at, .. } => What::Bad {
-            rule: Rule::FipCritical,
-            at,
-        },
-        FipFault::Double { at } => What::Bad {
-            rule: Rule::FipDouble,
-            at,
-        },
-        FipFault::Missing { kind } => What::Bad {
-            rule: Rule::FipMissing,
-            at: u32::from(kind),
-        },
-    }
-}
-
-// A frame that can't be read, by a rule without a number.
-fn unreadable<'a>(rule: Rule) -> What<'a>
-    requires { is_numbered rule ≡ false }
-    ensures { view result ≡ Bad (plain rule) }
-{
-    What::Bad { rule, at: 0 }
 }
 
 // The frame again, part by part.

@@ -1,14 +1,10 @@
 use Rattle.std.proofs.Common.{Some, ap, sym, ◌∙◌}
 use Rattle.fab_policy.specs.Rules as rules
 use Rattle.heard_frames.specs.View.{view}
-use Rattle.fab_policy.proofs.FrameRuleLemmas.{place_is}
 use Rattle.fab_policy.proofs.frame_rules.frame_rule.Goals as goal
 
-pub cause_at-requires : goal.cause_at-requires
-cause_at-requires c = place_is c.args.heard.now.caught.now c.in-Bad.rule c.in-Bad.at (ap view (sym c.in-Bad.is) ∙ c.args.heard.now.decoded)
-
 pub returns-in-Bad : goal.returns-in-Bad
-returns-in-Bad c = ap Some c.cause_at.ensures ∙ ap (rules.frame_rule c.args.config.now) (ap view (sym c.in-Bad.is) ∙ c.args.heard.now.decoded)
+returns-in-Bad c = ap Some c.cause_of_unreadable.ensures ∙ ap (rules.frame_rule c.args.config.now) (ap view (sym c.in-Bad.is) ∙ c.args.heard.now.decoded)
 
 pub returns-in-Fip : goal.returns-in-Fip
 returns-in-Fip c = c.fip_rule.ensures ∙ ap (rules.frame_rule c.args.config.now) (ap view (sym c.in-Fip.is) ∙ c.args.heard.now.decoded)
