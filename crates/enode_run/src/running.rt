@@ -1,10 +1,11 @@
 //! A node over files.
 ghost use Rattle.std.specs.Prelude.{◌≡◌, ◌≤◌, ◌<◌, ◌^◌, IsTrue, length};
-ghost use Rattle.fab_base.specs.Ending.{KeepsBut};
+ghost use Rattle.fab_base.specs.Ending.{Uses, end_by};
+ghost use Rattle.fab_base.specs.Seen.{Only};
 ghost use Rattle.enode_core.specs.Laws.{IsTyped};
 ghost use Rattle.enode_core.specs.Phases.{phase_of};
 ghost use Rattle.enode_run.specs.Files.{RunsNode, node_task};
-ghost use Rattle.run_files.specs.Faults.{TellsReads, TellsWrites};
+ghost use Rattle.run_files.specs.Faults.{run_end};
 
 use crate::course::{Course, play};
 use crate::input::read_input;
@@ -34,10 +35,9 @@ pub fn run_node<D: Depot>(
     requires start { start ≤ 4294967295999 }
     ensures plays { RunsNode (node_task own start from.now to.now budget) (D.seen depot.old)
         (D.seen depot.new) result }
-    ensures others { KeepsBut to.now (D.seen depot.old) (D.seen depot.new) }
-    // No other answer, want of memory neither, hides a fault of the store.
-    ensures reads { TellsReads (D.seen depot.old) (D.seen depot.new) result }
-    ensures writes { TellsWrites (D.seen depot.old) (D.seen depot.new) result }
+    // No other file changes. No other answer, want of memory neither, hides a fault of the store.
+    ensures uses { Uses (Only from.now) (Only to.now) (end_by run_end result)
+        (D.seen depot.old) (D.seen depot.new) }
 {
     // For the proof: the MAC and the names of the identity are in their ranges.
     know(&own);

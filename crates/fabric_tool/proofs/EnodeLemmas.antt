@@ -3,8 +3,8 @@ use Rattle.std.proofs.Common.{◌≡◌, ℕ, List, ◌++◌, length, ◌⊎◌,
 use Rattle.std.proofs.lemmas.List.{take_all}
 use Rattle.std.specs.Prelude.{Result}
 use Rattle.std.specs.Str.{bytes_eq}
-use Rattle.fab_base.specs.Ending.{KeepsBut}
-use Rattle.fab_base.specs.Seen.{Seen}
+use Rattle.fab_base.specs.Ending.{end_by, Uses}
+use Rattle.fab_base.specs.Seen.{Seen, Only}
 use Rattle.fab_base.specs.Sunk.{Sunk}
 use Rattle.pcap_file.specs.declared.Record.{Record}
 use Rattle.pcap_file.specs.declared.fault.GatherFault.{GatherFault}
@@ -15,7 +15,7 @@ use Rattle.enode_core.specs.Runs.{Input, IsRun, stands, all_sent}
 use Rattle.enode_run.specs.Course.{capture}
 use Rattle.enode_core.proofs.RunLemmas.{runs_are_one}
 use Rattle.enode_run.specs.Files.{IsUntaken, Same, Front, RunsNode, node_task, taken_by}
-use Rattle.run_files.specs.Faults.{fault_from, TellsReads, TellsWrites}
+use Rattle.run_files.specs.Faults.{fault_from, run_end}
 use Rattle.run_files.specs.declared.fault.RunFault.{RunFault}
 use Rattle.run_files.specs.declared.fault.RunFault.TheVariants as faults
 use Rattle.fabric_tool.specs.Command.{EnodeNames, Enode, KeepsOthers}
@@ -132,21 +132,22 @@ enode_laws k = record {
 
 -- ---- the call
 
-module _ (k : EnodeNames) (a b : Seen) (others : KeepsBut k.to a b) where
-  keeps : KeepsOthers (Enode k) a b
-  keeps m none = others m (λ e. differs k.to m (or_false (bytes_eq k.to m) _ none).0 (sym e))
+module _ (k : EnodeNames) (a b : Seen) where
+  keeps : ((m : List ℕ) → ¬ Only k.to m → b.file m ≡ a.file m) → KeepsOthers (Enode k) a b
+  keeps others m none = others m (λ e. differs k.to m (or_false (bytes_eq k.to m) _ none).0 (sym e))
 
-  ran : (r : Result Phase RunFault) → RunsNode (task_of k) a b r → TellsReads a b r → TellsWrites a b r → EnodeHolds k a b (stood_by r)
-  ran (Ok last) runs reads writes = (keeps, runs, (reads (λ is. cc), writes (λ is. cc)))
-  ran (Err (faults.Capture port at why)) runs reads writes = (runs.0, runs.1, (reads (λ is. cc), writes (λ is. cc)))
-  ran (Err (faults.Limit kind)) runs reads writes = (runs.0, runs.1, (reads (λ is. cc), writes (λ is. cc)))
-  ran (Err faults.Read) runs reads writes = (runs.0, inl runs.1, λ told. tt, writes (λ is. cc))
-  ran (Err faults.Write) runs reads writes = (keeps, inl runs.0, runs.1, reads (λ is. cc))
-  ran (Err faults.Memory) runs reads writes = (runs, λ told. tt, (reads (λ is. cc), writes (λ is. cc)))
+  ran : (r : Result Phase RunFault) → RunsNode (task_of k) a b r → Uses (Only k.from) (Only k.to) (end_by run_end r) a b → EnodeHolds k a b (stood_by r)
+  ran (Ok last) runs u = (keeps u.touches.files, runs, u.counts)
+  ran (Err (faults.Capture port at why)) runs u = (runs.0, runs.1, u.counts)
+  ran (Err (faults.Limit kind)) runs u = (runs.0, runs.1, u.counts)
+  ran (Err faults.Read) runs u = (runs.0, inl runs.1, λ told. tt, u.counts.1)
+  ran (Err faults.Write) runs u = (keeps u.touches.files, inl runs.0, runs.1, u.counts.1)
+  ran (Err faults.Memory) runs u = (runs, λ told. tt, u.counts)
 
 -- the files that words name
 pub ran_as : (from to : List ℕ) (k : EnodeNames) (a b : Seen) (r : Result Phase RunFault) (o : Outcome) → from ≡ k.from → to ≡ k.to →
-    RunsNode (node_task k.own k.start from to LIMITS) a b r → KeepsBut to a b → TellsReads a b r → TellsWrites a b r → o ≡ stood_by r → EnodeHolds k a b o
-ran_as from to k a b r o from_is to_is runs others reads writes is =
+    RunsNode (node_task k.own k.start from to LIMITS) a b r → Uses (Only from) (Only to) (end_by run_end r) a b → o ≡ stood_by r → EnodeHolds k a b o
+ran_as from to k a b r o from_is to_is runs uses is =
     let there = subst (λ l. RunsNode (node_task k.own k.start k.from l LIMITS) a b r) to_is (subst (λ l. RunsNode (node_task k.own k.start l to LIMITS) a b r) from_is runs) in
-    subst (EnodeHolds k a b) (sym is) (ran k a b (subst (λ l. KeepsBut l a b) to_is others) r there reads writes)
+    let used = subst (λ l. Uses (Only k.from) (Only l) (end_by run_end r) a b) to_is (subst (λ l. Uses (Only l) (Only to) (end_by run_end r) a b) from_is uses) in
+    subst (EnodeHolds k a b) (sym is) (ran k a b r there used)

@@ -2,7 +2,7 @@
 use Rattle.std.proofs.Common.{◌≡◌, ◌≢◌, ℕ, List, ◌++◌, [], ◌∷◌, length, ◌⊎◌, Ok, Err, IsTrue, refl, sym, ap, ◌∙◌, subst, arith, inl, inr}
 use Rattle.std.specs.Prelude.{Result, String, map}
 use Rattle.std.specs.declared.alloc.Global.{Global}
-use Rattle.fab_base.specs.Ending.{NoFaults}
+use Rattle.fab_base.specs.Ending.{end_by, NoFaults, SparesReads, SparesWrites}
 use Rattle.fab_base.specs.Seen.{Seen, SameFiles, SameReadFaults, SameWriteFaults, Touches, Nothing, Only}
 use Rattle.fab_base.specs.Sunk.{Sunk}
 use Rattle.fab_base.proofs.SeenLemmas.{reads_touches}
@@ -21,7 +21,7 @@ use Rattle.snoop_run.specs.Sides.{ins_of, outs_of}
 use Rattle.snoop_run.specs.declared.run.Crossed.{Crossed}
 use Rattle.snoop_run.proofs.RunLemmas.{fronts_since}
 use Rattle.fabric_tool.specs.Command.{SnoopNames, Snoop, KeepsOthers}
-use Rattle.run_files.specs.Faults.{fault_from, TellsReads, TellsWrites}
+use Rattle.run_files.specs.Faults.{fault_from, run_end}
 use Rattle.run_files.specs.declared.fault.RunFault.{RunFault}
 use Rattle.run_files.specs.declared.fault.RunFault.TheVariants as faults
 use Rattle.fabric_tool.specs.Ends.{TakesMemory}
@@ -242,10 +242,10 @@ module _ (k : SnoopNames) (c : Settings) (a b z : Seen) (config : ConfigRead k.c
       none : SameReadFaults b z → SameWriteFaults b z → NoFaults a z
       none reads writes = none_then a b z counted (reads, writes)
 
-      go : (r : Result Crossed RunFault) → Ends k.ins k.outs LIMITS c b z r → TellsReads b z r → TellsWrites b z r → SnoopHolds k a z (crossed_by r)
-      go (Ok done) e reads writes = (others, λ told. bridged_since done (e (told_b told)) told, none (reads (λ is. cc)) (writes (λ is. cc)))
-      go (Err (faults.Capture port at why)) e reads writes = ((λ m. e.0 m ∙ same m), λ told. stopped_since (gather.Capture port at why) (e.1 (told_b told)) told, none (reads (λ is. cc)) (writes (λ is. cc)))
-      go (Err (faults.Limit kind)) e reads writes = ((λ m. e.0 m ∙ same m), λ told. stopped_since (gather.Limit kind) (e.1 (told_b told)) told, none (reads (λ is. cc)) (writes (λ is. cc)))
-      go (Err faults.Read) e reads writes = ((λ m. e.0 m ∙ same m), inr (rose_since a.read_faults b.read_faults z.read_faults touched.reads_rise k.ins e.1), λ told. tt, λ m. writes (λ is. cc) m ∙ counted.1 m)
-      go (Err faults.Write) e reads writes = (others, rose_since a.write_faults b.write_faults z.write_faults touched.writes_rise k.outs e.0, λ told. front_since (e.1 (told_b told)) told, λ m. reads (λ is. cc) m ∙ counted.0 m)
-      go (Err faults.Memory) e reads writes = (others, λ told. elim (e (told_b told)) [ inl still ↦ inl (λ m. still m ∙ same m) | inr front ↦ inr (front_since front told) ], none (reads (λ is. cc)) (writes (λ is. cc)))
+      go : (r : Result Crossed RunFault) → Ends k.ins k.outs LIMITS c b z r → SparesReads (end_by run_end r) b z → SparesWrites (end_by run_end r) b z → SnoopHolds k a z (crossed_by r)
+      go (Ok done) e reads writes = (others, λ told. bridged_since done (e (told_b told)) told, none reads writes)
+      go (Err (faults.Capture port at why)) e reads writes = ((λ m. e.0 m ∙ same m), λ told. stopped_since (gather.Capture port at why) (e.1 (told_b told)) told, none reads writes)
+      go (Err (faults.Limit kind)) e reads writes = ((λ m. e.0 m ∙ same m), λ told. stopped_since (gather.Limit kind) (e.1 (told_b told)) told, none reads writes)
+      go (Err faults.Read) e reads writes = ((λ m. e.0 m ∙ same m), inr (rose_since a.read_faults b.read_faults z.read_faults touched.reads_rise k.ins e.1), λ told. tt, λ m. writes m ∙ counted.1 m)
+      go (Err faults.Write) e reads writes = (others, rose_since a.write_faults b.write_faults z.write_faults touched.writes_rise k.outs e.0, λ told. front_since (e.1 (told_b told)) told, λ m. reads m ∙ counted.0 m)
+      go (Err faults.Memory) e reads writes = (others, λ told. elim (e (told_b told)) [ inl still ↦ inl (λ m. still m ∙ same m) | inr front ↦ inr (front_since front told) ], none reads writes)

@@ -3,8 +3,11 @@ use Rattle.std.proofs.Common.{◌≡◌, ℕ, zero, suc, ◌+◌, ◌-◌, ◌^�
 use Rattle.std.specs.Prelude.{Result, IsErrOf, IfOk, IfErr}
 use Rattle.std.proofs.lemmas.Bool.{le-ltb, lt-ltb}
 use Rattle.pcap_file.proofs.lemmas.Numbers.{le_or_lt}
-use Rattle.fab_base.specs.Seen.{Seen, Reads, Rose}
+use Rattle.fab_base.specs.Ending as ending
+use Rattle.fab_base.specs.Ending.{CountsRead, Uses, end_by}
+use Rattle.fab_base.specs.Seen.{Seen, Reads, Rose, Nothing, Only}
 use Rattle.fab_base.specs.declared.values.Caught.{Caught}
+use Rattle.fab_base.proofs.EndingLemmas.{uses_read, uses_then}
 use Rattle.fab_base.proofs.SeenLemmas.{reads_refl, reads_trans, input_stays, input_name, told_stays, rose_later}
 use Rattle.pcap_file.specs.declared.Budget.{Budget}
 use Rattle.pcap_file.specs.declared.CaptureHead.{CaptureHead}
@@ -22,8 +25,7 @@ use Rattle.pcap_file.proofs.lemmas.Chains.{found_stands, last-push, ascends-push
 use Rattle.pcap_file.specs.declared.fault.LimitKind.TheVariants as limit
 use Rattle.pcap_file.specs.declared.fault.GatherFault.{GatherFault}
 use Rattle.pcap_file.specs.declared.fault.GatherFault.TheVariants as faults
-use Rattle.pcap_file.specs.Faults.{fault_by, open_fault_by, IsStopped, TellsReads}
-use Rattle.pcap_file.proofs.lemmas.Faults.{read_of, spared}
+use Rattle.pcap_file.specs.Faults.{fault_by, open_fault_by, gather_end, IsStopped}
 use Rattle.pcap_file.specs.Captures.{Taken, unless_stopped, without_head, without_record, body_by, capture_by, with_record, by_step, records_by, AreFit, in_front, to_take, ReadsCapture, ReadsRecords, SoFar}
 
 in_front_none : (t : Result Taken GatherFault) → in_front [] t ≡ t
@@ -49,9 +51,6 @@ stops_by step rest errors.Bytes port says stopped = says
 stops_by step rest errors.Frames port says stopped = says
 stops_by step rest (errors.Read failed) port says stopped = absurd stopped
 stops_by step rest errors.Memory port says stopped = absurd stopped
-
-is_read : (x : GatherFault) → IsErrOf {T = List Record} (Err x) faults.Read → x ≡ faults.Read
-is_read x e = cc
 
 module _ (port slot : ℕ) (a : Seen) (r : Reading) (had : Budget) where
   pub so_far_none : IsTrue (a.input slot) → r.kept ≡ None → r.at + had.bytes < 2 ^ 64 → SoFar port slot (reader_stand a r had) (reader_stand a r had) []
@@ -141,7 +140,7 @@ module _ (port slot : ℕ) (a : Seen) (r : Reading) (had : Budget) where
 
     pub so_far_ended : NextReads slot (reader_stand b s left) (reader_stand c t now) (Ok None) → ReadsRecords port slot (reader_stand a r had) (reader_stand c t now) (Ok records)
     so_far_ended n = record {
-      reads = reads_c n;
+      uses = uses_read (a.name slot) ending.Said a c (reads_c n) (λ m. n.counts m ∙ f.counts m, (reads_c n).writes);
       fit = (f.fit, f.ascends);
       frames = ap (λ (z : Budget). z.frames + length records) n.taken.budget ∙ f.frames;
       limits = no_more n.taken.budget;
@@ -150,13 +149,19 @@ module _ (port slot : ℕ) (a : Seen) (r : Reading) (had : Budget) where
           let end = last_step Ends (n.says (told_b told) f.fresh).0 (to_take m port slot (reader_stand a r had)) h.0 h.1 h.2 in
           end.1 ∙ ap (λ rs. Ok (record { records = rs; left = left })) (append-nil records) ∙ ap (λ z. Ok (record { records = records; left = z })) (sym n.taken.budget);
       stops = λ told m less. tt;
-      cause = λ e. absurd (cc);
-      counts = λ other m. n.counts m ∙ f.counts m;
     }
+
+    failed_counts : (e : CapError) → NextReads slot (reader_stand b s left) (reader_stand c t now) (Err e) → CountsRead (a.name slot) (gather_end (fault_by e port)) a c
+    failed_counts (errors.Cut at) n = (λ m. n.counts m ∙ f.counts m, (reads_c n).writes)
+    failed_counts (errors.TooLong at len) n = (λ m. n.counts m ∙ f.counts m, (reads_c n).writes)
+    failed_counts errors.Bytes n = (λ m. n.counts m ∙ f.counts m, (reads_c n).writes)
+    failed_counts errors.Frames n = (λ m. n.counts m ∙ f.counts m, (reads_c n).writes)
+    failed_counts (errors.Read failed) n = (rose_later _ _ _ f.reads.keeps.reads_rise (subst (λ m. Rose (b.read_faults m) (c.read_faults m)) f.name (n.cause f.fresh failed refl)), (reads_c n).writes)
+    failed_counts errors.Memory n = (λ m. n.counts m ∙ f.counts m, (reads_c n).writes)
 
     pub so_far_failed : (e : CapError) → NextReads slot (reader_stand b s left) (reader_stand c t now) (Err e) → ReadsRecords port slot (reader_stand a r had) (reader_stand c t now) (Err (fault_by e port))
     so_far_failed e n = record {
-      reads = reads_c n;
+      uses = uses_read (a.name slot) (gather_end (fault_by e port)) a c (reads_c n) (failed_counts e n);
       fit = tt;
       frames = tt;
       limits = no_more n.kept.budget;
@@ -164,12 +169,6 @@ module _ (port slot : ℕ) (a : Seen) (r : Reading) (had : Budget) where
       stops = λ told m less stopped.
           let h = f.taken told m less in
           (last_step (Stops e) (stops_by step_b (to_come t c slot) e port (n.says (told_b told) f.fresh) stopped) (to_take m port slot (reader_stand a r had)) h.0 h.1 h.2).1;
-      cause = λ is.
-          let failed = read_of port e (is_read (fault_by e port) is) in
-          let rose = n.cause f.fresh failed.0 (ap Err failed.1) in
-          rose_later (a.read_faults (a.name slot)) (b.read_faults (a.name slot)) (c.read_faults (a.name slot)) f.reads.keeps.reads_rise
-          (subst (λ m. Rose (b.read_faults m) (c.read_faults m)) f.name rose);
-      counts = λ other m. spared port e b c n.counts (λ same. other (ap Err same)) m ∙ f.counts m;
     }
 
 -- ---- with the head
@@ -201,15 +200,12 @@ module _ (port slot : ℕ) (a b : Seen) (had left : Budget) (input : IsTrue (a.i
   whole_read c r r' now result o k =
       let name = input_name (a.name slot) a b o.reads.keeps slot input in
       record {
-        reads = reads_trans (a.name slot) a b c o.reads (subst (λ m. Reads m b c) name k.reads);
+        uses = uses_then (Only (a.name slot)) Nothing (end_by gather_end result) a b c (uses_read (a.name slot) ending.Said a b o.reads (o.counts, o.reads.writes)) (subst (λ m. Uses (Only m) Nothing (end_by gather_end result) b c) name k.uses);
         fit = subst (λ g. IfOk result (λ rs. AreFit rs × Ascends g rs)) o.begins.1 k.fit;
         frames = subst (λ (n : ℕ). IfOk result (λ rs. now.frames + length rs ≡ n)) o.taken.1 k.frames;
         limits = (omega (arith, k.limits.0, o.taken.0), omega (arith, k.limits.1, o.taken.1));
         taken = λ told. taken_as result (whole_is r o told) (k.taken (told_stays (a.name slot) a b o.reads.keeps told) (suc (length (a.left slot))) (whole_less r o told));
         stops = λ told. stops_as result (whole_is r o told) (k.stops (told_stays (a.name slot) a b o.reads.keeps told) (suc (length (a.left slot))) (whole_less r o told));
-        cause = λ e. rose_later (a.read_faults (a.name slot)) (b.read_faults (a.name slot)) (c.read_faults (a.name slot)) o.reads.keeps.reads_rise
-            (subst (λ m. Rose (b.read_faults m) (c.read_faults m)) name (k.cause e));
-        counts = λ other m. k.counts other m ∙ o.counts m;
       }
     where
       taken_as : {x y : Result Taken GatherFault} (result : Result (List Record) GatherFault) → x ≡ y → IfOk result (λ rs. y ≡ Ok (record { records = rs; left = now })) → IfOk result (λ rs. x ≡ Ok (record { records = rs; left = now }))
@@ -236,22 +232,15 @@ module _ (port slot : ℕ) (a b : Seen) (had left : Budget) (input : IsTrue (a.i
 
   pub whole_refused : (e : CapOpen) → OpensReader slot a b had left (Err e) → ReadsCapture port slot a b had left (Err (open_fault_by e port))
   whole_refused e o = record {
-    reads = o.reads;
+    uses = uses_read (a.name slot) (gather_end (open_fault_by e port)) a b o.reads (refused_counts e o);
     fit = tt;
     frames = tt;
     limits = (omega (arith, ap (λ (z : Budget). z.bytes) o.untouched), omega (arith, ap (λ (z : Budget). z.frames) o.untouched));
     taken = λ told. tt;
     stops = λ told stopped. not_opened e o told stopped;
-    cause = λ is. caused e o is;
-    counts = spared_by e o;
   }
     where
-      spared_by : (e : CapOpen) → OpensReader slot a b had left (Err e) → TellsReads {T = List Record} a b (Err (open_fault_by e port))
-      spared_by (opens.Head fault) o other = o.counts
-      spared_by (opens.Read failed) o other = absurd (other refl)
-      spared_by opens.Bytes o other = o.counts
-
-      caused : (e : CapOpen) → OpensReader slot a b had left (Err e) → IsErrOf {T = List Record} (Err (open_fault_by e port)) faults.Read → Rose (a.read_faults (a.name slot)) (b.read_faults (a.name slot))
-      caused (opens.Head fault) o is = absurd (cc)
-      caused (opens.Read failed) o is = o.refused
-      caused opens.Bytes o is = absurd (cc)
+      refused_counts : (e : CapOpen) → OpensReader slot a b had left (Err e) → CountsRead (a.name slot) (gather_end (open_fault_by e port)) a b
+      refused_counts (opens.Head fault) o = (o.counts, o.reads.writes)
+      refused_counts (opens.Read failed) o = (o.refused, o.reads.writes)
+      refused_counts opens.Bytes o = (o.counts, o.reads.writes)

@@ -1,6 +1,7 @@
 -- What is read of captures: all of each, port by port, with one budget of bytes and frames.
-use Rattle.std.specs.Prelude.{◌≡◌, ℕ, zero, suc, ◌+◌, ◌-◌, ◌<◌, ◌≤◌, ◌^◌, IsTrue, nat_lt, if◌then◌else◌, List, [], ◌∷◌, ◌++◌, length, drop, Option, Some, None, Result, Ok, Err, IfOk, IfErr, IsErrOf}
-use Rattle.fab_base.specs.Seen.{Seen, Reads, Rose, SameReadFaults}
+use Rattle.std.specs.Prelude.{◌≡◌, ℕ, zero, suc, ◌+◌, ◌-◌, ◌<◌, ◌≤◌, ◌^◌, IsTrue, nat_lt, if◌then◌else◌, List, [], ◌∷◌, ◌++◌, length, drop, Option, Some, None, Result, Ok, Err, IfOk, IfErr}
+use Rattle.fab_base.specs.Ending.{end_by, Uses}
+use Rattle.fab_base.specs.Seen.{Seen, Reads, Nothing, Only, SameReadFaults}
 use Rattle.fab_base.specs.declared.values.Caught.{Caught}
 use Rattle.pcap_file.specs.declared.Budget.{Budget}
 use Rattle.pcap_file.specs.declared.CaptureHead.{CaptureHead}
@@ -12,7 +13,7 @@ use Rattle.pcap_file.specs.Records.{Ascends, last_moment}
 use Rattle.pcap_file.specs.declared.fault.LimitKind.TheVariants as limit
 use Rattle.pcap_file.specs.declared.fault.GatherFault.{GatherFault}
 use Rattle.pcap_file.specs.declared.fault.GatherFault.TheVariants as faults
-use Rattle.pcap_file.specs.Faults.{why_of, fault_by, IsStopped, TellsReads}
+use Rattle.pcap_file.specs.Faults.{why_of, fault_by, gather_end, IsStopped}
 
 -- The records of a capture, and what is left of the budget.
 pub record Taken : Type 0 where
@@ -71,14 +72,12 @@ AreFit (r ∷ records) = (r.moment < 2 ^ 43) × (length r.caught.bytes ≤ 65535
 -- What reading the capture of a port whole does: all of it is as `capture_by` says of the bytes that the slot had to give. However it
 -- ends, no limit grows.
 pub record ReadsCapture (port slot : ℕ) (a b : Seen) (had left : Budget) (result : Result (List Record) GatherFault) : Type 0 where
-  pub reads : Reads (a.name slot) a b
+  pub uses : Uses (Only (a.name slot)) Nothing (end_by gather_end result) a b
   pub fit : IfOk result (λ records. AreFit records × Ascends 0 records)
   pub frames : IfOk result (λ records. left.frames + length records ≡ had.frames)
   pub limits : (left.bytes ≤ had.bytes) × (left.frames ≤ had.frames)
   pub taken : IsTrue a.told → IfOk result (λ records. capture_by port had (a.left slot) ≡ Ok (record { records = records; left = left }))
   pub stops : IsTrue a.told → IfErr result (λ e. IsStopped e → capture_by port had (a.left slot) ≡ Err e)
-  pub cause : IsErrOf result faults.Read → Rose (a.read_faults (a.name slot)) (b.read_faults (a.name slot))
-  pub counts : TellsReads a b result
 
 -- records in front of what a reading takes
 abbrev pub in_front : List Record → Result Taken GatherFault → Result Taken GatherFault
@@ -91,14 +90,12 @@ to_take n port slot s = records_by n port s.reader.head s.reader.at s.reader.gre
 
 -- What reading the records behind a head does, with more than enough steps.
 pub record ReadsRecords (port slot : ℕ) (before after : ReaderStand) (result : Result (List Record) GatherFault) : Type 0 where
-  pub reads : Reads (before.depot.name slot) before.depot after.depot
+  pub uses : Uses (Only (before.depot.name slot)) Nothing (end_by gather_end result) before.depot after.depot
   pub fit : IfOk result (λ records. AreFit records × Ascends before.reader.greatest records)
   pub frames : IfOk result (λ records. after.budget.frames + length records ≡ before.budget.frames)
   pub limits : (after.budget.bytes ≤ before.budget.bytes) × (after.budget.frames ≤ before.budget.frames)
   pub taken : IsTrue before.depot.told → (n : ℕ) → length (to_come before.reader before.depot slot) < n → IfOk result (λ records. to_take n port slot before ≡ Ok (record { records = records; left = after.budget }))
   pub stops : IsTrue before.depot.told → (n : ℕ) → length (to_come before.reader before.depot slot) < n → IfErr result (λ e. IsStopped e → to_take n port slot before ≡ Err e)
-  pub cause : IsErrOf result faults.Read → Rose (before.depot.read_faults (before.depot.name slot)) (after.depot.read_faults (before.depot.name slot))
-  pub counts : TellsReads before.depot after.depot result
 
 -- What stands while they are read: these records were taken.
 pub record SoFar (port slot : ℕ) (begin now : ReaderStand) (records : List Record) : Type 0 where

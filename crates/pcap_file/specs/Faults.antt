@@ -1,6 +1,7 @@
--- How the reading of captures ends early, and which faults of the store its answer tells.
+-- How the reading of captures ends early.
 use Rattle.std.specs.Prelude.{ℕ, Result}
 use Rattle.fab_base.specs.Ending as ending
+use Rattle.fab_base.specs.Ending.{End, IsSaid}
 use Rattle.fab_base.specs.Seen.{Seen}
 use Rattle.pcap_file.specs.declared.CapError.{CapError}
 use Rattle.pcap_file.specs.declared.CapError.TheVariants as errors
@@ -36,12 +37,29 @@ fault_by errors.Frames port = fault.Limit limit.Frames
 fault_by (errors.Read failed) port = fault.Read
 fault_by errors.Memory port = fault.Memory
 
+-- what each of them rests on
+abbrev pub open_end : CapOpen → End
+open_end (opens.Head head) = ending.Said
+open_end (opens.Read failed) = ending.Read
+open_end opens.Bytes = ending.Said
+
+abbrev pub cap_end : CapError → End
+cap_end (errors.Cut at) = ending.Said
+cap_end (errors.TooLong at len) = ending.Said
+cap_end errors.Bytes = ending.Said
+cap_end errors.Frames = ending.Said
+cap_end (errors.Read failed) = ending.Read
+cap_end errors.Memory = ending.Memory
+
+abbrev pub gather_end : GatherFault → End
+gather_end (fault.Capture port at w) = ending.Said
+gather_end (fault.Limit kind) = ending.Said
+gather_end fault.Read = ending.Read
+gather_end fault.Memory = ending.Memory
+
 -- an ending that stands in the captures, and not in the store or in the memory
 abbrev pub IsStopped : GatherFault → Type 0
-IsStopped (fault.Capture port at w) = Unit {0}
-IsStopped (fault.Limit kind) = Unit {0}
-IsStopped fault.Read = ⊥
-IsStopped fault.Memory = ⊥
+IsStopped fault = IsSaid (gather_end fault)
 
 -- Every fault of reading is told: none is counted where the answer isn't `Read`. So want of memory never stands for one.
 abbrev pub TellsReads : {T : Type 0} → Seen → Seen → Result T GatherFault → Type 0

@@ -1,5 +1,6 @@
 -- What a contract sees of a reader, and what its calls answer over a depot.
 use Rattle.std.specs.Prelude.{◌≡◌, ℕ, ◌+◌, ◌-◌, ◌^◌, ◌≤◌, ◌<◌, ◌↔◌, min, IsTrue, nat_lt, ◌==◌, if◌then◌else◌, List, [], ◌++◌, length, take, drop, Option, Some, None, unwrap_or, Result, Ok, Err, IfOk, OnOk, OnErr, IsErrOf, MatchResult, MatchOption}
+use Rattle.fab_base.specs.Ending.{end_by, SparesReads}
 use Rattle.fab_base.specs.Seen.{Seen, Reads, Rose, SameReadFaults}
 use Rattle.fab_base.specs.declared.values.Failed.{Failed}
 use Rattle.fab_base.specs.declared.values.Caught.{Caught}
@@ -11,6 +12,7 @@ use Rattle.pcap_file.specs.declared.CapOpen.{CapOpen}
 use Rattle.pcap_file.specs.declared.CapOpen.TheVariants as opens
 use Rattle.pcap_file.specs.declared.Record.{Record}
 use Rattle.pcap_file.specs.declared.reader.Place.{Place}
+use Rattle.pcap_file.specs.Faults.{cap_end, open_end}
 use Rattle.pcap_file.specs.Capture.{HEAD, RECORD_HEAD, MOST_STORED, Next, Found, End, CutHead, TooLong, CutBytes, next, head_decoded}
 
 -- A reader: the head of its capture, the place of the next record in the file, the greatest moment so far or 0, the error
@@ -113,11 +115,6 @@ pub record KeepsError (before after : Reading) (had left : Budget) (e : CapError
 abbrev pub ReadsRose : ℕ → Seen → Seen → Type 0
 ReadsRose slot old new = Rose (old.read_faults (old.name slot)) (new.read_faults (old.name slot))
 
--- no fault of reading is counted but where one is told
-abbrev pub SparesReads : Seen → Seen → Result (Option Record) CapError → Type 0
-SparesReads old new (Err (errors.Read failed)) = Unit {0}
-SparesReads old new result = SameReadFaults old new
-
 -- Where a reading stands: the depot, the reader, and what is left of the limits.
 pub record ReaderStand : Type 0 where
   pub depot : Seen
@@ -141,18 +138,13 @@ pub record NextReads (slot : ℕ) (before after : ReaderStand) (result : Result 
   pub kept : MatchResult result (λ o. Unit {0}) (λ e. KeepsError before.reader after.reader before.budget after.budget e)
   pub cause : before.reader.kept ≡ None → (f : Failed) → result ≡ Err (errors.Read f) → ReadsRose slot before.depot after.depot
   pub again : (e : CapError) → before.reader.kept ≡ Some e → (result ≡ Err e) × (after.depot ≡ before.depot) × (after.reader ≡ before.reader)
-  pub counts : SparesReads before.depot after.depot result
+  pub counts : SparesReads (end_by cap_end result) before.depot after.depot
 
 -- what an error of opening says
 abbrev pub Refuses : ℕ → Seen → Seen → CapOpen → Type 0
 Refuses slot old new (opens.Head fault) = IsTrue old.told → head_decoded (old.left slot) ≡ Err fault
 Refuses slot old new (opens.Read failed) = ReadsRose slot old new
 Refuses slot old new opens.Bytes = new ≡ old
-
--- no fault of reading is counted but where one is told
-abbrev pub SparesOpening : Seen → Seen → Result Reading CapOpen → Type 0
-SparesOpening old new (Err (opens.Read failed)) = Unit {0}
-SparesOpening old new result = SameReadFaults old new
 
 -- What opening a capture does. Want of 24 bytes in the budget is told first.
 pub record OpensReader (slot : ℕ) (old new : Seen) (had left : Budget) (result : Result Reading CapOpen) : Type 0 where
@@ -163,7 +155,7 @@ pub record OpensReader (slot : ℕ) (old new : Seen) (had left : Budget) (result
   pub refused : MatchResult result (λ r. Unit {0}) (λ e. Refuses slot old new e)
   pub untouched : OnErr result (left ≡ had)
   pub bytes : IsErrOf result opens.Bytes ↔ (had.bytes < HEAD)
-  pub counts : SparesOpening old new result
+  pub counts : SparesReads (end_by open_end result) old new
 
 -- ---- inside the crate
 
@@ -231,4 +223,4 @@ pub record RecordRead (slot : ℕ) (place : Place) (budget : Budget) (before aft
   pub says : IsTrue before.depot.told → Says (step_of budget place.at (next place.head place.greatest (coming slot before))) (coming slot after) result
   pub fits : IfOk result (λ o. MatchOption o (Unit {0}) (λ r. FitsRecord place.greatest budget r))
   pub cause : (f : Failed) → result ≡ Err (errors.Read f) → ReadsRose slot before.depot after.depot
-  pub counts : SparesReads before.depot after.depot result
+  pub counts : SparesReads (end_by cap_end result) before.depot after.depot

@@ -1,3 +1,4 @@
+pub mod FaultLemmas
 pub mod NameLemmas
 pub mod PageLemmas
 pub mod OutputLemmas

@@ -1,7 +1,6 @@
--- How a run ends early, and which faults of the store its answer tells.
-use Rattle.std.specs.Prelude.{Result}
+-- How a run ends early.
 use Rattle.fab_base.specs.Ending as ending
-use Rattle.fab_base.specs.Seen.{Seen}
+use Rattle.fab_base.specs.Ending.{End, IsSaid}
 use Rattle.pcap_file.specs.declared.fault.GatherFault.{GatherFault}
 use Rattle.pcap_file.specs.declared.fault.GatherFault.TheVariants as gather
 use Rattle.run_files.specs.declared.fault.RunFault.{RunFault}
@@ -14,18 +13,14 @@ fault_from (gather.Limit kind) = fault.Limit kind
 fault_from gather.Read = fault.Read
 fault_from gather.Memory = fault.Memory
 
+-- what it rests on
+abbrev pub run_end : RunFault → End
+run_end (fault.Capture port at w) = ending.Said
+run_end (fault.Limit kind) = ending.Said
+run_end fault.Read = ending.Read
+run_end fault.Write = ending.Write
+run_end fault.Memory = ending.Memory
+
 -- an ending that stands in the captures, and not in the store or in the memory
 abbrev pub IsStopped : RunFault → Type 0
-IsStopped (fault.Capture port at w) = Unit {0}
-IsStopped (fault.Limit kind) = Unit {0}
-IsStopped fault.Read = ⊥
-IsStopped fault.Write = ⊥
-IsStopped fault.Memory = ⊥
-
--- Every fault of reading is told: none is counted where the answer isn't `Read`. So want of memory never stands for one.
-abbrev pub TellsReads : {T : Type 0} → Seen → Seen → Result T RunFault → Type 0
-TellsReads old new result = ending.TellsReads fault.Read old new result
-
--- The same of writing and `Write`.
-abbrev pub TellsWrites : {T : Type 0} → Seen → Seen → Result T RunFault → Type 0
-TellsWrites old new result = ending.TellsWrites fault.Write old new result
+IsStopped fault = IsSaid (run_end fault)

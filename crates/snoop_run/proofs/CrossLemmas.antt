@@ -154,7 +154,7 @@ module _ (w : Forwarder) (ins : List (List Record)) (outs : List ℕ) (a d : See
     dropped_ = tt;
     cause = inl refl;
     reads = c.reads;
-    writes = λ other. c.writes;
+    writes = c.writes;
   }
 
   module _ (d' : Seen) (b' : Bridge) where
@@ -212,7 +212,7 @@ module _ (w : Forwarder) (ins : List (List Record)) (outs : List ℕ) (a d : See
           dropped_ = wr.same.3 ∙ c.stands.dropped_ ∙ ap (λ l. dropped (history w [] l)) all;
           cause = tt;
           reads = reads_on wr;
-          writes = λ other m. wr.puts.counts m ∙ c.writes m;
+          writes = λ m. wr.puts.counts m ∙ c.writes m;
         }
 
     pub crosses_failed : (e : Failed) → Writes outs b b' d d' (Err e) → Crosses w ins outs a d' (Err faults.Write)
@@ -239,7 +239,7 @@ module _ (w : Forwarder) (ins : List (List Record)) (outs : List ℕ) (a d : See
         ),
       );
       reads = reads_on wr;
-      writes = λ other. absurd (other refl);
+      writes = tt;
     }
 
     pub crosses_full : (e : Failed) → WritesFull outs b b' d d' (Err e) → Crosses w ins outs a d' (Err faults.Write)

@@ -2,13 +2,15 @@
 use Rattle.std.proofs.Common.{◌≡◌, ℕ, ◌+◌, inl, List, [], ◌∷◌, ◌++◌, length, length-append, append_assoc, append-nil, Option, Some, Ok, Err, IsTrue, refl, sym, ◌∙◌, ap, subst, arith}
 use Rattle.std.specs.Prelude.{Result, Vec, map, IfOk, IfErr}
 use Rattle.std.specs.declared.alloc.Global.{Global}
-use Rattle.fab_base.specs.Seen.{Seen, Reads, Rose, SameReadFaults, SameWriteFaults, OpensIn, Touches, Nothing, Only}
+use Rattle.fab_base.specs.Ending.{End, Said, end_by, Uses}
+use Rattle.fab_base.specs.Seen.{Seen, OpensIn, Nothing, Only}
 use Rattle.fab_base.specs.declared.values.Failed.{Failed}
-use Rattle.fab_base.proofs.SeenLemmas.{reads_trans, rose_later, told_stays, touches_refl, touches_trans, touches_wider, reads_touches}
+use Rattle.fab_base.proofs.EndingLemmas.{uses_none, uses_refused, uses_then, uses_wider, opens_in_uses}
+use Rattle.fab_base.proofs.SeenLemmas.{told_stays}
 use Rattle.pcap_file.specs.declared.Budget.{Budget}
 use Rattle.pcap_file.specs.declared.Record.{Record}
 use Rattle.pcap_file.specs.Records.{Ascends}
-use Rattle.pcap_file.specs.Faults.{IsStopped}
+use Rattle.pcap_file.specs.Faults.{gather_end, IsStopped}
 use Rattle.pcap_file.specs.declared.fault.GatherFault.{GatherFault}
 use Rattle.pcap_file.specs.declared.fault.GatherFault.TheVariants as gather
 use Rattle.pcap_file.specs.Captures.{AreFit, Taken, unless_stopped, capture_by, captures_by, ReadsCapture}
@@ -16,7 +18,7 @@ use Rattle.fip_snoop.specs.Queue.{AllAscend}
 use Rattle.run_files.specs.Names.{Among}
 use Rattle.snoop_run.specs.Opening.{in_front, ReadsInput, AreRead, ReadsInputs}
 use Rattle.snoop_run.specs.Records.{AllFit, count_in}
-use Rattle.run_files.proofs.NameLemmas.{among_front, among_back, among_all, rose_among, rose_since}
+use Rattle.run_files.proofs.NameLemmas.{among_front, among_back, among_all}
 
 -- ---- one capture
 
@@ -37,13 +39,11 @@ module _ (port : ℕ) (name : List ℕ) (a : Seen) (had : Budget) where
   input_read slot b c left result o k =
       let name_is = o.opened.2 in
       record {
-        reads = reads_trans name a b c o.reads (subst (λ n. Reads n b c) name_is k.reads);
+        uses = uses_then (Only name) Nothing (end_by gather_end result) a b c (opens_in_uses a b name (Ok slot) o) (subst (λ n. Uses (Only n) Nothing (end_by gather_end result) b c) name_is k.uses);
         fit = k.fit;
         frames = k.frames;
         taken = λ told later. taken_as told later result (k.taken (told_stays name a b o.reads.keeps told));
         stops = λ told later. stops_as told later result (k.stops (told_stays name a b o.reads.keeps told));
-        cause = λ e. rose_later (a.read_faults name) (b.read_faults name) (c.read_faults name) o.reads.keeps.reads_rise (subst (λ m. Rose (b.read_faults m) (c.read_faults m)) name_is (k.cause e));
-        counts = λ other m. k.counts other m ∙ o.counts m;
       }
     where
       taken_as : IsTrue a.told → (later : List (Option (List ℕ))) (result : Result (List Record) GatherFault) → IfOk result (λ records. capture_by port had (b.left slot) ≡ Ok (record { records = records; left = left }))
@@ -57,27 +57,23 @@ module _ (port : ℕ) (name : List ℕ) (a : Seen) (had : Budget) where
 
   pub input_unopened : (b : Seen) (e : Failed) → OpensIn {E = Failed} name a b (Err e) → ReadsInput port name a b had had (Err gather.Read)
   input_unopened b e o = record {
-    reads = o.reads;
+    uses = opens_in_uses a b name (Err e) o;
     fit = tt;
     frames = tt;
     taken = λ told later. tt;
     stops = λ told later stopped. absurd stopped;
-    cause = λ is. o.cause;
-    counts = λ other. absurd (other refl);
   }
 
 -- ---- all captures
 
 -- What stands for the loop when the captures under these names were read.
 pub record InputsSoFar (names : List (List ℕ)) (a now : Seen) (ins : List (List Record)) (had left : Budget) : Type 0 where
-  pub touches : Touches Nothing (Among names) a now
+  pub uses : Uses (Among names) Nothing Said a now
   pub count : length ins ≡ length names
   pub fit : AllFit ins
   pub ascend : AllAscend ins
   pub frames : left.frames + count_in ins ≡ had.frames
   pub taken : IsTrue a.told → (later : List (Option (List ℕ))) → captures_by 1 had (map (λ n. a.file n) names ++ later) ≡ in_front ins (captures_by (length names + 1) left later)
-  pub counts : SameReadFaults a now
-  pub writes : SameWriteFaults a now
 
 front_none : (later : Result (List (List Record)) GatherFault) → later ≡ in_front [] later
 front_none (Ok rest) = refl
@@ -105,36 +101,33 @@ count_both (x ∷ ins) rs = let h = count_both ins rs in omega (arith, h)
 
 pub inputs_none : (a : Seen) (had : Budget) → InputsSoFar [] a a [] had had
 inputs_none a had = record {
-  touches = touches_refl Nothing (Among []) a;
+  uses = uses_none (Among []) Nothing a;
   count = refl;
   fit = tt;
   ascend = tt;
   frames = omega arith;
   taken = λ told later. front_none (captures_by 1 had later);
-  counts = λ m. refl;
-  writes = λ m. refl;
 }
 
 module _ (names : List (List ℕ)) (a b : Seen) (ins : List (List Record)) (had left : Budget) (h : InputsSoFar names a b ins had left) where
   told_now : IsTrue a.told → IsTrue b.told
-  told_now told = subst IsTrue (sym h.touches.told) told
+  told_now told = subst IsTrue (sym h.uses.touches.told) told
 
   same_files : (m : List ℕ) → b.file m ≡ a.file m
-  same_files m = h.touches.files m (λ x. x)
+  same_files m = h.uses.touches.files m (λ x. x)
 
   module _ (name : List ℕ) (d : Seen) (left' : Budget) where
-    touch : Reads name b d → Touches Nothing (Among (names ++ name ∷ [])) a d
-    touch reads =
+    used : (end : End) → Uses (Only name) Nothing end b d → Uses (Among (names ++ name ∷ [])) Nothing end a d
+    used end u =
         let all = Among (names ++ name ∷ []) in
-        touches_trans Nothing all a b d
-        (touches_wider Nothing (Among names) Nothing all a b (λ m x. x) (λ m x. among_front names (name ∷ []) m x) h.touches)
-        (touches_wider Nothing (Only name) Nothing all b d (λ m x. x) (λ m x. among_back names (name ∷ []) m (inl x)) (reads_touches name b d reads))
+        uses_then all Nothing end a b d (uses_wider (Among names) Nothing all Nothing (λ m x. among_front names (name ∷ []) m x) (λ m x. x) Said a b h.uses)
+        (uses_wider (Only name) Nothing all Nothing (λ m x. among_back names (name ∷ []) m (inl x)) (λ m x. x) end b d u)
 
     pub inputs_more : (rs : List Record) → ReadsInput (length names + 1) name b d left left' (Ok rs) → InputsSoFar (names ++ name ∷ []) a d (ins ++ rs ∷ []) had left'
     inputs_more rs read =
         let more = length-append names (name ∷ []) in
         record {
-          touches = touch read.reads;
+          uses = used Said read.uses;
           count = length-append ins (rs ∷ []) ∙ ap (λ (n : ℕ). n + 1) h.count ∙ sym more;
           fit = fit_both ins rs h.fit read.fit.0;
           ascend = ascend_both ins rs h.ascend read.fit.1;
@@ -148,50 +141,37 @@ module _ (names : List (List ℕ)) (a b : Seen) (ins : List (List Record)) (had 
               ∙ ap (in_front ins) (read.taken (told_now told) later)
               ∙ front_more ins rs (captures_by (length names + 1 + 1) left' later)
               ∙ ap (λ (n : ℕ). in_front (ins ++ rs ∷ []) (captures_by n left' later)) next;
-          counts = λ m. read.counts (λ is. cc) m ∙ h.counts m;
-          writes = λ m. read.reads.writes m ∙ h.writes m;
         }
 
     -- no more captures are read, of all these names
     module _ (all behind : List (List ℕ)) (are : all ≡ names ++ name ∷ behind) where
-      touch_all : Reads name b d → Touches Nothing (Among all) a d
-      touch_all reads =
-          touches_wider Nothing (Among (names ++ name ∷ [])) Nothing (Among all) a d (λ m x. x) (λ m x. subst (λ l. Among l m) (sym are) (among_all names behind name m x)) (touch reads)
+      used_all : (end : End) → Uses (Only name) Nothing end b d → Uses (Among all) Nothing end a d
+      used_all end u =
+          uses_wider (Among (names ++ name ∷ [])) Nothing (Among all) Nothing (λ m x. subst (λ l. Among l m) (sym are) (among_all names behind name m x)) (λ m x. x) end a d (used end u)
 
       pub inputs_failed : (e : GatherFault) → ReadsInput (length names + 1) name b d left left' (Err e) → ReadsInputs all a d had (Err e)
       inputs_failed e read = record {
-        touches = touch_all read.reads;
+        uses = used_all (gather_end e) read.uses;
         are = tt;
         taken = λ told. tt;
         stops = λ told stopped.
             ap (λ l. captures_by 1 had (map (λ n. a.file n) l)) are ∙ ap (captures_by 1 had) (files_push a names name behind) ∙ h.taken told (a.file name ∷ map (λ n. a.file n) behind)
             ∙ ap (λ f. in_front ins (captures_by (length names + 1) left (f ∷ map (λ n. a.file n) behind))) (sym (same_files name)) ∙ ap (in_front ins) (read.stops (told_now told) (map (λ n. a.file n) behind) stopped);
-        cause = λ is.
-            rose_since a.read_faults b.read_faults d.read_faults h.touches.reads_rise all
-            (rose_among b.read_faults d.read_faults all name (subst (λ l. Among l name) (sym are) (among_back names (name ∷ behind) name (inl refl))) (read.cause (ap Err is)));
-        counts = λ other m. read.counts (λ is. other (let same : e ≡ gather.Read = cc in ap Err same)) m ∙ h.counts m;
-        writes = λ m. read.reads.writes m ∙ h.writes m;
       }
 
       pub inputs_no_room : (rs : List Record) → ReadsInput (length names + 1) name b d left left' (Ok rs) → ReadsInputs all a d had (Err gather.Memory)
       inputs_no_room rs read = record {
-        touches = touch_all read.reads;
+        uses = uses_refused (Among all) Nothing a d (used_all Said read.uses);
         are = tt;
         taken = λ told. tt;
         stops = λ told stopped. absurd stopped;
-        cause = λ is. absurd (cc);
-        counts = λ other m. read.counts (λ is. cc) m ∙ h.counts m;
-        writes = λ m. read.reads.writes m ∙ h.writes m;
       }
 
   pub inputs_all : (v : Vec (List Record) Global) → v.items ≡ ins → ReadsInputs names a b had (Ok v)
   inputs_all v is = record {
-    touches = h.touches;
+    uses = h.uses;
     are = subst (AreRead names had) (sym is) (record { count = h.count; fit = h.fit; ascend = h.ascend; frames = let was = h.frames in omega (arith, was) });
     taken = λ told.
         ap (captures_by 1 had) (sym (append-nil (map (λ n. a.file n) names))) ∙ h.taken told [] ∙ ap Ok (append-nil ins) ∙ ap Ok (sym is);
     stops = λ told. tt;
-    cause = tt;
-    counts = λ other. h.counts;
-    writes = h.writes;
   }

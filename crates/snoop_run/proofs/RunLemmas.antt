@@ -1,9 +1,12 @@
 -- A bridge over files, from its steps.
 use Rattle.std.proofs.Common.{◌≡◌, ℕ, zero, suc, ◌+◌, ◌<◌, true, false, cond, inl, inr, List, [], ◌∷◌, length, Some, Ok, Err, IsTrue, refl, sym, ◌∙◌, ap, subst, arith}
 use Rattle.std.specs.Prelude.{String, Result, Vec, map}
+use Rattle.std.specs.Result.{IsErrAnd}
 use Rattle.std.specs.declared.alloc.Global.{Global}
 use Rattle.arrayvec.specs.ArrayVec.{ArrayVec}
+use Rattle.fab_base.specs.Ending.{End, end_by, SparesReads, SparesWrites, Either, Uses}
 use Rattle.fab_base.specs.Seen.{Seen, Rose, SameFiles, SameReadFaults, Touches, Nothing}
+use Rattle.fab_base.proofs.EndingLemmas.{spares_reads, spares_writes_then, counts_reads, counts_writes}
 use Rattle.fab_base.specs.declared.values.Failed.{Failed}
 use Rattle.fab_base.proofs.SeenLemmas.{touches_refl, touches_trans, touches_wider}
 use Rattle.fab_config.specs.Settings.{Settings}
@@ -12,6 +15,7 @@ use Rattle.fab_policy.specs.Written.{IsPrefixOf}
 use Rattle.pcap_file.specs.declared.Budget.{Budget}
 use Rattle.pcap_file.specs.declared.Record.{Record}
 use Rattle.fab_base.specs.Slots.{slot_at, name_of, NameIn}
+use Rattle.pcap_file.specs.Faults.{gather_end}
 use Rattle.pcap_file.specs.declared.fault.LimitKind.TheVariants as limit
 use Rattle.pcap_file.specs.declared.fault.GatherFault.{GatherFault}
 use Rattle.pcap_file.specs.declared.fault.GatherFault.TheVariants as gather
@@ -21,8 +25,8 @@ use Rattle.fip_snoop.specs.Messages.{forwarder_of}
 use Rattle.fip_snoop.specs.declared.forwarder.Forwarder.{Forwarder}
 use Rattle.snoop_run.specs.Copies.{capture}
 use Rattle.snoop_run.specs.Bridged.{AmongBoth, IsOldOrFront, AreOldOrFront, HasFronts, HasStop, Ends, Bridges, OverEnds, RunsOver}
-use Rattle.run_files.specs.Faults.{TellsWrites}
-use Rattle.run_files.specs.Faults.{fault_from}
+use Rattle.run_files.specs.Faults.{fault_from, run_end}
+use Rattle.run_files.proofs.FaultLemmas.{same_end}
 use Rattle.run_files.specs.Names.{Among, AnyRose}
 use Rattle.run_files.specs.declared.fault.RunFault.{RunFault}
 use Rattle.run_files.specs.declared.fault.RunFault.TheVariants as faults
@@ -84,10 +88,10 @@ module _ (sides : List (String Global)) (ins : List (List Record)) (c : Settings
   outs_count = length-counted (output_at sides) 0 n
 
   pub over_long : is_too_long came ≡ true → RunsOver outs ins c a a (Err (faults.Limit limit.Span))
-  over_long long = record { touches = touches_refl (Among outs) (Among outs) a; ends = (λ m. refl, long); reads = λ m. refl; writes = λ other m. refl }
+  over_long long = record { touches = touches_refl (Among outs) (Among outs) a; ends = (λ m. refl, long); reads = λ m. refl; writes = λ m. refl }
 
   pub over_memory : is_too_long came ≡ false → RunsOver outs ins c a a (Err faults.Memory)
-  over_memory short = record { touches = touches_refl (Among outs) (Among outs) a; ends = (short, inl (λ m. refl)); reads = λ m. refl; writes = λ other m. refl }
+  over_memory short = record { touches = touches_refl (Among outs) (Among outs) a; ends = (short, inl (λ m. refl)); reads = λ m. refl; writes = λ m. refl }
 
   -- the wholes, by port
   wholes_are : captures c (length outs) came ≡ map (λ q. capture (forwarder_of c) q came) (counting 1 n)
@@ -105,7 +109,7 @@ module _ (sides : List (String Global)) (ins : List (List Record)) (c : Settings
           elim (o.opens.each told (output_at sides (0 + q))) [ inl same ↦ inl same | inr empty ↦ inr ([], empty, (capture (forwarder_of c) (1 + q) came, refl)) ])),
     );
     reads = o.opens.reads;
-    writes = λ other. absurd (other refl);
+    writes = tt;
   }
 
   module _ (b d : Seen) (slots : ArrayVec ℕ) (different : AreDifferent sides) (o : OpensOutputs outs a b (Ok slots)) where
@@ -153,8 +157,8 @@ module _ (sides : List (String Global)) (ins : List (List Record)) (c : Settings
       reads_on : SameReadFaults a d
       reads_on m = x.reads m ∙ o.opens.reads m
 
-      writes_on : TellsWrites a d r
-      writes_on other m = x.writes other m ∙ o.counts m
+      writes_on : SparesWrites (end_by run_end r) a d
+      writes_on = spares_writes_then (end_by run_end r) a b d o.counts x.writes
 
     whole_on : (done : Crossed) → Crosses (forwarder_of c) ins slots.items b d (Ok done) → IsTrue a.told → map (λ m. d.file m) outs ≡ map (λ l. Some l) (captures c (length outs) came)
     whole_on done x told =
@@ -179,35 +183,40 @@ own_crosses w n b ins slots a d r new x = subst (λ v. Crosses v ins slots a d r
 -- ---- over files
 
 module _ (inn outs : List (List ℕ)) (budget : Budget) (c : Settings) (a b : Seen) where
-  read_touches : Touches Nothing (Among inn) a b → Touches (Among outs) (AmongBoth inn outs) a b
-  read_touches k = touches_wider Nothing (Among inn) (Among outs) (AmongBoth inn outs) a b (λ m x. absurd x) (λ m x. inl x) k
+  read_touches : {end : End} → Uses (Among inn) Nothing end a b → Touches (Among outs) (AmongBoth inn outs) a b
+  read_touches k = touches_wider Nothing (Either (Among inn) Nothing) (Among outs) (AmongBoth inn outs) a b (λ m x. absurd x) input k.touches
+    where
+      input : (m : List ℕ) → Either (Among inn) Nothing m → AmongBoth inn outs m
+      input m (inl x) = inl x
+      input m (inr x) = absurd x
 
-  pub bridges_stopped : (g : GatherFault) (e : RunFault) → e ≡ fault_from g → ReadsInputs inn a b budget (Err g) → Bridges inn outs budget c a b (Err e)
-  bridges_stopped g e is r = subst (λ x. Bridges inn outs budget c a b (Err x)) (sym is) (record {
-    touches = read_touches r.touches;
+  pub bridges_stopped : (result : Result Crossed RunFault) (g : GatherFault) → IsErrAnd result (λ e. e ≡ fault_from g) → ReadsInputs inn a b budget (Err g) → Bridges inn outs budget c a b result
+  bridges_stopped (Ok done) g is r = absurd is
+  bridges_stopped (Err e) g is r = subst (λ x. Bridges inn outs budget c a b (Err x)) (sym is) (record {
+    touches = read_touches r.uses;
     ends = ended g r;
-    reads = λ other. r.counts (λ same. other (ap (λ x. Err x) (ap fault_from (let read : g ≡ gather.Read = cc in read))));
-    writes = λ other. r.writes;
+    reads = subst (λ end. SparesReads end a b) (sym (same_end g)) (counts_reads _ _ (gather_end g) a b r.uses.counts);
+    writes = subst (λ end. SparesWrites end a b) (sym (same_end g)) (counts_writes _ _ (gather_end g) a b r.uses.counts);
   })
     where
       stop : (e : GatherFault) → captures_by 1 budget (map (λ n. a.file n) inn) ≡ Err e → HasStop inn budget a e
       stop e is = ap (λ t. unless_stopped {X = List (List Record)} {Y = List Arrival} t (λ ins. unless_too_long (arrivals ins))) is
 
       ended : (e : GatherFault) → ReadsInputs inn a b budget (Err e) → Ends inn outs budget c a b (Err (fault_from e))
-      ended (gather.Capture port at why) r = (λ m. r.touches.files m (λ x. x), λ told. stop (gather.Capture port at why) (r.stops told tt))
-      ended (gather.Limit kind) r = (λ m. r.touches.files m (λ x. x), λ told. stop (gather.Limit kind) (r.stops told tt))
-      ended gather.Read r = (λ m. r.touches.files m (λ x. x), r.cause refl)
-      ended gather.Memory r = λ told. inl (λ m. r.touches.files m (λ x. x))
+      ended (gather.Capture port at why) r = (λ m. r.uses.touches.files m (λ x. x), λ told. stop (gather.Capture port at why) (r.stops told tt))
+      ended (gather.Limit kind) r = (λ m. r.uses.touches.files m (λ x. x), λ told. stop (gather.Limit kind) (r.stops told tt))
+      ended gather.Read r = (λ m. r.uses.touches.files m (λ x. x), let rose = r.uses.counts.0 in rose_among a.read_faults b.read_faults inn rose.0 rose.1 rose.2)
+      ended gather.Memory r = λ told. inl (λ m. r.uses.touches.files m (λ x. x))
 
   module _ (law : TakenAreCaptures) (v : Vec (List Record) Global) (read : ReadsInputs inn a b budget (Ok v)) (d : Seen) where
     abbrev frames : List Arrival
     frames = arrivals v.items
 
     same_b : SameFiles a b
-    same_b m = read.touches.files m (λ x. x)
+    same_b m = read.uses.touches.files m (λ x. x)
 
     told_read : IsTrue a.told → IsTrue b.told
-    told_read told = subst IsTrue (sym read.touches.told) told
+    told_read told = subst IsTrue (sym read.uses.touches.told) told
 
     crosses : IsTrue a.told → is_too_long frames ≡ false → crossing budget (map (λ n. a.file n) inn) ≡ Ok frames
     crosses told short =
@@ -229,14 +238,14 @@ module _ (inn outs : List (List ℕ)) (budget : Budget) (c : Settings) (a b : Se
     ended (Err (faults.Limit limit.Frames)) e = absurd e
     ended (Err (faults.Limit limit.Span)) e = (λ m. e.0 m ∙ same_b m, λ told. too_long told e.1)
     ended (Err faults.Read) e = absurd e
-    ended (Err faults.Write) e = (rose_since a.write_faults b.write_faults d.write_faults read.touches.writes_rise outs e.1, λ told. fronts told e.0 e.2)
+    ended (Err faults.Write) e = (rose_since a.write_faults b.write_faults d.write_faults read.uses.touches.writes_rise outs e.1, λ told. fronts told e.0 e.2)
     ended (Err faults.Memory) e = λ told. elim e.1 [ inl same ↦ inl (λ m. same m ∙ same_b m) | inr are ↦ inr (fronts told e.0 are) ]
 
     pub bridges_over : (r : Result Crossed RunFault) → RunsOver outs v.items c b d r → Bridges inn outs budget c a d r
     bridges_over r over = record {
-      touches = touches_trans (Among outs) (AmongBoth inn outs) a b d (read_touches read.touches)
+      touches = touches_trans (Among outs) (AmongBoth inn outs) a b d (read_touches read.uses)
           (touches_wider (Among outs) (Among outs) (Among outs) (AmongBoth inn outs) b d (λ m x. x) (λ m x. inr x) over.touches);
       ends = ended r over.ends;
-      reads = λ other m. over.reads m ∙ read.counts (λ is. cc) m;
-      writes = λ other m. over.writes other m ∙ read.writes m;
+      reads = spares_reads (end_by run_end r) a d (λ other m. over.reads m ∙ read.uses.counts.0 m);
+      writes = spares_writes_then (end_by run_end r) a b d read.uses.counts.1 over.writes;
     }

@@ -1,5 +1,6 @@
 -- What a bridge leaves in its outputs, by how it ends.
 use Rattle.std.specs.Prelude.{◌≡◌, ℕ, ◌⊎◌, true, false, IsTrue, List, [], ◌∷◌, length, map, Some, Result, Ok, Err}
+use Rattle.fab_base.specs.Ending.{end_by, SparesReads, SparesWrites}
 use Rattle.fab_base.specs.Seen.{Seen, SameFiles, SameReadFaults, Touches}
 use Rattle.fab_config.specs.Settings.{Settings}
 use Rattle.fab_policy.specs.Written.{IsPrefixOf}
@@ -11,7 +12,7 @@ use Rattle.pcap_file.specs.declared.fault.LimitKind.TheVariants as limit
 use Rattle.pcap_file.specs.Captures.{captures_by}
 use Rattle.fip_snoop.specs.Bridge.{Arrival, arrivals, is_too_long, history, passed, dropped}
 use Rattle.fip_snoop.specs.Messages.{forwarder_of}
-use Rattle.run_files.specs.Faults.{TellsReads, TellsWrites}
+use Rattle.run_files.specs.Faults.{run_end}
 use Rattle.run_files.specs.Names.{Among, AnyRose}
 use Rattle.run_files.specs.declared.fault.RunFault.{RunFault}
 use Rattle.run_files.specs.declared.fault.RunFault.TheVariants as faults
@@ -75,8 +76,8 @@ Ends ins outs budget c old new (Err faults.Memory) = IsTrue old.told → SameFil
 pub record Bridges (ins outs : List (List ℕ)) (budget : Budget) (c : Settings) (old new : Seen) (result : Result Crossed RunFault) : Type 0 where
   pub touches : Touches (Among outs) (AmongBoth ins outs) old new
   pub ends : Ends ins outs budget c old new result
-  pub reads : TellsReads old new result
-  pub writes : TellsWrites old new result
+  pub reads : SparesReads (end_by run_end result) old new
+  pub writes : SparesWrites (end_by run_end result) old new
 
 -- ---- inside the crate
 
@@ -98,4 +99,4 @@ pub record RunsOver (outs : List (List ℕ)) (ins : List (List Record)) (c : Set
   pub touches : Touches (Among outs) (Among outs) old new
   pub ends : OverEnds outs ins c old new result
   pub reads : SameReadFaults old new
-  pub writes : TellsWrites old new result
+  pub writes : SparesWrites (end_by run_end result) old new

@@ -1,5 +1,6 @@
 -- What stands of a bridge between two frames.
 use Rattle.std.specs.Prelude.{◌≡◌, ℕ, ◌+◌, ◌^◌, ◌<◌, ◌≤◌, ◌⊎◌, IsTrue, List, [], ◌∷◌, ◌++◌, length, replicate, slice_index, Some, Result, Ok, IfOk, IfErr, OnOk}
+use Rattle.fab_base.specs.Ending.{end_by, SparesWrites}
 use Rattle.fab_base.specs.Seen.{Seen, Rose, SameReadFaults, Touches}
 use Rattle.fab_base.specs.declared.values.Failed.{Failed}
 use Rattle.fab_policy.specs.Written.{IsPrefixOf}
@@ -11,7 +12,7 @@ use Rattle.fip_snoop.specs.History.{History}
 use Rattle.fip_snoop.specs.Queue.{least, left_in}
 use Rattle.fip_snoop.specs.Snoop.{Remembers}
 use Rattle.fip_snoop.specs.declared.forwarder.Forwarder.{Forwarder}
-use Rattle.run_files.specs.Faults.{TellsWrites}
+use Rattle.run_files.specs.Faults.{run_end}
 use Rattle.run_files.specs.Outputs.{PutsEach}
 use Rattle.run_files.specs.Pages.{items_in, piece_at}
 use Rattle.run_files.specs.declared.fault.RunFault.{RunFault}
@@ -89,4 +90,4 @@ pub record Crosses (w : Forwarder) (ins : List (List Record)) (outs : List ℕ) 
   pub dropped_ : IfOk result (λ done. done.dropped ≡ dropped (history w [] (arrivals ins)))
   pub cause : IfErr result (λ e. (e ≡ faults.Memory) ⊎ ((e ≡ faults.Write) × ((q : ℕ) × (q < length outs) × Rose (old.write_faults (name_of old outs q)) (new.write_faults (name_of old outs q)))))
   pub reads : SameReadFaults old new
-  pub writes : TellsWrites old new result
+  pub writes : SparesWrites (end_by run_end result) old new

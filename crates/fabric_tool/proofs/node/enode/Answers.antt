@@ -6,5 +6,5 @@ pub returns : goal.returns
 returns g c =
     let seen = g.D.Depot.seen in
     record {
-      holds = ran_as _ _ (enode_of c.args.start c.args.own c.args.words.now) (seen c.args.depot.now) (seen c.run_node.new.depot) c.run_node.result c.stood.result c.word_at-from.ensures c.word_at-to.ensures c.run_node.ensures.plays c.run_node.ensures.others c.run_node.ensures.reads c.run_node.ensures.writes c.stood.ensures;
+      holds = ran_as _ _ (enode_of c.args.start c.args.own c.args.words.now) (seen c.args.depot.now) (seen c.run_node.new.depot) c.run_node.result c.stood.result c.word_at-from.ensures c.word_at-to.ensures c.run_node.ensures.plays c.run_node.ensures.uses c.stood.ensures;
     }

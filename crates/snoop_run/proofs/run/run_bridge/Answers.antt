@@ -2,7 +2,7 @@ use Rattle.std.proofs.Common.{◌∙◌, length, ap, subst}
 use Rattle.snoop_run.specs.Bridged.{RunsOver}
 use Rattle.snoop_run.specs.Sides.{side_count, input_at, ins_of, outs_of}
 use Rattle.run_files.proofs.NameLemmas.{length-counted}
-use Rattle.snoop_run.proofs.RunLemmas.{bridges_over}
+use Rattle.snoop_run.proofs.RunLemmas.{bridges_over, bridges_stopped}
 use Rattle.snoop_run.proofs.run.run_bridge.Goals as goal
 
 pub run_over-requires-clause-count : goal.run_over-requires-clause-count
@@ -18,4 +18,11 @@ returns g c =
     record {
       bridges = bridges_over (ins_of c.args.sides.now) outs c.args.budget c.args.config.now a b c.what_is_taken_are_captures.ensures c.in_ok-ins.ins c.in_ok-ins.ensures.reads d c.run_over.result
           (subst (λ l. RunsOver outs l c.args.config.now b d c.run_over.result) c.as_slice.ensures.value c.run_over.ensures);
+    }
+
+pub returns-in_err-ins : goal.returns-in_err-ins
+returns-in_err-ins g c =
+    let seen = g.D.Depot.seen in
+    record {
+      bridges = bridges_stopped (ins_of c.args.sides.now) (outs_of c.args.sides.now) c.args.budget c.args.config.now (seen c.args.depot.now) (seen c.read_captures.new.depot) c.from_residual.result c.in_err-ins.field-0.0 c.from_residual.ensures.1 c.in_err-ins.ensures.reads;
     }
