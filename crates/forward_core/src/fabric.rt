@@ -33,6 +33,10 @@ pub struct Fabric {
     pub(crate) rscns: u32,
     pub(crate) events: EventList,
     pub(crate) outs: OutList,
+    /// How many entries and frames the last drain handed out: the next lists begin with this room.
+    pub(crate) handed_events: usize,
+    pub(crate) handed_outs: usize,
+    /// For empty lists, which take no memory.
     pub(crate) alloc: Global,
 }
 
@@ -72,6 +76,8 @@ impl Fabric {
             rscns: 0,
             events: OwnedList::empty(alloc),
             outs: OwnedList::empty(alloc),
+            handed_events: 0,
+            handed_outs: 0,
             alloc,
         })
     }
@@ -83,7 +89,8 @@ impl Fabric {
         &self.config
     }
 
-    /// Hands out what happened and was sent since the last drain, and forgets it.
+    /// Hands out what happened and was sent since the last drain, and forgets it. It takes no
+    /// memory: the lists that it leaves have no room yet.
     pub fn drain(&mut self) -> Drained
         ensures fabric { self.new ≡ drained self.old }
         ensures events { result.events ≡ self.old.events }
@@ -94,22 +101,11 @@ impl Fabric {
     {
         // Law: after a drain a fabric represents the same journals; the clause stands.
         fabric_steps();
-        let events = with_room(self.alloc, self.events.len());
-        let outs = with_room(self.alloc, self.outs.len());
-        let events = mem::replace(&mut self.events, events);
-        let outs = mem::replace(&mut self.outs, outs);
+        self.handed_events = self.events.len();
+        self.handed_outs = self.outs.len();
+        let events = mem::replace(&mut self.events, OwnedList::empty(self.alloc));
+        let outs = mem::replace(&mut self.outs, OwnedList::empty(self.alloc));
         Drained { events, outs }
-    }
-}
-
-// An empty list with room for so many items, or with none where memory is refused: what is put into
-// it asks for room again.
-fn with_room<T: Drop>(alloc: Global, most: usize) -> OwnedList<T>
-    ensures { result ≡ [] }
-{
-    match Vec::with_capacity(alloc, most) {
-        Ok(items) => OwnedList::from_vec(items),
-        Err(_) => OwnedList::empty(alloc),
     }
 }
 

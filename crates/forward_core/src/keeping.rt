@@ -10,7 +10,7 @@ ghost use Rattle.forward_core.specs.Turns.{IsBefore, IsSent, Keeps, KeepsFrame};
 use crate::Fabric;
 use crate::arrived::Arrived;
 use crate::due::in_range;
-use fab_base::{Bytes, Caught, NoMemory};
+use fab_base::{Bytes, Caught, NoMemory, OwnedList};
 use fab_messages::messages_are_kept;
 use fab_policy::{Event, Verdict, known};
 use fab_sending::{Before, Sends};
@@ -46,6 +46,8 @@ impl Fabric {
         // Law: what can be sent stays so, with the same bytes, when an entry is added behind.
         messages_are_kept();
         let rscns = sends.rscns;
+        make_room(&mut self.events, alloc, self.handed_events);
+        make_room(&mut self.outs, alloc, self.handed_outs);
         self.events.push(alloc, entry)?;
         let Ok(()) = self.outs.append(alloc, sends.outs) else {
             self.events.pop();
@@ -80,6 +82,18 @@ impl Fabric {
         known(&entry);
         self.keep(alloc, entry, sends)?;
         Ok(())
+    }
+}
+
+// An empty list gets room for so many items, or none where memory is refused: what is put into it
+// asks for room again.
+fn make_room<T: Drop>(list: &mut OwnedList<T>, alloc: Global, most: usize)
+    ensures { list.new ≡ list.old }
+{
+    if list.len() == 0
+        && let Ok(items) = Vec::with_capacity(alloc, most)
+    {
+        *list = OwnedList::from_vec(items);
     }
 }
 
