@@ -1,7 +1,7 @@
 -- A file that is read whole, and words of private contracts alone.
 use Rattle.std.specs.Prelude.{◌≡◌, ℕ, ◌≤◌, ◌<◌, true, List, [], ◌++◌, length, IsTrue, Option, Some, None, Result, Ok, Err, Vec}
 use Rattle.std.specs.declared.alloc.Global.{Global}
-use Rattle.fab_base.specs.Seen.{Seen, Reads, Rose, SameReadFaults}
+use Rattle.fab_base.specs.Seen.{Seen, Reads, Rose, SameReadFaults, KeepsOthers}
 use Rattle.fab_base.specs.declared.whole.WholeError.{WholeError}
 use Rattle.fab_base.specs.declared.whole.WholeError.TheVariants as wholes
 use Rattle.fab_policy.specs.Spelling.{Spells, line_text}
@@ -68,10 +68,13 @@ abbrev pub CountsWhole : Seen → Seen → Result (Vec ℕ Global) OldError → 
 CountsWhole old new (Err (errors.Read failed)) = Unit {0}
 CountsWhole old new result = SameReadFaults old new
 
+-- Of no other slot anything is taken. What is left of this one is the end of what was.
 pub record WholeRead (s limit : ℕ) (old new : Seen) (result : Result (Vec ℕ Global) OldError) : Type 0 where
   pub reads : Reads (old.name s) old new
   pub whole : IsWhole s limit old new result
   pub counts : CountsWhole old new result
+  pub others : KeepsOthers s old new
+  pub rest : IsTrue old.told → (taken : List ℕ) × (taken ++ new.left s ≡ old.left s)
 
 -- what an error of reading a file whole is
 abbrev pub old_error_of : WholeError → OldError

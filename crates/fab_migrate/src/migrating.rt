@@ -1,6 +1,7 @@
 //! The journal in one file, migrated to another.
-ghost use Rattle.std.specs.Prelude.{IsTrue};
+ghost use Rattle.std.specs.Prelude.{◌⊎◌, IsTrue};
 ghost use Rattle.fab_base.specs.Ending.{KeepsBut};
+ghost use Rattle.fab_base.specs.Seen.{Touches, Only};
 ghost use Rattle.fab_migrate.specs.Migrating.{Migrates};
 
 use crate::old::{MigrateError, OldError, in_format_two};
@@ -21,6 +22,8 @@ pub fn migrate<D: Depot>(
     requires to { IsTrue ((D.seen depot.old).knows to.now) }
     ensures migrates { Migrates from.now to.now limit (D.seen depot.old) (D.seen depot.new) result }
     ensures others { KeepsBut to.now (D.seen depot.old) (D.seen depot.new) }
+    ensures touches { Touches (Only to.now) (λ m. Only from.now m ⊎ Only to.now m)
+        (D.seen depot.old) (D.seen depot.new) }
 {
     let slot = match depot.open_in(from) {
         Ok(slot) => slot,

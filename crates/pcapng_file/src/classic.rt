@@ -1,6 +1,7 @@
 //! The classic capture of the packets of a file.
-ghost use Rattle.std.specs.Prelude.{◌≡◌, ◌++◌, IsTrue, IfOk, OnOk, OnErr};
+ghost use Rattle.std.specs.Prelude.{◌≡◌, ◌⊎◌, ◌++◌, IsTrue, IfOk, OnOk, OnErr};
 ghost use Rattle.fab_base.specs.Ending.{KeepsBut};
+ghost use Rattle.fab_base.specs.Seen.{Touches, Only};
 ghost use Rattle.pcapng_file.specs.Classic.{classic_record, classic_bytes, Converts};
 
 use crate::fault::{ConvertError, NgError};
@@ -24,6 +25,8 @@ pub fn convert<D: Depot>(
     ensures converts { Converts from.now to.now budget (D.seen depot.old)
         (D.seen depot.new) result }
     ensures others { KeepsBut to.now (D.seen depot.old) (D.seen depot.new) }
+    ensures touches { Touches (Only to.now) (λ m. Only from.now m ⊎ Only to.now m)
+        (D.seen depot.old) (D.seen depot.new) }
 {
     let slot = match depot.open_in(from) {
         Ok(slot) => slot,
