@@ -21,7 +21,7 @@ use Rattle.fab_gather.specs.declared.shelf.Shelf.{Shelf}
 use Rattle.pcap_file.specs.declared.fault.GatherFault.{GatherFault}
 use Rattle.pcap_file.specs.declared.fault.GatherFault.TheVariants as fault
 use Rattle.fab_gather.specs.First.{IsFresh, AreFresh, opened_by, opened_in, first_look, Looked, StopsFirst, LeavesFirst, LooksOnce, LooksFirst, start_at, Start}
-use Rattle.fab_gather.specs.Port.{IsReady, Spends, Gave, to_look, ending}
+use Rattle.fab_gather.specs.Port.{IsReady, Spends, Gave, place_behind, to_look, ending}
 use Rattle.fab_base.specs.Slots.{NameIn}
 use Rattle.fab_gather.specs.Ports.{AreInputs, At, slots_of, TakesFrom, rests, joined, counts_of, walk_at, Walk}
 use Rattle.fab_gather.specs.Reads.{HasRead, HaveRead}
@@ -195,6 +195,7 @@ pub record Began (c : Settings) (a b : Seen) (i i' : Input) (s : Shelf) (left : 
   pub slot : i'.slot ≡ i.slot
   pub ready : IsReady i'.reader s.next s.count left
   pub read : HasRead c 0 (opened_by a i.slot i.reader) [] i' s b
+  pub at : i'.reader.at ≡ place_behind i.reader.at (option_to_list s.next)
 
 pub record Still (a b : Seen) (i i' : Input) : Type 0 where
   pub input : i' ≡ i
@@ -348,6 +349,7 @@ module _ {c : Settings} {k : ℕ} {a b : Seen} {ins ins' : List Input} {shelves 
             gave = record {
               head = g.read.head;
               greatest = g.read.greatest ∙ ap (λ (n : ℕ). last_moment n (option_to_list u.0.next)) (sym zero);
+              at = g.at;
               rest = to_come j'.reader b j'.slot;
               chain = λ told. subst (λ (n : ℕ). Chain j.reader.head n (option_to_list u.0.next) (to_come j.reader a j.slot) (to_come j'.reader b j'.slot)) (sym zero) (g.read.chain (told_b told));
               stands = λ told none. ap (λ (l : List ℕ). j'.reader.held ++ l) (sym (same_left q j' (λ e. omega arith) now)) ∙ ap (λ (n : ℕ). j'.reader.held ++ d.left n) g.slot;
@@ -386,6 +388,7 @@ module _ {c : Settings} {k : ℕ} {a b : Seen} {ins ins' : List Input} {shelves 
       read = tt;
       spent = tt;
       leaves = left_first None t.leaves.0 t.reads;
+      fails = λ other. (k, i2, get_set_same ins' k i2 here, t.fails);
       found = (counts_of shelves, subst (λ (x : Budget). Spends had x 0 (counts_of shelves)) (sym t.leaves.1) turn.see.spent);
       takes = taken_from ins (set ins' k i2) had left (counts_of shelves) slots_on (subst (λ (x : Budget). Spends had x 0 (counts_of shelves)) (sym t.leaves.1) turn.see.spent);
       looks_ = λ told. tt;
@@ -419,6 +422,7 @@ module _ {c : Settings} {k : ℕ} {a b : Seen} {ins ins' : List Input} {shelves 
       read = tt;
       spent = tt;
       leaves = left_first s.next (gave_first c (k + 1) i1.slot b d i1.reader i2.reader s mid left look_fresh.greatest t.looked) t.reads;
+      fails = λ other. absurd (other refl);
       found = (counts_of shelves + s.count, spent_on s t.looked);
       takes = taken_from ins (set ins' k i2) had left (counts_of shelves + s.count) slots_on (spent_on s t.looked);
       looks_ = λ told. tt;
@@ -495,6 +499,7 @@ module _ {c : Settings} {k : ℕ} {a b : Seen} {ins ins' : List Input} {shelves 
         own_began l = record {
           slot = slot ∙ ap (λ (y : Input). y.slot) still.input;
           ready = l.ready;
+          at = l.at ∙ ap (λ (y : Input). place_behind y.reader.at (option_to_list s.next)) still.input;
           read = record {
             head = l.head ∙ ap (λ (y : Input). y.reader.head) still.input;
             greatest = l.greatest;
@@ -515,6 +520,7 @@ module _ {c : Settings} {k : ℕ} {a b : Seen} {ins ins' : List Input} {shelves 
             record {
               slot = g.slot;
               ready = smaller j'.reader u.next u.count mid left (omega arith) g.ready;
+              at = g.at;
               read = record {
                 head = g.read.head;
                 greatest = g.read.greatest;
@@ -572,6 +578,7 @@ looks_all c k a b ins ins' v had left all see =
           ∙ ap (λ ls. stop_in (first_window (in_order (joined ls))) left.bytes left.frames (in_order (joined ls))) (fronts_all c 1 b ins' v.items (omega arith));
       stops = λ told. tt;
       leaves = tt;
+      fails = tt;
       found = (counts_of v.items, see.spent);
       takes = taken_from ins ins' had left (counts_of v.items) see.slots see.spent;
       cause = λ e. absurd (cc);

@@ -35,6 +35,7 @@ module _ (c : Settings) (first w : ℕ) where
     looks = λ told. tt;
     stops = λ told stops. late c first w w d ins shelves left count ready next is;
     cause = λ x. absurd (cc);
+    fails = λ memory span. absurd (span refl);
     late = (λ x. is, λ x. refl);
     same = λ x. (refl, refl, refl, refl);
     counts = λ other m. refl;

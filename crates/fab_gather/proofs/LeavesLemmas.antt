@@ -1,11 +1,11 @@
 -- What a refusal leaves of readers and shelves.
-use Rattle.std.proofs.Common.{◌≡◌, ℕ, inl, inr, List, [], ◌∷◌, ◌++◌, Some, None, Ok, Err, IsTrue, refl, sym, ap, ◌∙◌, subst, arith}
+use Rattle.std.proofs.Common.{◌≡◌, ℕ, ◌+◌, length, inl, inr, List, [], ◌∷◌, ◌++◌, Some, None, Ok, Err, IsTrue, refl, sym, ap, ◌∙◌, subst, arith}
 use Rattle.std.specs.Prelude.{option_to_list}
 use Rattle.std.proofs.lemmas.List.{append-nil}
 use Rattle.fab_base.specs.Seen.{Seen}
 use Rattle.fab_config.specs.Settings.{Settings}
-use Rattle.pcap_file.specs.Capture.{next}
-use Rattle.pcap_file.specs.Reading.{Reading, to_come, KeepsError, NextReads, reader_stand}
+use Rattle.pcap_file.specs.Capture.{RECORD_HEAD, next}
+use Rattle.pcap_file.specs.Reading.{Reading, place_after, to_come, KeepsError, NextReads, reader_stand}
 use Rattle.pcap_file.specs.Records.{Chain, last_moment}
 use Rattle.pcap_file.specs.declared.Budget.{Budget}
 use Rattle.pcap_file.specs.declared.CapError.{CapError}
@@ -15,16 +15,22 @@ use Rattle.pcap_file.proofs.lemmas.Steps.{gives_found, ends_end}
 use Rattle.fab_gather.specs.declared.shelf.Input.{Input}
 use Rattle.fab_gather.specs.declared.shelf.Shelf.{Shelf}
 use Rattle.fab_gather.specs.First.{Looked}
-use Rattle.fab_gather.specs.Port.{Gave, LeavesPort, stand_at}
+use Rattle.fab_gather.specs.Port.{Gave, LeavesPort, place_behind, stand_at}
 use Rattle.fab_gather.specs.Ports.{Took, TakesFrom}
 
 -- ---- readers
+
+-- the place behind one more record
+pub place-push : (at : ℕ) (given : List Record) (y : Record) → place_behind at (given ++ y ∷ []) ≡ place_after (place_behind at given) (RECORD_HEAD + length y.caught.bytes)
+place-push at [] y = refl
+place-push at (r ∷ given) y = place-push (place_after at (RECORD_HEAD + length r.caught.bytes)) given y
 
 -- an error is kept
 pub gave_failed : (slot : ℕ) (a b : Seen) (r r' : Reading) (had left : Budget) (e : CapError) → KeepsError r r' had left e → Gave slot a b r r' []
 gave_failed slot a b r r' had left e k = record {
   head = ap (λ (q : Reading). q.head) k.kept;
   greatest = ap (λ (q : Reading). q.greatest) k.kept;
+  at = ap (λ (q : Reading). q.at) k.kept;
   rest = to_come r a slot;
   chain = λ told. refl;
   stands = λ told none. let same : None ≡ Some e = sym none ∙ ap (λ (q : Reading). q.kept) k.kept in absurd (cc);
@@ -35,6 +41,7 @@ pub gave_none : (slot : ℕ) (a b : Seen) (r : Reading) → b.left slot ≡ a.le
 gave_none slot a b r same = record {
   head = refl;
   greatest = refl;
+  at = refl;
   rest = to_come r a slot;
   chain = λ told. refl;
   stands = λ told none. ap (λ (l : List ℕ). r.held ++ l) (sym same);
@@ -45,17 +52,19 @@ pub gave_between : (slot : ℕ) (a b d e : Seen) (r r' : Reading) (given : List 
 gave_between slot a b d e r r' given told before after g = record {
   head = g.head;
   greatest = g.greatest;
+  at = g.at;
   rest = g.rest;
   chain = λ t. subst (λ (l : List ℕ). Chain r.head r.greatest given (r.held ++ l) g.rest) before (g.chain (told t));
   stands = λ t none. g.stands (told t) none ∙ ap (λ (l : List ℕ). r'.held ++ l) (sym after);
 }
 
 -- the answer of a reader that gave these
-module _ (slot : ℕ) (a b d : Seen) (r r1 r2 : Reading) (given : List Record) (had left : Budget) (told : IsTrue a.told → IsTrue b.told) (head : r1.head ≡ r.head) (greatest : r1.greatest ≡ last_moment r.greatest given) (chain : IsTrue a.told → Chain r.head r.greatest given (to_come r a slot) (to_come r1 b slot)) where
+module _ (slot : ℕ) (a b d : Seen) (r r1 r2 : Reading) (given : List Record) (had left : Budget) (told : IsTrue a.told → IsTrue b.told) (head : r1.head ≡ r.head) (greatest : r1.greatest ≡ last_moment r.greatest given) (at : r1.at ≡ place_behind r.at given) (chain : IsTrue a.told → Chain r.head r.greatest given (to_come r a slot) (to_come r1 b slot)) where
   pub gave_more : (y : Record) → NextReads slot (reader_stand b r1 had) (reader_stand d r2 left) (Ok (Some y)) → Gave slot a d r r2 (given ++ y ∷ [])
   gave_more y n = record {
     head = ap (λ (q : Reading). q.head) n.taken.moved ∙ head;
     greatest = ap (λ (q : Reading). q.greatest) n.taken.moved ∙ sym (last-push r.greatest given y);
+    at = ap (λ (q : Reading). q.at) n.taken.moved ∙ ap (λ (m : ℕ). place_after m (RECORD_HEAD + length y.caught.bytes)) at ∙ sym (place-push r.at given y);
     rest = to_come r2 d slot;
     chain = λ t.
         chain_push r.head r.greatest given y (to_come r a slot) (to_come r1 b slot) (to_come r2 d slot) (chain t)
@@ -68,6 +77,7 @@ module _ (slot : ℕ) (a b d : Seen) (r r1 r2 : Reading) (given : List Record) (
   gave_end n = record {
     head = ap (λ (q : Reading). q.head) n.taken.same ∙ head;
     greatest = ap (λ (q : Reading). q.greatest) n.taken.same ∙ greatest;
+    at = ap (λ (q : Reading). q.at) n.taken.same ∙ at;
     rest = to_come r2 d slot;
     chain = λ t.
         let says = n.says (told t) n.taken.fresh in
@@ -80,6 +90,7 @@ module _ (slot : ℕ) (a b d : Seen) (r r1 r2 : Reading) (given : List Record) (
   gave_broken e n = record {
     head = ap (λ (q : Reading). q.head) n.kept.kept ∙ head;
     greatest = ap (λ (q : Reading). q.greatest) n.kept.kept ∙ greatest;
+    at = ap (λ (q : Reading). q.at) n.kept.kept ∙ at;
     rest = to_come r1 b slot;
     chain = chain;
     stands = λ t none. let same : None ≡ Some e = sym none ∙ ap (λ (q : Reading). q.kept) n.kept.kept in absurd (cc);
@@ -90,6 +101,7 @@ pub gave_first : (c : Settings) (port slot : ℕ) (a b : Seen) (r r' : Reading) 
 gave_first c port slot a b r r' s had left zero l = record {
   head = l.head;
   greatest = l.greatest ∙ ap (λ (n : ℕ). last_moment n (option_to_list s.next)) (sym zero);
+  at = l.at;
   rest = to_come r' b slot;
   chain = λ told. subst (λ (n : ℕ). Chain r.head n (option_to_list s.next) (to_come r a slot) (to_come r' b slot)) (sym zero) (l.chain told);
   stands = λ told none. refl;
@@ -104,6 +116,7 @@ took_leaves c w a b d i i' s s' same t = record {
   gave = record {
     head = t.head;
     greatest = t.greatest;
+    at = t.at;
     rest = to_come i'.reader b i.slot;
     chain = t.chain;
     stands = λ told none. ap (λ (l : List ℕ). i'.reader.held ++ l) (sym same);

@@ -18,7 +18,7 @@ use Rattle.fab_gather.specs.declared.shelf.Shelf.{Shelf}
 use Rattle.pcap_file.specs.declared.fault.GatherFault.TheVariants as fault
 use Rattle.fab_gather.specs.First.{IsFresh, opened_by, first_look, Looked, LooksOnce}
 use Rattle.pcap_file.specs.Faults.{fault_by}
-use Rattle.fab_gather.specs.Port.{to_look, spot_of}
+use Rattle.fab_gather.specs.Port.{to_look, spot_of, place_behind}
 use Rattle.fab_gather.proofs.LeavesLemmas.{gave_failed}
 use Rattle.pcap_file.proofs.lemmas.Faults.{read_of, spared}
 use Rattle.fab_gather.proofs.PortLemmas.{some_look, says_at, own_of}
@@ -80,6 +80,7 @@ module _ (found_law : LooksFound) (end_law : LooksEnd) (steps : StepsFindStop) (
       count = count ∙ ap (λ z. length (option_to_list z)) (sym is_next);
       head = head_on;
       greatest = greatest_on ∙ ap (λ z. last_moment 0 (option_to_list z)) (sym is_next);
+      at = ap (λ (q : Reading). q.at) n.taken.moved ∙ ap (λ z. place_behind r.at (option_to_list z)) (sym is_next);
       chain = λ told.
           subst (λ z. Chain r.head 0 (option_to_list z) (to_come r a slot) (to_come r' b slot)) (sym is_next) (to_come r' b slot, found told, refl);
       ended = λ told none. let e : Some y ≡ None = sym is_next ∙ none in absurd (cc);
@@ -120,6 +121,7 @@ module _ (found_law : LooksFound) (end_law : LooksEnd) (steps : StepsFindStop) (
           count = count ∙ ap (λ z. length (option_to_list z)) (sym is_next);
           head = ap (λ (q : Reading). q.head) same;
           greatest = ap (λ (q : Reading). q.greatest) same ∙ is_fresh.greatest ∙ ap (λ z. last_moment 0 (option_to_list z)) (sym is_next);
+          at = ap (λ (q : Reading). q.at) same ∙ ap (λ z. place_behind r.at (option_to_list z)) (sym is_next);
           chain = λ told.
               let none = (n.says told n.taken.fresh).1 in
               let was = end_is r.head 0 (to_come r a slot) (ends told) in
@@ -130,7 +132,7 @@ module _ (found_law : LooksFound) (end_law : LooksEnd) (steps : StepsFindStop) (
         }
 
   pub looked : (next : Option Record) (s : Shelf) → s.next ≡ next → s.count ≡ length (option_to_list next) → NextReads slot (reader_stand a r had) (reader_stand b r' left) (Ok next) → LooksOnce c port slot (reader_stand a r had) (reader_stand b r' left) (Ok s)
-  looked next s is count n = record { reads = n.reads; looked = by_next next is count n; stops = λ told. tt; leaves = tt; cause = λ e. absurd (cc); counts = λ other. n.counts }
+  looked next s is count n = record { reads = n.reads; looked = by_next next is count n; stops = λ told. tt; leaves = tt; fails = tt; cause = λ e. absurd (cc); counts = λ other. n.counts }
     where
       by_next : (next : Option Record) → s.next ≡ next → s.count ≡ length (option_to_list next) → NextReads slot (reader_stand a r had) (reader_stand b r' left) (Ok next) → Looked c port slot (reader_stand a r had) (reader_stand b r' left) s
       by_next None is count n = looked_end s is count n
@@ -142,6 +144,7 @@ module _ (found_law : LooksFound) (end_law : LooksEnd) (steps : StepsFindStop) (
     reads = n.reads;
     looked = tt;
     leaves = (gave_failed slot a b r r' had left e n.kept, n.kept.budget);
+    fails = (e, ap (λ (q : Reading). q.kept) n.kept.kept, refl);
     stops = λ told st.
         let is = at_first (Stops e) (says_at _ (to_come r' b slot) e (own_of port e st) (n.says told is_fresh.kept)) in
         let more = some_look found_law end_law c port (first_spot o) (found_at (first_spot o)) refl in

@@ -24,7 +24,7 @@ use Rattle.pcap_file.specs.declared.fault.LimitKind.TheVariants as limit
 use Rattle.pcap_file.specs.declared.fault.GatherFault.TheVariants as fault
 use Rattle.pcap_file.specs.Faults.{fault_by, IsStopped}
 use Rattle.fab_gather.specs.Port.{IsReady, Spends, Taking, TakesWindow, StopsIn, AreOf, AreIn, Pass, is_in, spot_of, to_look, LeavesPort, stand_at, port_walk_at}
-use Rattle.fab_gather.proofs.LeavesLemmas.{gave_more, gave_end, gave_broken}
+use Rattle.fab_gather.proofs.LeavesLemmas.{gave_more, gave_end, gave_broken, place-push}
 
 -- ---- lists
 
@@ -95,6 +95,7 @@ taking_none c port w slot a r s s' had empty same count ready = record {
   count = omega arith;
   head = refl;
   greatest = refl;
+  at = refl;
   chain = λ told. refl;
   still = λ e. same ∙ e;
   onward = omega arith;
@@ -219,6 +220,7 @@ module _ (found_law : LooksFound) (end_law : LooksEnd) (steps : StepsFindStop) (
         count = let k = t.count in let l = length-append t.given (y ∷ []) in omega arith;
         head = head_on ∙ t.head;
         greatest = greatest_on ∙ sym (last-push r.greatest t.given y);
+        at = at_on ∙ ap (λ (m : ℕ). place_after m (record_size y.caught)) t.at ∙ sym (place-push r.at t.given y);
         chain = λ told.
             chain_push r.head r.greatest t.given y (to_come r a slot) (to_come r1 b slot) (to_come r2 d slot) (t.chain told)
             ((λ i. next (sym t.head i) (sym t.greatest i) (to_come r1 b slot)) ∙ found told);
@@ -267,6 +269,7 @@ module _ (found_law : LooksFound) (end_law : LooksEnd) (steps : StepsFindStop) (
             count = count ∙ t.count;
             head = ap (λ (q : Reading). q.head) same ∙ t.head;
             greatest = ap (λ (q : Reading). q.greatest) same ∙ t.greatest;
+            at = ap (λ (q : Reading). q.at) same ∙ t.at;
             chain = λ told.
                 let none = (n.says (told_b told) n.taken.fresh).1 in
                 let was = nothing_left (ends told) in
@@ -313,6 +316,7 @@ module _ (found_law : LooksFound) (end_law : LooksEnd) (steps : StepsFindStop) (
     stops = λ told st. absurd st;
     leaves = by_next o next count n;
     in_span = λ same. absurd (cc);
+    fails = λ other. absurd (other refl);
     cause = λ same. absurd (cc);
     counts = λ other m. n.counts m ∙ t.counts m;
   }
@@ -324,7 +328,7 @@ module _ (found_law : LooksFound) (end_law : LooksEnd) (steps : StepsFindStop) (
       by_next None next count n = (
         record {
           given = t.given;
-          gave = gave_end slot a b d r r1 r2 t.given mid left told_b t.head t.greatest t.chain n;
+          gave = gave_end slot a b d r r1 r2 t.given mid left told_b t.head t.greatest t.at t.chain n;
           count = let k = t.count in omega arith;
           shelf = inr (record {
             in_window = subst (AreIn c w) (sym batch) t.in_window;
@@ -341,7 +345,7 @@ module _ (found_law : LooksFound) (end_law : LooksEnd) (steps : StepsFindStop) (
       by_next (Some y) next count n = (
         record {
           given = t.given ++ y ∷ [];
-          gave = gave_more slot a b d r r1 r2 t.given mid left told_b t.head t.greatest t.chain y n;
+          gave = gave_more slot a b d r r1 r2 t.given mid left told_b t.head t.greatest t.at t.chain y n;
           count = let k = t.count in let l = length-append t.given (y ∷ []) in omega arith;
           shelf = inr (record {
             in_window = subst (AreIn c w) (sym batch) t.in_window;
@@ -398,7 +402,7 @@ module _ (found_law : LooksFound) (end_law : LooksEnd) (steps : StepsFindStop) (
       leaves = (
         record {
           given = t.given;
-          gave = gave_broken slot a b d r r1 r' t.given mid left told_b t.head t.greatest t.chain e n;
+          gave = gave_broken slot a b d r r1 r' t.given mid left told_b t.head t.greatest t.at t.chain e n;
           count = t.count;
           shelf = inr (record {
             in_window = t.in_window;
@@ -410,6 +414,7 @@ module _ (found_law : LooksFound) (end_law : LooksEnd) (steps : StepsFindStop) (
         subst (λ q. Spends had q s.count s1.count) (sym n.kept.budget) t.spent,
       );
       in_span = never_span port e;
+      fails = λ other. (e, ap (λ (q : Reading). q.kept) n.kept.kept, refl);
       counts = λ other m. spared port e b d n.counts (λ same. other (ap Err same)) m ∙ t.counts m;
     }
 

@@ -22,6 +22,7 @@ use Rattle.fab_gather.specs.Gather.{TakesAll}
 use Rattle.fab_gather.specs.Port.{IsReady, Spends, AreOf, Taking, TakesWindow, PortStand, stand_at, port_walk_at, LeavesPort, to_look}
 use Rattle.fab_base.specs.Slots.{NameIn}
 use Rattle.fab_gather.specs.Ports.{AreInputs, AreReady, At, Walk, walk_at, Took, slots_of, rests, joined, stop_after, counts_of}
+use Rattle.fab_gather.proofs.ReadLemmas.{nothing_behind}
 use Rattle.fab_gather.proofs.OrderLemmas.{TakesAt, taken_at, Sorted, AllNotBefore, Leads, EachBefore, each-append, each-nil, leads_more, sorted_leads, sorted_looks, later_looks, later_not_before, made_before}
 use Rattle.fab_gather.proofs.LeavesLemmas.{took_leaves, waits_leaves, leaves_from}
 use Rattle.fab_gather.proofs.PortLemmas.{are_of-push}
@@ -288,6 +289,7 @@ module _ {c : Settings} {w k : ℕ} {a b : Seen} {ins ins' : List Input} {shelve
             says.3,
           );
       cause = λ is. (k, turn.lt, rose_on a b ins ins' turn.are turn.round.touches turn.round.slots k i1 turn.at.input d (t.cause is));
+      fails = λ memory span. (k, i2, get_set_same ins' k i2 here, t.fails memory);
       late = (λ x. absurd (over x), λ x. let both : true ≡ false = sym x ∙ in_time in absurd (cc));
       same = λ x. absurd (over x);
       counts = λ other m. t.counts other m ∙ turn.round.counts m;
@@ -369,6 +371,13 @@ module _ {c : Settings} {w k : ℕ} {a b : Seen} {ins ins' : List Input} {shelve
         number_sym : (n : ℕ) → k + 1 ≡ n → n ≡ k + 1
         number_sym n e = sym e
 
+        -- nothing is to come of a port that had ended, nor of one that ends here
+        ended_as : IsTrue a.told → (g : Taking c (k + 1) w i.slot (port_walk_at b i.reader s mid) (port_walk_at d i2.reader s2 left)) → (x : Option Record) → s.next ≡ x → (s.next ≡ None → to_come i.reader a i.slot ≡ []) → s2.next ≡ None → to_come i2.reader d i.slot ≡ []
+        ended_as told g None e was none =
+            nothing_behind i.reader.head i.reader.greatest g.given (to_come i.reader a i.slot) (to_come i2.reader d i.slot) (was e)
+            (subst (λ (l : List ℕ). Chain i.reader.head i.reader.greatest g.given (i.reader.held ++ l) (to_come i2.reader d i.slot)) waits.rest (g.chain (told_b told)))
+        ended_as told g (Some x) e was none = g.ended (told_b told) (λ f. let no_end = sym e ∙ f in absurd (cc)) none
+
         own_done : Taking c (k + 1) w i.slot (port_walk_at b i.reader s mid) (port_walk_at d i2.reader s2 left) → TakesWindow c (k + 1) w i1.slot (port_walk_at b i1.reader s1 mid) (port_walk_at d i2.reader s2 left) (Ok tt) → Done c w (stand_at a i s) (stand_at d i2 s2) left
         own_done g t = record {
           took = record {
@@ -379,8 +388,9 @@ module _ {c : Settings} {w k : ℕ} {a b : Seen} {ins ins' : List Input} {shelve
             count = g.count;
             head = g.head;
             greatest = g.greatest;
+            at = g.at;
             chain = λ told. subst (λ (l : List ℕ). Chain i.reader.head i.reader.greatest g.given (i.reader.held ++ l) (to_come i2.reader d i.slot)) waits.rest (g.chain (told_b told));
-            ended = λ told some none. g.ended (told_b told) some none;
+            ended = λ told was none. ended_as told g s.next refl was none;
           };
           ready = g.ready;
           beyond = beyond_is c w i.reader.greatest i2.reader.greatest s.next s2.next waits.ready.last waits.from g.ready.last t.beyond g.onward g.still;
@@ -407,8 +417,9 @@ module _ {c : Settings} {w k : ℕ} {a b : Seen} {ins ins' : List Input} {shelve
                 count = h.took.count;
                 head = h.took.head;
                 greatest = h.took.greatest;
+                at = h.took.at;
                 chain = λ told. subst (λ (l : List ℕ). Chain j.reader.head j.reader.greatest h.took.given (to_come j.reader a j.slot) (j'.reader.held ++ l)) (sym at_j) (h.took.chain told);
-                ended = λ told some none. ap (λ (l : List ℕ). j'.reader.held ++ l) at_j ∙ h.took.ended told some none;
+                ended = λ told was none. ap (λ (l : List ℕ). j'.reader.held ++ l) at_j ∙ h.took.ended told was none;
               };
               ready = smaller j'.reader u'.next u'.count mid left fewer h.ready;
               beyond = h.beyond;
@@ -462,6 +473,7 @@ round_all c w k a b ins ins' shelves shelves' had left le count r = λ first in_
   looks = λ told. r.looks told first in_time;
   stops = λ told. tt;
   cause = λ e. absurd (cc);
+  fails = tt;
   late = (λ x. absurd (cc), λ x. let both : true ≡ false = sym x ∙ in_time in absurd (cc));
   same = λ x. absurd (cc);
   counts = λ other. r.counts;

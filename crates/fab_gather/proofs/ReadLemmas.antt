@@ -36,7 +36,7 @@ last-append g [] qs = refl
 last-append g (r ∷ rs) qs = last-append r.moment rs qs
 
 -- no records stand where no bytes are
-nothing_behind : (h : CaptureHead) (g : ℕ) (rs : List Record) (l rest : List ℕ) → l ≡ [] → Chain h g rs l rest → rest ≡ []
+pub nothing_behind : (h : CaptureHead) (g : ℕ) (rs : List Record) (l rest : List ℕ) → l ≡ [] → Chain h g rs l rest → rest ≡ []
 nothing_behind h g rs l rest empty c = let size = chain_size h g rs l rest c in let none = ap length empty in none_is rest (omega arith)
 
 none_read : (n : ℕ) (h : CaptureHead) (g : ℕ) → records_from n h g [] ≡ []
@@ -89,10 +89,6 @@ module _ (c : Settings) (w : ℕ) (o : Opened) (records : List Record) (a b : Se
   at_slot : to_come i'.reader b i.slot ≡ to_come i'.reader b i'.slot
   at_slot = ap (λ (n : ℕ). to_come i'.reader b n) (sym t.slot)
 
-  ended_on : IsTrue a.told → (x : Option Record) → s.next ≡ x → s'.next ≡ None → to_come i'.reader b i.slot ≡ []
-  ended_on was None e none = nothing_behind o.head (last_moment 0 so_far) t.given (to_come i.reader a i.slot) (to_come i'.reader b i.slot) (h.ended was e) (given_on was)
-  ended_on was (Some x) e none = t.ended was (λ f. let g = sym e ∙ f in absurd (cc)) none
-
   pub has_read_on : HasRead c (w + 1) o (records ++ s'.batch.items) i' s' b
   has_read_on = record {
     head = t.head ∙ h.head;
@@ -103,7 +99,7 @@ module _ (c : Settings) (w : ℕ) (o : Opened) (records : List Record) (a b : Se
         let was = subst IsTrue told now in
         subst (Chain o.head 0 ((records ++ s'.batch.items) ++ option_to_list s'.next) o.body) at_slot
         (subst (λ l. Chain o.head 0 l o.body (to_come i'.reader b i.slot)) all (chain-append o.head 0 so_far t.given o.body (to_come i.reader a i.slot) (to_come i'.reader b i.slot) (h.chain was) (given_on was)));
-    ended = λ now none. sym at_slot ∙ ended_on (subst IsTrue told now) s.next refl none;
+    ended = λ now none. let was = subst IsTrue told now in sym at_slot ∙ t.ended was (h.ended was) none;
   }
 
 module _ (c : Settings) (w : ℕ) (o : Opened) (records : List Record) (i : Input) (s : Shelf) (d : Seen) (told : IsTrue d.told) (h : HasRead c w o records i s d) where

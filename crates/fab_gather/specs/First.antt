@@ -1,5 +1,5 @@
 -- The looks at the first records, and which window comes next.
-use Rattle.std.specs.Prelude.{◌≡◌, ℕ, ◌≤◌, ◌<◌, IsTrue, List, [], ◌∷◌, length, map, Option, Some, None, IfSome, Result, IfOk, OnErr, IfErr, IsErrOf, option_to_list, slice_get, Vec}
+use Rattle.std.specs.Prelude.{◌≡◌, ◌≢◌, ℕ, ◌≤◌, ◌<◌, IsTrue, List, [], ◌∷◌, length, map, Option, Some, None, IfSome, Result, IfOk, OnErr, IfErr, IsErrOf, option_to_list, slice_get, Vec}
 use Rattle.std.specs.declared.alloc.Global.{Global}
 use Rattle.fab_base.specs.Seen.{Seen, Reads, Rose, Touches, Nothing, SameWriteFaults}
 use Rattle.fab_config.specs.Settings.{Settings}
@@ -15,9 +15,9 @@ use Rattle.fab_gather.specs.declared.shelf.Shelf.{Shelf}
 use Rattle.pcap_file.specs.declared.fault.GatherFault.{GatherFault}
 use Rattle.pcap_file.specs.declared.fault.GatherFault.TheVariants as fault
 use Rattle.pcap_file.specs.Faults.{IsStopped, TellsReads}
-use Rattle.fab_gather.specs.Port.{IsReady, Spends, Gave, to_look, ending}
+use Rattle.fab_gather.specs.Port.{IsReady, Spends, Gave, KeepsFault, place_behind, to_look, ending}
 use Rattle.fab_base.specs.Slots.{name_of, NameIn}
-use Rattle.fab_gather.specs.Ports.{slots_of, TakesFrom, rests, joined, stop_from, AreReady, counts_of}
+use Rattle.fab_gather.specs.Ports.{OneKeeps, slots_of, TakesFrom, rests, joined, stop_from, AreReady, counts_of}
 use Rattle.fab_gather.specs.Reads.{HaveRead}
 
 -- ---- the captures that are handed in
@@ -60,6 +60,7 @@ pub record Looked (c : Settings) (port slot : ℕ) (old new : ReaderStand) (s : 
   pub count : s.count ≡ length (option_to_list s.next)
   pub head : new.reader.head ≡ old.reader.head
   pub greatest : new.reader.greatest ≡ last_moment 0 (option_to_list s.next)
+  pub at : new.reader.at ≡ place_behind old.reader.at (option_to_list s.next)
   pub chain : IsTrue old.depot.told → Chain old.reader.head 0 (option_to_list s.next) (bytes_at slot old) (bytes_at slot new)
   pub ended : IsTrue old.depot.told → s.next ≡ None → bytes_at slot new ≡ []
   pub looks_ : IsTrue old.depot.told → looks c port (first_spot (opened_at slot old)) ≡ first_look port (opened_at slot old) ∷ to_look c port new.depot slot new.reader s.count s.next
@@ -84,6 +85,7 @@ pub record LooksOnce (c : Settings) (port slot : ℕ) (old new : ReaderStand) (r
   pub looked : IfOk result (λ s. Looked c port slot old new s)
   pub stops : IsTrue old.depot.told → IfErr result (λ e. IsStopped e → StopsFirst c port (opened_at slot old) old.budget e)
   pub leaves : OnErr result (Gave slot old.depot new.depot old.reader new.reader [] × (new.budget ≡ old.budget))
+  pub fails : IfErr result (KeepsFault port new.reader)
   pub cause : IsErrOf result fault.Read → Rose (old.depot.read_faults (old.depot.name slot)) (new.depot.read_faults (old.depot.name slot))
   pub counts : TellsReads old.depot new.depot result
 
@@ -111,6 +113,7 @@ pub record LooksFirst (c : Settings) (old new : Start) (result : Result (Vec She
   pub stops : IsTrue old.seen.told →
       IfErr result (λ e. IsStopped e → (s : Stop) × (stop c old.left.bytes old.left.frames (opened_in old.seen old.ins) ≡ Some s) × (ending s ≡ e) × (s.window ≡ None))
   pub leaves : OnErr result ((q : ℕ) (i i' : Input) → slice_get old.ins q ≡ Some i → slice_get new.ins q ≡ Some i' → LeavesFirst old.seen new.seen i i')
+  pub fails : IfErr result (λ e. e ≢ fault.Memory → OneKeeps new.ins e)
   pub found : (found : ℕ) × Spends old.left new.left 0 found
   pub takes : TakesFrom old.ins new.ins old.left new.left
   pub cause : IsErrOf result fault.Read →

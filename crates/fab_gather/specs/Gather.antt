@@ -1,5 +1,5 @@
 -- The next window of captures, with the most span.
-use Rattle.std.specs.Prelude.{◌≡◌, ℕ, ◌+◌, ◌-◌, ◌<◌, ◌↔◌, true, false, nat_lt, IsTrue, length, Some, Result, OnOk, OnErr, IfErr, IsErrOf}
+use Rattle.std.specs.Prelude.{◌≡◌, ◌≢◌, ℕ, ◌+◌, ◌-◌, ◌<◌, ◌↔◌, true, false, nat_lt, IsTrue, length, Some, Result, OnOk, OnErr, IfErr, IsErrOf}
 use Rattle.fab_base.specs.Seen.{Touches, Nothing, Rose, SameWriteFaults}
 use Rattle.fab_config.specs.Settings.{Settings}
 use Rattle.fab_gather.specs.Looks.{Stop, MOST_SPAN}
@@ -9,7 +9,7 @@ use Rattle.pcap_file.specs.declared.fault.GatherFault.TheVariants as fault
 use Rattle.pcap_file.specs.Faults.{IsStopped, TellsReads}
 use Rattle.fab_gather.specs.Port.{Spends, ending}
 use Rattle.fab_base.specs.Slots.{name_of, NameIn}
-use Rattle.fab_gather.specs.Ports.{slots_of, AreReady, TakesFrom, Walk, TookAll, LeavesAll, counts_of, stop_after}
+use Rattle.fab_gather.specs.Ports.{slots_of, AreReady, OneKeeps, TakesFrom, Walk, TookAll, LeavesAll, counts_of, stop_after}
 
 -- What gathering a window does: the looks to come stop where they stopped, or it ends as the first stop among them says.
 -- A window that starts too late changes nothing.
@@ -26,6 +26,7 @@ pub record Gathers (c : Settings) (first w : ℕ) (old new : Walk) (result : Res
   pub stops : IsTrue old.seen.told → IfErr result (λ e. IsStopped e → (s : Stop) × (stop_after c first old ≡ Some s) × (ending s ≡ e) × (s.window ≡ Some w))
   pub cause : IsErrOf result fault.Read →
       (q : ℕ) × (q < length old.ins) × Rose (old.seen.read_faults (name_of old.seen (slots_of old.ins) q)) (new.seen.read_faults (name_of old.seen (slots_of old.ins) q))
+  pub fails : IfErr result (λ e. e ≢ fault.Memory → e ≢ fault.Limit limit.Span → OneKeeps new.ins e)
   pub late : IsErrOf result (fault.Limit limit.Span) ↔ (nat_lt MOST_SPAN (w - first) ≡ true)
   pub same : IsErrOf result (fault.Limit limit.Span) → (new.seen ≡ old.seen) × (new.ins ≡ old.ins) × (new.shelves ≡ old.shelves) × (new.left ≡ old.left)
   pub counts : TellsReads old.seen new.seen result

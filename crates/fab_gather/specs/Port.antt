@@ -5,9 +5,10 @@ use Rattle.fab_config.specs.Settings.{Settings}
 use Rattle.fab_policy.specs.Legal.{window_start}
 use Rattle.fab_gather.specs.Looks.{Spot, Look, looks, stop_in, Stop, Reason, Fails, Span, MOST_SPAN}
 use Rattle.pcap_file.specs.Capture.{RECORD_HEAD}
-use Rattle.pcap_file.specs.Reading.{Reading, to_come, error_of}
+use Rattle.pcap_file.specs.Reading.{Reading, to_come, error_of, place_after}
 use Rattle.pcap_file.specs.Records.{Chain, last_moment}
 use Rattle.pcap_file.specs.declared.Budget.{Budget}
+use Rattle.pcap_file.specs.declared.CapError.{CapError}
 use Rattle.pcap_file.specs.declared.Record.{Record}
 use Rattle.pcap_file.specs.Faults.{fault_by, IsStopped, TellsReads}
 use Rattle.fab_gather.specs.declared.shelf.Input.{Input}
@@ -36,6 +37,15 @@ spot_of d slot r count window = record { head = r.head; index = count; at = r.at
 abbrev pub to_look : Settings → ℕ → Seen → ℕ → Reading → ℕ → Option Record → List Look
 to_look c port d slot r count None = []
 to_look c port d slot r count (Some x) = looks c port (spot_of d slot r count (Some (window_start c x.moment)))
+
+-- the place of a capture behind records that stand next at a place
+abbrev pub place_behind : ℕ → List Record → ℕ
+place_behind at [] = at
+place_behind at (r ∷ records) = place_behind (place_after at (RECORD_HEAD + length r.caught.bytes)) records
+
+-- a reader keeps the error that is told by this fault of a port, and answers it from then on
+abbrev pub KeepsFault : ℕ → Reading → GatherFault → Type 0
+KeepsFault port r e = (x : CapError) × (r.kept ≡ Some x) × (fault_by x port ≡ e)
 
 -- What stands for a port's reader and shelf while no look failed: the record that was looked at last is the last that was
 -- found, and counts don't come to their types' ends.
@@ -99,6 +109,7 @@ pub record Taking (c : Settings) (port w slot : ℕ) (old new : PortWalk) : Type
   pub count : new.shelf.count ≡ old.shelf.count + length given
   pub head : new.reader.head ≡ old.reader.head
   pub greatest : new.reader.greatest ≡ last_moment old.reader.greatest given
+  pub at : new.reader.at ≡ place_behind old.reader.at given
   pub chain : IsTrue old.seen.told → Chain old.reader.head old.reader.greatest given (bytes_from slot old) (bytes_from slot new)
   pub still : old.shelf.next ≡ None → new.shelf.next ≡ None
   pub onward : old.reader.greatest ≤ new.reader.greatest
@@ -122,6 +133,7 @@ pub record StopsIn (port w : ℕ) (had : Budget) (looks : List Look) (e : Gather
 pub record Gave (slot : ℕ) (a b : Seen) (r r' : Reading) (given : List Record) : Type 0 where
   pub head : r'.head ≡ r.head
   pub greatest : r'.greatest ≡ last_moment r.greatest given
+  pub at : r'.at ≡ place_behind r.at given
   pub rest : List ℕ
   pub chain : IsTrue a.told → Chain r.head r.greatest given (to_come r a slot) rest
   pub stands : IsTrue a.told → r'.kept ≡ None → rest ≡ to_come r' b slot
@@ -162,5 +174,6 @@ pub record TakesWindow (c : Settings) (port w slot : ℕ) (old new : PortWalk) (
   pub stops : IsTrue old.seen.told → IfErr result (λ e. IsStopped e → StopsIn port w old.left (looks_from c port slot old) e)
   pub leaves : OnErr result (LeavesPort c w (port_stand slot old) (port_stand slot new) × Spends old.left new.left old.shelf.count new.shelf.count)
   pub in_span : IfErr result (λ e. e ≢ fault.Limit limit.Span)
+  pub fails : IfErr result (λ e. e ≢ fault.Memory → KeepsFault port new.reader e)
   pub cause : IsErrOf result fault.Read → Rose (old.seen.read_faults (old.seen.name slot)) (new.seen.read_faults (old.seen.name slot))
   pub counts : TellsReads old.seen new.seen result

@@ -1,5 +1,5 @@
 -- The records of a window, taken of all ports in their order.
-use Rattle.std.specs.Prelude.{◌≡◌, ◌≢◌, ℕ, ◌+◌, ◌≤◌, ◌<◌, IsTrue, List, [], ◌∷◌, ◌++◌, length, map, Option, Some, None, IfSome, option_to_list, slice_get, slice_index}
+use Rattle.std.specs.Prelude.{◌≡◌, ℕ, ◌+◌, ◌≤◌, ◌<◌, IsTrue, List, [], ◌∷◌, ◌++◌, length, map, Option, Some, None, IfSome, option_to_list, slice_get, slice_index}
 use Rattle.fab_base.specs.Seen.{Seen}
 use Rattle.fab_base.specs.Slots.{slot_at, name_of}
 use Rattle.fab_config.specs.Settings.{Settings}
@@ -9,9 +9,10 @@ use Rattle.pcap_file.specs.Reading.{to_come}
 use Rattle.pcap_file.specs.Records.{Chain, last_moment}
 use Rattle.pcap_file.specs.declared.Budget.{Budget}
 use Rattle.pcap_file.specs.declared.Record.{Record}
+use Rattle.pcap_file.specs.declared.fault.GatherFault.{GatherFault}
 use Rattle.fab_gather.specs.declared.shelf.Input.{Input}
 use Rattle.fab_gather.specs.declared.shelf.Shelf.{Shelf}
-use Rattle.fab_gather.specs.Port.{IsReady, AreIn, to_look, PortStand, stand_at, LeavesPort}
+use Rattle.fab_gather.specs.Port.{IsReady, AreIn, KeepsFault, place_behind, to_look, PortStand, stand_at, LeavesPort}
 
 -- ---- slots
 
@@ -22,6 +23,10 @@ slots_of ins = map (λ i. i.slot) ins
 pub record AreInputs (d : Seen) (slots : List ℕ) : Type 0 where
   pub inputs : (q : ℕ) → q < length slots → IsTrue (d.input (slot_at slots q))
   pub differ : (p q : ℕ) → p < length slots → q < length slots → name_of d slots p ≡ name_of d slots q → p ≡ q
+
+-- the reader of some port keeps the error that this fault tells, and answers it from then on
+abbrev pub OneKeeps : List Input → GatherFault → Type 0
+OneKeeps ins e = (q : ℕ) × (i : Input) × (slice_get ins q ≡ Some i) × KeepsFault (q + 1) i.reader e
 
 -- What captures and limits are after they were read, however that ended: the same slots, and no more of each limit.
 pub record TakesFrom (ins ins' : List Input) (had left : Budget) : Type 0 where
@@ -80,9 +85,10 @@ pub record Took (c : Settings) (w : ℕ) (old new : PortStand) : Type 0 where
   pub count : new.shelf.count ≡ old.shelf.count + length given
   pub head : new.input.reader.head ≡ old.input.reader.head
   pub greatest : new.input.reader.greatest ≡ last_moment old.input.reader.greatest given
+  pub at : new.input.reader.at ≡ place_behind old.input.reader.at given
   pub chain : IsTrue old.seen.told →
       Chain old.input.reader.head old.input.reader.greatest given (to_come old.input.reader old.seen old.input.slot) (to_come new.input.reader new.seen old.input.slot)
-  pub ended : IsTrue old.seen.told → old.shelf.next ≢ None → new.shelf.next ≡ None → to_come new.input.reader new.seen old.input.slot ≡ []
+  pub ended : IsTrue old.seen.told → (old.shelf.next ≡ None → to_come old.input.reader old.seen old.input.slot ≡ []) → new.shelf.next ≡ None → to_come new.input.reader new.seen old.input.slot ≡ []
 
 abbrev pub TookAll : Settings → ℕ → Walk → Walk → Type 0
 TookAll c w old new =
