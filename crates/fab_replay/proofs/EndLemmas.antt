@@ -3,11 +3,12 @@ use Rattle.std.proofs.Common.{◌≡◌, ℕ, ◌+◌, ◌≤◌, inr, Bool, tru
 use Rattle.std.proofs.lemmas.Bool.{eqb-true, eqb-false}
 use Rattle.fab_policy.specs.Journal.{Journal}
 use Rattle.fab_policy.specs.Standing.{Contents}
+use Rattle.fab_policy.specs.declared.line.Line.{Line}
 use Rattle.fab_policy.specs.declared.line.Line.TheVariants.{Tick, Frame}
 use Rattle.fab_policy.specs.declared.verdict.Verdict.{Verdict}
 use Rattle.pcap_file.specs.declared.Record.{Record}
 use Rattle.fab_replay.specs.Front.{IsFirstWrong, IsGatheredTo, IsNextFrame, expects_tick, has_left}
-use Rattle.fab_replay.specs.Lines.{IsLineAt, IsUnread, number_behind}
+use Rattle.fab_replay.specs.Lines.{IsLineAt, IsUnread, behind_by, number_behind}
 use Rattle.fab_replay.specs.Steps.{IsFound, IsReached, Scene}
 use Rattle.fab_replay.specs.declared.fault.CheckFault.{CheckFault}
 use Rattle.fab_replay.specs.declared.fault.CheckFault.TheVariants as fault
@@ -44,6 +45,10 @@ module _ (x : Scene) (J : Journal) (F : Contents) (p : Place) (h : IsReached x J
 
     pub frame_behind : (n : ℕ) (q : Place) (port index : ℕ) (verdict : Verdict) (told : Option ℕ) → n ≡ number_behind p.format p.entries → IsLineAt x.bytes p q (Frame port index verdict told) → IsFirstWrong x.settings x.records x.stop x.bytes n why.Frame
     frame_behind n q port index verdict told number at = wrong_here x J F p h all_gathered n why.Frame number (port, index, told, (verdict, at.spells), unexpected, none_next port index told)
+
+    pub line_behind : (q : Place) (l : Line) → IsLineAt x.bytes p q l → IsFound x (behind_by l p)
+    line_behind q (Tick m ended) at = tick_behind (number_behind p.format p.entries) q m ended refl at
+    line_behind q (Frame port index verdict told) at = frame_behind (number_behind p.format p.entries) q port index verdict told refl at
 
   -- what stands there can't be read
   pub text_behind : (e : CheckFault) → (drop p.at x.bytes ≡ [] → ⊥) → IsUnread x.bytes p e → IsFound x e

@@ -19,7 +19,7 @@ use Rattle.fab_policy.specs.declared.verdict.Verdict.{Verdict}
 use Rattle.fab_gather.specs.declared.shelf.Shelf.{Shelf}
 use Rattle.pcap_file.specs.declared.Record.{Record}
 use Rattle.fab_replay.specs.Front.{expects_tick}
-use Rattle.fab_replay.specs.Lines.{IsLineAt, IsUnread, first_line, format_of, number_behind, text_in}
+use Rattle.fab_replay.specs.Lines.{IsLineAt, IsUnread, behind_by, first_line, format_of, number_behind, text_in}
 use Rattle.fab_replay.specs.Remains.{HasTick, IsBegun, IsTaken, IsTickIf, Remains}
 use Rattle.fab_replay.specs.Steps.{HasTurned, IsAlong, IsOnShelf, IsReached, IsRefused, IsTickNow, IsWindow, Left, Scene, refusal}
 use Rattle.fab_replay.specs.Verdicts.{IsAfter, IsMisjudged}
@@ -92,6 +92,10 @@ module _ (x : Scene) (told : Bool) (J : Journal) (F : Contents) (p : Place) (h :
 
   pub stays_frame : (n : ℕ) → n ≡ number_behind p.format p.entries → Left x told F (fault.Line n why.Frame)
   stays_frame n number = stays (Err (fault.Line n why.Frame)) (number_is n number, refl) (λ t. tt)
+
+  pub stays_behind : (l : Line) → (IsTrue told → expects_tick x.settings x.records J ≡ false) → Left x told F (behind_by l p)
+  stays_behind (Tick m ended) none = stays_tick (number_behind p.format p.entries) refl none
+  stays_behind (Frame port index verdict at) none = stays_frame (number_behind p.format p.entries) refl
 
   pub legal_old : Legal F.settings J
   legal_old = subst (λ (s : Settings). Legal s J) (sym h.settings) h.legal

@@ -7,6 +7,9 @@ use Rattle.fab_policy.specs.Text.{LINE_FEED, head_line, text, text1}
 use Rattle.fab_policy.specs.declared.line.Format.{Format}
 use Rattle.fab_policy.specs.declared.line.Format.TheVariants.{One, Two}
 use Rattle.fab_policy.specs.declared.line.Line.{Line}
+use Rattle.fab_policy.specs.declared.line.Line.TheVariants.{Tick, Frame}
+use Rattle.fab_policy.specs.declared.reading.LineError.{LineError}
+use Rattle.fab_policy.specs.declared.reading.LineError.TheVariants as line_error
 use Rattle.fab_replay.specs.declared.fault.CheckFault.{CheckFault}
 use Rattle.fab_replay.specs.declared.fault.CheckFault.TheVariants as fault
 use Rattle.fab_replay.specs.declared.fault.LineWhy.TheVariants as why
@@ -68,6 +71,21 @@ IsUnread bytes p (fault.Line n why.Rest) = (n ≡ number_behind p.format p.entri
 IsUnread bytes p (fault.Line n why.Text) = (n ≡ number_behind p.format p.entries) × (drop p.at bytes ≢ []) × ((l : Line) → Spells p.format (first_line (drop p.at bytes)) l → ⊥)
 IsUnread bytes p fault.Memory = Unit {0}
 IsUnread bytes p _ = ⊥
+
+-- what a line at a place ends a check with that couldn't be read
+abbrev pub unread_by : LineError → Place → CheckFault
+unread_by line_error.Fault p = fault.Line (number_behind p.format p.entries) why.Text
+unread_by line_error.Memory p = fault.Memory
+
+-- what a line at a place ends a check with, where none should stand
+abbrev pub behind_by : Line → Place → CheckFault
+behind_by (Tick m ended) p = fault.Line (number_behind p.format p.entries) why.Tick
+behind_by (Frame port index verdict told) p = fault.Line (number_behind p.format p.entries) why.Frame
+
+-- a line at a place isn't that of a tick, and this is its fault
+pub record IsOtherTick (p : Place) (l : Line) (moment : ℕ) (ended : List ℕ) (e : CheckFault) : Type 0 where
+  pub is : e ≡ fault.Line (number_behind p.format p.entries) why.Tick
+  pub other : l ≡ Tick moment ended → ⊥
 
 -- the fault of a line, or want of memory
 abbrev pub IsOfLine : CheckFault → Type 0

@@ -94,6 +94,7 @@ pub record Ends (k : Task) (d : Seen) (F : Contents) (result : Result ℕ CheckF
 pub record Turns (w : Written) (a b : Stand) (result : Result (Unit {0}) CheckFault) : Type 0 where
   pub turns : (k : Task) → IsOf k w → Going k 0 a → MatchResult result (λ _. (v : ℕ) × Going k v b × IsNextWindow k.settings b.walk.shelves None) (λ e. Ends k b.walk.seen b.fabric (Err e))
   pub settings : b.fabric.settings ≡ a.fabric.settings
+  pub count : b.fabric.count ≡ a.fabric.count
   pub takes : TakesFrom a.walk.ins b.walk.ins a.walk.left b.walk.left
   pub counts : TellsFaults a.walk.seen b.walk.seen result
 

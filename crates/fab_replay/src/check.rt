@@ -7,7 +7,7 @@ ghost use Rattle.fab_policy.specs.Outputs.{state_of};
 ghost use Rattle.fab_replay.specs.Check.{Checks, Leaves, matter_in, Task, task_of};
 ghost use Rattle.fab_replay.specs.Counts.{TellsFaults};
 ghost use Rattle.fab_replay.specs.Front.{expects_tick, has_left};
-ghost use Rattle.fab_replay.specs.Lines.{IsInside, IsOfLine};
+ghost use Rattle.fab_replay.specs.Lines.{IsInside, IsOfLine, behind_by};
 ghost use Rattle.fab_replay.specs.Steps.{IsAlong, IsFound, IsReached, Left, Scene};
 ghost use Rattle.fab_replay.specs.Windows.{Ends, Going, IsOf, stand_at};
 ghost use Rattle.fab_policy.specs.Standing.{Contents};
@@ -59,6 +59,7 @@ pub fn check_captures<D: Depot>(
     ensures leaves { let a = D.seen depot.old in Leaves fabric.old.settings budget.old
         (matter_in a ins.old journal.now outs.now) a.told fabric.new result }
     ensures settings { fabric.new.settings ≡ fabric.old.settings }
+    ensures count { fabric.new.count ≡ fabric.old.count }
     ensures takes { TakesFrom ins.old ins.new budget.old budget.new }
     ensures counts { TellsFaults (D.seen depot.old) (D.seen depot.new) result }
 {
@@ -123,6 +124,7 @@ fn check_begun<D: Depot>(
         (walk_at (D.seen depot.old) ins.old begun.old.shelves.items budget.old))
         → Ends k (D.seen depot.new) fabric.new result }
     ensures settings { fabric.new.settings ≡ fabric.old.settings }
+    ensures count { fabric.new.count ≡ fabric.old.count }
     ensures takes { TakesFrom ins.old ins.new budget.old budget.new }
     ensures counts { TellsFaults (D.seen depot.old) (D.seen depot.new) result }
 {
@@ -166,9 +168,19 @@ fn check_end(alloc: Global, journal: &[u8], place: &Place) -> Result<(), CheckFa
     }
     let mut behind = *place;
     match next_line(alloc, journal, &mut behind) {
-        Ok(Line::Tick { .. }) => Err(fault_at(place, LineWhy::Tick)),
-        Ok(Line::Frame { .. }) => Err(fault_at(place, LineWhy::Frame)),
+        Ok(line) => Err(line_behind(&line, place)),
         Err(fault) => Err(fault),
+    }
+}
+
+// The fault of a line that stands behind the last frame.
+fn line_behind(line: &Line, place: &Place) -> CheckFault
+    requires room { place.now.entries + place.now.entries ≤ place.now.at }
+    ensures { result ≡ behind_by line.now place.now }
+{
+    match line {
+        Line::Tick { .. } => fault_at(place, LineWhy::Tick),
+        Line::Frame { .. } => fault_at(place, LineWhy::Frame),
     }
 }
 

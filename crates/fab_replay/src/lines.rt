@@ -3,7 +3,7 @@ ghost use Rattle.std.specs.Prelude.{◌≡◌, ◌+◌, ◌≤◌, length, take,
 ghost use Rattle.std.specs.Str.{bytes_eq};
 ghost use Rattle.fab_policy.specs.Text.{head_line};
 ghost use Rattle.fab_replay.specs.Lines.{IsBehind, IsInside, IsLineAt, IsOfLine, IsUnread};
-ghost use Rattle.fab_replay.specs.Lines.{behind_line, first_line, number_behind};
+ghost use Rattle.fab_replay.specs.Lines.{behind_line, first_line, number_behind, unread_by};
 
 use crate::{CheckFault, LineWhy};
 use fab_policy::{Format, Line, LineError, read_line};
@@ -78,8 +78,18 @@ pub fn next_line(alloc: Global, journal: &[u8], place: &mut Place) -> Result<Lin
             place.entries += 1;
             Ok(line)
         }
-        Err(LineError::Fault) => Err(fault_at(place, LineWhy::Text)),
-        Err(LineError::Memory) => Err(CheckFault::Memory),
+        Err(error) => Err(unread(place, error)),
+    }
+}
+
+// The fault of a line at a place that couldn't be read.
+fn unread(place: &Place, error: LineError) -> CheckFault
+    requires room { place.now.entries + place.now.entries ≤ place.now.at }
+    ensures { result ≡ unread_by error place.now }
+{
+    match error {
+        LineError::Fault => fault_at(place, LineWhy::Text),
+        LineError::Memory => CheckFault::Memory,
     }
 }
 

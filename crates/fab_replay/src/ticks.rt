@@ -6,7 +6,7 @@ ghost use Rattle.fab_policy.specs.Legal.{IsLeastOf, windows_left};
 ghost use Rattle.fab_policy.specs.declared.event.Event.TheVariants as event;
 ghost use Rattle.fab_policy.specs.declared.line.Line.TheVariants as line_;
 ghost use Rattle.fab_pages.specs.Pages.{items_in};
-ghost use Rattle.fab_replay.specs.Lines.{IsInside, IsOfLine};
+ghost use Rattle.fab_replay.specs.Lines.{IsInside, IsOfLine, IsOtherTick};
 ghost use Rattle.fab_replay.specs.Owed.{PagesGrow};
 ghost use Rattle.fab_replay.specs.Steps.{Advances, HoldSame, IsAlong, IsFound, IsIdle, IsReached, IsTickNow, Left, Scene};
 
@@ -91,10 +91,21 @@ fn check_tick(
     let line = next_line(alloc, journal, place)?;
     fabric.tick(alloc, moment)?;
     let drained = take_sent(alloc, fabric, pages)?;
-    if !is_line_of(&line, &drained.events) {
-        return Err(fault_at(&before, LineWhy::Tick));
-    }
+    same_tick(&before, &line, &drained.events)?;
     Ok(())
+}
+
+// Checks that a line, which stands at a place, is that of the one entry in a list, which is a tick.
+fn same_tick(place: &Place, line: &Line, events: &EventList) -> Result<(), CheckFault>
+    requires room { place.now.entries + place.now.entries ≤ place.now.at }
+    ensures { (moment : ℕ) (ended : List ℕ) → events.now ≡ event.Tick moment ended ∷ []
+        → MatchResult result (λ _. line.now ≡ line_.Tick moment ended)
+        (λ e. IsOtherTick place.now line.now moment ended e) }
+{
+    if is_line_of(line, events) {
+        return Ok(());
+    }
+    Err(fault_at(place, LineWhy::Tick))
 }
 
 // Whether a line is that of the one entry in a list, which is a tick.

@@ -7,7 +7,7 @@ use Rattle.fab_replay.specs.declared.fault.CheckFault.TheVariants as fault
 use Rattle.fab_replay.proofs.LeftLemmas.{gathered_next}
 use Rattle.fab_replay.proofs.LineLemmas.{line_as, unread_as}
 use Rattle.fab_replay.proofs.RemainLemmas.{along_as, along_tick, left_refused, left_tick, reached_as, stays_refused, stays_unread}
-use Rattle.fab_replay.proofs.ResultLemmas.{if_false, if_true, told_on}
+use Rattle.fab_replay.proofs.ResultLemmas.{told_on}
 use Rattle.fab_replay.proofs.SentLemmas.{grow_reached, grow_taken, legal_there, stands_drained, tick_soon, took_one}
 use Rattle.fab_replay.proofs.StepLemmas.{left_then, other_tick, unread_here}
 use Rattle.fab_replay.proofs.ticks.check_tick.Goals as goal
@@ -31,12 +31,14 @@ take_sent-requires c = record {
 pub returns-in_err-drained-clause-checks : goal.returns-in_err-drained-clause-checks
 returns-in_err-drained-clause-checks c = λ x J t same h ahead. told_on c.from_residual-in_err-drained.result fault.Memory _ _ c.from_residual-in_err-drained.ensures.1 tt
 
-pub returns-then-not-is_line_of-clause-checks : goal.returns-then-not-is_line_of-clause-checks
-returns-then-not-is_line_of-clause-checks c = λ x J t same h ahead.
+pub returns-in_err-same_tick-clause-checks : goal.returns-in_err-same_tick-clause-checks
+returns-in_err-same_tick-clause-checks c = λ x J t same h ahead.
     let events = c.in_ok-drained.ensures.events ∙ took_one c.requires.idle c.in_ok-tick.ensures.takes in
-    subst (IsFound x) (sym c.fault_at.ensures)
-    (other_tick x J _ _ h _ t ahead _ c.next_line.new.place c.in_ok-line.line refl (line_as same refl c.in_ok-line.ensures.line)
-    (if_false c.is_line_of.result _ _ c.if-not-is_line_of.true (c.is_line_of.ensures c.args.moment _ events)))
+    let e = c.in_err-same_tick.field-0.0 in
+    let other = c.in_err-same_tick.ensures c.args.moment _ events in
+    told_on c.from_residual-in_err-same_tick.result e _ _ c.from_residual-in_err-same_tick.ensures.1
+    (subst (IsFound x) (sym other.is)
+    (other_tick x J _ _ h _ t ahead _ c.next_line.new.place c.in_ok-line.line refl (line_as same refl c.in_ok-line.ensures.line) other.other))
 
 pub returns-clause-checks : goal.returns-clause-checks
 returns-clause-checks c = λ x J t same h ahead.
@@ -50,7 +52,7 @@ returns-clause-checks c = λ x J t same h ahead.
     let new = items_in c.take_sent.new.pages in (
       ends,
       reached_as (along_tick x true J F _ (along_as h) c.args.moment ends (λ known. t) G goes c.next_line.new.place c.in_ok-line.line (line_as same refl c.in_ok-line.ensures.line)
-          (if_true c.is_line_of.result _ _ c.if-not-is_line_of.false (c.is_line_of.ensures c.args.moment ends events)) (ap (λ G. G.settings) c.take_sent.ensures.fabric ∙ c.in_ok-tick.ensures.takes.settings))
+          (c.in_ok-same_tick.ensures c.args.moment ends events) (ap (λ G. G.settings) c.take_sent.ensures.fabric ∙ c.in_ok-tick.ensures.takes.settings))
           (ap (λ G. G.count) c.take_sent.ensures.fabric ∙ c.in_ok-tick.ensures.takes.count ∙ h.count),
       grow_reached x J (e ∷ J) _ _ old new h
           (grow_taken F c.tick.new.self e J old new c.requires.idle c.in_ok-tick.ensures.takes (c.in_ok-tick.ensures.journal J (legal_there x J _ _ h) h.stands).1 c.in_ok-drained.ensures.adds),
@@ -76,13 +78,17 @@ returns-in_err-drained-clause-left c = λ x told J same h next.
     told_on c.from_residual-in_err-drained.result fault.Memory _ _ c.from_residual-in_err-drained.ensures.1
     (left_refused x told J F _ h c.args.moment ends next G (stands_drained F c.tick.new.self G J (event.Tick c.args.moment ends ∷ J) (c.in_ok-tick.ensures.journal J) c.take_sent.ensures.stands))
 
-pub returns-then-not-is_line_of-clause-left : goal.returns-then-not-is_line_of-clause-left
-returns-then-not-is_line_of-clause-left c = λ x told J same h next.
+pub returns-in_err-same_tick-clause-left : goal.returns-in_err-same_tick-clause-left
+returns-in_err-same_tick-clause-left c = λ x told J same h next.
     let F = c.args.fabric.now in
     let G = c.take_sent.new.fabric in
     let ends = addresses (overdue F.settings F.state.tables c.args.moment) in
-    subst (Left x told G) (sym c.fault_at.ensures)
-    (left_tick x told J F _ h c.args.moment ends next G (stands_drained F c.tick.new.self G J (event.Tick c.args.moment ends ∷ J) (c.in_ok-tick.ensures.journal J) c.take_sent.ensures.stands) _ refl)
+    let events = c.in_ok-drained.ensures.events ∙ took_one c.requires.idle c.in_ok-tick.ensures.takes in
+    let e = c.in_err-same_tick.field-0.0 in
+    let other = c.in_err-same_tick.ensures c.args.moment _ events in
+    told_on c.from_residual-in_err-same_tick.result e _ _ c.from_residual-in_err-same_tick.ensures.1
+    (subst (Left x told G) (sym other.is)
+    (left_tick x told J F _ h c.args.moment ends next G (stands_drained F c.tick.new.self G J (event.Tick c.args.moment ends ∷ J) (c.in_ok-tick.ensures.journal J) c.take_sent.ensures.stands) _ refl))
 
 pub returns-clause-left : goal.returns-clause-left
 returns-clause-left c = λ x told J same h next.
@@ -93,6 +99,6 @@ returns-clause-left c = λ x told J same h next.
       ends,
       along_tick x told J F _ h c.args.moment ends next G (stands_drained F c.tick.new.self G J (event.Tick c.args.moment ends ∷ J) (c.in_ok-tick.ensures.journal J) c.take_sent.ensures.stands)
           c.next_line.new.place c.in_ok-line.line (line_as same refl c.in_ok-line.ensures.line)
-          (if_true c.is_line_of.result _ _ c.if-not-is_line_of.false (c.is_line_of.ensures c.args.moment ends events))
+          (c.in_ok-same_tick.ensures c.args.moment ends events)
           (ap (λ G. G.settings) c.take_sent.ensures.fabric ∙ c.in_ok-tick.ensures.takes.settings),
     )

@@ -16,7 +16,7 @@ use Rattle.fab_replay.proofs.ResultLemmas.{told_on}
 use Rattle.fab_replay.proofs.windows.check_windows.Goals as goal
 
 pub windows-init : goal.windows-init
-windows-init g c = record { turns = λ k same going. (0, going); settings = refl; takes = takes_none c.args.ins.now c.args.budget.now; counts = (λ m. refl, λ m. refl) }
+windows-init g c = record { turns = λ k same going. (0, going); settings = refl; count = refl; takes = takes_none c.args.ins.now c.args.budget.now; counts = (λ m. refl, λ m. refl) }
 
 -- ---- gathering the window
 
@@ -48,6 +48,7 @@ returns-in-Err g c =
           subst (λ e. Ends k (seen n.depot) l.fabric (Err e)) (sym c.fault_of.ensures)
           (ends_gathering c.laws_of_windows.ensures k c.in-Some.window _ h.going _ c.in-Err.fault (gathers_as (c.config-config.ensures ∙ h.going.settings_) t));
       settings = l.invariant.settings;
+      count = l.invariant.count;
       takes = takes_then c.args.ins.now l.ins n.ins c.args.budget.now l.budget n.budget l.invariant.takes t.takes;
       counts = counts_then (seen c.args.depot.now) (seen l.depot) (seen n.depot) _ l.invariant.counts.0 l.invariant.counts.1
           (counts_gathering (seen l.depot) (seen n.depot) c.in-Err.fault c.fault_of.result c.fault_of.ensures t.counts t.writes);
@@ -97,6 +98,7 @@ returns-in_err-check_gathered g c =
           told_on r f _ _ c.from_residual.ensures.1
           (turned c.laws_of_windows.ensures k c.in-Some.window _ h.going _ (gathers_as (c.config-config.ensures ∙ h.going.settings_) t) h.next n.fabric n.course (seen n.depot) _ same (Err f) e.checks e.left e.touches e.cause e.many e.advances e.first);
       settings = e.advances.settings ∙ l.invariant.settings;
+      count = e.advances.count ∙ l.invariant.count;
       takes = takes_then c.args.ins.now l.ins c.gather.new.ins c.args.budget.now l.budget c.gather.new.budget l.invariant.takes t.takes;
       counts = counts_then (seen c.args.depot.now) (seen l.depot) (seen n.depot) r l.invariant.counts.0 l.invariant.counts.1
           (counts_then (seen l.depot) (seen c.gather.new.depot) (seen n.depot) r (t.counts (not_ok tt gather_fault.Read)) t.writes (counts_on (seen c.gather.new.depot) (seen n.depot) f r c.from_residual.ensures.1 e.counts));
@@ -117,6 +119,7 @@ windows-preserved g c =
             turned c.laws_of_windows.ensures k c.in-Some.window _ h.going _ t h.next n.fabric n.course (g.D.Depot.seen n.depot) _ same (Ok tt) e.checks e.left e.touches e.cause e.many e.advances e.first,
           );
       settings = e.advances.settings ∙ l.invariant.settings;
+      count = e.advances.count ∙ l.invariant.count;
       takes = takes_then c.args.ins.now l.ins c.gather.new.ins c.args.budget.now l.budget c.gather.new.budget l.invariant.takes gathered.takes;
       counts = (
         λ m. e.counts.reads (not_ok tt fault.Read) m ∙ gathered.counts (not_ok tt gather_fault.Read) m ∙ l.invariant.counts.0 m,
@@ -141,6 +144,7 @@ returns g c =
           let at = l.turns k same start in
           (at.0, at.1, next_here c.laws_of_windows.ensures k at.0 _ at.1 _ c.config.ensures None c.in_default.ensures.least);
       settings = l.settings;
+      count = l.count;
       takes = l.takes;
       counts = record { reads = λ not. l.counts.0; writes = l.counts.1 };
     }

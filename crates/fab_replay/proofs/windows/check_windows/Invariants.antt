@@ -13,6 +13,7 @@ invariant-windows g l =
       turns : (k : Task) → IsOf k l.written → Going k 0 (stand_at l.fn.fabric l.fn.course (walk_at (seen l.fn.depot) l.fn.ins l.fn.shelves l.fn.budget)) →
           (v : ℕ) × Going k v (stand_at l.fabric l.course (walk_at (seen l.depot) l.ins l.shelves l.budget));
       settings : l.fabric.settings ≡ l.fn.fabric.settings;
+      count : l.fabric.count ≡ l.fn.fabric.count;
       takes : TakesFrom l.fn.ins l.ins l.fn.budget l.budget;
       counts : SameReadFaults (seen l.fn.depot) (seen l.depot) × SameWriteFaults (seen l.fn.depot) (seen l.depot);
     }
