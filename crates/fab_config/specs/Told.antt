@@ -1,5 +1,5 @@
 -- What an error tells of the reading of a line, and of a text.
-use Rattle.std.specs.Prelude.{◌≡◌, Result, Ok, Err, MatchResult}
+use Rattle.std.specs.Prelude.{◌≡◌, ℕ, Result, Ok, Err, MatchResult}
 use Rattle.fab_config.specs.declared.ConfigWhy.{ConfigWhy}
 use Rattle.fab_config.specs.declared.ConfigFault.{ConfigFault}
 use Rattle.fab_config.specs.declared.reading.LineError.{LineError}
@@ -19,6 +19,11 @@ Answers result r = MatchResult result (λ x. r ≡ Ok x) (λ e. Tells e r)
 -- the same of what a change leaves
 abbrev pub Leaves : {X : Type 0} → X → Result (Unit {0}) LineError → Result X ConfigWhy → Type 0
 Leaves left result r = MatchResult result (λ u. r ≡ Ok left) (λ e. Tells e r)
+
+-- what an error of a line is to the text
+abbrev pub text_error : ℕ → LineError → ConfigError
+text_error n (line.Fault why) = text.Fault (record { line = n; why = why })
+text_error n line.Memory = text.Memory
 
 -- the same of a whole text
 abbrev pub TellsText : {X : Type 0} → ConfigError → Result X ConfigFault → Type 0

@@ -1,8 +1,8 @@
 //! Reading a configuration text.
-ghost use Rattle.std.specs.Prelude.{◌≤◌, length};
+ghost use Rattle.std.specs.Prelude.{◌≡◌, ◌≤◌, length};
 ghost use Rattle.fab_config.specs.Lines.{lines_of};
 ghost use Rattle.fab_config.specs.Text.{decoded, lines_read, NOTHING};
-ghost use Rattle.fab_config.specs.Told.{AnswersText};
+ghost use Rattle.fab_config.specs.Told.{AnswersText, text_error};
 
 use crate::draft::Draft;
 use crate::words::cut_line;
@@ -71,8 +71,7 @@ fn read_lines(alloc: Global, text: &[u8]) -> Result<Config, ConfigError>
         let (words, more) = cut_line(rest);
         draft = match draft.with_line(alloc, words) {
             Ok(draft) => draft,
-            Err(LineError::Fault(why)) => return Err(ConfigError::Fault(ConfigFault { line, why })),
-            Err(LineError::Memory) => return Err(ConfigError::Memory),
+            Err(error) => return Err(text_error(line, error)),
         };
         rest = more;
         line += 1;
@@ -83,5 +82,15 @@ fn read_lines(alloc: Global, text: &[u8]) -> Result<Config, ConfigError>
             line,
             why: ConfigWhy::Missing,
         })),
+    }
+}
+
+// What an error of a line is to the text.
+fn text_error(line: u32, error: LineError) -> ConfigError
+    ensures { result ≡ text_error line error }
+{
+    match error {
+        LineError::Fault(why) => ConfigError::Fault(ConfigFault { line, why }),
+        LineError::Memory => ConfigError::Memory,
     }
 }
