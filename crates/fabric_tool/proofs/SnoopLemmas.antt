@@ -3,19 +3,19 @@ use Rattle.std.proofs.Common.{◌≡◌, ◌≢◌, ℕ, List, ◌++◌, [], ◌
 use Rattle.std.specs.Prelude.{Result, String, map}
 use Rattle.std.specs.declared.alloc.Global.{Global}
 use Rattle.fab_base.specs.Ending.{end_by, NoFaults, SparesReads, SparesWrites}
-use Rattle.fab_base.specs.Seen.{Seen, SameFiles, SameReadFaults, SameWriteFaults, Touches, Nothing, Only}
+use Rattle.fab_base.specs.Seen.{Seen, Rose, SameFiles, SameReadFaults, SameWriteFaults, Touches, Nothing, Only}
 use Rattle.fab_base.specs.Sunk.{Sunk}
-use Rattle.fab_base.proofs.SeenLemmas.{reads_touches}
+use Rattle.fab_base.proofs.SeenLemmas.{reads_touches, rose_later}
 use Rattle.fab_config.specs.Settings.{Settings}
 use Rattle.fab_config.specs.declared.ConfigFault.{ConfigFault}
 use Rattle.pcap_file.specs.Captures.{captures_by}
 use Rattle.pcap_file.specs.declared.fault.GatherFault.{GatherFault}
 use Rattle.pcap_file.specs.declared.fault.GatherFault.TheVariants as gather
 use Rattle.fip_snoop.specs.Bridge.{Arrival, arrivals, history, passed, dropped}
-use Rattle.fip_snoop.specs.Laws.{DataGoesUp}
+use Rattle.fip_snoop.specs.Laws.{DataGoesUp, DataGoesDown, ENodesAreApart}
 use Rattle.fip_snoop.specs.Messages.{forwarder_of}
 use Rattle.snoop_run.specs.Bridged.{HasBridged, HasFronts, HasStop, Ends, Bridges}
-use Rattle.snoop_run.specs.Crossing.{crossing, captures}
+use Rattle.snoop_run.specs.Crossing.{crossing, captures, IsFirstUnread}
 use Rattle.snoop_run.specs.Laws.{AreCaptures}
 use Rattle.snoop_run.specs.Sides.{ins_of, outs_of}
 use Rattle.snoop_run.specs.declared.run.Crossed.{Crossed}
@@ -29,7 +29,7 @@ use Rattle.fabric_tool.specs.Inputs.{HasConfig, HasFault, LIMITS}
 use Rattle.fabric_tool.specs.Opening.{stopped_by, crossed_by}
 use Rattle.fabric_tool.specs.Outcome.{status_of, line_of}
 use Rattle.fabric_tool.specs.Reading.{ConfigRead}
-use Rattle.fabric_tool.specs.Snooping.{HasSnooped, HasSnoopedFront, HasSnoopFront, IsStopped, snoop_end, SnoopHolds, SnoopEnded, SnoopForms, SnoopSays, crossing_of, snoop_meaning}
+use Rattle.fabric_tool.specs.Snooping.{HasSnooped, HasSnoopedFront, HasSnoopFront, IsCaptureUnread, IsStopped, snoop_end, SnoopHolds, SnoopEnded, SnoopForms, SnoopSays, crossing_of, snoop_meaning}
 use Rattle.fabric_tool.specs.declared.outcome.Outcome.{Outcome}
 use Rattle.fabric_tool.specs.declared.outcome.Outcome.TheVariants as ends
 use Rattle.fabric_tool.proofs.EndingLemmas.{Left, Said, IsAnswer, less}
@@ -176,11 +176,14 @@ pub not_configured : (k : SnoopNames) (old new : Seen) (x : Outcome) → ConfigR
 not_configured k old new x read = elim read.only [
   | inl fault ↦ subst (SnoopHolds k old new) (sym fault.1) (read.reads.files, λ told. read.fault told fault.0 fault.1, none (ends.Config fault.0) fault.1 (λ is. cc))
   | inr other ↦ elim other [
-    | inl failed ↦ subst (SnoopHolds k old new) (sym failed) (read.reads.files, inl (read.cause (ap (λ (o : Outcome). let r : Result Settings Outcome = Err o in r) failed)), λ told. tt, read.reads.writes)
+    | inl failed ↦ subst (SnoopHolds k old new) (sym failed) (read.reads.files, inl (rose failed), λ told. inl (rose failed), read.reads.writes)
     | inr memory ↦ subst (SnoopHolds k old new) (sym memory) ((λ m other. read.reads.files m), λ told. inl read.reads.files, none ends.Memory memory (λ is. cc))
   ]
 ]
   where
+    rose : x ≡ ends.ReadFault → Rose (old.read_faults k.config) (new.read_faults k.config)
+    rose failed = read.cause (ap (λ (o : Outcome). let r : Result Settings Outcome = Err o in r) failed)
+
     -- no fault was counted where none is told
     none : (o : Outcome) → x ≡ o → o ≢ ends.ReadFault → NoFaults old new
     none o is other = (read.counts (λ e. other (sym is ∙ unread_is x e)), read.reads.writes)
@@ -194,7 +197,7 @@ files_since : (a b : Seen) → SameFiles a b → (names : List (List ℕ)) → m
 files_since a b same [] = refl
 files_since a b same (n ∷ names) = let first = same n in let rest = files_since a b same names in cc
 
-module _ (k : SnoopNames) (c : Settings) (a b z : Seen) (config : ConfigRead k.config a b (Ok c)) (law : DataGoesUp) where
+module _ (k : SnoopNames) (c : Settings) (a b z : Seen) (config : ConfigRead k.config a b (Ok c)) (law : DataGoesUp) (downs : DataGoesDown) (apart : ENodesAreApart) where
   same : SameFiles a b
   same = config.reads.files
 
@@ -221,10 +224,27 @@ module _ (k : SnoopNames) (c : Settings) (a b z : Seen) (config : ConfigRead k.c
       dropped_ = h.dropped_;
     };
     data_ = λ before later x f read is other reads. law (forwarder_of c) (history (forwarder_of c) [] before) x.port x.caught f read other reads;
+    down = λ before later x f read q is own reads. downs (forwarder_of c) (history (forwarder_of c) [] before) x.port x.caught f read q own reads;
+    apart = λ before later x q is. apart (forwarder_of c) (history (forwarder_of c) [] before) x.port x.caught q;
   }
 
   stopped_since : (fault : GatherFault) → HasStop k.ins LIMITS b fault → IsTrue a.told → IsStopped k a fault
   stopped_since fault h told = record { settings = c; config = config.ok told; stops = sym (ap (crossing LIMITS) (files_since a b same k.ins)) ∙ h }
+
+  unread_since : IsFirstUnread k.ins LIMITS b z → IsTrue a.told → IsCaptureUnread k a z
+  unread_since h told = record {
+    settings = c;
+    config = config.ok told;
+    first = record {
+      before = h.before;
+      name = h.name;
+      behind = h.behind;
+      are = h.are;
+      ins = h.ins;
+      taken = sym (ap (captures_by 1 LIMITS) (files_since a b same h.before)) ∙ h.taken;
+      rose = rose_later (a.read_faults h.name) (b.read_faults h.name) (z.read_faults h.name) (touched.reads_rise h.name) h.rose;
+    };
+  }
 
   front_since : HasFronts k.ins k.outs LIMITS c b z → IsTrue a.told → HasSnoopedFront k a z
   front_since h told = record {
@@ -246,6 +266,6 @@ module _ (k : SnoopNames) (c : Settings) (a b z : Seen) (config : ConfigRead k.c
       go (Ok done) e reads writes = (others, λ told. bridged_since done (e (told_b told)) told, none reads writes)
       go (Err (faults.Capture port at why)) e reads writes = ((λ m. e.0 m ∙ same m), λ told. stopped_since (gather.Capture port at why) (e.1 (told_b told)) told, none reads writes)
       go (Err (faults.Limit kind)) e reads writes = ((λ m. e.0 m ∙ same m), λ told. stopped_since (gather.Limit kind) (e.1 (told_b told)) told, none reads writes)
-      go (Err faults.Read) e reads writes = ((λ m. e.0 m ∙ same m), inr (rose_since a.read_faults b.read_faults z.read_faults touched.reads_rise k.ins e.1), λ told. tt, λ m. writes m ∙ counted.1 m)
+      go (Err faults.Read) e reads writes = ((λ m. e.0 m ∙ same m), inr (rose_since a.read_faults b.read_faults z.read_faults touched.reads_rise k.ins e.1), λ told. inr (unread_since (e.2 (told_b told)) told), λ m. writes m ∙ counted.1 m)
       go (Err faults.Write) e reads writes = (others, rose_since a.write_faults b.write_faults z.write_faults touched.writes_rise k.outs e.0, λ told. front_since (e.1 (told_b told)) told, λ m. reads m ∙ counted.0 m)
       go (Err faults.Memory) e reads writes = (others, λ told. elim (e (told_b told)) [ inl still ↦ inl (λ m. still m ∙ same m) | inr front ↦ inr (front_since front told) ], none reads writes)

@@ -10,7 +10,7 @@ use crate::limits::{MOST_BYTES, MOST_FRAMES};
 use crate::outcome::Outcome;
 use crate::running::stopped;
 use fab_base::{Depot, word_at};
-use fip_snoop::data_goes_up;
+use fip_snoop::{data_goes_down, data_goes_up, enodes_are_apart};
 use pcap_file::Budget;
 use run_files::RunFault;
 use snoop_run::{Crossed, run_bridge};
@@ -24,8 +24,11 @@ pub(crate) fn snoop<D: Depot>(alloc: Global, words: &[String], depot: &mut D) ->
     ensures holds { SnoopHolds (spec.snoop_of words.now) (D.seen depot.old) (D.seen depot.new)
         result }
 {
-    // Law: from a node's port data goes up exactly where it is of a login; SnoopHolds says so too.
+    // Laws: data goes up and down exactly by logins, and no ENode gets what another one sent;
+    // SnoopHolds says so too.
     data_goes_up();
+    data_goes_down();
+    enodes_are_apart();
     let config = match config_of(alloc, depot, word_at(words, 1)) {
         Ok(config) => config,
         Err(outcome) => return outcome,

@@ -38,9 +38,10 @@ pub fn fabric_tool<R: Threads + Wait + Sync, D: Depot, K: Sink, G: Gate + Sync>(
     // The command was done. The headline, of `run`: one journal that is a run over the captures as
     // they were found, legal and safe, stands in the outputs, and its line was printed. Of
     // `convert`: the output is the capture of the input's packets. Of `snoop`: each output has the
-    // frames whose way leads to it, and data goes up from an ENode's port exactly where its login
-    // allows it. Of `enode`: the output is what the machine sends, and a forwarder that sent all
-    // of the input has granted the address that the node is up with. The two texts were printed.
+    // frames whose way leads to it, data goes up and down exactly where a login allows it, and no
+    // ENode gets what another one sent. Of `enode`: the output is what the machine sends, and a
+    // forwarder that sent all of the input has granted the address that the node is up with. The
+    // two texts were printed.
     ensures done { result ≡ 0 → OfCommand words.now (λ k. Done k (D.seen depot.old)
         (D.seen depot.new) (K.sunk say.old) (K.sunk say.new)) }
     // The configuration has a fault, or an input can't be taken from a place on; of `run`, the

@@ -3,10 +3,10 @@ use Rattle.std.proofs.Common.{◌≡◌, ℕ, ◌+◌, inl, List, [], ◌∷◌,
 use Rattle.std.specs.Prelude.{Result, Vec, map, IfOk, IfErr}
 use Rattle.std.specs.declared.alloc.Global.{Global}
 use Rattle.fab_base.specs.Ending.{End, Said, end_by, Uses}
-use Rattle.fab_base.specs.Seen.{Seen, OpensIn, Nothing, Only}
+use Rattle.fab_base.specs.Seen.{Seen, Rose, OpensIn, Nothing, Only}
 use Rattle.fab_base.specs.declared.values.Failed.{Failed}
-use Rattle.fab_base.proofs.EndingLemmas.{uses_none, uses_refused, uses_then, uses_wider, opens_in_uses}
-use Rattle.fab_base.proofs.SeenLemmas.{told_stays}
+use Rattle.fab_base.proofs.EndingLemmas.{uses_none, uses_refused, uses_then, uses_wider, rose_only, opens_in_uses}
+use Rattle.fab_base.proofs.SeenLemmas.{told_stays, rose_later}
 use Rattle.pcap_file.specs.declared.Budget.{Budget}
 use Rattle.pcap_file.specs.declared.Record.{Record}
 use Rattle.pcap_file.specs.Records.{Ascends}
@@ -113,10 +113,20 @@ module _ (names : List (List ℕ)) (a b : Seen) (ins : List (List Record)) (had 
   told_now : IsTrue a.told → IsTrue b.told
   told_now told = subst IsTrue (sym h.uses.touches.told) told
 
+  taken_so_far : IsTrue a.told → captures_by 1 had (map (λ n. a.file n) names) ≡ Ok ins
+  taken_so_far told = ap (captures_by 1 had) (sym (append-nil (map (λ n. a.file n) names))) ∙ h.taken told [] ∙ ap Ok (append-nil ins)
+
   same_files : (m : List ℕ) → b.file m ≡ a.file m
   same_files m = h.uses.touches.files m (λ x. x)
 
   module _ (name : List ℕ) (d : Seen) (left' : Budget) where
+    -- a capture that couldn't be read has its fault counted
+    unread : (e : GatherFault) → e ≡ gather.Read → Uses (Only name) Nothing (gather_end e) b d → Rose (b.read_faults name) (d.read_faults name)
+    unread (gather.Capture port at why) is u = absurd (cc)
+    unread (gather.Limit kind) is u = absurd (cc)
+    unread gather.Read is u = rose_only name b.read_faults d.read_faults u.counts.0
+    unread gather.Memory is u = absurd (cc)
+
     used : (end : End) → Uses (Only name) Nothing end b d → Uses (Among (names ++ name ∷ [])) Nothing end a d
     used end u =
         let all = Among (names ++ name ∷ []) in
@@ -157,6 +167,15 @@ module _ (names : List (List ℕ)) (a b : Seen) (ins : List (List Record)) (had 
         stops = λ told stopped.
             ap (λ l. captures_by 1 had (map (λ n. a.file n) l)) are ∙ ap (captures_by 1 had) (files_push a names name behind) ∙ h.taken told (a.file name ∷ map (λ n. a.file n) behind)
             ∙ ap (λ f. in_front ins (captures_by (length names + 1) left (f ∷ map (λ n. a.file n) behind))) (sym (same_files name)) ∙ ap (in_front ins) (read.stops (told_now told) (map (λ n. a.file n) behind) stopped);
+        first = λ told is. record {
+          before = names;
+          name = name;
+          behind = behind;
+          are = are;
+          ins = ins;
+          taken = taken_so_far told;
+          rose = rose_later (a.read_faults name) (b.read_faults name) (d.read_faults name) (h.uses.touches.reads_rise name) (unread e is read.uses);
+        };
       }
 
       pub inputs_no_room : (rs : List Record) → ReadsInput (length names + 1) name b d left left' (Ok rs) → ReadsInputs all a d had (Err gather.Memory)
@@ -165,13 +184,14 @@ module _ (names : List (List ℕ)) (a b : Seen) (ins : List (List Record)) (had 
         are = tt;
         taken = λ told. tt;
         stops = λ told stopped. absurd stopped;
+        first = λ told is. absurd (cc);
       }
 
   pub inputs_all : (v : Vec (List Record) Global) → v.items ≡ ins → ReadsInputs names a b had (Ok v)
   inputs_all v is = record {
     uses = h.uses;
     are = subst (AreRead names had) (sym is) (record { count = h.count; fit = h.fit; ascend = h.ascend; frames = let was = h.frames in omega (arith, was) });
-    taken = λ told.
-        ap (captures_by 1 had) (sym (append-nil (map (λ n. a.file n) names))) ∙ h.taken told [] ∙ ap Ok (append-nil ins) ∙ ap Ok (sym is);
+    taken = λ told. taken_so_far told ∙ ap Ok (sym is);
     stops = λ told. tt;
+    first = λ told. tt;
   }

@@ -16,7 +16,7 @@ use Rattle.run_files.specs.Faults.{run_end}
 use Rattle.run_files.specs.Names.{Among, AnyRose}
 use Rattle.run_files.specs.declared.fault.RunFault.{RunFault}
 use Rattle.run_files.specs.declared.fault.RunFault.TheVariants as faults
-use Rattle.snoop_run.specs.Crossing.{crossing, captures}
+use Rattle.snoop_run.specs.Crossing.{crossing, captures, IsFirstUnread}
 use Rattle.snoop_run.specs.Laws.{AreCaptures}
 use Rattle.snoop_run.specs.declared.run.Crossed.{Crossed}
 
@@ -67,7 +67,7 @@ abbrev pub Ends : List (List ℕ) → List (List ℕ) → Budget → Settings �
 Ends ins outs budget c old new (Ok done) = IsTrue old.told → HasBridged ins outs budget c old new done
 Ends ins outs budget c old new (Err (faults.Capture port at why)) = SameFiles old new × (IsTrue old.told → HasStop ins budget old (gather.Capture port at why))
 Ends ins outs budget c old new (Err (faults.Limit kind)) = SameFiles old new × (IsTrue old.told → HasStop ins budget old (gather.Limit kind))
-Ends ins outs budget c old new (Err faults.Read) = SameFiles old new × AnyRose old.read_faults new.read_faults ins
+Ends ins outs budget c old new (Err faults.Read) = SameFiles old new × AnyRose old.read_faults new.read_faults ins × (IsTrue old.told → IsFirstUnread ins budget old new)
 Ends ins outs budget c old new (Err faults.Write) = AnyRose old.write_faults new.write_faults outs × (IsTrue old.told → HasFronts ins outs budget c old new)
 Ends ins outs budget c old new (Err faults.Memory) = IsTrue old.told → SameFiles old new ⊎ HasFronts ins outs budget c old new
 

@@ -10,10 +10,12 @@ use Rattle.pcap_file.specs.declared.Record.{Record}
 use Rattle.pcap_file.specs.Records.{Ascends}
 use Rattle.pcap_file.specs.Faults.{gather_end, IsStopped}
 use Rattle.pcap_file.specs.declared.fault.GatherFault.{GatherFault}
+use Rattle.pcap_file.specs.declared.fault.GatherFault.TheVariants as gather
 use Rattle.pcap_file.specs.Captures.{AreFit, unless_stopped, captures_by}
 use Rattle.fip_snoop.specs.Queue.{AllAscend}
 use Rattle.run_files.specs.Names.{Among, AnyRose}
 use Rattle.run_files.specs.Opening.{AreEmptyOutputs, Opens}
+use Rattle.snoop_run.specs.Crossing.{IsFirstUnread}
 use Rattle.snoop_run.specs.Records.{AllFit, count_in}
 
 -- ---- inputs
@@ -44,6 +46,7 @@ pub record ReadsInputs (names : List (List ℕ)) (a b : Seen) (budget : Budget) 
   pub are : IfOk result (λ v. AreRead names budget v.items)
   pub taken : IsTrue a.told → IfOk result (λ v. captures_by 1 budget (map (λ n. a.file n) names) ≡ Ok v.items)
   pub stops : IsTrue a.told → IfErr result (λ e. IsStopped e → captures_by 1 budget (map (λ n. a.file n) names) ≡ Err e)
+  pub first : IsTrue a.told → IfErr result (λ e. e ≡ gather.Read → IsFirstUnread names budget a b)
 
 -- ---- outputs
 

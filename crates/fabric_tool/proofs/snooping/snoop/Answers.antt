@@ -25,5 +25,5 @@ returns g c =
     let z = seen c.run_bridge.new.depot in
     record {
       holds = subst (SnoopHolds k a z) (sym c.crossed.ensures)
-          (bridge_ended k c.in-Ok.config a b z (config_as c.word_at.ensures c.in-Ok.ensures.reads) c.data_goes_up.ensures c.run_bridge.result (bridges_as c.sides_of.ensures.value c.run_bridge.ensures.bridges));
+          (bridge_ended k c.in-Ok.config a b z (config_as c.word_at.ensures c.in-Ok.ensures.reads) c.data_goes_up.ensures c.data_goes_down.ensures c.enodes_are_apart.ensures c.run_bridge.result (bridges_as c.sides_of.ensures.value c.run_bridge.ensures.bridges));
     }
