@@ -8,10 +8,13 @@ use Rattle.fab_base.specs.declared.values.Failed.{Failed}
 use Rattle.fab_base.proofs.Depots.{reads_refl, reads_trans, rose_later, told_stays}
 use Rattle.fab_config.specs.Settings.{Settings}
 use Rattle.fab_config.specs.Text.{decoded}
+use Rattle.fab_config.specs.Told.{TellsText}
 use Rattle.fab_config.specs.declared.ConfigFault.{ConfigFault}
 use Rattle.fab_config.specs.declared.ConfigWhy.TheVariants as why
+use Rattle.fab_config.specs.declared.reading.ConfigError.{ConfigError}
+use Rattle.fab_config.specs.declared.reading.ConfigError.TheVariants as errors
 use Rattle.pcap_file.proofs.lemmas.Numbers.{le_or_lt}
-use Rattle.fabric_tool.specs.Reading.{TextRead, ConfigRead}
+use Rattle.fabric_tool.specs.Reading.{TextRead, ConfigRead, misread_by}
 use Rattle.fabric_tool.specs.declared.outcome.Outcome.{Outcome}
 use Rattle.fabric_tool.specs.declared.outcome.Outcome.TheVariants as ends
 
@@ -40,7 +43,7 @@ module _ (s : ℕ) (a b : Seen) (text : List ℕ) where
     pub text_value : (c : Settings) → decoded (take got text) ≡ Ok c → TextRead s a b (Ok c)
     text_value c is = record { reads = f.reads; ok = λ told. sym (same_value told) ∙ is; fault = λ told. tt; cause = λ h. absurd (cc); only = tt; counts = λ no. f.counts }
 
-    pub text_fault : (x : ConfigFault) → decoded (take got text) ≡ Err x → TextRead s a b (Err (ends.Config x))
+    text_fault : (x : ConfigFault) → decoded (take got text) ≡ Err x → TextRead s a b (Err (ends.Config x))
     text_fault x is = record {
       reads = f.reads;
       ok = λ told. tt;
@@ -50,8 +53,13 @@ module _ (s : ℕ) (a b : Seen) (text : List ℕ) where
       counts = λ no. f.counts;
     }
 
-    pub text_memory : TextRead s a b (Err ends.Memory)
+    text_memory : TextRead s a b (Err ends.Memory)
     text_memory = record { reads = f.reads; ok = λ told. tt; fault = λ told x h. absurd (cc); cause = λ h. absurd (cc); only = inr (inr refl); counts = λ no. f.counts }
+
+    -- an error of reading what was got
+    pub text_misread : (e : ConfigError) → TellsText e (decoded (take got text)) → TextRead s a b (Err (misread_by e))
+    text_misread (errors.Fault x) tells = text_fault x tells
+    text_misread errors.Memory tells = text_memory
 
 pub text_no_room : (s : ℕ) (a : Seen) → TextRead s a a (Err ends.Memory)
 text_no_room s a = record { reads = reads_refl (a.name s) a; ok = λ told. tt; fault = λ told x h. absurd (cc); cause = λ h. absurd (cc); only = inr (inr refl); counts = λ no m. refl }

@@ -6,6 +6,8 @@ use Rattle.fab_base.specs.Seen.{Seen, Reads, Rose, Touches, Nothing, SameWriteFa
 use Rattle.fab_config.specs.Settings.{Settings}
 use Rattle.fab_config.specs.Text.{decoded}
 use Rattle.fab_config.specs.declared.ConfigFault.{ConfigFault}
+use Rattle.fab_config.specs.declared.reading.ConfigError.{ConfigError}
+use Rattle.fab_config.specs.declared.reading.ConfigError.TheVariants as errors
 use Rattle.pcap_file.specs.Capture.{HEAD}
 use Rattle.pcap_file.specs.declared.Budget.{Budget}
 use Rattle.pcap_file.specs.declared.CapOpen.{CapOpen}
@@ -34,6 +36,11 @@ TellsReads old new result = ending.TellsReads ends.ReadFault old new result
 -- the outcomes of reading a configuration
 abbrev pub IsConfigEnd : Outcome → Type 0
 IsConfigEnd o = ((fault : ConfigFault) × (o ≡ ends.Config fault)) ⊎ ((o ≡ ends.ReadFault) ⊎ (o ≡ ends.Memory))
+
+-- what an error of its reading ends a command with
+abbrev pub misread_by : ConfigError → Outcome
+misread_by (errors.Fault fault) = ends.Config fault
+misread_by errors.Memory = ends.Memory
 
 -- a configuration that is left of a slot
 pub record TextRead (s : ℕ) (old new : Seen) (result : Result Settings Outcome) : Type 0 where

@@ -1,6 +1,6 @@
 //! The configuration.
 ghost use Rattle.std.specs.Prelude.{◌≡◌, IsTrue, length, vec_len, IfOk};
-ghost use Rattle.fabric_tool.specs.Reading.{ConfigRead, TextRead};
+ghost use Rattle.fabric_tool.specs.Reading.{ConfigRead, TextRead, misread_by};
 
 use crate::outcome::Outcome;
 use fab_base::{Depot, fill};
@@ -52,8 +52,17 @@ fn config_in<D: Depot>(
     };
     match read_config(alloc, &room[..got]) {
         Ok(config) => Ok(config),
-        Err(ConfigError::Fault(fault)) => Err(Outcome::Config { fault }),
-        Err(ConfigError::Memory) => Err(Outcome::Memory),
+        Err(error) => Err(misread(error)),
+    }
+}
+
+// What an error of its reading ends the command with.
+fn misread(error: ConfigError) -> Outcome
+    ensures { result ≡ misread_by error }
+{
+    match error {
+        ConfigError::Fault(fault) => Outcome::Config { fault },
+        ConfigError::Memory => Outcome::Memory,
     }
 }
 
