@@ -205,7 +205,7 @@ module _ (inn outs : List (List ℕ)) (budget : Budget) (c : Settings) (a b : Se
       ended : (e : GatherFault) → ReadsInputs inn a b budget (Err e) → Ends inn outs budget c a b (Err (fault_from e))
       ended (gather.Capture port at why) r = (λ m. r.uses.touches.files m (λ x. x), λ told. stop (gather.Capture port at why) (r.stops told tt))
       ended (gather.Limit kind) r = (λ m. r.uses.touches.files m (λ x. x), λ told. stop (gather.Limit kind) (r.stops told tt))
-      ended gather.Read r = (λ m. r.uses.touches.files m (λ x. x), let rose = r.uses.counts.0 in rose_among a.read_faults b.read_faults inn rose.0 rose.1 rose.2, λ told. r.first told refl)
+      ended gather.Read r = (λ m. r.uses.touches.files m (λ x. x), (let rose = r.uses.counts.0 in rose_among a.read_faults b.read_faults inn rose.0 rose.1 rose.2), λ told. r.first told refl)
       ended gather.Memory r = λ told. inl (λ m. r.uses.touches.files m (λ x. x))
 
   module _ (law : TakenAreCaptures) (v : Vec (List Record) Global) (read : ReadsInputs inn a b budget (Ok v)) (d : Seen) where
