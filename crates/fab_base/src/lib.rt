@@ -27,5 +27,5 @@ pub use mem_depot::MemDepot;
 pub use mem_sink::MemSink;
 pub use sink::Sink;
 pub use texts::{address_text, mac_text, wwn_text};
-pub use values::{Caught, Enode, Failed, FcId, Mac, Moment, NoMemory, PortNo, Wwn};
+pub use values::{Caught, Enode, Failed, FcId, MOST_PORTS, Mac, Moment, NoMemory, PortNo, Wwn};
 pub use whole::{WholeError, fill, put_all, read_whole, say_all};

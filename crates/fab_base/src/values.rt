@@ -100,6 +100,9 @@ impl FcId {
     }
 }
 
+/// The ports of a forwarder or of a bridge, at the most.
+pub const MOST_PORTS: usize = 64;
+
 /// The number of an Ethernet port of the forwarder, 1 to 64.
 #[derive(Clone, Copy, Debug, PartialEq, Eq, PartialOrd, Ord)]
 pub struct PortNo {
@@ -122,7 +125,7 @@ impl PortNo {
         ensures value { IfSome result (λ p. p ≡ value) }
         ensures some { IsSome result ↔ ((1 ≤ value) × (value ≤ 64)) }
     {
-        if value >= 1 && value <= 64 {
+        if value >= 1 && value as usize <= MOST_PORTS {
             Some(PortNo { number: value })
         } else {
             None

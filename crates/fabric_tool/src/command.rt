@@ -8,11 +8,8 @@ ghost use Rattle.fabric_tool.specs.Command as spec;
 
 use crate::number::{number_of, start_of};
 use enode_core::Identity;
-use fab_base::{Moment, word_at};
+use fab_base::{MOST_PORTS, Moment, word_at};
 use fab_config::{read_mac, read_name};
-
-/// The most ports of a forwarder.
-pub(crate) const MOST_PORTS: usize = 64;
 
 /// The forms of a command line.
 #[derive(Clone, Copy, Debug, PartialEq, Eq)]

@@ -5,13 +5,13 @@ ghost use Rattle.fabric_tool.specs.Living.{LiveHolds};
 ghost use Rattle.fabric_tool.specs.Opening.{RecordedOpened, lived_by};
 ghost use Rattle.fabric_tool.specs.Preparing.{IsLivePrepared};
 
-use crate::command::{MOST_PORTS, came_at, live_count, sent_at};
+use crate::command::{came_at, live_count, sent_at};
 use crate::inputs::config_of;
 use crate::limits::{MOST_BYTES, MOST_FRAMES};
 use crate::outcome::Outcome;
 use crate::running::{in_range, legal_is_safe};
 use arrayvec::ArrayVec;
-use fab_base::{Depot, Failed, word_at};
+use fab_base::{Depot, Failed, MOST_PORTS, word_at};
 use fab_live::{Done, LiveFault, LiveFiles, run_live};
 use fab_policy::records_come_later;
 use forward_core::Fabric;

@@ -3,9 +3,9 @@ ghost use Rattle.std.specs.Prelude.{◌≡◌, true};
 ghost use Rattle.fabric_tool.specs.Command as spec;
 ghost use Rattle.fabric_tool.specs.Opening.{OutputsOpened};
 
-use crate::command::{MOST_PORTS, output_at, port_count};
+use crate::command::{output_at, port_count};
 use arrayvec::ArrayVec;
-use fab_base::{Depot, Failed, word_at};
+use fab_base::{Depot, Failed, MOST_PORTS, word_at};
 use run_files::add_slot;
 
 /// The slots of the journal and of the outputs, by port.

@@ -7,14 +7,14 @@ ghost use Rattle.fabric_tool.specs.Checking.{refused_by, unread_by};
 ghost use Rattle.fabric_tool.specs.Command as spec;
 ghost use Rattle.fabric_tool.specs.Inputs as limits;
 
-use crate::command::{MOST_PORTS, Width, count_of, output_at, port_count};
+use crate::command::{Width, count_of, output_at, port_count};
 use crate::heads::heads_of;
 use crate::inputs::config_of;
 use crate::limits::{MOST_BYTES, MOST_FRAMES};
 use crate::outcome::Outcome;
 use crate::running::in_range;
 use arrayvec::ArrayVec;
-use fab_base::{Bytes, Depot, Failed, WholeError, read_whole, word_at};
+use fab_base::{Bytes, Depot, Failed, MOST_PORTS, WholeError, read_whole, word_at};
 use fab_config::Config;
 use fab_replay::{CheckFault, check_captures, write_shown};
 use forward_core::Fabric;

@@ -3,9 +3,9 @@ ghost use Rattle.std.specs.Prelude.{◌≤◌, length};
 ghost use Rattle.snoop_run.specs.Opening.{OpensOutputs};
 ghost use Rattle.snoop_run.specs.Sides.{AreDifferent, AreKnown, outs_of};
 
-use crate::sides::{MOST_PORTS, output_at, side_count};
+use crate::sides::{output_at, side_count};
 use arrayvec::ArrayVec;
-use fab_base::{Depot, Failed};
+use fab_base::{Depot, Failed, MOST_PORTS};
 use run_files::add_slot;
 
 /// Opens the outputs of all ports, in port order; they are empty then. It takes no memory, so that

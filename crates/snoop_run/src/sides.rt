@@ -4,9 +4,6 @@ ghost use Rattle.snoop_run.specs.Sides as spec;
 
 use fab_base::word_at;
 
-/// The ports that a bridge has at most.
-pub(crate) const MOST_PORTS: usize = 64;
-
 /// How many ports there are.
 pub(crate) fn side_count(sides: &[String]) -> usize
     ensures value { result ≡ spec.side_count sides.now }
