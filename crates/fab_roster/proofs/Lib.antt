@@ -18,4 +18,5 @@ pub mod Ports
 pub mod Reached
 pub mod Late
 pub mod Seen
+pub mod Asked
 pub mod ClockLemmas

@@ -64,7 +64,7 @@ module _ (from v : ℕ) (le : from ≤ v) (out new : List SeenPort) where
 -- ---- what the registry knows
 
 module _ (c : Settings) (t : Inside) where
-  one_known : (l : Login) → IsSome (entry_at l.address t.registry.entries) → known_port t.registry.entries (seen_port c l) ≡ Some (known c (live_of t l))
+  pub one_known : (l : Login) → IsSome (entry_at l.address t.registry.entries) → known_port t.registry.entries (seen_port c l) ≡ Some (known c (live_of t l))
   one_known l some = go (entry_at l.address t.registry.entries) some
     where
       go : (o : Option Entry) → IsSome o → option_map (registry.known_of (seen_port c l)) o ≡ Some (record { address = l.address; name = l.name; fabric_port = fport c l.enode.port; values = option_map_or (λ x. x.values) o (first_values l.node) })
@@ -85,7 +85,7 @@ module _ (c : Settings) (t : Inside) where
       )
 
 module _ {t : Inside} (agree : Agree t) (c : Settings) (z : ZoneRules) (at a : ℕ) (l : Login) (found : login_at a t.logins.logins ≡ Some l) where
-  all_entered : All (λ (x : Login). IsSome (entry_at x.address t.registry.entries)) t.logins.logins
+  pub all_entered : All (λ (x : Login). IsSome (entry_at x.address t.registry.entries)) t.logins.logins
   all_entered = All-item_at address_of (λ x. IsSome (entry_at x.address t.registry.entries)) 0 t.logins.logins agree.logins.sound.ascending (λ x i. ap is_some (agree.entries.known x.address x i).1)
 
   pub seen_entered : AreEntered t.registry.entries (seen_of c z at l t.logins.logins)

@@ -1,5 +1,6 @@
 -- Whom a state change reaches, and what an N_Port may see, by the zones of a configuration.
-use Rattle.std.specs.Prelude.{ℕ, ◌&&◌, ◌||◌, ◌==◌, not, Bool, List, filter}
+use Rattle.std.specs.Prelude.{ℕ, ◌&&◌, ◌||◌, ◌==◌, not, Bool, List, filter, Option, Some, None}
+use Rattle.ct_messages.specs.Ask.{Ask, PortNameOf, NodeNameOf, TypesOf, FeaturesOf}
 use Rattle.fab_config.specs.Settings.{Settings}
 use Rattle.login_table.specs.declared.login.Login.{Login}
 use Rattle.name_server.specs.declared.seen.SeenPort.{SeenPort}
@@ -41,3 +42,11 @@ seen_port c l = record { address = l.address; name = l.name; fabric_port = fport
 -- a login may see another at a moment: it is the same, or they are joined
 abbrev pub may_see : ZoneRules → ℕ → Login → Login → Bool
 may_see z at asker l = l.address == asker.address || zones.joined z.zones z.sets z.activations at l.name asker.name
+
+-- the address of the N_Port that a query of one asks for
+abbrev pub asked_of : Ask → Option ℕ
+asked_of (PortNameOf a) = Some a
+asked_of (NodeNameOf a) = Some a
+asked_of (TypesOf a) = Some a
+asked_of (FeaturesOf a) = Some a
+asked_of _ = None

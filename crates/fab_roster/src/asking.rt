@@ -1,11 +1,12 @@
 //! What the name server answers a live N_Port.
-ghost use Rattle.std.specs.Prelude.{◌≡◌, IfOk, IsSome, Some, false, map, filter};
+ghost use Rattle.std.specs.Prelude.{◌≡◌, IfOk, IsSome, Some, false, map, filter, option_copied, option_to_list};
 ghost use Rattle.ct_messages.specs.Ask.{view};
 ghost use Rattle.ct_messages.specs.CanWrite.{CanTell};
 ghost use Rattle.ct_messages.specs.Server as server;
 ghost use Rattle.fab_policy.specs.Queries.{known_to};
 ghost use Rattle.fab_policy.specs.State.{LivePort, port_at};
-ghost use Rattle.fab_roster.specs.Reaching.{zones_of, may_see, seen_port};
+ghost use Rattle.fab_roster.specs.Reaching.{asked_of, zones_of, may_see, seen_port};
+ghost use Rattle.login_table.specs.Logins.{added, login_at};
 
 use crate::{Login, Roster};
 use ct_messages::{CtAsk, CtTell};
@@ -40,7 +41,14 @@ impl Roster {
         let Some(login) = self.logins.by_address(asker) else {
             unreachable!()
         };
-        let seen = seen_by(alloc, &self.logins, config, zones, self.now(), login)?;
+        let at = self.now();
+        // A query of one N_Port needs no other but the asker.
+        let seen = if let Some(address) = asked_of(ask) {
+            let asked = seen_login(&self.logins, zones, at, login, address);
+            seen_pair(alloc, config, login, asked)?
+        } else {
+            seen_by(alloc, &self.logins, config, zones, at, login)?
+        };
         self.registry.answer(alloc, asker, ask, &seen)
     }
 }
@@ -64,6 +72,61 @@ fn seen_by(
             seen.push(alloc, seen_port(config, login))?;
         }
         from = login.address.value() + 1;
+    }
+    Ok(seen)
+}
+
+// The address that a query of one N_Port asks for.
+fn asked_of(ask: &CtAsk<'_>) -> Option<FcId>
+    ensures { result ≡ asked_of (view ask.now) }
+{
+    match *ask {
+        CtAsk::PortNameOf(address)
+        | CtAsk::NodeNameOf(address)
+        | CtAsk::TypesOf(address)
+        | CtAsk::FeaturesOf(address) => Some(address),
+        _ => None,
+    }
+}
+
+// The login of an address, if another may see it at a moment.
+fn seen_login<'a>(
+    logins: &'a LoginTable,
+    zones: &Zones,
+    at: Moment,
+    asker: &Login,
+    address: FcId,
+) -> Option<&'a Login>
+    ensures { option_copied result
+        ≡ login_at address (filter (may_see zones.now at asker.now) logins.now.logins) }
+{
+    match logins.by_address(address) {
+        Some(login) if may_see(zones, at, asker, login) => Some(login),
+        _ => None,
+    }
+}
+
+// A login and, where there is one, another that it sees.
+fn seen_pair(
+    alloc: Global,
+    config: &Config,
+    asker: &Login,
+    asked: Option<&Login>,
+) -> Result<Seen, NoMemory>
+    ensures { IfOk result (λ seen. seen ≡ map (seen_port config.now)
+        (added asker.now (option_to_list (option_copied asked.entry)))) }
+{
+    let mut seen = Seen::new(alloc)?;
+    if let Some(login) = asked
+        && login.address.value() < asker.address.value()
+    {
+        seen.push(alloc, seen_port(config, login))?;
+    }
+    seen.push(alloc, seen_port(config, asker))?;
+    if let Some(login) = asked
+        && asker.address.value() < login.address.value()
+    {
+        seen.push(alloc, seen_port(config, login))?;
     }
     Ok(seen)
 }

@@ -1,6 +1,6 @@
-use Rattle.std.proofs.Common.{◌≡◌, ◌<◌, ◌≤◌, [], ◌∷◌, ◌++◌, Some, None, option_map, refl, sym, ap, subst, ◌∙◌, arith}
+use Rattle.std.proofs.Common.{◌≡◌, ◌<◌, ◌≤◌, [], ◌∷◌, ◌++◌, option_map, refl, sym, ap, subst, ◌∙◌, arith}
 use Rattle.std.proofs.lemmas.List.Elements.{All-nil, All-weaker}
-use Rattle.login_table.specs.Logins.{address_of, login_at}
+use Rattle.login_table.specs.Logins.{address_of}
 use Rattle.name_server.specs.Registry.{seen_address}
 use Rattle.name_server.specs.declared.seen.SeenPort.{SeenPort}
 use Rattle.fab_roster.specs.Reaching.{seen_port}
