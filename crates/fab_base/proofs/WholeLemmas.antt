@@ -59,10 +59,14 @@ module _ (s limit room : ℕ) (a b c : Seen) (whole buffer : List ℕ) (is_open 
       rest = rest_now;
     }
 
-    pub whole_no_memory : WholeRead s limit a c (Err errors.Memory)
-    whole_no_memory = record {
+    pub whole_no_memory : n ≤ room → WholeRead s limit a c (Err errors.Memory)
+    whole_no_memory within = record {
       reads = more_reads (Ok n) f;
-      whole = tt;
+      whole = λ told. (
+        whole ++ take n buffer,
+        behind n told (f.taken (told_b told)),
+        (let front : length (take n buffer) ≡ n = length-take-le n buffer f.bound in omega (arith, w.counted, within, front, length-append whole (take n buffer))),
+      );
       counts = counts_now;
       others = others_trans s a b c w.others f.others;
       rest = rest_now;

@@ -13,12 +13,12 @@ whole_end errors.Bytes = ending.Said
 whole_end (errors.Read failed) = ending.Read
 whole_end errors.Memory = ending.Memory
 
--- What is left of a slot was read whole, or it is longer than a limit.
+-- What is left of a slot was read whole, or it is longer than a limit. Where memory is refused, what was taken isn't.
 abbrev pub IsWhole : ℕ → ℕ → Seen → Seen → Result (Vec ℕ Global) WholeError → Type 0
 IsWhole s limit old new (Ok v) = IsTrue old.told → (v.items ≡ old.left s) × (length v.items ≤ limit)
 IsWhole s limit old new (Err errors.Bytes) = IsTrue old.told → limit < length (old.left s)
 IsWhole s limit old new (Err (errors.Read failed)) = Rose (old.read_faults (old.name s)) (new.read_faults (old.name s))
-IsWhole s limit old new (Err errors.Memory) = Unit {0}
+IsWhole s limit old new (Err errors.Memory) = IsTrue old.told → (taken : List ℕ) × (taken ++ new.left s ≡ old.left s) × (length taken ≤ limit)
 
 -- Of no other slot anything is taken. What is left of this one is the end of what was.
 pub record WholeRead (s limit : ℕ) (old new : Seen) (result : Result (Vec ℕ Global) WholeError) : Type 0 where
