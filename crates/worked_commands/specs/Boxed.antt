@@ -20,6 +20,7 @@ use Rattle.enode_core.specs.declared.node.Phase.TheVariants as phase
 use Rattle.enode_core.specs.Frames as frames
 use Rattle.enode_core.specs.Phases.{phase_of}
 use Rattle.enode_core.specs.Runs as runs
+use Rattle.enode_run.specs.Course as course
 use Rattle.pcap_file.specs.Captures.{capture_by, captures_by}
 use Rattle.enode_run.specs.Files.{taken_by}
 use Rattle.fabric_tool.specs.Inputs.{LIMITS}
@@ -111,8 +112,8 @@ node_ox_id = refl
 abbrev pub capture_of : List Record → List ℕ
 capture_of records = head_bytes ++ flat_map (λ r. record_bytes r.moment r.caught.bytes) records
 
-pub node_leaves : runs.capture (runs.all_sent own 1000 inputs) ≡ capture_of requests
-node_leaves = ap runs.capture node_sends
+pub node_leaves : course.capture (runs.all_sent own 1000 inputs) ≡ capture_of requests
+node_leaves = ap course.capture node_sends
 
 pub passed_is_taken : taken_by LIMITS 1000 (capture_of passed) ≡ Ok passed
 unfolding capture_by head_decoded pcap.next heard.carried eth.decoded reading.decoded fc.decoded els.decoded fip.written els.written
