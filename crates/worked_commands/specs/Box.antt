@@ -31,6 +31,7 @@ use Rattle.fab_windows.specs.Run.{IsRunOver}
 use Rattle.fip_snoop.specs.Bridge as bridge
 use Rattle.fip_snoop.specs.Messages.{forwarder_of}
 use Rattle.fip_snoop.proofs.LawLemmas.{data_up}
+use Rattle.fip_snoop.proofs.WayLemmas.{data_down, enodes_are_apart}
 use Rattle.snoop_run.proofs.TakenLemmas.{taken_are_captures}
 use Rattle.enode_core.specs.Laws.{IsAmong, IsTyped}
 use Rattle.enode_core.specs.declared.node.Phase.TheVariants as phase
@@ -165,6 +166,8 @@ has_snooped = record {
     dropped_ = bridge_counts.1;
   };
   data_ = λ before later a f read are differ reads. data_up (forwarder_of K) (bridge.history (forwarder_of K) [] before) a.port a.caught f read differ reads;
+  down = λ before later a f read q are own reads. data_down (forwarder_of K) (bridge.history (forwarder_of K) [] before) a.port a.caught f read q own reads;
+  apart = λ before later a q are differ. enodes_are_apart (forwarder_of K) (bridge.history (forwarder_of K) [] before) a.port a.caught q differ;
 }
 
 -- ---- `enode`
