@@ -2,11 +2,11 @@
 use Rattle.std.proofs.Common.{◌≡◌, ℕ, ◌≤◌, IsTrue, List, [], length, take, Some, Ok, Err, sym, ap, ◌∙◌, subst, arith}
 use Rattle.std.specs.Prelude.{Result, Vec}
 use Rattle.std.specs.declared.alloc.Global.{Global}
-use Rattle.fab_base.specs.Ending.{NoFaults}
+use Rattle.fab_base.specs.Ending.{NoFaults, CountsRead}
 use Rattle.fab_base.specs.Seen.{Seen, Reads, Rose, OpensIn, OpensOut, PutsAll, SameReadFaults}
 use Rattle.fab_base.specs.declared.values.Failed.{Failed}
 use Rattle.fab_base.proofs.SeenLemmas.{reads_trans, reads_touches, told_stays, rose_later}
-use Rattle.fab_migrate.specs.Migrating.{Migrates, CauseOld, SaysOld, Untouched, Begun}
+use Rattle.fab_migrate.specs.Migrating.{Migrates, SaysOld, Untouched, Begun, old_end}
 use Rattle.fab_migrate.specs.Old.{IsOld, new_text}
 use Rattle.fab_migrate.specs.OldWords.{Rewrites, WholeRead}
 use Rattle.fab_migrate.specs.declared.old.MigrateError.TheVariants as ends
@@ -31,7 +31,7 @@ module _ (from to : List ℕ) (slot limit : ℕ) (a b c : Seen) (opens : OpensIn
 
   -- ---- the input isn't read whole
 
-  unread_cause : (e : OldError) → WholeRead slot limit b c (Err e) → CauseOld from a c e
+  unread_cause : (e : OldError) → WholeRead slot limit b c (Err e) → CountsRead from (old_end e) a c
   unread_cause (olds.Fault line fault) r = absurd r.whole
   unread_cause olds.Bytes r = none_counted (Err olds.Bytes) r r.counts
   unread_cause (olds.Read f) r = (rose_later _ _ _ opens.reads.keeps.reads_rise (subst (λ n. Rose (b.read_faults n) (c.read_faults n)) is_name r.whole), (reads (Err (olds.Read f)) r).writes)
@@ -61,7 +61,7 @@ module _ (from to : List ℕ) (slot limit : ℕ) (a b c : Seen) (opens : OpensIn
 
     -- ---- the input isn't rewritten
 
-    unrewritten_cause : (e : OldError) → Rewrites v.items (Err e) → CauseOld from a c e
+    unrewritten_cause : (e : OldError) → Rewrites v.items (Err e) → CountsRead from (old_end e) a c
     unrewritten_cause (olds.Fault line fault) w = counts_kept
     unrewritten_cause olds.Bytes w = absurd w
     unrewritten_cause (olds.Read f) w = absurd w

@@ -1,7 +1,8 @@
 -- What migrating the journal in one file to another file does.
 use Rattle.std.specs.Prelude.{◌≡◌, ℕ, ◌≤◌, ◌<◌, List, length, take, IsTrue, Some, Result, Ok, Err}
-use Rattle.fab_base.specs.Ending.{NoFaults}
-use Rattle.fab_base.specs.Seen.{Seen, SameFiles, SameReadFaults, SameWriteFaults, Rose}
+use Rattle.fab_base.specs.Ending as ending
+use Rattle.fab_base.specs.Ending.{End, NoFaults, CountsRead}
+use Rattle.fab_base.specs.Seen.{Seen, SameFiles, SameReadFaults, Rose}
 use Rattle.fab_policy.specs.Journal.{Journal}
 use Rattle.fab_policy.specs.Ranged.{IsRanged}
 use Rattle.fab_policy.specs.Text.{text, text1}
@@ -19,12 +20,12 @@ SaysOld from limit old errors.Bytes = (l : List ℕ) × (old.file from ≡ Some 
 SaysOld from limit old (errors.Read failed) = Unit {0}
 SaysOld from limit old errors.Memory = Unit {0}
 
--- A fault of reading is counted where one is told, and else none: want of memory never stands for one. None of writing is counted.
-abbrev pub CauseOld : List ℕ → Seen → Seen → OldError → Type 0
-CauseOld from old new (errors.Fault line fault) = NoFaults old new
-CauseOld from old new errors.Bytes = NoFaults old new
-CauseOld from old new (errors.Read failed) = Rose (old.read_faults from) (new.read_faults from) × SameWriteFaults old new
-CauseOld from old new errors.Memory = NoFaults old new
+-- what an error rests on
+abbrev pub old_end : OldError → End
+old_end (errors.Fault line fault) = ending.Said
+old_end errors.Bytes = ending.Said
+old_end (errors.Read failed) = ending.Read
+old_end errors.Memory = ending.Memory
 
 -- The input that was found is a journal of format 1 within the limit, and the output is the same in format 2. So where the
 -- input is the text of a journal in format 1, the output is its text in format 2.
@@ -46,5 +47,5 @@ pub data IsNewFront (from to : List ℕ) (limit : ℕ) (old new : Seen) : Type 0
 -- How migrating ends. The output is opened only behind the whole input: an error of the input leaves every file.
 abbrev pub Migrates : List ℕ → List ℕ → ℕ → Seen → Seen → Result ℕ MigrateError → Type 0
 Migrates from to limit old new (Ok count) = NoFaults old new × (IsTrue old.told → Migrated from to limit old new count)
-Migrates from to limit old new (Err (ends.Input e)) = SameFiles old new × CauseOld from old new e × (IsTrue old.told → SaysOld from limit old e)
+Migrates from to limit old new (Err (ends.Input e)) = SameFiles old new × CountsRead from (old_end e) old new × (IsTrue old.told → SaysOld from limit old e)
 Migrates from to limit old new (Err (ends.Write failed)) = Rose (old.write_faults to) (new.write_faults to) × (IsTrue old.told → IsNewFront from to limit old new) × SameReadFaults old new

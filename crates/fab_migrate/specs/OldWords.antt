@@ -1,7 +1,8 @@
 -- A file that is read whole, and words of private contracts alone.
 use Rattle.std.specs.Prelude.{◌≡◌, ℕ, ◌≤◌, ◌<◌, true, List, [], ◌++◌, length, IsTrue, Option, Some, None, Result, Ok, Err, Vec}
 use Rattle.std.specs.declared.alloc.Global.{Global}
-use Rattle.fab_base.specs.Seen.{Seen, Reads, Rose, SameReadFaults, KeepsOthers}
+use Rattle.fab_base.specs.Ending.{end_by, SparesReads}
+use Rattle.fab_base.specs.Seen.{Seen, Reads, Rose, KeepsOthers}
 use Rattle.fab_base.specs.declared.whole.WholeError.{WholeError}
 use Rattle.fab_base.specs.declared.whole.WholeError.TheVariants as wholes
 use Rattle.fab_policy.specs.Spelling.{Spells, line_text}
@@ -12,6 +13,7 @@ use Rattle.fab_policy.specs.declared.line.Line.{Line}
 use Rattle.fab_policy.specs.declared.reading.LineError.{LineError}
 use Rattle.fab_policy.specs.declared.reading.LineError.TheVariants as unread
 use Rattle.fab_policy.specs.declared.line.Line.TheVariants.{Tick, Frame}
+use Rattle.fab_migrate.specs.Migrating.{old_end}
 use Rattle.fab_migrate.specs.Old.{IsOld, HasFirstFault, MayCome, clock_after, clocked, new_text}
 use Rattle.fab_migrate.specs.declared.old.OldWhy.TheVariants as why
 use Rattle.fab_migrate.specs.declared.old.OldError.{OldError}
@@ -63,16 +65,11 @@ IsWhole s limit old new (Err errors.Bytes) = IsTrue old.told → limit < length 
 IsWhole s limit old new (Err (errors.Read failed)) = Rose (old.read_faults (old.name s)) (new.read_faults (old.name s))
 IsWhole s limit old new (Err errors.Memory) = Unit {0}
 
--- no fault of reading is counted but where one is told
-abbrev pub CountsWhole : Seen → Seen → Result (Vec ℕ Global) OldError → Type 0
-CountsWhole old new (Err (errors.Read failed)) = Unit {0}
-CountsWhole old new result = SameReadFaults old new
-
 -- Of no other slot anything is taken. What is left of this one is the end of what was.
 pub record WholeRead (s limit : ℕ) (old new : Seen) (result : Result (Vec ℕ Global) OldError) : Type 0 where
   pub reads : Reads (old.name s) old new
   pub whole : IsWhole s limit old new result
-  pub counts : CountsWhole old new result
+  pub counts : SparesReads (end_by old_end result) old new
   pub others : KeepsOthers s old new
   pub rest : IsTrue old.told → (taken : List ℕ) × (taken ++ new.left s ≡ old.left s)
 
