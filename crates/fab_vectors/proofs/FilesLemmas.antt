@@ -3,10 +3,12 @@ use Rattle.std.proofs.Common.{◌≡◌, ℕ, ◌≤◌, List, [], ◌++◌, tak
 use Rattle.std.specs.Prelude.{Result, IfErr}
 use Rattle.std.proofs.lemmas.List.{append-nil, take-append-drop}
 use Rattle.std.proofs.lemmas.List.Concat.{flat_map-append}
-use Rattle.fab_base.specs.Seen.{Seen, Rose, SameWriteFaults, PutsAll}
+use Rattle.fab_base.specs.Ending.{end_by}
+use Rattle.fab_base.specs.Seen.{Seen, Rose, PutsAll}
+use Rattle.fab_base.proofs.EndingLemmas.{spares_writes_then}
 use Rattle.fab_base.specs.declared.values.Failed.{Failed}
 use Rattle.fab_base.proofs.SeenLemmas.{rose_later, keeps_refl, keeps_trans, output_stays, output_name, told_stays}
-use Rattle.fab_vectors.specs.Files.{SparesWrites, AddsTo, Adds}
+use Rattle.fab_vectors.specs.Files.{AddsTo, Adds, make_end}
 use Rattle.fab_vectors.specs.declared.MakeFault.{MakeFault}
 use Rattle.fab_vectors.specs.declared.MakeFault.TheVariants as fault
 
@@ -58,11 +60,6 @@ rose_before : {U : Type 0} (x y z : ℕ) (r : Result U MakeFault) → x ≤ y �
 rose_before x y z (Ok t) le h = tt
 rose_before x y z (Err e) le h = λ w. rose_later x y z le (h w)
 
-pub spares_behind : {U : Type 0} (a b d : Seen) (r : Result U MakeFault) → SameWriteFaults a b → SparesWrites b d r → SparesWrites a d r
-spares_behind a b d (Ok t) same spares = λ m. spares m ∙ same m
-spares_behind a b d (Err fault.Write) same spares = tt
-spares_behind a b d (Err fault.Memory) same spares = λ m. spares m ∙ same m
-
 -- bytes behind others
 pub adds_behind : {T U : Type 0} (t : T) (name x y : List ℕ) (a b d : Seen) (r : Result U MakeFault) → AddsTo {T = T} name x a b (Ok t) → AddsTo {T = U} name y b d r
     → AddsTo {T = U} name (x ++ y) a d r
@@ -74,7 +71,7 @@ adds_behind t name x y a b d r p q = record {
       let f = q.front (told_stays name a b p.keeps told) (had ++ x) (p.whole told had is) in
       (x ++ f.0, f.1, f.2 ∙ ap Some (append_assoc had x f.0), append_assoc x f.0 f.1 ∙ ap (λ l. x ++ l) f.3);
   cause = rose_before _ _ _ r p.keeps.writes_rise q.cause;
-  counts = spares_behind a b d r p.counts q.counts;
+  counts = spares_writes_then (end_by make_end r) a b d p.counts q.counts;
   reads = λ m. q.reads m ∙ p.reads m;
 }
 

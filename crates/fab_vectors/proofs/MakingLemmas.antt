@@ -10,7 +10,8 @@ use Rattle.fab_vectors.specs.Load.{capture}
 use Rattle.fab_vectors.specs.Making.{AreNine, IsNamed, Makes, file_text, frame_count, name_at}
 use Rattle.fab_vectors.specs.declared.MakeFault.{MakeFault}
 use Rattle.fab_vectors.specs.declared.MakeFault.TheVariants as fault
-use Rattle.fab_vectors.proofs.FilesLemmas.{spares_behind}
+use Rattle.fab_base.proofs.EndingLemmas.{spares_writes_then}
+use Rattle.fab_vectors.specs.Files.{make_end}
 
 -- the file of a port
 pub text_of_port : (number q : ℕ) → 0 < q → file_text number q ≡ capture number q
@@ -135,6 +136,6 @@ module _ (number : ℕ) (slots : List ℕ) (k total : ℕ) (a b d : Seen) (nine 
     ];
     count = tt;
     cause = λ w. (k, lt, rose_later _ _ _ (m.touches.writes_rise name) ((own (Err e) p).cause (is_fault e (Err e) refl w)));
-    counts = spares_behind {U = ℕ} a b d (Err e) m.writes p.counts;
+    counts = spares_writes_then (make_end e) a b d m.writes p.counts;
     reads = λ x. p.reads x ∙ m.reads x;
   }

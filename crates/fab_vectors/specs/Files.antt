@@ -1,6 +1,8 @@
 -- What writing to one file of a load adds to it.
-use Rattle.std.specs.Prelude.{◌≡◌, ℕ, IsTrue, List, ◌++◌, Some, Result, Ok, Err, OnOk, IfErr}
-use Rattle.fab_base.specs.Seen.{Seen, Keeps, Rose, SameReadFaults, SameWriteFaults}
+use Rattle.std.specs.Prelude.{◌≡◌, ℕ, IsTrue, List, ◌++◌, Some, Result, OnOk, IfErr}
+use Rattle.fab_base.specs.Ending as ending
+use Rattle.fab_base.specs.Ending.{End, end_by, SparesWrites}
+use Rattle.fab_base.specs.Seen.{Seen, Keeps, Rose, SameReadFaults}
 use Rattle.fab_vectors.specs.declared.MakeFault.{MakeFault}
 use Rattle.fab_vectors.specs.declared.MakeFault.TheVariants as fault
 
@@ -8,10 +10,10 @@ use Rattle.fab_vectors.specs.declared.MakeFault.TheVariants as fault
 abbrev pub HoldsFront : Seen → List ℕ → List ℕ → List ℕ → Type 0
 HoldsFront d name had bytes = (front rest : List ℕ) × (d.file name ≡ Some (had ++ front)) × (front ++ rest ≡ bytes)
 
--- no fault of writing is counted but where one is told, so want of memory never stands for one
-abbrev pub SparesWrites : {T : Type 0} → Seen → Seen → Result T MakeFault → Type 0
-SparesWrites old new (Err fault.Write) = Unit {0}
-SparesWrites old new result = SameWriteFaults old new
+-- what a fault rests on
+abbrev pub make_end : MakeFault → End
+make_end fault.Write = ending.Write
+make_end fault.Memory = ending.Memory
 
 -- Adding bytes to the file of a name: all of them, or, where it fails, a beginning of them. A fault of writing comes only where one was
 -- counted, and one of reading is never counted.
@@ -20,7 +22,7 @@ pub record AddsTo {T : Type 0} (name bytes : List ℕ) (old new : Seen) (result 
   pub whole : IsTrue old.told → (had : List ℕ) → old.file name ≡ Some had → OnOk result (new.file name ≡ Some (had ++ bytes))
   pub front : IsTrue old.told → (had : List ℕ) → old.file name ≡ Some had → HoldsFront new name had bytes
   pub cause : IfErr result (λ e. e ≡ fault.Write → Rose (old.write_faults name) (new.write_faults name))
-  pub counts : SparesWrites old new result
+  pub counts : SparesWrites (end_by make_end result) old new
   pub reads : SameReadFaults old new
 
 -- the same of the name of a slot

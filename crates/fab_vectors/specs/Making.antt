@@ -1,7 +1,8 @@
 -- The nine files of a load: the configuration, and then the captures of ports 1 to 8.
 use Rattle.std.specs.Prelude.{◌≡◌, ℕ, zero, suc, ◌<◌, IsTrue, List, [], length, slice_index, Some, Result, IfOk, OnOk, IsErrOf}
+use Rattle.fab_base.specs.Ending.{end_by, SparesWrites}
 use Rattle.fab_base.specs.Seen.{Seen, Rose, SameReadFaults, Touches}
-use Rattle.fab_vectors.specs.Files.{HoldsFront, SparesWrites}
+use Rattle.fab_vectors.specs.Files.{HoldsFront, make_end}
 use Rattle.fab_vectors.specs.Load.{capture}
 use Rattle.fab_vectors.specs.Settings.{config_text}
 use Rattle.fab_vectors.specs.declared.MakeFault.{MakeFault}
@@ -40,5 +41,5 @@ pub record Makes (number : ℕ) (slots : List ℕ) (old new : Seen) (result : Re
   pub front : IsTrue old.told → (q : ℕ) → q < 9 → HoldsFront new (name_at old slots q) [] (file_text number q)
   pub count : IfOk result (λ frames. frames ≡ 20000)
   pub cause : IsErrOf result fault.Write → (q : ℕ) × (q < 9) × Rose (old.write_faults (name_at old slots q)) (new.write_faults (name_at old slots q))
-  pub counts : SparesWrites old new result
+  pub counts : SparesWrites (end_by make_end result) old new
   pub reads : SameReadFaults old new
