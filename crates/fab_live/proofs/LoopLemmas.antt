@@ -1,7 +1,7 @@
 -- What stands behind each packet of a stream, and at its end.
 use Rattle.std.proofs.Common.{◌≡◌, ◌≢◌, ℕ, zero, suc, ◌+◌, ◌-◌, ◌<◌, ◌≤◌, ◌^◌, ◌⊎◌, inl, inr, List, [], ◌∷◌, ◌++◌, length, length-append, Option, Some, None, Ok, Err, IsTrue, refl, sym, ap, ◌∙◌, subst, arith}
 use Rattle.std.specs.Prelude.{Result, IsErrOf}
-use Rattle.fab_base.specs.Ending.{NoFaults}
+use Rattle.fab_base.specs.Ending.{NoFaults, IsSaid}
 use Rattle.fab_base.specs.Seen.{Seen, Rose, Only, Nothing, Reads, Touches, SameReadFaults, SameWriteFaults}
 use Rattle.fab_base.proofs.SeenLemmas.{keeps_touches, reads_touches, touches_refl, touches_trans, touches_wider}
 use Rattle.fab_config.specs.Settings.{Settings}
@@ -10,9 +10,9 @@ use Rattle.pcapng_file.specs.declared.NgRecord.{NgRecord}
 use Rattle.pcapng_file.specs.declared.fault.NgError.{NgError}
 use Rattle.pcapng_file.specs.declared.fault.NgError.TheVariants as errors
 use Rattle.pcapng_file.specs.declared.fault.NgLimit.TheVariants as ng_limits
-use Rattle.pcapng_file.specs.File.{before_all, IsPacketKept}
+use Rattle.pcapng_file.specs.File.{before_all, ng_end, IsPacketKept}
 use Rattle.pcapng_file.proofs.StreamedLemmas.{parts_long, streamed_none, streamed_stays, streamed_more, streamed_end, streamed_stops}
-use Rattle.pcapng_file.specs.Stream.{Streaming, streaming, StreamStand, StreamReads, Streamed, stream_stand, IsSaid}
+use Rattle.pcapng_file.specs.Stream.{Streaming, streaming, StreamStand, StreamReads, Streamed, stream_stand}
 use Rattle.fab_policy.specs.Journal.{Journal}
 use Rattle.run_files.proofs.OutputLemmas.{stays_named, same_name}
 use Rattle.fab_windows.specs.declared.Done.{Done}
@@ -175,7 +175,7 @@ module _ (c : Settings) (f : LiveSlots) (stream : ℕ) (budget : Budget) (start 
   -- ---- it can't be read on
 
   module _ (e : NgError) (r : StreamReads stream (stream_stand p d) (stream_stand p' d') (Err e)) where
-    stopped : IsSaid e → IsTrue start.told → Stops g.packets (start.left stream) budget e
+    stopped : IsSaid (ng_end e) → IsTrue start.told → Stops g.packets (start.left stream) budget e
     stopped said told =
         let s = streamed_stops stream start d d' budget p p' g.packets g.streamed (told_d (Err e) r) e r told said in
         let short = parts_long s.begins.0 before_all g.packets (start.left stream) s.section s.rest s.begins.1 in

@@ -3,7 +3,7 @@ use Rattle.std.proofs.Common.{◌≡◌, ℕ, suc, ◌+◌, ◌≤◌, IsTrue, L
 use Rattle.std.specs.Prelude.{Result, slice_get}
 use Rattle.std.proofs.Math.Seq.{drop-cons}
 use Rattle.std.proofs.lemmas.Option.{slice_get_within, get_or_from_slice_get}
-use Rattle.fab_base.specs.Ending.{NoFaults}
+use Rattle.fab_base.specs.Ending.{NoFaults, CountsRead}
 use Rattle.fab_base.specs.Seen.{Seen, Reads, Rose, SameReadFaults, OpensIn, OpensOut, PutsAll}
 use Rattle.fab_base.specs.declared.values.Failed.{Failed}
 use Rattle.fab_base.proofs.SeenLemmas.{reads_trans, reads_touches, told_stays, rose_later}
@@ -11,9 +11,10 @@ use Rattle.pcap_file.specs.declared.Budget.{Budget}
 use Rattle.pcapng_file.specs.declared.fault.NgError.{NgError}
 use Rattle.pcapng_file.specs.declared.fault.NgError.TheVariants as errors
 use Rattle.pcapng_file.specs.declared.NgRecord.{NgRecord}
-use Rattle.pcapng_file.specs.File.{before_all, NgReads}
+use Rattle.fab_base.proofs.EndingLemmas.{said_so}
+use Rattle.pcapng_file.specs.File.{before_all, ng_end, NgReads}
 use Rattle.pcapng_file.specs.declared.fault.ConvertError.TheVariants as ends
-use Rattle.pcapng_file.specs.Classic.{classic_record, classic_records, classic_bytes, SaysInput, CauseInput, Converts, Same, Front}
+use Rattle.pcapng_file.specs.Classic.{classic_record, classic_records, classic_bytes, SaysInput, Converts, Same, Front}
 use Rattle.pcapng_file.proofs.BackLemmas.{read_back}
 use Rattle.pcapng_file.proofs.GoingLemmas.{read_is}
 use Rattle.pcapng_file.proofs.LawLemmas.{Read, read_is_file}
@@ -42,17 +43,14 @@ module _ (from to : List ℕ) (slot : ℕ) (budget left : Budget) (a b c : Seen)
   spared : (result : Result (List NgRecord) NgError) → NgReads slot b c budget left result → SameReadFaults b c → NoFaults a c
   spared result r none = (λ m. none m ∙ opens.counts m, (reads result r).writes)
 
-  cause_of : (e : NgError) → NgReads slot b c budget left (Err e) → CauseInput from a c e
+  cause_of : (e : NgError) → NgReads slot b c budget left (Err e) → CountsRead from (ng_end e) a c
   cause_of (errors.Fault at fault) r = spared (Err (errors.Fault at fault)) r r.counts
   cause_of (errors.Limit limit) r = spared (Err (errors.Limit limit)) r r.counts
   cause_of (errors.Read failed) r = (rose_later _ _ _ opens.reads.keeps.reads_rise (subst (λ n. Rose (b.read_faults n) (c.read_faults n)) is_name (r.cause failed refl)), (reads (Err (errors.Read failed)) r).writes)
   cause_of errors.Memory r = spared (Err errors.Memory) r r.counts
 
   says_of : (e : NgError) → NgReads slot b c budget left (Err e) → IsTrue a.told → SaysInput from budget a e
-  says_of (errors.Fault at fault) r told = (b.left slot, opens.left told, r.exact (told_b told))
-  says_of (errors.Limit limit) r told = (b.left slot, opens.left told, r.exact (told_b told))
-  says_of (errors.Read failed) r told = tt
-  says_of errors.Memory r told = tt
+  says_of e r told = said_so (ng_end e) (λ is. (b.left slot, opens.left told, is)) (r.exact (told_b told))
 
   -- the input isn't read
   pub unread : (e : NgError) → NgReads slot b c budget left (Err e) → Converts from to budget a c (Err (ends.Input e))

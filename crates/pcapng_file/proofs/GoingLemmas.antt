@@ -10,8 +10,8 @@ use Rattle.pcapng_file.specs.declared.fault.NgError.{NgError}
 use Rattle.pcapng_file.specs.declared.fault.NgError.TheVariants as errors
 use Rattle.pcapng_file.specs.declared.reading.Block.{Block}
 use Rattle.pcapng_file.specs.declared.NgRecord.{NgRecord}
-use Rattle.pcapng_file.specs.File.{Section, before_all, after, found, less, in_front, go_on, step_of, read_from, ng_read, AreKept, TellsRead, Place, place, BlockRead, NgReads}
-use Rattle.pcapng_file.proofs.StepLemmas.{spares_error}
+use Rattle.pcapng_file.specs.File.{Section, before_all, after, found, less, in_front, go_on, step_of, read_from, ng_end, ng_read, AreKept, TellsRead, Place, place, BlockRead, NgReads}
+use Rattle.fab_base.proofs.EndingLemmas.{said_so, spares_reads_then}
 
 -- What stands for the loop at a place, with these packets read.
 pub record Going (slot : ℕ) (had : Budget) (first : Seen) (now : Supply) (here : Place) (v : List NgRecord) : Type 0 where
@@ -76,10 +76,7 @@ module _ (slot : ℕ) (had : Budget) (a b c : Seen) (held rest : List ℕ) (s : 
   from_step told x is = ap (λ (y : Result (Option Block) NgError). in_front v (go_on (λ k. in_front (found k.content) (read_from (g.on told).0 (less left k) (at + k.size) (after s k.content) (drop k.size (held ++ b.left slot)))) y)) (sym is) ∙ (g.on told).3
 
   error_tells : (told : IsTrue a.told) (e : NgError) → TellsRead {A = Option Block} (step_of left at s (held ++ b.left slot)) (Err e) → TellsRead {A = List NgRecord} (ng_read had (a.left slot)) (Err e)
-  error_tells told (errors.Fault place fault) is = sym (from_step told (Err (errors.Fault place fault)) is)
-  error_tells told (errors.Limit limit) is = sym (from_step told (Err (errors.Limit limit)) is)
-  error_tells told (errors.Read failed) is = tt
-  error_tells told errors.Memory is = tt
+  error_tells told e = said_so (ng_end e) (λ is. sym (from_step told (Err e) is))
 
   -- an error of the next block; the budget is the one that was handed in
   pub going_failed : (budget : Budget) (e : NgError) → budget ≡ had → BlockRead slot (place at s left) (supply held b) (supply rest c) (Err e) → NgReads slot a c had budget (Err e)
@@ -92,7 +89,7 @@ module _ (slot : ℕ) (had : Budget) (a b c : Seen) (held rest : List ℕ) (s : 
     untouched = is_had;
     kept = tt;
     cause = λ f is. let same_error : e ≡ errors.Read f = cc in rose_later _ _ _ g.reads.keeps.reads_rise (subst (λ m. Rose (b.read_faults m) (c.read_faults m)) same (r.cause f (ap (λ (x : NgError). Err x) same_error)));
-    counts = spares_error (Option Block) (List NgRecord) a b c g.counts e r.counts;
+    counts = spares_reads_then (ng_end e) a b c g.counts r.counts;
   }
 
   -- memory is refused behind a block

@@ -15,7 +15,8 @@ use Rattle.pcapng_file.specs.declared.packet.Content.{Content}
 use Rattle.pcapng_file.specs.declared.packet.Content.TheVariants as says
 use Rattle.pcapng_file.specs.declared.NgRecord.{NgRecord}
 use Rattle.pcapng_file.specs.Block.{test, first, unless, padded, stored, no_interface, interface_at, timed_tests, record_of, record_in, timed_read, packet_read, packet_tests, kind_tests, content_of, body_read}
-use Rattle.pcapng_file.specs.File.{TellsRead, at_fault}
+use Rattle.fab_base.proofs.EndingLemmas.{said_so}
+use Rattle.pcapng_file.specs.File.{ng_end, TellsRead, at_fault}
 
 abbrev ladder : Bool → Option Interface → Bool → List ℕ → Result NgRecord NgWhy
 ladder past face big b = unless (first (test past why.Length ∷ test (is_none face) why.Interface ∷ timed_tests (unwrap_or face no_interface) big b)) (record_of (unwrap_or face no_interface) big b)
@@ -69,14 +70,8 @@ content_ok at (Ok q) r e = let same : q ≡ r = cc in ap (λ (p : NgRecord). Ok 
 content_ok at (Err fault) r e = absurd (cc)
 
 content_err : (at : ℕ) (x : Result NgRecord NgWhy) (e : NgError) → TellsRead {A = NgRecord} (at_fault at x) (Err e) → TellsRead {A = Content} (at_fault at (as_content x)) (Err e)
-content_err at (Ok q) (errors.Fault place fault) is = absurd (cc)
-content_err at (Ok q) (errors.Limit limit) is = absurd (cc)
-content_err at (Ok q) (errors.Read failed) is = tt
-content_err at (Ok q) errors.Memory is = tt
-content_err at (Err w) (errors.Fault place fault) is = let same : errors.Fault at w ≡ errors.Fault place fault = cc in ap (λ (e : NgError). Err e) same
-content_err at (Err w) (errors.Limit limit) is = absurd (cc)
-content_err at (Err w) (errors.Read failed) is = tt
-content_err at (Err w) errors.Memory is = tt
+content_err at (Ok q) e = said_so (ng_end e) (λ is. absurd (cc))
+content_err at (Err w) e = said_so (ng_end e) (λ is. let same : errors.Fault at w ≡ e = cc in ap (λ (e : NgError). Err e) same)
 
 module _ (at : ℕ) (h : Head) (faces : List Interface) (b : List ℕ) (same : at_place h.big b (h.size - 4) 4 ≡ h.size) (kind : h.kind ≡ kinds.Packet) where
   pub body_ok : (r : NgRecord) → TellsRead (at_fault at (packet_read h.big faces b)) (Ok r) → TellsRead (at_fault at (body_read h faces b)) (Ok (says.Packet r))

@@ -3,7 +3,9 @@ use Rattle.std.proofs.Common.{◌≡◌, ℕ, ◌+◌, ◌-◌, ◌<◌, ◌≤�
 use Rattle.std.specs.Prelude.{Result, is_some, IfOk, MatchOption}
 use Rattle.std.proofs.lemmas.Bool.{lt-ltb, le-ltb, eqb-true, ne_eqb}
 use Rattle.std.proofs.lemmas.List.{take_at, drop_at}
+use Rattle.fab_base.specs.Ending.{end_by}
 use Rattle.fab_base.specs.Seen.{Seen, Reads, Rose, SameReadFaults}
+use Rattle.fab_base.proofs.EndingLemmas.{said_so, spares_reads, spares_reads_then}
 use Rattle.fab_base.specs.declared.values.Failed.{Failed}
 use Rattle.fab_base.proofs.Depots.{reads_trans, input_name, told_stays, rose_later}
 use Rattle.pcap_file.specs.declared.Budget.{Budget}
@@ -18,7 +20,7 @@ use Rattle.pcapng_file.specs.declared.block.Head.{Head}
 use Rattle.pcapng_file.specs.declared.packet.Content.{Content}
 use Rattle.pcapng_file.specs.declared.reading.Block.{Block}
 use Rattle.pcapng_file.specs.Block.{first, unless, head_of, head_tests, head_read, body_read}
-use Rattle.pcapng_file.specs.File.{Section, at_fault, and_then, frames_of, counted, step_in, step_of, found, AreKept, TellsRead, SparesReads, NotRead, head_at, Lacks, place, BlockRead}
+use Rattle.pcapng_file.specs.File.{Section, at_fault, and_then, frames_of, counted, step_in, step_of, found, AreKept, TellsRead, ng_end, NotRead, head_at, Lacks, place, BlockRead}
 use Rattle.pcapng_file.specs.Passing.{PassesOver, begun}
 use Rattle.std.specs.Result.{IsErrAnd}
 
@@ -70,10 +72,7 @@ module _ (budget : Budget) (at : ℕ) (s : Section) (l : List ℕ) where
 
 -- an error goes through
 pub then_err : {A B : Type 0} → (x : Result A NgError) (f : A → Result B NgError) (e : NgError) → TellsRead {A = A} x (Err e) → TellsRead {A = B} (and_then x f) (Err e)
-then_err x f (errors.Fault at fault) is = ap (λ y. and_then y f) is
-then_err x f (errors.Limit limit) is = ap (λ y. and_then y f) is
-then_err x f (errors.Read failed) is = tt
-then_err x f errors.Memory is = tt
+then_err x f e = said_so (ng_end e) (λ is. ap (λ y. and_then y f) is)
 
 -- ---- the buffers
 
@@ -84,24 +83,6 @@ no_cause n m e own f is = let same : e ≡ errors.Read f = cc in absurd (subst N
 -- nor need they bytes that lack
 no_waits : (told : Type 0) (s : Section) (l left : List ℕ) (e : NgError) → NotRead e → told → (f : Failed) → (let r : Result (Option Block) NgError = Err e in r ≡ Err (errors.Read f)) → Lacks s l left
 no_waits told s l left e own is_told f is = let same : e ≡ errors.Read f = cc in absurd (subst NotRead same own)
-
--- where no fault was counted, other errors count none
-spares_own : (a c : Seen) → SameReadFaults a c → (e : NgError) → NotRead e → SparesReads {A = Option Block} a c (Err e)
-spares_own a c none (errors.Fault at fault) own = none
-spares_own a c none (errors.Limit limit) own = none
-spares_own a c none (errors.Read failed) own = absurd own
-spares_own a c none errors.Memory own = none
-
--- the same behind a call that counted none
-pub spares_error : (A B : Type 0) (a b c : Seen) → SameReadFaults a b → (e : NgError) → SparesReads {A = A} b c (Err e) → SparesReads {A = B} a c (Err e)
-spares_error A B a b c none (errors.Fault at fault) more = λ m. more m ∙ none m
-spares_error A B a b c none (errors.Limit limit) more = λ m. more m ∙ none m
-spares_error A B a b c none (errors.Read failed) more = tt
-spares_error A B a b c none errors.Memory more = λ m. more m ∙ none m
-
-spares_behind : (a b c : Seen) → SameReadFaults a b → (result : Result (Option Block) NgError) → SparesReads b c result → SparesReads a c result
-spares_behind a b c none (Ok block) more = λ m. more m ∙ none m
-spares_behind a b c none (Err e) more = spares_error (Option Block) (Option Block) a b c none e more
 
 pub both_left : (x y : Bool) → (x && y) ≡ true → x ≡ true
 both_left true y e = refl
@@ -231,7 +212,7 @@ module _ (slot : ℕ) (a b : Seen) (held mid front : List ℕ) (n : ℕ) (budget
             fits = passed_fits h.size budget least room result p.fits;
             cause = λ f is. rose_later _ _ _ first.reads.keeps.reads_rise (subst (λ m. Rose (b.read_faults m) (c.read_faults m)) same (p.cause f is));
             waits = λ told f is. inr (omega (arith, p.waits (still told) f is, length-append front (mid ++ b.left slot), ap length (whole told), size_is told));
-            counts = spares_behind a b c first.counts result p.counts;
+            counts = spares_reads_then (end_by ng_end result) a b c first.counts p.counts;
           }
 
       module _ (c : Seen) (rest body : List ℕ) (is_in : IsTrue (a.input slot)) (room : h.size ≤ budget.bytes) (least : 12 ≤ h.size) (sized_body : length body ≡ h.size - 12) where
@@ -312,7 +293,7 @@ module _ (slot : ℕ) (a b : Seen) (held mid front : List ℕ) (n : ℕ) (budget
               fits = tt;
               cause = no_cause _ _ e own;
               waits = no_waits _ s _ _ e own;
-              counts = spares_own a c both_counts e own;
+              counts = spares_reads (ng_end e) a c (λ other. both_counts);
             }
 
             module _ (content : Content) (says : at_fault at (body_read h s.faces block) ≡ Ok content) where

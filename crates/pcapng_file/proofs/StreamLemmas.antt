@@ -12,10 +12,10 @@ use Rattle.pcapng_file.specs.declared.reading.Block.{Block}
 use Rattle.pcapng_file.specs.declared.stream.Gone.{Gone}
 use Rattle.pcapng_file.specs.declared.stream.Gone.TheVariants as gives
 use Rattle.pcapng_file.specs.declared.NgRecord.{NgRecord}
-use Rattle.pcapng_file.specs.File.{Section, head_at, content_at, after, found, AreKept, Place, step_of, TellsRead, SparesReads, Lacks, BlockRead}
-use Rattle.pcapng_file.specs.Stream.{Streaming, StreamStand, stream_stand, bytes_ahead, Parts, Goes, IsSaid, BlockGone, StreamReads}
+use Rattle.pcapng_file.specs.File.{Section, head_at, content_at, after, found, AreKept, Place, step_of, ng_end, Lacks, BlockRead}
+use Rattle.pcapng_file.specs.Stream.{Streaming, StreamStand, stream_stand, bytes_ahead, Parts, Goes, BlockGone, StreamReads}
 use Rattle.std.specs.Result.{IsErrAnd}
-use Rattle.pcapng_file.proofs.StepLemmas.{spares_error}
+use Rattle.fab_base.proofs.EndingLemmas.{said_is, spares_none, spares_reads_then}
 use Rattle.pcapng_file.proofs.LawLemmas.{steps, block_at}
 
 -- ---- blocks, one after another
@@ -60,12 +60,6 @@ part_of budget at s l k is v t m is_v is_t is_m = elim (steps budget at s l) [
   ]
 ]
 
-said_tells : (s : Section) (l left : List ℕ) (here : Place) (e : NgError) → TellsRead {A = Option Block} (step_of here.left here.at s l) (Err e) → IsSaid e → step_of here.left here.at s l ≡ Err e
-said_tells s l left here (errors.Fault at fault) is said = is
-said_tells s l left here (errors.Limit limit) is said = is
-said_tells s l left here (errors.Read failed) is said = absurd said
-said_tells s l left here errors.Memory is said = absurd said
-
 module _ (slot : ℕ) (a b : Seen) (held rest : List ℕ) (here : Place) (kept : Option NgError) where
   abbrev stood : StreamStand
   stood = stream_stand (record { held = held; here = here; kept = kept }) a
@@ -77,7 +71,7 @@ module _ (slot : ℕ) (a b : Seen) (held rest : List ℕ) (here : Place) (kept :
   gone_failed e r = record {
     reads = r.reads;
     tells = λ told. (
-      λ said. (refl, said_tells here.section (held ++ a.left slot) (b.left slot) here e (r.tells told) said),
+      λ said. (refl, said_is (ng_end e) (step_of here.left here.at here.section (held ++ a.left slot) ≡ Err e) (r.tells told) said),
       λ f is. (refl, r.waits told f (ap (λ (x : NgError). Err x) is)),
     );
     moves = tt;
@@ -86,7 +80,7 @@ module _ (slot : ℕ) (a b : Seen) (held rest : List ℕ) (here : Place) (kept :
     frames = refl;
     kept = refl;
     cause = λ f is. let same : e ≡ errors.Read f = cc in r.cause f (ap (λ (x : NgError). Err x) same);
-    counts = spares_error (Option Block) Gone a a b (λ m. refl) e r.counts;
+    counts = r.counts;
   }
 
   pub gone_end : BlockRead slot here (supply held a) (supply rest b) (Ok None) → BlockGone slot stood (stands here) (Ok gives.End)
@@ -189,12 +183,6 @@ passing_none slot p a fresh = record {
   counts = λ m. refl;
 }
 
-spares_same : (a : Seen) (e : NgError) → SparesReads {A = Option NgRecord} a a (Err e)
-spares_same a (errors.Fault at fault) = λ m. refl
-spares_same a (errors.Limit limit) = λ m. refl
-spares_same a (errors.Read failed) = tt
-spares_same a errors.Memory = λ m. refl
-
 -- an error that is kept
 pub kept_again : (slot : ℕ) (p : Streaming) (a : Seen) (e : NgError) → p.kept ≡ Some e → StreamReads slot (stream_stand p a) (stream_stand p a) (Err e)
 kept_again slot p a e kept = record {
@@ -210,7 +198,7 @@ kept_again slot p a e kept = record {
   fails = kept;
   again = λ x is. let same : e ≡ x = cc in (ap (λ (y : NgError). Err y) same, refl);
   cause = λ fresh. absurd (cc);
-  counts = spares_same a e;
+  counts = spares_none (ng_end e) a;
 }
 
 -- a stream that keeps this error from now on
@@ -309,5 +297,5 @@ module _ (slot : ℕ) (p q z : Streaming) (a b c : Seen) (is_in : IsTrue (a.inpu
     cause = λ fresh f is.
         let same_error : e ≡ errors.Read f = cc in
         rose_later _ _ _ g.reads.keeps.reads_rise (subst (λ m. Rose (b.read_faults m) (c.read_faults m)) same (r.cause f (ap (λ (x : NgError). Err x) same_error)));
-    counts = spares_error Gone (Option NgRecord) a b c g.counts e r.counts;
+    counts = spares_reads_then (ng_end e) a b c g.counts r.counts;
   }

@@ -8,9 +8,10 @@ use Rattle.pcapng_file.specs.declared.fault.NgError.{NgError}
 use Rattle.pcapng_file.specs.declared.NgRecord.{NgRecord}
 use Rattle.pcapng_file.specs.declared.packet.Content.{Content}
 use Rattle.pcapng_file.specs.declared.packet.Content.TheVariants as says
-use Rattle.pcapng_file.specs.File.{Section, before_all, head_at, content_at, after, found, Blocks, IsNg, AreKept, step_of, less, in_front, go_on, read_from, ng_read}
+use Rattle.fab_base.specs.Ending.{IsSaid}
+use Rattle.pcapng_file.specs.File.{Section, before_all, head_at, content_at, after, found, Blocks, IsNg, AreKept, step_of, less, in_front, go_on, read_from, ng_read, ng_end}
 use Rattle.pcapng_file.specs.Laws.{Within}
-use Rattle.pcapng_file.specs.Stream.{Streaming, streaming, stream_stand, Parts, Goes, BeginsWith, IsSaid, StreamReads, left_of, Stops, Streamed}
+use Rattle.pcapng_file.specs.Stream.{Streaming, streaming, stream_stand, Parts, Goes, BeginsWith, StreamReads, left_of, Stops, Streamed}
 use Rattle.pcapng_file.proofs.GoingLemmas.{read_is}
 use Rattle.pcapng_file.proofs.LawLemmas.{Stands, Passed, block_at, long_enough, size_fits, size_least, step_stands}
 use Rattle.pcapng_file.proofs.StreamLemmas.{goes_more}
@@ -133,7 +134,7 @@ module _ (slot : ℕ) (start d e : Seen) (budget : Budget) (p q : Streaming) (v 
   )
 
   -- where it stops
-  pub streamed_stops : (f : NgError) → StreamReads slot (stream_stand p d) (stream_stand q e) (Err f) → IsTrue start.told → IsSaid f → Stops v (start.left slot) budget f
+  pub streamed_stops : (f : NgError) → StreamReads slot (stream_stand p d) (stream_stand q e) (Err f) → IsTrue start.told → IsSaid (ng_end f) → Stops v (start.left slot) budget f
   streamed_stops f r told said =
       let stop = r.stops (told_d told) s.fresh said in
       let is_at : q.here.at ≡ length (start.left slot) - length stop.rest = omega (arith, stop.place, s.place told) in

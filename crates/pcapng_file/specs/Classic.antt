@@ -1,18 +1,17 @@
 -- The classic capture of the packets of a file, and what converting a file does.
 use Rattle.std.specs.Prelude.{◌≡◌, ℕ, ◌*◌, ◌/◌, ◌%◌, ◌≤◌, max, false, List, [], ◌∷◌, ◌++◌, length, map, take, IsTrue, Some, Result, Ok, Err}
 use Rattle.fab_base.specs.Layout.{spelled_low}
-use Rattle.fab_base.specs.Ending.{NoFaults}
-use Rattle.fab_base.specs.Seen.{Seen, SameFiles, SameReadFaults, SameWriteFaults, Rose}
+use Rattle.fab_base.specs.Ending.{WhereSaid, NoFaults, CountsRead}
+use Rattle.fab_base.specs.Seen.{Seen, SameFiles, SameReadFaults, Rose}
 use Rattle.pcap_file.specs.declared.Budget.{Budget}
 use Rattle.pcap_file.specs.declared.CaptureHead.{CaptureHead}
 use Rattle.pcap_file.specs.declared.Record.{Record}
 use Rattle.pcap_file.specs.Capture.{head_bytes, IsCapture}
 use Rattle.pcapng_file.specs.declared.NgRecord.{NgRecord}
 use Rattle.pcapng_file.specs.declared.fault.NgError.{NgError}
-use Rattle.pcapng_file.specs.declared.fault.NgError.TheVariants as errors
 use Rattle.pcapng_file.specs.declared.fault.ConvertError.{ConvertError}
 use Rattle.pcapng_file.specs.declared.fault.ConvertError.TheVariants as ends
-use Rattle.pcapng_file.specs.File.{IsNg, AreKept, ng_read}
+use Rattle.pcapng_file.specs.File.{IsNg, AreKept, ng_end, ng_read}
 use Rattle.pcapng_file.specs.Laws.{Within}
 
 -- seconds, microseconds, stored length and original length of a record
@@ -50,17 +49,7 @@ written = record { big = false; nano = false }
 
 -- why an input isn't converted; a depot's fault and want of memory say nothing of its bytes
 abbrev pub SaysInput : List ℕ → Budget → Seen → NgError → Type 0
-SaysInput from budget old (errors.Fault at fault) = (l : List ℕ) × (old.file from ≡ Some l) × (ng_read budget l ≡ Err (errors.Fault at fault))
-SaysInput from budget old (errors.Limit limit) = (l : List ℕ) × (old.file from ≡ Some l) × (ng_read budget l ≡ Err (errors.Limit limit))
-SaysInput from budget old (errors.Read failed) = Unit {0}
-SaysInput from budget old errors.Memory = Unit {0}
-
--- A fault of reading is counted where one is told, and else none: want of memory never stands for one. None of writing is counted.
-abbrev pub CauseInput : List ℕ → Seen → Seen → NgError → Type 0
-CauseInput from old new (errors.Fault at fault) = NoFaults old new
-CauseInput from old new (errors.Limit limit) = NoFaults old new
-CauseInput from old new (errors.Read failed) = Rose (old.read_faults from) (new.read_faults from) × SameWriteFaults old new
-CauseInput from old new errors.Memory = NoFaults old new
+SaysInput from budget old e = WhereSaid (ng_end e) ((l : List ℕ) × (old.file from ≡ Some l) × (ng_read budget l ≡ Err e))
 
 -- the input that was found is a file of packets within the limits, and the output is their capture
 pub record Converted (from to : List ℕ) (budget : Budget) (old new : Seen) (count : ℕ) : Type 0 where
@@ -82,7 +71,7 @@ pub data IsFront (from to : List ℕ) (budget : Budget) (old new : Seen) : Type 
 -- How a conversion ends. The output is opened only behind the whole input: an error of the input leaves every file.
 abbrev pub Converts : List ℕ → List ℕ → Budget → Seen → Seen → Result ℕ ConvertError → Type 0
 Converts from to budget old new (Ok count) = NoFaults old new × (IsTrue old.told → Converted from to budget old new count)
-Converts from to budget old new (Err (ends.Input e)) = SameFiles old new × CauseInput from old new e × (IsTrue old.told → SaysInput from budget old e)
+Converts from to budget old new (Err (ends.Input e)) = SameFiles old new × CountsRead from (ng_end e) old new × (IsTrue old.told → SaysInput from budget old e)
 Converts from to budget old new (Err (ends.Write failed)) = Rose (old.write_faults to) (new.write_faults to) × (IsTrue old.told → IsFront from to budget old new) × SameReadFaults old new
 
 -- ---- law

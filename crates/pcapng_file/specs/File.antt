@@ -1,6 +1,8 @@
 -- A pcapng file, read block by block.
 use Rattle.std.specs.Prelude.{◌≡◌, ℕ, zero, suc, ◌+◌, ◌-◌, ◌*◌, ◌^◌, ◌<◌, ◌≤◌, Bool, not, IsTrue, ◌==◌, nat_lt, ◌&&◌, ◌⊎◌, if◌then◌else◌, List, [], ◌∷◌, ◌++◌, length, take, drop, Option, Some, None, is_some, Result, Ok, Err, IfOk, OnOk, OnErr, MatchOption}
-use Rattle.fab_base.specs.Seen.{Seen, Reads, SameReadFaults}
+use Rattle.fab_base.specs.Ending as ending
+use Rattle.fab_base.specs.Ending.{End, end_by, WhereSaid, SparesReads}
+use Rattle.fab_base.specs.Seen.{Seen, Reads}
 use Rattle.fab_base.specs.declared.values.Failed.{Failed}
 use Rattle.pcap_file.specs.declared.Budget.{Budget}
 use Rattle.pcap_file.specs.Reading.{ReadsRose, Supply, coming}
@@ -142,13 +144,16 @@ ng_read budget l = read_from (suc (length l)) budget 0 before_all l
 
 -- ---- answers
 
+-- what an error rests on
+abbrev pub ng_end : NgError → End
+ng_end (errors.Fault at fault) = ending.Said
+ng_end (errors.Limit limit) = ending.Said
+ng_end (errors.Read failed) = ending.Read
+ng_end errors.Memory = ending.Memory
+
 -- an answer is what was to be read; a depot's fault and want of memory say nothing
 abbrev pub TellsRead : {A : Type 0} → Result A NgError → Result A NgError → Type 0
-TellsRead wanted (Ok a) = wanted ≡ Ok a
-TellsRead wanted (Err (errors.Fault at fault)) = wanted ≡ Err (errors.Fault at fault)
-TellsRead wanted (Err (errors.Limit limit)) = wanted ≡ Err (errors.Limit limit)
-TellsRead wanted (Err (errors.Read failed)) = Unit {0}
-TellsRead wanted (Err errors.Memory) = Unit {0}
+TellsRead wanted result = WhereSaid (end_by ng_end result) (wanted ≡ result)
 
 -- an error that isn't the depot's
 abbrev pub NotRead : NgError → Type 0
@@ -156,11 +161,6 @@ NotRead (errors.Fault at fault) = Unit {0}
 NotRead (errors.Limit limit) = Unit {0}
 NotRead (errors.Read failed) = ⊥
 NotRead errors.Memory = Unit {0}
-
--- no fault of reading is counted but where one is told, so want of memory never stands for one
-abbrev pub SparesReads : {A : Type 0} → Seen → Seen → Result A NgError → Type 0
-SparesReads old new (Err (errors.Read failed)) = Unit {0}
-SparesReads old new result = SameReadFaults old new
 
 -- What reading a file from a slot does. Where the depot tells, the answer is what the bytes say that the slot has left, all
 -- of which are taken then, except that the depot may fail, which its count shows, and memory may be refused. The budget
@@ -174,7 +174,7 @@ pub record NgReads (slot : ℕ) (old new : Seen) (had left : Budget) (result : R
   pub untouched : OnErr result (left ≡ had)
   pub kept : IfOk result AreKept
   pub cause : (f : Failed) → result ≡ Err (errors.Read f) → ReadsRose slot old new
-  pub counts : SparesReads old new result
+  pub counts : SparesReads (end_by ng_end result) old new
 
 -- ---- inside the crate
 
@@ -201,4 +201,4 @@ pub record BlockRead (slot : ℕ) (here : Place) (old new : Supply) (result : Re
   pub fits : IfOk result (λ o. MatchOption o (Unit {0}) (λ b. (HEAD ≤ b.size) × (b.size ≤ here.left.bytes) × (frames_of b.content ≤ here.left.frames) × AreKept (found b.content)))
   pub cause : (f : Failed) → result ≡ Err (errors.Read f) → ReadsRose slot old.depot new.depot
   pub waits : IsTrue old.depot.told → (f : Failed) → result ≡ Err (errors.Read f) → Lacks here.section (coming slot old) (new.depot.left slot)
-  pub counts : SparesReads old.depot new.depot result
+  pub counts : SparesReads (end_by ng_end result) old.depot new.depot

@@ -1,5 +1,6 @@
 -- Bytes of a block that go by without being held.
 use Rattle.std.specs.Prelude.{◌≡◌, ℕ, ◌+◌, ◌-◌, ◌≤◌, ◌<◌, IsTrue, List, [], ◌++◌, length, take, drop, Option, Result, Err, IfOk, OnOk, OnErr, MatchOption}
+use Rattle.fab_base.specs.Ending.{end_by, SparesReads}
 use Rattle.fab_base.specs.Seen.{Reads, SameReadFaults}
 use Rattle.fab_base.specs.declared.values.Failed.{Failed}
 use Rattle.pcap_file.specs.Capture.{at_place}
@@ -10,7 +11,7 @@ use Rattle.pcapng_file.specs.declared.fault.NgError.TheVariants as errors
 use Rattle.pcapng_file.specs.declared.block.Head.{Head}
 use Rattle.pcapng_file.specs.declared.block.Interface.{Interface}
 use Rattle.pcapng_file.specs.declared.reading.Block.{Block}
-use Rattle.pcapng_file.specs.File.{TellsRead, SparesReads, step_in, frames_of, AreKept, found}
+use Rattle.pcapng_file.specs.File.{TellsRead, ng_end, step_in, frames_of, AreKept, found}
 
 -- So many of the wanted bytes went by, fewer only at the end. A fetch fails only while some of them lack.
 pub record Skips (slot wanted : ℕ) (old new : Supply) (result : Result ℕ Failed) : Type 0 where
@@ -53,4 +54,4 @@ pub record PassesOver (slot at : ℕ) (block : Begun) (old new : Supply) (result
   pub fits : IfOk result (λ o. MatchOption o ⊥ (λ b. (b.size ≡ block.head.size) × (frames_of b.content ≡ 0) × AreKept (found b.content)))
   pub cause : (f : Failed) → result ≡ Err (errors.Read f) → ReadsRose slot old.depot new.depot
   pub waits : IsTrue old.depot.told → (f : Failed) → result ≡ Err (errors.Read f) → length (from_front slot block old) < block.head.size + length (new.depot.left slot)
-  pub counts : SparesReads old.depot new.depot result
+  pub counts : SparesReads (end_by ng_end result) old.depot new.depot

@@ -1,5 +1,6 @@
 -- A file that is read packet by packet while it comes.
 use Rattle.std.specs.Prelude.{◌≡◌, ℕ, zero, suc, ◌+◌, ◌-◌, ◌≤◌, IsTrue, List, [], ◌∷◌, ◌++◌, length, drop, Option, Some, None, is_some, Result, Err, IfOk, IfErr, MatchOption, MatchResult}
+use Rattle.fab_base.specs.Ending.{end_by, IsSaid, SparesReads}
 use Rattle.fab_base.specs.Seen.{Seen, Reads}
 use Rattle.fab_base.specs.declared.values.Failed.{Failed}
 use Rattle.pcap_file.specs.declared.Budget.{Budget}
@@ -10,7 +11,7 @@ use Rattle.pcapng_file.specs.declared.fault.NgError.TheVariants as errors
 use Rattle.pcapng_file.specs.declared.stream.Gone.{Gone}
 use Rattle.pcapng_file.specs.declared.stream.Gone.TheVariants as gives
 use Rattle.pcapng_file.specs.Block.{HEAD, NoneHolds}
-use Rattle.pcapng_file.specs.File.{Section, before_all, front_tests, whole_tests, content_at, head_at, after, found, listed, Place, place, step_of, Lacks, SparesReads, AreKept, ng_read, IsNg}
+use Rattle.pcapng_file.specs.File.{Section, before_all, front_tests, whole_tests, content_at, head_at, after, found, listed, Place, place, step_of, Lacks, ng_end, AreKept, ng_read, IsNg}
 
 -- A stream: the bytes that were fetched and not given, the place of the next block, and the error that it keeps.
 pub record Streaming : Type 0 where
@@ -50,13 +51,6 @@ Goes v s l t m = (n : ℕ) × Parts n s v l t m
 abbrev pub BeginsWith : List NgRecord → List ℕ → Section → List ℕ → Type 0
 BeginsWith v file t rest = Goes v before_all file t rest
 
--- an error that says something of the bytes
-abbrev pub IsSaid : NgError → Type 0
-IsSaid (errors.Fault at fault) = Unit {0}
-IsSaid (errors.Limit limit) = Unit {0}
-IsSaid (errors.Read failed) = ⊥
-IsSaid errors.Memory = ⊥
-
 -- ---- one block
 
 -- the packet that a block gave, or none
@@ -78,7 +72,7 @@ GoneMoves old new gone = (old.stream.here.at + HEAD ≤ new.stream.here.at) × A
 -- What an error of a block says: the stream stands before the block at which this is the first fault or limit, or of which bytes
 -- lack where the depot failed.
 abbrev pub BlockErrs : ℕ → StreamStand → StreamStand → NgError → Type 0
-BlockErrs slot old new e = (IsSaid e → (new.stream.here ≡ old.stream.here) × (step_of old.stream.here.left old.stream.here.at old.stream.here.section (bytes_ahead slot old) ≡ Err e))
+BlockErrs slot old new e = (IsSaid (ng_end e) → (new.stream.here ≡ old.stream.here) × (step_of old.stream.here.left old.stream.here.at old.stream.here.section (bytes_ahead slot old) ≡ Err e))
     × ((f : Failed) → e ≡ errors.Read f → (new.stream.here ≡ old.stream.here) × Lacks old.stream.here.section (bytes_ahead slot old) (new.depot.left slot))
 
 -- One block of a stream.
@@ -91,7 +85,7 @@ pub record BlockGone (slot : ℕ) (old new : StreamStand) (result : Result Gone 
   pub frames : MatchResult result (λ o. new.stream.here.left.frames + length (given o) ≡ old.stream.here.left.frames) (λ e. new.stream.here.left.frames ≡ old.stream.here.left.frames)
   pub kept : new.stream.kept ≡ old.stream.kept
   pub cause : (f : Failed) → result ≡ Err (errors.Read f) → ReadsRose slot old.depot new.depot
-  pub counts : SparesReads old.depot new.depot result
+  pub counts : SparesReads (end_by ng_end result) old.depot new.depot
 
 -- ---- the next packet
 
@@ -119,7 +113,7 @@ pub record StreamReads (slot : ℕ) (old new : StreamStand) (result : Result (Op
   pub tells : IsTrue old.depot.told → let s = old.stream.here.section in let l = bytes_ahead slot old in let t = new.stream.here.section in
       IfOk result (λ o. MatchOption o (Goes [] s l t [] × IsTrue (is_some t.order)) (λ r. Goes (r ∷ []) s l t (bytes_ahead slot new)))
   pub ended : IsTrue old.depot.told → IfOk result (λ o. MatchOption o (bytes_ahead slot new ≡ []) (λ r. Unit {0}))
-  pub stops : IsTrue old.depot.told → old.stream.kept ≡ None → IfErr result (λ e. IsSaid e → StopsAt old.stream.here (bytes_ahead slot old) new.stream.here e)
+  pub stops : IsTrue old.depot.told → old.stream.kept ≡ None → IfErr result (λ e. IsSaid (ng_end e) → StopsAt old.stream.here (bytes_ahead slot old) new.stream.here e)
   pub waits : IsTrue old.depot.told → old.stream.kept ≡ None → (f : Failed) → result ≡ Err (errors.Read f) → WaitsAt old.stream.here (bytes_ahead slot old) new.stream.here.section (new.depot.left slot)
   pub place : IsTrue old.depot.told → IfOk result (λ o. new.stream.here.at + length (bytes_ahead slot new) ≡ old.stream.here.at + length (bytes_ahead slot old))
   pub bytes : new.stream.here.at + new.stream.here.left.bytes ≡ old.stream.here.at + old.stream.here.left.bytes
@@ -128,7 +122,7 @@ pub record StreamReads (slot : ℕ) (old new : StreamStand) (result : Result (Op
   pub fails : MatchResult result (λ o. (old.stream.kept ≡ None) × (new.stream.kept ≡ None)) (λ e. new.stream.kept ≡ Some e)
   pub again : (e : NgError) → old.stream.kept ≡ Some e → (result ≡ Err e) × (new ≡ old)
   pub cause : old.stream.kept ≡ None → (f : Failed) → result ≡ Err (errors.Read f) → ReadsRose slot old.depot new.depot
-  pub counts : SparesReads old.depot new.depot result
+  pub counts : SparesReads (end_by ng_end result) old.depot new.depot
 
 -- ---- a stream that was read from its first byte
 
