@@ -14,6 +14,8 @@ use Rattle.fab_policy.specs.Standing.{Contents, Stands}
 use Rattle.fab_policy.specs.State.{Tables}
 use Rattle.fab_policy.specs.Verdicts.{IsRight}
 use Rattle.fab_policy.specs.declared.event.Event.TheVariants.{Frame}
+use Rattle.fab_policy.specs.declared.line.Line.{Line}
+use Rattle.fab_policy.specs.declared.line.Line.TheVariants.{Tick}
 use Rattle.fab_policy.specs.declared.verdict.Verdict.{Verdict}
 use Rattle.fab_gather.specs.Port.{AreIn}
 use Rattle.fab_gather.specs.Reads.{first_index}
@@ -167,6 +169,18 @@ pub record IsOnShelf (shelves : List Shelf) (done : List ℕ) (w port index : �
   pub record_ : slice_get shelf.batch.items done_ ≡ Some r
   pub number : index ≡ first_index shelf + done_
   pub clock_ : IfSome told (λ t. t ≡ w)
+
+-- a line at a place is that of a tick, where none is expected, and this is its fault
+pub record IsOfTick (p : Place) (l : Line) (e : CheckFault) : Type 0 where
+  pub is : e ≡ fault.Line (number_behind p.format p.entries) why.Tick
+  pub moment : ℕ
+  pub ended : List ℕ
+  pub tick : l ≡ Tick moment ended
+
+-- a line at a place is that of a frame which no record has, and this is its fault
+pub record IsOfNone (p : Place) (has : Record → Type 0) (e : CheckFault) : Type 0 where
+  pub is : e ≡ fault.Line (number_behind p.format p.entries) why.Frame
+  pub none : (r : Record) → has r → ⊥
 
 -- a record of a port has no line yet
 pub record HasLeftAt (shelves : List Shelf) (done : List ℕ) (q : ℕ) : Type 0 where

@@ -1,15 +1,16 @@
 //! The lines of the frames of a window.
-ghost use Rattle.std.specs.Prelude.{◌≡◌, ◌+◌, ◌<◌, ◌≤◌, ◌^◌, ◌∷◌, ℕ, IsSome, IfOk, IfSome, MatchOption, MatchBool, OnOk, IfErr, length, option_copied, replicate, slice_get};
+ghost use Rattle.std.specs.Prelude.{◌≡◌, ◌+◌, ◌<◌, ◌≤◌, ◌^◌, ◌∷◌, ℕ, IsSome, IfOk, IfSome, MatchOption, MatchBool, MatchResult, OnOk, IfErr, length, option_copied, replicate, slice_get};
 ghost use Rattle.fab_policy.specs.Journal.{Journal};
 ghost use Rattle.fab_policy.specs.Legal.{Legal};
 ghost use Rattle.fab_policy.specs.Ranged.{IsRangedEvent};
 ghost use Rattle.fab_policy.specs.Standing.{Stands};
 ghost use Rattle.fab_policy.specs.declared.event.Event.TheVariants as event;
+ghost use Rattle.fab_policy.specs.declared.line.Line.TheVariants as line_;
 ghost use Rattle.fab_pages.specs.Pages.{items_in};
 ghost use Rattle.fab_replay.specs.Lines.{IsOfLine};
 ghost use Rattle.fab_replay.specs.Steps as spec;
 ghost use Rattle.fab_replay.specs.Owed.{PagesGrow};
-ghost use Rattle.fab_replay.specs.Steps.{AllDone, AreCounted, ChecksLines, HasDone, HasLeft, HasNone, HasTurned, IsAmong, IsIdle, IsOnShelf, IsRefused, spot_at};
+ghost use Rattle.fab_replay.specs.Steps.{AllDone, AreCounted, ChecksLines, HasDone, HasLeft, HasNone, HasTurned, IsAmong, IsIdle, IsOfNone, IsOfTick, IsOnShelf, IsRefused, spot_at};
 ghost use Rattle.pcap_file.specs.declared.Record.{Record as of_captures};
 
 use crate::lines::{fault_at, next_line};
@@ -29,6 +30,15 @@ use std::alloc::Global;
 pub(crate) struct Gathered<'a> {
     pub(crate) window: u64,
     pub(crate) shelves: &'a [Shelf],
+}
+
+// The words of a frame's line.
+#[derive(Clone, Copy, Debug)]
+struct FrameLine {
+    port: PortNo,
+    index: u64,
+    verdict: Verdict,
+    clock: Option<Moment>,
 }
 
 // The frame of a line, with the verdict that it has there.
@@ -94,27 +104,64 @@ fn check_frame(
 {
     let before = *place;
     let line = next_line(alloc, journal, place)?;
-    let Line::Frame {
-        port,
-        index,
-        verdict,
-        clock,
-    } = line
-    else {
-        return Err(fault_at(&before, LineWhy::Tick));
-    };
-    let Some(found) = next_on_shelf(gathered, done, port, index, clock) else {
-        return Err(fault_at(&before, LineWhy::Frame));
-    };
+    let words = frame_line(&before, &line)?;
+    let found = record_of(&before, gathered, done, &words)?;
     let named = NamedFrame {
-        port,
-        index,
+        port: words.port,
+        index: words.index,
         found,
-        verdict,
+        verdict: words.verdict,
     };
     take_frame(alloc, fabric, &before, &named, pages)?;
-    done[port.index()] += 1;
+    done[words.port.index()] += 1;
     Ok(())
+}
+
+// The words of a line that stands at a place, if it is that of a frame.
+fn frame_line(place: &Place, line: &Line) -> Result<FrameLine, CheckFault>
+    requires room { place.now.entries + place.now.entries ≤ place.now.at }
+    ensures words { MatchResult result
+        (λ l. line.now ≡ line_.Frame l.port l.index l.verdict l.clock)
+        (λ e. IsOfTick place.now line.now e) }
+    ensures only { IfErr result IsOfLine }
+{
+    match line {
+        Line::Tick { .. } => Err(fault_at(place, LineWhy::Tick)),
+        Line::Frame {
+            port,
+            index,
+            verdict,
+            clock,
+        } => Ok(FrameLine {
+            port: *port,
+            index: *index,
+            verdict: *verdict,
+            clock: *clock,
+        }),
+    }
+}
+
+// The record of a frame's line that stands at a place, if it is the next on its port's shelf.
+fn record_of<'a>(
+    place: &Place,
+    gathered: &Gathered<'a>,
+    done: &[usize],
+    words: &FrameLine,
+) -> Result<&'a Record, CheckFault>
+    requires room { place.now.entries + place.now.entries ≤ place.now.at }
+    requires count { length done.now ≡ length gathered.now.shelves.now }
+    ensures named { let g = gathered.now in let l = words.now in MatchResult result
+        (λ r. IsOnShelf g.shelves.now done.now g.window l.port l.index l.clock r.now)
+        (λ e. IsOfNone place.now (IsOnShelf g.shelves.now done.now g.window l.port l.index l.clock)
+        e) }
+    ensures room { IfOk result (λ r. (q k : ℕ) → words.now.port ≡ q + 1
+        → slice_get done.now q ≡ Some k → k + 1 < 2 ^ 64) }
+    ensures only { IfErr result IsOfLine }
+{
+    match next_on_shelf(gathered, done, words.port, words.index, words.clock) {
+        Some(found) => Ok(found),
+        None => Err(fault_at(place, LineWhy::Frame)),
+    }
 }
 
 // Has the fabric handle a frame as its line says, which stands at a place.

@@ -1,6 +1,7 @@
-use Rattle.std.proofs.Common.{◌∙◌, ◌∷◌, refl, arith}
+use Rattle.std.proofs.Common.{◌∙◌, ◌∷◌, refl, sym, subst, arith}
 use Rattle.fab_policy.specs.declared.event.Event.TheVariants as event
 use Rattle.fab_pages.specs.Pages.{items_in}
+use Rattle.fab_replay.specs.Steps.{IsFound, Left}
 use Rattle.fab_replay.proofs.LineLemmas.{line_as, unread_as}
 use Rattle.fab_replay.proofs.RemainLemmas.{along_frame, left_frame, legal_old, stays_frame, stays_tick, stays_unread}
 use Rattle.fab_replay.proofs.SentLemmas.{grow_reached, legal_there}
@@ -19,38 +20,43 @@ returns-in_err-line-clause-lines c =
     (λ x J same h win. no_line_here x J _ _ h _ _ _ win c.requires.left c.requires.width e (unread_as c.args.place.now e same unread))
     (λ x told J same h win. stays_unread x told J _ _ h e (unread_as c.args.place.now e same unread))
 
-pub returns-in_default-clause-lines : goal.returns-in_default-clause-lines
-returns-in_default-clause-lines c =
-    failed c.fault_at.ensures tt refl refl refl
-    (λ x J same h win. tick_here x J _ _ h _ _ _ win c.requires.left c.requires.width _ c.next_line.new.place _ _ refl (line_as same c.in_default.is c.in_ok-line.ensures.line))
-    (λ x told J same h win. stays_tick x told J _ _ h _ refl (λ t. no_tick_here x _ J _ _ (win t) c.requires.left))
+pub returns-in_err-words-clause-lines : goal.returns-in_err-words-clause-lines
+returns-in_err-words-clause-lines c =
+    let of = c.in_err-words.ensures.words in
+    failed c.from_residual-in_err-words.ensures.1 c.in_err-words.ensures.only refl refl refl
+    (λ x J same h win.
+    subst (IsFound x) (sym of.is) (tick_here x J _ _ h _ _ _ win c.requires.left c.requires.width _ c.next_line.new.place _ _ refl (line_as same of.tick c.in_ok-line.ensures.line)))
+    (λ x told J same h win. subst (Left x told c.args.fabric.now) (sym of.is) (stays_tick x told J _ _ h _ refl (λ t. no_tick_here x _ J _ _ (win t) c.requires.left)))
 
-pub returns-in_default-next_on_shelf-clause-lines : goal.returns-in_default-next_on_shelf-clause-lines
-returns-in_default-next_on_shelf-clause-lines c =
-    failed c.fault_at-in_default-next_on_shelf.ensures tt refl refl refl
-    (λ x J same h win. other_frame x J _ _ h _ _ _ win c.requires.left c.requires.width c.next_line.new.place _ _ _ _ (line_as same c.in-Frame.is c.in_ok-line.ensures.line) _ refl c.in_default-next_on_shelf.ensures.named)
-    (λ x told J same h win. stays_frame x told J _ _ h _ refl)
+pub returns-in_err-found-clause-lines : goal.returns-in_err-found-clause-lines
+returns-in_err-found-clause-lines c =
+    let of = c.in_err-found.ensures.named in
+    failed c.from_residual-in_err-found.ensures.1 c.in_err-found.ensures.only refl refl refl
+    (λ x J same h win.
+    subst (IsFound x) (sym of.is) (other_frame x J _ _ h _ _ _ win c.requires.left c.requires.width c.next_line.new.place _ _ _ _ (line_as same c.in_ok-words.ensures.words c.in_ok-line.ensures.line) _ refl of.none))
+    (λ x told J same h win. subst (Left x told c.args.fabric.now) (sym of.is) (stays_frame x told J _ _ h _ refl))
 
 pub returns-in_err-take_frame-clause-lines : goal.returns-in_err-take_frame-clause-lines
 returns-in_err-take_frame-clause-lines c =
     let F = c.args.fabric.now in
     let e = c.in_err-take_frame.field-0.0 in
     let step = c.in_err-take_frame.ensures in
-    let on = c.in-Some.ensures.named in
+    let on = c.in_ok-found.ensures.named in
     failed c.from_residual-in_err-take_frame.ensures.1 step.only step.settings.0 step.settings.1 step.pages
-    (λ x J same h win. refused_here x J _ _ h _ _ _ win c.requires.left c.requires.width c.next_line.new.place _ _ _ _ (line_as same c.in-Frame.is c.in_ok-line.ensures.line) _ on e step.refused)
-    (λ x told J same h win. left_frame x told J F _ h _ c.requires.among.clock_ c.args.gathered.now.shelves.now c.args.done.now win c.next_line.new.place _ _ _ _ (line_as same c.in-Frame.is c.in_ok-line.ensures.line) _ on
+    (λ x J same h win. refused_here x J _ _ h _ _ _ win c.requires.left c.requires.width c.next_line.new.place _ _ _ _ (line_as same c.in_ok-words.ensures.words c.in_ok-line.ensures.line) _ on e step.refused)
+    (λ x told J same h win. left_frame x told J F _ h _ c.requires.among.clock_ c.args.gathered.now.shelves.now c.args.done.now win c.next_line.new.place _ _ _ _ (line_as same c.in_ok-words.ensures.words c.in_ok-line.ensures.line) _ on
     F.state.tables c.take_frame.new.fabric e step.refused (step.left J (legal_old x told J _ _ h) h.stands))
 
 pub returns-clause-lines : goal.returns-clause-lines
 returns-clause-lines c =
-    let on = c.in-Some.ensures.named in
+    let l = c.in_ok-words.words in
+    let on = c.in_ok-found.ensures.named in
     let step = c.in_ok-take_frame.ensures in
     right_checked
     (λ x told J same h win. (
-      event.Frame c.in-Frame.port c.in-Frame.index c.in-Some.found.now.caught c.in-Frame.verdict ∷ J,
-      along_frame x told J _ _ h _ c.requires.among.clock_ _ _ win _ _ _ _ _ (line_as same c.in-Frame.is c.in_ok-line.ensures.line) _ on c.take_frame.new.fabric (λ l s. let j = step.journal J l s in (j.0, j.1)) step.ranged step.settings.0,
-      λ t. window_more x _ J _ _ (win t) _ _ _ _ c.in-Frame.verdict on _ (counts_more on _ c.index.ensures.value),
+      event.Frame l.port l.index c.in_ok-found.found.now.caught l.verdict ∷ J,
+      along_frame x told J _ _ h _ c.requires.among.clock_ _ _ win _ _ _ _ _ (line_as same c.in_ok-words.ensures.words c.in_ok-line.ensures.line) _ on c.take_frame.new.fabric (λ l s. let j = step.journal J l s in (j.0, j.1)) step.ranged step.settings.0,
+      λ t. window_more x _ J _ _ (win t) _ _ _ _ l.verdict on _ (counts_more on _ c.index.ensures.value),
     ))
     (record { settings = step.settings.0; count = step.settings.1; inside = c.in_ok-line.ensures.line.inside; clock_ = step.clock ∙ c.requires.among.clock_; idle = step.idle })
     step.pages
@@ -59,10 +65,10 @@ returns-clause-lines c =
 -- ---- the count of the port's lines
 
 pub bounds-done-index : goal.bounds-done-index
-bounds-done-index c = place_inside c.in-Some.ensures.named _ c.index.ensures.value
+bounds-done-index c = place_inside c.in_ok-found.ensures.named _ c.index.ensures.value
 
 pub bounds-done-index-2 : goal.bounds-done-index-2
-bounds-done-index-2 c = place_inside c.in-Some.ensures.named _ c.index.ensures.value
+bounds-done-index-2 c = place_inside c.in_ok-found.ensures.named _ c.index.ensures.value
 
 pub overflow_add-done : goal.overflow_add-done
-overflow_add-done c = let fits = count_fits c.in-Some.ensures.named _ c.index.ensures.value c.in-Some.ensures.room in omega (arith, fits)
+overflow_add-done c = let fits = count_fits c.in_ok-found.ensures.named _ c.index.ensures.value c.in_ok-found.ensures.room in omega (arith, fits)
