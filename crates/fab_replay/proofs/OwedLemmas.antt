@@ -5,8 +5,10 @@ use Rattle.std.specs.declared.alloc.Global.{Global}
 use Rattle.std.proofs.lemmas.Bool.{eqb-true, eqb-false}
 use Rattle.std.proofs.lemmas.List.{append-nil}
 use Rattle.std.proofs.lemmas.Option.{slice_get_within}
+use Rattle.fab_base.specs.Ending.{end_by}
 use Rattle.fab_base.specs.Seen.{Seen, Touches, Nothing}
 use Rattle.fab_base.specs.declared.values.Failed.{Failed}
+use Rattle.fab_base.proofs.EndingLemmas.{spares_reads}
 use Rattle.fab_base.proofs.SeenLemmas.{touches_trans, touches_wider}
 use Rattle.fab_config.specs.Settings.{Settings}
 use Rattle.fab_gather.proofs.SlotLemmas.{push_before, push_last}
@@ -18,14 +20,13 @@ use Rattle.fab_policy.specs.Journal.{Journal}
 use Rattle.fab_policy.specs.Text.{egress}
 use Rattle.pcap_file.specs.Capture.{head_bytes}
 use Rattle.fab_replay.specs.AllOutputs.{AreRead, FinishesEach, IsFirst, page_at}
-use Rattle.fab_replay.specs.Counts.{TellsFaults}
+use Rattle.fab_replay.specs.Counts.{TellsFaults, check_end}
 use Rattle.fab_replay.specs.Outputs.{IsCompared, IsRead}
 use Rattle.fab_replay.specs.Owed.{AreMany, AreNew, IsOwed, PagesGrow, ReadsOn, ReadsOut, answer_by}
 use Rattle.fab_replay.specs.declared.fault.CheckFault.{CheckFault}
 use Rattle.fab_replay.specs.declared.fault.CheckFault.TheVariants as fault
 use Rattle.fab_replay.specs.declared.outputs.Compared.{Compared}
 use Rattle.fab_replay.specs.declared.owed.Owed.{Owed}
-use Rattle.fab_replay.proofs.CountLemmas.{counts_read}
 use Rattle.fab_gather.proofs.SlotLemmas.{name_in}
 use Rattle.fab_replay.proofs.SlotsLemmas.{rose_in_all}
 
@@ -106,7 +107,7 @@ first_as (Some (port, at)) n found wanted wanted' same h =
 
 module _ (slots : List ℕ) (a b : Seen) (o o' : Owed) (are : AreInputs a slots) where
   pub out_failed : (e : Failed) → ReadsOn slots a b o o' (Err e) → ReadsOut slots a b o (Err fault.Read)
-  out_failed e r = record { touches = r.touches; tells = λ told found wanted h. tt; only = tt; cause = λ is. r.cause; counts = counts_read a b r.writes }
+  out_failed e r = record { touches = r.touches; tells = λ told found wanted h. tt; only = tt; cause = λ is. r.cause; counts = (tt, r.writes) }
 
   module _ (d : Seen) (r : ReadsOn slots a b o o' (Ok tt)) where
     touches_out : Touches Nothing (NameIn b slots) b d → Touches Nothing (NameIn a slots) a d
@@ -119,11 +120,11 @@ module _ (slots : List ℕ) (a b : Seen) (o o' : Owed) (are : AreInputs a slots)
         (f.first (subst IsTrue (sym r.touches.told) told) found (λ q. wanted q ++ page_at o.pages.items q) (r.read told found wanted h))
 
     counts_out : (first : Option (ℕ × ℕ)) → FinishesEach slots b d o'.all.items (Ok first) → (result : Result (Unit {0}) CheckFault) → TellsFaults a d result
-    counts_out first f result = record { reads = λ not m. f.counts m ∙ r.counts m; writes = λ m. f.writes m ∙ r.writes m }
+    counts_out first f result = (spares_reads (end_by check_end result) a d (λ other m. f.counts m ∙ r.counts m), λ m. f.writes m ∙ r.writes m)
 
     pub out_told : (first : Option (ℕ × ℕ)) → FinishesEach slots b d o'.all.items (Ok first) → ReadsOut slots a d o (answer_by first)
     out_told None f = record { touches = touches_out f.touches; tells = first_out None f; only = tt; cause = λ is. absurd (cc); counts = counts_out None f (Ok tt) }
     out_told (Some (port, at)) f = record { touches = touches_out f.touches; tells = first_out (Some (port, at)) f; only = tt; cause = λ is. absurd (cc); counts = counts_out (Some (port, at)) f (Err (fault.Output port at)) }
 
     pub out_unread : (e : Failed) → FinishesEach slots b d o'.all.items (Err e) → ReadsOut slots a d o (Err fault.Read)
-    out_unread e f = record { touches = touches_out f.touches; tells = λ told found wanted h. tt; only = tt; cause = λ is. rose_in_all (NameIn a slots) a b r.touches slots are d f.cause; counts = counts_read a d (λ m. f.writes m ∙ r.writes m) }
+    out_unread e f = record { touches = touches_out f.touches; tells = λ told found wanted h. tt; only = tt; cause = λ is. rose_in_all (NameIn a slots) a b r.touches slots are d f.cause; counts = (tt, λ m. f.writes m ∙ r.writes m) }

@@ -2,7 +2,7 @@
 use Rattle.std.proofs.Common.{◌≡◌, ◌≢◌, ℕ, zero, suc, ◌+◌, ◌-◌, ◌*◌, ◌<◌, ◌≤◌, List, [], ◌∷◌, ◌++◌, length, get_or, true, Some, Ok, Err, IsTrue, refl, sym, ap, ◌∙◌, subst, arith, inl, inr}
 use Rattle.std.specs.Prelude.{Result, String}
 use Rattle.std.specs.declared.alloc.Global.{Global}
-use Rattle.fab_base.specs.Ending.{NoFaults}
+use Rattle.fab_base.specs.Ending.{NoFaults, Read, SparesReads, end_by}
 use Rattle.fab_base.specs.Seen.{Seen, SameFiles, SameWriteFaults, Touches, Nothing, bytes_of}
 use Rattle.fab_config.specs.Settings.{Settings}
 use Rattle.pcap_file.specs.Capture.{HEAD}
@@ -28,7 +28,7 @@ use Rattle.fabric_tool.specs.declared.command.Width.{Width}
 use Rattle.fabric_tool.specs.declared.command.Width.TheVariants as widths
 use Rattle.fabric_tool.specs.declared.outcome.Outcome.{Outcome}
 use Rattle.fabric_tool.specs.declared.outcome.Outcome.TheVariants as ends
-use Rattle.fab_base.proofs.EndingLemmas.{none_then}
+use Rattle.fab_base.proofs.EndingLemmas.{none_then, reads_spared}
 use Rattle.run_files.proofs.NameLemmas.{rose_among, rose_since, length-counted}
 use Rattle.fabric_tool.proofs.HeadLemmas.{heads_opened, heads_since, unread_is}
 use Rattle.fabric_tool.proofs.JournalLemmas.{outs_count}
@@ -255,11 +255,11 @@ module _ (w : Width) (words : List (String Global)) (run : are_ports w words ≡
         rise_o n = let one = rise_m n in let two = opened.reads_rise n in omega arith
 
         -- no fault was counted but one that is told
-        spared : (e : CheckFault) → r ≡ Err e → e ≢ checks.Read → NoFaults a z
-        spared e is other = none_then a o z none (tells.reads (λ read. let same : e ≡ checks.Read = cc in other same), tells.writes)
+        spared : (t : Result ℕ CheckFault) → r ≡ t → end_by counts.check_end t ≢ Read → NoFaults a z
+        spared t is other = none_then a o z none (reads_spared (end_by counts.check_end t) o z (subst (λ y. SparesReads (end_by counts.check_end y) o z) is tells.0) other, tells.1)
 
         pub check_done : (entries : ℕ) → r ≡ Ok entries → IsChecked w (names_of w words) a z (Ok (F, entries))
-        check_done entries is = (same, λ told. finds (IsStanding F entries) told (standing_on c left (matter_in o ins journal slots) (output_in (names_of w words) a) (same_found told) F entries settings (subst (Says c left (matter_in o ins journal slots) F) is (says told))), none_then a o z none (tells.reads (λ read. cc), tells.writes))
+        check_done entries is = (same, λ told. finds (IsStanding F entries) told (standing_on c left (matter_in o ins journal slots) (output_in (names_of w words) a) (same_found told) F entries settings (subst (Says c left (matter_in o ins journal slots) F) is (says told))), spared (Ok entries) is (λ e. cc))
 
         any_rose : r ≡ Err checks.Read → AnyRose a.read_faults z.read_faults (ins_of w words ++ (names_of w words).outs)
         any_rose is =
@@ -269,9 +269,9 @@ module _ (w : Width) (words : List (String Global)) (run : are_ports w words ≡
             rose_since a.read_faults o.read_faults z.read_faults rise_o names (rose_among o.read_faults z.read_faults names (name_of o (slots_of ins ++ slots) at.0) among at.2)
 
         pub check_refused : (e : CheckFault) → r ≡ Err e → IsChecked w (names_of w words) a z (Err (refused_by e))
-        check_refused (checks.Line line why) is = (same, λ told. finds _ told (subst (Says c left (matter_in o ins journal slots) F) is (says told)), spared (checks.Line line why) is (λ e. cc))
-        check_refused (checks.Output port at) is = (same, λ told. finds _ told (output_on c left (matter_in o ins journal slots) (output_in (names_of w words) a) (same_found told) port at (subst (Says c left (matter_in o ins journal slots) F) is (says told))), spared (checks.Output port at) is (λ e. cc))
-        check_refused (checks.Capture port at why) is = (same, λ told. inr (finds _ told (stop_on c left (matter_in o ins journal slots) (output_in (names_of w words) a) (same_found told) _ (subst (Says c left (matter_in o ins journal slots) F) is (says told)))), spared (checks.Capture port at why) is (λ e. cc))
-        check_refused (checks.Limit kind) is = (same, λ told. inr (finds _ told (stop_on c left (matter_in o ins journal slots) (output_in (names_of w words) a) (same_found told) _ (subst (Says c left (matter_in o ins journal slots) F) is (says told)))), spared (checks.Limit kind) is (λ e. cc))
-        check_refused checks.Read is = (same, rose_of w words a z (any_rose is), unread_behind o z heads_a (any_rose is), λ m. tells.writes m ∙ none.1 m)
-        check_refused checks.Memory is = (same, λ told. tt, spared checks.Memory is (λ e. cc))
+        check_refused (checks.Line line why) is = (same, λ told. finds _ told (subst (Says c left (matter_in o ins journal slots) F) is (says told)), spared (Err (checks.Line line why)) is (λ e. cc))
+        check_refused (checks.Output port at) is = (same, λ told. finds _ told (output_on c left (matter_in o ins journal slots) (output_in (names_of w words) a) (same_found told) port at (subst (Says c left (matter_in o ins journal slots) F) is (says told))), spared (Err (checks.Output port at)) is (λ e. cc))
+        check_refused (checks.Capture port at why) is = (same, λ told. inr (finds _ told (stop_on c left (matter_in o ins journal slots) (output_in (names_of w words) a) (same_found told) _ (subst (Says c left (matter_in o ins journal slots) F) is (says told)))), spared (Err (checks.Capture port at why)) is (λ e. cc))
+        check_refused (checks.Limit kind) is = (same, λ told. inr (finds _ told (stop_on c left (matter_in o ins journal slots) (output_in (names_of w words) a) (same_found told) _ (subst (Says c left (matter_in o ins journal slots) F) is (says told)))), spared (Err (checks.Limit kind)) is (λ e. cc))
+        check_refused checks.Read is = (same, rose_of w words a z (any_rose is), unread_behind o z heads_a (any_rose is), λ m. tells.1 m ∙ none.1 m)
+        check_refused checks.Memory is = (same, λ told. tt, spared (Err checks.Memory) is (λ e. cc))

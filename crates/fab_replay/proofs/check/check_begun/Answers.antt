@@ -2,9 +2,8 @@ use Rattle.std.proofs.Common.{◌∙◌, ◌≡◌, ◌≤◌, [], Ok, Err, sym,
 use Rattle.fab_gather.specs.Ports.{AreInputs}
 use Rattle.fab_replay.specs.Lines.{IsInside}
 use Rattle.fab_replay.specs.Owed.{AreMany, ReadsOut}
-use Rattle.fab_replay.specs.declared.fault.CheckFault.TheVariants as fault
 use Rattle.fab_replay.specs.Windows.{Ends}
-use Rattle.fab_replay.proofs.CountLemmas.{counts_behind, counts_none, counts_on, not_ok}
+use Rattle.fab_replay.proofs.CountLemmas.{counts_none, counts_on, counts_then}
 use Rattle.fab_replay.proofs.GoLemmas.{ends_behind, ends_out, ends_well, going_on, outputs_now}
 use Rattle.fab_replay.proofs.ResultLemmas.{err_is}
 use Rattle.fab_replay.proofs.check.check_begun.Goals as goal
@@ -87,7 +86,7 @@ returns-in_err-check_end-clause-counts g c =
     let seen = g.D.Depot.seen in
     let d = seen c.check_windows.new.depot in
     let r = c.from_residual-in_err-check_end.result in
-    counts_behind (seen c.args.depot.now) d d tt r c.in_ok-check_windows.ensures.counts (counts_none d r)
+    counts_then (seen c.args.depot.now) d d r c.in_ok-check_windows.ensures.counts (counts_none d r)
 
 pub returns-in_err-read_out-clause-counts : goal.returns-in_err-read_out-clause-counts
 returns-in_err-read_out-clause-counts g c =
@@ -95,12 +94,11 @@ returns-in_err-read_out-clause-counts g c =
     let b = seen c.check_windows.new.depot in
     let d = seen c.read_out.new.depot in
     let r = c.from_residual-in_err-read_out.result in
-    counts_behind (seen c.args.depot.now) b d tt r c.in_ok-check_windows.ensures.counts (counts_on b d c.in_err-read_out.field-0.0 r c.from_residual-in_err-read_out.ensures.1 c.in_err-read_out.ensures.reads.counts)
+    counts_then (seen c.args.depot.now) b d r c.in_ok-check_windows.ensures.counts (counts_on b d c.in_err-read_out.field-0.0 r c.from_residual-in_err-read_out.ensures.1 c.in_err-read_out.ensures.reads.counts)
 
 pub returns-clause-counts : goal.returns-clause-counts
 returns-clause-counts g c =
     let seen = g.D.Depot.seen in
     let b = seen c.check_windows.new.depot in
     let d = seen c.read_out.new.depot in
-    let all = c.in_ok-read_out.ensures.reads.counts in
-    counts_behind (seen c.args.depot.now) b d tt _ c.in_ok-check_windows.ensures.counts (record { reads = λ not. all.reads (not_ok tt fault.Read); writes = all.writes })
+    counts_then {T = Unit {0}} (seen c.args.depot.now) b d (Ok tt) c.in_ok-check_windows.ensures.counts c.in_ok-read_out.ensures.reads.counts

@@ -1,7 +1,7 @@
 use Rattle.std.proofs.Common.{refl, subst}
 use Rattle.fab_replay.specs.Check.{task_of}
 use Rattle.fab_replay.specs.Windows.{Ends}
-use Rattle.fab_replay.proofs.CountLemmas.{counts_behind, counts_on}
+use Rattle.fab_replay.proofs.CountLemmas.{counts_on, counts_then}
 use Rattle.fab_replay.proofs.ResultLemmas.{err_is}
 use Rattle.fab_replay.proofs.check.check_captures.Goals as goal
 
@@ -40,4 +40,4 @@ returns-in_err-begun-clause-counts g c =
 pub returns-clause-counts : goal.returns-clause-counts
 returns-clause-counts g c =
     let seen = g.D.Depot.seen in
-    counts_behind (seen c.args.depot.now) (seen c.look_first.new.depot) (seen c.check_begun.new.depot) c.in_ok-begun.begun c.check_begun.result c.in_ok-begun.ensures.counts c.check_begun.ensures.counts
+    counts_then (seen c.args.depot.now) (seen c.look_first.new.depot) (seen c.check_begun.new.depot) c.check_begun.result c.in_ok-begun.ensures.counts c.check_begun.ensures.counts

@@ -9,7 +9,6 @@ use Rattle.pcap_file.specs.declared.fault.GatherFault.TheVariants as gather_faul
 use Rattle.fab_replay.specs.Lines.{IsInside}
 use Rattle.fab_replay.specs.Owed.{AreMany}
 use Rattle.fab_replay.specs.Windows.{Ends}
-use Rattle.fab_replay.specs.declared.fault.CheckFault.TheVariants as fault
 use Rattle.fab_replay.proofs.CountLemmas.{counts_gathering, counts_on, counts_then, not_ok}
 use Rattle.fab_replay.proofs.GoLemmas.{ends_gathering, gathers_as, inputs_now, next_here, outputs_b, turned, window_here}
 use Rattle.fab_replay.proofs.ResultLemmas.{told_on}
@@ -50,8 +49,8 @@ returns-in-Err g c =
       settings = l.invariant.settings;
       count = l.invariant.count;
       takes = takes_then c.args.ins.now l.ins n.ins c.args.budget.now l.budget n.budget l.invariant.takes t.takes;
-      counts = counts_then (seen c.args.depot.now) (seen l.depot) (seen n.depot) _ l.invariant.counts.0 l.invariant.counts.1
-          (counts_gathering (seen l.depot) (seen n.depot) c.in-Err.fault c.fault_of.result c.fault_of.ensures t.counts t.writes);
+      counts = counts_then {T = Unit {0}} (seen c.args.depot.now) (seen l.depot) (seen n.depot) (Err c.fault_of.result) l.invariant.counts
+          (counts_gathering (seen l.depot) (seen n.depot) c.in-Err.fault c.fault_of.result c.fault_of.ensures t.counts, t.writes);
     }
 
 -- ---- checking its lines
@@ -100,8 +99,8 @@ returns-in_err-check_gathered g c =
       settings = e.advances.settings ∙ l.invariant.settings;
       count = e.advances.count ∙ l.invariant.count;
       takes = takes_then c.args.ins.now l.ins c.gather.new.ins c.args.budget.now l.budget c.gather.new.budget l.invariant.takes t.takes;
-      counts = counts_then (seen c.args.depot.now) (seen l.depot) (seen n.depot) r l.invariant.counts.0 l.invariant.counts.1
-          (counts_then (seen l.depot) (seen c.gather.new.depot) (seen n.depot) r (t.counts (not_ok tt gather_fault.Read)) t.writes (counts_on (seen c.gather.new.depot) (seen n.depot) f r c.from_residual.ensures.1 e.counts));
+      counts = counts_then (seen c.args.depot.now) (seen l.depot) (seen n.depot) r l.invariant.counts
+          (counts_then (seen l.depot) (seen c.gather.new.depot) (seen n.depot) r (t.counts (not_ok tt gather_fault.Read), t.writes) (counts_on (seen c.gather.new.depot) (seen n.depot) f r c.from_residual.ensures.1 e.counts));
     }
 
 pub windows-preserved : goal.windows-preserved
@@ -122,8 +121,8 @@ windows-preserved g c =
       count = e.advances.count ∙ l.invariant.count;
       takes = takes_then c.args.ins.now l.ins c.gather.new.ins c.args.budget.now l.budget c.gather.new.budget l.invariant.takes gathered.takes;
       counts = (
-        λ m. e.counts.reads (not_ok tt fault.Read) m ∙ gathered.counts (not_ok tt gather_fault.Read) m ∙ l.invariant.counts.0 m,
-        λ m. e.counts.writes m ∙ gathered.writes m ∙ l.invariant.counts.1 m,
+        λ m. e.counts.0 m ∙ gathered.counts (not_ok tt gather_fault.Read) m ∙ l.invariant.counts.0 m,
+        λ m. e.counts.1 m ∙ gathered.writes m ∙ l.invariant.counts.1 m,
       );
     }
 
@@ -146,5 +145,5 @@ returns g c =
       settings = l.settings;
       count = l.count;
       takes = l.takes;
-      counts = record { reads = λ not. l.counts.0; writes = l.counts.1 };
+      counts = l.counts;
     }
