@@ -38,3 +38,4 @@ pub mod CommandLaws
 pub mod RecheckLemmas
 pub mod CauseLemmas
 pub mod EndLemmas
+pub mod TouchLemmas

@@ -12,7 +12,7 @@ use Rattle.pcap_file.proofs.lemmas.Numbers.{le_or_lt}
 use Rattle.fab_vectors.specs.Making.{AreNine, IsNamed, Makes, file_text}
 use Rattle.fab_vectors.specs.declared.MakeFault.{MakeFault}
 use Rattle.fab_vectors.specs.declared.MakeFault.TheVariants as faults
-use Rattle.fabric_tool.specs.Command.{Make, is_make, files_of, make_of, file_at, names_from, are_names, KeepsOthers}
+use Rattle.fabric_tool.specs.Command.{Make, TouchesOwn, is_make, files_of, make_of, file_at, names_from, are_names, KeepsOthers}
 use Rattle.run_files.specs.Names.{Among, AnyRose}
 use Rattle.fabric_tool.specs.Load.{HasLoadFront, MakeHolds, file_name}
 use Rattle.fabric_tool.specs.Opening.{FilesOpened}
@@ -23,6 +23,7 @@ use Rattle.fabric_tool.proofs.AmongLemmas.{none_among}
 use Rattle.run_files.proofs.NameLemmas.{among_counted, counted_among, rose_among, rose_since, split_names, push_name, length-counted}
 use Rattle.fabric_tool.proofs.GivenLemmas.{IsOut, output_named, outputs_count}
 use Rattle.fabric_tool.proofs.NameLemmas.{and_true, words_differ, name_counted}
+use Rattle.fabric_tool.proofs.TouchLemmas.{own_then, own_wider, own_written}
 use Rattle.run_files.proofs.OpenLemmas.{OpenedSoFar, opened_more, opened_failed}
 
 -- ---- the words
@@ -124,6 +125,11 @@ module _ (words : List (String Global)) (make : is_make words ≡ true) (b : See
 
     no_read : SameReadFaults a d
     no_read x = m.reads x ∙ opens.reads x
+
+    pub made_own : TouchesOwn (Make (make_of number words)) a d
+    made_own =
+        let k = Make (make_of number words) in
+        own_then k a b d (own_written k a b opens.touches) (own_wider k _ _ b d named_among (λ n x. inr (named_among n x)) m.touches)
 
     pub made_whole : (frames : ℕ) → r ≡ Ok frames → MakeHolds (make_of number words) a d (ends.Made frames)
     made_whole frames is =

@@ -6,11 +6,12 @@ use Rattle.std.specs.Str.Parse.{digits_value}
 use Rattle.std.specs.String.{string_bytes}
 use Rattle.std.specs.declared.alloc.Global.{Global}
 use Rattle.fab_base.specs.Places.{name_at}
-use Rattle.fab_base.specs.Seen.{Seen}
+use Rattle.fab_base.specs.Ending.{Either}
+use Rattle.fab_base.specs.Seen.{Seen, Touches}
 use Rattle.fab_config.specs.Values.{octets_of, name}
 use Rattle.fab_base.specs.Counting.{counting}
 use Rattle.enode_core.specs.declared.node.Identity.{Identity}
-use Rattle.run_files.specs.Names.{AnyRose}
+use Rattle.run_files.specs.Names.{AnyRose, Among}
 use Rattle.snoop_run.specs.Sides as sides
 use Rattle.fabric_tool.specs.declared.command.Form.{Form}
 use Rattle.fabric_tool.specs.declared.command.Form.TheVariants as forms
@@ -312,3 +313,8 @@ WriteRose k old new = AnyRose old.write_faults new.write_faults (outputs k)
 -- no file changes but the outputs
 abbrev pub KeepsOthers : Command → Seen → Seen → Type 0
 KeepsOthers k old new = (m : List ℕ) → list_any (λ n. bytes_eq n m) (outputs k) ≡ false → new.file m ≡ old.file m
+
+-- What a command keeps, however it ends: what is told, the known names, each slot that was open, every file but the outputs, and of names
+-- that are neither inputs nor outputs their counts and what their slots have left. No count falls.
+abbrev pub TouchesOwn : Command → Seen → Seen → Type 0
+TouchesOwn k = Touches (Among (outputs k)) (Either (Among (inputs k)) (Among (outputs k)))

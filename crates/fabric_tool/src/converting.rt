@@ -19,6 +19,8 @@ pub(crate) fn convert_file<D: Depot>(alloc: Global, words: &[String], depot: &mu
     requires known { spec.AllKnown (D.seen depot.old) words.now }
     ensures holds { ConvertHolds (spec.pair_of words.now) (D.seen depot.old)
         (D.seen depot.new) result }
+    ensures touches { spec.TouchesOwn (spec.Convert (spec.pair_of words.now))
+        (D.seen depot.old) (D.seen depot.new) }
 {
     let limits = Budget {
         bytes: MOST_BYTES,

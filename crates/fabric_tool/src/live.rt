@@ -41,6 +41,8 @@ pub(crate) fn live<R: Threads + Sync, D: Depot>(
     requires known { spec.AllKnown (D.seen depot.old) words.now }
     ensures holds { LiveHolds (spec.live_of words.now) (D.seen depot.old) (D.seen depot.new)
         result }
+    ensures touches { spec.TouchesOwn (spec.Live (spec.live_of words.now))
+        (D.seen depot.old) (D.seen depot.new) }
 {
     // Law: what a legal journal says of each state that it goes through; that without records there
     // is a run without entries; and how a capture of packets is read.

@@ -27,6 +27,8 @@ pub(crate) fn make<D: Depot>(alloc: Global, number: u64, words: &[String], depot
     requires known { spec.AllKnown (D.seen depot.old) words.now }
     ensures holds { MakeHolds (spec.make_of number words.now) (D.seen depot.old) (D.seen depot.new)
         result }
+    ensures touches { spec.TouchesOwn (spec.Make (spec.make_of number words.now))
+        (D.seen depot.old) (D.seen depot.new) }
 {
     let files = match open_files(depot, words) {
         Ok(files) => files,

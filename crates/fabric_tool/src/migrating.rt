@@ -18,6 +18,8 @@ pub(crate) fn migrate_file<D: Depot>(alloc: Global, words: &[String], depot: &mu
     requires known { spec.AllKnown (D.seen depot.old) words.now }
     ensures holds { MigrateHolds (spec.pair_of words.now) (D.seen depot.old)
         (D.seen depot.new) result }
+    ensures touches { spec.TouchesOwn (spec.Migrate (spec.pair_of words.now))
+        (D.seen depot.old) (D.seen depot.new) }
 {
     match migrate(
         alloc,

@@ -28,6 +28,8 @@ pub(crate) fn enode<D: Depot>(
     requires known { spec.AllKnown (D.seen depot.old) words.now }
     ensures holds { EnodeHolds (spec.enode_of start own words.now) (D.seen depot.old) (D.seen depot.new)
         result }
+    ensures touches { spec.TouchesOwn (spec.Enode (spec.enode_of start own words.now))
+        (D.seen depot.old) (D.seen depot.new) }
 {
     let limits = Budget {
         bytes: MOST_BYTES,

@@ -3,7 +3,7 @@ ghost use Rattle.std.specs.Prelude.{◌≡◌, ◌≤◌, true, length, IsTrue};
 ghost use Rattle.fab_base.specs.Seen.{Seen};
 ghost use Rattle.fabric_tool.specs.Checking.{GivenRead, HasGiven, IsChecked, JournalRead};
 ghost use Rattle.fabric_tool.specs.Checking.{OutputsRead, ReplayHolds, ShowHolds, Tells};
-ghost use Rattle.fabric_tool.specs.Checking.{refused_by, unread_by};
+ghost use Rattle.fabric_tool.specs.Checking.{command_of, refused_by, unread_by};
 ghost use Rattle.fabric_tool.specs.Command as spec;
 ghost use Rattle.fabric_tool.specs.Inputs as limits;
 
@@ -28,6 +28,8 @@ pub(crate) fn replay<D: Depot>(alloc: Global, words: &[String], depot: &mut D) -
     requires known { spec.AllKnown (D.seen depot.old) words.now }
     ensures holds { ReplayHolds (spec.run_of words.now) (D.seen depot.old) (D.seen depot.new)
         result }
+    ensures touches { spec.TouchesOwn (spec.Replay (spec.run_of words.now))
+        (D.seen depot.old) (D.seen depot.new) }
 {
     match check_files(alloc, words, depot, Width::Two) {
         Ok((_, entries)) => Outcome::Legal { entries },
@@ -41,6 +43,8 @@ pub(crate) fn show<D: Depot>(alloc: Global, words: &[String], depot: &mut D) -> 
     requires known { spec.AllKnown (D.seen depot.old) words.now }
     ensures holds { ShowHolds (spec.show_of words.now) (D.seen depot.old) (D.seen depot.new)
         result }
+    ensures touches { spec.TouchesOwn (spec.Show (spec.show_of words.now))
+        (D.seen depot.old) (D.seen depot.new) }
 {
     match check_files(alloc, words, depot, Width::One) {
         Ok((fabric, entries)) => show_fabric(alloc, &fabric, entries),
@@ -72,6 +76,8 @@ fn check_files<D: Depot>(
     requires known { spec.AllKnown (D.seen depot.old) words.now }
     ensures checks { IsChecked width (spec.names_of width words.now) (D.seen depot.old)
         (D.seen depot.new) result }
+    ensures touches { spec.TouchesOwn (command_of width (spec.names_of width words.now))
+        (D.seen depot.old) (D.seen depot.new) }
 {
     let (config, journal) = match config_and_journal(alloc, depot, words, width) {
         Ok(read) => read,
@@ -117,6 +123,8 @@ fn check<D: Depot>(
     ensures checks { (a : Seen) → HasGiven (spec.names_of width words.now) config journal.now a
         (D.seen depot.old) → IsChecked width (spec.names_of width words.now) a (D.seen depot.new)
         result }
+    ensures touches { spec.TouchesOwn (command_of width (spec.names_of width words.now))
+        (D.seen depot.old) (D.seen depot.new) }
 {
     let mut budget = Budget {
         bytes: MOST_BYTES - journal.len() as u64,

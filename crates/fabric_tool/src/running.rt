@@ -46,6 +46,8 @@ pub(crate) fn run<R: Threads + Wait + Sync, D: Depot, G: Gate + Sync>(
     requires run { spec.are_pairs words.now ≡ true }
     requires known { spec.AllKnown (D.seen depot.old) words.now }
     ensures holds { RunHolds (spec.run_of words.now) (D.seen depot.old) (D.seen depot.new) result }
+    ensures touches { spec.TouchesOwn (spec.Run (spec.run_of words.now))
+        (D.seen depot.old) (D.seen depot.new) }
 {
     // Law: what a legal journal says of each state that it goes through, and that without records
     // there is a run without entries; what holds after a run and before one says so.

@@ -23,6 +23,8 @@ pub(crate) fn snoop<D: Depot>(alloc: Global, words: &[String], depot: &mut D) ->
     requires known { spec.AllKnown (D.seen depot.old) words.now }
     ensures holds { SnoopHolds (spec.snoop_of words.now) (D.seen depot.old) (D.seen depot.new)
         result }
+    ensures touches { spec.TouchesOwn (spec.Snoop (spec.snoop_of words.now))
+        (D.seen depot.old) (D.seen depot.new) }
 {
     // Laws: data goes up and down exactly by logins, and no ENode gets what another one sent;
     // SnoopHolds says so too.

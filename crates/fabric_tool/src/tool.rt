@@ -70,6 +70,10 @@ pub fn fabric_tool<R: Threads + Wait + Sync, D: Depot, K: Sink, G: Gate + Sync>(
     // No file changes but the outputs.
     ensures others { (k : spec.Command) → spec.command words.now ≡ Some k →
         spec.KeepsOthers k (D.seen depot.old) (D.seen depot.new) }
+    // No slot that was open is closed or changed, no count of another name rises and none falls,
+    // and of slots of other names nothing is read.
+    ensures touches { (k : spec.Command) → spec.command words.now ≡ Some k →
+        spec.TouchesOwn k (D.seen depot.old) (D.seen depot.new) }
     // The output of `convert` is as it was, or a prefix of the capture of the input's packets; that
     // of `migrate` is as it was, or a prefix of the input's journal in format 2; those of `snoop`
     // and `enode` are as they were, or prefixes of what status 0 leaves.
@@ -112,6 +116,8 @@ fn run_and_report<R: Threads + Wait + Sync, D: Depot, K: Sink, G: Gate + Sync>(
     requires { spec.AllKnown (D.seen depot.old) words.now }
     ensures ends { Ends words.now (D.seen depot.old) (D.seen depot.new) (K.sunk say.old)
         (K.sunk say.new) result }
+    ensures touches { (k : spec.Command) → spec.command words.now ≡ Some k →
+        spec.TouchesOwn k (D.seen depot.old) (D.seen depot.new) }
 {
     let outcome = outcome_of(rt, alloc, words, depot, gate);
     report(alloc, outcome, say)
@@ -126,6 +132,8 @@ fn outcome_of<R: Threads + Wait + Sync, D: Depot, G: Gate + Sync>(
 ) -> Outcome
     requires { spec.AllKnown (D.seen depot.old) words.now }
     ensures holds { HoldsFor (spec.command words.now) (D.seen depot.old) (D.seen depot.new) result }
+    ensures touches { (k : spec.Command) → spec.command words.now ≡ Some k →
+        spec.TouchesOwn k (D.seen depot.old) (D.seen depot.new) }
 {
     match form_of(words) {
         Some(form) => outcome_by(rt, alloc, form, words, depot, gate),
@@ -145,6 +153,8 @@ fn outcome_by<R: Threads + Wait + Sync, D: Depot, G: Gate + Sync>(
     requires form { spec.form_of words.now ≡ Some form }
     requires known { spec.AllKnown (D.seen depot.old) words.now }
     ensures holds { Holds (spec.named words.now form) (D.seen depot.old) (D.seen depot.new) result }
+    ensures touches { spec.TouchesOwn (spec.named words.now form)
+        (D.seen depot.old) (D.seen depot.new) }
 {
     match form {
         Form::Run => run(rt, alloc, words, depot, gate),

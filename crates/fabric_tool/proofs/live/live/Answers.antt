@@ -1,11 +1,12 @@
-use Rattle.std.proofs.Common.{sym, ◌∙◌, subst}
-use Rattle.fabric_tool.specs.Command.{live_of}
+use Rattle.std.proofs.Common.{inl, refl, sym, ◌∙◌, subst}
+use Rattle.fabric_tool.specs.Command.{Live, live_of}
 use Rattle.fabric_tool.specs.Living.{LiveHolds}
 use Rattle.fabric_tool.proofs.LivingLemmas.{known_stream, known_on, in_as, stream_closed, not_recorded, given_live, given_as, live_ended, lives_as}
+use Rattle.fabric_tool.proofs.TouchLemmas.{own_input, stream_own, recorded_own, lived_own}
 use Rattle.fabric_tool.proofs.live.live.Goals as goal
 
 pub returns-in-Err : goal.returns-in-Err
-returns-in-Err g c = record { holds = c.in-Err.ensures.prepares.ended }
+returns-in-Err g c = record { holds = c.in-Err.ensures.prepares.ended; touches = own_input (Live (live_of c.args.words.now)) _ _ _ (inl refl) c.in-Err.ensures.prepares.reads }
 
 pub open_in-requires : goal.open_in-requires
 open_in-requires g c =
@@ -20,6 +21,7 @@ returns-in_default g c =
     record {
       holds = stream_closed c.args.words.now c.requires.live c.legal_is_safe.ensures c.a_capture_of_packets_is_read_back.ensures c.records_come_later.ensures.nothing c.in-Ok.fabric.settings p.fabric.range
           (seen c.args.depot.now) (seen c.fabric_of.new.depot) s s p.config p.reads p.counts c.in_default.field-0 (in_as c.word_at.ensures c.in_default.ensures.opens);
+      touches = stream_own c.args.words.now c.requires.live _ _ _ p.reads (in_as c.word_at.ensures c.in_default.ensures.opens);
     }
 
 pub open_recorded-requires-clause-known : goal.open_recorded-requires-clause-known
@@ -35,6 +37,7 @@ returns-in-Err-open_recorded g c =
       holds = not_recorded c.args.words.now c.requires.live c.legal_is_safe.ensures c.a_capture_of_packets_is_read_back.ensures c.records_come_later.ensures.nothing c.in-Ok.fabric.settings p.fabric.range
           (seen c.args.depot.now) (seen c.fabric_of.new.depot) (seen c.open_in.new.self) (seen c.open_recorded.new.depot) p.config p.reads p.counts
           c.in-Ok-open_in.stream (in_as c.word_at.ensures c.in-Ok-open_in.ensures.opens) c.in-Err-open_recorded.ensures.opens;
+      touches = recorded_own c.args.words.now c.requires.live _ _ _ p.reads (in_as c.word_at.ensures c.in-Ok-open_in.ensures.opens) _ c.in-Err-open_recorded.ensures.opens;
     }
 
 pub run_live-requires-clause-given : goal.run_live-requires-clause-given
@@ -58,4 +61,6 @@ returns g c =
           old (seen c.fabric_of.new.depot) (seen c.open_in.new.self) (seen c.open_recorded.new.depot) p.config p.reads p.counts
           c.in-Ok-open_in.stream (in_as c.word_at.ensures c.in-Ok-open_in.ensures.opens) c.in-Ok-open_recorded.recorded c.in-Ok-open_recorded.ensures.opens
           b c.run_live.result (lives_as c.as_slice.ensures.value c.as_slice-2.ensures.value c.run_live.ensures.runs));
+      touches = lived_own c.args.words.now c.requires.live _ _ _ _ b c.in-Ok-open_in.stream c.in-Ok-open_recorded.recorded p.reads (in_as c.word_at.ensures c.in-Ok-open_in.ensures.opens) c.in-Ok-open_recorded.ensures.opens
+          (lives_as c.as_slice.ensures.value c.as_slice-2.ensures.value c.run_live.ensures.runs);
     }

@@ -8,12 +8,13 @@ use Rattle.fab_base.proofs.EndingLemmas.{none_then}
 use Rattle.fabric_tool.proofs.CheckLemmas.{heads_ended, outs_ended, no_fabric, checks_as, check_done, check_refused}
 use Rattle.fabric_tool.proofs.HeadLemmas.{not_unread}
 use Rattle.fabric_tool.proofs.SlotLemmas.{handed}
+use Rattle.fabric_tool.proofs.TouchLemmas.{heads_own, outs_own, check_own}
 use Rattle.fabric_tool.proofs.replaying.check.Goals as goal
 
 pub returns-in-Err : goal.returns-in-Err
 returns-in-Err g c =
     let seen = g.D.Depot.seen in
-    record { checks = λ a given. heads_ended c.args.width c.args.words.now c.requires.ports c.args.config c.args.journal.now a (seen c.args.depot.now) given c.requires.room (seen c.heads_of.new.depot) _ _ c.in-Err.outcome c.in-Err.ensures.reads }
+    record { checks = λ a given. heads_ended c.args.width c.args.words.now c.requires.ports c.args.config c.args.journal.now a (seen c.args.depot.now) given c.requires.room (seen c.heads_of.new.depot) _ _ c.in-Err.outcome c.in-Err.ensures.reads; touches = heads_own c.args.width c.args.words.now _ _ c.in-Err.ensures.reads.touches }
 
 pub returns-in-Err-outs_of : goal.returns-in-Err-outs_of
 returns-in-Err-outs_of g c =
@@ -25,6 +26,7 @@ returns-in-Err-outs_of g c =
       checks = λ a given. outs_ended c.args.width c.args.words.now c.requires.ports c.args.config c.args.journal.now a (seen c.args.depot.now) given
           (seen c.heads_of.new.depot) c.in-Ok.ins.items had c.heads_of.new.budget heads.heads heads.touches heads.taken refl refl c.requires.room
           (seen c.outs_of.new.depot) outs.touches outs.cause (λ m. outs.writes m ∙ heads.writes m ∙ given.counts.1 m);
+      touches = outs_own c.args.width c.args.words.now _ _ _ heads.touches outs.touches;
     }
 
 pub returns-in_default : goal.returns-in_default
@@ -38,6 +40,7 @@ returns-in_default g c =
           (seen c.heads_of.new.depot) c.in-Ok.ins.items had c.heads_of.new.budget heads.heads heads.touches heads.taken refl refl c.requires.room
           (seen c.outs_of.new.depot) c.in-Ok-outs_of.outs.items outs.touches outs.slots
           (none_then a (seen c.args.depot.now) (seen c.outs_of.new.depot) given.counts (none_then (seen c.args.depot.now) (seen c.heads_of.new.depot) (seen c.outs_of.new.depot) (heads.counts (not_unread c.in-Ok.ins), heads.writes) (outs.counts, outs.writes)));
+      touches = outs_own c.args.width c.args.words.now _ _ _ heads.touches outs.touches;
     }
 
 pub check_captures-requires : goal.check_captures-requires
@@ -75,6 +78,8 @@ returns-in-Ok-check_captures g c =
           (checks_as new c.deref_mut.ensures.value c.as_slice.ensures.value c.check_captures.ensures.checks)
           (none_then a (seen c.args.depot.now) (seen c.outs_of.new.depot) given.counts (none_then (seen c.args.depot.now) (seen c.heads_of.new.depot) (seen c.outs_of.new.depot) (heads.counts (not_unread c.in-Ok.ins), heads.writes) (outs.counts, outs.writes))) c.check_captures.ensures.counts
           c.in-Ok-check_captures.entries c.in-Ok-check_captures.is;
+      touches = check_own c.args.width c.args.words.now c.requires.ports (seen c.args.depot.now) (seen c.heads_of.new.depot) (seen c.outs_of.new.depot) (seen c.check_captures.new.depot) c.in-Ok.ins.items heads.heads heads.touches c.in-Ok-outs_of.outs.items outs.touches outs.slots
+          (checks_as new c.deref_mut.ensures.value c.as_slice.ensures.value c.check_captures.ensures.checks);
     }
 
 -- a fault of the check
@@ -95,4 +100,6 @@ returns g c =
           (checks_as new c.deref_mut.ensures.value c.as_slice.ensures.value c.check_captures.ensures.checks)
           (none_then a (seen c.args.depot.now) (seen c.outs_of.new.depot) given.counts (none_then (seen c.args.depot.now) (seen c.heads_of.new.depot) (seen c.outs_of.new.depot) (heads.counts (not_unread c.in-Ok.ins), heads.writes) (outs.counts, outs.writes))) c.check_captures.ensures.counts
           c.in-Err-check_captures.fault c.in-Err-check_captures.is);
+      touches = check_own c.args.width c.args.words.now c.requires.ports (seen c.args.depot.now) (seen c.heads_of.new.depot) (seen c.outs_of.new.depot) (seen c.check_captures.new.depot) c.in-Ok.ins.items heads.heads heads.touches c.in-Ok-outs_of.outs.items outs.touches outs.slots
+          (checks_as new c.deref_mut.ensures.value c.as_slice.ensures.value c.check_captures.ensures.checks);
     }

@@ -1,5 +1,5 @@
 use Rattle.std.proofs.Common.{Some, sym, ap, ◌∙◌, subst}
-use Rattle.fabric_tool.specs.Command.{named}
+use Rattle.fabric_tool.specs.Command.{TouchesOwn, named}
 use Rattle.fabric_tool.specs.Ends.{Holds}
 use Rattle.fabric_tool.specs.declared.command.Form.{Form}
 use Rattle.fabric_tool.specs.declared.command.Form.TheVariants as forms
@@ -39,4 +39,4 @@ live-requires-clause-live g c κs within = have_form c.args.words.now forms.Live
 pub returns-in-Make : goal.returns-in-Make
 returns-in-Make g c =
     let seen = g.D.Depot.seen in
-    record { holds = subst (λ (f : Form). Holds (named c.args.words.now f) (seen c.args.depot.now) (seen c.make.new.depot) c.make.result) (sym c.in-Make.is) c.make.ensures.holds }
+    record { holds = subst (λ (f : Form). Holds (named c.args.words.now f) (seen c.args.depot.now) (seen c.make.new.depot) c.make.result) (sym c.in-Make.is) c.make.ensures.holds; touches = subst (λ (f : Form). TouchesOwn (named c.args.words.now f) (seen c.args.depot.now) (seen c.make.new.depot)) (sym c.in-Make.is) c.make.ensures.touches }

@@ -3,6 +3,7 @@ use Rattle.fabric_tool.specs.Ends.{HoldsFor}
 use Rattle.fabric_tool.specs.declared.outcome.Outcome.TheVariants as ends
 use Rattle.fabric_tool.proofs.EndingLemmas.{untouched}
 use Rattle.fabric_tool.proofs.FormLemmas.{command_is}
+use Rattle.fabric_tool.proofs.TouchLemmas.{own_of}
 use Rattle.fabric_tool.proofs.tool.outcome_of.Goals as goal
 
 pub returns-in-Some : goal.returns-in-Some
@@ -10,6 +11,7 @@ returns-in-Some g c =
     let seen = g.D.Depot.seen in
     record {
       holds = subst (λ k. HoldsFor k (seen c.args.depot.now) (seen c.outcome_by.new.depot) c.outcome_by.result) (sym (command_is c.args.words.now (Some c.in-Some.form) (sym c.form_of.ensures ∙ c.in-Some.is))) c.outcome_by.ensures.holds;
+      touches = own_of c.args.words.now c.in-Some.form (sym c.form_of.ensures ∙ c.in-Some.is) _ _ c.outcome_by.ensures.touches;
     }
 
 pub returns-in-None : goal.returns-in-None
@@ -17,4 +19,5 @@ returns-in-None g c =
     let seen = g.D.Depot.seen in
     record {
       holds = subst (λ k. HoldsFor k (seen c.args.depot.now) (seen c.args.depot.now) ends.Words) (sym (command_is c.args.words.now None (sym c.form_of.ensures ∙ c.in-None.is))) (refl, untouched (seen c.args.depot.now));
+      touches = λ k is. let none = command_is c.args.words.now None (sym c.form_of.ensures ∙ c.in-None.is) in absurd (cc);
     }
