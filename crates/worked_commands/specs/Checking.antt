@@ -66,7 +66,7 @@ matter k config journal ins = record {
   within = subst (λ (l : List (List ℕ)). length JOURNAL + HEAD * length l ≤ MOST_BYTES) (sym ins) (lit≤ tt);
 }
 
-names_run : (outputs : ℕ) (found : ℕ → List ℕ) → NamesRun K (budget_of JOURNAL 1) (record { ins = opened ∷ []; journal = JOURNAL; outputs = outputs; found = found }) []
+pub names_run : (outputs : ℕ) (found : ℕ → List ℕ) → NamesRun K (budget_of JOURNAL 1) (record { ins = opened ∷ []; journal = JOURNAL; outputs = outputs; found = found }) []
 unfolding looks.looks looks.stop captures.next text.text
 names_run outputs found = record { named = record { ranged = tt; ports = tt; lines = inl refl; frames = (refl, tt) }; run = run; none = refl; whole = whole }
 

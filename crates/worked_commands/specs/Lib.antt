@@ -5,5 +5,14 @@ pub mod Running
 pub mod Checking
 pub mod Pairs
 pub mod Sides
+pub mod Living
+pub mod Faulty
+pub mod RunRefused
+pub mod ChecksRefused
+pub mod PairsRefused
+pub mod SidesRefused
+pub mod LiveRefused
+pub mod EmptyLineRefused
+pub mod LinesRefused
 pub mod Boxed
 pub mod Box

@@ -43,7 +43,7 @@ section_read : Read LIMITS file.before_all [] SECTION
 unfolding file.step_of block.head_read block.body_read
 section_read = read_is_file (length SECTION + 1) LIMITS 0 file.before_all SECTION [] refl
 
-packet_read : Read LIMITS file.before_all (packet ∷ []) WITH_PACKET
+pub packet_read : Read LIMITS file.before_all (packet ∷ []) WITH_PACKET
 unfolding file.step_of block.head_read block.body_read block.entries
 packet_read = read_is_file (length WITH_PACKET + 1) LIMITS 0 file.before_all WITH_PACKET (packet ∷ []) refl
 

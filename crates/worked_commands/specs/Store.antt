@@ -1,6 +1,7 @@
 -- A small store in memory, and what holds of each command where no fault is counted.
-use Rattle.std.specs.Prelude.{ℕ, true, false, if◌then◌else◌, List, [], ◌∷◌, codes, Option, Some, None}
+use Rattle.std.specs.Prelude.{◌≡◌, ℕ, true, false, if◌then◌else◌, List, [], ◌∷◌, codes, Option, Some, None, String, refl}
 use Rattle.std.specs.Str.{bytes_eq}
+use Rattle.std.specs.declared.alloc.Global.{Global}
 use Rattle.std.proofs.Common.{inl, inr, arith}
 use Rattle.fab_base.specs.Seen.{Seen, Rose}
 use Rattle.fab_base.specs.Sunk.{Sunk}
@@ -8,8 +9,9 @@ use Rattle.fab_config.specs.Settings.{Settings}
 use Rattle.pcap_file.specs.Capture.{head_bytes}
 use Rattle.fab_gather.specs.Looks.{Opened}
 use Rattle.run_files.specs.Names.{AnyRose}
-use Rattle.fabric_tool.specs.Command.{RunNames, Command, inputs, outputs}
-use Rattle.fabric_tool.specs.Statuses.{IsQuiet}
+use Rattle.fabric_tool.specs.Command.{RunNames, Command, inputs, outputs, command}
+use Rattle.fabric_tool.specs.Statuses.{IsQuiet, IsNamed, Says}
+use Rattle.fabric_tool.specs.declared.outcome.Outcome.{Outcome}
 
 -- ---- files
 
@@ -54,6 +56,10 @@ none_rose (n ∷ names) (inr rose) = none_rose names rose
 -- of no command a fault was counted
 pub quiet : (k : Command) (before after : List File) (front back : List ℕ) → IsQuiet k (holding before) (holding after) (said front) (said back)
 quiet k before after front back = record { reads = none_rose (inputs k); writes = none_rose (outputs k); sink = risen }
+
+-- an outcome that the files name is that of words of this command
+pub named : (words : List (String Global)) (k : Command) (outcome : Outcome) (files : List File) → command words ≡ Some k → Says k (holding files) outcome → IsNamed words outcome (holding files) (holding files) (said []) (said [])
+named words k outcome files is says = record { k = k; is = is; told = refl; says = says; quiet = quiet k files files [] [] }
 
 -- ---- a configuration, and a capture without a record
 
