@@ -61,7 +61,8 @@ impl Live {
             × Running c (slots_of files.now) (packets ++ packet ∷ []) K self.new (D.seen depot.new))
             (λ e. LeavesPacket c (slots_of files.now) packets packet (D.seen depot.new) e) }
         ensures touches { Touches (LiveNames (D.seen depot.old) (slots_of files.now))
-            (LiveNames (D.seen depot.old) (slots_of files.now)) (D.seen depot.old) (D.seen depot.new) }
+            (LiveNames (D.seen depot.old) (slots_of files.now)) (D.seen depot.old)
+            (D.seen depot.new) }
         ensures faults { TellsWrites (slots_of files.now) (D.seen depot.old) (D.seen depot.new)
             result }
     {
@@ -94,7 +95,8 @@ impl Live {
     }
 }
 
-// How many entries there are with so many more; where 64 bits don't count them, as many as these do.
+// How many entries there are with so many more; where 64 bits don't count them, as many as these
+// do.
 fn with_more(entries: u64, more: u64) -> u64
     ensures { result ≡ min (entries + more) (2 ^ 64 - 1) }
 {

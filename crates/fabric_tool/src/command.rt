@@ -135,7 +135,8 @@ fn is_enode(words: &[String]) -> bool
     words.len() == 7 && word_at(words, 0) == "enode" && are_names(words, 5)
 }
 
-// The form of `enode`, whose first words are a moment, a MAC, and the names of a port and of a node.
+// The form of `enode`, whose first words are a moment, a MAC, and the names of a port and of a
+// node.
 fn enode_form(words: &[String]) -> Option<Form>
     requires { spec.is_enode words.now ≡ true }
     ensures { result ≡ spec.enode_form words.now }

@@ -26,8 +26,8 @@ pub(crate) fn enode<D: Depot>(
     requires start { start ≤ 4294967295999 }
     requires enode { spec.is_enode words.now ≡ true }
     requires known { spec.AllKnown (D.seen depot.old) words.now }
-    ensures holds { EnodeHolds (spec.enode_of start own words.now) (D.seen depot.old) (D.seen depot.new)
-        result }
+    ensures holds { EnodeHolds (spec.enode_of start own words.now) (D.seen depot.old)
+        (D.seen depot.new) result }
     ensures touches { spec.TouchesOwn (spec.Enode (spec.enode_of start own words.now))
         (D.seen depot.old) (D.seen depot.new) }
 {

@@ -1,6 +1,6 @@
-//! A division by a multiple of the polynomial that has six powers alone: that of 288 bytes of zeros,
-//! and those of 14, 25, 33, 89 and 107. A byte of its quotient waits for none of the last 180, so
-//! that many are made at once.
+//! A division by a multiple of the polynomial that has six powers alone: that of 288 bytes of
+//! zeros, and those of 14, 25, 33, 89 and 107. A byte of its quotient waits for none of the last
+//! 180, so that many are made at once.
 ghost use Rattle.std.specs.Prelude.{◌≡◌, ℕ, ◌+◌, ◌<◌, ◌≤◌, length, slice_index};
 ghost use Rattle.fc_check.specs.Division.{taken, begun};
 

@@ -21,8 +21,8 @@ use std::{env, io};
 const WRITE_FAULT: u8 = 4;
 
 /// Runs the command that the words of this process are, over real files, prints its line to the
-/// standard output, and answers its status. Behind statuses 2, 3 and 4 a line on standard error says
-/// which word or file it was, where that is known.
+/// standard output, and answers its status. Behind statuses 2, 3 and 4 a line on standard error
+/// says which word or file it was, where that is known.
 pub fn run_process<R: Threads + Wait + Sync + Files + Env + Print + Eprint + AllocGlobal>(
     rt: &R,
 ) -> u8
