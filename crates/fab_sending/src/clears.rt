@@ -38,7 +38,7 @@ pub(crate) fn clears(
     Ok(outs)
 }
 
-/// Appends the clear link messages to an ENode that name these N_Ports, a hundred in each. Where
+/// Appends the clear link messages to an ENode that list these N_Ports, a hundred in each. Where
 /// memory is refused none is appended.
 pub fn clear(
     alloc: Global,
@@ -55,7 +55,7 @@ pub fn clear(
     outs.append(alloc, messages)
 }
 
-// The clear link messages to an ENode that name these N_Ports, a hundred in each.
+// The clear link messages to an ENode that list these N_Ports, a hundred in each.
 fn by_hundreds(
     alloc: Global,
     moment: Moment,

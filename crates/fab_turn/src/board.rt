@@ -1,4 +1,4 @@
-//! The lock and its passes. A file of their own, since the words of the contracts name these types.
+//! The lock and its passes. A file of their own, since the contracts speak of these types.
 ghost use Rattle.std.specs.Prelude.{◌≡◌};
 
 use crate::rule::{Chronicle, Turns};

@@ -1,4 +1,4 @@
-//! The fabric of one thread: it logs in, forwards, watches silence, names and notifies.
+//! The fabric of one thread: it logs in, forwards, watches silence, serves names and notifies.
 #![tactic(auto)]
 
 mod arrived;

@@ -42,7 +42,7 @@ where
         Err(NoMemory) => return report(alloc, Outcome::Memory, &mut say),
     };
     if matches!(depot.mix(), Mix::Printed(_)) {
-        // a line would be printed into a file that the words name
+        // a line would be printed into a file that stands among the words
         tell_mix(rt, &words, depot.mix());
         return WRITE_FAULT;
     }

@@ -110,7 +110,7 @@ fn nearest(alloc: Global, word: &str) -> Option<&'static str> {
     None
 }
 
-// The ports that words name beyond 64: a pair each, behind the command, its configuration and, but
+// The ports that words give beyond 64: a pair each, behind the command, its configuration and, but
 // for a bridge, its journal; one name each where a journal is shown.
 fn ports_of(words: &[String]) -> Option<usize> {
     let ports = match at(words, 0) {
