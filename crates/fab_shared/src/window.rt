@@ -20,7 +20,7 @@ const WORTH_WORKERS: u64 = 64 << 20;
 
 /// Handles the records on the shelves under a gate, those of each port in their order. Where
 /// several ports have any, it is by a worker a port if the gate may hold one or the frames are
-/// worth the threads, and else one port after another.
+/// worth the threads, and else one port after another. Where memory is refused the fabric is gone.
 pub fn take_frames<R: Threads + Wait + Sync, G: Gate + Sync>(
     rt: &R,
     alloc: Global,

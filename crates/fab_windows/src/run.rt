@@ -26,7 +26,7 @@ use std::thread::Threads;
 /// outputs, which are empty, are written in pieces of some 64 KiB, and wholly before the call
 /// returns, but where a write fails or memory is refused; `ins` and `outs` are in port order. The
 /// gate sees each frame before it is handled and after. However it ends, `ins` keep their slots,
-/// and the budget isn't raised.
+/// the budget isn't raised, and the fabric is used up.
 pub fn run_windows<R: Threads + Wait + Sync, D: Depot, G: Gate + Sync>(
     rt: &R,
     alloc: Global,
