@@ -1,9 +1,11 @@
 #!/usr/bin/env python3
-"""bench/rooms.py [TOP]: what no crate may name, as the table 'What each room may know' of docs/ARCHITECTURE.md says it.
+"""bench/rooms.py [TOP]: the table 'What each room may know' of docs/ARCHITECTURE.md, compared with the crates.
 
-Each row of UNKNOWN is a crate with the crates that its src, specs and proofs may not name, and words that its src may not have, both without remarks;
-`only` lists the crates of this repository that it may name, and no other. Each crate of the table has a row here, and each row's crate is in the
-table. TOP is the tree to look at, this one where none is given. bench/pages runs it too.
+Each cell 'What it is' stands as the first sentence of the crate's README, which may have more in brackets. Each cell 'What it doesn't know' is a list
+of phrases, and PHRASES has what each of them means: crates that the crate's src, specs and proofs may not name, and words that its src may not have,
+both without remarks. A cell `all crates but ..` has the crates of this repository that the crate may name, and no other; PROCESS holds for each crate
+without such a cell. A phrase without a row, and a row whose phrase no cell has, are faults. TOP is the tree to look at, this one where none is given.
+bench/pages runs it too.
 """
 import pathlib
 import re
@@ -12,60 +14,54 @@ import sys
 CODECS = "eth_frames fc_frames fcoe_codec fip_codec els_messages ct_messages"
 TABLES = "fc_addresses login_table keepalive_clock name_server state_change"
 FABRIC = "fab_policy fab_messages fab_roster fab_sending fab_judge forward_core fab_shared"
-EDGE = "open_files tool_process fcoe_tool"
 RUNS = "fab_gather fab_windows fab_replay fab_live fab_pages run_files snoop_run enode_run fabric_tool"
-FILES = "Depot Sink create open_read"
-WRITTEN = "write_head write_record"
-THREADS = "Threads Wait spawn"
 
-# crate: what it doesn't know, as crates, and as words of its src
-UNKNOWN: dict[str, tuple[str, str]] = {
-    "fabric_tool": (EDGE, "MemDepot OsDepot"),
-    "fabric_box": (f"{EDGE} {TABLES} {CODECS} fab_turn fab_roster fab_judge fab_sending forward_core fab_shared", f"{FILES} {THREADS}"),
-    "fab_windows": (f"{EDGE} fab_turn fab_judge fab_sending fab_roster", "spawn"),
-    "fab_live": (f"{EDGE} fab_turn fab_judge fab_sending fab_roster", "Stdin TcpStream"),
-    "fab_replay": (f"{EDGE} fab_turn fab_shared fab_windows fab_live run_files fab_migrate", THREADS),
-    "fab_shared": (f"{EDGE} fab_judge fab_sending run_files fab_pages", FILES),
-    "fab_pages": (f"{EDGE} fab_gather fab_judge fab_sending fab_roster {CODECS}", "Verdict Rule Journal"),
-    "forward_core": (f"{EDGE} fab_turn fab_shared pcap_file pcapng_file {RUNS}", f"{FILES} {THREADS}"),
-    "snoop_run": (f"{EDGE} {CODECS} fab_judge forward_core", "Rule Verdict"),
-    "enode_run": (f"{EDGE} {CODECS} {FABRIC}", "Stage Verdict"),
-    "fab_judge": (f"{EDGE} fab_messages fab_sending {RUNS} pcap_file", "Out OutMessage OutList"),
-    "fab_sending": (f"{EDGE} fab_judge {RUNS} pcap_file", "judge frame_rule"),
-    "run_files": (f"{CODECS} fab_judge fab_messages fab_sending forward_core", "Caught Event Verdict"),
-    "fab_roster": (f"{EDGE} eth_frames fip_codec fc_frames fcoe_codec fab_messages fab_judge pcap_file", "Rule Verdict Caught"),
-    "fab_messages": (f"fab_roster fab_sending fab_judge pcap_file {TABLES}", "Roster"),
-    "fab_gather": (f"{EDGE} {CODECS} fab_judge forward_core", "Verdict Rule What"),
-    "fab_onward": (f"{EDGE} {TABLES} {RUNS} fab_messages fab_roster fab_sending fab_judge forward_core", "Config Fabric"),
-    "fab_migrate": (f"{EDGE} {CODECS} {TABLES} forward_core fab_replay fab_judge", "Legal judged"),
-    "fip_snoop": (f"{EDGE} {RUNS} {TABLES} {FABRIC}", f"{FILES} {WRITTEN} Rule Verdict"),
-    "enode_core": (f"{EDGE} {RUNS} {TABLES} forward_core", f"{FILES} {WRITTEN}"),
-    "fab_policy": (f"{EDGE} {RUNS} {TABLES} fab_turn fab_roster", f"{FILES} {THREADS} Reader Budget"),
-    "heard_frames": (f"{EDGE} {RUNS} {TABLES} {FABRIC} fab_config", "Rule Verdict Config"),
-    "fab_vectors": (f"{EDGE} {RUNS} {FABRIC} {TABLES}", "Roster Verdict"),
-    "state_change": (f"{CODECS} login_table fab_policy".replace("els_messages ", ""), "Login"),
-    "zone_rules": (f"{CODECS} login_table fab_policy", "Login"),
-    "fc_addresses": ("login_table", "Login"),
-    "login_table": ("fc_addresses", "Pool"),
-    "keepalive_clock": ("login_table fc_addresses fab_policy", "Login"),
-    "name_server": ("login_table zone_rules fab_policy", "Login"),
-    "eth_frames": (f"{CODECS} fab_policy fab_config".replace("eth_frames ", ""), "Rule"),
-    "fc_frames": ("eth_frames fcoe_codec fip_codec els_messages ct_messages fab_policy fab_config", "Rule"),
-    "fcoe_codec": ("eth_frames fip_codec els_messages ct_messages fab_policy fab_config", "Rule"),
-    "fip_codec": ("fab_policy fab_config", "Rule Verdict"),
-    "els_messages": ("fab_policy fab_config", "Rule Verdict"),
-    "ct_messages": ("fab_policy fab_config", "Rule Verdict"),
-    "pcap_file": (f"{CODECS} fab_config fab_policy", "Mac Verdict"),
-    "pcapng_file": (f"{CODECS} fab_config fab_policy", "Mac Verdict"),
-    "fab_config": (f"{CODECS} fab_policy pcap_file", "Verdict Rule"),
-    "fab_turn": (f"{CODECS} fab_config fab_policy forward_core", "Fabric"),
-    "sorted_lists": ("fab_config fab_policy", "Login"),
-    "sorted_trees": ("fab_config fab_policy", "Login"),
-    "bit_rows": ("fab_config fab_policy", "Login"),
-    "fc_check": (CODECS, "Frame FcFrame"),
+# a sentence of the page, and the crates that it means
+PROCESS = ("No crate but fcoe_tool and tool_process knows the process.", "open_files tool_process fcoe_tool")
+# phrase of a cell: what it means, as crates, and as words of src
+PHRASES: dict[str, tuple[str, str]] = {
+    "captures": ("pcap_file pcapng_file", ""),
+    "each other standard": (CODECS, ""),
+    "Ethernet": ("eth_frames", ""),
+    "FCoE": ("fcoe_codec", ""),
+    "files": ("run_files", "Depot Sink create open_read"),
+    "FIP": ("fip_codec", ""),
+    "frames": ("eth_frames fc_frames fcoe_codec fip_codec", "Frame FcFrame Caught"),
+    "free addresses": ("fc_addresses", "Pool"),
+    "how a frame is handled": ("fab_judge fab_sending forward_core", ""),
+    "how a verdict is found": ("fab_judge", "judge frame_rule"),
+    "how captures are read": ("", "Reader Budget"),
+    "how captures are written": ("", "write_head write_record"),
+    "how tables are kept": (f"{TABLES} fab_roster", "Roster"),
+    "pages": ("fab_pages run_files", ""),
+    "payloads": ("els_messages ct_messages", ""),
+    "queries": ("ct_messages name_server", ""),
+    "the configuration": ("fab_config", "Config"),
+    "the fabric": ("forward_core", ""),
+    "the forwarder": (FABRIC, "Rule Verdict"),
+    "the node's stages": ("", "Stage"),
+    "the rules": ("fab_judge", "Rule Verdict"),
+    "threads": ("fab_turn fab_shared", "Threads Wait spawn"),
+    "what an entry sends": ("fab_sending", ""),
+    "what is in the frames": (CODECS, "Mac What FcFrame"),
+    "what is sent": ("fab_messages fab_sending", "Out OutMessage OutList"),
+    "what the pieces are": ("fab_judge fab_messages fab_sending forward_core", "Caught Event Verdict"),
+    "what the value is": (f"{CODECS} {FABRIC} fab_config", "Fabric"),
+    "what they hold": (f"{TABLES} {FABRIC} fab_config", "Login"),
+    "when it is sent": ("fab_judge fab_sending", ""),
+    "where the stream comes from": ("", "Stdin TcpStream"),
+    "whether the journal is legal": ("forward_core fab_replay fab_judge", "Legal judged"),
+    "which store it runs over": ("", "FileDepot MemDepot MemSink OsDepot StdSink"),
+    "which thread takes a frame": ("fab_turn", "spawn"),
+    "who goes on": ("fab_judge fab_messages fab_sending forward_core", "Config Fabric"),
+    "who is logged in": ("fab_roster login_table", "Login"),
+    "who runs it": (RUNS, ""),
+    "who wrote the files": ("fab_live fab_migrate fab_windows run_files", ""),
+    "why a frame is sent": ("fab_gather fab_judge fab_roster fab_sending", "Verdict Rule Journal"),
+    "zones": ("zone_rules", ""),
 }
-# crate: the only crates of the repository that it may name
-ONLY = {"fcoe_tool": "tool_process", "tool_process": "fab_base fabric_tool", "fab_base": ""}
+TESTS = re.compile("_tests|_cases|case_|worked|open_files")  # in names of crates that are no rooms: tests, cases and examples
+ALL = "all "  # begins a cell that forbids all crates: `all crates but ..`, or `all other crates`
 
 
 def text(folder: pathlib.Path, parts: tuple[tuple[str, str], ...], remark: str) -> str:
@@ -84,23 +80,55 @@ def named(folder: pathlib.Path, crates: set[str]) -> tuple[set[str], set[str]]:
     return heads & crates - {folder.name}, set(re.findall(r"\w+", plain))
 
 
+def rows(section: str) -> dict[str, tuple[str, list[str]]]:
+    """Of each crate of the table what it is, and the phrases of what it doesn't know; a row without a crate goes on with the one above."""
+    table = [[it.strip() for it in line.split("|")[1:-1]] for line in section.splitlines() if line.startswith("|")][2:]
+    joined: list[list[str]] = []
+    for row in table:
+        if row[0]:
+            joined.append(row)
+        else:
+            joined[-1] = [" ".join(both).strip() for both in zip(joined[-1], row)]
+    return {name: (what, unknown.split(", ")) for name, what, unknown in joined}
+
+
+def unknown_of(name: str, phrases: list[str], crates: set[str]) -> tuple[set[str], set[str]]:
+    """What a crate may not name, and the words that it may not have, by the phrases of its cell."""
+    if phrases[0].startswith(ALL):
+        return crates - set(re.findall(r"\w+", " ".join(phrases))) - {name}, set()
+    meant = [PHRASES.get(it, ("", "")) for it in phrases]
+    return set(" ".join([PROCESS[1], *(it for it, _ in meant)]).split()) - {name}, set(" ".join(it for _, it in meant).split())
+
+
+def first_sentence(readme: str) -> str:
+    """The first sentence of a README, without what stands in brackets."""
+    return re.split(r"\.(?:\s|$)", re.sub(r"\s\([^()]*\)", "", " ".join(readme.split("\n\n")[1].split())))[0]
+
+
 def wrong(top: pathlib.Path) -> list[str]:
-    """What rooms know that they may not."""
+    """What rooms know that they may not, and cells that differ from the crate."""
     folders = {it.name: it for it in (top / "crates").iterdir() if (it / "src").is_dir()}
-    page = (top / "docs/ARCHITECTURE.md").read_text(encoding="utf-8").split("## What each room may know")[1].split("\n\n")[2]
-    listed = {name for row in page.splitlines() for name in re.findall(r"\w+", row.split("|")[1]) if name in folders}
-    apart = sorted(listed ^ (set(UNKNOWN) | set(ONLY)))
-    said = [f"docs/ARCHITECTURE.md: of {apart} only the row of the table or that of bench/rooms.py is there"] * bool(apart)
-    for name in sorted(listed):
+    section = (top / "docs/ARCHITECTURE.md").read_text(encoding="utf-8").split("## What each room may know")[1].split("\n## ")[0]
+    found, page = rows(section), "docs/ARCHITECTURE.md"
+    said = [f"{page}: of {it} only the row or only the folder is there" for it in sorted(set(found) ^ {it for it in folders if not TESTS.search(it)})]
+    said += [] if PROCESS[0] in section else [f"{page}: lacks the sentence '{PROCESS[0]}'"]
+    used = {it for _, phrases in found.values() if not phrases[0].startswith(ALL) for it in phrases}
+    said += [f"{page}: bench/rooms.py doesn't say what '{it}' means" for it in sorted(used - set(PHRASES))]
+    said += [f"bench/rooms.py: no cell of {page} has '{it}'" for it in sorted(set(PHRASES) - used)]
+    meant = set(" ".join([PROCESS[1], *(it for it, _ in PHRASES.values())]).split())
+    said += [f"bench/rooms.py: there is no crate {it}" for it in sorted(meant - set(folders))]
+    for name in sorted(set(found) & set(folders)):
+        what, phrases = found[name]
+        begin = first_sentence((folders[name] / "README.md").read_text(encoding="utf-8"))
+        said += [] if what == begin else [f"{page}: {name} is '{what}', and its README begins with '{begin}'"]
         crates, words = named(folders[name], set(folders))
-        unknown, never = UNKNOWN.get(name, ("", ""))
-        known = crates - set(ONLY[name].split()) if name in ONLY else crates & set(unknown.split())
-        spoken = words & set(never.split())
-        said += [f"crates/{name}: may not know {' '.join(sorted(known | spoken))}"] * bool(known or spoken)
+        never, unsaid = unknown_of(name, phrases, set(folders))
+        both = sorted(crates & never | words & unsaid)
+        said += [f"crates/{name}: may not know {' '.join(both)}"] * bool(both)
     return said
 
 
 if __name__ == "__main__":
-    found = wrong(pathlib.Path(sys.argv[1]) if sys.argv[1:] else pathlib.Path(__file__).resolve().parent.parent)
-    print("\n".join(found) or f"{len(UNKNOWN) + len(ONLY)} rooms know no more than the table says")
-    sys.exit(bool(found))
+    faults = wrong(pathlib.Path(sys.argv[1]) if sys.argv[1:] else pathlib.Path(__file__).resolve().parent.parent)
+    print("\n".join(faults) or "the rooms are what the table says, and know no more")
+    sys.exit(bool(faults))
