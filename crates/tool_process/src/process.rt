@@ -1,5 +1,6 @@
 //! The command of a process.
-ghost use Rattle.std.specs.Prelude.{◌≡◌, ◌≤◌, ◌⊎◌, drop, IfOk, IfErr};
+ghost use Rattle.std.specs.Prelude.{◌≡◌, ◌≢◌, ◌≤◌, ◌⊎◌, drop, IfOk, IfErr};
+ghost use Rattle.std.specs.declared.io.ErrorKind.TheVariants.{OutOfMemory};
 ghost use Rattle.fabric_tool.specs.Command.{AllKnown};
 ghost use Rattle.fabric_tool.specs.Ends.{Ends};
 
@@ -10,7 +11,7 @@ use crate::telling::{tell, tell_mix};
 use fab_base::{Depot, NoMemory, OpenGate, Sink};
 use fabric_tool::{Outcome, fabric_tool, report};
 use std::alloc::{AllocGlobal, Global};
-use std::io::{Eprint, Print};
+use std::io::{Eprint, ErrorKind, Print};
 use std::os::fd::AsRawFd;
 use std::rt::{Env, Files};
 use std::sync::Wait;
@@ -61,11 +62,18 @@ pub(crate) fn words_of<R: Env + AllocGlobal>(rt: &R) -> Result<Vec<String>, Outc
             Ok(words) => Ok(behind_the_first(words)),
             Err(_) => Err(Outcome::Memory),
         },
-        Err(error) => Err(if error.kind() == io::ErrorKind::OutOfMemory {
-            Outcome::Memory
-        } else {
-            Outcome::Words
-        }),
+        Err(error) => Err(wordless(error.kind())),
+    }
+}
+
+// What a process without words ends with: memory for them was refused, or they are no text.
+fn wordless(kind: ErrorKind) -> Outcome
+    ensures memory { kind ≡ OutOfMemory → result ≡ Outcome.Memory }
+    ensures words { kind ≢ OutOfMemory → result ≡ Outcome.Words }
+{
+    match kind {
+        ErrorKind::OutOfMemory => Outcome::Memory,
+        _ => Outcome::Words,
     }
 }
 

@@ -1,15 +1,20 @@
-//! Windows are read as they come: a store that counts what is fetched.
+//! Windows are read as they come, and words that are no command open nothing: a store that counts
+//! what is opened and fetched.
 use crate::inputs::{CONFIG, HEAD, SOLICITATION, put_record, words_in};
 use fab_base::{Depot, Failed, MemDepot, MemSink, OpenGate};
 use fabric_tool::fabric_tool;
 use std::alloc::Global;
+use std::process::Abort;
+use std::sync::Wait;
 use std::test::Fail;
+use std::thread::Threads;
 
-// A depot that counts the bytes that are fetched, and keeps how many were when the first large
-// piece was put.
+// A depot that counts the calls that open a file and the bytes that are fetched, and keeps how many
+// of these were when the first large piece was put.
 #[derive(Drop)]
 struct Counter {
     depot: MemDepot,
+    opened: usize,
     fetched: usize,
     before: Option<usize>,
 }
@@ -22,10 +27,12 @@ impl Depot for Counter {
     ghost seen = { λ c. mem_seen c.depot };
 
     fn open_in(&mut self, name: &str) -> Result<u32, Failed> {
+        self.opened = self.opened.saturating_add(1);
         self.depot.open_in(name)
     }
 
     fn open_out(&mut self, name: &str) -> Result<u32, Failed> {
+        self.opened = self.opened.saturating_add(1);
         self.depot.open_out(name)
     }
 
@@ -40,6 +47,15 @@ impl Depot for Counter {
             self.before = Some(self.fetched);
         }
         self.depot.put(slot, from)
+    }
+}
+
+fn counted(depot: MemDepot) -> Counter {
+    Counter {
+        depot,
+        opened: 0,
+        fetched: 0,
+        before: None,
     }
 }
 
@@ -66,14 +82,46 @@ fn windows_are_read_as_they_come(rt: HostRuntime) -> Result<(), Fail> {
     let words = words_in(alloc, &["run", "K", "J", "A", "X"])?;
     assert!(rt; depot.knows_all(&words));
     let mut say = MemSink::new(alloc, 100)?;
-    let mut counter = Counter {
-        depot,
-        fetched: 0,
-        before: None,
-    };
+    let mut counter = counted(depot);
     let status = fabric_tool(&rt, alloc, &words, &mut counter, &mut say, &OpenGate);
     assert_eq!(rt; status, 0);
     assert_eq!(rt; counter.fetched, capture.len().saturating_add(CONFIG.len()));
     assert!(rt; counter.before.unwrap_or(counter.fetched) < capture.len() / 2);
+    Ok(())
+}
+
+// The status of these words over a store that has their files, and how many it opened.
+fn opened_by<R: Threads + Wait + Sync + Abort>(
+    rt: &R,
+    alloc: Global,
+    words: &[&str],
+) -> Result<(u8, usize), Fail> {
+    let mut depot = MemDepot::new(alloc)?;
+    depot.store(alloc, "K", &CONFIG)?;
+    for name in words {
+        depot.know(alloc, name)?;
+    }
+    let words = words_in(alloc, words)?;
+    assert!(rt; depot.knows_all(&words));
+    let mut say = MemSink::new(alloc, 10_000)?;
+    let mut counter = counted(depot);
+    let status = fabric_tool(rt, alloc, &words, &mut counter, &mut say, &OpenGate);
+    Ok((status, counter.opened))
+}
+
+#[test]
+fn words_that_are_no_command_open_nothing(rt: HostRuntime) -> Result<(), Fail> {
+    let alloc = rt.alloc();
+    assert_eq!(rt; opened_by(&rt, alloc, &["run", "K", "J", "A"])?, (2, 0));
+    assert_eq!(rt;
+        opened_by(&rt, alloc, &["snoop", "K", "A", "X", "A", "Y"])?,
+        (2, 0)
+    );
+    assert_eq!(rt; opened_by(&rt, alloc, &["--help"])?, (0, 0));
+    assert_eq!(rt; opened_by(&rt, alloc, &["--version"])?, (0, 0));
+    assert_eq!(rt;
+        opened_by(&rt, alloc, &["run", "K", "J", "A", "X"])?,
+        (3, 2)
+    );
     Ok(())
 }
