@@ -5,6 +5,7 @@ use Rattle.std.specs.declared.alloc.Global.{Global}
 use Rattle.std.proofs.lemmas.Bool.{lt-ltb}
 use Rattle.std.proofs.lemmas.Option.{slice_get_within, slice_get-get_or}
 use Rattle.fab_base.specs.Seen.{Seen, Reads, Touches, Nothing, SameReadFaults, SameWriteFaults}
+use Rattle.fab_base.proofs.EndingLemmas.{spares_reads_then}
 use Rattle.fab_base.proofs.SeenLemmas.{touches_refl}
 use Rattle.fab_config.specs.Settings.{Settings}
 use Rattle.fab_gather.specs.Keeping.{IsFrom}
@@ -18,6 +19,7 @@ use Rattle.pcap_file.specs.declared.Record.{Record}
 use Rattle.pcap_file.proofs.lemmas.Numbers.{le_or_lt}
 use Rattle.fab_gather.specs.declared.shelf.Input.{Input}
 use Rattle.fab_gather.specs.declared.shelf.Shelf.{Shelf}
+use Rattle.pcap_file.specs.Faults.{gather_end}
 use Rattle.pcap_file.specs.declared.fault.GatherFault.{GatherFault}
 use Rattle.pcap_file.specs.declared.fault.GatherFault.TheVariants as fault
 use Rattle.fab_gather.specs.First.{IsFresh, AreFresh, opened_by, opened_in, first_look, Looked, StopsFirst, LeavesFirst, LooksOnce, LooksFirst, start_at, Start}
@@ -394,7 +396,7 @@ module _ {c : Settings} {k : ℕ} {a b : Seen} {ins ins' : List Input} {shelves 
       looks_ = λ told. tt;
       stops = λ told stopped. stop_is told (t.stops (told_b told) stopped);
       cause = λ is. (k, turn.lt, rose_on a b ins ins' turn.are turn.see.touches turn.see.slots k i1 turn.at d (t.cause (let same : f ≡ fault.Read = cc in ap Err same)));
-      counts = λ other m. t.counts (λ is. other (let same : f ≡ fault.Read = cc in ap Err same)) m ∙ turn.see.counts m;
+      counts = spares_reads_then (gather_end f) a b d turn.see.counts t.counts;
       writes = λ m. t.reads.writes m ∙ turn.see.writes m;
     }
       where
@@ -428,7 +430,7 @@ module _ {c : Settings} {k : ℕ} {a b : Seen} {ins ins' : List Input} {shelves 
       looks_ = λ told. tt;
       stops = λ told stopped. absurd stopped;
       cause = λ is. absurd (cc);
-      counts = λ other m. t.counts (λ is. cc) m ∙ turn.see.counts m;
+      counts = λ m. t.counts m ∙ turn.see.counts m;
       writes = λ m. t.reads.writes m ∙ turn.see.writes m;
     }
 
@@ -477,7 +479,7 @@ module _ {c : Settings} {k : ℕ} {a b : Seen} {ins ins' : List Input} {shelves 
               ∙ l.passes (told_b told) first (in_order (joined (set (fronts c 1 d ins' shelves) k (others s))))
               ∙ ap (λ ls. stop_in first left.bytes left.frames (in_order (joined ls))) set_now;
           first_is = λ told. turn.see.first_is told ∙ ap first_window (front_now told) ∙ ap (λ ls. first_window (in_order (joined ls))) set_now;
-          counts = λ m. t.counts (λ is. cc) m ∙ turn.see.counts m;
+          counts = λ m. t.counts m ∙ turn.see.counts m;
           writes = λ m. t.reads.writes m ∙ turn.see.writes m;
         }
       where
@@ -582,6 +584,6 @@ looks_all c k a b ins ins' v had left all see =
       found = (counts_of v.items, see.spent);
       takes = taken_from ins ins' had left (counts_of v.items) see.slots see.spent;
       cause = λ e. absurd (cc);
-      counts = λ other. see.counts;
+      counts = see.counts;
       writes = see.writes;
     }

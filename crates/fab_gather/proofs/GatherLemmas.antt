@@ -38,6 +38,6 @@ module _ (c : Settings) (first w : ℕ) where
     fails = λ memory span. absurd (span refl);
     late = (λ x. is, λ x. refl);
     same = λ x. (refl, refl, refl, refl);
-    counts = λ other m. refl;
+    counts = λ m. refl;
     writes = λ m. refl;
   }

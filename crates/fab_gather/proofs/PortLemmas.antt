@@ -5,6 +5,7 @@ use Rattle.std.proofs.lemmas.List.{append-nil}
 use Rattle.std.proofs.lemmas.Bool.{eqb-true}
 use Rattle.fab_base.specs.Seen.{Seen, Reads, Rose, SameReadFaults}
 use Rattle.fab_base.specs.declared.values.Failed.{Failed}
+use Rattle.fab_base.proofs.EndingLemmas.{spares_reads}
 use Rattle.fab_base.proofs.SeenLemmas.{reads_refl, reads_trans, input_name, rose_later}
 use Rattle.fab_config.specs.Settings.{Settings}
 use Rattle.fab_policy.specs.Legal.{window_start}
@@ -22,7 +23,7 @@ use Rattle.pcap_file.proofs.lemmas.Faults.{read_of, spared}
 use Rattle.fab_gather.specs.declared.shelf.Shelf.{Shelf}
 use Rattle.pcap_file.specs.declared.fault.LimitKind.TheVariants as limit
 use Rattle.pcap_file.specs.declared.fault.GatherFault.TheVariants as fault
-use Rattle.pcap_file.specs.Faults.{fault_by, IsStopped}
+use Rattle.pcap_file.specs.Faults.{fault_by, gather_end, IsStopped}
 use Rattle.fab_gather.specs.Port.{IsReady, Spends, Taking, TakesWindow, StopsIn, AreOf, AreIn, Pass, is_in, spot_of, to_look, LeavesPort, stand_at, port_walk_at}
 use Rattle.fab_gather.proofs.LeavesLemmas.{gave_more, gave_end, gave_broken, place-push}
 
@@ -318,7 +319,7 @@ module _ (found_law : LooksFound) (end_law : LooksEnd) (steps : StepsFindStop) (
     in_span = λ same. absurd (cc);
     fails = λ other. absurd (other refl);
     cause = λ same. absurd (cc);
-    counts = λ other m. n.counts m ∙ t.counts m;
+    counts = λ m. n.counts m ∙ t.counts m;
   }
     where
       one : length (own.r ∷ []) ≤ 1
@@ -415,7 +416,7 @@ module _ (found_law : LooksFound) (end_law : LooksEnd) (steps : StepsFindStop) (
       );
       in_span = never_span port e;
       fails = λ other. (e, ap (λ (q : Reading). q.kept) n.kept.kept, refl);
-      counts = λ other m. spared port e b d n.counts (λ same. other (ap Err same)) m ∙ t.counts m;
+      counts = spares_reads (gather_end (fault_by e port)) a d (λ other m. spared port e b d n.counts (λ same. other (ap gather_end same)) m ∙ t.counts m);
     }
 
 pub next_at : {s t : ℕ} {a b : Seen} {r r' : Reading} {had left : Budget} {x : Result (Option Record) CapError} → s ≡ t → NextReads s (reader_stand a r had) (reader_stand b r' left) x → NextReads t (reader_stand a r had) (reader_stand b r' left) x

@@ -4,6 +4,7 @@ use Rattle.std.specs.Prelude.{nat_lt, Result, IsErrOf}
 use Rattle.std.proofs.lemmas.List.{length-set}
 use Rattle.std.proofs.lemmas.Option.{slice_get_within, slice_get-get_or}
 use Rattle.fab_base.specs.Seen.{Seen, Touches, Nothing, SameReadFaults, SameWriteFaults}
+use Rattle.fab_base.proofs.EndingLemmas.{spares_reads_then}
 use Rattle.fab_base.proofs.SeenLemmas.{touches_refl}
 use Rattle.fab_config.specs.Settings.{Settings}
 use Rattle.fab_policy.specs.Legal.{window_start}
@@ -15,6 +16,7 @@ use Rattle.pcap_file.specs.declared.Record.{Record}
 use Rattle.pcap_file.proofs.lemmas.Numbers.{le_or_lt}
 use Rattle.fab_gather.specs.declared.shelf.Input.{Input}
 use Rattle.fab_gather.specs.declared.shelf.Shelf.{Shelf}
+use Rattle.pcap_file.specs.Faults.{gather_end}
 use Rattle.pcap_file.specs.declared.fault.GatherFault.{GatherFault}
 use Rattle.pcap_file.specs.declared.fault.GatherFault.TheVariants as fault
 use Rattle.pcap_file.specs.declared.fault.LimitKind.TheVariants as limit
@@ -292,7 +294,7 @@ module _ {c : Settings} {w k : ℕ} {a b : Seen} {ins ins' : List Input} {shelve
       fails = λ memory span. (k, i2, get_set_same ins' k i2 here, t.fails memory);
       late = (λ x. absurd (over x), λ x. let both : true ≡ false = sym x ∙ in_time in absurd (cc));
       same = λ x. absurd (over x);
-      counts = λ other m. t.counts other m ∙ turn.round.counts m;
+      counts = spares_reads_then (gather_end f) a b d turn.round.counts t.counts;
       writes = λ m. t.reads.writes m ∙ turn.round.writes m;
     }
       where
@@ -476,7 +478,7 @@ round_all c w k a b ins ins' shelves shelves' had left le count r = λ first in_
   fails = tt;
   late = (λ x. absurd (cc), λ x. let both : true ≡ false = sym x ∙ in_time in absurd (cc));
   same = λ x. absurd (cc);
-  counts = λ other. r.counts;
+  counts = r.counts;
   writes = r.writes;
 }
 

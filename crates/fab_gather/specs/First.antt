@@ -1,6 +1,7 @@
 -- The looks at the first records, and which window comes next.
 use Rattle.std.specs.Prelude.{◌≡◌, ◌≢◌, ℕ, ◌≤◌, ◌<◌, IsTrue, List, [], ◌∷◌, length, map, Option, Some, None, IfSome, Result, IfOk, OnErr, IfErr, IsErrOf, option_to_list, slice_get, Vec}
 use Rattle.std.specs.declared.alloc.Global.{Global}
+use Rattle.fab_base.specs.Ending.{end_by, SparesReads}
 use Rattle.fab_base.specs.Seen.{Seen, Reads, Rose, Touches, Nothing, SameWriteFaults}
 use Rattle.fab_config.specs.Settings.{Settings}
 use Rattle.fab_policy.specs.Legal.{window_start}
@@ -14,7 +15,7 @@ use Rattle.fab_gather.specs.declared.shelf.Input.{Input}
 use Rattle.fab_gather.specs.declared.shelf.Shelf.{Shelf}
 use Rattle.pcap_file.specs.declared.fault.GatherFault.{GatherFault}
 use Rattle.pcap_file.specs.declared.fault.GatherFault.TheVariants as fault
-use Rattle.pcap_file.specs.Faults.{IsStopped, TellsReads}
+use Rattle.pcap_file.specs.Faults.{gather_end, IsStopped}
 use Rattle.fab_gather.specs.Port.{IsReady, Spends, Gave, KeepsFault, place_behind, to_look, ending}
 use Rattle.fab_base.specs.Slots.{name_of, NameIn}
 use Rattle.fab_gather.specs.Ports.{OneKeeps, slots_of, TakesFrom, rests, joined, stop_from, AreReady, counts_of}
@@ -87,7 +88,7 @@ pub record LooksOnce (c : Settings) (port slot : ℕ) (old new : ReaderStand) (r
   pub leaves : OnErr result (Gave slot old.depot new.depot old.reader new.reader [] × (new.budget ≡ old.budget))
   pub fails : IfErr result (KeepsFault port new.reader)
   pub cause : IsErrOf result fault.Read → Rose (old.depot.read_faults (old.depot.name slot)) (new.depot.read_faults (old.depot.name slot))
-  pub counts : TellsReads old.depot new.depot result
+  pub counts : SparesReads (end_by gather_end result) old.depot new.depot
 
 -- where captures stand before they have shelves: the store, the captures, and what is left of the limits
 pub record Start : Type 0 where
@@ -118,7 +119,7 @@ pub record LooksFirst (c : Settings) (old new : Start) (result : Result (Vec She
   pub takes : TakesFrom old.ins new.ins old.left new.left
   pub cause : IsErrOf result fault.Read →
       (q : ℕ) × (q < length old.ins) × Rose (old.seen.read_faults (name_of old.seen (slots_of old.ins) q)) (new.seen.read_faults (name_of old.seen (slots_of old.ins) q))
-  pub counts : TellsReads old.seen new.seen result
+  pub counts : SparesReads (end_by gather_end result) old.seen new.seen
   pub writes : SameWriteFaults old.seen new.seen
 
 -- ---- which window comes next

@@ -1,12 +1,13 @@
 -- The next window of captures, with the most span.
 use Rattle.std.specs.Prelude.{◌≡◌, ◌≢◌, ℕ, ◌+◌, ◌-◌, ◌<◌, ◌↔◌, true, false, nat_lt, IsTrue, length, Some, Result, OnOk, OnErr, IfErr, IsErrOf}
+use Rattle.fab_base.specs.Ending.{end_by, SparesReads}
 use Rattle.fab_base.specs.Seen.{Touches, Nothing, Rose, SameWriteFaults}
 use Rattle.fab_config.specs.Settings.{Settings}
 use Rattle.fab_gather.specs.Looks.{Stop, MOST_SPAN}
 use Rattle.pcap_file.specs.declared.fault.LimitKind.TheVariants as limit
 use Rattle.pcap_file.specs.declared.fault.GatherFault.{GatherFault}
 use Rattle.pcap_file.specs.declared.fault.GatherFault.TheVariants as fault
-use Rattle.pcap_file.specs.Faults.{IsStopped, TellsReads}
+use Rattle.pcap_file.specs.Faults.{gather_end, IsStopped}
 use Rattle.fab_gather.specs.Port.{Spends, ending}
 use Rattle.fab_base.specs.Slots.{name_of, NameIn}
 use Rattle.fab_gather.specs.Ports.{slots_of, AreReady, OneKeeps, TakesFrom, Walk, TookAll, LeavesAll, counts_of, stop_after}
@@ -29,7 +30,7 @@ pub record Gathers (c : Settings) (first w : ℕ) (old new : Walk) (result : Res
   pub fails : IfErr result (λ e. e ≢ fault.Memory → e ≢ fault.Limit limit.Span → OneKeeps new.ins e)
   pub late : IsErrOf result (fault.Limit limit.Span) ↔ (nat_lt MOST_SPAN (w - first) ≡ true)
   pub same : IsErrOf result (fault.Limit limit.Span) → (new.seen ≡ old.seen) × (new.ins ≡ old.ins) × (new.shelves ≡ old.shelves) × (new.left ≡ old.left)
-  pub counts : TellsReads old.seen new.seen result
+  pub counts : SparesReads (end_by gather_end result) old.seen new.seen
   pub writes : SameWriteFaults old.seen new.seen
 
 -- What taking the records of a window of all ports does: for each first window to which it isn't too late, what gathering it does.

@@ -1,5 +1,6 @@
 -- The records of a window, taken of one port's capture.
 use Rattle.std.specs.Prelude.{◌≡◌, ◌≢◌, ℕ, ◌+◌, ◌-◌, ◌*◌, ◌^◌, ◌≤◌, ◌<◌, ◌⊎◌, Bool, false, IsTrue, List, [], ◌∷◌, ◌++◌, length, Option, Some, None, IfSome, Result, OnOk, OnErr, IfErr, IsErrOf, option_to_list, nat_lt, ◌==◌}
+use Rattle.fab_base.specs.Ending.{end_by, SparesReads}
 use Rattle.fab_base.specs.Seen.{Seen, Reads, Rose, SameReadFaults}
 use Rattle.fab_config.specs.Settings.{Settings}
 use Rattle.fab_policy.specs.Legal.{window_start}
@@ -10,7 +11,7 @@ use Rattle.pcap_file.specs.Records.{Chain, last_moment}
 use Rattle.pcap_file.specs.declared.Budget.{Budget}
 use Rattle.pcap_file.specs.declared.CapError.{CapError}
 use Rattle.pcap_file.specs.declared.Record.{Record}
-use Rattle.pcap_file.specs.Faults.{fault_by, IsStopped, TellsReads}
+use Rattle.pcap_file.specs.Faults.{fault_by, gather_end, IsStopped}
 use Rattle.fab_gather.specs.declared.shelf.Input.{Input}
 use Rattle.fab_gather.specs.declared.shelf.Shelf.{Shelf}
 use Rattle.pcap_file.specs.declared.fault.LimitKind.TheVariants as limit
@@ -176,4 +177,4 @@ pub record TakesWindow (c : Settings) (port w slot : ℕ) (old new : PortWalk) (
   pub in_span : IfErr result (λ e. e ≢ fault.Limit limit.Span)
   pub fails : IfErr result (λ e. e ≢ fault.Memory → KeepsFault port new.reader e)
   pub cause : IsErrOf result fault.Read → Rose (old.seen.read_faults (old.seen.name slot)) (new.seen.read_faults (old.seen.name slot))
-  pub counts : TellsReads old.seen new.seen result
+  pub counts : SparesReads (end_by gather_end result) old.seen new.seen

@@ -1,9 +1,10 @@
 -- The heads of all files are written.
 use Rattle.std.proofs.Common.{◌≡◌, ℕ, zero, suc, ◌+◌, ◌<◌, inl, inr, List, [], ◌++◌, length, take, drop, Some, None, IsTrue, Ok, Err, refl, sym, ap, ◌∙◌, subst, arith}
-use Rattle.std.specs.Prelude.{Result, IsErrOf, replicate}
+use Rattle.std.specs.Prelude.{Result, replicate}
 use Rattle.std.proofs.lemmas.List.{append-nil, take-append-drop}
 use Rattle.fab_base.specs.Seen.{Seen, Touches}
 use Rattle.fab_base.specs.declared.values.Failed.{Failed}
+use Rattle.fab_base.proofs.EndingLemmas.{none_yet, none_then}
 use Rattle.fab_base.proofs.SeenLemmas.{touches_refl, touches_trans, touches_wider}
 use Rattle.fab_config.specs.Settings.{Settings}
 use Rattle.pcap_file.specs.Capture.{head_bytes}
@@ -177,7 +178,7 @@ module _ (laws : Laws) (f : LiveSlots) (a : Seen) (g : AreLive a f) (empty : IsT
     files = g;
     whole = λ c. tt;
     broken = λ c. (tt, nothing_yet laws c f a g hold_ came_);
-    tells = record { reads = λ m. refl; counts = λ other m. refl; cause = λ is. absurd (cc) };
+    counts = none_yet a;
   }
 
   module _ (pieces : List (List ℕ)) (is : pieces ≡ replicate (length f.ins) head_bytes) (b : Seen) where
@@ -193,11 +194,7 @@ module _ (laws : Laws) (f : LiveSlots) (a : Seen) (g : AreLive a f) (empty : IsT
       files = live_between each c;
       whole = λ c. tt;
       broken = λ c. (tt, heads_failed laws c f a g hold_ came_ pieces heads_ b e each);
-      tells = record {
-        reads = each.reads;
-        counts = λ other. absurd (other refl);
-        cause = λ is. (name_of a f.ins each.cause.0, inl (each.cause.0, each.cause.1.within, refl), each.cause.1.rose);
-      };
+      counts = ((name_of a f.ins each.cause.0, inl (each.cause.0, each.cause.1.within, refl), each.cause.1.rose), each.reads);
     }
 
     module _ (c : Settings) (each : PutsEach f.ins pieces a b (Ok tt)) (p : Pending) (p_lines : p.lines ≡ head_line) (p_pieces : (q : ℕ) → q < length f.outs → piece_at p.pieces q ≡ head_bytes) (d : Seen) where
@@ -207,11 +204,10 @@ module _ (laws : Laws) (f : LiveSlots) (a : Seen) (g : AreLive a f) (empty : IsT
         files = live_d laws c f a g hold_ came_ pieces heads_ b each p p_lines p_pieces d w;
         whole = λ c. tt;
         broken = λ c. (tt, files_failed laws c f a g hold_ came_ pieces heads_ b each p p_lines p_pieces d e w);
-        tells = record {
-          reads = λ m. w.reads m ∙ each.reads m;
-          counts = λ other. absurd (other refl);
-          cause = λ is. writes_rose f (LiveNames a f) (LiveNames a f) a b g (heads_touch laws c f a g hold_ came_ pieces heads_ b each) p.lines p.pieces d e each.counts w;
-        };
+        counts = (
+          writes_rose f (LiveNames a f) (LiveNames a f) a b g (heads_touch laws c f a g hold_ came_ pieces heads_ b each) p.lines p.pieces d e each.counts w,
+          λ m. w.reads m ∙ each.reads m,
+        );
       }
 
       pub starts_whole : Writes f.journal f.outs p.lines p.pieces b d (Ok tt) → StartsFiles {T = Unit {0}} f a d (Ok tt)
@@ -220,7 +216,7 @@ module _ (laws : Laws) (f : LiveSlots) (a : Seen) (g : AreLive a f) (empty : IsT
         files = live_d laws c f a g hold_ came_ pieces heads_ b each p p_lines p_pieces d w;
         whole = λ c. files_written laws c f a g hold_ came_ pieces heads_ b each p p_lines p_pieces d w;
         broken = λ c. tt;
-        tells = record { reads = λ m. w.reads m ∙ each.reads m; counts = λ other m. w.counts m ∙ each.counts m; cause = λ is. absurd (cc) };
+        counts = none_then a b d (each.reads, each.counts) (w.reads, w.counts);
       }
 
 -- the same of another kind of answer
@@ -230,11 +226,8 @@ starts_ok f a b t u s = record {
   files = s.files;
   whole = s.whole;
   broken = λ c. tt;
-  tells = record { reads = s.tells.reads; counts = λ other. s.tells.counts (λ is. absurd (cc)); cause = λ is. absurd (cc) };
+  counts = s.counts;
 }
-
-fault_in : (T : Type 0) (e : LiveFault) → IsErrOf {T = T} (Err e) fault.Write → e ≡ fault.Write
-fault_in T e is = cc
 
 pub starts_err : {T U : Type 0} (f : LiveSlots) (a b : Seen) (e : LiveFault) → StartsFiles {T = T} f a b (Err e) → StartsFiles {T = U} f a b (Err e)
 starts_err {T} {U} f a b e s = record {
@@ -242,5 +235,5 @@ starts_err {T} {U} f a b e s = record {
   files = s.files;
   whole = λ c. tt;
   broken = s.broken;
-  tells = record { reads = s.tells.reads; counts = λ other. s.tells.counts (λ is. other (ap (λ (y : LiveFault). Err y) (fault_in T e is))); cause = λ is. s.tells.cause (ap (λ (y : LiveFault). Err y) (fault_in U e is)) };
+  counts = s.counts;
 }

@@ -1,8 +1,9 @@
 -- What stands behind each packet of a stream, and at its end.
-use Rattle.std.proofs.Common.{◌≡◌, ◌≢◌, ℕ, zero, suc, ◌+◌, ◌-◌, ◌<◌, ◌≤◌, ◌^◌, ◌⊎◌, inl, inr, List, [], ◌∷◌, ◌++◌, length, length-append, Option, Some, None, Ok, Err, IsTrue, refl, sym, ap, ◌∙◌, subst, arith}
-use Rattle.std.specs.Prelude.{Result, IsErrOf}
-use Rattle.fab_base.specs.Ending.{NoFaults, IsSaid}
+use Rattle.std.proofs.Common.{◌≡◌, ℕ, zero, suc, ◌+◌, ◌-◌, ◌<◌, ◌≤◌, ◌^◌, ◌⊎◌, inl, inr, List, [], ◌∷◌, ◌++◌, length, length-append, Option, Some, None, Ok, Err, IsTrue, refl, sym, ◌∙◌, subst, arith}
+use Rattle.std.specs.Prelude.{Result}
+use Rattle.fab_base.specs.Ending.{end_by, NoFaults, IsSaid}
 use Rattle.fab_base.specs.Seen.{Seen, Rose, Only, Nothing, Reads, Touches, SameReadFaults, SameWriteFaults}
+use Rattle.fab_base.proofs.EndingLemmas.{none_yet, none_then, counts_then}
 use Rattle.fab_base.proofs.SeenLemmas.{keeps_touches, reads_touches, touches_refl, touches_trans, touches_wider}
 use Rattle.fab_config.specs.Settings.{Settings}
 use Rattle.pcap_file.specs.declared.Budget.{Budget}
@@ -20,17 +21,10 @@ use Rattle.pcap_file.specs.declared.fault.LimitKind.TheVariants as limits
 use Rattle.fab_live.specs.declared.live.Live.{Live}
 use Rattle.fab_live.specs.declared.fault.LiveFault.{LiveFault}
 use Rattle.fab_live.specs.declared.fault.LiveFault.TheVariants as fault
-use Rattle.fab_live.specs.Files.{LiveSlots, LiveNames, TellsWrites}
-use Rattle.fab_live.specs.Live.{AreGiven, AreOpen, StartsFiles, Running, HoldLive, LeftWhole, LeftBroken, LeavesPacket, LiveEnds, LiveFinished, LiveRuns, Begins, BeginsWithin, Stops, fault_of, IsUnwritten}
+use Rattle.fab_live.specs.Files.{LiveSlots, LiveNames, live_end, CountsWrites}
+use Rattle.fab_live.specs.Live.{AreGiven, AreOpen, StartsFiles, Running, HoldLive, LeftWhole, LeftBroken, LeavesPacket, LiveEnds, LiveFinished, CountsFaults, LiveRuns, Begins, BeginsWithin, Stops, fault_of, IsUnwritten}
 use Rattle.fab_live.proofs.RunningLemmas.{left_whole, entries_there}
 use Rattle.fab_live.proofs.WriteLemmas.{moved, in_before, written_before, live_stays}
-
--- what an error is told by an ending
-err_same : (x y : LiveFault) → IsErrOf {T = Done} (Err x) y → x ≡ y
-err_same x y e = cc
-
-unit_same : (x y : LiveFault) → IsErrOf {T = Unit {0}} (Err x) y → x ≡ y
-unit_same x y e = cc
 
 -- ---- the loop
 
@@ -133,7 +127,11 @@ module _ (c : Settings) (f : LiveSlots) (stream : ℕ) (budget : Budget) (start 
     pub touches' : Touches (LiveNames start f) (λ m. LiveNames start f m ⊎ (m ≡ start.name stream)) start d'
     touches' = touches_read f stream start g.given d g.touches d' r.reads
 
-    pub writes' : SameWriteFaults start d'
+    -- no fault was counted, or none but of reading
+    pub quiet' : SameReadFaults d d' → NoFaults start d'
+    quiet' same = none_then start d d' g.faults (same, r.reads.writes)
+
+    writes' : SameWriteFaults start d'
     writes' m = r.reads.writes m ∙ g.faults.1 m
 
     abbrev left : LeftWhole c d' f g.packets
@@ -167,9 +165,7 @@ module _ (c : Settings) (f : LiveSlots) (stream : ℕ) (budget : Budget) (start 
     ended = record {
       touches = touches' (Ok None) r;
       ends = finished;
-      read = λ is. absurd (cc);
-      write = λ is. absurd (cc);
-      counts = record { reads = λ other m. r.counts m ∙ g.faults.0 m; writes = λ other. writes' (Ok None) r };
+      counts = quiet' (Ok None) r r.counts;
     }
 
   -- ---- it can't be read on
@@ -191,38 +187,28 @@ module _ (c : Settings) (f : LiveSlots) (stream : ℕ) (budget : Budget) (start 
         }
 
     -- which fault it is
-    ends_by : (x : LiveFault) → (IsTrue start.told → LiveEnds c budget f (start.left stream) d' (Err x)) → x ≢ fault.Read → x ≢ fault.Write → SameReadFaults d d' → LiveRuns c budget stream f start d' (Err x)
-    ends_by x ends no_read no_write same = record {
-      touches = touches' (Err e) r;
-      ends = ends;
-      read = λ is. absurd (no_read (err_same x fault.Read is));
-      write = λ is. absurd (no_write (err_same x fault.Write is));
-      counts = record { reads = λ other m. same m ∙ g.faults.0 m; writes = λ other. writes' (Err e) r };
-    }
+    ends_by : (x : LiveFault) → (IsTrue start.told → LiveEnds c budget f (start.left stream) d' (Err x)) → CountsFaults stream f (live_end x) start d' → LiveRuns c budget stream f start d' (Err x)
+    ends_by x ends counts = record { touches = touches' (Err e) r; ends = ends; counts = counts }
 
   pub failed : (e : NgError) → StreamReads stream (stream_stand p d) (stream_stand p' d') (Err e) → LiveRuns c budget stream f start d' (Err (fault_of e))
   failed (errors.Fault at why) r =
       let e = errors.Fault at why in
-      ends_by e r (fault.Block at why) (λ told. (g.packets, stopped e r tt told, left (Err e) r)) (λ is. absurd (cc)) (λ is. absurd (cc)) r.counts
+      ends_by e r (fault.Block at why) (λ told. (g.packets, stopped e r tt told, left (Err e) r)) (quiet' (Err e) r r.counts)
   failed (errors.Limit ng_limits.Bytes) r =
       let e = errors.Limit ng_limits.Bytes in
-      ends_by e r (fault.Limit limits.Bytes) (λ told. (g.packets, stopped e r tt told, left (Err e) r)) (λ is. absurd (cc)) (λ is. absurd (cc)) r.counts
+      ends_by e r (fault.Limit limits.Bytes) (λ told. (g.packets, stopped e r tt told, left (Err e) r)) (quiet' (Err e) r r.counts)
   failed (errors.Limit ng_limits.Frames) r =
       let e = errors.Limit ng_limits.Frames in
-      ends_by e r (fault.Limit limits.Frames) (λ told. (g.packets, stopped e r tt told, left (Err e) r)) (λ is. absurd (cc)) (λ is. absurd (cc)) r.counts
+      ends_by e r (fault.Limit limits.Frames) (λ told. (g.packets, stopped e r tt told, left (Err e) r)) (quiet' (Err e) r r.counts)
   failed (errors.Read bad) r =
       let e = errors.Read bad in
-      record {
-        touches = touches' (Err e) r;
-        ends = λ told. (g.packets, begins_here (Err e) r told, left (Err e) r);
-        read = λ is.
-            let rose = r.cause g.streamed.fresh bad refl in
-            let same = named f stream start g.given d g.touches in
-            subst (λ (m : List ℕ). Rose (start.read_faults m) (d'.read_faults m)) same (subst (λ (n : ℕ). Rose n (d'.read_faults (d.name stream))) (g.faults.0 (d.name stream)) rose);
-        write = λ is. absurd (cc);
-        counts = record { reads = λ other. absurd (other refl); writes = λ other. writes' (Err e) r };
-      }
-  failed errors.Memory r = ends_by errors.Memory r fault.Memory (λ told. (g.packets, begins_here (Err errors.Memory) r told, inl (left (Err errors.Memory) r))) (λ is. absurd (cc)) (λ is. absurd (cc)) r.counts
+      let rose = r.cause g.streamed.fresh bad refl in
+      let same = named f stream start g.given d g.touches in
+      ends_by e r fault.Read (λ told. (g.packets, begins_here (Err e) r told, left (Err e) r)) (
+        subst (λ (m : List ℕ). Rose (start.read_faults m) (d'.read_faults m)) same (subst (λ (n : ℕ). Rose n (d'.read_faults (d.name stream))) (g.faults.0 (d.name stream)) rose),
+        writes' (Err e) r,
+      )
+  failed errors.Memory r = ends_by errors.Memory r fault.Memory (λ told. (g.packets, begins_here (Err errors.Memory) r told, inl (left (Err errors.Memory) r))) (quiet' (Err errors.Memory) r r.counts)
 
   -- ---- a packet
 
@@ -257,9 +243,7 @@ module _ (c : Settings) (f : LiveSlots) (stream : ℕ) (budget : Budget) (start 
     no_port le = record {
       touches = touches' (Ok (Some x)) r;
       ends = λ told. (g.packets, begins_here (Ok (Some x)) r told, x, begins_within told, refl, le, left (Ok (Some x)) r);
-      read = λ is. absurd (cc);
-      write = λ is. absurd (cc);
-      counts = record { reads = λ other m. r.counts m ∙ g.faults.0 m; writes = λ other. writes' (Ok (Some x)) r };
+      counts = quiet' (Ok (Some x)) r r.counts;
     }
 
     refused_ends : x.face < length f.outs → (d'' : Seen) (e : LiveFault) → LeavesPacket c f g.packets x d'' e → IsTrue start.told → LiveEnds c budget f (start.left stream) d'' (Err e)
@@ -272,26 +256,20 @@ module _ (c : Settings) (f : LiveSlots) (stream : ℕ) (budget : Budget) (start 
     refused_ends lt d'' (fault.Port face) left told = absurd left
     refused_ends face d'' fault.Read left told = absurd left
 
-    pub refused : x.face < length f.outs → (d'' : Seen) (e : LiveFault) → Touches (LiveNames d' f) (LiveNames d' f) d' d'' → TellsWrites {T = Unit {0}} f d' d'' (Err e) → LeavesPacket c f g.packets x d'' e → LiveRuns c budget stream f start d'' (Err e)
-    refused face d'' e touches tells left = record {
+    pub refused : x.face < length f.outs → (d'' : Seen) (e : LiveFault) → Touches (LiveNames d' f) (LiveNames d' f) d' d'' → CountsWrites f (live_end e) d' d'' → LeavesPacket c f g.packets x d'' e → LiveRuns c budget stream f start d'' (Err e)
+    refused face d'' e touches counts left = record {
       touches = touches_written f stream start g.given d' (touches' (Ok (Some x)) r) d'' touches;
       ends = refused_ends face d'' e left;
-      read = λ is. absurd (subst (LeavesPacket c f g.packets x d'') (err_same e fault.Read is) left);
-      write = λ is.
-          let rose = tells.cause (ap (λ (y : LiveFault). Err y) (err_same e fault.Write is)) in (
-            rose.0,
-            names_back f stream start g.given d' (touches' (Ok (Some x)) r) rose.0 rose.1,
-            subst (λ (n : ℕ). Rose n (d''.write_faults rose.0)) (writes' (Ok (Some x)) r rose.0) rose.2,
-          );
-      counts = record {
-        reads = λ other m. tells.reads m ∙ r.counts m ∙ g.faults.0 m;
-        writes = λ other m. tells.counts (λ is. other (ap (λ (y : LiveFault). Err y) (unit_same e fault.Write is))) m ∙ writes' (Ok (Some x)) r m;
-      };
+      counts = counts_then (live_end e) start d' d'' (λ none. absurd none) (λ rose. (
+        rose.0,
+        names_back f stream start g.given d' (touches' (Ok (Some x)) r) rose.0 rose.1,
+        subst (λ (n : ℕ). Rose n (d''.write_faults rose.0)) (writes' (Ok (Some x)) r rose.0) rose.2,
+      )) (quiet' (Ok (Some x)) r r.counts) counts;
     }
 
-    pub looping_on : (d'' : Seen) (l' : Live) (K : Journal) → Touches (LiveNames d' f) (LiveNames d' f) d' d'' → TellsWrites {T = Unit {0}} f d' d'' (Ok tt) → Running c f (g.packets ++ x ∷ []) K l' d''
+    pub looping_on : (d'' : Seen) (l' : Live) (K : Journal) → Touches (LiveNames d' f) (LiveNames d' f) d' d'' → NoFaults d' d'' → Running c f (g.packets ++ x ∷ []) K l' d''
         → Looping c f stream budget start l' p' d''
-    looping_on d'' l' K touches tells R =
+    looping_on d'' l' K touches quiet R =
         let there = touches' (Ok (Some x)) r in
         let same = touches.left stream (input_there f stream start g.given d' there) (apart_there f stream start g.given d' there) in
         record {
@@ -301,7 +279,7 @@ module _ (c : Settings) (f : LiveSlots) (stream : ℕ) (budget : Budget) (start 
           running = R;
           streamed = streamed_stays stream start d' d'' budget p' (g.packets ++ x ∷ []) streamed' (λ told. same);
           touches = touches_written f stream start g.given d' there d'' touches;
-          faults = (λ m. tells.reads m ∙ r.counts m ∙ g.faults.0 m, λ m. tells.counts (λ is. absurd (cc)) m ∙ writes' (Ok (Some x)) r m);
+          faults = none_then start d' d'' (quiet' (Ok (Some x)) r r.counts) quiet;
         }
 
 -- ---- before the first packet
@@ -315,7 +293,7 @@ module _ (c : Settings) (f : LiveSlots) (stream : ℕ) (budget : Budget) (start 
     running = R;
     streamed = streamed_none stream start budget p is;
     touches = touches_refl (LiveNames start f) (λ m. LiveNames start f m ⊎ (m ≡ start.name stream)) start;
-    faults = (λ m. refl, λ m. refl);
+    faults = none_yet start;
   }
 
 module _ (c : Settings) (f : LiveSlots) (stream : ℕ) (budget : Budget) (start : Seen) (given : AreGiven start stream f) (d : Seen) where
@@ -351,19 +329,11 @@ module _ (c : Settings) (f : LiveSlots) (stream : ℕ) (budget : Budget) (start 
       record {
         touches = wider s.touches;
         ends = begun_ends e broken.0 broken.1;
-        read = λ same. absurd (subst IsUnwritten (err_same e fault.Read same) broken.0);
-        write = λ same. s.tells.cause (ap (λ (y : LiveFault). Err y) (err_same e fault.Write same));
-        counts = record { reads = λ other. s.tells.reads; writes = λ other. s.tells.counts (λ same. other (ap (λ (y : LiveFault). Err y) (ok_same e fault.Write same))) };
+        counts = counts_then (live_end e) start start d (λ none. absurd none) (λ rose. rose) (none_yet start) s.counts;
       }
-    where
-      ok_same : (x y : LiveFault) → IsErrOf {T = T} (Err x) y → x ≡ y
-      ok_same x y e = cc
 
   -- the heads were written, and then it ran
   module _ {T : Type 0} (t : T) (s : StartsFiles {T = T} f start d (Ok t)) (new : Seen) (result : Result Done LiveFault) (runs : LiveRuns c budget stream f d new result) where
-    writes_same : SameWriteFaults start d
-    writes_same = s.tells.counts (λ is. absurd (cc))
-
     back : (m : List ℕ) → LiveNames d f m → LiveNames start f m
     back = names_back f stream start given_open d (wider s.touches)
 
@@ -382,12 +352,7 @@ module _ (c : Settings) (f : LiveSlots) (stream : ℕ) (budget : Budget) (start 
       ends = λ told.
           subst (λ (l : List ℕ). LiveEnds c budget f l new result) (s.touches.left stream given.input given.apart)
           (runs.ends (subst IsTrue (sym s.touches.told) told));
-      read = λ is.
-          subst (λ (m : List ℕ). Rose (start.read_faults m) (new.read_faults m)) same_name_on
-          (subst (λ (n : ℕ). Rose n (new.read_faults (d.name stream))) (s.tells.reads (d.name stream)) (runs.read is));
-      write = λ is. let rose = runs.write is in (rose.0, back rose.0 rose.1, subst (λ (n : ℕ). Rose n (new.write_faults rose.0)) (writes_same rose.0) rose.2);
-      counts = record {
-        reads = λ other m. runs.counts.reads other m ∙ s.tells.reads m;
-        writes = λ other m. runs.counts.writes other m ∙ writes_same m;
-      };
+      counts = counts_then (end_by live_end result) start d new
+          (λ rose. subst (λ (m : List ℕ). Rose (start.read_faults m) (new.read_faults m)) same_name_on (subst (λ (n : ℕ). Rose n (new.read_faults (d.name stream))) (s.counts.0 (d.name stream)) rose))
+          (λ rose. (rose.0, back rose.0 rose.1, subst (λ (n : ℕ). Rose n (new.write_faults rose.0)) (s.counts.1 rose.0) rose.2)) s.counts runs.counts;
     }

@@ -1,18 +1,23 @@
 -- A packet's record is written, and then journal and outputs.
 use Rattle.std.proofs.Common.{◌≡◌, ◌≢◌, ℕ, ◌<◌, ◌⊎◌, inl, inr, List, [], ◌++◌, length, take, drop, Option, Some, Ok, Err, IsTrue, refl, sym, ap, ◌∙◌, subst, arith, append_assoc}
 use Rattle.std.specs.Prelude.{Result}
+use Rattle.std.specs.Result.{IsErrAnd}
 use Rattle.std.proofs.lemmas.Bool.{cases_order}
 use Rattle.std.proofs.lemmas.List.{append-nil, take-append-drop}
+use Rattle.fab_base.specs.Ending.{end_by}
 use Rattle.fab_base.specs.Seen.{Seen, Rose, SameWriteFaults, PutsAll, Touches, Only}
 use Rattle.fab_base.specs.declared.values.Failed.{Failed}
+use Rattle.fab_base.proofs.EndingLemmas.{none_then}
 use Rattle.fab_base.proofs.SeenLemmas.{touches_trans, touches_wider, keeps_touches}
 use Rattle.fab_base.specs.Slots.{name_of, slot_at, NameIn}
 use Rattle.run_files.specs.Pages.{piece_at}
 use Rattle.run_files.proofs.OutputLemmas.{stays_named, same_name, outputs_stay}
 use Rattle.fab_windows.specs.Files.{Written, Hold, Pending, Writes}
 use Rattle.fab_windows.proofs.FileLemmas.{files_stay}
+use Rattle.fab_windows.proofs.ResultLemmas.{err_is}
+use Rattle.fab_live.specs.declared.fault.LiveFault.{LiveFault}
 use Rattle.fab_live.specs.declared.fault.LiveFault.TheVariants as fault
-use Rattle.fab_live.specs.Files.{LiveSlots, LiveNames, AreLive, Came, CameSome, GrowsAt, WritesPacket}
+use Rattle.fab_live.specs.Files.{LiveSlots, LiveNames, AreLive, Came, CameSome, GrowsAt, live_end, CountsWrites, WritesPacket}
 
 pub moved : (d : Seen) {m n : List ℕ} {x : Option (List ℕ)} → m ≡ n → d.file m ≡ x → d.file n ≡ x
 moved d {m} {n} {x} e h = subst (λ k. d.file k ≡ x) e h
@@ -22,6 +27,10 @@ equal_or_not q p = elim (cases_order q p) [
   | inl e ↦ inl e
   | inr other ↦ elim other [ inl less ↦ inr (λ e. absurd (omega arith)) | inr more ↦ inr (λ e. absurd (omega arith)) ]
 ]
+
+-- a fault that is handed on
+pub counts_on : {T : Type 0} (f : LiveSlots) (a b : Seen) (r : Result T LiveFault) (e : LiveFault) → IsErrAnd r (λ x. x ≡ e) → CountsWrites f (live_end e) a b → CountsWrites f (end_by live_end r) a b
+counts_on f a b r e is h = subst (λ y. CountsWrites f (end_by live_end y) a b) (err_is r e is) h
 
 -- files of a forwarder that runs stay so
 module _ (f : LiveSlots) (F G : List ℕ → Type 0) (a b : Seen) (g : AreLive a f) (k : Touches F G a b) where
@@ -112,7 +121,7 @@ module _ (f : LiveSlots) (place : ℕ) (within : place < length f.ins) (piece : 
           came_some puts told v v' came grows,
           inr (hold_b puts l r h),
         );
-    tells = record { reads = puts.reads; counts = λ other. absurd (other refl); cause = λ is. (a.name slot, inl (place, within, refl), puts.cause) };
+    counts = ((a.name slot, inl (place, within, refl), puts.cause), puts.reads);
   }
 
   -- ---- journal and outputs behind it
@@ -147,7 +156,7 @@ module _ (f : LiveSlots) (place : ℕ) (within : place < length f.ins) (piece : 
       files = live_d w;
       whole = λ told l l' r r' v v' h came is more grows. (w.whole (told_b w told) l l' r r' (hold_b puts l r h) is more, came_d w v' (came_all puts told v v' came grows));
       front = λ told l l' r r' v v' h came is more grows. (w.front (told_b w told) l l' r r' (hold_b puts l r h) is more, some_of w v' (came_d w v' (came_all puts told v v' came grows)), inl (came_d w v' (came_all puts told v v' came grows)));
-      tells = record { reads = λ m. w.reads m ∙ puts.reads m; counts = λ other m. w.counts m ∙ puts.counts m; cause = λ is. absurd (cc) };
+      counts = none_then a b d (puts.reads, puts.counts) (w.reads, w.counts);
     }
 
     pub packet_failed : (e : Failed) → Writes f.journal f.outs p.lines p.pieces b d (Err e) → WritesPacket f place piece p a d (Err fault.Write)
@@ -156,9 +165,5 @@ module _ (f : LiveSlots) (place : ℕ) (within : place < length f.ins) (piece : 
       files = live_d w;
       whole = λ told l l' r r' v v' h came is more grows. tt;
       front = λ told l l' r r' v v' h came is more grows. (w.front (told_b w told) l l' r r' (hold_b puts l r h) is more, some_of w v' (came_d w v' (came_all puts told v v' came grows)), inl (came_d w v' (came_all puts told v v' came grows)));
-      tells = record {
-        reads = λ m. w.reads m ∙ puts.reads m;
-        counts = λ other. absurd (other refl);
-        cause = λ is. writes_rose f F F a b g (first puts) p.lines p.pieces d e puts.counts w;
-      };
+      counts = (writes_rose f F F a b g (first puts) p.lines p.pieces d e puts.counts w, λ m. w.reads m ∙ puts.reads m);
     }

@@ -1,6 +1,8 @@
 -- The files of a forwarder that runs, and what writing to them keeps and leaves.
-use Rattle.std.specs.Prelude.{◌≡◌, ◌≢◌, ℕ, ◌<◌, ◌⊎◌, IsTrue, List, ◌++◌, length, Some, Result, OnOk, IsErrOf}
-use Rattle.fab_base.specs.Seen.{Seen, Touches, Rose, SameReadFaults, SameWriteFaults}
+use Rattle.std.specs.Prelude.{◌≡◌, ◌≢◌, ℕ, ◌<◌, ◌⊎◌, IsTrue, List, ◌++◌, length, Some, Result, OnOk}
+use Rattle.fab_base.specs.Ending as ending
+use Rattle.fab_base.specs.Ending.{End, end_by, Counts, RoseIn}
+use Rattle.fab_base.specs.Seen.{Seen, Touches}
 use Rattle.fab_policy.specs.Written.{IsPrefixOf}
 use Rattle.fab_base.specs.Slots.{name_of, NameIn}
 use Rattle.run_files.specs.Outputs.{AreOutputs}
@@ -42,11 +44,19 @@ pub record GrowsAt (place : ℕ) (piece : List ℕ) (old new : ℕ → List ℕ)
   pub here : new place ≡ old place ++ piece
   pub others : (q : ℕ) → q ≢ place → new q ≡ old q
 
--- Which faults of the store are counted where files are written: none of reading, and one of writing exactly where it's told.
-pub record TellsWrites {T : Type 0} (f : LiveSlots) (old new : Seen) (result : Result T LiveFault) : Type 0 where
-  pub reads : SameReadFaults old new
-  pub counts : ¬ IsErrOf result fault.Write → SameWriteFaults old new
-  pub cause : IsErrOf result fault.Write → (m : List ℕ) × LiveNames old f m × Rose (old.write_faults m) (new.write_faults m)
+-- what the answer of a forwarder that runs rests on, where it ends in a fault
+abbrev pub live_end : LiveFault → End
+live_end (fault.Block at why) = ending.Said
+live_end (fault.Port face) = ending.Said
+live_end (fault.Limit kind) = ending.Said
+live_end fault.Read = ending.Read
+live_end fault.Write = ending.Write
+live_end fault.Memory = ending.Memory
+
+-- Which faults of the store are counted where files are written that end so: none of reading, and one of writing exactly where it ends
+-- in one.
+abbrev pub CountsWrites : LiveSlots → End → Seen → Seen → Type 0
+CountsWrites f end old new = Counts ⊥ (RoseIn (LiveNames old f) old.write_faults new.write_faults) end old new
 
 -- Writing a packet: its record behind the capture of its port, and lines and pieces behind journal and outputs. Where it fails each file
 -- holds a beginning of that, written in this order: what came is whole, or journal and outputs are as they were.
@@ -59,4 +69,4 @@ pub record WritesPacket (f : LiveSlots) (place : ℕ) (piece : List ℕ) (p : Pe
   pub front : IsTrue old.told → (l l' : List ℕ) (r r' b b' : ℕ → List ℕ) → Hold old f.journal f.outs l r → Came old f.ins b
       → l' ≡ l ++ p.lines → ((q : ℕ) → q < length f.outs → r' q ≡ r q ++ piece_at p.pieces q) → GrowsAt place piece b b'
       → HoldFronts new f.journal f.outs (file_bytes l r) (file_bytes l' r') × CameSome new f.ins b' × (Came new f.ins b' ⊎ Hold new f.journal f.outs l r)
-  pub tells : TellsWrites f old new result
+  pub counts : CountsWrites f (end_by live_end result) old new

@@ -8,8 +8,9 @@ ghost use Rattle.pcapng_file.specs.File.{IsPacketKept};
 ghost use Rattle.pcapng_file.specs.declared.NgRecord as of_stream;
 ghost use Rattle.fab_windows.specs.Files.{GoesOn};
 ghost use Rattle.fab_live.specs.Arriving as arriving;
+ghost use Rattle.fab_base.specs.Ending.{end_by};
 ghost use Rattle.fab_base.specs.Seen.{Touches};
-ghost use Rattle.fab_live.specs.Files.{slots_of, LiveNames, TellsWrites};
+ghost use Rattle.fab_live.specs.Files.{slots_of, LiveNames, live_end, CountsWrites};
 ghost use Rattle.fab_live.specs.Live.{Running, LeavesPacket};
 
 use crate::files::write_packet;
@@ -63,8 +64,8 @@ impl Live {
         ensures touches { Touches (LiveNames (D.seen depot.old) (slots_of files.now))
             (LiveNames (D.seen depot.old) (slots_of files.now)) (D.seen depot.old)
             (D.seen depot.new) }
-        ensures faults { TellsWrites (slots_of files.now) (D.seen depot.old) (D.seen depot.new)
-            result }
+        ensures faults { CountsWrites (slots_of files.now) (end_by live_end result)
+            (D.seen depot.old) (D.seen depot.new) }
     {
         // Law: what further entries and records change; a run goes on by a window's records.
         laws_of_runs();

@@ -1,9 +1,10 @@
 -- How a run begins, goes on to its next window, and comes to its end.
 use Rattle.std.proofs.Common.{◌≡◌, ℕ, suc, ◌+◌, ◌^◌, ◌<◌, ◌≤◌, inl, inr, List, [], ◌∷◌, ◌++◌, length, map, Option, Some, None, IfSome, IsTrue, Result, Ok, Err, refl, sym, ap, ◌∙◌, subst, arith}
-use Rattle.std.specs.Prelude.{unwrap_or, Vec, IsErrOf}
+use Rattle.std.specs.Prelude.{unwrap_or, Vec}
 use Rattle.std.specs.declared.alloc.Global.{Global}
 use Rattle.fab_base.specs.Seen.{Seen, Touches, Nothing, Rose}
 use Rattle.fab_base.specs.declared.values.Failed.{Failed}
+use Rattle.fab_base.proofs.EndingLemmas.{none_then, none_yet}
 use Rattle.fab_base.proofs.SeenLemmas.{rose_later, touches_refl, touches_trans, touches_wider}
 use Rattle.fab_config.specs.Settings.{Settings}
 use Rattle.fab_policy.specs.Growing.{AllBelow}
@@ -19,7 +20,6 @@ use Rattle.pcap_file.specs.declared.Record.{Record}
 use Rattle.fab_gather.specs.declared.shelf.Input.{Input}
 use Rattle.fab_gather.specs.declared.shelf.Shelf.{Shelf}
 use Rattle.pcap_file.specs.declared.fault.GatherFault.{GatherFault}
-use Rattle.pcap_file.specs.declared.fault.GatherFault.TheVariants as gather
 use Rattle.run_files.specs.Faults.{fault_from}
 use Rattle.run_files.specs.declared.fault.RunFault.{RunFault}
 use Rattle.run_files.specs.declared.fault.RunFault.TheVariants as fault
@@ -39,7 +39,7 @@ use Rattle.fab_windows.specs.Turns.{Laws, Task, captures_in, start_of, Touched, 
 use Rattle.fab_windows.proofs.EndLemmas.{whole_is_front, ends_before, stops_first, finished}
 use Rattle.fab_windows.proofs.PublishLemmas.{wholes_but_nothing, flushed_whole, flushed_part, write_cause}
 use Rattle.fab_windows.proofs.StayLemmas.{hold_stays, writing_leaves}
-use Rattle.fab_windows.proofs.TurnLemmas.{stopped_from, read_from, no_write_from, ended, ended_writing, files_now, reached_on}
+use Rattle.fab_windows.proofs.TurnLemmas.{stopped_from, read_from, no_write_from, gathering_spares, ended, ended_writing, files_now, reached_on}
 
 -- ---- the heads, and the first looks
 
@@ -60,7 +60,7 @@ module _ (laws : Laws) (k : Task) (given : AreGiven k.seen k.ins k.journal k.out
           order = inl (record { lines_ = ([], (given.empty told).0, ([], refl)); records = (given.empty told).1 });
         };
       }))
-      (λ x. absurd (cc), λ x. absurd (cc), λ x y m. refl, λ x m. refl)
+      (λ x. absurd (cc), λ x. absurd (cc), none_yet k.seen)
 
   hold_none : IsTrue k.seen.told → Hold k.seen k.journal k.outs [] (λ q. [])
   hold_none told = record { lines_ = (given.empty told).0; records = (given.empty told).1 }
@@ -82,7 +82,7 @@ module _ (laws : Laws) (k : Task) (given : AreGiven k.seen k.ins k.journal k.out
         ended k a fault.Write (touches_heads w) (λ told x. absurd x) (λ told x. absurd (cc))
         (λ told x. ends_before k.settings k.budget (captures_in k) laws.nothing_run (Fronts k.settings a k.journal k.outs)
         (record { before = None; begins = tt; hold = w.front told [] (text []) (λ q. []) (captures k.settings (length k.outs) []) (hold_none told) laws.nothing_written.0 records_are }))
-        (λ x. absurd (cc), λ x. write_cause k.journal k.outs head_line pieces k.seen a f w, λ x y. absurd (y refl), λ x. absurd (x refl))
+        (λ x. absurd (cc), λ x. write_cause k.journal k.outs head_line pieces k.seen a f w, tt)
 
     module _ (w : Writes k.journal k.outs head_line pieces k.seen a (Ok tt)) (d : Seen) (ins : List Input) (left : Budget) where
       opened_then : opened_in a k.ins ≡ captures_in k
@@ -119,12 +119,8 @@ module _ (laws : Laws) (k : Task) (given : AreGiven k.seen k.ins k.journal k.out
                 let at = name_then (name_of a (slots_of k.ins) cause.0) (cause.0, omega (arith, cause.1, length-slots k.ins), refl) in
                 (at.0, omega (arith, at.1, length-slots k.ins), rose_later _ _ _ (w.touches.reads_rise _) (subst (λ n. Rose (a.read_faults n) (d.read_faults n)) at.2 cause.2)),
             λ x. absurd (no_write_from e x),
-            λ x y m. f.counts (λ is. x (ap fault_from (error_of e is))) m ∙ w.reads m,
-            λ x m. f.writes m ∙ w.counts m,
+            gathering_spares e k.seen a d d (w.reads, w.counts) f.counts f.writes (none_yet d),
           )
-        where
-          error_of : (f : GatherFault) → IsErrOf {T = Vec Shelf Global} (Err f) gather.Read → f ≡ gather.Read
-          error_of f is = cc
 
       pub begun : (shelves : Vec Shelf Global) → (1 ≤ length k.ins) × (length k.ins ≤ 64) → length k.outs ≡ length k.ins → k.budget.bytes < 2 ^ 64 →
           LooksFirst k.settings (start_at a k.ins k.budget) (start_at d ins left) (Ok shelves) → Begun k (walk_at d ins shelves.items left)
@@ -134,15 +130,12 @@ module _ (laws : Laws) (k : Task) (given : AreGiven k.seen k.ins k.journal k.out
         outputs = outputs;
         limits = limits;
         touches = touches_looks f.touches;
-        faults = (λ m. f.counts (λ is. not_read shelves is) m ∙ w.reads m, λ m. f.writes m ∙ w.counts m);
+        faults = none_then k.seen a d (w.reads, w.counts) (f.counts, f.writes);
         walked = λ o next.
             walked_before k.settings k.seen a k.ins k.budget 0 (unwrap_or o 0) (map (λ i. []) k.ins) (walk_at d ins shelves.items left) w.touches.told (lefts_heads w)
             (walked_first k.settings (start_at a k.ins k.budget) (start_at d ins left) shelves f o next);
         whole = wholes_looks f.touches;
       }
-        where
-          not_read : (v : Vec Shelf Global) → IsErrOf (Ok v) gather.Read → ⊥
-          not_read v is = cc
 
 -- ---- before the first window
 
@@ -260,7 +253,7 @@ module _ (laws : Laws) (k : Task) (w first : ℕ) (F : Contents) (d : Seen) (ins
             (flushed_whole p k.settings d z k.journal k.outs g.reached.entry_list (told_end told) (g.files told) x) g.frames g.entries;
         read = λ y. absurd (cc);
         write = λ y. absurd (cc);
-        counts = record { reads = λ no not. r.faults.0; writes = λ no. r.faults.1 };
+        counts = r.faults;
       }
 
   -- or can't be
@@ -268,7 +261,7 @@ module _ (laws : Laws) (k : Task) (w first : ℕ) (F : Contents) (d : Seen) (ins
   ended_broken f x =
       ended_writing laws k w first F d ins shelves left g.reached z x.touches x.reads fault.Write tt
       (λ told. flushed_part p k.settings d z k.journal k.outs g.reached.entry_list (told_end told) (g.files told) x)
-      (λ y. write_cause k.journal k.outs p.lines p.pieces d z f x) (λ y. absurd (y refl))
+      (λ y. write_cause k.journal k.outs p.lines p.pieces d z f x) tt
 
   pub ended_by : (r : Result Done RunFault) → Finishes k.journal k.outs p done d z r → Runs k.settings (start_at k.seen k.ins k.budget) z (file_slots k.journal k.outs) r
   ended_by (Ok told) h = subst (λ x. Runs k.settings (start_at k.seen k.ins k.budget) z (file_slots k.journal k.outs) (Ok x)) (sym h.1) (ended_well h.0)

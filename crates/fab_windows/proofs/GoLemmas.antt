@@ -1,6 +1,6 @@
 -- A window that was gathered and handled: what stands after it, before and behind its writing.
 use Rattle.std.proofs.Common.{◌≡◌, ℕ, suc, ◌+◌, ◌^◌, ◌<◌, ◌≤◌, List, [], ◌∷◌, ◌++◌, length, map, Option, Some, IfSome, IsTrue, Result, Ok, Err, inl, inr, take, drop, refl, sym, ap, ◌∙◌, subst, arith}
-use Rattle.std.specs.Prelude.{unwrap_or, IsErrOf}
+use Rattle.std.specs.Prelude.{unwrap_or}
 use Rattle.fab_base.specs.Ending.{NoFaults}
 use Rattle.fab_base.specs.Seen.{Seen, Touches, Nothing}
 use Rattle.fab_base.specs.declared.values.Failed.{Failed}
@@ -42,7 +42,7 @@ use Rattle.fab_gather.specs.Walked.{Walked}
 use Rattle.fab_gather.proofs.SlotLemmas.{same_length}
 use Rattle.fab_gather.proofs.WalkedLemmas.{walked_on}
 use Rattle.fab_windows.proofs.FileLemmas.{files_stay}
-use Rattle.fab_windows.proofs.TurnLemmas.{not_err, read_touches, reached_on, ended_writing, ended_gathering, ended_closing, ended_unwritten, but_on, files_now}
+use Rattle.fab_windows.proofs.TurnLemmas.{read_touches, reached_on, ended_writing, ended_gathering, ended_closing, ended_unwritten, but_on, files_now}
 
 length-batches : (shelves : List Shelf) → length (batches_of shelves) ≡ length shelves
 length-batches [] = refl
@@ -66,7 +66,7 @@ handles_by w shelves F G H E events outs t f after es sents ranged =
 
 -- a window that was gathered: no fault was counted
 pub read_well : {c : Settings} {first w : ℕ} {a b : Seen} {ins ins' : List Input} {shelves shelves' : List Shelf} {had left : Budget} → Gathers c first w (walk_at a ins shelves had) (walk_at b ins' shelves' left) (Ok tt) → NoFaults a b
-read_well t = (t.counts (λ is. not_err is), t.writes)
+read_well t = (t.counts, t.writes)
 
 module _ (laws : Laws) (k : Task) (w first : ℕ) (F : Contents) (d : Seen) (ins : List Input) (shelves : List Shelf) (left : Budget) (r : Reached k w first F (walk_at d ins shelves left))
     (b : Seen) (ins' : List Input) (shelves' : List Shelf) (left' : Budget) (t : Gathers k.settings first w (walk_at d ins shelves left) (walk_at b ins' shelves' left') (Ok tt))
@@ -152,16 +152,13 @@ module _ (laws : Laws) (k : Task) (w first : ℕ) (F : Contents) (d : Seen) (ins
     ended_publishing e x =
         ended_writing laws k (w + 1) first E b ins' shelves' left' reached_after z x.touches x.reads e x.only
         (λ told. let f = files told in record { before = Some f.before; begins = goes_on f.before f.begins; hold = x.front (told_b told) (text f.before) (text r.entry_list) (text K) (captures c (length k.outs) f.before) (captures c (length k.outs) r.entry_list) (captures c (length k.outs) K) f.hold lines_here records_here })
-        (λ y. x.cause (ap (λ v. Err v) y)) (λ no. x.counts (λ is. no (error_is e is)))
-      where
-        error_is : (f : RunFault) → IsErrOf {T = Unit {0}} (Err f) fault.Write → f ≡ fault.Write
-        error_is f is = cc
+        (λ y. x.cause (ap (λ v. Err v) y)) x.counts
 
     module _ (done done' : Done) (frames : done.frames ≡ frame_count r.entry_list) (entries : done.entries ≡ length r.entry_list) where
       pub going_on : Publishes (file_slots k.journal k.outs) (lines_from (unwrap_or F.state.tables.clock 0) events) (map (sent_of F.settings events) outs) (paged_at b p) (paged_at z p') (Ok tt) →
           done'.frames ≡ done.frames + frame_count events → done'.entries ≡ done.entries + length events → Going k (w + 1) first E (walk_at z ins' shelves' left') done' p'
       going_on x more_frames more_entries = record {
-        reached = reached_on laws k (w + 1) first E b ins' shelves' left' reached_after z x.touches x.reads (x.counts (λ is. not_err is));
+        reached = reached_on laws k (w + 1) first E b ins' shelves' left' reached_after z x.touches x.reads x.counts;
         files = λ told.
             let f = files told in
             elim (x.whole (told_b told) (text f.before) (text r.entry_list) (text K) (captures c (length k.outs) f.before) (captures c (length k.outs) r.entry_list) (captures c (length k.outs) K) f.hold lines_here records_here) [

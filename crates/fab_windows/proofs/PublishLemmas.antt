@@ -94,7 +94,7 @@ module _ (journal : ℕ) (outs lines : List ℕ) (sents : List Sent) (p : Pendin
     cause = λ x. absurd (cc);
     only = tt;
     reads = λ n. refl;
-    counts = λ x n. refl;
+    counts = λ n. refl;
   }
 
   module _ (m : Pending) (lines_are : m.lines ≡ p.lines ++ lines) (are : (q : ℕ) → q < length outs → piece_at m.pieces q ≡ piece_at p.pieces q ++ records_to (q + 1) sents) where
@@ -114,7 +114,7 @@ module _ (journal : ℕ) (outs lines : List ℕ) (sents : List Sent) (p : Pendin
       cause = λ x. absurd (cc);
       only = tt;
       reads = λ n. refl;
-      counts = λ x n. refl;
+      counts = λ n. refl;
     }
 
     module _ (b : Seen) where
@@ -126,7 +126,7 @@ module _ (journal : ℕ) (outs lines : List ℕ) (sents : List Sent) (p : Pendin
         cause = λ is. absurd (cc);
         only = tt;
         reads = x.reads;
-        counts = λ no. x.counts;
+        counts = x.counts;
       }
 
       pub publishes_front : (p' : Pending) (f : Failed) → Writes journal outs m.lines m.pieces a b (Err f) → Publishes (file_slots journal outs) lines sents (paged_at a p) (paged_at b p') (Err fault.Write)
@@ -137,7 +137,7 @@ module _ (journal : ℕ) (outs lines : List ℕ) (sents : List Sent) (p : Pendin
         cause = λ is. write_cause journal outs m.lines m.pieces a b f x;
         only = tt;
         reads = x.reads;
-        counts = λ no. absurd (no refl);
+        counts = tt;
       }
 
 -- ---- pages that are short

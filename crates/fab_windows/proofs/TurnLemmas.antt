@@ -1,7 +1,6 @@
 -- One window after another: how a turn ends, and what stands after it.
 use Rattle.std.proofs.Common.{◌≡◌, ◌≢◌, ℕ, ◌<◌, ◌≤◌, ◌⊎◌, inl, inr, List, length, Some, IsTrue, Result, Ok, Err, refl, sym, ap, ◌∙◌, subst, arith}
-use Rattle.std.specs.Prelude.{IsErrOf}
-use Rattle.fab_base.specs.Ending.{NoFaults}
+use Rattle.fab_base.specs.Ending.{End, Said, Read, Write, Memory, NoFaults, SparesReads, SparesWrites}
 use Rattle.fab_base.specs.Seen.{Seen, Touches, Nothing, Rose, SameReadFaults, SameWriteFaults}
 use Rattle.fab_base.specs.declared.values.Failed.{Failed}
 use Rattle.fab_base.proofs.SeenLemmas.{rose_later, touches_trans, touches_wider}
@@ -18,13 +17,14 @@ use Rattle.pcap_file.specs.declared.fault.GatherFault.{GatherFault}
 use Rattle.pcap_file.specs.declared.fault.GatherFault.TheVariants as gather
 use Rattle.fab_gather.specs.Port.{ending}
 use Rattle.pcap_file.specs.Faults as gathering
-use Rattle.run_files.specs.Faults.{IsStopped, fault_from}
-use Rattle.fab_base.proofs.EndingLemmas.{none_then}
+use Rattle.pcap_file.specs.Faults.{gather_end}
+use Rattle.run_files.specs.Faults.{IsStopped, fault_from, run_end}
+use Rattle.fab_base.proofs.EndingLemmas.{none_then, spares_writes_then}
 use Rattle.fab_base.specs.Slots.{name_of, NameIn}
 use Rattle.fab_gather.specs.Ports.{slots_of, AreInputs, stop_from, walk_at}
 use Rattle.fab_windows.specs.declared.Done.{Done}
 use Rattle.fab_windows.specs.Files.{AreFiles, Written, Pending, Wholes, WholesBut, Fronts, Writes}
-use Rattle.fab_windows.specs.Run.{Interrupted, Stopped, Ends}
+use Rattle.fab_windows.specs.Run.{Interrupted, Stopped, Ends, SparesFaults}
 use Rattle.fab_windows.specs.Turns.{Laws, Task, captures_in, start_of, Touched, Reached, Ended, IsUnwritten}
 use Rattle.fab_gather.specs.Gather.{Gathers}
 use Rattle.fab_gather.proofs.SlotLemmas.{inputs_stay, length-slots, name_in}
@@ -41,8 +41,7 @@ abbrev Causes : Task → Seen → RunFault → Type 0
 Causes k d e =
     (e ≡ fault.Read → (q : ℕ) × (q < length k.ins) × Rose (k.seen.read_faults (name_of k.seen (slots_of k.ins) q)) (d.read_faults (name_of k.seen (slots_of k.ins) q)))
     × (e ≡ fault.Write → (m : List ℕ) × Written k.seen k.journal k.outs m × Rose (k.seen.write_faults m) (d.write_faults m))
-    × (e ≢ fault.Read → e ≢ fault.Write → SameReadFaults k.seen d)
-    × (e ≢ fault.Write → SameWriteFaults k.seen d)
+    × SparesFaults (run_end e) k.seen d
 
 error_is : (r : Result Done RunFault) (x y : RunFault) → r ≡ Err x → r ≡ Err y → x ≡ y
 error_is r x y h k = cc
@@ -57,10 +56,7 @@ ended k d e touches stop read front causes = record {
   ends = λ told. by_fault e (stop told) (read told) (front told);
   read = λ is. causes.0 (error_is (Err e) e fault.Read refl is);
   write = λ is. causes.1 (error_is (Err e) e fault.Write refl is);
-  counts = record {
-    reads = λ x y. causes.2 (λ is. x (ap (λ f. Err f) is)) (λ is. y (ap (λ f. Err f) is));
-    writes = λ y. causes.3 (λ is. y (ap (λ f. Err f) is));
-  };
+  counts = causes.2;
 }
   where
     by_fault : (f : RunFault) → (IsStopped f → Stopped k.settings k.budget (captures_in k) d k.journal k.outs f) →
@@ -77,9 +73,12 @@ ended k d e touches stop read front causes = record {
 rose_longer : (a b c : ℕ) → Rose a b → b ≤ c → Rose a c
 rose_longer a b c rose le = omega (arith, rose, le)
 
--- work that was done ended with no fault
-pub not_err : {E : Type 0} {e : E} → IsErrOf {T = Unit {0}} (Ok tt) e → ⊥
-not_err is = cc
+-- a call that counts no fault of reading
+spares_faults : (end : End) (a b : Seen) → SameReadFaults a b → SparesWrites end a b → SparesFaults end a b
+spares_faults Said a b reads writes = (reads, writes)
+spares_faults Read a b reads writes = (tt, writes)
+spares_faults Write a b reads writes = tt
+spares_faults Memory a b reads writes = (reads, writes)
 
 -- ---- what a fault of gathering ends a run with
 
@@ -100,6 +99,13 @@ no_write_from (gather.Capture port at why) is = cc
 no_write_from (gather.Limit kind) is = cc
 no_write_from gather.Read is = cc
 no_write_from gather.Memory is = cc
+
+-- what was gathered between calls that count none
+pub gathering_spares : (e : GatherFault) (a b c d : Seen) → NoFaults a b → SparesReads (gather_end e) b c → SameWriteFaults b c → NoFaults c d → SparesFaults (run_end (fault_from e)) a d
+gathering_spares (gather.Capture port at why) a b c d before reads writes after = none_then a b d before (none_then b c d (reads, writes) after)
+gathering_spares (gather.Limit kind) a b c d before reads writes after = none_then a b d before (none_then b c d (reads, writes) after)
+gathering_spares gather.Read a b c d before reads writes after = (tt, λ m. after.1 m ∙ writes m ∙ before.1 m)
+gathering_spares gather.Memory a b c d before reads writes after = none_then a b d before (none_then b c d (reads, writes) after)
 
 -- ---- from where a run has come
 
@@ -168,8 +174,7 @@ module _ (laws : Laws) (k : Task) (w first : ℕ) (F : Contents) (d : Seen) (ins
       -- refused memory, before anything of the window is written
       pub ended_unwritten : NoFaults d b → Ended k b fault.Memory
       ended_unwritten same =
-          let all = none_then k.seen d b r.faults same in
-          ended k b fault.Memory read_touches (λ told x. absurd x) (λ told x. absurd (cc)) (λ told x. front_on told) (λ x. absurd (cc), λ x. absurd (cc), λ x y. all.0, λ x. all.1)
+          ended k b fault.Memory read_touches (λ told x. absurd x) (λ told x. absurd (cc)) (λ told x. front_on told) (λ x. absurd (cc), λ x. absurd (cc), none_then k.seen d b r.faults same)
 
       -- then all is written that was still to be
       module _ (z : Seen) where
@@ -186,7 +191,7 @@ module _ (laws : Laws) (k : Task) (w first : ℕ) (F : Contents) (d : Seen) (ins
         pub ended_closing : (f : Failed) → Writes k.journal k.outs p.lines p.pieces b z (Err f) → Ended k z fault.Write
         ended_closing f x =
             ended k z fault.Write (then_touches x.touches) (λ told y. absurd y) (λ told y. absurd (cc)) (λ told y. fronts_then x told)
-            (λ y. absurd (cc), λ y. let rose = write_cause k.journal k.outs p.lines p.pieces b z f x in (rose.0, written_then rose.0 rose.1, rose_later _ _ _ (read_touches.writes_rise rose.0) rose.2), λ x y. absurd (y refl), λ y. absurd (y refl))
+            (λ y. absurd (cc), λ y. let rose = write_cause k.journal k.outs p.lines p.pieces b z f x in (rose.0, written_then rose.0 rose.1, rose_later _ _ _ (read_touches.writes_rise rose.0) rose.2), tt)
 
   -- a fault while the window is gathered, behind which all is written that was still to be
   pub ended_gathering : (p : Pending) → (IsTrue k.seen.told → WholesBut p k.settings d k.journal k.outs r.entry_list) → (b : Seen) (ins' : List Input) (shelves' : List Shelf) (left' : Budget) (e : GatherFault) →
@@ -200,12 +205,8 @@ module _ (laws : Laws) (k : Task) (w first : ℕ) (F : Contents) (d : Seen) (ins
       (λ told y. fronts_then b t.touches p files z x told) (
         λ y. let cause = t.cause (ap (λ v. Err v) (read_from e y)) in let rose = rose_on b t.touches cause.0 cause.1 cause.2 in (rose.0, rose.1, rose_longer _ _ _ rose.2 (x.touches.reads_rise _)),
         λ y. absurd (no_write_from e y),
-        λ not_read not_write m. x.reads m ∙ t.counts (λ is. not_read (ap fault_from (error_of e is))) m ∙ r.faults.0 m,
-        λ not_write m. x.counts m ∙ t.writes m ∙ r.faults.1 m,
+        gathering_spares e k.seen d b z r.faults t.counts t.writes (x.reads, x.counts),
       )
-    where
-      error_of : (f : GatherFault) → IsErrOf {T = Unit {0}} (Err f) gather.Read → f ≡ gather.Read
-      error_of f is = cc
 
   -- ---- writing keeps what is to come
 
@@ -233,14 +234,13 @@ module _ (laws : Laws) (k : Task) (w first : ℕ) (F : Contents) (d : Seen) (ins
 
     -- a window that can't be written: beginnings of its journal
     pub ended_writing : (e : RunFault) → IsUnwritten e → (IsTrue k.seen.told → Fronts k.settings z k.journal k.outs r.entry_list) →
-        (e ≡ fault.Write → (m : List ℕ) × Written d k.journal k.outs m × Rose (d.write_faults m) (z.write_faults m)) → (e ≢ fault.Write → SameWriteFaults d z) → Ended k z e
+        (e ≡ fault.Write → (m : List ℕ) × Written d k.journal k.outs m × Rose (d.write_faults m) (z.write_faults m)) → SparesWrites (run_end e) d z → Ended k z e
     ended_writing e only front cause counts =
         ended k z e write_touches (λ told x. absurd (not_both e only x)) (λ told x. absurd (subst IsUnwritten x only))
         (λ told x. interrupted_here told (Fronts k.settings z k.journal k.outs) (front told)) (
           λ x. absurd (subst IsUnwritten x only),
           λ x. let rose = cause x in (rose.0, written_now rose.0 rose.1, rose_later _ _ _ (r.touches.writes_rise rose.0) rose.2),
-          λ x y m. reads m ∙ r.faults.0 m,
-          λ y m. counts y m ∙ r.faults.1 m,
+          spares_faults (run_end e) k.seen z (λ m. reads m ∙ r.faults.0 m) (spares_writes_then (run_end e) k.seen d z r.faults.1 counts),
         )
       where
         not_both : (f : RunFault) → IsUnwritten f → IsStopped f → ⊥

@@ -1,7 +1,8 @@
 -- What a run over captures leaves in its files, however it ends.
 use Rattle.std.specs.Prelude.{◌≡◌, ℕ, ◌<◌, ◌⊎◌, IsTrue, List, [], length, map, Some, None, Result, Ok, Err, IsErrOf}
 use Rattle.std.specs.List.{All}
-use Rattle.fab_base.specs.Seen.{Seen, Rose, Touches, SameReadFaults, SameWriteFaults}
+use Rattle.fab_base.specs.Ending.{End, Write, end_by, SparesReads, SparesWrites}
+use Rattle.fab_base.specs.Seen.{Seen, Rose, Touches}
 use Rattle.fab_config.specs.Settings.{Settings}
 use Rattle.pcap_file.specs.declared.Budget.{Budget}
 use Rattle.pcap_file.specs.declared.Record.{Record}
@@ -19,7 +20,7 @@ use Rattle.fab_base.specs.Slots.{name_of, NameIn}
 use Rattle.fab_gather.specs.Ports.{slots_of, AreInputs}
 use Rattle.fab_gather.specs.Reads.{IsWhole}
 use Rattle.fab_windows.specs.declared.Done.{Done}
-use Rattle.run_files.specs.Faults.{fault_from}
+use Rattle.run_files.specs.Faults.{fault_from, run_end}
 use Rattle.fab_windows.specs.Files.{Written, FileSlots, AreFiles, Wholes, Fronts}
 
 -- ---- what is handed in
@@ -78,12 +79,11 @@ Ends c budget ins d journal outs (Err fault.Read) = Interrupted c budget ins (Wh
 Ends c budget ins d journal outs (Err fault.Write) = Interrupted c budget ins (Fronts c d journal outs)
 Ends c budget ins d journal outs (Err fault.Memory) = Interrupted c budget ins (Fronts c d journal outs)
 
--- No fault of the store is passed over: none of writing is counted where the answer isn't `Write`, and none of reading where it's
--- neither `Read` nor `Write`, which also says that the files can't be written behind a fault of reading. So want of memory never
--- stands for one.
-pub record TellsFaults (old new : Seen) (result : Result Done RunFault) : Type 0 where
-  pub reads : ¬ IsErrOf result fault.Read → ¬ IsErrOf result fault.Write → SameReadFaults old new
-  pub writes : ¬ IsErrOf result fault.Write → SameWriteFaults old new
+-- No fault of the store is passed over. Where a run ends in one of writing, one of reading may have been counted too, behind which what
+-- was still to be written couldn't be.
+abbrev pub SparesFaults : End → Seen → Seen → Type 0
+SparesFaults Write old new = Unit {0}
+SparesFaults end old new = SparesReads end old new × SparesWrites end old new
 
 -- A run over captures.
 pub record Runs (c : Settings) (old : Start) (new : Seen) (files : FileSlots) (result : Result Done RunFault) : Type 0 where
@@ -92,4 +92,4 @@ pub record Runs (c : Settings) (old : Start) (new : Seen) (files : FileSlots) (r
   pub read : IsErrOf result fault.Read →
       (q : ℕ) × (q < length old.ins) × Rose (old.seen.read_faults (name_of old.seen (slots_of old.ins) q)) (new.read_faults (name_of old.seen (slots_of old.ins) q))
   pub write : IsErrOf result fault.Write → (m : List ℕ) × Written old.seen files.journal files.outs m × Rose (old.seen.write_faults m) (new.write_faults m)
-  pub counts : TellsFaults old.seen new result
+  pub counts : SparesFaults (end_by run_end result) old.seen new

@@ -1,7 +1,7 @@
 -- What stands between the windows of a run, and what its parts do. Of the public clauses only that of the laws cites it.
 use Rattle.std.specs.Prelude.{◌≡◌, ℕ, ◌+◌, ◌<◌, ◌≤◌, ◌^◌, ◌⊎◌, IsTrue, IfSome, List, [], ◌++◌, length, map, Option, Some, unwrap_or, Result, Ok, Err, OnOk, IfErr, IsErrOf}
-use Rattle.fab_base.specs.Ending.{NoFaults}
-use Rattle.fab_base.specs.Seen.{Seen, Touches, Rose, SameReadFaults, SameWriteFaults}
+use Rattle.fab_base.specs.Ending.{NoFaults, end_by, SparesWrites}
+use Rattle.fab_base.specs.Seen.{Seen, Touches, Rose, SameReadFaults}
 use Rattle.fab_base.specs.declared.values.Failed.{Failed}
 use Rattle.fab_config.specs.Settings.{Settings}
 use Rattle.pcap_file.specs.declared.Budget.{Budget}
@@ -18,6 +18,7 @@ use Rattle.fab_messages.specs.declared.message.Out.{Out}
 use Rattle.forward_core.specs.Fabric.{AreRanged}
 use Rattle.fab_gather.specs.declared.shelf.Input.{Input}
 use Rattle.fab_gather.specs.declared.shelf.Shelf.{Shelf}
+use Rattle.run_files.specs.Faults.{run_end}
 use Rattle.run_files.specs.declared.fault.RunFault.{RunFault}
 use Rattle.run_files.specs.declared.fault.RunFault.TheVariants as fault
 use Rattle.fab_gather.specs.First.{Start, start_at, opened_in, IsNextWindow}
@@ -177,7 +178,7 @@ pub record Publishes (files : FileSlots) (lines : List ℕ) (sents : List Sent) 
   pub cause : IsErrOf result fault.Write → (m : List ℕ) × Written old.seen files.journal files.outs m × Rose (old.seen.write_faults m) (new.seen.write_faults m)
   pub only : IfErr result IsUnwritten
   pub reads : SameReadFaults old.seen new.seen
-  pub counts : ¬ IsErrOf result fault.Write → SameWriteFaults old.seen new.seen
+  pub counts : SparesWrites (end_by run_end result) old.seen new.seen
 
 -- What stands once the next window was gathered from where a run had come.
 pub record Gathered (k : Task) (w first : ℕ) (F : Contents) (new : Walk) (done : Done) (p : Pending) : Type 0 where

@@ -31,7 +31,7 @@ use Rattle.fab_windows.specs.Run.{IsRunOver}
 use Rattle.fab_windows.specs.declared.Done.{Done}
 use Rattle.fab_live.specs.Arriving.{arrive, arrived, of_face, recorded, port_records, records_of}
 use Rattle.fab_live.specs.Files.{LiveSlots, LiveNames, AreLive}
-use Rattle.fab_live.specs.Live.{AreGiven, HoldLive, HoldSome, IsLiveRun, LeftWhole, LeftBroken, LiveFinished, LiveEnds, LiveRuns, TellsFaults, Begins}
+use Rattle.fab_live.specs.Live.{AreGiven, HoldLive, HoldSome, IsLiveRun, LeftWhole, LeftBroken, LiveFinished, LiveEnds, LiveRuns, Begins}
 use Rattle.fab_live.specs.declared.fault.LiveFault.{LiveFault}
 use Rattle.fab_live.specs.declared.fault.LiveFault.TheVariants as fault
 use Rattle.fab_replay.proofs.OneLemmas.{same_frames}
@@ -468,48 +468,44 @@ module _ (words : List (String Global)) (live : is_live words ≡ true) (safe : 
         refused told packets why (inl whole) = inr (inl (halted IsBegun told packets why whole))
         refused told packets why (inr broken) = inr (inr (front told packets why broken.1, broken.0))
 
-      -- an end that tells no fault of the depot
-      silent : (b : Seen) (x : Result Done LiveFault) → TellsFaults a b x → (x ≡ Err fault.Read → ⊥) → (x ≡ Err fault.Write → ⊥) → NoFaults old b
-      silent b x counts read write = none_then old a b quiet_a (counts.reads read, counts.writes write)
-
       pub live_ended : (b : Seen) (x : Result Done LiveFault) → LiveRuns c LIMITS stream fs a b x → LiveHolds kk old b (lived_by x)
-      live_ended b (Ok done) x = (others b x.touches, λ told. finished b x.touches done told (x.ends (told_a told)), silent b (Ok done) x.counts (λ is. cc) (λ is. cc))
+      live_ended b (Ok done) x = (others b x.touches, λ told. finished b x.touches done told (x.ends (told_a told)), none_then old a b quiet_a x.counts)
       live_ended b (Err (fault.Block at why)) x =
-          (others b x.touches, λ told. let e = x.ends (told_a told) in halted b x.touches (IsFaulty at why) told e.0 e.1 e.2, silent b (Err (fault.Block at why)) x.counts (λ is. cc) (λ is. cc))
+          (others b x.touches, λ told. let e = x.ends (told_a told) in halted b x.touches (IsFaulty at why) told e.0 e.1 e.2, none_then old a b quiet_a x.counts)
       live_ended b (Err (fault.Port face)) x = (
         others b x.touches,
         λ told. let e = x.ends (told_a told) in halted b x.touches (IsNoPort kk face) told e.0 (e.1, e.2, e.3, e.4, let le = e.5 in omega (arith, le, r.width.1)) e.6,
-        silent b (Err (fault.Port face)) x.counts (λ is. cc) (λ is. cc),
+        none_then old a b quiet_a x.counts,
       )
       live_ended b (Err (fault.Limit kinds.Bytes)) x =
-          (others b x.touches, λ told. let e = x.ends (told_a told) in halted b x.touches (IsPast kk kinds.Bytes) told e.0 e.1 e.2, silent b (Err (fault.Limit kinds.Bytes)) x.counts (λ is. cc) (λ is. cc))
+          (others b x.touches, λ told. let e = x.ends (told_a told) in halted b x.touches (IsPast kk kinds.Bytes) told e.0 e.1 e.2, none_then old a b quiet_a x.counts)
       live_ended b (Err (fault.Limit kinds.Frames)) x =
-          (others b x.touches, λ told. let e = x.ends (told_a told) in halted b x.touches (IsPast kk kinds.Frames) told e.0 e.1 e.2, silent b (Err (fault.Limit kinds.Frames)) x.counts (λ is. cc) (λ is. cc))
+          (others b x.touches, λ told. let e = x.ends (told_a told) in halted b x.touches (IsPast kk kinds.Frames) told e.0 e.1 e.2, none_then old a b quiet_a x.counts)
       live_ended b (Err (fault.Limit kinds.Span)) x = (
         others b x.touches,
         λ told. let e = x.ends (told_a told) in halted b x.touches (IsPast kk kinds.Span) told e.0 (e.1, e.2, e.3, (let lt = e.4 in omega (arith, lt, r.width.1)), e.5) e.6,
-        silent b (Err (fault.Limit kinds.Span)) x.counts (λ is. cc) (λ is. cc),
+        none_then old a b quiet_a x.counts,
       )
       live_ended b (Err fault.Read) x =
-          let rose = x.read refl in
+          let rose = x.counts.0 in
           let named : Rose (a.read_faults kk.stream) (b.read_faults kk.stream) = subst (λ name. Rose (a.read_faults name) (b.read_faults name)) stream_open.name_ rose in
           let since = rose_later (old.read_faults kk.stream) (a.read_faults kk.stream) (b.read_faults kk.stream) (rise_reads kk.stream) named in (
             others b x.touches,
             inr (inl since),
             λ told. let e = x.ends (told_a told) in inr (inr (since, halted b x.touches IsBegun told e.0 e.1 e.2)),
-            λ name. x.counts.writes (λ is. cc) name ∙ quiet_a.1 name,
+            λ name. x.counts.1 name ∙ quiet_a.1 name,
           )
       live_ended b (Err fault.Write) x =
-          let rose = x.write refl in
+          let rose = x.counts.0 in
           let all = kk.journal ∷ by_port kk.ins kk.outs in
           let among = written_among words live a files.journal files.ins.items files.outs.items r.slots r.width.0 r.width.1 rose.0 rose.1 in (
             others b x.touches,
             rose_since old.write_faults a.write_faults b.write_faults rise_writes all (rose_among a.write_faults b.write_faults all rose.0 among rose.2),
             λ told. let e = x.ends (told_a told) in front b x.touches told e.0 e.1 e.2,
-            λ name. x.counts.reads (λ is. cc) name ∙ quiet_a.0 name,
+            λ name. x.counts.1 name ∙ quiet_a.0 name,
           )
       live_ended b (Err fault.Memory) x =
-          (others b x.touches, λ told. let e = x.ends (told_a told) in refused b x.touches told e.0 e.1 e.2, silent b (Err fault.Memory) x.counts (λ is. cc) (λ is. cc))
+          (others b x.touches, λ told. let e = x.ends (told_a told) in refused b x.touches told e.0 e.1 e.2, none_then old a b quiet_a x.counts)
 
 -- ---- the lists as they are lent
 

@@ -24,7 +24,7 @@ use Rattle.fab_gather.specs.declared.shelf.Input.{Input}
 use Rattle.run_files.specs.declared.fault.RunFault.{RunFault}
 use Rattle.run_files.specs.declared.fault.RunFault.TheVariants as faults
 use Rattle.fab_windows.specs.Files.{Written, FileBytes, file_bytes, file_slots, Wholes, Fronts, HoldsFrom, InOrder, captures, text_so_far, captures_so_far}
-use Rattle.fab_windows.specs.Run.{AreGiven, IsRunOver, Runs, TellsFaults, Finished, Stopped, Interrupted, keeps}
+use Rattle.fab_windows.specs.Run.{AreGiven, IsRunOver, Runs, Finished, Stopped, Interrupted, keeps}
 use Rattle.fab_windows.specs.declared.Done.{Done}
 use Rattle.fab_replay.proofs.OneLemmas.{same_frames}
 use Rattle.fabric_tool.specs.Command.{RunNames, Run, are_pairs, run_of, port_count, input_at, KeepsOthers}
@@ -394,21 +394,17 @@ module _ (words : List (String Global)) (run : are_pairs words ≡ true) (c : Se
       files = holds_fronts i.entry_list i.files;
     }
 
-  -- an end of the windows that tells no fault of the depot
-  silent : (r : Result Done RunFault) → TellsFaults a b r → (r ≡ Err faults.Read → ⊥) → (r ≡ Err faults.Write → ⊥) → NoFaults old b
-  silent r counts read write = none_then old a b quiet (counts.reads read write, counts.writes write)
-
   pub windows_ended : (r : Result Done RunFault) → Runs c (start_at a ins budget) b (file_slots journal outs) r → RunHolds k old b (ran_by r)
-  windows_ended (Ok done) r = (others r.touches, λ told. finished r.touches done told (r.ends (told_a told)), silent (Ok done) r.counts (λ is. cc) (λ is. cc))
+  windows_ended (Ok done) r = (others r.touches, λ told. finished r.touches done told (r.ends (told_a told)), none_then old a b quiet r.counts)
   windows_ended (Err (faults.Capture port at why)) r = (
     others r.touches,
     λ told. inr (stopped r.touches (faults.Capture port at why) told (r.ends (told_a told))),
-    silent (Err (faults.Capture port at why)) r.counts (λ is. cc) (λ is. cc),
+    none_then old a b quiet r.counts,
   )
   windows_ended (Err (faults.Limit kind)) r = (
     others r.touches,
     λ told. stopped r.touches (faults.Limit kind) told (r.ends (told_a told)),
-    silent (Err (faults.Limit kind)) r.counts (λ is. cc) (λ is. cc),
+    none_then old a b quiet r.counts,
   )
   windows_ended (Err faults.Read) r =
       let rose = r.read refl in
@@ -420,7 +416,7 @@ module _ (words : List (String Global)) (run : are_pairs words ≡ true) (c : Se
         others r.touches,
         inr unread,
         λ told. inr (inr (unread, interrupted_whole r.touches told (r.ends (told_a told)))),
-        λ m. r.counts.writes (λ is. cc) m ∙ quiet.1 m,
+        λ m. r.counts.1 m ∙ quiet.1 m,
       )
   windows_ended (Err faults.Write) r =
       let rose = r.write refl in
@@ -430,4 +426,4 @@ module _ (words : List (String Global)) (run : are_pairs words ≡ true) (c : Se
         rose_since old.write_faults a.write_faults b.write_faults le (k.journal ∷ k.outs) (rose_among a.write_faults b.write_faults (k.journal ∷ k.outs) rose.0 among rose.2),
         λ told. inr (interrupted_front r.touches told (r.ends (told_a told))),
       )
-  windows_ended (Err faults.Memory) r = (others r.touches, λ told. inr (interrupted_front r.touches told (r.ends (told_a told))), silent (Err faults.Memory) r.counts (λ is. cc) (λ is. cc))
+  windows_ended (Err faults.Memory) r = (others r.touches, λ told. inr (interrupted_front r.touches told (r.ends (told_a told))), none_then old a b quiet r.counts)

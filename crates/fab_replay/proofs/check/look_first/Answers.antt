@@ -1,12 +1,11 @@
 use Rattle.std.proofs.Common.{[], Err, refl, sym, subst}
 use Rattle.fab_gather.specs.Ports.{slots_of}
-use Rattle.pcap_file.specs.declared.fault.GatherFault.TheVariants as gather_fault
 use Rattle.fab_gather.proofs.LeavesLemmas.{takes_none}
 use Rattle.fab_replay.specs.Check.{task_of}
 use Rattle.fab_replay.specs.Windows.{Ends, scene_of}
 use Rattle.fab_replay.specs.declared.fault.CheckFault.TheVariants as fault
 use Rattle.fab_replay.proofs.BeginLemmas.{ends_looks, going_begin}
-use Rattle.fab_replay.proofs.CountLemmas.{counts_gathering, counts_none, not_ok}
+use Rattle.fab_replay.proofs.CountLemmas.{counts_gathering, counts_none}
 use Rattle.fab_replay.proofs.GoLemmas.{ended_refused}
 use Rattle.fab_replay.proofs.LeaveLemmas.{along_none, left_line}
 use Rattle.fab_replay.proofs.RemainLemmas.{stays_refused}
@@ -65,5 +64,5 @@ returns g c =
           c.next_window.result c.config.result.now c.deref.result.now c.unwrap_or-first.result c.next_window.ensures.least c.config.ensures c.deref.ensures.value c.unwrap_or-first.ensures
           refl c.requires.count c.requires.state c.requires.nothing.0 c.requires.nothing.1 c.first_place-place.ensures.behind c.first_place-place.ensures.inside;
       takes = t.takes;
-      counts = (t.counts (not_ok c.in-Ok.shelves gather_fault.Read), t.writes);
+      counts = (t.counts, t.writes);
     }

@@ -5,11 +5,10 @@ use Rattle.fab_gather.proofs.LeavesLemmas.{takes_none, takes_then}
 use Rattle.fab_gather.proofs.SlotLemmas.{same_length}
 use Rattle.fab_gather.specs.First.{IsNextWindow}
 use Rattle.fab_gather.specs.Ports.{AreInputs, AreReady}
-use Rattle.pcap_file.specs.declared.fault.GatherFault.TheVariants as gather_fault
 use Rattle.fab_replay.specs.Lines.{IsInside}
 use Rattle.fab_replay.specs.Owed.{AreMany}
 use Rattle.fab_replay.specs.Windows.{Ends}
-use Rattle.fab_replay.proofs.CountLemmas.{counts_gathering, counts_on, counts_then, not_ok}
+use Rattle.fab_replay.proofs.CountLemmas.{counts_gathering, counts_on, counts_then}
 use Rattle.fab_replay.proofs.GoLemmas.{ends_gathering, gathers_as, inputs_now, next_here, outputs_b, turned, window_here}
 use Rattle.fab_replay.proofs.ResultLemmas.{told_on}
 use Rattle.fab_replay.proofs.windows.check_windows.Goals as goal
@@ -100,7 +99,7 @@ returns-in_err-check_gathered g c =
       count = e.advances.count ∙ l.invariant.count;
       takes = takes_then c.args.ins.now l.ins c.gather.new.ins c.args.budget.now l.budget c.gather.new.budget l.invariant.takes t.takes;
       counts = counts_then (seen c.args.depot.now) (seen l.depot) (seen n.depot) r l.invariant.counts
-          (counts_then (seen l.depot) (seen c.gather.new.depot) (seen n.depot) r (t.counts (not_ok tt gather_fault.Read), t.writes) (counts_on (seen c.gather.new.depot) (seen n.depot) f r c.from_residual.ensures.1 e.counts));
+          (counts_then (seen l.depot) (seen c.gather.new.depot) (seen n.depot) r (t.counts, t.writes) (counts_on (seen c.gather.new.depot) (seen n.depot) f r c.from_residual.ensures.1 e.counts));
     }
 
 pub windows-preserved : goal.windows-preserved
@@ -121,7 +120,7 @@ windows-preserved g c =
       count = e.advances.count ∙ l.invariant.count;
       takes = takes_then c.args.ins.now l.ins c.gather.new.ins c.args.budget.now l.budget c.gather.new.budget l.invariant.takes gathered.takes;
       counts = (
-        λ m. e.counts.0 m ∙ gathered.counts (not_ok tt gather_fault.Read) m ∙ l.invariant.counts.0 m,
+        λ m. e.counts.0 m ∙ gathered.counts m ∙ l.invariant.counts.0 m,
         λ m. e.counts.1 m ∙ gathered.writes m ∙ l.invariant.counts.1 m,
       );
     }
