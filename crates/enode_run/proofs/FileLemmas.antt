@@ -6,7 +6,7 @@ use Rattle.fab_base.specs.Ending.{End, end_by, Uses}
 use Rattle.fab_base.specs.Seen.{Seen, SameFiles, Nothing, Only, OpensIn, OpensOut, PutsAll}
 use Rattle.fab_base.specs.declared.values.Failed.{Failed}
 use Rattle.fab_base.proofs.SeenLemmas.{told_stays}
-use Rattle.fab_base.proofs.EndingLemmas.{uses_refused, uses_then, uses_wider, rose_only, opens_in_uses, opens_out_uses, puts_all_uses}
+use Rattle.fab_base.proofs.EndingLemmas.{uses_refused, uses_then, uses_wider, opens_in_uses, opens_out_uses, puts_all_uses}
 use Rattle.pcap_file.specs.declared.Budget.{Budget}
 use Rattle.pcap_file.specs.declared.Record.{Record}
 use Rattle.pcap_file.specs.Faults.{gather_end}
@@ -137,7 +137,7 @@ module _ (own : Identity) (start : ℕ) (from to : List ℕ) (budget : Budget) (
   stopped_by : (g : GatherFault) → ReadsInput start from budget a b (Err g) → RunsNode (node_task own start from to budget) a b (Err (fault_from g))
   stopped_by (gather.Capture port at why) h = (same h.uses, λ told. h.stops told tt)
   stopped_by (gather.Limit kind) h = (same h.uses, λ told. h.stops told tt)
-  stopped_by gather.Read h = (same h.uses, rose_only from a.read_faults b.read_faults h.uses.counts.0)
+  stopped_by gather.Read h = same h.uses
   stopped_by gather.Memory h = same h.uses
 
   pub stopped : (g : GatherFault) (e : RunFault) → e ≡ fault_from g → ReadsInput start from budget a b (Err g) → RunsNode (node_task own start from to budget) a b (Err e)
@@ -183,7 +183,4 @@ module _ (own : Identity) (start : ℕ) (from to : List ℕ) (budget : Budget) (
           files.Front t.bytes records at.given n t.found t.says at.begins (e ∙ ap (λ (l : List ℕ). Some (take n l)) (is_file ∙ at.holds))
 
       pub unwritten_run : (failed : Failed) → WritesFile {T = Unit {0}} {E = Failed} to bytes b c (Err failed) → RunsNode (node_task own start from to budget) a c (Err faults.Write)
-      unwritten_run failed w = (
-        rose_only to a.write_faults c.write_faults (run_uses bytes c (Err failed) w).counts.0,
-        λ told. front (w.part (told_then told)) told,
-      )
+      unwritten_run failed w = λ told. front (w.part (told_then told)) told

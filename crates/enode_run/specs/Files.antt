@@ -1,6 +1,6 @@
 -- What a node does with files: a capture that its port receives, and the capture of what it sends.
 use Rattle.std.specs.Prelude.{◌≡◌, ℕ, if◌then◌else◌, IsTrue, List, take, Some, Result, Ok, Err}
-use Rattle.fab_base.specs.Seen.{Seen, SameFiles, Rose}
+use Rattle.fab_base.specs.Seen.{Seen, SameFiles}
 use Rattle.pcap_file.specs.declared.Budget.{Budget}
 use Rattle.pcap_file.specs.declared.Record.{Record}
 use Rattle.pcap_file.specs.declared.fault.LimitKind.TheVariants as limit
@@ -74,6 +74,6 @@ abbrev pub RunsNode : NodeTask → Seen → Seen → Result Phase RunFault → T
 RunsNode task old new (Ok phase) = IsTrue old.told → Played task old new phase
 RunsNode task old new (Err (faults.Capture port at why)) = SameFiles old new × (IsTrue old.told → IsUntaken task.start task.from task.budget old (gather.Capture port at why))
 RunsNode task old new (Err (faults.Limit kind)) = SameFiles old new × (IsTrue old.told → IsUntaken task.start task.from task.budget old (gather.Limit kind))
-RunsNode task old new (Err faults.Read) = SameFiles old new × Rose (old.read_faults task.from) (new.read_faults task.from)
-RunsNode task old new (Err faults.Write) = Rose (old.write_faults task.to) (new.write_faults task.to) × (IsTrue old.told → IsFront task old new)
+RunsNode task old new (Err faults.Read) = SameFiles old new
+RunsNode task old new (Err faults.Write) = IsTrue old.told → IsFront task old new
 RunsNode task old new (Err faults.Memory) = SameFiles old new

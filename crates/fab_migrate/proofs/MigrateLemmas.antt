@@ -1,14 +1,18 @@
 -- Migrating a file: the input is read whole, and then the output is written.
-use Rattle.std.proofs.Common.{◌≡◌, ℕ, ◌≤◌, IsTrue, List, [], length, take, Some, Ok, Err, sym, ap, ◌∙◌, subst, arith}
+use Rattle.std.proofs.Common.{◌≡◌, ℕ, ◌≤◌, IsTrue, List, [], length, take, Some, Ok, Err, refl, sym, ap, ◌∙◌, subst}
 use Rattle.std.specs.Prelude.{Result, Vec}
 use Rattle.std.specs.declared.alloc.Global.{Global}
-use Rattle.fab_base.specs.Ending.{NoFaults, CountsRead}
-use Rattle.fab_base.specs.Seen.{Seen, Reads, Rose, OpensIn, OpensOut, PutsAll, SameReadFaults}
+use Rattle.fab_base.specs.Ending.{End, Read, Write, end_by, CountsRead, Uses}
+use Rattle.fab_base.specs.Seen.{Seen, Reads, Nothing, Only, OpensIn, OpensOut, PutsAll}
+use Rattle.fab_base.specs.Whole as base
 use Rattle.fab_base.specs.declared.values.Failed.{Failed}
-use Rattle.fab_base.proofs.SeenLemmas.{reads_trans, reads_touches, told_stays, rose_later}
+use Rattle.fab_base.specs.declared.whole.WholeError.{WholeError}
+use Rattle.fab_base.specs.declared.whole.WholeError.TheVariants as wholes
+use Rattle.fab_base.proofs.SeenLemmas.{reads_trans, told_stays}
+use Rattle.fab_base.proofs.EndingLemmas.{uses_refused, uses_then, uses_wider, uses_read, opens_in_uses, opens_out_uses, puts_all_uses}
 use Rattle.fab_migrate.specs.Migrating.{Migrates, SaysOld, Untouched, Begun, old_end}
 use Rattle.fab_migrate.specs.Old.{IsOld, new_text}
-use Rattle.fab_migrate.specs.OldWords.{Rewrites, WholeRead}
+use Rattle.fab_migrate.specs.OldWords.{Rewrites, WholeRead, old_error_of}
 use Rattle.fab_migrate.specs.declared.old.MigrateError.TheVariants as ends
 use Rattle.fab_migrate.specs.declared.old.OldError.{OldError}
 use Rattle.fab_migrate.specs.declared.old.OldError.TheVariants as olds
@@ -22,29 +26,39 @@ module _ (from to : List ℕ) (slot limit : ℕ) (a b c : Seen) (opens : OpensIn
   told_b : IsTrue a.told → IsTrue b.told
   told_b told = told_stays from a b opens.reads.keeps told
 
-  reads : (result : Result (Vec ℕ Global) OldError) → WholeRead slot limit b c result → Reads from a c
+  reads : (result : Result (Vec ℕ Global) WholeError) → base.WholeRead slot limit b c result → Reads from a c
   reads result r = reads_trans from a b c opens.reads (subst (λ n. Reads n b c) is_name r.reads)
 
-  -- no fault was counted so far
-  none_counted : (result : Result (Vec ℕ Global) OldError) → WholeRead slot limit b c result → SameReadFaults b c → NoFaults a c
-  none_counted result r counts = (λ m. counts m ∙ opens.counts m, λ m. r.reads.writes m ∙ opens.reads.writes m)
+  counted : (result : Result (Vec ℕ Global) WholeError) → base.WholeRead slot limit b c result → CountsRead (b.name slot) (end_by base.whole_end result) b c
+  counted (Ok v) r = (r.counts, r.reads.writes)
+  counted (Err wholes.Bytes) r = (r.counts, r.reads.writes)
+  counted (Err (wholes.Read f)) r = (r.whole, r.reads.writes)
+  counted (Err wholes.Memory) r = (r.counts, r.reads.writes)
+
+  -- the input alone was used
+  input_uses : (result : Result (Vec ℕ Global) WholeError) → base.WholeRead slot limit b c result → Uses (Only from) (Only to) (end_by base.whole_end result) a c
+  input_uses result r =
+      let end = end_by base.whole_end result in
+      uses_wider (Only from) Nothing (Only from) (Only to) (λ m x. x) (λ m none. absurd none) end a c
+      (uses_then (Only from) Nothing end a b c (opens_in_uses a b from (Ok slot) opens) (subst (λ n. Uses (Only n) Nothing end b c) is_name (uses_read (b.name slot) end b c r.reads (counted result r))))
 
   -- ---- the input isn't read whole
 
-  unread_cause : (e : OldError) → WholeRead slot limit b c (Err e) → CountsRead from (old_end e) a c
-  unread_cause (olds.Fault line fault) r = absurd r.whole
-  unread_cause olds.Bytes r = none_counted (Err olds.Bytes) r r.counts
-  unread_cause (olds.Read f) r = (rose_later _ _ _ opens.reads.keeps.reads_rise (subst (λ n. Rose (b.read_faults n) (c.read_faults n)) is_name r.whole), (reads (Err (olds.Read f)) r).writes)
-  unread_cause olds.Memory r = none_counted (Err olds.Memory) r r.counts
+  same_end : (e : WholeError) → old_end (old_error_of e) ≡ base.whole_end e
+  same_end wholes.Bytes = refl
+  same_end (wholes.Read f) = refl
+  same_end wholes.Memory = refl
 
-  unread_says : (e : OldError) → WholeRead slot limit b c (Err e) → IsTrue a.told → SaysOld from limit a e
-  unread_says (olds.Fault line fault) r told = absurd r.whole
-  unread_says olds.Bytes r told = (b.left slot, opens.left told, r.whole (told_b told))
-  unread_says (olds.Read f) r told = tt
-  unread_says olds.Memory r told = tt
+  pub unread_uses : (error : OldError) → WholeRead slot limit b c (Err error) → Uses (Only from) (Only to) (old_end error) a c
+  unread_uses error (e, is, r) = subst (λ end. Uses (Only from) (Only to) end a c) (sym (ap old_end is ∙ same_end e)) (input_uses (Err e) r)
 
-  pub unread : (e : OldError) → WholeRead slot limit b c (Err e) → Migrates from to limit a c (Err (ends.Input e))
-  unread e r = ((reads (Err e) r).files, unread_cause e r, unread_says e r)
+  unread_says : (e : WholeError) → base.WholeRead slot limit b c (Err e) → IsTrue a.told → SaysOld from limit a (old_error_of e)
+  unread_says wholes.Bytes r told = (b.left slot, opens.left told, r.whole (told_b told))
+  unread_says (wholes.Read f) r told = tt
+  unread_says wholes.Memory r told = tt
+
+  pub unread : (error : OldError) → WholeRead slot limit b c (Err error) → Migrates from to limit a c (Err (ends.Input error))
+  unread error (e, is, r) = subst (λ (x : OldError). Migrates from to limit a c (Err (ends.Input x))) (sym is) ((reads (Err e) r).files, unread_says e r)
 
   module _ (v : Vec ℕ Global) (r : WholeRead slot limit b c (Ok v)) where
     told_c : IsTrue a.told → IsTrue c.told
@@ -56,16 +70,13 @@ module _ (from to : List ℕ) (slot limit : ℕ) (a b c : Seen) (opens : OpensIn
     within : IsTrue a.told → length v.items ≤ limit
     within told = (r.whole (told_b told)).1
 
-    counts_kept : NoFaults a c
-    counts_kept = none_counted (Ok v) r r.counts
-
     -- ---- the input isn't rewritten
 
-    unrewritten_cause : (e : OldError) → Rewrites v.items (Err e) → CountsRead from (old_end e) a c
-    unrewritten_cause (olds.Fault line fault) w = counts_kept
-    unrewritten_cause olds.Bytes w = absurd w
-    unrewritten_cause (olds.Read f) w = absurd w
-    unrewritten_cause olds.Memory w = counts_kept
+    pub unrewritten_uses : (e : OldError) → Rewrites v.items (Err e) → Uses (Only from) (Only to) (old_end e) a c
+    unrewritten_uses (olds.Fault line fault) w = input_uses (Ok v) r
+    unrewritten_uses olds.Bytes w = absurd w
+    unrewritten_uses (olds.Read f) w = absurd w
+    unrewritten_uses olds.Memory w = uses_refused (Only from) (Only to) a c (input_uses (Ok v) r)
 
     unrewritten_says : (e : OldError) → Rewrites v.items (Err e) → IsTrue a.told → SaysOld from limit a e
     unrewritten_says (olds.Fault line fault) w told = (v.items, found told, within told, w)
@@ -74,14 +85,25 @@ module _ (from to : List ℕ) (slot limit : ℕ) (a b c : Seen) (opens : OpensIn
     unrewritten_says olds.Memory w told = tt
 
     pub unrewritten : (e : OldError) → Rewrites v.items (Err e) → Migrates from to limit a c (Err (ends.Input e))
-    unrewritten e w = ((reads (Ok v) r).files, unrewritten_cause e w, unrewritten_says e w)
+    unrewritten e w = ((reads (Ok v) r).files, unrewritten_says e w)
+
+    -- ---- what is used
+
+    -- and then the output
+    both_uses : (end : End) (e : Seen) → Uses Nothing (Only to) end c e → Uses (Only from) (Only to) end a e
+    both_uses end e written = uses_then (Only from) (Only to) end a c e (input_uses (Ok v) r) (uses_wider Nothing (Only to) (Only from) (Only to) (λ m none. absurd none) (λ m x. x) end c e written)
+
+    pub unopened_uses : (d : Seen) (failed : Failed) → OpensOut {E = Failed} to c d (Err failed) → Uses (Only from) (Only to) Write a d
+    unopened_uses d failed o = both_uses Write d (opens_out_uses c d to (Err failed) o)
+
+    pub output_uses : (out : ℕ) (d e : Seen) (bytes : List ℕ) → OpensOut {E = Failed} to c d (Ok out) → (x : Result (Unit {0}) Failed) → PutsAll {T = Unit {0}} {E = Failed} out bytes d e x → Uses (Only from) (Only to) (end_by (λ f. Write) x) a e
+    output_uses out d e bytes o x p =
+        let end = end_by (λ f. Write) x in
+        both_uses end e (uses_then Nothing (Only to) end c d e (opens_out_uses c d to (Ok out) o) (subst (λ n. Uses Nothing (Only n) end d e) o.opened.2 (puts_all_uses d e out bytes x p)))
 
     module _ (n : Rewritten) (w : Rewrites v.items (Ok n)) where
-      writes_kept : a.write_faults to ≤ c.write_faults to
-      writes_kept = (reads_touches from a c (reads (Ok v) r)).writes_rise to
-
       pub unopened : (d : Seen) (failed : Failed) → OpensOut {E = Failed} to c d (Err failed) → Migrates from to limit a d (Err (ends.Write failed))
-      unopened d failed o = (rose_later _ _ _ writes_kept o.cause, λ told. Untouched (o.same ∙ (reads (Ok v) r).files to), λ m. o.reads m ∙ counts_kept.0 m)
+      unopened d failed o = λ told. Untouched (o.same ∙ (reads (Ok v) r).files to)
 
       -- ---- the output
 
@@ -99,29 +121,25 @@ module _ (from to : List ℕ) (slot limit : ℕ) (a b c : Seen) (opens : OpensIn
         all = made ∙ w.2
 
         pub front : (failed : Failed) → PutsAll {T = Unit {0}} {E = Failed} out bytes d e (Err failed) → Migrates from to limit a e (Err (ends.Write failed))
-        front failed p = (
-          rose_later _ _ _ (omega (arith, writes_kept, o.keeps.writes_rise)) (subst (λ n. Rose (d.write_faults n) (e.write_faults n)) is_out p.cause),
-          λ told.
-              let part = p.part (told_d told) [] (empty told) in
-              Begun v.items w.0 part.0 (found told) (within told) w.1 (subst (λ n. e.file n ≡ Some (take part.0 bytes)) is_out part.1 ∙ ap (λ (l : List ℕ). Some (take part.0 l)) all),
-          λ m. p.reads m ∙ o.reads m ∙ counts_kept.0 m,
-        )
+        front failed p = λ told.
+            let part = p.part (told_d told) [] (empty told) in
+            Begun v.items w.0 part.0 (found told) (within told) w.1 (subst (λ n. e.file n ≡ Some (take part.0 bytes)) is_out part.1 ∙ ap (λ (l : List ℕ). Some (take part.0 l)) all)
 
         pub migrated : PutsAll {T = Unit {0}} {E = Failed} out bytes d e (Ok tt) → Migrates from to limit a e (Ok n.entries)
-        migrated p = (
-          (λ m. p.reads m ∙ o.reads m ∙ counts_kept.0 m, λ m. p.counts m ∙ o.counts m ∙ counts_kept.1 m),
-          λ told.
-              let output : e.file to ≡ Some (new_text w.0) = subst (λ n. e.file n ≡ Some bytes) is_out (p.grown (told_d told) [] (empty told)) ∙ ap (λ (l : List ℕ). Some l) all in
-              record {
-                bytes = v.items;
-                lines = w.0;
-                found = found told;
-                within = within told;
-                is = w.1;
-                output = output;
-                counted = w.3;
-                journal = λ J ranged text.
-                    let same = (migrated_to J ranged).is_new w.0 (subst (λ (l : List ℕ). IsOld l w.0) text w.1) in
-                    (output ∙ ap (λ (l : List ℕ). Some l) same.0, w.3 ∙ same.1);
-              },
-        )
+        migrated p = λ told.
+            let output : e.file to ≡ Some (new_text w.0) = subst (λ n. e.file n ≡ Some bytes) is_out (p.grown (told_d told) [] (empty told)) ∙ ap (λ (l : List ℕ). Some l) all in
+            record {
+              bytes = v.items;
+              lines = w.0;
+              found = found told;
+              within = within told;
+              is = w.1;
+              output = output;
+              counted = w.3;
+              journal = λ J ranged text.
+                  let same = (migrated_to J ranged).is_new w.0 (subst (λ (l : List ℕ). IsOld l w.0) text w.1) in
+                  (output ∙ ap (λ (l : List ℕ). Some l) same.0, w.3 ∙ same.1);
+            }
+
+pub unopened_input : (from to : List ℕ) (a b : Seen) (failed : Failed) → OpensIn {E = Failed} from a b (Err failed) → Uses (Only from) (Only to) Read a b
+unopened_input from to a b failed o = uses_wider (Only from) Nothing (Only from) (Only to) (λ m x. x) (λ m none. absurd none) Read a b (opens_in_uses a b from (Err failed) o)

@@ -1,8 +1,8 @@
 -- What migrating the journal in one file to another file does.
 use Rattle.std.specs.Prelude.{◌≡◌, ℕ, ◌≤◌, ◌<◌, List, length, take, IsTrue, Some, Result, Ok, Err}
 use Rattle.fab_base.specs.Ending as ending
-use Rattle.fab_base.specs.Ending.{End, NoFaults, CountsRead}
-use Rattle.fab_base.specs.Seen.{Seen, SameFiles, SameReadFaults, Rose}
+use Rattle.fab_base.specs.Ending.{End}
+use Rattle.fab_base.specs.Seen.{Seen, SameFiles}
 use Rattle.fab_policy.specs.Journal.{Journal}
 use Rattle.fab_policy.specs.Ranged.{IsRanged}
 use Rattle.fab_policy.specs.Text.{text, text1}
@@ -27,6 +27,11 @@ old_end errors.Bytes = ending.Said
 old_end (errors.Read failed) = ending.Read
 old_end errors.Memory = ending.Memory
 
+-- the same of the call
+abbrev pub migrating_end : MigrateError → End
+migrating_end (ends.Input e) = old_end e
+migrating_end (ends.Write failed) = ending.Write
+
 -- The input that was found is a journal of format 1 within the limit, and the output is the same in format 2. So where the
 -- input is the text of a journal in format 1, the output is its text in format 2.
 pub record Migrated (from to : List ℕ) (limit : ℕ) (old new : Seen) (count : ℕ) : Type 0 where
@@ -46,6 +51,6 @@ pub data IsNewFront (from to : List ℕ) (limit : ℕ) (old new : Seen) : Type 0
 
 -- How migrating ends. The output is opened only behind the whole input: an error of the input leaves every file.
 abbrev pub Migrates : List ℕ → List ℕ → ℕ → Seen → Seen → Result ℕ MigrateError → Type 0
-Migrates from to limit old new (Ok count) = NoFaults old new × (IsTrue old.told → Migrated from to limit old new count)
-Migrates from to limit old new (Err (ends.Input e)) = SameFiles old new × CountsRead from (old_end e) old new × (IsTrue old.told → SaysOld from limit old e)
-Migrates from to limit old new (Err (ends.Write failed)) = Rose (old.write_faults to) (new.write_faults to) × (IsTrue old.told → IsNewFront from to limit old new) × SameReadFaults old new
+Migrates from to limit old new (Ok count) = IsTrue old.told → Migrated from to limit old new count
+Migrates from to limit old new (Err (ends.Input e)) = SameFiles old new × (IsTrue old.told → SaysOld from limit old e)
+Migrates from to limit old new (Err (ends.Write failed)) = IsTrue old.told → IsNewFront from to limit old new

@@ -1,8 +1,8 @@
 //! The journal in one file, migrated to another.
-ghost use Rattle.std.specs.Prelude.{◌⊎◌, IsTrue};
-ghost use Rattle.fab_base.specs.Ending.{KeepsBut};
-ghost use Rattle.fab_base.specs.Seen.{Touches, Only};
-ghost use Rattle.fab_migrate.specs.Migrating.{Migrates};
+ghost use Rattle.std.specs.Prelude.{IsTrue};
+ghost use Rattle.fab_base.specs.Ending.{Uses, end_by};
+ghost use Rattle.fab_base.specs.Seen.{Only};
+ghost use Rattle.fab_migrate.specs.Migrating.{Migrates, migrating_end};
 
 use crate::old::{MigrateError, OldError, in_format_two};
 use crate::whole::read_whole;
@@ -21,8 +21,8 @@ pub fn migrate<D: Depot>(
     requires from { IsTrue ((D.seen depot.old).knows from.now) }
     requires to { IsTrue ((D.seen depot.old).knows to.now) }
     ensures migrates { Migrates from.now to.now limit (D.seen depot.old) (D.seen depot.new) result }
-    ensures others { KeepsBut to.now (D.seen depot.old) (D.seen depot.new) }
-    ensures touches { Touches (Only to.now) (λ m. Only from.now m ⊎ Only to.now m)
+    // No other file changes. No other answer, want of memory neither, hides a fault of the store.
+    ensures uses { Uses (Only from.now) (Only to.now) (end_by migrating_end result)
         (D.seen depot.old) (D.seen depot.new) }
 {
     let slot = match depot.open_in(from) {

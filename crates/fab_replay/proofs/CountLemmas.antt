@@ -7,22 +7,22 @@ use Rattle.fab_base.proofs.EndingLemmas.{spares_none, spares_reads_then}
 use Rattle.pcap_file.specs.Faults.{gather_end}
 use Rattle.pcap_file.specs.declared.fault.GatherFault.{GatherFault}
 use Rattle.pcap_file.specs.declared.fault.GatherFault.TheVariants as gather_fault
-use Rattle.fab_replay.specs.Counts.{TellsFaults, check_end}
+use Rattle.fab_replay.specs.Counts.{check_end}
 use Rattle.fab_replay.specs.Windows.{check_fault}
 use Rattle.fab_replay.specs.declared.fault.CheckFault.{CheckFault}
 use Rattle.fab_replay.proofs.ResultLemmas.{err_is}
 
 -- nothing was called
-pub counts_none : {T : Type 0} (a : Seen) (r : Result T CheckFault) → TellsFaults a a r
+pub counts_none : {T : Type 0} (a : Seen) (r : Result T CheckFault) → SparesReads (end_by check_end r) a a × SameWriteFaults a a
 counts_none a r = (spares_none (end_by check_end r) a, λ m. refl)
 
 -- what counted none, and then the rest
-pub counts_then : {T : Type 0} (a b d : Seen) (r : Result T CheckFault) → NoFaults a b → TellsFaults b d r → TellsFaults a d r
+pub counts_then : {T : Type 0} (a b d : Seen) (r : Result T CheckFault) → NoFaults a b → SparesReads (end_by check_end r) b d × SameWriteFaults b d → SparesReads (end_by check_end r) a d × SameWriteFaults a d
 counts_then a b d r none t = (spares_reads_then (end_by check_end r) a b d none.0 t.0, λ m. t.1 m ∙ none.1 m)
 
 -- a fault that is handed on
-pub counts_on : {T : Type 0} (a b : Seen) (e : CheckFault) (r : Result T CheckFault) → IsErrAnd r (λ x. x ≡ e) → SparesReads (check_end e) a b × SameWriteFaults a b → TellsFaults a b r
-counts_on a b e r is h = subst (λ y. TellsFaults a b y) (err_is r e is) h
+pub counts_on : {T : Type 0} (a b : Seen) (e : CheckFault) (r : Result T CheckFault) → IsErrAnd r (λ x. x ≡ e) → SparesReads (check_end e) a b × SameWriteFaults a b → SparesReads (end_by check_end r) a b × SameWriteFaults a b
+counts_on a b e r is h = subst (λ y. SparesReads (end_by check_end y) a b × SameWriteFaults a b) (err_is r e is) h
 
 -- a fault of gathering
 same_end : (f : GatherFault) → check_end (check_fault f) ≡ gather_end f

@@ -5,8 +5,8 @@ use Rattle.std.specs.declared.alloc.Global.{Global}
 use Rattle.std.proofs.lemmas.Bool.{eqb-true, eqb-false}
 use Rattle.std.proofs.lemmas.List.{append-nil}
 use Rattle.std.proofs.lemmas.Option.{slice_get_within}
-use Rattle.fab_base.specs.Ending.{end_by}
-use Rattle.fab_base.specs.Seen.{Seen, Touches, Nothing}
+use Rattle.fab_base.specs.Ending.{end_by, SparesReads}
+use Rattle.fab_base.specs.Seen.{Seen, Touches, Nothing, SameWriteFaults}
 use Rattle.fab_base.specs.declared.values.Failed.{Failed}
 use Rattle.fab_base.proofs.EndingLemmas.{spares_reads}
 use Rattle.fab_base.proofs.SeenLemmas.{touches_trans, touches_wider}
@@ -20,7 +20,7 @@ use Rattle.fab_policy.specs.Journal.{Journal}
 use Rattle.fab_policy.specs.Text.{egress}
 use Rattle.pcap_file.specs.Capture.{head_bytes}
 use Rattle.fab_replay.specs.AllOutputs.{AreRead, FinishesEach, IsFirst, page_at}
-use Rattle.fab_replay.specs.Counts.{TellsFaults, check_end}
+use Rattle.fab_replay.specs.Counts.{check_end}
 use Rattle.fab_replay.specs.Outputs.{IsCompared, IsRead}
 use Rattle.fab_replay.specs.Owed.{AreMany, AreNew, IsOwed, PagesGrow, ReadsOn, ReadsOut, answer_by}
 use Rattle.fab_replay.specs.declared.fault.CheckFault.{CheckFault}
@@ -119,7 +119,7 @@ module _ (slots : List ℕ) (a b : Seen) (o o' : Owed) (are : AreInputs a slots)
         subst (λ (n : ℕ). IsFirst first n found (λ q. wanted q ++ page_at o.pages.items q)) r.many.all
         (f.first (subst IsTrue (sym r.touches.told) told) found (λ q. wanted q ++ page_at o.pages.items q) (r.read told found wanted h))
 
-    counts_out : (first : Option (ℕ × ℕ)) → FinishesEach slots b d o'.all.items (Ok first) → (result : Result (Unit {0}) CheckFault) → TellsFaults a d result
+    counts_out : (first : Option (ℕ × ℕ)) → FinishesEach slots b d o'.all.items (Ok first) → (result : Result (Unit {0}) CheckFault) → SparesReads (end_by check_end result) a d × SameWriteFaults a d
     counts_out first f result = (spares_reads (end_by check_end result) a d (λ other m. f.counts m ∙ r.counts m), λ m. f.writes m ∙ r.writes m)
 
     pub out_told : (first : Option (ℕ × ℕ)) → FinishesEach slots b d o'.all.items (Ok first) → ReadsOut slots a d o (answer_by first)

@@ -1,5 +1,6 @@
 -- The outputs between two lines and between two windows. No public clause cites this module.
 use Rattle.std.specs.Prelude.{◌≡◌, ℕ, ◌+◌, ◌<◌, ◌^◌, IsTrue, List, [], ◌∷◌, ◌++◌, length, slice_get, Option, None, Some, Result, Ok, Err, OnOk, OnErr, IsErrOf, IfErr}
+use Rattle.fab_base.specs.Ending.{end_by, SparesReads}
 use Rattle.fab_base.specs.Seen.{Seen, Touches, Nothing, SameReadFaults, SameWriteFaults}
 use Rattle.fab_base.specs.declared.values.Failed.{Failed}
 use Rattle.fab_config.specs.Settings.{Settings}
@@ -10,7 +11,7 @@ use Rattle.fab_policy.specs.Text.{egress}
 use Rattle.fab_base.specs.Slots.{NameIn, slot_at}
 use Rattle.fab_pages.specs.Pages.{piece_at}
 use Rattle.fab_replay.specs.AllOutputs.{AreRead, IsFirst, OneRose, page_at}
-use Rattle.fab_replay.specs.Counts.{TellsFaults}
+use Rattle.fab_replay.specs.Counts.{check_end}
 use Rattle.fab_replay.specs.Outputs.{IsRead}
 use Rattle.fab_replay.specs.declared.fault.CheckFault.{CheckFault}
 use Rattle.fab_replay.specs.declared.fault.CheckFault.TheVariants as fault
@@ -85,4 +86,4 @@ pub record ReadsOut (slots : List ℕ) (a b : Seen) (o : Owed) (result : Result 
   pub tells : IsTrue a.told → (found wanted : ℕ → List ℕ) → AreRead a slots o.all.items found wanted → Tells (length slots) found (λ q. wanted q ++ page_at o.pages.items q) result
   pub only : IfErr result IsOfOutput
   pub cause : IsErrOf result fault.Read → OneRose slots a b
-  pub counts : TellsFaults a b result
+  pub counts : SparesReads (end_by check_end result) a b × SameWriteFaults a b

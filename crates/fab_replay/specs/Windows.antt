@@ -1,6 +1,7 @@
 -- What stands between the windows of a check. No public clause cites this module.
 use Rattle.std.specs.Prelude.{◌≡◌, ℕ, ◌+◌, ◌<◌, ◌≤◌, IsTrue, IfSome, List, length, MatchResult, None, Some, Result, Err, slice_get}
-use Rattle.fab_base.specs.Seen.{Seen, Touches, Nothing}
+use Rattle.fab_base.specs.Ending.{end_by, SparesReads}
+use Rattle.fab_base.specs.Seen.{Seen, Touches, Nothing, SameWriteFaults}
 use Rattle.pcap_file.specs.declared.Record.{Record}
 use Rattle.fab_policy.specs.Journal.{Journal}
 use Rattle.fab_policy.specs.Legal.{of_port}
@@ -13,7 +14,7 @@ use Rattle.fab_base.specs.Slots.{NameIn}
 use Rattle.fab_gather.specs.Ports.{AreInputs, TakesFrom, Walk}
 use Rattle.fab_gather.specs.Walked.{Walked}
 use Rattle.fab_replay.specs.Check.{Checks, Leaves, Task, captures_in, matter_of, slots_in}
-use Rattle.fab_replay.specs.Counts.{TellsFaults}
+use Rattle.fab_replay.specs.Counts.{check_end}
 use Rattle.fab_replay.specs.Lines.{IsInside}
 use Rattle.fab_replay.specs.Owed.{AreMany, IsOwed}
 use Rattle.fab_replay.specs.Steps.{Scene, IsAlong, IsIdle, IsReached}
@@ -96,7 +97,7 @@ pub record Turns (w : Written) (a b : Stand) (result : Result (Unit {0}) CheckFa
   pub settings : b.fabric.settings ≡ a.fabric.settings
   pub count : b.fabric.count ≡ a.fabric.count
   pub takes : TakesFrom a.walk.ins b.walk.ins a.walk.left b.walk.left
-  pub counts : TellsFaults a.walk.seen b.walk.seen result
+  pub counts : SparesReads (end_by check_end result) a.walk.seen b.walk.seen × SameWriteFaults a.walk.seen b.walk.seen
 
 -- ---- one window
 

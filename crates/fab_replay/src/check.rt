@@ -1,11 +1,13 @@
 //! A journal checked against captures whose heads were read, and against outputs.
 ghost use Rattle.std.specs.Prelude.{◌≡◌, ◌++◌, ◌+◌, ◌<◌, ◌≤◌, Bool, IfErr, IsTrue, MatchBool, MatchResult, Err, None, length, [], false};
+ghost use Rattle.fab_base.specs.Ending.{SparesReads, end_by};
+ghost use Rattle.fab_base.specs.Seen.{SameWriteFaults};
 ghost use Rattle.fab_gather.specs.First.{AreFresh};
 ghost use Rattle.fab_gather.specs.Ports.{AreInputs, TakesFrom, slots_of, walk_at};
 ghost use Rattle.fab_policy.specs.Journal.{Journal};
 ghost use Rattle.fab_policy.specs.Outputs.{state_of};
 ghost use Rattle.fab_replay.specs.Check.{Checks, Leaves, matter_in, Task, task_of};
-ghost use Rattle.fab_replay.specs.Counts.{TellsFaults};
+ghost use Rattle.fab_replay.specs.Counts as spec;
 ghost use Rattle.fab_replay.specs.Front.{expects_tick, has_left};
 ghost use Rattle.fab_replay.specs.Lines.{IsInside, IsOfLine, behind_by};
 ghost use Rattle.fab_replay.specs.Steps.{IsAlong, IsFound, IsReached, Left, Scene};
@@ -61,7 +63,8 @@ pub fn check_captures<D: Depot>(
     ensures settings { fabric.new.settings ≡ fabric.old.settings }
     ensures count { fabric.new.count ≡ fabric.old.count }
     ensures takes { TakesFrom ins.old ins.new budget.old budget.new }
-    ensures counts { TellsFaults (D.seen depot.old) (D.seen depot.new) result }
+    ensures counts { SparesReads (end_by spec.check_end result) (D.seen depot.old)
+        (D.seen depot.new) × SameWriteFaults (D.seen depot.old) (D.seen depot.new) }
 {
     // For the checker: a fault that is handed on by `?` holds these enums.
     let _verdicts: &[Verdict] = &[];
@@ -93,7 +96,8 @@ fn look_first<D: Depot>(
         (walk_at (D.seen depot.new) ins.new b.shelves.items budget.new)))
         (λ e. Ends k (D.seen depot.new) fabric.now (Err e)) }
     ensures takes { TakesFrom ins.old ins.new budget.old budget.new }
-    ensures counts { TellsFaults (D.seen depot.old) (D.seen depot.new) result }
+    ensures counts { SparesReads (end_by spec.check_end result) (D.seen depot.old)
+        (D.seen depot.new) × SameWriteFaults (D.seen depot.old) (D.seen depot.new) }
 {
     let place = first_place(written.journal);
     let owed = Owed::new(alloc, written.outs.len())?;
@@ -126,7 +130,8 @@ fn check_begun<D: Depot>(
     ensures settings { fabric.new.settings ≡ fabric.old.settings }
     ensures count { fabric.new.count ≡ fabric.old.count }
     ensures takes { TakesFrom ins.old ins.new budget.old budget.new }
-    ensures counts { TellsFaults (D.seen depot.old) (D.seen depot.new) result }
+    ensures counts { SparesReads (end_by spec.check_end result) (D.seen depot.old)
+        (D.seen depot.new) × SameWriteFaults (D.seen depot.old) (D.seen depot.new) }
 {
     // Law: which looks are left, what was read and what a stop keeps; Checks ends with them.
     laws_of_windows();

@@ -1,11 +1,12 @@
 //! The windows of the captures: each is gathered, and then its lines checked.
 ghost use Rattle.std.specs.Prelude.{◌≡◌, ℕ, Bool, IsErrOf, IsTrue, MatchResult, OnOk, length};
-ghost use Rattle.fab_base.specs.Seen.{Nothing, Seen, Touches};
+ghost use Rattle.fab_base.specs.Ending.{SparesReads, end_by};
+ghost use Rattle.fab_base.specs.Seen.{Nothing, SameWriteFaults, Seen, Touches};
 ghost use Rattle.fab_base.specs.Slots.{NameIn};
 ghost use Rattle.fab_gather.specs.Ports.{AreInputs, walk_at};
 ghost use Rattle.fab_policy.specs.Journal.{Journal};
 ghost use Rattle.fab_replay.specs.AllOutputs.{OneRose};
-ghost use Rattle.fab_replay.specs.Counts.{TellsFaults};
+ghost use Rattle.fab_replay.specs.Counts.{check_end};
 ghost use Rattle.fab_replay.specs.Owed.{AreMany, IsOwed};
 ghost use Rattle.fab_replay.specs.Steps.{Advances, AreCounted, ChecksLines, IsAlong, IsBefore, IsFound, IsGathered, IsReached, Left, Scene, spot_at};
 ghost use Rattle.fab_replay.specs.Windows as spec;
@@ -124,7 +125,8 @@ fn check_gathered<D: Depot>(
         (D.seen depot.old) (D.seen depot.new) }
     ensures cause { IsErrOf result CheckFault.Read
         → OneRose written.now.outs.now (D.seen depot.old) (D.seen depot.new) }
-    ensures counts { TellsFaults (D.seen depot.old) (D.seen depot.new) result }
+    ensures counts { SparesReads (end_by check_end result) (D.seen depot.old) (D.seen depot.new)
+        × SameWriteFaults (D.seen depot.old) (D.seen depot.new) }
 {
     // For the checker: a fault that is handed on by `?` holds these enums.
     let _verdicts: &[Verdict] = &[];

@@ -1,13 +1,12 @@
 -- One file, written piece by piece.
-use Rattle.std.proofs.Common.{◌≡◌, ℕ, ◌≤◌, List, [], ◌++◌, take, drop, flat_map, Some, Ok, Err, IsTrue, refl, sym, ap, ◌∙◌, subst, append_assoc, OnOk}
-use Rattle.std.specs.Prelude.{Result, IfErr}
+use Rattle.std.proofs.Common.{◌≡◌, ℕ, inr, List, [], ◌++◌, take, drop, flat_map, Some, Ok, Err, IsTrue, refl, sym, ap, ◌∙◌, subst, append_assoc, OnOk}
+use Rattle.std.specs.Prelude.{Result}
 use Rattle.std.proofs.lemmas.List.{append-nil, take-append-drop}
 use Rattle.std.proofs.lemmas.List.Concat.{flat_map-append}
 use Rattle.fab_base.specs.Ending.{end_by}
-use Rattle.fab_base.specs.Seen.{Seen, Rose, PutsAll}
-use Rattle.fab_base.proofs.EndingLemmas.{spares_writes_then}
+use Rattle.fab_base.specs.Seen.{Seen, Nothing, Only, PutsAll}
+use Rattle.fab_base.proofs.EndingLemmas.{uses_none, uses_refused, uses_then, puts_all_uses}
 use Rattle.fab_base.specs.declared.values.Failed.{Failed}
-use Rattle.fab_base.proofs.SeenLemmas.{rose_later, keeps_refl, keeps_trans, output_stays, output_name, told_stays}
 use Rattle.fab_vectors.specs.Files.{AddsTo, Adds, make_end}
 use Rattle.fab_vectors.specs.declared.MakeFault.{MakeFault}
 use Rattle.fab_vectors.specs.declared.MakeFault.TheVariants as fault
@@ -15,80 +14,65 @@ use Rattle.fab_vectors.specs.declared.MakeFault.TheVariants as fault
 -- nothing was added yet
 pub adds_none : {T : Type 0} (t : T) (name : List ℕ) (a : Seen) → AddsTo {T = T} name [] a a (Ok t)
 adds_none t name a = record {
-  keeps = keeps_refl name a;
+  uses = uses_none Nothing (Only name) a;
   whole = λ told had is. is ∙ ap Some (sym (append-nil had));
   front = λ told had is. ([], [], is ∙ ap Some (sym (append-nil had)), refl);
-  cause = tt;
-  counts = λ m. refl;
-  reads = λ m. refl;
 }
 
 -- memory was refused before anything was added
 pub adds_refused : {T : Type 0} (name bytes : List ℕ) (a : Seen) → AddsTo {T = T} name bytes a a (Err fault.Memory)
 adds_refused name bytes a = record {
-  keeps = keeps_refl name a;
+  uses = uses_refused Nothing (Only name) a a (uses_none Nothing (Only name) a);
   whole = λ told had is. tt;
   front = λ told had is. ([], bytes, is ∙ ap Some (sym (append-nil had)), refl);
-  cause = λ e. absurd (cc);
-  counts = λ m. refl;
-  reads = λ m. refl;
 }
 
 -- a put that failed
 pub adds_failed : (s : ℕ) (bytes : List ℕ) (a b : Seen) (e : Failed) → PutsAll {T = Unit {0}} {E = Failed} s bytes a b (Err e) → Adds {T = Unit {0}} s bytes a b (Err fault.Write)
 adds_failed s bytes a b e p = record {
-  keeps = p.keeps;
+  uses = puts_all_uses a b s bytes (Err e) p;
   whole = λ told had is. tt;
   front = λ told had is. let part = p.part told had is in (take part.0 bytes, drop part.0 bytes, part.1, take-append-drop part.0 bytes);
-  cause = λ w. p.cause;
-  counts = tt;
-  reads = p.reads;
 }
 
 -- a failure, of more bytes
 pub adds_more : {T U : Type 0} (name x y : List ℕ) (a b : Seen) (e : MakeFault) → AddsTo {T = T} name x a b (Err e) → AddsTo {T = U} name (x ++ y) a b (Err e)
 adds_more name x y a b e p = record {
-  keeps = p.keeps;
+  uses = p.uses;
   whole = λ told had is. tt;
   front = λ told had is. let f = p.front told had is in (f.0, f.1 ++ y, f.2, sym (append_assoc f.0 f.1 y) ∙ ap (λ l. l ++ y) f.3);
-  cause = p.cause;
-  counts = p.counts;
-  reads = p.reads;
 }
 
-rose_before : {U : Type 0} (x y z : ℕ) (r : Result U MakeFault) → x ≤ y → IfErr r (λ e. e ≡ fault.Write → Rose y z) → IfErr r (λ e. e ≡ fault.Write → Rose x z)
-rose_before x y z (Ok t) le h = tt
-rose_before x y z (Err e) le h = λ w. rose_later x y z le (h w)
+-- a depot that tells goes on telling
+told_later : {T : Type 0} (name bytes : List ℕ) (a b : Seen) (r : Result T MakeFault) → AddsTo {T = T} name bytes a b r → IsTrue a.told → IsTrue b.told
+told_later name bytes a b r p told = subst IsTrue (sym p.uses.touches.told) told
 
 -- bytes behind others
 pub adds_behind : {T U : Type 0} (t : T) (name x y : List ℕ) (a b d : Seen) (r : Result U MakeFault) → AddsTo {T = T} name x a b (Ok t) → AddsTo {T = U} name y b d r
     → AddsTo {T = U} name (x ++ y) a d r
 adds_behind t name x y a b d r p q = record {
-  keeps = keeps_trans name a b d p.keeps q.keeps;
+  uses = uses_then Nothing (Only name) (end_by make_end r) a b d p.uses q.uses;
   whole = λ told had is.
-      subst (λ l. OnOk r (d.file name ≡ Some l)) (append_assoc had x y) (q.whole (told_stays name a b p.keeps told) (had ++ x) (p.whole told had is));
+      subst (λ l. OnOk r (d.file name ≡ Some l)) (append_assoc had x y) (q.whole (told_later name x a b (Ok t) p told) (had ++ x) (p.whole told had is));
   front = λ told had is.
-      let f = q.front (told_stays name a b p.keeps told) (had ++ x) (p.whole told had is) in
+      let f = q.front (told_later name x a b (Ok t) p told) (had ++ x) (p.whole told had is) in
       (x ++ f.0, f.1, f.2 ∙ ap Some (append_assoc had x f.0), append_assoc x f.0 f.1 ∙ ap (λ l. x ++ l) f.3);
-  cause = rose_before _ _ _ r p.keeps.writes_rise q.cause;
-  counts = spares_writes_then (end_by make_end r) a b d p.counts q.counts;
-  reads = λ m. q.reads m ∙ p.reads m;
 }
 
 -- what an answer says beside is free
 pub adds_ok : {T U : Type 0} (t : T) (u : U) (name bytes : List ℕ) (a b : Seen) → AddsTo {T = T} name bytes a b (Ok t) → AddsTo {T = U} name bytes a b (Ok u)
-adds_ok t u name bytes a b p = record { keeps = p.keeps; whole = p.whole; front = p.front; cause = tt; counts = p.counts; reads = p.reads }
+adds_ok t u name bytes a b p = record { uses = p.uses; whole = p.whole; front = p.front }
 
 pub adds_err : {T U : Type 0} (e : MakeFault) (name bytes : List ℕ) (a b : Seen) → AddsTo {T = T} name bytes a b (Err e) → AddsTo {T = U} name bytes a b (Err e)
-adds_err e name bytes a b p = record { keeps = p.keeps; whole = λ told had is. tt; front = p.front; cause = p.cause; counts = p.counts; reads = p.reads }
+adds_err e name bytes a b p = record { uses = p.uses; whole = λ told had is. tt; front = p.front }
 
 -- a slot keeps its name and stays open
 module _ {T : Type 0} (t : T) (s : ℕ) (x : List ℕ) (a b : Seen) (open_ : IsTrue (a.output s)) (p : Adds {T = T} s x a b (Ok t)) where
   pub still_open : IsTrue (b.output s)
-  still_open = output_stays (a.name s) a b p.keeps s open_
+  still_open = subst IsTrue (sym (p.uses.touches.slots s (inr open_)).output) open_
 
   pub same_name : b.name s ≡ a.name s
-  same_name = output_name (a.name s) a b p.keeps s open_
+  same_name = (p.uses.touches.slots s (inr open_)).name
 
 -- ---- pages
 

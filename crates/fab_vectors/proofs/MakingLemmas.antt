@@ -2,16 +2,15 @@
 use Rattle.std.proofs.Common.{◌≡◌, ◌≢◌, ℕ, zero, suc, ◌+◌, ◌-◌, ◌*◌, ◌^◌, ◌<◌, ◌≤◌, inl, inr, List, [], Some, Ok, Err, IsTrue, refl, sym, ◌∙◌, subst, arith}
 use Rattle.std.specs.Prelude.{Result, slice_index}
 use Rattle.std.proofs.lemmas.List.{append-nil}
-use Rattle.fab_base.specs.Seen.{Seen, SameReadFaults, SameWriteFaults, Touches, Only}
-use Rattle.fab_base.proofs.SeenLemmas.{rose_later, touches_refl, touches_trans, touches_wider, keeps_touches}
+use Rattle.fab_base.specs.Ending.{Said, end_by, Uses}
+use Rattle.fab_base.specs.Seen.{Seen, Nothing, Only}
+use Rattle.fab_base.proofs.EndingLemmas.{uses_none, uses_refused, uses_then, uses_wider}
 use Rattle.pcap_file.proofs.lemmas.Numbers.{le_or_lt}
-use Rattle.fab_vectors.specs.Files.{AddsTo, Adds, HoldsFront}
+use Rattle.fab_vectors.specs.Files.{AddsTo, Adds, HoldsFront, make_end}
 use Rattle.fab_vectors.specs.Load.{capture}
 use Rattle.fab_vectors.specs.Making.{AreNine, IsNamed, Makes, file_text, frame_count, name_at}
 use Rattle.fab_vectors.specs.declared.MakeFault.{MakeFault}
 use Rattle.fab_vectors.specs.declared.MakeFault.TheVariants as fault
-use Rattle.fab_base.proofs.EndingLemmas.{spares_writes_then}
-use Rattle.fab_vectors.specs.Files.{make_end}
 
 -- the file of a port
 pub text_of_port : (number q : ℕ) → 0 < q → file_text number q ≡ capture number q
@@ -22,9 +21,6 @@ pub count_of_port : (q : ℕ) → 0 < q → frame_count q ≡ 2500
 count_of_port zero lt = absurd (omega arith)
 count_of_port (suc q) lt = refl
 
-is_fault : (e : MakeFault) (r : Result ℕ MakeFault) → r ≡ Err e → r ≡ Err fault.Write → e ≡ fault.Write
-is_fault e r is w = cc
-
 pub few : (k total n : ℕ) → k < 9 → total ≡ 2500 * (k - 1) → n ≡ frame_count k → total + n < 2 ^ 64
 few zero total n lt is n_is = omega arith
 few (suc k) total n lt is n_is = omega arith
@@ -32,43 +28,33 @@ few (suc k) total n lt is n_is = omega arith
 -- memory was refused before anything was written
 pub made_nothing : (number : ℕ) (slots : List ℕ) (a : Seen) → AreNine a slots → Makes number slots a a (Err fault.Memory)
 made_nothing number slots a nine = record {
-  touches = touches_refl (IsNamed a slots) (IsNamed a slots) a;
+  uses = uses_refused Nothing (IsNamed a slots) a a (uses_none Nothing (IsNamed a slots) a);
   whole = λ told. tt;
   front = λ told q less. ([], file_text number q, nine.empty told q less, refl);
   count = tt;
-  cause = λ w. absurd (cc);
-  counts = λ m. refl;
-  reads = λ m. refl;
 }
 
 -- What stands before the file of a place: those before it are whole, and the others are as they were.
 pub record Made (number : ℕ) (slots : List ℕ) (k total : ℕ) (a b : Seen) : Type 0 where
-  pub touches : Touches (IsNamed a slots) (IsNamed a slots) a b
+  pub uses : Uses Nothing (IsNamed a slots) Said a b
   pub done : IsTrue a.told → (q : ℕ) → q < k → q < 9 → b.file (name_at a slots q) ≡ Some (file_text number q)
   pub rest : (q : ℕ) → k ≤ q → q < 9 → b.file (name_at a slots q) ≡ a.file (name_at a slots q)
   pub count : total ≡ 2500 * (k - 1)
-  pub writes : SameWriteFaults a b
-  pub reads : SameReadFaults a b
 
 pub made_none : (number : ℕ) (slots : List ℕ) (a : Seen) → Made number slots 0 0 a a
 made_none number slots a = record {
-  touches = touches_refl (IsNamed a slots) (IsNamed a slots) a;
+  uses = uses_none Nothing (IsNamed a slots) a;
   done = λ told q lt less. absurd (omega arith);
   rest = λ q le less. refl;
   count = refl;
-  writes = λ m. refl;
-  reads = λ m. refl;
 }
 
 pub made_all : (number : ℕ) (slots : List ℕ) (k total : ℕ) (a b : Seen) → AreNine a slots → 9 ≤ k → k ≤ 9 → Made number slots k total a b → Makes number slots a b (Ok total)
 made_all number slots k total a b nine le most m = record {
-  touches = m.touches;
+  uses = m.uses;
   whole = λ told q less. m.done told q (omega arith) less;
   front = λ told q less. (file_text number q, [], m.done told q (omega arith) less, append-nil (file_text number q));
   count = let is = m.count in omega arith;
-  cause = λ e. absurd (cc);
-  counts = m.writes;
-  reads = m.reads;
 }
 
 module _ (number : ℕ) (slots : List ℕ) (k total : ℕ) (a b d : Seen) (nine : AreNine a slots) (lt : k < 9) (m : Made number slots k total a b) where
@@ -79,10 +65,10 @@ module _ (number : ℕ) (slots : List ℕ) (k total : ℕ) (a b d : Seen) (nine 
   name = name_at a slots k
 
   pub output_on : IsTrue (b.output s)
-  output_on = subst IsTrue (sym (m.touches.slots s (inr (nine.outputs k lt))).output) (nine.outputs k lt)
+  output_on = subst IsTrue (sym (m.uses.touches.slots s (inr (nine.outputs k lt))).output) (nine.outputs k lt)
 
   told_on : IsTrue a.told → IsTrue b.told
-  told_on told = subst IsTrue (sym m.touches.told) told
+  told_on told = subst IsTrue (sym m.uses.touches.told) told
 
   differs : (q : ℕ) → q < 9 → q ≢ k → name_at a slots q ≢ name
   differs q less ne e = ne (nine.differ q k less lt e)
@@ -92,19 +78,19 @@ module _ (number : ℕ) (slots : List ℕ) (k total : ℕ) (a b d : Seen) (nine 
 
   module _ (r : Result ℕ MakeFault) (p : Adds {T = ℕ} s (file_text number k) b d r) where
     own : AddsTo {T = ℕ} name (file_text number k) b d r
-    own = subst (λ n. AddsTo {T = ℕ} n (file_text number k) b d r) (m.touches.slots s (inr (nine.outputs k lt))).name p
+    own = subst (λ n. AddsTo {T = ℕ} n (file_text number k) b d r) (m.uses.touches.slots s (inr (nine.outputs k lt))).name p
 
-    touches_on : Touches (IsNamed a slots) (IsNamed a slots) a d
-    touches_on =
-        touches_trans (IsNamed a slots) (IsNamed a slots) a b d m.touches
-        (touches_wider (Only name) (Only name) (IsNamed a slots) (IsNamed a slots) b d (λ x e. (k, lt, e)) (λ x e. (k, lt, e)) (keeps_touches name b d own.keeps))
+    uses_on : Uses Nothing (IsNamed a slots) (end_by make_end r) a d
+    uses_on =
+        uses_then Nothing (IsNamed a slots) (end_by make_end r) a b d m.uses
+        (uses_wider Nothing (Only name) Nothing (IsNamed a slots) (λ x none. none) (λ x e. (k, lt, e)) (end_by make_end r) b d own.uses)
 
     others : (q : ℕ) → q ≢ k → q < 9 → d.file (name_at a slots q) ≡ b.file (name_at a slots q)
-    others q ne less = own.keeps.files (name_at a slots q) (differs q less ne)
+    others q ne less = own.uses.touches.files (name_at a slots q) (differs q less ne)
 
   pub made_more : (n : ℕ) → n ≡ frame_count k → Adds {T = ℕ} s (file_text number k) b d (Ok n) → Made number slots (k + 1) (total + n) a d
   made_more n n_is p = record {
-    touches = touches_on (Ok n) p;
+    uses = uses_on (Ok n) p;
     done = λ told q less within. elim (le_or_lt k q) [
       | inl last ↦
           let same : k ≡ q = omega arith in
@@ -113,8 +99,6 @@ module _ (number : ℕ) (slots : List ℕ) (k total : ℕ) (a b d : Seen) (nine 
     ];
     rest = λ q le within. others (Ok n) p q (λ e. omega arith) within ∙ m.rest q (omega arith) within;
     count = counts k total n n_is m.count;
-    writes = λ x. p.counts x ∙ m.writes x;
-    reads = λ x. p.reads x ∙ m.reads x;
   }
     where
       counts : (k total n : ℕ) → n ≡ frame_count k → total ≡ 2500 * (k - 1) → total + n ≡ 2500 * (k + 1 - 1)
@@ -123,7 +107,7 @@ module _ (number : ℕ) (slots : List ℕ) (k total : ℕ) (a b d : Seen) (nine 
 
   pub made_failed : (e : MakeFault) → Adds {T = ℕ} s (file_text number k) b d (Err e) → Makes number slots a d (Err e)
   made_failed e p = record {
-    touches = touches_on (Err e) p;
+    uses = uses_on (Err e) p;
     whole = λ told. tt;
     front = λ told q less. elim (le_or_lt k q) [
       | inl le ↦ elim (le_or_lt (k + 1) q) [
@@ -135,7 +119,4 @@ module _ (number : ℕ) (slots : List ℕ) (k total : ℕ) (a b d : Seen) (nine 
       | inr more ↦ (file_text number q, [], others (Err e) p q (λ e. omega arith) less ∙ m.done told q more less, append-nil (file_text number q))
     ];
     count = tt;
-    cause = λ w. (k, lt, rose_later _ _ _ (m.touches.writes_rise name) ((own (Err e) p).cause (is_fault e (Err e) refl w)));
-    counts = spares_writes_then (make_end e) a b d m.writes p.counts;
-    reads = λ x. p.reads x ∙ m.reads x;
   }

@@ -1,8 +1,8 @@
 -- What writing to one file of a load adds to it.
-use Rattle.std.specs.Prelude.{◌≡◌, ℕ, IsTrue, List, ◌++◌, Some, Result, OnOk, IfErr}
+use Rattle.std.specs.Prelude.{◌≡◌, ℕ, IsTrue, List, ◌++◌, Some, Result, OnOk}
 use Rattle.fab_base.specs.Ending as ending
-use Rattle.fab_base.specs.Ending.{End, end_by, SparesWrites}
-use Rattle.fab_base.specs.Seen.{Seen, Keeps, Rose, SameReadFaults}
+use Rattle.fab_base.specs.Ending.{End, end_by, Uses}
+use Rattle.fab_base.specs.Seen.{Seen, Nothing, Only}
 use Rattle.fab_vectors.specs.declared.MakeFault.{MakeFault}
 use Rattle.fab_vectors.specs.declared.MakeFault.TheVariants as fault
 
@@ -15,15 +15,12 @@ abbrev pub make_end : MakeFault → End
 make_end fault.Write = ending.Write
 make_end fault.Memory = ending.Memory
 
--- Adding bytes to the file of a name: all of them, or, where it fails, a beginning of them. A fault of writing comes only where one was
--- counted, and one of reading is never counted.
+-- Adding bytes to the file of a name: all of them, or, where it fails, a beginning of them. No other file changes, and of the faults of
+-- the store exactly that is counted in which it ends.
 pub record AddsTo {T : Type 0} (name bytes : List ℕ) (old new : Seen) (result : Result T MakeFault) : Type 0 where
-  pub keeps : Keeps name old new
+  pub uses : Uses Nothing (Only name) (end_by make_end result) old new
   pub whole : IsTrue old.told → (had : List ℕ) → old.file name ≡ Some had → OnOk result (new.file name ≡ Some (had ++ bytes))
   pub front : IsTrue old.told → (had : List ℕ) → old.file name ≡ Some had → HoldsFront new name had bytes
-  pub cause : IfErr result (λ e. e ≡ fault.Write → Rose (old.write_faults name) (new.write_faults name))
-  pub counts : SparesWrites (end_by make_end result) old new
-  pub reads : SameReadFaults old new
 
 -- the same of the name of a slot
 abbrev pub Adds : {T : Type 0} → ℕ → List ℕ → Seen → Seen → Result T MakeFault → Type 0

@@ -1,12 +1,11 @@
 -- The nine files of a load: the configuration, and then the captures of ports 1 to 8.
-use Rattle.std.specs.Prelude.{◌≡◌, ℕ, zero, suc, ◌<◌, IsTrue, List, [], length, slice_index, Some, Result, IfOk, OnOk, IsErrOf}
-use Rattle.fab_base.specs.Ending.{end_by, SparesWrites}
-use Rattle.fab_base.specs.Seen.{Seen, Rose, SameReadFaults, Touches}
+use Rattle.std.specs.Prelude.{◌≡◌, ℕ, zero, suc, ◌<◌, IsTrue, List, [], length, slice_index, Some, Result, IfOk, OnOk}
+use Rattle.fab_base.specs.Ending.{end_by, Uses}
+use Rattle.fab_base.specs.Seen.{Seen, Nothing}
 use Rattle.fab_vectors.specs.Files.{HoldsFront, make_end}
 use Rattle.fab_vectors.specs.Load.{capture}
 use Rattle.fab_vectors.specs.Settings.{config_text}
 use Rattle.fab_vectors.specs.declared.MakeFault.{MakeFault}
-use Rattle.fab_vectors.specs.declared.MakeFault.TheVariants as fault
 
 -- the files of a load by their place: the configuration at 0, and the capture of port p at p
 abbrev pub file_text : ℕ → ℕ → List ℕ
@@ -33,13 +32,10 @@ pub record AreNine (d : Seen) (slots : List ℕ) : Type 0 where
   pub differ : (p q : ℕ) → p < 9 → q < 9 → name_at d slots p ≡ name_at d slots q → p ≡ q
   pub empty : IsTrue d.told → (q : ℕ) → q < 9 → d.file (name_at d slots q) ≡ Some []
 
--- Making a load: each file holds its text, or, where it fails, a beginning of it; no other file changes. A fault of writing comes only where
--- one was counted for one of the nine, and one of reading is never counted.
+-- Making a load: each file holds its text, or, where it fails, a beginning of it. No other file changes, and of the faults of the store
+-- exactly that is counted in which it ends, of one of the nine.
 pub record Makes (number : ℕ) (slots : List ℕ) (old new : Seen) (result : Result ℕ MakeFault) : Type 0 where
-  pub touches : Touches (IsNamed old slots) (IsNamed old slots) old new
+  pub uses : Uses Nothing (IsNamed old slots) (end_by make_end result) old new
   pub whole : IsTrue old.told → OnOk result ((q : ℕ) → q < 9 → new.file (name_at old slots q) ≡ Some (file_text number q))
   pub front : IsTrue old.told → (q : ℕ) → q < 9 → HoldsFront new (name_at old slots q) [] (file_text number q)
   pub count : IfOk result (λ frames. frames ≡ 20000)
-  pub cause : IsErrOf result fault.Write → (q : ℕ) × (q < 9) × Rose (old.write_faults (name_at old slots q)) (new.write_faults (name_at old slots q))
-  pub counts : SparesWrites (end_by make_end result) old new
-  pub reads : SameReadFaults old new

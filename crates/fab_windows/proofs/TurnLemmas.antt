@@ -1,6 +1,6 @@
 -- One window after another: how a turn ends, and what stands after it.
 use Rattle.std.proofs.Common.{◌≡◌, ◌≢◌, ℕ, ◌<◌, ◌≤◌, ◌⊎◌, inl, inr, List, length, Some, IsTrue, Result, Ok, Err, refl, sym, ap, ◌∙◌, subst, arith}
-use Rattle.fab_base.specs.Ending.{End, Said, Read, Write, Memory, NoFaults, SparesReads, SparesWrites}
+use Rattle.fab_base.specs.Ending.{End, Said, Read, Write, Memory, NoFaults, SparesReads, SparesWrites, IsSaid}
 use Rattle.fab_base.specs.Seen.{Seen, Touches, Nothing, Rose, SameReadFaults, SameWriteFaults}
 use Rattle.fab_base.specs.declared.values.Failed.{Failed}
 use Rattle.fab_base.proofs.SeenLemmas.{rose_later, touches_trans, touches_wider}
@@ -47,7 +47,7 @@ error_is : (r : Result Done RunFault) (x y : RunFault) → r ≡ Err x → r ≡
 error_is r x y h k = cc
 
 pub ended : (k : Task) (d : Seen) (e : RunFault) → Touches (Written k.seen k.journal k.outs) (Touched k) k.seen d →
-    (IsTrue k.seen.told → IsStopped e → Stopped k.settings k.budget (captures_in k) d k.journal k.outs e) →
+    (IsTrue k.seen.told → IsSaid (run_end e) → Stopped k.settings k.budget (captures_in k) d k.journal k.outs e) →
     (IsTrue k.seen.told → e ≡ fault.Read → Interrupted k.settings k.budget (captures_in k) (Wholes k.settings d k.journal k.outs)) →
     (IsTrue k.seen.told → (e ≡ fault.Write) ⊎ (e ≡ fault.Memory) → Interrupted k.settings k.budget (captures_in k) (Fronts k.settings d k.journal k.outs)) →
     Causes k d e → Ended k d e
@@ -59,7 +59,7 @@ ended k d e touches stop read front causes = record {
   counts = causes.2;
 }
   where
-    by_fault : (f : RunFault) → (IsStopped f → Stopped k.settings k.budget (captures_in k) d k.journal k.outs f) →
+    by_fault : (f : RunFault) → (IsSaid (run_end f) → Stopped k.settings k.budget (captures_in k) d k.journal k.outs f) →
         (f ≡ fault.Read → Interrupted k.settings k.budget (captures_in k) (Wholes k.settings d k.journal k.outs)) →
         ((f ≡ fault.Write) ⊎ (f ≡ fault.Memory) → Interrupted k.settings k.budget (captures_in k) (Fronts k.settings d k.journal k.outs)) →
         Ends k.settings k.budget (captures_in k) d k.journal k.outs (Err f)
@@ -82,7 +82,7 @@ spares_faults Memory a b reads writes = (reads, writes)
 
 -- ---- what a fault of gathering ends a run with
 
-pub stopped_from : (e : GatherFault) → IsStopped (fault_from e) → gathering.IsStopped e
+pub stopped_from : (e : GatherFault) → IsSaid (run_end (fault_from e)) → gathering.IsStopped e
 stopped_from (gather.Capture port at why) stops = tt
 stopped_from (gather.Limit kind) stops = tt
 stopped_from gather.Read stops = stops
@@ -243,7 +243,7 @@ module _ (laws : Laws) (k : Task) (w first : ℕ) (F : Contents) (d : Seen) (ins
           spares_faults (run_end e) k.seen z (λ m. reads m ∙ r.faults.0 m) (spares_writes_then (run_end e) k.seen d z r.faults.1 counts),
         )
       where
-        not_both : (f : RunFault) → IsUnwritten f → IsStopped f → ⊥
+        not_both : (f : RunFault) → IsUnwritten f → IsSaid (run_end f) → ⊥
         not_both (fault.Capture port at why) u s = u
         not_both (fault.Limit kind) u s = u
         not_both fault.Read u s = u

@@ -244,7 +244,7 @@ module _ (w : Width) (words : List (String Global)) (run : are_ports w words ≡
       same_found : IsTrue a.told → (q : ℕ) → q < length slots → output_in (names_of w words) a q ≡ o.left (slot_at slots q)
       same_found told q lt = found_there a o (names_of w words).outs slots q lt told outs_a
 
-      module _ (z : Seen) (F : Contents) (settings : F.settings ≡ c) (r : Result ℕ CheckFault) (all : Checks (task_of c left ins o journal slots) z F r) (none : NoFaults a o) (tells : counts.TellsFaults o z r) where
+      module _ (z : Seen) (F : Contents) (settings : F.settings ≡ c) (r : Result ℕ CheckFault) (all : Checks (task_of c left ins o journal slots) z F r) (none : NoFaults a o) (tells : SparesReads (end_by counts.check_end r) o z × SameWriteFaults o z) where
         same : SameFiles a z
         same n = all.touches.files n (λ x. x) ∙ files_o n
 

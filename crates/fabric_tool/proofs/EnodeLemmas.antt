@@ -6,6 +6,7 @@ use Rattle.std.specs.Str.{bytes_eq}
 use Rattle.fab_base.specs.Ending.{end_by, Uses}
 use Rattle.fab_base.specs.Seen.{Seen, Only}
 use Rattle.fab_base.specs.Sunk.{Sunk}
+use Rattle.fab_base.proofs.EndingLemmas.{rose_only}
 use Rattle.pcap_file.specs.declared.Record.{Record}
 use Rattle.pcap_file.specs.declared.fault.GatherFault.{GatherFault}
 use Rattle.pcap_file.specs.declared.fault.GatherFault.TheVariants as gather
@@ -140,8 +141,8 @@ module _ (k : EnodeNames) (a b : Seen) where
   ran (Ok last) runs u = (keeps u.touches.files, runs, u.counts)
   ran (Err (faults.Capture port at why)) runs u = (runs.0, runs.1, u.counts)
   ran (Err (faults.Limit kind)) runs u = (runs.0, runs.1, u.counts)
-  ran (Err faults.Read) runs u = (runs.0, inl runs.1, λ told. tt, u.counts.1)
-  ran (Err faults.Write) runs u = (keeps u.touches.files, inl runs.0, runs.1, u.counts.1)
+  ran (Err faults.Read) runs u = (runs, inl (rose_only k.from a.read_faults b.read_faults u.counts.0), λ told. tt, u.counts.1)
+  ran (Err faults.Write) runs u = (keeps u.touches.files, inl (rose_only k.to a.write_faults b.write_faults u.counts.0), runs, u.counts.1)
   ran (Err faults.Memory) runs u = (runs, λ told. tt, u.counts)
 
 -- the files that words name

@@ -5,8 +5,9 @@ use Rattle.std.proofs.lemmas.Bool.{eqb-true}
 use Rattle.std.specs.Str.{bytes_eq}
 use Rattle.std.specs.declared.alloc.Global.{Global}
 use Rattle.fab_base.specs.Places.{name_at}
-use Rattle.fab_base.specs.Seen.{Seen, SameReadFaults, SameWriteFaults, OpensOut}
+use Rattle.fab_base.specs.Seen.{Seen, SameWriteFaults, OpensOut}
 use Rattle.fab_base.specs.declared.values.Failed.{Failed}
+use Rattle.fab_base.proofs.EndingLemmas.{none_then}
 use Rattle.fab_base.specs.Counting.{counting}
 use Rattle.pcap_file.proofs.lemmas.Numbers.{le_or_lt}
 use Rattle.fab_vectors.specs.Making.{AreNine, IsNamed, Makes, file_text}
@@ -113,7 +114,7 @@ module _ (words : List (String Global)) (make : is_make words ≡ true) (b : See
     keeps : KeepsOthers (Make (make_of number words)) a d
     keeps n none =
         let not_one = none_among (files_of words) n none in
-        m.touches.files n (λ named. not_one (named_among n named)) ∙ opens.touches.files n not_one
+        m.uses.touches.files n (λ named. not_one (named_among n named)) ∙ opens.touches.files n not_one
 
     told_on : IsTrue a.told → IsTrue b.told
     told_on told = subst IsTrue (sym opens.touches.told) told
@@ -123,29 +124,27 @@ module _ (words : List (String Global)) (make : is_make words ≡ true) (b : See
         let h = m.front (told_on told) q lt in
         inr (h.0, sym (ap d.file (name_of_file number q lt)) ∙ h.2, (h.1, h.3))
 
-    no_read : SameReadFaults a d
-    no_read x = m.reads x ∙ opens.reads x
-
     pub made_own : TouchesOwn (Make (make_of number words)) a d
     made_own =
         let k = Make (make_of number words) in
-        own_then k a b d (own_written k a b opens.touches) (own_wider k _ _ b d named_among (λ n x. inr (named_among n x)) m.touches)
+        own_then k a b d (own_written k a b opens.touches) (own_wider k _ _ b d named_among (λ n x. elim x [ inl none ↦ absurd none | inr named ↦ inr (named_among n named) ]) m.uses.touches)
 
     pub made_whole : (frames : ℕ) → r ≡ Ok frames → MakeHolds (make_of number words) a d (ends.Made frames)
     made_whole frames is =
         let n = subst (λ x. Makes number slots b d x) is m in
-        (n.count, (keeps, λ told q lt. sym (ap d.file (name_of_file number q lt)) ∙ n.whole (told_on told) q lt, (no_read, λ x. n.counts x ∙ same x)))
+        (n.count, (keeps, λ told q lt. sym (ap d.file (name_of_file number q lt)) ∙ n.whole (told_on told) q lt, none_then a b d (opens.reads, same) n.uses.counts))
 
     pub made_memory : r ≡ Err faults.Memory → MakeHolds (make_of number words) a d ends.Memory
     made_memory is =
         let n = subst (λ x. Makes number slots b d x) is m in
-        (keeps, fronts, (no_read, λ x. n.counts x ∙ same x))
+        (keeps, fronts, none_then a b d (opens.reads, same) n.uses.counts)
 
     pub made_failed : r ≡ Err faults.Write → MakeHolds (make_of number words) a d ends.WriteFault
     made_failed is =
-        let at = m.cause is in
-        let rose : AnyRose b.write_faults d.write_faults (files_of words) = rose_among b.write_faults d.write_faults (files_of words) (b.name (slice_index slots at.0)) (named_among _ (at.0, at.1, refl)) at.2 in
-        (keeps, rose_since a.write_faults b.write_faults d.write_faults opens.touches.writes_rise (files_of words) rose, fronts, no_read)
+        let n = subst (λ x. Makes number slots b d x) is m in
+        let one = n.uses.counts.0 in
+        let rose : AnyRose b.write_faults d.write_faults (files_of words) = rose_among b.write_faults d.write_faults (files_of words) one.0 (named_among one.0 one.1) one.2 in
+        (keeps, rose_since a.write_faults b.write_faults d.write_faults opens.touches.writes_rise (files_of words) rose, fronts, λ x. n.uses.counts.1 x ∙ opens.reads x)
 
 -- an output that couldn't be opened
 pub not_opened : (number : ℕ) (words : List (String Global)) (a b : Seen) (e : Failed) → FilesOpened (files_of words) a b (Err e) → MakeHolds (make_of number words) a b ends.WriteFault

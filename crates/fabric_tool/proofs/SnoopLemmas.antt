@@ -2,8 +2,8 @@
 use Rattle.std.proofs.Common.{◌≡◌, ◌≢◌, ℕ, List, ◌++◌, [], ◌∷◌, length, ◌⊎◌, Ok, Err, IsTrue, refl, sym, ap, ◌∙◌, subst, arith, inl, inr}
 use Rattle.std.specs.Prelude.{Result, String, map}
 use Rattle.std.specs.declared.alloc.Global.{Global}
-use Rattle.fab_base.specs.Ending.{end_by, NoFaults, SparesReads, SparesWrites}
-use Rattle.fab_base.specs.Seen.{Seen, Rose, SameFiles, SameReadFaults, SameWriteFaults, Touches, Nothing, Only}
+use Rattle.fab_base.specs.Ending.{end_by, NoFaults, Counts, RoseIn}
+use Rattle.fab_base.specs.Seen.{Seen, Rose, SameFiles, Touches, Nothing, Only}
 use Rattle.fab_base.specs.Sunk.{Sunk}
 use Rattle.fab_base.proofs.SeenLemmas.{reads_touches, rose_later}
 use Rattle.fab_config.specs.Settings.{Settings}
@@ -22,6 +22,7 @@ use Rattle.snoop_run.specs.declared.run.Crossed.{Crossed}
 use Rattle.snoop_run.proofs.RunLemmas.{fronts_since}
 use Rattle.fabric_tool.specs.Command.{SnoopNames, Snoop, KeepsOthers}
 use Rattle.run_files.specs.Faults.{fault_from, run_end}
+use Rattle.run_files.specs.Names.{Among}
 use Rattle.run_files.specs.declared.fault.RunFault.{RunFault}
 use Rattle.run_files.specs.declared.fault.RunFault.TheVariants as faults
 use Rattle.fabric_tool.specs.Ends.{TakesMemory}
@@ -36,7 +37,7 @@ use Rattle.fabric_tool.proofs.EndingLemmas.{Left, Said, IsAnswer, less}
 use Rattle.fabric_tool.proofs.Laws.{Laws, PrintsAlike, alike}
 use Rattle.fabric_tool.proofs.AmongLemmas.{none_among}
 use Rattle.fab_base.proofs.EndingLemmas.{none_then}
-use Rattle.run_files.proofs.NameLemmas.{rose_since}
+use Rattle.run_files.proofs.NameLemmas.{rose_among, rose_since}
 use Rattle.fabric_tool.proofs.ConfigLemmas.{one_value, one_fault, no_fault}
 use Rattle.fabric_tool.proofs.HeadLemmas.{not_unread, unread_is}
 use Rattle.fabric_tool.proofs.PartLemmas.{all_fronts}
@@ -254,18 +255,30 @@ module _ (k : SnoopNames) (c : Settings) (a b z : Seen) (config : ConfigRead k.c
   }
 
   pub bridge_ended : (r : Result Crossed RunFault) → Bridges k.ins k.outs LIMITS c b z r → SnoopHolds k a z (crossed_by r)
-  bridge_ended r h = go r h.ends h.reads h.writes
+  bridge_ended r h = go r h.ends h.uses.counts
     where
       others : KeepsOthers (Snoop k) a z
-      others m none = h.touches.files m (none_among k.outs m none) ∙ same m
+      others m none = h.uses.touches.files m (none_among k.outs m none) ∙ same m
 
-      none : SameReadFaults b z → SameWriteFaults b z → NoFaults a z
-      none reads writes = none_then a b z counted (reads, writes)
+      none : NoFaults b z → NoFaults a z
+      none = none_then a b z counted
 
-      go : (r : Result Crossed RunFault) → Ends k.ins k.outs LIMITS c b z r → SparesReads (end_by run_end r) b z → SparesWrites (end_by run_end r) b z → SnoopHolds k a z (crossed_by r)
-      go (Ok done) e reads writes = (others, λ told. bridged_since done (e (told_b told)) told, none reads writes)
-      go (Err (faults.Capture port at why)) e reads writes = ((λ m. e.0 m ∙ same m), λ told. stopped_since (gather.Capture port at why) (e.1 (told_b told)) told, none reads writes)
-      go (Err (faults.Limit kind)) e reads writes = ((λ m. e.0 m ∙ same m), λ told. stopped_since (gather.Limit kind) (e.1 (told_b told)) told, none reads writes)
-      go (Err faults.Read) e reads writes = ((λ m. e.0 m ∙ same m), inr (rose_since a.read_faults b.read_faults z.read_faults touched.reads_rise k.ins e.1), λ told. inr (unread_since (e.2 (told_b told)) told), λ m. writes m ∙ counted.1 m)
-      go (Err faults.Write) e reads writes = (others, rose_since a.write_faults b.write_faults z.write_faults touched.writes_rise k.outs e.0, λ told. front_since (e.1 (told_b told)) told, λ m. reads m ∙ counted.0 m)
-      go (Err faults.Memory) e reads writes = (others, λ told. elim (e (told_b told)) [ inl still ↦ inl (λ m. still m ∙ same m) | inr front ↦ inr (front_since front told) ], none reads writes)
+      go : (r : Result Crossed RunFault) → Ends k.ins k.outs LIMITS c b z r → Counts (RoseIn (Among k.ins) b.read_faults z.read_faults) (RoseIn (Among k.outs) b.write_faults z.write_faults) (end_by run_end r) b z → SnoopHolds k a z (crossed_by r)
+      go (Ok done) e counts = (others, λ told. bridged_since done (e (told_b told)) told, none counts)
+      go (Err (faults.Capture port at why)) e counts = ((λ m. e.0 m ∙ same m), λ told. stopped_since (gather.Capture port at why) (e.1 (told_b told)) told, none counts)
+      go (Err (faults.Limit kind)) e counts = ((λ m. e.0 m ∙ same m), λ told. stopped_since (gather.Limit kind) (e.1 (told_b told)) told, none counts)
+      go (Err faults.Read) e counts =
+          let rose = counts.0 in (
+            (λ m. e.0 m ∙ same m),
+            inr (rose_since a.read_faults b.read_faults z.read_faults touched.reads_rise k.ins (rose_among b.read_faults z.read_faults k.ins rose.0 rose.1 rose.2)),
+            λ told. inr (unread_since (e.1 (told_b told)) told),
+            λ m. counts.1 m ∙ counted.1 m,
+          )
+      go (Err faults.Write) e counts =
+          let rose = counts.0 in (
+            others,
+            rose_since a.write_faults b.write_faults z.write_faults touched.writes_rise k.outs (rose_among b.write_faults z.write_faults k.outs rose.0 rose.1 rose.2),
+            λ told. front_since (e (told_b told)) told,
+            λ m. counts.1 m ∙ counted.0 m,
+          )
+      go (Err faults.Memory) e counts = (others, λ told. elim (e (told_b told)) [ inl still ↦ inl (λ m. still m ∙ same m) | inr front ↦ inr (front_since front told) ], none counts)

@@ -84,7 +84,7 @@ windows_own words run old m a b ins journal outs inputs heads opens outputs runs
 
 pub bridge_own : (k : SnoopNames) (a b d : Seen) {c : Settings} {budget : Budget} {r : Result Crossed RunFault} → Reads k.config a b → Bridges k.ins k.outs budget c b d r → TouchesOwn (Snoop k) a d
 bridge_own k a b d reads bridges = own_then (Snoop k) a b d (own_input (Snoop k) k.config a b (inl refl) reads)
-    (own_wider (Snoop k) _ _ b d (λ m x. x) (λ m x. elim x [ inl i ↦ inl (inr i) | inr o ↦ inr o ]) bridges.touches)
+    (own_wider (Snoop k) _ _ b d (λ m x. x) (λ m x. elim x [ inl i ↦ inl (inr i) | inr o ↦ inr o ]) bridges.uses.touches)
 
 -- ---- `live`
 

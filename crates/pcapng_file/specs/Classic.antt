@@ -1,8 +1,9 @@
 -- The classic capture of the packets of a file, and what converting a file does.
 use Rattle.std.specs.Prelude.{◌≡◌, ℕ, ◌*◌, ◌/◌, ◌%◌, ◌≤◌, max, false, List, [], ◌∷◌, ◌++◌, length, map, take, IsTrue, Some, Result, Ok, Err}
 use Rattle.fab_base.specs.Layout.{spelled_low}
-use Rattle.fab_base.specs.Ending.{WhereSaid, NoFaults, CountsRead}
-use Rattle.fab_base.specs.Seen.{Seen, SameFiles, SameReadFaults, Rose}
+use Rattle.fab_base.specs.Ending as ending
+use Rattle.fab_base.specs.Ending.{End, WhereSaid}
+use Rattle.fab_base.specs.Seen.{Seen, SameFiles}
 use Rattle.pcap_file.specs.declared.Budget.{Budget}
 use Rattle.pcap_file.specs.declared.CaptureHead.{CaptureHead}
 use Rattle.pcap_file.specs.declared.Record.{Record}
@@ -51,6 +52,11 @@ written = record { big = false; nano = false }
 abbrev pub SaysInput : List ℕ → Budget → Seen → NgError → Type 0
 SaysInput from budget old e = WhereSaid (ng_end e) ((l : List ℕ) × (old.file from ≡ Some l) × (ng_read budget l ≡ Err e))
 
+-- what it rests on that a file isn't converted
+abbrev pub converting_end : ConvertError → End
+converting_end (ends.Input e) = ng_end e
+converting_end (ends.Write failed) = ending.Write
+
 -- the input that was found is a file of packets within the limits, and the output is their capture
 pub record Converted (from to : List ℕ) (budget : Budget) (old new : Seen) (count : ℕ) : Type 0 where
   pub bytes : List ℕ
@@ -70,9 +76,9 @@ pub data IsFront (from to : List ℕ) (budget : Budget) (old new : Seen) : Type 
 
 -- How a conversion ends. The output is opened only behind the whole input: an error of the input leaves every file.
 abbrev pub Converts : List ℕ → List ℕ → Budget → Seen → Seen → Result ℕ ConvertError → Type 0
-Converts from to budget old new (Ok count) = NoFaults old new × (IsTrue old.told → Converted from to budget old new count)
-Converts from to budget old new (Err (ends.Input e)) = SameFiles old new × CountsRead from (ng_end e) old new × (IsTrue old.told → SaysInput from budget old e)
-Converts from to budget old new (Err (ends.Write failed)) = Rose (old.write_faults to) (new.write_faults to) × (IsTrue old.told → IsFront from to budget old new) × SameReadFaults old new
+Converts from to budget old new (Ok count) = IsTrue old.told → Converted from to budget old new count
+Converts from to budget old new (Err (ends.Input e)) = SameFiles old new × (IsTrue old.told → SaysInput from budget old e)
+Converts from to budget old new (Err (ends.Write failed)) = IsTrue old.told → IsFront from to budget old new
 
 -- ---- law
 

@@ -1,8 +1,8 @@
 //! The classic capture of the packets of a file.
-ghost use Rattle.std.specs.Prelude.{◌≡◌, ◌⊎◌, ◌++◌, IsTrue, IfOk, OnOk, OnErr};
-ghost use Rattle.fab_base.specs.Ending.{KeepsBut};
-ghost use Rattle.fab_base.specs.Seen.{Touches, Only};
-ghost use Rattle.pcapng_file.specs.Classic.{classic_record, classic_bytes, Converts};
+ghost use Rattle.std.specs.Prelude.{◌≡◌, ◌++◌, IsTrue, IfOk, OnOk, OnErr};
+ghost use Rattle.fab_base.specs.Ending.{Uses, end_by};
+ghost use Rattle.fab_base.specs.Seen.{Only};
+ghost use Rattle.pcapng_file.specs.Classic.{classic_record, classic_bytes, converting_end, Converts};
 
 use crate::fault::{ConvertError, NgError};
 use crate::reading::read_ng;
@@ -24,8 +24,8 @@ pub fn convert<D: Depot>(
     requires to { IsTrue ((D.seen depot.old).knows to.now) }
     ensures converts { Converts from.now to.now budget (D.seen depot.old)
         (D.seen depot.new) result }
-    ensures others { KeepsBut to.now (D.seen depot.old) (D.seen depot.new) }
-    ensures touches { Touches (Only to.now) (λ m. Only from.now m ⊎ Only to.now m)
+    // No other file changes. No other answer, want of memory neither, hides a fault of the store.
+    ensures uses { Uses (Only from.now) (Only to.now) (end_by converting_end result)
         (D.seen depot.old) (D.seen depot.new) }
 {
     let slot = match depot.open_in(from) {

@@ -3,6 +3,7 @@ use Rattle.std.proofs.Common.{◌≡◌, ◌≢◌, ℕ, zero, suc, ◌+◌, ◌
 use Rattle.std.specs.Prelude.{map}
 use Rattle.std.specs.Str.{bytes_eq}
 use Rattle.std.proofs.lemmas.Slice.Eq.{bytes_eq-Decides}
+use Rattle.fab_base.specs.Ending.{RoseIn}
 use Rattle.fab_base.specs.Seen.{Rose}
 use Rattle.fab_base.proofs.SeenLemmas.{rose_later}
 use Rattle.fab_base.specs.Counting.{counting}
@@ -79,6 +80,12 @@ pub rose_among : (before now : List ℕ → ℕ) (names : List (List ℕ)) (m : 
 rose_among before now [] m a rose = absurd a
 rose_among before now (n ∷ names) m (inl is) rose = inl (subst (λ x. Rose (before x) (now x)) is rose)
 rose_among before now (n ∷ names) m (inr a) rose = inr (rose_among before now names m a rose)
+
+-- and which one rose
+pub among_rose : (before now : List ℕ → ℕ) (names : List (List ℕ)) → AnyRose before now names → RoseIn (Among names) before now
+among_rose before now [] rose = absurd rose
+among_rose before now (n ∷ names) (inl rose) = (n, inl refl, rose)
+among_rose before now (n ∷ names) (inr rose) = let r = among_rose before now names rose in (r.0, inr r.1, r.2)
 
 -- counts that didn't fall before
 pub rose_since : (earlier before now : List ℕ → ℕ) → ((m : List ℕ) → earlier m ≤ before m) → (names : List (List ℕ)) → AnyRose before now names → AnyRose earlier now names

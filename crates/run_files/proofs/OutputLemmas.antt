@@ -2,7 +2,8 @@
 use Rattle.std.proofs.Common.{◌≡◌, ◌≢◌, ℕ, ◌+◌, ◌<◌, ◌≤◌, inl, inr, List, [], ◌∷◌, ◌++◌, length, take, Some, Ok, Err, IsTrue, refl, sym, ap, ◌∙◌, subst, arith}
 use Rattle.std.specs.Prelude.{Result}
 use Rattle.std.proofs.lemmas.List.{append-nil}
-use Rattle.fab_base.specs.Seen.{Seen, Keeps, Rose, PutsAll, Touches, Only, SameReadFaults, SameWriteFaults}
+use Rattle.fab_base.specs.Ending.{End, Said, Write, end_by, Counts, Either, RoseIn, Uses}
+use Rattle.fab_base.specs.Seen.{Seen, Keeps, Rose, PutsAll, Touches, Nothing, Only, SameReadFaults, SameWriteFaults}
 use Rattle.fab_base.specs.declared.values.Failed.{Failed}
 use Rattle.fab_base.proofs.SeenLemmas.{rose_later, touches_refl, touches_trans, touches_wider, keeps_touches}
 use Rattle.pcap_file.proofs.lemmas.Numbers.{le_or_lt}
@@ -140,3 +141,17 @@ module _ (F G : List ℕ → Type 0) (a b : Seen) (k : Touches F G a b) where
       outputs = λ q lt. stays_output (slot_at outs q) (o.outputs q lt);
       differ = λ p q less lt e. o.differ p q less lt (sym (same_name p less) ∙ e ∙ same_name q lt);
     }
+
+-- ---- as calls that use these names
+
+pub uses_outputs : (names : List ℕ → Type 0) (end : End) (a b : Seen) → Touches names names a b → Counts (RoseIn Nothing a.read_faults b.read_faults) (RoseIn names a.write_faults b.write_faults) end a b → Uses Nothing names end a b
+uses_outputs names end a b touches counts = record {
+  touches = touches_wider names names names (Either Nothing names) a b (λ m x. x) (λ m x. inr x) touches;
+  counts = counts;
+}
+
+pub puts_each_uses : (slots : List ℕ) (pieces : List (List ℕ)) (a b : Seen) (r : Result (Unit {0}) Failed) → PutsEach slots pieces a b r → Uses Nothing (NameIn a slots) (end_by (λ e. Write) r) a b
+puts_each_uses slots pieces a b (Ok done) p = uses_outputs (NameIn a slots) Said a b p.touches (p.reads, p.counts)
+puts_each_uses slots pieces a b (Err e) p =
+    let at = p.cause in
+    uses_outputs (NameIn a slots) Write a b p.touches ((name_of a slots at.0, (at.0, at.1.within, refl), at.1.rose), p.reads)

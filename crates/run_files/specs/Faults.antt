@@ -1,6 +1,6 @@
 -- How a run ends early.
 use Rattle.fab_base.specs.Ending as ending
-use Rattle.fab_base.specs.Ending.{End, IsSaid}
+use Rattle.fab_base.specs.Ending.{End}
 use Rattle.pcap_file.specs.declared.fault.GatherFault.{GatherFault}
 use Rattle.pcap_file.specs.declared.fault.GatherFault.TheVariants as gather
 use Rattle.run_files.specs.declared.fault.RunFault.{RunFault}
@@ -20,7 +20,3 @@ run_end (fault.Limit kind) = ending.Said
 run_end fault.Read = ending.Read
 run_end fault.Write = ending.Write
 run_end fault.Memory = ending.Memory
-
--- an ending that stands in the captures, and not in the store or in the memory
-abbrev pub IsStopped : RunFault → Type 0
-IsStopped fault = IsSaid (run_end fault)

@@ -4,9 +4,10 @@ use Rattle.std.specs.Prelude.{Result, Vec, replicate, slice_set}
 use Rattle.std.specs.declared.alloc.Global.{Global}
 use Rattle.std.proofs.lemmas.List.{take-append-drop}
 use Rattle.std.proofs.lemmas.Option.{slice_get-get_or}
-use Rattle.fab_base.specs.Seen.{Seen, Rose, SameReadFaults, SameWriteFaults, Touches}
+use Rattle.fab_base.specs.Ending.{Said, Write, end_by, Either, Uses}
+use Rattle.fab_base.specs.Seen.{Seen, Nothing}
 use Rattle.fab_base.specs.declared.values.Failed.{Failed}
-use Rattle.fab_base.proofs.SeenLemmas.{rose_later, touches_refl, touches_trans, touches_wider}
+use Rattle.fab_base.proofs.EndingLemmas.{uses_none, uses_refused, uses_then, uses_wider}
 use Rattle.fab_policy.specs.Written.{IsPrefixOf}
 use Rattle.pcap_file.specs.Capture.{head_bytes}
 use Rattle.pcap_file.specs.declared.Record.{Record}
@@ -23,7 +24,7 @@ use Rattle.snoop_run.specs.Copies.{records_to, capture}
 use Rattle.snoop_run.specs.Records.{count_in}
 use Rattle.snoop_run.specs.State.{Stands, PassesNext, IsNew, IsNext, Writes, WritesFull, Crosses}
 use Rattle.snoop_run.specs.declared.bridge.Bridge.{Bridge}
-use Rattle.run_files.proofs.OutputLemmas.{same_name, outputs_stay}
+use Rattle.run_files.proofs.OutputLemmas.{same_name, outputs_stay, puts_each_uses}
 use Rattle.snoop_run.proofs.NextLemmas.{all_left, next_order, none_next}
 use Rattle.run_files.proofs.PageLemmas.{page_of, length-items}
 use Rattle.snoop_run.proofs.StepLemmas.{can_count}
@@ -54,11 +55,9 @@ length-heads (suc n) = ap suc (length-heads n)
 pub record Crossing (w : Forwarder) (ins : List (List Record)) (outs : List ℕ) (a d : Seen) (b : Bridge) : Type 0 where
   pub done : List Arrival
   pub stands : Stands w ins done b
-  pub touches : Touches (NameIn a outs) (NameIn a outs) a d
+  pub uses : Uses Nothing (NameIn a outs) Said a d
   pub count : length b.pages.items ≡ length outs
   pub files : IsTrue a.told → (q : ℕ) → q < length outs → (bytes : List ℕ) × (d.file (name_of a outs q) ≡ Some bytes) × (bytes ++ piece_at (items_in b.pages.items) q ≡ capture w (q + 1) done)
-  pub reads : SameReadFaults a d
-  pub writes : SameWriteFaults a d
 
 pub crossing_none : (w : Forwarder) (ins : List (List Record)) (outs : List ℕ) (a : Seen) (b : Bridge) → IsNew w (length ins) b → length outs ≡ length ins
     → (IsTrue a.told → (q : ℕ) → q < length outs → a.file (name_of a outs q) ≡ Some []) → Crossing w ins outs a a b
@@ -71,15 +70,13 @@ crossing_none w ins outs a b new count empty = record {
     passed_ = new.passed_;
     dropped_ = new.dropped_;
   };
-  touches = touches_refl (NameIn a outs) (NameIn a outs) a;
+  uses = uses_none Nothing (NameIn a outs) a;
   count = sym (length-items b.pages.items) ∙ ap length new.pages ∙ length-heads (length ins) ∙ sym count;
   files = λ told q lt. (
     [],
     empty told q lt,
     ap (λ l. piece_at l q) new.pages ∙ page_of head_bytes (length ins) q (omega (arith, lt, count)) ∙ sym (append-nil head_bytes),
   );
-  reads = λ m. refl;
-  writes = λ m. refl;
 }
 
 -- writing handles no frame
@@ -95,7 +92,7 @@ module _ (w : Forwarder) (ins : List (List Record)) (outs : List ℕ) (a d : See
       record {
         done = c.done ++ n.0 ∷ [];
         stands = n.1;
-        touches = c.touches;
+        uses = c.uses;
         count = h.count ∙ c.count;
         files = λ told q lt.
             let f = c.files told q lt in
@@ -105,8 +102,6 @@ module _ (w : Forwarder) (ins : List (List Record)) (outs : List ℕ) (a d : See
               f.1,
               ap (λ l. f.0 ++ l) (n.2 q (omega (arith, lt, c.count))) ∙ sym (append_assoc f.0 old more) ∙ ap (λ l. l ++ more) f.2 ∙ sym (capture_more w (q + 1) c.done (n.0 ∷ [])),
             );
-        reads = c.reads;
-        writes = c.writes;
       }
 
   -- as long as one is to come it can be counted
@@ -132,20 +127,20 @@ module _ (w : Forwarder) (ins : List (List Record)) (outs : List ℕ) (a d : See
   -- ---- the outputs as they are now
 
   pub outputs_now : AreOutputs d outs
-  outputs_now = outputs_stay (NameIn a outs) (NameIn a outs) a d c.touches outs outputs
+  outputs_now = outputs_stay (NameIn a outs) (Either Nothing (NameIn a outs)) a d c.uses.touches outs outputs
 
   name_is : (q : ℕ) → q < length outs → name_of d outs q ≡ name_of a outs q
-  name_is q lt = same_name (NameIn a outs) (NameIn a outs) a d c.touches outs outputs q lt
+  name_is q lt = same_name (NameIn a outs) (Either Nothing (NameIn a outs)) a d c.uses.touches outs outputs q lt
 
   told_now : IsTrue a.told → IsTrue d.told
-  told_now told = subst IsTrue (sym c.touches.told) told
+  told_now told = subst IsTrue (sym c.uses.touches.told) told
 
   came : c.done ++ arrivals (left_in ins b.places.items) ≡ arrivals ins
   came = c.stands.order
 
   pub crosses_memory : Crosses w ins outs a d (Err faults.Memory)
   crosses_memory = record {
-    touches = c.touches;
+    uses = uses_refused Nothing (NameIn a outs) a d c.uses;
     whole = λ told q lt. tt;
     front = λ told q lt.
         let f = c.files told q lt in
@@ -153,18 +148,13 @@ module _ (w : Forwarder) (ins : List (List Record)) (outs : List ℕ) (a d : See
     passed_ = tt;
     dropped_ = tt;
     cause = inl refl;
-    reads = c.reads;
-    writes = c.writes;
   }
 
   module _ (d' : Seen) (b' : Bridge) where
-    touches_on : {r : Result (Unit {0}) Failed} → Writes outs b b' d d' r → Touches (NameIn a outs) (NameIn a outs) a d'
-    touches_on wr =
-        touches_trans (NameIn a outs) (NameIn a outs) a d d' c.touches
-        (touches_wider (NameIn d outs) (NameIn d outs) (NameIn a outs) (NameIn a outs) d d' (λ m h. (h.0, h.1, h.2 ∙ name_is h.0 h.1)) (λ m h. (h.0, h.1, h.2 ∙ name_is h.0 h.1)) wr.puts.touches)
-
-    reads_on : {r : Result (Unit {0}) Failed} → Writes outs b b' d d' r → SameReadFaults a d'
-    reads_on wr m = wr.puts.reads m ∙ c.reads m
+    uses_on : (r : Result (Unit {0}) Failed) → Writes outs b b' d d' r → Uses Nothing (NameIn a outs) (end_by (λ e. Write) r) a d'
+    uses_on r wr =
+        uses_then Nothing (NameIn a outs) (end_by (λ e. Write) r) a d d' c.uses
+        (uses_wider Nothing (NameIn d outs) Nothing (NameIn a outs) (λ m x. x) (λ m h. (h.0, h.1, h.2 ∙ name_is h.0 h.1)) (end_by (λ e. Write) r) d d' (puts_each_uses outs (items_in b.pages.items) d d' r wr.puts))
 
     -- the output at a place, as it was before
     had : (told : IsTrue a.told) (q : ℕ) (lt : q < length outs) → d.file (name_of d outs q) ≡ Some (c.files told q lt).0
@@ -185,15 +175,13 @@ module _ (w : Forwarder) (ins : List (List Record)) (outs : List ℕ) (a d : See
             passed_ = same.2 ∙ c.stands.passed_;
             dropped_ = same.3 ∙ c.stands.dropped_;
           };
-          touches = touches_on wr;
+          uses = uses_on (Ok tt) wr;
           count = wr.count ∙ c.count;
           files = λ told q lt. (
             capture w (q + 1) c.done,
             grown wr told q lt,
             ap (λ l. capture w (q + 1) c.done ++ l) (wr.nothing q) ∙ append-nil (capture w (q + 1) c.done),
           );
-          reads = reads_on wr;
-          writes = λ m. wr.puts.counts m ∙ c.writes m;
         }
 
     -- where no page was full nothing changed
@@ -205,19 +193,17 @@ module _ (w : Forwarder) (ins : List (List Record)) (outs : List ℕ) (a d : See
     crosses_all none wr =
         let all : c.done ≡ arrivals ins = sym (append-nil c.done) ∙ ap (λ l. c.done ++ l) (sym (none_next (left_in ins b.places.items) none)) ∙ came in
         record {
-          touches = touches_on wr;
+          uses = uses_on (Ok tt) wr;
           whole = λ told q lt. grown wr told q lt ∙ ap (λ l. Some (capture w (q + 1) l)) all;
           front = λ told q lt. (capture w (q + 1) (arrivals ins), grown wr told q lt ∙ ap (λ l. Some (capture w (q + 1) l)) all, ([], append-nil (capture w (q + 1) (arrivals ins))));
           passed_ = wr.same.2 ∙ c.stands.passed_ ∙ ap (λ l. passed (history w [] l)) all;
           dropped_ = wr.same.3 ∙ c.stands.dropped_ ∙ ap (λ l. dropped (history w [] l)) all;
           cause = tt;
-          reads = reads_on wr;
-          writes = λ m. wr.puts.counts m ∙ c.writes m;
         }
 
     pub crosses_failed : (e : Failed) → Writes outs b b' d d' (Err e) → Crosses w ins outs a d' (Err faults.Write)
     crosses_failed e wr = record {
-      touches = touches_on wr;
+      uses = uses_on (Err e) wr;
       whole = λ told q lt. tt;
       front = λ told q lt.
           let f = c.files told q lt in
@@ -230,16 +216,7 @@ module _ (w : Forwarder) (ins : List (List Record)) (outs : List ℕ) (a d : See
           );
       passed_ = tt;
       dropped_ = tt;
-      cause = let at = wr.puts.cause in inr (
-        refl,
-        (
-          at.0,
-          at.1.within,
-          rose_later _ _ _ (c.touches.writes_rise (name_of a outs at.0)) (subst (λ n. Rose (d.write_faults n) (d'.write_faults n)) (name_is at.0 at.1.within) at.1.rose),
-        ),
-      );
-      reads = reads_on wr;
-      writes = tt;
+      cause = inr refl;
     }
 
     pub crosses_full : (e : Failed) → WritesFull outs b b' d d' (Err e) → Crosses w ins outs a d' (Err faults.Write)

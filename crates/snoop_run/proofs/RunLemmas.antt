@@ -4,18 +4,16 @@ use Rattle.std.specs.Prelude.{String, Result, Vec, map}
 use Rattle.std.specs.Result.{IsErrAnd}
 use Rattle.std.specs.declared.alloc.Global.{Global}
 use Rattle.arrayvec.specs.ArrayVec.{ArrayVec}
-use Rattle.fab_base.specs.Ending.{End, end_by, SparesReads, SparesWrites, Either, Uses}
-use Rattle.fab_base.specs.Seen.{Seen, Rose, SameFiles, SameReadFaults, Touches, Nothing}
-use Rattle.fab_base.proofs.EndingLemmas.{spares_reads, spares_writes_then, counts_reads, counts_writes}
+use Rattle.fab_base.specs.Ending.{End, Said, Write, end_by, Uses}
+use Rattle.fab_base.specs.Seen.{Seen, SameFiles, Nothing}
+use Rattle.fab_base.proofs.EndingLemmas.{uses_none, uses_refused, uses_then, uses_wider}
 use Rattle.fab_base.specs.declared.values.Failed.{Failed}
-use Rattle.fab_base.proofs.SeenLemmas.{touches_refl, touches_trans, touches_wider}
 use Rattle.fab_config.specs.Settings.{Settings}
 use Rattle.fab_base.specs.Counting.{counting}
 use Rattle.fab_policy.specs.Written.{IsPrefixOf}
 use Rattle.pcap_file.specs.declared.Budget.{Budget}
 use Rattle.pcap_file.specs.declared.Record.{Record}
 use Rattle.fab_base.specs.Slots.{slot_at, name_of, NameIn}
-use Rattle.pcap_file.specs.Faults.{gather_end}
 use Rattle.pcap_file.specs.declared.fault.LimitKind.TheVariants as limit
 use Rattle.pcap_file.specs.declared.fault.GatherFault.{GatherFault}
 use Rattle.pcap_file.specs.declared.fault.GatherFault.TheVariants as gather
@@ -24,10 +22,10 @@ use Rattle.fip_snoop.specs.Bridge.{Arrival, arrivals, is_too_long}
 use Rattle.fip_snoop.specs.Messages.{forwarder_of}
 use Rattle.fip_snoop.specs.declared.forwarder.Forwarder.{Forwarder}
 use Rattle.snoop_run.specs.Copies.{capture}
-use Rattle.snoop_run.specs.Bridged.{AmongBoth, IsOldOrFront, AreOldOrFront, HasFronts, HasStop, Ends, Bridges, OverEnds, RunsOver}
+use Rattle.snoop_run.specs.Bridged.{IsOldOrFront, AreOldOrFront, HasFronts, HasStop, Ends, Bridges, OverEnds, RunsOver}
 use Rattle.run_files.specs.Faults.{fault_from, run_end}
 use Rattle.run_files.proofs.FaultLemmas.{same_end}
-use Rattle.run_files.specs.Names.{Among, AnyRose}
+use Rattle.run_files.specs.Names.{Among}
 use Rattle.run_files.specs.declared.fault.RunFault.{RunFault}
 use Rattle.run_files.specs.declared.fault.RunFault.TheVariants as faults
 use Rattle.snoop_run.specs.Crossing.{unless_too_long, crossing, captures}
@@ -39,8 +37,9 @@ use Rattle.snoop_run.specs.State.{IsNew, Crosses}
 use Rattle.snoop_run.specs.declared.bridge.Bridge.{Bridge}
 use Rattle.snoop_run.specs.declared.run.Crossed.{Crossed}
 use Rattle.snoop_run.proofs.NameLemmas.{outputs_differ}
-use Rattle.run_files.proofs.NameLemmas.{counted_among, rose_among, rose_since, length-counted}
+use Rattle.run_files.proofs.NameLemmas.{counted_among, among_rose, length-counted}
 use Rattle.run_files.proofs.OpenLemmas.{At, slots_count, there, are_outputs}
+use Rattle.run_files.proofs.OutputLemmas.{uses_outputs}
 
 -- ---- files by place, and by name
 
@@ -88,10 +87,10 @@ module _ (sides : List (String Global)) (ins : List (List Record)) (c : Settings
   outs_count = length-counted (output_at sides) 0 n
 
   pub over_long : is_too_long came ≡ true → RunsOver outs ins c a a (Err (faults.Limit limit.Span))
-  over_long long = record { touches = touches_refl (Among outs) (Among outs) a; ends = (λ m. refl, long); reads = λ m. refl; writes = λ m. refl }
+  over_long long = record { ends = (λ m. refl, long); uses = uses_none Nothing (Among outs) a }
 
   pub over_memory : is_too_long came ≡ false → RunsOver outs ins c a a (Err faults.Memory)
-  over_memory short = record { touches = touches_refl (Among outs) (Among outs) a; ends = (short, inl (λ m. refl)); reads = λ m. refl; writes = λ m. refl }
+  over_memory short = record { ends = (short, inl (λ m. refl)); uses = uses_refused Nothing (Among outs) a a (uses_none Nothing (Among outs) a) }
 
   -- the wholes, by port
   wholes_are : captures c (length outs) came ≡ map (λ q. capture (forwarder_of c) q came) (counting 1 n)
@@ -99,17 +98,14 @@ module _ (sides : List (String Global)) (ins : List (List Record)) (c : Settings
 
   pub over_unopened : (b : Seen) (e : Failed) → is_too_long came ≡ false → OpensOutputs outs a b (Err e) → RunsOver outs ins c a b (Err faults.Write)
   over_unopened b e short o = record {
-    touches = o.opens.touches;
     ends = (
       short,
-      o.cause,
       λ told.
           subst (AreOldOrFront a b outs) (sym wholes_are)
           (fronts_by a b (output_at sides) (λ q. capture (forwarder_of c) q came) 0 1 n (λ q lt.
           elim (o.opens.each told (output_at sides (0 + q))) [ inl same ↦ inl same | inr empty ↦ inr ([], empty, (capture (forwarder_of c) (1 + q) came, refl)) ])),
     );
-    reads = o.opens.reads;
-    writes = tt;
+    uses = uses_outputs (Among outs) Write a b o.opens.touches (among_rose a.write_faults b.write_faults outs o.cause, o.opens.reads);
   }
 
   module _ (b d : Seen) (slots : ArrayVec ℕ) (different : AreDifferent sides) (o : OpensOutputs outs a b (Ok slots)) where
@@ -132,8 +128,10 @@ module _ (sides : List (String Global)) (ins : List (List Record)) (c : Settings
     among m h = subst (Among outs) (sym (h.2 ∙ (at h.0 h.1).name_is)) (counted_among (output_at sides) 0 n h.0 (omega arith) (omega (arith, h.1, opened_count)))
 
     module _ {r : Result Crossed RunFault} (x : Crosses (forwarder_of c) ins slots.items b d r) where
-      touches_on : Touches (Among outs) (Among outs) a d
-      touches_on = touches_trans (Among outs) (Among outs) a b d o.opens.touches (touches_wider (NameIn b slots.items) (NameIn b slots.items) (Among outs) (Among outs) b d among among x.touches)
+      uses_on : Uses Nothing (Among outs) (end_by run_end r) a d
+      uses_on =
+          uses_then Nothing (Among outs) (end_by run_end r) a b d (uses_outputs (Among outs) Said a b o.opens.touches (o.opens.reads, o.counts))
+          (uses_wider Nothing (NameIn b slots.items) Nothing (Among outs) (λ m h. h) among (end_by run_end r) b d x.uses)
 
       -- the file of a port
       named : (q : ℕ) → q < n → {l : List ℕ} → ((lt : q < length slots.items) → d.file (name_of b slots.items q) ≡ Some l) → d.file (output_at sides q) ≡ Some l
@@ -149,17 +147,6 @@ module _ (sides : List (String Global)) (ins : List (List Record)) (c : Settings
           let one : q + 1 ≡ 1 + q = omega arith in
           inr (f.0, ap (λ (i : ℕ). d.file (output_at sides i)) (sym zq) ∙ named q lt (λ lt'. f.1), subst (λ (i : ℕ). IsPrefixOf f.0 (capture (forwarder_of c) i came)) one f.2)))
 
-      rose_on : (q : ℕ) → q < length slots.items → Rose (b.write_faults (name_of b slots.items q)) (d.write_faults (name_of b slots.items q)) → AnyRose a.write_faults d.write_faults outs
-      rose_on q lt rose =
-          rose_since a.write_faults b.write_faults d.write_faults o.opens.touches.writes_rise outs
-          (rose_among b.write_faults d.write_faults outs (name_of b slots.items q) (among (name_of b slots.items q) (q, lt, refl)) rose)
-
-      reads_on : SameReadFaults a d
-      reads_on m = x.reads m ∙ o.opens.reads m
-
-      writes_on : SparesWrites (end_by run_end r) a d
-      writes_on = spares_writes_then (end_by run_end r) a b d o.counts x.writes
-
     whole_on : (done : Crossed) → Crosses (forwarder_of c) ins slots.items b d (Ok done) → IsTrue a.told → map (λ m. d.file m) outs ≡ map (λ l. Some l) (captures c (length outs) came)
     whole_on done x told =
         files_by d (output_at sides) (λ q. capture (forwarder_of c) q came) 0 1 n (λ q lt.
@@ -169,9 +156,14 @@ module _ (sides : List (String Global)) (ins : List (List Record)) (c : Settings
         ∙ ap (λ l. map (λ l. Some l) l) (sym wholes_are)
 
     pub over_crossed : (r : Result Crossed RunFault) → is_too_long came ≡ false → Crosses (forwarder_of c) ins slots.items b d r → RunsOver outs ins c a d r
-    over_crossed (Ok done) short x = record { touches = touches_on x; ends = (short, whole_on done x, x.passed_, x.dropped_); reads = reads_on x; writes = writes_on x }
-    over_crossed (Err e) short x =
-        record { touches = touches_on x; ends = elim x.cause [ inl memory ↦ subst (λ f. OverEnds outs ins c a d (Err f)) (sym memory) (short, inr (fronts_on x)) | inr write ↦ subst (λ f. OverEnds outs ins c a d (Err f)) (sym write.0) (short, rose_on x write.1.0 write.1.1 write.1.2, fronts_on x) ]; reads = reads_on x; writes = writes_on x }
+    over_crossed (Ok done) short x = record { ends = (short, whole_on done x, x.passed_, x.dropped_); uses = uses_on x }
+    over_crossed (Err e) short x = record {
+      ends = elim x.cause [
+        | inl memory ↦ subst (λ f. OverEnds outs ins c a d (Err f)) (sym memory) (short, inr (fronts_on x))
+        | inr write ↦ subst (λ f. OverEnds outs ins c a d (Err f)) (sym write) (short, fronts_on x)
+      ];
+      uses = uses_on x;
+    }
 
 -- a new bridge is one of its own forwarder
 pub own_new : (w : Forwarder) (n : ℕ) (b : Bridge) → IsNew w n b → IsNew b.snoop.forwarder n b
@@ -183,20 +175,15 @@ own_crosses w n b ins slots a d r new x = subst (λ v. Crosses v ins slots a d r
 -- ---- over files
 
 module _ (inn outs : List (List ℕ)) (budget : Budget) (c : Settings) (a b : Seen) where
-  read_touches : {end : End} → Uses (Among inn) Nothing end a b → Touches (Among outs) (AmongBoth inn outs) a b
-  read_touches k = touches_wider Nothing (Either (Among inn) Nothing) (Among outs) (AmongBoth inn outs) a b (λ m x. absurd x) input k.touches
-    where
-      input : (m : List ℕ) → Either (Among inn) Nothing m → AmongBoth inn outs m
-      input m (inl x) = inl x
-      input m (inr x) = absurd x
+  -- the inputs alone were used
+  input_uses : (end : End) → Uses (Among inn) Nothing end a b → Uses (Among inn) (Among outs) end a b
+  input_uses end = uses_wider (Among inn) Nothing (Among inn) (Among outs) (λ m x. x) (λ m x. absurd x) end a b
 
   pub bridges_stopped : (result : Result Crossed RunFault) (g : GatherFault) → IsErrAnd result (λ e. e ≡ fault_from g) → ReadsInputs inn a b budget (Err g) → Bridges inn outs budget c a b result
   bridges_stopped (Ok done) g is r = absurd is
   bridges_stopped (Err e) g is r = subst (λ x. Bridges inn outs budget c a b (Err x)) (sym is) (record {
-    touches = read_touches r.uses;
     ends = ended g r;
-    reads = subst (λ end. SparesReads end a b) (sym (same_end g)) (counts_reads _ _ (gather_end g) a b r.uses.counts);
-    writes = subst (λ end. SparesWrites end a b) (sym (same_end g)) (counts_writes _ _ (gather_end g) a b r.uses.counts);
+    uses = input_uses (run_end (fault_from g)) (subst (λ end. Uses (Among inn) Nothing end a b) (sym (same_end g)) r.uses);
   })
     where
       stop : (e : GatherFault) → captures_by 1 budget (map (λ n. a.file n) inn) ≡ Err e → HasStop inn budget a e
@@ -205,7 +192,7 @@ module _ (inn outs : List (List ℕ)) (budget : Budget) (c : Settings) (a b : Se
       ended : (e : GatherFault) → ReadsInputs inn a b budget (Err e) → Ends inn outs budget c a b (Err (fault_from e))
       ended (gather.Capture port at why) r = (λ m. r.uses.touches.files m (λ x. x), λ told. stop (gather.Capture port at why) (r.stops told tt))
       ended (gather.Limit kind) r = (λ m. r.uses.touches.files m (λ x. x), λ told. stop (gather.Limit kind) (r.stops told tt))
-      ended gather.Read r = (λ m. r.uses.touches.files m (λ x. x), (let rose = r.uses.counts.0 in rose_among a.read_faults b.read_faults inn rose.0 rose.1 rose.2), λ told. r.first told refl)
+      ended gather.Read r = (λ m. r.uses.touches.files m (λ x. x), λ told. r.first told refl)
       ended gather.Memory r = λ told. inl (λ m. r.uses.touches.files m (λ x. x))
 
   module _ (law : TakenAreCaptures) (v : Vec (List Record) Global) (read : ReadsInputs inn a b budget (Ok v)) (d : Seen) where
@@ -238,14 +225,12 @@ module _ (inn outs : List (List ℕ)) (budget : Budget) (c : Settings) (a b : Se
     ended (Err (faults.Limit limit.Frames)) e = absurd e
     ended (Err (faults.Limit limit.Span)) e = (λ m. e.0 m ∙ same_b m, λ told. too_long told e.1)
     ended (Err faults.Read) e = absurd e
-    ended (Err faults.Write) e = (rose_since a.write_faults b.write_faults d.write_faults read.uses.touches.writes_rise outs e.1, λ told. fronts told e.0 e.2)
+    ended (Err faults.Write) e = λ told. fronts told e.0 e.1
     ended (Err faults.Memory) e = λ told. elim e.1 [ inl same ↦ inl (λ m. same m ∙ same_b m) | inr are ↦ inr (fronts told e.0 are) ]
 
     pub bridges_over : (r : Result Crossed RunFault) → RunsOver outs v.items c b d r → Bridges inn outs budget c a d r
     bridges_over r over = record {
-      touches = touches_trans (Among outs) (AmongBoth inn outs) a b d (read_touches read.uses)
-          (touches_wider (Among outs) (Among outs) (Among outs) (AmongBoth inn outs) b d (λ m x. x) (λ m x. inr x) over.touches);
       ends = ended r over.ends;
-      reads = spares_reads (end_by run_end r) a d (λ other m. over.reads m ∙ read.uses.counts.0 m);
-      writes = spares_writes_then (end_by run_end r) a b d read.uses.counts.1 over.writes;
+      uses = uses_then (Among inn) (Among outs) (end_by run_end r) a b d (input_uses Said read.uses)
+          (uses_wider Nothing (Among outs) (Among inn) (Among outs) (λ m x. absurd x) (λ m x. x) (end_by run_end r) b d over.uses);
     }

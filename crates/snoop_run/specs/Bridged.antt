@@ -1,7 +1,7 @@
 -- What a bridge leaves in its outputs, by how it ends.
 use Rattle.std.specs.Prelude.{◌≡◌, ℕ, ◌⊎◌, true, false, IsTrue, List, [], ◌∷◌, length, map, Some, Result, Ok, Err}
-use Rattle.fab_base.specs.Ending.{end_by, SparesReads, SparesWrites}
-use Rattle.fab_base.specs.Seen.{Seen, SameFiles, SameReadFaults, Touches}
+use Rattle.fab_base.specs.Ending.{end_by, Uses}
+use Rattle.fab_base.specs.Seen.{Seen, SameFiles, Nothing}
 use Rattle.fab_config.specs.Settings.{Settings}
 use Rattle.fab_policy.specs.Written.{IsPrefixOf}
 use Rattle.pcap_file.specs.declared.Budget.{Budget}
@@ -13,18 +13,12 @@ use Rattle.pcap_file.specs.Captures.{captures_by}
 use Rattle.fip_snoop.specs.Bridge.{Arrival, arrivals, is_too_long, history, passed, dropped}
 use Rattle.fip_snoop.specs.Messages.{forwarder_of}
 use Rattle.run_files.specs.Faults.{run_end}
-use Rattle.run_files.specs.Names.{Among, AnyRose}
+use Rattle.run_files.specs.Names.{Among}
 use Rattle.run_files.specs.declared.fault.RunFault.{RunFault}
 use Rattle.run_files.specs.declared.fault.RunFault.TheVariants as faults
 use Rattle.snoop_run.specs.Crossing.{crossing, captures, IsFirstUnread}
 use Rattle.snoop_run.specs.Laws.{AreCaptures}
 use Rattle.snoop_run.specs.declared.run.Crossed.{Crossed}
-
--- ---- names
-
--- one of either
-abbrev pub AmongBoth : List (List ℕ) → List (List ℕ) → List ℕ → Type 0
-AmongBoth ins outs m = Among ins m ⊎ Among outs m
 
 -- ---- files
 
@@ -67,17 +61,15 @@ abbrev pub Ends : List (List ℕ) → List (List ℕ) → Budget → Settings �
 Ends ins outs budget c old new (Ok done) = IsTrue old.told → HasBridged ins outs budget c old new done
 Ends ins outs budget c old new (Err (faults.Capture port at why)) = SameFiles old new × (IsTrue old.told → HasStop ins budget old (gather.Capture port at why))
 Ends ins outs budget c old new (Err (faults.Limit kind)) = SameFiles old new × (IsTrue old.told → HasStop ins budget old (gather.Limit kind))
-Ends ins outs budget c old new (Err faults.Read) = SameFiles old new × AnyRose old.read_faults new.read_faults ins × (IsTrue old.told → IsFirstUnread ins budget old new)
-Ends ins outs budget c old new (Err faults.Write) = AnyRose old.write_faults new.write_faults outs × (IsTrue old.told → HasFronts ins outs budget c old new)
+Ends ins outs budget c old new (Err faults.Read) = SameFiles old new × (IsTrue old.told → IsFirstUnread ins budget old new)
+Ends ins outs budget c old new (Err faults.Write) = IsTrue old.told → HasFronts ins outs budget c old new
 Ends ins outs budget c old new (Err faults.Memory) = IsTrue old.told → SameFiles old new ⊎ HasFronts ins outs budget c old new
 
--- However it ends, no file changes but the outputs, and no count rises but those of inputs and outputs; one of reading changes
--- only where it ends with `Read`, and one of writing only where it ends with `Write`.
+-- However it ends, no file changes but the outputs, and of the faults of the store exactly that is counted in which it ends: one of
+-- reading an input, or of writing an output.
 pub record Bridges (ins outs : List (List ℕ)) (budget : Budget) (c : Settings) (old new : Seen) (result : Result Crossed RunFault) : Type 0 where
-  pub touches : Touches (Among outs) (AmongBoth ins outs) old new
   pub ends : Ends ins outs budget c old new result
-  pub reads : SparesReads (end_by run_end result) old new
-  pub writes : SparesWrites (end_by run_end result) old new
+  pub uses : Uses (Among ins) (Among outs) (end_by run_end result) old new
 
 -- ---- inside the crate
 
@@ -90,13 +82,11 @@ OverEnds outs ins c old new (Ok done) =
     × (done.dropped ≡ dropped (history (forwarder_of c) [] (arrivals ins)))
 OverEnds outs ins c old new (Err (faults.Limit limit.Span)) = SameFiles old new × (is_too_long (arrivals ins) ≡ true)
 OverEnds outs ins c old new (Err faults.Write) =
-    (is_too_long (arrivals ins) ≡ false) × AnyRose old.write_faults new.write_faults outs × (IsTrue old.told → AreOldOrFront old new outs (captures c (length outs) (arrivals ins)))
+    (is_too_long (arrivals ins) ≡ false) × (IsTrue old.told → AreOldOrFront old new outs (captures c (length outs) (arrivals ins)))
 OverEnds outs ins c old new (Err faults.Memory) =
     (is_too_long (arrivals ins) ≡ false) × (SameFiles old new ⊎ (IsTrue old.told → AreOldOrFront old new outs (captures c (length outs) (arrivals ins))))
 OverEnds outs ins c old new (Err fault) = ⊥
 
 pub record RunsOver (outs : List (List ℕ)) (ins : List (List Record)) (c : Settings) (old new : Seen) (result : Result Crossed RunFault) : Type 0 where
-  pub touches : Touches (Among outs) (Among outs) old new
   pub ends : OverEnds outs ins c old new result
-  pub reads : SameReadFaults old new
-  pub writes : SparesWrites (end_by run_end result) old new
+  pub uses : Uses Nothing (Among outs) (end_by run_end result) old new

@@ -1,7 +1,7 @@
 -- What stands of a bridge between two frames.
 use Rattle.std.specs.Prelude.{◌≡◌, ℕ, ◌+◌, ◌^◌, ◌<◌, ◌≤◌, ◌⊎◌, IsTrue, List, [], ◌∷◌, ◌++◌, length, replicate, slice_index, Some, Result, Ok, IfOk, IfErr, OnOk}
-use Rattle.fab_base.specs.Ending.{end_by, SparesWrites}
-use Rattle.fab_base.specs.Seen.{Seen, Rose, SameReadFaults, Touches}
+use Rattle.fab_base.specs.Ending.{end_by, Uses}
+use Rattle.fab_base.specs.Seen.{Seen, Nothing}
 use Rattle.fab_base.specs.declared.values.Failed.{Failed}
 use Rattle.fab_policy.specs.Written.{IsPrefixOf}
 use Rattle.pcap_file.specs.Capture.{head_bytes}
@@ -83,11 +83,9 @@ WritesFull outs old new a b result = Writes outs old new a b result ⊎ ((new �
 
 -- What handling all frames does: each output holds the capture of its port, or, where it ends early, a front of it.
 pub record Crosses (w : Forwarder) (ins : List (List Record)) (outs : List ℕ) (old new : Seen) (result : Result Crossed RunFault) : Type 0 where
-  pub touches : Touches (NameIn old outs) (NameIn old outs) old new
+  pub uses : Uses Nothing (NameIn old outs) (end_by run_end result) old new
   pub whole : IsTrue old.told → (q : ℕ) → q < length outs → IfOk result (λ done. new.file (name_of old outs q) ≡ Some (capture w (q + 1) (arrivals ins)))
   pub front : IsTrue old.told → (q : ℕ) → q < length outs → (bytes : List ℕ) × (new.file (name_of old outs q) ≡ Some bytes) × IsPrefixOf bytes (capture w (q + 1) (arrivals ins))
   pub passed_ : IfOk result (λ done. done.passed ≡ passed (history w [] (arrivals ins)))
   pub dropped_ : IfOk result (λ done. done.dropped ≡ dropped (history w [] (arrivals ins)))
-  pub cause : IfErr result (λ e. (e ≡ faults.Memory) ⊎ ((e ≡ faults.Write) × ((q : ℕ) × (q < length outs) × Rose (old.write_faults (name_of old outs q)) (new.write_faults (name_of old outs q)))))
-  pub reads : SameReadFaults old new
-  pub writes : SparesWrites (end_by run_end result) old new
+  pub cause : IfErr result (λ e. (e ≡ faults.Memory) ⊎ (e ≡ faults.Write))
