@@ -39,7 +39,7 @@ use Rattle.run_files.specs.Names.{Among, AnyRose}
 use Rattle.run_files.specs.Opening.{AreEmptyOutputs}
 use Rattle.fab_base.proofs.EndingLemmas.{none_then}
 use Rattle.run_files.proofs.NameLemmas.{rose_among, rose_since, length-counted, counted_among}
-use Rattle.run_files.proofs.OpenLemmas.{there, slots_count, are_outputs}
+use Rattle.run_files.proofs.OpenLemmas.{there, slots_count, are_outputs, up_to_rose}
 use Rattle.fabric_tool.specs.Command.{LiveWords, Live, AllKnown, KeepsOthers, is_live, live_of, live_count, came_at, sent_at, by_port}
 use Rattle.fabric_tool.specs.Inputs.{HasConfig, HasCapture, AreCaptures, LIMITS}
 use Rattle.fabric_tool.specs.Left.{HoldsAll, HoldsFronts, AreOldOrFront, LegalIsSafe}
@@ -362,7 +362,7 @@ module _ (words : List (String Global)) (live : is_live words ≡ true) (safe : 
     not_recorded r =
         let all = kk.journal ∷ by_port kk.ins kk.outs in (
           λ name none. r.opens.touches.files name (none_among all name none) ∙ same_s name,
-          rose_since old.write_faults s.write_faults a.write_faults (λ name. le_trans ((reads_touches kk.config old m reads).writes_rise name) ((reads_touches kk.stream m s o.reads).writes_rise name)) all r.cause,
+          rose_since old.write_faults s.write_faults a.write_faults (λ name. le_trans ((reads_touches kk.config old m reads).writes_rise name) ((reads_touches kk.stream m s o.reads).writes_rise name)) all (up_to_rose all s a r.cause),
           λ told. record {
             halt = begun (s.left stream) told (stream_file told);
             journal = [];

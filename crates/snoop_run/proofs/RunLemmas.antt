@@ -40,7 +40,7 @@ use Rattle.snoop_run.specs.declared.bridge.Bridge.{Bridge}
 use Rattle.snoop_run.specs.declared.run.Crossed.{Crossed}
 use Rattle.snoop_run.proofs.NameLemmas.{outputs_differ}
 use Rattle.run_files.proofs.NameLemmas.{counted_among, rose_among, rose_since, length-counted}
-use Rattle.run_files.proofs.OpenLemmas.{At, slots_count, there, are_outputs}
+use Rattle.run_files.proofs.OpenLemmas.{At, slots_count, there, are_outputs, up_to_rose}
 
 -- ---- files by place, and by name
 
@@ -102,7 +102,7 @@ module _ (sides : List (String Global)) (ins : List (List Record)) (c : Settings
     touches = o.opens.touches;
     ends = (
       short,
-      o.cause,
+      up_to_rose outs a b o.cause,
       λ told.
           subst (AreOldOrFront a b outs) (sym wholes_are)
           (fronts_by a b (output_at sides) (λ q. capture (forwarder_of c) q came) 0 1 n (λ q lt.
