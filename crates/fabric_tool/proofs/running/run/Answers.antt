@@ -3,7 +3,6 @@ use Rattle.fab_base.specs.Places.{name_at}
 use Rattle.fabric_tool.specs.Command.{Run, run_of, input_at, port_count}
 use Rattle.fabric_tool.specs.Running.{RunHolds}
 use Rattle.run_files.proofs.NameLemmas.{length-counted}
-use Rattle.run_files.proofs.OpenLemmas.{up_to_rose}
 use Rattle.fab_base.proofs.EndingLemmas.{none_then}
 use Rattle.fabric_tool.proofs.RanLemmas.{not_opened, some_ports, same_count, one_a_port, given_as, runs_as, windows_ended}
 use Rattle.fabric_tool.proofs.TouchLemmas.{own_then, own_read, own_written, windows_own}
@@ -22,7 +21,7 @@ returns-in-Err-open_outputs g c =
     let opens = c.in-Err-open_outputs.ensures.opens in
     record {
       holds = not_opened (run_of c.args.words.now) c.in-Ok.ready.fabric.settings (seen c.args.depot.now) (seen c.prepare.new.depot) (seen c.open_outputs.new.depot) c.in-Ok.ready.ins.items p.config p.touches p.heads opens.opens
-          c.records_come_later.ensures.nothing (up_to_rose _ _ _ opens.cause);
+          c.records_come_later.ensures.nothing opens.cause;
       touches = let k = Run (run_of c.args.words.now) in own_then k _ _ _ (own_read k _ _ _ (λ m x. x) p.touches) (own_written k _ _ opens.opens.touches);
     }
 
