@@ -1,12 +1,12 @@
 -- What follows from how `live` ended.
-use Rattle.std.proofs.Common.{◌≡◌, ℕ, List, [], length, ◌⊎◌, arith, inl, inr}
+use Rattle.std.proofs.Common.{◌≡◌, ℕ, List, [], ◌∷◌, length, ◌⊎◌, arith, inl, inr}
 use Rattle.fab_base.specs.Seen.{Seen, SameFiles}
 use Rattle.fab_config.specs.Settings.{Settings}
 use Rattle.pcapng_file.specs.declared.NgRecord.{NgRecord}
 use Rattle.pcapng_file.specs.declared.fault.NgWhy.{NgWhy}
 use Rattle.pcap_file.specs.declared.fault.LimitKind.{LimitKind}
 use Rattle.pcap_file.specs.declared.fault.LimitKind.TheVariants as kinds
-use Rattle.fabric_tool.specs.Command.{LiveWords}
+use Rattle.fabric_tool.specs.Command.{LiveWords, by_port}
 use Rattle.fabric_tool.specs.Ends.{TakesMemory}
 use Rattle.fabric_tool.specs.Inputs.{LIMITS}
 use Rattle.fabric_tool.specs.Living.{session_of, all_came, HasLived, HasHalted, HasLiveFront, IsBegun, IsFaulty, IsNoPort, IsPast, IsLiveRefused, live_end, LiveHolds}
@@ -35,7 +35,7 @@ module _ (k : LiveWords) (old new : Seen) where
         journal = s.journal;
         run = s.run;
         files = record {
-          sent = whole_fronts (session_of k) h.halt.settings old new s.journal s.files.sent;
+          sent = whole_fronts (session_of k) (k.journal ∷ by_port k.ins k.outs) h.halt.settings old new s.journal s.files.sent;
           came = all_fronts old new k.ins (all_came (length k.ins) h.halt.packets) s.files.came;
         };
       }

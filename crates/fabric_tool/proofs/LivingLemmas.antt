@@ -35,14 +35,14 @@ use Rattle.fab_live.specs.Live.{AreGiven, HoldLive, HoldSome, IsLiveRun, LeftWho
 use Rattle.fab_live.specs.declared.fault.LiveFault.{LiveFault}
 use Rattle.fab_live.specs.declared.fault.LiveFault.TheVariants as fault
 use Rattle.fab_replay.proofs.OneLemmas.{same_frames}
-use Rattle.run_files.specs.Names.{Among, AnyRose}
+use Rattle.run_files.specs.Names.{Among}
 use Rattle.run_files.specs.Opening.{AreEmptyOutputs}
 use Rattle.fab_base.proofs.EndingLemmas.{none_then}
 use Rattle.run_files.proofs.NameLemmas.{rose_among, rose_since, length-counted, counted_among}
-use Rattle.run_files.proofs.OpenLemmas.{there, slots_count, are_outputs}
+use Rattle.run_files.proofs.OpenLemmas.{there, slots_count, are_outputs, up_to_rose}
 use Rattle.fabric_tool.specs.Command.{LiveWords, Live, AllKnown, KeepsOthers, is_live, live_of, live_count, came_at, sent_at, by_port}
 use Rattle.fabric_tool.specs.Inputs.{HasConfig, HasCapture, AreCaptures, LIMITS}
-use Rattle.fabric_tool.specs.Left.{HoldsAll, HoldsFronts, AreOldOrFront, LegalIsSafe}
+use Rattle.fabric_tool.specs.Left.{AreUnwritten, HoldsAll, HoldsFronts, AreOldOrFront, LegalIsSafe}
 use Rattle.fabric_tool.specs.Living.{session_of, came_on, all_came, HoldsSession, HoldsSessionFronts, HasSession, HasLived, HasHalt, HasHalted, HasLiveFront, IsBegun, IsFaulty, IsNoPort, IsPast, IsLiveRefused, LiveHolds}
 use Rattle.fabric_tool.specs.Opening.{RecordedOpened, lived_by}
 use Rattle.fabric_tool.specs.Preparing.{IsNew, IsLivePrepared}
@@ -53,7 +53,7 @@ use Rattle.fabric_tool.specs.declared.outcome.Outcome.TheVariants as ends
 use Rattle.fabric_tool.proofs.AmongLemmas.{none_among}
 use Rattle.fabric_tool.proofs.HeadLemmas.{not_unread}
 use Rattle.fabric_tool.proofs.LiveWordLemmas.{both, outputs_split, among_came, among_sent, live_names, came_once, sent_once, came_sent, came_first, sent_first, config_apart, stream_apart}
-use Rattle.fabric_tool.proofs.PartLemmas.{empty_fronts}
+use Rattle.fabric_tool.proofs.PartLemmas.{empty_fronts, unwritten}
 use Rattle.fabric_tool.proofs.RanLemmas.{AreNamed, named_still, named_at, in_order_as, held, held_fronts}
 
 -- ---- what came is read back
@@ -346,12 +346,12 @@ module _ (words : List (String Global)) (live : is_live words ≡ true) (safe : 
     begun : (bytes : List ℕ) → IsTrue old.told → old.file kk.stream ≡ Some bytes → HasHalt kk IsBegun old
     begun bytes told file = record { settings = c; config = config told; bytes = bytes; stream = file; packets = []; faces = tt; span = tt; why = (before_all, bytes, (zero, (refl, refl, refl))) }
 
-    empty_session : ((name : List ℕ) → (a.file name ≡ old.file name) ⊎ (a.file name ≡ Some [])) → HoldsSessionFronts kk c old a [] []
-    empty_session each = record {
+    empty_session : ((name : List ℕ) → (a.file name ≡ old.file name) ⊎ (a.file name ≡ Some [])) → AreUnwritten (kk.journal ∷ by_port kk.ins kk.outs) old a → HoldsSessionFronts kk c old a [] []
+    empty_session each order = record {
       sent = record {
         lines = elim (each kk.journal) [ inl same ↦ inl same | inr empty ↦ inr ([], empty, (text [], refl)) ];
         captures = empty_fronts old a each kk.outs (λ p. egress c (length kk.outs) p []) 1;
-        order = inl each;
+        order = inl order;
       };
       came = empty_fronts old a each kk.ins (came_on []) 0;
     }
@@ -362,12 +362,12 @@ module _ (words : List (String Global)) (live : is_live words ≡ true) (safe : 
     not_recorded r =
         let all = kk.journal ∷ by_port kk.ins kk.outs in (
           λ name none. r.opens.touches.files name (none_among all name none) ∙ same_s name,
-          rose_since old.write_faults s.write_faults a.write_faults (λ name. le_trans ((reads_touches kk.config old m reads).writes_rise name) ((reads_touches kk.stream m s o.reads).writes_rise name)) all r.cause,
+          rose_since old.write_faults s.write_faults a.write_faults (λ name. le_trans ((reads_touches kk.config old m reads).writes_rise name) ((reads_touches kk.stream m s o.reads).writes_rise name)) all (up_to_rose all s a r.cause),
           λ told. record {
             halt = begun (s.left stream) told (stream_file told);
             journal = [];
             run = nothing_lived nothing c (length kk.outs);
-            files = empty_session (λ name. elim (r.opens.each (told_s told) name) [ inl same ↦ inl (same ∙ same_s name) | inr empty ↦ inr empty ]);
+            files = empty_session (λ name. elim (r.opens.each (told_s told) name) [ inl same ↦ inl (same ∙ same_s name) | inr empty ↦ inr empty ]) (unwritten all old s a same_s (told_s told) r.cause);
           },
           λ name. r.opens.reads name ∙ quiet_s.0 name,
         )

@@ -25,7 +25,7 @@ use Rattle.run_files.proofs.NameLemmas.{among_counted, counted_among, rose_among
 use Rattle.fabric_tool.proofs.GivenLemmas.{IsOut, output_named, outputs_count}
 use Rattle.fabric_tool.proofs.NameLemmas.{and_true, words_differ, name_counted}
 use Rattle.fabric_tool.proofs.TouchLemmas.{own_then, own_wider, own_written}
-use Rattle.run_files.proofs.OpenLemmas.{OpenedSoFar, opened_more, opened_failed}
+use Rattle.run_files.proofs.OpenLemmas.{OpenedSoFar, opened_more, opened_failed, up_to_rose}
 
 -- ---- the words
 
@@ -150,7 +150,7 @@ module _ (words : List (String Global)) (make : is_make words ≡ true) (b : See
 pub not_opened : (number : ℕ) (words : List (String Global)) (a b : Seen) (e : Failed) → FilesOpened (files_of words) a b (Err e) → MakeHolds (make_of number words) a b ends.WriteFault
 not_opened number words a b e o = (
   λ m none. o.opens.touches.files m (none_among (files_of words) m none),
-  o.cause,
+  up_to_rose (files_of words) a b o.cause,
   λ told q lt. elim (o.opens.each told (file_name (make_of number words) q)) [
     | inl same ↦ inl same
     | inr empty ↦ inr ([], empty, (file_text number q, refl))

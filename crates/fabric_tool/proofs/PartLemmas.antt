@@ -1,9 +1,9 @@
 -- Runs over a part of the records, and files that hold a front of what they are to hold.
-use Rattle.std.proofs.Common.{◌≡◌, ℕ, zero, suc, ◌+◌, ◌<◌, ◌≤◌, List, [], ◌∷◌, ◌⊎◌, length, true, if◌then◌else◌, Some, None, refl, sym, ap, ◌∙◌, subst, arith, inl, inr}
+use Rattle.std.proofs.Common.{◌≡◌, ℕ, zero, suc, ◌+◌, ◌<◌, ◌≤◌, List, [], ◌∷◌, ◌⊎◌, length, true, if◌then◌else◌, Some, None, IsTrue, refl, sym, ap, ◌∙◌, subst, arith, inl, inr}
 use Rattle.std.specs.Prelude.{map, filter, get_or, nat_lt, Bool}
 use Rattle.std.proofs.lemmas.Bool.{lt-ltb}
 use Rattle.std.proofs.lemmas.List.{append-nil}
-use Rattle.fab_base.specs.Seen.{Seen}
+use Rattle.fab_base.specs.Seen.{Seen, SameFiles}
 use Rattle.fab_config.specs.Settings.{Settings}
 use Rattle.pcap_file.specs.declared.Record.{Record}
 use Rattle.fab_policy.specs.Growing.{NothingIsRun}
@@ -14,9 +14,10 @@ use Rattle.fab_gather.specs.Looks.{Opened, all_records, kept}
 use Rattle.fab_policy.specs.Text.{text, egress}
 use Rattle.fab_policy.specs.Written.{before, egresses}
 use Rattle.fab_windows.specs.Run.{IsRunOver}
+use Rattle.run_files.specs.Opening.{OpenedUpTo}
 use Rattle.fabric_tool.specs.Command.{RunNames}
 use Rattle.fabric_tool.specs.Inputs.{HasInputs, kept_of}
-use Rattle.fabric_tool.specs.Left.{HoldsAll, HoldsFronts, IsOldOrFront, AreOldOrFront, HasRun, HasStopped, HasWholePart, HasFrontPart}
+use Rattle.fabric_tool.specs.Left.{AreUnwritten, HoldsAll, HoldsFronts, IsOldOrFront, AreOldOrFront, HasRun, HasStopped, HasWholePart, HasFrontPart}
 
 -- ---- a moment behind all records
 
@@ -65,8 +66,8 @@ at_port d (n ∷ names) g k are (suc q) lt =
     let e : k + 1 + q ≡ k + suc q = omega arith in
     at_port d names g (k + 1) rest q (omega arith) ∙ ap (λ (p : ℕ). Some (g p)) e
 
-pub whole_fronts : (k : RunNames) (c : Settings) (old new : Seen) (J : Journal) → HoldsAll k c new J → HoldsFronts k c old new J
-whole_fronts k c old new J holds = record {
+pub whole_fronts : (k : RunNames) (names : List (List ℕ)) (c : Settings) (old new : Seen) (J : Journal) → HoldsAll k c new J → HoldsFronts k names c old new J
+whole_fronts k names c old new J holds = record {
   lines = inr (text J, holds.lines, ([], append-nil (text J)));
   captures = all_fronts old new k.outs (egresses c (length k.outs) J) holds.captures;
   order = inr (record {
@@ -87,11 +88,11 @@ whole_part k c opened old new J inputs run holds = record {
   moment = above_all c (kept_of c opened);
   journal = J;
   run = subst (λ l. IsRunOver c l J) (sym (all_below c (above_all c (kept_of c opened)) (kept_of c opened) (omega arith))) run;
-  files = whole_fronts k c old new J holds;
+  files = whole_fronts k (k.journal ∷ k.outs) c old new J holds;
 }
 
 pub part_front : (k : RunNames) (old new : Seen) → HasWholePart k old new → HasFrontPart k old new
-part_front k old new w = record { settings = w.settings; opened = w.opened; inputs = w.inputs; moment = w.moment; journal = w.journal; run = w.run; files = whole_fronts k w.settings old new w.journal w.files }
+part_front k old new w = record { settings = w.settings; opened = w.opened; inputs = w.inputs; moment = w.moment; journal = w.journal; run = w.run; files = whole_fronts k (k.journal ∷ k.outs) w.settings old new w.journal w.files }
 
 -- a run that stopped, and one to the end
 pub stopped_part : (k : RunNames) (old new : Seen) (e : _) → HasStopped k e old new → HasFrontPart k old new
@@ -115,8 +116,13 @@ empty_fronts old new each (n ∷ names) g k = (empty_front old new each n (g k),
     empty_front : (old new : Seen) → ((m : List ℕ) → (new.file m ≡ old.file m) ⊎ (new.file m ≡ Some [])) → (m whole : List ℕ) → IsOldOrFront old new m whole
     empty_front old new each m whole = elim (each m) [ inl same ↦ inl same | inr empty ↦ inr ([], empty, (whole, refl)) ]
 
-pub empty_part : (k : RunNames) (c : Settings) (opened : List Opened) (old new : Seen) → NothingIsRun → HasInputs k old c opened → ((m : List ℕ) → (new.file m ≡ old.file m) ⊎ (new.file m ≡ Some [])) → HasFrontPart k old new
-empty_part k c opened old new nothing inputs each =
+-- some of them couldn't be opened
+pub unwritten : (names : List (List ℕ)) (old m new : Seen) → SameFiles old m → IsTrue m.told → OpenedUpTo names m new → AreUnwritten names old new
+unwritten names old m new same told o =
+    record { before = o.before; behind = o.name ∷ o.behind; are = o.are; empty = o.empty told; same = λ n other. o.touches.files n other ∙ same n }
+
+pub empty_part : (k : RunNames) (c : Settings) (opened : List Opened) (old new : Seen) → NothingIsRun → HasInputs k old c opened → ((m : List ℕ) → (new.file m ≡ old.file m) ⊎ (new.file m ≡ Some [])) → AreUnwritten (k.journal ∷ k.outs) old new → HasFrontPart k old new
+empty_part k c opened old new nothing inputs each order =
     let n = nothing c (kept_of c opened) in
     record {
       settings = c;
@@ -128,6 +134,6 @@ empty_part k c opened old new nothing inputs each =
       files = record {
         lines = elim (each k.journal) [ inl same ↦ inl same | inr empty ↦ inr ([], empty, (text [], refl)) ];
         captures = empty_fronts old new each k.outs (λ p. egress c (length k.outs) p []) 1;
-        order = inl each;
+        order = inl order;
       };
     }

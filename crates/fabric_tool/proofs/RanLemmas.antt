@@ -29,23 +29,24 @@ use Rattle.fab_windows.specs.declared.Done.{Done}
 use Rattle.fab_replay.proofs.OneLemmas.{same_frames}
 use Rattle.fabric_tool.specs.Command.{RunNames, Run, are_pairs, run_of, port_count, input_at, KeepsOthers}
 use Rattle.fab_base.proofs.EndingLemmas.{none_then}
-use Rattle.run_files.specs.Names.{Among, AnyRose}
+use Rattle.run_files.specs.Names.{Among}
 use Rattle.fabric_tool.specs.Running.{RunHolds}
 use Rattle.fabric_tool.specs.Inputs.{HasConfig, HasInputs, stop_of, kept_of, LIMITS, MOST_BYTES, MOST_FRAMES}
 use Rattle.fabric_tool.specs.Left.{HoldsAll, HoldsFronts, AreOldOrFront, HasRun, HasStopped, HasPart, LegalIsSafe}
 use Rattle.fabric_tool.specs.Opening.{ran_by}
-use Rattle.run_files.specs.Opening.{AreEmptyOutputs, Opens}
+use Rattle.run_files.specs.Opening.{AreEmptyOutputs, OpenedUpTo, Opens}
 use Rattle.fabric_tool.specs.Preparing.{IsNew, IsPrepared}
 use Rattle.fabric_tool.specs.Reading.{TellsReads, AreHeads, ConfigRead, HeadsRead, HeadsEnd}
 use Rattle.fabric_tool.specs.declared.outcome.Outcome.{Outcome}
 use Rattle.fabric_tool.specs.declared.outcome.Outcome.TheVariants as ends
 use Rattle.fabric_tool.proofs.AmongLemmas.{none_among}
 use Rattle.run_files.proofs.NameLemmas.{rose_among, rose_since, length-counted}
+use Rattle.run_files.proofs.OpenLemmas.{up_to_rose}
 use Rattle.fabric_tool.proofs.CaptureLemmas.{whole_captures}
 use Rattle.fabric_tool.proofs.GivenLemmas.{outputs_count, written_among, read_among, slots_length, ins_count, outs_count, given}
 use Rattle.fabric_tool.proofs.HeadLemmas.{not_unread, heads_still, heads_since, heads_count, heads_opened}
 use Rattle.fabric_tool.proofs.NameLemmas.{pairs, inputs_apart}
-use Rattle.fabric_tool.proofs.PartLemmas.{empty_part}
+use Rattle.fabric_tool.proofs.PartLemmas.{empty_part, unwritten}
 use Rattle.fabric_tool.proofs.SinceLemmas.{without_since, unread_since}
 
 le_trans : {x y z : ℕ} → x ≤ y → y ≤ z → x ≤ z
@@ -174,13 +175,14 @@ module _ (k : RunNames) (c : Settings) (old m a : Seen) (ins : List Input)
   others_opened name none = opens.touches.files name (none_among (k.journal ∷ k.outs) name none) ∙ inputs.files name (λ x. x)
 
   -- one of them can't be
-  pub not_opened : NothingIsRun → AnyRose m.write_faults a.write_faults (k.journal ∷ k.outs) → RunHolds k old a ends.WriteFault
-  not_opened nothing rose = (
+  pub not_opened : NothingIsRun → OpenedUpTo (k.journal ∷ k.outs) m a → RunHolds k old a ends.WriteFault
+  not_opened nothing up_to = (
     others_opened,
-    rose_since old.write_faults m.write_faults a.write_faults inputs.writes_rise (k.journal ∷ k.outs) rose,
+    rose_since old.write_faults m.write_faults a.write_faults inputs.writes_rise (k.journal ∷ k.outs) (up_to_rose (k.journal ∷ k.outs) m a up_to),
     λ told. inr (empty_part k c (opened_in m ins) old a nothing
         (record { config = config told; heads = heads_opened old m k.ins ins told heads })
-        (λ name. elim (opens.each (told_m told) name) [ inl same ↦ inl (same ∙ inputs.files name (λ x. x)) | inr empty ↦ inr empty ])),
+        (λ name. elim (opens.each (told_m told) name) [ inl same ↦ inl (same ∙ inputs.files name (λ x. x)) | inr empty ↦ inr empty ])
+        (unwritten (k.journal ∷ k.outs) old m a (λ name. inputs.files name (λ x. x)) (told_m told) up_to)),
   )
 
 -- ---- what is handed to the windows
@@ -331,7 +333,7 @@ module _ (words : List (String Global)) (run : are_pairs words ≡ true) (c : Se
           w.records q lt ∙ ap (λ (p : ℕ). Some (egress c (length outs) p J)) e ∙ ap (λ (n : ℕ). Some (egress c n (1 + q) J)) count);
     }
 
-    holds_fronts : (J : Journal) → Fronts c b journal outs J → HoldsFronts k c old b J
+    holds_fronts : (J : Journal) → Fronts c b journal outs J → HoldsFronts k (k.journal ∷ k.outs) c old b J
     holds_fronts J w = record {
       lines = inr (w.hold.lines_.0, ap b.file (sym named.0) ∙ w.hold.lines_.1, w.hold.lines_.2);
       captures = held_fronts old b k.outs outs (λ p. egress c (length k.outs) p J) 1 named.1 (λ q lt.
@@ -383,7 +385,7 @@ module _ (words : List (String Global)) (run : are_pairs words ≡ true) (c : Se
       files = holds_all i.entry_list i.files;
     }
 
-    interrupted_front : IsTrue old.told → Interrupted c budget opened (Fronts c b journal outs) → HasPart k old (λ c J. HoldsFronts k c old b J)
+    interrupted_front : IsTrue old.told → Interrupted c budget opened (Fronts c b journal outs) → HasPart k old (λ c J. HoldsFronts k (k.journal ∷ k.outs) c old b J)
     interrupted_front told i = record {
       settings = c;
       opened = opened;

@@ -1,5 +1,5 @@
 -- What `run` leaves in its outputs.
-use Rattle.std.specs.Prelude.{◌≡◌, ℕ, ◌⊎◌, List, [], ◌∷◌, length, map, get_or, Option, Some, None, true, false, IfSome, IsTrue}
+use Rattle.std.specs.Prelude.{◌≡◌, ℕ, ◌⊎◌, List, [], ◌∷◌, ◌++◌, length, map, get_or, Option, Some, None, true, false, IfSome, IsTrue}
 use Rattle.fab_base.specs.Seen.{Seen, Rose, SameFiles}
 use Rattle.fab_base.specs.declared.values.Caught.{Caught}
 use Rattle.fab_config.specs.Settings.{Settings, is_in_range}
@@ -24,7 +24,7 @@ use Rattle.fab_windows.specs.Files.{GoesOn, InOrder, captures, text_so_far, capt
 use Rattle.fab_windows.specs.Run.{IsRunOver}
 pub use Rattle.snoop_run.specs.Bridged.{IsOldOrFront, AreOldOrFront}
 use Rattle.fabric_tool.specs.Command.{RunNames}
-use Rattle.run_files.specs.Names.{AnyRose}
+use Rattle.run_files.specs.Names.{Among, AnyRose}
 use Rattle.fabric_tool.specs.Inputs.{AreCaptures, HasInputs, IsHeadUnread, StopsBy, stop_of, kept_of}
 
 -- ---- files
@@ -34,9 +34,13 @@ pub record HoldsAll (k : RunNames) (c : Settings) (d : Seen) (J : Journal) : Typ
   pub lines : d.file k.journal ≡ Some (text J)
   pub captures : map (λ n. d.file n) k.outs ≡ map (λ l. Some l) (egresses c (length k.outs) J)
 
--- nothing was written: each file is as it was, or empty
-abbrev pub AreUnwritten : Seen → Seen → Type 0
-AreUnwritten old new = (m : List ℕ) → (new.file m ≡ old.file m) ⊎ (new.file m ≡ Some [])
+-- Nothing was written: of the outputs, which are opened in this order, the first are empty, and every other file is as it was.
+pub record AreUnwritten (names : List (List ℕ)) (old new : Seen) : Type 0 where
+  pub before : List (List ℕ)
+  pub behind : List (List ℕ)
+  pub are : names ≡ before ++ behind
+  pub empty : (m : List ℕ) → Among before m → new.file m ≡ Some []
+  pub same : (m : List ℕ) → ¬ Among before m → new.file m ≡ old.file m
 
 -- The journal and then the outputs were written in port order, from nothing or from the whole text and the captures of an earlier
 -- journal, so that no output is ahead of a journal that isn't whole.
@@ -45,11 +49,12 @@ pub record AreInOrder (k : RunNames) (c : Settings) (d : Seen) (J : Journal) : T
   pub begins : IfSome before (λ I. GoesOn I J)
   pub order : InOrder d k.journal (length k.outs) (λ q. get_or k.outs q []) (file_bytes (text_so_far before) (captures_so_far c (length k.outs) before)) (file_bytes (text J) (captures c (length k.outs) J))
 
--- each output is as it was, or holds a front of the text of this journal or of its capture, written in order
-pub record HoldsFronts (k : RunNames) (c : Settings) (old new : Seen) (J : Journal) : Type 0 where
+-- Each output is as it was, or holds a front of the text of this journal or of its capture, written in order. The names are those of
+-- all that is opened to be written.
+pub record HoldsFronts (k : RunNames) (names : List (List ℕ)) (c : Settings) (old new : Seen) (J : Journal) : Type 0 where
   pub lines : IsOldOrFront old new k.journal (text J)
   pub captures : AreOldOrFront old new k.outs (egresses c (length k.outs) J)
-  pub order : AreUnwritten old new ⊎ AreInOrder k c new J
+  pub order : AreUnwritten names old new ⊎ AreInOrder k c new J
 
 -- ---- a safe journal
 
@@ -123,7 +128,7 @@ abbrev pub HasWholePart : RunNames → Seen → Seen → Type 0
 HasWholePart k old new = HasPart k old (λ c J. HoldsAll k c new J)
 
 abbrev pub HasFrontPart : RunNames → Seen → Seen → Type 0
-HasFrontPart k old new = HasPart k old (λ c J. HoldsFronts k c old new J)
+HasFrontPart k old new = HasPart k old (λ c J. HoldsFronts k (k.journal ∷ k.outs) c old new J)
 
 -- Which input of `run` couldn't be read, where what is read before it has its form: the configuration, or a capture behind those of
 -- lower ports, and no file has changed; or, behind the heads of all captures, a capture while the windows go by, and the outputs hold a

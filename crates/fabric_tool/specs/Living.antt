@@ -16,7 +16,7 @@ use Rattle.pcap_file.specs.declared.fault.LimitKind.TheVariants as kinds
 use Rattle.fab_windows.specs.Run.{IsRunOver}
 use Rattle.fab_live.specs.Arriving.{arrived, of_face, records_of, AllFaces, IsInSpan}
 use Rattle.fab_live.specs.Live.{IsLiveRun, Begins, BeginsWithin, Stops}
-use Rattle.fabric_tool.specs.Command.{RunNames, LiveWords, Live}
+use Rattle.fabric_tool.specs.Command.{RunNames, LiveWords, Live, by_port}
 use Rattle.fabric_tool.specs.Ending.{Ending, Never, Untouched, Leaves, LeavesUnread, Unwritten, EndsBy}
 use Rattle.fabric_tool.specs.Inputs.{HasConfig, HasFault, HasPackets, AreCaptures, LIMITS}
 use Rattle.fabric_tool.specs.Left.{HoldsAll, HoldsFronts, AreOldOrFront, IsSafe}
@@ -45,7 +45,7 @@ pub record HoldsSession (k : LiveWords) (c : Settings) (d : Seen) (packets : Lis
 
 -- each of them is as it was, or holds a front of that; journal and outputs were written in order
 pub record HoldsSessionFronts (k : LiveWords) (c : Settings) (old new : Seen) (packets : List NgRecord) (J : Journal) : Type 0 where
-  pub sent : HoldsFronts (session_of k) c old new J
+  pub sent : HoldsFronts (session_of k) (k.journal ∷ by_port k.ins k.outs) c old new J
   pub came : AreOldOrFront old new k.ins (all_came (length k.ins) packets)
 
 -- The session of some packets, each of a port, whose windows aren't too far apart: one journal, the only one with that text, is a run

@@ -2,7 +2,7 @@
 use Rattle.std.specs.Prelude.{◌≡◌, ℕ, List, length, ◌∷◌, Ok, Err, Result, IfOk, OnOk, OnErr}
 use Rattle.fab_base.specs.Seen.{Seen, SameWriteFaults}
 use Rattle.fab_base.specs.declared.values.Failed.{Failed}
-use Rattle.run_files.specs.Opening.{AreEmptyOutputs, Opens}
+use Rattle.run_files.specs.Opening.{AreEmptyOutputs, OpenedUpTo, Opens}
 use Rattle.run_files.specs.declared.fault.RunFault.{RunFault}
 use Rattle.run_files.specs.declared.fault.RunFault.TheVariants as faults
 use Rattle.fab_windows.specs.declared.Done.{Done}
@@ -11,33 +11,32 @@ use Rattle.fab_live.specs.declared.fault.LiveFault.TheVariants as live
 use Rattle.enode_core.specs.declared.node.Phase.{Phase}
 use Rattle.snoop_run.specs.declared.run.Crossed.{Crossed}
 use Rattle.fabric_tool.specs.Command.{RunNames, LiveWords, by_port}
-use Rattle.run_files.specs.Names.{AnyRose}
 use Rattle.fabric_tool.specs.declared.live.Recorded.{Recorded}
 use Rattle.fabric_tool.specs.declared.making.LoadFiles.{LoadFiles}
 use Rattle.fabric_tool.specs.declared.outcome.Outcome.{Outcome}
 use Rattle.fabric_tool.specs.declared.outcome.Outcome.TheVariants as ends
 use Rattle.fabric_tool.specs.declared.outputs.Outputs.{Outputs}
 
--- the outputs of `run`
+-- the outputs of `run`: the journal, and then those of the ports in their order, up to the first that couldn't be opened
 pub record OutputsOpened (k : RunNames) (old new : Seen) (result : Result Outputs Failed) : Type 0 where
   pub opens : Opens (k.journal ∷ k.outs) old new
   pub slots : IfOk result (λ o. AreEmptyOutputs new (k.journal ∷ k.outs) (o.journal ∷ o.outs.items))
-  pub cause : OnErr result (AnyRose old.write_faults new.write_faults (k.journal ∷ k.outs))
+  pub cause : OnErr result (OpenedUpTo (k.journal ∷ k.outs) old new)
   pub counts : OnOk result (SameWriteFaults old new)
 
--- the files of `make`
+-- the files of `make` in their order, up to the first that couldn't be opened
 pub record FilesOpened (files : List (List ℕ)) (old new : Seen) (result : Result LoadFiles Failed) : Type 0 where
   pub opens : Opens files old new
   pub slots : IfOk result (λ o. AreEmptyOutputs new files o.slots.items)
-  pub cause : OnErr result (AnyRose old.write_faults new.write_faults files)
+  pub cause : OnErr result (OpenedUpTo files old new)
   pub counts : OnOk result (SameWriteFaults old new)
 
--- the outputs of `live`: the journal, and then what came and what is sent of each port
+-- the outputs of `live`: the journal, and then what came and what is sent of each port, up to the first that couldn't be opened
 pub record RecordedOpened (k : LiveWords) (old new : Seen) (result : Result Recorded Failed) : Type 0 where
   pub opens : Opens (k.journal ∷ by_port k.ins k.outs) old new
   pub width : IfOk result (λ o. (length o.ins.items ≡ length k.ins) × (length o.outs.items ≡ length k.outs))
   pub slots : IfOk result (λ o. AreEmptyOutputs new (k.journal ∷ by_port k.ins k.outs) (o.journal ∷ by_port o.ins.items o.outs.items))
-  pub cause : OnErr result (AnyRose old.write_faults new.write_faults (k.journal ∷ by_port k.ins k.outs))
+  pub cause : OnErr result (OpenedUpTo (k.journal ∷ by_port k.ins k.outs) old new)
   pub counts : OnOk result (SameWriteFaults old new)
 
 -- what a fault of the windows ends `run` with

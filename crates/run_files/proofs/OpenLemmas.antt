@@ -4,15 +4,15 @@ use Rattle.std.specs.Prelude.{map}
 use Rattle.std.specs.Str.{bytes_eq}
 use Rattle.std.proofs.lemmas.Bool.{cases_Bool}
 use Rattle.std.proofs.lemmas.Slice.Eq.{bytes_eq-Decides}
-use Rattle.fab_base.specs.Seen.{Seen, OpensOut, Touches, Only, SameWriteFaults}
+use Rattle.fab_base.specs.Seen.{Seen, OpensOut, Touches, Only, SameFiles, SameWriteFaults}
 use Rattle.fab_base.specs.declared.values.Failed.{Failed}
-use Rattle.fab_base.proofs.SeenLemmas.{touches_refl, touches_trans, touches_wider, keeps_touches}
+use Rattle.fab_base.proofs.SeenLemmas.{touches_refl, touches_trans, touches_wider, keeps_touches, rose_later}
 use Rattle.fab_base.specs.Counting.{counting}
 use Rattle.fab_base.specs.Slots.{slot_at}
 use Rattle.run_files.specs.Names.{Among, AnyRose}
-use Rattle.run_files.specs.Opening.{AreEmptyOutputs, Opens}
+use Rattle.run_files.specs.Opening.{AreEmptyOutputs, Opens, OpenedUpTo}
 use Rattle.run_files.specs.Outputs.{AreOutputs}
-use Rattle.run_files.proofs.NameLemmas.{differs, among_front, among_back, among_all, rose_among, rose_since, length-counted}
+use Rattle.run_files.proofs.NameLemmas.{differs, among_front, among_back, among_all, rose_among, length-counted}
 
 -- what stands for the loop when the outputs of these names were opened
 pub record OpenedSoFar (names : List (List ℕ)) (a now : Seen) (slots : List ℕ) : Type 0 where
@@ -44,6 +44,13 @@ outputs_push d [] (x ∷ slots) name s are is = absurd are
 outputs_push d (n ∷ names) [] name s are is = absurd are
 outputs_push d (n ∷ names) (x ∷ slots) name s are is = (are.0, outputs_push d names slots name s are.1 is)
 
+-- the files of outputs are empty
+empty_among : (d : Seen) (names : List (List ℕ)) (slots : List ℕ) → AreEmptyOutputs d names slots → IsTrue d.told → (m : List ℕ) → Among names m → d.file m ≡ Some []
+empty_among d [] slots are told m a = absurd a
+empty_among d (n ∷ names) [] are told m a = absurd are
+empty_among d (n ∷ names) (s ∷ slots) are told m (inl is) = ap d.file is ∙ are.0.2 told
+empty_among d (n ∷ names) (s ∷ slots) are told m (inr a) = empty_among d names slots are.1 told m a
+
 pub outputs_count : (d : Seen) (names : List (List ℕ)) (slots : List ℕ) → AreEmptyOutputs d names slots → length slots ≡ length names
 outputs_count d [] [] are = refl
 outputs_count d [] (s ∷ slots) are = absurd are
@@ -60,6 +67,27 @@ module _ (names : List (List ℕ)) (a b : Seen) (slots : List ℕ) (h : OpenedSo
       let front = λ (m : List ℕ) (x : Among names m). among_front names (name ∷ []) m x in
       let own = λ (m : List ℕ) (x : Only name m). among_back names (name ∷ []) m (inl x) in
       touches_trans all all a b d (touches_wider (Among names) (Among names) all all a b front front h.opens.touches) (touches_wider (Only name) (Only name) all all b d own own k)
+
+  -- where no file but those before changes
+  front_alone : Touches (Among (names ++ name ∷ [])) (Among (names ++ name ∷ [])) a d → ((m : List ℕ) → ¬ Among names m → d.file m ≡ a.file m) → Touches (Among names) (Among (names ++ name ∷ [])) a d
+  front_alone t files = record {
+    told = t.told;
+    knows = t.knows;
+    slots = t.slots;
+    files = files;
+    left = t.left;
+    reads = t.reads;
+    writes = t.writes;
+    reads_rise = t.reads_rise;
+    writes_rise = t.writes_rise;
+  }
+
+  -- where the file stays no file changes
+  still : Touches (Only name) (Only name) b d → d.file name ≡ b.file name → SameFiles b d
+  still k same m = elim (cases_Bool (bytes_eq m name)) [
+    | inl is ↦ subst (λ n. d.file n ≡ b.file n) (sym ((bytes_eq-Decides m name).0 is)) same
+    | inr other ↦ k.files m (differs m name other)
+  ]
 
   -- another file is as it was before this call
   each_file : Touches (Only name) (Only name) b d → IsTrue a.told → (d.file name ≡ b.file name) ⊎ (d.file name ≡ Some []) → (m : List ℕ) → (d.file m ≡ a.file m) ⊎ (d.file m ≡ Some [])
@@ -85,7 +113,7 @@ module _ (names : List (List ℕ)) (a b : Seen) (slots : List ℕ) (h : OpenedSo
       }
 
   -- one more can't be opened, of all these names
-  pub opened_failed : (all behind : List (List ℕ)) → all ≡ names ++ name ∷ behind → (e : Failed) → OpensOut {E = Failed} name b d (Err e) → Opens all a d × AnyRose a.write_faults d.write_faults all
+  pub opened_failed : (all behind : List (List ℕ)) → all ≡ names ++ name ∷ behind → (e : Failed) → OpensOut {E = Failed} name b d (Err e) → Opens all a d × OpenedUpTo all a d
   opened_failed all behind are e o =
       let k = keeps_touches name b d o.keeps in
       let wide = λ (m : List ℕ) (x : Among (names ++ name ∷ []) m). subst (λ l. Among l m) (sym are) (among_all names behind name m x) in (
@@ -94,8 +122,22 @@ module _ (names : List (List ℕ)) (a b : Seen) (slots : List ℕ) (h : OpenedSo
           each = λ told. each_file k told (inl o.same);
           reads = λ m. o.reads m ∙ h.opens.reads m;
         },
-        rose_since a.write_faults b.write_faults d.write_faults h.opens.touches.writes_rise all (rose_among b.write_faults d.write_faults all name (subst (λ l. Among l name) (sym are) (among_back names (name ∷ behind) name (inl refl))) o.cause),
+        record {
+          before = names;
+          name = name;
+          behind = behind;
+          are = are;
+          touches = front_alone (touch k) (λ m other. still k o.same m ∙ h.opens.touches.files m other);
+          empty = λ told m among. still k o.same m ∙ empty_among b names slots h.are (told_b told) m among;
+          rose = rose_later (a.write_faults name) (b.write_faults name) (d.write_faults name) (h.opens.touches.writes_rise name) o.cause;
+          others = λ m other. k.writes m other ∙ h.counts m;
+        },
       )
+
+-- where one couldn't be opened the count of one of all rose
+pub up_to_rose : (names : List (List ℕ)) (old new : Seen) → OpenedUpTo names old new → AnyRose old.write_faults new.write_faults names
+up_to_rose names old new o =
+    rose_among old.write_faults new.write_faults names o.name (subst (λ l. Among l o.name) (sym o.are) (among_back o.before (o.name ∷ o.behind) o.name (inl refl))) o.rose
 
 -- ---- open outputs by their places
 

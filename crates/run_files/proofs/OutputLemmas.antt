@@ -8,7 +8,7 @@ use Rattle.fab_base.specs.declared.values.Failed.{Failed}
 use Rattle.fab_base.proofs.SeenLemmas.{rose_later, touches_refl, touches_trans, touches_wider, keeps_touches}
 use Rattle.pcap_file.proofs.lemmas.Numbers.{le_or_lt}
 use Rattle.fab_base.specs.Slots.{slot_at, name_of, NameIn}
-use Rattle.run_files.specs.Outputs.{AreOutputs, FailsAt, PutsEach}
+use Rattle.run_files.specs.Outputs.{AreOutputs, PutsEach}
 use Rattle.run_files.specs.Pages.{piece_at}
 
 take_all : (l : List ℕ) → take (length l) l ≡ l

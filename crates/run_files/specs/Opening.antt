@@ -1,6 +1,6 @@
 -- What opening several outputs does.
-use Rattle.std.specs.Prelude.{◌≡◌, ℕ, ◌⊎◌, IsTrue, List, [], ◌∷◌, Some}
-use Rattle.fab_base.specs.Seen.{Seen, Touches, SameReadFaults}
+use Rattle.std.specs.Prelude.{◌≡◌, ◌≢◌, ℕ, ◌⊎◌, IsTrue, List, [], ◌∷◌, ◌++◌, Some}
+use Rattle.fab_base.specs.Seen.{Seen, Rose, Touches, SameReadFaults}
 use Rattle.run_files.specs.Names.{Among}
 
 -- slots that are open outputs of these names, whose files are empty
@@ -15,3 +15,15 @@ pub record Opens (names : List (List ℕ)) (old new : Seen) : Type 0 where
   pub touches : Touches (Among names) (Among names) old new
   pub each : IsTrue old.told → (m : List ℕ) → (new.file m ≡ old.file m) ⊎ (new.file m ≡ Some [])
   pub reads : SameReadFaults old new
+
+-- Of outputs that are opened in this order one couldn't be opened: a fault of writing it was counted, and none of another. Those
+-- before it are empty. It and those behind it are as they were, and so is every other file.
+pub record OpenedUpTo (names : List (List ℕ)) (old new : Seen) : Type 0 where
+  pub before : List (List ℕ)
+  pub name : List ℕ
+  pub behind : List (List ℕ)
+  pub are : names ≡ before ++ name ∷ behind
+  pub touches : Touches (Among before) (Among (before ++ name ∷ [])) old new
+  pub empty : IsTrue old.told → (m : List ℕ) → Among before m → new.file m ≡ Some []
+  pub rose : Rose (old.write_faults name) (new.write_faults name)
+  pub others : (m : List ℕ) → m ≢ name → new.write_faults m ≡ old.write_faults m

@@ -13,8 +13,8 @@ use Rattle.pcap_file.specs.declared.fault.GatherFault.{GatherFault}
 use Rattle.pcap_file.specs.declared.fault.GatherFault.TheVariants as gather
 use Rattle.pcap_file.specs.Captures.{AreFit, unless_stopped, captures_by}
 use Rattle.fip_snoop.specs.Queue.{AllAscend}
-use Rattle.run_files.specs.Names.{Among, AnyRose}
-use Rattle.run_files.specs.Opening.{AreEmptyOutputs, Opens}
+use Rattle.run_files.specs.Names.{Among}
+use Rattle.run_files.specs.Opening.{AreEmptyOutputs, OpenedUpTo, Opens}
 use Rattle.snoop_run.specs.Crossing.{IsFirstUnread}
 use Rattle.snoop_run.specs.Records.{AllFit, count_in}
 
@@ -50,9 +50,9 @@ pub record ReadsInputs (names : List (List ℕ)) (a b : Seen) (budget : Budget) 
 
 -- ---- outputs
 
--- Outputs were opened: each file is as it was, or empty.
+-- Outputs were opened in this order, up to the first that couldn't be.
 pub record OpensOutputs (names : List (List ℕ)) (a b : Seen) (result : Result (ArrayVec ℕ) Failed) : Type 0 where
   pub opens : Opens names a b
   pub slots : IfOk result (λ slots. AreEmptyOutputs b names slots.items)
-  pub cause : OnErr result (AnyRose a.write_faults b.write_faults names)
+  pub cause : OnErr result (OpenedUpTo names a b)
   pub counts : OnOk result (SameWriteFaults a b)

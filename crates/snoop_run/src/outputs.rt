@@ -8,8 +8,8 @@ use arrayvec::ArrayVec;
 use fab_base::{Depot, Failed, MOST_PORTS};
 use run_files::add_slot;
 
-/// Opens the outputs of all ports, in port order; they are empty then. It takes no memory, so that
-/// none is emptied where memory is refused.
+/// Opens the outputs of all ports, in port order; they are empty then. Where one can't be opened,
+/// those behind it are as they were. It takes no memory.
 pub(crate) fn open_outputs<D: Depot>(
     depot: &mut D,
     sides: &[String],

@@ -29,10 +29,9 @@ pub struct Crossed {
 ///
 /// `sides` are the names of port 1's input and output, then of port 2's, and so on; port 1 is the
 /// forwarder's. The captures are read in port order off one budget, and each is read to its end
-/// before the next is opened. The outputs are opened only behind that, and behind all that needs
-/// memory in advance: a `Capture`, `Limit` or `Read` leaves every file as it was. After `Write`,
-/// and after `Memory` while frames cross, each output is as it was or holds a prefix of its
-/// capture.
+/// before the next is opened. The outputs are opened only behind that: a `Capture`, `Limit` or
+/// `Read` leaves every file as it was. After `Write` and `Memory` each output is as it was or holds
+/// a prefix of its capture.
 pub fn run_bridge<D: Depot>(
     alloc: Global,
     depot: &mut D,
