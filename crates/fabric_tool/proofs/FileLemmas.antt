@@ -11,8 +11,8 @@ use Rattle.fab_base.specs.declared.values.Failed.{Failed}
 use Rattle.fab_migrate.specs.Migrating.{Migrates}
 use Rattle.fab_migrate.specs.declared.old.MigrateError.{MigrateError}
 use Rattle.fab_migrate.specs.declared.old.MigrateError.TheVariants as moves
-use Rattle.fabric_tool.specs.Command.{PairNames, Convert, KeepsOthers}
-use Rattle.fabric_tool.specs.Pairs.{ConvertHolds, MigrateHolds}
+use Rattle.fabric_tool.specs.Command.{PairNames, Convert, Migrate}
+use Rattle.fabric_tool.specs.Ends.{Holds, KeepsOthers}
 use Rattle.fabric_tool.specs.Inputs.{LIMITS, MOST_BYTES}
 use Rattle.fabric_tool.specs.declared.outcome.Outcome.TheVariants as ends
 use Rattle.fabric_tool.proofs.AmongLemmas.{or_false}
@@ -23,11 +23,11 @@ module _ (k : PairNames) (a b : Seen) (others : KeepsBut k.to a b) where
   keeps m none = others m (λ e. differs k.to m (or_false (bytes_eq k.to m) _ none).0 (sym e))
 
   -- the output couldn't be written
-  pub output_failed : (failed : Failed) (e : ConvertError) → e ≡ errors.Write failed → Converts k.from k.to LIMITS a b (Err e) → ConvertHolds k a b ends.WriteFault
+  pub output_failed : (failed : Failed) (e : ConvertError) → e ≡ errors.Write failed → Converts k.from k.to LIMITS a b (Err e) → Holds (Convert k) a b ends.WriteFault
   output_failed failed e is c = let w = subst (λ (x : ConvertError). Converts k.from k.to LIMITS a b (Err x)) is c in (keeps, inl w.0, w.1, w.2)
 
   -- the other file of a journal couldn't be written
-  pub journal_failed : (failed : Failed) (e : MigrateError) → e ≡ moves.Write failed → Migrates k.from k.to MOST_BYTES a b (Err e) → MigrateHolds k a b ends.WriteFault
+  pub journal_failed : (failed : Failed) (e : MigrateError) → e ≡ moves.Write failed → Migrates k.from k.to MOST_BYTES a b (Err e) → Holds (Migrate k) a b ends.WriteFault
   journal_failed failed e is c = let w = subst (λ (x : MigrateError). Migrates k.from k.to MOST_BYTES a b (Err x)) is c in (keeps, inl w.0, w.1, w.2)
 
 -- names that are words

@@ -40,10 +40,11 @@ use Rattle.run_files.specs.Opening.{AreEmptyOutputs}
 use Rattle.fab_base.proofs.EndingLemmas.{none_then}
 use Rattle.run_files.proofs.NameLemmas.{rose_among, rose_since, length-counted, counted_among}
 use Rattle.run_files.proofs.OpenLemmas.{there, slots_count, are_outputs}
-use Rattle.fabric_tool.specs.Command.{LiveWords, Live, AllKnown, KeepsOthers, is_live, live_of, live_count, came_at, sent_at, by_port}
+use Rattle.fabric_tool.specs.Command.{LiveWords, Live, AllKnown, is_live, live_of, live_count, came_at, sent_at, by_port}
+use Rattle.fabric_tool.specs.Ends.{Holds, KeepsOthers}
 use Rattle.fabric_tool.specs.Inputs.{HasConfig, HasCapture, AreCaptures, LIMITS}
 use Rattle.fabric_tool.specs.Left.{HoldsAll, HoldsFronts, AreOldOrFront, LegalIsSafe}
-use Rattle.fabric_tool.specs.Living.{session_of, came_on, all_came, HoldsSession, HoldsSessionFronts, HasSession, HasLived, HasHalt, HasHalted, HasLiveFront, IsBegun, IsFaulty, IsNoPort, IsPast, IsLiveRefused, LiveHolds}
+use Rattle.fabric_tool.specs.Living.{session_of, came_on, all_came, HoldsSession, HoldsSessionFronts, HasSession, HasLived, HasHalt, HasHalted, HasLiveFront, IsBegun, IsFaulty, IsNoPort, IsPast, IsLiveRefused}
 use Rattle.fabric_tool.specs.Opening.{RecordedOpened, lived_by}
 use Rattle.fabric_tool.specs.Preparing.{IsNew, IsLivePrepared}
 use Rattle.fabric_tool.specs.Reading.{ConfigRead}
@@ -134,14 +135,14 @@ others_same : (k : LiveWords) (old new : Seen) → SameFiles old new → KeepsOt
 others_same k old new same m none = same m
 
 -- the configuration can't be taken
-config_ended : (k : LiveWords) (old new : Seen) (x : Outcome) → ConfigRead k.config old new (Err x) → LiveHolds k old new x
+config_ended : (k : LiveWords) (old new : Seen) (x : Outcome) → ConfigRead k.config old new (Err x) → Holds (Live k) old new x
 config_ended k old new x read = elim read.only [
-  | inl fault ↦ subst (LiveHolds k old new) (sym fault.1) (read.reads.files, λ told. read.fault told fault.0 fault.1, (read.counts (λ is. let e = fault.1 in absurd (cc)), read.reads.writes))
+  | inl fault ↦ subst (Holds (Live k) old new) (sym fault.1) (read.reads.files, λ told. read.fault told fault.0 fault.1, (read.counts (λ is. let e = fault.1 in absurd (cc)), read.reads.writes))
   | inr other ↦ elim other [
     | inl failed ↦
         let rose = read.cause (ap (λ (o : Outcome). let r : Result Settings Outcome = Err o in r) failed) in
-        subst (LiveHolds k old new) (sym failed) (others_same k old new read.reads.files, inl rose, λ told. inl (read.reads.files, rose), read.reads.writes)
-    | inr memory ↦ subst (LiveHolds k old new) (sym memory) (others_same k old new read.reads.files, λ told. inl read.reads.files, (read.counts (λ is. absurd (cc)), read.reads.writes))
+        subst (Holds (Live k) old new) (sym failed) (others_same k old new read.reads.files, inl rose, λ told. inl (read.reads.files, rose), read.reads.writes)
+    | inr memory ↦ subst (Holds (Live k) old new) (sym memory) (others_same k old new read.reads.files, λ told. inl read.reads.files, (read.counts (λ is. absurd (cc)), read.reads.writes))
   ]
 ]
 
@@ -323,7 +324,7 @@ module _ (words : List (String Global)) (live : is_live words ≡ true) (safe : 
   told_m told = subst IsTrue (sym reads.keeps.told) told
 
   -- the stream can't be opened
-  pub stream_closed : (e : Failed) → OpensIn {E = Failed} kk.stream m s (Err e) → LiveHolds kk old s ends.ReadFault
+  pub stream_closed : (e : Failed) → OpensIn {E = Failed} kk.stream m s (Err e) → Holds (Live kk) old s ends.ReadFault
   stream_closed e o =
       let same : SameFiles old s = λ name. o.reads.files name ∙ reads.files name in
       let rose : Rose (old.read_faults kk.stream) (s.read_faults kk.stream) = rose_later (old.read_faults kk.stream) (m.read_faults kk.stream) (s.read_faults kk.stream) ((reads_touches kk.config old m reads).reads_rise kk.stream) o.cause in
@@ -357,7 +358,7 @@ module _ (words : List (String Global)) (live : is_live words ≡ true) (safe : 
     }
 
     -- an output can't be opened
-    pub not_recorded : {e : Failed} → RecordedOpened kk s a (Err e) → LiveHolds kk old a ends.WriteFault
+    pub not_recorded : {e : Failed} → RecordedOpened kk s a (Err e) → Holds (Live kk) old a ends.WriteFault
     unfolding begun stream_file
     not_recorded r =
         let all = kk.journal ∷ by_port kk.ins kk.outs in (
@@ -472,7 +473,7 @@ module _ (words : List (String Global)) (live : is_live words ≡ true) (safe : 
       silent : (b : Seen) (x : Result Done LiveFault) → TellsFaults a b x → (x ≡ Err fault.Read → ⊥) → (x ≡ Err fault.Write → ⊥) → NoFaults old b
       silent b x counts read write = none_then old a b quiet_a (counts.reads read, counts.writes write)
 
-      pub live_ended : (b : Seen) (x : Result Done LiveFault) → LiveRuns c LIMITS stream fs a b x → LiveHolds kk old b (lived_by x)
+      pub live_ended : (b : Seen) (x : Result Done LiveFault) → LiveRuns c LIMITS stream fs a b x → Holds (Live kk) old b (lived_by x)
       live_ended b (Ok done) x = (others b x.touches, λ told. finished b x.touches done told (x.ends (told_a told)), silent b (Ok done) x.counts (λ is. cc) (λ is. cc))
       live_ended b (Err (fault.Block at why)) x =
           (others b x.touches, λ told. let e = x.ends (told_a told) in halted b x.touches (IsFaulty at why) told e.0 e.1 e.2, silent b (Err (fault.Block at why)) x.counts (λ is. cc) (λ is. cc))

@@ -12,9 +12,10 @@ use Rattle.pcap_file.proofs.lemmas.Numbers.{le_or_lt}
 use Rattle.fab_vectors.specs.Making.{AreNine, IsNamed, Makes, file_text}
 use Rattle.fab_vectors.specs.declared.MakeFault.{MakeFault}
 use Rattle.fab_vectors.specs.declared.MakeFault.TheVariants as faults
-use Rattle.fabric_tool.specs.Command.{Make, TouchesOwn, is_make, files_of, make_of, file_at, names_from, are_names, KeepsOthers}
+use Rattle.fabric_tool.specs.Command.{Make, is_make, files_of, make_of, file_at, names_from, are_names}
 use Rattle.run_files.specs.Names.{Among, AnyRose}
-use Rattle.fabric_tool.specs.Load.{HasLoadFront, MakeHolds, file_name}
+use Rattle.fabric_tool.specs.Ends.{Holds, KeepsOthers, TouchesOwn}
+use Rattle.fabric_tool.specs.Load.{HasLoadFront, file_name}
 use Rattle.fabric_tool.specs.Opening.{FilesOpened}
 use Rattle.run_files.specs.Opening.{AreEmptyOutputs, Opens}
 use Rattle.fabric_tool.specs.declared.making.LoadFiles.{LoadFiles}
@@ -131,24 +132,24 @@ module _ (words : List (String Global)) (make : is_make words ≡ true) (b : See
         let k = Make (make_of number words) in
         own_then k a b d (own_written k a b opens.touches) (own_wider k _ _ b d named_among (λ n x. inr (named_among n x)) m.touches)
 
-    pub made_whole : (frames : ℕ) → r ≡ Ok frames → MakeHolds (make_of number words) a d (ends.Made frames)
+    pub made_whole : (frames : ℕ) → r ≡ Ok frames → Holds (Make (make_of number words)) a d (ends.Made frames)
     made_whole frames is =
         let n = subst (λ x. Makes number slots b d x) is m in
         (n.count, (keeps, λ told q lt. sym (ap d.file (name_of_file number q lt)) ∙ n.whole (told_on told) q lt, (no_read, λ x. n.counts x ∙ same x)))
 
-    pub made_memory : r ≡ Err faults.Memory → MakeHolds (make_of number words) a d ends.Memory
+    pub made_memory : r ≡ Err faults.Memory → Holds (Make (make_of number words)) a d ends.Memory
     made_memory is =
         let n = subst (λ x. Makes number slots b d x) is m in
         (keeps, fronts, (no_read, λ x. n.counts x ∙ same x))
 
-    pub made_failed : r ≡ Err faults.Write → MakeHolds (make_of number words) a d ends.WriteFault
+    pub made_failed : r ≡ Err faults.Write → Holds (Make (make_of number words)) a d ends.WriteFault
     made_failed is =
         let at = m.cause is in
         let rose : AnyRose b.write_faults d.write_faults (files_of words) = rose_among b.write_faults d.write_faults (files_of words) (b.name (slice_index slots at.0)) (named_among _ (at.0, at.1, refl)) at.2 in
         (keeps, rose_since a.write_faults b.write_faults d.write_faults opens.touches.writes_rise (files_of words) rose, fronts, no_read)
 
 -- an output that couldn't be opened
-pub not_opened : (number : ℕ) (words : List (String Global)) (a b : Seen) (e : Failed) → FilesOpened (files_of words) a b (Err e) → MakeHolds (make_of number words) a b ends.WriteFault
+pub not_opened : (number : ℕ) (words : List (String Global)) (a b : Seen) (e : Failed) → FilesOpened (files_of words) a b (Err e) → Holds (Make (make_of number words)) a b ends.WriteFault
 not_opened number words a b e o = (
   λ m none. o.opens.touches.files m (none_among (files_of words) m none),
   o.cause,
